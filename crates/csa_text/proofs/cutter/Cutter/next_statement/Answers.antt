@@ -1,0 +1,39 @@
+use Rattle.std.proofs.Common.{◌≡◌, drop, arith, refl}
+use Rattle.csa_text.specs.Cutting.{unit_between}
+use Rattle.csa_text.proofs.Runs.{found}
+use Rattle.csa_text.proofs.cutter.Cutter.next_statement.Goals as goal
+
+pub returns-then-unit-gt-LIMIT-clause-cut : goal.returns-then-unit-gt-LIMIT-clause-cut
+returns-then-unit-gt-LIMIT-clause-cut c =
+    let source = c.self.inside.source.now in
+    let first = c.in-Some.ensures in
+    let others = found c.in-Some.end (drop c.in-Some.end source) in (
+      rw (← c.self.view_is) (record {
+        unit = unit_between source c.in-Some.start c.in-Some.end;
+        others = others.0;
+        first = first.first others.0 others.1;
+        number_is = refl;
+        place = refl;
+        long = c.if-unit-gt-LIMIT.true;
+      }),
+      refl,
+    )
+
+pub invariant_of-self : goal.invariant_of-self
+invariant_of-self c =
+    let first = c.in-Some.ensures in
+    (first.within, omega (arith, first.order, first.some, c.self.invariant))
+
+pub returns-clause-cut : goal.returns-clause-cut
+returns-clause-cut c =
+    let source = c.self.inside.source.now in
+    let first = c.in-Some.ensures in
+    rw (← c.self.view_is) (record {
+      unit = unit_between source c.in-Some.start c.in-Some.end;
+      first = first.first;
+      number_is = refl;
+      counted = refl;
+      place = refl;
+      slice = c.handed_out.ensures;
+      short = c.if-unit-gt-LIMIT.false;
+    })

@@ -1,0 +1,4 @@
+pub mod Cut
+pub mod Cutting
+pub mod Saying
+pub mod Spelling

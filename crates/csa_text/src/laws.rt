@@ -1,0 +1,16 @@
+//! Laws of the definitions that the contracts of this crate cite. They take and give nothing.
+
+ghost use Rattle.std.specs.Prelude.{◌≡◌, ℕ, List};
+ghost use Rattle.csa_text.specs.Cut.{TextUnit, Cut};
+ghost use Rattle.csa_text.specs.Spelling.{Saying, Spells};
+
+/// Each source is cut in one way: there is a list of statements, and no other.
+pub fn cut_once()
+    ensures { (source : List ℕ) → (statements : List TextUnit) × Cut source statements
+        × ((others : List TextUnit) → Cut source others → others ≡ statements) }
+{}
+
+/// The bytes of a statement spell one thing at most.
+pub fn spelt_once()
+    ensures { (bytes : List ℕ) (a b : Saying) → Spells bytes a → Spells bytes b → a ≡ b }
+{}
