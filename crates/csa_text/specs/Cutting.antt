@@ -22,7 +22,11 @@ pub record IsHandedOut (old new : Cutting) (number offset : ℕ) (bytes : List �
   pub number_is : number ≡ old.number + 1
   pub counted : new.number ≡ number
   pub place : offset ≡ unit.offset
+  pub rises : old.at ≤ offset
+  pub passed : new.at ≡ offset + length unit.bytes
+  pub within : new.at ≤ length old.source
   pub slice : bytes ≡ statement_bytes unit.bytes
+  pub some : 0 < length unit.bytes
   pub short : length unit.bytes ≤ 4096
 
 -- the first statement that is still to come is too long

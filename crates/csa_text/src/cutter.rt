@@ -61,6 +61,7 @@ impl<'a> Cutter<'a> {
     pub fn new(source: &'a [u8]) -> Cutter<'a>
         ensures source { result.source ≡ source.now }
         ensures start { (result.at ≡ mark_length source.now) × (result.number ≡ 0) }
+        ensures within { result.at ≤ length source.now }
     {
         let at = if source.starts_with(BYTE_ORDER_MARK.as_slice()) {
             BYTE_ORDER_MARK.len()

@@ -1,5 +1,6 @@
-use Rattle.std.proofs.Common.{◌≡◌, drop, arith, refl}
+use Rattle.std.proofs.Common.{◌≡◌, ◌+◌, ◌<◌, length, slice_range, drop, arith, refl, sym}
 use Rattle.csa_text.specs.Cutting.{unit_between}
+use Rattle.csa_text.proofs.Fronts.{length_between}
 use Rattle.csa_text.proofs.Runs.{found}
 use Rattle.csa_text.proofs.cutter.Cutter.next_statement.Goals as goal
 
@@ -28,12 +29,18 @@ pub returns-clause-cut : goal.returns-clause-cut
 returns-clause-cut c =
     let source = c.self.inside.source.now in
     let first = c.in-Some.ensures in
+    let measured : c.in-Some.start + length (slice_range source c.in-Some.start c.in-Some.end) ≡ c.in-Some.end =
+      length_between source c.in-Some.start c.in-Some.end (omega (arith, first.some)) first.within in
     rw (← c.self.view_is) (record {
       unit = unit_between source c.in-Some.start c.in-Some.end;
       first = first.first;
       number_is = refl;
       counted = refl;
       place = refl;
+      rises = first.order;
+      passed = sym measured;
+      within = first.within;
+      some = omega (arith, measured, first.some);
       slice = c.handed_out.ensures;
       short = c.if-unit-gt-LIMIT.false;
     })

@@ -1,0 +1,4 @@
+pub mod Kept
+pub mod Ordered
+pub mod Fits
+pub mod Reading

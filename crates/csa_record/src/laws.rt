@@ -1,0 +1,1 @@
+//! Laws of the definitions that the contracts of this crate cite. They take and give nothing.

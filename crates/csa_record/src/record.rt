@@ -1,0 +1,47 @@
+ghost use Rattle.std.specs.Prelude.{◌≡◌, MatchOption, Some, None};
+ghost use Rattle.csa_record.specs.Game.{name_of};
+
+use shogi_board::Color;
+use std::marker::Model;
+
+/// A game, as a record tells it: the names of both sides, and the side to move at the even start.
+#[derive(Drop)]
+pub struct Record {
+    pub(crate) black: Option<Vec<u8>>,
+    pub(crate) white: Option<Vec<u8>>,
+    pub(crate) side: Color,
+}
+
+impl Model for Record {
+    ghost use Rattle.std.specs.Prelude.{◌≡◌, Option};
+    ghost use Rattle.csa_record.specs.Game.{Game, IsGame};
+    ghost use Rattle.csa_record.specs.Bytes.{name_bytes};
+
+    ghost Value = { Game };
+
+    ghost view = {
+        λ r. record { black = name_bytes r.black; white = name_bytes r.white; side = r.side }
+    };
+
+    ghost invariant = {
+        λ r. IsGame (record { black = name_bytes r.black; white = name_bytes r.white; side = r.side })
+    };
+}
+
+impl Record {
+    /// The name of that side, if the record has one. It is not empty.
+    pub fn name(&self, color: Color) -> Option<&[u8]>
+        ensures { MatchOption result
+            (name_of self.now color ≡ None)
+            (λ name. name_of self.now color ≡ Some name.now) }
+    {
+        let name = match color {
+            Color::Black => &self.black,
+            Color::White => &self.white,
+        };
+        match name {
+            Some(bytes) => Some(bytes.as_slice()),
+            None => None,
+        }
+    }
+}

@@ -1,0 +1,52 @@
+ghost use Rattle.std.specs.Prelude.{◌≡◌, ◌++◌, ◌∷◌, [], IfOk, OnOk};
+ghost use Rattle.csa_text.specs.Spelling.{sign};
+ghost use Rattle.csa_record.specs.Game.{name_of};
+ghost use Rattle.csa_record.specs.Canon.{canon, ended, name_lines};
+ghost use Rattle.std.specs.List.{flat_map};
+
+use crate::record::Record;
+use shogi_board::{Color, OutOfMemory};
+use std::alloc::Global;
+
+/// The canonical text of the record's game, LF after each line.
+///
+/// Two records have the same canonical text exactly if their games are the same. The only error is
+/// want of memory.
+pub fn write(alloc: Global, game: &Record) -> Result<Vec<u8>, OutOfMemory>
+    ensures text { IfOk result (λ text. text.items ≡ canon game.now) }
+{
+    let mut text = Vec::new(alloc);
+    write_line(&mut text, b"V2.2")?;
+    write_name(&mut text, Color::Black, game)?;
+    write_name(&mut text, Color::White, game)?;
+    write_line(&mut text, b"PI")?;
+    write_line(&mut text, &[sign_of(game.side)])?;
+    Ok(text)
+}
+
+fn sign_of(color: Color) -> u8
+    ensures { result ≡ sign color }
+{
+    match color {
+        Color::Black => b'+',
+        Color::White => b'-',
+    }
+}
+
+fn write_line(text: &mut Vec<u8>, line: &[u8]) -> Result<(), OutOfMemory>
+    ensures { OnOk result (text.new.items ≡ text.old.items ++ ended line.now) }
+{
+    text.extend_from_slice(line)?;
+    text.push(b'\n')?;
+    Ok(())
+}
+
+fn write_name(text: &mut Vec<u8>, color: Color, game: &Record) -> Result<(), OutOfMemory>
+    ensures { OnOk result (text.new.items ≡ text.old.items ++ flat_map ended (name_lines color (name_of game.now color))) }
+{
+    let Some(name) = game.name(color) else {
+        return Ok(());
+    };
+    text.extend_from_slice(&[b'N', sign_of(color)])?;
+    write_line(text, name)
+}
