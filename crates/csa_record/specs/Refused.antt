@@ -8,7 +8,8 @@ use Rattle.csa_record.specs.declared.fault.OrderFault.TheVariants.{VersionOutOfP
 use Rattle.csa_record.specs.declared.fault.Why.{Why}
 use Rattle.csa_record.specs.declared.fault.Why.TheVariants.{Text, Order}
 use Rattle.csa_record.specs.Says.{names, positions, sides}
-use Rattle.csa_record.specs.Tells.{IsSpelt}
+use Rattle.csa_record.specs.Game.{Game}
+use Rattle.csa_record.specs.Tells.{Tells, IsSpelt}
 
 -- something stands in the list
 abbrev pub stands : {X : Type 0} → List X → Bool
@@ -90,3 +91,19 @@ pub record FaultlessTo (source : List ℕ) (number offset : ℕ) : Type 0 where
   pub faultless : Faultless [] (front ++ unit ∷ []) sayings
   pub number_is : number ≡ length front + 1
   pub place : offset ≡ unit.offset
+
+-- the bytes tell this game, no other, and are not refused
+pub record ToldAlone (source : List ℕ) : Type 0 where
+  pub game : Game
+  pub tells : Tells source game
+  pub only : (other : Game) → Tells source other → other ≡ game
+  pub not_refused : (number offset : ℕ) (why : Why) → Refused source number offset why → ⊥
+
+-- the bytes are refused so, not otherwise, and tell no game
+pub record RefusedAlone (source : List ℕ) : Type 0 where
+  pub number : ℕ
+  pub offset : ℕ
+  pub why : Why
+  pub refused : Refused source number offset why
+  pub only : (n o : ℕ) (w : Why) → Refused source n o w → (n ≡ number) × (o ≡ offset) × (w ≡ why)
+  pub not_told : (game : Game) → Tells source game → ⊥

@@ -1,5 +1,6 @@
 -- The bytes of a statement spell one thing.
-use Rattle.std.proofs.Common.{◌≡◌, ◌<◌, ℕ, get_or, arith, List, [], ◌∷◌, refl, sym, ap, ◌∙◌, inl, inr, ◌⊎◌, codes}
+use Rattle.std.proofs.Common.{◌≡◌, ◌≢◌, ◌<◌, ℕ, get_or, arith, List, [], ◌∷◌, refl, sym, ap, ◌∙◌, inl, inr, ◌⊎◌, codes}
+use Rattle.std.proofs.lemmas.Bool.Decides.{eqb_tells}
 use Rattle.shogi_board.specs.declared.color.Color.{Color}
 use Rattle.shogi_board.specs.declared.color.Color.TheVariants.{Black, White}
 use Rattle.csa_text.specs.Spelling.{Saying, version, name, even, turn, sign, Spells}
@@ -80,3 +81,73 @@ same_saying bytes (turn a) version p q = absurd (version_is_no_turn bytes a q p)
 same_saying bytes (turn a) (name b y) p q = absurd (name_is_no_turn bytes b a y q p)
 same_saying bytes (turn a) (even y) p q = absurd (even_is_no_turn bytes a y q p)
 same_saying bytes (turn a) (turn b) p q = same_turn bytes a b p q
+
+-- two lists of numbers are the same or not
+same_or_not : (a b : List ℕ) → (a ≡ b) ⊎ (a ≡ b → ⊥)
+same_or_not [] [] = inl refl
+same_or_not [] (y ∷ ys) = inr (λ e. cc)
+same_or_not (x ∷ xs) [] = inr (λ e. cc)
+same_or_not (x ∷ xs) (y ∷ ys) =
+    elim (eqb_tells x y) [
+      | inl heads ↦
+        elim (same_or_not xs ys) [
+          | inl tails ↦ inl (ap (λ z. z ∷ xs) heads.1 ∙ ap (λ zs. y ∷ zs) tails)
+          | inr other ↦ inr (λ e. let tails : xs ≡ ys = cc in other tails)
+        ]
+      | inr heads ↦ inr (λ e. let head : x ≡ y = cc in heads.1 head)
+    ]
+
+no_sign : (b : ℕ) (color : Color) → b ≢ 43 → b ≢ 45 → b ≡ sign color → ⊥
+no_sign b Black plus minus e = plus e
+no_sign b White plus minus e = minus e
+
+none_of : (bytes : List ℕ) → (bytes ≡ codes "V2" → ⊥) → (bytes ≡ codes "V2.1" → ⊥) → (bytes ≡ codes "V2.2" → ⊥) → (bytes ≡ codes "PI" → ⊥) → (bytes ≡ 43 ∷ [] → ⊥) → (bytes ≡ 45 ∷ [] → ⊥) → ((color : Color) (text : List ℕ) → bytes ≡ 78 ∷ sign color ∷ text → ⊥) → (s : Saying) → Spells bytes s → ⊥
+none_of bytes a b c d e f g version h = elim h [ inl i ↦ a i | inr j ↦ elim j [ inl i ↦ b i | inr i ↦ c i ] ]
+none_of bytes a b c d e f g (name color text) h = g color text h
+none_of bytes a b c d e f g (even pairs) h = d h.0
+none_of bytes a b c d e f g (turn Black) h = e h
+none_of bytes a b c d e f g (turn White) h = f h
+
+-- a name behind `N` and a sign
+named : (bytes : List ℕ) → ((color : Color) × (text : List ℕ) × (bytes ≡ 78 ∷ sign color ∷ text)) ⊎ ((color : Color) (text : List ℕ) → bytes ≡ 78 ∷ sign color ∷ text → ⊥)
+named [] = inr (λ color text e. cc)
+named (a ∷ []) = inr (λ color text e. cc)
+named (a ∷ b ∷ text) =
+    elim (eqb_tells a 78) [
+      | inl from ↦
+        elim (eqb_tells b 43) [
+          | inl plus ↦ inl (Black, text, ap (λ n. n ∷ b ∷ text) from.1 ∙ ap (λ n. 78 ∷ n ∷ text) plus.1)
+          | inr other ↦
+            elim (eqb_tells b 45) [
+              | inl minus ↦ inl (White, text, ap (λ n. n ∷ b ∷ text) from.1 ∙ ap (λ n. 78 ∷ n ∷ text) minus.1)
+              | inr neither ↦ inr (λ color rest e. no_sign b color other.1 neither.1 cc)
+            ]
+        ]
+      | inr other ↦ inr (λ color rest e. let head : a ≡ 78 = cc in other.1 head)
+    ]
+
+-- bytes spell something or nothing
+pub spells_or_not : (bytes : List ℕ) → ((s : Saying) × Spells bytes s) ⊎ ((s : Saying) → Spells bytes s → ⊥)
+spells_or_not bytes =
+    elim (same_or_not bytes (codes "V2")) [
+      | inl h ↦ inl (version, inl h)
+      | inr a ↦ elim (same_or_not bytes (codes "V2.1")) [
+        | inl h ↦ inl (version, inr (inl h))
+        | inr b ↦ elim (same_or_not bytes (codes "V2.2")) [
+          | inl h ↦ inl (version, inr (inr h))
+          | inr c ↦ elim (same_or_not bytes (codes "PI")) [
+            | inl h ↦ inl (even [], (h, refl))
+            | inr d ↦ elim (same_or_not bytes (43 ∷ [])) [
+              | inl h ↦ inl (turn Black, h)
+              | inr e ↦ elim (same_or_not bytes (45 ∷ [])) [
+                | inl h ↦ inl (turn White, h)
+                | inr f ↦ elim (named bytes) [
+                  | inl h ↦ inl (name h.0 h.1, h.2)
+                  | inr g ↦ inr (none_of bytes a b c d e f g)
+                ]
+              ]
+            ]
+          ]
+        ]
+      ]
+    ]
