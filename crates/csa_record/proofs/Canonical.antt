@@ -33,15 +33,17 @@ next_line offset gap line rest g l = record {
   whole = ap (λ xs. gap ++ xs) (append_assoc line (10 ∷ []) rest);
   separators = g;
   place = refl;
-  unit = ended_by line rest l.unit
+  unit = ended_by line rest l.unit;
 }
 
 lines_cut : (offset : ℕ) (gap : List ℕ) (ls : List (List ℕ)) → IsGap gap → AllByRecursion IsLine ls → Units offset (gap ++ flat_map ended ls) (units_of (offset + length gap) ls)
 unfolding units_of
 lines_cut offset gap [] g h = subst IsGap (sym (append-nil gap)) g
-lines_cut offset gap (l ∷ ls) g h =
-    (10 ∷ flat_map ended ls, next_line offset gap l (flat_map ended ls) g h.0,
-    lines_cut (offset + length gap + length l) (10 ∷ []) ls (refl, tt) h.1)
+lines_cut offset gap (l ∷ ls) g h = (
+  10 ∷ flat_map ended ls,
+  next_line offset gap l (flat_map ended ls) g h.0,
+  lines_cut (offset + length gap + length l) (10 ∷ []) ls (refl, tt) h.1,
+)
 
 all_statements : (offset : ℕ) (ls : List (List ℕ)) → AllByRecursion IsLine ls → units_of offset ls ≡ filter is_statement (units_of offset ls)
 unfolding units_of
@@ -118,19 +120,21 @@ turn_says Black = (omega arith, refl)
 turn_says White = (omega arith, refl)
 
 all_lines : (g : Game) → IsGame g → AllByRecursion IsLine (lines g)
-all_lines g h =
-    (record { unit = (refl, (refl, (refl, (refl, tt))), refl); spoken = refl },
-    lines_joined (name_lines Black g.black) _ (names_are_lines Black g.black h.black)
-    (lines_joined (name_lines White g.white) _ (names_are_lines White g.white h.white)
-    (record { unit = (refl, (refl, tt), refl); spoken = refl }, (turn_line g.side, tt))))
+all_lines g h = (
+  record { unit = (refl, (refl, (refl, (refl, tt))), refl); spoken = refl },
+  lines_joined (name_lines Black g.black) _ (names_are_lines Black g.black h.black)
+      (lines_joined (name_lines White g.white) _ (names_are_lines White g.white h.white)
+      (record { unit = (refl, (refl, tt), refl); spoken = refl }, (turn_line g.side, tt))),
+)
 
 all_say : (g : Game) → IsGame g → AllZip LineSays (lines g) (sayings g)
 unfolding sayings
-all_say g h =
-    ((omega arith, inr (inr refl)),
-    says_joined (name_lines Black g.black) _ (name_sayings Black g.black) _ (names_say Black g.black h.black)
-    (says_joined (name_lines White g.white) _ (name_sayings White g.white) _ (names_say White g.white h.white)
-    ((omega arith, (refl, refl)), (turn_says g.side, tt))))
+all_say g h = (
+  (omega arith, inr (inr refl)),
+  says_joined (name_lines Black g.black) _ (name_sayings Black g.black) _ (names_say Black g.black h.black)
+      (says_joined (name_lines White g.white) _ (name_sayings White g.white) _ (names_say White g.white h.white)
+      ((omega arith, (refl, refl)), (turn_says g.side, tt))),
+)
 
 -- these items say the game
 says_game : (black white : Option (List ℕ)) (side : Color) → IsGame (record { black = black; white = white; side = side }) → Says (sayings (record { black = black; white = white; side = side })) (record { black = black; white = white; side = side })
@@ -148,14 +152,14 @@ canon_tells_lem g h =
     let cut : Statements 0 (canon g) (units_of 0 (lines g)) = record {
       units = units_of 0 (lines g);
       cut = lines_cut 0 [] (lines g) tt (all_lines g h);
-      kept = all_statements 0 (lines g) (all_lines g h)
+      kept = all_statements 0 (lines g) (all_lines g h);
     } in
     record {
       statements = units_of 0 (lines g);
       sayings = sayings g;
       cut = cut;
       spelt = units_spelt 0 (lines g) (sayings g) (all_say g h);
-      says = says_game g.black g.white g.side h
+      says = says_game g.black g.white g.side h;
     }
 
 pub canon_equal_lem : (g h : Game) → IsGame g → IsGame h → canon g ≡ canon h → g ≡ h

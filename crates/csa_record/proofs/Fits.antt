@@ -47,10 +47,10 @@ name_whole (b ∷ bs) rest h =
     elim (cases_Bool (begins_with 78 (b ∷ bs) || begins_with 36 (b ∷ bs))) [
       | inl whole ↦ rw whole at h
       | inr plain ↦
-        let less : without_last_blanks (b ∷ bs) ≡ 78 ∷ rest = rw plain at h in
-        let head : b ≡ 78 = kept_head b (without_last_blanks bs) 78 rest less in
-        let starts : (begins_with 78 (b ∷ bs) || begins_with 36 (b ∷ bs)) ≡ true = rw head refl in
-        cc
+          let less : without_last_blanks (b ∷ bs) ≡ 78 ∷ rest = rw plain at h in
+          let head : b ≡ 78 = kept_head b (without_last_blanks bs) 78 rest less in
+          let starts : (begins_with 78 (b ∷ bs) || begins_with 36 (b ∷ bs)) ≡ true = rw head refl in
+          cc
     ]
 
 no_end : (b : ℕ) → is_end 78 b ≡ false → (b ≢ 13) × (b ≢ 10)

@@ -61,7 +61,7 @@ fault_next before u us s spelt fine f = record {
   why = f.why;
   whole = ap (λ vs. u ∷ vs) f.whole;
   faultless = (spelt, fine, f.faultless);
-  fault = subst (λ b. Fault b f.unit f.why) (append_assoc before (s ∷ []) f.sayings) f.fault
+  fault = subst (λ b. Fault b f.unit f.why) (append_assoc before (s ∷ []) f.sayings) f.fault;
 }
 
 faultless_or_fault : (before : List Saying) (us : List TextUnit) → ((ss : List Saying) × Faultless before us ss) ⊎ FirstFault before us
@@ -76,7 +76,7 @@ faultless_or_fault before (u ∷ us) =
         why = faulty.0;
         whole = refl;
         faultless = tt;
-        fault = subst (λ b. Fault b u faulty.0) (sym (append-nil before)) faulty.1
+        fault = subst (λ b. Fault b u faulty.0) (sym (append-nil before)) faulty.1;
       })
       | inr fine ↦ elim (faultless_or_fault (before ++ fine.0 ∷ []) us) [
         | inl rest ↦ inl (fine.0 ∷ rest.0, (fine.1, fine.2, rest.1))
@@ -102,7 +102,7 @@ told_by source us ss side cut f moves =
       cut = cut;
       spelt = spelt;
       says = ordered_says ss (game_of ss side) (ordered_all [] us ss ordered_none f) moves refl refl
-        (record { black = name_fits source us ss Black cut spelt; white = name_fits source us ss White cut spelt })
+          (record { black = name_fits source us ss Black cut spelt; white = name_fits source us ss White cut spelt });
     }
 
 tells_or_refused : (source : List ℕ) → ((g : Game) × Tells source g) ⊎ ((n o : ℕ) × (why : Why) × Refused source n o why)
@@ -111,28 +111,38 @@ tells_or_refused source =
     elim (faultless_or_fault [] cut.0) [
       | inl fine ↦ elim (some_or_none (first (sides fine.0))) [
         | inl side ↦ inl (game_of fine.0 side.0, told_by source cut.0 fine.0 side.0 cut.1 fine.1 side.1)
-        | inr none ↦ inr (length cut.0 + 1, length source, Order MissingTurn, inr (record {
-          statements = cut.0;
-          sayings = fine.0;
-          cut = cut.1;
-          faultless = fine.1;
-          no_side = no_first (sides fine.0) none;
+        | inr none ↦ inr (
+          length cut.0 + 1,
+          length source,
+          Order MissingTurn,
+          inr (record {
+            statements = cut.0;
+            sayings = fine.0;
+            cut = cut.1;
+            faultless = fine.1;
+            no_side = no_first (sides fine.0) none;
+            number_is = refl;
+            place = refl;
+            why_is = refl;
+          }),
+        )
+      ]
+      | inr f ↦ inr (
+        length f.front + 1,
+        f.unit.offset,
+        f.why,
+        inl (record {
+          front = f.front;
+          unit = f.unit;
+          behind = f.behind;
+          sayings = f.sayings;
+          cut = subst (Cut source) f.whole cut.1;
+          faultless = f.faultless;
+          fault = f.fault;
           number_is = refl;
           place = refl;
-          why_is = refl
-        }))
-      ]
-      | inr f ↦ inr (length f.front + 1, f.unit.offset, f.why, inl (record {
-        front = f.front;
-        unit = f.unit;
-        behind = f.behind;
-        sayings = f.sayings;
-        cut = subst (Cut source) f.whole cut.1;
-        faultless = f.faultless;
-        fault = f.fault;
-        number_is = refl;
-        place = refl
-      }))
+        }),
+      )
     ]
 
 -- exactly one of them, in one way
@@ -143,7 +153,7 @@ told_or_refused source =
         game = told.0;
         tells = told.1;
         only = λ other tells. tells_once source other told.0 tells told.1;
-        not_refused = λ n o why refused. told_not_refused source told.0 n o why told.1 refused
+        not_refused = λ n o why refused. told_not_refused source told.0 n o why told.1 refused;
       })
       | inr r ↦ inr (record {
         number = r.0;
@@ -151,6 +161,6 @@ told_or_refused source =
         why = r.2;
         refused = r.3;
         only = λ n o w again. refused_once source r.0 r.1 n o r.2 w r.3 again;
-        not_told = λ g tells. told_not_refused source g r.0 r.1 r.2 tells r.3
+        not_told = λ g tells. told_not_refused source g r.0 r.1 r.2 tells r.3;
       })
     ]

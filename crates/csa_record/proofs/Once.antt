@@ -63,10 +63,10 @@ fault_or_fine before u why s fault spelt fine =
       | inr other ↦ elim other [
         | inl unspelt ↦ unspelt.1 s spelt.1
         | inr late ↦
-          let same : late.0 ≡ s = same_saying (statement_bytes u.bytes) late.0 s late.1.1 spelt.1 in
-          let some : order_fault before s ≡ Some late.2 = rw same at late.3 in
-          let none = fine in
-          cc
+            let same : late.0 ≡ s = same_saying (statement_bytes u.bytes) late.0 s late.1.1 spelt.1 in
+            let some : order_fault before s ≡ Some late.2 = rw same at late.3 in
+            let none = fine in
+            cc
       ]
     ]
 
@@ -93,10 +93,10 @@ fault_once before u a b p q =
           | inr more ↦ elim more [
             | inl unspelt ↦ absurd (unspelt.1 late.0 late.1.1)
             | inr too ↦
-              let same : late.0 ≡ too.0 = same_saying (statement_bytes u.bytes) late.0 too.0 late.1.1 too.1.1 in
-              let faults : Some late.2 ≡ Some too.2 = sym late.3 ∙ ap (order_fault before) same ∙ too.3 in
-              let fault : late.2 ≡ too.2 = cc in
-              late.4 ∙ ap Order fault ∙ sym too.4
+                let same : late.0 ≡ too.0 = same_saying (statement_bytes u.bytes) late.0 too.0 late.1.1 too.1.1 in
+                let faults : Some late.2 ≡ Some too.2 = sym late.3 ∙ ap (order_fault before) same ∙ too.3 in
+                let fault : late.2 ≡ too.2 = cc in
+                late.4 ∙ ap Order fault ∙ sym too.4
           ]
         ]
       ]
@@ -148,7 +148,7 @@ first_fault_once before (m ∷ ms) (n ∷ ns) u v c d (s ∷ ss) (t ∷ ts) w x 
     let others : Faultless (before ++ s ∷ []) ns ts = subst (λ y. Faultless (before ++ y ∷ []) ns ts) same g.2 in
     let here : Fault ((before ++ s ∷ []) ++ ss) u w = subst (λ b. Fault b u w) (sym (append_assoc before (s ∷ []) ss)) p in
     let there : Fault ((before ++ s ∷ []) ++ ts) v x =
-      subst (λ b. Fault b v x) (ap (λ y. before ++ y ∷ ts) same ∙ sym (append_assoc before (s ∷ []) ts)) q in
+    subst (λ b. Fault b v x) (ap (λ y. before ++ y ∷ ts) same ∙ sym (append_assoc before (s ∷ []) ts)) q in
     let more = first_fault_once (before ++ s ∷ []) ms ns u v c d ss ts w x rest f.2 others here there in
     record { count = omega (arith, more.count); unit = more.unit; why = more.why }
 
@@ -166,12 +166,12 @@ told_not_refused source g n o why t r =
     elim r [
       | inl at ↦ refused_at_whole source n o why t.statements t.sayings at t.cut (told_faultless source g t)
       | inr end ↦
-        let same : end.statements ≡ t.statements = statements_once _ _ end.statements t.statements end.cut t.cut in
-        let whole : Faultless [] t.statements end.sayings = rw same at end.faultless in
-        let items : t.sayings ≡ end.sayings = same_items t.statements t.sayings end.sayings t.spelt (spelt_all [] t.statements end.sayings whole) in
-        let some : sides end.sayings ≡ g.side ∷ [] = ap sides (sym items) ∙ one_side t.sayings g t.says in
-        let none = end.no_side in
-        cc
+          let same : end.statements ≡ t.statements = statements_once _ _ end.statements t.statements end.cut t.cut in
+          let whole : Faultless [] t.statements end.sayings = rw same at end.faultless in
+          let items : t.sayings ≡ end.sayings = same_items t.statements t.sayings end.sayings t.spelt (spelt_all [] t.statements end.sayings whole) in
+          let some : sides end.sayings ≡ g.side ∷ [] = ap sides (sym items) ∙ one_side t.sayings g t.says in
+          let none = end.no_side in
+          cc
     ]
 
 pub refused_once : (source : List ℕ) (n o m p : ℕ) (v w : Why) → Refused source n o v → Refused source m p w → (m ≡ n) × (p ≡ o) × (w ≡ v)
@@ -179,15 +179,15 @@ refused_once source n o m p v w r s =
     elim r [
       | inl at ↦ elim s [
         | inl too ↦
-          let cuts : at.front ++ at.unit ∷ at.behind ≡ too.front ++ too.unit ∷ too.behind = statements_once _ _ _ _ at.cut too.cut in
-          let same = first_fault_once [] at.front too.front at.unit too.unit at.behind too.behind at.sayings too.sayings v w cuts at.faultless too.faultless at.fault too.fault in
-          (omega (arith, same.count, at.number_is, too.number_is), too.place ∙ ap (λ (u : TextUnit). u.offset) (sym same.unit) ∙ sym at.place, sym same.why)
+            let cuts : at.front ++ at.unit ∷ at.behind ≡ too.front ++ too.unit ∷ too.behind = statements_once _ _ _ _ at.cut too.cut in
+            let same = first_fault_once [] at.front too.front at.unit too.unit at.behind too.behind at.sayings too.sayings v w cuts at.faultless too.faultless at.fault too.fault in
+            (omega (arith, same.count, at.number_is, too.number_is), too.place ∙ ap (λ (u : TextUnit). u.offset) (sym same.unit) ∙ sym at.place, sym same.why)
         | inr end ↦ absurd (refused_at_whole source n o v end.statements end.sayings at end.cut end.faultless)
       ]
       | inr end ↦ elim s [
         | inl at ↦ absurd (refused_at_whole source m p w end.statements end.sayings at end.cut end.faultless)
         | inr too ↦
-          let cuts : too.statements ≡ end.statements = statements_once _ _ too.statements end.statements too.cut end.cut in
-          (too.number_is ∙ ap (λ (us : List TextUnit). length us + 1) cuts ∙ sym end.number_is, too.place ∙ sym end.place, too.why_is ∙ sym end.why_is)
+            let cuts : too.statements ≡ end.statements = statements_once _ _ too.statements end.statements too.cut end.cut in
+            (too.number_is ∙ ap (λ (us : List TextUnit). length us + 1) cuts ∙ sym end.number_is, too.place ∙ sym end.place, too.why_is ∙ sym end.why_is)
       ]
     ]

@@ -65,7 +65,7 @@ ordered_version before o h = record {
   white = no_more (names White before) _ (names_last White before version) o.white;
   position = no_more (positions before) _ (positions_last before version) o.position;
   side = no_more (sides before) _ (sides_last before version) o.side;
-  in_order = order_same (body before) _ (positions before) _ (sides before) _ (body_last before version) (positions_last before version) (sides_last before version) o.in_order
+  in_order = order_same (body before) _ (positions before) _ (sides before) _ (body_last before version) (positions_last before version) (sides_last before version) o.in_order;
 }
 
 ordered_name : (before : List Saying) (c : Color) (text : List ℕ) → Ordered before → AtMostOne (names Black (before ++ name c text ∷ [])) → AtMostOne (names White (before ++ name c text ∷ [])) → Ordered (before ++ name c text ∷ [])
@@ -75,7 +75,7 @@ ordered_name before c text o black white = record {
   white = white;
   position = no_more (positions before) _ (positions_last before (name c text)) o.position;
   side = no_more (sides before) _ (sides_last before (name c text)) o.side;
-  in_order = order_same (body before) _ (positions before) _ (sides before) _ (body_last before (name c text)) (positions_last before (name c text)) (sides_last before (name c text)) o.in_order
+  in_order = order_same (body before) _ (positions before) _ (sides before) _ (body_last before (name c text)) (positions_last before (name c text)) (sides_last before (name c text)) o.in_order;
 }
 
 ordered_even : (before : List Saying) (pairs : List ℕ) → Ordered before → order_fault before (even pairs) ≡ None → Ordered (before ++ even pairs ∷ [])
@@ -86,7 +86,7 @@ ordered_even before pairs o h = record {
   position = one_more (positions before) _ (even pairs) (untrue_second (stands (sides before)) (stands (positions before)) PositionLate MixedStart h) (positions_last before (even pairs));
   side = no_more (sides before) _ (sides_last before (even pairs)) o.side;
   in_order = order_position (body before) _ (positions before) _ (sides before) _ (even pairs) (body_last before (even pairs)) (positions_last before (even pairs)) (sides_last before (even pairs))
-    (nothing (sides before) (untrue_first (stands (sides before)) (stands (positions before)) PositionLate MixedStart h)) o.in_order
+      (nothing (sides before) (untrue_first (stands (sides before)) (stands (positions before)) PositionLate MixedStart h)) o.in_order;
 }
 
 ordered_turn : (before : List Saying) (c : Color) → Ordered before → order_fault before (turn c) ≡ None → Ordered (before ++ turn c ∷ [])
@@ -97,7 +97,7 @@ ordered_turn before c o h = record {
   position = no_more (positions before) _ (positions_last before (turn c)) o.position;
   side = one_more (sides before) _ c (untrue (stands (sides before)) RepeatedTurn h) (sides_last before (turn c));
   in_order = order_side (body before) _ (positions before) _ (sides before) _ c (body_last before (turn c)) (positions_last before (turn c)) (sides_last before (turn c))
-    (nothing (sides before) (untrue (stands (sides before)) RepeatedTurn h)) o.in_order
+      (nothing (sides before) (untrue (stands (sides before)) RepeatedTurn h)) o.in_order;
 }
 
 pub ordered_next : (before : List Saying) (s : Saying) → Ordered before → order_fault before s ≡ None → Ordered (before ++ s ∷ [])
@@ -142,5 +142,5 @@ ordered_says ss g o side black white game = record {
   white = rw white (one_listed (names White ss) o.white);
   start = o.position;
   in_order = o.in_order ∙ ap (λ ts. positions ss ++ map turn ts) (one_found (sides ss) g.side o.side side);
-  game = game
+  game = game;
 }

@@ -45,7 +45,7 @@ started source c s same at number within kept = record {
   same = same;
   room = omega arith;
   within = within;
-  whole = λ others come. rw (at, same) at come
+  whole = λ others come. rw (at, same) at come;
 }
 
 pub faultless_last : (before : List Saying) (us : List TextUnit) (ss : List Saying) (u : TextUnit) (s : Saying) → Faultless before us ss → IsSpelt u s → order_fault (before ++ ss) s ≡ None → Faultless before (us ++ u ∷ []) (ss ++ s ∷ [])
@@ -82,7 +82,7 @@ taken source old new s t n number offset bytes r out same took =
       same = same ∙ r.same;
       room = omega (arith, r.room, out.number_is, out.counted, out.rises, out.passed, out.some);
       within = rw r.same at out.within;
-      whole = λ others come. rw (append_assoc r.front (out.unit ∷ []) others) (r.whole (out.unit ∷ others) (out.first others come))
+      whole = λ others come. rw (append_assoc r.front (out.unit ∷ []) others) (r.whole (out.unit ∷ others) (out.first others come));
     }
 
 -- what stands behind a statement that was handed out
@@ -101,7 +101,7 @@ refused_at source old new s n number offset bytes why r out fault =
       faultless = r.faultless;
       fault = fault;
       number_is = omega (arith, out.number_is, r.counted);
-      place = out.place
+      place = out.place;
     }
 
 pub refused : (source : List ℕ) (old new : cutting.Cutting) (s t : SoFar) (n number offset : ℕ) (bytes : List ℕ) (why : Why) → ReadSoFar source old s n → cutting.IsHandedOut old new number offset bytes → TookBytes s bytes (Err why) t → why ≢ OutOfMemory → Refused source number offset why
@@ -128,7 +128,7 @@ short_of_memory source old new s t n number offset bytes OutOfMemory r out took 
       cut = r.whole (out.unit ∷ others.0) (out.first others.0 others.1);
       faultless = faultless_last [] r.front r.sayings out.unit took.0 r.faultless spelt (no_fault s r.sayings took.0 r.kept took.2);
       number_is = omega (arith, out.number_is, r.counted);
-      place = out.place
+      place = out.place;
     }
 
 pub too_long : (source : List ℕ) (c : cutting.Cutting) (s : SoFar) (n number offset : ℕ) → ReadSoFar source c s n → cutting.IsTooLong c number offset → Refused source number offset (Text StatementTooLong)
@@ -141,7 +141,7 @@ too_long source c s n number offset r long = inl (record {
   faultless = r.faultless;
   fault = inl (long.long, refl);
   number_is = omega (arith, long.number_is, r.counted);
-  place = long.place
+  place = long.place;
 })
 
 -- at the end nothing is left
@@ -161,14 +161,14 @@ told source c s n g r none side black white =
     let ordered : Ordered r.sayings = ordered_all [] r.front r.sayings ordered_none r.faultless in
     let game : IsGame g = record {
       black = rw black (black_fits source c s n r none);
-      white = rw white (white_fits source c s n r none)
+      white = rw white (white_fits source c s n r none);
     } in
     record {
       statements = r.front;
       sayings = r.sayings;
       cut = at_end source c s n r none;
       spelt = spelt_all [] r.front r.sayings r.faultless;
-      says = ordered_says r.sayings g ordered (sym (ap (λ (k : SoFar). k.side) r.kept) ∙ side) (black ∙ ap (λ (k : SoFar). k.black) r.kept) (white ∙ ap (λ (k : SoFar). k.white) r.kept) game
+      says = ordered_says r.sayings g ordered (sym (ap (λ (k : SoFar). k.side) r.kept) ∙ side) (black ∙ ap (λ (k : SoFar). k.black) r.kept) (white ∙ ap (λ (k : SoFar). k.white) r.kept) game;
     }
 
 no_first : {X : Type 0} (xs : List X) → first xs ≡ None → xs ≡ []
@@ -184,5 +184,5 @@ missing source c s n number offset why r none side is_number place is_why = inr 
   no_side = no_first (sides r.sayings) (sym (ap (λ (k : SoFar). k.side) r.kept) ∙ side);
   number_is = omega (arith, r.next, r.counted);
   place = place;
-  why_is = is_why
+  why_is = is_why;
 })

@@ -77,7 +77,7 @@ fits_version (x ∷ xs) rest h = absurd (not_empty (filter is_version xs) versio
 fits_name : (color : Color) (before : List Saying) (b : ℕ) (bs : List ℕ) (rest : List Saying) (o : Option (List ℕ)) → names color (name color (b ∷ bs) ∷ rest) ≡ (b ∷ bs) ∷ names color rest → names color (before ++ name color (b ∷ bs) ∷ rest) ≡ option_to_list o → order_fault before (name color (b ∷ bs)) ≡ None
 fits_name color before b bs rest o given all =
     let split : names color before ++ (b ∷ bs) ∷ names color rest ≡ option_to_list o =
-      sym (filter_map-append (name_given color) before (name color (b ∷ bs) ∷ rest) ∙ ap (λ xs. names color before ++ xs) given) ∙ all in
+    sym (filter_map-append (name_given color) before (name color (b ∷ bs) ∷ rest) ∙ ap (λ xs. names color before ++ xs) given) ∙ all in
     fine_one (stands (names color before)) RepeatedName (none_stands (names color before) (alone_if_any o (names color before) (b ∷ bs) (names color rest) split))
 
 fits_turn : (before : List Saying) (color : Color) (rest : List Saying) (side : Color) → sides (before ++ turn color ∷ rest) ≡ side ∷ [] → order_fault before (turn color) ≡ None
@@ -99,9 +99,9 @@ no_positions_before before p rest h =
 no_body_before : (before : List Saying) (p : List ℕ) (rest : List Saying) (side : Color) → positions before ≡ [] → body (before ++ even p ∷ rest) ≡ positions (before ++ even p ∷ rest) ++ turn side ∷ [] → body before ≡ []
 no_body_before before p rest side none order =
     let placed : positions (before ++ even p ∷ rest) ≡ even p ∷ positions rest =
-      filter-append is_position before (even p ∷ rest) ∙ ap (λ ps. ps ++ even p ∷ positions rest) none in
+    filter-append is_position before (even p ∷ rest) ∙ ap (λ ps. ps ++ even p ∷ positions rest) none in
     let split : body before ++ even p ∷ body rest ≡ even p ∷ (positions rest ++ turn side ∷ []) =
-      sym (filter-append is_body before (even p ∷ rest)) ∙ order ∙ ap (λ ps. ps ++ turn side ∷ []) placed in
+    sym (filter-append is_body before (even p ∷ rest)) ∙ order ∙ ap (λ ps. ps ++ turn side ∷ []) placed in
     body_begins (body before) p (body rest) (positions rest ++ turn side ∷ []) p (positions_body before ∙ none) split
 
 fits_even : (before : List Saying) (p : List ℕ) (rest : List Saying) (side : Color) → AtMostOne (positions (before ++ even p ∷ rest)) → body (before ++ even p ∷ rest) ≡ positions (before ++ even p ∷ rest) ++ turn side ∷ [] → order_fault before (even p) ≡ None
@@ -123,6 +123,8 @@ pub says_faultless : (before : List Saying) (us : List TextUnit) (ss : List Sayi
 says_faultless before [] [] g spelt says = tt
 says_faultless before [] (s ∷ ss) g spelt says = absurd spelt
 says_faultless before (u ∷ us) [] g spelt says = absurd spelt
-says_faultless before (u ∷ us) (s ∷ ss) g spelt says =
-    (spelt.0, says_fits before s ss g says,
-    says_faultless (before ++ s ∷ []) us ss g spelt.1 (subst (λ xs. Says xs g) (sym (append_assoc before (s ∷ []) ss)) says))
+says_faultless before (u ∷ us) (s ∷ ss) g spelt says = (
+  spelt.0,
+  says_fits before s ss g says,
+  says_faultless (before ++ s ∷ []) us ss g spelt.1 (subst (λ xs. Says xs g) (sym (append_assoc before (s ∷ []) ss)) says),
+)

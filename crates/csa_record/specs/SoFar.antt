@@ -28,7 +28,7 @@ so_far sayings = record {
   black = first (names Black sayings);
   white = first (names White sayings);
   positioned = stands (positions sayings);
-  side = first (sides sayings)
+  side = first (sides sayings);
 }
 
 -- the order fault of the next item, by what is kept

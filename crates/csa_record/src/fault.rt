@@ -101,9 +101,7 @@ pub struct Refusal {
 }
 
 impl From<CutFault> for Refusal {
-    ghost from_gives = {
-        λ fault refusal. refusal ≡ record { number = fault.number; offset = fault.offset; why = Text StatementTooLong }
-    };
+    ghost from_gives = { λ fault refusal. refusal ≡ record { number = fault.number; offset = fault.offset; why = Text StatementTooLong } };
 
     fn from(fault: CutFault) -> Refusal {
         Refusal {

@@ -13,3 +13,6 @@ pub use fault::{OrderFault, Refusal, Why};
 pub use reader::read;
 pub use record::Record;
 pub use writer::write;
+
+#[cfg(test)]
+mod tests;

@@ -29,15 +29,13 @@ impl Model for Reader {
 
     ghost Value = { SoFar };
 
-    ghost view = {
-        λ r. record {
-          begun = r.begun;
-          black = name_bytes r.black;
-          white = name_bytes r.white;
-          positioned = r.positioned;
-          side = r.side
-        }
-    };
+    ghost view = { λ r. record {
+      begun = r.begun;
+      black = name_bytes r.black;
+      white = name_bytes r.white;
+      positioned = r.positioned;
+      side = r.side;
+    } };
 }
 
 impl Reader {
@@ -173,7 +171,7 @@ fn set_name(alloc: Global, name: &mut Option<Vec<u8>>, text: &[u8]) -> Result<()
     ensures { MatchResult result
         (λ _. (name_bytes name.old ≡ None) × (name_bytes name.new ≡ Some text.now))
         (λ why. (why ≡ Why.Order OrderFault.RepeatedName) × (is_some (name_bytes name.old) ≡ true)
-            ⊎ (why ≡ Why.OutOfMemory) × (name_bytes name.old ≡ None)) }
+        ⊎ (why ≡ Why.OutOfMemory) × (name_bytes name.old ≡ None)) }
 {
     if name.is_some() {
         return Err(Why::Order(OrderFault::RepeatedName));

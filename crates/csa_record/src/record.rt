@@ -19,13 +19,9 @@ impl Model for Record {
 
     ghost Value = { Game };
 
-    ghost view = {
-        λ r. record { black = name_bytes r.black; white = name_bytes r.white; side = r.side }
-    };
+    ghost view = { λ r. record { black = name_bytes r.black; white = name_bytes r.white; side = r.side } };
 
-    ghost invariant = {
-        λ r. IsGame (record { black = name_bytes r.black; white = name_bytes r.white; side = r.side })
-    };
+    ghost invariant = { λ r. IsGame (record { black = name_bytes r.black; white = name_bytes r.white; side = r.side }) };
 }
 
 impl Record {

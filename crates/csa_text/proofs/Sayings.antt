@@ -90,10 +90,10 @@ same_or_not (x ∷ xs) [] = inr (λ e. cc)
 same_or_not (x ∷ xs) (y ∷ ys) =
     elim (eqb_tells x y) [
       | inl heads ↦
-        elim (same_or_not xs ys) [
-          | inl tails ↦ inl (ap (λ z. z ∷ xs) heads.1 ∙ ap (λ zs. y ∷ zs) tails)
-          | inr other ↦ inr (λ e. let tails : xs ≡ ys = cc in other tails)
-        ]
+          elim (same_or_not xs ys) [
+            | inl tails ↦ inl (ap (λ z. z ∷ xs) heads.1 ∙ ap (λ zs. y ∷ zs) tails)
+            | inr other ↦ inr (λ e. let tails : xs ≡ ys = cc in other tails)
+          ]
       | inr heads ↦ inr (λ e. let head : x ≡ y = cc in heads.1 head)
     ]
 
@@ -115,14 +115,14 @@ named (a ∷ []) = inr (λ color text e. cc)
 named (a ∷ b ∷ text) =
     elim (eqb_tells a 78) [
       | inl from ↦
-        elim (eqb_tells b 43) [
-          | inl plus ↦ inl (Black, text, ap (λ n. n ∷ b ∷ text) from.1 ∙ ap (λ n. 78 ∷ n ∷ text) plus.1)
-          | inr other ↦
-            elim (eqb_tells b 45) [
-              | inl minus ↦ inl (White, text, ap (λ n. n ∷ b ∷ text) from.1 ∙ ap (λ n. 78 ∷ n ∷ text) minus.1)
-              | inr neither ↦ inr (λ color rest e. no_sign b color other.1 neither.1 cc)
-            ]
-        ]
+          elim (eqb_tells b 43) [
+            | inl plus ↦ inl (Black, text, ap (λ n. n ∷ b ∷ text) from.1 ∙ ap (λ n. 78 ∷ n ∷ text) plus.1)
+            | inr other ↦
+                elim (eqb_tells b 45) [
+                  | inl minus ↦ inl (White, text, ap (λ n. n ∷ b ∷ text) from.1 ∙ ap (λ n. 78 ∷ n ∷ text) minus.1)
+                  | inr neither ↦ inr (λ color rest e. no_sign b color other.1 neither.1 cc)
+                ]
+          ]
       | inr other ↦ inr (λ color rest e. let head : a ≡ 78 = cc in other.1 head)
     ]
 

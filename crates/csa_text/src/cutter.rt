@@ -9,6 +9,9 @@ use thiserror::Error;
 /// The most bytes that a statement may have, blanks at its end counted.
 const LIMIT: usize = 4096;
 
+/// The first byte of a comment.
+const COMMENT: u8 = b'\'';
+
 /// The UTF-8 byte order mark.
 const BYTE_ORDER_MARK: [u8; 3] = [0xEF, 0xBB, 0xBF];
 
@@ -177,7 +180,7 @@ fn next_spoken(source: &[u8], from: usize) -> Option<(usize, usize)>
 {
     let mut at = from;
     while let Some((start, end)) = next_unit(source, at) {
-        if source[start] != b'\'' {
+        if source[start] != COMMENT {
             return Some((start, end));
         }
         at = end;

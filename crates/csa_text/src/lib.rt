@@ -11,3 +11,6 @@ pub mod laws;
 pub use cutter::{CutFault, Cutter, Statement};
 pub use fault::TextFault;
 pub use item::{Item, Pairs, read_item};
+
+#[cfg(test)]
+mod tests;

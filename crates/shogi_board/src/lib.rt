@@ -1,8 +1,25 @@
-//! The ground that the other crates stand on: colours, and the error of a growth that was refused.
+//! The ground that the other crates stand on: squares, pieces, hands and sound positions.
 #![tactic(auto)]
 
+mod board;
 mod color;
+mod direction;
+mod even;
+mod hand;
+mod kind;
+pub mod laws;
 mod memory;
+mod position;
+mod setup;
+mod square;
 
 pub use color::Color;
+pub use hand::Hand;
+pub use kind::{Kind, Piece};
 pub use memory::OutOfMemory;
+pub use position::{Position, attacked, reaches};
+pub use setup::{Setup, SetupFault};
+pub use square::Square;
+
+#[cfg(test)]
+mod tests;

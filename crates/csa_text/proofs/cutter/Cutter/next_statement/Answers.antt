@@ -30,7 +30,7 @@ returns-clause-cut c =
     let source = c.self.inside.source.now in
     let first = c.in-Some.ensures in
     let measured : c.in-Some.start + length (slice_range source c.in-Some.start c.in-Some.end) ≡ c.in-Some.end =
-      length_between source c.in-Some.start c.in-Some.end (omega (arith, first.some)) first.within in
+    length_between source c.in-Some.start c.in-Some.end (omega (arith, first.some)) first.within in
     rw (← c.self.view_is) (record {
       unit = unit_between source c.in-Some.start c.in-Some.end;
       first = first.first;

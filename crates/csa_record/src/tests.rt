@@ -1,0 +1,101 @@
+use crate::{OrderFault, Refusal, Why, laws, read, write};
+use csa_text::TextFault;
+use shogi_board::{Color, OutOfMemory};
+
+// Records, and their canonical text.
+const TOLD: [(&[u8], &[u8]); 9] = [
+    (b"PI\n+\n", b"V2.2\nPI\n+\n"),
+    (b"V2.2\n-", b"V2.2\nPI\n-\n"),
+    (b"+", b"V2.2\nPI\n+\n"),
+    (b"N-b\nN+a\n+\n", b"V2.2\nN+a\nN-b\nPI\n+\n"),
+    (b"N+\n+\n", b"V2.2\nPI\n+\n"),
+    (b"N+a,b\nPI\n+\n", b"V2.2\nN+a,b\nPI\n+\n"),
+    (b"\xEF\xBB\xBFV2.2\nPI\n+\n", b"V2.2\nPI\n+\n"),
+    (b"V2.1,PI,-\r\n'x\r\nN+ a \r\n", b"V2.2\nN+ a \nPI\n-\n"),
+    (b"N+\nN+a\nN+\n+\n", b"V2.2\nN+a\nPI\n+\n"),
+];
+
+// Records that are refused: the statement's number, its offset, and the fault.
+const REFUSED: [(&[u8], u64, u64, Why); 13] = [
+    (b"", 1, 0, Why::Order(OrderFault::MissingTurn)),
+    (b"\xEF\xBB\xBF", 1, 3, Why::Order(OrderFault::MissingTurn)),
+    (b"'x\n'y\n", 1, 6, Why::Order(OrderFault::MissingTurn)),
+    (b"V2.2\nPI", 3, 7, Why::Order(OrderFault::MissingTurn)),
+    (b"+\nPI\n", 2, 2, Why::Order(OrderFault::PositionLate)),
+    (b"PI\n+\n-\n", 3, 5, Why::Order(OrderFault::RepeatedTurn)),
+    (
+        b"PI\nV2.2\n+\n",
+        2,
+        3,
+        Why::Order(OrderFault::VersionOutOfPlace),
+    ),
+    (
+        b"V2\nV2\n+\n",
+        2,
+        3,
+        Why::Order(OrderFault::VersionOutOfPlace),
+    ),
+    (
+        b"N+a\nN+b\nPI\n+\n",
+        2,
+        4,
+        Why::Order(OrderFault::RepeatedName),
+    ),
+    (b"PI\nPI\n+\n", 2, 3, Why::Order(OrderFault::MixedStart)),
+    (b"PI\n+\n+7776FU\n", 3, 5, Why::Text(TextFault::Unknown)),
+    (b"V3.0\n", 1, 0, Why::Text(TextFault::BadVersion)),
+    (b"PI\n+\n/\n", 3, 5, Why::Text(TextFault::Unknown)),
+];
+
+#[test]
+fn reads_and_writes(rt: HostRuntime) -> Result<(), OutOfMemory> {
+    for (source, wanted) in TOLD {
+        match read(rt.alloc(), source) {
+            Ok(game) => assert_eq!(rt; write(rt.alloc(), &game)?.as_slice(), wanted),
+            Err(_) => assert!(rt; false, "refused"),
+        }
+    }
+    for (source, number, offset, why) in REFUSED {
+        let refusal = Refusal {
+            number,
+            offset,
+            why,
+        };
+        assert_eq!(rt; read(rt.alloc(), source).err(), Some(refusal));
+    }
+    laws::told_once();
+    laws::canon_tells();
+    laws::canon_equal();
+    Ok(())
+}
+
+#[test]
+fn has_names(rt: HostRuntime) {
+    match read(rt.alloc(), b"N-b\n+\n") {
+        Ok(game) => {
+            assert_eq!(rt; game.name(Color::Black), None);
+            assert_eq!(rt; game.name(Color::White), Some(b"b".as_slice()));
+        }
+        Err(_) => assert!(rt; false, "refused"),
+    }
+}
+
+// With one growth refused, the answer is want of memory at the statement that wanted it, and no
+// other fault and no other text.
+#[test]
+fn memory_is_wanting(rt: HostRuntime) {
+    let source = b"V2.2\nN+a\nN-b\nPI\n+\n";
+    match read(rt.alloc(), source) {
+        Ok(game) => match write(rt.alloc(), &game) {
+            Ok(text) => assert_eq!(rt; text.as_slice(), source.as_slice()),
+            Err(fault) => assert_eq!(rt; fault, OutOfMemory),
+        },
+        Err(refusal) => {
+            assert_eq!(rt; refusal.why, Why::OutOfMemory);
+            assert!(rt;
+                (refusal.number, refusal.offset) == (2, 5)
+                    || (refusal.number, refusal.offset) == (3, 9)
+            );
+        }
+    }
+}

@@ -1,0 +1,100 @@
+use crate::{CutFault, Cutter, Item, Statement, TextFault, laws, read_item};
+use shogi_board::Color;
+
+// What a source is cut into: numbers, offsets and bytes.
+const CUTS: [(&[u8], &[(u64, u64, &[u8])]); 9] = [
+    (b"", &[]),
+    (b"\xEF\xBB\xBF", &[]),
+    (b"' a, b\n'c", &[]),
+    (b"PI\n+\n", &[(1, 0, b"PI"), (2, 3, b"+")]),
+    (
+        b"N+a,b\nPI\n+\n",
+        &[(1, 0, b"N+a,b"), (2, 6, b"PI"), (3, 9, b"+")],
+    ),
+    (
+        b"\xEF\xBB\xBFV2.2\r\n\r\n,, PI \t\n'x\n+",
+        &[(1, 3, b"V2.2"), (2, 14, b"PI"), (3, 22, b"+")],
+    ),
+    (
+        b"$A:b, c \n+7776FU ,T12",
+        &[(1, 0, b"$A:b, c "), (2, 9, b"+7776FU"), (3, 18, b"T12")],
+    ),
+    (b"PI'x\n", &[(1, 0, b"PI'x")]),
+    (b"\xEF\xBB\xBF\xEF\xBB\xBF", &[(1, 3, b"\xEF\xBB\xBF")]),
+];
+
+const ITEMS: [(&[u8], Result<Item, TextFault>); 16] = [
+    (b"V2", Ok(Item::Version)),
+    (b"V2.1", Ok(Item::Version)),
+    (b"V2.2", Ok(Item::Version)),
+    (b"V2.20", Err(TextFault::BadVersion)),
+    (b"V3.0", Err(TextFault::BadVersion)),
+    (b"V", Err(TextFault::BadVersion)),
+    (b"N+", Ok(Item::Name(Color::Black, b""))),
+    (
+        b"N-\x00\xFF, x ",
+        Ok(Item::Name(Color::White, b"\x00\xFF, x ")),
+    ),
+    (b"N", Err(TextFault::Unknown)),
+    (b"Na", Err(TextFault::Unknown)),
+    (b"+", Ok(Item::Turn(Color::Black))),
+    (b"-", Ok(Item::Turn(Color::White))),
+    (b"+7776FU", Err(TextFault::Unknown)),
+    (b"P", Err(TextFault::Unknown)),
+    (b"PI82HI", Err(TextFault::Unknown)),
+    (b"/", Err(TextFault::Unknown)),
+];
+
+#[test]
+fn cuts_a_source(rt: HostRuntime) {
+    for (source, wanted) in CUTS {
+        let mut cutter = Cutter::new(source);
+        for (number, offset, bytes) in wanted {
+            let statement = Statement {
+                number: *number,
+                offset: *offset,
+                bytes,
+            };
+            assert_eq!(rt; cutter.next_statement(), Ok(Some(statement)));
+        }
+        assert_eq!(rt; cutter.next_statement(), Ok(None));
+    }
+}
+
+// A statement of 4,096 bytes is handed out, and one of 4,097 is refused again and again; blanks at
+// its end are counted.
+#[test]
+fn limits_a_statement(rt: HostRuntime) {
+    let mut source = [b' '; 4100];
+    source[0] = b'\n';
+    source[1] = b'+';
+    for (end, fits) in [(4097usize, true), (4098, false)] {
+        let mut cutter = Cutter::new(&source[..end]);
+        for _ in 0..2 {
+            let answer = cutter.next_statement();
+            if fits {
+                assert!(rt; answer.is_ok());
+            } else {
+                let fault = CutFault {
+                    number: 1,
+                    offset: 1,
+                };
+                assert_eq!(rt; answer, Err(fault));
+            }
+        }
+    }
+}
+
+#[test]
+fn reads_items(rt: HostRuntime) {
+    for (bytes, wanted) in ITEMS {
+        assert_eq!(rt; read_item(bytes), wanted);
+    }
+    if let Ok(Item::Even(pairs)) = read_item(b"PI") {
+        assert_eq!(rt; pairs.len(), 0);
+    } else {
+        assert!(rt; false);
+    }
+    laws::cut_once();
+    laws::spelt_once();
+}

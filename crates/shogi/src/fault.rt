@@ -1,0 +1,112 @@
+//! What ends a command early: the status that the program then ends with, and its line on standard error.
+
+ghost use Rattle.std.specs.Prelude.{◌≡◌, ◌≢◌};
+ghost use Rattle.std.specs.IoError.{error_kind};
+ghost use Rattle.shogi.specs.Faults.{line_of, IsFaultOf};
+ghost use Rattle.shogi.specs.declared.fault.Fault.TheVariants.{OutOfMemory};
+
+use csa_record::{Refusal, Why};
+use std::alloc::AllocError;
+use std::io::ErrorKind;
+use std::{fmt, io};
+
+/// Why a command did not do its work.
+#[derive(Clone, Copy, Debug)]
+pub enum Fault {
+    /// The record was refused.
+    Refused(Refusal),
+    /// A word of the command line is not UTF-8.
+    WordsNotText,
+    /// A file or standard input could not be read.
+    Read,
+    /// A file or standard output did not take all that was to be written.
+    Write,
+    /// A growth of memory was refused.
+    OutOfMemory,
+}
+
+/// The status of a usage fault.
+pub const USAGE: u8 = 2;
+
+impl Fault {
+    /// The status that the program ends with.
+    pub fn status(&self) -> u8
+        ensures refused { (r : Refusal) → self.now ≡ Fault.Refused r → result ≡ 1 }
+        ensures words { self.now ≡ Fault.WordsNotText → result ≡ 2 }
+        ensures read { self.now ≡ Fault.Read → result ≡ 3 }
+        ensures write { self.now ≡ Fault.Write → result ≡ 3 }
+        ensures memory { self.now ≡ Fault.OutOfMemory → result ≡ 5 }
+    {
+        match self {
+            Fault::Refused(_) => 1,
+            Fault::WordsNotText => USAGE,
+            Fault::Read | Fault::Write => 3,
+            Fault::OutOfMemory => 5,
+        }
+    }
+
+    /// The fault of a read that failed.
+    pub fn of_read(error: &io::Error) -> Fault
+        ensures memory { error_kind error.now ≡ ErrorKind.OutOfMemory → result ≡ Fault.OutOfMemory }
+        ensures read { error_kind error.now ≢ ErrorKind.OutOfMemory → result ≡ Fault.Read }
+    {
+        match error.kind() {
+            ErrorKind::OutOfMemory => Fault::OutOfMemory,
+            _ => Fault::Read,
+        }
+    }
+
+    /// The fault of a command line that could not be taken.
+    pub fn of_words(error: &io::Error) -> Fault
+        ensures memory { error_kind error.now ≡ ErrorKind.OutOfMemory → result ≡ Fault.OutOfMemory }
+        ensures words { error_kind error.now ≢ ErrorKind.OutOfMemory → result ≡ Fault.WordsNotText }
+    {
+        match error.kind() {
+            ErrorKind::OutOfMemory => Fault::OutOfMemory,
+            _ => Fault::WordsNotText,
+        }
+    }
+}
+
+// The line on standard error, without its end.
+impl fmt::Display for Fault {
+    ghost output = { line_of };
+
+    fn fmt<W: fmt::Write>(&self, f: &mut fmt::Formatter<W>) -> fmt::Result {
+        match self {
+            Fault::Refused(refusal) => write!(f, "refused: {refusal}"),
+            Fault::WordsNotText => f.write_str("error: a word of the command line is not UTF-8"),
+            Fault::Read => f.write_str("read fault"),
+            Fault::Write => f.write_str("write fault"),
+            Fault::OutOfMemory => f.write_str("out of memory"),
+        }
+    }
+}
+
+impl From<Refusal> for Fault {
+    // want of memory is no refusal of the record
+    ghost from_gives = { IsFaultOf };
+
+    fn from(refusal: Refusal) -> Fault {
+        match refusal.why {
+            Why::OutOfMemory => Fault::OutOfMemory,
+            _ => Fault::Refused(refusal),
+        }
+    }
+}
+
+impl From<shogi_board::OutOfMemory> for Fault {
+    ghost from_gives = { λ _ fault. fault ≡ OutOfMemory };
+
+    fn from(_error: shogi_board::OutOfMemory) -> Fault {
+        Fault::OutOfMemory
+    }
+}
+
+impl From<AllocError> for Fault {
+    ghost from_gives = { λ _ fault. fault ≡ OutOfMemory };
+
+    fn from(_error: AllocError) -> Fault {
+        Fault::OutOfMemory
+    }
+}

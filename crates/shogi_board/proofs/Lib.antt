@@ -1,0 +1,12 @@
+pub mod Check
+pub mod Count
+pub mod Facts
+pub mod Moves
+pub mod OneOf
+pub mod Pieces
+pub mod Same
+pub mod Sight
+pub mod Squares
+pub mod Start
+pub mod Totals
+pub mod Turned

@@ -1,0 +1,17 @@
+-- The tests of kinds and colours say what they are named for.
+use Rattle.std.proofs.Common.{◌≡◌, true, Option, refl}
+use Rattle.shogi_board.specs.declared.color.Color.{Color}
+use Rattle.shogi_board.specs.declared.color.Color.TheVariants.{Black, White}
+use Rattle.shogi_board.specs.declared.kind.Kind.TheVariants.{King}
+use Rattle.shogi_board.specs.declared.kind.Piece.{Piece}
+use Rattle.shogi_board.specs.Cells.{piece}
+use Rattle.shogi_board.specs.Pieces.{same_color}
+use Rattle.shogi_board.specs.Totals.{is_king_of}
+
+pub same_color-refl : (c : Color) → same_color c c ≡ true
+same_color-refl Black = refl
+same_color-refl White = refl
+
+-- a king of that side passes the test
+pub is_king_of-king : (c : Color) (cell : Option Piece) → cell ≡ piece c King → is_king_of c cell ≡ true
+is_king_of-king c cell e = rw (e, same_color-refl) refl

@@ -1,0 +1,98 @@
+-- Values compare as equal where they are equal.
+use Rattle.std.proofs.Common.{rules, ◌≡◌, ℕ, true, false, ◌↔◌, Bool, nat_eq, Option, Some, None, ◌&&◌, refl, ap, sym, List, ◌∙◌}
+use Rattle.std.specs.Bool.{Decides}
+use Rattle.std.specs.Option.{option_eq}
+use Rattle.std.specs.Cmp.Lexicographic.{pointwise}
+use Rattle.std.specs.Ordering.{is_eq}
+use Rattle.std.specs.declared.cmp.Ordering.TheVariants.{Equal}
+use Rattle.std.specs.Cmp.{IsTotalOrder, Equal-is}
+use Rattle.std.proofs.lemmas.Slice.Eq.{slice_eq-Decides}
+use Rattle.std.proofs.lemmas.Bool.Decides.{Decides-eqb}
+use denote.Enum.Bare.{sameb, same_true, true_same}
+use Rattle.shogi_board.specs.Placed.{Placed}
+use Rattle.shogi_board.specs.declared.color.Color.{Color}
+use Rattle.shogi_board.specs.declared.kind.Kind.{Kind}
+use Rattle.shogi_board.specs.declared.kind.Piece.{Piece}
+use Rattle.shogi_board.specs.contracts.color.Color as color
+use Rattle.shogi_board.specs.contracts.kind.Kind as kind
+use Rattle.shogi_board.specs.contracts.kind.PiecePartialEq.TheImpl.{eq-value}
+use Rattle.shogi_board.specs.contracts.position.PositionOrd.TheImpl.{cmp-value}
+use Rattle.shogi_board.specs.contracts.position.PositionOrd.TheImpl.Laws as laws
+
+color-eq : (a b : Color) → Decides (sameb color.the_type a b) (a ≡ b)
+color-eq a b = (λ h. same_true color.the_type (search rules) a b h, true_same color.the_type a b)
+
+kind-eq : (a b : Kind) → Decides (sameb kind.the_type a b) (a ≡ b)
+kind-eq a b = (λ h. same_true kind.the_type (search rules) a b h, true_same kind.the_type a b)
+
+and-left : (a b : Bool) → (a && b) ≡ true → a ≡ true
+and-left true b h = refl
+and-left false b h = h
+
+and-right : (a b : Bool) → (a && b) ≡ true → b ≡ true
+and-right true b h = h
+and-right false true h = refl
+and-right false false h = h
+
+and-both : (a b : Bool) → a ≡ true → b ≡ true → (a && b) ≡ true
+and-both a b h k = rw (h, k) refl
+
+piece-same : (a b : Piece) → a.color ≡ b.color → a.kind ≡ b.kind → a ≡ b
+piece-same a b h k =
+    let first : a ≡ record { color = b.color; kind = a.kind } = ap (λ (c : Color). record a { color = c }) h in
+    first ∙ ap (λ (l : Kind). record b { kind = l }) k
+
+piece-eq : (a b : Piece) → Decides (eq-value.it a b) (a ≡ b)
+piece-eq a b = (
+  λ h. piece-same a b ((color-eq a.color b.color).0 (and-left _ _ h)) ((kind-eq a.kind b.kind).0 (and-right _ _ h)),
+  λ h. and-both _ _ ((color-eq a.color b.color).1 (ap (λ (p : Piece). p.color) h)) ((kind-eq a.kind b.kind).1 (ap (λ (p : Piece). p.kind) h)),
+)
+
+cell-eq : (a b : Option Piece) → Decides (option_eq eq-value.it a b) (a ≡ b)
+cell-eq None None = (λ h. refl, λ h. refl)
+cell-eq None (Some y) = (λ h. cc, λ h. cc)
+cell-eq (Some x) None = (λ h. cc, λ h. cc)
+cell-eq (Some x) (Some y) = (λ h. ap Some ((piece-eq x y).0 h), λ h. (piece-eq x y).1 cc)
+
+cells-eq : (a b : List (Option Piece)) → Decides (pointwise (option_eq eq-value.it) a b) (a ≡ b)
+cells-eq a b = slice_eq-Decides cell-eq a b _ refl
+
+counts-eq : (a b : List ℕ) → Decides (pointwise nat_eq a b) (a ≡ b)
+counts-eq a b = slice_eq-Decides Decides-eqb a b _ refl
+
+abbrev parts : List (Option Piece) → List ℕ → List ℕ → Color → Placed
+parts x y z c = record { board = x; black = y; white = z; side = c }
+
+placed-same : (a b : Placed) → a.board ≡ b.board → a.black ≡ b.black → a.white ≡ b.white → a.side ≡ b.side → a ≡ b
+placed-same a b p q r s =
+    ap (λ x. parts x a.black a.white a.side) p
+    ∙ (ap (λ x. parts b.board x a.white a.side) q
+    ∙ (ap (λ x. parts b.board b.black x a.side) r ∙ ap (λ x. parts b.board b.black b.white x) s))
+
+abbrev pub placed_eq : Placed → Placed → Bool
+placed_eq a b =
+    pointwise (option_eq eq-value.it) a.board b.board
+    && (pointwise nat_eq a.black b.black && (pointwise nat_eq a.white b.white && sameb color.the_type a.side b.side))
+
+pub placed-eq : (a b : Placed) → Decides (placed_eq a b) (a ≡ b)
+placed-eq a b = (
+  λ h.
+      let h1 = and-right _ _ h in
+      let h2 = and-right _ _ h1 in
+      placed-same a b ((cells-eq a.board b.board).0 (and-left _ _ h)) ((counts-eq a.black b.black).0 (and-left _ _ h1))
+      ((counts-eq a.white b.white).0 (and-left _ _ h2)) ((color-eq a.side b.side).0 (and-right _ _ h2)),
+  λ h. and-both _ _ ((cells-eq a.board b.board).1 (ap (λ (p : Placed). p.board) h))
+      (and-both _ _ ((counts-eq a.black b.black).1 (ap (λ (p : Placed). p.black) h))
+      (and-both _ _ ((counts-eq a.white b.white).1 (ap (λ (p : Placed). p.white) h)) ((color-eq a.side b.side).1 (ap (λ (p : Placed). p.side) h)))),
+)
+
+-- positions that compare as equal are one, and one position is equal to itself
+pub exact-positions : (a b : Placed) → (cmp-value.it a b ≡ Equal) ↔ (a ≡ b)
+exact-positions a b =
+    let e : placed_eq a b ≡ is_eq (cmp-value.it a b) = laws.matches_eq-law a b in (
+      λ h. (placed-eq a b).0 (e ∙ ap is_eq h),
+      λ h. (Equal-is (cmp-value.it a b)).0 (sym e ∙ (placed-eq a b).1 h),
+    )
+
+pub total-positions : IsTotalOrder cmp-value.it
+total-positions = laws.total-law

@@ -1,0 +1,233 @@
+-- The even board keeps the totals, and neither king is attacked.
+use Rattle.std.proofs.Common.{◌≡◌, ℕ, zero, suc, ◌⊎◌, is_some, ◌+◌, ◌-◌, ◌*◌, ◌<◌, ◌≤◌, ◌&&◌, ◌||◌, not, Bool, true, false, Option, Some, None, get_or, arith, refl, lit≤, nat_le, ◌==◌, inl, inr}
+use Rattle.std.proofs.lemmas.Bool.{cases_lt}
+use Rattle.shogi_board.specs.Cells.{at, even_cells}
+use Rattle.shogi_board.specs.Moves.{IsRay, turned_for}
+use Rattle.shogi_board.specs.Placed.{even_start}
+use Rattle.shogi_board.specs.Sound.{IsSound}
+use Rattle.shogi_board.specs.Reach.{Attacked, InCheck, IsClear, InSight}
+use Rattle.shogi_board.specs.Squares.{IsAway}
+use Rattle.shogi_board.specs.Totals.{IsWithinTotals, total, limit, kings_of, no_pieces}
+use Rattle.shogi_board.specs.declared.color.Color.{Color}
+use Rattle.shogi_board.specs.declared.color.Color.TheVariants.{Black, White}
+use Rattle.shogi_board.specs.declared.direction.Direction.{Direction}
+use Rattle.shogi_board.specs.declared.kind.Kind.{Kind}
+use Rattle.shogi_board.specs.declared.kind.Kind.TheVariants.{Pawn, Lance, Knight, Silver, Gold, Bishop, Rook, King, ProPawn, ProLance, ProKnight, ProSilver, Horse, Dragon}
+use Rattle.shogi_board.specs.declared.kind.Piece.{Piece}
+use Rattle.shogi_board.specs.declared.square.Square.{Square}
+use Rattle.shogi_board.proofs.Check.{king-safe}
+use Rattle.shogi_board.proofs.Moves.{ray-at, step-near}
+
+even-totals : (k : Kind) → total even_cells no_pieces no_pieces k ≤ limit k
+even-totals Pawn = lit≤ tt
+even-totals Lance = lit≤ tt
+even-totals Knight = lit≤ tt
+even-totals Silver = lit≤ tt
+even-totals Gold = lit≤ tt
+even-totals Bishop = lit≤ tt
+even-totals Rook = lit≤ tt
+even-totals King = lit≤ tt
+even-totals ProPawn = lit≤ tt
+even-totals ProLance = lit≤ tt
+even-totals ProKnight = lit≤ tt
+even-totals ProSilver = lit≤ tt
+even-totals Horse = lit≤ tt
+even-totals Dragon = lit≤ tt
+
+even-kings : (c : Color) → kings_of even_cells c ≤ 1
+even-kings Black = lit≤ tt
+even-kings White = lit≤ tt
+
+pub even-within : IsWithinTotals even_cells no_pieces no_pieces
+even-within = record { squares = refl; black_kinds = refl; white_kinds = refl; totals = even-totals; kings = even-kings }
+
+all_below : (ℕ → Bool) → ℕ → Bool
+all_below test zero = true
+all_below test (suc n) = test n && all_below test n
+
+both-left : (a b : Bool) → (a && b) ≡ true → a ≡ true
+both-left true b h = refl
+both-left false b h = h
+
+both-right : (a b : Bool) → (a && b) ≡ true → b ≡ true
+both-right true b h = h
+both-right false true h = refl
+both-right false false h = h
+
+all_below-at : (test : ℕ → Bool) (m n : ℕ) → all_below test m ≡ true → n < m → test n ≡ true
+unfolding all_below
+all_below-at test zero n h lt = absurd (omega arith)
+all_below-at test (suc m) n h lt =
+    elim (cases_lt n m) [
+      | inl low ↦ all_below-at test m n (both-right _ _ h) low
+      | inr high ↦ let e : n ≡ m = omega arith in rw e (both-left _ _ h)
+    ]
+
+-- a test passes at each square of the even board, by its file and rank from 0
+abbrev grid : (Option Piece → ℕ → Bool) → Bool
+grid test = all_below (λ f. all_below (λ r. test (get_or even_cells (f * 9 + r) None) r) 9) 9
+
+grid-at : (test : Option Piece → ℕ → Bool) (s : Square) → grid test ≡ true → test (at even_cells s) (s.rank - 1) ≡ true
+grid-at test s h =
+    let b = s.on_board in
+    all_below-at (λ r. test (get_or even_cells ((s.file - 1) * 9 + r) None) r) 9 (s.rank - 1)
+    (all_below-at (λ f. all_below (λ r. test (get_or even_cells (f * 9 + r) None) r) 9) 9 (s.file - 1) h (omega arith)) (omega arith)
+
+abbrev is_ranked : Color → ℕ → Bool
+is_ranked Black r = nat_le 6 r
+is_ranked White r = nat_le r 2
+
+-- black's pieces stand on the ranks 7 to 9, white's on 1 to 3
+abbrev is_home : Option Piece → ℕ → Bool
+is_home None r = true
+is_home (Some p) r = is_ranked p.color r
+
+home : grid is_home ≡ true
+unfolding all_below
+home = refl
+
+-- the ranks 3 and 7 are full
+abbrev is_full_rank : Option Piece → ℕ → Bool
+is_full_rank cell r = (not (r == 2) && not (r == 6)) || is_some cell
+
+full : grid is_full_rank ≡ true
+unfolding all_below
+full = refl
+
+black-rank : (a : Square) (p : Piece) → at even_cells a ≡ Some p → p.color ≡ Black → 7 ≤ a.rank
+black-rank a p h e =
+    let t = grid-at is_home a home in
+    let u : is_ranked p.color (a.rank - 1) ≡ true = rw h at t in
+    let v : nat_le 6 (a.rank - 1) ≡ true = rw e at u in
+    let w : 6 ≤ a.rank - 1 = grind arith in
+    omega arith
+
+white-rank : (a : Square) (p : Piece) → at even_cells a ≡ Some p → p.color ≡ White → a.rank ≤ 3
+white-rank a p h e =
+    let t = grid-at is_home a home in
+    let u : is_ranked p.color (a.rank - 1) ≡ true = rw h at t in
+    let v : nat_le (a.rank - 1) 2 ≡ true = rw e at u in
+    let w : a.rank - 1 ≤ 2 = grind arith in
+    omega arith
+
+not-empty : (s : Square) → (s.rank ≡ 3) ⊎ (s.rank ≡ 7) → at even_cells s ≡ None → ⊥
+not-empty s (inl e) h =
+    let t = grid-at is_full_rank s full in
+    let u = rw (h, e) at t in
+    cc
+not-empty s (inr e) h =
+    let t = grid-at is_full_rank s full in
+    let u = rw (h, e) at t in
+    cc
+
+-- the square two before the end
+two-before : (a s b : Square) (d : Direction) (m : ℕ) → IsAway a d (m + 2) b → IsAway s d 2 b → IsAway a d m s
+two-before a s b d m h k = (omega (arith, h.0, k.0), omega (arith, h.1, k.1))
+
+times-two : (x y n r : ℕ) → r ≡ 2 → x + n * 2 ≡ y + n * r → x ≡ y
+times-two x y n r e h = let g : x + n * 2 ≡ y + n * 2 = rw e at h in omega arith
+
+times-three : (x y n r : ℕ) → r ≡ 3 → x + n * 2 ≡ y + n * r → x ≡ y + n
+times-three x y n r e h = let g : x + n * 2 ≡ y + n * 3 = rw e at h in omega arith
+
+times-one : (x y n r : ℕ) → r ≡ 1 → x + n * 2 ≡ y + n * r → y ≡ x + n
+times-one x y n r e h = let g : x + n * 2 ≡ y + n * 1 = rw e at h in omega arith
+
+one-two-three : (r : ℕ) → 1 ≤ r → r ≤ 3 → (r ≡ 1) ⊎ ((r ≡ 2) ⊎ (r ≡ 3))
+one-two-three r low high =
+    elim (cases_lt r 2) [
+      | inl a ↦ inl (omega arith)
+      | inr b ↦ elim (cases_lt r 3) [ inl e ↦ inr (inl (omega arith)) | inr f ↦ inr (inr (omega arith)) ]
+    ]
+
+white_king : Square
+white_king = record { file = 5; rank = 1; on_board = (lit≤ tt, lit≤ tt, lit≤ tt, lit≤ tt) }
+
+black_king : Square
+black_king = record { file = 5; rank = 9; on_board = (lit≤ tt, lit≤ tt, lit≤ tt, lit≤ tt) }
+
+-- a square two steps from white's king on rank 3
+white-front : (d : Direction) → IsRay d → d.ranks ≡ 1 → (s : Square) × (s.rank ≡ 3) × IsAway s d 2 white_king
+unfolding white_king
+white-front d ray e =
+    let a : 1 ≤ d.files = ray.0 in
+    let b : d.files ≤ 3 = ray.1 in
+    (record { file = 9 - 2 * d.files; rank = 3; on_board = (omega arith, omega arith, lit≤ tt, lit≤ tt) }, refl, (omega arith, omega arith))
+
+black-front : (d : Direction) → IsRay d → d.ranks ≡ 3 → (s : Square) × (s.rank ≡ 7) × IsAway s d 2 black_king
+unfolding black_king
+black-front d ray e =
+    let a : 1 ≤ d.files = ray.0 in
+    let b : d.files ≤ 3 = ray.1 in
+    (record { file = 9 - 2 * d.files; rank = 7; on_board = (omega arith, omega arith, lit≤ tt, lit≤ tt) }, refl, (omega arith, omega arith))
+
+-- a look that would pass the square in front of the pawns' rank does not reach the king
+blocked : (a s b : Square) (d : Direction) (n : ℕ) → 3 ≤ n → (s.rank ≡ 3) ⊎ (s.rank ≡ 7) → IsAway s d 2 b → IsAway a d n b → IsClear even_cells a d n → ⊥
+blocked a s b d n far rank short away clear =
+    let e : n ≡ (n - 2) + 2 = omega arith in
+    let long : IsAway a d ((n - 2) + 2) b = rw (← e) away in
+    not-empty s rank (clear (n - 2) s (omega arith) (omega arith) (two-before a s b d (n - 2) long short))
+
+white-seen : (a : Square) (d : Direction) → IsRay d → 7 ≤ a.rank → InSight even_cells a d white_king → ⊥
+unfolding white_king
+white-seen a d ray far sight =
+    elim (one-two-three d.ranks ray.2 ray.3) [
+      | inl one ↦
+          let n = times-one 1 a.rank sight.distance d.ranks one sight.away.1 in
+          let front = white-front d ray one in
+          blocked a front.0 white_king d sight.distance (omega arith) (inl front.1) front.2 sight.away sight.clear
+      | inr more ↦ elim more [
+        | inl two ↦ let e = times-two 1 a.rank sight.distance d.ranks two sight.away.1 in omega arith
+        | inr three ↦ let e = times-three 1 a.rank sight.distance d.ranks three sight.away.1 in omega arith
+      ]
+    ]
+
+black-seen : (a : Square) (d : Direction) → IsRay d → a.rank ≤ 3 → InSight even_cells a d black_king → ⊥
+unfolding black_king
+black-seen a d ray far sight =
+    elim (one-two-three d.ranks ray.2 ray.3) [
+      | inl one ↦ let e = times-one 9 a.rank sight.distance d.ranks one sight.away.1 in omega arith
+      | inr more ↦ elim more [
+        | inl two ↦ let e = times-two 9 a.rank sight.distance d.ranks two sight.away.1 in omega arith
+        | inr three ↦
+            let n = times-three 9 a.rank sight.distance d.ranks three sight.away.1 in
+            let front = black-front d ray three in
+            blocked a front.0 black_king d sight.distance (omega arith) (inr front.1) front.2 sight.away sight.clear
+      ]
+    ]
+
+white-safe : Attacked even_cells White white_king → ⊥
+unfolding white_king
+white-safe (a, attack) =
+    let far : 7 ≤ a.rank = black-rank a attack.attacker attack.stands attack.enemy in
+    let reach = attack.reach in
+    elim reach.moves [
+      | inl step ↦
+          let away : IsAway a (turned_for reach.mover.color step.1) 1 white_king = step.4 in
+          omega (arith, away.1)
+      | inr slide ↦
+          white-seen a (turned_for reach.mover.color slide.1) (ray-at reach.mover.color reach.mover.kind slide.0 slide.1 slide.2 slide.3) far slide.4
+    ]
+
+black-safe : Attacked even_cells Black black_king → ⊥
+unfolding black_king
+black-safe (a, attack) =
+    let far : a.rank ≤ 3 = white-rank a attack.attacker attack.stands attack.enemy in
+    let reach = attack.reach in
+    elim reach.moves [
+      | inl step ↦
+          let away : IsAway a (turned_for reach.mover.color step.1) 1 black_king = step.4 in
+          let near = step-near reach.mover.color reach.mover.kind step.0 step.1 step.2 step.3 in
+          omega (arith, away.1, near.1)
+      | inr slide ↦
+          black-seen a (turned_for reach.mover.color slide.1) (ray-at reach.mover.color reach.mover.kind slide.0 slide.1 slide.2 slide.3) far slide.4
+    ]
+
+-- neither king is attacked
+pub even-safe : (c : Color) → InCheck even_cells c → ⊥
+unfolding white_king black_king
+even-safe White check = king-safe even_cells White white_king refl (lit≤ tt) refl white-safe check
+even-safe Black check = king-safe even_cells Black black_king refl (lit≤ tt) refl black-safe check
+
+pub even-sound : IsSound even_start
+even-sound = record { within = even-within; safe = even-safe White }

@@ -1,0 +1,5 @@
+use Rattle.shogi_board.proofs.Same.{exact-positions, total-positions}
+use Rattle.shogi_board.proofs.laws.ordered_positions.Goals as goal
+
+pub returns : goal.returns
+returns c = record { total = total-positions; exact = exact-positions }

@@ -1,0 +1,12 @@
+pub mod Cells
+pub mod Layout
+pub mod Moves
+pub mod Neighbours
+pub mod Pieces
+pub mod Placed
+pub mod Reach
+pub mod Setup
+pub mod Sound
+pub mod Squares
+pub mod Totals
+pub mod Turned

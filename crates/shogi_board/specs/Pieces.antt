@@ -1,0 +1,65 @@
+-- The sides and the kinds of pieces.
+use Rattle.std.specs.Prelude.{ℕ, Bool, true, false, ◌==◌, ◌&&◌}
+use Rattle.shogi_board.specs.declared.color.Color.{Color}
+use Rattle.shogi_board.specs.declared.color.Color.TheVariants.{Black, White}
+use Rattle.shogi_board.specs.declared.kind.Kind.{Kind}
+use Rattle.shogi_board.specs.declared.kind.Kind.TheVariants.{Pawn, Lance, Knight, Silver, Gold, Bishop, Rook, King, ProPawn, ProLance, ProKnight, ProSilver, Horse, Dragon}
+
+abbrev pub opponent : Color → Color
+opponent Black = White
+opponent White = Black
+
+abbrev pub same_color : Color → Color → Bool
+same_color Black Black = true
+same_color White White = true
+same_color Black White = false
+same_color White Black = false
+
+-- the places of the kinds: first the seven that a hand may hold, then the king; a promoted kind has the place of its unpromoted one
+abbrev pub place_of : Kind → ℕ
+place_of Pawn = 0
+place_of Lance = 1
+place_of Knight = 2
+place_of Silver = 3
+place_of Gold = 4
+place_of Bishop = 5
+place_of Rook = 6
+place_of King = 7
+place_of ProPawn = 0
+place_of ProLance = 1
+place_of ProKnight = 2
+place_of ProSilver = 3
+place_of Horse = 5
+place_of Dragon = 6
+
+abbrev pub is_promoted : Kind → Bool
+is_promoted ProPawn = true
+is_promoted ProLance = true
+is_promoted ProKnight = true
+is_promoted ProSilver = true
+is_promoted Horse = true
+is_promoted Dragon = true
+is_promoted _ = false
+
+abbrev pub is_king : Kind → Bool
+is_king King = true
+is_king _ = false
+
+-- a hand may hold each unpromoted kind but the king
+abbrev pub in_hand : Kind → Bool
+in_hand Pawn = true
+in_hand Lance = true
+in_hand Knight = true
+in_hand Silver = true
+in_hand Gold = true
+in_hand Bishop = true
+in_hand Rook = true
+in_hand _ = false
+
+abbrev pub same : Bool → Bool → Bool
+same true b = b
+same false true = false
+same false false = true
+
+abbrev pub same_kind : Kind → Kind → Bool
+same_kind a b = (place_of a == place_of b) && same (is_promoted a) (is_promoted b)

@@ -1,0 +1,212 @@
+ghost use Rattle.std.specs.Prelude.{◌≡◌, ◌≤◌, ◌<◌, ◌↔◌, IsTrue, MatchOption, count_by, slice_set};
+ghost use Rattle.shogi_board.specs.Cells.{Cells, at, piece, even_cells, no_cells, HasPawnOnFile};
+ghost use Rattle.shogi_board.specs.Moves.{IsNear, IsRay};
+ghost use Rattle.shogi_board.specs.Reach.{Reach, Attack, Attacked, InSight, Slides, Steps};
+ghost use Rattle.shogi_board.specs.Setup.{holds};
+ghost use Rattle.shogi_board.specs.Squares.{place};
+ghost use Rattle.shogi_board.specs.Totals.{is_of, kings_of, is_king_of};
+ghost use Rattle.shogi_board.specs.declared.kind.Kind.TheVariants.{King, Pawn};
+
+use crate::color::Color;
+use crate::direction::Direction;
+use crate::even::even_cells;
+use crate::kind::{Kind, Piece};
+use crate::square::Square;
+use std::marker::Model;
+
+// What stands on the squares.
+#[derive(Clone, Copy, Debug, PartialEq, Eq, PartialOrd, Ord)]
+pub struct Board {
+    // in the order of the squares
+    cells: [Option<Piece>; 81],
+}
+
+impl Model for Board {
+    ghost use Rattle.std.specs.Prelude.{List, Option};
+    ghost use Rattle.shogi_board.specs.declared.kind.Piece.{Piece};
+
+    ghost Value = { List (Option Piece) };
+
+    ghost view = { λ b. b.cells };
+
+    ghost inverse = { λ d. record { cells = d } };
+}
+
+impl Board {
+    pub(crate) fn empty() -> Board
+        ensures { result ≡ no_cells }
+    {
+        Board { cells: [None; 81] }
+    }
+
+    pub(crate) fn even() -> Board
+        ensures { result ≡ even_cells }
+    {
+        Board {
+            cells: even_cells(),
+        }
+    }
+
+    pub(crate) fn at(&self, square: Square) -> Option<Piece>
+        ensures { result ≡ at self.now square }
+    {
+        self.cells[square.place()]
+    }
+
+    pub(crate) fn put(&mut self, square: Square, cell: Option<Piece>)
+        ensures { self.new ≡ slice_set self.old (place square) cell }
+    {
+        self.cells[square.place()] = cell;
+    }
+
+    // How many pieces of that kind stand, promoted ones counted with their unpromoted kind.
+    pub(crate) fn count(&self, kind: Kind) -> usize
+        ensures value { result ≡ count_by (is_of kind) self.now }
+        ensures bound { result ≤ 81 }
+    {
+        self.cells.iter().filter(|cell| is_of(**cell, kind)).count()
+    }
+
+    pub(crate) fn kings(&self, color: Color) -> usize
+        ensures { result ≡ kings_of self.now color }
+    {
+        self.cells
+            .iter()
+            .filter(|cell| is_king_of(**cell, color))
+            .count()
+    }
+
+    pub(crate) fn holds(&self, square: Square, kind: Kind) -> bool
+        ensures { result ≡ holds kind (at self.now square) }
+    {
+        match self.at(square) {
+            Some(piece) => piece.kind == kind,
+            None => false,
+        }
+    }
+
+    // The square of the king of that side, the first in order.
+    pub(crate) fn king(&self, color: Color) -> Option<Square>
+        ensures { MatchOption result
+            ((s : Square) → at self.now s ≡ piece color King → ⊥)
+            (λ s. at self.now s ≡ piece color King) }
+    {
+        for n in 0..81usize {
+            let square = Square::at_place(n);
+            if is_king_of(self.at(square), color) {
+                return Some(square);
+            }
+        }
+        None
+    }
+
+    pub(crate) fn has_pawn_on_file(&self, color: Color, square: Square) -> bool
+        ensures { IsTrue result ↔ HasPawnOnFile self.now color square }
+    {
+        for n in 0..81usize {
+            let other = Square::at_place(n);
+            if other.file() == square.file() && is_pawn_of(self.at(other), color) {
+                return true;
+            }
+        }
+        false
+    }
+
+    pub(crate) fn reaches(&self, from: Square, to: Square) -> bool
+        ensures { IsTrue result ↔ Reach self.now from to }
+    {
+        let Some(piece) = self.at(from) else {
+            return false;
+        };
+        steps_to(piece, from, to) || self.slides_to(piece, from, to)
+    }
+
+    // Whether one of the piece's rays leads from one square to the other with nothing between.
+    fn slides_to(&self, piece: Piece, from: Square, to: Square) -> bool
+        ensures { IsTrue result ↔ Slides self.now piece from to }
+    {
+        for direction in piece.kind.rays() {
+            if self.sees(from, direction.turned_for(piece.color), to) {
+                return true;
+            }
+        }
+        false
+    }
+
+    // Whether the one square lies in that direction from the other with nothing between.
+    fn sees(&self, from: Square, direction: Direction, to: Square) -> bool
+        requires { IsRay direction }
+        ensures { IsTrue result ↔ InSight self.now from direction to }
+    {
+        for n in 1..9u8 {
+            if let Some(square) = from.away(direction, n) {
+                if square == to {
+                    return true;
+                }
+                if self.at(square).is_some() {
+                    return false;
+                }
+            }
+        }
+        false
+    }
+
+    pub(crate) fn attacked(&self, color: Color, square: Square) -> bool
+        ensures { IsTrue result ↔ Attacked self.now color square }
+    {
+        for n in 0..81usize {
+            if self.attacks(color, Square::at_place(n), square) {
+                return true;
+            }
+        }
+        false
+    }
+
+    // Whether an enemy piece of that colour stands on the one square and reaches the other.
+    fn attacks(&self, color: Color, from: Square, to: Square) -> bool
+        ensures { IsTrue result ↔ Attack self.now color from to }
+    {
+        match self.at(from) {
+            Some(piece) => piece.color == color.opponent() && self.reaches(from, to),
+            None => false,
+        }
+    }
+}
+
+// Whether one of the piece's steps leads from one square to the other.
+fn steps_to(piece: Piece, from: Square, to: Square) -> bool
+    ensures { IsTrue result ↔ Steps piece from to }
+{
+    piece
+        .kind
+        .steps()
+        .iter()
+        .any(|d| from.is_away(d.turned_for(piece.color), 1, to))
+}
+
+fn is_of(cell: Option<Piece>, kind: Kind) -> bool
+    ensures { result ≡ is_of kind cell }
+{
+    match cell {
+        Some(piece) => piece.kind.place() == kind.place(),
+        None => false,
+    }
+}
+
+fn is_king_of(cell: Option<Piece>, color: Color) -> bool
+    ensures { result ≡ is_king_of color cell }
+{
+    match cell {
+        Some(piece) => piece.color == color && piece.kind == Kind::King,
+        None => false,
+    }
+}
+
+fn is_pawn_of(cell: Option<Piece>, color: Color) -> bool
+    ensures { IsTrue result ↔ (cell ≡ piece color Pawn) }
+{
+    match cell {
+        Some(piece) => piece.color == color && piece.kind == Kind::Pawn,
+        None => false,
+    }
+}

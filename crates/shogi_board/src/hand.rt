@@ -1,0 +1,65 @@
+ghost use Rattle.std.specs.Prelude.{◌≡◌, ◌+◌, ◌-◌, ◌<◌, true, slice_index, slice_set};
+ghost use Rattle.shogi_board.specs.Pieces.{place_of, in_hand};
+ghost use Rattle.shogi_board.specs.Setup.{one_more, one_less};
+ghost use Rattle.shogi_board.specs.Totals.{count_in, no_pieces};
+
+use crate::kind::Kind;
+use std::marker::Model;
+
+/// The pieces in one side's hand: how many there are of each kind.
+#[derive(Clone, Copy, Debug, PartialEq, Eq, PartialOrd, Ord)]
+pub struct Hand {
+    // in the order of `Kind::place`
+    counts: [u8; 7],
+}
+
+impl Model for Hand {
+    ghost use Rattle.std.specs.Prelude.{List, ℕ};
+
+    ghost Value = { List ℕ };
+
+    ghost view = { λ h. h.counts };
+
+    ghost inverse = { λ d. record { counts = d } };
+}
+
+impl Hand {
+    /// How many pieces of that kind it holds: 0 for the king and the promoted kinds.
+    pub fn count(&self, kind: Kind) -> u8
+        ensures { result ≡ count_in self.now kind }
+    {
+        if kind.in_hand() {
+            self.counts[kind.place()]
+        } else {
+            0
+        }
+    }
+
+    // The hand without a piece.
+    pub(crate) fn empty() -> Hand
+        ensures { result ≡ no_pieces }
+    {
+        Hand { counts: [0; 7] }
+    }
+
+    pub(crate) fn of(counts: [u8; 7]) -> Hand
+        ensures { result ≡ counts }
+    {
+        Hand { counts }
+    }
+
+    // How many pieces it holds whose place is that of the kind: none for the king.
+    pub(crate) fn at_place_of(&self, kind: Kind) -> u8
+        ensures { result ≡ slice_index self.now (place_of kind) }
+    {
+        self.counts.get(kind.place()).copied().unwrap_or(0)
+    }
+
+    // The hand with that many pieces of a kind.
+    pub(crate) fn set(&mut self, kind: Kind, count: u8)
+        requires { in_hand kind ≡ true }
+        ensures { self.new ≡ slice_set self.old (place_of kind) count }
+    {
+        self.counts[kind.place()] = count;
+    }
+}

@@ -1,0 +1,59 @@
+//! What a player knows of the definitions that the other contracts cite.
+//!
+//! A law is a function that does nothing: its contract is the law.
+
+ghost use Rattle.std.specs.Prelude.{◌≡◌, ◌≤◌, ◌+◌, ◌↔◌, ◌⊎◌, true, length};
+ghost use Rattle.std.specs.Cmp.{IsTotalOrder};
+ghost use Rattle.std.specs.declared.cmp.Ordering.TheVariants.{Equal};
+ghost use Rattle.shogi_board.specs.Cells.{Cells, at, piece, no_cells, even_cells};
+ghost use Rattle.shogi_board.specs.Neighbours.{IsAmong, gold_squares, beside, with_cell};
+ghost use Rattle.shogi_board.specs.Placed.{Placed, even_start};
+ghost use Rattle.shogi_board.specs.Reach.{Reach, InCheck};
+ghost use Rattle.shogi_board.specs.Setup.{even_layout, position_of};
+ghost use Rattle.shogi_board.specs.Sound.{IsSound};
+ghost use Rattle.shogi_board.specs.Squares.{rank_of};
+ghost use Rattle.shogi_board.specs.Turned.{turned, IsTurned};
+ghost use Rattle.shogi_board.specs.declared.color.Color.{Color};
+ghost use Rattle.shogi_board.specs.declared.color.Color.TheVariants.{Black};
+ghost use Rattle.shogi_board.specs.declared.kind.Kind.TheVariants.{Gold, Bishop, Horse, Knight};
+ghost use Rattle.shogi_board.specs.declared.square.Square.{Square};
+
+use crate::position::Position;
+
+/// A piece reaches a square exactly where, all turned round, the other side's piece reaches the square turned round.
+pub fn reach_turned()
+    ensures { (cells : Cells) (a b c d : Square) → length cells ≡ 81 → IsTurned a c → IsTurned b d → Reach cells a b ↔ Reach (turned cells) c d }
+{}
+
+/// A gold of black reaches its six squares and no other.
+pub fn gold_reaches_six()
+    ensures { (cells : Cells) (a b : Square) → at cells a ≡ piece Black Gold → Reach cells a b ↔ IsAmong (gold_squares a) b }
+{}
+
+/// A horse reaches what a bishop in its place reaches, and the four squares beside it.
+pub fn horse_reaches()
+    ensures { (cells : Cells) (color : Color) (a b : Square) → length cells ≡ 81 → Reach (with_cell cells a (piece color Horse)) a b ↔ (Reach (with_cell cells a (piece color Bishop)) a b ⊎ IsAmong (beside a) b) }
+{}
+
+/// A knight of black on its last two ranks reaches nothing, and so on the empty board.
+pub fn knight_without_move()
+    ensures { (cells : Cells) (a b : Square) → at cells a ≡ piece Black Knight → rank_of a ≤ 2 → Reach cells a b → ⊥ }
+{}
+
+/// The even position is sound, no king in it is attacked, and the even setup finishes as it.
+pub fn even_is_sound()
+    ensures sound { IsSound even_start }
+    ensures safe { (color : Color) → InCheck even_cells color → ⊥ }
+    ensures set_up { position_of even_layout Black ≡ even_start }
+{}
+
+/// Two positions are equal exactly where board, hands and side to move are.
+pub fn equal_positions()
+    ensures { (p q : Placed) → (⟦<Position as PartialEq>⟧.eq p q ≡ true) ↔ (p ≡ q) }
+{}
+
+/// Positions are in a total order, in which only equal ones compare as equal.
+pub fn ordered_positions()
+    ensures total { IsTotalOrder ⟦<Position as Ord>⟧.cmp }
+    ensures exact { (p q : Placed) → (⟦<Position as Ord>⟧.cmp p q ≡ Equal) ↔ (p ≡ q) }
+{}

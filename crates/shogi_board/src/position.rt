@@ -1,0 +1,125 @@
+ghost use Rattle.std.specs.Prelude.{◌≡◌, ◌↔◌, IsTrue, MatchOption};
+ghost use Rattle.shogi_board.specs.Cells.{at, piece, HasPawnOnFile};
+ghost use Rattle.shogi_board.specs.Placed.{bag_of, even_start};
+ghost use Rattle.shogi_board.specs.Reach.{Reach, Attacked};
+ghost use Rattle.shogi_board.specs.Setup.{layout_of};
+ghost use Rattle.shogi_board.specs.Sound.{IsSound};
+ghost use Rattle.shogi_board.specs.declared.kind.Kind.TheVariants.{King};
+
+use crate::board::Board;
+use crate::color::Color;
+use crate::hand::Hand;
+use crate::kind::Piece;
+use crate::setup::Setup;
+use crate::square::Square;
+use std::marker::Model;
+
+/// A sound position: the board, both hands, and the side to move.
+///
+/// There are at most 18 pawns, four each of lances, knights, silvers and golds, and two each of bishops and rooks,
+/// promoted ones and those in hands counted; each side has at most one king; and the king of the side that is not to
+/// move is not attacked. Pieces may be missing, kings too.
+///
+/// Two positions are equal where board, hands and side to move are, and positions are ordered by these.
+#[derive(Clone, Copy, Debug, PartialEq, Eq, PartialOrd, Ord)]
+pub struct Position {
+    pub(crate) board: Board,
+    pub(crate) black: Hand,
+    pub(crate) white: Hand,
+    pub(crate) side: Color,
+}
+
+impl Model for Position {
+    ghost use Rattle.shogi_board.specs.Placed.{Placed};
+    ghost use Rattle.shogi_board.specs.Sound.{IsSound};
+
+    ghost Value = { Placed };
+
+    ghost view = { λ p. record { board = p.board; black = p.black; white = p.white; side = p.side } };
+
+    ghost invariant = { λ p. IsSound (record { board = p.board; black = p.black; white = p.white; side = p.side }) };
+
+    ghost inverse = { λ d. record { board = d.board; black = d.black; white = d.white; side = d.side } };
+}
+
+impl Position {
+    /// The even position: all pieces in their places, no piece in a hand, black to move.
+    pub fn even() -> Position
+        ensures { result ≡ even_start }
+    {
+        Position {
+            board: Board::even(),
+            black: Hand::empty(),
+            white: Hand::empty(),
+            side: Color::Black,
+        }
+    }
+
+    /// What stands on the square.
+    pub fn piece_at(&self, square: Square) -> Option<Piece>
+        ensures { result ≡ at self.now.board square }
+    {
+        self.board.at(square)
+    }
+
+    /// The hand of that side.
+    pub fn hand(&self, color: Color) -> Hand
+        ensures { result ≡ bag_of self.now color }
+    {
+        match color {
+            Color::Black => self.black,
+            Color::White => self.white,
+        }
+    }
+
+    /// The side to move.
+    pub fn side(&self) -> Color
+        ensures value { result ≡ self.now.side }
+        ensures sound { IsSound self.now }
+    {
+        self.side
+    }
+
+    /// The square of that side's king, or None where it has none.
+    pub fn king(&self, color: Color) -> Option<Square>
+        ensures { MatchOption result
+            ((s : Square) → at self.now.board s ≡ piece color King → ⊥)
+            (λ s. at self.now.board s ≡ piece color King) }
+    {
+        self.board.king(color)
+    }
+
+    /// Whether an unpromoted pawn of that side stands on the file of the square.
+    pub fn pawn_on_file(&self, color: Color, square: Square) -> bool
+        ensures { IsTrue result ↔ HasPawnOnFile self.now.board color square }
+    {
+        self.board.has_pawn_on_file(color, square)
+    }
+
+    /// Its pieces and hands as a setup, the rest not given.
+    pub fn setup(&self) -> Setup
+        ensures value { result ≡ layout_of self.now }
+        ensures sound { IsSound self.now }
+    {
+        Setup {
+            board: self.board,
+            black: self.black,
+            white: self.white,
+            rest_given: false,
+        }
+    }
+}
+
+/// Whether the piece on `from` reaches `to`, whatever stands on `to`; false where `from` is empty.
+pub fn reaches(position: &Position, from: Square, to: Square) -> bool
+    ensures { IsTrue result ↔ Reach position.now.board from to }
+{
+    position.board.reaches(from, to)
+}
+
+/// Whether some enemy piece of `color` reaches the square.
+pub fn attacked(position: &Position, color: Color, square: Square) -> bool
+    ensures { IsTrue result ↔ Attacked position.now.board color square }
+{
+    position.board.attacked(color, square)
+}

@@ -1,0 +1,284 @@
+ghost use Rattle.std.specs.Prelude.{◌≡◌, ◌≤◌, None, Some, MatchResult, MatchOption, OnOk, OnErr, IfOk};
+ghost use Rattle.shogi_board.specs.Pieces.{opponent};
+ghost use Rattle.shogi_board.specs.Totals.{total, limit};
+ghost use Rattle.shogi_board.specs.Reach.{InCheck};
+ghost use Rattle.shogi_board.specs.Setup.{empty_layout, even_layout, position_of, is_full, place_fault, placed, add_fault, take_off_fault, taken_off, take_hand_fault, rest_fault, with_rest, count_with_rest, with_hand, hand_of, rest_to, one_more, one_less};
+ghost use Rattle.shogi_board.specs.declared.setup.SetupFault.TheVariants.{OpponentInCheck};
+
+use crate::board::Board;
+use crate::color::Color;
+use crate::hand::Hand;
+use crate::kind::{Kind, Piece};
+use crate::position::Position;
+use crate::square::Square;
+use std::marker::Model;
+use thiserror::Error;
+
+/// Why a call on a `Setup` was refused.
+#[derive(Clone, Copy, Debug, PartialEq, Eq, PartialOrd, Ord, Error)]
+pub enum SetupFault {
+    /// The square holds a piece already.
+    #[error("S1 SquareTaken")]
+    SquareTaken,
+    /// There would be more pieces of that kind than a game has.
+    #[error("S2 TooMany")]
+    TooMany,
+    /// That side has a king already.
+    #[error("S3 SecondKing")]
+    SecondKing,
+    /// No hand holds kings or promoted pieces.
+    #[error("S4 NotForHand")]
+    NotForHand,
+    /// The square, or the hand, does not hold that kind.
+    #[error("S5 NotThere")]
+    NotThere,
+    /// The king of the side not to move is attacked.
+    #[error("S6 OpponentInCheck")]
+    OpponentInCheck,
+    /// The rest of the pieces was given to a side before.
+    #[error("S7 AfterRest")]
+    AfterRest,
+}
+
+/// A board and two hands that are being set up, within the number of pieces of a game.
+#[derive(Clone, Copy, Debug, PartialEq, Eq)]
+pub struct Setup {
+    pub(crate) board: Board,
+    pub(crate) black: Hand,
+    pub(crate) white: Hand,
+    pub(crate) rest_given: bool,
+}
+
+impl Model for Setup {
+    ghost use Rattle.shogi_board.specs.Layout.{Layout};
+    ghost use Rattle.shogi_board.specs.Totals.{IsWithinTotals};
+
+    ghost Value = { Layout };
+
+    ghost view = { λ s. record { board = s.board; black = s.black; white = s.white; rest_given = s.rest_given } };
+
+    ghost invariant = { λ s. IsWithinTotals s.board s.black s.white };
+
+    ghost inverse = { λ d. record { board = d.board; black = d.black; white = d.white; rest_given = d.rest_given } };
+}
+
+impl Setup {
+    /// The empty board and empty hands, the rest not given.
+    pub fn empty() -> Setup
+        ensures { result ≡ empty_layout }
+    {
+        Setup {
+            board: Board::empty(),
+            black: Hand::empty(),
+            white: Hand::empty(),
+            rest_given: false,
+        }
+    }
+
+    /// The even board and empty hands, the rest not given.
+    pub fn even() -> Setup
+        ensures { result ≡ even_layout }
+    {
+        Setup {
+            board: Board::even(),
+            black: Hand::empty(),
+            white: Hand::empty(),
+            rest_given: false,
+        }
+    }
+
+    /// Places a piece of that side and kind on the square.
+    ///
+    /// Refuses, in this order: AfterRest where the rest was given; SquareTaken where the square holds a piece;
+    /// SecondKing for a king of a side that has one; TooMany where all pieces of that kind, promoted ones counted with
+    /// their unpromoted kind, are placed or in hands already. A refused call changes nothing.
+    pub fn place(&mut self, color: Color, square: Square, kind: Kind) -> Result<(), SetupFault>
+        ensures answer { MatchResult result
+            (λ _. place_fault self.old color square kind ≡ None)
+            (λ fault. place_fault self.old color square kind ≡ Some fault) }
+        ensures changed { OnOk result (self.new ≡ placed self.old color square kind) }
+        ensures unchanged { OnErr result (self.new ≡ self.old) }
+    {
+        if self.rest_given {
+            return Err(SetupFault::AfterRest);
+        }
+        if self.board.at(square).is_some() {
+            return Err(SetupFault::SquareTaken);
+        }
+        if kind.is_king() && self.board.kings(color) > 0 {
+            return Err(SetupFault::SecondKing);
+        }
+        if self.is_full(kind) {
+            return Err(SetupFault::TooMany);
+        }
+        self.board.put(square, Some(Piece { color, kind }));
+        Ok(())
+    }
+
+    /// Adds a piece of that kind to the hand of that side.
+    ///
+    /// Refuses, in this order: AfterRest where the rest was given; NotForHand for a king or a promoted kind; TooMany
+    /// where all pieces of that kind are placed or in hands already. A refused call changes nothing.
+    pub fn add_hand(&mut self, color: Color, kind: Kind) -> Result<(), SetupFault>
+        ensures answer { MatchResult result
+            (λ _. add_fault self.old kind ≡ None)
+            (λ fault. add_fault self.old kind ≡ Some fault) }
+        ensures changed { OnOk result (self.new ≡ with_hand self.old color (one_more (hand_of self.old color) kind)) }
+        ensures unchanged { OnErr result (self.new ≡ self.old) }
+    {
+        if self.rest_given {
+            return Err(SetupFault::AfterRest);
+        }
+        if !kind.in_hand() {
+            return Err(SetupFault::NotForHand);
+        }
+        if self.is_full(kind) {
+            return Err(SetupFault::TooMany);
+        }
+        let count = self.hand(color).count(kind);
+        match color {
+            Color::Black => self.black.set(kind, count + 1),
+            Color::White => self.white.set(kind, count + 1),
+        }
+        Ok(())
+    }
+
+    /// Takes the piece of that kind, of either side, off the square.
+    ///
+    /// Refuses, in this order: AfterRest where the rest was given; NotThere where the square is empty or holds another
+    /// kind. A refused call changes nothing.
+    pub fn take_off(&mut self, square: Square, kind: Kind) -> Result<(), SetupFault>
+        ensures answer { MatchResult result
+            (λ _. take_off_fault self.old square kind ≡ None)
+            (λ fault. take_off_fault self.old square kind ≡ Some fault) }
+        ensures changed { OnOk result (self.new ≡ taken_off self.old square) }
+        ensures unchanged { OnErr result (self.new ≡ self.old) }
+    {
+        if self.rest_given {
+            return Err(SetupFault::AfterRest);
+        }
+        if !self.board.holds(square, kind) {
+            return Err(SetupFault::NotThere);
+        }
+        self.board.put(square, None);
+        Ok(())
+    }
+
+    /// Takes a piece of that kind out of the hand of that side.
+    ///
+    /// Refuses, in this order: AfterRest where the rest was given; NotThere where the hand holds none of that kind. A
+    /// refused call changes nothing.
+    pub fn take_hand(&mut self, color: Color, kind: Kind) -> Result<(), SetupFault>
+        ensures answer { MatchResult result
+            (λ _. take_hand_fault self.old color kind ≡ None)
+            (λ fault. take_hand_fault self.old color kind ≡ Some fault) }
+        ensures changed { OnOk result (self.new ≡ with_hand self.old color (one_less (hand_of self.old color) kind)) }
+        ensures unchanged { OnErr result (self.new ≡ self.old) }
+    {
+        if self.rest_given {
+            return Err(SetupFault::AfterRest);
+        }
+        let count = self.hand(color).count(kind);
+        if count == 0 {
+            return Err(SetupFault::NotThere);
+        }
+        match color {
+            Color::Black => self.black.set(kind, count - 1),
+            Color::White => self.white.set(kind, count - 1),
+        }
+        Ok(())
+    }
+
+    /// Gives all pieces that are neither placed nor in a hand to the hand of that side, kings not.
+    ///
+    /// Refuses AfterRest where the rest was given before, and then changes nothing.
+    pub fn give_rest(&mut self, color: Color) -> Result<(), SetupFault>
+        ensures answer { MatchResult result
+            (λ _. rest_fault self.old ≡ None)
+            (λ fault. rest_fault self.old ≡ Some fault) }
+        ensures changed { OnOk result (self.new ≡ rest_to self.old color) }
+        ensures unchanged { OnErr result (self.new ≡ self.old) }
+    {
+        if self.rest_given {
+            return Err(SetupFault::AfterRest);
+        }
+        let hand = self.hand_with_rest(color);
+        match color {
+            Color::Black => self.black = hand,
+            Color::White => self.white = hand,
+        }
+        self.rest_given = true;
+        Ok(())
+    }
+
+    /// The position with these pieces and hands and that side to move. The setup stays as it is.
+    ///
+    /// Refuses OpponentInCheck where the king of the other side stands and is attacked, and nothing else.
+    pub fn finish(&self, side: Color) -> Result<Position, SetupFault>
+        ensures answer { MatchResult result
+            (λ p. InCheck self.now.board (opponent side) → ⊥)
+            (λ fault. InCheck self.now.board (opponent side) × (fault ≡ OpponentInCheck)) }
+        ensures value { IfOk result (λ p. p ≡ position_of self.now side) }
+    {
+        let other = side.opponent();
+        if let Some(king) = self.board.king(other) {
+            if self.board.attacked(other, king) {
+                return Err(SetupFault::OpponentInCheck);
+            }
+        }
+        Ok(Position {
+            board: self.board,
+            black: self.black,
+            white: self.white,
+            side,
+        })
+    }
+
+    fn hand(&self, color: Color) -> Hand
+        ensures { result ≡ hand_of self.now color }
+    {
+        match color {
+            Color::Black => self.black,
+            Color::White => self.white,
+        }
+    }
+
+    // How many pieces of that kind there are on the board and in the hands.
+    fn total(&self, kind: Kind) -> usize
+        ensures value { result ≡ total self.now.board self.now.black self.now.white kind }
+        ensures bound { result ≤ limit kind }
+    {
+        self.board.count(kind)
+            + self.black.at_place_of(kind) as usize
+            + self.white.at_place_of(kind) as usize
+    }
+
+    fn is_full(&self, kind: Kind) -> bool
+        ensures { result ≡ is_full self.now kind }
+    {
+        self.total(kind) >= kind.limit()
+    }
+
+    // How many pieces of that kind the hand of that side has with the rest.
+    fn count_with_rest(&self, color: Color, kind: Kind) -> u8
+        ensures { result ≡ count_with_rest self.now (hand_of self.now color) kind }
+    {
+        let rest = kind.limit() - self.total(kind);
+        self.hand(color).count(kind) + rest as u8
+    }
+
+    // The hand of that side with all pieces that are not placed yet.
+    fn hand_with_rest(&self, color: Color) -> Hand
+        ensures { result ≡ with_rest self.now (hand_of self.now color) }
+    {
+        Hand::of([
+            self.count_with_rest(color, Kind::Pawn),
+            self.count_with_rest(color, Kind::Lance),
+            self.count_with_rest(color, Kind::Knight),
+            self.count_with_rest(color, Kind::Silver),
+            self.count_with_rest(color, Kind::Gold),
+            self.count_with_rest(color, Kind::Bishop),
+            self.count_with_rest(color, Kind::Rook),
+        ])
+    }
+}

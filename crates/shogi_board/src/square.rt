@@ -1,0 +1,89 @@
+ghost use Rattle.std.specs.Prelude.{◌≡◌, ℕ, ◌+◌, ◌*◌, ◌-◌, ◌<◌, ◌≤◌, MatchOption, ◌⊎◌, ◌↔◌, IsTrue};
+
+use crate::direction::Direction;
+
+/// One of the 81 squares: its file from 1, at black's right, to 9, and its rank from 1, the farthest from black, to 9.
+///
+/// Squares are ordered by file and then by rank: 11, 12, .. 19, 21, .. 99.
+#[derive(Clone, Copy, Debug, PartialEq, Eq, PartialOrd, Ord)]
+pub struct Square {
+    file: u8,
+    rank: u8,
+    pub ghost on_board: { (1 ≤ file) × (file ≤ 9) × (1 ≤ rank) × (rank ≤ 9) },
+}
+
+impl Square {
+    ghost use Rattle.shogi_board.specs.Squares.{file_of, rank_of, place, IsAway};
+
+    /// The square on that file and rank, or None where either lies outside 1 to 9.
+    pub fn new(file: u8, rank: u8) -> Option<Square>
+        ensures { MatchOption result
+            ((file < 1) ⊎ (9 < file) ⊎ (rank < 1) ⊎ (9 < rank))
+            (λ s. (file_of s ≡ file) × (rank_of s ≡ rank)) }
+    {
+        if 1 <= file && file <= 9 && 1 <= rank && rank <= 9 {
+            Some(Square { file, rank })
+        } else {
+            None
+        }
+    }
+
+    /// Its file, from 1 to 9.
+    pub fn file(self) -> u8
+        ensures value { result ≡ file_of self }
+        ensures bounds { (1 ≤ result) × (result ≤ 9) }
+    {
+        self.file
+    }
+
+    /// Its rank, from 1 to 9.
+    pub fn rank(self) -> u8
+        ensures value { result ≡ rank_of self }
+        ensures bounds { (1 ≤ result) × (result ≤ 9) }
+    {
+        self.rank
+    }
+
+    // Its place in the order of the squares.
+    pub(crate) fn place(self) -> usize
+        ensures value { result ≡ place self }
+        ensures bound { result < 81 }
+    {
+        (self.file as usize - 1) * 9 + (self.rank as usize - 1)
+    }
+
+    // The square at a place in the order of the squares.
+    pub(crate) fn at_place(n: usize) -> Square
+        requires { n < 81 }
+        ensures { place result ≡ n }
+    {
+        Square {
+            file: (n / 9) as u8 + 1,
+            rank: (n % 9) as u8 + 1,
+        }
+    }
+
+    // Whether the other square lies `times` the direction away.
+    pub(crate) fn is_away(self, direction: Direction, times: u8, other: Square) -> bool
+        requires small { (direction.files ≤ 4) × (direction.ranks ≤ 4) × (times ≤ 9) }
+        ensures { IsTrue result ↔ IsAway self direction times other }
+    {
+        other.file + times * 2 == self.file + times * direction.files
+            && other.rank + times * 2 == self.rank + times * direction.ranks
+    }
+
+    // The square that lies `times` the direction away, if that is on the board.
+    pub(crate) fn away(self, direction: Direction, times: u8) -> Option<Square>
+        requires small { (direction.files ≤ 4) × (direction.ranks ≤ 4) × (times ≤ 9) }
+        ensures { MatchOption result
+            ((s : Square) → IsAway self direction times s → ⊥)
+            (λ s. IsAway self direction times s) }
+    {
+        let file = self.file + times * direction.files;
+        let rank = self.rank + times * direction.ranks;
+        if file <= 2 * times || rank <= 2 * times {
+            return None;
+        }
+        Square::new(file - 2 * times, rank - 2 * times)
+    }
+}

@@ -1,0 +1,1 @@
+seq 100000 | sed "s/^/'PI,/"; printf 'PI\n+\n'

@@ -1,0 +1,1 @@
+printf 'PI\nN-'; head -c 4095 /dev/zero | tr '\0' a; printf '\n+\n'
