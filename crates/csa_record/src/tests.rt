@@ -1,5 +1,6 @@
 use crate::{OrderFault, Refusal, Why, laws, read, write};
 use csa_text::TextFault;
+use std::test::Fail;
 use shogi_board::{Color, OutOfMemory};
 
 // Records, and their canonical text.
@@ -46,6 +47,37 @@ const REFUSED: [(&[u8], u64, u64, Why); 13] = [
     (b"V3.0\n", 1, 0, Why::Text(TextFault::BadVersion)),
     (b"PI\n+\n/\n", 3, 5, Why::Text(TextFault::Unknown)),
 ];
+
+const FAULTS: [(OrderFault, &str); 12] = [
+    (OrderFault::VersionOutOfPlace, "G1 VersionOutOfPlace"),
+    (OrderFault::RepeatedName, "G2 RepeatedName"),
+    (OrderFault::RepeatedHeader, "G3 RepeatedHeader"),
+    (OrderFault::TooManyHeaders, "G4 TooManyHeaders"),
+    (OrderFault::MixedStart, "G5 MixedStart"),
+    (OrderFault::PositionLate, "G6 PositionLate"),
+    (OrderFault::MoveBeforeTurn, "G7 MoveBeforeTurn"),
+    (OrderFault::RepeatedTurn, "G8 RepeatedTurn"),
+    (OrderFault::LooseTime, "G9 LooseTime"),
+    (OrderFault::AfterEnding, "G10 AfterEnding"),
+    (OrderFault::TooManyMoves, "G11 TooManyMoves"),
+    (OrderFault::MissingTurn, "G12 MissingTurn"),
+];
+
+#[test]
+fn prints_faults(rt: HostRuntime) -> Result<(), Fail> {
+    for (fault, wanted) in FAULTS {
+        let printed = format!(in rt.alloc(); "{fault}")?;
+        assert_eq!(rt; printed.as_str(), wanted);
+    }
+    let refusal = Refusal {
+        number: 4,
+        offset: 28,
+        why: Why::Text(TextFault::BadMove),
+    };
+    let printed = format!(in rt.alloc(); "{refusal}")?;
+    assert_eq!(rt; printed.as_str(), "statement 4, offset 28: C5 BadMove");
+    Ok(())
+}
 
 #[test]
 fn reads_and_writes(rt: HostRuntime) -> Result<(), OutOfMemory> {

@@ -1,6 +1,7 @@
 ghost use Rattle.std.specs.Prelude.{◌≡◌, ◌++◌, ◌∷◌, [], IfOk, OnOk};
 ghost use Rattle.csa_text.specs.Spelling.{sign};
 ghost use Rattle.csa_record.specs.Game.{name_of};
+ghost use Rattle.csa_record.specs.Tells.{Tells};
 ghost use Rattle.csa_record.specs.Canon.{canon, ended, name_lines};
 ghost use Rattle.std.specs.List.{flat_map};
 
@@ -10,10 +11,11 @@ use std::alloc::Global;
 
 /// The canonical text of the record's game, LF after each line.
 ///
-/// Two records have the same canonical text exactly if their games are the same. The only error is
-/// want of memory.
+/// Two records have the same canonical text exactly if their games are the same, and the text tells
+/// the record's game. The only error is want of memory.
 pub fn write(alloc: Global, game: &Record) -> Result<Vec<u8>, OutOfMemory>
     ensures text { IfOk result (λ text. text.items ≡ canon game.now) }
+    ensures read_back { IfOk result (λ text. Tells text.items game.now) }
 {
     let mut text = Vec::new(alloc);
     write_line(&mut text, b"V2.2")?;

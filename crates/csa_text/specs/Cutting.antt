@@ -25,6 +25,7 @@ pub record IsHandedOut (old new : Cutting) (number offset : ℕ) (bytes : List �
   pub rises : old.at ≤ offset
   pub passed : new.at ≡ offset + length unit.bytes
   pub within : new.at ≤ length old.source
+  pub of_source : unit.bytes ≡ slice_range old.source offset new.at
   pub slice : bytes ≡ statement_bytes unit.bytes
   pub some : 0 < length unit.bytes
   pub short : length unit.bytes ≤ 4096

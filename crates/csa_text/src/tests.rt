@@ -1,4 +1,5 @@
 use crate::{CutFault, Cutter, Item, Statement, TextFault, laws, read_item};
+use std::test::Fail;
 use shogi_board::Color;
 
 // What a source is cut into: numbers, offsets and bytes.
@@ -21,6 +22,17 @@ const CUTS: [(&[u8], &[(u64, u64, &[u8])]); 9] = [
     ),
     (b"PI'x\n", &[(1, 0, b"PI'x")]),
     (b"\xEF\xBB\xBF\xEF\xBB\xBF", &[(1, 3, b"\xEF\xBB\xBF")]),
+];
+
+const FAULTS: [(TextFault, &str); 8] = [
+    (TextFault::StatementTooLong, "C1 StatementTooLong"),
+    (TextFault::BadVersion, "C2 BadVersion"),
+    (TextFault::BadHeader, "C3 BadHeader"),
+    (TextFault::BadPosition, "C4 BadPosition"),
+    (TextFault::BadMove, "C5 BadMove"),
+    (TextFault::BadTime, "C6 BadTime"),
+    (TextFault::UnknownEnding, "C7 UnknownEnding"),
+    (TextFault::Unknown, "C8 Unknown"),
 ];
 
 const ITEMS: [(&[u8], Result<Item, TextFault>); 16] = [
@@ -97,4 +109,19 @@ fn reads_items(rt: HostRuntime) {
     }
     laws::cut_once();
     laws::spelt_once();
+}
+
+#[test]
+fn prints_faults(rt: HostRuntime) -> Result<(), Fail> {
+    for (fault, wanted) in FAULTS {
+        let printed = format!(in rt.alloc(); "{fault}")?;
+        assert_eq!(rt; printed.as_str(), wanted);
+    }
+    let fault = CutFault {
+        number: 3,
+        offset: 17,
+    };
+    let printed = format!(in rt.alloc(); "{fault}")?;
+    assert_eq!(rt; printed.as_str(), "statement 3, offset 17: C1 StatementTooLong");
+    Ok(())
 }

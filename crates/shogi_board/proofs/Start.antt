@@ -3,6 +3,7 @@ use Rattle.std.proofs.Common.{◌≡◌, ℕ, zero, suc, ◌⊎◌, is_some, ◌
 use Rattle.std.proofs.lemmas.Bool.{cases_lt}
 use Rattle.shogi_board.specs.Cells.{at, even_cells}
 use Rattle.shogi_board.specs.Moves.{IsRay, turned_for}
+use Rattle.shogi_board.specs.Pieces.{opponent}
 use Rattle.shogi_board.specs.Placed.{even_start}
 use Rattle.shogi_board.specs.Sound.{IsSound}
 use Rattle.shogi_board.specs.Reach.{Attacked, InCheck, IsClear, InSight}
@@ -229,5 +230,8 @@ unfolding white_king black_king
 even-safe White check = king-safe even_cells White white_king refl (lit≤ tt) refl white-safe check
 even-safe Black check = king-safe even_cells Black black_king refl (lit≤ tt) refl black-safe check
 
+pub even-sound-for : (side : Color) → IsSound (record even_start { side = side })
+even-sound-for side = record { within = even-within; safe = even-safe (opponent side) }
+
 pub even-sound : IsSound even_start
-even-sound = record { within = even-within; safe = even-safe White }
+even-sound = even-sound-for Black

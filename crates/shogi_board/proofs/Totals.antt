@@ -50,10 +50,10 @@ total-same cells black white a b e =
     ∙ ap (λ n. count_by (is_at n) cells + slice_index black n + slice_index white n) e
     ∙ sym (total-place cells black white b)
 
--- one more piece of a kind of which there may be more
-more : (b : Bool) (new old many room : ℕ) → new ≡ old + cond b 1 0 → old ≤ many → (b ≡ true → old < many) → new ≤ many
-more true new old many room e low h = let k = h refl in omega arith
-more false new old many room e low h = omega arith
+-- one more piece of a kind of which there may be more, in the place of others
+more : (b : Bool) (new old many gone : ℕ) → new + gone ≡ old + cond b 1 0 → old ≤ many → (b ≡ true → old < many) → new ≤ many
+more true new old many gone e low h = let k = h refl in omega arith
+more false new old many gone e low h = omega arith
 
 eq-place : (m n : ℕ) → (m == n) ≡ true → m ≡ n
 eq-place m n h = (Decides-eqb m n).0 h
@@ -64,23 +64,21 @@ kings-more cells Black White moved h e = cc
 kings-more cells White Black moved h e = cc
 kings-more cells White White moved h e = let k = h e in omega arith
 
--- a piece on an empty square
-pub placed-within : (cells : Cells) (black white : List ℕ) (color : Color) (kind : Kind) (i : ℕ) → IsWithinTotals cells black white → i < 81 → get_or cells i None ≡ None → total cells black white kind < limit kind → (is_king kind ≡ true → kings_of cells color ≡ 0) → IsWithinTotals (set cells i (piece color kind)) black white
-placed-within cells black white color kind i w low empty room none = record {
+-- a piece on a square, in the place of what stood there
+pub placed-within : (cells : Cells) (black white : List ℕ) (color : Color) (kind : Kind) (i : ℕ) → IsWithinTotals cells black white → i < 81 → total cells black white kind < limit kind → (is_king kind ≡ true → kings_of cells color ≡ 0) → IsWithinTotals (set cells i (piece color kind)) black white
+placed-within cells black white color kind i w low room none = record {
   squares = rw length-set w.squares;
   black_kinds = w.black_kinds;
   white_kinds = w.white_kinds;
   totals = λ k.
       let whole = w.squares in
       let step = sum_by-set (λ x. cond (is_of k x) 1 0) cells i (piece color kind) None (omega arith) in
-      let e : count_by (is_of k) (set cells i (piece color kind)) + 0 ≡ count_by (is_of k) cells + cond (place_of kind == place_of k) 1 0 = rw empty at step in
-      more (place_of kind == place_of k) _ (total cells black white k) _ 0 (omega (arith, e)) (w.totals k)
+      more (place_of kind == place_of k) _ (total cells black white k) _ (cond (is_of k (get_or cells i None)) 1 0) (omega (arith, step)) (w.totals k)
       (λ h. let p : place_of kind ≡ place_of k = eq-place _ _ h in omega (arith, total-same cells black white kind k p, limit-same kind k p, room));
   kings = λ c.
       let whole = w.squares in
       let step = sum_by-set (λ x. cond (is_king_of c x) 1 0) cells i (piece color kind) None (omega arith) in
-      let e : kings_of (set cells i (piece color kind)) c + 0 ≡ kings_of cells c + cond (same_color color c && is_king kind) 1 0 = rw empty at step in
-      more (same_color color c && is_king kind) _ (kings_of cells c) _ 0 (omega (arith, e)) (w.kings c) (kings-more cells color c kind none);
+      more (same_color color c && is_king kind) _ (kings_of cells c) _ (cond (is_king_of c (get_or cells i None)) 1 0) (omega (arith, step)) (w.kings c) (kings-more cells color c kind none);
 }
 
 -- a square made empty

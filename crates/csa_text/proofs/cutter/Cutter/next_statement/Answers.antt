@@ -41,6 +41,7 @@ returns-clause-cut c =
       passed = sym measured;
       within = first.within;
       some = omega (arith, measured, first.some);
+      of_source = refl;
       slice = c.handed_out.ensures;
       short = c.if-unit-gt-LIMIT.false;
     })

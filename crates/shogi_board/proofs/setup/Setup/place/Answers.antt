@@ -1,5 +1,4 @@
-use Rattle.std.proofs.Common.{◌≡◌, ◌<◌, None, true, arith}
-use Rattle.shogi_board.specs.Cells.{at}
+use Rattle.std.proofs.Common.{◌≡◌, ◌<◌, true, arith}
 use Rattle.shogi_board.specs.Pieces.{is_king}
 use Rattle.shogi_board.specs.Squares.{place}
 use Rattle.shogi_board.specs.Totals.{total, limit, kings_of}
@@ -10,7 +9,6 @@ use Rattle.shogi_board.proofs.setup.Setup.place.Goals.{else-is_king-via-then-is_
 
 pub invariant_of-self : goal.invariant_of-self
 invariant_of-self c =
-    let empty : at c.self.inside.board c.args.square ≡ None = grind arith in
     let room : total c.self.inside.board c.self.inside.black c.self.inside.white c.args.kind < limit c.args.kind =
     let e = rw (← c.self.view_is) at c.is_full.ensures in
     let f = c.if-is_full.false in
@@ -20,4 +18,4 @@ invariant_of-self c =
       | else-is_king-via-then-is_king+else-kings-gt0 w ↦ omega (arith, w.kings.ensures, w.if-kings-gt0.false)
       | else-is_king-via-else-is_king w ↦ cc
     ] in
-    rw c.put.ensures (placed-within c.self.inside.board c.self.inside.black c.self.inside.white c.args.color c.args.kind (place c.args.square) c.self.invariant (place-bound c.args.square) empty room none)
+    rw c.put.ensures (placed-within c.self.inside.board c.self.inside.black c.self.inside.white c.args.color c.args.kind (place c.args.square) c.self.invariant (place-bound c.args.square) room none)
