@@ -1,12 +1,12 @@
 -- The canonical text of a game tells that game.
-use Rattle.std.proofs.Common.{◌≡◌, ◌≢◌, ℕ, ◌+◌, ◌≤◌, ◌==◌, ◌||◌, ◌&&◌, Bool, true, false, not, cond, List, [], ◌∷◌, ◌++◌, length, filter, Option, Some, None, codes, refl, sym, ap, ◌∙◌, append_assoc, subst, arith, inl, inr}
+use Rattle.std.proofs.Common.{◌≡◌, ◌≢◌, ℕ, ◌+◌, ◌≤◌, ◌==◌, ◌&&◌, Bool, true, false, not, List, [], ◌∷◌, ◌++◌, length, filter, Option, Some, None, refl, sym, ap, append_assoc, subst, arith, inr}
 use Rattle.std.specs.Prelude.{IfSome}
 use Rattle.std.specs.List.{AllByRecursion, AllZip, flat_map}
 use Rattle.std.proofs.lemmas.Bool.{ne_eqb}
 use Rattle.std.proofs.lemmas.List.{append-nil}
 use Rattle.shogi_board.specs.declared.color.Color.{Color}
 use Rattle.shogi_board.specs.declared.color.Color.TheVariants.{Black, White}
-use Rattle.csa_text.specs.Cut.{TextUnit, IsGap, IsUnit, IsNext, Units, Statements, Cut, is_statement, is_separator, is_end, begins_with, statement_bytes}
+use Rattle.csa_text.specs.Cut.{TextUnit, IsGap, IsUnit, IsNext, Units, Statements, is_statement, is_end, begins_with, statement_bytes}
 use Rattle.csa_text.specs.Spelling.{Saying, version, name, even, turn, sign, Spells}
 use Rattle.csa_record.specs.Game.{Game, IsGame, IsName, IsOneLine}
 use Rattle.csa_record.specs.Says.{Says}

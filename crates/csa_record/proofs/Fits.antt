@@ -1,7 +1,7 @@
 -- The names that statements spell fit into a game.
-use Rattle.std.proofs.Common.{◌≡◌, ◌≢◌, ℕ, ◌+◌, ◌≤◌, ◌==◌, ◌||◌, Bool, true, false, not, cond, List, [], ◌∷◌, ◌++◌, length, Option, Some, None, filter, refl, sym, ap, ◌∙◌, arith, inl, inr}
+use Rattle.std.proofs.Common.{◌≡◌, ◌≢◌, ℕ, ◌+◌, ◌≤◌, ◌||◌, Bool, true, false, cond, List, [], ◌∷◌, ◌++◌, length, filter, refl, arith, inl, inr}
 use Rattle.std.specs.Prelude.{IfSome}
-use Rattle.std.specs.List.{AllByRecursion, AllZip, filter_map}
+use Rattle.std.specs.List.{AllByRecursion, AllZip}
 use Rattle.std.proofs.lemmas.Bool.{cases_Bool}
 use Rattle.std.proofs.lemmas.List.Elements.{filter_map-append}
 use Rattle.shogi_board.specs.declared.color.Color.{Color}
@@ -9,7 +9,7 @@ use Rattle.shogi_board.specs.declared.color.Color.TheVariants.{Black, White}
 use Rattle.csa_text.specs.Cut.{TextUnit, IsUnit, Units, Cut, is_statement, is_end, begins_with, statement_bytes, without_last_blanks, before_kept, is_blank}
 use Rattle.csa_text.specs.Spelling.{Saying, version, name, even, turn, sign}
 use Rattle.csa_record.specs.Game.{IsName, IsOneLine}
-use Rattle.csa_record.specs.Says.{names, name_given, same_color}
+use Rattle.csa_record.specs.Says.{names, name_given}
 use Rattle.csa_record.specs.Tells.{IsSpelt}
 use Rattle.csa_record.specs.SoFar.{first}
 

@@ -1,15 +1,14 @@
 -- The bytes of each record tell a game or are refused.
-use Rattle.std.proofs.Common.{◌≡◌, ℕ, ◌+◌, ◌<◌, ◌≤◌, List, [], ◌∷◌, ◌++◌, length, Option, Some, None, refl, sym, ap, ◌∙◌, append_assoc, subst, arith, inl, inr, ◌⊎◌}
+use Rattle.std.proofs.Common.{◌≡◌, ℕ, ◌+◌, List, [], ◌∷◌, ◌++◌, length, Option, Some, None, refl, sym, ap, append_assoc, subst, inl, inr, ◌⊎◌}
 use Rattle.std.proofs.lemmas.Bool.{cases_lt}
 use Rattle.std.proofs.lemmas.List.{append-nil}
 use Rattle.shogi_board.specs.declared.color.Color.{Color}
 use Rattle.shogi_board.specs.declared.color.Color.TheVariants.{Black, White}
 use Rattle.csa_text.specs.declared.fault.TextFault.TheVariants.{StatementTooLong}
 use Rattle.csa_text.specs.Cut.{TextUnit, Cut, statement_bytes}
-use Rattle.csa_text.specs.Spelling.{Saying, Spells, fault_of_row}
+use Rattle.csa_text.specs.Spelling.{Saying, fault_of_row}
 use Rattle.csa_text.proofs.Once.{cut_found}
 use Rattle.csa_text.proofs.Sayings.{spells_or_not}
-use Rattle.csa_record.specs.declared.fault.OrderFault.{OrderFault}
 use Rattle.csa_record.specs.declared.fault.OrderFault.TheVariants.{MissingTurn}
 use Rattle.csa_record.specs.declared.fault.Why.{Why}
 use Rattle.csa_record.specs.declared.fault.Why.TheVariants.{Text, Order}

@@ -1,14 +1,13 @@
 -- What a reader keeps of the items so far tells the order faults of the next one.
-use Rattle.std.proofs.Common.{◌≡◌, ℕ, Bool, true, false, cond, List, [], ◌∷◌, ◌++◌, Option, Some, None, filter, refl, sym, ap, ◌∙◌}
+use Rattle.std.proofs.Common.{◌≡◌, ℕ, Bool, true, false, List, [], ◌∷◌, ◌++◌, Option, Some, None, refl, sym, ap, ◌∙◌}
 use Rattle.std.specs.Prelude.{is_some}
 use Rattle.std.proofs.lemmas.List.{append-nil}
-use Rattle.std.specs.List.{filter_map}
 use Rattle.std.proofs.lemmas.List.Elements.{filter_map-append, filter-append}
 use Rattle.shogi_board.specs.declared.color.Color.{Color}
 use Rattle.shogi_board.specs.declared.color.Color.TheVariants.{Black, White}
 use Rattle.csa_text.specs.Spelling.{Saying, version, name, even, turn}
 use Rattle.csa_record.specs.declared.fault.OrderFault.{OrderFault}
-use Rattle.csa_record.specs.declared.fault.OrderFault.TheVariants.{VersionOutOfPlace, RepeatedName, MixedStart, PositionLate, RepeatedTurn}
+use Rattle.csa_record.specs.declared.fault.OrderFault.TheVariants.{RepeatedName, MixedStart, PositionLate, RepeatedTurn}
 use Rattle.csa_record.specs.Says.{names, name_given, positions, is_position, sides, side_given}
 use Rattle.csa_record.specs.Refused.{stands, first_fault, order_fault}
 use Rattle.csa_record.specs.SoFar.{SoFar, first, so_far, fault_so_far, with_saying}

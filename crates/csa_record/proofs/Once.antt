@@ -1,23 +1,19 @@
 -- The bytes of a record tell one game, or are refused in one way.
-use Rattle.std.proofs.Common.{◌≡◌, ℕ, ◌+◌, ◌<◌, ◌≤◌, Bool, true, false, List, [], ◌∷◌, ◌++◌, length, Option, Some, None, refl, sym, ap, ◌∙◌, append_assoc, subst, arith, inl, inr, ◌⊎◌}
+use Rattle.std.proofs.Common.{◌≡◌, ℕ, ◌+◌, List, [], ◌∷◌, ◌++◌, length, Option, Some, None, refl, sym, ap, ◌∙◌, append_assoc, subst, arith, inl, inr}
 use Rattle.std.specs.List.{AllZip}
 use Rattle.std.specs.Option.{option_to_list}
-use Rattle.std.proofs.lemmas.Bool.{cases_lt}
 use Rattle.std.proofs.lemmas.List.{append-nil}
 use Rattle.shogi_board.specs.declared.color.Color.{Color}
-use Rattle.csa_text.specs.declared.fault.TextFault.TheVariants.{StatementTooLong}
 use Rattle.csa_text.specs.Cut.{TextUnit, Cut, statement_bytes}
-use Rattle.csa_text.specs.Spelling.{Saying, Spells, fault_of_row}
-use Rattle.csa_text.proofs.Once.{statements_once, cut_found}
-use Rattle.csa_text.proofs.Sayings.{same_saying, spells_or_not}
-use Rattle.csa_record.specs.declared.fault.OrderFault.{OrderFault}
-use Rattle.csa_record.specs.declared.fault.OrderFault.TheVariants.{MissingTurn}
+use Rattle.csa_text.specs.Spelling.{Saying}
+use Rattle.csa_text.proofs.Once.{statements_once}
+use Rattle.csa_text.proofs.Sayings.{same_saying}
 use Rattle.csa_record.specs.declared.fault.Why.{Why}
-use Rattle.csa_record.specs.declared.fault.Why.TheVariants.{Text, Order}
-use Rattle.csa_record.specs.Game.{Game, IsGame}
-use Rattle.csa_record.specs.Says.{Says, names, sides}
+use Rattle.csa_record.specs.declared.fault.Why.TheVariants.{Order}
+use Rattle.csa_record.specs.Game.{Game}
+use Rattle.csa_record.specs.Says.{Says, sides}
 use Rattle.csa_record.specs.Tells.{Tells, IsSpelt}
-use Rattle.csa_record.specs.Refused.{order_fault, Fault, Faultless, Refused, RefusedAt, RefusedAtEnd}
+use Rattle.csa_record.specs.Refused.{order_fault, Fault, Faultless, Refused, RefusedAt}
 use Rattle.csa_record.proofs.Reading.{spelt_all}
 use Rattle.csa_record.proofs.Whole.{one_side, says_faultless}
 

@@ -1,11 +1,11 @@
 -- A reader on its way through a record.
-use Rattle.std.proofs.Common.{◌≡◌, ◌≢◌, ℕ, ◌+◌, ◌<◌, ◌≤◌, List, [], ◌∷◌, ◌++◌, length, drop, Option, Some, None, Result, Ok, Err, refl, sym, ap, ◌∙◌, append_assoc, arith, inl, inr, subst}
+use Rattle.std.proofs.Common.{◌≡◌, ◌≢◌, ℕ, ◌+◌, ◌≤◌, List, [], ◌∷◌, ◌++◌, length, drop, Some, None, Ok, Err, refl, sym, ap, ◌∙◌, append_assoc, arith, inl, inr, subst}
 use Rattle.std.specs.Prelude.{IfSome}
 use Rattle.std.specs.List.{AllZip}
 use Rattle.std.proofs.lemmas.List.{append-nil, length_push}
 use Rattle.shogi_board.specs.declared.color.Color.TheVariants.{Black, White}
 use Rattle.csa_text.specs.declared.fault.TextFault.TheVariants.{StatementTooLong}
-use Rattle.csa_text.specs.Cut.{TextUnit, Cut, Statements, mark_length, statement_bytes}
+use Rattle.csa_text.specs.Cut.{TextUnit, Cut, mark_length, statement_bytes}
 use Rattle.csa_text.specs.Cutting as cutting
 use Rattle.csa_text.specs.Spelling.{Saying, Spells, fault_of_row}
 use Rattle.csa_text.proofs.Runs.{found}
@@ -13,9 +13,9 @@ use Rattle.csa_record.specs.declared.fault.Why.{Why}
 use Rattle.csa_record.specs.declared.fault.Why.TheVariants.{Text, Order, OutOfMemory}
 use Rattle.csa_record.specs.declared.fault.OrderFault.TheVariants.{MissingTurn}
 use Rattle.csa_record.specs.Game.{Game, IsGame, IsName}
-use Rattle.csa_record.specs.Says.{names, sides}
+use Rattle.csa_record.specs.Says.{sides}
 use Rattle.csa_record.specs.Tells.{Tells, IsSpelt}
-use Rattle.csa_record.specs.Refused.{order_fault, Faultless, Fault, Refused, RefusedAt, RefusedAtEnd, FaultlessTo}
+use Rattle.csa_record.specs.Refused.{order_fault, Faultless, Fault, Refused, RefusedAt, FaultlessTo}
 use Rattle.csa_record.specs.SoFar.{SoFar, so_far, first, fault_so_far, with_saying, TookBytes}
 use Rattle.csa_record.proofs.Kept.{fault_kept, kept_next}
 use Rattle.csa_record.proofs.Ordered.{Ordered, ordered_none, ordered_all, ordered_says}

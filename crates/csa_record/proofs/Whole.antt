@@ -1,15 +1,14 @@
 -- What a whole list of items says, taken one by one: no item has an order fault after those before it.
-use Rattle.std.proofs.Common.{◌≡◌, ℕ, Bool, true, false, cond, List, [], ◌∷◌, ◌++◌, drop, Option, Some, None, filter, refl, sym, ap, ◌∙◌, append_assoc, subst}
-use Rattle.std.specs.List.{AllZip, filter_map}
+use Rattle.std.proofs.Common.{◌≡◌, ℕ, Bool, false, List, [], ◌∷◌, ◌++◌, drop, Option, Some, None, filter, refl, sym, ap, ◌∙◌, append_assoc, subst}
+use Rattle.std.specs.List.{AllZip}
 use Rattle.std.specs.Option.{option_to_list}
-use Rattle.std.proofs.lemmas.List.{append-nil}
 use Rattle.std.proofs.lemmas.List.Elements.{filter_map-append, filter-append}
 use Rattle.shogi_board.specs.declared.color.Color.{Color}
 use Rattle.shogi_board.specs.declared.color.Color.TheVariants.{Black, White}
 use Rattle.csa_text.specs.Cut.{TextUnit}
 use Rattle.csa_text.specs.Spelling.{Saying, version, name, even, turn}
 use Rattle.csa_record.specs.declared.fault.OrderFault.{OrderFault}
-use Rattle.csa_record.specs.declared.fault.OrderFault.TheVariants.{VersionOutOfPlace, RepeatedName, MixedStart, PositionLate, RepeatedTurn}
+use Rattle.csa_record.specs.declared.fault.OrderFault.TheVariants.{RepeatedName, MixedStart, PositionLate, RepeatedTurn}
 use Rattle.csa_record.specs.Game.{Game}
 use Rattle.csa_record.specs.Says.{Says, AtMostOne, names, name_given, positions, is_position, sides, side_given, body, is_body, is_version}
 use Rattle.csa_record.specs.Tells.{IsSpelt}

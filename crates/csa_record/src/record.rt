@@ -1,5 +1,5 @@
 ghost use Rattle.std.specs.Prelude.{◌≡◌, MatchOption, Some, None};
-ghost use Rattle.csa_record.specs.Game.{name_of};
+ghost use Rattle.csa_record.specs.Game.{IsGame, name_of};
 
 use shogi_board::Color;
 use std::marker::Model;
@@ -25,6 +25,14 @@ impl Model for Record {
 }
 
 impl Record {
+    /// The side to move at the start.
+    pub fn side(&self) -> Color
+        ensures side { result ≡ self.now.side }
+        ensures game { IsGame self.now }
+    {
+        self.side
+    }
+
     /// The name of that side, if the record has one. It is not empty.
     pub fn name(&self, color: Color) -> Option<&[u8]>
         ensures { MatchOption result

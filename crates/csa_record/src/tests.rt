@@ -1,7 +1,7 @@
 use crate::{OrderFault, Refusal, Why, laws, read, write};
 use csa_text::TextFault;
-use std::test::Fail;
 use shogi_board::{Color, OutOfMemory};
+use std::test::Fail;
 
 // Records, and their canonical text.
 const TOLD: [(&[u8], &[u8]); 9] = [
@@ -105,6 +105,7 @@ fn reads_and_writes(rt: HostRuntime) -> Result<(), OutOfMemory> {
 fn has_names(rt: HostRuntime) {
     match read(rt.alloc(), b"N-b\n+\n") {
         Ok(game) => {
+            assert_eq!(rt; game.side(), Color::Black);
             assert_eq!(rt; game.name(Color::Black), None);
             assert_eq!(rt; game.name(Color::White), Some(b"b".as_slice()));
         }
@@ -112,7 +113,7 @@ fn has_names(rt: HostRuntime) {
     }
 }
 
-// With one growth refused, the answer is want of memory at the statement that wanted it, and no
+// Run with one growth refused (`rt try --test --fail-alloc N -- memory`), the answer is want of memory at the statement that wanted it, and no
 // other fault and no other text.
 #[test]
 fn memory_is_wanting(rt: HostRuntime) {

@@ -1,4 +1,4 @@
-ghost use Rattle.std.specs.Prelude.{◌≡◌, ◌++◌, ◌∷◌, [], IfOk, OnOk};
+ghost use Rattle.std.specs.Prelude.{◌≡◌, ◌++◌, IfOk, OnOk};
 ghost use Rattle.csa_text.specs.Spelling.{sign};
 ghost use Rattle.csa_record.specs.Game.{name_of};
 ghost use Rattle.csa_record.specs.Tells.{Tells};
@@ -22,7 +22,7 @@ pub fn write(alloc: Global, game: &Record) -> Result<Vec<u8>, OutOfMemory>
     write_name(&mut text, Color::Black, game)?;
     write_name(&mut text, Color::White, game)?;
     write_line(&mut text, b"PI")?;
-    write_line(&mut text, &[sign_of(game.side)])?;
+    write_line(&mut text, &[sign_of(game.side())])?;
     Ok(text)
 }
 

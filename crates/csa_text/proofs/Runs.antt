@@ -1,11 +1,10 @@
 -- The statements of a text: from one unit to the next, and that each text has them.
-use Rattle.std.proofs.Common.{eq-eqb, not, ◌≢◌, ◌≡◌, ℕ, zero, suc, ◌+◌, ◌<◌, ◌≤◌, Bool, true, false, cond, List, [], ◌∷◌, ◌++◌, filter, length, take, drop, get_or, slice_range, length-drop, arith, refl, sym, ap, ◌∙◌, subst, inl, inr, ◌⊎◌}
+use Rattle.std.proofs.Common.{eq-eqb, not, ◌≢◌, ◌≡◌, ℕ, zero, suc, ◌+◌, ◌<◌, ◌≤◌, true, false, List, [], ◌∷◌, filter, length, take, drop, get_or, slice_range, length-drop, arith, refl, ap, ◌∙◌, subst, inl, inr, ◌⊎◌}
 use Rattle.std.proofs.lemmas.Bool.{cases_lt, cases_Bool, ne_eqb}
-use Rattle.std.proofs.lemmas.List.{take-append-drop}
 use Rattle.std.proofs.lemmas.List.Sums.{prefix_len-le-length}
 use Rattle.std.proofs.Math.Seq.{take-length}
 use Rattle.std.specs.List.{prefix_len, position_or_len}
-use Rattle.csa_text.specs.Cut.{TextUnit, IsNext, IsGap, Units, Statements, is_statement, is_separator, is_end, begins_with}
+use Rattle.csa_text.specs.Cut.{TextUnit, IsNext, IsGap, Statements, is_statement, is_separator, is_end}
 use Rattle.csa_text.specs.Cutting.{unit_between}
 use Rattle.csa_text.proofs.Fronts.{gap_front, next_place, first_between, length_between}
 

@@ -1,6 +1,6 @@
 -- A cutter on its way through a source.
-use Rattle.std.specs.Prelude.{◌≡◌, ℕ, ◌+◌, ◌<◌, ◌≤◌, List, ◌∷◌, true, length, drop, slice_range}
-use Rattle.csa_text.specs.Cut.{TextUnit, Statements, is_statement, statement_bytes}
+use Rattle.std.specs.Prelude.{◌≡◌, ℕ, ◌+◌, ◌<◌, ◌≤◌, List, ◌∷◌, length, drop, slice_range}
+use Rattle.csa_text.specs.Cut.{TextUnit, Statements, statement_bytes}
 
 -- the source, the offset up to which it is cut, and how many statements were handed out
 pub record Cutting : Type 0 where

@@ -1,6 +1,6 @@
-ghost use Rattle.std.specs.Prelude.{◌≡◌, ◌≢◌, ℕ, ◌+◌, ◌-◌, ◌<◌, ◌≤◌, List, [], ◌∷◌, length, drop, not, MatchOption, MatchResult, slice_range, ◌==◌, ◌||◌, ◌&&◌, true, false};
+ghost use Rattle.std.specs.Prelude.{◌≡◌, ◌<◌, ◌≤◌, ◌==◌, ◌||◌, ◌&&◌, [], length, drop, not, MatchOption, MatchResult};
 ghost use Rattle.std.specs.List.{position_or_len, prefix_len};
-ghost use Rattle.csa_text.specs.Cut.{TextUnit, Cut, Statements, Units, IsNext, IsGap, is_separator, is_blank, takes_line, is_end, mark_length, statement_bytes, without_last_blanks};
+ghost use Rattle.csa_text.specs.Cut.{Statements, IsNext, IsGap, is_separator, is_blank, takes_line, is_end, mark_length, statement_bytes, without_last_blanks};
 ghost use Rattle.csa_text.specs.Cutting.{Cutting, IsHandedOut, IsTooLong, IsFirstStatement, unit_between};
 
 use std::marker::Model;

@@ -35,7 +35,8 @@ pub enum Item<'a> {
 
 /// What the bytes of one statement spell, or the fault of their row of the grammar.
 ///
-/// The bytes are those of a `Statement`. `StatementTooLong` is never answered: it is the cutter's.
+/// The bytes are those of a `Statement`. Until the grammar is whole only `BadVersion` and `Unknown`
+/// are answered; `StatementTooLong` never is: it is the cutter's.
 pub fn read_item(bytes: &[u8]) -> Result<Item<'_>, TextFault>
     ensures { MatchResult result
         (λ item. Spells bytes.now (saying_of item))

@@ -1,6 +1,6 @@
 use crate::{CutFault, Cutter, Item, Statement, TextFault, laws, read_item};
-use std::test::Fail;
 use shogi_board::Color;
+use std::test::Fail;
 
 // What a source is cut into: numbers, offsets and bytes.
 const CUTS: [(&[u8], &[(u64, u64, &[u8])]); 9] = [
@@ -122,6 +122,9 @@ fn prints_faults(rt: HostRuntime) -> Result<(), Fail> {
         offset: 17,
     };
     let printed = format!(in rt.alloc(); "{fault}")?;
-    assert_eq!(rt; printed.as_str(), "statement 3, offset 17: C1 StatementTooLong");
+    assert_eq!(rt;
+        printed.as_str(),
+        "statement 3, offset 17: C1 StatementTooLong"
+    );
     Ok(())
 }

@@ -1,4 +1,3 @@
-use Rattle.std.proofs.Common.{◌≡◌, refl}
 use Rattle.std.proofs.lemmas.Result.{err_from_is_err_and, MatchResult-weaker}
 use Rattle.csa_record.proofs.Reading.{started, taken, refused, short_of_memory, too_long, black_fits, white_fits, told, missing}
 use Rattle.csa_record.proofs.reader.read.Goals as goal

@@ -1,6 +1,6 @@
-use Rattle.std.proofs.Common.{◌≡◌, arith, subst, sym}
+use Rattle.std.proofs.Common.{◌≡◌, arith, subst}
 use Rattle.std.proofs.lemmas.Grind.{common_steps}
-use Rattle.csa_record.specs.Game.{Game, IsGame}
+use Rattle.csa_record.specs.Game.{IsGame}
 use Rattle.csa_record.specs.Canon.{canon}
 use Rattle.csa_record.proofs.Canonical.{canon_tells_lem}
 use Rattle.csa_record.proofs.writer.write.Goals as goal
@@ -8,4 +8,4 @@ use Rattle.csa_record.proofs.writer.write.Goals as goal
 pub returns-clause-read_back : goal.returns-clause-read_back
 returns-clause-read_back c =
     let text : c.write_line-3.new.text.items ≡ canon c.args.game.now = grind (arith, common_steps) in
-    rw text (canon_tells_lem c.args.game.now (subst IsGame c.game.view_is c.game.invariant))
+    rw text (canon_tells_lem c.args.game.now c.side.ensures.game)

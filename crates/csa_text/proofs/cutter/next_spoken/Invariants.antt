@@ -1,4 +1,4 @@
-use Rattle.std.proofs.Common.{ℕ, ◌-◌, ◌≤◌, List, length, drop}
+use Rattle.std.proofs.Common.{◌-◌, ◌≤◌, List, length, drop}
 use Rattle.csa_text.specs.Cut.{TextUnit, Statements}
 use Rattle.csa_text.proofs.cutter.next_spoken.Given as goal
 

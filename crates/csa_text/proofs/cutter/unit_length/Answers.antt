@@ -1,4 +1,4 @@
-use Rattle.std.proofs.Common.{◌≡◌, length, sym, ◌∙◌, ap, not, ◌==◌, ◌||◌, ◌&&◌, arith, true, Bool, get_or}
+use Rattle.std.proofs.Common.{length, sym, arith}
 use Rattle.std.proofs.lemmas.List.Sums.{position_or_len_is}
 use Rattle.csa_text.specs.Cut.{is_end}
 use Rattle.csa_text.proofs.cutter.unit_length.Goals as goal

@@ -1,4 +1,4 @@
-use Rattle.std.proofs.Common.{◌≡◌, ◌≤◌, take, length, arith, sym, ap, ◌∙◌, refl}
+use Rattle.std.proofs.Common.{◌≡◌, take, arith, sym, ◌∙◌, refl}
 use Rattle.csa_text.specs.Cut.{without_last_blanks}
 use Rattle.csa_text.proofs.Blanks.{one_less, all_kept}
 use Rattle.csa_text.proofs.cutter.without_last_blanks.Goals as goal

@@ -1,4 +1,4 @@
-use Rattle.std.proofs.Common.{◌≡◌, ◌+◌, ◌<◌, length, slice_range, drop, arith, refl, sym}
+use Rattle.std.proofs.Common.{◌≡◌, ◌+◌, length, slice_range, drop, arith, refl, sym}
 use Rattle.csa_text.specs.Cutting.{unit_between}
 use Rattle.csa_text.proofs.Fronts.{length_between}
 use Rattle.csa_text.proofs.Runs.{found}
