@@ -21,13 +21,13 @@ pub weaker : (P Q : ℕ → Type 0) → ((b : ℕ) → P b → Q b) → (xs : Li
 weaker P Q f [] h = tt
 weaker P Q f (x ∷ xs) h = (f x h.0, weaker P Q f xs h.1)
 
-not-true : (b : Bool) → not b ≡ true → b ≡ false
-not-true true h = cc
-not-true false h = refl
+pub turned_true : (b : Bool) → not b ≡ true → b ≡ false
+turned_true true h = cc
+turned_true false h = refl
 
-not-false : (b : Bool) → not b ≡ false → b ≡ true
-not-false true h = refl
-not-false false h = cc
+pub turned_false : (b : Bool) → not b ≡ false → b ≡ true
+turned_false true h = refl
+turned_false false h = cc
 
 pub gap_front : (text : List ℕ) → IsGap (take (prefix_len is_separator text) text)
 gap_front text = passes is_separator text
@@ -43,13 +43,13 @@ ends_before first rest =
     let n = position_or_len (is_end first) rest in
     let within : n ≤ length rest = prefix_len-le-length (λ b. not (is_end first b)) rest in
     elim (cases_lt n (length rest)) [
-      | inl h ↦ ends_at first _ (get_or rest n 0) _ (drop-cons rest n 0 h) (not-false _ (prefix_len_stops (λ b. not (is_end first b)) rest 0 h))
+      | inl h ↦ ends_at first _ (get_or rest n 0) _ (drop-cons rest n 0 h) (turned_false _ (prefix_len_stops (λ b. not (is_end first b)) rest 0 h))
       | inr h ↦ let all : n ≡ length rest = omega arith in ends_nowhere first _ (rw all (drop-length rest))
     ]
 
 pub unit_front : (first : ℕ) (rest : List ℕ) → is_separator first ≡ false → IsUnit (first ∷ take (position_or_len (is_end first) rest) rest) (drop (position_or_len (is_end first) rest) rest)
 unit_front first rest h =
-    (h, weaker (λ b. not (is_end first b) ≡ true) (λ b. is_end first b ≡ false) (λ b. not-true (is_end first b)) _ (passes (λ b. not (is_end first b)) rest), ends_before first rest)
+    (h, weaker (λ b. not (is_end first b) ≡ true) (λ b. is_end first b ≡ false) (λ b. turned_true (is_end first b)) _ (passes (λ b. not (is_end first b)) rest), ends_before first rest)
 
 -- the next unit of a source lies behind its gap
 pub next_place : (offset : ℕ) (source : List ℕ) (from g m : ℕ) → g ≡ prefix_len is_separator (drop from source) → from + g < length source → m ≡ position_or_len (is_end (get_or source (from + g) 0)) (drop (from + g + 1) source) → IsNext offset (drop from source) (record { offset = offset + g; bytes = slice_range source (from + g) (from + g + 1 + m) }) (drop (from + g + 1 + m) source)

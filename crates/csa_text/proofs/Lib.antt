@@ -3,3 +3,11 @@ pub mod Runs
 pub mod Blanks
 pub mod Once
 pub mod Sayings
+pub mod Lining
+pub mod LinesOnce
+pub mod Moments
+pub mod Passing
+pub mod Finding
+pub mod Leading
+pub mod Ending
+pub mod Joining

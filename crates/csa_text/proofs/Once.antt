@@ -5,12 +5,12 @@ use Rattle.csa_text.specs.Cut.{TextUnit, IsNext, IsGap, IsUnit, EndsBefore, Unit
 use Rattle.csa_text.proofs.Runs.{found}
 
 -- the list is at its end, or its first element gives another answer
-abbrev Stops : (ℕ → Bool) → Bool → List ℕ → Type 0
+abbrev pub Stops : (ℕ → Bool) → Bool → List ℕ → Type 0
 Stops p v [] = Unit {0}
 Stops p v (b ∷ bs) = p b ≡ v → ⊥
 
 -- the longest front with one answer to a test is one, and so is what stands behind it
-same_front : (p : ℕ → Bool) (v : Bool) (a b x y : List ℕ) → AllByRecursion (λ n. p n ≡ v) a → AllByRecursion (λ n. p n ≡ v) b → Stops p v x → Stops p v y → a ++ x ≡ b ++ y → (a ≡ b) × (x ≡ y)
+pub same_front : (p : ℕ → Bool) (v : Bool) (a b x y : List ℕ) → AllByRecursion (λ n. p n ≡ v) a → AllByRecursion (λ n. p n ≡ v) b → Stops p v x → Stops p v y → a ++ x ≡ b ++ y → (a ≡ b) × (x ≡ y)
 same_front p v [] [] x y f g s t e = (refl, e)
 same_front p v [] (b ∷ bs) [] y f g s t e = cc
 same_front p v [] (b ∷ bs) (c ∷ cs) y f g s t e = let same : c ≡ b = cc in absurd (s (ap p same ∙ g.0))

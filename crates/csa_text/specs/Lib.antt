@@ -2,3 +2,10 @@ pub mod Cut
 pub mod Cutting
 pub mod Saying
 pub mod Spelling
+pub mod Lines
+pub mod Lining
+pub mod Moment
+pub mod MomentParts
+pub mod Piecing
+pub mod Stepping
+pub mod Places

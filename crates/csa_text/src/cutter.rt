@@ -7,13 +7,13 @@ use std::marker::Model;
 use thiserror::Error;
 
 /// The most bytes that a statement may have, blanks at its end counted.
-const LIMIT: usize = 4096;
+pub(crate) const LIMIT: usize = 4096;
 
 /// The first byte of a comment.
 const COMMENT: u8 = b'\'';
 
 /// The UTF-8 byte order mark.
-const BYTE_ORDER_MARK: [u8; 3] = [0xEF, 0xBB, 0xBF];
+pub(crate) const BYTE_ORDER_MARK: [u8; 3] = [0xEF, 0xBB, 0xBF];
 
 /// One statement of a record.
 #[derive(Clone, Copy, Debug, PartialEq, Eq)]
@@ -142,7 +142,7 @@ fn gap_length(text: &[u8]) -> usize
 }
 
 // How many bytes of the text come before what ends a unit with this first byte.
-fn unit_length(first: u8, text: &[u8]) -> usize
+pub(crate) fn unit_length(first: u8, text: &[u8]) -> usize
     ensures value { result ≡ position_or_len (is_end first) text.now }
     ensures within { result ≤ length text.now }
 {
@@ -156,7 +156,7 @@ fn unit_length(first: u8, text: &[u8]) -> usize
 }
 
 // The next unit at or after `from`, a comment too: where it starts, and where it ends.
-fn next_unit(source: &[u8], from: usize) -> Option<(usize, usize)>
+pub(crate) fn next_unit(source: &[u8], from: usize) -> Option<(usize, usize)>
     requires { from ≤ length source.now }
     ensures { MatchOption result
         (IsGap (drop from source.now))
@@ -189,7 +189,7 @@ fn next_spoken(source: &[u8], from: usize) -> Option<(usize, usize)>
 }
 
 // The bytes of a statement, of its unit's.
-fn handed_out(unit: &[u8]) -> &[u8]
+pub(crate) fn handed_out(unit: &[u8]) -> &[u8]
     ensures { result.now ≡ statement_bytes unit.now }
 {
     match unit.first() {

@@ -1,7 +1,10 @@
 //! Laws of the definitions that the contracts of this crate cite. They take and give nothing.
 
-ghost use Rattle.std.specs.Prelude.{◌≡◌, ℕ, List};
+ghost use Rattle.std.specs.Prelude.{◌≡◌, ℕ, List, ◌++◌};
 ghost use Rattle.csa_text.specs.Cut.{TextUnit, Cut, Statements};
+ghost use Rattle.csa_text.specs.Lines.{Lines};
+ghost use Rattle.csa_text.specs.Moment.{CalendarMoment, SpellsMoment};
+ghost use Rattle.csa_text.specs.Piecing.{Piecing, ToCome, Closed, Leads, fresh};
 ghost use Rattle.csa_text.specs.Spelling.{Saying, Spells};
 
 /// From each offset on, a text has one list of statements and no other; and so a source is cut in
@@ -16,4 +19,46 @@ pub fn cut_once()
 /// The bytes of a statement spell one thing at most.
 pub fn spelt_once()
     ensures { (bytes : List ℕ) (a b : Saying) → Spells bytes a → Spells bytes b → a ≡ b }
+{}
+
+/// Bytes have one list of lines, and one unfinished rest.
+pub fn lines_once()
+    ensures { (bytes : List ℕ) (a b : List (List ℕ)) (r s : List ℕ)
+        → Lines bytes a r → Lines bytes b s → (a ≡ b) × (r ≡ s) }
+{}
+
+/// The lines of bytes that come in two pieces are those of the first, and then those of its rest and
+/// the second: so it does not matter how they are cut into pieces.
+pub fn lines_joined()
+    ensures { (first second : List ℕ) (a b : List (List ℕ)) (r s : List ℕ)
+        → Lines first a r → Lines (r ++ second) b s → Lines (first ++ second) (a ++ b) s }
+{}
+
+/// Bytes spell one moment at most.
+pub fn moment_once()
+    ensures { (bytes : List ℕ) (a b : CalendarMoment) → SpellsMoment bytes a → SpellsMoment bytes b → a ≡ b }
+{}
+
+/// The closed statements of a source are one list.
+pub fn closed_once()
+    ensures { (source : List ℕ) (a b : List TextUnit) → Closed source a → Closed source b → a ≡ b }
+{}
+
+/// Two pieces one after another lead where both together do, and close what both close: so it does
+/// not matter how a source is cut into pieces.
+pub fn pieces_joined()
+    ensures { (a b c : Piecing) (first second : List ℕ) (some others : List TextUnit)
+        → Leads a first some b → Leads b second others c → Leads a (first ++ second) (some ++ others) c }
+{}
+
+/// What a new cutter has handed out is the closed statements of what it was fed.
+pub fn pieces_closed()
+    ensures { (source : List ℕ) (closed : List TextUnit) (p : Piecing)
+        → Leads fresh source closed p → Closed source closed }
+{}
+
+/// With what is still to come these are the statements of the whole source, as `Cutter` gives them.
+pub fn pieces_whole()
+    ensures { (source more : List ℕ) (closed others : List TextUnit) (p : Piecing)
+        → Leads fresh source closed p → ToCome p more others → Cut (source ++ more) (closed ++ others) }
 {}

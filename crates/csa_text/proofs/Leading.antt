@@ -1,0 +1,293 @@
+-- What a step of a cutter of pieces leads to.
+use Rattle.std.proofs.Common.{◌≡◌, ℕ, zero, suc, ◌+◌, ◌-◌, ◌<◌, ◌≤◌, ◌==◌, ◌||◌, ◌&&◌, ◌⊎◌, Bool, true, false, not, nat_lt, List, [], ◌∷◌, ◌++◌, filter, length, take, drop, get_or, slice_range, length-append, append_assoc, append-nil, Option, Some, None, IsSome, IfSome, if◌then◌else◌, arith, refl, sym, ap, ◌∙◌, subst, inl, inr}
+use Rattle.std.proofs.lemmas.Bool.{cases_lt, false≢true}
+use Rattle.std.proofs.lemmas.Bool.Decides.{nat_tests}
+use Rattle.std.proofs.lemmas.List.{length-take-le}
+use Rattle.std.proofs.Math.Seq.{drop-cons, drop-length, take-length}
+use Rattle.csa_text.specs.Cut.{TextUnit, IsGap, IsUnit, EndsBefore, Statements, is_separator, is_end, takes_line, byte_order_mark, statement_bytes}
+use Rattle.csa_text.specs.Piecing.{Piecing, Follows, Closes, Leads, is_closed, mark_of}
+use Rattle.csa_text.specs.Places.{IsPart, IsFoundIn, begins, open_of, kept_of, place_found, is_in_mark}
+use Rattle.csa_text.specs.Stepping.{Used, IsTooLongAt}
+use Rattle.csa_text.specs.declared.cutter.Statement.{Statement}
+use Rattle.csa_text.specs.declared.piece.Found.{Found}
+use Rattle.csa_text.specs.declared.piece.Found.TheVariants as found
+use Rattle.csa_text.specs.declared.piece.Place.{Place}
+use Rattle.csa_text.specs.declared.piece.Place.TheVariants.{Mark, Gap, Unit as InUnit, Comment}
+use Rattle.csa_text.proofs.Runs.{no_statements, statement_first, found}
+use Rattle.csa_text.proofs.Lining.{length_range, nothing}
+use Rattle.csa_text.proofs.Passing.{statements_at, statements_of, behind_gap, behind_comment, unit_at, unit_before, head_range, split_range, whole_range}
+
+abbrev pub seen : Place → List ℕ → ℕ → ℕ → Option ℕ → Piecing
+seen place held fed number refused =
+    record { fed = fed; number = number; begins = begins place; unfinished = open_of place held; refused = refused }
+
+nothing_left : (o : ℕ) → Statements o [] []
+nothing_left o = no_statements o [] tt
+
+to_whole : (b : Bool) (fed : ℕ) (held text : List ℕ) (others : List TextUnit) → Follows b fed held (text ++ []) others → Follows b fed held text others
+to_whole b fed held text others s = subst (λ t. Follows b fed held t others) (append-nil text) s
+
+pub leads_to_gap : (place : Place) (held other piece : List ℕ) (fed number : ℕ) → IsFoundIn place held piece found.Gap → length (open_of place held) ≤ fed → Leads (seen place held fed number None) piece [] (seen Gap other (fed + length piece) number None)
+leads_to_gap place held other piece fed number h few = record {
+  took = refl;
+  counted = omega arith;
+  closes = ([], to_whole (begins place) fed (open_of place held) piece [] (h fed [] [] few (nothing_left (fed + length piece))), refl);
+  onward = λ more others s. h fed more others few (statements_at _ (fed + length piece) _ others (omega arith) s);
+  going = refl;
+}
+
+pub leads_to_comment : (place : Place) (held other piece : List ℕ) (fed number : ℕ) → IsFoundIn place held piece found.Comment → length (open_of place held) ≤ fed → Leads (seen place held fed number None) piece [] (seen Comment other (fed + length piece) number None)
+leads_to_comment place held other piece fed number h few =
+    let o = fed + length piece - 1 in
+    let quote : ℕ = 39 in
+    let alone : Statements o (39 ∷ []) [] = behind_comment o (39 ∷ []) [] [] (refl, tt, tt) refl (nothing_left (o + length (quote ∷ []))) in
+    record {
+      took = refl;
+      counted = omega arith;
+      closes = ([], to_whole (begins place) fed (open_of place held) piece [] (h.1 fed [] [] few alone), refl);
+      onward = λ more others s. h.1 fed more others few (statements_at _ o _ others (omega arith) s);
+      going = refl;
+    }
+
+-- of the mark alone nothing is closed
+mark_alone : (k : ℕ) → k < 3 → (statements : List TextUnit) × Follows true k (take k byte_order_mark) [] statements × ([] ≡ filter (is_closed k) statements)
+mark_alone zero less = ([], nothing_left 0, refl)
+mark_alone (suc zero) less =
+    (_, statement_first 0 (0xEF ∷ []) (record { offset = 0; bytes = 0xEF ∷ [] }) [] [] (unit_at 0 (0xEF ∷ []) [] (refl, tt, tt)) refl (nothing_left 1), refl)
+mark_alone (suc (suc zero)) less =
+    (_, statement_first 0 (0xEF ∷ 0xBB ∷ []) (record { offset = 0; bytes = 0xEF ∷ 0xBB ∷ [] }) [] [] (unit_at 0 (0xEF ∷ 0xBB ∷ []) [] (refl, (refl, tt), tt)) refl (nothing_left 2), refl)
+mark_alone (suc (suc (suc k))) less = absurd (omega arith)
+
+-- the same text with more of it held
+held_more : (b : Bool) (fed len : ℕ) (held piece more : List ℕ) (others : List TextUnit) → len ≡ length piece → length held ≤ fed → Follows b (fed + len) (held ++ piece) more others → Follows b fed held (piece ++ more) others
+held_more b fed len held piece more others e few s =
+    let text = (held ++ piece) ++ more in
+    let same : text ≡ held ++ (piece ++ more) = append_assoc held piece more in
+    let place : fed + len - length (held ++ piece) ≡ fed - length held = omega (arith, length-append held piece) in
+    let here : Statements (fed - length held + mark_of b text) (drop (mark_of b text) text) others = subst (λ o. Statements (o + mark_of b text) (drop (mark_of b text) text) others) place s in
+    subst (λ t. Statements (fed - length held + mark_of b t) (drop (mark_of b t) t) others) same here
+
+pub leads_to_mark : (held piece : List ℕ) (number : ℕ) → length held + length piece < 3 → held ++ piece ≡ take (length held + length piece) byte_order_mark → Leads (seen Mark held (length held) number None) piece [] (seen Mark (held ++ piece) (length held + length piece) number None)
+leads_to_mark held piece number less same =
+    let k = length held + length piece in
+    let alone = mark_alone k less in
+    let here : Follows true k (held ++ piece) [] alone.0 = subst (λ h. Follows true k h [] alone.0) (sym same) alone.1 in
+    record {
+      took = refl;
+      counted = omega arith;
+      closes = (alone.0, to_whole true (length held) held piece alone.0 (held_more true (length held) (length piece) held piece [] alone.0 refl (omega arith) here), alone.2);
+      onward = λ more others s. held_more true (length held) (length piece) held piece more others refl (omega arith) s;
+      going = refl;
+    }
+
+kept_few : (place : Place) (goes_on : Bool) (held : List ℕ) (fed : ℕ) → (goes_on ≡ true → open_of place held ≡ held) → length (open_of place held) ≤ fed → length (kept_of goes_on held) ≤ fed
+kept_few place false held fed first few = omega arith
+kept_few place true held fed first few = omega (arith, ap length (first refl))
+
+-- the unit of a part
+abbrev pub part_unit : Bool → List ℕ → List ℕ → ℕ → ℕ → ℕ → TextUnit
+part_unit goes_on held piece start end fed =
+    record { offset = fed + start - length (kept_of goes_on held); bytes = kept_of goes_on held ++ slice_range piece start end }
+
+part_size : (goes_on : Bool) (held piece : List ℕ) (start end : ℕ) → end ≤ length piece → length (kept_of goes_on held ++ slice_range piece start end) ≡ length (kept_of goes_on held) + (end - start)
+part_size goes_on held piece start end within =
+    length-append (kept_of goes_on held) (slice_range piece start end) ∙ ap (λ n. length (kept_of goes_on held) + n) (length_range piece start end within)
+
+not_closed : (a b n : ℕ) → b ≤ a → n ≤ 4096 → (nat_lt a b || nat_lt 4096 n) ≡ false
+not_closed a b n h k = grind (arith, nat_tests)
+
+closed_behind : (a b n : ℕ) → a < b → (nat_lt a b || nat_lt 4096 n) ≡ true
+closed_behind a b n h = grind (arith, nat_tests)
+
+closed_long : (a b n : ℕ) → 4096 < n → (nat_lt a b || nat_lt 4096 n) ≡ true
+closed_long a b n h = grind (arith, nat_tests)
+
+none_kept : (p : TextUnit → Bool) (u : TextUnit) → p u ≡ false → [] ≡ filter p (u ∷ [])
+none_kept p u h = rw h refl
+
+one_kept : (p : TextUnit → Bool) (u : TextUnit) (us : List TextUnit) → p u ≡ true → u ∷ filter p us ≡ filter p (u ∷ us)
+one_kept p u us h = rw h refl
+
+pub leads_to_unit : (place : Place) (held piece : List ℕ) (goes_on : Bool) (start end fed number : ℕ) → IsPart place held piece goes_on start end → length (open_of place held) ≤ fed → end ≡ length piece → length (kept_of goes_on held ++ slice_range piece start end) ≤ 4096 → Leads (seen place held fed number None) piece [] (seen InUnit (kept_of goes_on held ++ slice_range piece start end) (fed + end) number None)
+leads_to_unit place held piece goes_on start end fed number p few all short =
+    let kept = kept_of goes_on held in
+    let u = kept ++ slice_range piece start end in
+    let low = kept_few place goes_on held fed (λ h. (p.first h).1) few in
+    let size = part_size goes_on held piece start end p.within in
+    let order = p.order in
+    let o = fed + start - length kept in
+    let none : drop end piece ≡ [] = rw all (drop-length piece) in
+    let unit : IsUnit u [] = subst (IsUnit u) none p.unit in
+    let onward : (more : List ℕ) (others : List TextUnit) → Statements o (u ++ more) others → Follows (begins place) fed (open_of place held) (piece ++ more) others =
+    λ more others s.
+    let all_taken : take end piece ++ more ≡ piece ++ more = ap (λ n. take n piece ++ more) all ∙ ap (λ xs. xs ++ more) (take-length piece) in
+    subst (λ t. Follows (begins place) fed (open_of place held) t others) all_taken (p.passed fed end more others few (omega arith) p.within (inl all) s) in
+    let alone : Statements o (u ++ []) (part_unit goes_on held piece start end fed ∷ []) =
+    statement_first o (u ++ []) (part_unit goes_on held piece start end fed) [] [] (unit_at o u [] unit) (ap not p.spoken) (nothing_left (o + length u)) in
+    record {
+      took = ap (λ n. fed + n) all;
+      counted = omega arith;
+      closes = (
+        part_unit goes_on held piece start end fed ∷ [],
+        to_whole (begins place) fed (open_of place held) piece _ (onward [] _ alone),
+        none_kept (is_closed (fed + length piece)) (part_unit goes_on held piece start end fed) (not_closed (o + length u) (fed + length piece) (length u) (omega arith) short),
+      );
+      onward = λ more others s. onward more others (statements_at _ o _ others (omega arith) s);
+      going = refl;
+    }
+
+either : (x y z t w v : Bool) → (x || y || (z && t)) ≡ true → (x || y || z || w || v) ≡ true
+either true y z t w v h = refl
+either false true z t w v h = refl
+either false false true t w v h = refl
+either false false false t w v h = cc
+
+end_separates : (first b : ℕ) → is_end first b ≡ true → is_separator b ≡ true
+end_separates first b h = either (b == 13) (b == 10) (b == 44) (not (takes_line first)) (b == 32) (b == 9) h
+
+unit_ends : (unit behind : List ℕ) (b : ℕ) (rest : List ℕ) → behind ≡ b ∷ rest → IsUnit unit behind → is_separator b ≡ true
+unit_ends [] behind b rest e h = absurd h
+unit_ends (first ∷ unit) behind b rest e h = end_separates first b (subst (EndsBefore first) e h.2)
+
+one_byte : (piece : List ℕ) (end : ℕ) → end < length piece → slice_range piece end (end + 1) ≡ get_or piece end 0 ∷ []
+one_byte piece end more =
+    let opened : drop end piece ≡ get_or piece end 0 ∷ drop (suc end) piece = drop-cons piece end 0 more in
+    let count : end + 1 - end ≡ suc zero = omega arith in
+    ap (λ n. take n (drop end piece)) count ∙ ap (take (suc zero)) opened
+
+-- from the end of a unit, over the byte that ends it
+over_end : (place : Place) (held piece : List ℕ) (goes_on : Bool) (start end fed : ℕ) → IsPart place held piece goes_on start end → length (open_of place held) ≤ fed → end < length piece → (more : List ℕ) (others : List TextUnit) → Statements (fed + end + 1) more others → Follows (begins place) fed (open_of place held) (take (end + 1) piece ++ more) (part_unit goes_on held piece start end fed ∷ others)
+over_end place held piece goes_on start end fed p few left more others s =
+    let kept = kept_of goes_on held in
+    let u = kept ++ slice_range piece start end in
+    let low = kept_few place goes_on held fed (λ h. (p.first h).1) few in
+    let size = part_size goes_on held piece start end p.within in
+    let order = p.order in
+    let o = fed + start - length kept in
+    let last = slice_range piece end (end + 1) in
+    let byte : last ≡ get_or piece end 0 ∷ [] = one_byte piece end left in
+    let gap : IsGap last = subst IsGap (sym byte) (unit_ends u (drop end piece) (get_or piece end 0) (drop (suc end) piece) (drop-cons piece end 0 left) p.unit, tt) in
+    let behind : Statements (o + length u) (last ++ more) others = behind_gap (o + length u) last more others gap (statements_at (fed + end + 1) _ _ others (omega (arith, ap length byte)) s) in
+    let unit : IsUnit u (last ++ more) = unit_before u (drop end piece) (last ++ more) p.unit (λ first e. head_range piece end (end + 1) first more (omega arith) (omega arith) e) in
+    let here : Statements o (u ++ (last ++ more)) (part_unit goes_on held piece start end fed ∷ others) =
+    statement_first o (u ++ (last ++ more)) (part_unit goes_on held piece start end fed) (last ++ more) others (unit_at o u (last ++ more) unit) (ap not p.spoken) behind in
+    let whole : u ++ (last ++ more) ≡ (kept ++ slice_range piece start (end + 1)) ++ more =
+    sym (append_assoc u last more) ∙ ap (λ xs. xs ++ more) (append_assoc kept (slice_range piece start end) last ∙ ap (λ xs. kept ++ xs) (sym (split_range piece start end (end + 1) order (omega arith) (omega arith)))) in
+    p.passed fed (end + 1) more _ few (omega arith) (omega arith) (inr (omega arith)) (statements_of o _ _ _ whole here)
+
+pub leads_behind_unit : (place : Place) (held other piece : List ℕ) (goes_on : Bool) (start end fed number : ℕ) → IsPart place held piece goes_on start end → length (open_of place held) ≤ fed → end < length piece → Leads (seen place held fed number None) (take (end + 1) piece) (part_unit goes_on held piece start end fed ∷ []) (seen Gap other (fed + (end + 1)) (number + 1) None)
+leads_behind_unit place held other piece goes_on start end fed number p few left =
+    let low = kept_few place goes_on held fed (λ h. (p.first h).1) few in
+    let size = part_size goes_on held piece start end p.within in
+    let order = p.order in
+    let taken : length (take (end + 1) piece) ≡ end + 1 = length-take-le (end + 1) piece (omega arith) in
+    let u = part_unit goes_on held piece start end fed in
+    let over = over_end place held piece goes_on start end fed p few left in
+    record {
+      took = ap (λ n. fed + n) (sym taken);
+      counted = omega arith;
+      closes = (
+        u ∷ [],
+        to_whole (begins place) fed (open_of place held) (take (end + 1) piece) _ (over [] [] (nothing_left (fed + end + 1))),
+        one_kept (is_closed (fed + length (take (end + 1) piece))) u [] (closed_behind (u.offset + length u.bytes) (fed + length (take (end + 1) piece)) (length u.bytes) (omega arith)),
+      );
+      onward = λ more others s. over more others (statements_at _ (fed + end + 1) _ others (omega arith) s);
+      going = refl;
+    }
+
+pub too_long : (place : Place) (held piece : List ℕ) (goes_on : Bool) (start end fed number : ℕ) → IsPart place held piece goes_on start end → length (open_of place held) ≤ fed → 4096 < length (kept_of goes_on held ++ slice_range piece start end) → (others : List TextUnit) × Closes (seen place held fed number None) piece (part_unit goes_on held piece start end fed ∷ others)
+too_long place held piece goes_on start end fed number p few long =
+    let kept = kept_of goes_on held in
+    let u = kept ++ slice_range piece start end in
+    let o = fed + start - length kept in
+    let unit = part_unit goes_on held piece start end fed in
+    let rest = found (o + length u) (drop end piece) in
+    let here : Statements o (u ++ drop end piece) (unit ∷ rest.0) =
+    statement_first o (u ++ drop end piece) unit (drop end piece) rest.0 (unit_at o u (drop end piece) p.unit) (ap not p.spoken) rest.1 in
+    let split : slice_range piece start (length piece) ≡ slice_range piece start end ++ drop end piece =
+    split_range piece start end (length piece) p.order p.within (omega arith) ∙ ap (λ xs. slice_range piece start end ++ xs) (whole_range piece end) in
+    let whole : u ++ drop end piece ≡ (kept ++ slice_range piece start (length piece)) ++ [] =
+    append_assoc kept (slice_range piece start end) (drop end piece) ∙ ap (λ xs. kept ++ xs) (sym split) ∙ sym (append-nil _) in
+    let within = p.within in
+    let last : (end ≡ length piece) ⊎ (end < length piece) = elim (cases_lt end (length piece)) [ inl h ↦ inr h | inr h ↦ inl (omega arith) ] in
+    let all : take (length piece) piece ++ [] ≡ piece = append-nil _ ∙ take-length piece in
+    let told : Follows (begins place) fed (open_of place held) piece (unit ∷ rest.0) =
+    subst (λ t. Follows (begins place) fed (open_of place held) t (unit ∷ rest.0)) all (p.passed fed (length piece) [] _ few p.within (omega arith) last (statements_of o _ _ _ whole here)) in (
+      filter (is_closed (fed + length piece)) rest.0,
+      (
+        unit ∷ rest.0,
+        told,
+        one_kept (is_closed (fed + length piece)) unit rest.0 (closed_long (o + length u) (fed + length piece) (length u) long),
+      ),
+    )
+
+mark_lead : (place : Place) (held other piece : List ℕ) (fed number : ℕ) → place ≡ Mark → other ≡ held ++ piece → length held + length piece < 3 → held ++ piece ≡ take (length held + length piece) byte_order_mark → (begins place ≡ true → fed ≡ length held) → Leads (seen place held fed number None) piece [] (seen Mark other (fed + length piece) number None)
+mark_lead place held other piece fed number is_mark o less same all =
+    let begun : begins place ≡ true = ap begins is_mark in
+    let count : fed ≡ length held = all begun in
+    rw (is_mark, o, count) (leads_to_mark held piece number less same)
+
+default_lead : (place : Place) (held other piece : List ℕ) (f : Found) (fed number : ℕ) → other ≡ (if is_in_mark f then held ++ piece else held) → ((x : Bool) (y z : ℕ) → f ≡ found.Unit x y z → ⊥) → IsFoundIn place held piece f → length (open_of place held) ≤ fed → (begins place ≡ true → fed ≡ length held) → Leads (seen place held fed number None) piece [] (seen (place_found f) other (fed + length piece) number None)
+default_lead place held other piece found.Mark fed number o never h few same =
+    mark_lead place held other piece fed number h.0 o h.1 h.2 same
+default_lead place held other piece found.Gap fed number o never h few same = leads_to_gap place held other piece fed number h few
+default_lead place held other piece found.Comment fed number o never h few same = leads_to_comment place held other piece fed number h few
+default_lead place held other piece (found.Unit x y z) fed number o never h few same = absurd (never x y z refl)
+
+pub default_step : (now : Piecing) (place after : Place) (held other piece : List ℕ) (f : Found) (fed number : ℕ) (refused : Option ℕ) → seen place held fed number refused ≡ now → refused ≡ None → after ≡ place_found f → other ≡ (if is_in_mark f then held ++ piece else held) → ((x : Bool) (y z : ℕ) → f ≡ found.Unit x y z → ⊥) → IsFoundIn place held piece f → length (open_of place held) ≤ fed → (begins place ≡ true → fed ≡ length held) → (now.refused ≡ None) × Leads now piece [] (seen after other (fed + length piece) number refused)
+default_step now place after held other piece f fed number refused view none leads o never h few same =
+    rw (← view, none, leads) (refl, default_lead place held other piece f fed number o never h few same)
+
+pub unit_step : (now : Piecing) (place : Place) (held other piece : List ℕ) (goes_on : Bool) (start end fed number : ℕ) (refused : Option ℕ) → seen place held fed number refused ≡ now → refused ≡ None → IsPart place held piece goes_on start end → length (open_of place held) ≤ fed → end ≡ length piece → other ≡ kept_of goes_on held ++ slice_range piece start end → length (kept_of goes_on held) + (end - start) ≤ 4096 → (now.refused ≡ None) × Leads now piece [] (seen InUnit other (fed + end) number refused)
+unit_step now place held other piece goes_on start end fed number refused view none p few all o short =
+    let size = part_size goes_on held piece start end p.within in
+    rw (← view, none, o) (refl, leads_to_unit place held piece goes_on start end fed number p few all (omega arith))
+
+pub end_step : (now : Piecing) (place : Place) (held other piece : List ℕ) (goes_on : Bool) (start end fed number used : ℕ) (refused : Option ℕ) (statement : Option Statement) → seen place held fed number refused ≡ now → refused ≡ None → IsPart place held piece goes_on start end → length (open_of place held) ≤ fed → end < length piece → length (kept_of goes_on held) + (end - start) ≤ 4096 → used ≡ end + 1 → IsSome statement → IfSome statement (λ s. (s.number ≡ number + 1) × (s.offset ≡ fed + start - length (kept_of goes_on held)) × (s.bytes.now ≡ statement_bytes (kept_of goes_on held ++ slice_range piece start end))) → (now.refused ≡ None) × Used now piece used statement (seen Gap other (fed + (end + 1)) (number + 1) refused)
+end_step now place held other piece goes_on start end fed number used refused None view none p few left short is_used some told = absurd (false≢true some)
+end_step now place held other piece goes_on start end fed number used refused (Some s) view none p few left short is_used some told =
+    let size = part_size goes_on held piece start end p.within in
+    rw (← view, none, is_used) (
+      refl,
+      (
+        part_unit goes_on held piece start end fed,
+        record { number_is = told.0; place = told.1; slice = told.2; short = omega arith },
+        omega arith,
+        omega arith,
+        leads_behind_unit place held other piece goes_on start end fed number p few left,
+      ),
+    )
+
+pub long_step : (now : Piecing) (place : Place) (held piece : List ℕ) (goes_on : Bool) (start end fed number o : ℕ) (refused : Option ℕ) → seen place held fed number refused ≡ now → refused ≡ None → IsPart place held piece goes_on start end → length (open_of place held) ≤ fed → o ≡ fed + start - length (kept_of goes_on held) → 4096 < length (kept_of goes_on held) + (end - start) → (number + 1 ≡ now.number + 1) × IsTooLongAt now.refused now piece o × (seen place held fed number (Some o) ≡ record now { refused = Some o })
+long_step now place held piece goes_on start end fed number o refused view none p few is_offset long =
+    let size = part_size goes_on held piece start end p.within in
+    let more : 4096 < length (kept_of goes_on held ++ slice_range piece start end) = omega arith in
+    let met = too_long place held piece goes_on start end fed number p few more in
+    rw (← view, none) (refl, (part_unit goes_on held piece start end fed, met.0, met.1, more, is_offset), refl)
+
+pub kept_is : (goes_on : Bool) (held other : List ℕ) → other ≡ (if not goes_on then [] else held) → other ≡ kept_of goes_on held
+kept_is true held other h = h
+kept_is false held other h = h
+
+pub kept_size : (goes_on : Bool) (held : List ℕ) (len n : ℕ) → len ≡ length held → n ≡ (if goes_on then len else 0) → n ≡ length (kept_of goes_on held)
+kept_size true held len n e h = h ∙ e
+kept_size false held len n e h = h
+
+pub kept_most : (goes_on : Bool) (held : List ℕ) → length (kept_of goes_on held) ≤ length held
+kept_most true held = omega arith
+kept_most false held = omega arith
+
+pub mark_room : (place : Place) (held piece : List ℕ) (f : Found) → IsFoundIn place held piece f → is_in_mark f ≡ true → length held + length piece ≤ 4096
+mark_room place held piece found.Mark h t = omega (arith, h.1)
+mark_room place held piece found.Gap h t = absurd (false≢true t)
+mark_room place held piece found.Comment h t = absurd (false≢true t)
+mark_room place held piece (found.Unit x y z) h t = absurd (false≢true t)
+
+pub all_in_piece : (goes_on : Bool) (held left part : List ℕ) → left ≡ kept_of goes_on held → (length left == 0) ≡ true → part ≡ kept_of goes_on held ++ part
+all_in_piece goes_on held left part same none =
+    let empty : left ≡ [] = nothing left none in
+    let kept : kept_of goes_on held ≡ [] = sym same ∙ empty in
+    rw kept refl
+
+pub ended_told : (statement : Option Statement) (n m o p : ℕ) (unit other : List ℕ) → o ≡ p → unit ≡ other → IfSome statement (λ s. (s.number ≡ n) × (s.offset ≡ o) × (s.bytes.now ≡ statement_bytes unit)) → IfSome statement (λ s. (s.number ≡ n) × (s.offset ≡ p) × (s.bytes.now ≡ statement_bytes other))
+ended_told statement n m o p unit other e f h = rw (← e, ← f) h

@@ -1,0 +1,9 @@
+use Rattle.std.proofs.Common.{◌≡◌, take}
+use Rattle.std.specs.Str.Parse.{AllDigits, digits_value}
+use Rattle.csa_text.proofs.moment.read_number.Given as goal
+
+abbrev pub invariant-loop-b : goal.invariant-loop-b
+invariant-loop-b l = record {
+  digits : AllDigits 10 (take l.b-index l.bytes);
+  value : l.value ≡ digits_value 10 (take l.b-index l.bytes);
+}

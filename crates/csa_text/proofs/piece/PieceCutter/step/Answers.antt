@@ -1,0 +1,98 @@
+use Rattle.std.proofs.Common.{◌≡◌, ◌+◌, ◌-◌, ◌<◌, ◌≤◌, ◌++◌, length, slice_range, arith, refl, sym, ap, ◌∙◌}
+use Rattle.csa_text.specs.Places.{IsPart, IsFoundIn, kept_of}
+use Rattle.csa_text.proofs.Leading.{default_step, unit_step, end_step, long_step, kept_is, kept_size, kept_most, mark_room, all_in_piece, ended_told}
+use Rattle.csa_text.proofs.Lining.{length_range}
+use Rattle.csa_text.proofs.piece.PieceCutter.step.Goals as goal
+
+pub hold-requires : goal.hold-requires
+hold-requires c =
+    let s = c.self.inside in
+    let h : IsFoundIn s.place s.held.items c.args.piece.now c.found_in-found.result = rw c.as_slice.ensures.value at c.found_in-found.ensures in
+    λ t. mark_room s.place s.held.items c.args.piece.now c.found_in-found.result h (sym c.is_in_mark.ensures ∙ t)
+
+pub returns-in_default-found : goal.returns-in_default-found
+returns-in_default-found c =
+    let s = c.self.inside in
+    let i = c.self.invariant in
+    let h : IsFoundIn s.place s.held.items c.args.piece.now c.found_in-found.result = rw c.as_slice.ensures.value at c.found_in-found.ensures in
+    let done = default_step c.args.self.now s.place c.place_of-self-inside.result s.held.items c.hold.new.held.items c.args.piece.now c.found_in-found.result s.fed s.number s.refused
+    c.self.view_is c.in_default.is c.place_of-self-inside.ensures (rw c.is_in_mark.ensures at c.hold.ensures) c.in_default-found.not-Unit h (omega (arith, i.0)) i.3 in
+    ((refl, λ _. tt, (done.0, (refl, done.1))), record { stepped = tt })
+
+pub returns-then-kept-part : goal.returns-then-kept-part
+returns-then-kept-part c =
+    let s = c.self.inside in
+    let i = c.self.invariant in
+    let p : IsPart s.place s.held.items c.args.piece.now c.in-Unit.goes_on c.in-Unit.start c.in-Unit.end = rw c.as_slice.ensures.value at c.in-Unit.ensures in
+    let kept = kept_size c.in-Unit.goes_on s.held.items c.len.result c.kept_length-kept.result c.len.ensures.value c.kept_length-kept.ensures in
+    let size = length_range c.args.piece.now c.in-Unit.start c.in-Unit.end p.within in
+    let place : s.fed + c.in-Unit.start - c.kept_length-kept.result ≡ s.fed + c.in-Unit.start - length (kept_of c.in-Unit.goes_on s.held.items) = ap (λ n. s.fed + c.in-Unit.start - n) kept in
+    let done = long_step c.args.self.now s.place s.held.items c.args.piece.now c.in-Unit.goes_on c.in-Unit.start c.in-Unit.end s.fed s.number _ s.refused
+    c.self.view_is c.in_default.is p (omega (arith, i.0)) place (omega (arith, kept, size, c.if-kept-part.true)) in
+    ((refl, λ _. tt, (done.0, done.1, done.2)), record { stepped = tt })
+
+pub returns-then-end-piece : goal.returns-then-end-piece
+returns-then-end-piece c =
+    let s = c.self.inside in
+    let i = c.self.invariant in
+    let piece = c.args.piece.now in
+    let goes_on = c.in-Unit.goes_on in
+    let start = c.in-Unit.start in
+    let end = c.in-Unit.end in
+    let p : IsPart s.place s.held.items piece goes_on start end = rw c.as_slice.ensures.value at c.in-Unit.ensures in
+    let kept = kept_size goes_on s.held.items c.len.result c.kept_length-kept.result c.len.ensures.value c.kept_length-kept.ensures in
+    let size = length_range piece start end p.within in
+    let most = kept_most goes_on s.held.items in
+    let few : length (kept_of goes_on s.held.items) + (end - start) ≤ 4096 = omega (arith, kept, size, c.if-kept-part.false, i.1) in
+    let left : c.forget.new.held.items ≡ kept_of goes_on s.held.items = kept_is goes_on s.held.items c.forget.new.held.items c.forget.ensures in
+    let all : c.hold-then-end-piece.new.held.items ≡ kept_of goes_on s.held.items ++ slice_range piece start end =
+    c.hold-then-end-piece.ensures ∙ ap (λ xs. xs ++ slice_range piece start end) left in
+    let done = unit_step c.args.self.now s.place s.held.items c.hold-then-end-piece.new.held.items piece goes_on start end s.fed s.number s.refused
+    c.self.view_is c.in_default.is p (omega (arith, i.0)) c.if-end-piece.true all few in
+    ((refl, λ _. tt, (done.0, (c.if-end-piece.true, done.1))), record { stepped = tt })
+
+pub returns-then-is_empty : goal.returns-then-is_empty
+returns-then-is_empty c =
+    let s = c.self.inside in
+    let i = c.self.invariant in
+    let piece = c.args.piece.now in
+    let goes_on = c.in-Unit.goes_on in
+    let start = c.in-Unit.start in
+    let end = c.in-Unit.end in
+    let p : IsPart s.place s.held.items piece goes_on start end = rw c.as_slice.ensures.value at c.in-Unit.ensures in
+    let kept = kept_size goes_on s.held.items c.len.result c.kept_length-kept.result c.len.ensures.value c.kept_length-kept.ensures in
+    let size = length_range piece start end p.within in
+    let most = kept_most goes_on s.held.items in
+    let few : length (kept_of goes_on s.held.items) + (end - start) ≤ 4096 = omega (arith, kept, size, c.if-kept-part.false, i.1) in
+    let left : c.forget.new.held.items ≡ kept_of goes_on s.held.items = kept_is goes_on s.held.items c.forget.new.held.items c.forget.ensures in
+    let behind : end < length piece = omega (arith, c.if-end-piece.false, p.within) in
+    let whole : slice_range piece start end ≡ kept_of goes_on s.held.items ++ slice_range piece start end =
+    all_in_piece goes_on s.held.items c.forget.new.held.items (slice_range piece start end) left (sym c.is_empty.ensures ∙ c.if-is_empty.true) in
+    let place : s.fed + start - c.kept_length-kept.result ≡ s.fed + start - length (kept_of goes_on s.held.items) = ap (λ n. s.fed + start - n) kept in
+    let told = ended_told c.ended.result.statement _ 0 _ _ (slice_range piece start end) (kept_of goes_on s.held.items ++ slice_range piece start end) place whole c.ended.ensures.statement in
+    let done = end_step c.args.self.now s.place s.held.items c.forget.new.held.items piece goes_on start end s.fed s.number c.ended.result.used s.refused c.ended.result.statement
+    c.self.view_is c.in_default.is p (omega (arith, i.0)) behind few c.ended.ensures.used c.ended.ensures.some told in
+    ((refl, λ _. tt, (done.0, done.1)), record { stepped = tt })
+
+pub returns : goal.returns
+returns c =
+    let s = c.self.inside in
+    let i = c.self.invariant in
+    let piece = c.args.piece.now in
+    let goes_on = c.in-Unit.goes_on in
+    let start = c.in-Unit.start in
+    let end = c.in-Unit.end in
+    let p : IsPart s.place s.held.items piece goes_on start end = rw c.as_slice.ensures.value at c.in-Unit.ensures in
+    let kept = kept_size goes_on s.held.items c.len.result c.kept_length-kept.result c.len.ensures.value c.kept_length-kept.ensures in
+    let size = length_range piece start end p.within in
+    let most = kept_most goes_on s.held.items in
+    let few : length (kept_of goes_on s.held.items) + (end - start) ≤ 4096 = omega (arith, kept, size, c.if-kept-part.false, i.1) in
+    let left : c.forget.new.held.items ≡ kept_of goes_on s.held.items = kept_is goes_on s.held.items c.forget.new.held.items c.forget.ensures in
+    let behind : end < length piece = omega (arith, c.if-end-piece.false, p.within) in
+    let whole : c.as_slice-2.result.now ≡ kept_of goes_on s.held.items ++ slice_range piece start end =
+    c.as_slice-2.ensures.value ∙ c.hold-2.ensures ∙ ap (λ xs. xs ++ slice_range piece start end) left in
+    let place : s.fed + start - c.kept_length-kept.result ≡ s.fed + start - length (kept_of goes_on s.held.items) = ap (λ n. s.fed + start - n) kept in
+    let told = ended_told c.ended-2.result.statement _ 0 _ _ c.as_slice-2.result.now (kept_of goes_on s.held.items ++ slice_range piece start end) place whole c.ended-2.ensures.statement in
+    let done = end_step c.args.self.now s.place s.held.items c.hold-2.new.held.items piece goes_on start end s.fed s.number c.ended-2.result.used s.refused c.ended-2.result.statement
+    c.self.view_is c.in_default.is p (omega (arith, i.0)) behind few c.ended-2.ensures.used c.ended-2.ensures.some told in
+    ((refl, λ _. tt, (done.0, done.1)), record { stepped = tt })

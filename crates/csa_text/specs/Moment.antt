@@ -1,0 +1,90 @@
+-- Moments: a date, or a date and a time of day.
+use Rattle.std.specs.Prelude.{◌≡◌, ℕ, ◌+◌, ◌/◌, ◌%◌, ◌≤◌, ◌==◌, false, List, [], ◌∷◌, ◌++◌, length, pos, Option, Some, None}
+use Rattle.std.specs.List.{AllByRecursion}
+use Rattle.std.specs.Str.Parse.{AllDigits, digits_value}
+use Rattle.jiff_core.specs.Calendar.{IsCivilDate}
+
+pub record TimeOfDay : Type 0 where
+  pub hour : ℕ
+  pub minute : ℕ
+  pub second : ℕ
+
+pub record CalendarMoment : Type 0 where
+  pub year : ℕ
+  pub month : ℕ
+  pub day : ℕ
+  pub time : Option TimeOfDay
+
+-- at least and at most so many decimal digits, with this value
+pub record IsNumber (fewest most : ℕ) (digits : List ℕ) (value : ℕ) : Type 0 where
+  pub few : fewest ≤ length digits
+  pub many : length digits ≤ most
+  pub digits_only : AllDigits 10 digits
+  pub value_is : value ≡ digits_value 10 digits
+
+-- four digits, `/`, one or two digits, `/`, one or two digits
+pub record DateDigits (bytes : List ℕ) (year month day : ℕ) : Type 0 where
+  pub years : List ℕ
+  pub months : List ℕ
+  pub days : List ℕ
+  pub whole : bytes ≡ years ++ 47 ∷ (months ++ 47 ∷ days)
+  pub year_is : IsNumber 4 4 years year
+  pub month_is : IsNumber 1 2 months month
+  pub day_is : IsNumber 1 2 days day
+
+-- one or two digits, `:`, two digits, `:`, two digits
+pub record TimeDigits (bytes : List ℕ) (hour minute second : ℕ) : Type 0 where
+  pub hours : List ℕ
+  pub minutes : List ℕ
+  pub seconds : List ℕ
+  pub whole : bytes ≡ hours ++ 58 ∷ (minutes ++ 58 ∷ seconds)
+  pub hour_is : IsNumber 1 2 hours hour
+  pub minute_is : IsNumber 2 2 minutes minute
+  pub second_is : IsNumber 2 2 seconds second
+
+-- a day that the calendar has
+abbrev pub SpellsDate : List ℕ → ℕ → ℕ → ℕ → Type 0
+SpellsDate bytes year month day = DateDigits bytes year month day × IsCivilDate (pos year) month day
+
+abbrev pub SpellsTime : List ℕ → ℕ → ℕ → ℕ → Type 0
+SpellsTime bytes hour minute second =
+    TimeDigits bytes hour minute second × (hour ≤ 23) × (minute ≤ 59) × (second ≤ 59)
+
+-- a date alone, or a date, one space and a time
+abbrev pub SpellsDateAnd : Option TimeOfDay → List ℕ → ℕ → ℕ → ℕ → Type 0
+SpellsDateAnd None bytes year month day = SpellsDate bytes year month day
+SpellsDateAnd (Some t) bytes year month day = (date time : List ℕ) × (bytes ≡ date ++ 32 ∷ time)
+    × SpellsDate date year month day × SpellsTime time t.hour t.minute t.second
+
+abbrev pub SpellsMoment : List ℕ → CalendarMoment → Type 0
+SpellsMoment bytes m = SpellsDateAnd m.time bytes m.year m.month m.day
+
+-- a number below 100 in two digits
+abbrev pub two_digits : ℕ → List ℕ
+two_digits n = (48 + n / 10) ∷ (48 + n % 10) ∷ []
+
+-- a number below 10000 in four digits
+abbrev pub four_digits : ℕ → List ℕ
+four_digits n = two_digits (n / 100) ++ two_digits (n % 100)
+
+abbrev pub date_text : ℕ → ℕ → ℕ → List ℕ
+date_text year month day = four_digits year ++ 47 ∷ (two_digits month ++ 47 ∷ two_digits day)
+
+abbrev pub time_text : ℕ → ℕ → ℕ → List ℕ
+time_text hour minute second = two_digits hour ++ 58 ∷ (two_digits minute ++ 58 ∷ two_digits second)
+
+-- nothing, or a space and the time
+abbrev pub behind_date : Option TimeOfDay → List ℕ
+behind_date None = []
+behind_date (Some t) = 32 ∷ time_text t.hour t.minute t.second
+
+-- the canonical text of a moment
+abbrev pub moment_text : CalendarMoment → List ℕ
+moment_text m = date_text m.year m.month m.day ++ behind_date m.time
+
+abbrev pub HasNone : ℕ → List ℕ → Type 0
+HasNone mark bytes = AllByRecursion (λ b. (b == mark) ≡ false) bytes
+
+-- what stands before and behind the first byte of this value
+abbrev pub IsSplit : ℕ → List ℕ → List ℕ → List ℕ → Type 0
+IsSplit mark bytes front rest = (bytes ≡ front ++ mark ∷ rest) × HasNone mark front

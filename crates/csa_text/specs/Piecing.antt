@@ -1,0 +1,55 @@
+-- A cutter of pieces on its way.
+use Rattle.std.specs.Prelude.{◌≡◌, ℕ, ◌+◌, ◌-◌, ◌≤◌, ◌||◌, Bool, true, List, [], ◌∷◌, ◌++◌, length, drop, filter, nat_lt, Option, None, if◌then◌else◌}
+use Rattle.csa_text.specs.Cut.{TextUnit, Statements, Cut, mark_length, begins_with}
+
+-- how many bytes it took; how many statements it handed out; whether these bytes are the beginning of
+-- a byte order mark, or none; what is unfinished: the bytes of that mark, the bytes of a unit, of a
+-- comment its first byte alone; and the offset of a statement that is too long, if one was met
+pub record Piecing : Type 0 where
+  pub fed : ℕ
+  pub number : ℕ
+  pub begins : Bool
+  pub unfinished : List ℕ
+  pub refused : Option ℕ
+
+-- no more than 4,096 bytes of a statement, and of a comment no more than its first
+abbrev pub KeepsLittle : List ℕ → Type 0
+KeepsLittle unfinished = (length unfinished ≤ 4096) × (begins_with 39 unfinished ≡ true → unfinished ≡ 39 ∷ [])
+
+-- nothing has come
+abbrev pub fresh : Piecing
+fresh = record { fed = 0; number = 0; begins = true; unfinished = []; refused = None }
+
+-- how much of the text is the mark
+abbrev pub mark_of : Bool → List ℕ → ℕ
+mark_of begins text = if begins then mark_length text else 0
+
+-- behind so many bytes, and with these unfinished, the text that comes tells these statements
+abbrev pub Follows : Bool → ℕ → List ℕ → List ℕ → List TextUnit → Type 0
+Follows begins fed held text statements =
+    Statements (fed - length held + mark_of begins (held ++ text)) (drop (mark_of begins (held ++ text)) (held ++ text)) statements
+
+-- the statements that are still to be handed out where these bytes come, and no more
+abbrev pub ToCome : Piecing → List ℕ → List TextUnit → Type 0
+ToCome p text statements = Follows p.begins p.fed p.unfinished text statements
+
+-- in a text of so many bytes, a unit that is followed by the byte that ends it, or has more than 4,096
+abbrev pub is_closed : ℕ → TextUnit → Bool
+is_closed end u = nat_lt (u.offset + length u.bytes) end || nat_lt 4096 (length u.bytes)
+
+-- the closed statements of a record's bytes
+abbrev pub Closed : List ℕ → List TextUnit → Type 0
+Closed source closed = (statements : List TextUnit) × Cut source statements × (closed ≡ filter (is_closed (length source)) statements)
+
+-- the closed statements that are still to be handed out where these bytes come
+abbrev pub Closes : Piecing → List ℕ → List TextUnit → Type 0
+Closes p text closed = (statements : List TextUnit) × ToCome p text statements × (closed ≡ filter (is_closed (p.fed + length text)) statements)
+
+-- these bytes close these statements and no others, and lead on to the new state: what is to come from
+-- there is to come behind them
+pub record Leads (old : Piecing) (text : List ℕ) (closed : List TextUnit) (new : Piecing) : Type 0 where
+  pub took : new.fed ≡ old.fed + length text
+  pub counted : new.number ≡ old.number + length closed
+  pub closes : Closes old text closed
+  pub onward : (more : List ℕ) (others : List TextUnit) → ToCome new more others → ToCome old (text ++ more) (closed ++ others)
+  pub going : new.refused ≡ None

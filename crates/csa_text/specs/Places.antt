@@ -1,0 +1,109 @@
+-- Where a cutter of pieces stands, and what it holds.
+use Rattle.std.specs.Prelude.{◌≡◌, ℕ, ◌+◌, ◌-◌, ◌^◌, not, ◌<◌, ◌≤◌, ◌==◌, ◌⊎◌, if◌then◌else◌, Bool, true, false, List, [], ◌∷◌, ◌++◌, length, take, drop, slice_range, slice_index}
+use Rattle.csa_text.specs.Cut.{TextUnit, Statements, IsUnit, byte_order_mark, begins_with}
+use Rattle.csa_text.specs.Piecing.{Follows}
+use Rattle.csa_text.specs.declared.piece.Found.{Found}
+use Rattle.csa_text.specs.declared.piece.Found.TheVariants as found
+use Rattle.csa_text.specs.declared.piece.Place.{Place}
+use Rattle.csa_text.specs.declared.piece.Place.TheVariants.{Mark, Gap, Unit as InUnit, Comment}
+
+abbrev pub begins : Place → Bool
+begins Mark = true
+begins Gap = false
+begins InUnit = false
+begins Comment = false
+
+-- what is unfinished, of what is held
+abbrev pub open_of : Place → List ℕ → List ℕ
+open_of Mark held = held
+open_of Gap held = []
+open_of InUnit held = held
+open_of Comment held = 39 ∷ []
+
+-- what stands in each place
+abbrev pub IsHeld : Place → List ℕ → Type 0
+IsHeld Mark held = (length held < 3) × (held ≡ take (length held) byte_order_mark)
+IsHeld Gap held = Unit {0}
+IsHeld InUnit held = IsUnit held [] × (begins_with 39 held ≡ false)
+IsHeld Comment held = Unit {0}
+
+-- the same, with how many bytes have come and how many statements were handed out
+abbrev pub IsKept : Place → List ℕ → ℕ → ℕ → Type 0
+IsKept place held fed number = (number + length (open_of place held) ≤ fed) × (length held ≤ 4096) × IsHeld place held × (begins place ≡ true → fed ≡ length held) × (fed ≤ 2 ^ 63)
+
+-- from one place of the piece to another there are gaps and whole comments: what comes from there comes
+-- from here
+abbrev pub Passes : List ℕ → ℕ → ℕ → Type 0
+Passes piece from to = (offset k : ℕ) (more : List ℕ) (others : List TextUnit) → to ≤ k → k ≤ length piece → (to ≡ from) ⊎ (to < k)
+    → Statements (offset + to) (slice_range piece to k ++ more) others → Statements (offset + from) (slice_range piece from k ++ more) others
+
+-- a statement's unit between two places of the piece, or what has come of it, behind gaps and comments
+pub record IsUnitIn (piece : List ℕ) (from start end : ℕ) : Type 0 where
+  pub order : from ≤ start
+  pub some : start < end
+  pub within : end ≤ length piece
+  pub unit : IsUnit (slice_range piece start end) (drop end piece)
+  pub spoken : begins_with 39 (slice_range piece start end) ≡ false
+  pub passed : (offset k : ℕ) (more : List ℕ) (others : List TextUnit) → end ≤ k → k ≤ length piece
+      → Statements (offset + start) (slice_range piece start k ++ more) others → Statements (offset + from) (slice_range piece from k ++ more) others
+
+-- what the piece holds from this place on
+abbrev pub IsFirstIn : List ℕ → ℕ → Found → Type 0
+IsFirstIn piece from found.Mark = ⊥
+IsFirstIn piece from found.Gap = (offset : ℕ) (more : List ℕ) (others : List TextUnit)
+    → Statements (offset + length piece) more others → Statements (offset + from) (drop from piece ++ more) others
+IsFirstIn piece from found.Comment = (0 < length piece) × ((offset : ℕ) (more : List ℕ) (others : List TextUnit)
+    → Statements (offset + length piece - 1) (39 ∷ more) others → Statements (offset + from) (drop from piece ++ more) others)
+IsFirstIn piece from (found.Unit goes_on start end) = (goes_on ≡ false) × IsUnitIn piece from start end
+
+-- what is held of a unit
+abbrev pub kept_of : Bool → List ℕ → List ℕ
+kept_of goes_on held = if goes_on then held else []
+
+-- a statement's unit, or what has come of it: what is held of it and the bytes of the piece from start to end
+pub record IsPart (place : Place) (held piece : List ℕ) (goes_on : Bool) (start end : ℕ) : Type 0 where
+  pub order : start ≤ end
+  pub within : end ≤ length piece
+  pub first : goes_on ≡ true → (start ≡ 0) × (open_of place held ≡ held)
+  pub unit : IsUnit (kept_of goes_on held ++ slice_range piece start end) (drop end piece)
+  pub spoken : begins_with 39 (kept_of goes_on held ++ slice_range piece start end) ≡ false
+  pub passed : (fed k : ℕ) (more : List ℕ) (others : List TextUnit) → length (open_of place held) ≤ fed → end ≤ k → k ≤ length piece → (end ≡ length piece) ⊎ (end < k)
+      → Statements (fed + start - length (kept_of goes_on held)) ((kept_of goes_on held ++ slice_range piece start k) ++ more) others
+      → Follows (begins place) fed (open_of place held) (take k piece ++ more) others
+
+-- what the piece holds next
+abbrev pub IsFoundIn : Place → List ℕ → List ℕ → Found → Type 0
+IsFoundIn place held piece found.Mark =
+    (place ≡ Mark) × (length held + length piece < 3) × (held ++ piece ≡ take (length held + length piece) byte_order_mark)
+IsFoundIn place held piece found.Gap = (fed : ℕ) (more : List ℕ) (others : List TextUnit) → length (open_of place held) ≤ fed
+    → Statements (fed + length piece) more others → Follows (begins place) fed (open_of place held) (piece ++ more) others
+IsFoundIn place held piece found.Comment = ((place ≡ Comment) ⊎ (0 < length piece)) × ((fed : ℕ) (more : List ℕ) (others : List TextUnit) → length (open_of place held) ≤ fed
+    → Statements (fed + length piece - 1) (39 ∷ more) others → Follows (begins place) fed (open_of place held) (piece ++ more) others)
+IsFoundIn place held piece (found.Unit goes_on start end) = IsPart place held piece goes_on start end
+
+-- what one holds is held of the other, up to the first byte that differs
+pub record IsCommon (a b : List ℕ) (n : ℕ) : Type 0 where
+  pub in_a : n ≤ length a
+  pub in_b : n ≤ length b
+  pub same : take n a ≡ take n b
+  pub differs : n < length a → n < length b → (slice_index a n == slice_index b n) ≡ false
+
+-- where the piece leads to
+abbrev pub place_found : Found → Place
+place_found found.Mark = Mark
+place_found found.Gap = Gap
+place_found found.Comment = Comment
+place_found (found.Unit goes_on start end) = InUnit
+
+abbrev pub is_in_mark : Found → Bool
+is_in_mark found.Mark = true
+is_in_mark found.Gap = false
+is_in_mark found.Comment = false
+is_in_mark (found.Unit goes_on start end) = false
+
+-- a statement's unit, or what may become one, is unfinished
+abbrev pub has_unit : Place → List ℕ → Bool
+has_unit Mark held = not (length held == 0)
+has_unit Gap held = false
+has_unit InUnit held = true
+has_unit Comment held = false

@@ -1,0 +1,41 @@
+-- What a cutter of pieces answers.
+use Rattle.std.specs.Prelude.{◌≡◌, ℕ, ◌+◌, ◌<◌, ◌≤◌, false, List, [], ◌∷◌, length, take, Option, None, Some, Result, Ok, Err}
+use Rattle.csa_text.specs.Cut.{TextUnit, statement_bytes}
+use Rattle.csa_text.specs.Piecing.{Piecing, ToCome, Closes, Leads}
+use Rattle.csa_text.specs.declared.cutter.Statement.{Statement}
+use Rattle.csa_text.specs.declared.cutter.CutFault.{CutFault}
+use Rattle.csa_text.specs.declared.piece.Cut.{Cut}
+
+-- the next statement after so many
+pub record IsNumbered (count : ℕ) (unit : TextUnit) (s : Statement) : Type 0 where
+  pub number_is : s.number ≡ count + 1
+  pub place : s.offset ≡ unit.offset
+  pub slice : s.bytes.now ≡ statement_bytes unit.bytes
+  pub short : length unit.bytes ≤ 4096
+
+-- no statement is closed in the whole piece, or the last byte that was used closed this one
+abbrev pub Used : Piecing → List ℕ → ℕ → Option Statement → Piecing → Type 0
+Used old piece used None new = (used ≡ length piece) × Leads old piece [] new
+Used old piece used (Some s) new =
+    (unit : TextUnit) × IsNumbered old.number unit s × (0 < used) × (used ≤ length piece) × Leads old (take used piece) (unit ∷ []) new
+
+-- the statement at this offset is the one that was met before, or the first that these bytes close and too long
+abbrev pub IsTooLongAt : Option ℕ → Piecing → List ℕ → ℕ → Type 0
+IsTooLongAt (Some before) old piece offset = offset ≡ before
+IsTooLongAt None old piece offset =
+    (unit : TextUnit) × (others : List TextUnit) × Closes old piece (unit ∷ others) × (4096 < length unit.bytes) × (offset ≡ unit.offset)
+
+abbrev pub Stepped : Piecing → List ℕ → Result Cut CutFault → Piecing → Type 0
+Stepped old piece (Ok cut) new = (old.refused ≡ None) × Used old piece cut.used cut.statement new
+Stepped old piece (Err fault) new =
+    (fault.number ≡ old.number + 1) × IsTooLongAt old.refused old piece fault.offset × (new ≡ record old { refused = Some fault.offset })
+
+-- the statement that is unfinished, if one is
+abbrev pub Last : Piecing → Option Statement → ℕ → Type 0
+Last old None number = ToCome old [] [] × (number ≡ old.number)
+Last old (Some s) number = (unit : TextUnit) × IsNumbered old.number unit s × ToCome old [] (unit ∷ []) × (number ≡ s.number)
+
+abbrev pub Finished : Piecing → Result (Option Statement) CutFault → Piecing → Type 0
+Finished old (Ok last) new =
+    (old.refused ≡ None) × Last old last new.number × (new ≡ record old { number = new.number; begins = false; unfinished = [] })
+Finished old (Err fault) new = (old.refused ≡ Some fault.offset) × (fault.number ≡ old.number + 1) × (new ≡ old)

@@ -1,0 +1,248 @@
+ghost use Rattle.std.specs.Prelude.{◌≡◌, ℕ, ◌+◌, ◌<◌, ◌≤◌, ◌^◌, ◌++◌, ◌↔◌, List, [], pos, ◌≤ℤ◌, ◌∷◌, unsigned_abs, MatchOption, IfSome, IsSome};
+ghost use Rattle.jiff.specs.Words.{IsDate, IsYmd, IsTime, IsHms};
+ghost use Rattle.jiff_core.specs.Calendar.{IsCivilDate};
+ghost use Rattle.arrayvec.specs.ArrayString.{array_string_len};
+ghost use Rattle.csa_text.specs.Moment.{CalendarMoment, IsNumber, SpellsDate, SpellsTime, SpellsMoment, HasNone, IsSplit, DateDigits, TimeDigits, date_text, time_text, moment_text, two_digits, four_digits};
+ghost use Rattle.csa_text.specs.MomentParts.{moment_of};
+
+use crate::calendar::Moment;
+use arrayvec::ArrayString;
+use jiff::civil::{Date, Time};
+
+impl Moment {
+    /// The canonical text: `YYYY/MM/DD`, or `YYYY/MM/DD HH:MM:SS`. Read again, it is this moment.
+    pub fn text(&self) -> ArrayString<19>
+        ensures text { result.bytes ≡ moment_text (moment_of self.now) }
+        ensures read_back { SpellsMoment result.bytes (moment_of self.now) }
+    {
+        let mut text = ArrayString::new();
+        push_date(&mut text, self.date);
+        if let Some(time) = self.time {
+            text.push(' ');
+            push_time(&mut text, time);
+        }
+        text
+    }
+}
+
+/// The moment that the bytes spell, or `None` where they spell none.
+///
+/// That is four digits, `/`, one or two digits, `/`, one or two digits, and optionally one space, one
+/// or two digits, `:`, two digits, `:`, two digits, where the calendar has that day, the hour is at
+/// most 23 and the minute and the second are at most 59.
+pub fn read_moment(bytes: &[u8]) -> Option<Moment>
+    ensures { MatchOption result
+        ((moment : CalendarMoment) → SpellsMoment bytes.now moment → ⊥)
+        (λ moment. SpellsMoment bytes.now (moment_of moment)) }
+{
+    let Some((date, time)) = split_at_byte(bytes, b' ') else {
+        return Some(Moment {
+            date: read_date(bytes)?,
+            time: None,
+        });
+    };
+    Some(Moment {
+        date: read_date(date)?,
+        time: Some(read_time(time)?),
+    })
+}
+
+fn read_date(bytes: &[u8]) -> Option<Date>
+    ensures value { MatchOption result
+        ((year month day : ℕ) → SpellsDate bytes.now year month day → ⊥)
+        (λ date. SpellsDate bytes.now (unsigned_abs date.year) date.month date.day) }
+    ensures bounds { IfSome result (λ date. (pos 0 ≤ℤ date.year) × (date.year ≤ℤ pos 9999)) }
+{
+    let (year, month, day) = date_digits(bytes)?;
+    date_of(year, month, day)
+}
+
+fn read_time(bytes: &[u8]) -> Option<Time>
+    ensures value { MatchOption result
+        ((hour minute second : ℕ) → SpellsTime bytes.now hour minute second → ⊥)
+        (λ time. SpellsTime bytes.now time.hour time.minute time.second) }
+{
+    let (hour, minute, second) = time_digits(bytes)?;
+    time_of(hour, minute, second)
+}
+
+// The day, where the calendar has it.
+fn date_of(year: u16, month: u16, day: u16) -> Option<Date>
+    requires { (year < 10000) × (month < 100) × (day < 100) }
+    ensures exists { IsSome result ↔ IsCivilDate (pos year) month day }
+    ensures value { IfSome result (λ date. (date.year ≡ pos year) × (date.month ≡ month) × (date.day ≡ day)) }
+{
+    Date::new(year as i16, month as i8, day as i8).ok()
+}
+
+// The time of day, where there is such a time.
+fn time_of(hour: u16, minute: u16, second: u16) -> Option<Time>
+    requires { (hour < 100) × (minute < 100) × (second < 100) }
+    ensures exists { IsSome result ↔ ((hour ≤ 23) × (minute ≤ 59) × (second ≤ 59)) }
+    ensures value { IfSome result (λ time. (time.hour ≡ hour) × (time.minute ≡ minute) × (time.second ≡ second)) }
+{
+    Time::new(hour as i8, minute as i8, second as i8, 0).ok()
+}
+
+// The numbers of a date, whether there is such a day or not.
+fn date_digits(bytes: &[u8]) -> Option<(u16, u16, u16)>
+    ensures value { MatchOption result
+        ((year month day : ℕ) → DateDigits bytes.now year month day → ⊥)
+        (λ n. DateDigits bytes.now n.0 n.1 n.2) }
+    ensures bounds { IfSome result (λ n. (n.0 < 10000) × (n.1 < 100) × (n.2 < 100)) }
+{
+    let (year, rest) = split_at_byte(bytes, b'/')?;
+    let (month, day) = split_at_byte(rest, b'/')?;
+    Some((
+        read_number(year, 4, 4)?,
+        read_number(month, 1, 2)?,
+        read_number(day, 1, 2)?,
+    ))
+}
+
+// The numbers of a time, whether there is such a time or not.
+fn time_digits(bytes: &[u8]) -> Option<(u16, u16, u16)>
+    ensures value { MatchOption result
+        ((hour minute second : ℕ) → TimeDigits bytes.now hour minute second → ⊥)
+        (λ n. TimeDigits bytes.now n.0 n.1 n.2) }
+    ensures bounds { IfSome result (λ n. (n.0 < 100) × (n.1 < 100) × (n.2 < 100)) }
+{
+    let (hour, rest) = split_at_byte(bytes, b':')?;
+    let (minute, second) = split_at_byte(rest, b':')?;
+    Some((
+        read_number(hour, 1, 2)?,
+        read_number(minute, 2, 2)?,
+        read_number(second, 2, 2)?,
+    ))
+}
+
+// What stands before the first byte of this value, and what stands behind it.
+fn split_at_byte(bytes: &[u8], mark: u8) -> Option<(&[u8], &[u8])>
+    ensures { MatchOption result (HasNone mark bytes.now) (λ r. IsSplit mark bytes.now r.0.now r.1.now) }
+{
+    for (i, b) in bytes.iter().enumerate() {
+        if *b == mark {
+            return Some((&bytes[..i], &bytes[i + 1..]));
+        }
+    }
+    None
+}
+
+// The number that the bytes spell in at least and at most so many digits.
+fn read_number(bytes: &[u8], fewest: usize, most: usize) -> Option<u16>
+    requires { most ≤ 4 }
+    ensures value { MatchOption result
+        ((value : ℕ) → IsNumber fewest most bytes.now value → ⊥)
+        (λ value. IsNumber fewest most bytes.now value) }
+    ensures bound { IfSome result (λ value. value < 10 ^ most) }
+{
+    if bytes.len() < fewest || most < bytes.len() {
+        return None;
+    }
+    let mut value = 0u16;
+    for b in bytes {
+        let digit = (*b as char).to_digit(10)?;
+        value = value * 10 + digit as u16;
+    }
+    Some(value)
+}
+
+fn push_date(text: &mut ArrayString<19>, date: Date)
+    requires room { array_string_len text.old + 10 ≤ 19 }
+    requires years { (pos 0 ≤ℤ date.year) × (date.year ≤ℤ pos 9999) }
+    ensures { text.new.bytes ≡ text.old.bytes ++ date_text (unsigned_abs date.year) date.month date.day }
+{
+    let year = date.year() as u16;
+    push_two(text, (year / 100) as u8);
+    push_two(text, (year % 100) as u8);
+    text.push('/');
+    push_two(text, date.month() as u8);
+    text.push('/');
+    push_two(text, date.day() as u8);
+}
+
+fn push_time(text: &mut ArrayString<19>, time: Time)
+    requires room { array_string_len text.old + 8 ≤ 19 }
+    ensures { text.new.bytes ≡ text.old.bytes ++ time_text time.hour time.minute time.second }
+{
+    push_two(text, time.hour() as u8);
+    text.push(':');
+    push_two(text, time.minute() as u8);
+    text.push(':');
+    push_two(text, time.second() as u8);
+}
+
+fn push_two(text: &mut ArrayString<19>, n: u8)
+    requires room { array_string_len text.old + 2 ≤ 19 }
+    requires small { n < 100 }
+    ensures text { text.new.bytes ≡ text.old.bytes ++ two_digits n }
+    ensures len { array_string_len text.new ≡ array_string_len text.old + 2 }
+{
+    text.push((b'0' + n / 10) as char);
+    text.push((b'0' + n % 10) as char);
+}
+
+#[cfg(test)]
+mod tests {
+    use super::*;
+
+    #[test]
+    fn moments_and_their_texts(rt: HostRuntime) {
+        let table = [
+            ("2000/02/29", "2000/02/29"),
+            ("2024/2/29", "2024/02/29"),
+            ("0000/2/29 0:00:00", "0000/02/29 00:00:00"),
+            ("9999/12/31 23:59:59", "9999/12/31 23:59:59"),
+            ("1996/1/5 9:07:30", "1996/01/05 09:07:30"),
+        ];
+        for (bytes, want) in table {
+            let moment = read_moment(bytes.as_bytes());
+            assert!(rt; moment.is_some(), "at {bytes}");
+            if let Some(moment) = moment {
+                assert_eq!(rt; moment.text().as_str(), want, "at {bytes}");
+            }
+        }
+        assert!(rt; read_moment(b"2024/02/29") != read_moment(b"2024/02/29 00:00:00"));
+    }
+
+    #[test]
+    fn no_moments(rt: HostRuntime) {
+        let table = [
+            "",
+            "1900/02/29",
+            "2023/02/29",
+            "2023/04/31",
+            "2024/13/01",
+            "2024/00/01",
+            "2024/01/00",
+            "2024/01/32",
+            "2024/01/01 24:00:00",
+            "2024/01/01 00:60:00",
+            "2024/01/01 00:00:60",
+            "2024/01/01 1:1:01",
+            "2024/01/01 01:01:1",
+            "2024/01/01 001:01:01",
+            "24/01/01",
+            "02024/01/01",
+            "2024/001/01",
+            "2024/01/001",
+            "2024//01",
+            "2024/01/",
+            "2024/01",
+            "2024/01/01 ",
+            "2024/01/01  01:01:01",
+            "2024/01/01\t01:01:01",
+            "2024/01/01 01:01:01 ",
+            " 2024/01/01",
+            "2024/01/01 01:01",
+            "2024-01-01",
+            "+024/01/01",
+            "-001/01/01",
+            "2024/1a/01",
+            "2024/01/01T01:01:01",
+        ];
+        for bytes in table {
+            assert!(rt; read_moment(bytes.as_bytes()).is_none(), "at {bytes}");
+        }
+    }
+}
