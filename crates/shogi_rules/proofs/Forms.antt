@@ -1,0 +1,173 @@
+-- What the tests of kinds and colours say.
+use Rattle.std.proofs.Common.{◌≡◌, ℕ, ◌<◌, ◌≤◌, ◌+◌, ◌==◌, Bool, true, false, cond, Option, Some, None, ◌⊎◌, inl, inr, arith, refl, ap, sym, ◌∙◌, lit<}
+use Rattle.std.proofs.lemmas.Bool.Decides.{Decides-eqb}
+use Rattle.shogi_board.specs.Cells.{piece}
+use Rattle.shogi_board.specs.declared.kind.Piece.{Piece}
+use Rattle.shogi_board.specs.Pieces.{place_of, is_promoted, is_king, in_hand, same_kind, opponent, same_color}
+use Rattle.shogi_board.specs.declared.color.Color.{Color}
+use Rattle.shogi_board.specs.declared.color.Color.TheVariants.{Black, White}
+use Rattle.shogi_board.specs.declared.kind.Kind.{Kind}
+use Rattle.shogi_board.specs.declared.kind.Kind.TheVariants.{Pawn, Lance, Knight, Silver, Gold, Bishop, Rook, King, ProPawn, ProLance, ProKnight, ProSilver, Horse, Dragon}
+use Rattle.shogi_rules.specs.Kinds.{promoted, unpromoted}
+
+pub same_kind-self : (k : Kind) → same_kind k k ≡ true
+same_kind-self Pawn = refl
+same_kind-self Lance = refl
+same_kind-self Knight = refl
+same_kind-self Silver = refl
+same_kind-self Gold = refl
+same_kind-self Bishop = refl
+same_kind-self Rook = refl
+same_kind-self King = refl
+same_kind-self ProPawn = refl
+same_kind-self ProLance = refl
+same_kind-self ProKnight = refl
+same_kind-self ProSilver = refl
+same_kind-self Horse = refl
+same_kind-self Dragon = refl
+
+-- a promoted form has the place of its kind
+pub promoted-place : (was kind : Kind) → promoted was ≡ Some kind → place_of kind ≡ place_of was
+promoted-place Pawn kind h = let d : ProPawn ≡ kind = cc in ap place_of (sym d)
+promoted-place Lance kind h = let d : ProLance ≡ kind = cc in ap place_of (sym d)
+promoted-place Knight kind h = let d : ProKnight ≡ kind = cc in ap place_of (sym d)
+promoted-place Silver kind h = let d : ProSilver ≡ kind = cc in ap place_of (sym d)
+promoted-place Gold kind h = cc
+promoted-place Bishop kind h = let d : Horse ≡ kind = cc in ap place_of (sym d)
+promoted-place Rook kind h = let d : Dragon ≡ kind = cc in ap place_of (sym d)
+promoted-place King kind h = cc
+promoted-place ProPawn kind h = cc
+promoted-place ProLance kind h = cc
+promoted-place ProKnight kind h = cc
+promoted-place ProSilver kind h = cc
+promoted-place Horse kind h = cc
+promoted-place Dragon kind h = cc
+
+pub form-place : (was kind : Kind) → (kind ≡ was) ⊎ (promoted was ≡ Some kind) → place_of kind ≡ place_of was
+form-place was kind (inl e) = ap place_of e
+form-place was kind (inr e) = promoted-place was kind e
+
+king-place : (k : Kind) → is_king k ≡ true → place_of k ≡ 7
+king-place Pawn h = cc
+king-place Lance h = cc
+king-place Knight h = cc
+king-place Silver h = cc
+king-place Gold h = cc
+king-place Bishop h = cc
+king-place Rook h = cc
+king-place King h = refl
+king-place ProPawn h = cc
+king-place ProLance h = cc
+king-place ProKnight h = cc
+king-place ProSilver h = cc
+king-place Horse h = cc
+king-place Dragon h = cc
+
+place-king : (k : Kind) → place_of k ≡ 7 → is_king k ≡ true
+place-king Pawn h = absurd (omega arith)
+place-king Lance h = absurd (omega arith)
+place-king Knight h = absurd (omega arith)
+place-king Silver h = absurd (omega arith)
+place-king Gold h = absurd (omega arith)
+place-king Bishop h = absurd (omega arith)
+place-king Rook h = absurd (omega arith)
+place-king King h = refl
+place-king ProPawn h = absurd (omega arith)
+place-king ProLance h = absurd (omega arith)
+place-king ProKnight h = absurd (omega arith)
+place-king ProSilver h = absurd (omega arith)
+place-king Horse h = absurd (omega arith)
+place-king Dragon h = absurd (omega arith)
+
+-- what is a king after a walk was one
+pub form-king : (was kind : Kind) → (kind ≡ was) ⊎ (promoted was ≡ Some kind) → is_king kind ≡ true → is_king was ≡ true
+form-king was kind form h = place-king was (sym (form-place was kind form) ∙ king-place kind h)
+
+-- a piece that is no king may be held
+pub captured-held : (k : Kind) → (k ≡ King → ⊥) → in_hand (unpromoted k) ≡ true
+captured-held Pawn h = refl
+captured-held Lance h = refl
+captured-held Knight h = refl
+captured-held Silver h = refl
+captured-held Gold h = refl
+captured-held Bishop h = refl
+captured-held Rook h = refl
+captured-held King h = absurd (h refl)
+captured-held ProPawn h = refl
+captured-held ProLance h = refl
+captured-held ProKnight h = refl
+captured-held ProSilver h = refl
+captured-held Horse h = refl
+captured-held Dragon h = refl
+
+pub unpromoted-place : (k : Kind) → place_of (unpromoted k) ≡ place_of k
+unpromoted-place Pawn = refl
+unpromoted-place Lance = refl
+unpromoted-place Knight = refl
+unpromoted-place Silver = refl
+unpromoted-place Gold = refl
+unpromoted-place Bishop = refl
+unpromoted-place Rook = refl
+unpromoted-place King = refl
+unpromoted-place ProPawn = refl
+unpromoted-place ProLance = refl
+unpromoted-place ProKnight = refl
+unpromoted-place ProSilver = refl
+unpromoted-place Horse = refl
+unpromoted-place Dragon = refl
+
+pub held-low : (k : Kind) → in_hand k ≡ true → place_of k < 7
+held-low Pawn h = lit< tt
+held-low Lance h = lit< tt
+held-low Knight h = lit< tt
+held-low Silver h = lit< tt
+held-low Gold h = lit< tt
+held-low Bishop h = lit< tt
+held-low Rook h = lit< tt
+held-low King h = cc
+held-low ProPawn h = cc
+held-low ProLance h = cc
+held-low ProKnight h = cc
+held-low ProSilver h = cc
+held-low Horse h = cc
+held-low Dragon h = cc
+
+pub held-no-king : (k : Kind) → in_hand k ≡ true → is_king k ≡ true → ⊥
+held-no-king Pawn h e = cc
+held-no-king Lance h e = cc
+held-no-king Knight h e = cc
+held-no-king Silver h e = cc
+held-no-king Gold h e = cc
+held-no-king Bishop h e = cc
+held-no-king Rook h e = cc
+held-no-king King h e = cc
+held-no-king ProPawn h e = cc
+held-no-king ProLance h e = cc
+held-no-king ProKnight h e = cc
+held-no-king ProSilver h e = cc
+held-no-king Horse h e = cc
+held-no-king Dragon h e = cc
+
+pub opponent-twice : (c : Color) → opponent (opponent c) ≡ c
+opponent-twice Black = refl
+opponent-twice White = refl
+
+pub other-color : (a b : Color) → (a ≡ b → ⊥) → a ≡ opponent b
+other-color Black Black h = absurd (h refl)
+other-color Black White h = refl
+other-color White Black h = refl
+other-color White White h = absurd (h refl)
+
+pub same_color-self : (c : Color) → same_color c c ≡ true
+same_color-self Black = refl
+same_color-self White = refl
+
+pub eq-self : (m n : ℕ) → m ≡ n → (m == n) ≡ true
+eq-self m n e = (Decides-eqb m n).1 e
+
+abbrev kind-in : Option Piece → Kind
+kind-in None = Pawn
+kind-in (Some x) = x.kind
+
+pub piece-kind : (c : Color) (a b : Kind) → piece c a ≡ piece c b → a ≡ b
+piece-kind c a b h = let e : kind-in (piece c a) ≡ kind-in (piece c b) = ap kind-in h in e

@@ -1,0 +1,9 @@
+pub mod Forms
+pub mod Layouts
+pub mod Walks
+pub mod Drops
+pub mod Broken
+pub mod Turns
+pub mod Alone
+pub mod Places
+pub mod Games

@@ -1,0 +1,9 @@
+pub mod After
+pub mod Kinds
+pub mod Legal
+pub mod Order
+pub mod Play
+pub mod Positions
+pub mod Repetition
+pub mod Rules
+pub mod Verdicts

@@ -1,0 +1,45 @@
+-- A line: a start and the moves from it.
+use Rattle.std.specs.Prelude.{◌≡◌, ◌≤◌, ◌++◌, List, length, [], ◌∷◌, Option, None, Some}
+use Rattle.shogi_board.specs.declared.color.Color.{Color}
+use Rattle.shogi_board.specs.Placed.{Placed}
+use Rattle.shogi_rules.specs.declared.moves.Move.{Move}
+use Rattle.shogi_rules.specs.After.{after}
+use Rattle.shogi_rules.specs.Legal.{Legal}
+use Rattle.shogi_rules.specs.Repetition.{Over}
+
+pub record Played : Type 0 where
+  pub start : Placed
+  pub moves : List Move
+
+-- the position that the moves lead to
+abbrev pub position_after : Placed → List Move → Placed
+position_after p [] = p
+position_after p (m ∷ ms) = position_after (after p m) ms
+
+-- all positions, the start and the last too
+abbrev pub positions_of : Placed → List Move → List Placed
+positions_of p [] = p ∷ []
+positions_of p (m ∷ ms) = p ∷ positions_of (after p m) ms
+
+abbrev pub now_of : Played → Placed
+now_of line = position_after line.start line.moves
+
+abbrev pub all_of : Played → List Placed
+all_of line = positions_of line.start line.moves
+
+-- each move is legal after those before it, and nothing is played where a position stands for the fourth time
+pub record MayFollow (start : Placed) (before : List Move) (m : Move) : Type 0 where
+  pub legal : Legal (position_after start before) m
+  pub not_over : Over (positions_of start before) (position_after start before) → ⊥
+
+-- a game: moves each of which may follow those before it
+pub data IsGame (start : Placed) : List Move → Type 0 where
+  begun : IsGame start []
+  played : (before : List Move) (m : Move) → IsGame start before → MayFollow start before m → IsGame start (before ++ m ∷ [])
+
+-- a start, what its moves lead to, the moves, and all positions
+pub record IsLine (start now : Placed) (moves : List Move) (positions : List Placed) : Type 0 where
+  pub leads : now ≡ position_after start moves
+  pub all : positions ≡ positions_of start moves
+  pub game : IsGame start moves
+  pub few : length moves ≤ 10000

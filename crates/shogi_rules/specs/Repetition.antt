@@ -1,0 +1,33 @@
+-- When a position stands for the fourth time, and who gave check all the while.
+use Rattle.std.specs.Prelude.{◌≡◌, ℕ, ◌+◌, ◌<◌, ◌≤◌, Bool, List, Option, Some, length, take, count_by, slice_get}
+use Rattle.shogi_board.specs.contracts.position.PositionPartialEq.TheImpl.{eq-value}
+use Rattle.shogi_board.specs.declared.color.Color.{Color}
+use Rattle.shogi_board.specs.Placed.{Placed}
+use Rattle.shogi_board.specs.Reach.{InCheck}
+
+-- how often the position stands in the list, with its board, hands and side to move
+abbrev pub times : List Placed → Placed → ℕ
+times ps p = count_by (λ q. eq-value.it q p) ps
+
+-- it stands for the fourth time
+abbrev pub Over : List Placed → Placed → Type 0
+Over ps p = 4 ≤ times ps p
+
+-- it stands at that place, and fewer times before
+pub record IsNth (ps : List Placed) (p : Placed) (n place : ℕ) : Type 0 where
+  pub stands : slice_get ps place ≡ Some p
+  pub before : times (take place ps) p + 1 ≡ n
+
+-- the moves from its first place to its fourth
+pub record IsStretch (ps : List Placed) (p : Placed) (first fourth : ℕ) : Type 0 where
+  pub begins : IsNth ps p 1 first
+  pub ends : IsNth ps p 4 fourth
+
+-- if the side moved from that place, the other was in check afterwards
+abbrev pub PressedAt : List Placed → Color → ℕ → Type 0
+PressedAt ps color place =
+    (p q : Placed) → slice_get ps place ≡ Some p → slice_get ps (place + 1) ≡ Some q → p.side ≡ color → InCheck q.board q.side
+
+-- each move of that side in the stretch gave check
+abbrev pub Pressed : List Placed → ℕ → ℕ → Color → Type 0
+Pressed ps first fourth color = (place : ℕ) → first ≤ place → place < fourth → PressedAt ps color place

@@ -1,0 +1,44 @@
+-- The rules in the order in which the first broken one is named.
+use Rattle.std.specs.Prelude.{◌≡◌, ◌⊎◌, List, [], ◌∷◌, Option, Some, None}
+use Rattle.shogi_board.specs.declared.color.Color.{Color}
+use Rattle.shogi_board.specs.Placed.{Placed}
+use Rattle.shogi_rules.specs.declared.moves.Move.{Move}
+use Rattle.shogi_rules.specs.declared.rule.Rule.{Rule}
+use Rattle.shogi_rules.specs.declared.rule.Rule.TheVariants.{WrongSide, RepetitionOver, NoPiece, WrongKind, Occupied, CannotReach, BadPromotion, MustPromote, DoubledPawn, LeavesKing, PawnDropMate}
+use Rattle.shogi_rules.specs.Legal.{HasPiece, KindFits, TargetFree, ReachesTarget, MayPromote, HasFurtherMove, LonePawn, KingSafe, NoDropMate}
+use Rattle.shogi_rules.specs.Repetition.{Over}
+
+-- a side's move keeps a rule, at the last position of a list
+abbrev pub Kept : List Placed → Placed → Color → Move → Rule → Type 0
+Kept ps p color m WrongSide = color ≡ p.side
+Kept ps p color m RepetitionOver = Over ps p → ⊥
+Kept ps p color m NoPiece = HasPiece p m
+Kept ps p color m WrongKind = KindFits p m
+Kept ps p color m Occupied = TargetFree p m
+Kept ps p color m CannotReach = ReachesTarget p m
+Kept ps p color m BadPromotion = MayPromote p m
+Kept ps p color m MustPromote = HasFurtherMove p m
+Kept ps p color m DoubledPawn = LonePawn p m
+Kept ps p color m LeavesKing = KingSafe p m
+Kept ps p color m PawnDropMate = NoDropMate p m
+
+-- the rules that a look at the board before the move decides
+abbrev pub board_rules : List Rule
+board_rules = NoPiece ∷ WrongKind ∷ Occupied ∷ CannotReach ∷ BadPromotion ∷ MustPromote ∷ DoubledPawn ∷ []
+
+-- the rules 3 to 10
+abbrev pub keeping_rules : List Rule
+keeping_rules = NoPiece ∷ WrongKind ∷ Occupied ∷ CannotReach ∷ BadPromotion ∷ MustPromote ∷ DoubledPawn ∷ LeavesKing ∷ []
+
+-- the rules 3 to 11
+abbrev pub move_rules : List Rule
+move_rules = NoPiece ∷ WrongKind ∷ Occupied ∷ CannotReach ∷ BadPromotion ∷ MustPromote ∷ DoubledPawn ∷ LeavesKing ∷ PawnDropMate ∷ []
+
+abbrev pub all_rules : List Rule
+all_rules = WrongSide ∷ RepetitionOver ∷ move_rules
+
+-- the first rule of a list that is not kept, or none and all are kept
+abbrev pub IsFirstBroken : (Rule → Type 0) → List Rule → Option Rule → Type 0
+IsFirstBroken kept [] answer = answer ≡ None
+IsFirstBroken kept (rule ∷ rules) answer =
+    ((kept rule → ⊥) × (answer ≡ Some rule)) ⊎ (kept rule × IsFirstBroken kept rules answer)

@@ -1,0 +1,54 @@
+-- How a line stands.
+use Rattle.std.specs.Prelude.{ℕ, ◌⊎◌, List}
+use Rattle.shogi_board.specs.Pieces.{opponent}
+use Rattle.shogi_board.specs.Placed.{Placed}
+use Rattle.shogi_board.specs.Reach.{InCheck}
+use Rattle.shogi_board.specs.declared.color.Color.{Color}
+use Rattle.shogi_board.specs.declared.color.Color.TheVariants.{Black, White}
+use Rattle.shogi_rules.specs.declared.line.Verdict.{Verdict}
+use Rattle.shogi_rules.specs.declared.line.Verdict.TheVariants.{Ongoing, Mate, NoMove, Repetition, Perpetual}
+use Rattle.shogi_rules.specs.declared.moves.Move.{Move}
+use Rattle.shogi_rules.specs.Legal.{Legal}
+use Rattle.shogi_rules.specs.Repetition.{Over, IsStretch, Pressed}
+
+abbrev pub NoLegalMove : Placed → Type 0
+NoLegalMove p = (m : Move) → Legal p m → ⊥
+
+-- that side pressed and the other did not
+abbrev pub PressedAlone : List Placed → ℕ → ℕ → Color → Type 0
+PressedAlone ps first fourth color =
+    Pressed ps first fourth color × (Pressed ps first fourth (opponent color) → ⊥)
+
+-- the stretch from the first to the fourth place, and whether a side alone pressed in it
+pub record IsPerpetual (ps : List Placed) (p : Placed) (color : Color) : Type 0 where
+  pub first : ℕ
+  pub fourth : ℕ
+  pub stretch : IsStretch ps p first fourth
+  pub alone : PressedAlone ps first fourth color
+
+pub record IsRepetition (ps : List Placed) (p : Placed) : Type 0 where
+  pub first : ℕ
+  pub fourth : ℕ
+  pub stretch : IsStretch ps p first fourth
+  pub nobody_alone : (color : Color) → PressedAlone ps first fourth color → ⊥
+
+-- by check and the legal moves of the side to move
+abbrev pub StandsByMoves : Placed → Verdict → Type 0
+StandsByMoves p Ongoing = (m : Move) × Legal p m
+StandsByMoves p Mate = InCheck p.board p.side × NoLegalMove p
+StandsByMoves p NoMove = (InCheck p.board p.side → ⊥) × NoLegalMove p
+StandsByMoves p Repetition = ⊥
+StandsByMoves p (Perpetual color) = ⊥
+
+-- by who pressed, where the position stands for the fourth time
+abbrev pub StandsByStretch : List Placed → Placed → Verdict → Type 0
+StandsByStretch ps p Ongoing = ⊥
+StandsByStretch ps p Mate = ⊥
+StandsByStretch ps p NoMove = ⊥
+StandsByStretch ps p Repetition = IsRepetition ps p
+StandsByStretch ps p (Perpetual color) = IsPerpetual ps p color
+
+-- of the positions of a line, and the last of them
+abbrev pub Stands : List Placed → Placed → Verdict → Type 0
+Stands ps p verdict =
+    (Over ps p × StandsByStretch ps p verdict) ⊎ ((Over ps p → ⊥) × StandsByMoves p verdict)

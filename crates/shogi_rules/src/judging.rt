@@ -1,0 +1,36 @@
+ghost use Rattle.std.specs.Prelude.{[], ◌∷◌};
+ghost use Rattle.shogi_rules.specs.Rules.{Kept, move_rules, all_rules, IsFirstBroken};
+
+use crate::moves::Move;
+use crate::playing::attempt;
+use crate::rule::Rule;
+use crate::search::{is_mated, is_pawn_drop};
+use shogi_board::{Color, Position};
+
+// The first of the rules 3 to 11 that the side to move breaks by the move.
+pub(crate) fn broken_by_side(position: &Position, mv: &Move) -> Option<Rule>
+    ensures { IsFirstBroken (Kept (position.now ∷ []) position.now position.now.side mv.now) move_rules result }
+{
+    match attempt(position, mv) {
+        Err(rule) => Some(rule),
+        Ok(next) => {
+            if is_pawn_drop(mv) && is_mated(&next) {
+                Some(Rule::PawnDropMate)
+            } else {
+                None
+            }
+        }
+    }
+}
+
+/// The first rule that the move of that side breaks, in the order of their numbers, or None.
+///
+/// The position is taken to stand for the first time, so it never answers RepetitionOver.
+pub fn judge(position: &Position, mover: Color, mv: &Move) -> Option<Rule>
+    ensures { IsFirstBroken (Kept (position.now ∷ []) position.now mover mv.now) all_rules result }
+{
+    if mover != position.side() {
+        return Some(Rule::WrongSide);
+    }
+    broken_by_side(position, mv)
+}

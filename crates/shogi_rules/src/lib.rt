@@ -1,0 +1,24 @@
+//! The rules: moves, the first rule that a move breaks, and games as lines of legal moves.
+#![tactic(auto)]
+
+mod board_rules;
+mod judging;
+mod kinds;
+pub mod laws;
+mod line;
+mod moves;
+mod playing;
+mod repetition;
+mod rule;
+mod search;
+mod setups;
+
+pub use judging::judge;
+pub use line::{Line, PlayFault, Verdict};
+pub use moves::Move;
+pub use playing::{after, in_check};
+pub use rule::Rule;
+pub use search::first_legal;
+
+#[cfg(test)]
+mod tests;

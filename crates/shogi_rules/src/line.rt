@@ -1,0 +1,189 @@
+ghost use Rattle.std.specs.Prelude.{◌≡◌, ◌≤◌, ◌++◌, [], ◌∷◌, IfOk, OnOk, OnErr, MatchResult, ◌⊎◌, ◌↔◌, IsTrue, None, Some};
+ghost use Rattle.shogi_rules.specs.Positions.{now_of, all_of, IsGame};
+ghost use Rattle.shogi_rules.specs.Play.{Answers};
+ghost use Rattle.shogi_rules.specs.Repetition.{Over};
+ghost use Rattle.shogi_rules.specs.Rules.{Kept, move_rules, IsFirstBroken};
+ghost use Rattle.shogi_rules.specs.Verdicts.{Stands};
+ghost use Rattle.shogi_rules.specs.declared.line.PlayFault.TheVariants.{OutOfMemory};
+
+use crate::judging::broken_by_side;
+use crate::moves::Move;
+use crate::playing::after;
+use crate::repetition::{times, verdict_by_moves, verdict_of_stretch};
+use crate::rule::Rule;
+use shogi_board::{Color, Position};
+use std::alloc::{AllocFailed, Global};
+use std::marker::Model;
+use thiserror::Error;
+
+/// Why a move was not played.
+#[derive(Clone, Copy, Debug, PartialEq, Eq, PartialOrd, Ord, Error)]
+pub enum PlayFault {
+    /// 10,000 moves stand.
+    #[error("too many moves")]
+    TooManyMoves,
+    /// The move breaks a rule; this is the first that it breaks.
+    #[error("{0}")]
+    Broken(Rule),
+    /// A growth of memory was refused.
+    #[error("out of memory")]
+    OutOfMemory,
+}
+
+impl<T: Drop> From<AllocFailed<T>> for PlayFault {
+    ghost from_gives = { λ _ e. e ≡ OutOfMemory };
+
+    fn from(_e: AllocFailed<T>) -> PlayFault {
+        PlayFault::OutOfMemory
+    }
+}
+
+/// How a line stands.
+#[derive(Clone, Copy, Debug, PartialEq, Eq, PartialOrd, Ord)]
+pub enum Verdict {
+    /// The side to move has a legal move.
+    Ongoing,
+    /// The side to move is in check and has no legal move.
+    Mate,
+    /// The side to move is not in check and has no legal move.
+    NoMove,
+    /// The position stands for the fourth time.
+    Repetition,
+    /// The position stands for the fourth time, and this side alone gave check with each move since the first: it has
+    /// lost.
+    Perpetual(Color),
+}
+
+const MOST_MOVES: usize = 10000;
+
+/// A start and legal moves from it, at most 10,000, none of them played where a position stood for the fourth time.
+#[derive(Drop)]
+pub struct Line {
+    start: Position,
+    last: Position,
+    moves: Vec<Move>,
+    // all positions, the start and the last too
+    positions: Vec<Position>,
+}
+
+impl Model for Line {
+    ghost use Rattle.shogi_rules.specs.Positions.{Played, IsLine};
+
+    ghost Value = { Played };
+
+    ghost view = { λ l. record { start = l.start; moves = l.moves.items } };
+
+    ghost invariant = { λ l. IsLine l.start l.last l.moves.items l.positions.items };
+}
+
+impl Line {
+    /// A line without a move.
+    ///
+    /// Refuses OutOfMemory.
+    pub fn new(alloc: Global, start: Position) -> Result<Line, shogi_board::OutOfMemory>
+        ensures { IfOk result (λ l. l ≡ record { start = start; moves = [] }) }
+    {
+        let mut positions = Vec::new(alloc);
+        positions.push(start)?;
+        Ok(Line {
+            start,
+            last: start,
+            moves: Vec::new(alloc),
+            positions,
+        })
+    }
+
+    /// The position that it starts from.
+    pub fn start(&self) -> Position
+        ensures { result ≡ self.now.start }
+    {
+        self.start
+    }
+
+    /// Its moves in order.
+    pub fn moves(&self) -> &[Move]
+        ensures value { result.now ≡ self.now.moves }
+        ensures game { IsGame self.now.start self.now.moves }
+    {
+        self.moves.as_slice()
+    }
+
+    /// The position that its moves lead to.
+    pub fn now(&self) -> Position
+        ensures { result ≡ now_of self.now }
+    {
+        self.last
+    }
+
+    // Whether the position stands for the fourth time.
+    fn is_over(&self) -> bool
+        ensures { IsTrue result ↔ Over (all_of self.now) (now_of self.now) }
+    {
+        times(&self.positions, &self.last) >= 4
+    }
+
+    // The first of the rules 3 to 11 that the side to move breaks by the move.
+    fn broken_next(&self, mv: &Move) -> Option<Rule>
+        ensures { IsFirstBroken (Kept (all_of self.now) (now_of self.now) (now_of self.now).side mv.now) move_rules result }
+    {
+        broken_by_side(&self.last, mv)
+    }
+
+    /// What `play` would refuse, memory aside, or None.
+    pub fn fault(&self, mover: Color, mv: &Move) -> Option<PlayFault>
+        ensures { Answers self.now mover mv.now result }
+    {
+        if self.moves.len() >= MOST_MOVES {
+            return Some(PlayFault::TooManyMoves);
+        }
+        if mover != self.now().side() {
+            return Some(PlayFault::Broken(Rule::WrongSide));
+        }
+        if self.is_over() {
+            return Some(PlayFault::Broken(Rule::RepetitionOver));
+        }
+        match self.broken_next(mv) {
+            Some(rule) => Some(PlayFault::Broken(rule)),
+            None => None,
+        }
+    }
+
+    /// Plays the move of that side.
+    ///
+    /// Refuses, in this order: TooManyMoves where 10,000 moves stand, Broken with the first rule that the move breaks,
+    /// OutOfMemory. A refused call changes nothing.
+    pub fn play(&mut self, mover: Color, mv: Move) -> Result<(), PlayFault>
+        ensures answer { MatchResult result
+            (λ _. Answers self.old mover mv None)
+            (λ fault. ((fault ≡ OutOfMemory) × Answers self.old mover mv None) ⊎ Answers self.old mover mv (Some fault)) }
+        ensures played { OnOk result (self.new ≡ record self.old { moves = self.old.moves ++ mv ∷ [] }) }
+        ensures unchanged { OnErr result (self.new ≡ self.old) }
+    {
+        if let Some(fault) = self.fault(mover, &mv) {
+            return Err(fault);
+        }
+        let next = after(&self.now(), &mv);
+        self.moves.push(mv)?;
+        match self.positions.push(next) {
+            Ok(()) => {
+                self.last = next;
+                Ok(())
+            }
+            Err(_) => {
+                self.moves.pop();
+                Err(PlayFault::OutOfMemory)
+            }
+        }
+    }
+
+    /// How it stands: at a fourth occurrence Repetition or Perpetual, else by check and legal moves.
+    pub fn verdict(&self) -> Verdict
+        ensures { Stands (all_of self.now) (now_of self.now) result }
+    {
+        if self.is_over() {
+            verdict_of_stretch(&self.positions, &self.last)
+        } else {
+            verdict_by_moves(&self.last)
+        }
+    }
+}

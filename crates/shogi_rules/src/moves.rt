@@ -1,0 +1,40 @@
+ghost use Rattle.std.specs.Prelude.{◌≡◌};
+ghost use Rattle.shogi_rules.specs.Legal.{target, kind_after};
+
+use shogi_board::{Kind, Square};
+
+/// A move: of a piece on the board, or of one from the hand. It does not say whose it is.
+#[derive(Clone, Copy, Debug, PartialEq, Eq)]
+pub enum Move {
+    /// The piece on `from` goes to `to`, and is of this kind afterwards.
+    Walk {
+        from: Square,
+        to: Square,
+        kind: Kind,
+    },
+    /// A piece of this kind is put on `to` from the hand.
+    Put {
+        to: Square,
+        kind: Kind,
+    },
+}
+
+impl Move {
+    /// The square that the piece goes to.
+    pub fn target(self) -> Square
+        ensures { result ≡ target self }
+    {
+        match self {
+            Move::Walk { to, .. } | Move::Put { to, .. } => to,
+        }
+    }
+
+    /// The kind of the piece after the move.
+    pub fn kind(self) -> Kind
+        ensures { result ≡ kind_after self }
+    {
+        match self {
+            Move::Walk { kind, .. } | Move::Put { kind, .. } => kind,
+        }
+    }
+}

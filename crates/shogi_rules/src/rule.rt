@@ -1,0 +1,39 @@
+use thiserror::Error;
+
+/// The rules that a move may break, in the order in which the first broken one is named.
+#[derive(Clone, Copy, Debug, PartialEq, Eq, PartialOrd, Ord, Error)]
+pub enum Rule {
+    /// The mover is not the side to move.
+    #[error("rule 1 WrongSide")]
+    WrongSide,
+    /// The position stands for the fourth time, and the game is over.
+    #[error("rule 2 RepetitionOver")]
+    RepetitionOver,
+    /// No piece of the mover stands on the square left, or the hand has none of the kind put down.
+    #[error("rule 3 NoPiece")]
+    NoPiece,
+    /// A piece that walks is afterwards neither of its kind nor of its promoted kind.
+    #[error("rule 4 WrongKind")]
+    WrongKind,
+    /// An own piece stands on the target; for a piece put down, any piece.
+    #[error("rule 5 Occupied")]
+    Occupied,
+    /// The piece that walks does not reach the target.
+    #[error("rule 6 CannotReach")]
+    CannotReach,
+    /// A piece promotes on a walk outside the last three ranks.
+    #[error("rule 7 BadPromotion")]
+    BadPromotion,
+    /// A pawn, lance or knight would stand unpromoted where it has no further move.
+    #[error("rule 8 MustPromote")]
+    MustPromote,
+    /// A pawn is put on a file that holds an own unpromoted pawn.
+    #[error("rule 9 DoubledPawn")]
+    DoubledPawn,
+    /// The mover's king is attacked afterwards.
+    #[error("rule 10 LeavesKing")]
+    LeavesKing,
+    /// A pawn put down mates.
+    #[error("rule 11 PawnDropMate")]
+    PawnDropMate,
+}

@@ -1,0 +1,247 @@
+use crate::{Line, Move, PlayFault, Rule, Verdict, first_legal, judge};
+use shogi_board::{Color, Kind, Position, Setup, Square};
+use std::test::Fail;
+
+fn kind_of(first: u8, second: u8) -> Result<Kind, Fail> {
+    Ok(match (first, second) {
+        (b'F', b'U') => Kind::Pawn,
+        (b'K', b'Y') => Kind::Lance,
+        (b'K', b'E') => Kind::Knight,
+        (b'G', b'I') => Kind::Silver,
+        (b'K', b'I') => Kind::Gold,
+        (b'K', b'A') => Kind::Bishop,
+        (b'H', b'I') => Kind::Rook,
+        (b'O', b'U') => Kind::King,
+        (b'T', b'O') => Kind::ProPawn,
+        (b'N', b'Y') => Kind::ProLance,
+        (b'N', b'K') => Kind::ProKnight,
+        (b'N', b'G') => Kind::ProSilver,
+        (b'U', b'M') => Kind::Horse,
+        (b'R', b'Y') => Kind::Dragon,
+        _ => return Err(Fail::from("no kind")),
+    })
+}
+
+fn color_of(sign: u8) -> Color {
+    if sign == b'-' {
+        Color::White
+    } else {
+        Color::Black
+    }
+}
+
+// The square of two digits, or None for `00`, the hand.
+fn square_of(file: u8, rank: u8) -> Option<Square> {
+    Square::new(file.wrapping_sub(b'0'), rank.wrapping_sub(b'0'))
+}
+
+// Pieces like `+59OU -00FU `, each of six bytes; square 00 is the hand.
+fn position(side: Color, pieces: &str) -> Result<Position, Fail> {
+    let mut setup = Setup::empty();
+    for word in pieces.as_bytes().chunks(6) {
+        if let [sign, file, rank, a, b, ..] = word {
+            let kind = kind_of(*a, *b)?;
+            match square_of(*file, *rank) {
+                Some(square) => setup.place(color_of(*sign), square, kind)?,
+                None => setup.add_hand(color_of(*sign), kind)?,
+            }
+        }
+    }
+    Ok(setup.finish(side)?)
+}
+
+// A move like `+7776FU`, with its side; a drop leaves 00.
+fn read(word: &[u8]) -> Result<(Color, Move), Fail> {
+    if let [sign, f, r, file, rank, a, b, ..] = word {
+        let to = square_of(*file, *rank).ok_or("no square")?;
+        let kind = kind_of(*a, *b)?;
+        let mv = match square_of(*f, *r) {
+            Some(from) => Move::Walk { from, to, kind },
+            None => Move::Put { to, kind },
+        };
+        return Ok((color_of(*sign), mv));
+    }
+    Err(Fail::from("no move"))
+}
+
+// Plays moves like `+7776FU -3334FU `, each of eight bytes.
+fn play_all(line: &mut Line, moves: &str) -> Result<(), Fail> {
+    for word in moves.as_bytes().chunks(8) {
+        let (color, mv) = read(word)?;
+        line.play(color, mv)?;
+    }
+    Ok(())
+}
+
+// The first rule that a move breaks.
+fn broken(p: &Position, text: &str) -> Result<Option<Rule>, Fail> {
+    let (color, mv) = read(text.as_bytes())?;
+    Ok(judge(p, color, &mv))
+}
+
+#[test]
+fn names_the_first_broken_rule(rt: HostRuntime) -> Result<(), Fail> {
+    let table: [(&str, &str, Option<Rule>); 24] = [
+        (
+            "+13KI +33KE +59OU +00FU -11OU",
+            "+0012FU",
+            Some(Rule::PawnDropMate),
+        ),
+        ("+13KI +33KE +59OU +00FU -11OU -21KI", "+0012FU", None),
+        ("+55FU +00FU", "+0054FU", Some(Rule::DoubledPawn)),
+        ("+55TO +00FU", "+0054FU", None),
+        ("+12FU", "+1211FU", Some(Rule::MustPromote)),
+        ("+12FU", "+1211TO", None),
+        ("+00KE", "+0012KE", Some(Rule::MustPromote)),
+        ("+00KE", "+0013KE", None),
+        ("+14KE", "+1422KE", Some(Rule::MustPromote)),
+        ("+00KY", "+0011KY", Some(Rule::MustPromote)),
+        ("+59OU -51HI", "+5958OU", Some(Rule::LeavesKing)),
+        ("+59OU -51HI", "+5957OU", Some(Rule::CannotReach)),
+        ("+59OU -51HI", "+5948OU", None),
+        ("+59OU", "-5958OU", Some(Rule::WrongSide)),
+        ("+59OU", "+5858OU", Some(Rule::NoPiece)),
+        ("+59OU -51HI", "+5152HI", Some(Rule::NoPiece)),
+        ("+59OU", "+0055FU", Some(Rule::NoPiece)),
+        ("+59OU", "+0055OU", Some(Rule::NoPiece)),
+        ("+77FU", "+7776KI", Some(Rule::WrongKind)),
+        ("+77FU +76KI", "+7776FU", Some(Rule::Occupied)),
+        ("-55FU +00KI", "+0055KI", Some(Rule::Occupied)),
+        ("+77FU", "+7777FU", Some(Rule::Occupied)),
+        ("+77FU", "+7776TO", Some(Rule::BadPromotion)),
+        ("+23GI", "+2334NG", None),
+    ];
+    for (pieces, text, wanted) in table {
+        let p = position(Color::Black, pieces)?;
+        assert_eq!(rt; broken(&p, text)?, wanted, "{pieces} {text}");
+    }
+    Ok(())
+}
+
+// A pawn drop that gives check: whether it mates.
+#[test]
+fn tells_pawn_drop_mates(rt: HostRuntime) -> Result<(), Fail> {
+    let mate = Some(Rule::PawnDropMate);
+    let table: [(&str, Option<Rule>); 4] = [
+        // the king flees
+        ("+13KI +59OU +00FU -11OU", None),
+        // the king takes the pawn
+        ("+33KE +59OU +00FU -11OU", None),
+        // the gold that could take it is pinned
+        ("+13KI +33KE +59OU +31HI +00FU -11OU -21KI", mate),
+        // a silver takes it
+        ("+13KI +33KE +59OU +00FU -11OU -21GI", None),
+    ];
+    for (pieces, wanted) in table {
+        let p = position(Color::Black, pieces)?;
+        assert_eq!(rt; broken(&p, "+0012FU")?, wanted, "{pieces}");
+    }
+    Ok(())
+}
+
+#[test]
+fn tells_how_lines_stand(rt: HostRuntime) -> Result<(), Fail> {
+    let round = "+5949HI -4151OU +4959HI -5141OU ";
+    let hands = "+0052FU -5152OU +5958OU -5241OU +5859OU -4151OU ";
+    let sides = "+5958OU -5141OU +5849OU -4151OU +4959OU -5141OU +5958OU -4152OU +5859OU -5251OU ";
+    let table: [(&str, &str, &str, usize, Verdict); 8] = [
+        (
+            "+59HI +99OU -41OU",
+            "",
+            round,
+            3,
+            Verdict::Perpetual(Color::Black),
+        ),
+        ("+59HI +99OU -41OU", "", round, 2, Verdict::Ongoing),
+        (
+            "+58HI +99OU -31OU",
+            "+5859HI -3141OU ",
+            round,
+            3,
+            Verdict::Perpetual(Color::Black),
+        ),
+        (
+            "+59OU +00FU +00FU +00FU -51OU",
+            "",
+            hands,
+            3,
+            Verdict::Ongoing,
+        ),
+        ("+59OU -51OU", "", sides, 2, Verdict::Ongoing),
+        (
+            "+13KI +33KE +59OU +00KI -11OU",
+            "+0012KI ",
+            "",
+            0,
+            Verdict::Mate,
+        ),
+        ("+12FU", "+1211TO ", "", 0, Verdict::NoMove),
+        (
+            "+13KI +33KE +59OU +00FU -11OU -21KI",
+            "+0012FU ",
+            "",
+            0,
+            Verdict::Ongoing,
+        ),
+    ];
+    for (pieces, before, again, rounds, wanted) in table {
+        let mut line = Line::new(rt.alloc(), position(Color::Black, pieces)?)?;
+        play_all(&mut line, before)?;
+        for _ in 0..rounds {
+            play_all(&mut line, again)?;
+        }
+        assert_eq!(rt; line.verdict(), wanted, "{pieces}");
+    }
+    Ok(())
+}
+
+#[test]
+fn refuses_to_play_on(rt: HostRuntime) -> Result<(), Fail> {
+    let mut line = Line::new(rt.alloc(), Position::even())?;
+    for _ in 0..3 {
+        play_all(&mut line, "+2838HI -8272HI +3828HI -7282HI ")?;
+    }
+    assert_eq!(rt; line.verdict(), Verdict::Repetition);
+    let (color, mv) = read(b"+7776FU")?;
+    let over = PlayFault::Broken(Rule::RepetitionOver);
+    assert_eq!(rt; line.fault(color, &mv), Some(over));
+    assert_eq!(rt; line.play(color, mv), Err(over));
+    assert_eq!(rt;
+        line.fault(Color::White, &mv),
+        Some(PlayFault::Broken(Rule::WrongSide))
+    );
+    assert_eq!(rt; line.moves().len(), 12);
+    assert_eq!(rt; line.start(), Position::even());
+    assert_eq!(rt; line.now(), Position::even());
+    Ok(())
+}
+
+#[test]
+fn keeps_captured_pieces_unpromoted(rt: HostRuntime) -> Result<(), Fail> {
+    let mut line = Line::new(rt.alloc(), Position::even())?;
+    play_all(&mut line, "+7776FU -3334FU +8822UM -3122GI ")?;
+    assert_eq!(rt; line.now().hand(Color::White).count(Kind::Bishop), 1);
+    assert_eq!(rt; line.now().hand(Color::Black).count(Kind::Bishop), 1);
+    Ok(())
+}
+
+// No move keeps the rules but a pawn drop that mates.
+#[test]
+fn has_no_move_but_a_mating_drop(rt: HostRuntime) -> Result<(), Fail> {
+    let pieces =
+        "+25OU +24KE +26FU +31FU +41FU +51FU +61FU +71FU +81FU +91FU +00FU -11OU -21KY -22FU -13FU -14FU -15FU -16FU -17FU -18FU -19FU -23HI -33KY ";
+    let p = position(Color::Black, pieces)?;
+    assert_eq!(rt; first_legal(&p), None);
+    assert_eq!(rt; broken(&p, "+0012FU")?, Some(Rule::PawnDropMate));
+    assert_eq!(rt; Line::new(rt.alloc(), p)?.verdict(), Verdict::NoMove);
+    Ok(())
+}
+
+#[test]
+fn prints_names_and_numbers(rt: HostRuntime) -> Result<(), Fail> {
+    let text = format!(in rt.alloc(); "{}", Rule::PawnDropMate)?;
+    assert_eq!(rt; text.as_str(), "rule 11 PawnDropMate");
+    let text = format!(in rt.alloc(); "{}", PlayFault::Broken(Rule::NoPiece))?;
+    assert_eq!(rt; text.as_str(), "rule 3 NoPiece");
+    Ok(())
+}
