@@ -23,7 +23,8 @@ abbrev pub is_of : Kind → Option Piece → Bool
 is_of wanted None = false
 is_of wanted (Some p) = place_of p.kind == place_of wanted
 
--- how many pieces there are of that kind, promoted or not, on the board and in both hands
+-- how many pieces there are of that kind, promoted or not, on the board and in both hands;
+-- a king's place lies behind the end of a bag, where none is counted
 abbrev pub total : Cells → List ℕ → List ℕ → Kind → ℕ
 total cells black white kind =
     count_by (is_of kind) cells + slice_index black (place_of kind) + slice_index white (place_of kind)

@@ -55,7 +55,7 @@ impl Hand {
         self.counts.get(kind.place()).copied().unwrap_or(0)
     }
 
-    // The hand with that many pieces of a kind.
+    // Sets how many pieces of a kind it holds.
     pub(crate) fn set(&mut self, kind: Kind, count: u8)
         requires { in_hand kind ≡ true }
         ensures { self.new ≡ slice_set self.old (place_of kind) count }

@@ -1,5 +1,5 @@
 ghost use Rattle.std.specs.Prelude.{◌≡◌, ◌<◌, ◌≤◌};
-ghost use Rattle.shogi_board.specs.Pieces.{opponent, in_hand, is_king, place_of};
+ghost use Rattle.shogi_board.specs.Pieces.{in_hand, is_king, place_of};
 ghost use Rattle.shogi_board.specs.Totals.{limit};
 
 use crate::color::Color;
@@ -81,16 +81,4 @@ impl Kind {
 pub struct Piece {
     pub color: Color,
     pub kind: Kind,
-}
-
-impl Color {
-    /// The other side.
-    pub fn opponent(self) -> Color
-        ensures { result ≡ opponent self }
-    {
-        match self {
-            Color::Black => Color::White,
-            Color::White => Color::Black,
-        }
-    }
 }

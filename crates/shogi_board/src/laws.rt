@@ -2,16 +2,16 @@
 //!
 //! A law is a function that does nothing: its contract is the law.
 
-ghost use Rattle.std.specs.Prelude.{◌≡◌, ◌≤◌, ◌+◌, ◌↔◌, ◌⊎◌, true, length};
+ghost use Rattle.std.specs.Prelude.{◌≡◌, ◌<◌, ◌≤◌, ◌+◌, ◌↔◌, ◌⊎◌, true, length};
 ghost use Rattle.std.specs.Cmp.{IsTotalOrder};
-ghost use Rattle.std.specs.declared.cmp.Ordering.TheVariants.{Equal};
+ghost use Rattle.std.specs.declared.cmp.Ordering.TheVariants.{Equal, Less};
 ghost use Rattle.shogi_board.specs.Cells.{Cells, at, piece, no_cells, even_cells};
 ghost use Rattle.shogi_board.specs.Neighbours.{IsAmong, gold_squares, beside, with_cell};
 ghost use Rattle.shogi_board.specs.Placed.{Placed, even_start};
 ghost use Rattle.shogi_board.specs.Reach.{Reach, InCheck};
 ghost use Rattle.shogi_board.specs.Setup.{even_layout, position_of};
 ghost use Rattle.shogi_board.specs.Sound.{IsSound};
-ghost use Rattle.shogi_board.specs.Squares.{rank_of};
+ghost use Rattle.shogi_board.specs.Squares.{rank_of, place};
 ghost use Rattle.shogi_board.specs.Turned.{turned, IsTurned};
 ghost use Rattle.shogi_board.specs.declared.color.Color.{Color};
 ghost use Rattle.shogi_board.specs.declared.color.Color.TheVariants.{Black};
@@ -19,6 +19,7 @@ ghost use Rattle.shogi_board.specs.declared.kind.Kind.TheVariants.{Gold, Bishop,
 ghost use Rattle.shogi_board.specs.declared.square.Square.{Square};
 
 use crate::position::Position;
+use crate::square::Square;
 
 /// A piece reaches a square exactly where, all turned round, the other side's piece reaches the square turned round.
 pub fn reach_turned()
@@ -35,7 +36,7 @@ pub fn horse_reaches()
     ensures { (cells : Cells) (color : Color) (a b : Square) → length cells ≡ 81 → Reach (with_cell cells a (piece color Horse)) a b ↔ (Reach (with_cell cells a (piece color Bishop)) a b ⊎ IsAmong (beside a) b) }
 {}
 
-/// A knight of black on its last two ranks reaches nothing, and so on the empty board.
+/// A knight of black on one of the two ranks farthest from black reaches nothing, whatever else stands.
 pub fn knight_without_move()
     ensures { (cells : Cells) (a b : Square) → at cells a ≡ piece Black Knight → rank_of a ≤ 2 → Reach cells a b → ⊥ }
 {}
@@ -56,4 +57,10 @@ pub fn equal_positions()
 pub fn ordered_positions()
     ensures total { IsTotalOrder ⟦<Position as Ord>⟧.cmp }
     ensures exact { (p q : Placed) → (⟦<Position as Ord>⟧.cmp p q ≡ Equal) ↔ (p ≡ q) }
+{}
+
+/// Squares are in a total order, that of their files and then of their ranks.
+pub fn ordered_squares()
+    ensures total { IsTotalOrder ⟦<Square as Ord>⟧.cmp }
+    ensures by_place { (s t : Square) → (⟦<Square as Ord>⟧.cmp s t ≡ Less) ↔ (place s < place t) }
 {}

@@ -290,8 +290,11 @@ fn refusals_in_their_order(rt: HostRuntime) -> Result<(), Fail> {
         Setup::empty(),
         &[AddHand(black, Kind::Pawn), Place(black, 55, Kind::ProPawn)],
     )?;
+    let pawn = after(Setup::empty(), &[Place(black, 55, Kind::Pawn)])?;
     let even = Setup::even();
     let table = [
+        (pawn, Place(black, 55, Kind::Gold), SetupFault::SquareTaken),
+        (pawn, AddHand(black, Kind::ProPawn), SetupFault::NotForHand),
         (rest, Place(black, 53, Kind::King), SetupFault::AfterRest),
         (rest, AddHand(black, Kind::King), SetupFault::AfterRest),
         (rest, TakeOff(55, Kind::Pawn), SetupFault::AfterRest),
@@ -332,7 +335,7 @@ fn refusals_in_their_order(rt: HostRuntime) -> Result<(), Fail> {
         assert_eq!(rt; make(&mut setup, one)?, Err(fault), "{one:?}");
         assert!(rt; setup == start, "{one:?}");
     }
-    // a second pawn, and what a hand gives back
+    // taken out again, the pieces leave an empty setup
     let mut setup = held;
     setup.take_hand(black, Kind::Pawn)?;
     setup.take_off(on(55)?, Kind::ProPawn)?;
@@ -441,6 +444,11 @@ fn positions_and_their_parts(rt: HostRuntime) -> Result<(), Fail> {
     assert_eq!(rt; even.king(white), Some(on(51)?));
     assert_eq!(rt; black.opponent(), white);
     assert!(rt; Kind::Rook.in_hand() && !Kind::King.in_hand() && !Kind::Horse.in_hand());
+    for (number, file, rank) in [(28, 2, 8), (91, 9, 1), (19, 1, 9)] {
+        let square = on(number)?;
+        assert_eq!(rt; (square.file(), square.rank()), (file, rank));
+    }
+    assert!(rt; on(19)? < on(21)? && on(21)? < on(22)? && on(99)? > on(91)?);
     for (file, rank) in [(0, 5), (10, 5), (5, 0), (5, 10)] {
         assert_eq!(rt; Square::new(file, rank), None);
     }
@@ -486,15 +494,15 @@ fn positions_as_keys_and_faults_as_text(rt: HostRuntime) -> Result<(), Fail> {
         board(black, &[(white, 11, Kind::Gold)])?,
         board(black, &[(black, 12, Kind::Gold)])?,
     ];
-    let mut counts = BTreeMap::new(rt.alloc());
+    let mut times_seen = BTreeMap::new(rt.alloc());
     for round in 0..2u32 {
         for position in &positions {
-            let before = counts.get(position).copied().unwrap_or(0u32);
+            let before = times_seen.get(position).copied().unwrap_or(0u32);
             assert_eq!(rt; before, round);
-            counts.insert(*position, round + 1)?;
+            times_seen.insert(*position, round + 1)?;
         }
     }
-    assert_eq!(rt; counts.len(), 8);
+    assert_eq!(rt; times_seen.len(), 8);
     let faults = [
         (SetupFault::SquareTaken, "S1 SquareTaken"),
         (SetupFault::TooMany, "S2 TooMany"),
