@@ -330,22 +330,18 @@ mod tests {
     use super::*;
     use crate::cutter::Cutter;
 
-    // Whether pieces of this size give what `Cutter` gives of the whole.
-    fn same(source: &[u8], size: usize) -> bool {
+    // Whether pieces that end at this place, and behind it after each `size` bytes, give what
+    // `Cutter` gives of the whole.
+    fn same_cut_at(source: &[u8], place: usize, size: usize) -> bool {
         let mut whole = Cutter::new(source);
         let mut pieces = PieceCutter::new();
         let mut at = 0usize;
-        for _ in 0..100_000 {
+        for _ in 0..2_000_000 {
             if at >= source.len() {
                 break;
             }
-            let end = if source.len() - at < size {
-                source.len()
-            } else {
-                at + size
-            };
-            let piece = &source[at..end];
-            if pieces.fed() > 1_000_000 || piece.len() > 1_000_000 {
+            let piece = &source[at..piece_end(source.len(), at, place, size)];
+            if pieces.fed() > 2_000_000 || piece.len() > 2_000_000 {
                 return false;
             }
             match pieces.step(piece) {
@@ -361,12 +357,31 @@ mod tests {
         }
         let fed = pieces.fed();
         match pieces.finish() {
-            Ok(Some(last)) => fed == at as u64
+            Ok(Some(last)) => fed == source.len() as u64
                 && whole.next_statement() == Ok(Some(last))
                 && whole.next_statement() == Ok(None),
-            Ok(None) => whole.next_statement() == Ok(None),
+            Ok(None) => fed == source.len() as u64 && whole.next_statement() == Ok(None),
             Err(_) => false,
         }
+    }
+
+    // Where a piece from `at` ends.
+    fn piece_end(length: usize, at: usize, place: usize, size: usize) -> usize
+        requires { (at ≤ length) }
+        ensures { (at ≤ result) × (result ≤ length) }
+    {
+        if at < place && place <= length {
+            place
+        } else if length - at < size {
+            length
+        } else {
+            at + size
+        }
+    }
+
+    // Whether pieces of this size give what `Cutter` gives of the whole.
+    fn same(source: &[u8], size: usize) -> bool {
+        same_cut_at(source, 0, size)
     }
 
     #[test]
@@ -411,6 +426,104 @@ mod tests {
                     }
                 }
             }
+        }
+        Ok(())
+    }
+
+    // Each `|` stands for a line feed.
+    const RECORDS: [&str; 24] = [
+        "PI|+|",
+        "V2.2|PI|+|+7776FU,T12|-3334FU,T6|%TORYO|",
+        "P+13KI33KE59OU00FU|P-11OU|+|+0012FU|",
+        "P+13KI33KE59OU00FU|P-11OU21KI|+|+0012FU|",
+        "P+55FU00FU|+|+0054FU|",
+        "P+12FU|+|+1211FU|",
+        "P+12FU|+|+1211TO|",
+        "P+59OU|P-51HI|+|+5958OU|",
+        "P+59OU|P-51HI|+|+5957OU|",
+        "P+59OU|P-51HI|+|+5948OU|",
+        "N+|$SITE:b|$EVENT:a|PI|+|",
+        "$START_TIME:2024/2/29 9:05:07|PI|+|",
+        "PI|+|+2838HI|-8272HI|+3828HI|-7282HI|+2838HI|-8272HI|+3828HI|-7282HI|+7776FU|",
+        "PI|+|+7776FU|T007|",
+        "PI|+|+7776FU|T4294967296|",
+        "P-51OU|P+53FU00KI|P-00AL|P+00FU|+|",
+        "PI|+|+7776FU|-3334FU|+8822UM|-3122GI|",
+        "V2.2|PI|+|+7776F",
+        "V3.0",
+        "N+a,b|PI|+|",
+        "PI82HI22KA|-|",
+        "P9 *  *  *  *  *  *  *  *  * |+|",
+        "P+59HI99OU|P-41OU|+|+5949HI|-4151OU|+4959HI|-5141OU|",
+        "P+13KI33KE59OU00KI|P-11OU|+|+0012KI|",
+    ];
+
+    const EVEN_IN_RANKS: &[u8] = b"P1-KY-KE-GI-KI-OU-KI-GI-KE-KY\r\n\
+        P2 * -HI *  *  *  *  * -KA *\r\n\
+        P3-FU-FU-FU-FU-FU-FU-FU-FU-FU\r\n\
+        P4 *  *  *  *  *  *  *  *  *\r\n\
+        P5 *  *  *  *  *  *  *  *  *\r\n\
+        P6 *  *  *  *  *  *  *  *  *\r\n\
+        P7+FU+FU+FU+FU+FU+FU+FU+FU+FU\r\n\
+        P8 * +KA *  *  *  *  * +HI *\r\n\
+        P9+KY+KE+GI+KI+OU+KI+GI+KE+KY\r\n\
+        P+\r\nP-\r\n+\r\n";
+
+    #[test]
+    fn worked_records_cut_at_each_place(rt: HostRuntime) -> Result<(), std::alloc::AllocError> {
+        for record in RECORDS {
+            let mut source: Vec<u8> = Vec::new(rt.alloc());
+            for byte in record.as_bytes() {
+                source.push(if *byte == b'|' { b'\n' } else { *byte })?;
+            }
+            assert!(rt; same(source.as_slice(), 1), "{record}");
+            for place in 0..source.len() {
+                assert!(rt; same_cut_at(source.as_slice(), place, 4096), "{record} at {place}");
+            }
+        }
+        assert!(rt; same(EVEN_IN_RANKS, 1));
+        for place in 0..EVEN_IN_RANKS.len() {
+            assert!(rt; same_cut_at(EVEN_IN_RANKS, place, 4096), "at {place}");
+        }
+        Ok(())
+    }
+
+    #[test]
+    fn long_names_cut_at_each_place(rt: HostRuntime) -> Result<(), std::alloc::AllocError> {
+        for length in [4094usize, 4095] {
+            let mut source: Vec<u8> = Vec::new(rt.alloc());
+            source.extend_from_slice(b"N+")?;
+            for _ in 0..length {
+                source.push(b'x')?;
+            }
+            source.extend_from_slice(b"\n+\n")?;
+            for place in 0..source.len() {
+                assert!(rt; same_cut_at(source.as_slice(), place, 8192), "{length} at {place}");
+            }
+            let mut pieces = PieceCutter::new();
+            let refused = pieces.step(source.as_slice()).is_err();
+            assert_eq!(rt; refused, length == 4095);
+        }
+        Ok(())
+    }
+
+    #[test]
+    fn a_long_comment_in_pieces(rt: HostRuntime) -> Result<(), std::alloc::AllocError> {
+        let mut source: Vec<u8> = Vec::new(rt.alloc());
+        source.push(b'\'')?;
+        for _ in 1..1_048_576u32 {
+            source.push(b'x')?;
+        }
+        source.extend_from_slice(b"\nPI\r\n+\r\n")?;
+        let mut cutter = Cutter::new(source.as_slice());
+        let statement = Statement {
+            number: 1,
+            offset: 1_048_577,
+            bytes: b"PI",
+        };
+        assert_eq!(rt; cutter.next_statement(), Ok(Some(statement)));
+        for size in [1usize, 4095, 4096, 4097] {
+            assert!(rt; same(source.as_slice(), size), "in pieces of {size}");
         }
         Ok(())
     }
