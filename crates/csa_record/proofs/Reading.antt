@@ -9,6 +9,7 @@ use Rattle.csa_text.specs.Cut.{TextUnit, Cut, mark_length, statement_bytes}
 use Rattle.csa_text.specs.Cutting as cutting
 use Rattle.csa_text.specs.Spelling.{Saying, Spells, fault_of_row}
 use Rattle.csa_text.proofs.Runs.{found}
+use Rattle.csa_record.specs.declared.fault.Refusal.{Refusal}
 use Rattle.csa_record.specs.declared.fault.Why.{Why}
 use Rattle.csa_record.specs.declared.fault.Why.TheVariants.{Text, Order, OutOfMemory}
 use Rattle.csa_record.specs.declared.fault.OrderFault.TheVariants.{MissingTurn}
@@ -17,6 +18,7 @@ use Rattle.csa_record.specs.Says.{sides}
 use Rattle.csa_record.specs.Tells.{Tells, IsSpelt}
 use Rattle.csa_record.specs.Refused.{order_fault, Faultless, Fault, Refused, RefusedAt, FaultlessTo}
 use Rattle.csa_record.specs.SoFar.{SoFar, so_far, first, fault_so_far, with_saying, TookBytes}
+use Rattle.csa_record.specs.TookNext.{TookNext}
 use Rattle.csa_record.proofs.Kept.{fault_kept, kept_next}
 use Rattle.csa_record.proofs.Ordered.{Ordered, ordered_none, ordered_all, ordered_says}
 use Rattle.csa_record.proofs.Fits.{name_fits}
@@ -186,3 +188,28 @@ missing source c s n number offset why r none side is_number place is_why = inr 
   place = place;
   why_is = is_why;
 })
+
+pub next_taken : (source : List ℕ) (c d : cutting.Cutting) (s t : SoFar) (n number : ℕ) → ReadSoFar source c s n → d.source ≡ c.source → TookNext c d s (Ok (Some number)) t → ReadSoFar source d t (number + 1)
+next_taken source c d s t n number r same next = taken source c d s t n number next.0 next.1.bytes r next.1.out same next.1.took
+
+pub next_refused : (source : List ℕ) (c d : cutting.Cutting) (s t : SoFar) (n : ℕ) (f : Refusal) → ReadSoFar source c s n → TookNext c d s (Err f) t → f.why ≢ OutOfMemory → Refused source f.number f.offset f.why
+next_refused source c d s t n f r next other =
+    elim next [
+      | inl long ↦ rw long.1 (too_long source c s n f.number f.offset r long.0)
+      | inr took ↦ refused source c d s t n f.number f.offset took.bytes f.why r took.out took.took other
+    ]
+
+pub next_short_of_memory : (source : List ℕ) (c d : cutting.Cutting) (s t : SoFar) (n : ℕ) (f : Refusal) → ReadSoFar source c s n → TookNext c d s (Err f) t → f.why ≡ OutOfMemory → FaultlessTo source f.number f.offset
+next_short_of_memory source c d s t n f r next is =
+    elim next [
+      | inl long ↦ let other : Text StatementTooLong ≡ OutOfMemory = sym long.1 ∙ is in cc
+      | inr took ↦ short_of_memory source c d s t n f.number f.offset took.bytes f.why r took.out took.took is
+    ]
+
+-- none is left, and the reader is as before
+pub record ReadToEnd (source : List ℕ) (c : cutting.Cutting) (s : SoFar) (number : ℕ) : Type 0 where
+  pub so_far : ReadSoFar source c s number
+  pub none : cutting.ToCome c []
+
+pub next_none : (source : List ℕ) (c d : cutting.Cutting) (s t : SoFar) (n : ℕ) → ReadSoFar source c s n → TookNext c d s (Ok None) t → ReadToEnd source d t n
+next_none source c d s t n r next = rw (next.1, next.2) (record { so_far = r; none = next.0 })

@@ -5,3 +5,4 @@ pub mod Tells
 pub mod Refused
 pub mod Canon
 pub mod SoFar
+pub mod TookNext

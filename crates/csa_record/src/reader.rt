@@ -1,6 +1,7 @@
 ghost use Rattle.std.specs.Prelude.{◌≡◌, ◌≢◌, ◌^◌, ◌≤◌, ◌∷◌, ◌⊎◌, is_some, [], true, false, Some, None, length, Ok, Err, OnOk, IfOk, IfErr, IfSome, MatchResult};
 ghost use Rattle.csa_record.specs.Game.{IsName};
 ghost use Rattle.csa_record.specs.SoFar.{SoFar, so_far, Took, TookBytes, TookName};
+ghost use Rattle.csa_record.specs.TookNext.{TookNext};
 ghost use Rattle.csa_record.specs.Tells.{Tells};
 ghost use Rattle.csa_record.specs.Refused.{Refused, FaultlessTo, first_fault};
 ghost use Rattle.csa_record.specs.Bytes.{name_bytes};
@@ -87,6 +88,18 @@ impl Reader {
                 why,
             }),
         }
+    }
+
+    // Takes the next statement that is still to come, and answers its number, or `None` where none is left.
+    fn take_next(&mut self, alloc: Global, cutter: &mut Cutter<'_>) -> Result<Option<u64>, Refusal>
+        ensures source { cutter.new.source ≡ cutter.old.source }
+        ensures next { TookNext cutter.old cutter.new self.old result self.new }
+    {
+        let Some(statement) = cutter.next_statement()? else {
+            return Ok(None);
+        };
+        self.take_statement(alloc, statement)?;
+        Ok(Some(statement.number))
     }
 
     // The record, at the end, which has this number and offset.
@@ -195,10 +208,9 @@ pub fn read(alloc: Global, source: &[u8]) -> Result<Record, Refusal>
 {
     let mut cutter = Cutter::new(source);
     let mut reader = Reader::new();
-    let mut number = 1;
-    while let Some(statement) = cutter.next_statement()? {
-        reader.take_statement(alloc, statement)?;
-        number = statement.number + 1;
+    let mut statements = 0;
+    while let Some(number) = reader.take_next(alloc, &mut cutter)? {
+        statements = number;
     }
-    reader.finish(number, source.len() as u64)
+    reader.finish(statements + 1, source.len() as u64)
 }
