@@ -51,6 +51,8 @@ fn normalise<R: Read, W: Write>(alloc: Global, reader: &mut R, writer: &mut W) -
         → IfSome (R.remaining reader.old) (λ source. Refused source r.number r.offset r.why) }
     // A failed write comes only where the bytes tell a game.
     ensures cut_short { IsErrOf result Fault.Write → IfSome (R.remaining reader.old) (λ source. (game : Game) × Tells source game) }
+    // It is no fault of the words.
+    ensures faults { IfErr result (λ fault. fault ≢ Fault.WordsNotText) }
     // Nothing is written where the record is not accepted.
     ensures refused { IfErr result (λ fault. fault ≢ Fault.Write → Keeps (W.contents writer.old) (W.contents writer.new)) }
 {

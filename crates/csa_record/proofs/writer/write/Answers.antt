@@ -1,6 +1,5 @@
-use Rattle.std.proofs.Common.{◌≡◌, arith, subst}
+use Rattle.std.proofs.Common.{◌≡◌, arith}
 use Rattle.std.proofs.lemmas.Grind.{common_steps}
-use Rattle.csa_record.specs.Game.{IsGame}
 use Rattle.csa_record.specs.Canon.{canon}
 use Rattle.csa_record.proofs.Canonical.{canon_tells_lem}
 use Rattle.csa_record.proofs.writer.write.Goals as goal

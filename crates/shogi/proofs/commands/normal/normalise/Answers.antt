@@ -1,4 +1,3 @@
-use Rattle.std.proofs.Common.{ℕ, List}
 use Rattle.std.specs.Io.KnownBytes.{Appends}
 use Rattle.csa_record.specs.Canon.{canon}
 use Rattle.csa_record.specs.Game.{Game}
