@@ -1,11 +1,11 @@
 -- One move more.
-use Rattle.std.proofs.Common.{◌≡◌, ◌⊎◌, inl, inr, ◌<◌, ◌++◌, List, [], ◌∷◌, Option, Some, None, length, length-append, arith, refl, ap, sym}
+use Rattle.std.proofs.Common.{◌≡◌, ◌⊎◌, ◌↔◌, inl, inr, ◌<◌, ◌++◌, List, [], ◌∷◌, Option, Some, None, length, length-append, arith, refl, ap, sym}
 use Rattle.shogi_board.specs.Placed.{Placed}
 use Rattle.shogi_board.specs.declared.color.Color.{Color}
 use Rattle.shogi_rules.specs.After.{after}
 use Rattle.shogi_rules.specs.Legal.{FitsBoard, Keeps, Legal}
 use Rattle.shogi_rules.specs.Positions.{position_after, positions_of, MayFollow, IsGame, played, IsLine}
-use Rattle.shogi_rules.specs.Rules.{Kept, all_rules, IsFirstBroken}
+use Rattle.shogi_rules.specs.Rules.{Kept, move_rules, all_rules, IsFirstBroken}
 use Rattle.shogi_rules.specs.declared.moves.Move.{Move}
 use Rattle.shogi_rules.specs.declared.rule.Rule.{Rule}
 use Rattle.shogi_rules.proofs.Broken.{AllKept}
@@ -15,11 +15,9 @@ all-of-none kept [] h = tt
 all-of-none kept (x ∷ xs) (inl h) = let e = h.1 in cc
 all-of-none kept (x ∷ xs) (inr h) = (h.0, all-of-none kept xs h.1)
 
-legal-of-all : (ps : List Placed) (p : Placed) (c : Color) (m : Move) → AllKept (Kept ps p c m) all_rules → Legal p m
-legal-of-all ps p c m all =
-    let r1 = all.1 in
-    let r2 = r1.1 in
-    let r3 = r2.1 in
+legal-of-moves : (ps : List Placed) (p : Placed) (c : Color) (m : Move) → AllKept (Kept ps p c m) move_rules → Legal p m
+legal-of-moves ps p c m all =
+    let r3 = all.1 in
     let r4 = r3.1 in
     let r5 = r4.1 in
     let r6 = r5.1 in
@@ -30,7 +28,7 @@ legal-of-all ps p c m all =
     record {
       keeps = record {
         fits = record {
-          has_piece = r2.0;
+          has_piece = all.0;
           kind_fits = r3.0;
           target_free = r4.0;
           reaches = r5.0;
@@ -43,8 +41,26 @@ legal-of-all ps p c m all =
       no_drop_mate = r10.0;
     }
 
+-- a move that breaks no rule is not refused by the first broken one
+none-of-all : (kept : Rule → Type 0) (xs : List Rule) (answer : Option Rule) → AllKept kept xs → IsFirstBroken kept xs answer → answer ≡ None
+none-of-all kept [] answer all h = h
+none-of-all kept (x ∷ xs) answer all (inl h) = absurd (h.0 all.0)
+none-of-all kept (x ∷ xs) answer all (inr h) = none-of-all kept xs answer all.1 h.1
+
+moves-of-legal : (ps : List Placed) (p : Placed) (c : Color) (m : Move) → Legal p m → AllKept (Kept ps p c m) move_rules
+moves-of-legal ps p c m l =
+    let f = l.keeps.fits in
+    (f.has_piece, (f.kind_fits, (f.target_free, (f.reaches, (f.may_promote, (f.further_move, (f.lone_pawn, (l.keeps.king_safe, (l.no_drop_mate, tt)))))))))
+
+-- of the side to move, no rule is broken exactly where the move is legal
+pub none-legal : (p : Placed) (c : Color) (m : Move) (answer : Option Rule) → c ≡ p.side → IsFirstBroken (Kept (p ∷ []) p p.side m) move_rules answer → (answer ≡ None) ↔ ((c ≡ p.side) × Legal p m)
+none-legal p c m answer same h = (
+  λ e. (same, let none : IsFirstBroken (Kept (p ∷ []) p p.side m) move_rules None = rw e at h in legal-of-moves (p ∷ []) p p.side m (all-of-none (Kept (p ∷ []) p p.side m) move_rules none)),
+  λ l. none-of-all (Kept (p ∷ []) p p.side m) move_rules answer (moves-of-legal (p ∷ []) p p.side m l.1) h,
+)
+
 pub legal-of-none : (ps : List Placed) (p : Placed) (c : Color) (m : Move) → IsFirstBroken (Kept ps p c m) all_rules None → Legal p m
-legal-of-none ps p c m h = legal-of-all ps p c m (all-of-none (Kept ps p c m) all_rules h)
+legal-of-none ps p c m h = let all = all-of-none (Kept ps p c m) all_rules h in let rest = all.1 in legal-of-moves ps p c m rest.1
 
 position-more : (s : Placed) (ms : List Move) (m : Move) → position_after s (ms ++ m ∷ []) ≡ after (position_after s ms) m
 position-more s [] m = refl

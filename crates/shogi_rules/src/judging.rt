@@ -1,4 +1,5 @@
-ghost use Rattle.std.specs.Prelude.{[], ◌∷◌};
+ghost use Rattle.std.specs.Prelude.{◌≡◌, ◌↔◌, [], ◌∷◌, None};
+ghost use Rattle.shogi_rules.specs.Legal.{Legal};
 ghost use Rattle.shogi_rules.specs.Rules.{Kept, move_rules, all_rules, IsFirstBroken};
 
 use crate::moves::Move;
@@ -23,11 +24,12 @@ pub(crate) fn broken_by_side(position: &Position, mv: &Move) -> Option<Rule>
     }
 }
 
-/// The first rule that the move of that side breaks, in the order of their numbers, or None.
+/// The first rule that the move of that side breaks, in the order of their numbers, or None exactly where it is legal.
 ///
 /// The position is taken to stand for the first time, so it never answers RepetitionOver.
 pub fn judge(position: &Position, mover: Color, mv: &Move) -> Option<Rule>
-    ensures { IsFirstBroken (Kept (position.now ∷ []) position.now mover mv.now) all_rules result }
+    ensures first { IsFirstBroken (Kept (position.now ∷ []) position.now mover mv.now) all_rules result }
+    ensures legal { (result ≡ None) ↔ ((mover ≡ position.now.side) × Legal position.now mv.now) }
 {
     if mover != position.side() {
         return Some(Rule::WrongSide);

@@ -1,4 +1,4 @@
-use crate::{Line, Move, PlayFault, Rule, Verdict, first_legal, judge};
+use crate::{Line, Move, PlayFault, Rule, Verdict, after, first_legal, in_check, judge};
 use shogi_board::{Color, Kind, Position, Setup, Square};
 use std::test::Fail;
 
@@ -73,6 +73,15 @@ fn play_all(line: &mut Line, moves: &str) -> Result<(), Fail> {
     Ok(())
 }
 
+// The position after a legal move.
+fn follow(p: &Position, text: &str) -> Result<Position, Fail> {
+    let (color, mv) = read(text.as_bytes())?;
+    match judge(p, color, &mv) {
+        None => Ok(after(p, &mv)),
+        Some(_) => Err(Fail::from("no legal move")),
+    }
+}
+
 // The first rule that a move breaks.
 fn broken(p: &Position, text: &str) -> Result<Option<Rule>, Fail> {
     let (color, mv) = read(text.as_bytes())?;
@@ -81,7 +90,7 @@ fn broken(p: &Position, text: &str) -> Result<Option<Rule>, Fail> {
 
 #[test]
 fn names_the_first_broken_rule(rt: HostRuntime) -> Result<(), Fail> {
-    let table: [(&str, &str, Option<Rule>); 24] = [
+    let table: [(&str, &str, Option<Rule>); 32] = [
         (
             "+13KI +33KE +59OU +00FU -11OU",
             "+0012FU",
@@ -110,6 +119,28 @@ fn names_the_first_broken_rule(rt: HostRuntime) -> Result<(), Fail> {
         ("+77FU", "+7777FU", Some(Rule::Occupied)),
         ("+77FU", "+7776TO", Some(Rule::BadPromotion)),
         ("+23GI", "+2334NG", None),
+        // a double check: neither rook nor bishop alone may be shut out or taken, but the king flees
+        (
+            "+59OU +69KI +48KI +11HI -51HI -95KA",
+            "+6968KI",
+            Some(Rule::LeavesKing),
+        ),
+        (
+            "+59OU +69KI +48KI +11HI -51HI -95KA",
+            "+4858KI",
+            Some(Rule::LeavesKing),
+        ),
+        (
+            "+59OU +69KI +48KI +11HI -51HI -95KA",
+            "+1151HI",
+            Some(Rule::LeavesKing),
+        ),
+        ("+59OU +69KI +48KI +11HI -51HI -95KA", "+5949OU", None),
+        // a pinned rook goes along its pin, and takes the piece that pins it
+        ("+59OU +55HI -51HI", "+5545HI", Some(Rule::LeavesKing)),
+        ("+59OU +55HI -51HI", "+5553HI", None),
+        ("+59OU +55HI -51HI", "+5551HI", None),
+        ("+59OU +58KY -51HI", "+5855KY", None),
     ];
     for (pieces, text, wanted) in table {
         let p = position(Color::Black, pieces)?;
@@ -125,8 +156,8 @@ fn tells_pawn_drop_mates(rt: HostRuntime) -> Result<(), Fail> {
     let table: [(&str, Option<Rule>); 4] = [
         // the king flees
         ("+13KI +59OU +00FU -11OU", None),
-        // the king takes the pawn
-        ("+33KE +59OU +00FU -11OU", None),
+        // the king takes the pawn, and has no other square
+        ("+33KE +14KE +59OU +00FU -11OU", None),
         // the gold that could take it is pinned
         ("+13KI +33KE +59OU +31HI +00FU -11OU -21KI", mate),
         // a silver takes it
@@ -140,11 +171,88 @@ fn tells_pawn_drop_mates(rt: HostRuntime) -> Result<(), Fail> {
 }
 
 #[test]
+fn names_rules_at_the_even_start(rt: HostRuntime) -> Result<(), Fail> {
+    let table = [
+        ("-3334FU", Rule::WrongSide),
+        ("+5554FU", Rule::NoPiece),
+        ("+7776KI", Rule::WrongKind),
+        ("+8877KA", Rule::Occupied),
+        ("+7775FU", Rule::CannotReach),
+        ("+7776TO", Rule::BadPromotion),
+    ];
+    for (text, wanted) in table {
+        assert_eq!(rt; broken(&Position::even(), text)?, Some(wanted), "{text}");
+    }
+    Ok(())
+}
+
+#[test]
+fn finds_the_first_legal_move(rt: HostRuntime) -> Result<(), Fail> {
+    let table: [(Color, &str, &str); 13] = [
+        // squares left by file, then rank
+        (Color::Black, "+55GI +19KI +17FU ", "+1716FU"),
+        // targets likewise
+        (Color::Black, "+55HI ", "+5515HI"),
+        (Color::White, "-51OU ", "-5141OU"),
+        (Color::White, "-55KY ", "-5556KY"),
+        // unpromoted before promoted
+        (Color::Black, "+14FU ", "+1413FU"),
+        (Color::Black, "+12FU ", "+1211TO"),
+        // out of check
+        (Color::Black, "+59OU -51HI ", "+5948OU"),
+        // walks before drops, drops by kind and then by target
+        (Color::Black, "+99KI +00FU ", "+9988KI"),
+        (Color::Black, "+00KI +00FU ", "+0012FU"),
+        (Color::Black, "+00HI +00KA ", "+0011KA"),
+        (Color::White, "-00KE ", "-0011KE"),
+        (Color::Black, "+00KE ", "+0013KE"),
+        (Color::Black, "+19OU -11KY -21HI +00KI +00FU ", "+0012FU"),
+    ];
+    for (side, pieces, wanted) in table {
+        let (_, mv) = read(wanted.as_bytes())?;
+        let p = position(side, pieces)?;
+        assert_eq!(rt; first_legal(&p), Some(mv), "{pieces}");
+    }
+    Ok(())
+}
+
+// The first moves of both sides at the even start.
+#[test]
+fn begins_at_the_edge(rt: HostRuntime) -> Result<(), Fail> {
+    let start = Position::even();
+    let (_, black) = read(b"+1716FU")?;
+    assert_eq!(rt; first_legal(&start), Some(black));
+    let next = follow(&start, "+1716FU")?;
+    let (_, white) = read(b"-1112KY")?;
+    assert_eq!(rt; first_legal(&next), Some(white));
+    Ok(())
+}
+
+// Where a move leads, and whether it gives check.
+#[test]
+fn follows_moves(rt: HostRuntime) -> Result<(), Fail> {
+    let table = [
+        ("+55KI -54TO ", "+5554KI", "+54KI +00FU ", false),
+        ("+55KI -54UM -51OU ", "+5554KI", "+54KI +00KA -51OU ", false),
+        ("+53HI -51RY ", "+5351RY", "+51RY +00HI ", false),
+        ("+53FU +00KI -51OU ", "+0052KI", "+53FU +52KI -51OU ", true),
+        ("+53FU +00KI ", "+0052KI", "+53FU +52KI ", false),
+        ("+59KY +55GI -51OU ", "+5544GI", "+59KY +44GI -51OU ", true),
+    ];
+    for (pieces, text, wanted, checks) in table {
+        let next = follow(&position(Color::Black, pieces)?, text)?;
+        assert_eq!(rt; next, position(Color::White, wanted)?, "{pieces}");
+        assert_eq!(rt; in_check(&next), checks, "{pieces}");
+    }
+    Ok(())
+}
+
+#[test]
 fn tells_how_lines_stand(rt: HostRuntime) -> Result<(), Fail> {
     let round = "+5949HI -4151OU +4959HI -5141OU ";
     let hands = "+0052FU -5152OU +5958OU -5241OU +5859OU -4151OU ";
     let sides = "+5958OU -5141OU +5849OU -4151OU +4959OU -5141OU +5958OU -4152OU +5859OU -5251OU ";
-    let table: [(&str, &str, &str, usize, Verdict); 8] = [
+    let table: [(&str, &str, &str, usize, Verdict); 9] = [
         (
             "+59HI +99OU -41OU",
             "",
@@ -179,6 +287,14 @@ fn tells_how_lines_stand(rt: HostRuntime) -> Result<(), Fail> {
         (
             "+13KI +33KE +59OU +00FU -11OU -21KI",
             "+0012FU ",
+            "",
+            0,
+            Verdict::Ongoing,
+        ),
+        // a promoted pawn no longer fills its file
+        (
+            "+14FU +00FU -51OU ",
+            "+1413TO -5141OU +0015FU ",
             "",
             0,
             Verdict::Ongoing,
