@@ -171,3 +171,19 @@ kind-in (Some x) = x.kind
 
 pub piece-kind : (c : Color) (a b : Kind) → piece c a ≡ piece c b → a ≡ b
 piece-kind c a b h = let e : kind-in (piece c a) ≡ kind-in (piece c b) = ap kind-in h in e
+
+pub king-by-place : (k : Kind) → is_king k ≡ (place_of k == 7)
+king-by-place Pawn = refl
+king-by-place Lance = refl
+king-by-place Knight = refl
+king-by-place Silver = refl
+king-by-place Gold = refl
+king-by-place Bishop = refl
+king-by-place Rook = refl
+king-by-place King = refl
+king-by-place ProPawn = refl
+king-by-place ProLance = refl
+king-by-place ProKnight = refl
+king-by-place ProSilver = refl
+king-by-place Horse = refl
+king-by-place Dragon = refl

@@ -7,3 +7,5 @@ pub mod Turns
 pub mod Alone
 pub mod Places
 pub mod Games
+pub mod Kept
+pub mod Stretches

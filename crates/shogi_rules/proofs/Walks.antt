@@ -40,7 +40,7 @@ start-of p from to kind sound fits = record {
   fits = fits;
 }
 
-on-board : (p : Placed) (s : Square) → IsSound p → place s < length p.board
+pub on-board : (p : Placed) (s : Square) → IsSound p → place s < length p.board
 on-board p s sound = let b = place-bound s in let w = sound.within.squares in omega arith
 
 -- the two squares differ
@@ -65,7 +65,7 @@ no-king p from to kind s h =
     let f : kings_of (set p.board (place from) None) p.side + 1 ≡ kings_of p.board p.side = rw (own, king) at e in
     omega (arith, f, s.sound.within.kings p.side)
 
-target-stays : (p : Placed) (from to : Square) (kind : Kind) → Start p from to kind → at (set p.board (place from) None) to ≡ at p.board to
+pub target-stays : (p : Placed) (from to : Square) (kind : Kind) → Start p from to kind → at (set p.board (place from) None) to ≡ at p.board to
 target-stays p from to kind s =
     let ne = apart p from to kind s in
     get_or-set_other p.board (place from) (place to) None None ne
@@ -78,7 +78,7 @@ pub capture-fits : (p : Placed) (from to : Square) (kind : Kind) (x : Piece) →
 capture-fits p from to kind x s there =
     take_off-fits (taken_off (layout_of p) from) to x.color x.kind refl (target-stays p from to kind s ∙ there)
 
-longer : (cells : Cells) (i j : ℕ) → j < length cells → j < length (set cells i None)
+pub longer : (cells : Cells) (i j : ℕ) → j < length cells → j < length (set cells i None)
 longer cells i j h = rw length-set h
 
 pub landing-fits : (p : Placed) (from to : Square) (kind : Kind) (x : Piece) → Start p from to kind → at p.board to ≡ Some x → place_fault (taken_off (taken_off (layout_of p) from) to) p.side to kind ≡ None
@@ -94,7 +94,7 @@ landing-fits p from to kind x s there =
     (omega (arith, e, r))
 
 -- an enemy piece that is taken is no king: the side not to move is not in check
-no-king-taken : (p : Placed) (from to : Square) (kind : Kind) (x : Piece) → Start p from to kind → at p.board to ≡ Some x → x.kind ≡ King → ⊥
+pub no-king-taken : (p : Placed) (from to : Square) (kind : Kind) (x : Piece) → Start p from to kind → at p.board to ≡ Some x → x.kind ≡ King → ⊥
 no-king-taken p from to kind x s there king =
     let enemy : x.color ≡ opponent p.side = other-color x.color p.side (λ own. s.fits.target_free x.kind (there ∙ ap (λ (c : Color). piece c x.kind) own)) in
     let stands : at p.board to ≡ piece (opponent p.side) King = there ∙ (ap (λ (c : Color). piece c x.kind) enemy ∙ ap (λ (k : Kind). piece (opponent p.side) k) king) in

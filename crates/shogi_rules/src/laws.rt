@@ -2,22 +2,37 @@
 //!
 //! A law is a function that does nothing: its contract is the law.
 
-ghost use Rattle.std.specs.Prelude.{◌≡◌};
+ghost use Rattle.std.specs.Prelude.{◌≡◌, ℕ, List};
 ghost use Rattle.shogi_board.specs.Cells.{at, piece};
 ghost use Rattle.shogi_board.specs.Pieces.{opponent};
 ghost use Rattle.shogi_board.specs.Placed.{Placed};
 ghost use Rattle.shogi_board.specs.Sound.{IsSound};
 ghost use Rattle.shogi_board.specs.Reach.{InCheck};
+ghost use Rattle.shogi_board.specs.Totals.{total};
 ghost use Rattle.shogi_board.specs.declared.kind.Kind.{Kind};
 ghost use Rattle.shogi_board.specs.declared.kind.Kind.TheVariants.{King};
 ghost use Rattle.shogi_board.specs.declared.square.Square.{Square};
 ghost use Rattle.shogi_rules.specs.After.{after};
 ghost use Rattle.shogi_rules.specs.Legal.{HasPiece, ReachesTarget, Legal};
+ghost use Rattle.shogi_rules.specs.Repetition.{IsNth};
+ghost use Rattle.shogi_rules.specs.Verdicts.{Stands};
+ghost use Rattle.shogi_rules.specs.declared.line.Verdict.{Verdict};
 ghost use Rattle.shogi_rules.specs.declared.moves.Move.{Move};
 
 /// In a sound position no walk that reaches its target lands on the enemy king.
 pub fn king_never_taken()
     ensures { (p : Placed) (from to : Square) (kind : Kind) → IsSound p → HasPiece p (Move.Walk from to kind) → ReachesTarget p (Move.Walk from to kind) → at p.board to ≡ piece (opponent p.side) King → ⊥ }
+{}
+
+/// A legal move leads from a sound position to a sound one.
+pub fn legal_move_keeps_soundness()
+    ensures { (p : Placed) (m : Move) → IsSound p → Legal p m → IsSound (after p m) }
+{}
+
+/// It adds no piece and takes none: of each kind, promoted pieces counted with their unpromoted kind, as many stand on
+/// the board and in both hands as before.
+pub fn pieces_stay()
+    ensures { (p : Placed) (m : Move) (kind : Kind) → IsSound p → Legal p m → total (after p m).board (after p m).black (after p m).white kind ≡ total p.board p.black p.white kind }
 {}
 
 /// A legal move leaves its mover's king safe.
@@ -28,4 +43,14 @@ pub fn mover_not_in_check()
 /// After a move the other side is to move.
 pub fn other_side_moves()
     ensures { (p : Placed) (m : Move) → (after p m).side ≡ opponent p.side }
+{}
+
+/// A position stands for the n-th time at one place of a list.
+pub fn nth_place_once()
+    ensures { (ps : List Placed) (p : Placed) (n i j : ℕ) → IsNth ps p n i → IsNth ps p n j → i ≡ j }
+{}
+
+/// No two verdicts hold together.
+pub fn one_verdict()
+    ensures { (ps : List Placed) (p : Placed) (u v : Verdict) → Stands ps p u → Stands ps p v → u ≡ v }
 {}

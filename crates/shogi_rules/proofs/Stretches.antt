@@ -1,0 +1,96 @@
+-- A position stands for the n-th time at one place, and a line has one verdict.
+use Rattle.std.proofs.Common.{◌≡◌, ℕ, ◌+◌, ◌<◌, ◌≤◌, Bool, true, false, cond, List, Option, Some, None, length, take, drop, get_or, slice_get, count_by, arith, refl, ap, sym, ◌∙◌, inl, inr}
+use Rattle.std.proofs.lemmas.Bool.{cases_order}
+use Rattle.std.proofs.lemmas.List.{take-take}
+use Rattle.std.proofs.lemmas.List.Sums.{count_by_more_yes, sum_by-take-le}
+use Rattle.std.proofs.lemmas.Option.{slice_get_within, get_or_from_slice_get}
+use Rattle.shogi_board.specs.Pieces.{opponent}
+use Rattle.shogi_board.specs.Placed.{Placed}
+use Rattle.shogi_board.specs.contracts.position.PositionPartialEq.TheImpl.{eq-value}
+use Rattle.shogi_board.specs.declared.color.Color.{Color}
+use Rattle.shogi_board.specs.declared.color.Color.TheVariants.{Black, White}
+use Rattle.shogi_board.proofs.Same.{placed-eq}
+use Rattle.shogi_rules.specs.Repetition.{times, Over, IsNth, IsStretch, Pressed}
+use Rattle.shogi_rules.specs.Verdicts.{PressedAlone, IsPerpetual, IsRepetition, StandsByMoves, StandsByStretch, Stands}
+use Rattle.shogi_rules.specs.declared.line.Verdict.{Verdict}
+use Rattle.shogi_rules.specs.declared.line.Verdict.TheVariants.{Ongoing, Mate, NoMove, Repetition, Perpetual}
+
+-- a later place has the earlier one before it
+later : (ps : List Placed) (p : Placed) (i j : ℕ) → slice_get ps i ≡ Some p → i < j → times (take i ps) p + 1 ≤ times (take j ps) p
+later ps p i j there low =
+    let here : get_or ps i p ≡ p = get_or_from_slice_get ps i p p there in
+    let self : eq-value.it (get_or ps i p) p ≡ true = rw here ((placed-eq p p).1 refl) in
+    let one = count_by_more_yes (λ (q : Placed). eq-value.it q p) ps i p (slice_get_within ps i p there) self in
+    let le = sum_by-take-le (λ (q : Placed). cond (eq-value.it q p) 1 0) (take j ps) (i + 1) in
+    let same : take (i + 1) (take j ps) ≡ take (i + 1) ps = take-take (i + 1) j ps (omega arith) in
+    let fewer : times (take (i + 1) ps) p ≤ times (take j ps) p = rw same at le in
+    omega (arith, one, fewer)
+
+pub nth-once : (ps : List Placed) (p : Placed) (n i j : ℕ) → IsNth ps p n i → IsNth ps p n j → i ≡ j
+nth-once ps p n i j a b =
+    elim (cases_order i j) [
+      | inl same ↦ same
+      | inr (inl low) ↦ let l = later ps p i j a.stands low in absurd (omega (arith, l, a.before, b.before))
+      | inr (inr high) ↦ let l = later ps p j i b.stands high in absurd (omega (arith, l, a.before, b.before))
+    ]
+
+pub stretch-once : (ps : List Placed) (p : Placed) (f l f2 l2 : ℕ) → IsStretch ps p f l → IsStretch ps p f2 l2 → (f ≡ f2) × (l ≡ l2)
+stretch-once ps p f l f2 l2 a b = (nth-once ps p 1 f f2 a.begins b.begins, nth-once ps p 4 l l2 a.ends b.ends)
+
+alone-once : (ps : List Placed) (first fourth : ℕ) (c d : Color) → PressedAlone ps first fourth c → PressedAlone ps first fourth d → c ≡ d
+alone-once ps first fourth Black Black a b = refl
+alone-once ps first fourth Black White a b = absurd (a.1 b.0)
+alone-once ps first fourth White Black a b = absurd (a.1 b.0)
+alone-once ps first fourth White White a b = refl
+
+perpetual-once : (ps : List Placed) (p : Placed) (c d : Color) → IsPerpetual ps p c → IsPerpetual ps p d → c ≡ d
+perpetual-once ps p c d a b =
+    let same = stretch-once ps p a.first a.fourth b.first b.fourth a.stretch b.stretch in
+    let there : PressedAlone ps b.first b.fourth c = rw (same.0, same.1) at a.alone in
+    alone-once ps b.first b.fourth c d there b.alone
+
+perpetual-or-not : (ps : List Placed) (p : Placed) (c : Color) → IsPerpetual ps p c → IsRepetition ps p → ⊥
+perpetual-or-not ps p c a b =
+    let same = stretch-once ps p a.first a.fourth b.first b.fourth a.stretch b.stretch in
+    let there : PressedAlone ps b.first b.fourth c = rw (same.0, same.1) at a.alone in
+    b.nobody_alone c there
+
+one-by-moves : (p : Placed) (u v : Verdict) → StandsByMoves p u → StandsByMoves p v → u ≡ v
+one-by-moves p Ongoing Ongoing a b = refl
+one-by-moves p Ongoing Mate a b = absurd (b.1 a.0 a.1)
+one-by-moves p Ongoing NoMove a b = absurd (b.1 a.0 a.1)
+one-by-moves p Mate Ongoing a b = absurd (a.1 b.0 b.1)
+one-by-moves p Mate Mate a b = refl
+one-by-moves p Mate NoMove a b = absurd (b.0 a.0)
+one-by-moves p NoMove Ongoing a b = absurd (a.1 b.0 b.1)
+one-by-moves p NoMove Mate a b = absurd (a.0 b.0)
+one-by-moves p NoMove NoMove a b = refl
+one-by-moves p Repetition v a b = absurd a
+one-by-moves p (Perpetual c) v a b = absurd a
+one-by-moves p Ongoing Repetition a b = absurd b
+one-by-moves p Ongoing (Perpetual c) a b = absurd b
+one-by-moves p Mate Repetition a b = absurd b
+one-by-moves p Mate (Perpetual c) a b = absurd b
+one-by-moves p NoMove Repetition a b = absurd b
+one-by-moves p NoMove (Perpetual c) a b = absurd b
+
+one-by-stretch : (ps : List Placed) (p : Placed) (u v : Verdict) → StandsByStretch ps p u → StandsByStretch ps p v → u ≡ v
+one-by-stretch ps p Repetition Repetition a b = refl
+one-by-stretch ps p Repetition (Perpetual c) a b = absurd (perpetual-or-not ps p c b a)
+one-by-stretch ps p (Perpetual c) Repetition a b = absurd (perpetual-or-not ps p c a b)
+one-by-stretch ps p (Perpetual c) (Perpetual d) a b = ap Perpetual (perpetual-once ps p c d a b)
+one-by-stretch ps p Ongoing v a b = absurd a
+one-by-stretch ps p Mate v a b = absurd a
+one-by-stretch ps p NoMove v a b = absurd a
+one-by-stretch ps p Repetition Ongoing a b = absurd b
+one-by-stretch ps p Repetition Mate a b = absurd b
+one-by-stretch ps p Repetition NoMove a b = absurd b
+one-by-stretch ps p (Perpetual c) Ongoing a b = absurd b
+one-by-stretch ps p (Perpetual c) Mate a b = absurd b
+one-by-stretch ps p (Perpetual c) NoMove a b = absurd b
+
+pub one-verdict : (ps : List Placed) (p : Placed) (u v : Verdict) → Stands ps p u → Stands ps p v → u ≡ v
+one-verdict ps p u v (inl a) (inl b) = one-by-stretch ps p u v a.1 b.1
+one-verdict ps p u v (inl a) (inr b) = absurd (b.0 a.0)
+one-verdict ps p u v (inr a) (inl b) = absurd (a.0 b.0)
+one-verdict ps p u v (inr a) (inr b) = one-by-moves p u v a.1 b.1
