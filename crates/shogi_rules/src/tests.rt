@@ -1,5 +1,6 @@
-use crate::{Line, Move, PlayFault, Rule, Verdict, after, first_legal, in_check, judge};
-use shogi_board::{Color, Kind, Position, Setup, Square};
+use crate::{Line, Move, PlayFault, Rule, Verdict, after, first_legal, in_check, judge, laws};
+use shogi_board::{Color, Kind, OutOfMemory, Position, Setup, Square};
+use std::alloc::AllocGlobal;
 use std::test::Fail;
 
 fn kind_of(first: u8, second: u8) -> Result<Kind, Fail> {
@@ -35,15 +36,16 @@ fn square_of(file: u8, rank: u8) -> Option<Square> {
     Square::new(file.wrapping_sub(b'0'), rank.wrapping_sub(b'0'))
 }
 
-// Pieces like `+59OU -00FU `, each of six bytes; square 00 is the hand.
+// Pieces like `+59OU -00FU `, each of six bytes; square 00 is the hand, and `00AL` there all that remains.
 fn position(side: Color, pieces: &str) -> Result<Position, Fail> {
     let mut setup = Setup::empty();
     for word in pieces.as_bytes().chunks(6) {
         if let [sign, file, rank, a, b, ..] = word {
-            let kind = kind_of(*a, *b)?;
+            let color = color_of(*sign);
             match square_of(*file, *rank) {
-                Some(square) => setup.place(color_of(*sign), square, kind)?,
-                None => setup.add_hand(color_of(*sign), kind)?,
+                Some(square) => setup.place(color, square, kind_of(*a, *b)?)?,
+                None if *a == b'A' => setup.give_rest(color)?,
+                None => setup.add_hand(color, kind_of(*a, *b)?)?,
             }
         }
     }
@@ -354,10 +356,224 @@ fn has_no_move_but_a_mating_drop(rt: HostRuntime) -> Result<(), Fail> {
 }
 
 #[test]
+fn tells_the_parts_of_moves(rt: HostRuntime) -> Result<(), Fail> {
+    let table = [
+        ("+8822UM", (2, 2), Kind::Horse),
+        ("-0054FU", (5, 4), Kind::Pawn),
+    ];
+    for (text, (file, rank), kind) in table {
+        let (_, mv) = read(text.as_bytes())?;
+        assert_eq!(rt; Some(mv.target()), Square::new(file, rank), "{text}");
+        assert_eq!(rt; mv.kind(), kind, "{text}");
+    }
+    // a law does nothing when it runs
+    laws::king_never_taken();
+    laws::legal_move_keeps_soundness();
+    laws::pieces_stay();
+    laws::mover_not_in_check();
+    laws::other_side_moves();
+    laws::nth_place_once();
+    laws::one_verdict();
+    Ok(())
+}
+
+#[test]
 fn prints_names_and_numbers(rt: HostRuntime) -> Result<(), Fail> {
     let text = format!(in rt.alloc(); "{}", Rule::PawnDropMate)?;
     assert_eq!(rt; text.as_str(), "rule 11 PawnDropMate");
     let text = format!(in rt.alloc(); "{}", PlayFault::Broken(Rule::NoPiece))?;
     assert_eq!(rt; text.as_str(), "rule 3 NoPiece");
+    Ok(())
+}
+
+const KINDS: [Kind; 14] = [
+    Kind::Pawn,
+    Kind::Lance,
+    Kind::Knight,
+    Kind::Silver,
+    Kind::Gold,
+    Kind::Bishop,
+    Kind::Rook,
+    Kind::King,
+    Kind::ProPawn,
+    Kind::ProLance,
+    Kind::ProKnight,
+    Kind::ProSilver,
+    Kind::Horse,
+    Kind::Dragon,
+];
+
+// The walks from each of 81 squares, and the drops, to each square and of each kind.
+const EVERY_MOVE: usize = 92_988;
+
+// The square at a place from 0, or None past the last.
+fn nth_square(place: usize) -> Option<Square> {
+    let file = u8::try_from(place / 9).ok()?;
+    let rank = (place % 9) as u8 + 1;
+    Square::new(file.wrapping_add(1), rank)
+}
+
+fn nth_move(n: usize) -> Option<Move> {
+    let kind = *KINDS.get(n % 14)?;
+    let to = nth_square(n / 14 % 81)?;
+    Some(match nth_square(n / 1134) {
+        Some(from) => Move::Walk { from, to, kind },
+        None => Move::Put { to, kind },
+    })
+}
+
+// The legal moves of the side to move: of every move, those that `judge` lets through.
+fn count_moves(p: &Position) -> usize {
+    let mut count = 0usize;
+    for mv in (0..EVERY_MOVE).filter_map(nth_move) {
+        if judge(p, p.side(), &mv).is_none() {
+            count = count.wrapping_add(1);
+        }
+    }
+    count
+}
+
+// The same after each legal move.
+fn count_replies(p: &Position) -> usize {
+    let mut count = 0usize;
+    for mv in (0..EVERY_MOVE).filter_map(nth_move) {
+        if judge(p, p.side(), &mv).is_none() {
+            count = count.wrapping_add(count_moves(&after(p, &mv)));
+        }
+    }
+    count
+}
+
+// And after each of those.
+fn count_third_moves(p: &Position) -> usize {
+    let mut count = 0usize;
+    for mv in (0..EVERY_MOVE).filter_map(nth_move) {
+        if judge(p, p.side(), &mv).is_none() {
+            count = count.wrapping_add(count_replies(&after(p, &mv)));
+        }
+    }
+    count
+}
+
+// Counts that programs for shogi agree on: one, two and three moves deep at the even start, at the position with the
+// most moves that is known, and in two games.
+#[test]
+fn counts_legal_moves(rt: HostRuntime) -> Result<(), Fail> {
+    let most =
+        "+91HI +72OU +52GI +32GI +22GI -12OU +53KA +89KY +69KY +49KY +00HI +00KA +00KI +00GI +00KE +00KY +00FU -00AL ";
+    let attack =
+        "-11KY -82KY +72RY +42FU -93FU -63FU +53KA +43KI -23FU -13FU -94OU -84FU -74GI -54FU +95KE -85KE +65FU +35KI +96FU +76FU +56FU +26FU +16FU +87FU +77GI +88OU +78GI +68KI -28RY +99KY +89KE -59TO +19KY +00GI -00AL ";
+    let opening =
+        "-91KY -81KE -71GI -61KI -51OU -21KE -11KY -82HI -32KI -22GI -93FU -73FU -63FU -53FU -43FU -23FU -13FU -84FU -34FU +25FU +76FU +97FU +87FU +67FU +57FU +47FU +37FU +17FU +88GI +78KI +28HI +99KY +89KE +59OU +49KI +39GI +29KE +19KY +00KA -00AL ";
+    assert_eq!(rt; count_moves(&Position::even()), 30);
+    assert_eq!(rt; count_replies(&Position::even()), 900);
+    assert_eq!(rt; count_third_moves(&Position::even()), 25_470);
+    assert_eq!(rt; count_moves(&position(Color::Black, most)?), 593);
+    assert_eq!(rt; count_moves(&position(Color::White, attack)?), 178);
+    assert_eq!(rt; count_moves(&position(Color::Black, opening)?), 76);
+    Ok(())
+}
+
+// A square of a rook's tour of 36 over four files from the given one, up one file and down the next.
+fn tour(first: u8, place: usize) -> Option<Square> {
+    let file = (place % 36 / 9) as u8;
+    let step = (place % 9) as u8;
+    let rank = if file % 2 == 0 { step + 1 } else { 9 - step };
+    Square::new(first.wrapping_add(file), rank)
+}
+
+// White's tour leaves out one square, so that the two together come round after 36 * 35 moves of each side.
+fn short_tour(place: usize) -> Option<Square> {
+    let place = place % 35;
+    tour(6, if place == 0 { 0 } else { place + 1 })
+}
+
+fn walk(from: Option<Square>, to: Option<Square>, kind: Kind) -> Result<Move, Fail> {
+    Ok(Move::Walk {
+        from: from.ok_or("no square")?,
+        to: to.ok_or("no square")?,
+        kind,
+    })
+}
+
+// Black's move of that number: its rook goes on, and each 1,250th time it pushes its pawn.
+fn black_move(n: usize) -> Result<Move, Fail> {
+    let pushed = n / 1250;
+    if n % 1250 == 1249 {
+        let rank = 7u8.wrapping_sub(u8::try_from(pushed)?);
+        return walk(
+            Square::new(5, rank),
+            Square::new(5, rank.wrapping_sub(1)),
+            Kind::Pawn,
+        );
+    }
+    let place = n - pushed;
+    walk(tour(1, place), tour(1, place + 1), Kind::Rook)
+}
+
+fn long_game(rt: &impl AllocGlobal) -> Result<Line, Fail> {
+    let start = position(Color::Black, "+11HI +57FU -61HI ")?;
+    let mut line = Line::new(rt.alloc(), start)?;
+    for n in 0..5000usize {
+        line.play(Color::Black, black_move(n)?)?;
+        line.play(
+            Color::White,
+            walk(short_tour(n), short_tour(n + 1), Kind::Rook)?,
+        )?;
+    }
+    Ok(line)
+}
+
+// A game of 10,000 moves stands, and no move follows it, whatever rule it breaks.
+#[test]
+fn ends_after_ten_thousand_moves(rt: HostRuntime) -> Result<(), Fail> {
+    let mut line = long_game(&rt)?;
+    let last = line.now();
+    assert_eq!(rt; line.moves().len(), 10_000);
+    assert_eq!(rt; line.verdict(), Verdict::Ongoing);
+    for text in ["+5352FU", "+5352TO", "-5352FU", "+5551FU", "+0055KI"] {
+        let (color, mv) = read(text.as_bytes())?;
+        assert_eq!(rt;
+            line.fault(color, &mv),
+            Some(PlayFault::TooManyMoves),
+            "{text}"
+        );
+        assert_eq!(rt;
+            line.play(color, mv),
+            Err(PlayFault::TooManyMoves),
+            "{text}"
+        );
+    }
+    assert_eq!(rt; line.moves().len(), 10_000);
+    assert_eq!(rt; line.now(), last);
+    Ok(())
+}
+
+// Run with each growth refused in turn (`rt try --test --fail-alloc N -- growth`): a refused call changes nothing, and
+// made again it succeeds.
+#[test]
+fn refused_growth_changes_nothing(rt: HostRuntime) -> Result<(), Fail> {
+    let start = Position::even();
+    let mut line = match Line::new(rt.alloc(), start) {
+        Ok(line) => line,
+        Err(OutOfMemory) => Line::new(rt.alloc(), start)?,
+    };
+    for word in "+7776FU -3334FU +2726FU -8384FU +2625FU -8485FU +6978KI -4132KI +2524FU -2324FU "
+        .as_bytes()
+        .chunks(8)
+    {
+        let (color, mv) = read(word)?;
+        let last = line.now();
+        let count = line.moves().len();
+        if let Err(fault) = line.play(color, mv) {
+            assert_eq!(rt; fault, PlayFault::OutOfMemory);
+            assert_eq!(rt; line.moves().len(), count);
+            assert_eq!(rt; line.now(), last);
+            line.play(color, mv)?;
+        }
+        assert_eq!(rt; line.moves().last().copied(), Some(mv));
+        assert_ne!(rt; line.now(), last);
+    }
+    assert_eq!(rt; line.moves().len(), 10);
     Ok(())
 }
