@@ -1,5 +1,5 @@
 -- A position alone does not stand four times.
-use Rattle.std.proofs.Common.{◌≤◌, [], ◌∷◌, arith}
+use Rattle.std.proofs.Common.{[], ◌∷◌, arith}
 use Rattle.std.proofs.lemmas.List.Sums.{count_by-le-length}
 use Rattle.shogi_board.specs.Placed.{Placed}
 use Rattle.shogi_board.specs.contracts.position.PositionPartialEq.TheImpl.{eq-value}

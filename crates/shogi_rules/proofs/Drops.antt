@@ -1,19 +1,17 @@
 -- A drop that fits the board of a sound position: no call on the setup is refused.
-use Rattle.std.proofs.Common.{◌≡◌, ℕ, ◌+◌, ◌-◌, ◌<◌, ◌≤◌, Bool, true, false, cond, List, Option, Some, None, length, set, get_or, count_by, slice_index, arith, refl, ap, sym, ◌∙◌, get_or-set_same}
+use Rattle.std.proofs.Common.{◌≡◌, ℕ, ◌+◌, ◌-◌, ◌<◌, Bool, true, false, List, None, length, slice_index, arith, refl, get_or-set_same}
 use Rattle.std.specs.Prelude.{if◌then◌else◌}
-use Rattle.shogi_board.specs.Cells.{Cells, at, piece}
-use Rattle.shogi_board.specs.Layout.{Layout}
-use Rattle.shogi_board.specs.Pieces.{place_of, is_king, in_hand}
+use Rattle.shogi_board.specs.Cells.{Cells, at}
+use Rattle.shogi_board.specs.Pieces.{place_of, in_hand}
 use Rattle.shogi_board.specs.Placed.{Placed, bag_of}
 use Rattle.shogi_board.specs.Sound.{IsSound}
 use Rattle.shogi_board.specs.Setup.{layout_of, take_hand_fault, place_fault, placed, with_hand, hand_of, one_less}
-use Rattle.shogi_board.specs.Totals.{total, limit, kings_of, count_in, is_of}
+use Rattle.shogi_board.specs.Totals.{count_in}
 use Rattle.shogi_board.specs.declared.color.Color.{Color}
 use Rattle.shogi_board.specs.declared.color.Color.TheVariants.{Black, White}
 use Rattle.shogi_board.specs.declared.kind.Kind.{Kind}
 use Rattle.shogi_board.specs.declared.square.Square.{Square}
 use Rattle.shogi_rules.specs.After.{after}
-use Rattle.shogi_rules.specs.declared.moves.Move.{Move}
 use Rattle.shogi_rules.specs.declared.moves.Move.TheVariants.{Put}
 use Rattle.shogi_rules.proofs.Forms.{held-low, held-no-king}
 use Rattle.shogi_rules.proofs.Layouts.{place-fits, take_hand-fits}

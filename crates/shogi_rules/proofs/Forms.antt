@@ -1,9 +1,9 @@
 -- What the tests of kinds and colours say.
-use Rattle.std.proofs.Common.{◌≡◌, ℕ, ◌<◌, ◌≤◌, ◌+◌, ◌==◌, Bool, true, false, cond, Option, Some, None, ◌⊎◌, inl, inr, arith, refl, ap, sym, ◌∙◌, lit<}
+use Rattle.std.proofs.Common.{◌≡◌, ℕ, ◌<◌, ◌==◌, true, Option, Some, None, ◌⊎◌, inl, inr, arith, refl, ap, sym, ◌∙◌, lit<}
 use Rattle.std.proofs.lemmas.Bool.Decides.{Decides-eqb}
 use Rattle.shogi_board.specs.Cells.{piece}
 use Rattle.shogi_board.specs.declared.kind.Piece.{Piece}
-use Rattle.shogi_board.specs.Pieces.{place_of, is_promoted, is_king, in_hand, same_kind, opponent, same_color}
+use Rattle.shogi_board.specs.Pieces.{place_of, is_king, in_hand, same_kind, opponent, same_color}
 use Rattle.shogi_board.specs.declared.color.Color.{Color}
 use Rattle.shogi_board.specs.declared.color.Color.TheVariants.{Black, White}
 use Rattle.shogi_board.specs.declared.kind.Kind.{Kind}

@@ -1,10 +1,10 @@
 -- One move more.
-use Rattle.std.proofs.Common.{◌≡◌, ◌⊎◌, ◌↔◌, inl, inr, ◌<◌, ◌++◌, List, [], ◌∷◌, Option, Some, None, length, length-append, arith, refl, ap, sym}
+use Rattle.std.proofs.Common.{◌≡◌, ◌↔◌, inl, inr, ◌<◌, ◌++◌, List, [], ◌∷◌, Option, None, length, length-append, arith, refl, ap, sym}
 use Rattle.shogi_board.specs.Placed.{Placed}
 use Rattle.shogi_board.specs.declared.color.Color.{Color}
 use Rattle.shogi_rules.specs.After.{after}
-use Rattle.shogi_rules.specs.Legal.{FitsBoard, Keeps, Legal}
-use Rattle.shogi_rules.specs.Positions.{position_after, positions_of, MayFollow, IsGame, played, IsLine}
+use Rattle.shogi_rules.specs.Legal.{Legal}
+use Rattle.shogi_rules.specs.Positions.{position_after, positions_of, played, IsLine}
 use Rattle.shogi_rules.specs.Rules.{Kept, move_rules, all_rules, IsFirstBroken}
 use Rattle.shogi_rules.specs.declared.moves.Move.{Move}
 use Rattle.shogi_rules.specs.declared.rule.Rule.{Rule}

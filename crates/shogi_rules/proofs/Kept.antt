@@ -4,7 +4,7 @@ use Rattle.std.proofs.lemmas.Bool.{cases_eq, cases_Bool, and_right, ne_eqb}
 use Rattle.std.proofs.lemmas.List.Sums.{sum_by-set}
 use Rattle.std.specs.List.{sum_by}
 use Rattle.shogi_board.specs.Cells.{at, piece}
-use Rattle.shogi_board.specs.Pieces.{place_of, is_king, in_hand, opponent, same_color}
+use Rattle.shogi_board.specs.Pieces.{place_of, is_king, in_hand, same_color}
 use Rattle.shogi_board.specs.Placed.{Placed, bag_of}
 use Rattle.shogi_board.specs.Sound.{IsSound}
 use Rattle.shogi_board.specs.Setup.{one_more, one_less}

@@ -1,5 +1,5 @@
 -- What stands at a place of a list of positions, and who pressed.
-use Rattle.std.proofs.Common.{◌≡◌, ◌↔◌, ℕ, ◌+◌, ◌<◌, IsTrue, Bool, true, false, List, [], ◌∷◌, Some, length, get_or, slice_get, arith, refl, ap, sym, ◌∙◌, zero, suc}
+use Rattle.std.proofs.Common.{◌≡◌, ◌↔◌, ℕ, ◌+◌, ◌<◌, IsTrue, Bool, List, [], ◌∷◌, Some, length, get_or, slice_get, arith, ap, sym, ◌∙◌, zero, suc}
 use Rattle.shogi_board.specs.Placed.{Placed}
 use Rattle.shogi_board.specs.Reach.{InCheck}
 use Rattle.shogi_board.specs.declared.color.Color.{Color}

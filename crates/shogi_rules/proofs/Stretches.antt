@@ -1,16 +1,15 @@
 -- A position stands for the n-th time at one place, and a line has one verdict.
-use Rattle.std.proofs.Common.{◌≡◌, ℕ, ◌+◌, ◌<◌, ◌≤◌, Bool, true, false, cond, List, Option, Some, None, length, take, drop, get_or, slice_get, count_by, arith, refl, ap, sym, ◌∙◌, inl, inr}
+use Rattle.std.proofs.Common.{◌≡◌, ℕ, ◌+◌, ◌<◌, ◌≤◌, true, cond, List, Some, take, get_or, slice_get, arith, refl, ap, inl, inr}
 use Rattle.std.proofs.lemmas.Bool.{cases_order}
 use Rattle.std.proofs.lemmas.List.{take-take}
 use Rattle.std.proofs.lemmas.List.Sums.{count_by_more_yes, sum_by-take-le}
 use Rattle.std.proofs.lemmas.Option.{slice_get_within, get_or_from_slice_get}
-use Rattle.shogi_board.specs.Pieces.{opponent}
 use Rattle.shogi_board.specs.Placed.{Placed}
 use Rattle.shogi_board.specs.contracts.position.PositionPartialEq.TheImpl.{eq-value}
 use Rattle.shogi_board.specs.declared.color.Color.{Color}
 use Rattle.shogi_board.specs.declared.color.Color.TheVariants.{Black, White}
 use Rattle.shogi_board.proofs.Same.{placed-eq}
-use Rattle.shogi_rules.specs.Repetition.{times, Over, IsNth, IsStretch, Pressed}
+use Rattle.shogi_rules.specs.Repetition.{times, IsNth, IsStretch}
 use Rattle.shogi_rules.specs.Verdicts.{PressedAlone, IsPerpetual, IsRepetition, StandsByMoves, StandsByStretch, Stands}
 use Rattle.shogi_rules.specs.declared.line.Verdict.{Verdict}
 use Rattle.shogi_rules.specs.declared.line.Verdict.TheVariants.{Ongoing, Mate, NoMove, Repetition, Perpetual}

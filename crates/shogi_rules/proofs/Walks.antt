@@ -1,10 +1,9 @@
 -- A walk that fits the board of a sound position: no call on the setup is refused.
-use Rattle.std.proofs.Common.{◌≡◌, ◌≢◌, ℕ, ◌+◌, ◌<◌, ◌≤◌, ◌==◌, ◌&&◌, Bool, true, false, cond, List, Option, Some, None, ◌⊎◌, length, set, get_or, arith, refl, ap, sym, ◌∙◌, length-set, get_or-set_same, get_or-set_other}
+use Rattle.std.proofs.Common.{◌≡◌, ◌≢◌, ℕ, ◌+◌, ◌<◌, ◌≤◌, ◌==◌, true, cond, List, Some, None, ◌⊎◌, length, set, get_or, arith, refl, ap, sym, ◌∙◌, length-set, get_or-set_same, get_or-set_other}
 use Rattle.shogi_board.specs.Cells.{Cells, at, piece}
-use Rattle.shogi_board.specs.Pieces.{place_of, is_king, in_hand, opponent, same_color}
+use Rattle.shogi_board.specs.Pieces.{place_of, is_king, opponent, same_color}
 use Rattle.shogi_board.specs.Placed.{Placed}
 use Rattle.shogi_board.specs.Sound.{IsSound}
-use Rattle.shogi_board.specs.Reach.{InCheck}
 use Rattle.shogi_board.specs.Setup.{layout_of, take_off_fault, place_fault, add_fault, taken_off, placed, with_hand, hand_of, one_more}
 use Rattle.shogi_board.specs.Squares.{place}
 use Rattle.shogi_board.specs.Totals.{total, limit, kings_of}
@@ -18,7 +17,6 @@ use Rattle.shogi_board.proofs.Squares.{place-bound}
 use Rattle.shogi_rules.specs.After.{after}
 use Rattle.shogi_rules.specs.Kinds.{promoted, unpromoted}
 use Rattle.shogi_rules.specs.Legal.{FitsBoard}
-use Rattle.shogi_rules.specs.declared.moves.Move.{Move}
 use Rattle.shogi_rules.specs.declared.moves.Move.TheVariants.{Walk}
 use Rattle.shogi_rules.proofs.Forms.{form-place, form-king, captured-held, unpromoted-place, opponent-twice, other-color, same_color-self, eq-self}
 use Rattle.shogi_rules.proofs.Layouts.{set-twice, take_off-fits, place-fits, add-fits, lifted-total, put-total, lifted-kings}

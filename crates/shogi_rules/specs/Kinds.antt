@@ -1,9 +1,9 @@
 -- Promotion, and where a piece may stand.
-use Rattle.std.specs.Prelude.{◌≡◌, ℕ, ◌-◌, ◌≤◌, ◌⊎◌, Option, Some, None}
+use Rattle.std.specs.Prelude.{ℕ, ◌-◌, ◌≤◌, Option, Some, None}
 use Rattle.shogi_board.specs.declared.color.Color.{Color}
 use Rattle.shogi_board.specs.declared.color.Color.TheVariants.{Black, White}
 use Rattle.shogi_board.specs.declared.kind.Kind.{Kind}
-use Rattle.shogi_board.specs.declared.kind.Kind.TheVariants.{Pawn, Lance, Knight, Silver, Gold, Bishop, Rook, King, ProPawn, ProLance, ProKnight, ProSilver, Horse, Dragon}
+use Rattle.shogi_board.specs.declared.kind.Kind.TheVariants.{Pawn, Lance, Knight, Silver, Bishop, Rook, ProPawn, ProLance, ProKnight, ProSilver, Horse, Dragon}
 use Rattle.shogi_board.specs.declared.square.Square.{Square}
 use Rattle.shogi_board.specs.Squares.{rank_of}
 

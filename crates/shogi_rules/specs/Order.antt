@@ -1,5 +1,5 @@
 -- The order in which moves are tried.
-use Rattle.std.specs.Prelude.{◌≡◌, ℕ, ◌+◌, ◌*◌, ◌<◌, Bool, Option, Some, None, if◌then◌else◌}
+use Rattle.std.specs.Prelude.{ℕ, ◌+◌, ◌*◌, ◌<◌, Bool, Option, Some, None, if◌then◌else◌}
 use Rattle.shogi_board.specs.Pieces.{is_promoted, place_of, same}
 use Rattle.shogi_board.specs.Placed.{Placed}
 use Rattle.shogi_board.specs.Squares.{place}

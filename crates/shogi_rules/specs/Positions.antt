@@ -1,6 +1,5 @@
 -- A line: a start and the moves from it.
-use Rattle.std.specs.Prelude.{◌≡◌, ◌≤◌, ◌++◌, List, length, [], ◌∷◌, Option, None, Some}
-use Rattle.shogi_board.specs.declared.color.Color.{Color}
+use Rattle.std.specs.Prelude.{◌≡◌, ◌≤◌, ◌++◌, List, length, [], ◌∷◌}
 use Rattle.shogi_board.specs.Placed.{Placed}
 use Rattle.shogi_rules.specs.declared.moves.Move.{Move}
 use Rattle.shogi_rules.specs.After.{after}

@@ -1,5 +1,5 @@
 -- When a position stands for the fourth time, and who gave check all the while.
-use Rattle.std.specs.Prelude.{◌≡◌, ℕ, ◌+◌, ◌<◌, ◌≤◌, Bool, List, Option, Some, length, take, count_by, slice_get}
+use Rattle.std.specs.Prelude.{◌≡◌, ℕ, ◌+◌, ◌<◌, ◌≤◌, List, Some, take, count_by, slice_get}
 use Rattle.shogi_board.specs.contracts.position.PositionPartialEq.TheImpl.{eq-value}
 use Rattle.shogi_board.specs.declared.color.Color.{Color}
 use Rattle.shogi_board.specs.Placed.{Placed}

@@ -1,4 +1,4 @@
-use Rattle.std.proofs.Common.{◌≡◌, arith, inl, inr}
+use Rattle.std.proofs.Common.{◌≡◌, arith, inr}
 use Rattle.shogi_rules.proofs.Alone.{not-over-alone}
 use Rattle.shogi_rules.proofs.Games.{none-legal}
 use Rattle.shogi_rules.proofs.judging.judge.Goals as goal

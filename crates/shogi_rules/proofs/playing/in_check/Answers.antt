@@ -1,6 +1,6 @@
-use Rattle.std.proofs.Common.{◌≡◌, sym}
+use Rattle.std.proofs.Common.{◌≡◌}
 use Rattle.shogi_board.specs.Cells.{at, piece}
-use Rattle.shogi_board.specs.Reach.{Attacked, InCheck}
+use Rattle.shogi_board.specs.Reach.{Attacked}
 use Rattle.shogi_board.specs.declared.kind.Kind.TheVariants.{King}
 use Rattle.shogi_board.proofs.Check.{one-king}
 use Rattle.shogi_rules.proofs.playing.in_check.Goals as goal

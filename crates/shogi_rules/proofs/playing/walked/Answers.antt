@@ -1,5 +1,4 @@
-use Rattle.std.proofs.Common.{◌≡◌, Some, None, sym}
-use Rattle.shogi_board.specs.Cells.{at}
+use Rattle.std.proofs.Common.{sym}
 use Rattle.shogi_rules.proofs.Walks.{start-of, quiet-fits, capture-fits, landing-fits, hand-fits, captured-is}
 use Rattle.shogi_rules.proofs.playing.walked.Goals as goal
 

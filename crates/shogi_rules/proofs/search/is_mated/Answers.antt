@@ -1,4 +1,4 @@
-use Rattle.std.proofs.Common.{◌≡◌, ◌↔◌, IsTrue, Bool, true, false, not, refl}
+use Rattle.std.proofs.Common.{◌↔◌, IsTrue, Bool, true, false, not, refl}
 use Rattle.shogi_board.specs.Placed.{Placed}
 use Rattle.shogi_board.specs.Reach.{InCheck}
 use Rattle.shogi_rules.specs.Legal.{Keeps, Mated}

@@ -1,6 +1,5 @@
-use Rattle.std.proofs.Common.{◌≡◌, Some, true, refl}
+use Rattle.std.proofs.Common.{◌≡◌}
 use Rattle.shogi_rules.specs.Legal.{Keeps}
-use Rattle.shogi_rules.specs.declared.moves.Move.{Move}
 use Rattle.shogi_rules.proofs.search.keeps_at.Goals as goal
 
 pub returns-in-Some : goal.returns-in-Some

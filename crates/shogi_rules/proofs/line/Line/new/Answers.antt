@@ -1,4 +1,4 @@
-use Rattle.std.proofs.Common.{arith, refl, length}
+use Rattle.std.proofs.Common.{arith, refl}
 use Rattle.shogi_rules.specs.Positions.{begun}
 use Rattle.shogi_rules.proofs.line.Line.new.Goals as goal
 

@@ -1,6 +1,6 @@
-use Rattle.std.proofs.Common.{◌≡◌, ◌<◌, [], ◌∷◌, ◌++◌, None, length, ap, ◌∙◌, sym, subst, inl, refl}
+use Rattle.std.proofs.Common.{◌≡◌, ◌<◌, None, length, ap, ◌∙◌, sym, subst, inl, refl}
 use Rattle.shogi_rules.specs.After.{after}
-use Rattle.shogi_rules.specs.Positions.{now_of, all_of, position_after, IsLine, Played}
+use Rattle.shogi_rules.specs.Positions.{now_of, all_of, position_after, Played}
 use Rattle.shogi_rules.specs.Rules.{Kept, all_rules, IsFirstBroken}
 use Rattle.shogi_rules.proofs.Games.{legal-of-none, line-more}
 use Rattle.shogi_rules.proofs.line.Line.play.Goals as goal
