@@ -62,7 +62,7 @@ none-legal p c m answer same h = (
 pub legal-of-none : (ps : List Placed) (p : Placed) (c : Color) (m : Move) → IsFirstBroken (Kept ps p c m) all_rules None → Legal p m
 legal-of-none ps p c m h = let all = all-of-none (Kept ps p c m) all_rules h in let rest = all.1 in legal-of-moves ps p c m rest.1
 
-position-more : (s : Placed) (ms : List Move) (m : Move) → position_after s (ms ++ m ∷ []) ≡ after (position_after s ms) m
+pub position-more : (s : Placed) (ms : List Move) (m : Move) → position_after s (ms ++ m ∷ []) ≡ after (position_after s ms) m
 position-more s [] m = refl
 position-more s (x ∷ xs) m = position-more (after s x) xs m
 

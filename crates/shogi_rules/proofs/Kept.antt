@@ -19,10 +19,12 @@ use Rattle.shogi_board.specs.declared.square.Square.{Square}
 use Rattle.shogi_rules.specs.After.{after, board_after, bag_after, with_bag, with_captured}
 use Rattle.shogi_rules.specs.Kinds.{unpromoted}
 use Rattle.shogi_rules.specs.Legal.{FitsBoard, Keeps}
+use Rattle.shogi_rules.specs.Positions.{position_after, IsGame, begun, played}
 use Rattle.shogi_rules.specs.declared.moves.Move.{Move}
 use Rattle.shogi_rules.specs.declared.moves.Move.TheVariants.{Walk, Put}
 use Rattle.shogi_rules.proofs.Drops.{held-of}
 use Rattle.shogi_rules.proofs.Forms.{form-place, captured-held, unpromoted-place, held-low, held-no-king, king-by-place, opponent-twice, eq-self}
+use Rattle.shogi_rules.proofs.Games.{position-more}
 use Rattle.shogi_rules.proofs.Walks.{Start, start-of, on-board, longer, target-stays, no-king-taken}
 
 abbrev bit : Bool → ℕ
@@ -168,3 +170,9 @@ leads-to-sound p m sound kept =
       };
       safe = λ check. kept.king_safe (rw (opponent-twice p.side) at check);
     }
+
+pub game-sound : (start : Placed) (moves : List Move) → IsSound start → IsGame start moves → IsSound (position_after start moves)
+game-sound start _ sound begun = sound
+game-sound start _ sound (played before m game follows) =
+    let now = game-sound start before sound game in
+    rw (position-more start before m) (leads-to-sound (position_after start before) m now follows.legal.keeps)

@@ -9,3 +9,4 @@ pub mod Places
 pub mod Games
 pub mod Kept
 pub mod Stretches
+pub mod Once

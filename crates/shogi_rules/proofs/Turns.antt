@@ -17,11 +17,11 @@ use Rattle.shogi_rules.specs.declared.moves.Move.TheVariants.{Walk, Put}
 use Rattle.shogi_rules.proofs.Drops.{held-of}
 use Rattle.shogi_rules.proofs.Forms.{held-low, eq-self}
 
-bit-bound : (b : Bool) → (if b then 1 else 0) ≤ 1
+pub bit-bound : (b : Bool) → (if b then 1 else 0) ≤ 1
 bit-bound true = omega arith
 bit-bound false = omega arith
 
-bit-test : (b : Bool) (n : ℕ) → (if b then 1 else 0) ≡ n → (n == 1) ≡ b
+pub bit-test : (b : Bool) (n : ℕ) → (if b then 1 else 0) ≡ n → (n == 1) ≡ b
 bit-test true n e = eq-self n 1 (sym e)
 bit-test false n e = rw (← e) refl
 
@@ -57,11 +57,11 @@ form-promoted ProSilver k h = cc
 form-promoted Horse k h = cc
 form-promoted Dragon k h = cc
 
-form-complete : (was k : Kind) → (k ≡ was) ⊎ (promoted was ≡ Some k) → form_of was (is_promoted k) ≡ Some k
+pub form-complete : (was k : Kind) → (k ≡ was) ⊎ (promoted was ≡ Some k) → form_of was (is_promoted k) ≡ Some k
 form-complete was k (inl e) = rw e (form-own was)
 form-complete was k (inr e) = form-promoted was k e
 
-walk-parts : (n x y b : ℕ) → x < 81 → y < 81 → b ≤ 1 → (x * 81 + y) * 2 + b ≡ n → (x ≡ n / 162) × (y ≡ n / 2 % 81) × (b ≡ n % 2)
+pub walk-parts : (n x y b : ℕ) → x < 81 → y < 81 → b ≤ 1 → (x * 81 + y) * 2 + b ≡ n → (x ≡ n / 162) × (y ≡ n / 2 % 81) × (b ≡ n % 2)
 walk-parts n x y b low low2 bit e =
     let half : n / 2 ≡ x * 81 + y = omega arith in
     (omega arith, omega arith, omega arith)

@@ -2,22 +2,29 @@
 //!
 //! A law is a function that does nothing: its contract is the law.
 
-ghost use Rattle.std.specs.Prelude.{◌≡◌, ℕ, List};
+ghost use Rattle.std.specs.Prelude.{◌≡◌, ℕ, List, Option};
 ghost use Rattle.shogi_board.specs.Cells.{at, piece};
 ghost use Rattle.shogi_board.specs.Pieces.{opponent};
 ghost use Rattle.shogi_board.specs.Placed.{Placed};
 ghost use Rattle.shogi_board.specs.Sound.{IsSound};
 ghost use Rattle.shogi_board.specs.Reach.{InCheck};
 ghost use Rattle.shogi_board.specs.Totals.{total};
+ghost use Rattle.shogi_board.specs.declared.color.Color.{Color};
 ghost use Rattle.shogi_board.specs.declared.kind.Kind.{Kind};
 ghost use Rattle.shogi_board.specs.declared.kind.Kind.TheVariants.{King};
 ghost use Rattle.shogi_board.specs.declared.square.Square.{Square};
 ghost use Rattle.shogi_rules.specs.After.{after};
 ghost use Rattle.shogi_rules.specs.Legal.{HasPiece, ReachesTarget, Legal};
+ghost use Rattle.shogi_rules.specs.Order.{IsFirstLegal};
+ghost use Rattle.shogi_rules.specs.Play.{Answers};
+ghost use Rattle.shogi_rules.specs.Positions.{Played, position_after, IsGame};
 ghost use Rattle.shogi_rules.specs.Repetition.{IsNth};
+ghost use Rattle.shogi_rules.specs.Rules.{Kept, all_rules, IsFirstBroken};
 ghost use Rattle.shogi_rules.specs.Verdicts.{Stands};
+ghost use Rattle.shogi_rules.specs.declared.line.PlayFault.{PlayFault};
 ghost use Rattle.shogi_rules.specs.declared.line.Verdict.{Verdict};
 ghost use Rattle.shogi_rules.specs.declared.moves.Move.{Move};
+ghost use Rattle.shogi_rules.specs.declared.rule.Rule.{Rule};
 
 /// In a sound position no walk that reaches its target lands on the enemy king.
 pub fn king_never_taken()
@@ -29,7 +36,12 @@ pub fn legal_move_keeps_soundness()
     ensures { (p : Placed) (m : Move) → IsSound p → Legal p m → IsSound (after p m) }
 {}
 
-/// It adds no piece and takes none: of each kind, promoted pieces counted with their unpromoted kind, as many stand on
+/// So does a game.
+pub fn game_keeps_soundness()
+    ensures { (start : Placed) (moves : List Move) → IsSound start → IsGame start moves → IsSound (position_after start moves) }
+{}
+
+/// A legal move adds no piece and takes none: of each kind, promoted pieces counted with their unpromoted kind, as many stand on
 /// the board and in both hands as before.
 pub fn pieces_stay()
     ensures { (p : Placed) (m : Move) (kind : Kind) → IsSound p → Legal p m → total (after p m).board (after p m).black (after p m).white kind ≡ total p.board p.black p.white kind }
@@ -43,6 +55,21 @@ pub fn mover_not_in_check()
 /// After a move the other side is to move.
 pub fn other_side_moves()
     ensures { (p : Placed) (m : Move) → (after p m).side ≡ opponent p.side }
+{}
+
+/// One rule, or none, is the first that a move breaks.
+pub fn one_first_broken_rule()
+    ensures { (ps : List Placed) (p : Placed) (color : Color) (m : Move) (a b : Option Rule) → IsFirstBroken (Kept ps p color m) all_rules a → IsFirstBroken (Kept ps p color m) all_rules b → a ≡ b }
+{}
+
+/// Memory aside, one answer to a move that is to be played holds.
+pub fn one_answer()
+    ensures { (line : Played) (color : Color) (m : Move) (a b : Option PlayFault) → Answers line color m a → Answers line color m b → a ≡ b }
+{}
+
+/// One move is the first legal one.
+pub fn one_first_legal()
+    ensures { (p : Placed) (m n : Move) → IsFirstLegal p m → IsFirstLegal p n → m ≡ n }
 {}
 
 /// A position stands for the n-th time at one place of a list.

@@ -369,9 +369,13 @@ fn tells_the_parts_of_moves(rt: HostRuntime) -> Result<(), Fail> {
     // a law does nothing when it runs
     laws::king_never_taken();
     laws::legal_move_keeps_soundness();
+    laws::game_keeps_soundness();
     laws::pieces_stay();
     laws::mover_not_in_check();
     laws::other_side_moves();
+    laws::one_first_broken_rule();
+    laws::one_answer();
+    laws::one_first_legal();
     laws::nth_place_once();
     laws::one_verdict();
     Ok(())
@@ -379,10 +383,31 @@ fn tells_the_parts_of_moves(rt: HostRuntime) -> Result<(), Fail> {
 
 #[test]
 fn prints_names_and_numbers(rt: HostRuntime) -> Result<(), Fail> {
-    let text = format!(in rt.alloc(); "{}", Rule::PawnDropMate)?;
-    assert_eq!(rt; text.as_str(), "rule 11 PawnDropMate");
-    let text = format!(in rt.alloc(); "{}", PlayFault::Broken(Rule::NoPiece))?;
-    assert_eq!(rt; text.as_str(), "rule 3 NoPiece");
+    let table = [
+        (PlayFault::Broken(Rule::WrongSide), "rule 1 WrongSide"),
+        (
+            PlayFault::Broken(Rule::RepetitionOver),
+            "rule 2 RepetitionOver",
+        ),
+        (PlayFault::Broken(Rule::NoPiece), "rule 3 NoPiece"),
+        (PlayFault::Broken(Rule::WrongKind), "rule 4 WrongKind"),
+        (PlayFault::Broken(Rule::Occupied), "rule 5 Occupied"),
+        (PlayFault::Broken(Rule::CannotReach), "rule 6 CannotReach"),
+        (PlayFault::Broken(Rule::BadPromotion), "rule 7 BadPromotion"),
+        (PlayFault::Broken(Rule::MustPromote), "rule 8 MustPromote"),
+        (PlayFault::Broken(Rule::DoubledPawn), "rule 9 DoubledPawn"),
+        (PlayFault::Broken(Rule::LeavesKing), "rule 10 LeavesKing"),
+        (
+            PlayFault::Broken(Rule::PawnDropMate),
+            "rule 11 PawnDropMate",
+        ),
+        (PlayFault::TooManyMoves, "too many moves"),
+        (PlayFault::OutOfMemory, "out of memory"),
+    ];
+    for (fault, wanted) in table {
+        let text = format!(in rt.alloc(); "{fault}")?;
+        assert_eq!(rt; text.as_str(), wanted);
+    }
     Ok(())
 }
 

@@ -1,0 +1,6 @@
+use Rattle.shogi_rules.specs.Rules.{Kept, all_rules}
+use Rattle.shogi_rules.proofs.Once.{one-broken}
+use Rattle.shogi_rules.proofs.laws.one_first_broken_rule.Goals as goal
+
+pub returns : goal.returns
+returns c = λ ps p color m a b h k. one-broken (Kept ps p color m) all_rules a b h k
