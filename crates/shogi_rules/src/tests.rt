@@ -340,6 +340,9 @@ fn keeps_captured_pieces_unpromoted(rt: HostRuntime) -> Result<(), Fail> {
     play_all(&mut line, "+7776FU -3334FU +8822UM -3122GI ")?;
     assert_eq!(rt; line.now().hand(Color::White).count(Kind::Bishop), 1);
     assert_eq!(rt; line.now().hand(Color::Black).count(Kind::Bishop), 1);
+    let wanted =
+        "-91KY -81KE -71GI -61KI -51OU -41KI -21KE -11KY -82HI -22GI -93FU -83FU -73FU -63FU -53FU -43FU -23FU -13FU -34FU +76FU +97FU +87FU +67FU +57FU +47FU +37FU +27FU +17FU +28HI +99KY +89KE +79GI +69KI +59OU +49KI +39GI +29KE +19KY +00KA -00KA ";
+    assert_eq!(rt; line.now(), position(Color::Black, wanted)?);
     Ok(())
 }
 
@@ -447,39 +450,21 @@ fn nth_move(n: usize) -> Option<Move> {
     })
 }
 
-// The legal moves of the side to move: of every move, those that `judge` lets through.
-fn count_moves(p: &Position) -> usize {
+// How many lines of that many legal moves there are: at each step, of every move, those that `judge` lets through.
+fn count_lines(p: &Position, depth: usize) -> usize {
+    if depth == 0 {
+        return 1;
+    }
     let mut count = 0usize;
     for mv in (0..EVERY_MOVE).filter_map(nth_move) {
         if judge(p, p.side(), &mv).is_none() {
-            count = count.wrapping_add(1);
+            count = count.wrapping_add(count_lines(&after(p, &mv), depth - 1));
         }
     }
     count
 }
 
-// The same after each legal move.
-fn count_replies(p: &Position) -> usize {
-    let mut count = 0usize;
-    for mv in (0..EVERY_MOVE).filter_map(nth_move) {
-        if judge(p, p.side(), &mv).is_none() {
-            count = count.wrapping_add(count_moves(&after(p, &mv)));
-        }
-    }
-    count
-}
-
-// And after each of those.
-fn count_third_moves(p: &Position) -> usize {
-    let mut count = 0usize;
-    for mv in (0..EVERY_MOVE).filter_map(nth_move) {
-        if judge(p, p.side(), &mv).is_none() {
-            count = count.wrapping_add(count_replies(&after(p, &mv)));
-        }
-    }
-    count
-}
-
+// Some seconds as `rt test` builds it; `rt try --test` needs `--seconds 600` here and for the ten thousand moves.
 // Counts that programs for shogi agree on: one, two and three moves deep at the even start, at the position with the
 // most moves that is known, and in two games.
 #[test]
@@ -490,12 +475,17 @@ fn counts_legal_moves(rt: HostRuntime) -> Result<(), Fail> {
         "-11KY -82KY +72RY +42FU -93FU -63FU +53KA +43KI -23FU -13FU -94OU -84FU -74GI -54FU +95KE -85KE +65FU +35KI +96FU +76FU +56FU +26FU +16FU +87FU +77GI +88OU +78GI +68KI -28RY +99KY +89KE -59TO +19KY +00GI -00AL ";
     let opening =
         "-91KY -81KE -71GI -61KI -51OU -21KE -11KY -82HI -32KI -22GI -93FU -73FU -63FU -53FU -43FU -23FU -13FU -84FU -34FU +25FU +76FU +97FU +87FU +67FU +57FU +47FU +37FU +17FU +88GI +78KI +28HI +99KY +89KE +59OU +49KI +39GI +29KE +19KY +00KA -00AL ";
-    assert_eq!(rt; count_moves(&Position::even()), 30);
-    assert_eq!(rt; count_replies(&Position::even()), 900);
-    assert_eq!(rt; count_third_moves(&Position::even()), 25_470);
-    assert_eq!(rt; count_moves(&position(Color::Black, most)?), 593);
-    assert_eq!(rt; count_moves(&position(Color::White, attack)?), 178);
-    assert_eq!(rt; count_moves(&position(Color::Black, opening)?), 76);
+    let table = [
+        (Position::even(), 1, 30),
+        (Position::even(), 2, 900),
+        (Position::even(), 3, 25_470),
+        (position(Color::Black, most)?, 1, 593),
+        (position(Color::White, attack)?, 1, 178),
+        (position(Color::Black, opening)?, 1, 76),
+    ];
+    for (p, depth, wanted) in table {
+        assert_eq!(rt; count_lines(&p, depth), wanted);
+    }
     Ok(())
 }
 
@@ -556,7 +546,9 @@ fn ends_after_ten_thousand_moves(rt: HostRuntime) -> Result<(), Fail> {
     let last = line.now();
     assert_eq!(rt; line.moves().len(), 10_000);
     assert_eq!(rt; line.verdict(), Verdict::Ongoing);
-    for text in ["+5352FU", "+5352TO", "-5352FU", "+5551FU", "+0055KI"] {
+    for text in [
+        "+5352FU", "+5352TO", "-5352FU", "+5551FU", "+5352KI", "+5351FU", "+0055KI",
+    ] {
         let (color, mv) = read(text.as_bytes())?;
         assert_eq!(rt;
             line.fault(color, &mv),
