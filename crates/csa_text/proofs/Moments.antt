@@ -38,14 +38,14 @@ differs c mark digit none =
       | inr f ↦ f
     ]
 
-none_of : (mark : ℕ) → (digit_value mark < 10 → ⊥) → (ds : List ℕ) → AllDigits 10 ds → HasNone mark ds
+pub none_of : (mark : ℕ) → (digit_value mark < 10 → ⊥) → (ds : List ℕ) → AllDigits 10 ds → HasNone mark ds
 none_of mark none [] h = tt
 none_of mark none (c ∷ cs) h = (differs c mark h.0 none, none_of mark none cs h.1)
 
 self_equal : (n : ℕ) → (n == n) ≡ false → ⊥
 self_equal n h = grind (arith, nat_tests)
 
-split_same : (mark : ℕ) (bytes a b x y : List ℕ) → IsSplit mark bytes a b → bytes ≡ x ++ mark ∷ y → HasNone mark x → (a ≡ x) × (b ≡ y)
+pub split_same : (mark : ℕ) (bytes a b x y : List ℕ) → IsSplit mark bytes a b → bytes ≡ x ++ mark ∷ y → HasNone mark x → (a ≡ x) × (b ≡ y)
 split_same mark bytes a b x y s whole none =
     let stop : (mark == mark) ≡ false → ⊥ = self_equal mark in
     let same = same_front (λ n. n == mark) false a x (mark ∷ b) (mark ∷ y) s.1 none stop stop (sym s.0 ∙ whole) in

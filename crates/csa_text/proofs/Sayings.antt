@@ -1,153 +1,101 @@
 -- The bytes of a statement spell one thing.
-use Rattle.std.proofs.Common.{◌≡◌, ◌≢◌, ◌<◌, ℕ, get_or, arith, List, [], ◌∷◌, refl, sym, ap, ◌∙◌, inl, inr, ◌⊎◌, codes}
-use Rattle.std.proofs.lemmas.Bool.Decides.{eqb_tells}
+use Rattle.std.proofs.Common.{◌≡◌, ◌≢◌, ℕ, ◌+◌, ◌<◌, ◌≤◌, arith, List, [], ◌∷◌, ◌++◌, length, Option, refl, sym, ap, ◌∙◌, subst, inl, inr, ◌⊎◌}
+use Rattle.std.specs.List.{flat_map}
+use Rattle.std.proofs.lemmas.List.{length-append}
 use Rattle.shogi_board.specs.declared.color.Color.{Color}
-use Rattle.shogi_board.specs.declared.color.Color.TheVariants.{Black, White}
-use Rattle.csa_text.specs.Spelling.{Saying, version, name, even, turn, sign, Spells}
+use Rattle.shogi_board.specs.declared.kind.Kind.{Kind}
+use Rattle.shogi_board.specs.declared.kind.Piece.{Piece}
+use Rattle.shogi_board.specs.declared.square.Square.{Square}
+use Rattle.shogi_board.specs.Squares.{file_of, rank_of}
+use Rattle.shogi_rules.specs.declared.moves.Move.{Move}
+use Rattle.shogi_rules.specs.declared.moves.Move.TheVariants.{Walk, Put}
+use Rattle.csa_text.specs.declared.ending.Ending.{Ending}
+use Rattle.csa_text.specs.declared.pair.Pair.{Pair}
+use Rattle.csa_text.specs.Codes.{sign, square_text, kind_code, cell_text, squares_text}
+use Rattle.csa_text.specs.CodesOnce.{sign_once, kind_once, square_once, no_zero_file, ending_once}
+use Rattle.csa_text.specs.Endings.{ending_name}
+use Rattle.csa_text.specs.PairTexts.{pairs_text}
+use Rattle.csa_text.specs.PairsOnce.{pairs_once}
+use Rattle.csa_text.specs.TimeTexts.{IsTime}
+use Rattle.csa_text.specs.Spelling.{Saying, version, name, header, even, rank, pieces, turn, walked, time, ending, Spells, IsRank, rank_text}
+use Rattle.csa_text.proofs.CellTexts.{cells_once, cells_length}
+use Rattle.csa_text.proofs.Moments.{split_same}
+use Rattle.csa_text.proofs.TimesRead.{time_once}
+use Rattle.csa_text.proofs.Rows.{row_of, begins_so, rank_whole}
 
-same_sign : (a b : Color) → sign a ≡ sign b → a ≡ b
-same_sign Black Black h = refl
-same_sign Black White h = cc
-same_sign White Black h = cc
-same_sign White White h = refl
+squares_once : (m n : Move) → squares_text m ≡ squares_text n → m ≡ n
+squares_once (Walk a b k) (Walk c d l) e =
+    let files : 48 + file_of a ≡ 48 + file_of c = cc in
+    let ranks : 48 + rank_of a ≡ 48 + rank_of c = cc in
+    let files_to : 48 + file_of b ≡ 48 + file_of d = cc in
+    let ranks_to : 48 + rank_of b ≡ 48 + rank_of d = cc in
+    let kinds : kind_code k ≡ kind_code l = cc in
+    ap (λ s. Walk s b k) (square_once a c files ranks) ∙ ap (λ s. Walk c s k) (square_once b d files_to ranks_to) ∙ ap (Walk c d) (kind_once k l kinds)
+squares_once (Walk a b k) (Put d l) e = let zero_file : 48 + file_of a ≡ 48 = cc in absurd (no_zero_file a zero_file)
+squares_once (Put b k) (Walk c d l) e = let zero_file : 48 + file_of c ≡ 48 = cc in absurd (no_zero_file c zero_file)
+squares_once (Put b k) (Put d l) e =
+    let files_to : 48 + file_of b ≡ 48 + file_of d = cc in
+    let ranks_to : 48 + rank_of b ≡ 48 + rank_of d = cc in
+    let kinds : kind_code k ≡ kind_code l = cc in
+    ap (λ s. Put s k) (square_once b d files_to ranks_to) ∙ ap (Put d) (kind_once k l kinds)
 
--- the first byte
-abbrev first_of : List ℕ → ℕ
-first_of bytes = get_or bytes 0 0
+two_same : (p a b : ℕ) (x y : List ℕ) → p ∷ a ∷ x ≡ p ∷ b ∷ y → (a ≡ b) × (x ≡ y)
+two_same p a b x y e =
+    let first : a ≡ b = cc in
+    let rest : x ≡ y = cc in
+    (first, rest)
 
-version_begins : (bytes : List ℕ) → Spells bytes version → first_of bytes ≡ 86
-version_begins bytes p = elim p [ inl h ↦ ap first_of h | inr k ↦ elim k [ inl h ↦ ap first_of h | inr h ↦ ap first_of h ] ]
+tail_same : (a : ℕ) (x y : List ℕ) → a ∷ x ≡ a ∷ y → x ≡ y
+tail_same a x y e = cc
 
-name_begins : (bytes : List ℕ) (color : Color) (text : List ℕ) → Spells bytes (name color text) → first_of bytes ≡ 78
-name_begins bytes color text p = ap first_of p
+signed_same : (a b : Color) (x y : List ℕ) → sign a ∷ x ≡ sign b ∷ y → (a ≡ b) × (x ≡ y)
+signed_same a b x y e =
+    let first : sign a ≡ sign b = cc in
+    let rest : x ≡ y = cc in
+    (sign_once a b first, rest)
 
-even_begins : (bytes pairs : List ℕ) → Spells bytes (even pairs) → first_of bytes ≡ 80
-even_begins bytes pairs p = ap first_of p.0
+two_lengths : (bytes : List ℕ) (m n : ℕ) (c d : List (Option Piece)) → length c ≡ 9 → length d ≡ 9 → bytes ≡ rank_text m c → bytes ++ 32 ∷ [] ≡ rank_text n d → ⊥
+two_lengths bytes m n c d nine also e f =
+    let one : length bytes ≡ 2 + length (flat_map cell_text c) = ap length e ∙ omega arith in
+    let two : length (bytes ++ 32 ∷ []) ≡ 2 + length (flat_map cell_text d) = ap length f ∙ omega arith in
+    omega (arith, one, two, nine, also, length-append bytes (32 ∷ []), cells_length (flat_map cell_text c) c refl, cells_length (flat_map cell_text d) d refl)
 
-sign_bound : (color : Color) → sign color < 78
-sign_bound Black = omega arith
-sign_bound White = omega arith
+same_cells : (bytes : List ℕ) (m n : ℕ) (c d : List (Option Piece)) → length c ≡ 9 → length d ≡ 9 → (bytes ≡ rank_text m c) ⊎ (bytes ++ 32 ∷ [] ≡ rank_text m c) → (bytes ≡ rank_text n d) ⊎ (bytes ++ 32 ∷ [] ≡ rank_text n d) → (m ≡ n) × (c ≡ d)
+same_cells bytes m n c d nine also (inl e) (inl f) =
+    let parts = two_same 80 (48 + m) (48 + n) (flat_map cell_text c) (flat_map cell_text d) (sym e ∙ f) in
+    (omega (arith, parts.0), cells_once c d parts.1)
+same_cells bytes m n c d nine also (inr e) (inr f) =
+    let parts = two_same 80 (48 + m) (48 + n) (flat_map cell_text c) (flat_map cell_text d) (sym e ∙ f) in
+    (omega (arith, parts.0), cells_once c d parts.1)
+same_cells bytes m n c d nine also (inl e) (inr f) = absurd (two_lengths bytes m n c d nine also e f)
+same_cells bytes m n c d nine also (inr e) (inl f) = absurd (two_lengths bytes n m d c also nine f e)
 
-turn_begins : (bytes : List ℕ) (color : Color) → Spells bytes (turn color) → first_of bytes < 78
-turn_begins bytes color p = let first : first_of bytes ≡ sign color = ap first_of p in omega (arith, sign_bound color)
-
-version_is_no_name : (bytes : List ℕ) (color : Color) (text : List ℕ) → Spells bytes version → Spells bytes (name color text) → ⊥
-version_is_no_name bytes color text p q = omega (arith, version_begins bytes p, name_begins bytes color text q)
-
-version_is_not_even : (bytes : List ℕ) (pairs : List ℕ) → Spells bytes version → Spells bytes (even pairs) → ⊥
-version_is_not_even bytes pairs p q = omega (arith, version_begins bytes p, even_begins bytes pairs q)
-
-version_is_no_turn : (bytes : List ℕ) (color : Color) → Spells bytes version → Spells bytes (turn color) → ⊥
-version_is_no_turn bytes color p q = omega (arith, version_begins bytes p, turn_begins bytes color q)
-
-name_is_no_turn : (bytes : List ℕ) (a b : Color) (text : List ℕ) → Spells bytes (name a text) → Spells bytes (turn b) → ⊥
-name_is_no_turn bytes a b text p q = omega (arith, name_begins bytes a text p, turn_begins bytes b q)
-
-name_is_not_even : (bytes : List ℕ) (color : Color) (text pairs : List ℕ) → Spells bytes (name color text) → Spells bytes (even pairs) → ⊥
-name_is_not_even bytes color text pairs p q = omega (arith, name_begins bytes color text p, even_begins bytes pairs q)
-
-even_is_no_turn : (bytes : List ℕ) (color : Color) (pairs : List ℕ) → Spells bytes (even pairs) → Spells bytes (turn color) → ⊥
-even_is_no_turn bytes color pairs p q = omega (arith, even_begins bytes pairs p, turn_begins bytes color q)
-
-same_name : (bytes : List ℕ) (a b : Color) (x y : List ℕ) → Spells bytes (name a x) → Spells bytes (name b y) → name a x ≡ name b y
-same_name bytes a b x y p q =
-    let whole : 78 ∷ sign a ∷ x ≡ 78 ∷ sign b ∷ y = sym p ∙ q in
-    let color : a ≡ b = same_sign a b cc in
-    let text : x ≡ y = cc in
-    ap (λ c. name c x) color ∙ ap (name b) text
-
-same_even : (bytes : List ℕ) (x y : List ℕ) → Spells bytes (even x) → Spells bytes (even y) → even x ≡ even y
-same_even bytes x y p q = ap even (p.1 ∙ sym q.1)
-
-same_turn : (bytes : List ℕ) (a b : Color) → Spells bytes (turn a) → Spells bytes (turn b) → turn a ≡ turn b
-same_turn bytes a b p q =
-    let whole : sign a ∷ [] ≡ sign b ∷ [] = sym p ∙ q in
-    ap turn (same_sign a b cc)
+same_rank : (bytes : List ℕ) (m n : ℕ) (c d : List (Option Piece)) → IsRank bytes m c → IsRank bytes n d → rank m c ≡ rank n d
+same_rank bytes m n c d p q =
+    let same = same_cells bytes m n c d p.nine q.nine p.whole q.whole in
+    ap (λ k. rank k c) same.0 ∙ ap (rank n) same.1
 
 pub same_saying : (bytes : List ℕ) (a b : Saying) → Spells bytes a → Spells bytes b → a ≡ b
 same_saying bytes version version p q = refl
-same_saying bytes version (name c t) p q = absurd (version_is_no_name bytes c t p q)
-same_saying bytes version (even x) p q = absurd (version_is_not_even bytes x p q)
-same_saying bytes version (turn c) p q = absurd (version_is_no_turn bytes c p q)
-same_saying bytes (name a x) version p q = absurd (version_is_no_name bytes a x q p)
-same_saying bytes (name a x) (name b y) p q = same_name bytes a b x y p q
-same_saying bytes (name a x) (even y) p q = absurd (name_is_not_even bytes a x y p q)
-same_saying bytes (name a x) (turn b) p q = absurd (name_is_no_turn bytes a b x p q)
-same_saying bytes (even x) version p q = absurd (version_is_not_even bytes x q p)
-same_saying bytes (even x) (name b y) p q = absurd (name_is_not_even bytes b y x q p)
-same_saying bytes (even x) (even y) p q = same_even bytes x y p q
-same_saying bytes (even x) (turn b) p q = absurd (even_is_no_turn bytes b x p q)
-same_saying bytes (turn a) version p q = absurd (version_is_no_turn bytes a q p)
-same_saying bytes (turn a) (name b y) p q = absurd (name_is_no_turn bytes b a y q p)
-same_saying bytes (turn a) (even y) p q = absurd (even_is_no_turn bytes a y q p)
-same_saying bytes (turn a) (turn b) p q = same_turn bytes a b p q
-
--- two lists of numbers are the same or not
-same_or_not : (a b : List ℕ) → (a ≡ b) ⊎ (a ≡ b → ⊥)
-same_or_not [] [] = inl refl
-same_or_not [] (y ∷ ys) = inr (λ e. cc)
-same_or_not (x ∷ xs) [] = inr (λ e. cc)
-same_or_not (x ∷ xs) (y ∷ ys) =
-    elim (eqb_tells x y) [
-      | inl heads ↦
-          elim (same_or_not xs ys) [
-            | inl tails ↦ inl (ap (λ z. z ∷ xs) heads.1 ∙ ap (λ zs. y ∷ zs) tails)
-            | inr other ↦ inr (λ e. let tails : xs ≡ ys = cc in other tails)
-          ]
-      | inr heads ↦ inr (λ e. let head : x ≡ y = cc in heads.1 head)
-    ]
-
-no_sign : (b : ℕ) (color : Color) → b ≢ 43 → b ≢ 45 → b ≡ sign color → ⊥
-no_sign b Black plus minus e = plus e
-no_sign b White plus minus e = minus e
-
-none_of : (bytes : List ℕ) → (bytes ≡ codes "V2" → ⊥) → (bytes ≡ codes "V2.1" → ⊥) → (bytes ≡ codes "V2.2" → ⊥) → (bytes ≡ codes "PI" → ⊥) → (bytes ≡ 43 ∷ [] → ⊥) → (bytes ≡ 45 ∷ [] → ⊥) → ((color : Color) (text : List ℕ) → bytes ≡ 78 ∷ sign color ∷ text → ⊥) → (s : Saying) → Spells bytes s → ⊥
-none_of bytes a b c d e f g version h = elim h [ inl i ↦ a i | inr j ↦ elim j [ inl i ↦ b i | inr i ↦ c i ] ]
-none_of bytes a b c d e f g (name color text) h = g color text h
-none_of bytes a b c d e f g (even pairs) h = d h.0
-none_of bytes a b c d e f g (turn Black) h = e h
-none_of bytes a b c d e f g (turn White) h = f h
-
--- a name behind `N` and a sign
-named : (bytes : List ℕ) → ((color : Color) × (text : List ℕ) × (bytes ≡ 78 ∷ sign color ∷ text)) ⊎ ((color : Color) (text : List ℕ) → bytes ≡ 78 ∷ sign color ∷ text → ⊥)
-named [] = inr (λ color text e. cc)
-named (a ∷ []) = inr (λ color text e. cc)
-named (a ∷ b ∷ text) =
-    elim (eqb_tells a 78) [
-      | inl from ↦
-          elim (eqb_tells b 43) [
-            | inl plus ↦ inl (Black, text, ap (λ n. n ∷ b ∷ text) from.1 ∙ ap (λ n. 78 ∷ n ∷ text) plus.1)
-            | inr other ↦
-                elim (eqb_tells b 45) [
-                  | inl minus ↦ inl (White, text, ap (λ n. n ∷ b ∷ text) from.1 ∙ ap (λ n. 78 ∷ n ∷ text) minus.1)
-                  | inr neither ↦ inr (λ color rest e. no_sign b color other.1 neither.1 cc)
-                ]
-          ]
-      | inr other ↦ inr (λ color rest e. let head : a ≡ 78 = cc in other.1 head)
-    ]
-
--- bytes spell something or nothing
-pub spells_or_not : (bytes : List ℕ) → ((s : Saying) × Spells bytes s) ⊎ ((s : Saying) → Spells bytes s → ⊥)
-spells_or_not bytes =
-    elim (same_or_not bytes (codes "V2")) [
-      | inl h ↦ inl (version, inl h)
-      | inr a ↦ elim (same_or_not bytes (codes "V2.1")) [
-        | inl h ↦ inl (version, inr (inl h))
-        | inr b ↦ elim (same_or_not bytes (codes "V2.2")) [
-          | inl h ↦ inl (version, inr (inr h))
-          | inr c ↦ elim (same_or_not bytes (codes "PI")) [
-            | inl h ↦ inl (even [], (h, refl))
-            | inr d ↦ elim (same_or_not bytes (43 ∷ [])) [
-              | inl h ↦ inl (turn Black, h)
-              | inr e ↦ elim (same_or_not bytes (45 ∷ [])) [
-                | inl h ↦ inl (turn White, h)
-                | inr f ↦ elim (named bytes) [
-                  | inl h ↦ inl (name h.0 h.1, h.2)
-                  | inr g ↦ inr (none_of bytes a b c d e f g)
-                ]
-              ]
-            ]
-          ]
-        ]
-      ]
-    ]
+same_saying bytes (name a x) (name b y) p q =
+    let same = signed_same a b x y (tail_same 78 (sign a ∷ x) (sign b ∷ y) (sym p ∙ q)) in
+    ap (λ c. name c x) same.0 ∙ ap (name b) same.1
+same_saying bytes (header a x) (header b y) p q =
+    let line : p.line ≡ q.line = tail_same 36 p.line q.line (sym p.whole ∙ q.whole) in
+    let same = split_same 58 p.line a x b y p.split (line ∙ q.split.0) q.split.1 in
+    ap (λ k. header k x) same.0 ∙ ap (header b) same.1
+same_saying bytes (even x) (even y) p q =
+    ap even (pairs_once x y (two_same 80 73 73 (pairs_text x) (pairs_text y) (sym p.0 ∙ q.0)).1)
+same_saying bytes (rank m c) (rank n d) p q = same_rank bytes m n c d p q
+same_saying bytes (pieces a x) (pieces b y) p q =
+    let same = signed_same a b (pairs_text x) (pairs_text y) (tail_same 80 (sign a ∷ pairs_text x) (sign b ∷ pairs_text y) (sym p ∙ q)) in
+    ap (λ c. pieces c x) same.0 ∙ ap (pieces b) (pairs_once x y same.1)
+same_saying bytes (turn a) (turn b) p q = ap turn (signed_same a b [] [] (sym p ∙ q)).0
+same_saying bytes (walked a m) (walked b n) p q =
+    let same = signed_same a b (squares_text m) (squares_text n) (sym p ∙ q) in
+    ap (λ c. walked c m) same.0 ∙ ap (walked b) (squares_once m n same.1)
+same_saying bytes (time m) (time n) p q =
+    let text : p.0 ≡ q.0 = tail_same 84 p.0 q.0 (sym p.1 ∙ q.1) in
+    ap time (time_once p.0 m n p.2 (rw text q.2))
+same_saying bytes (ending a) (ending b) p q = ap ending (ending_once a b (tail_same 37 (ending_name a) (ending_name b) (sym p ∙ q)))
+same_saying bytes a b p q = let row : row_of a ≡ row_of b = sym (begins_so bytes a p) ∙ begins_so bytes b q in absurd (omega (arith, row))

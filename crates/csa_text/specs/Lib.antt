@@ -1,5 +1,11 @@
 pub mod Cut
 pub mod Cutting
+pub mod Codes
+pub mod PairTexts
+pub mod CodesOnce
+pub mod PairsOnce
+pub mod Endings
+pub mod TimeTexts
 pub mod Saying
 pub mod Spelling
 pub mod Lines

@@ -1,24 +1,17 @@
-ghost use Rattle.std.specs.Prelude.{◌≡◌, ◌/◌, MatchResult, length};
+ghost use Rattle.std.specs.Prelude.{◌≡◌, ◌∷◌, MatchResult};
+ghost use Rattle.csa_text.specs.Codes.{sign};
 ghost use Rattle.csa_text.specs.Spelling.{Saying, Spells, fault_of_row};
-ghost use Rattle.csa_text.specs.Saying.{pair_bytes, saying_of};
+ghost use Rattle.csa_text.specs.Saying.{saying_of, IsRead};
 
+use crate::ending::{Ending, read_ending};
 use crate::fault::TextFault;
-use shogi_board::Color;
-
-/// The pairs of a square and a kind behind `PI`, `P+` or `P-`.
-#[derive(Clone, Copy, Debug, PartialEq, Eq)]
-pub struct Pairs<'a> {
-    bytes: &'a [u8],
-}
-
-impl<'a> Pairs<'a> {
-    /// How many pairs there are.
-    pub fn len(&self) -> usize
-        ensures { result ≡ length (pair_bytes self.now) / 4 }
-    {
-        self.bytes.len() / 4
-    }
-}
+use crate::moment::split_at_byte;
+use crate::moved::read_move;
+use crate::pairs::Pairs;
+use crate::rank::read_rank;
+use crate::time::read_time;
+use shogi_board::{Color, Piece};
+use shogi_rules::Move;
 
 /// What a statement says. It borrows the statement.
 #[derive(Clone, Copy, Debug, PartialEq, Eq)]
@@ -27,29 +20,150 @@ pub enum Item<'a> {
     Version,
     /// `N+` or `N-`, and the name, which may be empty.
     Name(Color, &'a [u8]),
-    /// `PI`: the even start, less the pieces of the pairs.
+    /// `$`, the key, `:` and the text. The key is not empty and ends at the first colon.
+    Header(&'a [u8], &'a [u8]),
+    /// `PI`: the even start, less the pieces of the pairs, each of a square and a kind.
     Even(Pairs<'a>),
+    /// `P1` to `P9`: the number of the rank, and its cells from file 9 to file 1.
+    Rank(u8, [Option<Piece>; 9]),
+    /// `P+` or `P-`: pieces of that side.
+    Pieces(Color, Pairs<'a>),
     /// `+` or `-` alone: the side to move.
     Turn(Color),
+    /// A move of that side, `+7776FU`, or a drop, `+0055FU`. Any of the 14 kinds may stand in it.
+    Walked(Color, Move),
+    /// `T` and the time that the move or the ending before it took, in thousandths of a second.
+    Time(u64),
+    /// `%` and how the game ended.
+    Ending(Ending),
 }
 
 /// What the bytes of one statement spell, or the fault of their row of the grammar.
 ///
-/// The bytes are those of a `Statement`. Until the grammar is whole only `BadVersion` and `Unknown`
-/// are answered; `StatementTooLong` never is: it is the cutter's.
+/// The bytes are those of a `Statement`. The fault is given by how they begin: `BadVersion` for `V`,
+/// `BadHeader` for `$`, `BadPosition` for `PI`, `P+`, `P-` and `P1` to `P9`, `BadMove` for `+` and
+/// `-`, `BadTime` for `T`, `UnknownEnding` for `%`, and `Unknown` for all else. `StatementTooLong`
+/// is the cutter's and is never answered.
 pub fn read_item(bytes: &[u8]) -> Result<Item<'_>, TextFault>
     ensures { MatchResult result
         (λ item. Spells bytes.now (saying_of item))
         (λ fault. ((saying : Saying) → Spells bytes.now saying → ⊥) × (fault ≡ fault_of_row bytes.now)) }
 {
     match bytes {
-        b"V2" | b"V2.1" | b"V2.2" => Ok(Item::Version),
-        [b'V', ..] => Err(TextFault::BadVersion),
-        b"PI" => Ok(Item::Even(Pairs { bytes: &[] })),
-        b"+" => Ok(Item::Turn(Color::Black)),
-        b"-" => Ok(Item::Turn(Color::White)),
-        [b'N', b'+', text @ ..] => Ok(Item::Name(Color::Black, text)),
-        [b'N', b'-', text @ ..] => Ok(Item::Name(Color::White, text)),
+        [b'V', number @ ..] => read_version(number),
+        [b'N', name @ ..] => read_name(name),
+        [b'$', line @ ..] => read_header(line),
+        [b'P', start @ ..] => read_start(start),
+        [b'+', squares @ ..] => read_signed(Color::Black, squares),
+        [b'-', squares @ ..] => read_signed(Color::White, squares),
+        [b'T', text @ ..] => read_spent(text),
+        [b'%', name @ ..] => read_end(name),
         _ => Err(TextFault::Unknown),
+    }
+}
+
+// Behind `V`.
+fn read_version(number: &[u8]) -> Result<Item<'_>, TextFault>
+    ensures { IsRead (86 ∷ number.now) result }
+{
+    match number {
+        b"2" | b"2.1" | b"2.2" => Ok(Item::Version),
+        _ => Err(TextFault::BadVersion),
+    }
+}
+
+// Behind `N`.
+fn read_name(name: &[u8]) -> Result<Item<'_>, TextFault>
+    ensures { IsRead (78 ∷ name.now) result }
+{
+    match name {
+        [b'+', text @ ..] => Ok(Item::Name(Color::Black, text)),
+        [b'-', text @ ..] => Ok(Item::Name(Color::White, text)),
+        _ => Err(TextFault::Unknown),
+    }
+}
+
+// Behind `$`.
+fn read_header(line: &[u8]) -> Result<Item<'_>, TextFault>
+    ensures { IsRead (36 ∷ line.now) result }
+{
+    let Some((key, text)) = split_at_byte(line, b':') else {
+        return Err(TextFault::BadHeader);
+    };
+    if key.is_empty() {
+        return Err(TextFault::BadHeader);
+    }
+    Ok(Item::Header(key, text))
+}
+
+// Behind `P`.
+fn read_start(start: &[u8]) -> Result<Item<'_>, TextFault>
+    ensures { IsRead (80 ∷ start.now) result }
+{
+    match start {
+        [b'I', pairs @ ..] => read_even(pairs),
+        [b'+', pairs @ ..] => read_pieces(Color::Black, pairs),
+        [b'-', pairs @ ..] => read_pieces(Color::White, pairs),
+        [number @ b'1'..=b'9', cells @ ..] => match read_rank(cells) {
+            Some(cells) => Ok(Item::Rank(*number - b'0', cells)),
+            None => Err(TextFault::BadPosition),
+        },
+        _ => Err(TextFault::Unknown),
+    }
+}
+
+// Behind `PI`.
+fn read_even(pairs: &[u8]) -> Result<Item<'_>, TextFault>
+    ensures { IsRead (80 ∷ 73 ∷ pairs.now) result }
+{
+    let Some(pairs) = Pairs::read(pairs) else {
+        return Err(TextFault::BadPosition);
+    };
+    if !pairs.are_on_board() {
+        return Err(TextFault::BadPosition);
+    }
+    Ok(Item::Even(pairs))
+}
+
+// Behind `P` and the sign.
+fn read_pieces(color: Color, pairs: &[u8]) -> Result<Item<'_>, TextFault>
+    ensures { IsRead (80 ∷ sign color ∷ pairs.now) result }
+{
+    match Pairs::read(pairs) {
+        Some(pairs) => Ok(Item::Pieces(color, pairs)),
+        None => Err(TextFault::BadPosition),
+    }
+}
+
+// Behind a sign.
+fn read_signed(color: Color, squares: &[u8]) -> Result<Item<'_>, TextFault>
+    ensures { IsRead (sign color ∷ squares.now) result }
+{
+    if squares.is_empty() {
+        return Ok(Item::Turn(color));
+    }
+    match read_move(squares) {
+        Some(m) => Ok(Item::Walked(color, m)),
+        None => Err(TextFault::BadMove),
+    }
+}
+
+// Behind `T`.
+fn read_spent(text: &[u8]) -> Result<Item<'_>, TextFault>
+    ensures { IsRead (84 ∷ text.now) result }
+{
+    match read_time(text) {
+        Some(thousandths) => Ok(Item::Time(thousandths)),
+        None => Err(TextFault::BadTime),
+    }
+}
+
+// Behind `%`.
+fn read_end(name: &[u8]) -> Result<Item<'_>, TextFault>
+    ensures { IsRead (37 ∷ name.now) result }
+{
+    match read_ending(name) {
+        Some(ending) => Ok(Item::Ending(ending)),
+        None => Err(TextFault::UnknownEnding),
     }
 }

@@ -4,21 +4,34 @@
 #![tactic(auto)]
 
 mod calendar;
+mod codes;
 mod cutter;
+mod ending;
 mod fault;
 mod item;
 pub mod laws;
 mod line;
 mod moment;
+mod moved;
+mod pair;
+mod pairs;
 mod piece;
+mod rank;
+mod time;
 
 pub use calendar::Moment;
 pub use cutter::{CutFault, Cutter, Statement};
+pub use ending::Ending;
 pub use fault::TextFault;
-pub use item::{Item, Pairs, read_item};
+pub use item::{Item, read_item};
 pub use line::{LineCutter, LineFault};
 pub use moment::read_moment;
+pub use moved::csa_move;
+pub use pair::Pair;
+pub use pairs::Pairs;
 pub use piece::{Cut, PieceCutter};
 
+#[cfg(test)]
+mod item_tests;
 #[cfg(test)]
 mod tests;

@@ -117,7 +117,7 @@ fn time_digits(bytes: &[u8]) -> Option<(u16, u16, u16)>
 }
 
 // What stands before the first byte of this value, and what stands behind it.
-fn split_at_byte(bytes: &[u8], mark: u8) -> Option<(&[u8], &[u8])>
+pub(crate) fn split_at_byte(bytes: &[u8], mark: u8) -> Option<(&[u8], &[u8])>
     ensures { MatchOption result (HasNone mark bytes.now) (λ r. IsSplit mark bytes.now r.0.now r.1.now) }
 {
     for (i, b) in bytes.iter().enumerate() {
@@ -129,7 +129,7 @@ fn split_at_byte(bytes: &[u8], mark: u8) -> Option<(&[u8], &[u8])>
 }
 
 // The number that the bytes spell in at least and at most so many digits.
-fn read_number(bytes: &[u8], fewest: usize, most: usize) -> Option<u16>
+pub(crate) fn read_number(bytes: &[u8], fewest: usize, most: usize) -> Option<u16>
     requires { most ≤ 4 }
     ensures value { MatchOption result
         ((value : ℕ) → IsNumber fewest most bytes.now value → ⊥)

@@ -1,5 +1,4 @@
-use crate::{CutFault, Cutter, Item, Statement, TextFault, laws, read_item};
-use shogi_board::Color;
+use crate::{CutFault, Cutter, Statement, TextFault};
 use std::test::Fail;
 
 // What a source is cut into: numbers, offsets and bytes.
@@ -33,28 +32,6 @@ const FAULTS: [(TextFault, &str); 8] = [
     (TextFault::BadTime, "C6 BadTime"),
     (TextFault::UnknownEnding, "C7 UnknownEnding"),
     (TextFault::Unknown, "C8 Unknown"),
-];
-
-const ITEMS: [(&[u8], Result<Item, TextFault>); 16] = [
-    (b"V2", Ok(Item::Version)),
-    (b"V2.1", Ok(Item::Version)),
-    (b"V2.2", Ok(Item::Version)),
-    (b"V2.20", Err(TextFault::BadVersion)),
-    (b"V3.0", Err(TextFault::BadVersion)),
-    (b"V", Err(TextFault::BadVersion)),
-    (b"N+", Ok(Item::Name(Color::Black, b""))),
-    (
-        b"N-\x00\xFF, x ",
-        Ok(Item::Name(Color::White, b"\x00\xFF, x ")),
-    ),
-    (b"N", Err(TextFault::Unknown)),
-    (b"Na", Err(TextFault::Unknown)),
-    (b"+", Ok(Item::Turn(Color::Black))),
-    (b"-", Ok(Item::Turn(Color::White))),
-    (b"+7776FU", Err(TextFault::Unknown)),
-    (b"P", Err(TextFault::Unknown)),
-    (b"PI82HI", Err(TextFault::Unknown)),
-    (b"/", Err(TextFault::Unknown)),
 ];
 
 #[test]
@@ -95,20 +72,6 @@ fn limits_a_statement(rt: HostRuntime) {
             }
         }
     }
-}
-
-#[test]
-fn reads_items(rt: HostRuntime) {
-    for (bytes, wanted) in ITEMS {
-        assert_eq!(rt; read_item(bytes), wanted);
-    }
-    if let Ok(Item::Even(pairs)) = read_item(b"PI") {
-        assert_eq!(rt; pairs.len(), 0);
-    } else {
-        assert!(rt; false);
-    }
-    laws::cut_once();
-    laws::spelt_once();
 }
 
 #[test]

@@ -1,4 +1,4 @@
-use Rattle.csa_text.proofs.Ending.{keeps_little}
+use Rattle.csa_text.proofs.Unfinished.{keeps_little}
 use Rattle.csa_text.proofs.piece.PieceCutter.fed.Goals as goal
 
 pub returns-clause-little : goal.returns-clause-little

@@ -1,7 +1,7 @@
 use Rattle.std.proofs.Common.{◌≡◌, ◌-◌, true, false, refl, sym, ap, ◌∙◌}
 use Rattle.csa_text.specs.Cut.{statement_bytes}
 use Rattle.csa_text.specs.Places.{has_unit}
-use Rattle.csa_text.proofs.Ending.{none_left, one_left}
+use Rattle.csa_text.proofs.Unfinished.{none_left, one_left}
 use Rattle.csa_text.proofs.piece.PieceCutter.finish.Goals as goal
 
 pub returns-then-not-unfinished : goal.returns-then-not-unfinished

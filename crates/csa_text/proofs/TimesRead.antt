@@ -1,0 +1,65 @@
+-- How a time is read, and that bytes spell one time at most.
+use Rattle.std.proofs.Common.{◌≡◌, ◌≢◌, ℕ, ◌+◌, ◌*◌, ◌-◌, ◌^◌, ◌<◌, ◌≤◌, ◌==◌, Bool, true, false, arith, List, [], ◌∷◌, ◌++◌, length, take, get_or, refl, sym, ap, ◌∙◌, subst, inl, inr, ◌⊎◌}
+use Rattle.std.proofs.lemmas.Int.Digits.{digits_value_more}
+use Rattle.std.proofs.lemmas.Str.Parse.{digits_value-take-le}
+use Rattle.std.specs.Char.{digit_value}
+use Rattle.std.specs.Str.Parse.{AllDigits, digits_value}
+use Rattle.csa_text.specs.Moment.{IsNumber, HasNone, IsSplit}
+use Rattle.csa_text.specs.TimeTexts.{IsSeconds, IsFraction, HasFraction, IsWhole, IsTime}
+use Rattle.csa_text.proofs.Moments.{none_of, no_split, split_same}
+
+-- the digits so far and the next one are no more than all of them
+so_far : (bytes : List ℕ) (i : ℕ) → i < length bytes → digits_value 10 (take i bytes) * 10 + digit_value (get_or bytes i 0) ≤ digits_value 10 bytes
+so_far bytes i less = omega (arith, digits_value_more 10 bytes i less, digits_value-take-le 10 bytes (i + 1) (omega arith))
+
+pub passes_ten : (bytes : List ℕ) (i seconds value : ℕ) → i < length bytes → seconds ≡ digits_value 10 (take i bytes) → (seconds * 10 < 4294967296 → ⊥) → IsSeconds bytes value → ⊥
+passes_ten bytes i seconds value less is passes n = passes (omega (arith, so_far bytes i less, is, n.value_is, n.limit))
+
+pub passes_digit : (bytes : List ℕ) (i seconds tens digit value : ℕ) → i < length bytes → seconds ≡ digits_value 10 (take i bytes) → tens ≡ seconds * 10 → digit ≡ digit_value (get_or bytes i 0) → (tens + digit < 4294967296 → ⊥) → IsSeconds bytes value → ⊥
+passes_digit bytes i seconds tens digit value less is tens_are digit_is passes n = passes (omega (arith, so_far bytes i less, is, tens_are, digit_is, n.value_is, n.limit))
+
+point : digit_value 46 < 10 → ⊥
+point h = omega arith
+
+no_point : (digits : List ℕ) (seconds : ℕ) → IsSeconds digits seconds → HasNone 46 digits
+no_point digits seconds n = none_of 46 point digits n.digits_only
+
+pub no_whole : (text : List ℕ) → HasNone 46 text → ((seconds : ℕ) → IsSeconds text seconds → ⊥) → (n : ℕ) → IsTime text n → ⊥
+no_whole text none never n t =
+    elim t [
+      | inl whole ↦ never whole.0 whole.1
+      | inr f ↦ no_split 46 text f.digits f.behind none f.whole
+    ]
+
+pub no_front : (text digits behind : List ℕ) → IsSplit 46 text digits behind → ((seconds : ℕ) → IsSeconds digits seconds → ⊥) → (n : ℕ) → IsTime text n → ⊥
+no_front text digits behind split never n t =
+    elim t [
+      | inl whole ↦ no_split 46 text digits behind (no_point text whole.0 whole.1) split.0
+      | inr f ↦ let same = split_same 46 text digits behind f.digits f.behind split f.whole (no_point f.digits f.seconds f.seconds_are) in never f.seconds (rw same.0 f.seconds_are)
+    ]
+
+pub no_fraction : (text digits behind : List ℕ) → IsSplit 46 text digits behind → ((part : ℕ) → IsFraction behind part → ⊥) → (n : ℕ) → IsTime text n → ⊥
+no_fraction text digits behind split never n t =
+    elim t [
+      | inl whole ↦ no_split 46 text digits behind (no_point text whole.0 whole.1) split.0
+      | inr f ↦ let same = split_same 46 text digits behind f.digits f.behind split f.whole (no_point f.digits f.seconds f.seconds_are) in never f.fraction (rw same.1 f.fraction_is)
+    ]
+
+fraction_once : (digits : List ℕ) (a b : ℕ) → IsFraction digits a → IsFraction digits b → a ≡ b
+fraction_once digits a b (v, n, e) (w, m, f) = e ∙ ap (λ x. x * 10 ^ (3 - length digits)) (n.value_is ∙ sym m.value_is) ∙ sym f
+
+seconds_once : (digits : List ℕ) (a b : ℕ) → IsSeconds digits a → IsSeconds digits b → a ≡ b
+seconds_once digits a b n m = n.value_is ∙ sym m.value_is
+
+fractions_once : (text : List ℕ) (m n : ℕ) → HasFraction text m → HasFraction text n → m ≡ n
+fractions_once text m n f g =
+    let same = split_same 46 text f.digits f.behind g.digits g.behind (f.whole, no_point f.digits f.seconds f.seconds_are) g.whole (no_point g.digits g.seconds g.seconds_are) in
+    let seconds : f.seconds ≡ g.seconds = seconds_once f.digits f.seconds g.seconds f.seconds_are (rw same.0 g.seconds_are) in
+    let parts : f.fraction ≡ g.fraction = fraction_once f.behind f.fraction g.fraction f.fraction_is (rw same.1 g.fraction_is) in
+    omega (arith, f.value_is, g.value_is, seconds, parts)
+
+pub time_once : (text : List ℕ) (m n : ℕ) → IsTime text m → IsTime text n → m ≡ n
+time_once text m n (inl w) (inl v) = let same = seconds_once text w.0 v.0 w.1 v.1 in omega (arith, w.2, v.2, same)
+time_once text m n (inl w) (inr g) = absurd (no_split 46 text g.digits g.behind (no_point text w.0 w.1) g.whole)
+time_once text m n (inr f) (inl v) = absurd (no_split 46 text f.digits f.behind (no_point text v.0 v.1) f.whole)
+time_once text m n (inr f) (inr g) = fractions_once text m n f g

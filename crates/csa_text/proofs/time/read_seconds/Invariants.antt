@@ -1,0 +1,10 @@
+use Rattle.std.proofs.Common.{◌≡◌, ◌≤◌, take}
+use Rattle.std.specs.Str.Parse.{AllDigits, digits_value}
+use Rattle.csa_text.proofs.time.read_seconds.Given as goal
+
+abbrev pub invariant-loop-b : goal.invariant-loop-b
+invariant-loop-b l = record {
+  digits : AllDigits 10 (take l.b-index l.digits);
+  limit : l.seconds ≤ 4294967295;
+  value : l.seconds ≡ digits_value 10 (take l.b-index l.digits);
+}

@@ -1,0 +1,34 @@
+-- The time of a move or an ending, in thousandths of a second.
+use Rattle.std.specs.Prelude.{◌≡◌, ℕ, ◌+◌, ◌*◌, ◌-◌, ◌^◌, ◌≤◌, ◌≢◌, ◌⊎◌, List, [], ◌∷◌, ◌++◌, length}
+use Rattle.std.specs.Str.Parse.{AllDigits, digits_value}
+use Rattle.csa_text.specs.Moment.{IsNumber}
+
+-- one or more decimal digits, of a value of at most 4,294,967,295
+pub record IsSeconds (digits : List ℕ) (seconds : ℕ) : Type 0 where
+  pub some : digits ≢ []
+  pub digits_only : AllDigits 10 digits
+  pub value_is : seconds ≡ digits_value 10 digits
+  pub limit : seconds ≤ 4294967295
+
+-- one to three digits behind the point: `5` is 500 thousandths, and `05` is 50
+abbrev pub IsFraction : List ℕ → ℕ → Type 0
+IsFraction digits thousandths =
+    (value : ℕ) × IsNumber 1 3 digits value × (thousandths ≡ value * 10 ^ (3 - length digits))
+
+-- seconds, a point, and a fraction
+pub record HasFraction (text : List ℕ) (thousandths : ℕ) : Type 0 where
+  pub digits : List ℕ
+  pub behind : List ℕ
+  pub seconds : ℕ
+  pub fraction : ℕ
+  pub whole : text ≡ digits ++ 46 ∷ behind
+  pub seconds_are : IsSeconds digits seconds
+  pub fraction_is : IsFraction behind fraction
+  pub value_is : thousandths ≡ seconds * 1000 + fraction
+
+abbrev pub IsWhole : List ℕ → ℕ → Type 0
+IsWhole text thousandths = (seconds : ℕ) × IsSeconds text seconds × (thousandths ≡ seconds * 1000)
+
+-- whole seconds, or seconds with a fraction
+abbrev pub IsTime : List ℕ → ℕ → Type 0
+IsTime text thousandths = IsWhole text thousandths ⊎ HasFraction text thousandths

@@ -1,0 +1,74 @@
+ghost use Rattle.std.specs.Prelude.{◌≡◌, MatchOption};
+ghost use Rattle.csa_text.specs.Codes.{sign, square_text, kind_code};
+
+use shogi_board::{Color, Kind, Square};
+
+// The side of this sign.
+pub(crate) fn read_sign(byte: u8) -> Option<Color>
+    ensures { MatchOption result ((color : Color) → byte ≡ sign color → ⊥) (λ color. byte ≡ sign color) }
+{
+    match byte {
+        b'+' => Some(Color::Black),
+        b'-' => Some(Color::White),
+        _ => None,
+    }
+}
+
+// The square of this file and rank, two digits.
+pub(crate) fn read_square(bytes: &[u8]) -> Option<Square>
+    ensures { MatchOption result
+        ((square : Square) → bytes.now ≡ square_text square → ⊥)
+        (λ square. bytes.now ≡ square_text square) }
+{
+    let [file, rank] = bytes else {
+        return None;
+    };
+    Square::new(file.checked_sub(b'0')?, rank.checked_sub(b'0')?)
+}
+
+// The kind of this code.
+pub(crate) fn read_kind(code: &[u8]) -> Option<Kind>
+    ensures { MatchOption result
+        ((k : Kind) → code.now ≡ kind_code k → ⊥)
+        (λ k. code.now ≡ kind_code k) }
+{
+    match code {
+        b"FU" => Some(Kind::Pawn),
+        b"KY" => Some(Kind::Lance),
+        b"KE" => Some(Kind::Knight),
+        b"GI" => Some(Kind::Silver),
+        b"KI" => Some(Kind::Gold),
+        b"KA" => Some(Kind::Bishop),
+        b"HI" => Some(Kind::Rook),
+        b"OU" => Some(Kind::King),
+        b"TO" => Some(Kind::ProPawn),
+        b"NY" => Some(Kind::ProLance),
+        b"NK" => Some(Kind::ProKnight),
+        b"NG" => Some(Kind::ProSilver),
+        b"UM" => Some(Kind::Horse),
+        b"RY" => Some(Kind::Dragon),
+        _ => None,
+    }
+}
+
+// The code of a kind.
+pub(crate) fn kind_text(kind: Kind) -> &'static str
+    ensures { result.now ≡ kind_code kind }
+{
+    match kind {
+        Kind::Pawn => "FU",
+        Kind::Lance => "KY",
+        Kind::Knight => "KE",
+        Kind::Silver => "GI",
+        Kind::Gold => "KI",
+        Kind::Bishop => "KA",
+        Kind::Rook => "HI",
+        Kind::King => "OU",
+        Kind::ProPawn => "TO",
+        Kind::ProLance => "NY",
+        Kind::ProKnight => "NK",
+        Kind::ProSilver => "NG",
+        Kind::Horse => "UM",
+        Kind::Dragon => "RY",
+    }
+}

@@ -1,0 +1,388 @@
+use crate::{Ending, Item, Pair, TextFault, csa_move, laws, read_item};
+use shogi_board::{Color, Kind, Piece, Square};
+use shogi_rules::Move;
+use std::test::Fail;
+
+const ITEMS: [(&[u8], Item); 24] = [
+    (b"V2", Item::Version),
+    (b"V2.1", Item::Version),
+    (b"V2.2", Item::Version),
+    (b"N+", Item::Name(Color::Black, b"")),
+    (b"N-\x00\xFF, x ", Item::Name(Color::White, b"\x00\xFF, x ")),
+    (b"N+a,b", Item::Name(Color::Black, b"a,b")),
+    (b"$EVENT:", Item::Header(b"EVENT", b"")),
+    (b"$EVENT:a", Item::Header(b"EVENT", b"a")),
+    (b"$A 0:b, c ", Item::Header(b"A 0", b"b, c ")),
+    (
+        b"$START_TIME:2024/2/29 9:05:07",
+        Item::Header(b"START_TIME", b"2024/2/29 9:05:07"),
+    ),
+    (b"+", Item::Turn(Color::Black)),
+    (b"-", Item::Turn(Color::White)),
+    (b"T0", Item::Time(0)),
+    (b"T1", Item::Time(1_000)),
+    (b"T12", Item::Time(12_000)),
+    (b"T007", Item::Time(7_000)),
+    (b"T4294967295", Item::Time(4_294_967_295_000)),
+    (b"T00004294967295", Item::Time(4_294_967_295_000)),
+    (b"T012.500", Item::Time(12_500)),
+    (b"T12.0", Item::Time(12_000)),
+    (b"T0.0", Item::Time(0)),
+    (b"T0.050", Item::Time(50)),
+    (b"T0.05", Item::Time(50)),
+    (b"T4294967295.999", Item::Time(4_294_967_295_999)),
+];
+
+const REFUSED: [(&[u8], TextFault); 74] = [
+    (b"", TextFault::Unknown),
+    (b"/", TextFault::Unknown),
+    (b"\xEF\xBB\xBF", TextFault::Unknown),
+    (b"V", TextFault::BadVersion),
+    (b"V1", TextFault::BadVersion),
+    (b"V2.", TextFault::BadVersion),
+    (b"V2.20", TextFault::BadVersion),
+    (b"V3.0", TextFault::BadVersion),
+    (b"N", TextFault::Unknown),
+    (b"Na", TextFault::Unknown),
+    (b"$", TextFault::BadHeader),
+    (b"$:x", TextFault::BadHeader),
+    (b"$x", TextFault::BadHeader),
+    (b"$EVENT", TextFault::BadHeader),
+    (b"P", TextFault::Unknown),
+    (b"P0", TextFault::Unknown),
+    (b"P:", TextFault::Unknown),
+    (b"P,", TextFault::Unknown),
+    (b"PX", TextFault::Unknown),
+    (b"Pi", TextFault::Unknown),
+    (b"PI8", TextFault::BadPosition),
+    (b"PI82H", TextFault::BadPosition),
+    (b"PI82HIx", TextFault::BadPosition),
+    (b"PI00FU", TextFault::BadPosition),
+    (b"PI00AL", TextFault::BadPosition),
+    (b"PI82HI00FU", TextFault::BadPosition),
+    (b"PI+82HI", TextFault::BadPosition),
+    (b"P+5FU", TextFault::BadPosition),
+    (b"P+55AL", TextFault::BadPosition),
+    (b"P-00ALx", TextFault::BadPosition),
+    (b"P+55fu", TextFault::BadPosition),
+    (b"P+50FU", TextFault::BadPosition),
+    (b"P+05FU", TextFault::BadPosition),
+    (b"P+55XX", TextFault::BadPosition),
+    (b"P+ 55FU", TextFault::BadPosition),
+    (b"P+0A55FU", TextFault::BadPosition),
+    (b"P1", TextFault::BadPosition),
+    (b"P1x", TextFault::BadPosition),
+    (b"+0000FU", TextFault::BadMove),
+    (b"+5500FU", TextFault::BadMove),
+    (b"+7776AL", TextFault::BadMove),
+    (b"+0055AL", TextFault::BadMove),
+    (b"+5", TextFault::BadMove),
+    (b"+7776F", TextFault::BadMove),
+    (b"+7776FUx", TextFault::BadMove),
+    (b"+0776FU", TextFault::BadMove),
+    (b"+7076FU", TextFault::BadMove),
+    (b"+7706FU", TextFault::BadMove),
+    (b"+7770FU", TextFault::BadMove),
+    (b"+7776fu", TextFault::BadMove),
+    (b"+777:FU", TextFault::BadMove),
+    (b"+777/FU", TextFault::BadMove),
+    (b"-x", TextFault::BadMove),
+    (b"++", TextFault::BadMove),
+    (b"- ", TextFault::BadMove),
+    (b"T", TextFault::BadTime),
+    (b"T.", TextFault::BadTime),
+    (b"T12.", TextFault::BadTime),
+    (b"T.5", TextFault::BadTime),
+    (b"T1.2345", TextFault::BadTime),
+    (b"T1.2.3", TextFault::BadTime),
+    (b"T4294967296", TextFault::BadTime),
+    (b"T4294967296.0", TextFault::BadTime),
+    (b"T18446744073709551616", TextFault::BadTime),
+    (b"T18446744073709551617", TextFault::BadTime),
+    (b"T4294967297", TextFault::BadTime),
+    (b"Tx", TextFault::BadTime),
+    (b"T+1", TextFault::BadTime),
+    (b"T-1", TextFault::BadTime),
+    (b"T1 ", TextFault::BadTime),
+    (b"T1s", TextFault::BadTime),
+    (b"%", TextFault::UnknownEnding),
+    (b"%TOR", TextFault::UnknownEnding),
+    (b"%toryo", TextFault::UnknownEnding),
+];
+
+// The endings of CSA V2.2 that are read.
+const ENDINGS: [(&str, Ending); 15] = [
+    ("%TORYO", Ending::Toryo),
+    ("%CHUDAN", Ending::Chudan),
+    ("%SENNICHITE", Ending::Sennichite),
+    ("%TIME_UP", Ending::TimeUp),
+    ("%ILLEGAL_MOVE", Ending::IllegalMove),
+    ("%+ILLEGAL_ACTION", Ending::BlackIllegalAction),
+    ("%-ILLEGAL_ACTION", Ending::WhiteIllegalAction),
+    ("%JISHOGI", Ending::Jishogi),
+    ("%KACHI", Ending::Kachi),
+    ("%HIKIWAKE", Ending::Hikiwake),
+    ("%MAX_MOVES", Ending::MaxMoves),
+    ("%MATTA", Ending::Matta),
+    ("%TSUMI", Ending::Tsumi),
+    ("%FUZUMI", Ending::Fuzumi),
+    ("%ERROR", Ending::Error),
+];
+
+// Sides, squares (0 for a drop) and kinds of moves.
+const MOVES: [(&str, Color, u8, u8, Kind); 18] = [
+    ("+7776FU", Color::Black, 77, 76, Kind::Pawn),
+    ("-3334FU", Color::White, 33, 34, Kind::Pawn),
+    ("+8822UM", Color::Black, 88, 22, Kind::Horse),
+    ("-1199KY", Color::White, 11, 99, Kind::Lance),
+    ("+5555OU", Color::Black, 55, 55, Kind::King),
+    ("+2133KE", Color::Black, 21, 33, Kind::Knight),
+    ("+0012GI", Color::Black, 0, 12, Kind::Silver),
+    ("-0098KI", Color::White, 0, 98, Kind::Gold),
+    ("+2879KA", Color::Black, 28, 79, Kind::Bishop),
+    ("+3828HI", Color::Black, 38, 28, Kind::Rook),
+    ("+0055OU", Color::Black, 0, 55, Kind::King),
+    ("+0055TO", Color::Black, 0, 55, Kind::ProPawn),
+    ("+0055NY", Color::Black, 0, 55, Kind::ProLance),
+    ("+0055NK", Color::Black, 0, 55, Kind::ProKnight),
+    ("+0055NG", Color::Black, 0, 55, Kind::ProSilver),
+    ("+0055UM", Color::Black, 0, 55, Kind::Horse),
+    ("+0055RY", Color::Black, 0, 55, Kind::Dragon),
+    ("-0055FU", Color::White, 0, 55, Kind::Pawn),
+];
+
+// Position statements: the side, none for `PI`, and the pairs: a square, 0 for the hand, and a kind,
+// none for the rest.
+const PAIRS: [(&[u8], Option<Color>, &[(u8, Option<Kind>)]); 13] = [
+    (b"PI", None, &[]),
+    (
+        b"PI82HI22KA",
+        None,
+        &[(82, Some(Kind::Rook)), (22, Some(Kind::Bishop))],
+    ),
+    (b"PI82KA", None, &[(82, Some(Kind::Bishop))]),
+    (b"P+", Some(Color::Black), &[]),
+    (b"P-", Some(Color::White), &[]),
+    (
+        b"P+13KI33KE59OU00FU",
+        Some(Color::Black),
+        &[
+            (13, Some(Kind::Gold)),
+            (33, Some(Kind::Knight)),
+            (59, Some(Kind::King)),
+            (0, Some(Kind::Pawn)),
+        ],
+    ),
+    (
+        b"P-11OU21KI",
+        Some(Color::White),
+        &[(11, Some(Kind::King)), (21, Some(Kind::Gold))],
+    ),
+    (
+        b"P+55FU55KI",
+        Some(Color::Black),
+        &[(55, Some(Kind::Pawn)), (55, Some(Kind::Gold))],
+    ),
+    (
+        b"P+53FU00KI",
+        Some(Color::Black),
+        &[(53, Some(Kind::Pawn)), (0, Some(Kind::Gold))],
+    ),
+    (b"P-00AL", Some(Color::White), &[(0, None)]),
+    (b"P+00AL00AL", Some(Color::Black), &[(0, None), (0, None)]),
+    (b"P+00TO", Some(Color::Black), &[(0, Some(Kind::ProPawn))]),
+    (b"P+00OU", Some(Color::Black), &[(0, Some(Kind::King))]),
+];
+
+// Ranks: the number, and the pieces from file 9 to file 1.
+const EMPTY: Option<Piece> = None;
+
+const RANKS: [(&[u8], u8, [Option<Piece>; 9]); 5] = [
+    (b"P9 *  *  *  *  *  *  *  *  * ", 9, [EMPTY; 9]),
+    (b"P1 *  *  *  *  *  *  *  *  *", 1, [EMPTY; 9]),
+    (
+        b"P1 *  *  *  * -HI *  *  *  * ",
+        1,
+        [
+            EMPTY,
+            EMPTY,
+            EMPTY,
+            EMPTY,
+            Some(Piece {
+                color: Color::White,
+                kind: Kind::Rook,
+            }),
+            EMPTY,
+            EMPTY,
+            EMPTY,
+            EMPTY,
+        ],
+    ),
+    (
+        b"P8 * +KA *  *  *  *  * +HI *",
+        8,
+        [
+            EMPTY,
+            Some(Piece {
+                color: Color::Black,
+                kind: Kind::Bishop,
+            }),
+            EMPTY,
+            EMPTY,
+            EMPTY,
+            EMPTY,
+            EMPTY,
+            Some(Piece {
+                color: Color::Black,
+                kind: Kind::Rook,
+            }),
+            EMPTY,
+        ],
+    ),
+    (
+        b"P4+RY *  *  *  *  *  *  * -TO",
+        4,
+        [
+            Some(Piece {
+                color: Color::Black,
+                kind: Kind::Dragon,
+            }),
+            EMPTY,
+            EMPTY,
+            EMPTY,
+            EMPTY,
+            EMPTY,
+            EMPTY,
+            EMPTY,
+            Some(Piece {
+                color: Color::White,
+                kind: Kind::ProPawn,
+            }),
+        ],
+    ),
+];
+
+const BAD_RANKS: [&[u8]; 10] = [
+    b"P1 *  *  *  *  *  *  *  *  ",
+    b"P1 *  *  *  *  *  *  *  * ",
+    b"P1 *  *  *  *  *  *  *  *  *  ",
+    b"P1 *  *  *  *  *  *  *  *  *\t",
+    b"P1 *  *  *  *  *  *  *  *  *  * ",
+    b"P1 *  * + FU *  *  *  *  *  *",
+    b"P1 *  *  *  * -AL *  *  *  * ",
+    b"P1 *  *  *  * -hi *  *  *  * ",
+    b"P1 *  *  *  *  HI *  *  *  * ",
+    b"P1-KY-KE-GI-KI-OU-KI-GI-KE-K",
+];
+
+fn square(number: u8) -> Option<Square> {
+    Square::new(number / 10, number % 10)
+}
+
+#[test]
+fn reads_items(rt: HostRuntime) {
+    for (bytes, wanted) in ITEMS {
+        assert_eq!(rt; read_item(bytes), Ok(wanted));
+    }
+    laws::cut_once();
+    laws::spelt_once();
+}
+
+#[test]
+fn refuses_what_is_no_item(rt: HostRuntime) {
+    for (bytes, wanted) in REFUSED {
+        assert_eq!(rt; read_item(bytes), Err(wanted));
+    }
+    for bytes in BAD_RANKS {
+        assert_eq!(rt; read_item(bytes), Err(TextFault::BadPosition));
+    }
+}
+
+#[test]
+fn reads_and_writes_moves(rt: HostRuntime) -> Result<(), Fail> {
+    for (text, color, from, to, kind) in MOVES {
+        let to = square(to).ok_or("no square")?;
+        let m = match square(from) {
+            Some(from) => Move::Walk { from, to, kind },
+            None => Move::Put { to, kind },
+        };
+        assert_eq!(rt; read_item(text.as_bytes()), Ok(Item::Walked(color, m)));
+        assert_eq!(rt; csa_move(color, &m).as_str(), text);
+    }
+    Ok(())
+}
+
+#[test]
+fn reads_pairs(rt: HostRuntime) -> Result<(), Fail> {
+    for (bytes, wanted_side, wanted) in PAIRS {
+        let (side, pairs) = match read_item(bytes) {
+            Ok(Item::Even(pairs)) => (None, pairs),
+            Ok(Item::Pieces(color, pairs)) => (Some(color), pairs),
+            _ => return Err(Fail::from("no pairs")),
+        };
+        assert_eq!(rt; side, wanted_side);
+        assert_eq!(rt; pairs.len(), wanted.len());
+        assert_eq!(rt; pairs.is_empty(), wanted.is_empty());
+        for (i, (number, kind)) in wanted.iter().enumerate() {
+            let pair = match (square(*number), *kind) {
+                (Some(square), Some(kind)) => Pair::On(square, kind),
+                (_, Some(kind)) => Pair::InHand(kind),
+                (_, None) => Pair::Rest,
+            };
+            assert_eq!(rt; pairs.get(i), Some(pair));
+        }
+        assert_eq!(rt; pairs.get(wanted.len()), None);
+        assert_eq!(rt; pairs.get(usize::MAX), None);
+    }
+    Ok(())
+}
+
+#[test]
+fn reads_ranks(rt: HostRuntime) {
+    for (bytes, number, cells) in RANKS {
+        assert_eq!(rt; read_item(bytes), Ok(Item::Rank(number, cells)));
+    }
+}
+
+// Each ending, and each with a letter less, a letter more, and in small letters.
+#[test]
+fn reads_endings(rt: HostRuntime) -> Result<(), Fail> {
+    for (text, ending) in ENDINGS {
+        let bytes = text.as_bytes();
+        assert_eq!(rt; read_item(bytes), Ok(Item::Ending(ending)));
+        assert_eq!(rt; ending.name().as_bytes(), &bytes[1..]);
+        let less = &bytes[..bytes.len() - 1];
+        assert_eq!(rt; read_item(less), Err(TextFault::UnknownEnding));
+        for last in ["O", "S", " ", "\t"] {
+            let more = format!(in rt.alloc(); "{text}{last}")?;
+            assert_eq!(rt; read_item(more.as_bytes()), Err(TextFault::UnknownEnding));
+        }
+    }
+    Ok(())
+}
+
+// What each first byte is refused as, alone and with a letter behind it.
+#[test]
+fn goes_by_the_first_byte(rt: HostRuntime) {
+    for first in 0..=255u8 {
+        let wanted = match first {
+            b'V' => TextFault::BadVersion,
+            b'$' => TextFault::BadHeader,
+            b'+' | b'-' => TextFault::BadMove,
+            b'T' => TextFault::BadTime,
+            b'%' => TextFault::UnknownEnding,
+            _ => TextFault::Unknown,
+        };
+        assert_eq!(rt; read_item(&[first, b'x']), Err(wanted));
+        match first {
+            b'+' => assert_eq!(rt; read_item(&[first]), Ok(Item::Turn(Color::Black))),
+            b'-' => assert_eq!(rt; read_item(&[first]), Ok(Item::Turn(Color::White))),
+            _ => assert_eq!(rt; read_item(&[first]), Err(wanted)),
+        }
+        let behind_start = match first {
+            b'I' | b'+' | b'-' | b'1'..=b'9' => TextFault::BadPosition,
+            _ => TextFault::Unknown,
+        };
+        assert_eq!(rt; read_item(&[b'P', first, b'x']), Err(behind_start));
+    }
+}

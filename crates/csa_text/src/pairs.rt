@@ -1,0 +1,86 @@
+ghost use Rattle.std.specs.Prelude.{◌≡◌, MatchOption, List};
+ghost use Rattle.csa_text.specs.declared.pair.Pair.{Pair};
+ghost use Rattle.csa_text.specs.PairTexts.{pair_text, pairs_text};
+ghost use Rattle.csa_text.specs.PairsOnce.{pairs-prop};
+
+use crate::codes::{read_kind, read_square};
+use crate::pair::Pair;
+
+/// The pairs behind `PI`, `P+` or `P-`, in their order. They borrow the statement.
+#[derive(Clone, Copy, Debug, PartialEq, Eq)]
+pub struct Pairs<'a> {
+    bytes: &'a [u8],
+    pub ghost are_pairs: { (pairs : List Pair) × (bytes.now ≡ pairs_text pairs) } by { pairs-prop bytes.now },
+}
+
+impl<'a> Pairs<'a> {
+    ghost use Rattle.std.specs.Prelude.{length, ◌↔◌, IsTrue, []};
+    ghost use Rattle.std.specs.List.{slice_get};
+    ghost use Rattle.csa_text.specs.PairTexts.{AllOnBoard};
+    ghost use Rattle.csa_text.specs.Saying.{pairs_of};
+
+    /// How many pairs there are.
+    pub fn len(&self) -> usize
+        ensures { result ≡ length (pairs_of self.now) }
+    {
+        self.bytes.len() / 4
+    }
+
+    /// Whether there is none.
+    pub fn is_empty(&self) -> bool
+        ensures { IsTrue result ↔ (pairs_of self.now ≡ []) }
+    {
+        self.len() == 0
+    }
+
+    /// The pair at this place, counted from 0, or `None` past the last one.
+    pub fn get(&self, i: usize) -> Option<Pair>
+        ensures { result ≡ slice_get (pairs_of self.now) i }
+    {
+        if self.bytes.len() / 4 <= i {
+            return None;
+        }
+        read_pair(&self.bytes[4 * i..4 * i + 4])
+    }
+
+    // The pairs that the bytes spell, if they spell pairs.
+    pub(crate) fn read(bytes: &'a [u8]) -> Option<Pairs<'a>>
+        ensures { MatchOption result
+            ((pairs : List Pair) → bytes.now ≡ pairs_text pairs → ⊥)
+            (λ p. bytes.now ≡ pairs_text (pairs_of p)) }
+    {
+        if bytes.len() % 4 != 0 {
+            return None;
+        }
+        for i in 0..bytes.len() / 4 {
+            read_pair(&bytes[4 * i..4 * i + 4])?;
+        }
+        Some(Pairs { bytes })
+    }
+
+    // Whether each pair has a square.
+    pub(crate) fn are_on_board(&self) -> bool
+        ensures { IsTrue result ↔ AllOnBoard (pairs_of self.now) }
+    {
+        for i in 0..self.len() {
+            let Some(Pair::On(..)) = self.get(i) else {
+                return false;
+            };
+        }
+        true
+    }
+}
+
+// The pair that these bytes spell.
+fn read_pair(bytes: &[u8]) -> Option<Pair>
+    ensures { MatchOption result
+        ((pair : Pair) → bytes.now ≡ pair_text pair → ⊥)
+        (λ pair. bytes.now ≡ pair_text pair) }
+{
+    match bytes {
+        b"00AL" => Some(Pair::Rest),
+        [b'0', b'0', code @ ..] => Some(Pair::InHand(read_kind(code)?)),
+        [file, rank, code @ ..] => Some(Pair::On(read_square(&[*file, *rank])?, read_kind(code)?)),
+        _ => None,
+    }
+}

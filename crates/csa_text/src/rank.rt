@@ -1,0 +1,53 @@
+ghost use Rattle.std.specs.Prelude.{◌≡◌, ◌++◌, ◌⊎◌, codes, List, Option, length, MatchOption};
+ghost use Rattle.std.specs.List.{flat_map};
+ghost use Rattle.csa_text.specs.Codes.{cell_text};
+
+use crate::codes::{read_kind, read_sign};
+use shogi_board::Piece;
+
+const CELLS: usize = 9;
+
+// The cells of a rank, from file 9 to file 1. The last one, where it is empty, may lack its last space.
+pub(crate) fn read_rank(bytes: &[u8]) -> Option<[Option<Piece>; CELLS]>
+    ensures { MatchOption result
+        ((cells : List (Option Piece)) → length cells ≡ 9 → (bytes.now ≡ flat_map cell_text cells) ⊎ (bytes.now ++ codes " " ≡ flat_map cell_text cells) → ⊥)
+        (λ cells. (bytes.now ≡ flat_map cell_text cells) ⊎ (bytes.now ++ codes " " ≡ flat_map cell_text cells)) }
+{
+    if bytes.len() == 26 {
+        let mut whole = [b' '; 27];
+        whole[..26].copy_from_slice(bytes);
+        return read_cells(&whole);
+    }
+    read_cells(bytes)
+}
+
+fn read_cells(bytes: &[u8]) -> Option<[Option<Piece>; CELLS]>
+    ensures { MatchOption result
+        ((cells : List (Option Piece)) → length cells ≡ 9 → bytes.now ≡ flat_map cell_text cells → ⊥)
+        (λ cells. bytes.now ≡ flat_map cell_text cells) }
+{
+    if bytes.len() != 3 * CELLS {
+        return None;
+    }
+    let mut cells = [None; CELLS];
+    for i in 0..CELLS {
+        cells[i] = read_cell(&bytes[3 * i..3 * i + 3])?;
+    }
+    Some(cells)
+}
+
+// What the cell holds, or `None` where it is no cell.
+fn read_cell(bytes: &[u8]) -> Option<Option<Piece>>
+    ensures { MatchOption result
+        ((cell : Option Piece) → bytes.now ≡ cell_text cell → ⊥)
+        (λ cell. bytes.now ≡ cell_text cell) }
+{
+    match bytes {
+        b" * " => Some(None),
+        [sign, code @ ..] => Some(Some(Piece {
+            color: read_sign(*sign)?,
+            kind: read_kind(code)?,
+        })),
+        _ => None,
+    }
+}
