@@ -6,6 +6,7 @@ pub mod CellTexts
 pub mod TimesRead
 pub mod Rows
 pub mod Sayings
+pub mod Decided
 pub mod Blanks
 pub mod Once
 pub mod Lining
