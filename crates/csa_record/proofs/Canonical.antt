@@ -7,7 +7,9 @@ use Rattle.std.proofs.lemmas.List.{append-nil}
 use Rattle.shogi_board.specs.declared.color.Color.{Color}
 use Rattle.shogi_board.specs.declared.color.Color.TheVariants.{Black, White}
 use Rattle.csa_text.specs.Cut.{TextUnit, IsGap, IsUnit, IsNext, Units, Statements, is_statement, is_end, begins_with, statement_bytes}
-use Rattle.csa_text.specs.Spelling.{Saying, version, name, even, turn, sign, Spells}
+use Rattle.csa_text.specs.Codes.{sign}
+use Rattle.csa_text.specs.Spelling.{Saying, version, name, even, turn}
+use Rattle.csa_record.specs.Reads.{Reads}
 use Rattle.csa_record.specs.Game.{Game, IsGame, IsName, IsOneLine}
 use Rattle.csa_record.specs.Says.{Says}
 use Rattle.csa_record.specs.Tells.{Tells, IsSpelt}
@@ -54,7 +56,7 @@ all_statements offset (l ∷ ls) h =
     rw says (ap (λ us. u ∷ us) (all_statements (offset + length l + 1) ls h.1))
 
 abbrev LineSays : List ℕ → Saying → Type 0
-LineSays line s = (length line ≤ 4096) × Spells (statement_bytes line) s
+LineSays line s = (length line ≤ 4096) × Reads (statement_bytes line) s
 
 units_spelt : (offset : ℕ) (ls : List (List ℕ)) (ss : List Saying) → AllZip LineSays ls ss → AllZip IsSpelt (units_of offset ls) ss
 unfolding units_of
@@ -100,7 +102,7 @@ name_line : (color : Color) (text : List ℕ) → IsName text → IsLine (78 ∷
 name_line color text h = record { unit = (refl, (sign_goes_on color, text_goes_on text h.one_line), refl); spoken = refl }
 
 name_says : (color : Color) (text : List ℕ) → IsName text → LineSays (78 ∷ sign color ∷ text) (name color text)
-name_says color text h = (omega (arith, h.fits), refl)
+name_says color text h = (omega (arith, h.fits), (refl, refl))
 
 names_are_lines : (color : Color) (o : Option (List ℕ)) → IfSome o IsName → AllByRecursion IsLine (name_lines color o)
 names_are_lines color None h = tt
@@ -116,8 +118,8 @@ turn_line Black = record { unit = (refl, tt, refl); spoken = refl }
 turn_line White = record { unit = (refl, tt, refl); spoken = refl }
 
 turn_says : (color : Color) → LineSays (sign color ∷ []) (turn color)
-turn_says Black = (omega arith, refl)
-turn_says White = (omega arith, refl)
+turn_says Black = (omega arith, (refl, refl))
+turn_says White = (omega arith, (refl, refl))
 
 all_lines : (g : Game) → IsGame g → AllByRecursion IsLine (lines g)
 all_lines g h = (
@@ -130,10 +132,10 @@ all_lines g h = (
 all_say : (g : Game) → IsGame g → AllZip LineSays (lines g) (sayings g)
 unfolding sayings
 all_say g h = (
-  (omega arith, inr (inr refl)),
+  (omega arith, (inr (inr refl), refl)),
   says_joined (name_lines Black g.black) _ (name_sayings Black g.black) _ (names_say Black g.black h.black)
       (says_joined (name_lines White g.white) _ (name_sayings White g.white) _ (names_say White g.white h.white)
-      ((omega arith, (refl, refl)), (turn_says g.side, tt))),
+      ((omega arith, ((refl, tt), refl)), (turn_says g.side, tt))),
 )
 
 -- these items say the game

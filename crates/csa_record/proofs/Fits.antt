@@ -7,7 +7,8 @@ use Rattle.std.proofs.lemmas.List.Elements.{filter_map-append}
 use Rattle.shogi_board.specs.declared.color.Color.{Color}
 use Rattle.shogi_board.specs.declared.color.Color.TheVariants.{Black, White}
 use Rattle.csa_text.specs.Cut.{TextUnit, IsUnit, Units, Cut, is_statement, is_end, begins_with, statement_bytes, without_last_blanks, before_kept, is_blank}
-use Rattle.csa_text.specs.Spelling.{Saying, version, name, even, turn, sign}
+use Rattle.csa_text.specs.Codes.{sign}
+use Rattle.csa_text.specs.Spelling.{Saying, version, name, even, turn}
 use Rattle.csa_record.specs.Game.{IsName, IsOneLine}
 use Rattle.csa_record.specs.Says.{names, name_given}
 use Rattle.csa_record.specs.Tells.{IsSpelt}
@@ -62,20 +63,18 @@ one_line (b ∷ bs) h = (no_end b h.0, one_line bs h.1)
 
 text_fits : (unit : TextUnit) (color : Color) (text : List ℕ) → text ≢ [] → IsSomeUnit unit → IsSpelt unit (name color text) → IsName text
 text_fits unit color text some is_unit spelt =
-    let bytes : unit.bytes ≡ 78 ∷ sign color ∷ text = name_whole unit.bytes (sign color ∷ text) spelt.1 in
+    let bytes : unit.bytes ≡ 78 ∷ sign color ∷ text = name_whole unit.bytes (sign color ∷ text) spelt.1.0 in
     let named : IsUnit (78 ∷ sign color ∷ text) is_unit.0 = rw bytes at is_unit.1 in
     let few : length (78 ∷ sign color ∷ text) ≤ 4096 = rw bytes at spelt.0 in
     record { some = some; one_line = one_line text named.1.1; fits = omega (arith, few) }
 
 given_fits : (side : Color) (unit : TextUnit) (s : Saying) → IsSomeUnit unit → IsSpelt unit s → AllByRecursion IsName (names side (s ∷ []))
-given_fits side unit version is_unit spelt = tt
 given_fits side unit (name color []) is_unit spelt = tt
 given_fits Black unit (name Black (b ∷ bs)) is_unit spelt = (text_fits unit Black (b ∷ bs) (λ e. cc) is_unit spelt, tt)
 given_fits Black unit (name White (b ∷ bs)) is_unit spelt = tt
 given_fits White unit (name Black (b ∷ bs)) is_unit spelt = tt
 given_fits White unit (name White (b ∷ bs)) is_unit spelt = (text_fits unit White (b ∷ bs) (λ e. cc) is_unit spelt, tt)
-given_fits side unit (even pairs) is_unit spelt = tt
-given_fits side unit (turn color) is_unit spelt = tt
+given_fits side unit s is_unit spelt = tt
 
 joined : (P : List ℕ → Type 0) (xs ys : List (List ℕ)) → AllByRecursion P xs → AllByRecursion P ys → AllByRecursion P (xs ++ ys)
 joined P [] ys h k = k

@@ -6,9 +6,8 @@ use Rattle.shogi_board.specs.declared.color.Color.{Color}
 use Rattle.shogi_board.specs.declared.color.Color.TheVariants.{Black, White}
 use Rattle.csa_text.specs.declared.fault.TextFault.TheVariants.{StatementTooLong}
 use Rattle.csa_text.specs.Cut.{TextUnit, Cut, statement_bytes}
-use Rattle.csa_text.specs.Spelling.{Saying, fault_of_row}
+use Rattle.csa_text.specs.Spelling.{Saying}
 use Rattle.csa_text.proofs.Once.{cut_found}
-use Rattle.csa_text.proofs.Sayings.{spells_or_not}
 use Rattle.csa_record.specs.declared.fault.OrderFault.TheVariants.{MissingTurn}
 use Rattle.csa_record.specs.declared.fault.Why.{Why}
 use Rattle.csa_record.specs.declared.fault.Why.TheVariants.{Text, Order}
@@ -20,6 +19,7 @@ use Rattle.csa_record.specs.SoFar.{first}
 use Rattle.csa_record.proofs.Ordered.{ordered_none, ordered_all, ordered_says}
 use Rattle.csa_record.proofs.Fits.{name_fits}
 use Rattle.csa_record.proofs.Reading.{spelt_all}
+use Rattle.csa_record.proofs.Unread.{reads_or_not}
 use Rattle.csa_record.proofs.Once.{tells_once, told_not_refused, refused_once}
 
 some_or_none : {X : Type 0} (o : Option X) → ((x : X) × (o ≡ Some x)) ⊎ (o ≡ None)
@@ -31,8 +31,8 @@ faulty_or_fine : (before : List Saying) (u : TextUnit) → ((why : Why) × Fault
 faulty_or_fine before u =
     elim (cases_lt 4096 (length u.bytes)) [
       | inl long ↦ inl (Text StatementTooLong, inl (long, refl))
-      | inr short ↦ elim (spells_or_not (statement_bytes u.bytes)) [
-        | inr unspelt ↦ inl (Text (fault_of_row (statement_bytes u.bytes)), inr (inl (short, unspelt, refl)))
+      | inr short ↦ elim (reads_or_not (statement_bytes u.bytes)) [
+        | inr unread ↦ inl (Text unread.0, inr (inl (short, unread.0, unread.1, refl)))
         | inl spelt ↦ elim (some_or_none (order_fault before spelt.0)) [
           | inl fault ↦ inl (Order fault.0, inr (inr (spelt.0, (short, spelt.1), fault.0, fault.1, refl)))
           | inr fine ↦ inr (spelt.0, (short, spelt.1), fine)

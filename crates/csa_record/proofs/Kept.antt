@@ -25,6 +25,7 @@ fault_kept before (name White (b ∷ bs)) = ap (λ (t : Bool). first_fault ((t, 
 fault_kept before (even pairs) =
     ap (λ (t : Bool). first_fault ((t, PositionLate) ∷ (stands (positions before), MixedStart) ∷ [])) (some_first (sides before))
 fault_kept before (turn color) = ap (λ (t : Bool). first_fault ((t, RepeatedTurn) ∷ [])) (some_first (sides before))
+fault_kept before s = refl
 
 -- one test that found nothing
 pub untrue : (t : Bool) (f : OrderFault) → first_fault ((t, f) ∷ []) ≡ None → t ≡ false
@@ -113,3 +114,7 @@ kept_next before (turn color) h =
     (first_same (names Black before) _ (names_last Black before (turn color))) (first_same (names White before) _ (names_last White before (turn color)))
     (stands_same (positions before) _ (positions_last before (turn color)))
     (first_new (sides before) _ color (untrue (stands (sides before)) RepeatedTurn h) (sides_last before (turn color)))
+kept_next before s h =
+    same_so_far _ _ (sym (stands_last before s))
+    (first_same (names Black before) _ (names_last Black before s)) (first_same (names White before) _ (names_last White before s))
+    (stands_same (positions before) _ (positions_last before s)) (first_same (sides before) _ (sides_last before s))

@@ -1,6 +1,7 @@
 pub mod Kept
 pub mod Ordered
 pub mod Fits
+pub mod Unread
 pub mod Reading
 pub mod Whole
 pub mod Once

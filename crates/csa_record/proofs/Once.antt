@@ -7,14 +7,14 @@ use Rattle.shogi_board.specs.declared.color.Color.{Color}
 use Rattle.csa_text.specs.Cut.{TextUnit, Cut, statement_bytes}
 use Rattle.csa_text.specs.Spelling.{Saying}
 use Rattle.csa_text.proofs.Once.{statements_once}
-use Rattle.csa_text.proofs.Sayings.{same_saying}
 use Rattle.csa_record.specs.declared.fault.Why.{Why}
-use Rattle.csa_record.specs.declared.fault.Why.TheVariants.{Order}
+use Rattle.csa_record.specs.declared.fault.Why.TheVariants.{Text, Order}
 use Rattle.csa_record.specs.Game.{Game}
 use Rattle.csa_record.specs.Says.{Says, sides}
 use Rattle.csa_record.specs.Tells.{Tells, IsSpelt}
 use Rattle.csa_record.specs.Refused.{order_fault, Fault, Faultless, Refused, RefusedAt}
 use Rattle.csa_record.proofs.Reading.{spelt_all}
+use Rattle.csa_record.proofs.Unread.{read_as_one, read_or_unread, unread_once}
 use Rattle.csa_record.proofs.Whole.{one_side, says_faultless}
 
 -- the same statements spell the same items
@@ -25,7 +25,7 @@ same_items [] (s ∷ ss) ts p q = absurd p
 same_items (u ∷ us) [] ts p q = absurd p
 same_items (u ∷ us) (s ∷ ss) [] p q = absurd q
 same_items (u ∷ us) (s ∷ ss) (t ∷ ts) p q =
-    let head : s ≡ t = same_saying (statement_bytes u.bytes) s t p.0.1 q.0.1 in
+    let head : s ≡ t = read_as_one (statement_bytes u.bytes) s t p.0.1 q.0.1 in
     ap (λ x. x ∷ ss) head ∙ ap (λ xs. t ∷ xs) (same_items us ss ts p.1 q.1)
 
 same_option : {X : Type 0} (a b : Option X) → option_to_list a ≡ option_to_list b → a ≡ b
@@ -57,9 +57,9 @@ fault_or_fine before u why s fault spelt fine =
     elim fault [
       | inl long ↦ let few = spelt.0 in let many = long.0 in omega arith
       | inr other ↦ elim other [
-        | inl unspelt ↦ unspelt.1 s spelt.1
+        | inl unspelt ↦ read_or_unread (statement_bytes u.bytes) unspelt.1 s unspelt.2 spelt.1
         | inr late ↦
-            let same : late.0 ≡ s = same_saying (statement_bytes u.bytes) late.0 s late.1.1 spelt.1 in
+            let same : late.0 ≡ s = read_as_one (statement_bytes u.bytes) late.0 s late.1.1 spelt.1 in
             let some : order_fault before s ≡ Some late.2 = rw same at late.3 in
             let none = fine in
             cc
@@ -80,16 +80,16 @@ fault_once before u a b p q =
         | inl unspelt ↦ elim q [
           | inl long ↦ let few = unspelt.0 in let many = long.0 in absurd (omega arith)
           | inr more ↦ elim more [
-            | inl too ↦ unspelt.2 ∙ sym too.2
-            | inr late ↦ absurd (unspelt.1 late.0 late.1.1)
+            | inl too ↦ unspelt.3 ∙ ap Text (unread_once (statement_bytes u.bytes) unspelt.1 too.1 unspelt.2 too.2) ∙ sym too.3
+            | inr late ↦ absurd (read_or_unread (statement_bytes u.bytes) unspelt.1 late.0 unspelt.2 late.1.1)
           ]
         ]
         | inr late ↦ elim q [
           | inl long ↦ let few = late.1.0 in let many = long.0 in absurd (omega arith)
           | inr more ↦ elim more [
-            | inl unspelt ↦ absurd (unspelt.1 late.0 late.1.1)
+            | inl unspelt ↦ absurd (read_or_unread (statement_bytes u.bytes) unspelt.1 late.0 unspelt.2 late.1.1)
             | inr too ↦
-                let same : late.0 ≡ too.0 = same_saying (statement_bytes u.bytes) late.0 too.0 late.1.1 too.1.1 in
+                let same : late.0 ≡ too.0 = read_as_one (statement_bytes u.bytes) late.0 too.0 late.1.1 too.1.1 in
                 let faults : Some late.2 ≡ Some too.2 = sym late.3 ∙ ap (order_fault before) same ∙ too.3 in
                 let fault : late.2 ≡ too.2 = cc in
                 late.4 ∙ ap Order fault ∙ sym too.4
@@ -107,7 +107,7 @@ never before [] u behind (t ∷ ts) all why whole f fault = absurd f
 never before (v ∷ vs) u behind [] all why whole f fault = absurd f
 never before (v ∷ vs) u behind (t ∷ ts) [] why whole f fault = absurd whole
 never before (v ∷ vs) u behind (t ∷ ts) (s ∷ all) why whole f fault =
-    let same : s ≡ t = same_saying (statement_bytes v.bytes) s t whole.0.1 f.0.1 in
+    let same : s ≡ t = read_as_one (statement_bytes v.bytes) s t whole.0.1 f.0.1 in
     let rest : Faultless (before ++ t ∷ []) (vs ++ u ∷ behind) all = subst (λ x. Faultless (before ++ x ∷ []) (vs ++ u ∷ behind) all) same whole.2 in
     never (before ++ t ∷ []) vs u behind ts all why rest f.2 (subst (λ b. Fault b u why) (sym (append_assoc before (t ∷ []) ts)) fault)
 
@@ -140,7 +140,7 @@ first_fault_once before (m ∷ ms) (n ∷ ns) u v c d (s ∷ ss) (t ∷ ts) w x 
     let head : m ≡ n = cc in
     let rest : ms ++ u ∷ c ≡ ns ++ v ∷ d = cc in
     let spelt : IsSpelt m t = rw head g.0 in
-    let same : t ≡ s = same_saying (statement_bytes m.bytes) t s spelt.1 f.0.1 in
+    let same : t ≡ s = read_as_one (statement_bytes m.bytes) t s spelt.1 f.0.1 in
     let others : Faultless (before ++ s ∷ []) ns ts = subst (λ y. Faultless (before ++ y ∷ []) ns ts) same g.2 in
     let here : Fault ((before ++ s ∷ []) ++ ss) u w = subst (λ b. Fault b u w) (sym (append_assoc before (s ∷ []) ss)) p in
     let there : Fault ((before ++ s ∷ []) ++ ts) v x =

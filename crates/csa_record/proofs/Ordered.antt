@@ -6,6 +6,7 @@ use Rattle.std.proofs.lemmas.List.Elements.{filter-append}
 use Rattle.shogi_board.specs.declared.color.Color.{Color}
 use Rattle.shogi_board.specs.declared.color.Color.TheVariants.{Black, White}
 use Rattle.csa_text.specs.Cut.{TextUnit}
+use Rattle.csa_text.specs.declared.pair.Pair.{Pair}
 use Rattle.csa_text.specs.Spelling.{Saying, version, name, even, turn}
 use Rattle.csa_record.specs.declared.fault.OrderFault.TheVariants.{VersionOutOfPlace, RepeatedName, MixedStart, PositionLate, RepeatedTurn}
 use Rattle.csa_record.specs.Game.{Game, IsGame}
@@ -77,7 +78,7 @@ ordered_name before c text o black white = record {
   in_order = order_same (body before) _ (positions before) _ (sides before) _ (body_last before (name c text)) (positions_last before (name c text)) (sides_last before (name c text)) o.in_order;
 }
 
-ordered_even : (before : List Saying) (pairs : List ℕ) → Ordered before → order_fault before (even pairs) ≡ None → Ordered (before ++ even pairs ∷ [])
+ordered_even : (before : List Saying) (pairs : List Pair) → Ordered before → order_fault before (even pairs) ≡ None → Ordered (before ++ even pairs ∷ [])
 ordered_even before pairs o h = record {
   version_first = versions_same before (even pairs) refl o.version_first;
   black = no_more (names Black before) _ (names_last Black before (even pairs)) o.black;
@@ -115,6 +116,14 @@ ordered_next before (name White (b ∷ bs)) o h =
     (one_more (names White before) _ (b ∷ bs) (untrue (stands (names White before)) RepeatedName h) (names_last White before (name White (b ∷ bs))))
 ordered_next before (even pairs) o h = ordered_even before pairs o h
 ordered_next before (turn c) o h = ordered_turn before c o h
+ordered_next before s o h = record {
+  version_first = versions_same before s refl o.version_first;
+  black = no_more (names Black before) _ (names_last Black before s) o.black;
+  white = no_more (names White before) _ (names_last White before s) o.white;
+  position = no_more (positions before) _ (positions_last before s) o.position;
+  side = no_more (sides before) _ (sides_last before s) o.side;
+  in_order = order_same (body before) _ (positions before) _ (sides before) _ (body_last before s) (positions_last before s) (sides_last before s) o.in_order;
+}
 
 pub ordered_all : (before : List Saying) (us : List TextUnit) (ss : List Saying) → Ordered before → Faultless before us ss → Ordered (before ++ ss)
 ordered_all before [] [] o f = rw (append-nil before) o

@@ -7,13 +7,14 @@ use Rattle.shogi_board.specs.declared.color.Color.TheVariants.{Black, White}
 use Rattle.csa_text.specs.declared.fault.TextFault.TheVariants.{StatementTooLong}
 use Rattle.csa_text.specs.Cut.{TextUnit, Cut, mark_length, statement_bytes}
 use Rattle.csa_text.specs.Cutting as cutting
-use Rattle.csa_text.specs.Spelling.{Saying, Spells, fault_of_row}
+use Rattle.csa_text.specs.Spelling.{Saying}
 use Rattle.csa_text.proofs.Runs.{found}
 use Rattle.csa_record.specs.declared.fault.Refusal.{Refusal}
 use Rattle.csa_record.specs.declared.fault.Why.{Why}
 use Rattle.csa_record.specs.declared.fault.Why.TheVariants.{Text, Order, OutOfMemory}
 use Rattle.csa_record.specs.declared.fault.OrderFault.TheVariants.{MissingTurn}
 use Rattle.csa_record.specs.Game.{Game, IsGame, IsName}
+use Rattle.csa_record.specs.Reads.{Reads}
 use Rattle.csa_record.specs.Says.{sides}
 use Rattle.csa_record.specs.Tells.{Tells, IsSpelt}
 use Rattle.csa_record.specs.Refused.{order_fault, Faultless, Fault, Refused, RefusedAt, FaultlessTo}
@@ -63,7 +64,7 @@ spelt_all before [] (s ∷ ss) f = absurd f
 spelt_all before (u ∷ us) [] f = absurd f
 spelt_all before (u ∷ us) (s ∷ ss) f = (f.0, spelt_all (before ++ s ∷ []) us ss f.2)
 
-spelt_as : (unit : TextUnit) (bytes : List ℕ) (s : Saying) → bytes ≡ statement_bytes unit.bytes → length unit.bytes ≤ 4096 → Spells bytes s → IsSpelt unit s
+spelt_as : (unit : TextUnit) (bytes : List ℕ) (s : Saying) → bytes ≡ statement_bytes unit.bytes → length unit.bytes ≤ 4096 → Reads bytes s → IsSpelt unit s
 spelt_as unit bytes s slice short spells = (short, rw (← slice) spells)
 
 no_fault : (s : SoFar) (sayings : List Saying) (saying : Saying) → s ≡ so_far sayings → fault_so_far s saying ≡ None → order_fault sayings saying ≡ None
@@ -73,12 +74,12 @@ pub taken : (source : List ℕ) (old new : cutting.Cutting) (s t : SoFar) (n num
 taken source old new s t n number offset bytes r out same took =
     let saying = took.0 in
     let spelt : IsSpelt out.unit saying = spelt_as out.unit bytes saying out.slice out.short took.1 in
-    let fits : order_fault r.sayings saying ≡ None = no_fault s r.sayings saying r.kept took.2.0 in
+    let fits : order_fault r.sayings saying ≡ None = no_fault s r.sayings saying r.kept took.2 in
     record {
       front = r.front ++ out.unit ∷ [];
       sayings = r.sayings ++ saying ∷ [];
       faultless = faultless_last [] r.front r.sayings out.unit saying r.faultless spelt fits;
-      kept = took.2.1 ∙ ap (λ k. with_saying k saying) r.kept ∙ kept_next r.sayings saying fits;
+      kept = took.3 ∙ ap (λ k. with_saying k saying) r.kept ∙ kept_next r.sayings saying fits;
       counted = omega (arith, length_push r.front out.unit, r.counted, out.number_is, out.counted);
       next = omega (arith, out.counted);
       same = same ∙ r.same;
@@ -109,7 +110,7 @@ refused_at source old new s n number offset bytes why r out fault =
 pub refused : (source : List ℕ) (old new : cutting.Cutting) (s t : SoFar) (n number offset : ℕ) (bytes : List ℕ) (why : Why) → ReadSoFar source old s n → cutting.IsHandedOut old new number offset bytes → TookBytes s bytes (Err why) t → why ≢ OutOfMemory → Refused source number offset why
 refused source old new s t n number offset bytes (Text f) r out took other =
     inl (refused_at source old new s n number offset bytes (Text f) r out
-    (inr (inl (out.short, rw out.slice at took.0, ap Text (took.1 ∙ ap fault_of_row out.slice)))))
+    (inr (inl (out.short, f, rw out.slice at took, refl))))
 refused source old new s t n number offset bytes (Order f) r out took other =
     let spelt : IsSpelt out.unit took.0 = spelt_as out.unit bytes took.0 out.slice out.short took.1 in
     let fault : order_fault r.sayings took.0 ≡ Some f = sym (ap (λ k. fault_so_far k took.0) r.kept ∙ fault_kept r.sayings took.0) ∙ took.2 in

@@ -6,6 +6,7 @@ use Rattle.std.proofs.lemmas.List.Elements.{filter_map-append, filter-append}
 use Rattle.shogi_board.specs.declared.color.Color.{Color}
 use Rattle.shogi_board.specs.declared.color.Color.TheVariants.{Black, White}
 use Rattle.csa_text.specs.Cut.{TextUnit}
+use Rattle.csa_text.specs.declared.pair.Pair.{Pair}
 use Rattle.csa_text.specs.Spelling.{Saying, version, name, even, turn}
 use Rattle.csa_record.specs.declared.fault.OrderFault.{OrderFault}
 use Rattle.csa_record.specs.declared.fault.OrderFault.TheVariants.{RepeatedName, MixedStart, PositionLate, RepeatedTurn}
@@ -44,24 +45,18 @@ none_stands xs e = rw e refl
 -- the body keeps all sides and positions
 pub sides_body : (ss : List Saying) → sides (body ss) ≡ sides ss
 sides_body [] = refl
-sides_body (version ∷ ss) = sides_body ss
-sides_body (name color text ∷ ss) = sides_body ss
-sides_body (even pairs ∷ ss) = sides_body ss
 sides_body (turn color ∷ ss) = ap (λ cs. color ∷ cs) (sides_body ss)
+sides_body (s ∷ ss) = sides_body ss
 
 positions_body : (ss : List Saying) → positions (body ss) ≡ positions ss
 positions_body [] = refl
-positions_body (version ∷ ss) = positions_body ss
-positions_body (name color text ∷ ss) = positions_body ss
 positions_body (even pairs ∷ ss) = ap (λ ps. even pairs ∷ ps) (positions_body ss)
-positions_body (turn color ∷ ss) = positions_body ss
+positions_body (s ∷ ss) = positions_body ss
 
 sides_positions : (ss : List Saying) → sides (positions ss) ≡ []
 sides_positions [] = refl
-sides_positions (version ∷ ss) = sides_positions ss
-sides_positions (name color text ∷ ss) = sides_positions ss
 sides_positions (even pairs ∷ ss) = sides_positions ss
-sides_positions (turn color ∷ ss) = sides_positions ss
+sides_positions (s ∷ ss) = sides_positions ss
 
 -- there is one side to move
 pub one_side : (ss : List Saying) (g : Game) → Says ss g → sides ss ≡ g.side ∷ []
@@ -85,17 +80,17 @@ fits_turn before color rest side all =
     fine_one (stands (sides before)) RepeatedTurn (none_stands (sides before) (alone_listed (sides before) color (sides rest) side split))
 
 -- what begins with a position is not empty of positions
-body_begins : (xs : List Saying) (p : List ℕ) (ys : List Saying) (zs : List Saying) (q : List ℕ) → positions xs ≡ [] → xs ++ even p ∷ ys ≡ even q ∷ zs → xs ≡ []
+body_begins : (xs : List Saying) (p : List Pair) (ys : List Saying) (zs : List Saying) (q : List Pair) → positions xs ≡ [] → xs ++ even p ∷ ys ≡ even q ∷ zs → xs ≡ []
 body_begins [] p ys zs q none e = refl
 body_begins (x ∷ xs) p ys zs q none e =
     let head : x ≡ even q = cc in
     let some : even q ∷ positions xs ≡ [] = rw head at none in cc
 
-no_positions_before : (before : List Saying) (p : List ℕ) (rest : List Saying) → AtMostOne (positions (before ++ even p ∷ rest)) → positions before ≡ []
+no_positions_before : (before : List Saying) (p : List Pair) (rest : List Saying) → AtMostOne (positions (before ++ even p ∷ rest)) → positions before ≡ []
 no_positions_before before p rest h =
     alone_at_most (positions before) (even p) (positions rest) (rw (filter-append is_position before (even p ∷ rest)) at h)
 
-no_body_before : (before : List Saying) (p : List ℕ) (rest : List Saying) (side : Color) → positions before ≡ [] → body (before ++ even p ∷ rest) ≡ positions (before ++ even p ∷ rest) ++ turn side ∷ [] → body before ≡ []
+no_body_before : (before : List Saying) (p : List Pair) (rest : List Saying) (side : Color) → positions before ≡ [] → body (before ++ even p ∷ rest) ≡ positions (before ++ even p ∷ rest) ++ turn side ∷ [] → body before ≡ []
 no_body_before before p rest side none order =
     let placed : positions (before ++ even p ∷ rest) ≡ even p ∷ positions rest =
     filter-append is_position before (even p ∷ rest) ∙ ap (λ ps. ps ++ even p ∷ positions rest) none in
@@ -103,7 +98,7 @@ no_body_before before p rest side none order =
     sym (filter-append is_body before (even p ∷ rest)) ∙ order ∙ ap (λ ps. ps ++ turn side ∷ []) placed in
     body_begins (body before) p (body rest) (positions rest ++ turn side ∷ []) p (positions_body before ∙ none) split
 
-fits_even : (before : List Saying) (p : List ℕ) (rest : List Saying) (side : Color) → AtMostOne (positions (before ++ even p ∷ rest)) → body (before ++ even p ∷ rest) ≡ positions (before ++ even p ∷ rest) ++ turn side ∷ [] → order_fault before (even p) ≡ None
+fits_even : (before : List Saying) (p : List Pair) (rest : List Saying) (side : Color) → AtMostOne (positions (before ++ even p ∷ rest)) → body (before ++ even p ∷ rest) ≡ positions (before ++ even p ∷ rest) ++ turn side ∷ [] → order_fault before (even p) ≡ None
 fits_even before p rest side once order =
     let none = no_positions_before before p rest once in
     let empty : sides before ≡ [] = sym (sides_body before) ∙ ap sides (no_body_before before p rest side none order) in
@@ -116,6 +111,7 @@ says_fits before (name Black (b ∷ bs)) rest g says = fits_name Black before b 
 says_fits before (name White (b ∷ bs)) rest g says = fits_name White before b bs rest g.white refl says.white
 says_fits before (even p) rest g says = fits_even before p rest g.side says.start says.in_order
 says_fits before (turn color) rest g says = fits_turn before color rest g.side (one_side (before ++ turn color ∷ rest) g says)
+says_fits before s rest g says = refl
 
 -- statements whose items say a game have no fault
 pub says_faultless : (before : List Saying) (us : List TextUnit) (ss : List Saying) (g : Game) → AllZip IsSpelt us ss → Says (before ++ ss) g → Faultless before us ss

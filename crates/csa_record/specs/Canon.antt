@@ -3,7 +3,7 @@ use Rattle.std.specs.Prelude.{ℕ, List, [], ◌∷◌, ◌++◌, Option, Some, 
 use Rattle.std.specs.List.{flat_map}
 use Rattle.shogi_board.specs.declared.color.Color.{Color}
 use Rattle.shogi_board.specs.declared.color.Color.TheVariants.{Black, White}
-use Rattle.csa_text.specs.Spelling.{sign}
+use Rattle.csa_text.specs.Codes.{sign}
 use Rattle.csa_record.specs.Game.{Game}
 
 -- the line of a name, if there is one

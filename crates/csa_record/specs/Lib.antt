@@ -1,5 +1,6 @@
 pub mod Bytes
 pub mod Game
+pub mod Reads
 pub mod Says
 pub mod Tells
 pub mod Refused

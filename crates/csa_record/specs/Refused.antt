@@ -1,12 +1,14 @@
 -- Where a record is refused, and why.
 use Rattle.std.specs.Prelude.{◌≡◌, ℕ, ◌+◌, ◌<◌, ◌≤◌, List, [], ◌∷◌, ◌++◌, length, Bool, true, false, Option, Some, None, ◌⊎◌, if◌then◌else◌}
 use Rattle.csa_text.specs.Cut.{TextUnit, Cut, statement_bytes}
-use Rattle.csa_text.specs.Spelling.{Saying, version, name, even, turn, Spells, fault_of_row}
+use Rattle.csa_text.specs.Spelling.{Saying, version, name, even, turn}
+use Rattle.csa_text.specs.declared.fault.TextFault.{TextFault}
 use Rattle.csa_text.specs.declared.fault.TextFault.TheVariants.{StatementTooLong}
 use Rattle.csa_record.specs.declared.fault.OrderFault.{OrderFault}
 use Rattle.csa_record.specs.declared.fault.OrderFault.TheVariants.{VersionOutOfPlace, RepeatedName, MixedStart, PositionLate, RepeatedTurn, MissingTurn}
 use Rattle.csa_record.specs.declared.fault.Why.{Why}
 use Rattle.csa_record.specs.declared.fault.Why.TheVariants.{Text, Order}
+use Rattle.csa_record.specs.Reads.{IsUnread}
 use Rattle.csa_record.specs.Says.{names, positions, sides}
 use Rattle.csa_record.specs.Game.{Game}
 use Rattle.csa_record.specs.Tells.{Tells, IsSpelt}
@@ -28,6 +30,7 @@ order_faults before (name color []) = []
 order_faults before (name color (b ∷ bs)) = (stands (names color before), RepeatedName) ∷ []
 order_faults before (even pairs) = (stands (sides before), PositionLate) ∷ (stands (positions before), MixedStart) ∷ []
 order_faults before (turn color) = (stands (sides before), RepeatedTurn) ∷ []
+order_faults before _ = []
 
 abbrev pub order_fault : List Saying → Saying → Option OrderFault
 order_fault before saying = first_fault (order_faults before saying)
@@ -37,8 +40,7 @@ IsTooLong unit why = (4096 < length unit.bytes) × (why ≡ Text StatementTooLon
 
 abbrev pub IsUnspelt : TextUnit → Why → Type 0
 IsUnspelt unit why =
-    (length unit.bytes ≤ 4096) × ((saying : Saying) → Spells (statement_bytes unit.bytes) saying → ⊥)
-    × (why ≡ Text (fault_of_row (statement_bytes unit.bytes)))
+    (length unit.bytes ≤ 4096) × (fault : TextFault) × IsUnread (statement_bytes unit.bytes) fault × (why ≡ Text fault)
 
 abbrev pub IsOutOfOrder : List Saying → TextUnit → Why → Type 0
 IsOutOfOrder before unit why =

@@ -15,46 +15,36 @@ same_color White White = true
 
 abbrev pub is_version : Saying → Bool
 is_version version = true
-is_version (name color text) = false
-is_version (even pairs) = false
-is_version (turn color) = false
+is_version _ = false
 
 -- the name of this side that an item gives; an empty one is none
 abbrev pub name_given : Color → Saying → Option (List ℕ)
-name_given side version = None
-name_given side (name color []) = None
 name_given side (name color (b ∷ bs)) = if same_color side color then Some (b ∷ bs) else None
-name_given side (even pairs) = None
-name_given side (turn color) = None
+name_given side _ = None
 
 abbrev pub names : Color → List Saying → List (List ℕ)
 names side sayings = filter_map (name_given side) sayings
 
 -- position statements
 abbrev pub is_position : Saying → Bool
-is_position version = false
-is_position (name color text) = false
 is_position (even pairs) = true
-is_position (turn color) = false
+is_position _ = false
 
 abbrev pub positions : List Saying → List Saying
 positions sayings = filter is_position sayings
 
 abbrev pub side_given : Saying → Option Color
-side_given version = None
-side_given (name color text) = None
-side_given (even pairs) = None
 side_given (turn color) = Some color
+side_given _ = None
 
 abbrev pub sides : List Saying → List Color
 sides sayings = filter_map side_given sayings
 
 -- all but versions and names: the body, in which the order counts
 abbrev pub is_body : Saying → Bool
-is_body version = false
-is_body (name color text) = false
 is_body (even pairs) = true
 is_body (turn color) = true
+is_body _ = false
 
 abbrev pub body : List Saying → List Saying
 body sayings = filter is_body sayings

@@ -1,8 +1,10 @@
 -- What a reader keeps of the items so far.
-use Rattle.std.specs.Prelude.{◌≡◌, ℕ, List, [], ◌∷◌, Bool, true, Option, Some, None, is_some, Result, Ok, Err}
+use Rattle.std.specs.Prelude.{◌≡◌, ℕ, List, [], ◌∷◌, Bool, true, false, Option, Some, None, is_some, Result, Ok, Err}
 use Rattle.shogi_board.specs.declared.color.Color.{Color}
 use Rattle.shogi_board.specs.declared.color.Color.TheVariants.{Black, White}
-use Rattle.csa_text.specs.Spelling.{Saying, version, name, even, turn, Spells, fault_of_row}
+use Rattle.csa_text.specs.Spelling.{Saying, version, name, even, turn}
+use Rattle.csa_text.specs.declared.fault.TextFault.TheVariants.{Unknown}
+use Rattle.csa_record.specs.Reads.{is_taken, Reads, IsUnread}
 use Rattle.csa_record.specs.Says.{names, positions, sides}
 use Rattle.csa_record.specs.Refused.{stands, first_fault}
 use Rattle.csa_record.specs.declared.fault.OrderFault.{OrderFault}
@@ -39,6 +41,7 @@ fault_so_far s (name Black (b ∷ bs)) = first_fault ((is_some s.black, Repeated
 fault_so_far s (name White (b ∷ bs)) = first_fault ((is_some s.white, RepeatedName) ∷ [])
 fault_so_far s (even pairs) = first_fault ((is_some s.side, PositionLate) ∷ (s.positioned, MixedStart) ∷ [])
 fault_so_far s (turn color) = first_fault ((is_some s.side, RepeatedTurn) ∷ [])
+fault_so_far s _ = None
 
 -- what is kept with one more item
 abbrev pub with_saying : SoFar → Saying → SoFar
@@ -48,6 +51,7 @@ with_saying s (name Black (b ∷ bs)) = record s { begun = true; black = Some (b
 with_saying s (name White (b ∷ bs)) = record s { begun = true; white = Some (b ∷ bs) }
 with_saying s (even pairs) = record s { begun = true; positioned = true }
 with_saying s (turn color) = record s { begun = true; side = Some color }
+with_saying s _ = record s { begun = true }
 
 -- what is kept with this name
 abbrev pub with_name : SoFar → Color → List ℕ → SoFar
@@ -62,16 +66,16 @@ TookName old color text (Err (Text f)) new = ⊥
 TookName old color text (Err (Order f)) new = fault_so_far old (name color text) ≡ Some f
 TookName old color text (Err OutOfMemory) new = fault_so_far old (name color text) ≡ None
 
--- the item of a statement was taken, or refused for this reason
+-- the item of a statement was taken, or refused for this reason; one of those that are not taken is unknown
 abbrev pub Took : SoFar → Saying → Result (Unit {0}) Why → SoFar → Type 0
-Took old s (Ok _) new = (fault_so_far old s ≡ None) × (new ≡ with_saying old s)
-Took old s (Err (Text f)) new = ⊥
-Took old s (Err (Order f)) new = fault_so_far old s ≡ Some f
-Took old s (Err OutOfMemory) new = fault_so_far old s ≡ None
+Took old s (Ok _) new = (is_taken s ≡ true) × (fault_so_far old s ≡ None) × (new ≡ with_saying old s)
+Took old s (Err (Text f)) new = (is_taken s ≡ false) × (f ≡ Unknown)
+Took old s (Err (Order f)) new = (is_taken s ≡ true) × (fault_so_far old s ≡ Some f)
+Took old s (Err OutOfMemory) new = (is_taken s ≡ true) × (fault_so_far old s ≡ None)
 
 -- the bytes of a statement were taken, or refused for this reason
 abbrev pub TookBytes : SoFar → List ℕ → Result (Unit {0}) Why → SoFar → Type 0
-TookBytes old bytes (Ok u) new = (s : Saying) × Spells bytes s × Took old s (Ok u) new
-TookBytes old bytes (Err (Text f)) new = ((s : Saying) → Spells bytes s → ⊥) × (f ≡ fault_of_row bytes)
-TookBytes old bytes (Err (Order f)) new = (s : Saying) × Spells bytes s × (fault_so_far old s ≡ Some f)
-TookBytes old bytes (Err OutOfMemory) new = (s : Saying) × Spells bytes s × (fault_so_far old s ≡ None)
+TookBytes old bytes (Ok u) new = (s : Saying) × Reads bytes s × (fault_so_far old s ≡ None) × (new ≡ with_saying old s)
+TookBytes old bytes (Err (Text f)) new = IsUnread bytes f
+TookBytes old bytes (Err (Order f)) new = (s : Saying) × Reads bytes s × (fault_so_far old s ≡ Some f)
+TookBytes old bytes (Err OutOfMemory) new = (s : Saying) × Reads bytes s × (fault_so_far old s ≡ None)

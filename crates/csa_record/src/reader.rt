@@ -59,8 +59,9 @@ impl Reader {
         match item {
             Item::Version => self.take_version()?,
             Item::Name(color, text) => self.take_name(alloc, color, text)?,
-            Item::Even(_) => self.take_even()?,
+            Item::Even(pairs) if pairs.is_empty() => self.take_even()?,
             Item::Turn(color) => self.take_turn(color)?,
+            _ => return Err(Why::Text(TextFault::Unknown)),
         }
         self.begun = true;
         Ok(())

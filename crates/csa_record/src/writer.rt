@@ -1,5 +1,5 @@
 ghost use Rattle.std.specs.Prelude.{◌≡◌, ◌++◌, IfOk, OnOk};
-ghost use Rattle.csa_text.specs.Spelling.{sign};
+ghost use Rattle.csa_text.specs.Codes.{sign};
 ghost use Rattle.csa_record.specs.Game.{name_of};
 ghost use Rattle.csa_record.specs.Tells.{Tells};
 ghost use Rattle.csa_record.specs.Canon.{canon, ended, name_lines};
