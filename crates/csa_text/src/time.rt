@@ -1,4 +1,4 @@
-ghost use Rattle.std.specs.Prelude.{◌≡◌, ℕ, ◌≤◌, ◌<◌, MatchOption, IfSome};
+ghost use Rattle.std.specs.Prelude.{◌≡◌, ℕ, ◌+◌, ◌*◌, ◌<◌, ◌≤◌, MatchOption, IfSome};
 ghost use Rattle.csa_text.specs.TimeTexts.{IsSeconds, IsFraction, IsTime};
 
 use crate::moment::{read_number, split_at_byte};
@@ -30,9 +30,16 @@ fn read_seconds(digits: &[u8]) -> Option<u32>
     let mut seconds = 0u32;
     for b in digits {
         let digit = (*b as char).to_digit(10)?;
-        seconds = seconds.checked_mul(10)?.checked_add(digit)?;
+        seconds = with_digit(seconds, digit)?;
     }
     Some(seconds)
+}
+
+// The number with one digit more behind it, unless it passes 4,294,967,295.
+fn with_digit(number: u32, digit: u32) -> Option<u32>
+    ensures { MatchOption result (4294967295 < number * 10 + digit) (λ n. (n ≡ number * 10 + digit) × (n ≤ 4294967295)) }
+{
+    number.checked_mul(10)?.checked_add(digit)
 }
 
 // The thousandths that one to three digits behind the point spell.

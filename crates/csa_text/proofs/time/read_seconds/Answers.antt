@@ -3,7 +3,7 @@ use Rattle.std.proofs.lemmas.List.{take_all}
 use Rattle.std.proofs.lemmas.Int.Digits.{digits_more, digits_value_more}
 use Rattle.std.specs.Str.Parse.{AllDigits, digits_value}
 use Rattle.csa_text.proofs.Moments.{digit_below}
-use Rattle.csa_text.proofs.TimesRead.{passes_ten, passes_digit}
+use Rattle.csa_text.proofs.TimesRead.{passes_limit}
 use Rattle.csa_text.proofs.time.read_seconds.Goals as goal
 
 pub returns-in_err-digit : goal.returns-in_err-digit
@@ -11,29 +11,20 @@ returns-in_err-digit c =
     rw c.from_residual.ensures
     (λ value n. c.in_err-digit.ensures.value (digit_below c.args.digits.now c.loop-b.b-index n.digits_only c.loop-b-test.true))
 
-pub returns-in_err-checked_mul : goal.returns-in_err-checked_mul
-returns-in_err-checked_mul c =
-    let h = c.in_err-checked_mul.ensures in
-    rw c.from_residual-in_err-checked_mul.ensures
-    (λ value n. passes_ten c.args.digits.now c.loop-b.b-index c.loop-b.seconds value c.loop-b-test.true c.loop-b.invariant.value h n)
-
 pub returns-in_err-seconds : goal.returns-in_err-seconds
 returns-in_err-seconds c =
-    let h = c.in_err-seconds.ensures in
-    let k = c.in_ok-checked_mul.ensures in
     rw c.from_residual-in_err-seconds.ensures
-    (λ value n. passes_digit c.args.digits.now c.loop-b.b-index c.loop-b.seconds c.in_ok-checked_mul.field-0 c.in_ok-digit.digit value c.loop-b-test.true c.loop-b.invariant.value k.1 c.in_ok-digit.ensures.value.1 h n)
+    (λ value n. passes_limit c.args.digits.now c.loop-b.b-index c.loop-b.seconds c.in_ok-digit.digit value c.loop-b-test.true c.loop-b.invariant.value c.in_ok-digit.ensures.value.1 c.in_err-seconds.ensures n)
 
 pub loop-b-preserved : goal.loop-b-preserved
 loop-b-preserved c =
     let bytes = c.args.digits.now in
     let i = c.loop-b.b-index in
-    let h = c.in_ok-seconds.ensures in
-    let k = c.in_ok-checked_mul.ensures in
+    let next = c.in_ok-seconds.ensures in
     record {
       digits = digits_more 10 bytes i c.loop-b-test.true c.loop-b.invariant.digits c.in_ok-digit.ensures.value.0;
-      limit = omega (arith, h.0, h.1);
-      value = omega (arith, digits_value_more 10 bytes i c.loop-b-test.true, c.loop-b.invariant.value, c.in_ok-digit.ensures.value.1, h.1, k.1);
+      limit = next.1;
+      value = omega (arith, digits_value_more 10 bytes i c.loop-b-test.true, c.loop-b.invariant.value, c.in_ok-digit.ensures.value.1, next.0);
     }
 
 pub returns : goal.returns
