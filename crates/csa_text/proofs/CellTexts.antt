@@ -1,14 +1,14 @@
 -- The cells of a rank are told by their texts, and how they are read.
-use Rattle.std.proofs.Common.{◌≡◌, ◌≢◌, ℕ, zero, suc, ◌+◌, ◌*◌, ◌<◌, ◌≤◌, arith, List, [], ◌∷◌, ◌++◌, length, take, drop, get_or, Option, Some, None, MatchOption, refl, sym, ap, ◌∙◌, subst, inl, inr, ◌⊎◌}
+use Rattle.std.proofs.Common.{◌≡◌, ◌≢◌, ℕ, ◌+◌, ◌*◌, ◌<◌, ◌≤◌, arith, List, [], ◌∷◌, ◌++◌, length, take, drop, get_or, Option, Some, None, MatchOption, refl, sym, ap, ◌∙◌, inl, inr, ◌⊎◌}
 use Rattle.std.specs.List.{flat_map}
-use Rattle.std.specs.Prelude.{codes}
 use Rattle.std.proofs.lemmas.List.{take_all, length-append}
 use Rattle.shogi_board.specs.declared.color.Color.{Color}
 use Rattle.shogi_board.specs.declared.color.Color.TheVariants.{Black, White}
 use Rattle.shogi_board.specs.declared.kind.Kind.{Kind}
 use Rattle.shogi_board.specs.declared.kind.Piece.{Piece}
 use Rattle.csa_text.specs.Codes.{sign, kind_code, cell_text}
-use Rattle.csa_text.specs.CodesOnce.{sign_once, kind_once, kind_length, kind_or_not}
+use Rattle.csa_text.specs.CodesOnce.{kind_once, kind_length}
+use Rattle.csa_text.proofs.Codings.{sign_once}
 use Rattle.csa_text.specs.PairsOnce.{same_split}
 use Rattle.csa_text.proofs.Texts.{texts_length, text_at, texts_more, front_more}
 
@@ -64,7 +64,8 @@ pub cells_all : (bytes : List ℕ) (cells : List (Option Piece)) (i : ℕ) → t
 cells_all bytes cells i h past size nine =
     sym (take_all (3 * i) bytes (omega arith)) ∙ h ∙ ap (flat_map cell_text) (take_all i cells (omega arith))
 
-abbrev CellsOf : List ℕ → List (Option Piece) → Type 0
+-- nine cells' text, or that text less its last space
+abbrev pub CellsOf : List ℕ → List (Option Piece) → Type 0
 CellsOf bytes cells = (bytes ≡ flat_map cell_text cells) ⊎ (bytes ++ 32 ∷ [] ≡ flat_map cell_text cells)
 
 pub short_rank : (bytes whole : List ℕ) (o : Option (List (Option Piece))) → whole ≡ bytes → length bytes ≡ 26 → MatchOption o ((cells : List (Option Piece)) → length cells ≡ 9 → whole ++ 32 ∷ [] ≡ flat_map cell_text cells → ⊥) (λ cells. whole ++ 32 ∷ [] ≡ flat_map cell_text cells) → MatchOption o ((cells : List (Option Piece)) → length cells ≡ 9 → CellsOf bytes cells → ⊥) (λ cells. CellsOf bytes cells)

@@ -1,10 +1,10 @@
 -- Whether bytes spell a text of the grammar's parts is decided.
-use Rattle.std.proofs.Common.{◌≡◌, ◌≢◌, ℕ, zero, suc, ◌+◌, ◌-◌, ◌*◌, ◌^◌, ◌<◌, ◌≤◌, ◌==◌, Bool, true, false, arith, List, [], ◌∷◌, ◌++◌, length, Option, Some, None, refl, sym, ap, ◌∙◌, subst, inl, inr, ◌⊎◌}
+use Rattle.std.proofs.Common.{◌≡◌, ◌≢◌, ℕ, zero, suc, ◌+◌, ◌-◌, ◌*◌, ◌^◌, ◌<◌, arith, List, [], ◌∷◌, ◌++◌, length, Option, Some, None, refl, sym, ap, ◌∙◌, subst, inl, inr, ◌⊎◌}
 use Rattle.std.specs.Prelude.{codes}
 use Rattle.std.specs.List.{flat_map}
 use Rattle.std.specs.Char.{digit_value}
 use Rattle.std.specs.Str.Parse.{AllDigits, digits_value}
-use Rattle.std.proofs.lemmas.Bool.{cases_Bool, cases_lt}
+use Rattle.std.proofs.lemmas.Bool.{cases_lt}
 use Rattle.std.proofs.lemmas.Bool.Decides.{eqb_tells}
 use Rattle.shogi_board.specs.declared.color.Color.{Color}
 use Rattle.shogi_board.specs.declared.color.Color.TheVariants.{Black, White}
@@ -16,14 +16,16 @@ use Rattle.shogi_rules.specs.declared.moves.Move.{Move}
 use Rattle.shogi_rules.specs.declared.moves.Move.TheVariants.{Walk, Put}
 use Rattle.csa_text.specs.declared.pair.Pair.{Pair}
 use Rattle.csa_text.specs.declared.pair.Pair.TheVariants.{On, InHand, Rest}
-use Rattle.csa_text.specs.Codes.{sign, square_text, kind_code, cell_text, squares_text}
-use Rattle.csa_text.specs.CodesOnce.{kind_or_not, kind_length}
-use Rattle.csa_text.specs.Moment.{IsNumber, IsSplit, HasNone}
+use Rattle.csa_text.specs.Codes.{sign, kind_code, cell_text, squares_text}
+use Rattle.csa_text.specs.CodesOnce.{kind_length}
+use Rattle.csa_text.proofs.Codings.{kind_or_not}
+use Rattle.csa_text.specs.Moment.{IsSplit, HasNone}
 use Rattle.csa_text.specs.PairTexts.{pair_text, pairs_text, IsOnBoard, AllOnBoard}
 use Rattle.csa_text.specs.PairsOnce.{same_split, pair_length}
-use Rattle.csa_text.specs.TimeTexts.{IsSeconds, IsFraction, HasFraction, IsTime}
+use Rattle.csa_text.specs.TimeTexts.{IsSeconds, IsFraction, IsTime}
 use Rattle.csa_text.proofs.CellTexts.{cell_length, cells_length}
 use Rattle.csa_text.proofs.Rows.{not_on_board}
+use Rattle.csa_text.proofs.Texts.{head_same, tail_same}
 use Rattle.std.proofs.lemmas.List.{length-append}
 use Rattle.csa_text.proofs.TimesRead.{no_whole, no_front, no_fraction}
 
@@ -43,12 +45,6 @@ same_or_not (x ∷ xs) (y ∷ ys) =
           ]
       | inr heads ↦ inr (λ e. let head : x ≡ y = cc in heads.1 head)
     ]
-
-tail_same : (a b : ℕ) (x y : List ℕ) → a ∷ x ≡ b ∷ y → x ≡ y
-tail_same a b x y e = cc
-
-head_same : (a b : ℕ) (x y : List ℕ) → a ∷ x ≡ b ∷ y → a ≡ b
-head_same a b x y e = cc
 
 -- one byte, and what stands behind it
 pub behind : (a : ℕ) (P : List ℕ → Type 0) → ((rest : List ℕ) → Decided (P rest)) → (bytes : List ℕ) → Decided ((rest : List ℕ) × (bytes ≡ a ∷ rest) × P rest)
@@ -366,16 +362,19 @@ time_or_not text =
         | inr never ↦ inr (λ h. no_front text s.0 s.1 s.2 (λ n m. never (n, m)) h.0 h.1)
         | inl n ↦ elim (fraction_or_not s.1) [
           | inr never ↦ inr (λ h. no_fraction text s.0 s.1 s.2 (λ m f. never (m, f)) h.0 h.1)
-          | inl f ↦ inl (n.0 * 1000 + f.0, inr (record {
-            digits = s.0;
-            behind = s.1;
-            seconds = n.0;
-            fraction = f.0;
-            whole = s.2.0;
-            seconds_are = n.1;
-            fraction_is = f.1;
-            value_is = refl;
-          }))
+          | inl f ↦ inl (
+            n.0 * 1000 + f.0,
+            inr (record {
+              digits = s.0;
+              behind = s.1;
+              seconds = n.0;
+              fraction = f.0;
+              whole = s.2.0;
+              seconds_are = n.1;
+              fraction_is = f.1;
+              value_is = refl;
+            }),
+          )
         ]
       ]
     ]

@@ -7,6 +7,7 @@ pub mod TimesRead
 pub mod Rows
 pub mod Sayings
 pub mod Decided
+pub mod Codings
 pub mod Blanks
 pub mod Once
 pub mod Lining

@@ -1,11 +1,10 @@
 -- What reading pairs of four bytes finds.
-use Rattle.std.proofs.Common.{◌≡◌, ◌≢◌, ℕ, zero, suc, ◌+◌, ◌*◌, ◌-◌, ◌/◌, ◌%◌, ◌<◌, ◌≤◌, arith, List, [], ◌∷◌, ◌++◌, length, take, drop, get_or, Option, Some, None, MatchOption, refl, sym, ap, ◌∙◌, subst}
+use Rattle.std.proofs.Common.{◌≡◌, ◌≢◌, ℕ, ◌+◌, ◌*◌, ◌/◌, ◌%◌, ◌<◌, ◌≤◌, arith, List, [], ◌∷◌, ◌++◌, length, take, drop, get_or, Option, Some, None, MatchOption, sym, ap, ◌∙◌}
 use Rattle.std.proofs.lemmas.List.{length_push, take_all}
 use Rattle.std.specs.List.{slice_get}
 use Rattle.std.proofs.lemmas.Option.{slice_get-get_or, slice_get_past}
-use Rattle.std.proofs.Math.Seq.{take-length}
 use Rattle.csa_text.specs.declared.pair.Pair.{Pair}
-use Rattle.csa_text.specs.declared.pair.Pair.TheVariants.{On, InHand, Rest}
+use Rattle.csa_text.specs.declared.pair.Pair.TheVariants.{Rest}
 use Rattle.csa_text.specs.PairTexts.{pair_text, pairs_text}
 use Rattle.csa_text.specs.PairsOnce.{pair_length, pair_once}
 use Rattle.csa_text.proofs.Texts.{texts_length, text_at, texts_more, front_more}

@@ -1,6 +1,6 @@
 -- The rows of the grammar: bytes that spell something of a row begin as that row does.
-use Rattle.std.proofs.Common.{◌≡◌, ◌≢◌, ℕ, zero, suc, ◌+◌, ◌-◌, ◌<◌, ◌≤◌, ◌==◌, ◌||◌, ◌&&◌, Bool, true, false, arith, List, [], ◌∷◌, ◌++◌, length, Option, Some, None, refl, sym, ap, ◌∙◌, subst, inl, inr, ◌⊎◌}
-use Rattle.std.specs.Prelude.{codes, if◌then◌else◌, nat_lt}
+use Rattle.std.proofs.Common.{◌≡◌, ◌≢◌, ℕ, zero, suc, ◌+◌, ◌-◌, ◌<◌, ◌≤◌, ◌==◌, ◌||◌, ◌&&◌, arith, List, [], ◌∷◌, ◌++◌, length, Option, refl, sym, ap, ◌∙◌, inl, inr, ◌⊎◌}
+use Rattle.std.specs.Prelude.{if◌then◌else◌, nat_lt}
 use Rattle.shogi_board.specs.declared.color.Color.{Color}
 use Rattle.shogi_board.specs.declared.color.Color.TheVariants.{Black, White}
 use Rattle.shogi_board.specs.declared.kind.Piece.{Piece}
@@ -9,13 +9,15 @@ use Rattle.shogi_rules.specs.declared.moves.Move.TheVariants.{Walk, Put}
 use Rattle.std.specs.List.{flat_map}
 use Rattle.csa_text.specs.declared.ending.Ending.{Ending}
 use Rattle.csa_text.specs.declared.pair.Pair.{Pair}
+use Rattle.csa_text.proofs.CellTexts.{CellsOf}
 use Rattle.csa_text.proofs.Moments.{no_split, split_same}
+use Rattle.csa_text.proofs.Texts.{head_same, tail_same}
 use Rattle.csa_text.specs.Codes.{sign, cell_text, move_text, squares_text}
 use Rattle.csa_text.specs.Endings.{ending_name}
 use Rattle.csa_text.specs.Moment.{IsSplit, HasNone}
 use Rattle.csa_text.specs.PairTexts.{pairs_text, AllOnBoard}
 use Rattle.csa_text.specs.TimeTexts.{IsTime}
-use Rattle.csa_text.specs.Spelling.{Saying, version, name, header, even, rank, pieces, turn, walked, time, ending, Spells, IsRank, IsHeader, rank_text, fault_of_row}
+use Rattle.csa_text.specs.Spelling.{Saying, version, name, header, even, rank, pieces, turn, walked, time, ending, Spells, IsRank, fault_of_row}
 use Rattle.csa_text.specs.declared.fault.TextFault.TheVariants.{BadPosition, BadTime}
 use Rattle.csa_text.specs.PairsOnce.{pairs_once}
 
@@ -91,9 +93,6 @@ rank_begins (suc (suc (suc (suc (suc (suc (suc (suc (suc zero))))))))) rest low 
 rank_begins (suc (suc (suc (suc (suc (suc (suc (suc (suc (suc number)))))))))) rest low high = absurd (omega arith)
 
 -- a rank is `P`, its number, and more
-head_same : (a b : ℕ) (x y : List ℕ) → a ∷ x ≡ b ∷ y → a ≡ b
-head_same a b x y e = cc
-
 front_of : (bytes text : List ℕ) (number : ℕ) → 1 ≤ number → (bytes ≡ 80 ∷ (48 + number) ∷ text) ⊎ (bytes ++ 32 ∷ [] ≡ 80 ∷ (48 + number) ∷ text) → (rest : List ℕ) × (bytes ≡ 80 ∷ (48 + number) ∷ rest)
 front_of bytes text number low (inl e) = (text, e)
 front_of [] text number low (inr e) = absurd (omega (arith, head_same 32 80 [] ((48 + number) ∷ text) e))
@@ -137,11 +136,8 @@ row_below (ending e) = omega arith
 pub no_row : (bytes : List ℕ) → row_at bytes ≡ 10 → (s : Saying) → Spells bytes s → ⊥
 no_row bytes none s p = omega (arith, none, begins_so bytes s p, row_below s)
 
-tail_same : (a : ℕ) (x y : List ℕ) → a ∷ x ≡ a ∷ y → x ≡ y
-tail_same a x y e = cc
-
 pub no_header : (line : List ℕ) → ((key text : List ℕ) → IsSplit 58 line key text → key ≢ [] → ⊥) → (s : Saying) → Spells (36 ∷ line) s → ⊥
-no_header line never (header key text) h = let same : line ≡ h.line = tail_same 36 line h.line h.whole in never key text (rw same h.split) h.some
+no_header line never (header key text) h = let same : line ≡ h.line = tail_same 36 36 line h.line h.whole in never key text (rw same h.split) h.some
 no_header line never s p = let row : 2 ≡ row_of s = begins_so (36 ∷ line) s p in absurd (omega (arith, row))
 
 pub no_colon : (line : List ℕ) → HasNone 58 line → (key text : List ℕ) → IsSplit 58 line key text → key ≢ [] → ⊥
@@ -152,15 +148,15 @@ no_key line [] rest split size key text s some = some (sym (split_same 58 line [
 no_key line (b ∷ bs) rest split size key text s some = omega (arith, size)
 
 pub no_time : (text : List ℕ) → ((n : ℕ) → IsTime text n → ⊥) → (s : Saying) → Spells (84 ∷ text) s → ⊥
-no_time text never (time n) h = let same : text ≡ h.0 = tail_same 84 text h.0 h.1 in never n (rw same h.2)
+no_time text never (time n) h = let same : text ≡ h.0 = tail_same 84 84 text h.0 h.1 in never n (rw same h.2)
 no_time text never s p = let row : 8 ≡ row_of s = begins_so (84 ∷ text) s p in absurd (omega (arith, row))
 
 pub no_ending : (text : List ℕ) → ((e : Ending) → text ≡ ending_name e → ⊥) → (s : Saying) → Spells (37 ∷ text) s → ⊥
-no_ending text never (ending e) h = never e (tail_same 37 text (ending_name e) h)
+no_ending text never (ending e) h = never e (tail_same 37 37 text (ending_name e) h)
 no_ending text never s p = let row : 9 ≡ row_of s = begins_so (37 ∷ text) s p in absurd (omega (arith, row))
 
 pub no_even : (text : List ℕ) → ((pairs : List Pair) → text ≡ pairs_text pairs → AllOnBoard pairs → ⊥) → (s : Saying) → Spells (80 ∷ 73 ∷ text) s → ⊥
-no_even text never (even pairs) h = never pairs (tail_same 73 text (pairs_text pairs) (tail_same 80 (73 ∷ text) (73 ∷ pairs_text pairs) h.0)) h.1
+no_even text never (even pairs) h = never pairs (tail_same 73 73 text (pairs_text pairs) (tail_same 80 80 (73 ∷ text) (73 ∷ pairs_text pairs) h.0)) h.1
 no_even text never s p = let row : 3 ≡ row_of s = begins_so (80 ∷ 73 ∷ text) s p in absurd (omega (arith, row))
 
 pub no_pieces : (color : Color) (text : List ℕ) → ((pairs : List Pair) → text ≡ pairs_text pairs → ⊥) → (s : Saying) → Spells (80 ∷ sign color ∷ text) s → ⊥
@@ -171,9 +167,6 @@ pub no_signed : (color : Color) (first : ℕ) (text : List ℕ) → ((m : Move) 
 no_signed color first text never (walked other m) h = let same : first ∷ text ≡ squares_text m = cc in never m same
 no_signed Black first text never s p = let row : 7 ≡ row_of s = begins_so (43 ∷ first ∷ text) s p in absurd (omega (arith, row))
 no_signed White first text never s p = let row : 7 ≡ row_of s = begins_so (45 ∷ first ∷ text) s p in absurd (omega (arith, row))
-
-abbrev pub CellsOf : List ℕ → List (Option Piece) → Type 0
-CellsOf bytes cells = (bytes ≡ flat_map cell_text cells) ⊎ (bytes ++ 32 ∷ [] ≡ flat_map cell_text cells)
 
 behind_two : (a b c : ℕ) (x y : List ℕ) → (a ∷ b ∷ x ≡ a ∷ c ∷ y) ⊎ (a ∷ b ∷ (x ++ 32 ∷ []) ≡ a ∷ c ∷ y) → (x ≡ y) ⊎ (x ++ 32 ∷ [] ≡ y)
 behind_two a b c x y (inl e) = inl cc

@@ -1,5 +1,5 @@
 -- The bytes of a statement spell one thing.
-use Rattle.std.proofs.Common.{◌≡◌, ◌≢◌, ℕ, ◌+◌, ◌-◌, ◌<◌, ◌≤◌, arith, List, [], ◌∷◌, ◌++◌, length, Option, refl, sym, ap, ◌∙◌, subst, inl, inr, ◌⊎◌}
+use Rattle.std.proofs.Common.{◌≡◌, ◌≢◌, ℕ, ◌+◌, ◌-◌, arith, List, [], ◌∷◌, ◌++◌, length, Option, refl, sym, ap, ◌∙◌, subst, inl, inr, ◌⊎◌}
 use Rattle.std.specs.List.{flat_map}
 use Rattle.std.specs.Prelude.{codes}
 use Rattle.std.proofs.lemmas.Bool.{cases_lt}
@@ -7,26 +7,26 @@ use Rattle.std.proofs.lemmas.Bool.Decides.{eqb_tells}
 use Rattle.csa_text.specs.Moment.{IsSplit}
 use Rattle.std.proofs.lemmas.List.{length-append}
 use Rattle.shogi_board.specs.declared.color.Color.{Color}
-use Rattle.shogi_board.specs.declared.kind.Kind.{Kind}
 use Rattle.shogi_board.specs.declared.kind.Piece.{Piece}
-use Rattle.shogi_board.specs.declared.square.Square.{Square}
 use Rattle.shogi_board.specs.Squares.{file_of, rank_of}
 use Rattle.shogi_rules.specs.declared.moves.Move.{Move}
 use Rattle.shogi_rules.specs.declared.moves.Move.TheVariants.{Walk, Put}
 use Rattle.csa_text.specs.declared.ending.Ending.{Ending}
 use Rattle.csa_text.specs.declared.pair.Pair.{Pair}
-use Rattle.csa_text.specs.Codes.{sign, square_text, kind_code, cell_text, squares_text}
-use Rattle.csa_text.specs.CodesOnce.{sign_once, kind_once, square_once, no_zero_file, ending_once, ending_or_not}
+use Rattle.csa_text.specs.Codes.{sign, kind_code, cell_text, squares_text}
+use Rattle.csa_text.specs.CodesOnce.{kind_once, square_once, no_zero_file}
+use Rattle.csa_text.proofs.Codings.{sign_once, ending_once, ending_or_not}
 use Rattle.csa_text.specs.Endings.{ending_name}
 use Rattle.csa_text.specs.PairTexts.{pairs_text, AllOnBoard}
 use Rattle.csa_text.specs.PairsOnce.{pairs_once}
 use Rattle.csa_text.specs.TimeTexts.{IsTime}
 use Rattle.csa_text.specs.Spelling.{Saying, version, name, header, even, rank, pieces, turn, walked, time, ending, Spells, IsRank, rank_text}
-use Rattle.csa_text.proofs.CellTexts.{cells_once, cells_length}
+use Rattle.csa_text.proofs.CellTexts.{cells_once, cells_length, CellsOf}
+use Rattle.csa_text.proofs.Texts.{head_same, tail_same}
 use Rattle.csa_text.proofs.Moments.{split_same}
 use Rattle.csa_text.proofs.TimesRead.{time_once}
 use Rattle.csa_text.proofs.Decided.{Decided, behind, behind_sign, split_or_not, same_or_not, pairs_or_not, board_pairs_or_not, cells_or_not, squares_or_not, time_or_not}
-use Rattle.csa_text.proofs.Rows.{row_of, begins_so, rank_whole, CellsOf, no_colon, no_key, no_rank, rank_read}
+use Rattle.csa_text.proofs.Rows.{row_of, begins_so, rank_whole, no_colon, no_key, no_rank, rank_read}
 
 squares_once : (m n : Move) → squares_text m ≡ squares_text n → m ≡ n
 squares_once (Walk a b k) (Walk c d l) e =
@@ -49,9 +49,6 @@ two_same p a b x y e =
     let first : a ≡ b = cc in
     let rest : x ≡ y = cc in
     (first, rest)
-
-tail_same : (a : ℕ) (x y : List ℕ) → a ∷ x ≡ a ∷ y → x ≡ y
-tail_same a x y e = cc
 
 signed_same : (a b : Color) (x y : List ℕ) → sign a ∷ x ≡ sign b ∷ y → (a ≡ b) × (x ≡ y)
 signed_same a b x y e =
@@ -83,26 +80,26 @@ same_rank bytes m n c d p q =
 pub same_saying : (bytes : List ℕ) (a b : Saying) → Spells bytes a → Spells bytes b → a ≡ b
 same_saying bytes version version p q = refl
 same_saying bytes (name a x) (name b y) p q =
-    let same = signed_same a b x y (tail_same 78 (sign a ∷ x) (sign b ∷ y) (sym p ∙ q)) in
+    let same = signed_same a b x y (tail_same 78 78 (sign a ∷ x) (sign b ∷ y) (sym p ∙ q)) in
     ap (λ c. name c x) same.0 ∙ ap (name b) same.1
 same_saying bytes (header a x) (header b y) p q =
-    let line : p.line ≡ q.line = tail_same 36 p.line q.line (sym p.whole ∙ q.whole) in
+    let line : p.line ≡ q.line = tail_same 36 36 p.line q.line (sym p.whole ∙ q.whole) in
     let same = split_same 58 p.line a x b y p.split (line ∙ q.split.0) q.split.1 in
     ap (λ k. header k x) same.0 ∙ ap (header b) same.1
 same_saying bytes (even x) (even y) p q =
     ap even (pairs_once x y (two_same 80 73 73 (pairs_text x) (pairs_text y) (sym p.0 ∙ q.0)).1)
 same_saying bytes (rank m c) (rank n d) p q = same_rank bytes m n c d p q
 same_saying bytes (pieces a x) (pieces b y) p q =
-    let same = signed_same a b (pairs_text x) (pairs_text y) (tail_same 80 (sign a ∷ pairs_text x) (sign b ∷ pairs_text y) (sym p ∙ q)) in
+    let same = signed_same a b (pairs_text x) (pairs_text y) (tail_same 80 80 (sign a ∷ pairs_text x) (sign b ∷ pairs_text y) (sym p ∙ q)) in
     ap (λ c. pieces c x) same.0 ∙ ap (pieces b) (pairs_once x y same.1)
 same_saying bytes (turn a) (turn b) p q = ap turn (signed_same a b [] [] (sym p ∙ q)).0
 same_saying bytes (walked a m) (walked b n) p q =
     let same = signed_same a b (squares_text m) (squares_text n) (sym p ∙ q) in
     ap (λ c. walked c m) same.0 ∙ ap (walked b) (squares_once m n same.1)
 same_saying bytes (time m) (time n) p q =
-    let text : p.0 ≡ q.0 = tail_same 84 p.0 q.0 (sym p.1 ∙ q.1) in
+    let text : p.0 ≡ q.0 = tail_same 84 84 p.0 q.0 (sym p.1 ∙ q.1) in
     ap time (time_once p.0 m n p.2 (rw text q.2))
-same_saying bytes (ending a) (ending b) p q = ap ending (ending_once a b (tail_same 37 (ending_name a) (ending_name b) (sym p ∙ q)))
+same_saying bytes (ending a) (ending b) p q = ap ending (ending_once a b (tail_same 37 37 (ending_name a) (ending_name b) (sym p ∙ q)))
 same_saying bytes a b p q = let row : row_of a ≡ row_of b = sym (begins_so bytes a p) ∙ begins_so bytes b q in absurd (omega (arith, row))
 
 cells_of_or_not : (text : List ℕ) → Decided ((cells : List (Option Piece)) × (length cells ≡ 9) × CellsOf text cells)
@@ -178,9 +175,6 @@ pieces_or_not bytes =
       | inl h ↦ inl (h.2.0, h.2.3.0, h.1 ∙ ap (λ x. 80 ∷ x) h.2.2 ∙ ap (λ x. 80 ∷ sign h.2.0 ∷ x) h.2.3.1)
       | inr never ↦ inr (λ h. never (sign h.0 ∷ pairs_text h.1, h.2, (h.0, pairs_text h.1, refl, (h.1, refl))))
     ]
-
-head_same : (a b : ℕ) (x y : List ℕ) → a ∷ x ≡ b ∷ y → a ≡ b
-head_same a b x y e = cc
 
 next_same : (a b c d : ℕ) (x y : List ℕ) → a ∷ c ∷ x ≡ b ∷ d ∷ y → c ≡ d
 next_same a b c d x y e = cc

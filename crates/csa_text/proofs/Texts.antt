@@ -1,5 +1,5 @@
 -- Lists written as texts of one length each: where each text lies.
-use Rattle.std.proofs.Common.{◌≡◌, ℕ, zero, suc, ◌+◌, ◌*◌, ◌-◌, ◌<◌, ◌≤◌, arith, List, [], ◌∷◌, ◌++◌, length, take, drop, get_or, refl, sym, ap, ◌∙◌, subst, append_assoc}
+use Rattle.std.proofs.Common.{◌≡◌, ℕ, zero, suc, ◌+◌, ◌*◌, ◌-◌, ◌<◌, arith, List, [], ◌∷◌, ◌++◌, length, take, drop, get_or, refl, sym, ap, ◌∙◌, append_assoc}
 use Rattle.std.specs.List.{flat_map, AllByRecursion}
 use Rattle.std.proofs.lemmas.List.{append-nil}
 use Rattle.std.proofs.lemmas.List.{length-append}
@@ -44,3 +44,9 @@ all_from_each P (x ∷ xs) d h = (h 0 (omega arith), all_from_each P xs d (λ i 
 -- the i-th width, as it is cut out
 pub cut_out : (bytes : List ℕ) (width i : ℕ) → take (width * i + width - width * i) (drop (width * i) bytes) ≡ take width (drop (width * i) bytes)
 cut_out bytes width i = let one : width * i + width - width * i ≡ width = omega arith in rw one refl
+
+pub head_same : (a b : ℕ) (x y : List ℕ) → a ∷ x ≡ b ∷ y → a ≡ b
+head_same a b x y e = cc
+
+pub tail_same : (a b : ℕ) (x y : List ℕ) → a ∷ x ≡ b ∷ y → x ≡ y
+tail_same a b x y e = cc

@@ -1,11 +1,11 @@
 -- How a time is read, and that bytes spell one time at most.
-use Rattle.std.proofs.Common.{◌≡◌, ◌≢◌, ℕ, ◌+◌, ◌*◌, ◌-◌, ◌^◌, ◌<◌, ◌≤◌, ◌==◌, Bool, true, false, arith, List, [], ◌∷◌, ◌++◌, length, take, get_or, refl, sym, ap, ◌∙◌, subst, inl, inr, ◌⊎◌}
+use Rattle.std.proofs.Common.{◌≡◌, ℕ, ◌+◌, ◌*◌, ◌-◌, ◌^◌, ◌<◌, ◌≤◌, arith, List, length, take, get_or, sym, ap, ◌∙◌, inl, inr}
 use Rattle.std.proofs.lemmas.Int.Digits.{digits_value_more}
 use Rattle.std.proofs.lemmas.Str.Parse.{digits_value-take-le}
 use Rattle.std.specs.Char.{digit_value}
-use Rattle.std.specs.Str.Parse.{AllDigits, digits_value}
-use Rattle.csa_text.specs.Moment.{IsNumber, HasNone, IsSplit}
-use Rattle.csa_text.specs.TimeTexts.{IsSeconds, IsFraction, HasFraction, IsWhole, IsTime}
+use Rattle.std.specs.Str.Parse.{digits_value}
+use Rattle.csa_text.specs.Moment.{HasNone, IsSplit}
+use Rattle.csa_text.specs.TimeTexts.{IsSeconds, IsFraction, HasFraction, IsTime}
 use Rattle.csa_text.proofs.Moments.{none_of, no_split, split_same}
 
 -- the digits so far and the next one are no more than all of them

@@ -1,12 +1,9 @@
 -- Bytes are the text of one list of pairs at most.
 use Rattle.std.proofs.Common.{◌≡◌, ℕ, ◌+◌, arith, List, [], ◌∷◌, ◌++◌, refl, sym, ap, ◌∙◌, length, subst}
 use Rattle.std.proofs.Props.{props}
-use Rattle.std.specs.List.{flat_map}
-use Rattle.shogi_board.specs.declared.kind.Kind.{Kind}
-use Rattle.shogi_board.specs.declared.square.Square.{Square}
 use Rattle.shogi_board.specs.Squares.{file_of, rank_of}
 use Rattle.std.specs.Prelude.{codes}
-use Rattle.csa_text.specs.Codes.{square_text, kind_code}
+use Rattle.csa_text.specs.Codes.{kind_code}
 use Rattle.csa_text.specs.declared.pair.Pair.{Pair}
 use Rattle.csa_text.specs.declared.pair.Pair.TheVariants.{On, InHand, Rest}
 use Rattle.csa_text.specs.PairTexts.{pair_text, pairs_text}

@@ -1,4 +1,4 @@
-use crate::{Ending, Item, Pair, TextFault, csa_move, laws, read_item};
+use crate::{Cutter, Ending, Item, Pair, TextFault, csa_move, laws, read_item};
 use shogi_board::{Color, Kind, Piece, Square};
 use shogi_rules::Move;
 use std::test::Fail;
@@ -194,70 +194,61 @@ const PAIRS: [(&[u8], Option<Color>, &[(u8, Option<Kind>)]); 13] = [
     (b"P+00OU", Some(Color::Black), &[(0, Some(Kind::King))]),
 ];
 
-// Ranks: the number, and the pieces from file 9 to file 1.
-const EMPTY: Option<Piece> = None;
-
-const RANKS: [(&[u8], u8, [Option<Piece>; 9]); 5] = [
-    (b"P9 *  *  *  *  *  *  *  *  * ", 9, [EMPTY; 9]),
-    (b"P1 *  *  *  *  *  *  *  *  *", 1, [EMPTY; 9]),
+// Ranks: the number, and the pieces with their places from file 9 to file 1.
+const RANKS: [(&[u8], u8, &[(usize, Color, Kind)]); 8] = [
+    (b"P9 *  *  *  *  *  *  *  *  * ", 9, &[]),
+    (b"P1 *  *  *  *  *  *  *  *  *", 1, &[]),
     (
         b"P1 *  *  *  * -HI *  *  *  * ",
         1,
-        [
-            EMPTY,
-            EMPTY,
-            EMPTY,
-            EMPTY,
-            Some(Piece {
-                color: Color::White,
-                kind: Kind::Rook,
-            }),
-            EMPTY,
-            EMPTY,
-            EMPTY,
-            EMPTY,
-        ],
+        &[(4, Color::White, Kind::Rook)],
     ),
     (
         b"P8 * +KA *  *  *  *  * +HI *",
         8,
-        [
-            EMPTY,
-            Some(Piece {
-                color: Color::Black,
-                kind: Kind::Bishop,
-            }),
-            EMPTY,
-            EMPTY,
-            EMPTY,
-            EMPTY,
-            EMPTY,
-            Some(Piece {
-                color: Color::Black,
-                kind: Kind::Rook,
-            }),
-            EMPTY,
+        &[
+            (1, Color::Black, Kind::Bishop),
+            (7, Color::Black, Kind::Rook),
+        ],
+    ),
+    (
+        b"P2 * -HI *  *  *  *  * -KA * ",
+        2,
+        &[
+            (1, Color::White, Kind::Rook),
+            (7, Color::White, Kind::Bishop),
         ],
     ),
     (
         b"P4+RY *  *  *  *  *  *  * -TO",
         4,
-        [
-            Some(Piece {
-                color: Color::Black,
-                kind: Kind::Dragon,
-            }),
-            EMPTY,
-            EMPTY,
-            EMPTY,
-            EMPTY,
-            EMPTY,
-            EMPTY,
-            EMPTY,
-            Some(Piece {
-                color: Color::White,
-                kind: Kind::ProPawn,
-            }),
+        &[
+            (0, Color::Black, Kind::Dragon),
+            (8, Color::White, Kind::ProPawn),
+        ],
+    ),
+    (
+        b"P1-KY-KE-GI-KI-OU-KI-GI-KE-KY",
+        1,
+        &[
+            (0, Color::White, Kind::Lance),
+            (1, Color::White, Kind::Knight),
+            (2, Color::White, Kind::Silver),
+            (3, Color::White, Kind::Gold),
+            (4, Color::White, Kind::King),
+            (5, Color::White, Kind::Gold),
+            (6, Color::White, Kind::Silver),
+            (7, Color::White, Kind::Knight),
+            (8, Color::White, Kind::Lance),
+        ],
+    ),
+    (
+        b"P7 * +FU+FU *  *  *  *  * +NG",
+        7,
+        &[
+            (1, Color::Black, Kind::Pawn),
+            (2, Color::Black, Kind::Pawn),
+            (8, Color::Black, Kind::ProSilver),
         ],
     ),
 ];
@@ -339,8 +330,29 @@ fn reads_pairs(rt: HostRuntime) -> Result<(), Fail> {
 
 #[test]
 fn reads_ranks(rt: HostRuntime) {
-    for (bytes, number, cells) in RANKS {
+    for (bytes, number, pieces) in RANKS {
+        let mut cells = [None; 9];
+        for (place, color, kind) in pieces {
+            cells[*place] = Some(Piece {
+                color: *color,
+                kind: *kind,
+            });
+        }
         assert_eq!(rt; read_item(bytes), Ok(Item::Rank(number, cells)));
+    }
+}
+
+// A rank's blanks behind its last star are cut off, spaces and tabs alike, and what is left is a rank.
+#[test]
+fn reads_ranks_that_were_cut(rt: HostRuntime) {
+    let mut cutter = Cutter::new(
+        b"P5 *  *  *  *  *  *  *  *  * \t \r\nP5 *  *  *  *  *  *  *  *\n",
+    );
+    for wanted in [Ok(Item::Rank(5, [None; 9])), Err(TextFault::BadPosition)] {
+        match cutter.next_statement() {
+            Ok(Some(statement)) => assert_eq!(rt; read_item(statement.bytes), wanted),
+            _ => assert!(rt; false, "no statement"),
+        }
     }
 }
 

@@ -1,8 +1,7 @@
-use Rattle.std.proofs.Common.{◌≡◌, ℕ, ◌<◌, arith, get_or, refl, lit≤}
+use Rattle.std.proofs.Common.{◌≡◌, ℕ, ◌<◌, arith, get_or, refl}
 use Rattle.csa_text.specs.declared.ending.Ending.{Ending}
 use Rattle.csa_text.specs.declared.ending.Ending.TheVariants.{Toryo, Chudan, Sennichite, TimeUp, IllegalMove, BlackIllegalAction, WhiteIllegalAction, Jishogi, Kachi, Hikiwake, MaxMoves, Matta, Tsumi, Fuzumi, Error}
-use Rattle.csa_text.specs.Endings.{ending_name}
-use Rattle.csa_text.specs.CodesOnce.{all_endings}
+use Rattle.csa_text.proofs.Codings.{all_endings}
 use Rattle.csa_text.proofs.ending.read_ending.Goals as goal
 
 placed : (e : Ending) → (k : ℕ) × (k < 15) × (get_or all_endings k Toryo ≡ e)

@@ -1,6 +1,6 @@
 use Rattle.std.proofs.Common.{◌≡◌, ℕ, ◌<◌, get_or}
 use Rattle.csa_text.specs.Endings.{ending_name}
-use Rattle.csa_text.specs.CodesOnce.{all_endings}
+use Rattle.csa_text.proofs.Codings.{all_endings}
 use Rattle.csa_text.specs.declared.ending.Ending.TheVariants.{Toryo}
 use Rattle.csa_text.proofs.ending.read_ending.Given as goal
 

@@ -1,4 +1,4 @@
-use Rattle.std.proofs.Common.{◌≡◌, ℕ, List, refl, arith}
+use Rattle.std.proofs.Common.{◌≡◌, List, refl}
 use Rattle.std.proofs.lemmas.Bool.{false≢true}
 use Rattle.csa_text.specs.declared.pair.Pair.{Pair}
 use Rattle.csa_text.specs.PairTexts.{pairs_text, AllOnBoard}

@@ -1,4 +1,4 @@
-use Rattle.std.proofs.Common.{◌≡◌, arith, refl, length, ◌∙◌}
+use Rattle.std.proofs.Common.{arith, ◌∙◌}
 use Rattle.std.proofs.lemmas.List.{take_more_set, length-set}
 use Rattle.csa_text.proofs.Texts.{cut_out}
 use Rattle.csa_text.proofs.CellTexts.{no_nine, no_cells, cells_next}
@@ -14,7 +14,7 @@ returns-in_err-cells c =
 
 pub loop-i-preserved : goal.loop-i-preserved
 loop-i-preserved c = record {
-  nine = length-set c.loop-i.cells c.loop-i.i c.in_ok-cells.field-0 ∙ c.loop-i.invariant.nine;
+  nine = length-set c.loop-i.cells _ c.in_ok-cells.field-0 ∙ c.loop-i.invariant.nine;
   front = cells_next c.args.bytes.now _ c.loop-i.i _ _ c.in_ok-cells.field-0 c.loop-i.invariant.front (cut_out c.args.bytes.now 3 c.loop-i.i) c.in_ok-cells.ensures
       (take_more_set c.loop-i.cells c.loop-i.i c.in_ok-cells.field-0 (omega (arith, c.loop-i.invariant.nine, c.loop-i-test.true)));
 }

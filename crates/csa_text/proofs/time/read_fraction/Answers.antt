@@ -1,4 +1,4 @@
-use Rattle.std.proofs.Common.{◌≡◌, ◌<◌, ◌^◌, arith, length}
+use Rattle.std.proofs.Common.{◌<◌, ◌^◌, arith}
 use Rattle.csa_text.proofs.Moments.{below_power}
 use Rattle.csa_text.proofs.time.read_fraction.Goals as goal
 

@@ -1,4 +1,4 @@
-use Rattle.std.proofs.Common.{◌≡◌, arith, refl}
+use Rattle.std.proofs.Common.{arith, refl}
 use Rattle.csa_text.specs.declared.pair.Pair.TheVariants.{Rest}
 use Rattle.csa_text.specs.PairTexts.{IsOnBoard}
 use Rattle.csa_text.specs.Saying.{pairs_of}

@@ -1,4 +1,4 @@
-use Rattle.std.proofs.Common.{◌≡◌, arith, refl, sym}
+use Rattle.std.proofs.Common.{sym}
 use Rattle.csa_text.specs.Saying.{pairs_of}
 use Rattle.csa_text.proofs.PairsRead.{none_past, pair_got}
 use Rattle.csa_text.proofs.Texts.{cut_out}

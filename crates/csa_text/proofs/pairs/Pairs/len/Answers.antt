@@ -1,4 +1,4 @@
-use Rattle.std.proofs.Common.{◌≡◌, ℕ, ◌*◌, arith, length, ap, ◌∙◌}
+use Rattle.std.proofs.Common.{◌≡◌, arith, length, ap}
 use Rattle.csa_text.specs.PairTexts.{pair_text, pairs_text}
 use Rattle.csa_text.specs.PairsOnce.{pair_length}
 use Rattle.csa_text.specs.Saying.{pairs_of}

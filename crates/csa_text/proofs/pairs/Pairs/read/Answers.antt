@@ -1,5 +1,5 @@
-use Rattle.std.proofs.Common.{◌≡◌, arith, refl}
-use Rattle.csa_text.proofs.PairsRead.{front_next, front_all, no_pairs, no_fourths}
+use Rattle.std.proofs.Common.{arith}
+use Rattle.csa_text.proofs.PairsRead.{front_next, no_pairs, no_fourths}
 use Rattle.csa_text.proofs.Texts.{cut_out}
 use Rattle.csa_text.proofs.pairs.Pairs.read.Goals as goal
 
