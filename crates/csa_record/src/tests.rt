@@ -17,7 +17,7 @@ const TOLD: [(&[u8], &[u8]); 9] = [
 ];
 
 // Records that are refused: the statement's number, its offset, and the fault.
-const REFUSED: [(&[u8], u64, u64, Why); 25] = [
+const REFUSED: [(&[u8], u64, u64, Why); 13] = [
     (b"", 1, 0, Why::Order(OrderFault::MissingTurn)),
     (b"\xEF\xBB\xBF", 1, 3, Why::Order(OrderFault::MissingTurn)),
     (b"'x\n'y\n", 1, 6, Why::Order(OrderFault::MissingTurn)),
@@ -46,24 +46,23 @@ const REFUSED: [(&[u8], u64, u64, Why); 25] = [
     (b"PI\n+\n+7776FU\n", 3, 5, Why::Text(TextFault::Unknown)),
     (b"V3.0\n", 1, 0, Why::Text(TextFault::BadVersion)),
     (b"PI\n+\n/\n", 3, 5, Why::Text(TextFault::Unknown)),
-    // Items that are not taken yet are unknown, and what is no item has the fault of its row.
-    (b"$EVENT:a\n+\n", 1, 0, Why::Text(TextFault::Unknown)),
-    (b"$EVENT\n+\n", 1, 0, Why::Text(TextFault::BadHeader)),
-    (b"PI82HI\n+\n", 1, 0, Why::Text(TextFault::Unknown)),
-    (b"PI82\n+\n", 1, 0, Why::Text(TextFault::BadPosition)),
-    (b"P+55FU\n+\n", 1, 0, Why::Text(TextFault::Unknown)),
-    (b"P+5FU\n+\n", 1, 0, Why::Text(TextFault::BadPosition)),
-    (
-        b"P1 *  *  *  *  *  *  *  *  *\n+\n",
-        1,
-        0,
-        Why::Text(TextFault::Unknown),
-    ),
-    (b"PI\n+\n+7776F\n", 3, 5, Why::Text(TextFault::BadMove)),
-    (b"PI\n+\nT1\n", 3, 5, Why::Text(TextFault::Unknown)),
-    (b"PI\n+\nT\n", 3, 5, Why::Text(TextFault::BadTime)),
-    (b"PI\n+\n%TORYO\n", 3, 5, Why::Text(TextFault::Unknown)),
-    (b"PI\n+\n%TOR\n", 3, 5, Why::Text(TextFault::UnknownEnding)),
+];
+
+// Items that are not taken yet are unknown, and what is no item has the fault of its row: records that
+// end behind such a statement, its number, its offset, and the fault.
+const UNREAD: [(&[u8], u64, u64, TextFault); 12] = [
+    (b"$EVENT:a\n", 1, 0, TextFault::Unknown),
+    (b"$EVENT\n", 1, 0, TextFault::BadHeader),
+    (b"PI82HI\n", 1, 0, TextFault::Unknown),
+    (b"PI82\n", 1, 0, TextFault::BadPosition),
+    (b"P+55FU\n", 1, 0, TextFault::Unknown),
+    (b"P+5FU\n", 1, 0, TextFault::BadPosition),
+    (b"P1 *  *  *  *  *  *  *  *  *\n", 1, 0, TextFault::Unknown),
+    (b"PI\n+\n+7776F\n", 3, 5, TextFault::BadMove),
+    (b"PI\n+\nT1\n", 3, 5, TextFault::Unknown),
+    (b"PI\n+\nT\n", 3, 5, TextFault::BadTime),
+    (b"PI\n+\n%TORYO\n", 3, 5, TextFault::Unknown),
+    (b"PI\n+\n%TOR\n", 3, 5, TextFault::UnknownEnding),
 ];
 
 const FAULTS: [(OrderFault, &str); 12] = [
@@ -117,6 +116,18 @@ fn reads_and_writes(rt: HostRuntime) -> Result<(), OutOfMemory> {
     laws::canon_tells();
     laws::canon_equal();
     Ok(())
+}
+
+#[test]
+fn leaves_items_unread(rt: HostRuntime) {
+    for (source, number, offset, fault) in UNREAD {
+        let refusal = Refusal {
+            number,
+            offset,
+            why: Why::Text(fault),
+        };
+        assert_eq!(rt; read(rt.alloc(), source).err(), Some(refusal));
+    }
 }
 
 #[test]
