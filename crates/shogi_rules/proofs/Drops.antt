@@ -19,46 +19,46 @@ use Rattle.shogi_rules.proofs.Layouts.{place-fits, take_hand-fits}
 abbrev made : Cells → List ℕ → List ℕ → Color → Placed
 made cells black white side = record { board = cells; black = black; white = white; side = side }
 
-taken-same : (cells : Cells) (black white : List ℕ) (side : Color) (kind : Kind) → 0 < count_in (bag_of (made cells black white side) side) kind → take_hand_fault (layout_of (made cells black white side)) side kind ≡ None
-taken-same cells black white Black kind some = take_hand-fits (layout_of (made cells black white Black)) Black kind refl some
-taken-same cells black white White kind some = take_hand-fits (layout_of (made cells black white White)) White kind refl some
+taken-same : (cells : Cells) (black white : List ℕ) (side : Color) (its_kind : Kind) → 0 < count_in (bag_of (made cells black white side) side) its_kind → take_hand_fault (layout_of (made cells black white side)) side its_kind ≡ None
+taken-same cells black white Black its_kind some = take_hand-fits (layout_of (made cells black white Black)) Black its_kind refl some
+taken-same cells black white White its_kind some = take_hand-fits (layout_of (made cells black white White)) White its_kind refl some
 
-pub taken-fits : (p : Placed) (kind : Kind) → 0 < count_in (bag_of p p.side) kind → take_hand_fault (layout_of p) p.side kind ≡ None
-taken-fits p kind some = taken-same p.board p.black p.white p.side kind some
+pub taken-fits : (p : Placed) (its_kind : Kind) → 0 < count_in (bag_of p p.side) its_kind → take_hand_fault (layout_of p) p.side its_kind ≡ None
+taken-fits p its_kind some = taken-same p.board p.black p.white p.side its_kind some
 
 -- a kind of which some are held may be held
 some-held : (b : Bool) (n : ℕ) → 0 < (if b then n else 0) → (b ≡ true) × (0 < n)
 some-held true n h = (refl, h)
 some-held false n h = absurd (omega arith)
 
-pub held-of : (bag : List ℕ) (kind : Kind) → 0 < count_in bag kind → (in_hand kind ≡ true) × (0 < slice_index bag (place_of kind))
-held-of bag kind some = some-held (in_hand kind) (slice_index bag (place_of kind)) some
+pub held-of : (bag : List ℕ) (its_kind : Kind) → 0 < count_in bag its_kind → (in_hand its_kind ≡ true) × (0 < slice_index bag (place_of its_kind))
+held-of bag its_kind some = some-held (in_hand its_kind) (slice_index bag (place_of its_kind)) some
 
-fewer : (bag : List ℕ) (kind : Kind) → length bag ≡ 7 → 0 < count_in bag kind → slice_index (one_less bag kind) (place_of kind) + 1 ≡ slice_index bag (place_of kind)
-fewer bag kind seven some =
-    let h = held-of bag kind some in
-    let held : in_hand kind ≡ true = h.0 in
-    let low : place_of kind < length bag = let l = held-low kind held in omega arith in
-    let e : slice_index (one_less bag kind) (place_of kind) ≡ count_in bag kind - 1 = get_or-set_same bag (place_of kind) (count_in bag kind - 1) 0 low in
-    let f : count_in bag kind ≡ slice_index bag (place_of kind) = rw held refl in
+fewer : (bag : List ℕ) (its_kind : Kind) → length bag ≡ 7 → 0 < count_in bag its_kind → slice_index (one_less bag its_kind) (place_of its_kind) + 1 ≡ slice_index bag (place_of its_kind)
+fewer bag its_kind seven some =
+    let h = held-of bag its_kind some in
+    let held : in_hand its_kind ≡ true = h.0 in
+    let low : place_of its_kind < length bag = let l = held-low its_kind held in omega arith in
+    let e : slice_index (one_less bag its_kind) (place_of its_kind) ≡ count_in bag its_kind - 1 = get_or-set_same bag (place_of its_kind) (count_in bag its_kind - 1) 0 low in
+    let f : count_in bag its_kind ≡ slice_index bag (place_of its_kind) = rw held refl in
     omega (arith, e, f, some)
 
-put-same : (cells : Cells) (black white : List ℕ) (side : Color) (to : Square) (kind : Kind) → IsSound (made cells black white side) → 0 < count_in (bag_of (made cells black white side) side) kind → at cells to ≡ None → place_fault (with_hand (layout_of (made cells black white side)) side (one_less (hand_of (layout_of (made cells black white side)) side) kind)) side to kind ≡ None
-put-same cells black white Black to kind sound some empty =
-    let f = fewer black kind sound.within.black_kinds some in
-    let h = held-of black kind some in
-    place-fits (with_hand (layout_of (made cells black white Black)) Black (one_less black kind)) Black to kind refl empty (λ k. absurd (held-no-king kind h.0 k)) (omega (arith, f, sound.within.totals kind))
-put-same cells black white White to kind sound some empty =
-    let f = fewer white kind sound.within.white_kinds some in
-    let h = held-of white kind some in
-    place-fits (with_hand (layout_of (made cells black white White)) White (one_less white kind)) White to kind refl empty (λ k. absurd (held-no-king kind h.0 k)) (omega (arith, f, sound.within.totals kind))
+put-same : (cells : Cells) (black white : List ℕ) (side : Color) (to : Square) (its_kind : Kind) → IsSound (made cells black white side) → 0 < count_in (bag_of (made cells black white side) side) its_kind → at cells to ≡ None → place_fault (with_hand (layout_of (made cells black white side)) side (one_less (hand_of (layout_of (made cells black white side)) side) its_kind)) side to its_kind ≡ None
+put-same cells black white Black to its_kind sound some empty =
+    let f = fewer black its_kind sound.within.black_kinds some in
+    let h = held-of black its_kind some in
+    place-fits (with_hand (layout_of (made cells black white Black)) Black (one_less black its_kind)) Black to its_kind refl empty (λ k. absurd (held-no-king its_kind h.0 k)) (omega (arith, f, sound.within.totals its_kind))
+put-same cells black white White to its_kind sound some empty =
+    let f = fewer white its_kind sound.within.white_kinds some in
+    let h = held-of white its_kind some in
+    place-fits (with_hand (layout_of (made cells black white White)) White (one_less white its_kind)) White to its_kind refl empty (λ k. absurd (held-no-king its_kind h.0 k)) (omega (arith, f, sound.within.totals its_kind))
 
-pub put-fits : (p : Placed) (to : Square) (kind : Kind) → IsSound p → 0 < count_in (bag_of p p.side) kind → at p.board to ≡ None → place_fault (with_hand (layout_of p) p.side (one_less (hand_of (layout_of p) p.side) kind)) p.side to kind ≡ None
-put-fits p to kind sound some empty = put-same p.board p.black p.white p.side to kind sound some empty
+pub put-fits : (p : Placed) (to : Square) (its_kind : Kind) → IsSound p → 0 < count_in (bag_of p p.side) its_kind → at p.board to ≡ None → place_fault (with_hand (layout_of p) p.side (one_less (hand_of (layout_of p) p.side) its_kind)) p.side to its_kind ≡ None
+put-fits p to its_kind sound some empty = put-same p.board p.black p.white p.side to its_kind sound some empty
 
-dropped-same : (cells : Cells) (black white : List ℕ) (side : Color) (to : Square) (kind : Kind) → placed (with_hand (layout_of (made cells black white side)) side (one_less (hand_of (layout_of (made cells black white side)) side) kind)) side to kind ≡ layout_of (after (made cells black white side) (Put to kind))
-dropped-same cells black white Black to kind = refl
-dropped-same cells black white White to kind = refl
+dropped-same : (cells : Cells) (black white : List ℕ) (side : Color) (to : Square) (its_kind : Kind) → placed (with_hand (layout_of (made cells black white side)) side (one_less (hand_of (layout_of (made cells black white side)) side) its_kind)) side to its_kind ≡ layout_of (after (made cells black white side) (Put to its_kind))
+dropped-same cells black white Black to its_kind = refl
+dropped-same cells black white White to its_kind = refl
 
-pub dropped-is : (p : Placed) (to : Square) (kind : Kind) → placed (with_hand (layout_of p) p.side (one_less (hand_of (layout_of p) p.side) kind)) p.side to kind ≡ layout_of (after p (Put to kind))
-dropped-is p to kind = dropped-same p.board p.black p.white p.side to kind
+pub dropped-is : (p : Placed) (to : Square) (its_kind : Kind) → placed (with_hand (layout_of p) p.side (one_less (hand_of (layout_of p) p.side) its_kind)) p.side to its_kind ≡ layout_of (after p (Put to its_kind))
+dropped-is p to its_kind = dropped-same p.board p.black p.white p.side to its_kind

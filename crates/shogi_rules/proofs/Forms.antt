@@ -27,25 +27,25 @@ same_kind-self Horse = refl
 same_kind-self Dragon = refl
 
 -- a promoted form has the place of its kind
-pub promoted-place : (was kind : Kind) → promoted was ≡ Some kind → place_of kind ≡ place_of was
-promoted-place Pawn kind h = let d : ProPawn ≡ kind = cc in ap place_of (sym d)
-promoted-place Lance kind h = let d : ProLance ≡ kind = cc in ap place_of (sym d)
-promoted-place Knight kind h = let d : ProKnight ≡ kind = cc in ap place_of (sym d)
-promoted-place Silver kind h = let d : ProSilver ≡ kind = cc in ap place_of (sym d)
-promoted-place Gold kind h = cc
-promoted-place Bishop kind h = let d : Horse ≡ kind = cc in ap place_of (sym d)
-promoted-place Rook kind h = let d : Dragon ≡ kind = cc in ap place_of (sym d)
-promoted-place King kind h = cc
-promoted-place ProPawn kind h = cc
-promoted-place ProLance kind h = cc
-promoted-place ProKnight kind h = cc
-promoted-place ProSilver kind h = cc
-promoted-place Horse kind h = cc
-promoted-place Dragon kind h = cc
+pub promoted-place : (was its_kind : Kind) → promoted was ≡ Some its_kind → place_of its_kind ≡ place_of was
+promoted-place Pawn its_kind h = let d : ProPawn ≡ its_kind = cc in ap place_of (sym d)
+promoted-place Lance its_kind h = let d : ProLance ≡ its_kind = cc in ap place_of (sym d)
+promoted-place Knight its_kind h = let d : ProKnight ≡ its_kind = cc in ap place_of (sym d)
+promoted-place Silver its_kind h = let d : ProSilver ≡ its_kind = cc in ap place_of (sym d)
+promoted-place Gold its_kind h = cc
+promoted-place Bishop its_kind h = let d : Horse ≡ its_kind = cc in ap place_of (sym d)
+promoted-place Rook its_kind h = let d : Dragon ≡ its_kind = cc in ap place_of (sym d)
+promoted-place King its_kind h = cc
+promoted-place ProPawn its_kind h = cc
+promoted-place ProLance its_kind h = cc
+promoted-place ProKnight its_kind h = cc
+promoted-place ProSilver its_kind h = cc
+promoted-place Horse its_kind h = cc
+promoted-place Dragon its_kind h = cc
 
-pub form-place : (was kind : Kind) → (kind ≡ was) ⊎ (promoted was ≡ Some kind) → place_of kind ≡ place_of was
-form-place was kind (inl e) = ap place_of e
-form-place was kind (inr e) = promoted-place was kind e
+pub form-place : (was its_kind : Kind) → (its_kind ≡ was) ⊎ (promoted was ≡ Some its_kind) → place_of its_kind ≡ place_of was
+form-place was its_kind (inl e) = ap place_of e
+form-place was its_kind (inr e) = promoted-place was its_kind e
 
 king-place : (k : Kind) → is_king k ≡ true → place_of k ≡ 7
 king-place Pawn h = cc
@@ -80,8 +80,8 @@ place-king Horse h = absurd (omega arith)
 place-king Dragon h = absurd (omega arith)
 
 -- what is a king after a walk was one
-pub form-king : (was kind : Kind) → (kind ≡ was) ⊎ (promoted was ≡ Some kind) → is_king kind ≡ true → is_king was ≡ true
-form-king was kind form h = place-king was (sym (form-place was kind form) ∙ king-place kind h)
+pub form-king : (was its_kind : Kind) → (its_kind ≡ was) ⊎ (promoted was ≡ Some its_kind) → is_king its_kind ≡ true → is_king was ≡ true
+form-king was its_kind form h = place-king was (sym (form-place was its_kind form) ∙ king-place its_kind h)
 
 -- a piece that is no king may be held
 pub captured-held : (k : Kind) → (k ≡ King → ⊥) → in_hand (unpromoted k) ≡ true

@@ -31,15 +31,15 @@ abbrev bit : Bool → ℕ
 bit b = cond b 1 0
 
 -- what a test counts on the board, before and after a walk that it does not see
-walk-sum : (f : Option Piece → ℕ) (p : Placed) (from to : Square) (kind : Kind) (s : Start p from to kind) → f None ≡ 0 → f (piece p.side kind) ≡ f (piece p.side s.was) → sum_by f (board_after p (Walk from to kind)) + f (at p.board to) ≡ sum_by f p.board
-walk-sum f p from to kind s none same =
+walk-sum : (f : Option Piece → ℕ) (p : Placed) (from to : Square) (its_kind : Kind) (s : Start p from to its_kind) → f None ≡ 0 → f (piece p.side its_kind) ≡ f (piece p.side s.was) → sum_by f (board_after p (Walk from to its_kind)) + f (at p.board to) ≡ sum_by f p.board
+walk-sum f p from to its_kind s none same =
     let lifted = set p.board (place from) None in
     let stands : get_or p.board (place from) None ≡ piece p.side s.was = s.stands in
     let off = sum_by-set f p.board (place from) None None (on-board p from s.sound) in
     let gone : sum_by f lifted + f (piece p.side s.was) ≡ sum_by f p.board + f None = rw stands at off in
-    let stays : get_or lifted (place to) None ≡ at p.board to = target-stays p from to kind s in
-    let on = sum_by-set f lifted (place to) (piece p.side kind) None (longer p.board (place from) (place to) (on-board p to s.sound)) in
-    let landed : sum_by f (set lifted (place to) (piece p.side kind)) + f (at p.board to) ≡ sum_by f lifted + f (piece p.side kind) = rw stays at on in
+    let stays : get_or lifted (place to) None ≡ at p.board to = target-stays p from to its_kind s in
+    let on = sum_by-set f lifted (place to) (piece p.side its_kind) None (longer p.board (place from) (place to) (on-board p to s.sound)) in
+    let landed : sum_by f (set lifted (place to) (piece p.side its_kind)) + f (at p.board to) ≡ sum_by f lifted + f (piece p.side its_kind) = rw stays at on in
     omega (arith, gone, landed, none, same)
 
 -- a bag with another count at one place
@@ -66,21 +66,21 @@ less-at true new old n c f some e = omega (arith, f, some, e)
 less-at false new old n c f some e = omega (arith, e)
 
 -- one more of a kind in a bag
-bag-more : (bag : List ℕ) (kind k : Kind) → length bag ≡ 7 → in_hand kind ≡ true → slice_index (one_more bag kind) (place_of k) ≡ slice_index bag (place_of k) + cond (place_of kind == place_of k) 1 0
-bag-more bag kind k seven held =
-    let low = held-low kind held in
-    let e = other-count bag (place_of kind) (place_of k) (count_in bag kind + 1) (omega (arith, low, seven)) in
-    let f : count_in bag kind ≡ slice_index bag (place_of kind) = rw held refl in
-    more-at (place_of kind == place_of k) _ _ _ _ f e
+bag-more : (bag : List ℕ) (its_kind k : Kind) → length bag ≡ 7 → in_hand its_kind ≡ true → slice_index (one_more bag its_kind) (place_of k) ≡ slice_index bag (place_of k) + cond (place_of its_kind == place_of k) 1 0
+bag-more bag its_kind k seven held =
+    let low = held-low its_kind held in
+    let e = other-count bag (place_of its_kind) (place_of k) (count_in bag its_kind + 1) (omega (arith, low, seven)) in
+    let f : count_in bag its_kind ≡ slice_index bag (place_of its_kind) = rw held refl in
+    more-at (place_of its_kind == place_of k) _ _ _ _ f e
 
 -- and one less
-bag-less : (bag : List ℕ) (kind k : Kind) → length bag ≡ 7 → 0 < count_in bag kind → slice_index (one_less bag kind) (place_of k) + cond (place_of kind == place_of k) 1 0 ≡ slice_index bag (place_of k)
-bag-less bag kind k seven some =
-    let held = (held-of bag kind some).0 in
-    let low = held-low kind held in
-    let e = other-count bag (place_of kind) (place_of k) (count_in bag kind - 1) (omega (arith, low, seven)) in
-    let f : count_in bag kind ≡ slice_index bag (place_of kind) = rw held refl in
-    less-at (place_of kind == place_of k) _ _ _ _ f some e
+bag-less : (bag : List ℕ) (its_kind k : Kind) → length bag ≡ 7 → 0 < count_in bag its_kind → slice_index (one_less bag its_kind) (place_of k) + cond (place_of its_kind == place_of k) 1 0 ≡ slice_index bag (place_of k)
+bag-less bag its_kind k seven some =
+    let held = (held-of bag its_kind some).0 in
+    let low = held-low its_kind held in
+    let e = other-count bag (place_of its_kind) (place_of k) (count_in bag its_kind - 1) (omega (arith, low, seven)) in
+    let f : count_in bag its_kind ≡ slice_index bag (place_of its_kind) = rw held refl in
+    less-at (place_of its_kind == place_of k) _ _ _ _ f some e
 
 -- a bag with what was captured
 captured-bag : (bag : List ℕ) (cell : Option Piece) (k : Kind) → length bag ≡ 7 → ((x : Piece) → cell ≡ Some x → x.kind ≡ King → ⊥) → slice_index (with_captured bag cell) (place_of k) ≡ slice_index bag (place_of k) + cond (is_of k cell) 1 0
@@ -116,45 +116,45 @@ total_of p k = total p.board p.black p.white k
 
 -- the pieces of a kind, promoted or not, before and after a move
 pub pieces-stay : (p : Placed) (m : Move) (k : Kind) → IsSound p → FitsBoard p m → total_of (after p m) k ≡ total_of p k
-pieces-stay p (Walk from to kind) k sound fits =
-    let s = start-of p from to kind sound fits in
-    let same : bit (place_of kind == place_of k) ≡ bit (place_of s.was == place_of k) = ap (λ (n : ℕ). bit (n == place_of k)) (form-place s.was kind s.form) in
-    let board = walk-sum (λ x. cond (is_of k x) 1 0) p from to kind s refl same in
-    let bag = captured-bag (bag_of p p.side) (at p.board to) k (own-seven p p.side sound.within) (λ x there. no-king-taken p from to kind x s there) in
+pieces-stay p (Walk from to its_kind) k sound fits =
+    let s = start-of p from to its_kind sound fits in
+    let same : bit (place_of its_kind == place_of k) ≡ bit (place_of s.was == place_of k) = ap (λ (n : ℕ). bit (n == place_of k)) (form-place s.was its_kind s.form) in
+    let board = walk-sum (λ x. cond (is_of k x) 1 0) p from to its_kind s refl same in
+    let bag = captured-bag (bag_of p p.side) (at p.board to) k (own-seven p p.side sound.within) (λ x there. no-king-taken p from to its_kind x s there) in
     let bags = bags-with p p.side (with_captured (bag_of p p.side) (at p.board to)) (place_of k) in
     omega (arith, board, bag, bags)
-pieces-stay p (Put to kind) k sound fits =
+pieces-stay p (Put to its_kind) k sound fits =
     let empty : get_or p.board (place to) None ≡ None = fits.target_free in
-    let on = sum_by-set (λ x. cond (is_of k x) 1 0) p.board (place to) (piece p.side kind) None (on-board p to sound) in
-    let board : count_by (is_of k) (set p.board (place to) (piece p.side kind)) + 0 ≡ count_by (is_of k) p.board + cond (place_of kind == place_of k) 1 0 = rw empty at on in
-    let bag = bag-less (bag_of p p.side) kind k (own-seven p p.side sound.within) fits.has_piece in
-    let bags = bags-with p p.side (one_less (bag_of p p.side) kind) (place_of k) in
+    let on = sum_by-set (λ x. cond (is_of k x) 1 0) p.board (place to) (piece p.side its_kind) None (on-board p to sound) in
+    let board : count_by (is_of k) (set p.board (place to) (piece p.side its_kind)) + 0 ≡ count_by (is_of k) p.board + cond (place_of its_kind == place_of k) 1 0 = rw empty at on in
+    let bag = bag-less (bag_of p p.side) its_kind k (own-seven p p.side sound.within) fits.has_piece in
+    let bags = bags-with p p.side (one_less (bag_of p p.side) its_kind) (place_of k) in
     omega (arith, board, bag, bags)
 
 -- no side gets a king
 kings-stay : (p : Placed) (m : Move) (c : Color) → IsSound p → FitsBoard p m → kings_of (after p m).board c ≤ 1
-kings-stay p (Walk from to kind) c sound fits =
-    let s = start-of p from to kind sound fits in
-    let king : is_king kind ≡ is_king s.was = king-by-place kind ∙ (ap (λ (n : ℕ). n == 7) (form-place s.was kind s.form) ∙ sym (king-by-place s.was)) in
-    let same : bit (same_color p.side c && is_king kind) ≡ bit (same_color p.side c && is_king s.was) = ap (λ (b : Bool). bit (same_color p.side c && b)) king in
-    let board = walk-sum (λ x. cond (is_king_of c x) 1 0) p from to kind s refl same in
+kings-stay p (Walk from to its_kind) c sound fits =
+    let s = start-of p from to its_kind sound fits in
+    let king : is_king its_kind ≡ is_king s.was = king-by-place its_kind ∙ (ap (λ (n : ℕ). n == 7) (form-place s.was its_kind s.form) ∙ sym (king-by-place s.was)) in
+    let same : bit (same_color p.side c && is_king its_kind) ≡ bit (same_color p.side c && is_king s.was) = ap (λ (b : Bool). bit (same_color p.side c && b)) king in
+    let board = walk-sum (λ x. cond (is_king_of c x) 1 0) p from to its_kind s refl same in
     omega (arith, board, sound.within.kings c)
-kings-stay p (Put to kind) c sound fits =
+kings-stay p (Put to its_kind) c sound fits =
     let empty : get_or p.board (place to) None ≡ None = fits.target_free in
-    let held = (held-of (bag_of p p.side) kind fits.has_piece).0 in
-    let no_king : is_king kind ≡ false = elim (cases_Bool (is_king kind)) [ inl is ↦ absurd (held-no-king kind held is) | inr not_one ↦ not_one ] in
-    let none : (same_color p.side c && is_king kind) ≡ false = and_right _ _ no_king in
-    let on = sum_by-set (λ x. cond (is_king_of c x) 1 0) p.board (place to) (piece p.side kind) None (on-board p to sound) in
-    let board : kings_of (set p.board (place to) (piece p.side kind)) c + 0 ≡ kings_of p.board c + 0 = rw (empty, none) at on in
+    let held = (held-of (bag_of p p.side) its_kind fits.has_piece).0 in
+    let no_king : is_king its_kind ≡ false = elim (cases_Bool (is_king its_kind)) [ inl is ↦ absurd (held-no-king its_kind held is) | inr not_one ↦ not_one ] in
+    let none : (same_color p.side c && is_king its_kind) ≡ false = and_right _ _ no_king in
+    let on = sum_by-set (λ x. cond (is_king_of c x) 1 0) p.board (place to) (piece p.side its_kind) None (on-board p to sound) in
+    let board : kings_of (set p.board (place to) (piece p.side its_kind)) c + 0 ≡ kings_of p.board c + 0 = rw (empty, none) at on in
     omega (arith, board, sound.within.kings c)
 
 board-whole : (p : Placed) (m : Move) → length p.board ≡ 81 → length (after p m).board ≡ 81
-board-whole p (Walk from to kind) whole = length-set _ _ _ ∙ (length-set _ _ _ ∙ whole)
-board-whole p (Put to kind) whole = length-set _ _ _ ∙ whole
+board-whole p (Walk from to its_kind) whole = length-set _ _ _ ∙ (length-set _ _ _ ∙ whole)
+board-whole p (Put to its_kind) whole = length-set _ _ _ ∙ whole
 
 bag-whole : (p : Placed) (m : Move) → length (bag_of p p.side) ≡ 7 → length (bag_after p m) ≡ 7
-bag-whole p (Walk from to kind) seven = captured-length (bag_of p p.side) (at p.board to) seven
-bag-whole p (Put to kind) seven = length-set _ _ _ ∙ seven
+bag-whole p (Walk from to its_kind) seven = captured-length (bag_of p p.side) (at p.board to) seven
+bag-whole p (Put to its_kind) seven = length-set _ _ _ ∙ seven
 
 pub leads-to-sound : (p : Placed) (m : Move) → IsSound p → Keeps p m → IsSound (after p m)
 leads-to-sound p m sound kept =

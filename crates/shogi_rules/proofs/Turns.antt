@@ -89,19 +89,19 @@ walk-found p n from to (Walk f t k) low a b e fits =
     }
 walk-found p n from to (Put t k) low a b e fits = absurd (omega arith)
 
-pub drop-found : (p : Placed) (n : ℕ) (to : Square) (kind : Kind) (m : Move) → place to ≡ n % 81 → ((k : Kind) → in_hand k ≡ true → place_of k ≡ n / 81 → kind ≡ k) → turn_of m ≡ 13122 + n → FitsBoard p m → Put to kind ≡ m
-drop-found p n to kind (Walk f t k) a b e fits =
+pub drop-found : (p : Placed) (n : ℕ) (to : Square) (its_kind : Kind) (m : Move) → place to ≡ n % 81 → ((k : Kind) → in_hand k ≡ true → place_of k ≡ n / 81 → its_kind ≡ k) → turn_of m ≡ 13122 + n → FitsBoard p m → Put to its_kind ≡ m
+drop-found p n to its_kind (Walk f t k) a b e fits =
     let low = place-bound f in
     let low2 = place-bound t in
     let bit = bit-bound (is_promoted k) in
     absurd (omega arith)
-drop-found p n to kind (Put t k) a b e fits =
+drop-found p n to its_kind (Put t k) a b e fits =
     let low = place-bound t in
     let there : place_of k ≡ n / 81 = omega arith in
     let here : place t ≡ n % 81 = omega arith in
     let same : to ≡ t = place-same to t (a ∙ sym here) in
     let held = (held-of (bag_of p p.side) k fits.has_piece).0 in
-    let kinds : kind ≡ k = b k held there in
+    let kinds : its_kind ≡ k = b k held there in
     rw (same, kinds) refl
 
 pub turn-bound : (p : Placed) (m : Move) → FitsBoard p m → turn_of m < 13689

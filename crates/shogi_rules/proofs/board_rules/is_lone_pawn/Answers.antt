@@ -6,8 +6,8 @@ use Rattle.shogi_rules.proofs.board_rules.is_lone_pawn.Goals as goal
 
 -- no pawn on the file, at a pawn
 lone-then : (P : Type 0) (b : Bool) (kind : Kind) → kind ≡ Pawn → (IsTrue b ↔ P) → IsTrue (not b) ↔ (kind ≡ Pawn → P → ⊥)
-lone-then P true kind e d = (λ h. cc, λ h. absurd (h e (d.0 refl)))
-lone-then P false kind e d = (λ _ _ has. let f = d.1 has in cc, λ _. refl)
+lone-then P true _ e d = (λ h. cc, λ h. absurd (h e (d.0 refl)))
+lone-then P false _ e d = (λ _ _ has. let f = d.1 has in cc, λ _. refl)
 
 pub returns-then-eq : goal.returns-then-eq
 returns-then-eq c =
