@@ -8,7 +8,7 @@ use Rattle.shogi_board.specs.declared.color.Color.{Color}
 use Rattle.shogi_board.specs.declared.color.Color.TheVariants.{Black, White}
 use Rattle.csa_text.specs.Cut.{TextUnit, IsUnit, Units, Cut, is_statement, is_end, begins_with, statement_bytes, without_last_blanks, before_kept, is_blank}
 use Rattle.csa_text.specs.Codes.{sign}
-use Rattle.csa_text.specs.Spelling.{Saying, version, name, even, turn}
+use Rattle.csa_text.specs.Spelling.{Saying, name}
 use Rattle.csa_record.specs.Game.{IsName, IsOneLine}
 use Rattle.csa_record.specs.Says.{names, name_given}
 use Rattle.csa_record.specs.Tells.{IsSpelt}

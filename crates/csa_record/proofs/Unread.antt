@@ -1,9 +1,9 @@
 -- Bytes are read as one item, or are unread for one reason.
-use Rattle.std.proofs.Common.{◌≡◌, ℕ, List, Bool, true, false, refl, sym, ap, ◌∙◌, inl, inr, ◌⊎◌}
+use Rattle.std.proofs.Common.{◌≡◌, ℕ, List, true, false, refl, sym, ap, ◌∙◌, inl, inr, ◌⊎◌}
 use Rattle.std.proofs.lemmas.Bool.{cases_Bool, false≢true}
 use Rattle.csa_text.specs.declared.fault.TextFault.{TextFault}
 use Rattle.csa_text.specs.declared.fault.TextFault.TheVariants.{Unknown}
-use Rattle.csa_text.specs.Spelling.{Saying, Spells, fault_of_row}
+use Rattle.csa_text.specs.Spelling.{Saying, fault_of_row}
 use Rattle.csa_text.proofs.Sayings.{same_saying, spells_or_not}
 use Rattle.csa_record.specs.Reads.{is_taken, Reads, IsUnread}
 
