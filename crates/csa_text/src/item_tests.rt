@@ -1,4 +1,4 @@
-use crate::{Cutter, Ending, Item, Pair, TextFault, csa_move, laws, read_item};
+use crate::{Cutter, Ending, Item, Pair, Pairs, TextFault, csa_move, laws, read_item};
 use shogi_board::{Color, Kind, Piece, Square};
 use shogi_rules::Move;
 use std::test::Fail;
@@ -153,7 +153,7 @@ const MOVES: [(&str, Color, u8, u8, Kind); 18] = [
 
 // Position statements: the side, none for `PI`, and the pairs: a square, 0 for the hand, and a kind,
 // none for the rest.
-const PAIRS: [(&[u8], Option<Color>, &[(u8, Option<Kind>)]); 13] = [
+const PAIRS: [(&[u8], Option<Color>, &[(u8, Option<Kind>)]); 15] = [
     (b"PI", None, &[]),
     (
         b"PI82HI22KA",
@@ -189,6 +189,12 @@ const PAIRS: [(&[u8], Option<Color>, &[(u8, Option<Kind>)]); 13] = [
         &[(53, Some(Kind::Pawn)), (0, Some(Kind::Gold))],
     ),
     (b"P-00AL", Some(Color::White), &[(0, None)]),
+    (b"P-51OU", Some(Color::White), &[(51, Some(Kind::King))]),
+    (
+        b"P+00HI00HI",
+        Some(Color::Black),
+        &[(0, Some(Kind::Rook)), (0, Some(Kind::Rook))],
+    ),
     (b"P+00AL00AL", Some(Color::Black), &[(0, None), (0, None)]),
     (b"P+00TO", Some(Color::Black), &[(0, Some(Kind::ProPawn))]),
     (b"P+00OU", Some(Color::Black), &[(0, Some(Kind::King))]),
@@ -270,6 +276,21 @@ fn square(number: u8) -> Option<Square> {
     Square::new(number / 10, number % 10)
 }
 
+// Whether these pairs stand there, each at its place.
+fn has_pairs(pairs: &Pairs<'_>, wanted: &[(u8, Option<Kind>)]) -> bool {
+    for (i, (number, kind)) in wanted.iter().enumerate() {
+        let pair = match (square(*number), *kind) {
+            (Some(square), Some(kind)) => Pair::On(square, kind),
+            (_, Some(kind)) => Pair::InHand(kind),
+            (_, None) => Pair::Rest,
+        };
+        if pairs.get(i) != Some(pair) {
+            return false;
+        }
+    }
+    true
+}
+
 #[test]
 fn reads_items(rt: HostRuntime) {
     for (bytes, wanted) in ITEMS {
@@ -314,14 +335,7 @@ fn reads_pairs(rt: HostRuntime) -> Result<(), Fail> {
         assert_eq!(rt; side, wanted_side);
         assert_eq!(rt; pairs.len(), wanted.len());
         assert_eq!(rt; pairs.is_empty(), wanted.is_empty());
-        for (i, (number, kind)) in wanted.iter().enumerate() {
-            let pair = match (square(*number), *kind) {
-                (Some(square), Some(kind)) => Pair::On(square, kind),
-                (_, Some(kind)) => Pair::InHand(kind),
-                (_, None) => Pair::Rest,
-            };
-            assert_eq!(rt; pairs.get(i), Some(pair));
-        }
+        assert!(rt; has_pairs(&pairs, wanted));
         assert_eq!(rt; pairs.get(wanted.len()), None);
         assert_eq!(rt; pairs.get(usize::MAX), None);
     }
