@@ -1,0 +1,5 @@
+use Rattle.usi_text.proofs.OneMove.{one_move}
+use Rattle.usi_text.proofs.laws.one_move.Goals as goal
+
+pub returns : goal.returns
+returns c = one_move

@@ -1,0 +1,19 @@
+-- What an engine's line says: its first word decides.
+use Rattle.std.specs.Prelude.{◌≡◌, ◌≢◌, ℕ, List, codes}
+use Rattle.usi_text.specs.declared.engine.EngineWord.{EngineWord}
+use Rattle.usi_text.specs.declared.engine.EngineWord.TheVariants.{UsiOk, ReadyOk, Best, Resign, Win, Other}
+use Rattle.usi_text.specs.Words.{words, nth_word}
+
+-- what the word behind bestmove says; the empty text where there is none
+abbrev pub Answers : List ℕ → EngineWord → Type 0
+Answers word Resign = word ≡ codes "resign"
+Answers word Win = word ≡ codes "win"
+Answers word (Best text) = (text.now ≡ word) × (word ≢ codes "resign") × (word ≢ codes "win")
+Answers word _ = ⊥
+
+-- of the words of a line; what stands behind the second word does not count
+abbrev pub Says : List (List ℕ) → EngineWord → Type 0
+Says ws UsiOk = nth_word ws 0 ≡ codes "usiok"
+Says ws ReadyOk = nth_word ws 0 ≡ codes "readyok"
+Says ws Other = (nth_word ws 0 ≢ codes "usiok") × (nth_word ws 0 ≢ codes "readyok") × (nth_word ws 0 ≢ codes "bestmove")
+Says ws answer = (nth_word ws 0 ≡ codes "bestmove") × Answers (nth_word ws 1) answer

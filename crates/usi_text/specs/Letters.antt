@@ -1,0 +1,27 @@
+-- How squares and kinds are spelt.
+use Rattle.std.specs.Prelude.{ℕ, ◌+◌, List, [], ◌∷◌}
+use Rattle.shogi_board.specs.declared.kind.Kind.{Kind}
+use Rattle.shogi_board.specs.declared.kind.Kind.TheVariants.{Pawn, Lance, Knight, Silver, Gold, Bishop, Rook, King, ProPawn, ProLance, ProKnight, ProSilver, Horse, Dragon}
+use Rattle.shogi_board.specs.declared.square.Square.{Square}
+use Rattle.shogi_board.specs.Squares.{file_of, rank_of}
+
+-- the digit of the file, and the letter of the rank: a (97) for 1 to i for 9
+abbrev pub square_text : Square → List ℕ
+square_text s = (48 + file_of s) ∷ (96 + rank_of s) ∷ []
+
+-- the capital letters P L N S G B R K; a promoted kind has that of its unpromoted one
+abbrev pub letter : Kind → ℕ
+letter Pawn = 80
+letter Lance = 76
+letter Knight = 78
+letter Silver = 83
+letter Gold = 71
+letter Bishop = 66
+letter Rook = 82
+letter King = 75
+letter ProPawn = 80
+letter ProLance = 76
+letter ProKnight = 78
+letter ProSilver = 83
+letter Horse = 66
+letter Dragon = 82

@@ -1,0 +1,4 @@
+pub mod Engine
+pub mod Letters
+pub mod Moves
+pub mod Words

@@ -1,0 +1,16 @@
+//! The language of shogi engines: moves, and lines that an engine writes.
+//!
+//! The forms are those of the USI protocol, in the profile of this project (`docs/USI.md`).
+#![tactic(auto)]
+
+mod engine;
+pub mod laws;
+mod letters;
+mod moves;
+mod words;
+
+pub use engine::{EngineWord, read_engine_line};
+pub use moves::{move_text, read_move};
+
+#[cfg(test)]
+mod tests;

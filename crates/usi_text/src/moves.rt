@@ -1,0 +1,78 @@
+ghost use Rattle.std.specs.Prelude.{◌≡◌, ◌≤◌, ◌+◌, ◌++◌, MatchOption};
+ghost use Rattle.arrayvec.specs.ArrayString.{array_string_len};
+ghost use Rattle.shogi_rules.specs.Legal.{Legal};
+ghost use Rattle.shogi_rules.specs.declared.moves.Move.{Move};
+ghost use Rattle.usi_text.specs.Letters.{square_text};
+ghost use Rattle.usi_text.specs.Moves.{UsiMove};
+
+use crate::letters::{held_kind, letter, promoted, read_square};
+use arrayvec::ArrayString;
+use shogi_board::{Position, Square};
+use shogi_rules::Move;
+
+/// The move that the text is in that position, or None.
+///
+/// A walk is the square left and the square reached, each a digit 1 to 9 for the file and a letter a to i for the
+/// rank, with `+` behind them for a piece that promotes (`8h2b+`). A drop is a letter of P L N S G B R, `*` and the
+/// square (`P*5e`). A walk's kind is that of the piece on the square left, or its promoted kind; None where that
+/// square is empty, or `+` stands for a piece without a promoted kind. Whether the move is legal is not asked.
+pub fn read_move(position: &Position, text: &[u8]) -> Option<Move>
+    ensures { MatchOption result
+        ((mv : Move) → UsiMove position.now text.now mv → ⊥)
+        (λ mv. UsiMove position.now text.now mv) }
+{
+    match text {
+        [kind, b'*', file, rank] => Some(Move::Put {
+            to: read_square(*file, *rank)?,
+            kind: held_kind(*kind)?,
+        }),
+        [a, b, c, d] => {
+            let from = read_square(*a, *b)?;
+            let to = read_square(*c, *d)?;
+            let kind = position.piece_at(from)?.kind;
+            Some(Move::Walk { from, to, kind })
+        }
+        [a, b, c, d, b'+'] => {
+            let from = read_square(*a, *b)?;
+            let to = read_square(*c, *d)?;
+            let kind = promoted(position.piece_at(from)?.kind)?;
+            Some(Move::Walk { from, to, kind })
+        }
+        _ => None,
+    }
+}
+
+/// The text of a move that is legal for the side to move. Read in that position, it is that move.
+pub fn move_text(position: &Position, mv: &Move) -> ArrayString<5>
+    requires { Legal position.now mv.now }
+    ensures { UsiMove position.now result.bytes mv.now }
+{
+    let mut text = ArrayString::new();
+    match *mv {
+        Move::Walk { from, to, kind } => {
+            push_square(&mut text, from);
+            push_square(&mut text, to);
+            if position
+                .piece_at(from)
+                .is_some_and(|piece| piece.kind != kind)
+            {
+                text.push('+');
+            }
+        }
+        Move::Put { to, kind } => {
+            text.push(letter(kind) as char);
+            text.push('*');
+            push_square(&mut text, to);
+        }
+    }
+    text
+}
+
+fn push_square(text: &mut ArrayString<5>, square: Square)
+    requires { array_string_len text.old + 2 ≤ 5 }
+    ensures bytes { text.new.bytes ≡ text.old.bytes ++ square_text square }
+    ensures len { array_string_len text.new ≡ array_string_len text.old + 2 }
+{
+    text.push((b'0' + square.file()) as char);
+    text.push((b'a' - 1 + square.rank()) as char);
+}

@@ -1,0 +1,122 @@
+use crate::{EngineWord, move_text, read_engine_line, read_move};
+use shogi_board::{Color, Kind, Position, Setup, Square};
+use shogi_rules::Move;
+use std::test::Fail;
+
+// The square of two digits.
+fn square(digits: u8) -> Result<Square, Fail> {
+    Ok(Square::new(digits / 10, digits % 10).ok_or("no square")?)
+}
+
+fn walk(from: u8, to: u8, kind: Kind) -> Result<Option<Move>, Fail> {
+    let from = square(from)?;
+    let to = square(to)?;
+    Ok(Some(Move::Walk { from, to, kind }))
+}
+
+fn put(to: u8, kind: Kind) -> Result<Option<Move>, Fail> {
+    let to = square(to)?;
+    Ok(Some(Move::Put { to, kind }))
+}
+
+// A black horse on 88 and a bishop on 55, a pawn in each hand, black to move.
+fn with_a_horse() -> Result<Position, Fail> {
+    let mut setup = Setup::empty();
+    setup.place(Color::Black, square(88)?, Kind::Horse)?;
+    setup.place(Color::Black, square(53)?, Kind::Bishop)?;
+    setup.add_hand(Color::Black, Kind::Pawn)?;
+    setup.add_hand(Color::White, Kind::Pawn)?;
+    Ok(setup.finish(Color::Black)?)
+}
+
+#[test]
+fn moves_read(rt: HostRuntime) -> Result<(), Fail> {
+    let even = Position::even();
+    let table = [
+        ("7g7f", walk(77, 76, Kind::Pawn)?),
+        ("3c3d", walk(33, 34, Kind::Pawn)?),
+        ("7g7f+", walk(77, 76, Kind::ProPawn)?),
+        ("8h2b+", walk(88, 22, Kind::Horse)?),
+        ("2h1i", walk(28, 19, Kind::Rook)?),
+        ("1i9a", walk(19, 91, Kind::Lance)?),
+        ("P*5e", put(55, Kind::Pawn)?),
+        ("L*1a", put(11, Kind::Lance)?),
+        ("N*9i", put(99, Kind::Knight)?),
+        ("S*5e", put(55, Kind::Silver)?),
+        ("G*5e", put(55, Kind::Gold)?),
+        ("B*5e", put(55, Kind::Bishop)?),
+        ("R*5e", put(55, Kind::Rook)?),
+        ("", None),
+        ("p*5e", None),
+        ("K*5e", None),
+        ("P*5j", None),
+        ("P*0e", None),
+        ("P*5e+", None),
+        ("0a1b", None),
+        ("7g7", None),
+        ("7g7f++", None),
+        ("7g7f=", None),
+        ("7G7F", None),
+        ("7776", None),
+        ("5e5d", None),
+        ("4i4h+", None),
+        ("5i5h+", None),
+        ("resign", None),
+    ];
+    for (text, want) in table {
+        assert_eq!(rt; read_move(&even, text.as_bytes()), want, "{text}");
+    }
+    let horse = with_a_horse()?;
+    assert_eq!(rt; read_move(&horse, b"8h2b+"), None);
+    assert_eq!(rt; read_move(&horse, b"8h2b"), walk(88, 22, Kind::Horse)?);
+    Ok(())
+}
+
+#[test]
+fn moves_written(rt: HostRuntime) -> Result<(), Fail> {
+    let even = Position::even();
+    let horse = with_a_horse()?;
+    let table = [
+        (even, walk(77, 76, Kind::Pawn)?, "7g7f"),
+        (even, walk(28, 58, Kind::Rook)?, "2h5h"),
+        (horse, walk(88, 22, Kind::Horse)?, "8h2b"),
+        (horse, walk(53, 44, Kind::Horse)?, "5c4d+"),
+        (horse, walk(53, 44, Kind::Bishop)?, "5c4d"),
+        (horse, put(12, Kind::Pawn)?, "P*1b"),
+    ];
+    for (position, mv, want) in table {
+        let mv = mv.ok_or("no move")?;
+        assert_eq!(rt; move_text(&position, &mv).as_str(), want);
+    }
+    Ok(())
+}
+
+#[test]
+fn engine_lines(rt: HostRuntime) -> Result<(), Fail> {
+    let table = [
+        ("usiok", EngineWord::UsiOk),
+        ("  usiok  and more", EngineWord::UsiOk),
+        ("readyok", EngineWord::ReadyOk),
+        ("bestmove resign", EngineWord::Resign),
+        ("bestmove  win ", EngineWord::Win),
+        ("bestmove 7g7f", EngineWord::Best(b"7g7f")),
+        ("bestmove 7g7f ponder 3c3d", EngineWord::Best(b"7g7f")),
+        ("bestmove resigns", EngineWord::Best(b"resigns")),
+        ("bestmove Win", EngineWord::Best(b"Win")),
+        ("bestmove", EngineWord::Best(b"")),
+        ("bestmove ", EngineWord::Best(b"")),
+        ("bestmove\t7g7f", EngineWord::Other),
+        ("usiok\t", EngineWord::Other),
+        ("usi ok", EngineWord::Other),
+        ("bestmoves 7g7f", EngineWord::Other),
+        ("id name x", EngineWord::Other),
+        ("option name x", EngineWord::Other),
+        ("info string bestmove 7g7f", EngineWord::Other),
+        ("   ", EngineWord::Other),
+        ("", EngineWord::Other),
+    ];
+    for (line, want) in table {
+        assert_eq!(rt; read_engine_line(line.as_bytes()), want, "{line}");
+    }
+    Ok(())
+}
