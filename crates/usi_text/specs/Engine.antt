@@ -2,7 +2,7 @@
 use Rattle.std.specs.Prelude.{◌≡◌, ◌≢◌, ℕ, List, codes}
 use Rattle.usi_text.specs.declared.engine.EngineWord.{EngineWord}
 use Rattle.usi_text.specs.declared.engine.EngineWord.TheVariants.{UsiOk, ReadyOk, Best, Resign, Win, Other}
-use Rattle.usi_text.specs.Words.{words, nth_word}
+use Rattle.usi_text.specs.Words.{nth_word}
 
 -- what the word behind bestmove says; the empty text where there is none
 abbrev pub Answers : List ℕ → EngineWord → Type 0

@@ -1,4 +1,4 @@
-use Rattle.std.proofs.Common.{◌≡◌, ◌∙◌, ap}
+use Rattle.std.proofs.Common.{◌∙◌, ap}
 use Rattle.usi_text.specs.Words.{words}
 use Rattle.usi_text.proofs.Fronts.{taken_word}
 use Rattle.usi_text.proofs.words.take_word.Goals as goal
