@@ -1,8 +1,12 @@
 -- How squares and kinds are spelt.
-use Rattle.std.specs.Prelude.{ℕ, ◌+◌, List, [], ◌∷◌}
+use Rattle.std.specs.Prelude.{ℕ, ◌+◌, List, [], ◌∷◌, if◌then◌else◌}
+use Rattle.shogi_board.specs.declared.color.Color.{Color}
+use Rattle.shogi_board.specs.declared.color.Color.TheVariants.{Black, White}
 use Rattle.shogi_board.specs.declared.kind.Kind.{Kind}
 use Rattle.shogi_board.specs.declared.kind.Kind.TheVariants.{Pawn, Lance, Knight, Silver, Gold, Bishop, Rook, King, ProPawn, ProLance, ProKnight, ProSilver, Horse, Dragon}
+use Rattle.shogi_board.specs.declared.kind.Piece.{Piece}
 use Rattle.shogi_board.specs.declared.square.Square.{Square}
+use Rattle.shogi_board.specs.Pieces.{is_promoted}
 use Rattle.shogi_board.specs.Squares.{file_of, rank_of}
 
 -- the digit of the file, and the letter of the rank: a (97) for 1 to i for 9
@@ -25,3 +29,15 @@ letter ProKnight = 78
 letter ProSilver = 83
 letter Horse = 66
 letter Dragon = 82
+
+-- a capital letter for black, a small one for white
+abbrev pub color_letter : Color → Kind → ℕ
+color_letter Black kind = letter kind
+color_letter White kind = letter kind + 32
+
+abbrev pub side_letter : Piece → ℕ
+side_letter p = color_letter p.color p.kind
+
+-- a piece of the board: + (43) before the letter of a promoted one
+abbrev pub piece_text : Piece → List ℕ
+piece_text p = if is_promoted p.kind then 43 ∷ side_letter p ∷ [] else side_letter p ∷ []

@@ -1,11 +1,12 @@
-ghost use Rattle.std.specs.Prelude.{◌≡◌, ◌<◌, ◌++◌, ℕ, [], ◌∷◌, true, MatchOption};
-ghost use Rattle.shogi_board.specs.Pieces.{in_hand};
+ghost use Rattle.std.specs.Prelude.{◌≡◌, ◌<◌, ◌++◌, ℕ, [], ◌∷◌, true, false, MatchOption};
+ghost use Rattle.shogi_board.specs.Pieces.{in_hand, is_promoted};
 ghost use Rattle.shogi_board.specs.declared.kind.Kind.{Kind};
+ghost use Rattle.shogi_board.specs.declared.kind.Piece.{Piece};
 ghost use Rattle.shogi_board.specs.declared.square.Square.{Square};
 ghost use Rattle.shogi_rules.specs.Kinds.{promoted};
-ghost use Rattle.usi_text.specs.Letters.{square_text, letter};
+ghost use Rattle.usi_text.specs.Letters.{square_text, letter, side_letter};
 
-use shogi_board::{Kind, Square};
+use shogi_board::{Color, Kind, Piece, Square};
 
 // The square that two bytes spell.
 pub(crate) fn read_square(file: u8, rank: u8) -> Option<Square>
@@ -33,11 +34,11 @@ pub(crate) fn letter(kind: Kind) -> u8
     }
 }
 
-// The kind that a hand may hold and that has this capital letter.
-pub(crate) fn held_kind(byte: u8) -> Option<Kind>
+// The unpromoted kind that has this capital letter.
+fn kind_of_letter(byte: u8) -> Option<Kind>
     ensures { MatchOption result
-        ((kind : Kind) → in_hand kind ≡ true → letter kind ≡ byte → ⊥)
-        (λ kind. (in_hand kind ≡ true) × (letter kind ≡ byte)) }
+        ((kind : Kind) → is_promoted kind ≡ false → letter kind ≡ byte → ⊥)
+        (λ kind. (is_promoted kind ≡ false) × (letter kind ≡ byte)) }
 {
     match byte {
         b'P' => Some(Kind::Pawn),
@@ -47,8 +48,47 @@ pub(crate) fn held_kind(byte: u8) -> Option<Kind>
         b'G' => Some(Kind::Gold),
         b'B' => Some(Kind::Bishop),
         b'R' => Some(Kind::Rook),
+        b'K' => Some(Kind::King),
         _ => None,
     }
+}
+
+// The kind that a hand may hold and that has this capital letter.
+pub(crate) fn held_kind(byte: u8) -> Option<Kind>
+    ensures { MatchOption result
+        ((kind : Kind) → in_hand kind ≡ true → letter kind ≡ byte → ⊥)
+        (λ kind. (in_hand kind ≡ true) × (letter kind ≡ byte)) }
+{
+    let kind = kind_of_letter(byte)?;
+    if kind.in_hand() { Some(kind) } else { None }
+}
+
+// The unpromoted piece that has this letter: a capital for black, a small one for white.
+pub(crate) fn piece_of_letter(byte: u8) -> Option<Piece>
+    ensures { MatchOption result
+        ((piece : Piece) → is_promoted piece.kind ≡ false → side_letter piece ≡ byte → ⊥)
+        (λ piece. (is_promoted piece.kind ≡ false) × (side_letter piece ≡ byte)) }
+{
+    let (color, capital) = if byte < b'a' {
+        (Color::Black, byte)
+    } else {
+        (Color::White, byte - 32)
+    };
+    let kind = kind_of_letter(capital)?;
+    Some(Piece { color, kind })
+}
+
+// The promoted piece that has this letter.
+pub(crate) fn promoted_of_letter(byte: u8) -> Option<Piece>
+    ensures { MatchOption result
+        ((piece : Piece) → is_promoted piece.kind ≡ true → side_letter piece ≡ byte → ⊥)
+        (λ piece. (is_promoted piece.kind ≡ true) × (side_letter piece ≡ byte)) }
+{
+    let Some(piece) = piece_of_letter(byte) else {
+        return None;
+    };
+    let kind = promoted(piece.kind)?;
+    Some(Piece { kind, ..piece })
 }
 
 // The kind that a piece of this kind promotes to.

@@ -4,12 +4,16 @@
 #![tactic(auto)]
 
 mod engine;
+mod fault;
+mod hands;
 pub mod laws;
 mod letters;
 mod moves;
+mod parts;
 mod words;
 
 pub use engine::{EngineWord, read_engine_line};
+pub use fault::SfenFault;
 pub use moves::{move_text, read_move};
 
 #[cfg(test)]

@@ -1,0 +1,40 @@
+-- What a board text spells: nine ranks, the farthest from black first, each from file 9 to file 1.
+use Rattle.std.specs.Prelude.{◌≡◌, ℕ, ◌+◌, ◌≤◌, ◌==◌, List, [], ◌∷◌, ◌++◌, Option, Some, None, length, replicate}
+use Rattle.std.specs.List.{AllByRecursion, flat_map, slice_split}
+use Rattle.shogi_board.specs.declared.kind.Piece.{Piece}
+use Rattle.usi_text.specs.declared.parts.Part.{Part}
+use Rattle.usi_text.specs.declared.parts.Part.TheVariants.{Empty, Stands}
+use Rattle.usi_text.specs.Letters.{piece_text}
+
+-- a part of a rank is a digit, which counts empty squares, or a piece
+abbrev pub part_text : Part → List ℕ
+part_text (Empty n) = (48 + n) ∷ []
+part_text (Stands p) = piece_text p
+
+abbrev pub part_cells : Part → List (Option Piece)
+part_cells (Empty n) = replicate n None
+part_cells (Stands p) = Some p ∷ []
+
+-- the digits are 1 to 9
+abbrev pub IsPart : Part → Type 0
+IsPart (Empty n) = (1 ≤ n) × (n ≤ 9)
+IsPart (Stands p) = Unit {0}
+
+-- the text is parts one behind another, and these are their cells
+abbrev pub SpellsCells : List ℕ → List (Option Piece) → Type 0
+SpellsCells text cells =
+    (parts : List Part) × AllByRecursion IsPart parts × (text ≡ flat_map part_text parts) × (cells ≡ flat_map part_cells parts)
+
+-- each text spells nine cells, and these are all of them in order
+abbrev pub SpellsRanks : List (List ℕ) → List (Option Piece) → Type 0
+SpellsRanks [] cells = cells ≡ []
+SpellsRanks (text ∷ texts) cells =
+    (rank : List (Option Piece)) × (others : List (Option Piece)) × (cells ≡ rank ++ others)
+    × SpellsCells text rank × (length rank ≡ 9) × SpellsRanks texts others
+
+-- the parts of a text between slashes (47)
+abbrev pub ranks_of : List ℕ → List (List ℕ)
+ranks_of text = slice_split (λ b. b == 47) text
+
+abbrev pub SpellsBoard : List ℕ → List (Option Piece) → Type 0
+SpellsBoard text cells = (length (ranks_of text) ≡ 9) × SpellsRanks (ranks_of text) cells

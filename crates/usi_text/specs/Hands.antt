@@ -1,0 +1,44 @@
+-- What a text of both hands spells: piles of pieces.
+use Rattle.std.specs.Prelude.{◌≡◌, ℕ, ◌+◌, ◌≤◌, true, List, [], ◌∷◌, ◌++◌, Option, Some, None, replicate, unwrap_or, codes, decimal}
+use Rattle.std.specs.List.{AllByRecursion, flat_map}
+use Rattle.shogi_board.specs.declared.kind.Piece.{Piece}
+use Rattle.shogi_board.specs.Pieces.{in_hand}
+use Rattle.usi_text.specs.declared.hands.Pile.{Pile}
+use Rattle.usi_text.specs.Letters.{side_letter}
+
+-- the count before the letter, where there is one
+abbrev pub count_text : Option ℕ → List ℕ
+count_text None = []
+count_text (Some n) = decimal n
+
+abbrev pub pile_text : Pile → List ℕ
+pile_text pile = count_text pile.count ++ side_letter pile.piece ∷ []
+
+-- a count is one from 1 to 99
+abbrev pub IsCount : Option ℕ → Type 0
+IsCount None = Unit {0}
+IsCount (Some n) = (1 ≤ n) × (n ≤ 99)
+
+-- of a kind that a hand may hold
+abbrev pub IsPile : Pile → Type 0
+IsPile pile = IsCount pile.count × (in_hand pile.piece.kind ≡ true)
+
+-- the text is the piles one behind another
+abbrev pub SpellsPiles : List ℕ → List Pile → Type 0
+SpellsPiles text piles = AllByRecursion IsPile piles × (text ≡ flat_map pile_text piles)
+
+-- a dash alone where both hands are empty
+abbrev pub SpellsHands : List ℕ → List Pile → Type 0
+SpellsHands text [] = text ≡ codes "-"
+SpellsHands text (pile ∷ piles) = SpellsPiles text (pile ∷ piles)
+
+-- the pieces of a pile; without a count it is one
+abbrev pub pile_pieces : Pile → List Piece
+pile_pieces pile = replicate (unwrap_or pile.count 1) pile.piece
+
+-- the text begins with that digit, and this stands behind it
+abbrev pub IsDigitBefore : List ℕ → ℕ → List ℕ → Type 0
+IsDigitBefore text digit behind = (digit ≤ 9) × (text ≡ (48 + digit) ∷ behind)
+
+abbrev pub HasNoDigit : List ℕ → Type 0
+HasNoDigit text = (digit : ℕ) (behind : List ℕ) → IsDigitBefore text digit behind → ⊥
