@@ -1,3 +1,4 @@
 pub mod Fronts
 pub mod OneMove
+pub mod Ranks
 pub mod Spelt

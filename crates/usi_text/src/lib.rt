@@ -3,6 +3,7 @@
 //! The forms are those of the USI protocol, in the profile of this project (`docs/USI.md`).
 #![tactic(auto)]
 
+mod boards;
 mod engine;
 mod fault;
 mod hands;

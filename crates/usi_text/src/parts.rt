@@ -1,4 +1,4 @@
-ghost use Rattle.std.specs.Prelude.{◌≡◌, ◌≤◌, ◌+◌, ◌++◌, ℕ, List, MatchOption, length};
+ghost use Rattle.std.specs.Prelude.{◌≡◌, ◌≤◌, ◌<◌, ◌+◌, ◌++◌, ℕ, List, IfSome, MatchOption, length};
 ghost use Rattle.usi_text.specs.Boards.{IsPart, part_text, part_cells};
 ghost use Rattle.usi_text.specs.declared.parts.Part.{Part};
 
@@ -26,7 +26,8 @@ impl Part {
 
 // The part at the front of the text, and what stands behind it.
 pub(crate) fn read_part(text: &[u8]) -> Option<(Part, &[u8])>
-    ensures { MatchOption result
+    ensures shorter { IfSome result (λ r. length r.1.now < length text.now) }
+    ensures part { MatchOption result
         ((part : Part) (behind : List ℕ) → IsPart part → text.now ≡ part_text part ++ behind → ⊥)
         (λ r. IsPart r.0 × (text.now ≡ part_text r.0 ++ r.1.now)) }
 {

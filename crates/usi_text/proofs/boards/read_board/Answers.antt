@@ -1,0 +1,36 @@
+use Rattle.std.proofs.Common.{◌≡◌, ◌*◌, ◌+◌, ℕ, List, length, arith, [], refl, ap, sym, ◌∙◌, subst}
+use Rattle.usi_text.specs.Boards.{ranks_of, ranks_behind}
+use Rattle.usi_text.proofs.Ranks.{Boards, boards_start, boards_more, boards_bad_rank, boards_few, boards_many, boards_end}
+use Rattle.usi_text.proofs.boards.read_board.Goals as goal
+
+pub loop-init : goal.loop-init
+loop-init c = rw c.new-cells.ensures (boards_start c.args.text.now)
+
+pub returns-in_default : goal.returns-in_default
+returns-in_default c =
+    let b = rw c.in_default.is at c.loop.invariant in
+    boards_few c.args.text.now c.loop.cells.items c.loop.counter b c.loop-test.true
+
+pub read_rank-requires : goal.read_rank-requires
+read_rank-requires c = let s = c.loop.invariant.size in omega arith
+
+pub returns-then-not-read_rank : goal.returns-then-not-read_rank
+returns-then-not-read_rank c =
+    boards_bad_rank c.args.text.now (ranks_behind c.loop.rest) (ranks_behind c.take_rank.result.1) c.take_rank.result.0.now c.loop.cells.items c.loop.counter c.loop.invariant (ap ranks_behind c.in-Some.is ∙ c.take_rank.ensures) (λ cells s nine. c.if-not-read_rank.ensures {u = tt} cells s nine)
+
+pub loop-preserved : goal.loop-preserved
+loop-preserved c =
+    let r = c.if-not-read_rank.ensures {u = tt} in
+    boards_more c.args.text.now (ranks_behind c.loop.rest) (ranks_behind c.take_rank.result.1) c.take_rank.result.0.now c.loop.cells.items c.read_rank.new.cells.items r.0 c.loop.counter c.loop.invariant (ap ranks_behind c.in-Some.is ∙ c.take_rank.ensures) r.1 r.2 r.3
+
+pub returns-in-Some-rest : goal.returns-in-Some-rest
+returns-in-Some-rest c =
+    let n : c.loop.counter ≡ 9 = omega arith in
+    let b = rw (c.in-Some-rest.is, n) at c.loop.invariant in
+    boards_many c.args.text.now c.in-Some-rest.field-0.now c.loop.cells.items b
+
+pub returns-in-None : goal.returns-in-None
+returns-in-None c =
+    let n : c.loop.counter ≡ 9 = omega arith in
+    let b = rw (c.in-None.is, n) at c.loop.invariant in
+    boards_end c.args.text.now c.loop.cells.items b
