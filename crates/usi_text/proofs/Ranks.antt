@@ -125,7 +125,7 @@ rank_told true text rest old items runs none whole short =
 rank_told false text rest old items runs none whole short =
     let r : Runs text [] old items = rw none at runs in runs_short text old items r (short refl)
 
-no_bytes : (xs : List ℕ) → length xs ≡ 0 → xs ≡ []
+pub no_bytes : (xs : List ℕ) → length xs ≡ 0 → xs ≡ []
 no_bytes [] h = refl
 no_bytes (x ∷ xs) h = absurd (omega arith)
 

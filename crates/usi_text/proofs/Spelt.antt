@@ -263,14 +263,14 @@ abbrev pub Read : List ℕ → Option ℕ → List ℕ → Type 0
 Read text found rest = IsCount found × (text ≡ count_text found ++ rest)
 
 -- a count begins with a digit other than 0
-record Leads (n : ℕ) (text tail : List ℕ) : Type 0 where
-  digit : ℕ
-  others : List ℕ
-  low : 1 ≤ digit
-  high : digit ≤ 9
-  whole : text ≡ (48 + digit) ∷ others
+pub record Leads (n : ℕ) (text tail : List ℕ) : Type 0 where
+  pub digit : ℕ
+  pub others : List ℕ
+  pub low : 1 ≤ digit
+  pub high : digit ≤ 9
+  pub whole : text ≡ (48 + digit) ∷ others
 
-leads : (n : ℕ) (text tail : List ℕ) → 1 ≤ n → n ≤ 99 → text ≡ decimal n ++ tail → Leads n text tail
+pub leads : (n : ℕ) (text tail : List ℕ) → 1 ≤ n → n ≤ 99 → text ≡ decimal n ++ tail → Leads n text tail
 leads n text tail low high e =
     elim (cases_lt n 10) [
       | inl small ↦ record { digit = n; others = tail; low = low; high = omega arith; whole = e ∙ ap (λ ds. ds ++ tail) (one_digit n small) }

@@ -1,6 +1,5 @@
 -- Which words are the SFEN of a position, and else the first fault.
-use Rattle.std.specs.Prelude.{◌≡◌, ℕ, ◌≤◌, List, [], Option, Ok, Err, codes}
-use Rattle.std.specs.List.{AllByRecursion}
+use Rattle.std.specs.Prelude.{◌≡◌, ℕ, ◌≤◌, List, [], Option, Ok, Err, EachIndex, slice_index, codes}
 use Rattle.shogi_board.specs.declared.color.Color.{Color}
 use Rattle.shogi_board.specs.declared.color.Color.TheVariants.{Black, White}
 use Rattle.shogi_board.specs.declared.kind.Piece.{Piece}
@@ -21,9 +20,13 @@ side_text White = codes "w"
 abbrev pub IsDigit : ℕ → Type 0
 IsDigit b = (48 ≤ b) × (b ≤ 57)
 
--- the fourth word, if there is one, is digits alone, and there is no fifth
+-- a word of digits alone, and no word behind it
+abbrev pub IsNumber : List ℕ → List ℕ → Type 0
+IsNumber word next = EachIndex word (λ k. IsDigit (slice_index word k)) × (next ≡ [])
+
+-- the fourth word, if there is one, is a number, and there is no fifth
 abbrev pub HasNumber : List (List ℕ) → Type 0
-HasNumber ws = AllByRecursion IsDigit (nth_word ws 3) × (nth_word ws 4 ≡ [])
+HasNumber ws = IsNumber (nth_word ws 3) (nth_word ws 4)
 
 -- the words spell this board, this side and these piles
 pub record Shape (ws : List (List ℕ)) (cells : List (Option Piece)) (side : Color) (piles : List Pile) : Type 0 where

@@ -1,4 +1,4 @@
-ghost use Rattle.std.specs.Prelude.{◌≡◌, ◌≤◌, ◌+◌, ◌++◌, ◌∷◌, List, Option, None, MatchBool, MatchOption, length, replicate};
+ghost use Rattle.std.specs.Prelude.{◌≡◌, ◌≤◌, ◌+◌, ◌++◌, ◌∷◌, List, Option, None, IfSome, MatchBool, MatchOption, length, replicate};
 ghost use Rattle.arrayvec.specs.ArrayVec.{array_vec_len};
 ghost use Rattle.shogi_board.specs.declared.kind.Piece.{Piece};
 ghost use Rattle.usi_text.specs.Boards.{SpellsBoard, SpellsCells, part_cells, ranks_of, ranks_behind};
@@ -12,7 +12,8 @@ pub(crate) type Cells = ArrayVec<Option<Piece>, 81>;
 
 // The cells that the text spells.
 pub(crate) fn read_board(text: &[u8]) -> Option<Cells>
-    ensures { MatchOption result
+    ensures size { IfSome result (λ cells. length cells.items ≡ 81) }
+    ensures cells { MatchOption result
         ((cells : List (Option Piece)) → SpellsBoard text.now cells → ⊥)
         (λ cells. SpellsBoard text.now cells.items) }
 {

@@ -1,5 +1,5 @@
-ghost use Rattle.std.specs.Prelude.{◌≡◌, ◌<◌, ◌++◌, ◌∷◌, ℕ, List, Option, MatchOption};
-ghost use Rattle.usi_text.specs.Hands.{IsPile, IsCount, IsDigitBefore, HasNoDigit, count_text, pile_text};
+ghost use Rattle.std.specs.Prelude.{◌≡◌, ◌↔◌, IsTrue, codes, ◌<◌, ◌++◌, ◌∷◌, ℕ, List, Option, IfSome, MatchBool, MatchOption, length};
+ghost use Rattle.usi_text.specs.Hands.{SpellsHands, IsPile, IsCount, IsDigitBefore, HasNoDigit, count_text, pile_text};
 ghost use Rattle.usi_text.specs.declared.hands.Pile.{Pile};
 
 use crate::letters::piece_of_letter;
@@ -14,7 +14,8 @@ pub(crate) struct Pile {
 
 // The pile at the front of the text, and what stands behind it.
 pub(crate) fn read_pile(text: &[u8]) -> Option<(Pile, &[u8])>
-    ensures { MatchOption result
+    ensures shorter { IfSome result (λ r. length r.1.now < length text.now) }
+    ensures pile { MatchOption result
         ((pile : Pile) (behind : List ℕ) → IsPile pile → text.now ≡ pile_text pile ++ behind → ⊥)
         (λ r. IsPile r.0 × (text.now ≡ pile_text r.0 ++ r.1.now)) }
 {
@@ -27,6 +28,32 @@ pub(crate) fn read_pile(text: &[u8]) -> Option<(Pile, &[u8])>
         return None;
     }
     Some((Pile { count, piece }, behind))
+}
+
+// Whether the text is a dash: no piece is in a hand.
+pub(crate) fn is_dash(text: &[u8]) -> bool
+    ensures { IsTrue result ↔ (text.now ≡ codes "-") }
+{
+    text == b"-".as_slice()
+}
+
+// Whether the text is a dash or piles.
+pub(crate) fn is_hands(text: &[u8]) -> bool
+    ensures { MatchBool result
+        ((piles : List Pile) × SpellsHands text.now piles)
+        ((piles : List Pile) → SpellsHands text.now piles → ⊥) }
+{
+    if is_dash(text) {
+        return true;
+    }
+    if text.is_empty() {
+        return false;
+    }
+    let mut rest = text;
+    while let Some((_, behind)) = read_pile(rest) {
+        rest = behind;
+    }
+    rest.is_empty()
 }
 
 // The count of one or two digits at the front of the text, if there is one, and what stands behind it.

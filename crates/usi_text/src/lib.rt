@@ -11,11 +11,14 @@ pub mod laws;
 mod letters;
 mod moves;
 mod parts;
+mod setting;
+mod sfen;
 mod words;
 
 pub use engine::{EngineWord, read_engine_line};
 pub use fault::SfenFault;
 pub use moves::{move_text, read_move};
+pub use sfen::read_sfen;
 
 #[cfg(test)]
 mod tests;

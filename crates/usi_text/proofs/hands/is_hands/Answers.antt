@@ -1,0 +1,19 @@
+use Rattle.std.proofs.Common.{length}
+use Rattle.usi_text.proofs.Piles.{reads_start, reads_more, answer, answer_empty, not_so}
+use Rattle.usi_text.proofs.Ranks.{no_bytes, empty_is, some_are}
+use Rattle.usi_text.proofs.hands.is_hands.Goals as goal
+
+pub loop-behind-init : goal.loop-behind-init
+loop-behind-init c = reads_start c.args.text.now
+
+pub loop-behind-preserved : goal.loop-behind-preserved
+loop-behind-preserved c =
+    reads_more c.args.text.now c.loop-behind.rest.now c.in-Some.behind.now c.in-Some.field-0-0 c.loop-behind.invariant c.in-Some.ensures.pile.0 c.in-Some.ensures.pile.1
+
+pub returns-then-is_empty : goal.returns-then-is_empty
+returns-then-is_empty c =
+    answer_empty c.args.text.now (no_bytes c.args.text.now (empty_is c.is_empty.result (length c.args.text.now) c.is_empty.ensures c.if-is_empty.true))
+
+pub returns : goal.returns
+returns c =
+    answer c.is_empty-2.result c.args.text.now c.loop-behind.rest.now c.loop-behind.invariant (not_so c.is_dash.result c.is_dash.ensures c.if-is_dash.false) (some_are c.is_empty.result c.args.text.now c.is_empty.ensures c.if-is_empty.false) c.in_default.ensures.pile c.is_empty-2.ensures

@@ -1,0 +1,77 @@
+ghost use Rattle.std.specs.Prelude.{◌≡◌, ◌<◌, ◌≤◌, ◌++◌, List, Ok, Err, MatchResult, length};
+ghost use Rattle.std.specs.List.{flat_map};
+ghost use Rattle.shogi_board.specs.declared.kind.Piece.{Piece};
+ghost use Rattle.shogi_board.specs.Setup.{empty_layout};
+ghost use Rattle.shogi_board.specs.Squares.{place};
+ghost use Rattle.usi_text.specs.Hands.{SpellsHands, pile_pieces};
+ghost use Rattle.usi_text.specs.Setting.{board_place, put_cells, hold_pieces, set_up, Finishes};
+ghost use Rattle.usi_text.specs.declared.hands.Pile.{Pile};
+
+use crate::hands::{Pile, is_dash, read_pile};
+use shogi_board::{Color, Piece, Position, Setup, SetupFault, Square};
+
+// The position with the pieces of these cells, in the order of a board's text, and of the hands that the text spells.
+pub(crate) fn position_of(
+    cells: &[Option<Piece>],
+    hands: &[u8],
+    side: Color,
+) -> Result<Position, SetupFault>
+    requires board { length cells.now ≡ 81 }
+    ensures { (piles : List Pile) → SpellsHands hands.now piles → Finishes (set_up cells.now piles) side result }
+{
+    let mut setup = board_setup(cells)?;
+    add_hands(&mut setup, hands)?;
+    setup.finish(side)
+}
+
+// The setup with the pieces of these cells.
+fn board_setup(cells: &[Option<Piece>]) -> Result<Setup, SetupFault>
+    requires board { length cells.now ≡ 81 }
+    ensures { MatchResult result
+        (λ setup. put_cells empty_layout 0 cells.now ≡ Ok setup)
+        (λ fault. put_cells empty_layout 0 cells.now ≡ Err fault) }
+{
+    let mut setup = Setup::empty();
+    for (n, cell) in cells.iter().enumerate() {
+        if let Some(piece) = cell {
+            setup.place(piece.color, board_square(n), piece.kind)?;
+        }
+    }
+    Ok(setup)
+}
+
+// The nth square of a board's text, from 0.
+fn board_square(n: usize) -> Square
+    requires { n < 81 }
+    ensures { place result ≡ board_place n }
+{
+    Square::new(9 - (n % 9) as u8, (n / 9) as u8 + 1).unwrap()
+}
+
+// Adds the pieces of the hands that the text spells.
+fn add_hands(setup: &mut Setup, text: &[u8]) -> Result<(), SetupFault>
+    ensures { (piles : List Pile) → SpellsHands text.now piles → MatchResult result
+        (λ _. hold_pieces setup.old (flat_map pile_pieces piles) ≡ Ok setup.new)
+        (λ fault. hold_pieces setup.old (flat_map pile_pieces piles) ≡ Err fault) }
+{
+    if is_dash(text) {
+        return Ok(());
+    }
+    let mut rest = text;
+    while let Some((pile, behind)) = read_pile(rest) {
+        add_pile(setup, pile)?;
+        rest = behind;
+    }
+    Ok(())
+}
+
+fn add_pile(setup: &mut Setup, pile: Pile) -> Result<(), SetupFault>
+    ensures { (others : List Piece) → MatchResult result
+        (λ _. hold_pieces setup.old (pile_pieces pile ++ others) ≡ hold_pieces setup.new others)
+        (λ fault. hold_pieces setup.old (pile_pieces pile ++ others) ≡ Err fault) }
+{
+    for _ in 0..pile.count.unwrap_or(1) {
+        setup.add_hand(pile.piece.color, pile.piece.kind)?;
+    }
+    Ok(())
+}

@@ -1,0 +1,92 @@
+ghost use Rattle.std.specs.Prelude.{◌≡◌, ◌↔◌, IsTrue, MatchOption, MatchResult};
+ghost use Rattle.shogi_board.specs.declared.color.Color.{Color};
+ghost use Rattle.usi_text.specs.Sfen.{Sfen, FirstFault, IsNumber, side_text};
+ghost use Rattle.usi_text.specs.Words.{words, nth_word};
+
+use crate::boards::read_board;
+use crate::fault::SfenFault;
+use crate::hands::is_hands;
+use crate::setting::position_of;
+use crate::words::take_word;
+use shogi_board::{Color, Position};
+
+/// The position whose SFEN the text is.
+///
+/// Refuses, in this order: BadBoard, BadSide, BadHands, BadNumber by the words of the text, a missing word being an
+/// empty one; then Start with the first refusal of its pieces, which are set up in the order of the text, the squares
+/// first and then the hands: SecondKing or TooMany; then Start(OpponentInCheck).
+pub fn read_sfen(text: &[u8]) -> Result<Position, SfenFault>
+    ensures { MatchResult result
+        (λ position. Sfen (words text.now) position)
+        (λ fault. FirstFault (words text.now) fault) }
+{
+    let words = sfen_words(text);
+    let Some(cells) = read_board(words.board) else {
+        return Err(SfenFault::BadBoard);
+    };
+    let Some(side) = read_side(words.side) else {
+        return Err(SfenFault::BadSide);
+    };
+    if !is_hands(words.hands) {
+        return Err(SfenFault::BadHands);
+    }
+    if !is_number(words.number, words.fifth) {
+        return Err(SfenFault::BadNumber);
+    }
+    match position_of(cells.as_slice(), words.hands, side) {
+        Ok(position) => Ok(position),
+        Err(fault) => Err(SfenFault::Start(fault)),
+    }
+}
+
+// The first five words of a text; where there are fewer, the others are empty.
+#[derive(Clone, Copy, Debug)]
+struct SfenWords<'a> {
+    board: &'a [u8],
+    side: &'a [u8],
+    hands: &'a [u8],
+    number: &'a [u8],
+    fifth: &'a [u8],
+}
+
+fn sfen_words(text: &[u8]) -> SfenWords<'_>
+    ensures board { result.board.now ≡ nth_word (words text.now) 0 }
+    ensures side { result.side.now ≡ nth_word (words text.now) 1 }
+    ensures hands { result.hands.now ≡ nth_word (words text.now) 2 }
+    ensures number { result.number.now ≡ nth_word (words text.now) 3 }
+    ensures fifth { result.fifth.now ≡ nth_word (words text.now) 4 }
+{
+    let (board, rest) = take_word(text);
+    let (side, rest) = take_word(rest);
+    let (hands, rest) = take_word(rest);
+    let (number, rest) = take_word(rest);
+    let (fifth, _) = take_word(rest);
+    SfenWords {
+        board,
+        side,
+        hands,
+        number,
+        fifth,
+    }
+}
+
+fn read_side(word: &[u8]) -> Option<Color>
+    ensures { MatchOption result
+        ((side : Color) → word.now ≡ side_text side → ⊥)
+        (λ side. word.now ≡ side_text side) }
+{
+    if word == b"b".as_slice() {
+        Some(Color::Black)
+    } else if word == b"w".as_slice() {
+        Some(Color::White)
+    } else {
+        None
+    }
+}
+
+// Whether the word is digits alone, and no word follows.
+fn is_number(word: &[u8], next: &[u8]) -> bool
+    ensures { IsTrue result ↔ IsNumber word.now next.now }
+{
+    word.iter().all(|b| b.is_ascii_digit()) && next.is_empty()
+}
