@@ -5,3 +5,4 @@ pub mod Ranks
 pub mod Settings
 pub mod Sfens
 pub mod Spelt
+pub mod Written

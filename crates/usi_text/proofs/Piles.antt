@@ -63,7 +63,11 @@ pile_once p q x y h k e =
     let same : p.piece ≡ q.piece = same_piece p.piece q.piece l (held_plain p.piece.kind h.1 ∙ sym (held_plain q.piece.kind k.1)) in
     (ap (λ c. pile c p.piece) (sym s.0) ∙ ap (λ r. pile q.count r) same, z)
 
-pile_some : (p : Pile) (x : List ℕ) → [] ≡ pile_text p ++ x → ⊥
+pub pile_none : (p : Pile) (x : List ℕ) → length (pile_text p ++ x) ≡ 0 → ⊥
+pile_none p x h =
+    let l = ap length (regroup p x) in omega (arith, h, l, length-append (count_text p.count) (side_letter p.piece ∷ x))
+
+pub pile_some : (p : Pile) (x : List ℕ) → [] ≡ pile_text p ++ x → ⊥
 pile_some p x e =
     let l = ap length (e ∙ regroup p x) in omega (arith, l, length-append (count_text p.count) (side_letter p.piece ∷ x))
 

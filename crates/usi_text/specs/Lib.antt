@@ -5,4 +5,5 @@ pub mod Letters
 pub mod Moves
 pub mod Setting
 pub mod Sfen
+pub mod SfenText
 pub mod Words

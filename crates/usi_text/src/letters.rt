@@ -34,6 +34,30 @@ pub(crate) fn letter(kind: Kind) -> u8
     }
 }
 
+// The letter of a piece: a capital for black, a small one for white.
+pub(crate) fn side_letter(piece: Piece) -> u8
+    ensures { result ≡ side_letter piece }
+{
+    match piece.color {
+        Color::Black => letter(piece.kind),
+        Color::White => letter(piece.kind) + 32,
+    }
+}
+
+pub(crate) fn is_promoted(kind: Kind) -> bool
+    ensures { result ≡ is_promoted kind }
+{
+    matches!(
+        kind,
+        Kind::ProPawn
+            | Kind::ProLance
+            | Kind::ProKnight
+            | Kind::ProSilver
+            | Kind::Horse
+            | Kind::Dragon
+    )
+}
+
 // The unpromoted kind that has this capital letter.
 fn kind_of_letter(byte: u8) -> Option<Kind>
     ensures { MatchOption result

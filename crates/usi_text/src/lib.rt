@@ -14,11 +14,13 @@ mod parts;
 mod setting;
 mod sfen;
 mod words;
+mod writing;
 
 pub use engine::{EngineWord, read_engine_line};
 pub use fault::SfenFault;
 pub use moves::{move_text, read_move};
 pub use sfen::read_sfen;
+pub use writing::write_sfen;
 
 #[cfg(test)]
 mod tests;
