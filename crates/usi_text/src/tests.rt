@@ -1,6 +1,6 @@
-use crate::{EngineWord, move_text, read_engine_line, read_move};
+use crate::{EngineWord, SfenFault, move_text, read_engine_line, read_move, read_sfen, write_sfen};
 use arrayvec::ArrayString;
-use shogi_board::{Color, Kind, Position, Setup, Square};
+use shogi_board::{Color, Kind, Position, Setup, SetupFault, Square};
 use shogi_rules::{Move, judge};
 use std::test::Fail;
 
@@ -128,4 +128,108 @@ fn engine_lines(rt: HostRuntime) -> Result<(), Fail> {
         assert_eq!(rt; read_engine_line(line.as_bytes()), want, "{line}");
     }
     Ok(())
+}
+
+const EVEN: &str = "lnsgkgsnl/1r5b1/ppppppppp/9/9/9/PPPPPPPPP/1B5R1/LNSGKGSNL b - 1";
+
+#[test]
+fn sfens_read_and_written(rt: HostRuntime) -> Result<(), Fail> {
+    let table = [
+        (EVEN, EVEN),
+        (
+            "lnsgk2nl/1r4gs1/p1pppp1pp/1p4p2/7P1/2P6/PP1PPPP1P/1SG4R1/LN2KGSNL b Bb 1",
+            "lnsgk2nl/1r4gs1/p1pppp1pp/1p4p2/7P1/2P6/PP1PPPP1P/1SG4R1/LN2KGSNL b Bb 1",
+        ),
+        (
+            "8l/1l+R2P3/p2pBG1pp/kps1p4/Nn1P2G2/P1P1P2PP/1PS6/1KSG3+r1/LN2+p3L w Sbgn3p 124",
+            "8l/1l+R2P3/p2pBG1pp/kps1p4/Nn1P2G2/P1P1P2PP/1PS6/1KSG3+r1/LN2+p3L w Sbgn3p 1",
+        ),
+        (
+            "4k4/9/4P4/9/9/9/9/9/9 b G2r2b3g4s4n4l17p 1",
+            "4k4/9/4P4/9/9/9/9/9/9 b G2r2b3g4s4n4l17p 1",
+        ),
+        (
+            "lnsgkgsnl/9/ppppppppp/9/9/9/PPPPPPPPP/1B5R1/LNSGKGSNL w - 1",
+            "lnsgkgsnl/9/ppppppppp/9/9/9/PPPPPPPPP/1B5R1/LNSGKGSNL w - 1",
+        ),
+        (
+            "  lnsgkgsnl/1r5b1/ppppppppp/9/333/12411/PPPPPPPPP/1B5R1/LNSGKGSNL  b -  ",
+            EVEN,
+        ),
+        ("9/9/9/9/9/9/9/9/9 w - 0", "9/9/9/9/9/9/9/9/9 w - 1"),
+        (
+            "9/9/9/9/9/9/9/9/9 b p1P2PR1l 7",
+            "9/9/9/9/9/9/9/9/9 b R3Plp 1",
+        ),
+        ("9/9/9/9/9/9/9/9/9 b 10p8P", "9/9/9/9/9/9/9/9/9 b 8P10p 1"),
+        ("9/9/9/9/9/9/9/9/9 b 18p", "9/9/9/9/9/9/9/9/9 b 18p 1"),
+        ("9/9/9/9/9/9/9/9/9 w PP 1", "9/9/9/9/9/9/9/9/9 w 2P 1"),
+        (
+            "+P+p+L+l+N+n+S+s1/+B+b+R+r5/9/9/9/9/9/9/K7k b - 1",
+            "+P+p+L+l+N+n+S+s1/+B+b+R+r5/9/9/9/9/9/9/K7k b - 1",
+        ),
+    ];
+    for (text, want) in table {
+        let position = read_sfen(text.as_bytes())?;
+        let written = write_sfen(rt.alloc(), &position)?;
+        assert_eq!(rt; written.as_slice(), want.as_bytes(), "{text}");
+    }
+    assert_eq!(rt; read_sfen(EVEN.as_bytes()), Ok(Position::even()));
+    Ok(())
+}
+
+#[test]
+fn sfens_refused(rt: HostRuntime) {
+    let two = SfenFault::Start(SetupFault::TooMany);
+    let kings = SfenFault::Start(SetupFault::SecondKing);
+    let check = SfenFault::Start(SetupFault::OpponentInCheck);
+    let table = [
+        ("9/9 b - 1", SfenFault::BadBoard),
+        ("9/9", SfenFault::BadBoard),
+        ("", SfenFault::BadBoard),
+        ("   ", SfenFault::BadBoard),
+        ("8/9/9/9/9/9/9/9/9 b - 1", SfenFault::BadBoard),
+        ("91/9/9/9/9/9/9/9/9 b - 1", SfenFault::BadBoard),
+        ("9/9/9/9/9/9/9/9 b - 1", SfenFault::BadBoard),
+        ("9/9/9/9/9/9/9/9/9/9 b - 1", SfenFault::BadBoard),
+        ("9/9/9/9/9/9/9/9/9/ b - 1", SfenFault::BadBoard),
+        ("/9/9/9/9/9/9/9/9 b - 1", SfenFault::BadBoard),
+        ("0p8/9/9/9/9/9/9/9/9 b - 1", SfenFault::BadBoard),
+        ("x8/9/9/9/9/9/9/9/9 b - 1", SfenFault::BadBoard),
+        ("+G8/9/9/9/9/9/9/9/9 b - 1", SfenFault::BadBoard),
+        ("+K8/9/9/9/9/9/9/9/9 b - 1", SfenFault::BadBoard),
+        ("++P8/9/9/9/9/9/9/9/9 b - 1", SfenFault::BadBoard),
+        ("8+/9/9/9/9/9/9/9/9 b - 1", SfenFault::BadBoard),
+        ("9/9/9/9/9/9/9/9/9\tb - 1", SfenFault::BadBoard),
+        ("9/9/9/9/9/9/9/9/9", SfenFault::BadSide),
+        ("9/9/9/9/9/9/9/9/9 x - 1", SfenFault::BadSide),
+        ("9/9/9/9/9/9/9/9/9 B - 1", SfenFault::BadSide),
+        ("rrr6/9/9/9/9/9/9/9/9 bw - 1", SfenFault::BadSide),
+        ("9/9/9/9/9/9/9/9/9 b", SfenFault::BadHands),
+        ("9/9/9/9/9/9/9/9/9 b 0P 1", SfenFault::BadHands),
+        ("9/9/9/9/9/9/9/9/9 b 01P 1", SfenFault::BadHands),
+        ("9/9/9/9/9/9/9/9/9 b P1 1", SfenFault::BadHands),
+        ("9/9/9/9/9/9/9/9/9 b 100P 1", SfenFault::BadHands),
+        ("9/9/9/9/9/9/9/9/9 b K 1", SfenFault::BadHands),
+        ("9/9/9/9/9/9/9/9/9 b -P 1", SfenFault::BadHands),
+        ("9/9/9/9/9/9/9/9/9 b -- x", SfenFault::BadHands),
+        ("rrr6/9/9/9/9/9/9/9/9 b +P 1", SfenFault::BadHands),
+        ("9/9/9/9/9/9/9/9/9 b - x", SfenFault::BadNumber),
+        ("9/9/9/9/9/9/9/9/9 b - 1x", SfenFault::BadNumber),
+        ("9/9/9/9/9/9/9/9/9 b - -1", SfenFault::BadNumber),
+        ("rrr6/9/9/9/9/9/9/9/9 b - 1 2", SfenFault::BadNumber),
+        ("rrr6/9/9/9/9/9/9/9/9 b - 1", two),
+        ("+rrr6/9/9/9/9/9/9/9/9 b - 1", two),
+        ("rr7/9/9/9/9/9/9/9/9 b R 1", two),
+        ("9/9/9/9/9/9/9/9/9 b 19p 1", two),
+        ("9/9/9/9/9/9/9/9/9 b 18pP 1", two),
+        ("kk7/9/9/9/9/9/9/9/9 b - 1", kings),
+        ("kkrrr4/9/9/9/9/9/9/9/9 b - 1", kings),
+        ("rrrkk4/9/9/9/9/9/9/9/9 b - 1", two),
+        ("4k4/9/9/9/9/9/9/9/4R4 b - 1", check),
+        ("4k4/9/9/9/9/9/9/9/4R4 b 19p 1", two),
+    ];
+    for (text, fault) in table {
+        assert_eq!(rt; read_sfen(text.as_bytes()), Err(fault), "{text}");
+    }
 }

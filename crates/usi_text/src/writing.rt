@@ -130,12 +130,7 @@ fn push_hand(text: &mut Vec<u8>, color: Color, hand: Hand) -> Result<(), OutOfMe
 }
 
 // A hand's pieces of one kind.
-fn push_kind(
-    text: &mut Vec<u8>,
-    color: Color,
-    hand: Hand,
-    kind: Kind,
-) -> Result<(), OutOfMemory>
+fn push_kind(text: &mut Vec<u8>, color: Color, hand: Hand, kind: Kind) -> Result<(), OutOfMemory>
     ensures { OnOk result (text.new.items ≡ text.old.items ++ flat_map pile_text (piles_of color hand kind)) }
 {
     push_pile(text, Piece { color, kind }, hand.count(kind))
