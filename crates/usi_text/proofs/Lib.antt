@@ -1,3 +1,6 @@
+pub mod Again
+pub mod Clean
+pub mod Filled
 pub mod Fronts
 pub mod OneMove
 pub mod Piles

@@ -42,7 +42,7 @@ longer false l x e = omega arith
 piece_some : (p : Piece) (x : List ℕ) → 0 ≡ length (piece_text p ++ x) → ⊥
 piece_some p x e = longer (is_promoted p.kind) (side_letter p) x e
 
-part_some : (part : Part) (x : List ℕ) → [] ≡ part_text part ++ x → ⊥
+pub part_some : (part : Part) (x : List ℕ) → [] ≡ part_text part ++ x → ⊥
 part_some (Empty n) x e = cc
 part_some (Stands p) x e = let f = ap length e in absurd (piece_some p x f)
 

@@ -26,13 +26,13 @@ place_more s square p free empty = rw (free, empty) refl
 pub place_bound : (n : ℕ) → n < 81 → board_place n < 81
 place_bound n h = omega arith
 
-places_apart : (m n : ℕ) → m < 81 → n < 81 → n ≢ m → board_place m ≢ board_place n
+pub places_apart : (m n : ℕ) → m < 81 → n < 81 → n ≢ m → board_place m ≢ board_place n
 places_apart m n h k differ e = differ (omega arith)
 
 abbrev nothing : Option Piece
 nothing = None
 
-none_there : (n i : ℕ) → get_or (replicate n nothing) i nothing ≡ nothing
+pub none_there : (n i : ℕ) → get_or (replicate n nothing) i nothing ≡ nothing
 none_there zero i = refl
 none_there (suc n) zero = refl
 none_there (suc n) (suc i) = none_there n i

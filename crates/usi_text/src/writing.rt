@@ -1,10 +1,12 @@
 ghost use Rattle.std.specs.Prelude.{◌≡◌, ◌≤◌, ◌++◌, [], ◌∷◌, IfOk, OnOk};
 ghost use Rattle.std.specs.List.{flat_map};
 ghost use Rattle.shogi_board.specs.Cells.{at};
+ghost use Rattle.shogi_board.specs.Sound.{IsSound};
 ghost use Rattle.usi_text.specs.Hands.{pile_text};
 ghost use Rattle.usi_text.specs.Letters.{piece_text};
-ghost use Rattle.usi_text.specs.Sfen.{side_text};
+ghost use Rattle.usi_text.specs.Sfen.{Sfen, side_text};
 ghost use Rattle.usi_text.specs.SfenText.{sfen_text, board_text, rank_text, run_text, pile_of, piles_of, hand_piles, both_piles, hands_text, cell};
+ghost use Rattle.usi_text.specs.Words.{words};
 
 use crate::letters::{is_promoted, side_letter};
 use itoa::Buffer;
@@ -17,6 +19,7 @@ use std::alloc::Global;
 /// black's first, a count from 2 on before its letter, and the number is 1. Refuses OutOfMemory.
 pub fn write_sfen(alloc: Global, position: &Position) -> Result<Vec<u8>, OutOfMemory>
     ensures text { IfOk result (λ text. text.items ≡ sfen_text position.now) }
+    ensures again { IfOk result (λ text. Sfen (words text.items) position.now) }
 {
     let mut text = Vec::new(alloc);
     push_sfen(&mut text, position)?;
@@ -24,7 +27,8 @@ pub fn write_sfen(alloc: Global, position: &Position) -> Result<Vec<u8>, OutOfMe
 }
 
 pub(crate) fn push_sfen(text: &mut Vec<u8>, position: &Position) -> Result<(), OutOfMemory>
-    ensures { OnOk result (text.new.items ≡ text.old.items ++ sfen_text position.now) }
+    ensures text { OnOk result (text.new.items ≡ text.old.items ++ sfen_text position.now) }
+    ensures sound { OnOk result (IsSound position.now) }
 {
     push_board(text, position)?;
     text.push(b' ')?;
