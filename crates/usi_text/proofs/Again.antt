@@ -1,5 +1,5 @@
 -- What is written for a sound position is its SFEN.
-use Rattle.std.proofs.Common.{◌≡◌, ◌≢◌, ℕ, zero, suc, ◌+◌, ◌<◌, ◌≤◌, ◌==◌, if◌then◌else◌, Bool, true, false, cond, List, [], ◌∷◌, ◌++◌, Option, Some, None, Result, Ok, Err, length, get_or, replicate, arith, refl, sym, ap, ◌∙◌, subst, append_assoc, unwrap_or, count_by, slice_index, EachIndex, lit≤, inl, inr}
+use Rattle.std.proofs.Common.{◌≡◌, ℕ, zero, suc, ◌+◌, ◌<◌, ◌≤◌, ◌==◌, if◌then◌else◌, Bool, true, false, List, [], ◌∷◌, ◌++◌, Option, None, Ok, length, get_or, replicate, arith, refl, sym, ap, ◌∙◌, subst, append_assoc, count_by, slice_index, EachIndex, lit≤, inl, inr}
 use Rattle.std.specs.List.{AllByRecursion, flat_map}
 use Rattle.std.proofs.lemmas.Bool.Decides.{eqb_tells}
 use Rattle.std.proofs.lemmas.List.{append-nil}
@@ -8,7 +8,6 @@ use Rattle.shogi_board.specs.declared.color.Color.TheVariants.{Black, White}
 use Rattle.shogi_board.specs.declared.kind.Kind.{Kind}
 use Rattle.shogi_board.specs.declared.kind.Kind.TheVariants.{Pawn, Lance, Knight, Silver, Gold, Bishop, Rook, King, ProPawn, ProLance, ProKnight, ProSilver, Horse, Dragon}
 use Rattle.shogi_board.specs.declared.kind.Piece.{Piece}
-use Rattle.shogi_board.specs.declared.setup.SetupFault.{SetupFault}
 use Rattle.shogi_board.specs.Layout.{Layout}
 use Rattle.shogi_board.specs.Pieces.{place_of, in_hand}
 use Rattle.shogi_board.specs.Placed.{Placed}
@@ -16,13 +15,13 @@ use Rattle.shogi_board.specs.Sound.{IsSound}
 use Rattle.shogi_board.specs.Setup.{empty_layout}
 use Rattle.shogi_board.specs.Totals.{limit, is_of, no_pieces, count_in}
 use Rattle.usi_text.specs.declared.hands.Pile.{Pile}
-use Rattle.usi_text.specs.Hands.{IsPile, SpellsHands, pile_pieces, pile_text}
+use Rattle.usi_text.specs.Hands.{IsPile, SpellsHands, pile_pieces}
 use Rattle.usi_text.specs.SfenText.{written_count, pile_of, piles_of, hand_piles, both_piles, hands_text, board_text, sfen_text}
-use Rattle.usi_text.specs.Setting.{board_place, put_cells, hold_pieces, hold_after, set_up, Finishes}
-use Rattle.usi_text.specs.Sfen.{Sfen, Shape, IsDigit, IsNumber, side_text}
+use Rattle.usi_text.specs.Setting.{board_place, put_cells, hold_pieces, hold_after, set_up}
+use Rattle.usi_text.specs.Sfen.{Sfen, Shape, IsDigit, side_text}
 use Rattle.usi_text.specs.Words.{words}
 use Rattle.usi_text.proofs.Clean.{board_cells, words_front, words_alone, no_space, board_bytes, board_some, board_spelt, hands_word, side_word}
-use Rattle.usi_text.proofs.Filled.{Full, Filled, fill, start_filled, filled_board, board_cells-length, board_cells-place, hold_black, hold_white}
+use Rattle.usi_text.proofs.Filled.{fill, start_filled, filled_board, board_cells-length, board_cells-place, hold_black, hold_white}
 use Rattle.usi_text.proofs.Piles.{answer_empty}
 use Rattle.usi_text.proofs.Written.{flat_map-append}
 

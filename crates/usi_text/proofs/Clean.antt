@@ -1,7 +1,7 @@
 -- The bytes of what is written: no space within a word, no slash within a rank.
-use Rattle.std.proofs.Common.{◌≡◌, ◌≢◌, ℕ, zero, suc, ◌+◌, ◌<◌, ◌≤◌, ◌==◌, if◌then◌else◌, Bool, true, false, cond, List, [], ◌∷◌, ◌++◌, Option, Some, None, length, arith, refl, sym, ap, ◌∙◌, subst, inl, inr, decimal, lit≤, replicate, append_assoc, length-append}
+use Rattle.std.proofs.Common.{◌≡◌, ◌≢◌, ℕ, zero, suc, ◌+◌, ◌<◌, ◌≤◌, ◌==◌, if◌then◌else◌, Bool, true, false, cond, List, [], ◌∷◌, ◌++◌, Option, Some, None, length, arith, refl, sym, ap, ◌∙◌, subst, inl, inr, decimal, lit≤, replicate, append_assoc}
 use Rattle.std.specs.List.{AllByRecursion, flat_map, filter, slice_split, onto_first}
-use Rattle.std.proofs.lemmas.Bool.{cases_Bool, cases_lt}
+use Rattle.std.proofs.lemmas.Bool.{cases_lt}
 use Rattle.std.proofs.lemmas.Bool.Decides.{eqb_tells}
 use Rattle.std.proofs.lemmas.List.{append-nil, replicate_more}
 use Rattle.shogi_board.specs.declared.color.Color.{Color}
@@ -9,16 +9,15 @@ use Rattle.shogi_board.specs.declared.color.Color.TheVariants.{Black, White}
 use Rattle.shogi_board.specs.declared.kind.Piece.{Piece}
 use Rattle.shogi_board.specs.Pieces.{is_promoted}
 use Rattle.usi_text.specs.declared.hands.Pile.{Pile}
-use Rattle.usi_text.specs.declared.parts.Part.{Part}
 use Rattle.usi_text.specs.declared.parts.Part.TheVariants.{Empty, Stands}
-use Rattle.usi_text.specs.Boards.{IsPart, part_text, part_cells, SpellsCells, SpellsRanks, SpellsBoard, ranks_of}
+use Rattle.usi_text.specs.Boards.{SpellsCells, SpellsRanks, SpellsBoard, ranks_of}
 use Rattle.usi_text.specs.Hands.{IsPile, IsCount, count_text, pile_text}
 use Rattle.usi_text.specs.Letters.{piece_text, side_letter}
 use Rattle.usi_text.specs.Sfen.{side_text}
 use Rattle.usi_text.specs.SfenText.{cells_from, run_text, text_after, rank_text, ranks_text, board_text, hands_text}
 use Rattle.usi_text.specs.Words.{words, has_bytes}
-use Rattle.usi_text.proofs.Ranks.{part_before, part_some}
-use Rattle.usi_text.proofs.Spelt.{side_low, leads, Leads, one_digit, two_digits}
+use Rattle.usi_text.proofs.Ranks.{part_before}
+use Rattle.usi_text.proofs.Spelt.{side_low, one_digit, two_digits}
 
 abbrev pub Lacks : ℕ → List ℕ → Type 0
 Lacks c text = AllByRecursion (λ b. b ≢ c) text

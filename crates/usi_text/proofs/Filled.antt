@@ -1,9 +1,7 @@
 -- The pieces of a sound position, put and held one after another, meet no refusal.
-use Rattle.std.proofs.Common.{◌≡◌, ◌≢◌, ℕ, zero, suc, ◌+◌, ◌*◌, ◌-◌, ◌/◌, ◌%◌, ◌<◌, ◌≤◌, ◌==◌, ◌&&◌, nat_lt, nat_le, ◌⊎◌, inl, inr, Bool, true, false, cond, List, [], ◌∷◌, ◌++◌, Option, Some, None, Result, Ok, Err, length, length-append, length-set, get_or, set, drop, take, replicate, arith, refl, sym, ap, ◌∙◌, subst, append_assoc, unwrap_or, count_by, slice_index}
-use Rattle.std.specs.List.{flat_map}
-use Rattle.std.proofs.lemmas.Bool.Decides.{eqb_tells, Decides-eqb}
-use Rattle.std.proofs.lemmas.Bool.{cases_eq, cases_lt, cases_Bool, lt-leb}
-use Rattle.std.proofs.lemmas.List.{append-nil, get_or-set_other, get_or-set_same, set-set, set-get_or, ext_get_or, get_or_append_left, get_or-append_right}
+use Rattle.std.proofs.Common.{◌≡◌, ◌≢◌, ℕ, zero, suc, ◌+◌, ◌*◌, ◌-◌, ◌/◌, ◌%◌, ◌<◌, ◌≤◌, ◌==◌, ◌&&◌, nat_lt, nat_le, ◌⊎◌, inl, inr, Bool, true, false, cond, List, [], ◌∷◌, ◌++◌, Option, Some, None, Ok, length, length-append, length-set, get_or, set, replicate, arith, refl, sym, ap, ◌∙◌, subst, count_by, slice_index}
+use Rattle.std.proofs.lemmas.Bool.{cases_eq, cases_lt, lt-leb}
+use Rattle.std.proofs.lemmas.List.{get_or-set_other, get_or-set_same, set-set, set-get_or, ext_get_or, get_or_append_left, get_or-append_right}
 use Rattle.std.proofs.lemmas.List.Sums.{sum_by-set}
 use Rattle.std.proofs.lemmas.List.Recursion.{is_sum_by}
 use Rattle.shogi_board.specs.declared.color.Color.{Color}
@@ -11,12 +9,10 @@ use Rattle.shogi_board.specs.declared.color.Color.TheVariants.{Black, White}
 use Rattle.shogi_board.specs.declared.kind.Kind.{Kind}
 use Rattle.shogi_board.specs.declared.kind.Kind.TheVariants.{Pawn, Lance, Knight, Silver, Gold, Bishop, Rook, King, ProPawn, ProLance, ProKnight, ProSilver, Horse, Dragon}
 use Rattle.shogi_board.specs.declared.kind.Piece.{Piece}
-use Rattle.shogi_board.specs.declared.setup.SetupFault.{SetupFault}
 use Rattle.shogi_board.specs.Layout.{Layout}
 use Rattle.shogi_board.specs.Pieces.{place_of, is_king, in_hand, same_color}
-use Rattle.shogi_board.specs.Placed.{Placed}
-use Rattle.shogi_board.specs.Setup.{empty_layout, add_fault, layout_of}
-use Rattle.shogi_board.specs.Totals.{total, limit, count_in, is_of, is_king_of, kings_of, no_pieces, IsWithinTotals}
+use Rattle.shogi_board.specs.Setup.{empty_layout, add_fault}
+use Rattle.shogi_board.specs.Totals.{total, limit, count_in, is_of, is_king_of, kings_of, no_pieces}
 use Rattle.shogi_rules.proofs.Forms.{same_color-self, eq-self, held-low}
 use Rattle.shogi_rules.proofs.Layouts.{add-fits, put-total}
 use Rattle.usi_text.specs.SfenText.{cell, cells_from}

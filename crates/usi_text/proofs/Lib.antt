@@ -1,11 +1,16 @@
 pub mod Again
 pub mod Clean
 pub mod Filled
+pub mod Heads
 pub mod Fronts
+pub mod Games
 pub mod OneMove
 pub mod Piles
+pub mod Played
 pub mod Ranks
 pub mod Settings
+pub mod SfenOnce
 pub mod Sfens
 pub mod Spelt
+pub mod Splits
 pub mod Written

@@ -1,18 +1,16 @@
 -- Piles of a hand's text, one after another.
-use Rattle.std.proofs.Common.{◌≡◌, ◌≢◌, ℕ, ◌+◌, ◌<◌, ◌≤◌, ◌==◌, ◌/◌, ◌%◌, ◌*◌, Bool, true, false, List, [], ◌∷◌, ◌++◌, Option, Some, None, MatchBool, IsTrue, ◌↔◌, length, length-append, arith, refl, sym, ap, ◌∙◌, subst, inl, inr, append_assoc, codes}
-use Rattle.std.specs.List.{AllByRecursion, flat_map}
+use Rattle.std.proofs.Common.{◌≡◌, ℕ, ◌+◌, ◌≤◌, ◌==◌, ◌/◌, ◌%◌, ◌*◌, Bool, true, false, List, [], ◌∷◌, ◌++◌, Option, Some, None, MatchBool, IsTrue, ◌↔◌, length, length-append, arith, refl, sym, ap, ◌∙◌, subst, inl, inr, append_assoc, codes}
+use Rattle.std.specs.List.{flat_map}
 use Rattle.std.proofs.lemmas.Bool.{cases_lt}
 use Rattle.shogi_board.specs.declared.kind.Kind.{Kind}
 use Rattle.shogi_board.specs.declared.kind.Kind.TheVariants.{Pawn, Lance, Knight, Silver, Gold, Bishop, Rook, King, ProPawn, ProLance, ProKnight, ProSilver, Horse, Dragon}
 use Rattle.shogi_board.specs.declared.kind.Piece.{Piece}
-use Rattle.shogi_board.specs.Layout.{Layout}
 use Rattle.shogi_board.specs.Pieces.{is_promoted, in_hand}
 use Rattle.usi_text.specs.declared.hands.Pile.{Pile}
-use Rattle.usi_text.specs.Hands.{IsPile, IsCount, IsDigitBefore, HasNoDigit, SpellsPiles, SpellsHands, count_text, pile_text, pile_pieces}
+use Rattle.usi_text.specs.Hands.{IsPile, IsCount, HasNoDigit, SpellsPiles, SpellsHands, count_text, pile_text}
 use Rattle.usi_text.specs.Letters.{side_letter}
-use Rattle.usi_text.specs.Setting.{hold_pieces}
 use Rattle.usi_text.proofs.Ranks.{no_bytes, empty_is, some_are}
-use Rattle.usi_text.proofs.Spelt.{Leads, leads, Only, only_none, only_one, only_two, one_digit, two_digits, side_low, same_piece}
+use Rattle.usi_text.proofs.Spelt.{leads, Only, only_none, only_one, only_two, one_digit, two_digits, side_low, same_piece}
 
 letter_no_digit : (l : ℕ) (x : List ℕ) → 65 ≤ l → HasNoDigit (l ∷ x)
 letter_no_digit l x low digit behind h = let e : l ≡ 48 + digit = cc in let k = h.0 in omega arith

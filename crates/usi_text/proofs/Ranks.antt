@@ -1,6 +1,6 @@
 -- Ranks, and the parts of a rank, one after another.
-use Rattle.std.proofs.Common.{◌≡◌, ◌≢◌, ℕ, zero, suc, ◌+◌, ◌<◌, ◌≤◌, ◌==◌, if◌then◌else◌, MatchBool, Bool, true, false, cond, List, [], ◌∷◌, ◌++◌, Option, Some, None, length, length-append, get_or, take, drop, arith, refl, sym, ap, ◌∙◌, inl, inr, append_assoc, subst, ◌*◌}
-use Rattle.std.specs.List.{AllByRecursion, flat_map, slice_split, onto_first}
+use Rattle.std.proofs.Common.{◌≡◌, ◌≢◌, ℕ, zero, suc, ◌+◌, ◌<◌, ◌≤◌, ◌==◌, if◌then◌else◌, MatchBool, Bool, true, false, cond, List, [], ◌∷◌, ◌++◌, Option, length, length-append, get_or, take, drop, arith, refl, sym, ap, ◌∙◌, inl, inr, append_assoc, subst, ◌*◌}
+use Rattle.std.specs.List.{flat_map, onto_first}
 use Rattle.std.proofs.lemmas.Bool.Decides.{eqb_tells, Decides-eqb}
 use Rattle.std.proofs.lemmas.List.{append-nil}
 use Rattle.shogi_board.specs.declared.kind.Piece.{Piece}

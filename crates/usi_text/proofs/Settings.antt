@@ -1,9 +1,7 @@
 -- Setting up the pieces of a text, one after another.
-use Rattle.std.proofs.Common.{◌≡◌, ◌≢◌, ℕ, zero, suc, ◌+◌, ◌*◌, ◌-◌, ◌/◌, ◌%◌, ◌<◌, ◌≤◌, ◌==◌, Bool, true, false, List, [], ◌∷◌, ◌++◌, Option, Some, None, Result, Ok, Err, MatchResult, length, get_or, set, drop, replicate, arith, refl, sym, ap, ◌∙◌, subst, append_assoc, unwrap_or}
+use Rattle.std.proofs.Common.{◌≡◌, ◌≢◌, ℕ, zero, suc, ◌+◌, ◌-◌, ◌<◌, ◌≤◌, false, List, [], ◌∷◌, ◌++◌, Option, Some, None, Ok, Err, length, get_or, set, drop, replicate, arith, refl, sym, ap, ◌∙◌}
 use Rattle.std.specs.List.{flat_map}
 use Rattle.std.proofs.lemmas.List.{get_or-set_other, drop_more}
-use Rattle.shogi_board.specs.declared.color.Color.{Color}
-use Rattle.shogi_board.specs.declared.kind.Kind.{Kind}
 use Rattle.shogi_board.specs.declared.kind.Piece.{Piece}
 use Rattle.shogi_board.specs.declared.setup.SetupFault.{SetupFault}
 use Rattle.shogi_board.specs.declared.square.Square.{Square}
@@ -14,7 +12,7 @@ use Rattle.shogi_board.specs.Squares.{place}
 use Rattle.usi_text.specs.declared.hands.Pile.{Pile}
 use Rattle.usi_text.specs.Hands.{SpellsPiles, SpellsHands, IsPile, pile_text, pile_pieces}
 use Rattle.usi_text.specs.Setting.{board_place, more_fault, put, put_cells, unless, held, hold_pieces}
-use Rattle.usi_text.proofs.Piles.{First, pile_first, no_pile, dash_no_pile}
+use Rattle.usi_text.proofs.Piles.{pile_first, no_pile, dash_no_pile}
 
 abbrev Cells : Type 0
 Cells = List (Option Piece)

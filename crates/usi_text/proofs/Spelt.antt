@@ -1,5 +1,5 @@
 -- Parts of a rank and piles of a hand are told apart by their first bytes.
-use Rattle.std.proofs.Common.{◌≡◌, ◌≢◌, ℕ, ◌+◌, ◌*◌, ◌/◌, ◌%◌, ◌-◌, ◌<◌, ◌≤◌, ◌==◌, ◌⊎◌, inl, inr, Bool, true, false, cond, List, [], ◌∷◌, ◌++◌, Option, Some, None, arith, refl, sym, ap, ◌∙◌, lit≤, decimal, append_assoc}
+use Rattle.std.proofs.Common.{◌≡◌, ℕ, ◌+◌, ◌*◌, ◌/◌, ◌%◌, ◌<◌, ◌≤◌, ◌==◌, inl, inr, Bool, true, false, cond, List, [], ◌∷◌, ◌++◌, Option, Some, None, arith, refl, sym, ap, ◌∙◌, lit≤, decimal}
 use Rattle.std.proofs.lemmas.Bool.{cases_lt, cases_Bool}
 use Rattle.std.proofs.lemmas.Fmt.{decimal_digit, decimal_step}
 use Rattle.shogi_board.specs.declared.color.Color.{Color}
@@ -7,13 +7,12 @@ use Rattle.shogi_board.specs.declared.color.Color.TheVariants.{Black, White}
 use Rattle.shogi_board.specs.declared.kind.Kind.{Kind}
 use Rattle.shogi_board.specs.declared.kind.Kind.TheVariants.{Pawn, Lance, Knight, Silver, Gold, Bishop, Rook, King, ProPawn, ProLance, ProKnight, ProSilver, Horse, Dragon}
 use Rattle.shogi_board.specs.declared.kind.Piece.{Piece}
-use Rattle.shogi_board.specs.Pieces.{is_promoted, in_hand}
+use Rattle.shogi_board.specs.Pieces.{is_promoted}
 use Rattle.shogi_rules.specs.Kinds.{promoted, unpromoted}
-use Rattle.usi_text.specs.declared.hands.Pile.{Pile}
 use Rattle.usi_text.specs.declared.parts.Part.{Part}
 use Rattle.usi_text.specs.declared.parts.Part.TheVariants.{Empty, Stands}
 use Rattle.usi_text.specs.Boards.{IsPart, part_text}
-use Rattle.usi_text.specs.Hands.{IsPile, IsCount, IsDigitBefore, HasNoDigit, count_text, pile_text}
+use Rattle.usi_text.specs.Hands.{IsCount, HasNoDigit, count_text}
 use Rattle.usi_text.specs.Letters.{letter, color_letter, side_letter, piece_text}
 
 pub letter_low : (k : Kind) → 65 ≤ letter k

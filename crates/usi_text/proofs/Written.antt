@@ -1,14 +1,12 @@
 -- What is written, one part after another.
-use Rattle.std.proofs.Common.{◌≡◌, ◌≢◌, ℕ, zero, suc, ◌+◌, ◌<◌, ◌≤◌, List, [], ◌∷◌, ◌++◌, Option, Some, None, length, length-append, get_or, drop, arith, refl, sym, ap, ◌∙◌, subst, append_assoc}
+use Rattle.std.proofs.Common.{◌≡◌, ◌≢◌, ℕ, suc, ◌+◌, List, [], ◌∷◌, ◌++◌, Option, Some, None, length, length-append, arith, refl, sym, ap, ◌∙◌, subst, append_assoc}
 use Rattle.std.specs.List.{flat_map}
-use Rattle.std.proofs.lemmas.List.{append-nil, drop_more}
-use Rattle.shogi_board.specs.declared.color.Color.{Color}
-use Rattle.shogi_board.specs.declared.kind.Kind.{Kind}
+use Rattle.std.proofs.lemmas.List.{append-nil}
 use Rattle.shogi_board.specs.declared.kind.Piece.{Piece}
 use Rattle.usi_text.specs.declared.hands.Pile.{Pile}
 use Rattle.usi_text.specs.Hands.{pile_text}
 use Rattle.usi_text.specs.Letters.{piece_text}
-use Rattle.usi_text.specs.SfenText.{cell, cells_from, run_text, text_after, rank_text, ranks_text, piles_of, hands_text}
+use Rattle.usi_text.specs.SfenText.{cell, cells_from, run_text, text_after, rank_text, ranks_text, hands_text}
 use Rattle.usi_text.proofs.Piles.{pile_none}
 
 abbrev Cells : Type 0

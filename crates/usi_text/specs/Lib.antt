@@ -2,6 +2,8 @@ pub mod Boards
 pub mod Engine
 pub mod Hands
 pub mod Letters
+pub mod LineText
+pub mod Lines
 pub mod Moves
 pub mod Setting
 pub mod Sfen

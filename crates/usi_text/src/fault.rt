@@ -2,6 +2,7 @@ ghost use Rattle.std.specs.Prelude.{◌≡◌};
 ghost use Rattle.usi_text.specs.declared.fault.SfenFault.TheVariants.{Start};
 
 use shogi_board::SetupFault;
+use shogi_rules::Rule;
 use thiserror::Error;
 
 /// Why a text is no SFEN. Each prints as its number and name, `U1 BadBoard`.
@@ -30,4 +31,29 @@ impl From<SetupFault> for SfenFault {
     fn from(fault: SetupFault) -> SfenFault {
         SfenFault::Start(fault)
     }
+}
+
+/// Why a text is no position line whose moves can be played.
+///
+/// Moves are numbered from 1.
+#[derive(Clone, Copy, Debug, PartialEq, Eq, PartialOrd, Ord, Error)]
+pub enum UsiFault {
+    /// It is neither `position startpos` nor `position sfen` with an SFEN, alone or with `moves` behind it.
+    #[error("U5 BadLine")]
+    BadLine,
+    /// Its SFEN is refused.
+    #[error("{0}")]
+    BadSfen(SfenFault),
+    /// The word is no move in the position that it would be played in.
+    #[error("U6 BadMoveText")]
+    BadMoveText(usize),
+    /// The move breaks that rule, and none before it in the rules' order.
+    #[error("{1}")]
+    Broken(usize, Rule),
+    /// 10,000 moves stand.
+    #[error("too many moves")]
+    TooManyMoves,
+    /// A growth of memory was refused.
+    #[error("out of memory")]
+    OutOfMemory,
 }

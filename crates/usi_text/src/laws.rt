@@ -3,7 +3,24 @@
 ghost use Rattle.std.specs.Prelude.{◌≡◌, ℕ, List};
 ghost use Rattle.shogi_board.specs.Placed.{Placed};
 ghost use Rattle.shogi_rules.specs.declared.moves.Move.{Move};
+ghost use Rattle.shogi_board.specs.Sound.{IsSound};
+ghost use Rattle.usi_text.specs.Sfen.{Sfen, FirstFault};
+ghost use Rattle.usi_text.specs.SfenText.{sfen_text};
+ghost use Rattle.usi_text.specs.Words.{words};
+ghost use Rattle.usi_text.specs.declared.fault.SfenFault.{SfenFault};
 ghost use Rattle.usi_text.specs.Moves.{UsiMove};
+
+/// Words are the SFEN of one position at most, and then they have no fault; else they have one first fault at most.
+pub fn sfen_once()
+    ensures one { (ws : List (List ℕ)) (p q : Placed) → Sfen ws p → Sfen ws q → p ≡ q }
+    ensures either { (ws : List (List ℕ)) (p : Placed) (fault : SfenFault) → Sfen ws p → FirstFault ws fault → ⊥ }
+    ensures first { (ws : List (List ℕ)) (fault other : SfenFault) → FirstFault ws fault → FirstFault ws other → fault ≡ other }
+{}
+
+/// The SFEN that is written for a sound position is the SFEN of that position.
+pub fn sfen_again()
+    ensures { (p : Placed) → IsSound p → Sfen (words (sfen_text p)) p }
+{}
 
 /// In one position a text is one move at most.
 pub fn one_move()

@@ -1,7 +1,10 @@
-use crate::{EngineWord, SfenFault, move_text, read_engine_line, read_move, read_sfen, write_sfen};
+use crate::{
+    EngineWord, SfenFault, UsiFault, move_text, position_line, read_engine_line, read_move,
+    read_position_line, read_sfen, write_sfen,
+};
 use arrayvec::ArrayString;
 use shogi_board::{Color, Kind, Position, Setup, SetupFault, Square};
-use shogi_rules::{Move, judge};
+use shogi_rules::{Move, Rule, judge};
 use std::test::Fail;
 
 // The square of two digits.
@@ -232,4 +235,151 @@ fn sfens_refused(rt: HostRuntime) {
     for (text, fault) in table {
         assert_eq!(rt; read_sfen(text.as_bytes()), Err(fault), "{text}");
     }
+}
+
+// The number of moves and the SFEN of the last position of a line.
+fn line_told(rt: &impl AllocGlobal, text: &str) -> Result<(usize, Vec<u8>), UsiFault> {
+    let line = read_position_line(rt.alloc(), text.as_bytes())?;
+    match write_sfen(rt.alloc(), &line.now()) {
+        Ok(sfen) => Ok((line.moves().len(), sfen)),
+        Err(_) => Err(UsiFault::OutOfMemory),
+    }
+}
+
+#[test]
+fn lines_read(rt: HostRuntime) -> Result<(), Fail> {
+    let table = [
+        ("position startpos", 0, EVEN),
+        ("  position  startpos  moves  ", 0, EVEN),
+        (
+            "position startpos moves 7g7f 3c3d 8h2b+ 3a2b",
+            4,
+            "lnsgkg1nl/1r5s1/pppppp1pp/6p2/9/2P6/PP1PPPPPP/7R1/LNSGKGSNL b Bb 1",
+        ),
+        (
+            "position sfen lnsgkgsnl/9/ppppppppp/9/9/9/PPPPPPPPP/1B5R1/LNSGKGSNL w - 1 moves 3c3d",
+            1,
+            "lnsgkgsnl/9/pppppp1pp/6p2/9/9/PPPPPPPPP/1B5R1/LNSGKGSNL b - 1",
+        ),
+        (
+            "position sfen 9/8P/9/9/9/9/9/9/9 b - 1 moves 1b1a+",
+            1,
+            "8+P/9/9/9/9/9/9/9/9 w - 1",
+        ),
+        (
+            "position sfen k8/9/9/9/8+P/9/9/9/9 b - moves 1e1d",
+            1,
+            "k8/9/9/8+P/9/9/9/9/9 w - 1",
+        ),
+    ];
+    for (text, moves, sfen) in table {
+        let (n, told) = line_told(&rt, text)?;
+        assert_eq!(rt; n, moves, "{text}");
+        assert_eq!(rt; told.as_slice(), sfen.as_bytes(), "{text}");
+    }
+    Ok(())
+}
+
+#[test]
+fn lines_written(rt: HostRuntime) -> Result<(), Fail> {
+    let table = [
+        "position startpos",
+        "position startpos moves 7g7f 3c3d 8h2b+ 3a2b",
+        "position sfen lnsgkgsnl/9/ppppppppp/9/9/9/PPPPPPPPP/1B5R1/LNSGKGSNL w - 1 moves 3c3d",
+        "position sfen lnsgkgsnl/1r5b1/ppppppppp/9/9/9/PPPPPPPPP/1B5R1/LNSGKGSNL w - 1",
+        "position sfen 9/8P/9/9/9/9/9/9/9 b - 1 moves 1b1a+",
+        "position sfen k8/9/9/9/8+P/9/9/9/9 b - 1 moves 1e1d",
+        "position sfen 8k/9/6N1G/9/9/9/9/9/4K4 b G 1 moves G*1b",
+    ];
+    for want in table {
+        let line = read_position_line(rt.alloc(), want.as_bytes())?;
+        let text = position_line(rt.alloc(), &line)?;
+        assert_eq!(rt; text.as_slice(), want.as_bytes());
+    }
+    Ok(())
+}
+
+#[test]
+fn lines_refused(rt: HostRuntime) {
+    let over =
+        "position startpos moves 2h3h 8b7b 3h2h 7b8b 2h3h 8b7b 3h2h 7b8b 2h3h 8b7b 3h2h 7b8b 7g7f";
+    let table = [
+        ("", UsiFault::BadLine),
+        ("position", UsiFault::BadLine),
+        ("startpos", UsiFault::BadLine),
+        ("position start", UsiFault::BadLine),
+        ("position sfen", UsiFault::BadLine),
+        ("position sfen moves 7g7f", UsiFault::BadLine),
+        ("position startpos 7g7f", UsiFault::BadLine),
+        ("position startpos move 7g7f", UsiFault::BadLine),
+        ("position\tstartpos", UsiFault::BadLine),
+        (
+            "position sfen 9/9 b - 1",
+            UsiFault::BadSfen(SfenFault::BadBoard),
+        ),
+        (
+            "position sfen 9/9/9/9/9/9/9/9/9 moves 7g",
+            UsiFault::BadSfen(SfenFault::BadSide),
+        ),
+        (
+            "position sfen 9/9/9/9/9/9/9/9/9 b - 1 7g7f",
+            UsiFault::BadSfen(SfenFault::BadNumber),
+        ),
+        (
+            "position sfen 4k4/9/9/9/9/9/9/9/4R4 b - 1 moves 7g",
+            UsiFault::BadSfen(SfenFault::Start(SetupFault::OpponentInCheck)),
+        ),
+        ("position startpos moves 7g", UsiFault::BadMoveText(1)),
+        ("position startpos moves 4i4h+", UsiFault::BadMoveText(1)),
+        ("position startpos moves moves", UsiFault::BadMoveText(1)),
+        (
+            "position startpos moves 7g7f 7g7f",
+            UsiFault::BadMoveText(2),
+        ),
+        (
+            "position startpos moves 7g7f 3c3e",
+            UsiFault::Broken(2, Rule::CannotReach),
+        ),
+        (
+            "position startpos moves 3c3d",
+            UsiFault::Broken(1, Rule::NoPiece),
+        ),
+        (
+            "position startpos moves 7g7f+",
+            UsiFault::Broken(1, Rule::BadPromotion),
+        ),
+        (
+            "position sfen 8k/9/6N1G/9/9/9/9/9/4K4 b P 1 moves P*1b",
+            UsiFault::Broken(1, Rule::PawnDropMate),
+        ),
+        (over, UsiFault::Broken(13, Rule::RepetitionOver)),
+    ];
+    for (text, fault) in table {
+        match read_position_line(rt.alloc(), text.as_bytes()) {
+            Ok(_) => assert!(rt; false, "read: {text}"),
+            Err(found) => assert_eq!(rt; found, fault, "{text}"),
+        }
+    }
+}
+
+#[test]
+fn faults_printed(rt: HostRuntime) -> Result<(), Fail> {
+    let table = [
+        (UsiFault::BadLine, "U5 BadLine"),
+        (UsiFault::BadSfen(SfenFault::BadBoard), "U1 BadBoard"),
+        (UsiFault::BadSfen(SfenFault::BadSide), "U2 BadSide"),
+        (UsiFault::BadSfen(SfenFault::BadHands), "U3 BadHands"),
+        (UsiFault::BadSfen(SfenFault::BadNumber), "U4 BadNumber"),
+        (
+            UsiFault::BadSfen(SfenFault::Start(SetupFault::TooMany)),
+            "S2 TooMany",
+        ),
+        (UsiFault::BadMoveText(3), "U6 BadMoveText"),
+        (UsiFault::Broken(2, Rule::CannotReach), "rule 6 CannotReach"),
+    ];
+    for (fault, want) in table {
+        let printed = format!(in rt.alloc(); "{fault}")?;
+        assert_eq!(rt; printed.as_str(), want);
+    }
+    Ok(())
 }

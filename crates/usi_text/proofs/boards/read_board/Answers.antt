@@ -1,6 +1,6 @@
-use Rattle.std.proofs.Common.{◌≡◌, ◌*◌, ◌+◌, ℕ, List, length, arith, [], refl, ap, sym, ◌∙◌, subst}
-use Rattle.usi_text.specs.Boards.{ranks_of, ranks_behind}
-use Rattle.usi_text.proofs.Ranks.{Boards, boards_start, boards_more, boards_bad_rank, boards_few, boards_many, boards_end}
+use Rattle.std.proofs.Common.{◌≡◌, arith, ap, ◌∙◌}
+use Rattle.usi_text.specs.Boards.{ranks_behind}
+use Rattle.usi_text.proofs.Ranks.{boards_start, boards_more, boards_bad_rank, boards_few, boards_many, boards_end}
 use Rattle.usi_text.proofs.boards.read_board.Goals as goal
 
 pub loop-init : goal.loop-init

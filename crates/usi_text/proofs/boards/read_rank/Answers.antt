@@ -1,6 +1,6 @@
-use Rattle.std.proofs.Common.{◌≡◌, ◌+◌, ◌<◌, ◌≤◌, length, arith, ap, length-append}
+use Rattle.std.proofs.Common.{length, arith, ap, length-append}
 use Rattle.usi_text.specs.Boards.{part_cells}
-use Rattle.usi_text.proofs.Ranks.{Runs, runs_start, runs_more, runs_no_part, runs_too_many, rank_read, empty_is, some_are}
+use Rattle.usi_text.proofs.Ranks.{runs_start, runs_more, runs_no_part, runs_too_many, rank_read, empty_is, some_are}
 use Rattle.usi_text.proofs.boards.read_rank.Goals as goal
 
 pub loop-rest-init : goal.loop-rest-init

@@ -1,6 +1,5 @@
-use Rattle.std.proofs.Common.{◌≡◌, ◌+◌, ◌<◌, ◌-◌, length, take, drop, arith, ap, sym, ◌∙◌, ◌∷◌, add-one}
+use Rattle.std.proofs.Common.{arith, add-one}
 use Rattle.std.proofs.lemmas.List.{take_rest}
-use Rattle.usi_text.specs.Boards.{ranks_of}
 use Rattle.usi_text.proofs.Ranks.{rank_first, rank_alone}
 use Rattle.usi_text.proofs.boards.take_rank.Goals as goal
 

@@ -1,4 +1,4 @@
-use Rattle.std.proofs.Common.{◌≤◌, arith}
+use Rattle.std.proofs.Common.{arith}
 use Rattle.usi_text.proofs.Spelt.{only_none, only_zero, only_one, only_two, read_one, read_two}
 use Rattle.usi_text.proofs.hands.read_count.Goals as goal
 

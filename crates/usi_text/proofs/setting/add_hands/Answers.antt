@@ -1,4 +1,4 @@
-use Rattle.std.proofs.Common.{◌≡◌, ◌∙◌, refl}
+use Rattle.std.proofs.Common.{refl}
 use Rattle.std.proofs.lemmas.Result.{err_from_is_err_and}
 use Rattle.usi_text.proofs.Piles.{not_so, is_so}
 use Rattle.usi_text.proofs.Settings.{holding_more, holding_fault, holding_end, as_piles, as_none}

@@ -1,4 +1,4 @@
-use Rattle.std.proofs.Common.{◌≡◌, ◌∙◌}
+use Rattle.std.proofs.Common.{◌∙◌}
 use Rattle.std.proofs.lemmas.Result.{err_from_is_err_and}
 use Rattle.usi_text.proofs.Settings.{held_more, held_fault}
 use Rattle.usi_text.proofs.setting.add_pile.Goals as goal

@@ -1,4 +1,3 @@
-use Rattle.std.proofs.Common.{◌≡◌, ◌∙◌, refl, arith, length}
 use Rattle.std.proofs.lemmas.Result.{err_from_is_err_and}
 use Rattle.usi_text.proofs.Settings.{putting_start, putting_none, putting_some, putting_fault}
 use Rattle.usi_text.proofs.setting.board_setup.Goals as goal

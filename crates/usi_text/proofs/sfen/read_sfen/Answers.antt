@@ -1,8 +1,7 @@
-use Rattle.std.proofs.Common.{◌≡◌, List, Option, Ok, Err, subst}
+use Rattle.std.proofs.Common.{List, Option, Ok, Err, subst}
 use Rattle.shogi_board.specs.declared.kind.Piece.{Piece}
 use Rattle.usi_text.specs.Setting.{set_up, Finishes}
-use Rattle.usi_text.specs.Sfen.{IsNumber, HasNumber}
-use Rattle.usi_text.specs.Words.{words, nth_word}
+use Rattle.usi_text.specs.Words.{words}
 use Rattle.usi_text.proofs.Piles.{is_so}
 use Rattle.usi_text.proofs.Sfens.{shaped, sfen_read, has_number}
 use Rattle.usi_text.proofs.sfen.read_sfen.Goals as goal

@@ -1,14 +1,14 @@
-use Rattle.std.proofs.Common.{◌∙◌, ap}
-use Rattle.usi_text.specs.Words.{words}
-use Rattle.usi_text.proofs.Fronts.{taken_word}
+use Rattle.usi_text.proofs.Fronts.{word_taken, rest_taken, behind_taken}
 use Rattle.usi_text.proofs.words.take_word.Goals as goal
 
 pub returns-clause-word : goal.returns-clause-word
 returns-clause-word c =
-    let t = taken_word c.args.text.now c.without_spaces-text.result.now c.run_length.result c.without_spaces-text.ensures.words c.without_spaces-text.ensures.first c.run_length.ensures.within c.run_length.ensures.run c.run_length.ensures.ends in
-    c.split_at.ensures.front ∙ t.0
+    word_taken c.args.text.now c.split_at.result.1.now c.spaces_length.result c.run_length.result c.split_at.ensures.back c.spaces_length.ensures.within c.spaces_length.ensures.run c.spaces_length.ensures.ends c.run_length.ensures.within c.run_length.ensures.run c.run_length.ensures.ends c.split_at-2.result.0.now c.split_at-2.ensures.front
 
 pub returns-clause-rest : goal.returns-clause-rest
 returns-clause-rest c =
-    let t = taken_word c.args.text.now c.without_spaces-text.result.now c.run_length.result c.without_spaces-text.ensures.words c.without_spaces-text.ensures.first c.run_length.ensures.within c.run_length.ensures.run c.run_length.ensures.ends in
-    ap words c.split_at.ensures.back ∙ t.1
+    rest_taken c.args.text.now c.split_at.result.1.now c.spaces_length.result c.run_length.result c.split_at.ensures.back c.spaces_length.ensures.within c.spaces_length.ensures.run c.spaces_length.ensures.ends c.run_length.ensures.within c.run_length.ensures.run c.run_length.ensures.ends c.split_at-2.result.1.now c.split_at-2.ensures.back
+
+pub returns-clause-behind : goal.returns-clause-behind
+returns-clause-behind c =
+    behind_taken c.args.text.now c.split_at.result.1.now c.spaces_length.result c.run_length.result c.split_at.ensures.back c.run_length.ensures.ends c.split_at-2.result.1.now c.split_at-2.ensures.back

@@ -1,5 +1,5 @@
-use Rattle.std.proofs.Common.{◌≡◌, ◌-◌, ◌+◌, suc, arith, ◌∙◌, ap, ◌++◌, append_assoc}
-use Rattle.usi_text.specs.SfenText.{rank_text, ranks_text, board_text}
+use Rattle.std.proofs.Common.{◌≡◌, ◌-◌, ◌+◌, suc, arith, ◌∙◌, ap, ◌++◌}
+use Rattle.usi_text.specs.SfenText.{rank_text, board_text}
 use Rattle.usi_text.proofs.Written.{rank_more}
 use Rattle.usi_text.proofs.writing.push_board.Goals as goal
 

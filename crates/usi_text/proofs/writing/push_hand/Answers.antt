@@ -1,4 +1,3 @@
-use Rattle.std.proofs.Common.{◌≡◌}
 use Rattle.shogi_board.specs.declared.kind.Kind.TheVariants.{Pawn, Lance, Knight, Silver, Gold, Bishop, Rook}
 use Rattle.usi_text.specs.SfenText.{piles_of}
 use Rattle.usi_text.proofs.Written.{seven_told}

@@ -1,4 +1,4 @@
-use Rattle.std.proofs.Common.{◌≡◌, ◌≢◌, length, arith, ◌∙◌, ap, ◌++◌}
+use Rattle.std.proofs.Common.{arith, ◌∙◌, ap, ◌++◌}
 use Rattle.shogi_board.specs.declared.color.Color.TheVariants.{Black, White}
 use Rattle.usi_text.specs.SfenText.{hand_piles}
 use Rattle.usi_text.proofs.Written.{hands_dash, hands_told, told}

@@ -1,4 +1,4 @@
-use Rattle.std.proofs.Common.{◌≡◌, ◌∙◌, ap, ◌++◌, [], ◌∷◌}
+use Rattle.std.proofs.Common.{◌∙◌, ap, ◌++◌}
 use Rattle.usi_text.specs.Sfen.{side_text}
 use Rattle.usi_text.specs.SfenText.{board_text, hands_text, both_piles}
 use Rattle.usi_text.proofs.Written.{sfen_told}

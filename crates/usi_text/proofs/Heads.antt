@@ -1,0 +1,77 @@
+-- The first two words of a position line.
+use Rattle.std.proofs.Common.{◌≡◌, ◌≢◌, ℕ, ◌<◌, inl, List, [], ◌∷◌, ◌++◌, length, drop, arith, sym, ap, ◌∙◌, subst, codes}
+use Rattle.std.specs.List.{AllByRecursion}
+use Rattle.shogi_board.specs.Placed.{Placed, even_start}
+use Rattle.usi_text.specs.Lines.{HasMoves, EvenLine, SfenLine, Split, Starts}
+use Rattle.usi_text.specs.Words.{nth_word}
+
+full_list : (ws : List (List ℕ)) (w : List ℕ) → w ≡ nth_word ws 0 → 0 < length w → 0 < length ws
+full_list [] w e h = let z = ap length e in absurd (omega (arith, z))
+full_list (v ∷ vs) w e h = omega arith
+
+cut_first : (ws : List (List ℕ)) (w : List ℕ) (others : List (List ℕ)) → 0 < length ws → w ≡ nth_word ws 0 → others ≡ drop 1 ws → ws ≡ w ∷ others
+cut_first [] w others some e d = absurd (omega arith)
+cut_first (v ∷ vs) w others some e d = sym (ap (λ x. x ∷ others) e ∙ ap (λ x. v ∷ x) d)
+
+pub head_is : (ws r1 r2 : List (List ℕ)) (first second p x : List ℕ) → first ≡ nth_word ws 0 → r1 ≡ drop 1 ws → second ≡ nth_word r1 0 → r2 ≡ drop 1 r1 → first ≡ p → second ≡ x → 0 < length p → 0 < length x → ws ≡ p ∷ x ∷ r2
+head_is ws r1 r2 first second p x a b c d e f h k =
+    let l = ap length e in
+    let m = ap length f in
+    let one : ws ≡ first ∷ r1 = cut_first ws first r1 (full_list ws first a (omega (arith, l))) a b in
+    let two : r1 ≡ second ∷ r2 = cut_first r1 second r2 (full_list r1 second c (omega (arith, m))) c d in
+    one ∙ (ap (λ z. first ∷ z) two ∙ (ap (λ z. z ∷ second ∷ r2) e ∙ ap (λ z. p ∷ z ∷ r2) f))
+
+pub even_started : (ws tail moves : List (List ℕ)) (start : Placed) → ws ≡ codes "position" ∷ codes "startpos" ∷ tail → HasMoves tail moves → start ≡ even_start → Starts ws start moves
+even_started ws tail moves start e h s = inl ((tail, e, h), s)
+
+same_tail : (ws a b : List (List ℕ)) (p x : List ℕ) → ws ≡ p ∷ x ∷ a → ws ≡ p ∷ x ∷ b → a ≡ b
+same_tail ws a b p x e f = let g : p ∷ x ∷ a ≡ p ∷ x ∷ b = sym e ∙ f in cc
+
+second_of : (ws a b : List (List ℕ)) (p x y : List ℕ) → ws ≡ p ∷ x ∷ a → ws ≡ p ∷ y ∷ b → x ≡ y
+second_of ws a b p x y e f = let g : p ∷ x ∷ a ≡ p ∷ y ∷ b = sym e ∙ f in cc
+
+sizes : (x y : List ℕ) → x ≡ y → length x ≢ length y → ⊥
+sizes x y e h = h (ap length e)
+
+-- where no moves may follow behind startpos
+pub even_refused : (ws tail : List (List ℕ)) → ws ≡ codes "position" ∷ codes "startpos" ∷ tail → ((moves : List (List ℕ)) → HasMoves tail moves → ⊥) → ((moves : List (List ℕ)) → EvenLine ws moves → ⊥) × ((sfen moves : List (List ℕ)) → SfenLine ws sfen moves → ⊥)
+even_refused ws tail e none = (
+  λ moves l. none moves (subst (λ t. HasMoves t moves) (same_tail ws l.0 tail (codes "position") (codes "startpos") l.1 e) l.2),
+  λ sfen moves s. sizes (codes "startpos") (codes "sfen") (second_of ws tail (sfen ++ s.tail) (codes "position") (codes "startpos") (codes "sfen") e s.whole) (omega arith),
+)
+
+no_front : (sfen tail all moves : List (List ℕ)) → all ≡ sfen ++ tail → 0 < length sfen → AllByRecursion (λ w. w ≢ codes "moves") sfen → HasMoves all moves → ⊥
+no_front [] tail all moves e some before has = absurd (omega arith)
+no_front (v ∷ vs) tail [] moves e some before has = cc
+no_front (v ∷ vs) tail (w ∷ ws) moves e some before has = let same : w ≡ v = cc in before.0 (sym same ∙ has.0)
+
+-- where no word stands between sfen and moves
+pub sfen_missing : (ws all front moves : List (List ℕ)) → ws ≡ codes "position" ∷ codes "sfen" ∷ all → Split all front moves → front ≡ [] → ((moves : List (List ℕ)) → EvenLine ws moves → ⊥) × ((sfen moves : List (List ℕ)) → SfenLine ws sfen moves → ⊥)
+sfen_missing ws all front moves e split none = (
+  λ m l. sizes (codes "sfen") (codes "startpos") (second_of ws all l.0 (codes "position") (codes "sfen") (codes "startpos") e l.1) (omega arith),
+  λ sfen m s.
+      let same : all ≡ sfen ++ s.tail = same_tail ws all (sfen ++ s.tail) (codes "position") (codes "sfen") e s.whole in
+      let whole : split.0 ≡ sfen ++ s.tail = sym (split.1 ∙ ap (λ f. f ++ split.0) none) ∙ same in
+      no_front sfen s.tail split.0 moves whole s.some s.before split.3,
+)
+
+pub sfen_line : (ws all front moves : List (List ℕ)) → ws ≡ codes "position" ∷ codes "sfen" ∷ all → Split all front moves → 0 < length front → SfenLine ws front moves
+sfen_line ws all front moves e split some = record {
+  tail = split.0;
+  whole = e ∙ ap (λ a. codes "position" ∷ codes "sfen" ∷ a) split.1;
+  some = some;
+  before = split.2;
+  behind = split.3;
+}
+
+pub moves_told : (ws behind : List (List ℕ)) → ws ≡ [] → behind ≡ drop 1 ws → HasMoves ws behind
+moves_told [] behind none e = e
+moves_told (w ∷ ws) behind none e = cc
+
+pub moves_first : (ws behind : List (List ℕ)) (w : List ℕ) → w ≡ nth_word ws 0 → behind ≡ drop 1 ws → w ≡ codes "moves" → HasMoves ws behind
+moves_first [] behind w e d m = d
+moves_first (v ∷ vs) behind w e d m = (sym e ∙ m, d)
+
+pub moves_refused : (ws moves : List (List ℕ)) (w : List ℕ) → 0 < length ws → w ≡ nth_word ws 0 → (w ≡ codes "moves" → ⊥) → HasMoves ws moves → ⊥
+moves_refused [] moves w some e other h = omega arith
+moves_refused (v ∷ vs) moves w some e other h = other (e ∙ h.0)

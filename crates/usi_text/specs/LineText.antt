@@ -1,0 +1,27 @@
+-- The position line that is written for a start and moves.
+use Rattle.std.specs.Prelude.{◌≡◌, ℕ, List, [], ◌∷◌, ◌++◌, codes, if◌then◌else◌}
+use Rattle.shogi_board.specs.contracts.position.PositionPartialEq.TheImpl.{eq-value}
+use Rattle.shogi_board.specs.Placed.{Placed, even_start}
+use Rattle.shogi_rules.specs.declared.moves.Move.{Move}
+use Rattle.shogi_rules.specs.After.{after}
+use Rattle.usi_text.specs.Moves.{UsiMove}
+use Rattle.usi_text.specs.SfenText.{sfen_text}
+
+-- startpos exactly for the even start with black to move, else its SFEN
+abbrev pub start_text : Placed → List ℕ
+start_text p = if eq-value.it p even_start then codes "startpos" else codes "sfen " ++ sfen_text p
+
+-- a space (32) and the move's text in the position that it is played in, for each move
+abbrev pub MovesText : Placed → List Move → List ℕ → Type 0
+MovesText p [] text = text ≡ []
+MovesText p (m ∷ ms) text =
+    (word : List ℕ) × (rest : List ℕ) × (text ≡ 32 ∷ (word ++ rest)) × UsiMove p word m × MovesText (after p m) ms rest
+
+-- the word moves only where there are moves
+abbrev pub BehindStart : Placed → List Move → List ℕ → Type 0
+BehindStart p [] text = text ≡ []
+BehindStart p (m ∷ ms) text = (rest : List ℕ) × (text ≡ codes " moves" ++ rest) × MovesText p (m ∷ ms) rest
+
+abbrev pub LineText : Placed → List Move → List ℕ → Type 0
+LineText start moves text =
+    (rest : List ℕ) × (text ≡ codes "position " ++ (start_text start ++ rest)) × BehindStart start moves rest

@@ -1,0 +1,96 @@
+-- Position lines: a start, and the words of the moves from it.
+use Rattle.std.specs.Prelude.{◌≡◌, ◌≢◌, ℕ, ◌+◌, ◌<◌, ◌≤◌, ◌⊎◌, List, [], ◌∷◌, ◌++◌, Option, Some, None, Result, Ok, Err, length, codes}
+use Rattle.std.specs.List.{AllByRecursion}
+use Rattle.shogi_board.specs.Placed.{Placed, even_start}
+use Rattle.shogi_rules.specs.declared.line.PlayFault.{PlayFault}
+use Rattle.shogi_rules.specs.declared.line.PlayFault.TheVariants as play
+use Rattle.shogi_rules.specs.declared.moves.Move.{Move}
+use Rattle.shogi_rules.specs.Play.{Answers}
+use Rattle.shogi_rules.specs.Positions.{Played, now_of}
+use Rattle.usi_text.specs.declared.fault.UsiFault.{UsiFault}
+use Rattle.usi_text.specs.declared.fault.UsiFault.TheVariants.{BadLine, BadSfen, BadMoveText, Broken, TooManyMoves, OutOfMemory}
+use Rattle.usi_text.specs.Moves.{UsiMove}
+use Rattle.usi_text.specs.Sfen.{Sfen, FirstFault}
+
+-- behind the start nothing, or the word moves and the words of the moves
+abbrev pub HasMoves : List (List ℕ) → List (List ℕ) → Type 0
+HasMoves [] moves = moves ≡ []
+HasMoves (w ∷ ws) moves = (w ≡ codes "moves") × (moves ≡ ws)
+
+-- position startpos
+abbrev pub EvenLine : List (List ℕ) → List (List ℕ) → Type 0
+EvenLine ws moves =
+    (tail : List (List ℕ)) × (ws ≡ codes "position" ∷ codes "startpos" ∷ tail) × HasMoves tail moves
+
+-- position sfen, and at least one word before the word moves
+pub record SfenLine (ws sfen moves : List (List ℕ)) : Type 0 where
+  pub tail : List (List ℕ)
+  pub whole : ws ≡ codes "position" ∷ codes "sfen" ∷ (sfen ++ tail)
+  pub some : 0 < length sfen
+  pub before : AllByRecursion (λ w. w ≢ codes "moves") sfen
+  pub behind : HasMoves tail moves
+
+-- words split at the first word moves
+abbrev pub Split : List (List ℕ) → List (List ℕ) → List (List ℕ) → Type 0
+Split all front moves =
+    (tail : List (List ℕ)) × (all ≡ front ++ tail) × AllByRecursion (λ w. w ≢ codes "moves") front × HasMoves tail moves
+
+-- the words give that start, and these are the words of the moves
+abbrev pub Starts : List (List ℕ) → Placed → List (List ℕ) → Type 0
+Starts ws start moves =
+    (EvenLine ws moves × (start ≡ even_start))
+    ⊎ ((sfen : List (List ℕ)) × SfenLine ws sfen moves × Sfen sfen start)
+
+abbrev pub line_of : Placed → List Move → Played
+line_of start moves = record { start = start; moves = moves }
+
+abbrev pub position_now : Placed → List Move → Placed
+position_now start moves = now_of (line_of start moves)
+
+-- what playing a move of the side to move answers there
+abbrev pub Judged : Placed → List Move → Move → Option PlayFault → Type 0
+Judged start before m answer = Answers (line_of start before) (position_now start before).side m answer
+
+-- the word is that move, and it may be played
+abbrev pub IsPlayed : Placed → List Move → List ℕ → Move → Type 0
+IsPlayed start before w m = UsiMove (position_now start before) w m × Judged start before m None
+
+-- the first fault of a word behind those moves, memory aside; moves are numbered from 1
+abbrev pub WordFault : Placed → List Move → List ℕ → UsiFault → Type 0
+WordFault start before w TooManyMoves = 10000 ≤ length before
+WordFault start before w (BadMoveText n) =
+    (n ≡ length before + 1) × (length before < 10000) × ((m : Move) → UsiMove (position_now start before) w m → ⊥)
+WordFault start before w (Broken n rule) =
+    (n ≡ length before + 1) × (m : Move) × UsiMove (position_now start before) w m × Judged start before m (Some (play.Broken rule))
+WordFault start before w _ = ⊥
+
+-- the words are played as moves, one after another behind those before, and this is the answer: all moves, or the first fault
+abbrev pub Plays : Placed → List Move → List (List ℕ) → Result (List Move) UsiFault → Type 0
+Plays start before [] answer = answer ≡ Ok before
+Plays start before (w ∷ ws) answer =
+    ((fault : UsiFault) × WordFault start before w fault × (answer ≡ Err fault))
+    ⊎ ((m : Move) × IsPlayed start before w m × Plays start (before ++ m ∷ []) ws answer)
+
+-- the words are the position line of that start and these moves
+abbrev pub UsiLine : List (List ℕ) → Placed → List Move → Type 0
+UsiLine ws start moves = (words : List (List ℕ)) × Starts ws start words × Plays start [] words (Ok moves)
+
+-- some of the words, from the first on, are played
+abbrev pub PlaysSome : Placed → List (List ℕ) → Type 0
+PlaysSome start words =
+    (done : List (List ℕ)) × (rest : List (List ℕ)) × (moves : List Move) × (words ≡ done ++ rest) × Plays start [] done (Ok moves)
+
+-- why the words are not all played; want of memory comes only behind moves that are
+abbrev pub PlayedFault : Placed → List (List ℕ) → UsiFault → Type 0
+PlayedFault start words BadLine = ⊥
+PlayedFault start words (BadSfen fault) = ⊥
+PlayedFault start words OutOfMemory = PlaysSome start words
+PlayedFault start words fault = Plays start [] words (Err fault)
+
+-- the first fault of a line
+abbrev pub LineFault : List (List ℕ) → UsiFault → Type 0
+LineFault ws BadLine =
+    ((moves : List (List ℕ)) → EvenLine ws moves → ⊥) × ((sfen moves : List (List ℕ)) → SfenLine ws sfen moves → ⊥)
+LineFault ws (BadSfen fault) =
+    (sfen : List (List ℕ)) × (moves : List (List ℕ)) × SfenLine ws sfen moves × FirstFault sfen fault
+LineFault ws fault = (start : Placed) × (words : List (List ℕ)) × Starts ws start words × PlayedFault start words fault

@@ -1,0 +1,152 @@
+ghost use Rattle.std.specs.Prelude.{◌≡◌, ◌++◌, ◌∷◌, [], Ok, ◌⊎◌, ◌↔◌, ℕ, List, IsTrue, MatchOption, MatchResult};
+ghost use Rattle.shogi_rules.specs.declared.moves.Move.{Move};
+ghost use Rattle.usi_text.specs.Lines.{UsiLine, LineFault, Starts, Plays, Split, HasMoves, IsPlayed, WordFault, PlayedFault, line_of};
+ghost use Rattle.usi_text.specs.declared.fault.UsiFault.TheVariants.{OutOfMemory};
+ghost use Rattle.usi_text.specs.Words.{words};
+
+use crate::fault::UsiFault;
+use crate::moves::read_move;
+use crate::sfen::read_sfen;
+use crate::words::{has_word, take_word};
+use shogi_board::Position;
+use shogi_rules::{Line, PlayFault};
+use std::alloc::Global;
+
+/// The line that a position line tells: its start and its moves.
+///
+/// Refuses, in this order: BadLine; BadSfen with the SFEN's first fault; then for each move in turn TooManyMoves where
+/// 10,000 stand, BadMoveText where its word is no move in the position reached, Broken with the first rule that it
+/// breaks, OutOfMemory. Moves are numbered from 1.
+pub fn read_position_line(alloc: Global, text: &[u8]) -> Result<Line, UsiFault>
+    ensures { MatchResult result
+        (λ line. UsiLine (words text.now) line.start line.moves)
+        (λ fault. LineFault (words text.now) fault) }
+{
+    match read_start(text) {
+        Ok(found) => {
+            let line = play_line(alloc, found.0, found.1)?;
+            Ok(line)
+        }
+        Err(fault) => Err(fault),
+    }
+}
+
+// The line of the words of the text from that start.
+fn play_line(alloc: Global, start: Position, text: &[u8]) -> Result<Line, UsiFault>
+    ensures { MatchResult result
+        (λ line. (line.start ≡ start) × Plays start [] (words text.now) (Ok line.moves))
+        (λ fault. PlayedFault start (words text.now) fault) }
+{
+    let mut line = match Line::new(alloc, start) {
+        Ok(line) => line,
+        Err(_) => return Err(UsiFault::OutOfMemory),
+    };
+    match play_words(&mut line, text) {
+        Ok(()) => Ok(line),
+        Err(fault) => Err(fault),
+    }
+}
+
+// The start that the line gives, and what stands behind the word `moves`.
+fn read_start(text: &[u8]) -> Result<(Position, &[u8]), UsiFault>
+    ensures { MatchResult result
+        (λ r. Starts (words text.now) r.0 (words r.1.now))
+        (λ fault. LineFault (words text.now) fault) }
+{
+    let (first, rest) = take_word(text);
+    let (second, rest) = take_word(rest);
+    if !same(first, b"position") {
+        return Err(UsiFault::BadLine);
+    }
+    if same(second, b"startpos") {
+        return match moves_behind(rest) {
+            Some(moves) => Ok((Position::even(), moves)),
+            None => Err(UsiFault::BadLine),
+        };
+    }
+    if !same(second, b"sfen") {
+        return Err(UsiFault::BadLine);
+    }
+    let (sfen, moves) = split_moves(rest);
+    if !has_word(sfen) {
+        return Err(UsiFault::BadLine);
+    }
+    match read_sfen(sfen) {
+        Ok(start) => Ok((start, moves)),
+        Err(fault) => Err(UsiFault::BadSfen(fault)),
+    }
+}
+
+// What stands behind the word `moves`, or nothing where there is no word.
+fn moves_behind(text: &[u8]) -> Option<&[u8]>
+    ensures { MatchOption result
+        ((moves : List (List ℕ)) → HasMoves (words text.now) moves → ⊥)
+        (λ moves. HasMoves (words text.now) (words moves.now)) }
+{
+    let (word, behind) = take_word(text);
+    if !has_word(text) || same(word, b"moves") {
+        Some(behind)
+    } else {
+        None
+    }
+}
+
+fn same(word: &[u8], wanted: &[u8]) -> bool
+    ensures { IsTrue result ↔ (word.now ≡ wanted.now) }
+{
+    word == wanted
+}
+
+// What stands before the first word `moves`, and behind it.
+fn split_moves(text: &[u8]) -> (&[u8], &[u8])
+    ensures { Split (words text.now) (words result.0.now) (words result.1.now) }
+{
+    let mut rest = text;
+    while has_word(rest) {
+        let (word, behind) = take_word(rest);
+        if same(word, b"moves") {
+            return (&text[..text.len() - rest.len()], behind);
+        }
+        rest = behind;
+    }
+    (text, rest)
+}
+
+// Plays the words of the text as moves, one after another.
+fn play_words(line: &mut Line, text: &[u8]) -> Result<(), UsiFault>
+    requires { line.old.moves ≡ [] }
+    ensures { MatchResult result
+        (λ _. (line.new.start ≡ line.old.start) × Plays line.old.start [] (words text.now) (Ok line.new.moves))
+        (λ fault. PlayedFault line.old.start (words text.now) fault) }
+{
+    let mut rest = text;
+    while has_word(rest) {
+        let (word, behind) = take_word(rest);
+        play_word(line, word)?;
+        rest = behind;
+    }
+    Ok(())
+}
+
+// Plays the word as a move of the side to move.
+fn play_word(line: &mut Line, word: &[u8]) -> Result<(), UsiFault>
+    ensures { MatchResult result
+        (λ _. (m : Move) × IsPlayed line.old.start line.old.moves word.now m
+        × (line.new ≡ line_of line.old.start (line.old.moves ++ m ∷ [])))
+        (λ fault. (fault ≡ OutOfMemory) ⊎ WordFault line.old.start line.old.moves word.now fault) }
+{
+    let n = line.moves().len();
+    if n >= 10000 {
+        return Err(UsiFault::TooManyMoves);
+    }
+    let now = line.now();
+    let Some(mv) = read_move(&now, word) else {
+        return Err(UsiFault::BadMoveText(n + 1));
+    };
+    match line.play(now.side(), mv) {
+        Ok(()) => Ok(()),
+        Err(PlayFault::TooManyMoves) => Err(UsiFault::TooManyMoves),
+        Err(PlayFault::Broken(rule)) => Err(UsiFault::Broken(n + 1, rule)),
+        Err(PlayFault::OutOfMemory) => Err(UsiFault::OutOfMemory),
+    }
+}

@@ -1,0 +1,62 @@
+ghost use Rattle.std.specs.Prelude.{◌≡◌, ◌++◌, List, ℕ, IfOk, OnOk};
+ghost use Rattle.shogi_rules.specs.Positions.{IsGame};
+ghost use Rattle.usi_text.specs.LineText.{LineText, BehindStart, MovesText, start_text};
+
+use crate::moves::move_text;
+use crate::writing::push_sfen;
+use shogi_board::{OutOfMemory, Position};
+use shogi_rules::{Line, Move, after};
+use std::alloc::Global;
+
+/// The position line of a line, with no line end behind it.
+///
+/// It is `position startpos` exactly for the even start with black to move, else `position sfen` and the start's SFEN;
+/// then, only if there are moves, `moves` and the moves. Refuses OutOfMemory.
+pub fn position_line(alloc: Global, line: &Line) -> Result<Vec<u8>, OutOfMemory>
+    ensures { IfOk result (λ text. LineText line.now.start line.now.moves text.items) }
+{
+    let start = line.start();
+    let mut text = Vec::from_slice(alloc, b"position ")?;
+    push_start(&mut text, &start)?;
+    push_moves(&mut text, start, line.moves())?;
+    Ok(text)
+}
+
+fn push_start(text: &mut Vec<u8>, start: &Position) -> Result<(), OutOfMemory>
+    ensures { OnOk result (text.new.items ≡ text.old.items ++ start_text start.now) }
+{
+    if *start == Position::even() {
+        text.extend_from_slice(b"startpos")?;
+    } else {
+        text.extend_from_slice(b"sfen ")?;
+        push_sfen(text, start)?;
+    }
+    Ok(())
+}
+
+// The word `moves` and the moves, where there are any.
+fn push_moves(text: &mut Vec<u8>, start: Position, moves: &[Move]) -> Result<(), OutOfMemory>
+    requires { IsGame start moves.now }
+    ensures { OnOk result ((rest : List ℕ) × BehindStart start moves.now rest × (text.new.items ≡ text.old.items ++ rest)) }
+{
+    if moves.is_empty() {
+        return Ok(());
+    }
+    text.extend_from_slice(b" moves")?;
+    push_each(text, start, moves)?;
+    Ok(())
+}
+
+// A space and the text of each move.
+fn push_each(text: &mut Vec<u8>, start: Position, moves: &[Move]) -> Result<(), OutOfMemory>
+    requires { IsGame start moves.now }
+    ensures { OnOk result ((rest : List ℕ) × MovesText start moves.now rest × (text.new.items ≡ text.old.items ++ rest)) }
+{
+    let mut now = start;
+    for mv in moves {
+        text.push(b' ')?;
+        text.extend_from_slice(move_text(&now, mv).as_str().as_bytes())?;
+        now = after(&now, mv);
+    }
+    Ok(())
+}
