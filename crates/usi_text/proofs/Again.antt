@@ -170,14 +170,14 @@ count_less : (b : Bool) (n : ℕ) → n ≤ 99 → (if b then n else 0) ≤ 99
 count_less true n h = h
 count_less false n h = lit≤ tt
 
-both_fit : (p : Placed) → IsSound p → AllByRecursion IsPile (both_piles p)
+pub both_fit : (p : Placed) → IsSound p → AllByRecursion IsPile (both_piles p)
 both_fit p s =
     let t = s.within.totals in
     all_joined (hand_piles Black p.black) (hand_piles White p.white)
     (hand_fits Black p.black order (λ k. count_less (in_hand k) (slice_index p.black (place_of k)) (let f = t k in let l = limit_few k in omega arith)) order_held)
     (hand_fits White p.white order (λ k. count_less (in_hand k) (slice_index p.white (place_of k)) (let f = t k in let l = limit_few k in omega arith)) order_held)
 
-hands_spelt : (ps : List Pile) → AllByRecursion IsPile ps → SpellsHands (hands_text ps) ps
+pub hands_spelt : (ps : List Pile) → AllByRecursion IsPile ps → SpellsHands (hands_text ps) ps
 hands_spelt [] h = refl
 hands_spelt (p ∷ ps) h = (h, refl)
 
@@ -190,7 +190,7 @@ side_some Black = lit≤ tt
 side_some White = lit≤ tt
 
 -- the words of what is written
-sfen_words : (p : Placed) → IsSound p → words (sfen_text p) ≡ board_text p.board ∷ side_text p.side ∷ hands_text (both_piles p) ∷ (49 ∷ []) ∷ []
+pub sfen_words : (p : Placed) → IsSound p → words (sfen_text p) ≡ board_text p.board ∷ side_text p.side ∷ hands_text (both_piles p) ∷ (49 ∷ []) ∷ []
 sfen_words p s =
     let board = board_text p.board in
     let side = side_text p.side in

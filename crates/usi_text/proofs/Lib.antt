@@ -4,6 +4,7 @@ pub mod Filled
 pub mod Heads
 pub mod Fronts
 pub mod Games
+pub mod LineAgain
 pub mod OneMove
 pub mod Piles
 pub mod Played

@@ -1,6 +1,6 @@
 //! Laws of the definitions that the contracts of this crate cite. They take and give nothing.
 
-ghost use Rattle.std.specs.Prelude.{◌≡◌, ℕ, List};
+ghost use Rattle.std.specs.Prelude.{◌≡◌, ◌≤◌, ℕ, List, length};
 ghost use Rattle.shogi_board.specs.Placed.{Placed};
 ghost use Rattle.shogi_rules.specs.declared.moves.Move.{Move};
 ghost use Rattle.shogi_board.specs.Sound.{IsSound};
@@ -8,6 +8,9 @@ ghost use Rattle.usi_text.specs.Sfen.{Sfen, FirstFault};
 ghost use Rattle.usi_text.specs.SfenText.{sfen_text};
 ghost use Rattle.usi_text.specs.Words.{words};
 ghost use Rattle.usi_text.specs.declared.fault.SfenFault.{SfenFault};
+ghost use Rattle.shogi_rules.specs.Positions.{IsGame};
+ghost use Rattle.usi_text.specs.LineText.{LineText};
+ghost use Rattle.usi_text.specs.Lines.{UsiLine};
 ghost use Rattle.usi_text.specs.Moves.{UsiMove};
 
 /// Words are the SFEN of one position at most, and then they have no fault; else they have one first fault at most.
@@ -20,6 +23,13 @@ pub fn sfen_once()
 /// The SFEN that is written for a sound position is the SFEN of that position.
 pub fn sfen_again()
     ensures { (p : Placed) → IsSound p → Sfen (words (sfen_text p)) p }
+{}
+
+/// The position line that is written for a start and legal moves from it is the position line of that start and these
+/// moves.
+pub fn line_again()
+    ensures { (start : Placed) (moves : List Move) (text : List ℕ) → IsSound start → IsGame start moves → length moves ≤ 10000
+        → LineText start moves text → UsiLine (words text) start moves }
 {}
 
 /// In one position a text is one move at most.
