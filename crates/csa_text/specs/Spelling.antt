@@ -30,7 +30,7 @@ pub data Saying : Type 0 where
 
 -- `P`, the number of the rank, and its cells
 abbrev pub rank_text : ℕ → List (Option Piece) → List ℕ
-rank_text number cells = 80 ∷ (48 + number) ∷ flat_map cell_text cells
+rank_text number cells = codes "P" ++ (48 + number) ∷ flat_map cell_text cells
 
 -- nine cells; the last one, where it is empty, may lack its last space
 pub record IsRank (bytes : List ℕ) (number : ℕ) (cells : List (Option Piece)) : Type 0 where
@@ -42,21 +42,22 @@ pub record IsRank (bytes : List ℕ) (number : ℕ) (cells : List (Option Piece)
 -- `$`, the key, which is not empty and has no colon, a colon, and the text
 pub record IsHeader (bytes key text : List ℕ) : Type 0 where
   pub line : List ℕ
-  pub whole : bytes ≡ 36 ∷ line
+  pub whole : bytes ≡ codes "$" ++ line
   pub split : IsSplit 58 line key text
   pub some : key ≢ []
 
+-- a case for each row of the grammar
 abbrev pub Spells : List ℕ → Saying → Type 0
 Spells bytes version = (bytes ≡ codes "V2") ⊎ (bytes ≡ codes "V2.1") ⊎ (bytes ≡ codes "V2.2")
-Spells bytes (name color text) = bytes ≡ 78 ∷ sign color ∷ text
+Spells bytes (name color text) = bytes ≡ codes "N" ++ sign color ∷ text
 Spells bytes (header key text) = IsHeader bytes key text
 Spells bytes (even pairs) = (bytes ≡ codes "PI" ++ pairs_text pairs) × AllOnBoard pairs
 Spells bytes (rank number cells) = IsRank bytes number cells
-Spells bytes (pieces color pairs) = bytes ≡ 80 ∷ sign color ∷ pairs_text pairs
+Spells bytes (pieces color pairs) = bytes ≡ codes "P" ++ sign color ∷ pairs_text pairs
 Spells bytes (turn color) = bytes ≡ sign color ∷ []
 Spells bytes (walked color m) = bytes ≡ move_text color m
-Spells bytes (time thousandths) = (text : List ℕ) × (bytes ≡ 84 ∷ text) × IsTime text thousandths
-Spells bytes (ending e) = bytes ≡ 37 ∷ ending_name e
+Spells bytes (time thousandths) = (text : List ℕ) × (bytes ≡ codes "T" ++ text) × IsTime text thousandths
+Spells bytes (ending e) = bytes ≡ codes "%" ++ ending_name e
 
 -- `PI`, `P+`, `P-` or `P1` to `P9`
 abbrev pub begins_position : List ℕ → Bool
@@ -65,7 +66,7 @@ begins_position (first ∷ []) = false
 begins_position (first ∷ next ∷ rest) =
     first == 80 && (next == 73 || next == 43 || next == 45 || (nat_le 49 next && nat_le next 57))
 
--- the fault of bytes that spell nothing, by how they begin
+-- the fault of bytes that spell nothing, by how they begin: `V`, `$`, `P` as above, `+` or `-`, `T`, `%`
 abbrev pub fault_of_row : List ℕ → TextFault
 fault_of_row bytes =
     if begins_with 86 bytes then BadVersion
