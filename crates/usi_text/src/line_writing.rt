@@ -1,6 +1,9 @@
-ghost use Rattle.std.specs.Prelude.{◌≡◌, ◌++◌, List, ℕ, IfOk, OnOk};
+ghost use Rattle.std.specs.Prelude.{◌≡◌, ◌++◌, ◌≤◌, List, ℕ, IfOk, OnOk, length};
+ghost use Rattle.shogi_board.specs.Sound.{IsSound};
 ghost use Rattle.shogi_rules.specs.Positions.{IsGame};
 ghost use Rattle.usi_text.specs.LineText.{LineText, BehindStart, MovesText, start_text};
+ghost use Rattle.usi_text.specs.Lines.{UsiLine};
+ghost use Rattle.usi_text.specs.Words.{words};
 
 use crate::moves::move_text;
 use crate::writing::push_sfen;
@@ -11,9 +14,12 @@ use std::alloc::Global;
 /// The position line of a line, with no line end behind it.
 ///
 /// It is `position startpos` exactly for the even start with black to move, else `position sfen` and the start's SFEN;
-/// then, only if there are moves, `moves` and the moves. Refuses OutOfMemory.
+/// then, only if there are moves, `moves` and the moves. Read again, it is the same start and the same moves. Refuses
+/// OutOfMemory.
 pub fn position_line(alloc: Global, line: &Line) -> Result<Vec<u8>, OutOfMemory>
-    ensures { IfOk result (λ text. LineText line.now.start line.now.moves text.items) }
+    ensures text { IfOk result (λ text. LineText line.now.start line.now.moves text.items) }
+    ensures again { IfOk result (λ text. length line.now.moves ≤ 10000
+        → UsiLine (words text.items) line.now.start line.now.moves) }
 {
     let start = line.start();
     let mut text = Vec::from_slice(alloc, b"position ")?;
@@ -23,7 +29,8 @@ pub fn position_line(alloc: Global, line: &Line) -> Result<Vec<u8>, OutOfMemory>
 }
 
 fn push_start(text: &mut Vec<u8>, start: &Position) -> Result<(), OutOfMemory>
-    ensures { OnOk result (text.new.items ≡ text.old.items ++ start_text start.now) }
+    ensures text { OnOk result (text.new.items ≡ text.old.items ++ start_text start.now) }
+    ensures sound { OnOk result (IsSound start.now) }
 {
     if *start == Position::even() {
         text.extend_from_slice(b"startpos")?;
