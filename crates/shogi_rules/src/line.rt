@@ -1,4 +1,4 @@
-ghost use Rattle.std.specs.Prelude.{◌≡◌, ◌≤◌, ◌++◌, [], ◌∷◌, IfOk, OnOk, OnErr, MatchResult, ◌⊎◌, ◌↔◌, IsTrue, None, Some};
+ghost use Rattle.std.specs.Prelude.{◌≡◌, ◌≤◌, ◌++◌, [], ◌∷◌, IfOk, OnOk, OnErr, MatchResult, length, ◌⊎◌, ◌↔◌, IsTrue, None, Some};
 ghost use Rattle.shogi_rules.specs.Positions.{now_of, all_of, IsGame};
 ghost use Rattle.shogi_rules.specs.Play.{Answers};
 ghost use Rattle.shogi_rules.specs.Repetition.{Over};
@@ -100,10 +100,11 @@ impl Line {
         self.start
     }
 
-    /// Its moves in order.
+    /// Its moves in order, at most 10,000.
     pub fn moves(&self) -> &[Move]
         ensures value { result.now ≡ self.now.moves }
         ensures game { IsGame self.now.start self.now.moves }
+        ensures few { length self.now.moves ≤ 10000 }
     {
         self.moves.as_slice()
     }
