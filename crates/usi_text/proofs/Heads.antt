@@ -24,13 +24,13 @@ head_is ws r1 r2 first second p x a b c d e f h k =
 pub even_started : (ws tail moves : List (List ℕ)) (start : Placed) → ws ≡ codes "position" ∷ codes "startpos" ∷ tail → HasMoves tail moves → start ≡ even_start → Starts ws start moves
 even_started ws tail moves start e h s = inl ((tail, e, h), s)
 
-same_tail : (ws a b : List (List ℕ)) (p x : List ℕ) → ws ≡ p ∷ x ∷ a → ws ≡ p ∷ x ∷ b → a ≡ b
+pub same_tail : (ws a b : List (List ℕ)) (p x : List ℕ) → ws ≡ p ∷ x ∷ a → ws ≡ p ∷ x ∷ b → a ≡ b
 same_tail ws a b p x e f = let g : p ∷ x ∷ a ≡ p ∷ x ∷ b = sym e ∙ f in cc
 
-second_of : (ws a b : List (List ℕ)) (p x y : List ℕ) → ws ≡ p ∷ x ∷ a → ws ≡ p ∷ y ∷ b → x ≡ y
+pub second_of : (ws a b : List (List ℕ)) (p x y : List ℕ) → ws ≡ p ∷ x ∷ a → ws ≡ p ∷ y ∷ b → x ≡ y
 second_of ws a b p x y e f = let g : p ∷ x ∷ a ≡ p ∷ y ∷ b = sym e ∙ f in cc
 
-sizes : (x y : List ℕ) → x ≡ y → length x ≢ length y → ⊥
+pub sizes : (x y : List ℕ) → x ≡ y → length x ≢ length y → ⊥
 sizes x y e h = h (ap length e)
 
 -- where no moves may follow behind startpos

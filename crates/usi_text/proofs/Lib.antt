@@ -5,6 +5,7 @@ pub mod Heads
 pub mod Fronts
 pub mod Games
 pub mod LineAgain
+pub mod LineOnce
 pub mod OneMove
 pub mod Piles
 pub mod Played

@@ -10,7 +10,9 @@ ghost use Rattle.usi_text.specs.Words.{words};
 ghost use Rattle.usi_text.specs.declared.fault.SfenFault.{SfenFault};
 ghost use Rattle.shogi_rules.specs.Positions.{IsGame};
 ghost use Rattle.usi_text.specs.LineText.{LineText};
-ghost use Rattle.usi_text.specs.Lines.{UsiLine};
+ghost use Rattle.usi_text.specs.Lines.{UsiLine, LineFault};
+ghost use Rattle.usi_text.specs.declared.fault.UsiFault.{UsiFault};
+ghost use Rattle.usi_text.specs.declared.fault.UsiFault.TheVariants.{OutOfMemory};
 ghost use Rattle.usi_text.specs.Moves.{UsiMove};
 
 /// Words are the SFEN of one position at most, and then they have no fault; else they have one first fault at most.
@@ -23,6 +25,14 @@ pub fn sfen_once()
 /// The SFEN that is written for a sound position is the SFEN of that position.
 pub fn sfen_again()
     ensures { (p : Placed) → IsSound p → Sfen (words (sfen_text p)) p }
+{}
+
+/// Words are the position line of one start and one list of moves at most, and then they have no fault but want of memory.
+pub fn line_once()
+    ensures one { (ws : List (List ℕ)) (start other : Placed) (moves others : List Move)
+        → UsiLine ws start moves → UsiLine ws other others → (start ≡ other) × (moves ≡ others) }
+    ensures either { (ws : List (List ℕ)) (start : Placed) (moves : List Move) (fault : UsiFault)
+        → UsiLine ws start moves → LineFault ws fault → fault ≡ OutOfMemory }
 {}
 
 /// The position line that is written for a start and legal moves from it is the position line of that start and these

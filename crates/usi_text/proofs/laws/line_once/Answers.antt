@@ -1,0 +1,8 @@
+use Rattle.usi_text.proofs.LineOnce.{line_once, line_no_fault}
+use Rattle.usi_text.proofs.laws.line_once.Goals as goal
+
+pub returns-clause-one : goal.returns-clause-one
+returns-clause-one c = line_once
+
+pub returns-clause-either : goal.returns-clause-either
+returns-clause-either c = line_no_fault
