@@ -1,7 +1,7 @@
 -- A position line that is written is read back as its start and its moves.
-use Rattle.std.proofs.Common.{◌≡◌, ◌≢◌, ℕ, zero, suc, ◌+◌, ◌<◌, ◌≤◌, ◌==◌, if◌then◌else◌, Bool, true, false, cond, inl, inr, List, [], ◌∷◌, ◌++◌, Option, Some, None, Result, Ok, Err, length, length-append, get_or, take, arith, refl, sym, ap, ◌∙◌, subst, append_assoc, codes, lit≤}
+use Rattle.std.proofs.Common.{◌≡◌, ◌≢◌, ℕ, ◌+◌, ◌<◌, ◌≤◌, if◌then◌else◌, Bool, true, false, inl, inr, List, [], ◌∷◌, ◌++◌, Option, Some, None, Ok, length, length-append, get_or, take, arith, refl, sym, ap, ◌∙◌, subst, append_assoc, codes, lit≤}
 use Rattle.std.specs.List.{AllByRecursion, flat_map}
-use Rattle.std.proofs.lemmas.Bool.{cases_lt, cases_Bool}
+use Rattle.std.proofs.lemmas.Bool.{cases_lt}
 use Rattle.std.proofs.lemmas.List.{append-nil, take-append-le, get_or_append_left, get_or_at, take_at}
 use Rattle.shogi_board.proofs.Same.{placed-eq}
 use Rattle.shogi_board.specs.contracts.position.PositionPartialEq.TheImpl.{eq-value}
@@ -12,27 +12,26 @@ use Rattle.shogi_board.specs.declared.kind.Kind.TheVariants.{Pawn, Lance, Knight
 use Rattle.shogi_board.specs.declared.kind.Piece.{Piece}
 use Rattle.shogi_board.specs.Placed.{Placed, even_start}
 use Rattle.shogi_board.specs.Sound.{IsSound}
-use Rattle.shogi_board.specs.Squares.{file_of, rank_of}
 use Rattle.shogi_board.specs.declared.square.Square.{Square}
 use Rattle.shogi_rules.specs.After.{after}
 use Rattle.shogi_rules.specs.Positions.{position_after, MayFollow, IsGame, begun, played}
 use Rattle.shogi_rules.specs.declared.moves.Move.{Move}
 use Rattle.shogi_rules.specs.declared.moves.Move.TheVariants.{Walk, Put}
 use Rattle.usi_text.specs.declared.hands.Pile.{Pile}
-use Rattle.usi_text.specs.Boards.{SpellsBoard, ranks_of}
+use Rattle.usi_text.specs.Boards.{ranks_of}
 use Rattle.usi_text.specs.Hands.{IsCount, SpellsHands, count_text, pile_text}
-use Rattle.usi_text.specs.Letters.{letter, color_letter, side_letter, square_text}
-use Rattle.usi_text.specs.LineText.{MovesText, BehindStart, LineText, start_text}
-use Rattle.usi_text.specs.Lines.{HasMoves, EvenLine, SfenLine, Starts, IsPlayed, Judged, Plays, UsiLine, position_now}
+use Rattle.usi_text.specs.Letters.{color_letter, side_letter, square_text}
+use Rattle.usi_text.specs.LineText.{MovesText, BehindStart, LineText}
+use Rattle.usi_text.specs.Lines.{HasMoves, Starts, Judged, Plays, UsiLine}
 use Rattle.usi_text.specs.Moves.{UsiMove}
-use Rattle.usi_text.specs.Sfen.{Sfen, side_text}
+use Rattle.usi_text.specs.Sfen.{side_text}
 use Rattle.usi_text.specs.SfenText.{sfen_text, board_text, hands_text, both_piles}
 use Rattle.usi_text.specs.Words.{words, EndsWord}
 use Rattle.usi_text.proofs.Again.{again, sfen_words, hands_spelt, both_fit}
 use Rattle.usi_text.proofs.Clean.{AreWord, no_space, word_joined, words_front, words_alone, board_spelt}
 use Rattle.usi_text.proofs.Games.{after_more}
 use Rattle.usi_text.proofs.Splits.{words_joined}
-use Rattle.usi_text.proofs.Spelt.{letter_low, leads, Leads}
+use Rattle.usi_text.proofs.Spelt.{letter_low, leads}
 
 abbrev Follows : Placed → List Move → ℕ → Move → Type 0
 Follows start moves i d = MayFollow start (take i moves) (get_or moves i d)

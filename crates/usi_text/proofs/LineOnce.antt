@@ -1,5 +1,5 @@
 -- Words are one position line at most, and then they have no fault.
-use Rattle.std.proofs.Common.{◌≡◌, ◌≢◌, ℕ, ◌+◌, ◌<◌, ◌≤◌, ◌⊎◌, inl, inr, List, [], ◌∷◌, ◌++◌, Option, Some, None, Result, Ok, Err, length, arith, refl, sym, ap, ◌∙◌, subst, codes}
+use Rattle.std.proofs.Common.{◌≡◌, ◌≢◌, ℕ, inl, inr, List, [], ◌∷◌, ◌++◌, Option, Some, None, Result, Ok, Err, arith, refl, sym, ap, ◌∙◌, subst, codes}
 use Rattle.std.specs.List.{AllByRecursion}
 use Rattle.shogi_board.specs.Placed.{Placed}
 use Rattle.shogi_rules.specs.Play.{Breaks}
@@ -10,10 +10,11 @@ use Rattle.shogi_rules.specs.declared.moves.Move.{Move}
 use Rattle.shogi_rules.specs.declared.rule.Rule.{Rule}
 use Rattle.usi_text.specs.declared.fault.SfenFault.{SfenFault}
 use Rattle.usi_text.specs.declared.fault.UsiFault.{UsiFault}
-use Rattle.usi_text.specs.declared.fault.UsiFault.TheVariants.{BadLine, BadSfen, BadMoveText, Broken, TooManyMoves, OutOfMemory}
+use Rattle.usi_text.specs.declared.fault.UsiFault.TheVariants.{BadLine, BadMoveText, Broken, TooManyMoves, OutOfMemory}
+use Rattle.usi_text.specs.declared.fault.UsiFault.TheVariants as usi
 use Rattle.usi_text.specs.Lines.{HasMoves, EvenLine, SfenLine, Starts, Judged, IsPlayed, WordFault, Plays, UsiLine, LineFault, line_of, position_now}
 use Rattle.usi_text.specs.Moves.{UsiMove}
-use Rattle.usi_text.specs.Sfen.{Sfen, FirstFault}
+use Rattle.usi_text.specs.Sfen.{Sfen}
 use Rattle.usi_text.proofs.Heads.{same_tail, second_of, sizes}
 use Rattle.usi_text.proofs.OneMove.{one_move}
 use Rattle.usi_text.proofs.SfenOnce.{sfen_once, sfen_no_fault}
@@ -90,7 +91,7 @@ same_move start before w m n h k = one_move (position_now start before) w m n h 
 
 no_fault : (start : Placed) (before : List Move) (w : List ℕ) (m : Move) (f : UsiFault) → IsPlayed start before w m → WordFault start before w f → ⊥
 no_fault start before w m BadLine p h = h
-no_fault start before w m (BadSfen f) p h = h
+no_fault start before w m (usi.Sfen f) p h = h
 no_fault start before w m OutOfMemory p h = h
 no_fault start before w m TooManyMoves p h = let few = p.1.0 in omega arith
 no_fault start before w m (BadMoveText n) p h = h.2 m p.0
@@ -100,22 +101,22 @@ no_fault start before w m (Broken n rule) p h =
 
 fault_once : (start : Placed) (before : List Move) (w : List ℕ) (f g : UsiFault) → WordFault start before w f → WordFault start before w g → f ≡ g
 fault_once start before w BadLine g h k = absurd h
-fault_once start before w (BadSfen x) g h k = absurd h
+fault_once start before w (usi.Sfen x) g h k = absurd h
 fault_once start before w OutOfMemory g h k = absurd h
 fault_once start before w TooManyMoves BadLine h k = absurd k
-fault_once start before w TooManyMoves (BadSfen y) h k = absurd k
+fault_once start before w TooManyMoves (usi.Sfen y) h k = absurd k
 fault_once start before w TooManyMoves OutOfMemory h k = absurd k
 fault_once start before w TooManyMoves TooManyMoves h k = refl
 fault_once start before w TooManyMoves (BadMoveText y) h k = let few = k.1 in absurd (omega arith)
 fault_once start before w TooManyMoves (Broken y yr) h k = let few = k.3.0 in absurd (omega arith)
 fault_once start before w (BadMoveText x) BadLine h k = absurd k
-fault_once start before w (BadMoveText x) (BadSfen y) h k = absurd k
+fault_once start before w (BadMoveText x) (usi.Sfen y) h k = absurd k
 fault_once start before w (BadMoveText x) OutOfMemory h k = absurd k
 fault_once start before w (BadMoveText x) TooManyMoves h k = let few = h.1 in absurd (omega arith)
 fault_once start before w (BadMoveText x) (BadMoveText y) h k = ap BadMoveText (h.0 ∙ sym k.0)
 fault_once start before w (BadMoveText x) (Broken y yr) h k = absurd (h.2 k.1 k.2)
 fault_once start before w (Broken x xr) BadLine h k = absurd k
-fault_once start before w (Broken x xr) (BadSfen y) h k = absurd k
+fault_once start before w (Broken x xr) (usi.Sfen y) h k = absurd k
 fault_once start before w (Broken x xr) OutOfMemory h k = absurd k
 fault_once start before w (Broken x xr) TooManyMoves h k = let few = h.3.0 in absurd (omega arith)
 fault_once start before w (Broken x xr) (BadMoveText y) h k = absurd (k.2 h.1 h.2)
@@ -159,7 +160,7 @@ bad_line : (ws : Words) (p : Placed) (moves : Words) → Starts ws p moves → L
 bad_line ws p moves (inl h) f = f.0 moves h.0
 bad_line ws p moves (inr h) f = f.1 h.0 moves h.1
 
-bad_sfen : (ws : Words) (p : Placed) (moves : Words) (fault : SfenFault) → Starts ws p moves → LineFault ws (BadSfen fault) → ⊥
+bad_sfen : (ws : Words) (p : Placed) (moves : Words) (fault : SfenFault) → Starts ws p moves → LineFault ws (usi.Sfen fault) → ⊥
 bad_sfen ws p moves fault (inl h) f = both_heads ws moves f.0 f.1 h.0 f.2
 bad_sfen ws p moves fault (inr h) f =
     let r = lines_once ws h.0 f.0 moves f.1 h.1 f.2 in
@@ -167,9 +168,8 @@ bad_sfen ws p moves fault (inr h) f =
 
 pub line_no_fault : (ws : Words) (p : Placed) (a : List Move) (fault : UsiFault) → UsiLine ws p a → LineFault ws fault → fault ≡ OutOfMemory
 line_no_fault ws p a BadLine h f = absurd (bad_line ws p h.0 h.1 f)
-line_no_fault ws p a (BadSfen x) h f = absurd (bad_sfen ws p h.0 x h.1 f)
+line_no_fault ws p a (usi.Sfen x) h f = absurd (bad_sfen ws p h.0 x h.1 f)
 line_no_fault ws p a OutOfMemory h f = refl
 line_no_fault ws p a TooManyMoves h f = absurd (no_line ws p f.0 a TooManyMoves h (f.1, f.2, f.3))
 line_no_fault ws p a (BadMoveText n) h f = absurd (no_line ws p f.0 a (BadMoveText n) h (f.1, f.2, f.3))
 line_no_fault ws p a (Broken n r) h f = absurd (no_line ws p f.0 a (Broken n r) h (f.1, f.2, f.3))
-

@@ -8,7 +8,8 @@ use Rattle.shogi_rules.specs.declared.line.PlayFault.TheVariants as play
 use Rattle.shogi_rules.specs.declared.moves.Move.{Move}
 use Rattle.shogi_rules.specs.declared.rule.Rule.{Rule}
 use Rattle.usi_text.specs.declared.fault.UsiFault.{UsiFault}
-use Rattle.usi_text.specs.declared.fault.UsiFault.TheVariants.{BadLine, BadSfen, BadMoveText, Broken, TooManyMoves, OutOfMemory}
+use Rattle.usi_text.specs.declared.fault.UsiFault.TheVariants.{BadLine, BadMoveText, Broken, TooManyMoves, OutOfMemory}
+use Rattle.usi_text.specs.declared.fault.UsiFault.TheVariants as usi
 use Rattle.usi_text.specs.Lines.{IsPlayed, WordFault, Plays, PlayedFault, LineFault, UsiLine, Starts}
 use Rattle.usi_text.specs.Words.{nth_word}
 
@@ -47,7 +48,7 @@ playing_end start words rest moves p none = p.forward (Ok moves) (rw none refl)
 
 fault_told : (start : Placed) (words rest behind : List (List ℕ)) (moves : List Move) (w : List ℕ) (fault : UsiFault) → Playing start words rest moves → rest ≡ w ∷ behind → WordFault start moves w fault → PlayedFault start words fault
 fault_told start words rest behind moves w BadLine p e h = h
-fault_told start words rest behind moves w (BadSfen f) p e h = h
+fault_told start words rest behind moves w (usi.Sfen f) p e h = h
 fault_told start words rest behind moves w OutOfMemory p e h = absurd h
 fault_told start words rest behind moves w TooManyMoves p e h = p.forward (Err TooManyMoves) (rw e (inl (TooManyMoves, h, refl)))
 fault_told start words rest behind moves w (BadMoveText n) p e h = p.forward (Err (BadMoveText n)) (rw e (inl (BadMoveText n, h, refl)))
@@ -59,7 +60,7 @@ playing_fault start words rest behind moves w fault p e (inr h) = fault_told sta
 
 pub line_fault : (ws : List (List ℕ)) (start : Placed) (words : List (List ℕ)) (fault : UsiFault) → Starts ws start words → PlayedFault start words fault → LineFault ws fault
 line_fault ws start words BadLine s h = absurd h
-line_fault ws start words (BadSfen f) s h = absurd h
+line_fault ws start words (usi.Sfen f) s h = absurd h
 line_fault ws start words OutOfMemory s h = (start, words, s, h)
 line_fault ws start words TooManyMoves s h = (start, words, s, h)
 line_fault ws start words (BadMoveText n) s h = (start, words, s, h)

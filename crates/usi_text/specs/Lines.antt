@@ -8,7 +8,8 @@ use Rattle.shogi_rules.specs.declared.moves.Move.{Move}
 use Rattle.shogi_rules.specs.Play.{Answers}
 use Rattle.shogi_rules.specs.Positions.{Played, now_of}
 use Rattle.usi_text.specs.declared.fault.UsiFault.{UsiFault}
-use Rattle.usi_text.specs.declared.fault.UsiFault.TheVariants.{BadLine, BadSfen, BadMoveText, Broken, TooManyMoves, OutOfMemory}
+use Rattle.usi_text.specs.declared.fault.UsiFault.TheVariants.{BadLine, BadMoveText, Broken, TooManyMoves, OutOfMemory}
+use Rattle.usi_text.specs.declared.fault.UsiFault.TheVariants as usi
 use Rattle.usi_text.specs.Moves.{UsiMove}
 use Rattle.usi_text.specs.Sfen.{Sfen, FirstFault}
 
@@ -83,7 +84,7 @@ PlaysSome start words =
 -- why the words are not all played; want of memory comes only behind moves that are
 abbrev pub PlayedFault : Placed → List (List ℕ) → UsiFault → Type 0
 PlayedFault start words BadLine = ⊥
-PlayedFault start words (BadSfen fault) = ⊥
+PlayedFault start words (usi.Sfen fault) = ⊥
 PlayedFault start words OutOfMemory = PlaysSome start words
 PlayedFault start words fault = Plays start [] words (Err fault)
 
@@ -91,6 +92,6 @@ PlayedFault start words fault = Plays start [] words (Err fault)
 abbrev pub LineFault : List (List ℕ) → UsiFault → Type 0
 LineFault ws BadLine =
     ((moves : List (List ℕ)) → EvenLine ws moves → ⊥) × ((sfen moves : List (List ℕ)) → SfenLine ws sfen moves → ⊥)
-LineFault ws (BadSfen fault) =
+LineFault ws (usi.Sfen fault) =
     (sfen : List (List ℕ)) × (moves : List (List ℕ)) × SfenLine ws sfen moves × FirstFault sfen fault
 LineFault ws fault = (start : Placed) × (words : List (List ℕ)) × Starts ws start words × PlayedFault start words fault

@@ -43,7 +43,7 @@ pub enum UsiFault {
     BadLine,
     /// Its SFEN is refused.
     #[error("{0}")]
-    BadSfen(SfenFault),
+    Sfen(SfenFault),
     /// The word is no move in the position that it would be played in.
     #[error("U6 BadMoveText")]
     BadMoveText(usize),

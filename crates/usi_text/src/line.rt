@@ -14,7 +14,7 @@ use std::alloc::Global;
 
 /// The line that a position line tells: its start and its moves.
 ///
-/// Refuses, in this order: BadLine; BadSfen with the SFEN's first fault; then for each move in turn TooManyMoves where
+/// Refuses, in this order: BadLine; Sfen with the SFEN's first fault; then for each move in turn TooManyMoves where
 /// 10,000 stand, BadMoveText where its word is no move in the position reached, Broken with the first rule that it
 /// breaks, OutOfMemory. Moves are numbered from 1.
 pub fn read_position_line(alloc: Global, text: &[u8]) -> Result<Line, UsiFault>
@@ -73,7 +73,7 @@ fn read_start(text: &[u8]) -> Result<(Position, &[u8]), UsiFault>
     }
     match read_sfen(sfen) {
         Ok(start) => Ok((start, moves)),
-        Err(fault) => Err(UsiFault::BadSfen(fault)),
+        Err(fault) => Err(UsiFault::Sfen(fault)),
     }
 }
 

@@ -315,19 +315,19 @@ fn lines_refused(rt: HostRuntime) {
         ("position\tstartpos", UsiFault::BadLine),
         (
             "position sfen 9/9 b - 1",
-            UsiFault::BadSfen(SfenFault::BadBoard),
+            UsiFault::Sfen(SfenFault::BadBoard),
         ),
         (
             "position sfen 9/9/9/9/9/9/9/9/9 moves 7g",
-            UsiFault::BadSfen(SfenFault::BadSide),
+            UsiFault::Sfen(SfenFault::BadSide),
         ),
         (
             "position sfen 9/9/9/9/9/9/9/9/9 b - 1 7g7f",
-            UsiFault::BadSfen(SfenFault::BadNumber),
+            UsiFault::Sfen(SfenFault::BadNumber),
         ),
         (
             "position sfen 4k4/9/9/9/9/9/9/9/4R4 b - 1 moves 7g",
-            UsiFault::BadSfen(SfenFault::Start(SetupFault::OpponentInCheck)),
+            UsiFault::Sfen(SfenFault::Start(SetupFault::OpponentInCheck)),
         ),
         ("position startpos moves 7g", UsiFault::BadMoveText(1)),
         ("position startpos moves 4i4h+", UsiFault::BadMoveText(1)),
@@ -366,12 +366,12 @@ fn lines_refused(rt: HostRuntime) {
 fn faults_printed(rt: HostRuntime) -> Result<(), Fail> {
     let table = [
         (UsiFault::BadLine, "U5 BadLine"),
-        (UsiFault::BadSfen(SfenFault::BadBoard), "U1 BadBoard"),
-        (UsiFault::BadSfen(SfenFault::BadSide), "U2 BadSide"),
-        (UsiFault::BadSfen(SfenFault::BadHands), "U3 BadHands"),
-        (UsiFault::BadSfen(SfenFault::BadNumber), "U4 BadNumber"),
+        (UsiFault::Sfen(SfenFault::BadBoard), "U1 BadBoard"),
+        (UsiFault::Sfen(SfenFault::BadSide), "U2 BadSide"),
+        (UsiFault::Sfen(SfenFault::BadHands), "U3 BadHands"),
+        (UsiFault::Sfen(SfenFault::BadNumber), "U4 BadNumber"),
         (
-            UsiFault::BadSfen(SfenFault::Start(SetupFault::TooMany)),
+            UsiFault::Sfen(SfenFault::Start(SetupFault::TooMany)),
             "S2 TooMany",
         ),
         (UsiFault::BadMoveText(3), "U6 BadMoveText"),

@@ -1,8 +1,8 @@
-use Rattle.std.proofs.Common.{◌≡◌, List, ◌++◌, ap, ◌∙◌, subst, append_assoc, codes}
+use Rattle.std.proofs.Common.{List, ◌++◌, ap, ◌∙◌, subst, append_assoc, codes}
 use Rattle.shogi_board.specs.Placed.{Placed}
 use Rattle.shogi_board.specs.Sound.{IsSound}
 use Rattle.shogi_rules.specs.declared.moves.Move.{Move}
-use Rattle.usi_text.specs.LineText.{BehindStart, LineText, start_text}
+use Rattle.usi_text.specs.LineText.{BehindStart, start_text}
 use Rattle.usi_text.proofs.LineAgain.{line_again}
 use Rattle.usi_text.proofs.line_writing.position_line.Goals as goal
 
