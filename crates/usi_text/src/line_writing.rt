@@ -1,4 +1,4 @@
-ghost use Rattle.std.specs.Prelude.{◌≡◌, ◌++◌, ◌≤◌, List, ℕ, IfOk, OnOk, length};
+ghost use Rattle.std.specs.Prelude.{◌≡◌, ◌++◌, List, ℕ, IfOk, OnOk};
 ghost use Rattle.shogi_board.specs.Sound.{IsSound};
 ghost use Rattle.shogi_rules.specs.Positions.{IsGame};
 ghost use Rattle.usi_text.specs.LineText.{LineText, BehindStart, MovesText, start_text};
@@ -18,8 +18,7 @@ use std::alloc::Global;
 /// OutOfMemory.
 pub fn position_line(alloc: Global, line: &Line) -> Result<Vec<u8>, OutOfMemory>
     ensures text { IfOk result (λ text. LineText line.now.start line.now.moves text.items) }
-    ensures again { IfOk result (λ text. length line.now.moves ≤ 10000
-        → UsiLine (words text.items) line.now.start line.now.moves) }
+    ensures again { IfOk result (λ text. UsiLine (words text.items) line.now.start line.now.moves) }
 {
     let start = line.start();
     let mut text = Vec::from_slice(alloc, b"position ")?;

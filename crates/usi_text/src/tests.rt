@@ -362,6 +362,57 @@ fn lines_refused(rt: HostRuntime) {
     }
 }
 
+// The square at a place of a rook's tour of 36 over four files from the given one, up one file and down the next.
+fn push_tour(text: &mut Vec<u8>, first: u8, place: usize) -> Result<(), Fail> {
+    let file = (place % 36 / 9) as u8;
+    let step = (place % 9) as u8;
+    let rank = if file % 2 == 0 { step } else { 8 - step };
+    text.push(first.wrapping_add(file))?;
+    text.push(b'a' + rank)?;
+    Ok(())
+}
+
+// Black's move of that number: its rook goes on, and each 1,250th time it pushes its pawn.
+fn push_black(text: &mut Vec<u8>, n: usize) -> Result<(), Fail> {
+    let pushed = n / 1250;
+    if n % 1250 == 1249 {
+        let rank = b'g'.wrapping_sub(u8::try_from(pushed)?);
+        text.extend_from_slice(&[b'5', rank, b'5', rank.wrapping_sub(1)])?;
+        return Ok(());
+    }
+    push_tour(text, b'1', n - pushed)?;
+    push_tour(text, b'1', n - pushed + 1)
+}
+
+// White's rook leaves out one square, so that the two together come round after 36 * 35 moves of each side.
+fn push_white(text: &mut Vec<u8>, n: usize) -> Result<(), Fail> {
+    for place in [n % 35, (n % 35 + 1) % 35] {
+        push_tour(text, b'6', if place == 0 { 0 } else { place + 1 })?;
+    }
+    Ok(())
+}
+
+// 10,000 moves stand, and the text of one more is not looked at.
+#[test]
+fn ten_thousand_moves(rt: HostRuntime) -> Result<(), Fail> {
+    let mut text: Vec<u8> = Vec::new(rt.alloc());
+    text.extend_from_slice(b"position sfen 3r4R/9/9/9/9/9/4P4/9/9 b - 1 moves")?;
+    for n in 0..5000usize {
+        text.push(b' ')?;
+        push_black(&mut text, n)?;
+        text.push(b' ')?;
+        push_white(&mut text, n)?;
+    }
+    let line = read_position_line(rt.alloc(), text.as_slice())?;
+    assert_eq!(rt; line.moves().len(), 10_000);
+    let again = position_line(rt.alloc(), &line)?;
+    assert_eq!(rt; again.as_slice(), text.as_slice());
+    text.extend_from_slice(b" 7g")?;
+    let refused = read_position_line(rt.alloc(), text.as_slice()).err();
+    assert_eq!(rt; refused, Some(UsiFault::TooManyMoves));
+    Ok(())
+}
+
 #[test]
 fn faults_printed(rt: HostRuntime) -> Result<(), Fail> {
     let table = [
@@ -376,6 +427,8 @@ fn faults_printed(rt: HostRuntime) -> Result<(), Fail> {
         ),
         (UsiFault::BadMoveText(3), "U6 BadMoveText"),
         (UsiFault::Broken(2, Rule::CannotReach), "rule 6 CannotReach"),
+        (UsiFault::TooManyMoves, "too many moves"),
+        (UsiFault::OutOfMemory, "out of memory"),
     ];
     for (fault, want) in table {
         let printed = format!(in rt.alloc(); "{fault}")?;
