@@ -90,8 +90,8 @@ comment_line : (piece : List ℕ) (n : ℕ) → n ≡ position_or_len (is_end 39
 comment_line piece n e = rest_unit (39 ∷ []) piece 39 n (refl, tt, tt) refl e
 
 -- the whole piece in a comment
-pub found_in_comment : (held piece : List ℕ) (n : ℕ) → n ≡ position_or_len (is_end 39) piece → n ≡ length piece → IsFoundIn Comment held piece found.Comment
-found_in_comment held piece n e all =
+in_comment : (piece : List ℕ) (n : ℕ) → n ≡ position_or_len (is_end 39) piece → n ≡ length piece → IsFoundIn Comment [] piece found.Comment
+in_comment piece n e all =
     let whole : take n piece ≡ piece = rw all (take-length piece) in
     let none : drop n piece ≡ [] = rw all (drop-length piece) in
     let unit : IsUnit (39 ∷ piece) [] = rw (whole, none) at (comment_line piece n e) in (
@@ -121,9 +121,9 @@ over_comment_whole piece n fed more others e some few s =
     (over_comment piece n (length piece) fed more others e some (omega arith) few
     (statements_of (fed + n) _ _ others (ap (λ xs. xs ++ more) (sym (whole_range piece n))) s))
 
-unit_behind_comment : (held piece : List ℕ) (n : ℕ) (goes_on : Bool) (start end : ℕ) → n ≡ position_or_len (is_end 39) piece → goes_on ≡ false → IsUnitIn piece n start end → IsPart Comment held piece goes_on start end
-unit_behind_comment held piece n true start end e f u = cc
-unit_behind_comment held piece n false start end e f u = record {
+unit_behind_comment : (piece : List ℕ) (n : ℕ) (goes_on : Bool) (start end : ℕ) → n ≡ position_or_len (is_end 39) piece → goes_on ≡ false → IsUnitIn piece n start end → IsPart Comment [] piece goes_on start end
+unit_behind_comment piece n true start end e f u = cc
+unit_behind_comment piece n false start end e f u = record {
   order = omega (arith, u.some);
   within = u.within;
   first = λ h. cc;
@@ -134,12 +134,19 @@ unit_behind_comment held piece n false start end e f u = record {
       (u.passed fed k more others up low (statements_at _ (fed + start) _ others (omega arith) s));
 }
 
-pub found_behind_comment : (held piece : List ℕ) (n : ℕ) (f : Found) → n ≡ position_or_len (is_end 39) piece → n < length piece → IsFirstIn piece n f → IsFoundIn Comment held piece f
-found_behind_comment held piece n found.Mark e some h = absurd h
-found_behind_comment held piece n found.Gap e some h = λ fed more others few s. over_comment_whole piece n fed more others e some few (h fed more others s)
-found_behind_comment held piece n found.Comment e some h =
+behind_comment_in : (piece : List ℕ) (n : ℕ) (f : Found) → n ≡ position_or_len (is_end 39) piece → n < length piece → IsFirstIn piece n f → IsFoundIn Comment [] piece f
+behind_comment_in piece n found.Mark e some h = absurd h
+behind_comment_in piece n found.Gap e some h = λ fed more others few s. over_comment_whole piece n fed more others e some few (h fed more others s)
+behind_comment_in piece n found.Comment e some h =
     (inl refl, λ fed more others few s. over_comment_whole piece n fed more others e some few (h.1 fed more others s))
-found_behind_comment held piece n (found.Unit goes_on start end) e some h = unit_behind_comment held piece n goes_on start end e h.0 h.1
+behind_comment_in piece n (found.Unit goes_on start end) e some h = unit_behind_comment piece n goes_on start end e h.0 h.1
+
+-- in a comment nothing is held
+pub found_in_comment : (held piece : List ℕ) (n : ℕ) → held ≡ [] → n ≡ position_or_len (is_end 39) piece → n ≡ length piece → IsFoundIn Comment held piece found.Comment
+found_in_comment held piece n none e all = rw none (in_comment piece n e all)
+
+pub found_behind_comment : (held piece : List ℕ) (n : ℕ) (f : Found) → held ≡ [] → n ≡ position_or_len (is_end 39) piece → n < length piece → IsFirstIn piece n f → IsFoundIn Comment held piece f
+found_behind_comment held piece n f none e some h = rw none (behind_comment_in piece n f e some h)
 
 -- the whole mark
 

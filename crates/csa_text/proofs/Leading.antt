@@ -36,8 +36,8 @@ leads_to_gap place held other piece fed number h few = record {
   going = refl;
 }
 
-pub leads_to_comment : (place : Place) (held other piece : List ℕ) (fed number : ℕ) → IsFoundIn place held piece found.Comment → length (open_of place held) ≤ fed → Leads (seen place held fed number None) piece [] (seen Comment other (fed + length piece) number None)
-leads_to_comment place held other piece fed number h few =
+pub leads_to_comment : (place : Place) (held piece : List ℕ) (fed number : ℕ) → IsFoundIn place held piece found.Comment → length (open_of place held) ≤ fed → Leads (seen place held fed number None) piece [] (seen Comment [] (fed + length piece) number None)
+leads_to_comment place held piece fed number h few =
     let o = fed + length piece - 1 in
     let quote : ℕ = 39 in
     let alone : Statements o (39 ∷ []) [] = behind_comment o (39 ∷ []) [] [] (refl, tt, tt) refl (nothing_left (o + length (quote ∷ []))) in
@@ -227,14 +227,14 @@ mark_lead place held other piece fed number is_mark o less same all =
     let count : fed ≡ length held = all begun in
     rw (is_mark, o, count) (leads_to_mark held piece number less same)
 
-default_lead : (place : Place) (held other piece : List ℕ) (f : Found) (fed number : ℕ) → other ≡ (if is_in_mark f then held ++ piece else held) → ((x : Bool) (y z : ℕ) → f ≡ found.Unit x y z → ⊥) → IsFoundIn place held piece f → length (open_of place held) ≤ fed → (begins place ≡ true → fed ≡ length held) → Leads (seen place held fed number None) piece [] (seen (place_found f) other (fed + length piece) number None)
+default_lead : (place : Place) (held other piece : List ℕ) (f : Found) (fed number : ℕ) → other ≡ (if is_in_mark f then held ++ piece else []) → ((x : Bool) (y z : ℕ) → f ≡ found.Unit x y z → ⊥) → IsFoundIn place held piece f → length (open_of place held) ≤ fed → (begins place ≡ true → fed ≡ length held) → Leads (seen place held fed number None) piece [] (seen (place_found f) other (fed + length piece) number None)
 default_lead place held other piece found.Mark fed number o never h few same =
     mark_lead place held other piece fed number h.0 o h.1 h.2 same
 default_lead place held other piece found.Gap fed number o never h few same = leads_to_gap place held other piece fed number h few
-default_lead place held other piece found.Comment fed number o never h few same = leads_to_comment place held other piece fed number h few
+default_lead place held other piece found.Comment fed number o never h few same = rw o (leads_to_comment place held piece fed number h few)
 default_lead place held other piece (found.Unit x y z) fed number o never h few same = absurd (never x y z refl)
 
-pub default_step : (now : Piecing) (place after : Place) (held other piece : List ℕ) (f : Found) (fed number : ℕ) (refused : Option ℕ) → seen place held fed number refused ≡ now → refused ≡ None → after ≡ place_found f → other ≡ (if is_in_mark f then held ++ piece else held) → ((x : Bool) (y z : ℕ) → f ≡ found.Unit x y z → ⊥) → IsFoundIn place held piece f → length (open_of place held) ≤ fed → (begins place ≡ true → fed ≡ length held) → (now.refused ≡ None) × Leads now piece [] (seen after other (fed + length piece) number refused)
+pub default_step : (now : Piecing) (place after : Place) (held other piece : List ℕ) (f : Found) (fed number : ℕ) (refused : Option ℕ) → seen place held fed number refused ≡ now → refused ≡ None → after ≡ place_found f → other ≡ (if is_in_mark f then held ++ piece else []) → ((x : Bool) (y z : ℕ) → f ≡ found.Unit x y z → ⊥) → IsFoundIn place held piece f → length (open_of place held) ≤ fed → (begins place ≡ true → fed ≡ length held) → (now.refused ≡ None) × Leads now piece [] (seen after other (fed + length piece) number refused)
 default_step now place after held other piece f fed number refused view none leads o never h few same =
     rw (← view, none, leads) (refl, default_lead place held other piece f fed number o never h few same)
 

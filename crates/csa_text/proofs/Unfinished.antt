@@ -15,14 +15,14 @@ use Rattle.csa_text.proofs.Passing.{behind_comment, unit_at}
 use Rattle.csa_text.proofs.Finding.{without_mark, follows_plain, mark_unit, mark_silent}
 use Rattle.csa_text.proofs.Leading.{seen}
 
-nothing_to_come : (place : Place) (held : List ℕ) (fed : ℕ) → has_unit place held ≡ false → Follows (begins place) fed (open_of place held) [] []
-nothing_to_come Mark held fed h =
+nothing_to_come : (place : Place) (held : List ℕ) (fed : ℕ) → has_unit place held ≡ false → IsHeld place held → Follows (begins place) fed (open_of place held) [] []
+nothing_to_come Mark held fed h is_held =
     let none : held ≡ [] = nothing held (turned_false (length held == 0) h) in
     rw none (no_statements _ [] tt)
-nothing_to_come Gap held fed h = no_statements _ [] tt
-nothing_to_come InUnit held fed h = absurd (false≢true (sym h))
-nothing_to_come Comment held fed h =
-    follows_plain fed (fed - 1) (39 ∷ []) [] [] (omega arith) (behind_comment (fed - 1) (39 ∷ []) [] [] (refl, tt, tt) refl (no_statements _ [] tt))
+nothing_to_come Gap held fed h is_held = no_statements _ [] tt
+nothing_to_come InUnit held fed h is_held = absurd (false≢true (sym h))
+nothing_to_come Comment held fed h is_held =
+    rw is_held (follows_plain fed (fed - 1) (39 ∷ []) [] [] (omega arith) (behind_comment (fed - 1) (39 ∷ []) [] [] (refl, tt, tt) refl (no_statements _ [] tt)))
 
 abbrev last_of : List ℕ → ℕ → TextUnit
 last_of held fed = record { offset = fed - length held; bytes = held }
@@ -48,9 +48,9 @@ unit_to_come Gap held fed h is_held = absurd (false≢true h)
 unit_to_come InUnit held fed h is_held = follows_plain fed (fed - length held) held [] _ refl (alone held fed is_held.0 is_held.1)
 unit_to_come Comment held fed h is_held = absurd (false≢true h)
 
-pub none_left : (now : Piecing) (place : Place) (held : List ℕ) (fed number : ℕ) (refused : Option ℕ) → seen place held fed number refused ≡ now → refused ≡ None → has_unit place held ≡ false → (now.refused ≡ None) × (ToCome now [] [] × (number ≡ now.number)) × (seen Gap held fed number refused ≡ record now { number = number; begins = false; unfinished = [] })
-none_left now place held fed number refused view none h =
-    rw (← view, none) (refl, (nothing_to_come place held fed h, refl), refl)
+pub none_left : (now : Piecing) (place : Place) (held : List ℕ) (fed number : ℕ) (refused : Option ℕ) → seen place held fed number refused ≡ now → refused ≡ None → has_unit place held ≡ false → IsHeld place held → (now.refused ≡ None) × (ToCome now [] [] × (number ≡ now.number)) × (seen Gap held fed number refused ≡ record now { number = number; begins = false; unfinished = [] })
+none_left now place held fed number refused view none h is_held =
+    rw (← view, none) (refl, (nothing_to_come place held fed h is_held, refl), refl)
 
 pub one_left : (now : Piecing) (place : Place) (held : List ℕ) (fed number : ℕ) (refused : Option ℕ) (s : Statement) → seen place held fed number refused ≡ now → refused ≡ None → has_unit place held ≡ true → IsHeld place held → length held ≤ 4096 → s.number ≡ number + 1 → s.offset ≡ fed - length held → s.bytes.now ≡ statement_bytes held → (now.refused ≡ None) × Last now (Some s) (number + 1) × (seen Gap held fed (number + 1) refused ≡ record now { number = number + 1; begins = false; unfinished = [] })
 one_left now place held fed number refused s view none h is_held short numbered place_is bytes =
@@ -65,4 +65,4 @@ pub keeps_little : (place : Place) (held : List ℕ) → length held ≤ 4096 �
 keeps_little Mark held few h = (few, λ t. absurd (mark_begins (length held) (ap (begins_with 39) (sym h.1) ∙ t)))
 keeps_little Gap held few h = (omega arith, λ t. absurd (false≢true t))
 keeps_little InUnit held few h = (few, λ t. absurd (false≢true (sym h.1 ∙ t)))
-keeps_little Comment held few h = (lit≤ tt, λ t. refl)
+keeps_little Comment held few h = rw h (lit≤ tt, λ t. refl)

@@ -4,7 +4,7 @@ use Rattle.csa_text.specs.Cut.{TextUnit, Statements, Cut, mark_length, begins_wi
 
 -- how many bytes it took; how many statements it handed out; whether these bytes are the beginning of
 -- a byte order mark, or none; what is unfinished: the bytes of that mark, the bytes of a unit, of a
--- comment its first byte alone; and the offset of a statement that is too long, if one was met
+-- comment its first byte and what is held of the rest; and the offset of a statement that is too long, if one was met
 pub record Piecing : Type 0 where
   pub fed : ℕ
   pub number : ℕ

@@ -13,19 +13,19 @@ begins Gap = false
 begins InUnit = false
 begins Comment = false
 
--- what is unfinished, of what is held
+-- what is unfinished, by what is held; of a comment its first byte stands before what is held of it
 abbrev pub open_of : Place → List ℕ → List ℕ
 open_of Mark held = held
 open_of Gap held = []
 open_of InUnit held = held
-open_of Comment held = 39 ∷ []
+open_of Comment held = 39 ∷ held
 
 -- what stands in each place
 abbrev pub IsHeld : Place → List ℕ → Type 0
 IsHeld Mark held = (length held < 3) × (held ≡ take (length held) byte_order_mark)
 IsHeld Gap held = Unit {0}
 IsHeld InUnit held = IsUnit held [] × (begins_with 39 held ≡ false)
-IsHeld Comment held = Unit {0}
+IsHeld Comment held = held ≡ []
 
 -- the same, with how many bytes have come and how many statements were handed out
 abbrev pub IsKept : Place → List ℕ → ℕ → ℕ → Type 0

@@ -116,7 +116,7 @@ impl PieceCutter {
         } = found
         else {
             self.place = place_of(found);
-            hold(&mut self.held, is_in_mark(found), piece);
+            hold_mark(&mut self.held, is_in_mark(found), piece);
             self.fed += piece.len() as u64;
             return Ok(Cut {
                 used: piece.len(),
@@ -234,6 +234,15 @@ fn forget(held: &mut ArrayVec<u8, 4096>, all: bool)
     if all {
         held.clear();
     }
+}
+
+// Holds what has come of a byte order mark, and nothing of a gap or a comment.
+fn hold_mark(held: &mut ArrayVec<u8, 4096>, in_mark: bool, piece: &[u8])
+    requires { in_mark ≡ true → array_vec_len held.old + length piece.now ≤ 4096 }
+    ensures { held.new.items ≡ (if in_mark then held.old.items ++ piece.now else []) }
+{
+    forget(held, !in_mark);
+    hold(held, in_mark, piece);
 }
 
 fn hold(held: &mut ArrayVec<u8, 4096>, holds: bool, part: &[u8])
@@ -478,7 +487,10 @@ mod tests {
             }
             assert!(rt; same(source.as_slice(), 1), "{record}");
             for place in 0..source.len() {
-                assert!(rt; same_cut_at(source.as_slice(), place, 4096), "{record} at {place}");
+                assert!(rt;
+                    same_cut_at(source.as_slice(), place, 4096),
+                    "{record} at {place}"
+                );
             }
         }
         assert!(rt; same(EVEN_IN_RANKS, 1));
@@ -498,7 +510,10 @@ mod tests {
             }
             source.extend_from_slice(b"\n+\n")?;
             for place in 0..source.len() {
-                assert!(rt; same_cut_at(source.as_slice(), place, 8192), "{length} at {place}");
+                assert!(rt;
+                    same_cut_at(source.as_slice(), place, 8192),
+                    "{length} at {place}"
+                );
             }
             let mut pieces = PieceCutter::new();
             let refused = pieces.step(source.as_slice()).is_err();

@@ -8,7 +8,7 @@ pub returns-then-not-unfinished : goal.returns-then-not-unfinished
 returns-then-not-unfinished c =
     let s = c.self.inside in
     let h : has_unit s.place s.held.items ≡ false = sym (c.is_unfinished-unfinished.ensures ∙ ap (has_unit s.place) c.as_slice.ensures.value) ∙ c.if-not-unfinished.true in
-    let done = none_left c.args.self.now s.place s.held.items s.fed s.number s.refused c.self.view_is c.in_default.is h in
+    let done = none_left c.args.self.now s.place s.held.items s.fed s.number s.refused c.self.view_is c.in_default.is h c.self.invariant.2 in
     ((refl, λ _. tt, (done.0, done.1, done.2)), record { finished = tt })
 
 pub returns : goal.returns

@@ -4,8 +4,8 @@ use Rattle.csa_text.proofs.Leading.{default_step, unit_step, end_step, long_step
 use Rattle.csa_text.proofs.Lining.{length_range}
 use Rattle.csa_text.proofs.piece.PieceCutter.step.Goals as goal
 
-pub hold-requires : goal.hold-requires
-hold-requires c =
+pub hold_mark-requires : goal.hold_mark-requires
+hold_mark-requires c =
     let s = c.self.inside in
     let h : IsFoundIn s.place s.held.items c.args.piece.now c.found_in-found.result = rw c.as_slice.ensures.value at c.found_in-found.ensures in
     λ t. mark_room s.place s.held.items c.args.piece.now c.found_in-found.result h (sym c.is_in_mark.ensures ∙ t)
@@ -15,8 +15,8 @@ returns-in_default-found c =
     let s = c.self.inside in
     let i = c.self.invariant in
     let h : IsFoundIn s.place s.held.items c.args.piece.now c.found_in-found.result = rw c.as_slice.ensures.value at c.found_in-found.ensures in
-    let done = default_step c.args.self.now s.place c.place_of-self-inside.result s.held.items c.hold.new.held.items c.args.piece.now c.found_in-found.result s.fed s.number s.refused
-    c.self.view_is c.in_default.is c.place_of-self-inside.ensures (rw c.is_in_mark.ensures at c.hold.ensures) c.in_default-found.not-Unit h (omega (arith, i.0)) i.3 in
+    let done = default_step c.args.self.now s.place c.place_of-self-inside.result s.held.items c.hold_mark.new.held.items c.args.piece.now c.found_in-found.result s.fed s.number s.refused
+    c.self.view_is c.in_default.is c.place_of-self-inside.ensures (rw c.is_in_mark.ensures at c.hold_mark.ensures) c.in_default-found.not-Unit h (omega (arith, i.0)) i.3 in
     ((refl, λ _. tt, (done.0, (refl, done.1))), record { stepped = tt })
 
 pub returns-then-kept-part : goal.returns-then-kept-part
@@ -45,9 +45,9 @@ returns-then-end-piece c =
     let most = kept_most goes_on s.held.items in
     let few : length (kept_of goes_on s.held.items) + (end - start) ≤ 4096 = omega (arith, kept, size, c.if-kept-part.false, i.1) in
     let left : c.forget.new.held.items ≡ kept_of goes_on s.held.items = kept_is goes_on s.held.items c.forget.new.held.items c.forget.ensures in
-    let all : c.hold-then-end-piece.new.held.items ≡ kept_of goes_on s.held.items ++ slice_range piece start end =
-    c.hold-then-end-piece.ensures ∙ ap (λ xs. xs ++ slice_range piece start end) left in
-    let done = unit_step c.args.self.now s.place s.held.items c.hold-then-end-piece.new.held.items piece goes_on start end s.fed s.number s.refused
+    let all : c.hold.new.held.items ≡ kept_of goes_on s.held.items ++ slice_range piece start end =
+    c.hold.ensures ∙ ap (λ xs. xs ++ slice_range piece start end) left in
+    let done = unit_step c.args.self.now s.place s.held.items c.hold.new.held.items piece goes_on start end s.fed s.number s.refused
     c.self.view_is c.in_default.is p (omega (arith, i.0)) c.if-end-piece.true all few in
     ((refl, λ _. tt, (done.0, (c.if-end-piece.true, done.1))), record { stepped = tt })
 
