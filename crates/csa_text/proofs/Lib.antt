@@ -1,5 +1,6 @@
 pub mod Fronts
 pub mod Runs
+pub mod SameMoment
 pub mod Texts
 pub mod PairsRead
 pub mod CellTexts

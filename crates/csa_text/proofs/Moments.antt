@@ -121,13 +121,17 @@ day_found bytes y m d (Some date) n exists value =
     let year : unsigned_abs date.year ≡ y = ap unsigned_abs value.0 in
     rw (year, value.1, value.2) (n, exists.0 refl)
 
-pub time_found : (bytes : List ℕ) (h m s : ℕ) (o : Option Time) → TimeDigits bytes h m s → IsSome o ↔ ((h ≤ 23) × (m ≤ 59) × (s ≤ 59)) → IfSome o (λ time. (time.hour ≡ h) × (time.minute ≡ m) × (time.second ≡ s)) → MatchOption o ((a b c : ℕ) → SpellsTime bytes a b c → ⊥) (λ time. SpellsTime bytes time.hour time.minute time.second)
+pub time_found : (bytes : List ℕ) (h m s : ℕ) (o : Option Time) → TimeDigits bytes h m s → IsSome o ↔ ((h ≤ 23) × (m ≤ 59) × (s ≤ 59)) → IfSome o (λ time. (time.hour ≡ h) × (time.minute ≡ m) × (time.second ≡ s) × (time.subsec_nanosecond ≡ 0)) → MatchOption o ((a b c : ℕ) → SpellsTime bytes a b c → ⊥) (λ time. SpellsTime bytes time.hour time.minute time.second)
 time_found bytes h m s None n exists value = λ a b c t.
     let same = time_once bytes a b c h m s t.0 n in
     absurd (false≢true (exists.1 (rw (← same.0, ← same.1, ← same.2) (t.1, t.2, t.3))))
 time_found bytes h m s (Some time) n exists value =
     let in_day = exists.0 refl in
     rw (value.0, value.1, value.2) (n, in_day.0, in_day.1, in_day.2)
+
+pub whole_found : (h m s : ℕ) (o : Option Time) → IfSome o (λ time. (time.hour ≡ h) × (time.minute ≡ m) × (time.second ≡ s) × (time.subsec_nanosecond ≡ 0)) → IfSome o (λ time. time.subsec_nanosecond ≡ 0)
+whole_found h m s None value = value
+whole_found h m s (Some time) value = value.3
 
 none_joined : (mark : ℕ) (xs ys : List ℕ) → HasNone mark xs → HasNone mark ys → HasNone mark (xs ++ ys)
 none_joined mark xs ys h k = all_joined (λ b. (b == mark) ≡ false) xs ys h k

@@ -1,4 +1,5 @@
-ghost use Rattle.std.specs.Prelude.{pos, ◌≤ℤ◌};
+ghost use Rattle.std.specs.Prelude.{◌≡◌, pos, ◌≤ℤ◌, IfSome};
+ghost use Rattle.std.proofs.Props.{props};
 
 use jiff::civil::{Date, Time};
 
@@ -9,4 +10,5 @@ pub struct Moment {
     pub(crate) date: Date,
     pub(crate) time: Option<Time>,
     pub(crate) ghost year_in: { (pos 0 ≤ℤ date.year) × (date.year ≤ℤ pos 9999) },
+    pub(crate) ghost whole_seconds: { IfSome time (λ t. t.subsec_nanosecond ≡ 0) } by { Prim.hlevel props },
 }

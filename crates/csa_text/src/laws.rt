@@ -1,11 +1,15 @@
 //! Laws of the definitions that the contracts of this crate cite. They take and give nothing.
 
-ghost use Rattle.std.specs.Prelude.{◌≡◌, ℕ, List, ◌++◌};
+ghost use Rattle.std.specs.Prelude.{◌≡◌, ℕ, List, ◌++◌, ◌↔◌, true};
 ghost use Rattle.csa_text.specs.Cut.{TextUnit, Cut, Statements};
 ghost use Rattle.csa_text.specs.Lines.{Lines};
 ghost use Rattle.csa_text.specs.Moment.{CalendarMoment, SpellsMoment};
+ghost use Rattle.csa_text.specs.MomentParts.{moment_of};
 ghost use Rattle.csa_text.specs.Piecing.{Piecing, ToCome, Closed, Leads, fresh};
 ghost use Rattle.csa_text.specs.Spelling.{Saying, Spells};
+ghost use Rattle.csa_text.specs.declared.calendar.Moment.{Moment};
+
+use crate::calendar::Moment;
 
 /// From each offset on, a text has one list of statements and no other; and so a source is cut in
 /// one way.
@@ -37,6 +41,12 @@ pub fn lines_joined()
 /// Bytes spell one moment at most.
 pub fn moment_once()
     ensures { (bytes : List ℕ) (a b : CalendarMoment) → SpellsMoment bytes a → SpellsMoment bytes b → a ≡ b }
+{}
+
+/// Two moments are equal exactly where their calendar moments are: so however a moment is spelt, it
+/// is one.
+pub fn equal_moments()
+    ensures { (p q : Moment) → (⟦<Moment as PartialEq>⟧.eq p q ≡ true) ↔ (moment_of p ≡ moment_of q) }
 {}
 
 /// The closed statements of a source are one list.

@@ -61,6 +61,7 @@ fn read_time(bytes: &[u8]) -> Option<Time>
     ensures value { MatchOption result
         ((hour minute second : ℕ) → SpellsTime bytes.now hour minute second → ⊥)
         (λ time. SpellsTime bytes.now time.hour time.minute time.second) }
+    ensures whole_seconds { IfSome result (λ time. time.subsec_nanosecond ≡ 0) }
 {
     let (hour, minute, second) = time_digits(bytes)?;
     time_of(hour, minute, second)
@@ -79,7 +80,7 @@ fn date_of(year: u16, month: u16, day: u16) -> Option<Date>
 fn time_of(hour: u16, minute: u16, second: u16) -> Option<Time>
     requires { (hour < 100) × (minute < 100) × (second < 100) }
     ensures exists { IsSome result ↔ ((hour ≤ 23) × (minute ≤ 59) × (second ≤ 59)) }
-    ensures value { IfSome result (λ time. (time.hour ≡ hour) × (time.minute ≡ minute) × (time.second ≡ second)) }
+    ensures value { IfSome result (λ time. (time.hour ≡ hour) × (time.minute ≡ minute) × (time.second ≡ second) × (time.subsec_nanosecond ≡ 0)) }
 {
     Time::new(hour as i8, minute as i8, second as i8, 0).ok()
 }
@@ -202,6 +203,7 @@ mod tests {
                 assert_eq!(rt; moment.text().as_str(), want, "at {bytes}");
             }
         }
+        assert!(rt; read_moment(b"2024/2/29 9:05:07") == read_moment(b"2024/02/29 09:05:07"));
         assert!(rt; read_moment(b"2024/02/29") != read_moment(b"2024/02/29 00:00:00"));
     }
 
