@@ -10,3 +10,4 @@ pub mod Games
 pub mod Kept
 pub mod Stretches
 pub mod Once
+pub mod Counts

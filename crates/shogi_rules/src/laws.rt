@@ -2,7 +2,7 @@
 //!
 //! A law is a function that does nothing: its contract is the law.
 
-ghost use Rattle.std.specs.Prelude.{◌≡◌, ℕ, List, Option};
+ghost use Rattle.std.specs.Prelude.{◌≡◌, ℕ, ◌+◌, ◌↔◌, List, [], ◌∷◌, Option};
 ghost use Rattle.shogi_board.specs.Cells.{at, piece};
 ghost use Rattle.shogi_board.specs.Pieces.{opponent};
 ghost use Rattle.shogi_board.specs.Placed.{Placed};
@@ -18,7 +18,7 @@ ghost use Rattle.shogi_rules.specs.Legal.{HasPiece, ReachesTarget, Legal};
 ghost use Rattle.shogi_rules.specs.Order.{IsFirstLegal};
 ghost use Rattle.shogi_rules.specs.Play.{Answers};
 ghost use Rattle.shogi_rules.specs.Positions.{Played, position_after, IsGame};
-ghost use Rattle.shogi_rules.specs.Repetition.{IsNth};
+ghost use Rattle.shogi_rules.specs.Repetition.{times, IsNth};
 ghost use Rattle.shogi_rules.specs.Rules.{Kept, all_rules, IsFirstBroken};
 ghost use Rattle.shogi_rules.specs.Verdicts.{Stands};
 ghost use Rattle.shogi_rules.specs.declared.line.PlayFault.{PlayFault};
@@ -70,6 +70,13 @@ pub fn one_answer()
 /// One move is the first legal one.
 pub fn one_first_legal()
     ensures { (p : Placed) (m n : Move) → IsFirstLegal p m → IsFirstLegal p n → m ≡ n }
+{}
+
+/// A position counts in a list exactly where it is equal: one in front adds one there, and else nothing.
+pub fn times_counts_equal_positions()
+    ensures none { (p : Placed) → times [] p ≡ 0 }
+    ensures more { (ps : List Placed) (p q : Placed) → (times (p ∷ ps) q ≡ times ps q + 1) ↔ (p ≡ q) }
+    ensures same { (ps : List Placed) (p q : Placed) → (p ≡ q → ⊥) → times (p ∷ ps) q ≡ times ps q }
 {}
 
 /// A position stands for the n-th time at one place of a list.
