@@ -151,6 +151,31 @@ fn names_the_first_broken_rule(rt: HostRuntime) -> Result<(), Fail> {
     Ok(())
 }
 
+// White's ranks are counted from the other end.
+#[test]
+fn names_the_first_rule_white_breaks(rt: HostRuntime) -> Result<(), Fail> {
+    let table: [(&str, &str, Option<Rule>); 9] = [
+        ("-18FU ", "-1819FU", Some(Rule::MustPromote)),
+        ("-18FU ", "-1819TO", None),
+        ("-00KE ", "-0018KE", Some(Rule::MustPromote)),
+        ("-00KE ", "-0017KE", None),
+        ("-33FU ", "-3334TO", Some(Rule::BadPromotion)),
+        ("-55FU -00FU ", "-0056FU", Some(Rule::DoubledPawn)),
+        ("-51OU +59HI ", "-5152OU", Some(Rule::LeavesKing)),
+        ("-51OU +59HI ", "+5958HI", Some(Rule::WrongSide)),
+        (
+            "-97KI -77KE -51OU -00FU +99OU ",
+            "-0098FU",
+            Some(Rule::PawnDropMate),
+        ),
+    ];
+    for (pieces, text, wanted) in table {
+        let p = position(Color::White, pieces)?;
+        assert_eq!(rt; broken(&p, text)?, wanted, "{pieces} {text}");
+    }
+    Ok(())
+}
+
 // A pawn drop that gives check: whether it mates.
 #[test]
 fn tells_pawn_drop_mates(rt: HostRuntime) -> Result<(), Fail> {
@@ -254,7 +279,8 @@ fn tells_how_lines_stand(rt: HostRuntime) -> Result<(), Fail> {
     let round = "+5949HI -4151OU +4959HI -5141OU ";
     let hands = "+0052FU -5152OU +5958OU -5241OU +5859OU -4151OU ";
     let sides = "+5958OU -5141OU +5849OU -4151OU +4959OU -5141OU +5958OU -4152OU +5859OU -5251OU ";
-    let table: [(&str, &str, &str, usize, Verdict); 9] = [
+    let white = "-5161HI +6959OU -6151HI +5969OU ";
+    let table: [(&str, &str, &str, usize, Verdict); 11] = [
         (
             "+59HI +99OU -41OU",
             "",
@@ -269,6 +295,21 @@ fn tells_how_lines_stand(rt: HostRuntime) -> Result<(), Fail> {
             round,
             3,
             Verdict::Perpetual(Color::Black),
+        ),
+        (
+            "+68OU -11OU -51HI",
+            "+6869OU ",
+            white,
+            3,
+            Verdict::Perpetual(Color::White),
+        ),
+        // black's first move gave no check
+        (
+            "+59HI +99OU -41OU",
+            "+5969HI -4151OU +6959HI -5141OU ",
+            round,
+            2,
+            Verdict::Repetition,
         ),
         (
             "+59OU +00FU +00FU +00FU -51OU",
@@ -324,6 +365,10 @@ fn refuses_to_play_on(rt: HostRuntime) -> Result<(), Fail> {
     let over = PlayFault::Broken(Rule::RepetitionOver);
     assert_eq!(rt; line.fault(color, &mv), Some(over));
     assert_eq!(rt; line.play(color, mv), Err(over));
+    // the pawn does not reach the square, a later rule
+    let (_, far) = read(b"+7775FU")?;
+    assert_eq!(rt; line.fault(color, &far), Some(over));
+    assert_eq!(rt; line.play(color, far), Err(over));
     assert_eq!(rt;
         line.fault(Color::White, &mv),
         Some(PlayFault::Broken(Rule::WrongSide))
@@ -379,6 +424,7 @@ fn tells_the_parts_of_moves(rt: HostRuntime) -> Result<(), Fail> {
     laws::one_first_broken_rule();
     laws::one_answer();
     laws::one_first_legal();
+    laws::times_counts_equal_positions();
     laws::nth_place_once();
     laws::one_verdict();
     Ok(())
