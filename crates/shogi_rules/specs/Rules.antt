@@ -8,7 +8,7 @@ use Rattle.shogi_rules.specs.declared.rule.Rule.TheVariants.{WrongSide, Repetiti
 use Rattle.shogi_rules.specs.Legal.{HasPiece, KindFits, TargetFree, ReachesTarget, MayPromote, HasFurtherMove, LonePawn, KingSafe, NoDropMate}
 use Rattle.shogi_rules.specs.Repetition.{Over}
 
--- a side's move keeps a rule, at the last position of a list
+-- a side's move keeps a rule; p is the position to judge, which callers take as the last of ps
 abbrev pub Kept : List Placed → Placed → Color → Move → Rule → Type 0
 Kept ps p color m WrongSide = color ≡ p.side
 Kept ps p color m RepetitionOver = Over ps p → ⊥

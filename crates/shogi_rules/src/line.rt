@@ -47,7 +47,7 @@ pub enum Verdict {
     Mate,
     /// The side to move is not in check and has no legal move.
     NoMove,
-    /// The position stands for the fourth time.
+    /// The position stands for the fourth time, and no side alone gave check with each move since the first.
     Repetition,
     /// The position stands for the fourth time, and this side alone gave check with each move since the first: it has
     /// lost.
