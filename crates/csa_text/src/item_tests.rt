@@ -201,9 +201,65 @@ const PAIRS: [(&[u8], Option<Color>, &[(u8, Option<Kind>)]); 15] = [
 ];
 
 // Ranks: the number, and the pieces with their places from file 9 to file 1.
-const RANKS: [(&[u8], u8, &[(usize, Color, Kind)]); 8] = [
+const RANKS: [(&[u8], u8, &[(usize, Color, Kind)]); 15] = [
     (b"P9 *  *  *  *  *  *  *  *  * ", 9, &[]),
     (b"P1 *  *  *  *  *  *  *  *  *", 1, &[]),
+    (b"P4 *  *  *  *  *  *  *  *  *", 4, &[]),
+    (b"P5 *  *  *  *  *  *  *  *  *", 5, &[]),
+    (b"P6 *  *  *  *  *  *  *  *  *", 6, &[]),
+    (
+        b"P2 * -HI *  *  *  *  * -KA *",
+        2,
+        &[
+            (1, Color::White, Kind::Rook),
+            (7, Color::White, Kind::Bishop),
+        ],
+    ),
+    (
+        b"P3-FU-FU-FU-FU-FU-FU-FU-FU-FU",
+        3,
+        &[
+            (0, Color::White, Kind::Pawn),
+            (1, Color::White, Kind::Pawn),
+            (2, Color::White, Kind::Pawn),
+            (3, Color::White, Kind::Pawn),
+            (4, Color::White, Kind::Pawn),
+            (5, Color::White, Kind::Pawn),
+            (6, Color::White, Kind::Pawn),
+            (7, Color::White, Kind::Pawn),
+            (8, Color::White, Kind::Pawn),
+        ],
+    ),
+    (
+        b"P7+FU+FU+FU+FU+FU+FU+FU+FU+FU",
+        7,
+        &[
+            (0, Color::Black, Kind::Pawn),
+            (1, Color::Black, Kind::Pawn),
+            (2, Color::Black, Kind::Pawn),
+            (3, Color::Black, Kind::Pawn),
+            (4, Color::Black, Kind::Pawn),
+            (5, Color::Black, Kind::Pawn),
+            (6, Color::Black, Kind::Pawn),
+            (7, Color::Black, Kind::Pawn),
+            (8, Color::Black, Kind::Pawn),
+        ],
+    ),
+    (
+        b"P9+KY+KE+GI+KI+OU+KI+GI+KE+KY",
+        9,
+        &[
+            (0, Color::Black, Kind::Lance),
+            (1, Color::Black, Kind::Knight),
+            (2, Color::Black, Kind::Silver),
+            (3, Color::Black, Kind::Gold),
+            (4, Color::Black, Kind::King),
+            (5, Color::Black, Kind::Gold),
+            (6, Color::Black, Kind::Silver),
+            (7, Color::Black, Kind::Knight),
+            (8, Color::Black, Kind::Lance),
+        ],
+    ),
     (
         b"P1 *  *  *  * -HI *  *  *  * ",
         1,
@@ -259,7 +315,8 @@ const RANKS: [(&[u8], u8, &[(usize, Color, Kind)]); 8] = [
     ),
 ];
 
-const BAD_RANKS: [&[u8]; 10] = [
+const BAD_RANKS: [&[u8]; 11] = [
+    b"P1 *  *  *  *  *  *  *  * *",
     b"P1 *  *  *  *  *  *  *  *  ",
     b"P1 *  *  *  *  *  *  *  * ",
     b"P1 *  *  *  *  *  *  *  *  *  ",
@@ -298,6 +355,14 @@ fn reads_items(rt: HostRuntime) {
     }
     laws::cut_once();
     laws::spelt_once();
+    laws::lines_once();
+    laws::lines_joined();
+    laws::moment_once();
+    laws::equal_moments();
+    laws::closed_once();
+    laws::pieces_joined();
+    laws::pieces_closed();
+    laws::pieces_whole();
 }
 
 #[test]

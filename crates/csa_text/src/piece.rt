@@ -440,7 +440,7 @@ mod tests {
     }
 
     // Each `|` stands for a line feed.
-    const RECORDS: [&str; 24] = [
+    const RECORDS: [&str; 30] = [
         "PI|+|",
         "V2.2|PI|+|+7776FU,T12|-3334FU,T6|%TORYO|",
         "P+13KI33KE59OU00FU|P-11OU|+|+0012FU|",
@@ -453,18 +453,24 @@ mod tests {
         "P+59OU|P-51HI|+|+5948OU|",
         "N+|$SITE:b|$EVENT:a|PI|+|",
         "$START_TIME:2024/2/29 9:05:07|PI|+|",
-        "PI|+|+2838HI|-8272HI|+3828HI|-7282HI|+2838HI|-8272HI|+3828HI|-7282HI|+7776FU|",
+        "$START_TIME:2023/02/29|PI|+|",
+        "PI|+|+2838HI|-8272HI|+3828HI|-7282HI|+2838HI|-8272HI|+3828HI|-7282HI|+2838HI|-8272HI|+3828HI|-7282HI|+7776FU|",
+        "PI|+|+2838HI|-8272HI|+3828HI|-7282HI|+2838HI|-8272HI|+3828HI|-7282HI|+2838HI|-8272HI|+3828HI|-7282HI|",
         "PI|+|+7776FU|T007|",
         "PI|+|+7776FU|T4294967296|",
+        "PI|+|+7776FU|T4294967295|",
         "P-51OU|P+53FU00KI|P-00AL|P+00FU|+|",
+        "P-51OU|P+53FU00KI|P-00AL|+|",
         "PI|+|+7776FU|-3334FU|+8822UM|-3122GI|",
         "V2.2|PI|+|+7776F",
         "V3.0",
         "N+a,b|PI|+|",
+        "\u{FEFF}V2.2|PI|+|",
         "PI82HI22KA|-|",
         "P9 *  *  *  *  *  *  *  *  * |+|",
-        "P+59HI99OU|P-41OU|+|+5949HI|-4151OU|+4959HI|-5141OU|",
+        "P+59HI99OU|P-41OU|+|+5949HI|-4151OU|+4959HI|-5141OU|+5949HI|-4151OU|+4959HI|-5141OU|+5949HI|-4151OU|+4959HI|-5141OU|",
         "P+13KI33KE59OU00KI|P-11OU|+|+0012KI|",
+        "P+59OU|P-51OU|+|",
     ];
 
     const EVEN_IN_RANKS: &[u8] = b"P1-KY-KE-GI-KI-OU-KI-GI-KE-KY\r\n\
