@@ -1,4 +1,5 @@
 -- The codes of kinds are all different, and squares are told by their digits: so that the bytes of `Pairs` are one list of pairs.
+-- These are lemmas, which the type of `Pairs` needs; a reader of the grammar may skip them.
 use Rattle.std.proofs.Common.{◌≡◌, ℕ, ◌+◌, arith, List, [], ◌∷◌, Option, Some, None, refl, sym, ap, ◌∙◌, length}
 use Rattle.std.specs.Prelude.{nat_eq, if◌then◌else◌, codes}
 use Rattle.std.specs.Cmp.Lexicographic.{pointwise}

@@ -1,4 +1,5 @@
 -- Bytes are the text of one list of pairs at most.
+-- These are lemmas, which the type of `Pairs` needs; a reader of the grammar may skip them.
 use Rattle.std.proofs.Common.{◌≡◌, ℕ, ◌+◌, arith, List, [], ◌∷◌, ◌++◌, refl, sym, ap, ◌∙◌, length, subst}
 use Rattle.std.proofs.Props.{props}
 use Rattle.shogi_board.specs.Squares.{file_of, rank_of}
