@@ -1,5 +1,5 @@
 -- Words played as moves, one after another.
-use Rattle.std.proofs.Common.{◌≡◌, ℕ, ◌<◌, ◌⊎◌, inl, inr, List, [], ◌∷◌, ◌++◌, Some, None, Result, Ok, Err, length, drop, arith, refl, sym, ap, ◌∙◌, subst, append_assoc}
+use Rattle.std.proofs.Common.{◌≡◌, ℕ, ◌<◌, ◌⊎◌, inl, inr, List, [], ◌∷◌, ◌++◌, Some, None, Result, Ok, Err, length, drop, arith, refl, sym, ap, ◌∙◌, subst}
 use Rattle.shogi_board.specs.declared.color.Color.{Color}
 use Rattle.shogi_board.specs.Placed.{Placed}
 use Rattle.shogi_rules.specs.Play.{Answers}
@@ -17,50 +17,36 @@ pub broken_told : (line : Played) (c : Color) (m : Move) (rule : Rule) → ((pla
 broken_told line c m rule (inl h) = let e = h.0 in cc
 broken_told line c m rule (inr h) = h
 
--- the words up to a rest are played
+pub memory_told : (line : Played) (c : Color) (m : Move) → ((play.OutOfMemory ≡ play.OutOfMemory) × Answers line c m None) ⊎ Answers line c m (Some play.OutOfMemory) → Answers line c m None
+memory_told line c m (inl h) = h.1
+memory_told line c m (inr h) = absurd h
+
+-- what playing a rest answers is what playing the words answers
 pub record Playing (start : Placed) (words rest : List (List ℕ)) (moves : List Move) : Type 0 where
   pub forward : (answer : Result (List Move) UsiFault) → Plays start moves rest answer → Plays start [] words answer
-  pub done : List (List ℕ)
-  pub whole : words ≡ done ++ rest
-  pub played : Plays start [] done (Ok moves)
 
 pub playing_start : (start : Placed) (words : List (List ℕ)) → Playing start words words []
-playing_start start words = record { forward = λ answer h. h; done = []; whole = refl; played = refl }
-
-plays_more : (start : Placed) (before moves : List Move) (words : List (List ℕ)) (w : List ℕ) (m : Move) → Plays start before words (Ok moves) → IsPlayed start moves w m → Plays start before (words ++ w ∷ []) (Ok (moves ++ m ∷ []))
-plays_more start before moves [] w m h p =
-    let e : Ok moves ≡ Ok before = h in
-    let same : moves ≡ before = cc in
-    inr (m, subst (λ ms. IsPlayed start ms w m) same p, ap (λ ms. Ok (ms ++ m ∷ [])) same)
-plays_more start before moves (v ∷ vs) w m (inl h) p = let e = h.2 in cc
-plays_more start before moves (v ∷ vs) w m (inr h) p = inr (h.0, h.1, plays_more start (before ++ h.0 ∷ []) moves vs w m h.2 p)
+playing_start start words = record { forward = λ answer h. h }
 
 pub playing_more : (start : Placed) (words rest behind : List (List ℕ)) (moves : List Move) (w : List ℕ) (m : Move) → Playing start words rest moves → rest ≡ w ∷ behind → IsPlayed start moves w m → Playing start words behind (moves ++ m ∷ [])
-playing_more start words rest behind moves w m p e h = record {
-  forward = λ answer k. p.forward answer (rw e (inr (m, h, k)));
-  done = p.done ++ w ∷ [];
-  whole = p.whole ∙ (ap (λ r. p.done ++ r) e ∙ sym (append_assoc p.done (w ∷ []) behind));
-  played = plays_more start [] moves p.done w m p.played h;
-}
+playing_more start words rest behind moves w m p e h = record { forward = λ answer k. p.forward answer (rw e (inr (m, h, k))) }
 
 pub playing_end : (start : Placed) (words rest : List (List ℕ)) (moves : List Move) → Playing start words rest moves → rest ≡ [] → Plays start [] words (Ok moves)
 playing_end start words rest moves p none = p.forward (Ok moves) (rw none refl)
 
-fault_told : (start : Placed) (words rest behind : List (List ℕ)) (moves : List Move) (w : List ℕ) (fault : UsiFault) → Playing start words rest moves → rest ≡ w ∷ behind → WordFault start moves w fault → PlayedFault start words fault
-fault_told start words rest behind moves w BadLine p e h = h
-fault_told start words rest behind moves w (usi.Sfen f) p e h = h
-fault_told start words rest behind moves w OutOfMemory p e h = absurd h
-fault_told start words rest behind moves w TooManyMoves p e h = p.forward (Err TooManyMoves) (rw e (inl (TooManyMoves, h, refl)))
-fault_told start words rest behind moves w (BadMoveText n) p e h = p.forward (Err (BadMoveText n)) (rw e (inl (BadMoveText n, h, refl)))
-fault_told start words rest behind moves w (Broken n rule) p e h = p.forward (Err (Broken n rule)) (rw e (inl (Broken n rule, h, refl)))
+pub playing_fault : (start : Placed) (words rest behind : List (List ℕ)) (moves : List Move) (w : List ℕ) (fault : UsiFault) → Playing start words rest moves → rest ≡ w ∷ behind → WordFault start moves w fault → PlayedFault start words fault
+playing_fault start words rest behind moves w BadLine p e h = h
+playing_fault start words rest behind moves w (usi.Sfen f) p e h = h
+playing_fault start words rest behind moves w OutOfMemory p e h = p.forward (Err OutOfMemory) (rw e (inl (OutOfMemory, h, refl)))
+playing_fault start words rest behind moves w TooManyMoves p e h = p.forward (Err TooManyMoves) (rw e (inl (TooManyMoves, h, refl)))
+playing_fault start words rest behind moves w (BadMoveText n) p e h = p.forward (Err (BadMoveText n)) (rw e (inl (BadMoveText n, h, refl)))
+playing_fault start words rest behind moves w (Broken n rule) p e h = p.forward (Err (Broken n rule)) (rw e (inl (Broken n rule, h, refl)))
 
-pub playing_fault : (start : Placed) (words rest behind : List (List ℕ)) (moves : List Move) (w : List ℕ) (fault : UsiFault) → Playing start words rest moves → rest ≡ w ∷ behind → (fault ≡ OutOfMemory) ⊎ WordFault start moves w fault → PlayedFault start words fault
-playing_fault start words rest behind moves w fault p e (inl h) = rw h (p.done, rest, moves, p.whole, p.played)
-playing_fault start words rest behind moves w fault p e (inr h) = fault_told start words rest behind moves w fault p e h
-
-pub line_fault : (ws : List (List ℕ)) (start : Placed) (words : List (List ℕ)) (fault : UsiFault) → Starts ws start words → PlayedFault start words fault → LineFault ws fault
-line_fault ws start words BadLine s h = absurd h
-line_fault ws start words (usi.Sfen f) s h = absurd h
+pub line_fault : (ws : List (List ℕ)) (start : Placed) (words : List (List ℕ)) (fault : UsiFault) → Starts ws start words → (fault ≡ OutOfMemory) ⊎ PlayedFault start words fault → LineFault ws fault
+line_fault ws start words BadLine s (inl h) = cc
+line_fault ws start words BadLine s (inr h) = absurd h
+line_fault ws start words (usi.Sfen f) s (inl h) = cc
+line_fault ws start words (usi.Sfen f) s (inr h) = absurd h
 line_fault ws start words OutOfMemory s h = (start, words, s, h)
 line_fault ws start words TooManyMoves s h = (start, words, s, h)
 line_fault ws start words (BadMoveText n) s h = (start, words, s, h)

@@ -56,16 +56,19 @@ Judged start before m answer = Answers (line_of start before) (position_now star
 abbrev pub IsPlayed : Placed → List Move → List ℕ → Move → Type 0
 IsPlayed start before w m = UsiMove (position_now start before) w m × Judged start before m None
 
--- the first fault of a word behind those moves, memory aside; moves are numbered from 1
+-- the first fault of a word behind those moves; moves are numbered from 1.
+-- Memory is wanting only for a word that may be played
 abbrev pub WordFault : Placed → List Move → List ℕ → UsiFault → Type 0
 WordFault start before w TooManyMoves = 10000 ≤ length before
 WordFault start before w (BadMoveText n) =
     (n ≡ length before + 1) × (length before < 10000) × ((m : Move) → UsiMove (position_now start before) w m → ⊥)
 WordFault start before w (Broken n rule) =
     (n ≡ length before + 1) × (m : Move) × UsiMove (position_now start before) w m × Judged start before m (Some (play.Broken rule))
+WordFault start before w OutOfMemory = (m : Move) × IsPlayed start before w m
 WordFault start before w _ = ⊥
 
--- the words are played as moves, one after another behind those before, and this is the answer: all moves, or the first fault
+-- the words are played as moves, one after another behind those before, and this is the answer: all moves, or the fault
+-- of a word behind played ones
 abbrev pub Plays : Placed → List Move → List (List ℕ) → Result (List Move) UsiFault → Type 0
 Plays start before [] answer = answer ≡ Ok before
 Plays start before (w ∷ ws) answer =
@@ -76,22 +79,17 @@ Plays start before (w ∷ ws) answer =
 abbrev pub UsiLine : List (List ℕ) → Placed → List Move → Type 0
 UsiLine ws start moves = (words : List (List ℕ)) × Starts ws start words × Plays start [] words (Ok moves)
 
--- some of the words, from the first on, are played
-abbrev pub PlaysSome : Placed → List (List ℕ) → Type 0
-PlaysSome start words =
-    (done : List (List ℕ)) × (rest : List (List ℕ)) × (moves : List Move) × (words ≡ done ++ rest) × Plays start [] done (Ok moves)
-
--- why the words are not all played; want of memory comes only behind moves that are
+-- why the words are not all played
 abbrev pub PlayedFault : Placed → List (List ℕ) → UsiFault → Type 0
 PlayedFault start words BadLine = ⊥
 PlayedFault start words (usi.Sfen fault) = ⊥
-PlayedFault start words OutOfMemory = PlaysSome start words
 PlayedFault start words fault = Plays start [] words (Err fault)
 
--- the first fault of a line
+-- the first fault of a line.
+-- Memory is asked for before the first move's word too, and then nothing is said of the words
 abbrev pub LineFault : List (List ℕ) → UsiFault → Type 0
 LineFault ws BadLine =
     ((moves : List (List ℕ)) → EvenLine ws moves → ⊥) × ((sfen moves : List (List ℕ)) → SfenLine ws sfen moves → ⊥)
 LineFault ws (usi.Sfen fault) =
     (sfen : List (List ℕ)) × (moves : List (List ℕ)) × SfenLine ws sfen moves × FirstFault sfen fault
-LineFault ws fault = (start : Placed) × (words : List (List ℕ)) × Starts ws start words × PlayedFault start words fault
+LineFault ws fault = (start : Placed) × (words : List (List ℕ)) × Starts ws start words × ((fault ≡ OutOfMemory) ⊎ PlayedFault start words fault)

@@ -1,6 +1,6 @@
 //! Laws of the definitions that the contracts of this crate cite. They take and give nothing.
 
-ghost use Rattle.std.specs.Prelude.{◌≡◌, ◌≤◌, ℕ, List, length};
+ghost use Rattle.std.specs.Prelude.{◌≡◌, ◌≤◌, ◌⊎◌, ℕ, List, length};
 ghost use Rattle.shogi_board.specs.Placed.{Placed};
 ghost use Rattle.shogi_rules.specs.declared.moves.Move.{Move};
 ghost use Rattle.shogi_board.specs.Sound.{IsSound};
@@ -27,12 +27,15 @@ pub fn sfen_again()
     ensures { (p : Placed) → IsSound p → Sfen (words (sfen_text p)) p }
 {}
 
-/// Words are the position line of one start and one list of moves at most, and then they have no fault but want of memory.
+/// Words are the position line of one start and one list of moves at most, and then they have no fault but want of
+/// memory; else they have one first fault at most beside it.
 pub fn line_once()
     ensures one { (ws : List (List ℕ)) (start other : Placed) (moves others : List Move)
         → UsiLine ws start moves → UsiLine ws other others → (start ≡ other) × (moves ≡ others) }
     ensures either { (ws : List (List ℕ)) (start : Placed) (moves : List Move) (fault : UsiFault)
         → UsiLine ws start moves → LineFault ws fault → fault ≡ OutOfMemory }
+    ensures first { (ws : List (List ℕ)) (fault other : UsiFault)
+        → LineFault ws fault → LineFault ws other → (fault ≡ OutOfMemory) ⊎ (other ≡ OutOfMemory) ⊎ (fault ≡ other) }
 {}
 
 /// The position line that is written for a start and legal moves from it is the position line of that start and these

@@ -16,7 +16,8 @@ use std::alloc::Global;
 ///
 /// Refuses, in this order: BadLine; Sfen with the SFEN's first fault; then for each move in turn TooManyMoves where
 /// 10,000 stand, BadMoveText where its word is no move in the position reached, Broken with the first rule that it
-/// breaks, OutOfMemory. Moves are numbered from 1.
+/// breaks, OutOfMemory where it may be played. OutOfMemory may come before the first move too. Moves are numbered
+/// from 1.
 pub fn read_position_line(alloc: Global, text: &[u8]) -> Result<Line, UsiFault>
     ensures { MatchResult result
         (λ line. UsiLine (words text.now) line.start line.moves)
@@ -35,7 +36,7 @@ pub fn read_position_line(alloc: Global, text: &[u8]) -> Result<Line, UsiFault>
 fn play_line(alloc: Global, start: Position, text: &[u8]) -> Result<Line, UsiFault>
     ensures { MatchResult result
         (λ line. (line.start ≡ start) × Plays start [] (words text.now) (Ok line.moves))
-        (λ fault. PlayedFault start (words text.now) fault) }
+        (λ fault. (fault ≡ OutOfMemory) ⊎ PlayedFault start (words text.now) fault) }
 {
     let mut line = match Line::new(alloc, start) {
         Ok(line) => line,
@@ -133,7 +134,7 @@ fn play_word(line: &mut Line, word: &[u8]) -> Result<(), UsiFault>
     ensures { MatchResult result
         (λ _. (m : Move) × IsPlayed line.old.start line.old.moves word.now m
         × (line.new ≡ line_of line.old.start (line.old.moves ++ m ∷ [])))
-        (λ fault. (fault ≡ OutOfMemory) ⊎ WordFault line.old.start line.old.moves word.now fault) }
+        (λ fault. WordFault line.old.start line.old.moves word.now fault) }
 {
     let n = line.moves().len();
     if n >= 10000 {

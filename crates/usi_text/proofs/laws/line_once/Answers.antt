@@ -1,4 +1,4 @@
-use Rattle.usi_text.proofs.LineOnce.{line_once, line_no_fault}
+use Rattle.usi_text.proofs.LineOnce.{line_once, line_no_fault, line_fault_once}
 use Rattle.usi_text.proofs.laws.line_once.Goals as goal
 
 pub returns-clause-one : goal.returns-clause-one
@@ -6,3 +6,6 @@ returns-clause-one c = line_once
 
 pub returns-clause-either : goal.returns-clause-either
 returns-clause-either c = line_no_fault
+
+pub returns-clause-first : goal.returns-clause-first
+returns-clause-first c = line_fault_once

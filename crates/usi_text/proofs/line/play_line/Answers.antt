@@ -1,6 +1,5 @@
-use Rattle.std.proofs.Common.{refl, []}
-use Rattle.usi_text.specs.Words.{words}
+use Rattle.std.proofs.Common.{refl, inl}
 use Rattle.usi_text.proofs.line.play_line.Goals as goal
 
 pub returns-in-Err : goal.returns-in-Err
-returns-in-Err c = ([], words c.args.text.now, [], refl, refl)
+returns-in-Err c = inl refl

@@ -1,8 +1,7 @@
-use Rattle.std.proofs.Common.{rules, ◌≡◌, ◌∙◌, ◌⊎◌, ap, length, length-drop, arith, subst}
+use Rattle.std.proofs.Common.{rules, ◌∙◌, ap, length, length-drop, arith, subst}
 use Rattle.std.proofs.lemmas.Result.{err_from_is_err_and}
 use Rattle.shogi_board.specs.Placed.{Placed}
 use Rattle.shogi_rules.specs.Positions.{Played}
-use Rattle.usi_text.specs.declared.fault.UsiFault.TheVariants.{OutOfMemory}
 use Rattle.usi_text.specs.Lines.{IsPlayed, WordFault}
 use Rattle.usi_text.specs.Words.{words}
 use Rattle.usi_text.proofs.Played.{playing_start, playing_more, playing_end, playing_fault, with_first}
@@ -45,5 +44,5 @@ returns-in_err-play_word c =
     let fault = c.in_err-play_word.field-0.0 in
     let some = c.loop-rest-test.ensures {u = tt} in
     let first = with_first (words c.loop-rest.rest.now) w (words c.take_word.result.1.now) some c.take_word.ensures.word c.take_word.ensures.rest in
-    let f = subst (λ (q : Placed). (fault ≡ OutOfMemory) ⊎ WordFault q line.moves w fault) i.start (c.in_err-play_word.ensures {u = tt}) in
+    let f = subst (λ (q : Placed). WordFault q line.moves w fault) i.start (c.in_err-play_word.ensures {u = tt}) in
     rw (p.1, p.2) (playing_fault c.args.line.now.start (words c.args.text.now) (words c.loop-rest.rest.now) (words c.take_word.result.1.now) line.moves w fault i.playing first f)
