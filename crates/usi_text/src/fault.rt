@@ -1,6 +1,3 @@
-ghost use Rattle.std.specs.Prelude.{◌≡◌};
-ghost use Rattle.usi_text.specs.declared.fault.SfenFault.TheVariants.{Start};
-
 use shogi_board::SetupFault;
 use shogi_rules::Rule;
 use thiserror::Error;
@@ -23,14 +20,6 @@ pub enum SfenFault {
     /// The pieces cannot stand so: SecondKing, TooMany or OpponentInCheck.
     #[error("{0}")]
     Start(SetupFault),
-}
-
-impl From<SetupFault> for SfenFault {
-    ghost from_gives = { λ fault e. e ≡ Start fault };
-
-    fn from(fault: SetupFault) -> SfenFault {
-        SfenFault::Start(fault)
-    }
 }
 
 /// Why a text is no position line whose moves can be played.

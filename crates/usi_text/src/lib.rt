@@ -1,4 +1,4 @@
-//! The language of shogi engines: moves, and lines that an engine writes.
+//! The language of shogi engines: moves, SFENs, position lines, and lines that an engine writes.
 //!
 //! The forms are those of the USI protocol, in the profile of this project (`docs/USI.md`).
 #![tactic(auto)]

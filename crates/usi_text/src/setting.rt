@@ -11,7 +11,7 @@ use crate::hands::{Pile, is_dash, read_pile};
 use shogi_board::{Color, Piece, Position, Setup, SetupFault, Square};
 
 // The position with the pieces of these cells, in the order of a board's text, and of the hands that the text spells.
-pub(crate) fn position_of(
+pub(crate) fn set_up_position(
     cells: &[Option<Piece>],
     hands: &[u8],
     side: Color,

@@ -6,7 +6,7 @@ ghost use Rattle.usi_text.specs.Words.{words, nth_word};
 use crate::boards::read_board;
 use crate::fault::SfenFault;
 use crate::hands::is_hands;
-use crate::setting::position_of;
+use crate::setting::set_up_position;
 use crate::words::take_word;
 use shogi_board::{Color, Position};
 
@@ -33,7 +33,7 @@ pub fn read_sfen(text: &[u8]) -> Result<Position, SfenFault>
     if !is_number(words.number, words.fifth) {
         return Err(SfenFault::BadNumber);
     }
-    match position_of(cells.as_slice(), words.hands, side) {
+    match set_up_position(cells.as_slice(), words.hands, side) {
         Ok(position) => Ok(position),
         Err(fault) => Err(SfenFault::Start(fault)),
     }

@@ -31,7 +31,7 @@ fn text_of(position: &Position, mv: &Move) -> Result<ArrayString<5>, Fail> {
     }
 }
 
-// A black horse on 88 and a bishop on 55, a pawn in each hand, black to move.
+// A black horse on 88 and a bishop on 53, a pawn in each hand, black to move.
 fn with_a_horse() -> Result<Position, Fail> {
     let mut setup = Setup::empty();
     setup.place(Color::Black, square(88)?, Kind::Horse)?;
@@ -164,6 +164,8 @@ fn sfens_read_and_written(rt: HostRuntime) -> Result<(), Fail> {
             "9/9/9/9/9/9/9/9/9 b p1P2PR1l 7",
             "9/9/9/9/9/9/9/9/9 b R3Plp 1",
         ),
+        ("9/9/9/9/9/9/9/9/9 b P2P 1", "9/9/9/9/9/9/9/9/9 b 3P 1"),
+        ("9/9/9/9/9/9/9/9/9 b 2P 1", "9/9/9/9/9/9/9/9/9 b 2P 1"),
         ("9/9/9/9/9/9/9/9/9 b 10p8P", "9/9/9/9/9/9/9/9/9 b 8P10p 1"),
         ("9/9/9/9/9/9/9/9/9 b 18p", "9/9/9/9/9/9/9/9/9 b 18p 1"),
         ("9/9/9/9/9/9/9/9/9 w PP 1", "9/9/9/9/9/9/9/9/9 w 2P 1"),
@@ -281,6 +283,21 @@ fn lines_read(rt: HostRuntime) -> Result<(), Fail> {
 }
 
 #[test]
+fn moves_of_a_line(rt: HostRuntime) -> Result<(), Fail> {
+    let text = b"position startpos moves 7g7f 3c3d 8h2b+ 3a2b";
+    let line = read_position_line(rt.alloc(), text)?;
+    let want = [
+        walk(77, 76, Kind::Pawn)?.ok_or("no move")?,
+        walk(33, 34, Kind::Pawn)?.ok_or("no move")?,
+        walk(88, 22, Kind::Horse)?.ok_or("no move")?,
+        walk(31, 22, Kind::Silver)?.ok_or("no move")?,
+    ];
+    assert_eq!(rt; line.start(), Position::even());
+    assert_eq!(rt; line.moves(), want.as_slice());
+    Ok(())
+}
+
+#[test]
 fn lines_written(rt: HostRuntime) -> Result<(), Fail> {
     let table = [
         "position startpos",
@@ -351,6 +368,10 @@ fn lines_refused(rt: HostRuntime) {
         (
             "position sfen 8k/9/6N1G/9/9/9/9/9/4K4 b P 1 moves P*1b",
             UsiFault::Broken(1, Rule::PawnDropMate),
+        ),
+        (
+            "position sfen 9/8P/9/9/9/9/9/9/9 b - 1 moves 1b1a",
+            UsiFault::Broken(1, Rule::MustPromote),
         ),
         (over, UsiFault::Broken(13, Rule::RepetitionOver)),
     ];
@@ -424,6 +445,14 @@ fn faults_printed(rt: HostRuntime) -> Result<(), Fail> {
         (
             UsiFault::Sfen(SfenFault::Start(SetupFault::TooMany)),
             "S2 TooMany",
+        ),
+        (
+            UsiFault::Sfen(SfenFault::Start(SetupFault::SecondKing)),
+            "S3 SecondKing",
+        ),
+        (
+            UsiFault::Sfen(SfenFault::Start(SetupFault::OpponentInCheck)),
+            "S6 OpponentInCheck",
         ),
         (UsiFault::BadMoveText(3), "U6 BadMoveText"),
         (UsiFault::Broken(2, Rule::CannotReach), "rule 6 CannotReach"),
