@@ -7,6 +7,7 @@ pub mod Games
 pub mod LineAgain
 pub mod LineOnce
 pub mod OneMove
+pub mod OneText
 pub mod Piles
 pub mod Played
 pub mod Ranks

@@ -49,3 +49,14 @@ pub fn line_again()
 pub fn one_move()
     ensures { (p : Placed) (text : List ℕ) (m n : Move) → UsiMove p text m → UsiMove p text n → m ≡ n }
 {}
+
+/// In one position a move has one text at most.
+pub fn one_text()
+    ensures { (p : Placed) (text other : List ℕ) (m : Move) → UsiMove p text m → UsiMove p other m → text ≡ other }
+{}
+
+/// A start and moves have one written position line at most.
+pub fn one_line_text()
+    ensures { (start : Placed) (moves : List Move) (text other : List ℕ)
+        → LineText start moves text → LineText start moves other → text ≡ other }
+{}
