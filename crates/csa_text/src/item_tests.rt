@@ -412,6 +412,7 @@ fn reads_ranks(rt: HostRuntime) {
     for (bytes, number, pieces) in RANKS {
         let mut cells = [None; 9];
         for (place, color, kind) in pieces {
+            assert!(rt; *place < cells.len());
             cells[*place] = Some(Piece {
                 color: *color,
                 kind: *kind,
