@@ -34,4 +34,6 @@ pub use piece::{Cut, PieceCutter};
 #[cfg(test)]
 mod item_tests;
 #[cfg(test)]
+mod piece_tests;
+#[cfg(test)]
 mod tests;

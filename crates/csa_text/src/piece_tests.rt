@@ -1,0 +1,288 @@
+use crate::{Cutter, Item, PieceCutter, Statement, read_item};
+use shogi_board::{Color, Kind, Position, Setup, Square};
+use shogi_rules::Line;
+use std::test::Fail;
+
+// Whether pieces that end at this place, and behind it after each `size` bytes, give what
+// `Cutter` gives of the whole.
+fn same_cut_at(source: &[u8], place: usize, size: usize) -> bool {
+    let mut whole = Cutter::new(source);
+    let mut pieces = PieceCutter::new();
+    let mut at = 0usize;
+    for _ in 0..2_000_000 {
+        if at >= source.len() {
+            break;
+        }
+        let piece = &source[at..piece_end(source.len(), at, place, size)];
+        if pieces.fed() > 2_000_000 || piece.len() > 2_000_000 {
+            return false;
+        }
+        match pieces.step(piece) {
+            Err(fault) => return whole.next_statement() == Err(fault)
+                && pieces.finish() == Err(fault),
+            Ok(cut) => {
+                at += cut.used;
+                if cut.statement.is_some() && whole.next_statement() != Ok(cut.statement) {
+                    return false;
+                }
+            }
+        }
+    }
+    let fed = pieces.fed();
+    match pieces.finish() {
+        Ok(Some(last)) => fed == source.len() as u64
+            && whole.next_statement() == Ok(Some(last))
+            && whole.next_statement() == Ok(None),
+        Ok(None) => fed == source.len() as u64 && whole.next_statement() == Ok(None),
+        Err(_) => false,
+    }
+}
+
+// Where a piece from `at` ends.
+fn piece_end(length: usize, at: usize, place: usize, size: usize) -> usize
+    requires { (at ≤ length) }
+    ensures { (at ≤ result) × (result ≤ length) }
+{
+    if at < place && place <= length {
+        place
+    } else if length - at < size {
+        length
+    } else {
+        at + size
+    }
+}
+
+// Whether pieces of this size give what `Cutter` gives of the whole.
+fn same(source: &[u8], size: usize) -> bool {
+    same_cut_at(source, 0, size)
+}
+
+#[test]
+fn pieces_of_each_size_give_the_same(rt: HostRuntime) {
+    let table: [&[u8]; 12] = [
+        b"",
+        b"PI\n+\n+7776FU,T12\r\n-3334FU ,\tT6,%TORYO \n",
+        b"'x, y\n'z\nN+a, b \r\n$EVENT:c,'d\n ,,'e\n+ \t",
+        b"\xEF\xBB\xBFPI\n+",
+        b"\xEF\xBB\xBF",
+        b"\xEF\xBB",
+        b"\xEF\xBB\nPI\n",
+        b"\xEF,\xBB\xBFPI\n",
+        b"\xEFx\xBB,+",
+        b"\xEF\xBB\xBF\xEF\xBB\xBF\n+",
+        b"'abc\nPI\n'",
+        b",\r\n \t+\n\n-,",
+    ];
+    for source in table {
+        for size in 1..40usize {
+            assert!(rt; same(source, size), "in pieces of {size}");
+        }
+    }
+}
+
+#[test]
+fn long_statements_in_pieces(rt: HostRuntime) -> Result<(), std::alloc::AllocError> {
+    for length in [4095usize, 4096, 4097, 5000] {
+        for front in ["", "+\n", "'c\n", "N+"] {
+            for back in ["", "\n", "\n-"] {
+                let mut source: Vec<u8> = Vec::new(rt.alloc());
+                source.extend_from_slice(front.as_bytes())?;
+                for _ in 0..length {
+                    source.extend_from_slice(b"x")?;
+                }
+                source.extend_from_slice(back.as_bytes())?;
+                for size in [1usize, 2, 100, 4095, 4096, 4097, 6000] {
+                    assert!(rt;
+                        same(source.as_slice(), size),
+                        "{length} in pieces of {size}"
+                    );
+                }
+            }
+        }
+    }
+    Ok(())
+}
+
+// Each `|` stands for a line feed.
+const RECORDS: [&str; 30] = [
+    "PI|+|",
+    "V2.2|PI|+|+7776FU,T12|-3334FU,T6|%TORYO|",
+    "P+13KI33KE59OU00FU|P-11OU|+|+0012FU|",
+    "P+13KI33KE59OU00FU|P-11OU21KI|+|+0012FU|",
+    "P+55FU00FU|+|+0054FU|",
+    "P+12FU|+|+1211FU|",
+    "P+12FU|+|+1211TO|",
+    "P+59OU|P-51HI|+|+5958OU|",
+    "P+59OU|P-51HI|+|+5957OU|",
+    "P+59OU|P-51HI|+|+5948OU|",
+    "N+|$SITE:b|$EVENT:a|PI|+|",
+    "$START_TIME:2024/2/29 9:05:07|PI|+|",
+    "$START_TIME:2023/02/29|PI|+|",
+    "PI|+|+2838HI|-8272HI|+3828HI|-7282HI|+2838HI|-8272HI|+3828HI|-7282HI|+2838HI|-8272HI|+3828HI|-7282HI|+7776FU|",
+    "PI|+|+2838HI|-8272HI|+3828HI|-7282HI|+2838HI|-8272HI|+3828HI|-7282HI|+2838HI|-8272HI|+3828HI|-7282HI|",
+    "PI|+|+7776FU|T007|",
+    "PI|+|+7776FU|T4294967296|",
+    "PI|+|+7776FU|T4294967295|",
+    "P-51OU|P+53FU00KI|P-00AL|P+00FU|+|",
+    "P-51OU|P+53FU00KI|P-00AL|+|",
+    "PI|+|+7776FU|-3334FU|+8822UM|-3122GI|",
+    "V2.2|PI|+|+7776F",
+    "V3.0",
+    "N+a,b|PI|+|",
+    "\u{FEFF}V2.2|PI|+|",
+    "PI82HI22KA|-|",
+    "P9 *  *  *  *  *  *  *  *  * |+|",
+    "P+59HI99OU|P-41OU|+|+5949HI|-4151OU|+4959HI|-5141OU|+5949HI|-4151OU|+4959HI|-5141OU|+5949HI|-4151OU|+4959HI|-5141OU|",
+    "P+13KI33KE59OU00KI|P-11OU|+|+0012KI|",
+    "P+59OU|P-51OU|+|",
+];
+
+const EVEN_IN_RANKS: &[u8] = b"P1-KY-KE-GI-KI-OU-KI-GI-KE-KY\r\n\
+    P2 * -HI *  *  *  *  * -KA *\r\n\
+    P3-FU-FU-FU-FU-FU-FU-FU-FU-FU\r\n\
+    P4 *  *  *  *  *  *  *  *  *\r\n\
+    P5 *  *  *  *  *  *  *  *  *\r\n\
+    P6 *  *  *  *  *  *  *  *  *\r\n\
+    P7+FU+FU+FU+FU+FU+FU+FU+FU+FU\r\n\
+    P8 * +KA *  *  *  *  * +HI *\r\n\
+    P9+KY+KE+GI+KI+OU+KI+GI+KE+KY\r\n\
+    P+\r\nP-\r\n+\r\n";
+
+#[test]
+fn worked_records_cut_at_each_place(rt: HostRuntime) -> Result<(), std::alloc::AllocError> {
+    for record in RECORDS {
+        let mut source: Vec<u8> = Vec::new(rt.alloc());
+        for byte in record.as_bytes() {
+            source.push(if *byte == b'|' { b'\n' } else { *byte })?;
+        }
+        assert!(rt; same(source.as_slice(), 1), "{record}");
+        for place in 0..source.len() {
+            assert!(rt;
+                same_cut_at(source.as_slice(), place, 4096),
+                "{record} at {place}"
+            );
+        }
+    }
+    assert!(rt; same(EVEN_IN_RANKS, 1));
+    for place in 0..EVEN_IN_RANKS.len() {
+        assert!(rt; same_cut_at(EVEN_IN_RANKS, place, 4096), "at {place}");
+    }
+    Ok(())
+}
+
+#[test]
+fn long_names_cut_at_each_place(rt: HostRuntime) -> Result<(), std::alloc::AllocError> {
+    for length in [4094usize, 4095] {
+        let mut source: Vec<u8> = Vec::new(rt.alloc());
+        source.extend_from_slice(b"N+")?;
+        for _ in 0..length {
+            source.push(b'x')?;
+        }
+        source.extend_from_slice(b"\n+\n")?;
+        for place in 0..source.len() {
+            assert!(rt;
+                same_cut_at(source.as_slice(), place, 8192),
+                "{length} at {place}"
+            );
+        }
+        let mut pieces = PieceCutter::new();
+        let refused = pieces.step(source.as_slice()).is_err();
+        assert_eq!(rt; refused, length == 4095);
+    }
+    Ok(())
+}
+
+#[test]
+fn a_long_comment_in_pieces(rt: HostRuntime) -> Result<(), std::alloc::AllocError> {
+    let mut source: Vec<u8> = Vec::new(rt.alloc());
+    source.push(b'\'')?;
+    for _ in 1..1_048_576u32 {
+        source.push(b'x')?;
+    }
+    source.extend_from_slice(b"\nPI\r\n+\r\n")?;
+    let mut cutter = Cutter::new(source.as_slice());
+    let statement = Statement {
+        number: 1,
+        offset: 1_048_577,
+        bytes: b"PI",
+    };
+    assert_eq!(rt; cutter.next_statement(), Ok(Some(statement)));
+    for size in [1usize, 4095, 4096, 4097] {
+        assert!(rt; same(source.as_slice(), size), "in pieces of {size}");
+    }
+    Ok(())
+}
+
+// The square at a place of a rook's tour of 36 over four files from the given one, up one file and down the next.
+fn push_tour(text: &mut Vec<u8>, first: u8, place: usize) -> Result<(), Fail> {
+    let file = (place % 36 / 9) as u8;
+    let step = (place % 9) as u8;
+    let rank = if file % 2 == 0 { step } else { 8 - step };
+    text.push(first.wrapping_add(file))?;
+    text.push(b'1' + rank)?;
+    Ok(())
+}
+
+// Black's move of that number: its rook goes on, and each 1,250th time it pushes its pawn.
+fn push_black(text: &mut Vec<u8>, n: usize) -> Result<(), Fail> {
+    let pushed = n / 1250;
+    text.push(b'+')?;
+    if n % 1250 == 1249 {
+        let rank = b'7'.wrapping_sub(u8::try_from(pushed)?);
+        text.extend_from_slice(&[b'5', rank, b'5', rank.wrapping_sub(1)])?;
+        text.extend_from_slice(b"FU\n")?;
+        return Ok(());
+    }
+    push_tour(text, b'1', n - pushed)?;
+    push_tour(text, b'1', n - pushed + 1)?;
+    text.extend_from_slice(b"HI\n")?;
+    Ok(())
+}
+
+// White's rook leaves out one square, so that the two together come round after 36 * 35 moves of each side.
+fn push_white(text: &mut Vec<u8>, n: usize) -> Result<(), Fail> {
+    text.push(b'-')?;
+    for place in [n % 35, (n % 35 + 1) % 35] {
+        push_tour(text, b'6', if place == 0 { 0 } else { place + 1 })?;
+    }
+    text.extend_from_slice(b"HI\n")?;
+    Ok(())
+}
+
+// The start `P+11HI57FU`, `P-61HI`, black to move.
+fn two_rooks() -> Result<Position, Fail> {
+    let mut setup = Setup::empty();
+    for (color, file, rank, kind) in [
+        (Color::Black, 1, 1, Kind::Rook),
+        (Color::Black, 5, 7, Kind::Pawn),
+        (Color::White, 6, 1, Kind::Rook),
+    ] {
+        setup.place(color, Square::new(file, rank).ok_or("no square")?, kind)?;
+    }
+    Ok(setup.finish(Color::Black)?)
+}
+
+// A record of 10,000 legal moves, byte by byte.
+#[test]
+fn ten_thousand_moves_in_pieces(rt: HostRuntime) -> Result<(), Fail> {
+    let mut source: Vec<u8> = Vec::new(rt.alloc());
+    source.extend_from_slice(b"P+11HI57FU\nP-61HI\n+\n")?;
+    for n in 0..5000usize {
+        push_black(&mut source, n)?;
+        push_white(&mut source, n)?;
+    }
+    let mut line = Line::new(rt.alloc(), two_rooks()?)?;
+    let mut cutter = Cutter::new(source.as_slice());
+    for _ in 0..10_003u32 {
+        let statement = cutter.next_statement()?.ok_or("no statement")?;
+        if let Item::Walked(color, mv) = read_item(statement.bytes)? {
+            line.play(color, mv)?;
+        }
+    }
+    assert_eq!(rt; cutter.next_statement(), Ok(None));
+    assert_eq!(rt; line.moves().len(), 10_000);
+    for size in [1usize, 2, 7, 100, 4096] {
+        assert!(rt; same(source.as_slice(), size), "in pieces of {size}");
+    }
+    Ok(())
+}
