@@ -1,6 +1,6 @@
 ghost use Rattle.std.specs.Prelude.{◌≡◌, ◌++◌, IfOk, OnOk};
 ghost use Rattle.csa_text.specs.Codes.{sign};
-ghost use Rattle.csa_record.specs.Game.{name_of};
+ghost use Rattle.csa_record.specs.Game.{IsGame, name_of};
 ghost use Rattle.csa_record.specs.Tells.{Tells};
 ghost use Rattle.csa_record.specs.Canon.{canon, ended, name_lines};
 ghost use Rattle.std.specs.List.{flat_map};
@@ -18,12 +18,19 @@ pub fn write(alloc: Global, game: &Record) -> Result<Vec<u8>, OutOfMemory>
     ensures read_back { IfOk result (λ text. Tells text.items game.now) }
 {
     let mut text = Vec::new(alloc);
-    write_line(&mut text, b"V2.2")?;
-    write_name(&mut text, Color::Black, game)?;
-    write_name(&mut text, Color::White, game)?;
-    write_line(&mut text, b"PI")?;
-    write_line(&mut text, &[sign_of(game.side())])?;
+    write_lines(&mut text, game)?;
     Ok(text)
+}
+
+fn write_lines(text: &mut Vec<u8>, game: &Record) -> Result<(), OutOfMemory>
+    ensures text { OnOk result (text.new.items ≡ text.old.items ++ canon game.now) }
+    ensures game { OnOk result (IsGame game.now) }
+{
+    write_line(text, b"V2.2")?;
+    write_name(text, Color::Black, game)?;
+    write_name(text, Color::White, game)?;
+    write_line(text, b"PI")?;
+    write_line(text, &[sign_of(game.side())])
 }
 
 fn sign_of(color: Color) -> u8

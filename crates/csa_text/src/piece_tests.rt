@@ -1,3 +1,5 @@
+ghost use Rattle.std.specs.Prelude.{◌≤◌};
+
 use crate::{Cutter, Item, PieceCutter, Statement, read_item};
 use shogi_board::{Color, Kind, Position, Setup, Square};
 use shogi_rules::Line;
@@ -40,7 +42,7 @@ fn same_cut_at(source: &[u8], place: usize, size: usize) -> bool {
 
 // Where a piece from `at` ends.
 fn piece_end(length: usize, at: usize, place: usize, size: usize) -> usize
-    requires { (at ≤ length) }
+    requires { at ≤ length }
     ensures { (at ≤ result) × (result ≤ length) }
 {
     if at < place && place <= length {
