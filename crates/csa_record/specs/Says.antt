@@ -4,14 +4,9 @@ use Rattle.std.specs.List.{filter_map}
 use Rattle.std.specs.Option.{option_to_list}
 use Rattle.shogi_board.specs.declared.color.Color.{Color}
 use Rattle.shogi_board.specs.declared.color.Color.TheVariants.{Black, White}
+use Rattle.shogi_board.specs.Pieces.{same_color}
 use Rattle.csa_text.specs.Spelling.{Saying, version, name, even, turn}
 use Rattle.csa_record.specs.Game.{Game, IsGame}
-
-abbrev pub same_color : Color → Color → Bool
-same_color Black Black = true
-same_color Black White = false
-same_color White Black = false
-same_color White White = true
 
 abbrev pub is_version : Saying → Bool
 is_version version = true

@@ -13,7 +13,6 @@ pub struct Record {
 }
 
 impl Model for Record {
-    ghost use Rattle.std.specs.Prelude.{◌≡◌, Option};
     ghost use Rattle.csa_record.specs.Game.{Game, IsGame};
     ghost use Rattle.csa_record.specs.Bytes.{name_bytes};
 

@@ -5,7 +5,7 @@ ghost use Rattle.csa_text.specs.Saying.{saying_of, IsRead};
 
 use crate::ending::{Ending, read_ending};
 use crate::fault::TextFault;
-use crate::moment::split_at_byte;
+use crate::fields::split_at_byte;
 use crate::moved::read_move;
 use crate::pairs::Pairs;
 use crate::rank::read_rank;

@@ -8,6 +8,7 @@ mod codes;
 mod cutter;
 mod ending;
 mod fault;
+mod fields;
 mod item;
 pub mod laws;
 mod line;

@@ -1,11 +1,11 @@
-ghost use Rattle.std.specs.Prelude.{◌≡◌, ℕ, ◌+◌, ◌<◌, ◌≤◌, ◌^◌, ◌++◌, ◌↔◌, List, [], pos, ◌≤ℤ◌, ◌∷◌, unsigned_abs, MatchOption, IfSome, IsSome};
-ghost use Rattle.jiff.specs.Words.{IsDate, IsYmd, IsTime, IsHms};
+ghost use Rattle.std.specs.Prelude.{◌≡◌, ℕ, ◌+◌, ◌<◌, ◌≤◌, ◌++◌, ◌↔◌, pos, ◌≤ℤ◌, unsigned_abs, MatchOption, IfSome, IsSome};
 ghost use Rattle.jiff_core.specs.Calendar.{IsCivilDate};
 ghost use Rattle.arrayvec.specs.ArrayString.{array_string_len};
-ghost use Rattle.csa_text.specs.Moment.{CalendarMoment, IsNumber, SpellsDate, SpellsTime, SpellsMoment, HasNone, IsSplit, DateDigits, TimeDigits, date_text, time_text, moment_text, two_digits, four_digits};
+ghost use Rattle.csa_text.specs.Moment.{CalendarMoment, SpellsDate, SpellsTime, SpellsMoment, DateDigits, TimeDigits, date_text, time_text, moment_text, two_digits};
 ghost use Rattle.csa_text.specs.MomentParts.{moment_of};
 
 use crate::calendar::Moment;
+use crate::fields::{read_number, split_at_byte};
 use arrayvec::ArrayString;
 use jiff::civil::{Date, Time};
 
@@ -115,37 +115,6 @@ fn time_digits(bytes: &[u8]) -> Option<(u16, u16, u16)>
         read_number(minute, 2, 2)?,
         read_number(second, 2, 2)?,
     ))
-}
-
-// What stands before the first byte of this value, and what stands behind it.
-pub(crate) fn split_at_byte(bytes: &[u8], mark: u8) -> Option<(&[u8], &[u8])>
-    ensures { MatchOption result (HasNone mark bytes.now) (λ r. IsSplit mark bytes.now r.0.now r.1.now) }
-{
-    for (i, b) in bytes.iter().enumerate() {
-        if *b == mark {
-            return Some((&bytes[..i], &bytes[i + 1..]));
-        }
-    }
-    None
-}
-
-// The number that the bytes spell in at least and at most so many digits.
-pub(crate) fn read_number(bytes: &[u8], fewest: usize, most: usize) -> Option<u16>
-    requires { most ≤ 4 }
-    ensures value { MatchOption result
-        ((value : ℕ) → IsNumber fewest most bytes.now value → ⊥)
-        (λ value. IsNumber fewest most bytes.now value) }
-    ensures bound { IfSome result (λ value. value < 10 ^ most) }
-{
-    if bytes.len() < fewest || most < bytes.len() {
-        return None;
-    }
-    let mut value = 0u16;
-    for b in bytes {
-        let digit = (*b as char).to_digit(10)?;
-        value = value * 10 + digit as u16;
-    }
-    Some(value)
 }
 
 fn push_date(text: &mut ArrayString<19>, date: Date)

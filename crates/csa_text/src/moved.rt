@@ -1,6 +1,6 @@
 ghost use Rattle.std.specs.Prelude.{◌≡◌, ◌++◌, ◌+◌, ◌≤◌, MatchOption};
 ghost use Rattle.arrayvec.specs.ArrayString.{array_string_len};
-ghost use Rattle.csa_text.specs.Codes.{sign, square_text, kind_code, squares_text};
+ghost use Rattle.csa_text.specs.Codes.{sign, square_text, squares_text};
 ghost use Rattle.csa_text.specs.Spelling.{Spells, walked};
 
 use crate::codes::{kind_text, read_kind, read_square};

@@ -6,6 +6,9 @@ ghost use Rattle.csa_text.specs.PairsOnce.{pairs-prop};
 use crate::codes::{read_kind, read_square};
 use crate::pair::Pair;
 
+// The bytes of a pair.
+const PAIR: usize = 4;
+
 /// The pairs behind `PI`, `P+` or `P-`, in their order. They borrow the statement.
 #[derive(Clone, Copy, Debug, PartialEq, Eq)]
 pub struct Pairs<'a> {
@@ -23,7 +26,7 @@ impl<'a> Pairs<'a> {
     pub fn len(&self) -> usize
         ensures { result ≡ length (pairs_of self.now) }
     {
-        self.bytes.len() / 4
+        self.bytes.len() / PAIR
     }
 
     /// Whether there is none.
@@ -37,10 +40,10 @@ impl<'a> Pairs<'a> {
     pub fn get(&self, i: usize) -> Option<Pair>
         ensures { result ≡ slice_get (pairs_of self.now) i }
     {
-        if self.bytes.len() / 4 <= i {
+        if self.bytes.len() / PAIR <= i {
             return None;
         }
-        read_pair(&self.bytes[4 * i..4 * i + 4])
+        read_pair(&self.bytes[PAIR * i..PAIR * i + PAIR])
     }
 
     // The pairs that the bytes spell, if they spell pairs.
@@ -49,11 +52,11 @@ impl<'a> Pairs<'a> {
             ((pairs : List Pair) → bytes.now ≡ pairs_text pairs → ⊥)
             (λ p. bytes.now ≡ pairs_text (pairs_of p)) }
     {
-        if bytes.len() % 4 != 0 {
+        if bytes.len() % PAIR != 0 {
             return None;
         }
-        for i in 0..bytes.len() / 4 {
-            read_pair(&bytes[4 * i..4 * i + 4])?;
+        for i in 0..bytes.len() / PAIR {
+            read_pair(&bytes[PAIR * i..PAIR * i + PAIR])?;
         }
         Some(Pairs { bytes })
     }

@@ -1,4 +1,4 @@
-ghost use Rattle.std.specs.Prelude.{◌≡◌, ℕ, ◌+◌, ◌-◌, ◌^◌, ◌<◌, ◌≤◌, ◌++◌, List, [], length, true, None, not, IsSome, IfSome, if◌then◌else◌};
+ghost use Rattle.std.specs.Prelude.{◌≡◌, ◌+◌, ◌-◌, ◌^◌, ◌<◌, ◌≤◌, ◌++◌, [], length, true, None, IsSome, IfSome, if◌then◌else◌};
 ghost use Rattle.std.specs.Borrow.{sem};
 ghost use Rattle.std.specs.Io.BufRead.{Rests};
 ghost use Rattle.arrayvec.specs.ArrayVec.{array_vec_len};
@@ -118,10 +118,7 @@ impl PieceCutter {
             self.place = place_of(found);
             hold_mark(&mut self.held, is_in_mark(found), piece);
             self.fed += piece.len() as u64;
-            return Ok(Cut {
-                used: piece.len(),
-                statement: None,
-            });
+            return Ok(none_ended(piece.len()));
         };
         let part = &piece[start..end];
         let kept = kept_length(goes_on, self.held.len());
@@ -135,10 +132,7 @@ impl PieceCutter {
             hold(&mut self.held, true, part);
             self.place = Place::Unit;
             self.fed += end as u64;
-            return Ok(Cut {
-                used: end,
-                statement: None,
-            });
+            return Ok(none_ended(end));
         }
         self.place = Place::Gap;
         self.fed += end as u64 + 1;
@@ -173,6 +167,17 @@ impl PieceCutter {
             offset,
             bytes: handed_out(self.held.as_slice()),
         }))
+    }
+}
+
+// The bytes that were used end no statement.
+fn none_ended<'b>(used: usize) -> Cut<'b>
+    ensures used { result.used ≡ used }
+    ensures statement { result.statement ≡ None }
+{
+    Cut {
+        used,
+        statement: None,
     }
 }
 

@@ -5,7 +5,12 @@ ghost use Rattle.csa_text.specs.Codes.{cell_text};
 use crate::codes::{read_kind, read_sign};
 use shogi_board::Piece;
 
+// The cells of a rank, the bytes of a cell, and the bytes of a rank's cells.
 const CELLS: usize = 9;
+
+const CELL: usize = 3;
+
+const RANK: usize = CELL * CELLS;
 
 // The cells of a rank, from file 9 to file 1. The last one, where it is empty, may lack its last space.
 pub(crate) fn read_rank(bytes: &[u8]) -> Option<[Option<Piece>; CELLS]>
@@ -13,9 +18,9 @@ pub(crate) fn read_rank(bytes: &[u8]) -> Option<[Option<Piece>; CELLS]>
         ((cells : List (Option Piece)) → length cells ≡ 9 → (bytes.now ≡ flat_map cell_text cells) ⊎ (bytes.now ++ codes " " ≡ flat_map cell_text cells) → ⊥)
         (λ cells. (bytes.now ≡ flat_map cell_text cells) ⊎ (bytes.now ++ codes " " ≡ flat_map cell_text cells)) }
 {
-    if bytes.len() == 26 {
-        let mut whole = [b' '; 27];
-        whole[..26].copy_from_slice(bytes);
+    if bytes.len() == RANK - 1 {
+        let mut whole = [b' '; RANK];
+        whole[..RANK - 1].copy_from_slice(bytes);
         return read_cells(&whole);
     }
     read_cells(bytes)
@@ -26,12 +31,12 @@ fn read_cells(bytes: &[u8]) -> Option<[Option<Piece>; CELLS]>
         ((cells : List (Option Piece)) → length cells ≡ 9 → bytes.now ≡ flat_map cell_text cells → ⊥)
         (λ cells. bytes.now ≡ flat_map cell_text cells) }
 {
-    if bytes.len() != 3 * CELLS {
+    if bytes.len() != RANK {
         return None;
     }
     let mut cells = [None; CELLS];
     for i in 0..CELLS {
-        cells[i] = read_cell(&bytes[3 * i..3 * i + 3])?;
+        cells[i] = read_cell(&bytes[CELL * i..CELL * i + CELL])?;
     }
     Some(cells)
 }

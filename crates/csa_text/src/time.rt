@@ -1,7 +1,7 @@
 ghost use Rattle.std.specs.Prelude.{◌≡◌, ℕ, ◌+◌, ◌*◌, ◌<◌, ◌≤◌, MatchOption, IfSome};
 ghost use Rattle.csa_text.specs.TimeTexts.{IsSeconds, IsFraction, IsTime};
 
-use crate::moment::{read_number, split_at_byte};
+use crate::fields::{read_number, split_at_byte};
 
 // The time that the text behind `T` spells, in thousandths of a second: whole seconds up to
 // 4,294,967,295, and optionally a point and one to three digits.

@@ -1,6 +1,6 @@
 ghost use Rattle.std.specs.Prelude.{◌≡◌, ◌≤◌, ◌<◌, ◌↔◌, IsTrue, MatchOption, count_by, slice_set};
-ghost use Rattle.shogi_board.specs.Cells.{Cells, at, piece, even_cells, no_cells, HasPawnOnFile};
-ghost use Rattle.shogi_board.specs.Moves.{IsNear, IsRay};
+ghost use Rattle.shogi_board.specs.Cells.{at, piece, even_cells, no_cells, HasPawnOnFile};
+ghost use Rattle.shogi_board.specs.Moves.{IsRay};
 ghost use Rattle.shogi_board.specs.Reach.{Reach, Attack, Attacked, InSight, Slides, Steps};
 ghost use Rattle.shogi_board.specs.Setup.{holds};
 ghost use Rattle.shogi_board.specs.Squares.{place};

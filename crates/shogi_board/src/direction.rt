@@ -1,5 +1,5 @@
-ghost use Rattle.std.specs.Prelude.{◌≡◌, ◌≤◌, ◌-◌, All};
-ghost use Rattle.shogi_board.specs.Moves.{steps, rays, turned_for, IsNear};
+ghost use Rattle.std.specs.Prelude.{◌≡◌, ◌≤◌, ◌-◌};
+ghost use Rattle.shogi_board.specs.Moves.{steps, rays, turned_for};
 
 use crate::color::Color;
 use crate::kind::Kind;

@@ -1,6 +1,5 @@
-ghost use Rattle.std.specs.Prelude.{◌≡◌, ◌+◌, ◌-◌, ◌<◌, true, slice_index, slice_set};
+ghost use Rattle.std.specs.Prelude.{◌≡◌, ◌-◌, true, slice_index, slice_set};
 ghost use Rattle.shogi_board.specs.Pieces.{place_of, in_hand};
-ghost use Rattle.shogi_board.specs.Setup.{one_more, one_less};
 ghost use Rattle.shogi_board.specs.Totals.{count_in, no_pieces};
 
 use crate::kind::Kind;

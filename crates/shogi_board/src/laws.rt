@@ -2,10 +2,10 @@
 //!
 //! A law is a function that does nothing: its contract is the law.
 
-ghost use Rattle.std.specs.Prelude.{◌≡◌, ◌<◌, ◌≤◌, ◌+◌, ◌↔◌, ◌⊎◌, true, length};
+ghost use Rattle.std.specs.Prelude.{◌≡◌, ◌<◌, ◌≤◌, ◌↔◌, ◌⊎◌, true, length};
 ghost use Rattle.std.specs.Cmp.{IsTotalOrder};
 ghost use Rattle.std.specs.declared.cmp.Ordering.TheVariants.{Equal, Less};
-ghost use Rattle.shogi_board.specs.Cells.{Cells, at, piece, no_cells, even_cells};
+ghost use Rattle.shogi_board.specs.Cells.{Cells, at, piece, even_cells};
 ghost use Rattle.shogi_board.specs.Neighbours.{IsAmong, gold_squares, beside, with_cell};
 ghost use Rattle.shogi_board.specs.Placed.{Placed, even_start};
 ghost use Rattle.shogi_board.specs.Reach.{Reach, InCheck};

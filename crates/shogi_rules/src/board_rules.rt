@@ -2,7 +2,7 @@ ghost use Rattle.std.specs.Prelude.{◌≡◌, ◌↔◌, IsTrue, MatchOption, I
 ghost use Rattle.shogi_board.specs.Cells.{at, piece, HasPawnOnFile};
 ghost use Rattle.shogi_board.specs.declared.kind.Kind.{Kind};
 ghost use Rattle.shogi_rules.specs.Kinds.{promoted};
-ghost use Rattle.shogi_rules.specs.Legal.{target, kind_after, HasPiece, KindFits, TargetFree, ReachesTarget, MayPromote, HasFurtherMove, LonePawn, FitsBoard};
+ghost use Rattle.shogi_rules.specs.Legal.{target, HasPiece, KindFits, TargetFree, ReachesTarget, MayPromote, HasFurtherMove, LonePawn, FitsBoard};
 ghost use Rattle.shogi_rules.specs.Rules.{Kept, board_rules, IsFirstBroken};
 
 use crate::kinds::{in_zone, last_rank, promoted, rank_for};

@@ -1,4 +1,4 @@
-ghost use Rattle.std.specs.Prelude.{◌≡◌, ◌≤◌, ◌↔◌, IsTrue};
+ghost use Rattle.std.specs.Prelude.{◌≡◌, ◌↔◌, IsTrue};
 ghost use Rattle.shogi_rules.specs.Kinds.{promoted, unpromoted, rank_for, InZone, last_rank};
 
 use shogi_board::{Color, Kind, Square};

@@ -1,4 +1,3 @@
-ghost use Rattle.std.specs.Prelude.{◌≡◌};
 ghost use Rattle.usi_text.specs.Engine.{Says, Answers};
 ghost use Rattle.usi_text.specs.Words.{words};
 

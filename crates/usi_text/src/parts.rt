@@ -1,4 +1,4 @@
-ghost use Rattle.std.specs.Prelude.{◌≡◌, ◌≤◌, ◌<◌, ◌+◌, ◌++◌, ℕ, List, IfSome, MatchOption, length};
+ghost use Rattle.std.specs.Prelude.{◌≡◌, ◌<◌, ◌+◌, ◌++◌, ℕ, List, IfSome, MatchOption, length};
 ghost use Rattle.usi_text.specs.Boards.{IsPart, part_text, part_cells};
 ghost use Rattle.usi_text.specs.declared.parts.Part.{Part};
 

@@ -1,4 +1,4 @@
-ghost use Rattle.std.specs.Prelude.{◌≡◌, ◌≢◌, ℕ, ◌≤◌, ◌<◌, ◌++◌, List, [], MatchBool, drop, length, slice_index};
+ghost use Rattle.std.specs.Prelude.{◌≡◌, ◌≢◌, ℕ, ◌≤◌, ◌<◌, [], MatchBool, drop, length, slice_index};
 ghost use Rattle.usi_text.specs.Words.{words, nth_word, IsBehind};
 
 // The first word, or the empty text where there is none, and what stands behind it.

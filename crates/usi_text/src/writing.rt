@@ -1,6 +1,5 @@
 ghost use Rattle.std.specs.Prelude.{◌≡◌, ◌≤◌, ◌++◌, [], ◌∷◌, IfOk, OnOk};
 ghost use Rattle.std.specs.List.{flat_map};
-ghost use Rattle.shogi_board.specs.Cells.{at};
 ghost use Rattle.shogi_board.specs.Sound.{IsSound};
 ghost use Rattle.usi_text.specs.Hands.{pile_text};
 ghost use Rattle.usi_text.specs.Letters.{piece_text};

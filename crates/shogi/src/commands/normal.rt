@@ -1,6 +1,6 @@
 //! `shogi normal [FILE]`: the canonical text of a record.
 
-ghost use Rattle.std.specs.Prelude.{◌≡◌, ◌≢◌, IfErr, IfSome, OnOk, IsErrOf};
+ghost use Rattle.std.specs.Prelude.{◌≢◌, IfErr, IfSome, OnOk, IsErrOf};
 ghost use Rattle.std.specs.Io.KnownBytes.{Keeps, Appends};
 ghost use Rattle.csa_record.specs.Game.{Game};
 ghost use Rattle.csa_record.specs.Tells.{Tells};

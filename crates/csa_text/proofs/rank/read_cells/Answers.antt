@@ -4,8 +4,8 @@ use Rattle.csa_text.proofs.Texts.{cut_out}
 use Rattle.csa_text.proofs.CellTexts.{no_nine, no_cells, cells_next}
 use Rattle.csa_text.proofs.rank.read_cells.Goals as goal
 
-pub returns-then-bytes : goal.returns-then-bytes
-returns-then-bytes c = no_nine c.args.bytes.now c.if-bytes.true
+pub returns-then-bytes-ne-RANK : goal.returns-then-bytes-ne-RANK
+returns-then-bytes-ne-RANK c = no_nine c.args.bytes.now c.if-bytes-ne-RANK.true
 
 pub returns-in_err-cells : goal.returns-in_err-cells
 returns-in_err-cells c =

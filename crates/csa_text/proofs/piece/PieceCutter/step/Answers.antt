@@ -17,7 +17,7 @@ returns-in_default-found c =
     let h : IsFoundIn s.place s.held.items c.args.piece.now c.found_in-found.result = rw c.as_slice.ensures.value at c.found_in-found.ensures in
     let done = default_step c.args.self.now s.place c.place_of-self-inside.result s.held.items c.hold_mark.new.held.items c.args.piece.now c.found_in-found.result s.fed s.number s.refused
     c.self.view_is c.in_default.is c.place_of-self-inside.ensures (rw c.is_in_mark.ensures at c.hold_mark.ensures) c.in_default-found.not-Unit h (omega (arith, i.0)) i.3 in
-    ((refl, λ _. tt, (done.0, (refl, done.1))), record { stepped = tt })
+    ((refl, λ _. tt, (done.0, rw c.none_ended.ensures.statement (c.none_ended.ensures.used, done.1))), record { stepped = tt })
 
 pub returns-then-kept-part : goal.returns-then-kept-part
 returns-then-kept-part c =
@@ -49,7 +49,7 @@ returns-then-end-piece c =
     c.hold.ensures ∙ ap (λ xs. xs ++ slice_range piece start end) left in
     let done = unit_step c.args.self.now s.place s.held.items c.hold.new.held.items piece goes_on start end s.fed s.number s.refused
     c.self.view_is c.in_default.is p (omega (arith, i.0)) c.if-end-piece.true all few in
-    ((refl, λ _. tt, (done.0, (c.if-end-piece.true, done.1))), record { stepped = tt })
+    ((refl, λ _. tt, (done.0, rw c.none_ended-then-end-piece.ensures.statement (c.none_ended-then-end-piece.ensures.used ∙ c.if-end-piece.true, done.1))), record { stepped = tt })
 
 pub returns-then-is_empty : goal.returns-then-is_empty
 returns-then-is_empty c =

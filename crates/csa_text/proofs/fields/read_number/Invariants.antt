@@ -1,6 +1,6 @@
 use Rattle.std.proofs.Common.{◌≡◌, take}
 use Rattle.std.specs.Str.Parse.{AllDigits, digits_value}
-use Rattle.csa_text.proofs.moment.read_number.Given as goal
+use Rattle.csa_text.proofs.fields.read_number.Given as goal
 
 abbrev pub invariant-loop-b : goal.invariant-loop-b
 invariant-loop-b l = record {

@@ -4,7 +4,7 @@ use Rattle.std.proofs.Math.Seq.{take-length}
 use Rattle.std.proofs.lemmas.Int.Digits.{digits_more, digits_value_more}
 use Rattle.std.specs.Str.Parse.{AllDigits}
 use Rattle.csa_text.proofs.Moments.{digit_below, below_thousand, below_power}
-use Rattle.csa_text.proofs.moment.read_number.Goals as goal
+use Rattle.csa_text.proofs.fields.read_number.Goals as goal
 
 pub returns-in_err-digit-clause-value : goal.returns-in_err-digit-clause-value
 returns-in_err-digit-clause-value c =

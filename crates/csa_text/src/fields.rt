@@ -1,0 +1,33 @@
+ghost use Rattle.std.specs.Prelude.{ℕ, ◌<◌, ◌≤◌, ◌^◌, MatchOption, IfSome};
+ghost use Rattle.csa_text.specs.Moment.{IsNumber, HasNone, IsSplit};
+
+// What stands before the first byte of this value, and what stands behind it.
+pub(crate) fn split_at_byte(bytes: &[u8], mark: u8) -> Option<(&[u8], &[u8])>
+    ensures { MatchOption result (HasNone mark bytes.now) (λ r. IsSplit mark bytes.now r.0.now r.1.now) }
+{
+    for (i, b) in bytes.iter().enumerate() {
+        if *b == mark {
+            return Some((&bytes[..i], &bytes[i + 1..]));
+        }
+    }
+    None
+}
+
+// The number that the bytes spell in at least and at most so many digits.
+pub(crate) fn read_number(bytes: &[u8], fewest: usize, most: usize) -> Option<u16>
+    requires { most ≤ 4 }
+    ensures value { MatchOption result
+        ((value : ℕ) → IsNumber fewest most bytes.now value → ⊥)
+        (λ value. IsNumber fewest most bytes.now value) }
+    ensures bound { IfSome result (λ value. value < 10 ^ most) }
+{
+    if bytes.len() < fewest || most < bytes.len() {
+        return None;
+    }
+    let mut value = 0u16;
+    for b in bytes {
+        let digit = (*b as char).to_digit(10)?;
+        value = value * 10 + digit as u16;
+    }
+    Some(value)
+}
