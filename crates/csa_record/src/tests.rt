@@ -142,22 +142,28 @@ fn has_names(rt: HostRuntime) {
     }
 }
 
-// Run with one growth refused (`rt try --test --fail-alloc N -- memory`), the answer is want of memory at the statement that wanted it, and no
-// other fault and no other text.
+// Run by tests/growths with each growth refused in turn: the answer is want of memory, in `read` at the statement that
+// wanted it, and the call made again succeeds.
 #[test]
-fn memory_is_wanting(rt: HostRuntime) {
+fn refused_growth_is_told(rt: HostRuntime) -> Result<(), Fail> {
     let source = b"V2.2\nN+a\nN-b\nPI\n+\n";
-    match read(rt.alloc(), source) {
-        Ok(game) => match write(rt.alloc(), &game) {
-            Ok(text) => assert_eq!(rt; text.as_slice(), source.as_slice()),
-            Err(fault) => assert_eq!(rt; fault, OutOfMemory),
-        },
+    let game = match read(rt.alloc(), source) {
+        Ok(game) => game,
         Err(refusal) => {
+            println!(rt; "refused")?;
             assert_eq!(rt; refusal.why, Why::OutOfMemory);
-            assert!(rt;
-                (refusal.number, refusal.offset) == (2, 5)
-                    || (refusal.number, refusal.offset) == (3, 9)
-            );
+            let place = (refusal.number, refusal.offset);
+            assert!(rt; place == (2, 5) || place == (3, 9));
+            read(rt.alloc(), source)?
         }
-    }
+    };
+    let text = match write(rt.alloc(), &game) {
+        Ok(text) => text,
+        Err(OutOfMemory) => {
+            println!(rt; "refused")?;
+            write(rt.alloc(), &game)?
+        }
+    };
+    assert_eq!(rt; text.as_slice(), source.as_slice());
+    Ok(())
 }

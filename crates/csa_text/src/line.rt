@@ -176,6 +176,7 @@ fn first_run(held: &[u8], piece: &[u8]) -> (usize, usize)
 #[cfg(test)]
 mod tests {
     use super::*;
+    use std::test::Fail;
 
     // Writes the lines of the bytes, fed in pieces of this size, each with a bar behind it.
     fn cut(
@@ -242,6 +243,31 @@ mod tests {
         assert!(rt; cutter.step(b"abc").is_err());
         assert_eq!(rt; cutter.step(b"\n").err(), Some(LineFault::TooLong));
         assert_eq!(rt; cutter.finish().err(), Some(LineFault::TooLong));
+        Ok(())
+    }
+
+    // Run by tests/growths with each growth refused in turn: a refused step changes nothing, and made again it succeeds.
+    #[test]
+    fn refused_growth_changes_nothing(rt: HostRuntime) -> Result<(), Fail> {
+        let mut cutter = LineCutter::new(rt.alloc(), 4096);
+        let table: [(&[u8], Option<&[u8]>); 5] = [
+            (b"usi", None),
+            (b"newgame", None),
+            (b"\n", Some(b"usinewgame")),
+            (b"position startpos moves 7g7f 3c3d ", None),
+            (b"2g2f\n", Some(b"position startpos moves 7g7f 3c3d 2g2f")),
+        ];
+        for (piece, line) in table {
+            match cutter.step(piece) {
+                Ok(answer) => assert_eq!(rt; answer, (piece.len(), line)),
+                Err(fault) => {
+                    println!(rt; "refused")?;
+                    assert_eq!(rt; fault, LineFault::OutOfMemory);
+                    assert_eq!(rt; cutter.step(piece), Ok((piece.len(), line)));
+                }
+            }
+        }
+        assert_eq!(rt; cutter.finish(), Ok(None));
         Ok(())
     }
 }

@@ -611,14 +611,16 @@ fn ends_after_ten_thousand_moves(rt: HostRuntime) -> Result<(), Fail> {
     Ok(())
 }
 
-// Run with each growth refused in turn (`rt try --test --fail-alloc N -- growth`): a refused call changes nothing, and
-// made again it succeeds.
+// Run by tests/growths with each growth refused in turn: a refused call changes nothing, and made again it succeeds.
 #[test]
 fn refused_growth_changes_nothing(rt: HostRuntime) -> Result<(), Fail> {
     let start = Position::even();
     let mut line = match Line::new(rt.alloc(), start) {
         Ok(line) => line,
-        Err(OutOfMemory) => Line::new(rt.alloc(), start)?,
+        Err(OutOfMemory) => {
+            println!(rt; "refused")?;
+            Line::new(rt.alloc(), start)?
+        }
     };
     for word in "+7776FU -3334FU +2726FU -8384FU +2625FU -8485FU +6978KI -4132KI +2524FU -2324FU "
         .as_bytes()
@@ -628,6 +630,7 @@ fn refused_growth_changes_nothing(rt: HostRuntime) -> Result<(), Fail> {
         let last = line.now();
         let count = line.moves().len();
         if let Err(fault) = line.play(color, mv) {
+            println!(rt; "refused")?;
             assert_eq!(rt; fault, PlayFault::OutOfMemory);
             assert_eq!(rt; line.moves().len(), count);
             assert_eq!(rt; line.now(), last);
