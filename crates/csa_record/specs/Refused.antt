@@ -23,7 +23,7 @@ abbrev pub first_fault : List (Bool × OrderFault) → Option OrderFault
 first_fault [] = None
 first_fault (f ∷ fs) = if f.0 then Some f.1 else first_fault fs
 
--- the order faults of the next item, in the order in which they are looked for, by the items before it
+-- the order faults of the next item, one of those that are taken so far, in the order in which they are looked for, by the items before it
 abbrev pub order_faults : List Saying → Saying → List (Bool × OrderFault)
 order_faults before version = (stands before, VersionOutOfPlace) ∷ []
 order_faults before (name color []) = []

@@ -1,4 +1,4 @@
--- What a whole list of items says.
+-- What a whole list of items says. The items that are taken so far are versions, names, `PI` alone and sides.
 use Rattle.std.specs.Prelude.{◌≡◌, ℕ, List, [], ◌∷◌, ◌++◌, drop, Bool, true, false, Option, Some, None, filter, if◌then◌else◌}
 use Rattle.std.specs.List.{filter_map}
 use Rattle.std.specs.Option.{option_to_list}
@@ -20,7 +20,7 @@ name_given side _ = None
 abbrev pub names : Color → List Saying → List (List ℕ)
 names side sayings = filter_map (name_given side) sayings
 
--- position statements
+-- the position statements
 abbrev pub is_position : Saying → Bool
 is_position (even pairs) = true
 is_position _ = false
@@ -35,7 +35,7 @@ side_given _ = None
 abbrev pub sides : List Saying → List Color
 sides sayings = filter_map side_given sayings
 
--- all but versions and names: the body, in which the order counts
+-- the body, in which the order counts: the position statements and the sides
 abbrev pub is_body : Saying → Bool
 is_body (even pairs) = true
 is_body (turn color) = true

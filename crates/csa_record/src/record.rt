@@ -1,5 +1,5 @@
-ghost use Rattle.std.specs.Prelude.{◌≡◌, MatchOption, Some, None};
-ghost use Rattle.csa_record.specs.Game.{IsGame, name_of};
+ghost use Rattle.std.specs.Prelude.{◌≡◌, MatchOption, IfSome, Some, None};
+ghost use Rattle.csa_record.specs.Game.{IsGame, IsName, name_of};
 
 use shogi_board::Color;
 use std::marker::Model;
@@ -14,13 +14,13 @@ pub struct Record {
 
 impl Model for Record {
     ghost use Rattle.csa_record.specs.Game.{Game, IsGame};
-    ghost use Rattle.csa_record.specs.Bytes.{name_bytes};
+    ghost use Rattle.csa_record.specs.Bytes.{game_of};
 
     ghost Value = { Game };
 
-    ghost view = { λ r. record { black = name_bytes r.black; white = name_bytes r.white; side = r.side } };
+    ghost view = { λ r. game_of r.black r.white r.side };
 
-    ghost invariant = { λ r. IsGame (record { black = name_bytes r.black; white = name_bytes r.white; side = r.side }) };
+    ghost invariant = { λ r. IsGame (game_of r.black r.white r.side) };
 }
 
 impl Record {
@@ -32,11 +32,12 @@ impl Record {
         self.side
     }
 
-    /// The name of that side, if the record has one. It is not empty.
+    /// The name of that side, if the record has one. It is not empty and stands on one line.
     pub fn name(&self, color: Color) -> Option<&[u8]>
-        ensures { MatchOption result
+        ensures value { MatchOption result
             (name_of self.now color ≡ None)
             (λ name. name_of self.now color ≡ Some name.now) }
+        ensures some { IfSome result (λ name. IsName name.now) }
     {
         let name = match color {
             Color::Black => &self.black,

@@ -5,7 +5,7 @@ use jiff::civil::{Date, Time};
 
 /// A day of the Gregorian calendar in the years 0000 to 9999, alone or with a time of day in whole
 /// seconds. A date alone and a date with a time are different moments.
-#[derive(Clone, Copy, Debug, PartialEq, Eq, PartialOrd, Ord)]
+#[derive(Clone, Copy, Debug, PartialEq, Eq)]
 pub struct Moment {
     pub(crate) date: Date,
     pub(crate) time: Option<Time>,

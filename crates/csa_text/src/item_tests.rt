@@ -3,7 +3,7 @@ use shogi_board::{Color, Kind, Piece, Square};
 use shogi_rules::Move;
 use std::test::Fail;
 
-const ITEMS: [(&[u8], Item); 24] = [
+const ITEMS: [(&[u8], Item); 26] = [
     (b"V2", Item::Version),
     (b"V2.1", Item::Version),
     (b"V2.2", Item::Version),
@@ -17,9 +17,14 @@ const ITEMS: [(&[u8], Item); 24] = [
         b"$START_TIME:2024/2/29 9:05:07",
         Item::Header(b"START_TIME", b"2024/2/29 9:05:07"),
     ),
+    (
+        b"$START_TIME:2023/02/29",
+        Item::Header(b"START_TIME", b"2023/02/29"),
+    ),
     (b"+", Item::Turn(Color::Black)),
     (b"-", Item::Turn(Color::White)),
     (b"T0", Item::Time(0)),
+    (b"T6", Item::Time(6_000)),
     (b"T1", Item::Time(1_000)),
     (b"T12", Item::Time(12_000)),
     (b"T007", Item::Time(7_000)),
@@ -153,7 +158,7 @@ const MOVES: [(&str, Color, u8, u8, Kind); 18] = [
 
 // Position statements: the side, none for `PI`, and the pairs: a square, 0 for the hand, and a kind,
 // none for the rest.
-const PAIRS: [(&[u8], Option<Color>, &[(u8, Option<Kind>)]); 15] = [
+const PAIRS: [(&[u8], Option<Color>, &[(u8, Option<Kind>)]); 16] = [
     (b"PI", None, &[]),
     (
         b"PI82HI22KA",
@@ -198,6 +203,7 @@ const PAIRS: [(&[u8], Option<Color>, &[(u8, Option<Kind>)]); 15] = [
     (b"P+00AL00AL", Some(Color::Black), &[(0, None), (0, None)]),
     (b"P+00TO", Some(Color::Black), &[(0, Some(Kind::ProPawn))]),
     (b"P+00OU", Some(Color::Black), &[(0, Some(Kind::King))]),
+    (b"P+00FU", Some(Color::Black), &[(0, Some(Kind::Pawn))]),
 ];
 
 // Ranks: the number, and the pieces with their places from file 9 to file 1.
