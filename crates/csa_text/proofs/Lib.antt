@@ -19,3 +19,4 @@ pub mod Finding
 pub mod Leading
 pub mod Unfinished
 pub mod Joining
+mod Lent

@@ -13,6 +13,10 @@ pub record IsNumbered (count : ℕ) (unit : TextUnit) (s : Statement) : Type 0 w
   pub slice : s.bytes.now ≡ statement_bytes unit.bytes
   pub short : length unit.bytes ≤ 4096
 
+-- a slice at the second address lies so many bytes behind one at the first
+abbrev pub LiesBehind : ℕ × ℕ → ℕ → ℕ × ℕ → Type 0
+LiesBehind piece n slice = slice ≡ (piece.0, piece.1 + n)
+
 -- no statement is closed in the whole piece, or the last byte that was used closed this one
 abbrev pub Used : Piecing → List ℕ → ℕ → Option Statement → Piecing → Type 0
 Used old piece used None new = (used ≡ length piece) × Leads old piece [] new

@@ -190,7 +190,8 @@ fn next_spoken(source: &[u8], from: usize) -> Option<(usize, usize)>
 
 // The bytes of a statement, of its unit's.
 pub(crate) fn handed_out(unit: &[u8]) -> &[u8]
-    ensures { result.now ≡ statement_bytes unit.now }
+    ensures value { result.now ≡ statement_bytes unit.now }
+    ensures place { result.ref_ptr ≡ unit.entry.ref_ptr }
 {
     match unit.first() {
         Some(b'N') | Some(b'$') => unit,
@@ -206,7 +207,8 @@ fn is_blank(b: u8) -> bool
 
 // The bytes less the spaces and tabs at their end.
 fn without_last_blanks(bytes: &[u8]) -> &[u8]
-    ensures { result.now ≡ without_last_blanks bytes.now }
+    ensures value { result.now ≡ without_last_blanks bytes.now }
+    ensures place { result.ref_ptr ≡ bytes.entry.ref_ptr }
 {
     let mut end = bytes.len();
     while end > 0 && is_blank(bytes[end - 1]) {

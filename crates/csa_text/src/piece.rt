@@ -1,11 +1,11 @@
-ghost use Rattle.std.specs.Prelude.{◌≡◌, ◌+◌, ◌-◌, ◌^◌, ◌<◌, ◌≤◌, ◌++◌, [], length, true, None, IsSome, IfSome, if◌then◌else◌};
+ghost use Rattle.std.specs.Prelude.{◌≡◌, ◌+◌, ◌-◌, ◌^◌, ◌<◌, ◌≤◌, ◌++◌, [], length, true, None, IsSome, IfSome, IfOk, if◌then◌else◌};
 ghost use Rattle.std.specs.Borrow.{sem};
 ghost use Rattle.std.specs.Io.BufRead.{Rests};
 ghost use Rattle.arrayvec.specs.ArrayVec.{array_vec_len};
 ghost use Rattle.csa_text.specs.contracts.piece.PieceCutter.{the_row};
 ghost use Rattle.csa_text.specs.Cut.{statement_bytes};
 ghost use Rattle.csa_text.specs.Piecing.{fresh, KeepsLittle};
-ghost use Rattle.csa_text.specs.Stepping.{Stepped, Finished};
+ghost use Rattle.csa_text.specs.Stepping.{Stepped, Finished, LiesBehind};
 ghost use Rattle.csa_text.specs.Places.{IsKept, IsFoundIn, IsFirstIn, IsCommon, IsHeld, place_found, is_in_mark, has_unit};
 
 use crate::cutter::{
@@ -49,8 +49,8 @@ enum Found {
 
 /// Cuts a record's bytes that come in pieces into statements, as `Cutter` cuts the whole.
 ///
-/// A statement is lent from the piece where it lies there whole, and else from a buffer of 4,096
-/// bytes, which holds no comment. No memory is taken.
+/// A statement that lies whole in one piece is lent from there. Of one that is unfinished at most
+/// 4,096 bytes are held, and none of a comment. No memory is taken.
 #[derive(Drop)]
 pub struct PieceCutter {
     held: ArrayVec<u8, 4096>,
@@ -97,11 +97,13 @@ impl PieceCutter {
     /// Takes bytes of the piece: how many it used, and the statement that ended there, if one did.
     ///
     /// It stops behind the byte that ends a statement, and uses the whole piece where none ends. Hand
-    /// in what is left of the piece next. A statement of more than 4,096 bytes is a `CutFault` as soon
-    /// as that is known, and at each later call; the cutter is then as before. At most 2^63 bytes may
-    /// be fed in all.
+    /// in what is left of the piece next. A statement that begins in this piece is lent from it. One
+    /// of more than 4,096 bytes is a `CutFault` as soon as that is known, and at each later call; the
+    /// cutter is then as before. At most 2^63 bytes may be fed in all.
     pub fn step<'b>(&'b mut self, piece: &'b [u8]) -> Result<Cut<'b>, CutFault>
         requires { self.old.fed + length piece.now ≤ 2 ^ 63 }
+        ensures lent { IfOk result (λ cut. IfSome cut.statement (λ s. self.old.fed ≤ s.offset
+            → LiesBehind piece.entry.ref_ptr (s.offset - self.old.fed) s.bytes.ref_ptr)) }
         ensures* stepped { sem 𝓛 (Rests the_row self.entry (λ new. Stepped self.old piece.now result new)) }
     {
         let number = self.number + 1;
@@ -187,6 +189,7 @@ fn ended<'b>(end: usize, number: u64, offset: u64, unit: &'b [u8]) -> Cut<'b>
     ensures used { result.used ≡ end + 1 }
     ensures statement { IfSome result.statement (λ s. (s.number ≡ number) × (s.offset ≡ offset) × (s.bytes.now ≡ statement_bytes unit.now)) }
     ensures some { IsSome result.statement }
+    ensures lent { IfSome result.statement (λ s. s.bytes.ref_ptr ≡ unit.entry.ref_ptr) }
 {
     Cut {
         used: end + 1,

@@ -10,8 +10,8 @@ loop-end-preserved c = record {
   same = sym (one_less c.args.bytes.now c.loop-end.end c.loop-end-test.true c.loop-end.invariant.within (sym c.is_blank.ensures ∙ c.if-is_blank.true)) ∙ c.loop-end.invariant.same;
 }
 
-pub returns : goal.returns
-returns c =
+pub returns-clause-value : goal.returns-clause-value
+returns-clause-value c =
     elim c.loop-end-test.branch [
       | then-loop-end-test+else-is_blank w ↦
           sym (all_kept c.args.bytes.now c.loop-end.end w.loop-end-test.true c.loop-end.invariant.within (sym w.is_blank.ensures ∙ w.if-is_blank.false)) ∙ c.loop-end.invariant.same

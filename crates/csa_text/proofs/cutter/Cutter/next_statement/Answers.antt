@@ -42,6 +42,6 @@ returns-clause-cut c =
       within = first.within;
       some = omega (arith, measured, first.some);
       of_source = refl;
-      slice = c.handed_out.ensures;
+      slice = c.handed_out.ensures.value;
       short = c.if-unit-gt-LIMIT.false;
     })

@@ -15,6 +15,6 @@ pub returns : goal.returns
 returns c =
     let s = c.self.inside in
     let h : has_unit s.place s.held.items ≡ true = sym (c.is_unfinished-unfinished.ensures ∙ ap (has_unit s.place) c.as_slice.ensures.value) ∙ c.if-not-unfinished.false in
-    let bytes : c.handed_out.result.now ≡ statement_bytes s.held.items = c.handed_out.ensures ∙ ap statement_bytes c.as_slice-2.ensures.value in
+    let bytes : c.handed_out.result.now ≡ statement_bytes s.held.items = c.handed_out.ensures.value ∙ ap statement_bytes c.as_slice-2.ensures.value in
     let done = one_left c.args.self.now s.place s.held.items s.fed s.number s.refused _ c.self.view_is c.in_default.is h c.self.invariant.2 c.self.invariant.1 refl (ap (λ n. s.fed - n) c.len.ensures.value) bytes in
     ((refl, λ _. tt, (done.0, done.1, done.2)), record { finished = tt })

@@ -1,7 +1,9 @@
 use Rattle.std.proofs.Common.{◌≡◌, ◌+◌, ◌-◌, ◌<◌, ◌≤◌, ◌++◌, length, slice_range, arith, refl, sym, ap, ◌∙◌}
 use Rattle.csa_text.specs.Places.{IsPart, IsFoundIn, kept_of}
 use Rattle.csa_text.proofs.Leading.{default_step, unit_step, end_step, long_step, kept_is, kept_size, kept_most, mark_room, all_in_piece, ended_told}
-use Rattle.csa_text.proofs.Lining.{length_range}
+use Rattle.csa_text.proofs.Lining.{length_range, nothing}
+use Rattle.csa_text.proofs.Lent.{lent_here, lent_before, kept_on}
+use Rattle.csa_text.specs.Piecing.{Piecing}
 use Rattle.csa_text.proofs.piece.PieceCutter.step.Goals as goal
 
 pub hold_mark-requires : goal.hold_mark-requires
@@ -17,7 +19,7 @@ returns-in_default-found c =
     let h : IsFoundIn s.place s.held.items c.args.piece.now c.found_in-found.result = rw c.as_slice.ensures.value at c.found_in-found.ensures in
     let done = default_step c.args.self.now s.place c.place_of-self-inside.result s.held.items c.hold_mark.new.held.items c.args.piece.now c.found_in-found.result s.fed s.number s.refused
     c.self.view_is c.in_default.is c.place_of-self-inside.ensures (rw c.is_in_mark.ensures at c.hold_mark.ensures) c.in_default-found.not-Unit h (omega (arith, i.0)) i.3 in
-    ((refl, λ _. tt, (done.0, rw c.none_ended.ensures.statement (c.none_ended.ensures.used, done.1))), record { stepped = tt })
+    ((refl, λ _. tt, (done.0, rw c.none_ended.ensures.statement (c.none_ended.ensures.used, done.1))), record { lent = rw c.none_ended.ensures.statement tt; stepped = tt })
 
 pub returns-then-kept-part : goal.returns-then-kept-part
 returns-then-kept-part c =
@@ -29,7 +31,7 @@ returns-then-kept-part c =
     let place : s.fed + c.in-Unit.start - c.kept_length-kept.result ≡ s.fed + c.in-Unit.start - length (kept_of c.in-Unit.goes_on s.held.items) = ap (λ n. s.fed + c.in-Unit.start - n) kept in
     let done = long_step c.args.self.now s.place s.held.items c.args.piece.now c.in-Unit.goes_on c.in-Unit.start c.in-Unit.end s.fed s.number _ s.refused
     c.self.view_is c.in_default.is p (omega (arith, i.0)) place (omega (arith, kept, size, c.if-kept-part.true)) in
-    ((refl, λ _. tt, (done.0, done.1, done.2)), record { stepped = tt })
+    ((refl, λ _. tt, (done.0, done.1, done.2)), record { lent = tt; stepped = tt })
 
 pub returns-then-end-piece : goal.returns-then-end-piece
 returns-then-end-piece c =
@@ -49,7 +51,7 @@ returns-then-end-piece c =
     c.hold.ensures ∙ ap (λ xs. xs ++ slice_range piece start end) left in
     let done = unit_step c.args.self.now s.place s.held.items c.hold.new.held.items piece goes_on start end s.fed s.number s.refused
     c.self.view_is c.in_default.is p (omega (arith, i.0)) c.if-end-piece.true all few in
-    ((refl, λ _. tt, (done.0, rw c.none_ended-then-end-piece.ensures.statement (c.none_ended-then-end-piece.ensures.used ∙ c.if-end-piece.true, done.1))), record { stepped = tt })
+    ((refl, λ _. tt, (done.0, rw c.none_ended-then-end-piece.ensures.statement (c.none_ended-then-end-piece.ensures.used ∙ c.if-end-piece.true, done.1))), record { lent = rw c.none_ended-then-end-piece.ensures.statement tt; stepped = tt })
 
 pub returns-then-is_empty : goal.returns-then-is_empty
 returns-then-is_empty c =
@@ -72,7 +74,11 @@ returns-then-is_empty c =
     let told = ended_told c.ended.result.statement _ 0 _ _ (slice_range piece start end) (kept_of goes_on s.held.items ++ slice_range piece start end) place whole c.ended.ensures.statement in
     let done = end_step c.args.self.now s.place s.held.items c.forget.new.held.items piece goes_on start end s.fed s.number c.ended.result.used s.refused c.ended.result.statement
     c.self.view_is c.in_default.is p (omega (arith, i.0)) behind few c.ended.ensures.used c.ended.ensures.some told in
-    ((refl, λ _. tt, (done.0, done.1)), record { stepped = tt })
+    let fed_is : s.fed ≡ c.args.self.now.fed = ap (λ (v : Piecing). v.fed) c.self.view_is in
+    let none : length (kept_of goes_on s.held.items) ≡ 0 = ap length (sym left ∙ nothing c.forget.new.held.items (sym c.is_empty.ensures ∙ c.if-is_empty.true)) in
+    let from : s.fed + start - c.kept_length-kept.result ≡ c.args.self.now.fed + start = omega (arith, kept, none, fed_is) in
+    let lent = lent_here c.ended.result.statement _ (s.fed + start - c.kept_length-kept.result) c.args.self.now.fed start (slice_range piece start end) c.args.piece.ref_ptr from c.ended.ensures.statement c.ended.ensures.lent in
+    ((refl, λ _. tt, (done.0, done.1)), record { lent = lent; stepped = tt })
 
 pub returns : goal.returns
 returns c =
@@ -95,4 +101,10 @@ returns c =
     let told = ended_told c.ended-2.result.statement _ 0 _ _ c.as_slice-2.result.now (kept_of goes_on s.held.items ++ slice_range piece start end) place whole c.ended-2.ensures.statement in
     let done = end_step c.args.self.now s.place s.held.items c.hold-2.new.held.items piece goes_on start end s.fed s.number c.ended-2.result.used s.refused c.ended-2.result.statement
     c.self.view_is c.in_default.is p (omega (arith, i.0)) behind few c.ended-2.ensures.used c.ended-2.ensures.some told in
-    ((refl, λ _. tt, (done.0, done.1)), record { stepped = tt })
+    let fed_is : s.fed ≡ c.args.self.now.fed = ap (λ (v : Piecing). v.fed) c.self.view_is in
+    let on = kept_on goes_on s.held.items c.forget.new.held.items left (sym c.is_empty.ensures ∙ c.if-is_empty.false) in
+    let first = p.first on.0 in
+    let whole_is = ap length first.1 in
+    let before : s.fed + start - c.kept_length-kept.result < c.args.self.now.fed = omega (arith, kept, on.1, fed_is, first.0, whole_is, most, i.0) in
+    let lent = lent_before c.ended-2.result.statement _ (s.fed + start - c.kept_length-kept.result) c.args.self.now.fed c.as_slice-2.result.now c.args.piece.ref_ptr before c.ended-2.ensures.statement in
+    ((refl, λ _. tt, (done.0, done.1)), record { lent = lent; stepped = tt })
