@@ -289,5 +289,6 @@ all_in_piece goes_on held left part same none =
     let kept : kept_of goes_on held ≡ [] = sym same ∙ empty in
     rw kept refl
 
-pub ended_told : (statement : Option Statement) (n m o p : ℕ) (unit other : List ℕ) → o ≡ p → unit ≡ other → IfSome statement (λ s. (s.number ≡ n) × (s.offset ≡ o) × (s.bytes.now ≡ statement_bytes unit)) → IfSome statement (λ s. (s.number ≡ n) × (s.offset ≡ p) × (s.bytes.now ≡ statement_bytes other))
-ended_told statement n m o p unit other e f h = rw (← e, ← f) h
+pub ended_told : (statement : Option Statement) (n o p : ℕ) (unit other : List ℕ) → o ≡ p → unit ≡ other → IfSome statement (λ s. (s.number ≡ n) × (s.offset ≡ o)) → IfSome statement (λ s. s.bytes.now ≡ statement_bytes unit) → IfSome statement (λ s. (s.number ≡ n) × (s.offset ≡ p) × (s.bytes.now ≡ statement_bytes other))
+ended_told None n o p unit other e f h k = tt
+ended_told (Some s) n o p unit other e f h k = (h.0, h.1 ∙ e, k ∙ ap statement_bytes f)

@@ -187,7 +187,8 @@ fn none_ended<'b>(used: usize) -> Cut<'b>
 fn ended<'b>(end: usize, number: u64, offset: u64, unit: &'b [u8]) -> Cut<'b>
     requires { end < 2 ^ 64 - 1 }
     ensures used { result.used ≡ end + 1 }
-    ensures statement { IfSome result.statement (λ s. (s.number ≡ number) × (s.offset ≡ offset) × (s.bytes.now ≡ statement_bytes unit.now)) }
+    ensures place { IfSome result.statement (λ s. (s.number ≡ number) × (s.offset ≡ offset)) }
+    ensures bytes { IfSome result.statement (λ s. s.bytes.now ≡ statement_bytes unit.now) }
     ensures some { IsSome result.statement }
     ensures lent { IfSome result.statement (λ s. s.bytes.ref_ptr ≡ unit.entry.ref_ptr) }
 {

@@ -71,13 +71,13 @@ returns-then-is_empty c =
     let whole : slice_range piece start end ≡ kept_of goes_on s.held.items ++ slice_range piece start end =
     all_in_piece goes_on s.held.items c.forget.new.held.items (slice_range piece start end) left (sym c.is_empty.ensures ∙ c.if-is_empty.true) in
     let place : s.fed + start - c.kept_length-kept.result ≡ s.fed + start - length (kept_of goes_on s.held.items) = ap (λ n. s.fed + start - n) kept in
-    let told = ended_told c.ended.result.statement _ 0 _ _ (slice_range piece start end) (kept_of goes_on s.held.items ++ slice_range piece start end) place whole c.ended.ensures.statement in
-    let done = end_step c.args.self.now s.place s.held.items c.forget.new.held.items piece goes_on start end s.fed s.number c.ended.result.used s.refused c.ended.result.statement
-    c.self.view_is c.in_default.is p (omega (arith, i.0)) behind few c.ended.ensures.used c.ended.ensures.some told in
     let fed_is : s.fed ≡ c.args.self.now.fed = ap (λ (v : Piecing). v.fed) c.self.view_is in
     let none : length (kept_of goes_on s.held.items) ≡ 0 = ap length (sym left ∙ nothing c.forget.new.held.items (sym c.is_empty.ensures ∙ c.if-is_empty.true)) in
     let from : s.fed + start - c.kept_length-kept.result ≡ c.args.self.now.fed + start = omega (arith, kept, none, fed_is) in
-    let lent = lent_here c.ended.result.statement _ (s.fed + start - c.kept_length-kept.result) c.args.self.now.fed start (slice_range piece start end) c.args.piece.ref_ptr from c.ended.ensures.statement c.ended.ensures.lent in
+    let lent = lent_here c.ended.result.statement _ (s.fed + start - c.kept_length-kept.result) c.args.self.now.fed start c.args.piece.ref_ptr from c.ended.ensures.place c.ended.ensures.lent in
+    let told = ended_told c.ended.result.statement _ _ _ (slice_range piece start end) (kept_of goes_on s.held.items ++ slice_range piece start end) place whole c.ended.ensures.place c.ended.ensures.bytes in
+    let done = end_step c.args.self.now s.place s.held.items c.forget.new.held.items piece goes_on start end s.fed s.number c.ended.result.used s.refused c.ended.result.statement
+    c.self.view_is c.in_default.is p (omega (arith, i.0)) behind few c.ended.ensures.used c.ended.ensures.some told in
     ((refl, λ _. tt, (done.0, done.1)), record { lent = lent; stepped = tt })
 
 pub returns : goal.returns
@@ -98,7 +98,7 @@ returns c =
     let whole : c.as_slice-2.result.now ≡ kept_of goes_on s.held.items ++ slice_range piece start end =
     c.as_slice-2.ensures.value ∙ c.hold-2.ensures ∙ ap (λ xs. xs ++ slice_range piece start end) left in
     let place : s.fed + start - c.kept_length-kept.result ≡ s.fed + start - length (kept_of goes_on s.held.items) = ap (λ n. s.fed + start - n) kept in
-    let told = ended_told c.ended-2.result.statement _ 0 _ _ c.as_slice-2.result.now (kept_of goes_on s.held.items ++ slice_range piece start end) place whole c.ended-2.ensures.statement in
+    let told = ended_told c.ended-2.result.statement _ _ _ c.as_slice-2.result.now (kept_of goes_on s.held.items ++ slice_range piece start end) place whole c.ended-2.ensures.place c.ended-2.ensures.bytes in
     let done = end_step c.args.self.now s.place s.held.items c.hold-2.new.held.items piece goes_on start end s.fed s.number c.ended-2.result.used s.refused c.ended-2.result.statement
     c.self.view_is c.in_default.is p (omega (arith, i.0)) behind few c.ended-2.ensures.used c.ended-2.ensures.some told in
     let fed_is : s.fed ≡ c.args.self.now.fed = ap (λ (v : Piecing). v.fed) c.self.view_is in
@@ -106,5 +106,5 @@ returns c =
     let first = p.first on.0 in
     let whole_is = ap length first.1 in
     let before : s.fed + start - c.kept_length-kept.result < c.args.self.now.fed = omega (arith, kept, on.1, fed_is, first.0, whole_is, most, i.0) in
-    let lent = lent_before c.ended-2.result.statement _ (s.fed + start - c.kept_length-kept.result) c.args.self.now.fed c.as_slice-2.result.now c.args.piece.ref_ptr before c.ended-2.ensures.statement in
+    let lent = lent_before c.ended-2.result.statement _ (s.fed + start - c.kept_length-kept.result) c.args.self.now.fed c.args.piece.ref_ptr before c.ended-2.ensures.place in
     ((refl, λ _. tt, (done.0, done.1)), record { lent = lent; stepped = tt })
