@@ -247,6 +247,7 @@ pub end_step : (now : Piecing) (place : Place) (held other piece : List ℕ) (go
 end_step now place held other piece goes_on start end fed number used refused None view none p few left short is_used some told = absurd (false≢true some)
 end_step now place held other piece goes_on start end fed number used refused (Some s) view none p few left short is_used some told =
     let size = part_size goes_on held piece start end p.within in
+    let low = kept_few place goes_on held fed (λ h. (p.first h).1) few in
     rw (← view, none, is_used) (
       refl,
       (
@@ -254,6 +255,7 @@ end_step now place held other piece goes_on start end fed number used refused (S
         record { number_is = told.0; place = told.1; slice = told.2; short = omega arith },
         omega arith,
         omega arith,
+        omega (arith, size, p.order, low),
         leads_behind_unit place held other piece goes_on start end fed number p few left,
       ),
     )

@@ -17,11 +17,13 @@ pub record IsNumbered (count : ℕ) (unit : TextUnit) (s : Statement) : Type 0 w
 abbrev pub LiesBehind : ℕ × ℕ → ℕ → ℕ × ℕ → Type 0
 LiesBehind piece n slice = slice ≡ (piece.0, piece.1 + n)
 
--- no statement is closed in the whole piece, or the last byte that was used closed this one
+-- no statement is closed in the whole piece, or this one is, by the byte behind its unit, which is the
+-- last that was used
 abbrev pub Used : Piecing → List ℕ → ℕ → Option Statement → Piecing → Type 0
 Used old piece used None new = (used ≡ length piece) × Leads old piece [] new
 Used old piece used (Some s) new =
-    (unit : TextUnit) × IsNumbered old.number unit s × (0 < used) × (used ≤ length piece) × Leads old (take used piece) (unit ∷ []) new
+    (unit : TextUnit) × IsNumbered old.number unit s × (0 < used) × (used ≤ length piece) × (old.fed + used ≡ unit.offset + length unit.bytes + 1)
+    × Leads old (take used piece) (unit ∷ []) new
 
 -- the statement at this offset is the one that was met before, or the first that these bytes close and too long
 abbrev pub IsTooLongAt : Option ℕ → Piecing → List ℕ → ℕ → Type 0

@@ -96,10 +96,10 @@ impl PieceCutter {
 
     /// Takes bytes of the piece: how many it used, and the statement that ended there, if one did.
     ///
-    /// It stops behind the byte that ends a statement, and uses the whole piece where none ends. Hand
-    /// in what is left of the piece next. A statement that begins in this piece is lent from it. One
-    /// of more than 4,096 bytes is a `CutFault` as soon as that is known, and at each later call; the
-    /// cutter is then as before. At most 2^63 bytes may be fed in all.
+    /// It stops right behind the byte that ends a statement, and uses the whole piece where none ends.
+    /// Hand in what is left of the piece next. A statement that begins in this piece is lent from it.
+    /// One of more than 4,096 bytes is a `CutFault` as soon as that is known, and at each later call;
+    /// the cutter is then as before. At most 2^63 bytes may be fed in all.
     pub fn step<'b>(&'b mut self, piece: &'b [u8]) -> Result<Cut<'b>, CutFault>
         requires { self.old.fed + length piece.now ≤ 2 ^ 63 }
         ensures lent { IfOk result (λ cut. IfSome cut.statement (λ s. self.old.fed ≤ s.offset
