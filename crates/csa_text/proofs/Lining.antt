@@ -4,7 +4,7 @@ use Rattle.std.proofs.lemmas.Bool.{cases_lt, false≢true, eqb-true}
 use Rattle.std.proofs.lemmas.List.{take-append-drop, length-take-le, take_more, get_or-drop}
 use Rattle.std.proofs.lemmas.List.Folds.{drop_split}
 use Rattle.std.proofs.lemmas.List.Sums.{prefix_len_stops, prefix_len-le-length}
-use Rattle.std.proofs.Math.Seq.{drop-cons, drop-length, take-add}
+use Rattle.std.proofs.Math.Seq.{drop-cons, take-add, take-length}
 use Rattle.std.specs.List.{AllByRecursion, prefix_len, position_or_len}
 use Rattle.csa_text.specs.Lines.{is_line_end, AreLineEnds, HasNoLineEnd, BeginsWithLineEnd, Lines}
 use Rattle.csa_text.specs.Lining.{BeginsTooLong, IsRun}
@@ -87,20 +87,24 @@ held_first held piece start end r =
     ∙ front held piece (slice_range piece start end ++ drop end piece) start r.first
     ∙ ap (λ xs. take start piece ++ xs) (sym (append_assoc held (slice_range piece start end) (drop end piece)))
 
-pub line_unfinished : (held piece : List ℕ) (start end : ℕ) → IsRun held piece start end → HasNoLineEnd held → end ≡ length piece → Lines (held ++ piece) [] (held ++ slice_range piece start end)
-line_unfinished held piece start end r solid all =
-    let none : drop end piece ≡ [] = rw all (drop-length piece) in
-    let run = held ++ slice_range piece start end in (
-      take start piece,
-      held_first held piece start end r ∙ ap (λ xs. take start piece ++ (run ++ xs)) none ∙ ap (λ xs. take start piece ++ xs) (append-nil run),
-      r.skipped,
-      all_joined (λ b. is_line_end b ≡ false) held _ solid r.run,
-    )
-
 take_between : (piece : List ℕ) (start end : ℕ) → start ≤ end → take end piece ≡ take start piece ++ slice_range piece start end
 take_between piece start end order =
     let count : end ≡ start + (end - start) = omega arith in
     ap (λ n. take n piece) count ∙ take-add start (end - start) piece
+
+pub line_waits : (held piece : List ℕ) (start end : ℕ) → IsRun held piece start end → HasNoLineEnd held → Lines (held ++ take end piece) [] (held ++ slice_range piece start end)
+line_waits held piece start end r solid =
+    let run = slice_range piece start end in (
+      take start piece,
+      ap (λ xs. held ++ xs) (take_between piece start end r.order) ∙ front held piece run start r.first,
+      r.skipped,
+      all_joined (λ b. is_line_end b ≡ false) held run solid r.run,
+    )
+
+pub line_unfinished : (held piece : List ℕ) (start end : ℕ) → IsRun held piece start end → HasNoLineEnd held → end ≡ length piece → Lines (held ++ piece) [] (held ++ slice_range piece start end)
+line_unfinished held piece start end r solid all =
+    let whole : take end piece ≡ piece = ap (λ n. take n piece) all ∙ take-length piece in
+    subst (λ xs. Lines (held ++ xs) [] (held ++ slice_range piece start end)) whole (line_waits held piece start end r solid)
 
 -- the piece up to and with the byte that ends the line
 used : (piece : List ℕ) (start end : ℕ) → start ≤ end → end < length piece → take (end + 1) piece ≡ take start piece ++ (slice_range piece start end ++ get_or piece end 0 ∷ [])
@@ -146,11 +150,11 @@ line_long held piece start end limit r solid long =
       omega (arith, length-append held run, length_range piece start end r.within),
     )
 
-abbrev StopsLine : List ℕ → Type 0
+abbrev pub StopsLine : List ℕ → Type 0
 StopsLine [] = Unit {0}
 StopsLine (b ∷ bytes) = is_line_end b ≡ true
 
-no_longer_run : (run behind line more : List ℕ) → HasNoLineEnd line → StopsLine behind → run ++ behind ≡ line ++ more → length line ≤ length run
+pub no_longer_run : (run behind line more : List ℕ) → HasNoLineEnd line → StopsLine behind → run ++ behind ≡ line ++ more → length line ≤ length run
 no_longer_run run behind [] more solid stops same = omega arith
 no_longer_run [] [] (l ∷ line) more solid stops same = cc
 no_longer_run [] (b ∷ behind) (l ∷ line) more solid stops same =

@@ -16,6 +16,11 @@ abbrev pub BeginsTooLong : ℕ → List ℕ → Type 0
 BeginsTooLong limit bytes =
     (ends line behind : List ℕ) × (bytes ≡ ends ++ (line ++ behind)) × AreLineEnds ends × HasNoLineEnd line × (limit < length line)
 
+-- somewhere in the bytes more than the limit stand in a row with no line end
+abbrev pub HasLongLine : ℕ → List ℕ → Type 0
+HasLongLine limit bytes =
+    (before line behind : List ℕ) × (bytes ≡ before ++ (line ++ behind)) × HasNoLineEnd line × (limit < length line)
+
 -- the bytes of the piece from start to end go on with the line that is held, or are the next line
 -- behind the line ends at the front
 pub record IsRun (held piece : List ℕ) (start end : ℕ) : Type 0 where
@@ -27,11 +32,12 @@ pub record IsRun (held piece : List ℕ) (start end : ℕ) : Type 0 where
   pub ends : end < length piece → BeginsWithLineEnd (drop end piece)
   pub some : end < length piece → 0 < length held + (end - start)
 
--- a line ended with the last byte that was used, or the whole piece was used and none ended in it
+-- the line ended with the last byte that was used, and was unfinished before it; or the whole piece
+-- was used and none ended in it
 abbrev pub LineStep : List ℕ → List ℕ → ℕ × Option (Bor (List ℕ)) → Type 0
 LineStep held piece r = (r.0 ≤ length piece) × MatchOption r.1
     (r.0 ≡ length piece)
-    (λ line. (0 < r.0) × Lines (held ++ take r.0 piece) (line.now ∷ []) [])
+    (λ line. (0 < r.0) × Lines (held ++ take r.0 piece) (line.now ∷ []) [] × Lines (held ++ take (r.0 - 1) piece) [] line.now)
 
 -- what is held after a step
 abbrev pub LinesAfter : Lining → List ℕ → Result (ℕ × Option (Bor (List ℕ))) LineFault → Lining → Type 0

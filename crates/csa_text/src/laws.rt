@@ -1,8 +1,10 @@
 //! Laws of the definitions that the contracts of this crate cite. They take and give nothing.
 
-ghost use Rattle.std.specs.Prelude.{◌≡◌, ℕ, List, ◌++◌, ◌↔◌, true};
+ghost use Rattle.std.specs.Prelude.{◌≡◌, ℕ, List, ◌++◌, ◌↔◌, true, take, Option, Ok};
+ghost use Rattle.std.specs.Borrow.{Bor};
 ghost use Rattle.csa_text.specs.Cut.{TextUnit, Cut, Statements};
 ghost use Rattle.csa_text.specs.Lines.{Lines};
+ghost use Rattle.csa_text.specs.Lining.{Lining, BeginsTooLong, HasLongLine, LineStep, LinesAfter};
 ghost use Rattle.csa_text.specs.Moment.{CalendarMoment, SpellsMoment};
 ghost use Rattle.csa_text.specs.MomentParts.{moment_of};
 ghost use Rattle.csa_text.specs.Piecing.{Piecing, ToCome, Closed, Leads, fresh};
@@ -71,4 +73,16 @@ pub fn pieces_closed()
 pub fn pieces_whole()
     ensures { (source more : List ℕ) (closed others : List TextUnit) (p : Piecing)
         → Leads fresh source closed p → ToCome p more others → Cut (source ++ more) (closed ++ others) }
+{}
+
+/// Where a step answers `TooLong`, all that came has a line over the limit. Where it takes bytes, and
+/// what came before has no such line, then with them it has none: so it does not matter how bytes are
+/// cut into pieces.
+pub fn long_lines_met()
+    ensures long { (limit : ℕ) (first piece : List ℕ) (lines : List (List ℕ)) (rest : List ℕ)
+        → Lines first lines rest → BeginsTooLong limit (rest ++ piece) → HasLongLine limit (first ++ piece) }
+    ensures short { (old new : Lining) (first piece : List ℕ) (lines : List (List ℕ)) (r : ℕ × Option (Bor (List ℕ)))
+        → Lines first lines old.held → (HasLongLine old.limit first → ⊥) → (BeginsTooLong old.limit (old.held ++ piece) → ⊥)
+        → LineStep old.held piece r → LinesAfter old piece (Ok r) new
+        → HasLongLine old.limit (first ++ take r.0 piece) → ⊥ }
 {}

@@ -246,7 +246,30 @@ mod tests {
         Ok(())
     }
 
-    // Run by tests/growths with each growth refused in turn: a refused step changes nothing, and made again it succeeds.
+    // A line that CR ends is there at once, and the LF behind that CR gives none.
+    #[test]
+    fn line_end_cut_in_two(rt: HostRuntime) -> Result<(), LineFault> {
+        let mut cutter = LineCutter::new(rt.alloc(), 8);
+        assert_eq!(rt; cutter.step(b"usi\r")?, (4, Some(b"usi".as_slice())));
+        assert_eq!(rt; cutter.step(b"\n")?, (1, None));
+        assert_eq!(rt; cutter.step(b"quit\r\n")?, (5, Some(b"quit".as_slice())));
+        assert_eq!(rt; cutter.step(b"\nquit")?, (5, None));
+        assert_eq!(rt; cutter.finish()?, Some(b"quit".as_slice()));
+        assert_eq!(rt; cutter.finish()?, None);
+        Ok(())
+    }
+
+    #[test]
+    fn lines_of_no_bytes(rt: HostRuntime) -> Result<(), LineFault> {
+        let mut cutter = LineCutter::new(rt.alloc(), 0);
+        assert_eq!(rt; cutter.step(b"\n")?, (1, None));
+        assert_eq!(rt; cutter.step(b"a").err(), Some(LineFault::TooLong));
+        assert_eq!(rt; cutter.step(b"\n").err(), Some(LineFault::TooLong));
+        Ok(())
+    }
+
+    // Run by tests/growths with each growth refused in turn: a refused step changes nothing, and made
+    // again it succeeds.
     #[test]
     fn refused_growth_changes_nothing(rt: HostRuntime) -> Result<(), Fail> {
         let mut cutter = LineCutter::new(rt.alloc(), 4096);

@@ -1,9 +1,9 @@
-use Rattle.std.proofs.Common.{◌≡◌, ℕ, ◌+◌, ◌<◌, ◌≤◌, ◌⊎◌, ◌∷◌, ◌++◌, Bool, true, false, List, [], length, take, slice_range, cond, refl, sym, ap, ◌∙◌, arith, subst, inl, inr}
+use Rattle.std.proofs.Common.{◌≡◌, ℕ, ◌+◌, ◌<◌, ◌≤◌, ◌-◌, ◌⊎◌, ◌∷◌, ◌++◌, Bool, true, false, List, [], length, take, slice_range, cond, refl, sym, ap, ◌∙◌, arith, subst, inl, inr}
 use Rattle.std.specs.Vec.{vec_len}
 use Rattle.std.proofs.lemmas.Result.{err_from_is_err_and}
 use Rattle.csa_text.specs.Lines.{HasNoLineEnd, Lines}
 use Rattle.csa_text.specs.Lining.{Lining, IsRun}
-use Rattle.csa_text.proofs.Lining.{line_unfinished, line_closed, line_long, line_short, length_range}
+use Rattle.csa_text.proofs.Lining.{line_unfinished, line_waits, line_closed, line_long, line_short, length_range}
 use Rattle.csa_text.proofs.line.LineCutter.step.Goals as goal
 
 same_lining : (a b : List ℕ) (m n : ℕ) (f g : Bool) → a ≡ b → m ≡ n → f ≡ g → (let x : Lining = record { held = a; limit = m; failed = f } in let y : Lining = record { held = b; limit = n; failed = g } in x ≡ y)
@@ -95,7 +95,10 @@ returns c =
     c.as_slice-2.ensures.value ∙ c.in_ok-extend_from_slice.ensures.items ∙ ap (λ xs. xs ++ slice_range c.args.piece.now c.first_run-start.result.0 c.first_run-start.result.1) same in
     let left : c.first_run-start.result.1 < length c.args.piece.now = omega (arith, c.if-end-piece.false, run.within) in
     let lines : Lines (c.args.self.now.held ++ take (c.first_run-start.result.1 + 1) c.args.piece.now) (c.as_slice-2.result.now ∷ []) [] =
-    rw more (line_closed c.args.self.now.held c.args.piece.now c.first_run-start.result.0 c.first_run-start.result.1 run solid left) in (
+    rw more (line_closed c.args.self.now.held c.args.piece.now c.first_run-start.result.0 c.first_run-start.result.1 run solid left) in
+    let before : c.first_run-start.result.1 + 1 - 1 ≡ c.first_run-start.result.1 = omega arith in
+    let waits : Lines (c.args.self.now.held ++ take (c.first_run-start.result.1 + 1 - 1) c.args.piece.now) [] c.as_slice-2.result.now =
+    rw (before, more) (line_waits c.args.self.now.held c.args.piece.now c.first_run-start.result.0 c.first_run-start.result.1 run solid) in (
       (refl, λ _. tt, (limit, c.if-self.false, refl)),
-      record { long = (λ h. cc, λ h. absurd (not_long c.args.self.now.failed _ (sym failed ∙ c.if-self.false) short h)); lines = (omega arith, (omega arith, lines)); rests = tt },
+      record { long = (λ h. cc, λ h. absurd (not_long c.args.self.now.failed _ (sym failed ∙ c.if-self.false) short h)); lines = (omega arith, (omega arith, lines, waits)); rests = tt },
     )
