@@ -182,15 +182,15 @@ line_once ws p q a b h k =
 
 -- the fault of a line whose start is read
 abbrev Stops : Words → UsiFault → Type 0
-Stops ws f = (start : Placed) × (words : Words) × Starts ws start words × ((f ≡ OutOfMemory) ⊎ Plays start [] words (Err f))
+Stops ws f = (start : Placed) × (words : Words) × Starts ws start words × (((f ≡ OutOfMemory) × (words ≡ [])) ⊎ Plays start [] words (Err f))
 
 no_line : (ws : Words) (p : Placed) (a : List Move) (f : UsiFault) → UsiLine ws p a → Stops ws f → f ≡ OutOfMemory
-no_line ws p a f h (q, words, s, inl e) = e
+no_line ws p a f h (q, words, s, inl e) = e.0
 no_line ws p a f h (q, words, s, inr k) = moves_or_fault a f (told_once ws p q (Ok a) (Err f) h (words, s, k)).1
 
 stops_once : (ws : Words) (f g : UsiFault) → Stops ws f → Stops ws g → Agree f g
-stops_once ws f g (p, words, s, inl e) k = inl e
-stops_once ws f g h (q, others, t, inl e) = inr (inl e)
+stops_once ws f g (p, words, s, inl e) k = inl e.0
+stops_once ws f g h (q, others, t, inl e) = inr (inl e.0)
 stops_once ws f g (p, words, s, inr h) (q, others, t, inr k) = faults_agree f g (told_once ws p q (Err f) (Err g) (words, s, h) (others, t, k)).1
 
 bad_line : (ws : Words) (p : Placed) (moves : Words) → Starts ws p moves → LineFault ws BadLine → ⊥

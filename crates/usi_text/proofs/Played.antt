@@ -1,5 +1,6 @@
 -- Words played as moves, one after another.
 use Rattle.std.proofs.Common.{◌≡◌, ℕ, ◌<◌, ◌⊎◌, inl, inr, List, [], ◌∷◌, ◌++◌, Some, None, Result, Ok, Err, length, drop, arith, refl, sym, ap, ◌∙◌, subst}
+use Rattle.std.specs.Prelude.{MatchResult}
 use Rattle.shogi_board.specs.declared.color.Color.{Color}
 use Rattle.shogi_board.specs.Placed.{Placed}
 use Rattle.shogi_rules.specs.Play.{Answers}
@@ -10,7 +11,7 @@ use Rattle.shogi_rules.specs.declared.rule.Rule.{Rule}
 use Rattle.usi_text.specs.declared.fault.UsiFault.{UsiFault}
 use Rattle.usi_text.specs.declared.fault.UsiFault.TheVariants.{BadLine, BadMoveText, Broken, TooManyMoves, OutOfMemory}
 use Rattle.usi_text.specs.declared.fault.UsiFault.TheVariants as usi
-use Rattle.usi_text.specs.Lines.{IsPlayed, WordFault, Plays, PlayedFault, LineFault, UsiLine, Starts}
+use Rattle.usi_text.specs.Lines.{IsPlayed, WordFault, Plays, PlayedFault, StartedFault, LineFault, UsiLine, Starts}
 use Rattle.usi_text.specs.Words.{nth_word}
 
 pub broken_told : (line : Played) (c : Color) (m : Move) (rule : Rule) → ((play.Broken rule ≡ play.OutOfMemory) × Answers line c m None) ⊎ Answers line c m (Some (play.Broken rule)) → Answers line c m (Some (play.Broken rule))
@@ -42,10 +43,10 @@ playing_fault start words rest behind moves w TooManyMoves p e h = p.forward (Er
 playing_fault start words rest behind moves w (BadMoveText n) p e h = p.forward (Err (BadMoveText n)) (rw e (inl (BadMoveText n, h, refl)))
 playing_fault start words rest behind moves w (Broken n rule) p e h = p.forward (Err (Broken n rule)) (rw e (inl (Broken n rule, h, refl)))
 
-pub line_fault : (ws : List (List ℕ)) (start : Placed) (words : List (List ℕ)) (fault : UsiFault) → Starts ws start words → (fault ≡ OutOfMemory) ⊎ PlayedFault start words fault → LineFault ws fault
-line_fault ws start words BadLine s (inl h) = cc
+pub line_fault : (ws : List (List ℕ)) (start : Placed) (words : List (List ℕ)) (fault : UsiFault) → Starts ws start words → StartedFault start words fault → LineFault ws fault
+line_fault ws start words BadLine s (inl h) = let e = h.0 in cc
 line_fault ws start words BadLine s (inr h) = absurd h
-line_fault ws start words (usi.Sfen f) s (inl h) = cc
+line_fault ws start words (usi.Sfen f) s (inl h) = let e = h.0 in cc
 line_fault ws start words (usi.Sfen f) s (inr h) = absurd h
 line_fault ws start words OutOfMemory s h = (start, words, s, h)
 line_fault ws start words TooManyMoves s h = (start, words, s, h)
@@ -61,3 +62,7 @@ pub usi_line : (ws : List (List ℕ)) (start found : Placed) (words : List (List
 usi_line ws start found words moves s same h =
     let e = sym same in
     (words, subst (λ (p : Placed). Starts ws p words) e s, subst (λ (p : Placed). Plays p [] words (Ok moves)) e h)
+
+pub line_answered : (ws : List (List ℕ)) (start : Placed) (words : List (List ℕ)) (answer : Result Played UsiFault) → Starts ws start words → MatchResult answer (λ line. (line.start ≡ start) × Plays start [] words (Ok line.moves)) (λ fault. StartedFault start words fault) → MatchResult answer (λ line. UsiLine ws line.start line.moves) (λ fault. LineFault ws fault)
+line_answered ws start words (Ok line) s h = usi_line ws start line.start words line.moves s h.0 h.1
+line_answered ws start words (Err fault) s h = line_fault ws start words fault s h

@@ -85,11 +85,14 @@ PlayedFault start words BadLine = ⊥
 PlayedFault start words (usi.Sfen fault) = ⊥
 PlayedFault start words fault = Plays start [] words (Err fault)
 
--- the first fault of a line.
--- Memory is asked for before the first move's word too, and then nothing is said of the words
+-- why the words behind the start are not all played; memory is wanting also where there is none
+abbrev pub StartedFault : Placed → List (List ℕ) → UsiFault → Type 0
+StartedFault start words fault = ((fault ≡ OutOfMemory) × (words ≡ [])) ⊎ PlayedFault start words fault
+
+-- the first fault of a line
 abbrev pub LineFault : List (List ℕ) → UsiFault → Type 0
 LineFault ws BadLine =
     ((moves : List (List ℕ)) → EvenLine ws moves → ⊥) × ((sfen moves : List (List ℕ)) → SfenLine ws sfen moves → ⊥)
 LineFault ws (usi.Sfen fault) =
     (sfen : List (List ℕ)) × (moves : List (List ℕ)) × SfenLine ws sfen moves × FirstFault sfen fault
-LineFault ws fault = (start : Placed) × (words : List (List ℕ)) × Starts ws start words × ((fault ≡ OutOfMemory) ⊎ PlayedFault start words fault)
+LineFault ws fault = (start : Placed) × (words : List (List ℕ)) × Starts ws start words × StartedFault start words fault

@@ -1,7 +1,6 @@
-ghost use Rattle.std.specs.Prelude.{◌≡◌, ◌++◌, ◌∷◌, [], Ok, ◌⊎◌, ◌↔◌, ℕ, List, IsTrue, MatchOption, MatchResult};
+ghost use Rattle.std.specs.Prelude.{◌≡◌, ◌++◌, ◌∷◌, [], Ok, ◌↔◌, ℕ, List, IsTrue, MatchOption, MatchResult};
 ghost use Rattle.shogi_rules.specs.declared.moves.Move.{Move};
-ghost use Rattle.usi_text.specs.Lines.{UsiLine, LineFault, Starts, Plays, Split, HasMoves, IsPlayed, WordFault, PlayedFault, line_of};
-ghost use Rattle.usi_text.specs.declared.fault.UsiFault.TheVariants.{OutOfMemory};
+ghost use Rattle.usi_text.specs.Lines.{UsiLine, LineFault, Starts, Plays, Split, HasMoves, IsPlayed, WordFault, PlayedFault, StartedFault, line_of};
 ghost use Rattle.usi_text.specs.Words.{words};
 
 use crate::fault::UsiFault;
@@ -9,25 +8,22 @@ use crate::moves::read_move;
 use crate::sfen::read_sfen;
 use crate::words::{has_word, take_word};
 use shogi_board::Position;
-use shogi_rules::{Line, PlayFault};
+use shogi_rules::{Line, PlayFault, judge};
 use std::alloc::Global;
 
 /// The line that a position line tells: its start and its moves.
 ///
 /// Refuses, in this order: BadLine; Sfen with the SFEN's first fault; then for each move in turn TooManyMoves where
 /// 10,000 stand, BadMoveText where its word is no move in the position reached, Broken with the first rule that it
-/// breaks, OutOfMemory where it may be played. OutOfMemory may come before the first move too. Moves are numbered
-/// from 1.
+/// breaks, OutOfMemory where it may be played. Moves are numbered from 1. OutOfMemory may come where there are no moves
+/// too; it comes only where no fault that does not need memory stands before.
 pub fn read_position_line(alloc: Global, text: &[u8]) -> Result<Line, UsiFault>
     ensures { MatchResult result
         (λ line. UsiLine (words text.now) line.start line.moves)
         (λ fault. LineFault (words text.now) fault) }
 {
     match read_start(text) {
-        Ok(found) => {
-            let line = play_line(alloc, found.0, found.1)?;
-            Ok(line)
-        }
+        Ok(found) => play_line(alloc, found.0, found.1),
         Err(fault) => Err(fault),
     }
 }
@@ -36,15 +32,30 @@ pub fn read_position_line(alloc: Global, text: &[u8]) -> Result<Line, UsiFault>
 fn play_line(alloc: Global, start: Position, text: &[u8]) -> Result<Line, UsiFault>
     ensures { MatchResult result
         (λ line. (line.start ≡ start) × Plays start [] (words text.now) (Ok line.moves))
-        (λ fault. (fault ≡ OutOfMemory) ⊎ PlayedFault start (words text.now) fault) }
+        (λ fault. StartedFault start (words text.now) fault) }
 {
     let mut line = match Line::new(alloc, start) {
         Ok(line) => line,
-        Err(_) => return Err(UsiFault::OutOfMemory),
+        Err(_) => return Err(fault_without_room(start, text)),
     };
-    match play_words(&mut line, text) {
-        Ok(()) => Ok(line),
-        Err(fault) => Err(fault),
+    play_words(&mut line, text)?;
+    Ok(line)
+}
+
+// Where there is no room for a line: the fault of the first move's word, else want of memory.
+fn fault_without_room(start: Position, text: &[u8]) -> UsiFault
+    ensures { StartedFault start (words text.now) result }
+{
+    if !has_word(text) {
+        return UsiFault::OutOfMemory;
+    }
+    let (word, _) = take_word(text);
+    let Some(mv) = read_move(&start, word) else {
+        return UsiFault::BadMoveText(1);
+    };
+    match judge(&start, start.side(), &mv) {
+        Some(rule) => UsiFault::Broken(1, rule),
+        None => UsiFault::OutOfMemory,
     }
 }
 
