@@ -14,7 +14,8 @@ use Rattle.usi_text.specs.Boards.{SpellsCells, SpellsRanks, SpellsBoard, ranks_o
 use Rattle.usi_text.specs.Hands.{IsPile, IsCount, count_text, pile_text}
 use Rattle.usi_text.specs.Letters.{piece_text, side_letter}
 use Rattle.usi_text.specs.Sfen.{side_text}
-use Rattle.usi_text.specs.SfenText.{cells_from, run_text, text_after, rank_text, ranks_text, board_text, hands_text}
+use Rattle.usi_text.specs.SfenText.{cells_from, run_text, rank_text, ranks_text, board_text, hands_text}
+use Rattle.usi_text.proofs.Runs.{text_after, after_is}
 use Rattle.usi_text.specs.Words.{words, has_bytes}
 use Rattle.usi_text.proofs.Ranks.{part_before}
 use Rattle.usi_text.proofs.Spelt.{side_low, one_digit, two_digits}
@@ -118,7 +119,7 @@ after_bytes n (Some p ∷ cells) =
     rank_joined (run_text n) (piece_text p ++ text_after 0 cells) (run_bytes n) (rank_joined (piece_text p) (text_after 0 cells) (piece_bytes p) (after_bytes 0 cells))
 
 rank_bytes : (board : List (Option Piece)) (r : ℕ) → AreRank (rank_text board r)
-rank_bytes board r = after_bytes 0 (cells_from board r 9)
+rank_bytes board r = subst AreRank (after_is 0 (cells_from board r 9)) (after_bytes 0 (cells_from board r 9))
 
 ranks_bytes : (board : List (Option Piece)) (r n : ℕ) → AreWord (ranks_text board r n)
 ranks_bytes board r zero = tt
@@ -183,7 +184,7 @@ ranks_spelt board r (suc n) = (
   cells_from board r 9,
   board_cells board (r + 1) n,
   refl,
-  spells_after 0 (cells_from board r 9) (omega (arith, cells_count board r 9)),
+  subst (λ t. SpellsCells t (cells_from board r 9)) (after_is 0 (cells_from board r 9)) (spells_after 0 (cells_from board r 9) (omega (arith, cells_count board r 9))),
   cells_count board r 9,
   ranks_spelt board (r + 1) n,
 )

@@ -11,6 +11,7 @@ pub mod OneText
 pub mod Piles
 pub mod Played
 pub mod Ranks
+pub mod Runs
 pub mod Settings
 pub mod SfenOnce
 pub mod Sfens

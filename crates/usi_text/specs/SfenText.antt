@@ -9,8 +9,10 @@ use Rattle.shogi_board.specs.declared.kind.Piece.{Piece}
 use Rattle.shogi_board.specs.Placed.{Placed}
 use Rattle.shogi_board.specs.Totals.{count_in}
 use Rattle.usi_text.specs.declared.hands.Pile.{Pile}
+use Rattle.usi_text.specs.declared.parts.Part.{Part}
+use Rattle.usi_text.specs.declared.parts.Part.TheVariants.{Empty, Stands}
+use Rattle.usi_text.specs.Boards.{part_text}
 use Rattle.usi_text.specs.Hands.{pile_text}
-use Rattle.usi_text.specs.Letters.{piece_text}
 use Rattle.usi_text.specs.Sfen.{side_text}
 
 -- what stands on a file and rank
@@ -26,14 +28,20 @@ cells_from board rank (suc n) = cell board (suc n) rank ∷ cells_from board ran
 abbrev pub run_text : ℕ → List ℕ
 run_text n = if n == 0 then [] else (48 + n) ∷ []
 
--- n empty squares, and then these cells
-abbrev pub text_after : ℕ → List (Option Piece) → List ℕ
-text_after n [] = run_text n
-text_after n (None ∷ cells) = text_after (n + 1) cells
-text_after n (Some p ∷ cells) = run_text n ++ (piece_text p ++ text_after 0 cells)
+-- one more empty square in front: it joins the count that stands there, or is a count of its own
+abbrev pub with_empty : List Part → List Part
+with_empty (Empty n ∷ parts) = Empty (suc n) ∷ parts
+with_empty parts = Empty 1 ∷ parts
 
+-- the parts that are written for cells: a piece is one, and a whole run of empty squares is one
+abbrev pub parts_of : List (Option Piece) → List Part
+parts_of [] = []
+parts_of (None ∷ cells) = with_empty (parts_of cells)
+parts_of (Some p ∷ cells) = Stands p ∷ parts_of cells
+
+-- the parts of a rank, one behind another
 abbrev pub rank_text : List (Option Piece) → ℕ → List ℕ
-rank_text board rank = text_after 0 (cells_from board rank 9)
+rank_text board rank = flat_map part_text (parts_of (cells_from board rank 9))
 
 -- so many ranks from one on, a slash before each
 abbrev pub ranks_text : List (Option Piece) → ℕ → ℕ → List ℕ

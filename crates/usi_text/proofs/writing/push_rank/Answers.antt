@@ -1,9 +1,16 @@
 use Rattle.std.proofs.Common.{◌≡◌, ◌-◌, ◌+◌, suc, arith, ◌∙◌, ap, ◌++◌, sym}
 use Rattle.usi_text.specs.Letters.{piece_text}
-use Rattle.usi_text.specs.SfenText.{rank_text}
+use Rattle.usi_text.specs.SfenText.{cells_from, rank_text}
+use Rattle.usi_text.proofs.Runs.{after_is}
 use Rattle.usi_text.proofs.Written.{left_none, left_piece}
 use Rattle.usi_text.proofs.writing.push_rank.Goals as goal
 use Rattle.usi_text.proofs.writing.push_rank.Goals.{in-None, in-Some+in_ok-push_run-in-Some+in_ok-push_piece-in-Some}
+
+pub loop-right-init : goal.loop-right-init
+loop-right-init c = record {
+  text = ap (λ t. c.args.text.now.items ++ t) (after_is 0 (cells_from c.args.position.now.board c.args.rank 9));
+  few = omega arith;
+}
 
 pub loop-right-preserved : goal.loop-right-preserved
 loop-right-preserved c =

@@ -1,5 +1,6 @@
 use Rattle.std.proofs.Common.{◌≡◌, ◌-◌, ◌≤◌, ◌++◌}
-use Rattle.usi_text.specs.SfenText.{text_after, cells_from, rank_text}
+use Rattle.usi_text.specs.SfenText.{cells_from, rank_text}
+use Rattle.usi_text.proofs.Runs.{text_after}
 use Rattle.usi_text.proofs.writing.push_rank.Given as goal
 
 abbrev pub invariant-loop-right : goal.invariant-loop-right
