@@ -2,6 +2,9 @@
 
 mod normal;
 
+ghost use Rattle.std.specs.Prelude.{◌≡◌, ◌≢◌, IfErr, IsErrOf, Some, codes};
+ghost use Rattle.clap.specs.Words.{subcommand_name_of};
+
 use crate::fault::Fault;
 use clap::{ArgMatches, Command};
 use std::alloc::{AllocError, Global};
@@ -18,13 +21,17 @@ pub fn all<'a>(alloc: Global) -> Result<Command<'a>, AllocError> {
 }
 
 /// Runs the command that the words named.
+///
+/// `Fault::UnknownCommand` where they name none of these.
 pub fn run<R: Files + Input + Print + AllocGlobal>(
     rt: &R,
     matches: &ArgMatches<'_>,
-) -> Result<(), Fault> {
+) -> Result<(), Fault>
+    ensures unknown { subcommand_name_of matches.now ≢ Some (codes "normal") → IsErrOf result Fault.UnknownCommand }
+    ensures known { subcommand_name_of matches.now ≡ Some (codes "normal") → IfErr result (λ fault. fault ≢ Fault.UnknownCommand) }
+{
     match matches.subcommand() {
         Some((normal::NAME, words)) => normal::run(rt, words),
-        // The command line has no other subcommand, and requires one.
-        _ => Ok(()),
+        _ => Err(Fault::UnknownCommand),
     }
 }

@@ -17,6 +17,8 @@ pub enum Fault {
     Refused(Refusal),
     /// A word of the command line is not UTF-8.
     WordsNotText,
+    /// The command line named a command that is not there.
+    UnknownCommand,
     /// A file or standard input could not be read.
     Read,
     /// A file or standard output did not take all that was to be written.
@@ -33,13 +35,14 @@ impl Fault {
     pub fn status(&self) -> u8
         ensures refused { (r : Refusal) → self.now ≡ Fault.Refused r → result ≡ 1 }
         ensures words { self.now ≡ Fault.WordsNotText → result ≡ 2 }
+        ensures unknown { self.now ≡ Fault.UnknownCommand → result ≡ 2 }
         ensures read { self.now ≡ Fault.Read → result ≡ 3 }
         ensures write { self.now ≡ Fault.Write → result ≡ 3 }
         ensures memory { self.now ≡ Fault.OutOfMemory → result ≡ 5 }
     {
         match self {
             Fault::Refused(_) => 1,
-            Fault::WordsNotText => USAGE,
+            Fault::WordsNotText | Fault::UnknownCommand => USAGE,
             Fault::Read | Fault::Write => 3,
             Fault::OutOfMemory => 5,
         }
@@ -50,10 +53,7 @@ impl Fault {
         ensures memory { error_kind error.now ≡ ErrorKind.OutOfMemory → result ≡ Fault.OutOfMemory }
         ensures read { error_kind error.now ≢ ErrorKind.OutOfMemory → result ≡ Fault.Read }
     {
-        match error.kind() {
-            ErrorKind::OutOfMemory => Fault::OutOfMemory,
-            _ => Fault::Read,
-        }
+        memory_or(error.kind(), Fault::Read)
     }
 
     /// The fault of a command line that could not be taken.
@@ -61,10 +61,18 @@ impl Fault {
         ensures memory { error_kind error.now ≡ ErrorKind.OutOfMemory → result ≡ Fault.OutOfMemory }
         ensures words { error_kind error.now ≢ ErrorKind.OutOfMemory → result ≡ Fault.WordsNotText }
     {
-        match error.kind() {
-            ErrorKind::OutOfMemory => Fault::OutOfMemory,
-            _ => Fault::WordsNotText,
-        }
+        memory_or(error.kind(), Fault::WordsNotText)
+    }
+}
+
+// Want of memory, or else the other fault.
+fn memory_or(kind: ErrorKind, other: Fault) -> Fault
+    ensures memory { kind ≡ ErrorKind.OutOfMemory → result ≡ Fault.OutOfMemory }
+    ensures other { kind ≢ ErrorKind.OutOfMemory → result ≡ other }
+{
+    match kind {
+        ErrorKind::OutOfMemory => Fault::OutOfMemory,
+        _ => other,
     }
 }
 
@@ -76,6 +84,7 @@ impl fmt::Display for Fault {
         match self {
             Fault::Refused(refusal) => write!(f, "refused: {refusal}"),
             Fault::WordsNotText => f.write_str("error: a word of the command line is not UTF-8"),
+            Fault::UnknownCommand => f.write_str("error: there is no such command"),
             Fault::Read => f.write_str("read fault"),
             Fault::Write => f.write_str("write fault"),
             Fault::OutOfMemory => f.write_str("out of memory"),

@@ -31,7 +31,9 @@ pub fn command<'a>(alloc: Global) -> Result<Command<'a>, AllocError> {
 pub fn run<R: Files + Input + Print + AllocGlobal>(
     rt: &R,
     words: &ArgMatches<'_>,
-) -> Result<(), Fault> {
+) -> Result<(), Fault>
+    ensures faults { IfErr result (λ fault. (fault ≢ Fault.WordsNotText) × (fault ≢ Fault.UnknownCommand)) }
+{
     let mut output = io::writer(rt);
     match words.get_str("FILE") {
         Some(path) => normalise(rt.alloc(), &mut streams::open(rt, path)?, &mut output),
@@ -52,7 +54,7 @@ fn normalise<R: Read, W: Write>(alloc: Global, reader: &mut R, writer: &mut W) -
     // A failed write comes only where the bytes tell a game.
     ensures cut_short { IsErrOf result Fault.Write → IfSome (R.remaining reader.old) (λ source. (game : Game) × Tells source game) }
     // It is no fault of the words.
-    ensures faults { IfErr result (λ fault. fault ≢ Fault.WordsNotText) }
+    ensures faults { IfErr result (λ fault. (fault ≢ Fault.WordsNotText) × (fault ≢ Fault.UnknownCommand)) }
     // Nothing is written where the record is not accepted.
     ensures refused { IfErr result (λ fault. fault ≢ Fault.Write → Keeps (W.contents writer.old) (W.contents writer.new)) }
 {
