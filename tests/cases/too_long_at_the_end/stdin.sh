@@ -1,0 +1,1 @@
+head -c 4097 /dev/zero | tr '\0' x
