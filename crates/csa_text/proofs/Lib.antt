@@ -13,6 +13,7 @@ pub mod Blanks
 pub mod Once
 pub mod Lining
 pub mod LinesOnce
+mod LinesFound
 pub mod LongLines
 pub mod Moments
 pub mod Passing

@@ -27,10 +27,10 @@ pub fn spelt_once()
     ensures { (bytes : List ℕ) (a b : Saying) → Spells bytes a → Spells bytes b → a ≡ b }
 {}
 
-/// Bytes have one list of lines, and one unfinished rest.
+/// Bytes have one list of lines and one unfinished rest, and no other.
 pub fn lines_once()
-    ensures { (bytes : List ℕ) (a b : List (List ℕ)) (r s : List ℕ)
-        → Lines bytes a r → Lines bytes b s → (a ≡ b) × (r ≡ s) }
+    ensures { (bytes : List ℕ) → (lines : List (List ℕ)) × (rest : List ℕ) × Lines bytes lines rest
+        × ((others : List (List ℕ)) (other : List ℕ) → Lines bytes others other → (others ≡ lines) × (other ≡ rest)) }
 {}
 
 /// The lines of bytes that come in two pieces are those of the first, and then those of its rest and
@@ -51,9 +51,10 @@ pub fn equal_moments()
     ensures { (p q : Moment) → (⟦<Moment as PartialEq>⟧.eq p q ≡ true) ↔ (moment_of p ≡ moment_of q) }
 {}
 
-/// The closed statements of a source are one list.
+/// The closed statements of a source are one list, and no other.
 pub fn closed_once()
-    ensures { (source : List ℕ) (a b : List TextUnit) → Closed source a → Closed source b → a ≡ b }
+    ensures { (source : List ℕ) → (closed : List TextUnit) × Closed source closed
+        × ((others : List TextUnit) → Closed source others → others ≡ closed) }
 {}
 
 /// Two pieces one after another lead where both together do, and close what both close: so it does
