@@ -47,7 +47,7 @@ found_from_gap piece held found.Comment h =
 found_from_gap piece held (found.Unit goes_on start end) h = unit_from_gap piece held goes_on start end h.0 h.1
 
 -- the rest of a unit whose first byte is held
-rest_unit : (held piece : List ℕ) (first n : ℕ) → IsUnit held [] → begins_with first held ≡ true → n ≡ position_or_len (is_end first) piece → IsUnit (held ++ take n piece) (drop n piece)
+pub rest_unit : (held piece : List ℕ) (first n : ℕ) → IsUnit held [] → begins_with first held ≡ true → n ≡ position_or_len (is_end first) piece → IsUnit (held ++ take n piece) (drop n piece)
 rest_unit [] piece first n h b e = absurd h
 rest_unit (c ∷ held) piece first n h b e =
     let same : c ≡ first = eqb-true c first b in
@@ -57,15 +57,15 @@ rest_unit (c ∷ held) piece first n h b e =
     let stops : EndsBefore first (drop n piece) = rw e (ends_before first piece) in
     rw same (rw same at h.0, all_joined (λ x. is_end first x ≡ false) held (take n piece) solid more, stops)
 
-begins_still : (c : ℕ) (held more : List ℕ) → 0 < length held → begins_with c (held ++ more) ≡ begins_with c held
+pub begins_still : (c : ℕ) (held more : List ℕ) → 0 < length held → begins_with c (held ++ more) ≡ begins_with c held
 begins_still c [] more some = absurd (omega arith)
 begins_still c (b ∷ held) more some = refl
 
-unit_some : (held behind : List ℕ) → IsUnit held behind → 0 < length held
+pub unit_some : (held behind : List ℕ) → IsUnit held behind → 0 < length held
 unit_some [] behind h = absurd h
 unit_some (b ∷ held) behind h = omega arith
 
-first_of_held : (held : List ℕ) → 0 < length held → begins_with (get_or held 0 0) held ≡ true
+pub first_of_held : (held : List ℕ) → 0 < length held → begins_with (get_or held 0 0) held ≡ true
 first_of_held [] some = absurd (omega arith)
 first_of_held (b ∷ held) some = grind (arith, nat_tests)
 

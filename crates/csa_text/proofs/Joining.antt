@@ -26,14 +26,14 @@ filter_still p q f (u ∷ us) = elim (cases_Bool (q u)) [
   | inr n ↦ rw n (filter_still p q f us)
 ]
 
-filter_joined : (p : TextUnit → Bool) (us vs : List TextUnit) → filter p (us ++ vs) ≡ filter p us ++ filter p vs
+pub filter_joined : (p : TextUnit → Bool) (us vs : List TextUnit) → filter p (us ++ vs) ≡ filter p us ++ filter p vs
 filter_joined p [] vs = refl
 filter_joined p (u ∷ us) vs = elim (cases_Bool (p u)) [
   | inl t ↦ rw t (ap (λ xs. u ∷ xs) (filter_joined p us vs))
   | inr n ↦ rw n (filter_joined p us vs)
 ]
 
-kept_all : (e n : ℕ) (xs us vs : List TextUnit) → e ≤ n → xs ≡ filter (is_closed e) us → filter (is_closed n) (xs ++ vs) ≡ xs ++ filter (is_closed n) vs
+pub kept_all : (e n : ℕ) (xs us vs : List TextUnit) → e ≤ n → xs ≡ filter (is_closed e) us → filter (is_closed n) (xs ++ vs) ≡ xs ++ filter (is_closed n) vs
 kept_all e n xs us vs h same =
     let all : filter (is_closed n) xs ≡ xs =
     ap (filter (is_closed n)) same ∙ filter_still (is_closed n) (is_closed e) (closed_still e n h) us ∙ sym same in
@@ -61,7 +61,7 @@ pieces_joined a b c x y xs ys p q =
       going = q.going;
     }
 
-from_start : (source : List ℕ) (statements : List TextUnit) → ToCome fresh source statements → Cut source statements
+pub from_start : (source : List ℕ) (statements : List TextUnit) → ToCome fresh source statements → Cut source statements
 from_start source statements s = statements_at _ (mark_length source) (drop (mark_length source) source) statements (omega arith) s
 
 pub pieces_closed : (source : List ℕ) (closed : List TextUnit) (p : Piecing) → Leads fresh source closed p → Closed source closed

@@ -21,7 +21,7 @@ abbrev pub seen : Place → List ℕ → ℕ → ℕ → Option ℕ → Piecing
 seen place held fed number refused =
     record { fed = fed; number = number; begins = begins place; unfinished = open_of place held; refused = refused }
 
-nothing_left : (o : ℕ) → Statements o [] []
+pub nothing_left : (o : ℕ) → Statements o [] []
 nothing_left o = no_statements o [] tt
 
 to_whole : (b : Bool) (fed : ℕ) (held text : List ℕ) (others : List TextUnit) → Follows b fed held (text ++ []) others → Follows b fed held text others
@@ -96,16 +96,16 @@ part_size goes_on held piece start end within =
 not_closed : (a b n : ℕ) → b ≤ a → n ≤ 4096 → (nat_lt a b || nat_lt 4096 n) ≡ false
 not_closed a b n h k = grind (arith, nat_tests)
 
-closed_behind : (a b n : ℕ) → a < b → (nat_lt a b || nat_lt 4096 n) ≡ true
+pub closed_behind : (a b n : ℕ) → a < b → (nat_lt a b || nat_lt 4096 n) ≡ true
 closed_behind a b n h = grind (arith, nat_tests)
 
-closed_long : (a b n : ℕ) → 4096 < n → (nat_lt a b || nat_lt 4096 n) ≡ true
+pub closed_long : (a b n : ℕ) → 4096 < n → (nat_lt a b || nat_lt 4096 n) ≡ true
 closed_long a b n h = grind (arith, nat_tests)
 
 none_kept : (p : TextUnit → Bool) (u : TextUnit) → p u ≡ false → [] ≡ filter p (u ∷ [])
 none_kept p u h = rw h refl
 
-one_kept : (p : TextUnit → Bool) (u : TextUnit) (us : List TextUnit) → p u ≡ true → u ∷ filter p us ≡ filter p (u ∷ us)
+pub one_kept : (p : TextUnit → Bool) (u : TextUnit) (us : List TextUnit) → p u ≡ true → u ∷ filter p us ≡ filter p (u ∷ us)
 one_kept p u us h = rw h refl
 
 pub leads_to_unit : (place : Place) (held piece : List ℕ) (goes_on : Bool) (start end fed number : ℕ) → IsPart place held piece goes_on start end → length (open_of place held) ≤ fed → end ≡ length piece → length (kept_of goes_on held ++ slice_range piece start end) ≤ 4096 → Leads (seen place held fed number None) piece [] (seen InUnit (kept_of goes_on held ++ slice_range piece start end) (fed + end) number None)

@@ -21,4 +21,6 @@ pub mod Finding
 pub mod Leading
 pub mod Unfinished
 pub mod Joining
+pub mod Growing
+pub mod FirstLong
 mod Lent

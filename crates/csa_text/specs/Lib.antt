@@ -15,3 +15,4 @@ pub mod MomentParts
 pub mod Piecing
 pub mod Stepping
 pub mod Places
+pub mod TooLong

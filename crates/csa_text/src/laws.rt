@@ -1,15 +1,20 @@
 //! Laws of the definitions that the contracts of this crate cite. They take and give nothing.
 
-ghost use Rattle.std.specs.Prelude.{◌≡◌, ℕ, List, ◌++◌, ◌↔◌, true, take, Option, Ok};
+ghost use Rattle.std.specs.Prelude.{◌≡◌, ℕ, List, [], ◌∷◌, ◌++◌, ◌↔◌, true, take, drop, Option, Ok, Err};
 ghost use Rattle.std.specs.Borrow.{Bor};
-ghost use Rattle.csa_text.specs.Cut.{TextUnit, Cut, Statements};
+ghost use Rattle.csa_text.specs.Cut.{TextUnit, Cut, Statements, mark_length};
+ghost use Rattle.csa_text.specs.Cutting.{Cutting, IsHandedOut, IsTooLong};
 ghost use Rattle.csa_text.specs.Lines.{Lines};
 ghost use Rattle.csa_text.specs.Lining.{Lining, BeginsTooLong, HasLongLine, LineStep, LinesAfter};
 ghost use Rattle.csa_text.specs.Moment.{CalendarMoment, SpellsMoment};
 ghost use Rattle.csa_text.specs.MomentParts.{moment_of};
-ghost use Rattle.csa_text.specs.Piecing.{Piecing, ToCome, Closed, Leads, fresh};
+ghost use Rattle.csa_text.specs.Piecing.{Piecing, ToCome, Closed, Closes, Leads, fresh};
 ghost use Rattle.csa_text.specs.Spelling.{Saying, Spells};
+ghost use Rattle.csa_text.specs.Stepping.{Stepped};
+ghost use Rattle.csa_text.specs.TooLong.{FirstTooLong, HasCut, HasCutOf};
 ghost use Rattle.csa_text.specs.declared.calendar.Moment.{Moment};
+ghost use Rattle.csa_text.specs.declared.cutter.CutFault.{CutFault};
+ghost use Rattle.csa_text.specs.declared.piece.Cut.{Cut as Step};
 
 use crate::calendar::Moment;
 
@@ -86,4 +91,42 @@ pub fn long_lines_met()
         → Lines first lines old.held → (HasLongLine old.limit first → ⊥) → (BeginsTooLong old.limit (old.held ++ piece) → ⊥)
         → LineStep old.held piece r → LinesAfter old piece (Ok r) new
         → HasLongLine old.limit (first ++ take r.0 piece) → ⊥ }
+{}
+
+/// What was closed so far, and then what one more piece closes, is what both together close.
+pub fn closed_joined()
+    ensures { (source piece : List ℕ) (closed more : List TextUnit) (p : Piecing)
+        → Leads fresh source closed p → Closes p piece more → Closed (source ++ piece) (closed ++ more) }
+{}
+
+/// A source has one first statement that is too long, or none.
+pub fn too_long_once()
+    ensures { (source : List ℕ) (m n i j : ℕ) → FirstTooLong source m i → FirstTooLong source n j → (m ≡ n) × (i ≡ j) }
+{}
+
+/// `Cutter` answers a `CutFault` for the first statement of its source that is too long, and comes to
+/// the end only where there is none.
+pub fn cutter_faults()
+    ensures begins { (c : Cutting) → c.at ≡ mark_length c.source → c.number ≡ 0 → HasCut c [] }
+    ensures goes_on { (old new : Cutting) (handed : List TextUnit) (number offset : ℕ) (bytes : List ℕ)
+        → HasCut old handed → new.source ≡ old.source → IsHandedOut old new number offset bytes
+        → (unit : TextUnit) × HasCut new (handed ++ (unit ∷ [])) }
+    ensures refuses { (c : Cutting) (handed : List TextUnit) (number offset : ℕ)
+        → HasCut c handed → IsTooLong c number offset → FirstTooLong c.source number offset }
+    ensures ends { (c : Cutting) (handed : List TextUnit) (number offset : ℕ)
+        → HasCut c handed → Statements c.at (drop c.at c.source) [] → FirstTooLong c.source number offset → ⊥ }
+{}
+
+/// `PieceCutter` answers a `CutFault` for the first statement that is too long in the whole source,
+/// whatever is still to come; and as long as it answers none, what it was fed has none.
+pub fn pieces_faults()
+    ensures begins { HasCutOf [] fresh [] }
+    ensures goes_on { (source piece : List ℕ) (handed : List TextUnit) (old new : Piecing) (cut : Step)
+        → HasCutOf source old handed → Stepped old piece (Ok cut) new
+        → (more : List TextUnit) × HasCutOf (source ++ take cut.used piece) new (handed ++ more) }
+    ensures refuses { (source piece more : List ℕ) (handed : List TextUnit) (old new : Piecing) (fault : CutFault)
+        → HasCutOf source old handed → Stepped old piece (Err fault) new
+        → FirstTooLong ((source ++ piece) ++ more) fault.number fault.offset }
+    ensures ends { (source : List ℕ) (handed : List TextUnit) (p : Piecing) (number offset : ℕ)
+        → HasCutOf source p handed → FirstTooLong source number offset → ⊥ }
 {}

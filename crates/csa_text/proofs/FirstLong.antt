@@ -1,0 +1,179 @@
+-- The first statement that is too long, in a text that goes on.
+use Rattle.std.proofs.Common.{◌≡◌, ℕ, ◌+◌, ◌<◌, ◌≤◌, ◌&&◌, Bool, true, false, List, [], ◌∷◌, ◌++◌, filter, length, take, drop, length-drop, length-append, append_assoc, Option, Some, None, Ok, Err, if◌then◌else◌, arith, refl, sym, ap, ◌∙◌, subst, inl, inr}
+use Rattle.std.proofs.lemmas.Bool.{cases_Bool}
+use Rattle.std.proofs.Math.Seq.{take-length}
+use Rattle.csa_text.specs.Cut.{TextUnit, Statements, Cut, mark_length}
+use Rattle.csa_text.specs.Cutting.{Cutting, IsHandedOut, IsTooLong}
+use Rattle.csa_text.specs.Piecing.{Piecing, Closes, Closed, Leads, fresh, is_closed}
+use Rattle.csa_text.specs.Stepping.{Stepped, Used, IsTooLongAt}
+use Rattle.csa_text.specs.TooLong.{AreShort, FirstTooLong, HasCut, HasCutOf}
+use Rattle.csa_text.specs.declared.cutter.Statement.{Statement}
+use Rattle.csa_text.specs.declared.cutter.CutFault.{CutFault}
+use Rattle.csa_text.specs.declared.piece.Cut.{Cut as CutOff}
+use Rattle.csa_text.proofs.Growing.{Longer, cut_grown, fits, followed}
+use Rattle.csa_text.proofs.Joining.{filter_joined, kept_all, pieces_joined, pieces_closed, pieces_whole}
+use Rattle.csa_text.proofs.Leading.{closed_long, closed_behind, one_kept, nothing_left}
+use Rattle.csa_text.proofs.Once.{statements_once}
+
+never_both : (b : Bool) → (b && false) ≡ true → ⊥
+never_both true h = cc
+never_both false h = cc
+
+mark_fits : (t : Bool) (n : ℕ) → (t ≡ true → 3 ≤ n) → (if t then 3 else 0) ≤ n
+mark_fits true n h = h refl
+mark_fits false n h = omega arith
+
+second : (a b : Bool) → (a && (b && false)) ≡ true → ⊥
+second true b h = never_both b h
+second false b h = cc
+
+mark_within : (source : List ℕ) → mark_length source ≤ length source
+mark_within [] = omega arith
+mark_within (a ∷ []) = mark_fits _ _ (λ h. absurd (never_both _ h))
+mark_within (a ∷ b ∷ []) = mark_fits _ _ (λ h. absurd (second _ _ h))
+mark_within (a ∷ b ∷ c ∷ source) = mark_fits _ _ (λ h. omega arith)
+
+text_ends : (source : List ℕ) → length source ≡ mark_length source + length (drop (mark_length source) source)
+text_ends source = omega (arith, mark_within source, length-drop (mark_length source) source)
+
+-- of closed statements the first is the first of all, since only the last of all is not closed
+head_is : (o : ℕ) (text : List ℕ) (end : ℕ) (closed all others : List TextUnit) (unit : TextUnit) → end ≡ o + length text → Statements o text (closed ++ all) → unit ∷ others ≡ filter (is_closed end) all → (rest : List TextUnit) × (all ≡ unit ∷ rest)
+head_is o text end closed [] others unit e s kept = cc
+head_is o text end closed (x ∷ []) others unit e s kept =
+    elim (cases_Bool (is_closed end x)) [
+      | inl t ↦ let same : unit ∷ others ≡ x ∷ [] = kept ∙ sym (one_kept (is_closed end) x [] t) in ([], cc)
+      | inr f ↦ let none : unit ∷ others ≡ [] = rw f at kept in cc
+    ]
+head_is o text end closed (x ∷ y ∷ zs) others unit e s kept =
+    let order : x.offset + length x.bytes < end = rw e (followed o text closed zs x y s) in
+    let shut : is_closed end x ≡ true = closed_behind (x.offset + length x.bytes) end (length x.bytes) order in
+    let same : unit ∷ others ≡ x ∷ filter (is_closed end) (y ∷ zs) = kept ∙ sym (one_kept (is_closed end) x (y ∷ zs) shut) in
+    (y ∷ zs, cc)
+
+-- a statement that is too long is too long in each longer source
+long_stays : (source piece more : List ℕ) (closed others : List TextUnit) (p : Piecing) (unit : TextUnit) → Leads fresh source closed p → Closes p piece (unit ∷ others) → 4096 < length unit.bytes → (all : List TextUnit) × Cut ((source ++ piece) ++ more) all × Longer closed unit all
+long_stays source piece more closed others p unit h c long =
+    let w = source ++ piece in
+    let m = mark_length w in
+    let s : Cut w (closed ++ c.0) = pieces_whole source piece closed c.0 p h c.1 in
+    let end : p.fed + length piece ≡ m + length (drop m w) = omega (arith, h.took, length-append source piece, text_ends w) in
+    let head = head_is m (drop m w) (p.fed + length piece) closed c.0 others unit end s c.2 in
+    let here : Cut w (closed ++ (unit ∷ head.0)) = subst (λ zs. Cut w (closed ++ zs)) head.1 s in
+    let size : length unit.bytes ≤ length (drop m w) = fits m (drop m w) closed head.0 unit here in
+    cut_grown w more closed head.0 unit (omega (arith, size, long, text_ends w)) here
+
+first_long : (source : List ℕ) (all handed : List TextUnit) (unit : TextUnit) (number offset : ℕ) → Cut source all → Longer handed unit all → AreShort handed → 4096 < length unit.bytes → number ≡ length handed + 1 → offset ≡ unit.offset → FirstTooLong source number offset
+first_long source all handed unit number offset cut longer short long numbered place = record {
+  before = handed;
+  unit = longer.long;
+  others = longer.rest;
+  cut = subst (Cut source) (sym longer.whole) cut;
+  short = short;
+  long = omega (arith, long, longer.size);
+  number_is = numbered;
+  place = place ∙ sym longer.place;
+}
+
+pub too_long_whole : (source piece more : List ℕ) (handed : List TextUnit) (p new : Piecing) (fault : CutFault) → HasCutOf source p handed → Stepped p piece (Err fault) new → FirstTooLong ((source ++ piece) ++ more) fault.number fault.offset
+too_long_whole source piece more handed p new fault h s =
+    let met : IsTooLongAt None p piece fault.offset = rw h.0.going at s.1 in
+    let stays = long_stays source piece more handed met.1 p met.0 h.0 met.2 met.3 in
+    first_long ((source ++ piece) ++ more) stays.0 handed met.0 fault.number fault.offset stays.1 stays.2 h.1 met.3 (omega (arith, s.0, h.0.counted)) met.4
+
+not_short : (xs others : List TextUnit) (u : TextUnit) → AreShort (xs ++ (u ∷ others)) → length u.bytes ≤ 4096
+not_short [] others u h = h.0
+not_short (x ∷ xs) others u h = not_short xs others u h.1
+
+pub none_too_long : (source : List ℕ) (handed : List TextUnit) (p : Piecing) (number offset : ℕ) → HasCutOf source p handed → FirstTooLong source number offset → ⊥
+none_too_long source handed p number offset h f =
+    let n = length source in
+    let c = pieces_closed source handed p h.0 in
+    let same : c.0 ≡ f.before ++ (f.unit ∷ f.others) = statements_once _ _ c.0 _ c.1 f.cut in
+    let shut : is_closed n f.unit ≡ true = closed_long (f.unit.offset + length f.unit.bytes) n (length f.unit.bytes) f.long in
+    let kept : handed ≡ filter (is_closed n) f.before ++ (f.unit ∷ filter (is_closed n) f.others) =
+    c.2 ∙ ap (filter (is_closed n)) same ∙ filter_joined (is_closed n) f.before (f.unit ∷ f.others) ∙ ap (λ xs. filter (is_closed n) f.before ++ xs) (sym (one_kept (is_closed n) f.unit f.others shut)) in
+    let short = not_short (filter (is_closed n) f.before) (filter (is_closed n) f.others) f.unit (subst AreShort kept h.1) in
+    absurd (omega (arith, short, f.long))
+
+same_first : (xs ys others rest : List TextUnit) (u v : TextUnit) → AreShort xs → AreShort ys → 4096 < length u.bytes → 4096 < length v.bytes → xs ++ (u ∷ others) ≡ ys ++ (v ∷ rest) → (length xs ≡ length ys) × (u ≡ v)
+same_first [] [] others rest u v h k l m e = (refl, cc)
+same_first [] (y ∷ ys) others rest u v h k l m e = let same : u ≡ y = cc in let short : length u.bytes ≤ 4096 = rw same k.0 in absurd (omega (arith, l, short))
+same_first (x ∷ xs) [] others rest u v h k l m e = let same : v ≡ x = cc in let short : length v.bytes ≤ 4096 = rw same h.0 in absurd (omega (arith, m, short))
+same_first (x ∷ xs) (y ∷ ys) others rest u v h k l m e =
+    let tail : xs ++ (u ∷ others) ≡ ys ++ (v ∷ rest) = cc in
+    let more = same_first xs ys others rest u v h.1 k.1 l m tail in
+    (omega (arith, more.0), more.1)
+
+pub too_long_once : (source : List ℕ) (m n i j : ℕ) → FirstTooLong source m i → FirstTooLong source n j → (m ≡ n) × (i ≡ j)
+too_long_once source m n i j f g =
+    let same = same_first f.before g.before f.others g.others f.unit g.unit f.short g.short f.long g.long (statements_once _ _ _ _ f.cut g.cut) in
+    (omega (arith, f.number_is, g.number_is, same.0), f.place ∙ ap (λ (u : TextUnit). u.offset) same.1 ∙ sym g.place)
+
+short_joined : (xs ys : List TextUnit) → AreShort xs → AreShort ys → AreShort (xs ++ ys)
+short_joined [] ys h k = k
+short_joined (x ∷ xs) ys h k = (h.0, short_joined xs ys h.1 k)
+
+used_joined : (source piece : List ℕ) (handed : List TextUnit) (old new : Piecing) (used : ℕ) (statement : Option Statement) → HasCutOf source old handed → Used old piece used statement new → (more : List TextUnit) × HasCutOf (source ++ take used piece) new (handed ++ more)
+used_joined source piece handed old new used None h u =
+    let all : take used piece ≡ piece = ap (λ n. take n piece) u.0 ∙ take-length piece in
+    let leads : Leads old (take used piece) [] new = subst (λ t. Leads old t [] new) (sym all) u.1 in
+    ([], (pieces_joined fresh old new source (take used piece) handed [] h.0 leads, short_joined handed [] h.1 tt))
+used_joined source piece handed old new used (Some s) h u =
+    (u.0 ∷ [], (pieces_joined fresh old new source (take used piece) handed (u.0 ∷ []) h.0 u.5, short_joined handed (u.0 ∷ []) h.1 (u.1.short, tt)))
+
+pub nothing_fed : HasCutOf [] fresh []
+nothing_fed = (
+  record {
+    took = refl;
+    counted = refl;
+    closes = ([], nothing_left 0, refl);
+    onward = λ more others s. s;
+    going = refl;
+  },
+  tt,
+)
+
+pub goes_on_in_pieces : (source piece : List ℕ) (handed : List TextUnit) (old new : Piecing) (cut : CutOff) → HasCutOf source old handed → Stepped old piece (Ok cut) new → (more : List TextUnit) × HasCutOf (source ++ take cut.used piece) new (handed ++ more)
+goes_on_in_pieces source piece handed old new cut h s = used_joined source piece handed old new cut.used cut.statement h s.1
+
+pub nothing_cut : (c : Cutting) → c.at ≡ mark_length c.source → c.number ≡ 0 → HasCut c []
+nothing_cut c at number = record { onward = λ others s. rw at at s; counted = number; short = tt }
+
+pub goes_on_cutting : (old new : Cutting) (handed : List TextUnit) (number offset : ℕ) (bytes : List ℕ) → HasCut old handed → new.source ≡ old.source → IsHandedOut old new number offset bytes → (unit : TextUnit) × HasCut new (handed ++ (unit ∷ []))
+goes_on_cutting old new handed number offset bytes h same s =
+    let unit = s.unit in (
+      unit,
+      record {
+        onward = λ others t.
+            let whole = h.onward (unit ∷ others) (s.first others t) in
+            let here : Cut old.source ((handed ++ (unit ∷ [])) ++ others) = subst (Cut old.source) (sym (append_assoc handed (unit ∷ []) others)) whole in
+            subst (λ w. Cut w ((handed ++ (unit ∷ [])) ++ others)) (sym same) here;
+        counted = omega (arith, s.counted, s.number_is, h.counted, length-append handed (unit ∷ []));
+        short = short_joined handed (unit ∷ []) h.short (s.short, tt);
+      },
+    )
+
+pub cutter_refuses : (c : Cutting) (handed : List TextUnit) (number offset : ℕ) → HasCut c handed → IsTooLong c number offset → FirstTooLong c.source number offset
+cutter_refuses c handed number offset h t = record {
+  before = handed;
+  unit = t.unit;
+  others = t.others;
+  cut = h.onward (t.unit ∷ t.others) t.first;
+  short = h.short;
+  long = t.long;
+  number_is = omega (arith, t.number_is, h.counted);
+  place = t.place;
+}
+
+pub none_behind : (c : Cutting) (handed : List TextUnit) (number offset : ℕ) → HasCut c handed → Statements c.at (drop c.at c.source) [] → FirstTooLong c.source number offset → ⊥
+none_behind c handed number offset h s f =
+    let same : handed ++ [] ≡ f.before ++ (f.unit ∷ f.others) = statements_once _ _ _ _ (h.onward [] s) f.cut in
+    let short = not_short f.before f.others f.unit (subst AreShort same (short_joined handed [] h.short tt)) in
+    absurd (omega (arith, short, f.long))
+
+pub closed_joined : (source piece : List ℕ) (closed more : List TextUnit) (p : Piecing) → Leads fresh source closed p → Closes p piece more → Closed (source ++ piece) (closed ++ more)
+closed_joined source piece closed more p h c =
+    let size : length (source ++ piece) ≡ p.fed + length piece = omega (arith, h.took, length-append source piece) in
+    let first = h.closes in
+    let kept = kept_all (0 + length source) (p.fed + length piece) closed first.0 c.0 (omega (arith, h.took)) first.2 in
+    (closed ++ c.0, pieces_whole source piece closed c.0 p h c.1, ap (λ xs. closed ++ xs) c.2 ∙ sym kept ∙ ap (λ n. filter (is_closed n) (closed ++ c.0)) (sym size))

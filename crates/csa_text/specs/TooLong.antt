@@ -1,0 +1,31 @@
+-- The first statement of a record that is too long.
+use Rattle.std.specs.Prelude.{◌≡◌, ℕ, ◌+◌, ◌<◌, ◌≤◌, List, ◌∷◌, ◌++◌, length}
+use Rattle.std.specs.List.{AllByRecursion}
+use Rattle.csa_text.specs.Cut.{TextUnit, Cut}
+use Rattle.csa_text.specs.Cutting.{Cutting, ToCome}
+use Rattle.csa_text.specs.Piecing.{Piecing, Leads, fresh}
+
+-- none has more than 4,096 bytes
+abbrev pub AreShort : List TextUnit → Type 0
+AreShort statements = AllByRecursion (λ u. length u.bytes ≤ 4096) statements
+
+-- the first of a record's statements with more than 4,096 bytes has this number and this offset
+pub record FirstTooLong (source : List ℕ) (number offset : ℕ) : Type 0 where
+  pub before : List TextUnit
+  pub unit : TextUnit
+  pub others : List TextUnit
+  pub cut : Cut source (before ++ (unit ∷ others))
+  pub short : AreShort before
+  pub long : 4096 < length unit.bytes
+  pub number_is : number ≡ length before + 1
+  pub place : offset ≡ unit.offset
+
+-- the cutter has handed out these statements of its source, and none of them is too long
+pub record HasCut (c : Cutting) (handed : List TextUnit) : Type 0 where
+  pub onward : (others : List TextUnit) → ToCome c others → Cut c.source (handed ++ others)
+  pub counted : c.number ≡ length handed
+  pub short : AreShort handed
+
+-- a cutter of pieces that was fed this source has handed out these statements, and none of them is too long
+abbrev pub HasCutOf : List ℕ → Piecing → List TextUnit → Type 0
+HasCutOf source p handed = Leads fresh source handed p × AreShort handed
