@@ -1,6 +1,6 @@
 ghost use Rattle.std.specs.Prelude.{◌≤◌};
 
-use crate::{Cutter, Item, PieceCutter, Statement, read_item};
+use crate::{Cut, CutFault, Cutter, Item, PieceCutter, Statement, read_item};
 use shogi_board::{Color, Kind, Position, Setup, Square};
 use shogi_rules::Line;
 use std::test::Fail;
@@ -105,8 +105,81 @@ fn long_statements_in_pieces(rt: HostRuntime) -> Result<(), std::alloc::AllocErr
     Ok(())
 }
 
+// One step, as long as few bytes are fed.
+fn step<'b>(pieces: &'b mut PieceCutter, piece: &'b [u8]) -> Option<Result<Cut<'b>, CutFault>> {
+    if pieces.fed() > 2_000_000 || piece.len() > 2_000_000 {
+        return None;
+    }
+    Some(pieces.step(piece))
+}
+
+fn ended(number: u64, offset: u64, bytes: &[u8]) -> Option<Statement<'_>> {
+    Some(Statement {
+        number,
+        offset,
+        bytes,
+    })
+}
+
+#[test]
+fn when_an_answer_comes(rt: HostRuntime) {
+    let mut pieces = PieceCutter::new();
+    let table: [(&[u8], usize, Option<Statement<'_>>, u64); 12] = [
+        (b"", 0, None, 0),
+        (b"\xEF\xBB\xBFPI", 5, None, 5),
+        (b"\n\n+", 1, ended(1, 3, b"PI"), 6),
+        (b"\n+", 2, None, 8),
+        (b"7776FU", 6, None, 14),
+        (b",T12\n", 1, ended(2, 7, b"+7776FU"), 15),
+        (b"T12 \t\n'x", 6, ended(3, 15, b"T12"), 21),
+        (b"'x", 2, None, 23),
+        (b"y", 1, None, 24),
+        (b"\nN+a, b \r\n", 9, ended(4, 25, b"N+a, b "), 33),
+        (b"\n%TO", 4, None, 37),
+        (b"RYO", 3, None, 40),
+    ];
+    for (piece, used, statement, fed) in table {
+        assert_eq!(rt; step(&mut pieces, piece), Some(Ok(Cut { used, statement })));
+        assert_eq!(rt; pieces.fed(), fed);
+    }
+    assert_eq!(rt; pieces.finish(), Ok(ended(5, 34, b"%TORYO")));
+    assert_eq!(rt; pieces.finish(), Ok(None));
+    let gone_on = Cut {
+        used: 2,
+        statement: None,
+    };
+    assert_eq!(rt; step(&mut pieces, b"+-"), Some(Ok(gone_on)));
+    assert_eq!(rt; pieces.finish(), Ok(ended(6, 40, b"+-")));
+}
+
+#[test]
+fn a_fault_comes_again(rt: HostRuntime) {
+    let long = [b'x'; 4096];
+    let mut pieces = PieceCutter::new();
+    let first = Cut {
+        used: 3,
+        statement: ended(1, 0, b"PI"),
+    };
+    assert_eq!(rt; step(&mut pieces, b"PI\n"), Some(Ok(first)));
+    let short = Cut {
+        used: 4096,
+        statement: None,
+    };
+    assert_eq!(rt; step(&mut pieces, long.as_slice()), Some(Ok(short)));
+    let fault = CutFault {
+        number: 2,
+        offset: 3,
+    };
+    let table: [&[u8]; 4] = [b"x", b"", b"\n+\n", b"'"];
+    for piece in table {
+        assert_eq!(rt; step(&mut pieces, piece), Some(Err(fault)));
+        assert_eq!(rt; pieces.fed(), 4099);
+        assert_eq!(rt; pieces.finish(), Err(fault));
+    }
+}
+
 // Each `|` stands for a line feed.
-const RECORDS: [&str; 30] = [
+const RECORDS: [&str; 32] = [
     "PI|+|",
     "V2.2|PI|+|+7776FU,T12|-3334FU,T6|%TORYO|",
     "P+13KI33KE59OU00FU|P-11OU|+|+0012FU|",
@@ -123,13 +196,15 @@ const RECORDS: [&str; 30] = [
     "PI|+|+2838HI|-8272HI|+3828HI|-7282HI|+2838HI|-8272HI|+3828HI|-7282HI|+2838HI|-8272HI|+3828HI|-7282HI|+7776FU|",
     "PI|+|+2838HI|-8272HI|+3828HI|-7282HI|+2838HI|-8272HI|+3828HI|-7282HI|+2838HI|-8272HI|+3828HI|-7282HI|",
     "PI|+|+7776FU|T007|",
+    "PI|+|+7776FU|T0|",
+    "PI|+|+7776FU|",
     "PI|+|+7776FU|T4294967296|",
     "PI|+|+7776FU|T4294967295|",
     "P-51OU|P+53FU00KI|P-00AL|P+00FU|+|",
     "P-51OU|P+53FU00KI|P-00AL|+|",
     "PI|+|+7776FU|-3334FU|+8822UM|-3122GI|",
     "V2.2|PI|+|+7776F",
-    "V3.0",
+    "V3.0|",
     "N+a,b|PI|+|",
     "\u{FEFF}V2.2|PI|+|",
     "PI82HI22KA|-|",
