@@ -23,8 +23,6 @@ pub enum SfenFault {
 }
 
 /// Why a text is no position line whose moves can be played.
-///
-/// Moves are numbered from 1.
 #[derive(Clone, Copy, Debug, PartialEq, Eq, PartialOrd, Ord, Error)]
 pub enum UsiFault {
     /// It is neither `position startpos` nor `position sfen` with an SFEN, alone or with `moves` behind it.
@@ -33,14 +31,16 @@ pub enum UsiFault {
     /// Its SFEN is refused.
     #[error("{0}")]
     Sfen(SfenFault),
-    /// The word is no move in the position that it would be played in.
+    /// The word is no move in the position that it would be played in. The field is the number of the move, from 1, and
+    /// is not printed.
     #[error("U6 BadMoveText")]
     BadMoveText(usize),
-    /// The move breaks that rule, and none before it in the rules' order.
+    /// The move breaks that rule, and none before it in the rules' order. The first field is the number of the move,
+    /// from 1, and is not printed.
     #[error("{1}")]
     Broken(usize, Rule),
     /// 10,000 moves stand.
-    #[error("too many moves")]
+    #[error("G11 TooManyMoves")]
     TooManyMoves,
     /// A growth of memory was refused.
     #[error("out of memory")]

@@ -456,7 +456,7 @@ fn faults_printed(rt: HostRuntime) -> Result<(), Fail> {
         ),
         (UsiFault::BadMoveText(3), "U6 BadMoveText"),
         (UsiFault::Broken(2, Rule::CannotReach), "rule 6 CannotReach"),
-        (UsiFault::TooManyMoves, "too many moves"),
+        (UsiFault::TooManyMoves, "G11 TooManyMoves"),
         (UsiFault::OutOfMemory, "out of memory"),
     ];
     for (fault, want) in table {
