@@ -17,4 +17,5 @@ pub mod SfenOnce
 pub mod Sfens
 pub mod Spelt
 pub mod Splits
+pub mod StartFaults
 pub mod Written

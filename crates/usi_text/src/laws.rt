@@ -8,6 +8,9 @@ ghost use Rattle.usi_text.specs.Sfen.{Sfen, FirstFault};
 ghost use Rattle.usi_text.specs.SfenText.{sfen_text};
 ghost use Rattle.usi_text.specs.Words.{words};
 ghost use Rattle.usi_text.specs.declared.fault.SfenFault.{SfenFault};
+ghost use Rattle.usi_text.specs.declared.fault.SfenFault.TheVariants.{Start};
+ghost use Rattle.shogi_board.specs.declared.setup.SetupFault.{SetupFault};
+ghost use Rattle.shogi_board.specs.declared.setup.SetupFault.TheVariants.{SecondKing, TooMany, OpponentInCheck};
 ghost use Rattle.shogi_rules.specs.Positions.{IsGame};
 ghost use Rattle.usi_text.specs.LineText.{LineText};
 ghost use Rattle.usi_text.specs.Lines.{UsiLine, LineFault};
@@ -20,6 +23,12 @@ pub fn sfen_once()
     ensures one { (ws : List (List ℕ)) (p q : Placed) → Sfen ws p → Sfen ws q → p ≡ q }
     ensures either { (ws : List (List ℕ)) (p : Placed) (fault : SfenFault) → Sfen ws p → FirstFault ws fault → ⊥ }
     ensures first { (ws : List (List ℕ)) (fault other : SfenFault) → FirstFault ws fault → FirstFault ws other → fault ≡ other }
+{}
+
+/// The pieces of an SFEN are refused as SecondKing, TooMany or OpponentInCheck, and in no other way.
+pub fn start_faults()
+    ensures { (ws : List (List ℕ)) (fault : SetupFault) → FirstFault ws (Start fault)
+        → (fault ≡ SecondKing) ⊎ (fault ≡ TooMany) ⊎ (fault ≡ OpponentInCheck) }
 {}
 
 /// The SFEN that is written for a sound position is the SFEN of that position.

@@ -1,0 +1,96 @@
+-- How pieces of an SFEN are refused.
+use Rattle.std.proofs.Common.{◌≡◌, ℕ, zero, suc, ◌+◌, ◌⊎◌, inl, inr, Bool, true, false, not, List, [], ◌∷◌, ◌++◌, Option, Some, None, Result, Ok, Err, replicate, unwrap_or, refl, sym, ap, ◌∙◌}
+use Rattle.std.specs.List.{AllByRecursion, flat_map}
+use Rattle.shogi_board.specs.declared.color.Color.{Color}
+use Rattle.shogi_board.specs.declared.color.Color.TheVariants.{Black, White}
+use Rattle.shogi_board.specs.declared.kind.Piece.{Piece}
+use Rattle.shogi_board.specs.declared.setup.SetupFault.{SetupFault}
+use Rattle.shogi_board.specs.declared.setup.SetupFault.TheVariants.{TooMany, SecondKing, OpponentInCheck, AfterRest, NotForHand}
+use Rattle.shogi_board.specs.Layout.{Layout}
+use Rattle.shogi_board.specs.Pieces.{in_hand}
+use Rattle.shogi_board.specs.Setup.{empty_layout, first_fault, add_fault, with_hand, hand_of, one_more}
+use Rattle.usi_text.specs.declared.fault.SfenFault.TheVariants.{Start}
+use Rattle.usi_text.specs.declared.hands.Pile.{Pile}
+use Rattle.usi_text.specs.Hands.{IsPile, SpellsHands, pile_pieces}
+use Rattle.usi_text.specs.Setting.{more_fault, put, unless, put_cells, held, hold_pieces, hold_after, set_up, Finishes}
+use Rattle.usi_text.specs.Sfen.{FirstFault}
+use Rattle.usi_text.specs.Words.{nth_word}
+
+abbrev IsStartFault : SetupFault → Type 0
+IsStartFault f = (f ≡ SecondKing) ⊎ (f ≡ TooMany) ⊎ (f ≡ OpponentInCheck)
+
+two_faults : (king full : Bool) (f : SetupFault) → first_fault ((SecondKing, king) ∷ (TooMany, full) ∷ []) ≡ Some f → IsStartFault f
+two_faults true full f h = inl cc
+two_faults false true f h = inr (inl cc)
+two_faults false false f h = cc
+
+-- a fault is told here or behind
+told_or_on : (here : Option SetupFault) (next : Result Layout SetupFault) (f : SetupFault) → unless here next ≡ Err f → (here ≡ Some f) ⊎ (next ≡ Err f)
+told_or_on None next f h = inr h
+told_or_on (Some g) next f h = inl (let e : g ≡ f = cc in ap Some e)
+
+goes_on : (here : Option SetupFault) (next : Result Layout SetupFault) (t : Layout) → unless here next ≡ Ok t → next ≡ Ok t
+goes_on None next t h = h
+goes_on (Some g) next t h = cc
+
+put_fault : (cells : List (Option Piece)) (s : Layout) (n : ℕ) (f : SetupFault) → put_cells s n cells ≡ Err f → IsStartFault f
+put_fault [] s n f h = cc
+put_fault (None ∷ cells) s n f h = put_fault cells s (n + 1) f h
+put_fault (Some p ∷ cells) s n f h =
+    elim (told_or_on (more_fault s p) (put_cells (put s n p) (n + 1) cells) f h) [
+      | inl told ↦ two_faults _ _ f told
+      | inr on ↦ put_fault cells (put s n p) (n + 1) f on
+    ]
+
+put_free : (cells : List (Option Piece)) (s t : Layout) (n : ℕ) → s.rest_given ≡ false → put_cells s n cells ≡ Ok t → t.rest_given ≡ false
+put_free [] s t n free h = let e : s ≡ t = cc in sym (ap (λ (l : Layout). l.rest_given) e) ∙ free
+put_free (None ∷ cells) s t n free h = put_free cells s t (n + 1) free h
+put_free (Some p ∷ cells) s t n free h = put_free cells (put s n p) t (n + 1) free (goes_on (more_fault s p) _ t h)
+
+hand_free : (s : Layout) (c : Color) (bag : List ℕ) → s.rest_given ≡ false → (with_hand s c bag).rest_given ≡ false
+hand_free s Black bag free = free
+hand_free s White bag free = free
+
+abbrev InHand : Piece → Type 0
+InHand p = in_hand p.kind ≡ true
+
+full_alone : (given held full : Bool) (f : SetupFault) → given ≡ false → held ≡ true → first_fault ((AfterRest, given) ∷ (NotForHand, not held) ∷ (TooMany, full) ∷ []) ≡ Some f → IsStartFault f
+full_alone given held true f free h told = let e = rw (free, h) at told in inr (inl cc)
+full_alone given held false f free h told = let e = rw (free, h) at told in cc
+
+hold_fault : (ps : List Piece) (s : Layout) (f : SetupFault) → s.rest_given ≡ false → AllByRecursion InHand ps → hold_pieces s ps ≡ Err f → IsStartFault f
+hold_fault [] s f free all h = cc
+hold_fault (p ∷ ps) s f free all h =
+    elim (told_or_on (add_fault s p.kind) (hold_pieces (held s p) ps) f h) [
+      | inl told ↦ full_alone _ _ _ f free all.0 told
+      | inr on ↦ hold_fault ps (held s p) f (hand_free s p.color (one_more (hand_of s p.color) p.kind) free) all.1 on
+    ]
+
+pile_held : (n : ℕ) (p : Piece) (ps : List Piece) → InHand p → AllByRecursion InHand ps → AllByRecursion InHand (replicate n p ++ ps)
+pile_held zero p ps h all = all
+pile_held (suc n) p ps h all = (h, pile_held n p ps h all)
+
+piles_held : (piles : List Pile) → AllByRecursion IsPile piles → AllByRecursion InHand (flat_map pile_pieces piles)
+piles_held [] all = all
+piles_held (pile ∷ piles) all = pile_held (unwrap_or pile.count 1) pile.piece (flat_map pile_pieces piles) all.0.1 (piles_held piles all.1)
+
+hands_held : (text : List ℕ) (piles : List Pile) → SpellsHands text piles → AllByRecursion InHand (flat_map pile_pieces piles)
+hands_held text [] h = tt
+hands_held text (pile ∷ piles) h = piles_held (pile ∷ piles) h.0
+
+after_fault : (r : Result Layout SetupFault) (ps : List Piece) (f : SetupFault) → ((g : SetupFault) → r ≡ Err g → IsStartFault g) → ((t : Layout) → r ≡ Ok t → t.rest_given ≡ false) → AllByRecursion InHand ps → hold_after r ps ≡ Err f → IsStartFault f
+after_fault (Ok s) ps f first free all h = hold_fault ps s f (free s refl) all h
+after_fault (Err g) ps f first free all h = first f h
+
+finish_fault : (r : Result Layout SetupFault) (side : Color) (f : SetupFault) → ((g : SetupFault) → r ≡ Err g → IsStartFault g) → Finishes r side (Err f) → IsStartFault f
+finish_fault (Err g) side f first h = first f (let e : g ≡ f = cc in ap Err e)
+finish_fault (Ok s) side f first h = inr (inr h.1)
+
+pub start_faults : (ws : List (List ℕ)) (f : SetupFault) → FirstFault ws (Start f) → IsStartFault f
+start_faults ws f (cells, side, piles, shape, stands) =
+    finish_fault (set_up cells piles) side f
+    (λ g. after_fault (put_cells empty_layout 0 cells) (flat_map pile_pieces piles) g
+    (put_fault cells empty_layout 0)
+    (λ t. put_free cells empty_layout t 0 refl)
+    (hands_held (nth_word ws 2) piles shape.hands))
+    stands
