@@ -267,10 +267,6 @@ long_step now place held piece goes_on start end fed number o refused view none 
     let met = too_long place held piece goes_on start end fed number p few more in
     rw (← view, none) (refl, (part_unit goes_on held piece start end fed, met.0, met.1, more, is_offset), refl)
 
-pub kept_is : (goes_on : Bool) (held other : List ℕ) → other ≡ (if not goes_on then [] else held) → other ≡ kept_of goes_on held
-kept_is true held other h = h
-kept_is false held other h = h
-
 pub kept_size : (goes_on : Bool) (held : List ℕ) (len n : ℕ) → len ≡ length held → n ≡ (if goes_on then len else 0) → n ≡ length (kept_of goes_on held)
 kept_size true held len n e h = h ∙ e
 kept_size false held len n e h = h

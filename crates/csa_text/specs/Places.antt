@@ -1,4 +1,5 @@
 -- Where a cutter of pieces stands, and what it holds.
+-- These are definitions for private helpers, and for how the private fields of `PieceCutter` make its view; a reader of the contracts may skip them.
 use Rattle.std.specs.Prelude.{◌≡◌, ℕ, ◌+◌, ◌-◌, ◌^◌, not, ◌<◌, ◌≤◌, ◌==◌, ◌⊎◌, if◌then◌else◌, Bool, true, false, List, [], ◌∷◌, ◌++◌, length, take, drop, slice_range, slice_index}
 use Rattle.csa_text.specs.Cut.{TextUnit, Statements, IsUnit, byte_order_mark, begins_with}
 use Rattle.csa_text.specs.Piecing.{Follows}

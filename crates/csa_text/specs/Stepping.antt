@@ -1,5 +1,5 @@
 -- What a cutter of pieces answers.
-use Rattle.std.specs.Prelude.{◌≡◌, ℕ, ◌+◌, ◌<◌, ◌≤◌, false, List, [], ◌∷◌, length, take, Option, None, Some, Result, Ok, Err}
+use Rattle.std.specs.Prelude.{◌≡◌, ℕ, ◌+◌, ◌-◌, ◌<◌, ◌≤◌, false, List, [], ◌∷◌, length, take, Option, None, Some, Result, Ok, Err}
 use Rattle.csa_text.specs.Cut.{TextUnit, statement_bytes}
 use Rattle.csa_text.specs.Piecing.{Piecing, ToCome, Closes, Leads}
 use Rattle.csa_text.specs.declared.cutter.Statement.{Statement}
@@ -13,9 +13,10 @@ pub record IsNumbered (count : ℕ) (unit : TextUnit) (s : Statement) : Type 0 w
   pub slice : s.bytes.now ≡ statement_bytes unit.bytes
   pub short : length unit.bytes ≤ 4096
 
--- a slice at the second address lies so many bytes behind one at the first
-abbrev pub LiesBehind : ℕ × ℕ → ℕ → ℕ × ℕ → Type 0
-LiesBehind piece n slice = slice ≡ (piece.0, piece.1 + n)
+-- a statement that begins behind so many bytes lies where the piece at this address, which comes behind
+-- them, has its bytes
+abbrev pub IsLentFrom : ℕ × ℕ → ℕ → Statement → Type 0
+IsLentFrom piece fed s = fed ≤ s.offset → s.bytes.ref_ptr ≡ (piece.0, piece.1 + (s.offset - fed))
 
 -- no statement is closed in the whole piece, or this one is, by the byte behind its unit, which is the
 -- last that was used

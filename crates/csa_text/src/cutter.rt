@@ -10,7 +10,7 @@ use thiserror::Error;
 pub(crate) const LIMIT: usize = 4096;
 
 /// The first byte of a comment.
-const COMMENT: u8 = b'\'';
+pub(crate) const COMMENT: u8 = b'\'';
 
 /// The UTF-8 byte order mark.
 pub(crate) const BYTE_ORDER_MARK: [u8; 3] = [0xEF, 0xBB, 0xBF];
@@ -118,7 +118,7 @@ fn is_separator(b: u8) -> bool
 fn takes_line(first: u8) -> bool
     ensures { result ≡ takes_line first }
 {
-    first == b'\'' || first == b'N' || first == b'$'
+    first == COMMENT || first == b'N' || first == b'$'
 }
 
 // What ends a unit: the end of its line, and a comma where it does not take the whole line.

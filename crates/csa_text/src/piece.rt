@@ -5,11 +5,11 @@ ghost use Rattle.arrayvec.specs.ArrayVec.{array_vec_len};
 ghost use Rattle.csa_text.specs.contracts.piece.PieceCutter.{the_row};
 ghost use Rattle.csa_text.specs.Cut.{statement_bytes};
 ghost use Rattle.csa_text.specs.Piecing.{fresh, KeepsLittle};
-ghost use Rattle.csa_text.specs.Stepping.{Stepped, Finished, LiesBehind};
-ghost use Rattle.csa_text.specs.Places.{IsKept, IsFoundIn, IsFirstIn, IsCommon, IsHeld, place_found, is_in_mark, has_unit};
+ghost use Rattle.csa_text.specs.Stepping.{Stepped, Finished, IsLentFrom};
+ghost use Rattle.csa_text.specs.Places.{IsKept, IsFoundIn, IsFirstIn, IsCommon, IsHeld, place_found, is_in_mark, kept_of, has_unit};
 
 use crate::cutter::{
-    BYTE_ORDER_MARK, CutFault, LIMIT, Statement, handed_out, next_unit, unit_length,
+    BYTE_ORDER_MARK, COMMENT, CutFault, LIMIT, Statement, handed_out, next_unit, unit_length,
 };
 use arrayvec::ArrayVec;
 use std::marker::Model;
@@ -33,7 +33,8 @@ enum Place {
     Comment,
 }
 
-// What a piece holds next: nothing but one of these to its end, or a statement's unit, or its part.
+// What the piece holds first: up to its end only the mark, a gap or a comment; or a statement's unit,
+// or a part of one.
 #[derive(Clone, Copy, Debug, PartialEq, Eq)]
 enum Found {
     Mark,
@@ -102,8 +103,7 @@ impl PieceCutter {
     /// the cutter is then as before. At most 2^63 bytes may be fed in all.
     pub fn step<'b>(&'b mut self, piece: &'b [u8]) -> Result<Cut<'b>, CutFault>
         requires { self.old.fed + length piece.now ≤ 2 ^ 63 }
-        ensures lent { IfOk result (λ cut. IfSome cut.statement (λ s. self.old.fed ≤ s.offset
-            → LiesBehind piece.entry.ref_ptr (s.offset - self.old.fed) s.bytes.ref_ptr)) }
+        ensures lent { IfOk result (λ cut. IfSome cut.statement (IsLentFrom piece.entry.ref_ptr self.old.fed)) }
         ensures* stepped { sem 𝓛 (Rests the_row self.entry (λ new. Stepped self.old piece.now result new)) }
     {
         let number = self.number + 1;
@@ -118,7 +118,7 @@ impl PieceCutter {
         } = found
         else {
             self.place = place_of(found);
-            hold_mark(&mut self.held, is_in_mark(found), piece);
+            hold_mark(&mut self.held, found, piece);
             self.fed += piece.len() as u64;
             return Ok(none_ended(piece.len()));
         };
@@ -129,9 +129,9 @@ impl PieceCutter {
             self.refused = Some(offset);
             return Err(CutFault { number, offset });
         }
-        forget(&mut self.held, !goes_on);
+        keep_held(&mut self.held, goes_on);
         if end == piece.len() {
-            hold(&mut self.held, true, part);
+            hold(&mut self.held, part);
             self.place = Place::Unit;
             self.fed += end as u64;
             return Ok(none_ended(end));
@@ -142,7 +142,7 @@ impl PieceCutter {
         if self.held.is_empty() {
             return Ok(ended(end, number, offset, part));
         }
-        hold(&mut self.held, true, part);
+        hold(&mut self.held, part);
         Ok(ended(end, number, offset, self.held.as_slice()))
     }
 
@@ -213,12 +213,6 @@ fn is_unfinished(place: Place, held: &[u8]) -> bool
     }
 }
 
-fn is_in_mark(found: Found) -> bool
-    ensures { result ≡ is_in_mark found }
-{
-    matches!(found, Found::Mark)
-}
-
 // Where the piece leads to where it holds no statement's unit.
 fn place_of(found: Found) -> Place
     ensures { result ≡ place_found found }
@@ -231,36 +225,38 @@ fn place_of(found: Found) -> Place
     }
 }
 
+// How many of the bytes that are held are the unit's.
 fn kept_length(goes_on: bool, length: usize) -> usize
     ensures { result ≡ (if goes_on then length else 0) }
 {
     if goes_on { length } else { 0 }
 }
 
-fn forget(held: &mut ArrayVec<u8, 4096>, all: bool)
-    ensures { held.new.items ≡ (if all then [] else held.old.items) }
+// Keeps what is held where the unit goes on, and else nothing.
+fn keep_held(held: &mut ArrayVec<u8, 4096>, goes_on: bool)
+    ensures { held.new.items ≡ kept_of goes_on held.old.items }
 {
-    if all {
+    if !goes_on {
         held.clear();
     }
 }
 
 // Holds what has come of a byte order mark, and nothing of a gap or a comment.
-fn hold_mark(held: &mut ArrayVec<u8, 4096>, in_mark: bool, piece: &[u8])
-    requires { in_mark ≡ true → array_vec_len held.old + length piece.now ≤ 4096 }
-    ensures { held.new.items ≡ (if in_mark then held.old.items ++ piece.now else []) }
+fn hold_mark(held: &mut ArrayVec<u8, 4096>, found: Found, piece: &[u8])
+    requires { is_in_mark found ≡ true → array_vec_len held.old + length piece.now ≤ 4096 }
+    ensures { held.new.items ≡ (if is_in_mark found then held.old.items ++ piece.now else []) }
 {
-    forget(held, !in_mark);
-    hold(held, in_mark, piece);
+    match found {
+        Found::Mark => hold(held, piece),
+        _ => held.clear(),
+    }
 }
 
-fn hold(held: &mut ArrayVec<u8, 4096>, holds: bool, part: &[u8])
-    requires { holds ≡ true → array_vec_len held.old + length part.now ≤ 4096 }
-    ensures { held.new.items ≡ (if holds then held.old.items ++ part.now else held.old.items) }
+fn hold(held: &mut ArrayVec<u8, 4096>, part: &[u8])
+    requires { array_vec_len held.old + length part.now ≤ 4096 }
+    ensures { held.new.items ≡ held.old.items ++ part.now }
 {
-    if holds {
-        held.try_extend_from_slice(part).unwrap();
-    }
+    held.try_extend_from_slice(part).unwrap();
 }
 
 // What the piece holds next.
@@ -277,7 +273,7 @@ fn found_in(place: Place, held: &[u8], piece: &[u8]) -> Found
             end: unit_length(held[0], piece),
         },
         Place::Comment => {
-            let end = unit_length(b'\'', piece);
+            let end = unit_length(COMMENT, piece);
             if end == piece.len() {
                 Found::Comment
             } else {
@@ -328,7 +324,7 @@ fn first_in(piece: &[u8], from: usize) -> Found
 {
     let mut at = from;
     while let Some((start, end)) = next_unit(piece, at) {
-        if piece[start] != b'\'' {
+        if piece[start] != COMMENT {
             return Found::Unit {
                 goes_on: false,
                 start,

@@ -10,17 +10,17 @@ loop-start-init c = record {
   passed = passes_none c.args.piece.now c.args.from;
 }
 
-pub returns-then-piece-start-ne39 : goal.returns-then-piece-start-ne39
-returns-then-piece-start-ne39 c =
+pub returns-then-piece-start-ne-COMMENT : goal.returns-then-piece-start-ne-COMMENT
+returns-then-piece-start-ne-COMMENT c =
     let unit = c.in-Some.ensures in
     let i = c.loop-start.invariant in
-    (refl, unit_found c.args.piece.now c.args.from c.loop-start.at c.in-Some.start c.in-Some.end i.passed i.some i.order i.within unit.0 unit.1 unit.2 c.if-piece-start-ne39.true)
+    (refl, unit_found c.args.piece.now c.args.from c.loop-start.at c.in-Some.start c.in-Some.end i.passed i.some i.order i.within unit.0 unit.1 unit.2 c.if-piece-start-ne-COMMENT.true)
 
 pub returns-then-end-piece : goal.returns-then-end-piece
 returns-then-end-piece c =
     let unit = c.in-Some.ensures in
     let i = c.loop-start.invariant in
-    (omega (arith, unit.0, unit.1), comment_open c.args.piece.now c.args.from c.loop-start.at c.in-Some.start c.in-Some.end i.passed i.some i.within unit.0 c.if-end-piece.true unit.2 c.if-piece-start-ne39.false)
+    (omega (arith, unit.0, unit.1), comment_open c.args.piece.now c.args.from c.loop-start.at c.in-Some.start c.in-Some.end i.passed i.some i.within unit.0 c.if-end-piece.true unit.2 c.if-piece-start-ne-COMMENT.false)
 
 pub loop-start-preserved : goal.loop-start-preserved
 loop-start-preserved c =
@@ -31,7 +31,7 @@ loop-start-preserved c =
       order = omega (arith, gap.0, unit.0, i.order);
       within = unit.1;
       some = inr (omega (arith, c.if-end-piece.false, unit.1));
-      passed = comment_passed c.args.piece.now c.args.from c.loop-start.at c.in-Some.start c.in-Some.end i.passed i.some i.within i.order unit.0 unit.1 unit.2 c.if-piece-start-ne39.false;
+      passed = comment_passed c.args.piece.now c.args.from c.loop-start.at c.in-Some.start c.in-Some.end i.passed i.some i.within i.order unit.0 unit.1 unit.2 c.if-piece-start-ne-COMMENT.false;
     }
 
 pub returns : goal.returns

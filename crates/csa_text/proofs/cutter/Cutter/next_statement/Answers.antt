@@ -15,7 +15,7 @@ returns-then-unit-gt-LIMIT-clause-cut c =
         first = first.first others.0 others.1;
         number_is = refl;
         place = refl;
-        long = c.if-unit-gt-LIMIT.true;
+        long = omega (arith, c.if-unit-gt-LIMIT.true);
       }),
       refl,
     )
@@ -43,5 +43,5 @@ returns-clause-cut c =
       some = omega (arith, measured, first.some);
       of_source = refl;
       slice = c.handed_out.ensures.value;
-      short = c.if-unit-gt-LIMIT.false;
+      short = omega (arith, c.if-unit-gt-LIMIT.false);
     })

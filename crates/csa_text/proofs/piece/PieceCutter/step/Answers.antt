@@ -1,6 +1,6 @@
 use Rattle.std.proofs.Common.{◌≡◌, ◌+◌, ◌-◌, ◌<◌, ◌≤◌, ◌++◌, length, slice_range, arith, refl, sym, ap, ◌∙◌}
 use Rattle.csa_text.specs.Places.{IsPart, IsFoundIn, kept_of}
-use Rattle.csa_text.proofs.Leading.{default_step, unit_step, end_step, long_step, kept_is, kept_size, kept_most, mark_room, all_in_piece, ended_told}
+use Rattle.csa_text.proofs.Leading.{default_step, unit_step, end_step, long_step, kept_size, kept_most, mark_room, all_in_piece, ended_told}
 use Rattle.csa_text.proofs.Lining.{length_range, nothing}
 use Rattle.csa_text.proofs.Lent.{lent_here, lent_before, kept_on}
 use Rattle.csa_text.specs.Piecing.{Piecing}
@@ -10,7 +10,7 @@ pub hold_mark-requires : goal.hold_mark-requires
 hold_mark-requires c =
     let s = c.self.inside in
     let h : IsFoundIn s.place s.held.items c.args.piece.now c.found_in-found.result = rw c.as_slice.ensures.value at c.found_in-found.ensures in
-    λ t. mark_room s.place s.held.items c.args.piece.now c.found_in-found.result h (sym c.is_in_mark.ensures ∙ t)
+    λ t. mark_room s.place s.held.items c.args.piece.now c.found_in-found.result h t
 
 pub returns-in_default-found : goal.returns-in_default-found
 returns-in_default-found c =
@@ -18,7 +18,7 @@ returns-in_default-found c =
     let i = c.self.invariant in
     let h : IsFoundIn s.place s.held.items c.args.piece.now c.found_in-found.result = rw c.as_slice.ensures.value at c.found_in-found.ensures in
     let done = default_step c.args.self.now s.place c.place_of-self-inside.result s.held.items c.hold_mark.new.held.items c.args.piece.now c.found_in-found.result s.fed s.number s.refused
-    c.self.view_is c.in_default.is c.place_of-self-inside.ensures (rw c.is_in_mark.ensures at c.hold_mark.ensures) c.in_default-found.not-Unit h (omega (arith, i.0)) i.3 in
+    c.self.view_is c.in_default.is c.place_of-self-inside.ensures c.hold_mark.ensures c.in_default-found.not-Unit h (omega (arith, i.0)) i.3 in
     ((refl, λ _. tt, (done.0, rw c.none_ended.ensures.statement (c.none_ended.ensures.used, done.1))), record { lent = rw c.none_ended.ensures.statement tt; stepped = tt })
 
 pub returns-then-kept-part : goal.returns-then-kept-part
@@ -46,7 +46,7 @@ returns-then-end-piece c =
     let size = length_range piece start end p.within in
     let most = kept_most goes_on s.held.items in
     let few : length (kept_of goes_on s.held.items) + (end - start) ≤ 4096 = omega (arith, kept, size, c.if-kept-part.false, i.1) in
-    let left : c.forget.new.held.items ≡ kept_of goes_on s.held.items = kept_is goes_on s.held.items c.forget.new.held.items c.forget.ensures in
+    let left : c.keep_held.new.held.items ≡ kept_of goes_on s.held.items = c.keep_held.ensures in
     let all : c.hold.new.held.items ≡ kept_of goes_on s.held.items ++ slice_range piece start end =
     c.hold.ensures ∙ ap (λ xs. xs ++ slice_range piece start end) left in
     let done = unit_step c.args.self.now s.place s.held.items c.hold.new.held.items piece goes_on start end s.fed s.number s.refused
@@ -66,17 +66,17 @@ returns-then-is_empty c =
     let size = length_range piece start end p.within in
     let most = kept_most goes_on s.held.items in
     let few : length (kept_of goes_on s.held.items) + (end - start) ≤ 4096 = omega (arith, kept, size, c.if-kept-part.false, i.1) in
-    let left : c.forget.new.held.items ≡ kept_of goes_on s.held.items = kept_is goes_on s.held.items c.forget.new.held.items c.forget.ensures in
+    let left : c.keep_held.new.held.items ≡ kept_of goes_on s.held.items = c.keep_held.ensures in
     let behind : end < length piece = omega (arith, c.if-end-piece.false, p.within) in
     let whole : slice_range piece start end ≡ kept_of goes_on s.held.items ++ slice_range piece start end =
-    all_in_piece goes_on s.held.items c.forget.new.held.items (slice_range piece start end) left (sym c.is_empty.ensures ∙ c.if-is_empty.true) in
+    all_in_piece goes_on s.held.items c.keep_held.new.held.items (slice_range piece start end) left (sym c.is_empty.ensures ∙ c.if-is_empty.true) in
     let place : s.fed + start - c.kept_length-kept.result ≡ s.fed + start - length (kept_of goes_on s.held.items) = ap (λ n. s.fed + start - n) kept in
     let fed_is : s.fed ≡ c.args.self.now.fed = ap (λ (v : Piecing). v.fed) c.self.view_is in
-    let none : length (kept_of goes_on s.held.items) ≡ 0 = ap length (sym left ∙ nothing c.forget.new.held.items (sym c.is_empty.ensures ∙ c.if-is_empty.true)) in
+    let none : length (kept_of goes_on s.held.items) ≡ 0 = ap length (sym left ∙ nothing c.keep_held.new.held.items (sym c.is_empty.ensures ∙ c.if-is_empty.true)) in
     let from : s.fed + start - c.kept_length-kept.result ≡ c.args.self.now.fed + start = omega (arith, kept, none, fed_is) in
     let lent = lent_here c.ended.result.statement _ (s.fed + start - c.kept_length-kept.result) c.args.self.now.fed start c.args.piece.ref_ptr from c.ended.ensures.place c.ended.ensures.lent in
     let told = ended_told c.ended.result.statement _ _ _ (slice_range piece start end) (kept_of goes_on s.held.items ++ slice_range piece start end) place whole c.ended.ensures.place c.ended.ensures.bytes in
-    let done = end_step c.args.self.now s.place s.held.items c.forget.new.held.items piece goes_on start end s.fed s.number c.ended.result.used s.refused c.ended.result.statement
+    let done = end_step c.args.self.now s.place s.held.items c.keep_held.new.held.items piece goes_on start end s.fed s.number c.ended.result.used s.refused c.ended.result.statement
     c.self.view_is c.in_default.is p (omega (arith, i.0)) behind few c.ended.ensures.used c.ended.ensures.some told in
     ((refl, λ _. tt, (done.0, done.1)), record { lent = lent; stepped = tt })
 
@@ -93,7 +93,7 @@ returns c =
     let size = length_range piece start end p.within in
     let most = kept_most goes_on s.held.items in
     let few : length (kept_of goes_on s.held.items) + (end - start) ≤ 4096 = omega (arith, kept, size, c.if-kept-part.false, i.1) in
-    let left : c.forget.new.held.items ≡ kept_of goes_on s.held.items = kept_is goes_on s.held.items c.forget.new.held.items c.forget.ensures in
+    let left : c.keep_held.new.held.items ≡ kept_of goes_on s.held.items = c.keep_held.ensures in
     let behind : end < length piece = omega (arith, c.if-end-piece.false, p.within) in
     let whole : c.as_slice-2.result.now ≡ kept_of goes_on s.held.items ++ slice_range piece start end =
     c.as_slice-2.ensures.value ∙ c.hold-2.ensures ∙ ap (λ xs. xs ++ slice_range piece start end) left in
@@ -102,7 +102,7 @@ returns c =
     let done = end_step c.args.self.now s.place s.held.items c.hold-2.new.held.items piece goes_on start end s.fed s.number c.ended-2.result.used s.refused c.ended-2.result.statement
     c.self.view_is c.in_default.is p (omega (arith, i.0)) behind few c.ended-2.ensures.used c.ended-2.ensures.some told in
     let fed_is : s.fed ≡ c.args.self.now.fed = ap (λ (v : Piecing). v.fed) c.self.view_is in
-    let on = kept_on goes_on s.held.items c.forget.new.held.items left (sym c.is_empty.ensures ∙ c.if-is_empty.false) in
+    let on = kept_on goes_on s.held.items c.keep_held.new.held.items left (sym c.is_empty.ensures ∙ c.if-is_empty.false) in
     let first = p.first on.0 in
     let whole_is = ap length first.1 in
     let before : s.fed + start - c.kept_length-kept.result < c.args.self.now.fed = omega (arith, kept, on.1, fed_is, first.0, whole_is, most, i.0) in
