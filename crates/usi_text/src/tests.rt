@@ -3,8 +3,9 @@ use crate::{
     read_position_line, read_sfen, write_sfen,
 };
 use arrayvec::ArrayString;
-use shogi_board::{Color, Kind, Position, Setup, SetupFault, Square};
-use shogi_rules::{Move, Rule, judge};
+use shogi_board::{Color, Kind, OutOfMemory, Piece, Position, Setup, SetupFault, Square};
+use shogi_rules::{Line, Move, Rule, judge};
+use std::process::Abort;
 use std::test::Fail;
 
 // The square of two digits.
@@ -181,6 +182,90 @@ fn sfens_read_and_written(rt: HostRuntime) -> Result<(), Fail> {
     }
     assert_eq!(rt; read_sfen(EVEN.as_bytes()), Ok(Position::even()));
     Ok(())
+}
+
+// A king, a pawn and a gold, and the rest in white's hand.
+fn with_the_rest() -> Result<Position, Fail> {
+    let mut setup = Setup::empty();
+    setup.place(Color::White, square(51)?, Kind::King)?;
+    setup.place(Color::Black, square(53)?, Kind::Pawn)?;
+    setup.add_hand(Color::Black, Kind::Gold)?;
+    setup.give_rest(Color::White)?;
+    Ok(setup.finish(Color::Black)?)
+}
+
+// The even start without white's rook and bishop, white to move.
+fn with_a_handicap() -> Result<Position, Fail> {
+    let mut setup = Setup::even();
+    setup.take_off(square(82)?, Kind::Rook)?;
+    setup.take_off(square(22)?, Kind::Bishop)?;
+    Ok(setup.finish(Color::White)?)
+}
+
+const REST: &str = "4k4/9/4P4/9/9/9/9/9/9 b G2r2b3g4s4n4l17p 1";
+
+const HANDICAP: &str = "lnsgkgsnl/9/ppppppppp/9/9/9/PPPPPPPPP/1B5R1/LNSGKGSNL w - 1";
+
+#[test]
+fn sfens_of_setups(rt: HostRuntime) -> Result<(), Fail> {
+    let table = [
+        (with_the_rest()?, REST),
+        (with_a_handicap()?, HANDICAP),
+        (Position::even(), EVEN),
+    ];
+    for (position, sfen) in table {
+        let written = write_sfen(rt.alloc(), &position)?;
+        assert_eq!(rt; written.as_slice(), sfen.as_bytes());
+        assert_eq!(rt; read_sfen(sfen.as_bytes()), Ok(position));
+    }
+    Ok(())
+}
+
+fn piece(color: Color, kind: Kind) -> Option<Piece> {
+    Some(Piece { color, kind })
+}
+
+#[test]
+fn pieces_of_an_sfen(rt: HostRuntime) -> Result<(), Fail> {
+    let sfen = "8l/1l+R2P3/p2pBG1pp/kps1p4/Nn1P2G2/P1P1P2PP/1PS6/1KSG3+r1/LN2+p3L w Sbgn3p 124";
+    let position = read_sfen(sfen.as_bytes())?;
+    let table = [
+        (72, piece(Color::Black, Kind::Dragon)),
+        (28, piece(Color::White, Kind::Dragon)),
+        (59, piece(Color::White, Kind::ProPawn)),
+        (94, piece(Color::White, Kind::King)),
+        (88, piece(Color::Black, Kind::King)),
+        (73, None),
+    ];
+    for (digits, want) in table {
+        assert_eq!(rt; position.piece_at(square(digits)?), want);
+    }
+    assert_eq!(rt; position.side(), Color::White);
+    assert_eq!(rt; position.hand(Color::Black).count(Kind::Silver), 1);
+    assert_eq!(rt; position.hand(Color::White).count(Kind::Pawn), 3);
+    Ok(())
+}
+
+// The empty board with a count behind its letter, a zero, a tab, and with numbers of no and of many digits.
+#[test]
+fn sfens_of_the_empty_board(rt: HostRuntime) {
+    let read = [
+        "9/9/9/9/9/9/9/9/9 b 10p",
+        "9/9/9/9/9/9/9/9/9 b 10p 123456789012345678901234567890",
+    ];
+    for text in read {
+        assert!(rt; read_sfen(text.as_bytes()).is_ok(), "{text}");
+    }
+    let refused = [
+        ("9/9/9/9/9/9/9/9/9 b 2 1", SfenFault::BadHands),
+        ("9/9/9/9/9/9/9/9/9 b P0 1", SfenFault::BadHands),
+        ("9/9/9/9/9/9/9/9/9 b - 1\t", SfenFault::BadNumber),
+        ("9//9/9/9/9/9/9/9 b - 1", SfenFault::BadBoard),
+        ("P+8/9/9/9/9/9/9/9/9 b - 1", SfenFault::BadBoard),
+    ];
+    for (text, fault) in refused {
+        assert_eq!(rt; read_sfen(text.as_bytes()), Err(fault), "{text}");
+    }
 }
 
 #[test]
@@ -383,6 +468,52 @@ fn lines_refused(rt: HostRuntime) {
     }
 }
 
+// White drops with a capital letter, and promotes with a plus sign.
+#[test]
+fn moves_of_white(rt: HostRuntime) -> Result<(), Fail> {
+    let table = [
+        (
+            "position sfen 4k4/9/9/9/9/9/9/9/4K4 w p 1 moves P*5e",
+            "4k4/9/9/9/4p4/9/9/9/4K4 b - 1",
+        ),
+        (
+            "position sfen 4k4/9/9/9/9/9/9/6p2/K8 w - 1 moves 3h3i+",
+            "4k4/9/9/9/9/9/9/9/K5+p2 b - 1",
+        ),
+    ];
+    for (text, want) in table {
+        let line = read_position_line(rt.alloc(), text.as_bytes())?;
+        let sfen = write_sfen(rt.alloc(), &line.now())?;
+        assert_eq!(rt; sfen.as_slice(), want.as_bytes());
+        let again = position_line(rt.alloc(), &line)?;
+        assert_eq!(rt; again.as_slice(), text.as_bytes());
+    }
+    Ok(())
+}
+
+#[test]
+fn words_of_a_line_refused(rt: HostRuntime) {
+    let table = [
+        ("Position startpos", UsiFault::BadLine),
+        ("position startpos sfen", UsiFault::BadLine),
+        (
+            "position startpos moves P*5e",
+            UsiFault::Broken(1, Rule::NoPiece),
+        ),
+        ("position startpos moves 7g7f x", UsiFault::BadMoveText(2)),
+        (
+            "position sfen 4k4/9/9/9/9/9/9/9/4K4 w p 1 moves p*5e",
+            UsiFault::BadMoveText(1),
+        ),
+    ];
+    for (text, fault) in table {
+        match read_position_line(rt.alloc(), text.as_bytes()) {
+            Ok(_) => assert!(rt; false, "read: {text}"),
+            Err(found) => assert_eq!(rt; found, fault, "{text}"),
+        }
+    }
+}
+
 // The square at a place of a rook's tour of 36 over four files from the given one, up one file and down the next.
 fn push_tour(text: &mut Vec<u8>, first: u8, place: usize) -> Result<(), Fail> {
     let file = (place % 36 / 9) as u8;
@@ -413,7 +544,27 @@ fn push_white(text: &mut Vec<u8>, n: usize) -> Result<(), Fail> {
     Ok(())
 }
 
-// 10,000 moves stand, and the text of one more is not looked at.
+// One more word is TooManyMoves: no move, a move that breaks a rule, and one that breaks none.
+fn one_word_more(rt: &(impl AllocGlobal + Abort), line: &Line, text: &[u8]) -> Result<(), Fail> {
+    let table = [
+        ("7g", None),
+        ("5c5e", Some(Some(Rule::CannotReach))),
+        ("4h4g", Some(None)),
+    ];
+    let now = line.now();
+    for (word, judged) in table {
+        let found = read_move(&now, word.as_bytes()).map(|mv| judge(&now, now.side(), &mv));
+        assert_eq!(rt; found, judged, "{word}");
+        let mut more: Vec<u8> = Vec::from_slice(rt.alloc(), text)?;
+        more.push(b' ')?;
+        more.extend_from_slice(word.as_bytes())?;
+        let refused = read_position_line(rt.alloc(), more.as_slice()).err();
+        assert_eq!(rt; refused, Some(UsiFault::TooManyMoves), "{word}");
+    }
+    Ok(())
+}
+
+// 10,000 moves stand, and one more is refused before its text is looked at.
 #[test]
 fn ten_thousand_moves(rt: HostRuntime) -> Result<(), Fail> {
     let mut text: Vec<u8> = Vec::new(rt.alloc());
@@ -428,10 +579,7 @@ fn ten_thousand_moves(rt: HostRuntime) -> Result<(), Fail> {
     assert_eq!(rt; line.moves().len(), 10_000);
     let again = position_line(rt.alloc(), &line)?;
     assert_eq!(rt; again.as_slice(), text.as_slice());
-    text.extend_from_slice(b" 7g")?;
-    let refused = read_position_line(rt.alloc(), text.as_slice()).err();
-    assert_eq!(rt; refused, Some(UsiFault::TooManyMoves));
-    Ok(())
+    one_word_more(&rt, &line, text.as_slice())
 }
 
 #[test]
