@@ -582,6 +582,110 @@ fn ten_thousand_moves(rt: HostRuntime) -> Result<(), Fail> {
     one_word_more(&rt, &line, text.as_slice())
 }
 
+const FOUR_MOVES: &str =
+    "position sfen lnsgkgsnl/9/ppppppppp/9/9/9/PPPPPPPPP/1B5R1/LNSGKGSNL w - 1 moves 3c3d 7g7f 4a3b 2g2f";
+
+// Texts whose fault needs no memory: it is told also where the growth before the first move is refused.
+fn faults_without_memory(rt: &(impl AllocGlobal + Abort)) {
+    let table = [
+        ("position", UsiFault::BadLine),
+        (
+            "position sfen 9/9 b - 1 moves 7g7f",
+            UsiFault::Sfen(SfenFault::BadBoard),
+        ),
+        (
+            "position sfen rrr6/9/9/9/9/9/9/9/9 b - 1",
+            UsiFault::Sfen(SfenFault::Start(SetupFault::TooMany)),
+        ),
+        ("position startpos moves 7g", UsiFault::BadMoveText(1)),
+        (
+            "position startpos moves 7g7e",
+            UsiFault::Broken(1, Rule::CannotReach),
+        ),
+    ];
+    for (text, fault) in table {
+        let found = read_position_line(rt.alloc(), text.as_bytes()).err();
+        assert_eq!(rt; found, Some(fault), "{text}");
+    }
+}
+
+fn calls_without_memory(rt: &impl Abort) -> Result<(), Fail> {
+    let even = Position::even();
+    let mv = walk(77, 76, Kind::Pawn)?.ok_or("no move")?;
+    assert_eq!(rt; read_sfen(EVEN.as_bytes()), Ok(even));
+    assert_eq!(rt; read_move(&even, b"7g7f"), Some(mv));
+    assert_eq!(rt; text_of(&even, &mv)?.as_str(), "7g7f");
+    assert_eq!(rt;
+        read_engine_line(b"bestmove 7g7f"),
+        EngineWord::Best(b"7g7f")
+    );
+    Ok(())
+}
+
+// The line of the text, read again where memory was wanting.
+fn line_at_last(rt: &(impl AllocGlobal + Abort + Print), text: &str) -> Result<Line, Fail> {
+    match read_position_line(rt.alloc(), text.as_bytes()) {
+        Ok(line) => Ok(line),
+        Err(fault) => {
+            println!(rt; "refused")?;
+            assert_eq!(rt; fault, UsiFault::OutOfMemory);
+            Ok(read_position_line(rt.alloc(), text.as_bytes())?)
+        }
+    }
+}
+
+// The SFEN of the position, written again where memory was wanting.
+fn sfen_at_last(rt: &(impl AllocGlobal + Print), position: &Position) -> Result<Vec<u8>, Fail> {
+    match write_sfen(rt.alloc(), position) {
+        Ok(text) => Ok(text),
+        Err(OutOfMemory) => {
+            println!(rt; "refused")?;
+            Ok(write_sfen(rt.alloc(), position)?)
+        }
+    }
+}
+
+// The text of the line, written again where memory was wanting.
+fn text_at_last(rt: &(impl AllocGlobal + Print), line: &Line) -> Result<Vec<u8>, Fail> {
+    match position_line(rt.alloc(), line) {
+        Ok(text) => Ok(text),
+        Err(OutOfMemory) => {
+            println!(rt; "refused")?;
+            Ok(position_line(rt.alloc(), line)?)
+        }
+    }
+}
+
+// Whether one of the next growths is refused, and so none before them was.
+fn is_refused_later(rt: &impl AllocGlobal) -> bool {
+    for _ in 0..100u8 {
+        let mut text: Vec<u8> = Vec::new(rt.alloc());
+        if text.push(b'x').is_err() {
+            return true;
+        }
+    }
+    false
+}
+
+// Run by tests/growths with each growth refused in turn: the answer is the fault that stands before, else want of
+// memory, and then the call made again succeeds.
+#[test]
+fn refused_growth_is_told(rt: HostRuntime) -> Result<(), Fail> {
+    faults_without_memory(&rt);
+    calls_without_memory(&rt)?;
+    let line = line_at_last(&rt, FOUR_MOVES)?;
+    assert_eq!(rt; line.moves().len(), 4);
+    let sfen = sfen_at_last(&rt, &with_the_rest()?)?;
+    assert_eq!(rt; sfen.as_slice(), REST.as_bytes());
+    let text = text_at_last(&rt, &line)?;
+    assert_eq!(rt; text.as_slice(), FOUR_MOVES.as_bytes());
+    // the growths of faults_without_memory are refused in silence
+    if !is_refused_later(&rt) {
+        println!(rt; "refused")?;
+    }
+    Ok(())
+}
+
 #[test]
 fn faults_printed(rt: HostRuntime) -> Result<(), Fail> {
     let table = [
