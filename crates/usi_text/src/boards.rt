@@ -20,10 +20,7 @@ pub(crate) fn read_board(text: &[u8]) -> Option<Cells>
     let mut cells = ArrayVec::new();
     let mut rest = Some(text);
     for _ in 0..9u8 {
-        let Some(ranks) = rest else {
-            return None;
-        };
-        let (rank, behind) = take_rank(ranks);
+        let (rank, behind) = take_rank(rest?);
         if !read_rank(&mut cells, rank) {
             return None;
         }

@@ -108,9 +108,7 @@ pub(crate) fn promoted_of_letter(byte: u8) -> Option<Piece>
         ((piece : Piece) → is_promoted piece.kind ≡ true → side_letter piece ≡ byte → ⊥)
         (λ piece. (is_promoted piece.kind ≡ true) × (side_letter piece ≡ byte)) }
 {
-    let Some(piece) = piece_of_letter(byte) else {
-        return None;
-    };
+    let piece = piece_of_letter(byte)?;
     let kind = promoted(piece.kind)?;
     Some(Piece { kind, ..piece })
 }
