@@ -13,8 +13,7 @@ pub record IsNumbered (count : ℕ) (unit : TextUnit) (s : Statement) : Type 0 w
   pub slice : s.bytes.now ≡ statement_bytes unit.bytes
   pub short : length unit.bytes ≤ 4096
 
--- a statement that begins behind so many bytes lies where the piece at this address, which comes behind
--- them, has its bytes
+-- of the piece at this address, before which so many bytes were fed: a statement that begins in it lies in it
 abbrev pub IsLentFrom : ℕ × ℕ → ℕ → Statement → Type 0
 IsLentFrom piece fed s = fed ≤ s.offset → s.bytes.ref_ptr ≡ (piece.0, piece.1 + (s.offset - fed))
 

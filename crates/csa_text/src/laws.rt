@@ -104,8 +104,8 @@ pub fn too_long_once()
     ensures { (source : List ℕ) (m n i j : ℕ) → FirstTooLong source m i → FirstTooLong source n j → (m ≡ n) × (i ≡ j) }
 {}
 
-/// `Cutter` answers a `CutFault` for the first statement of its source that is too long, and comes to
-/// the end only where there is none.
+/// `Cutter` answers a `CutFault` for the first statement of its source that is too long, and comes
+/// to the end only where there is none.
 pub fn cutter_faults()
     ensures begins { (c : Cutting) → c.at ≡ mark_length c.source → c.number ≡ 0 → HasCut c [] }
     ensures goes_on { (old new : Cutting) (handed : List TextUnit) (number offset : ℕ) (bytes : List ℕ)

@@ -33,8 +33,8 @@ enum Place {
     Comment,
 }
 
-// What the piece holds first: up to its end only the mark, a gap or a comment; or a statement's unit,
-// or a part of one.
+// What the piece holds first: up to its end only the mark, a gap or a comment; or a statement's
+// unit, or a part of one.
 #[derive(Clone, Copy, Debug, PartialEq, Eq)]
 enum Found {
     Mark,
@@ -97,10 +97,10 @@ impl PieceCutter {
 
     /// Takes bytes of the piece: how many it used, and the statement that ended there, if one did.
     ///
-    /// It stops right behind the byte that ends a statement, and uses the whole piece where none ends.
-    /// Hand in what is left of the piece next. A statement that begins in this piece is lent from it.
-    /// One of more than 4,096 bytes is a `CutFault` as soon as that is known, and at each later call;
-    /// the cutter is then as before. At most 2^63 bytes may be fed in all.
+    /// It stops right behind the byte that ends a statement, and uses the whole piece where none
+    /// ends. Hand in what is left of the piece next. A statement that begins in this piece is lent
+    /// from it. One of more than 4,096 bytes is a `CutFault` as soon as that is known, and at each
+    /// later call; the cutter is then as before. At most 2^63 bytes may be fed in all.
     pub fn step<'b>(&'b mut self, piece: &'b [u8]) -> Result<Cut<'b>, CutFault>
         requires { self.old.fed + length piece.now ≤ 2 ^ 63 }
         ensures lent { IfOk result (λ cut. IfSome cut.statement (IsLentFrom piece.entry.ref_ptr self.old.fed)) }

@@ -290,7 +290,8 @@ fn a_long_comment_in_pieces(rt: HostRuntime) -> Result<(), std::alloc::AllocErro
     Ok(())
 }
 
-// The square at a place of a rook's tour of 36 over four files from the given one, up one file and down the next.
+// The square at a place of a rook's tour of 36 over four files from the given one, up one file and
+// down the next.
 fn push_tour(text: &mut Vec<u8>, first: u8, place: usize) -> Result<(), Fail> {
     let file = (place % 36 / 9) as u8;
     let step = (place % 9) as u8;
@@ -316,7 +317,8 @@ fn push_black(text: &mut Vec<u8>, n: usize) -> Result<(), Fail> {
     Ok(())
 }
 
-// White's rook leaves out one square, so that the two together come round after 36 * 35 moves of each side.
+// White's rook leaves out one square, so that the two together come round after 36 * 35 moves of
+// each side.
 fn push_white(text: &mut Vec<u8>, n: usize) -> Result<(), Fail> {
     text.push(b'-')?;
     for place in [n % 35, (n % 35 + 1) % 35] {
