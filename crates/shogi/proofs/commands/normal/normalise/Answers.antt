@@ -1,3 +1,4 @@
+use Rattle.std.proofs.Common.{◌≡◌, ◌∙◌}
 use Rattle.std.specs.Io.KnownBytes.{Appends}
 use Rattle.csa_record.specs.Canon.{canon}
 use Rattle.csa_record.specs.Game.{Game}
@@ -10,12 +11,13 @@ use Rattle.shogi.proofs.commands.normal.normalise.Goals as goal
 pub returns-clause-accepted : goal.returns-clause-accepted
 returns-clause-accepted g c =
     let told = rw c.as_slice.ensures.value at c.in_ok-record.ensures.told in
-    let appended = rw c.as_slice-2.ensures.value at c.write_all.ensures.bytes in
+    let text : c.as_slice-2.result.now ≡ canon c.in_ok-record.record = c.as_slice-2.ensures.value ∙ c.in_ok-text.ensures.text in
+    let appended = rw text at c.write_all.ensures.bytes in
     on_ok_from c.write_all.result
     (λ appends. of_known
     (λ source. (game : Game) × Tells source game × Appends (g.W.Write.contents c.args.writer.now) (g.W.Write.contents c.write_all.new.writer) (canon game))
     (g.R.Read.remaining c.args.reader.now) c.in_ok-source.source.items c.in_ok-source.ensures.bytes
-    (c.in_ok-record.record, told, rw c.in_ok-text.ensures.text at appends))
+    (c.in_ok-record.record, told, appends))
     appended
 
 pub returns-in_err-record-clause-refusal : goal.returns-in_err-record-clause-refusal
