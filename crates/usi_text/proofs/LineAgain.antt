@@ -1,16 +1,14 @@
 -- A position line that is written is read back as its start and its moves.
-use Rattle.std.proofs.Common.{◌≡◌, ◌≢◌, ℕ, ◌+◌, ◌<◌, ◌≤◌, if◌then◌else◌, Bool, true, false, inl, inr, List, [], ◌∷◌, ◌++◌, Option, Some, None, Ok, length, length-append, get_or, take, arith, refl, sym, ap, ◌∙◌, subst, append_assoc, codes, lit≤}
+use Rattle.std.proofs.Common.{◌≡◌, ◌≢◌, ℕ, ◌+◌, ◌<◌, ◌≤◌, inl, inr, List, [], ◌∷◌, ◌++◌, Option, Some, None, Ok, length, length-append, get_or, take, arith, refl, sym, ap, ◌∙◌, subst, append_assoc, codes, lit≤}
 use Rattle.std.specs.List.{AllByRecursion, flat_map}
 use Rattle.std.proofs.lemmas.Bool.{cases_lt}
 use Rattle.std.proofs.lemmas.List.{append-nil, take-append-le, get_or_append_left, get_or_at, take_at}
-use Rattle.shogi_board.proofs.Same.{placed-eq}
-use Rattle.shogi_board.specs.contracts.position.PositionPartialEq.TheImpl.{eq-value}
 use Rattle.shogi_board.specs.declared.color.Color.{Color}
 use Rattle.shogi_board.specs.declared.color.Color.TheVariants.{Black, White}
 use Rattle.shogi_board.specs.declared.kind.Kind.{Kind}
 use Rattle.shogi_board.specs.declared.kind.Kind.TheVariants.{Pawn, Lance, Knight, Silver, Gold, Bishop, Rook, King, ProPawn, ProLance, ProKnight, ProSilver, Horse, Dragon}
 use Rattle.shogi_board.specs.declared.kind.Piece.{Piece}
-use Rattle.shogi_board.specs.Placed.{Placed, even_start}
+use Rattle.shogi_board.specs.Placed.{Placed}
 use Rattle.shogi_board.specs.Sound.{IsSound}
 use Rattle.shogi_board.specs.declared.square.Square.{Square}
 use Rattle.shogi_rules.specs.After.{after}
@@ -21,7 +19,7 @@ use Rattle.usi_text.specs.declared.hands.Pile.{Pile}
 use Rattle.usi_text.specs.Boards.{ranks_of}
 use Rattle.usi_text.specs.Hands.{IsCount, SpellsHands, count_text, pile_text}
 use Rattle.usi_text.specs.Letters.{color_letter, side_letter, square_text}
-use Rattle.usi_text.specs.LineText.{MovesText, BehindStart, LineText}
+use Rattle.usi_text.specs.LineText.{StartText, MovesText, BehindStart, LineText}
 use Rattle.usi_text.specs.Lines.{HasMoves, Starts, Judged, Plays, UsiLine}
 use Rattle.usi_text.specs.Moves.{UsiMove}
 use Rattle.usi_text.specs.Sfen.{side_text}
@@ -227,23 +225,35 @@ head_words text x rest e ends =
 sfen_head : (text : List ℕ) → words (codes "sfen " ++ text) ≡ codes "sfen" ∷ words text
 sfen_head text = words_front (codes "sfen") text (no_space (codes "sfen") sfen_word) (lit≤ tt)
 
-line_starts : (b : Bool) (start : Placed) (moves : List (List ℕ)) (text rest : List ℕ) → IsSound start → (b ≡ true → start ≡ even_start) → text ≡ codes "position " ++ ((if b then codes "startpos" else codes "sfen " ++ sfen_text start) ++ rest) → HasMoves (words rest) moves → EndsWord rest → Starts (words text) start moves
-line_starts true start moves text rest s even e has ends =
+line_starts : (start : Placed) (moves : List (List ℕ)) (text front rest : List ℕ) → IsSound start → text ≡ codes "position " ++ (front ++ rest) → StartText start front → HasMoves (words rest) moves → EndsWord rest → Starts (words text) start moves
+line_starts start moves text front rest s e (inl h) has ends =
+    let f = e ∙ ap (λ x. codes "position " ++ (x ++ rest)) h.1 in
     let w : words text ≡ codes "position" ∷ codes "startpos" ∷ words rest =
-    head_words text (codes "startpos") rest e ends ∙ ap (λ t. codes "position" ∷ (t ++ words rest)) (words_alone (codes "startpos") (no_space (codes "startpos") startpos_word) (lit≤ tt)) in
-    inl ((words rest, w, has), even refl)
-line_starts false start moves text rest s even e has ends =
+    head_words text (codes "startpos") rest f ends ∙ ap (λ t. codes "position" ∷ (t ++ words rest)) (words_alone (codes "startpos") (no_space (codes "startpos") startpos_word) (lit≤ tt)) in
+    inl ((words rest, w, has), h.0)
+line_starts start moves text front rest s e (inr h) has ends =
     let sfen = sfen_text start in
     let none = sfen_no_moves start s in
+    let f = e ∙ ap (λ x. codes "position " ++ (x ++ rest)) h.1 in
     let w : words text ≡ codes "position" ∷ codes "sfen" ∷ (words sfen ++ words rest) =
-    head_words text (codes "sfen " ++ sfen) rest e ends ∙ ap (λ t. codes "position" ∷ (t ++ words rest)) (sfen_head sfen) in
+    head_words text (codes "sfen " ++ sfen) rest f ends ∙ ap (λ t. codes "position" ∷ (t ++ words rest)) (sfen_head sfen) in
     inr (words sfen, record { tail = words rest; whole = w; some = none.1; before = none.0; behind = has }, again start s)
 
 -- what is written for a line is read back as its start and its moves
 pub line_again : (start : Placed) (moves : List Move) (text : List ℕ) → IsSound start → IsGame start moves → length moves ≤ 10000 → LineText start moves text → UsiLine (words text) start moves
-line_again start moves text s game few (rest, e, follow) =
+line_again start moves text s game few (front, rest, e, begins, follow) =
     let b = behind start moves rest follow in (
       b.moves,
-      line_starts (eq-value.it start even_start) start b.moves text rest s (placed-eq start even_start).0 e b.has b.ends,
+      line_starts start b.moves text front rest s e begins b.has b.ends,
       game_plays start [] moves b.moves game few b.match,
     )
+
+-- a line as it is written, piece by piece
+pub line_text : (start found : Placed) (moves shown : List Move) (a b text front rest : List ℕ) → found ≡ start → shown ≡ moves → a ≡ codes "position " → b ≡ a ++ front → text ≡ b ++ rest → StartText found front → BehindStart found shown rest → LineText start moves text
+line_text start found moves shown a b text front rest same told first second third begins follows = (
+  front,
+  rest,
+  third ∙ (ap (λ t. t ++ rest) (second ∙ ap (λ t. t ++ front) first) ∙ append_assoc (codes "position ") front rest),
+  subst (λ (p : Placed). StartText p front) same begins,
+  subst (λ (p : Placed). BehindStart p moves rest) same (subst (λ (ms : List Move). BehindStart found ms rest) told follows),
+)

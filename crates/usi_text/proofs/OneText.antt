@@ -10,7 +10,7 @@ use Rattle.shogi_rules.specs.declared.moves.Move.{Move}
 use Rattle.shogi_rules.specs.declared.moves.Move.TheVariants.{Walk, Put}
 use Rattle.shogi_rules.specs.After.{after}
 use Rattle.shogi_rules.specs.Kinds.{promoted}
-use Rattle.usi_text.specs.LineText.{MovesText, BehindStart, LineText, start_text}
+use Rattle.usi_text.specs.LineText.{MovesText, StartText, BehindStart, LineText}
 use Rattle.usi_text.specs.Moves.{UsiMove}
 
 -- no kind promotes to itself
@@ -58,6 +58,13 @@ behind_once p [] t u h j = h ∙ sym j
 behind_once p (m ∷ ms) t u (r, e, o) (s, f, q) =
     e ∙ (ap (λ z. codes " moves" ++ z) (moves_once p (m ∷ ms) r s o q) ∙ sym f)
 
+start_once : (p : Placed) (t u : List ℕ) → StartText p t → StartText p u → t ≡ u
+start_once p t u (inl h) (inl j) = h.1 ∙ sym j.1
+start_once p t u (inl h) (inr j) = absurd (j.0 h.0)
+start_once p t u (inr h) (inl j) = absurd (h.0 j.0)
+start_once p t u (inr h) (inr j) = h.1 ∙ sym j.1
+
 pub one_line_text : (start : Placed) (moves : List Move) (t u : List ℕ) → LineText start moves t → LineText start moves u → t ≡ u
-one_line_text start moves t u (r, e, o) (s, f, q) =
-    e ∙ (ap (λ z. codes "position " ++ (start_text start ++ z)) (behind_once start moves r s o q) ∙ sym f)
+one_line_text start moves t u (v, r, e, h, o) (w, s, f, j, q) =
+    e ∙ (ap (λ z. codes "position " ++ (z ++ r)) (start_once start v w h j)
+    ∙ (ap (λ z. codes "position " ++ (w ++ z)) (behind_once start moves r s o q) ∙ sym f))

@@ -1,6 +1,5 @@
 -- The position line that is written for a start and moves.
-use Rattle.std.specs.Prelude.{◌≡◌, ℕ, List, [], ◌∷◌, ◌++◌, codes, if◌then◌else◌}
-use Rattle.shogi_board.specs.contracts.position.PositionPartialEq.TheImpl.{eq-value}
+use Rattle.std.specs.Prelude.{◌≡◌, ◌≢◌, ℕ, ◌⊎◌, List, [], ◌∷◌, ◌++◌, codes}
 use Rattle.shogi_board.specs.Placed.{Placed, even_start}
 use Rattle.shogi_rules.specs.declared.moves.Move.{Move}
 use Rattle.shogi_rules.specs.After.{after}
@@ -8,8 +7,9 @@ use Rattle.usi_text.specs.Moves.{UsiMove}
 use Rattle.usi_text.specs.SfenText.{sfen_text}
 
 -- startpos exactly for the even start with black to move, else its SFEN
-abbrev pub start_text : Placed → List ℕ
-start_text p = if eq-value.it p even_start then codes "startpos" else codes "sfen " ++ sfen_text p
+abbrev pub StartText : Placed → List ℕ → Type 0
+StartText p text =
+    ((p ≡ even_start) × (text ≡ codes "startpos")) ⊎ ((p ≢ even_start) × (text ≡ codes "sfen " ++ sfen_text p))
 
 -- a space (32) and the move's text in the position that it is played in, for each move
 abbrev pub MovesText : Placed → List Move → List ℕ → Type 0
@@ -24,4 +24,5 @@ BehindStart p (m ∷ ms) text = (rest : List ℕ) × (text ≡ codes " moves" ++
 
 abbrev pub LineText : Placed → List Move → List ℕ → Type 0
 LineText start moves text =
-    (rest : List ℕ) × (text ≡ codes "position " ++ (start_text start ++ rest)) × BehindStart start moves rest
+    (front : List ℕ) × (rest : List ℕ) × (text ≡ codes "position " ++ (front ++ rest))
+    × StartText start front × BehindStart start moves rest

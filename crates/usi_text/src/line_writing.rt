@@ -1,7 +1,7 @@
 ghost use Rattle.std.specs.Prelude.{◌≡◌, ◌++◌, List, ℕ, IfOk, OnOk};
 ghost use Rattle.shogi_board.specs.Sound.{IsSound};
 ghost use Rattle.shogi_rules.specs.Positions.{IsGame};
-ghost use Rattle.usi_text.specs.LineText.{LineText, BehindStart, MovesText, start_text};
+ghost use Rattle.usi_text.specs.LineText.{LineText, StartText, BehindStart, MovesText};
 ghost use Rattle.usi_text.specs.Lines.{UsiLine};
 ghost use Rattle.usi_text.specs.Words.{words};
 
@@ -28,7 +28,7 @@ pub fn position_line(alloc: Global, line: &Line) -> Result<Vec<u8>, OutOfMemory>
 }
 
 fn push_start(text: &mut Vec<u8>, start: &Position) -> Result<(), OutOfMemory>
-    ensures text { OnOk result (text.new.items ≡ text.old.items ++ start_text start.now) }
+    ensures text { OnOk result ((front : List ℕ) × StartText start.now front × (text.new.items ≡ text.old.items ++ front)) }
     ensures sound { OnOk result (IsSound start.now) }
 {
     if *start == Position::even() {
