@@ -17,5 +17,6 @@ pub mod SfenOnce
 pub mod Sfens
 pub mod Spelt
 pub mod Splits
+pub mod Standing
 pub mod StartFaults
 pub mod Written

@@ -21,7 +21,7 @@ use Rattle.usi_text.proofs.Ranks.{cells_once}
 abbrev Cells : Type 0
 Cells = List (Option Piece)
 
-ranks_once : (texts : List (List ℕ)) (a b : Cells) → SpellsRanks texts a → SpellsRanks texts b → a ≡ b
+pub ranks_once : (texts : List (List ℕ)) (a b : Cells) → SpellsRanks texts a → SpellsRanks texts b → a ≡ b
 ranks_once [] a b h k = h ∙ sym k
 ranks_once (t ∷ ts) a b (r, x, whole, spelt, nine, rest) (q, y, other, told, size, more) =
     whole ∙ (ap (λ c. c ++ x) (cells_once t r q spelt told) ∙ (ap (λ c. q ++ c) (ranks_once ts x y rest more) ∙ sym other))

@@ -29,7 +29,7 @@ told_or_on : (here : Option SetupFault) (next : Result Layout SetupFault) (f : S
 told_or_on None next f h = inr h
 told_or_on (Some g) next f h = inl (let e : g ≡ f = cc in ap Some e)
 
-goes_on : (here : Option SetupFault) (next : Result Layout SetupFault) (t : Layout) → unless here next ≡ Ok t → next ≡ Ok t
+pub goes_on : (here : Option SetupFault) (next : Result Layout SetupFault) (t : Layout) → unless here next ≡ Ok t → next ≡ Ok t
 goes_on None next t h = h
 goes_on (Some g) next t h = cc
 

@@ -1,12 +1,15 @@
 //! Laws of the definitions that the contracts of this crate cite. They take and give nothing.
 
-ghost use Rattle.std.specs.Prelude.{◌≡◌, ◌≤◌, ◌⊎◌, ℕ, List, length};
+ghost use Rattle.std.specs.Prelude.{◌≡◌, ◌≤◌, ◌<◌, ◌⊎◌, ℕ, List, Option, None, length, slice_index_or};
 ghost use Rattle.shogi_board.specs.Placed.{Placed};
 ghost use Rattle.shogi_rules.specs.declared.moves.Move.{Move};
 ghost use Rattle.shogi_board.specs.Sound.{IsSound};
 ghost use Rattle.usi_text.specs.Sfen.{Sfen, FirstFault};
 ghost use Rattle.usi_text.specs.SfenText.{sfen_text};
-ghost use Rattle.usi_text.specs.Words.{words};
+ghost use Rattle.shogi_board.specs.declared.kind.Piece.{Piece};
+ghost use Rattle.usi_text.specs.Boards.{SpellsBoard};
+ghost use Rattle.usi_text.specs.Setting.{board_place};
+ghost use Rattle.usi_text.specs.Words.{words, nth_word};
 ghost use Rattle.usi_text.specs.declared.fault.SfenFault.{SfenFault};
 ghost use Rattle.usi_text.specs.declared.fault.SfenFault.TheVariants.{Start};
 ghost use Rattle.shogi_board.specs.declared.setup.SetupFault.{SetupFault};
@@ -29,6 +32,13 @@ pub fn sfen_once()
 pub fn start_faults()
     ensures { (ws : List (List ℕ)) (fault : SetupFault) → FirstFault ws (Start fault)
         → (fault ≡ SecondKing) ⊎ (fault ≡ TooMany) ⊎ (fault ≡ OpponentInCheck) }
+{}
+
+/// In the position of an SFEN each cell of the board's text stands on its square.
+pub fn board_stands()
+    ensures { (ws : List (List ℕ)) (p : Placed) (cells : List (Option Piece)) (n : ℕ)
+        → Sfen ws p → SpellsBoard (nth_word ws 0) cells → n < 81
+        → slice_index_or p.board (board_place n) None ≡ slice_index_or cells n None }
 {}
 
 /// The SFEN that is written for a sound position is the SFEN of that position.
