@@ -1,5 +1,6 @@
 pub mod Again
 pub mod Clean
+pub mod Counted
 pub mod Filled
 pub mod Heads
 pub mod Fronts

@@ -42,7 +42,7 @@ piles_once text (p ∷ ps) b h k =
     let f = pile_first p (flat_map pile_text ps) b h.0.0 (subst (λ t. SpellsPiles t b) h.1 k) in
     ap (λ x. p ∷ x) (piles_once (flat_map pile_text ps) ps f.others (h.0.1, refl) f.spelt) ∙ sym f.whole
 
-hands_once : (text : List ℕ) (a b : List Pile) → SpellsHands text a → SpellsHands text b → a ≡ b
+pub hands_once : (text : List ℕ) (a b : List Pile) → SpellsHands text a → SpellsHands text b → a ≡ b
 hands_once text [] [] h k = refl
 hands_once text [] (q ∷ qs) h k = absurd (dash_no_pile q (flat_map pile_text qs) k.0.0.0 (sym h ∙ k.1))
 hands_once text (p ∷ ps) [] h k = absurd (dash_no_pile p (flat_map pile_text ps) h.0.0.0 (sym k ∙ h.1))

@@ -51,7 +51,7 @@ hand_free : (s : Layout) (c : Color) (bag : List ℕ) → s.rest_given ≡ false
 hand_free s Black bag free = free
 hand_free s White bag free = free
 
-abbrev InHand : Piece → Type 0
+abbrev pub InHand : Piece → Type 0
 InHand p = in_hand p.kind ≡ true
 
 full_alone : (given held full : Bool) (f : SetupFault) → given ≡ false → held ≡ true → first_fault ((AfterRest, given) ∷ (NotForHand, not held) ∷ (TooMany, full) ∷ []) ≡ Some f → IsStartFault f
@@ -74,7 +74,7 @@ piles_held : (piles : List Pile) → AllByRecursion IsPile piles → AllByRecurs
 piles_held [] all = all
 piles_held (pile ∷ piles) all = pile_held (unwrap_or pile.count 1) pile.piece (flat_map pile_pieces piles) all.0.1 (piles_held piles all.1)
 
-hands_held : (text : List ℕ) (piles : List Pile) → SpellsHands text piles → AllByRecursion InHand (flat_map pile_pieces piles)
+pub hands_held : (text : List ℕ) (piles : List Pile) → SpellsHands text piles → AllByRecursion InHand (flat_map pile_pieces piles)
 hands_held text [] h = tt
 hands_held text (pile ∷ piles) h = piles_held (pile ∷ piles) h.0
 

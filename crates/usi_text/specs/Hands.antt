@@ -1,8 +1,10 @@
 -- What a text of both hands spells: piles of pieces.
-use Rattle.std.specs.Prelude.{◌≡◌, ℕ, ◌+◌, ◌≤◌, true, List, [], ◌∷◌, ◌++◌, Option, Some, None, replicate, unwrap_or, codes, decimal}
+use Rattle.std.specs.Prelude.{◌≡◌, ℕ, ◌+◌, ◌≤◌, ◌==◌, ◌&&◌, true, if◌then◌else◌, List, [], ◌∷◌, ◌++◌, Option, Some, None, replicate, unwrap_or, codes, decimal}
 use Rattle.std.specs.List.{AllByRecursion, flat_map}
+use Rattle.shogi_board.specs.declared.color.Color.{Color}
+use Rattle.shogi_board.specs.declared.kind.Kind.{Kind}
 use Rattle.shogi_board.specs.declared.kind.Piece.{Piece}
-use Rattle.shogi_board.specs.Pieces.{in_hand}
+use Rattle.shogi_board.specs.Pieces.{in_hand, place_of, same_color}
 use Rattle.usi_text.specs.declared.hands.Pile.{Pile}
 use Rattle.usi_text.specs.Letters.{side_letter}
 
@@ -35,6 +37,13 @@ SpellsHands text (pile ∷ piles) = SpellsPiles text (pile ∷ piles)
 -- the pieces of a pile; without a count it is one
 abbrev pub pile_pieces : Pile → List Piece
 pile_pieces pile = replicate (unwrap_or pile.count 1) pile.piece
+
+-- how many pieces of that side and kind the piles have together
+abbrev pub pile_total : Color → Kind → List Pile → ℕ
+pile_total color wanted [] = 0
+pile_total color wanted (pile ∷ piles) =
+    (if same_color pile.piece.color color && (place_of pile.piece.kind == place_of wanted) then unwrap_or pile.count 1 else 0)
+    + pile_total color wanted piles
 
 -- the text begins with that digit, and this stands behind it
 abbrev pub IsDigitBefore : List ℕ → ℕ → List ℕ → Type 0

@@ -1,25 +1,31 @@
 //! Laws of the definitions that the contracts of this crate cite. They take and give nothing.
 
-ghost use Rattle.std.specs.Prelude.{◌≡◌, ◌≤◌, ◌<◌, ◌⊎◌, ℕ, List, Option, None, length, slice_index_or};
-ghost use Rattle.shogi_board.specs.Placed.{Placed};
-ghost use Rattle.shogi_rules.specs.declared.moves.Move.{Move};
-ghost use Rattle.shogi_board.specs.Sound.{IsSound};
-ghost use Rattle.usi_text.specs.Sfen.{Sfen, FirstFault};
-ghost use Rattle.usi_text.specs.SfenText.{sfen_text};
+ghost use Rattle.std.specs.Prelude.{◌≡◌, ◌≤◌, ◌<◌, ◌⊎◌, ℕ, List, Option, None, length, slice_index_or, true};
+ghost use Rattle.shogi_board.specs.declared.color.Color.TheVariants.{Black, White};
+ghost use Rattle.shogi_board.specs.declared.kind.Kind.{Kind};
 ghost use Rattle.shogi_board.specs.declared.kind.Piece.{Piece};
-ghost use Rattle.usi_text.specs.Boards.{SpellsBoard};
-ghost use Rattle.usi_text.specs.Setting.{board_place};
-ghost use Rattle.usi_text.specs.Words.{words, nth_word};
-ghost use Rattle.usi_text.specs.declared.fault.SfenFault.{SfenFault};
-ghost use Rattle.usi_text.specs.declared.fault.SfenFault.TheVariants.{Start};
 ghost use Rattle.shogi_board.specs.declared.setup.SetupFault.{SetupFault};
 ghost use Rattle.shogi_board.specs.declared.setup.SetupFault.TheVariants.{SecondKing, TooMany, OpponentInCheck};
+ghost use Rattle.shogi_board.specs.Pieces.{in_hand};
+ghost use Rattle.shogi_board.specs.Placed.{Placed};
+ghost use Rattle.shogi_board.specs.Sound.{IsSound};
+ghost use Rattle.shogi_board.specs.Totals.{count_in};
+ghost use Rattle.shogi_rules.specs.declared.moves.Move.{Move};
 ghost use Rattle.shogi_rules.specs.Positions.{IsGame};
+ghost use Rattle.usi_text.specs.declared.fault.SfenFault.{SfenFault};
+ghost use Rattle.usi_text.specs.declared.fault.SfenFault.TheVariants.{Start};
+ghost use Rattle.usi_text.specs.declared.fault.UsiFault.TheVariants.{OutOfMemory};
+ghost use Rattle.usi_text.specs.declared.fault.UsiFault.{UsiFault};
+ghost use Rattle.usi_text.specs.declared.hands.Pile.{Pile};
+ghost use Rattle.usi_text.specs.Boards.{SpellsBoard};
+ghost use Rattle.usi_text.specs.Hands.{SpellsHands, pile_total};
 ghost use Rattle.usi_text.specs.LineText.{LineText};
 ghost use Rattle.usi_text.specs.Lines.{UsiLine, LineFault};
-ghost use Rattle.usi_text.specs.declared.fault.UsiFault.{UsiFault};
-ghost use Rattle.usi_text.specs.declared.fault.UsiFault.TheVariants.{OutOfMemory};
 ghost use Rattle.usi_text.specs.Moves.{UsiMove};
+ghost use Rattle.usi_text.specs.Setting.{board_place};
+ghost use Rattle.usi_text.specs.Sfen.{Sfen, FirstFault};
+ghost use Rattle.usi_text.specs.SfenText.{sfen_text};
+ghost use Rattle.usi_text.specs.Words.{words, nth_word};
 
 /// Words are the SFEN of one position at most, and then they have no fault; else they have one first fault at most.
 pub fn sfen_once()
@@ -39,6 +45,16 @@ pub fn board_stands()
     ensures { (ws : List (List ℕ)) (p : Placed) (cells : List (Option Piece)) (n : ℕ)
         → Sfen ws p → SpellsBoard (nth_word ws 0) cells → n < 81
         → slice_index_or p.board (board_place n) None ≡ slice_index_or cells n None }
+{}
+
+/// In the position of an SFEN each hand has the pieces of that side's piles, and no other.
+pub fn hands_held()
+    ensures black { (ws : List (List ℕ)) (p : Placed) (piles : List Pile) (kind : Kind)
+        → Sfen ws p → SpellsHands (nth_word ws 2) piles → in_hand kind ≡ true
+        → count_in p.black kind ≡ pile_total Black kind piles }
+    ensures white { (ws : List (List ℕ)) (p : Placed) (piles : List Pile) (kind : Kind)
+        → Sfen ws p → SpellsHands (nth_word ws 2) piles → in_hand kind ≡ true
+        → count_in p.white kind ≡ pile_total White kind piles }
 {}
 
 /// The SFEN that is written for a sound position is the SFEN of that position.
