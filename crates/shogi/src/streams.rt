@@ -33,7 +33,7 @@ pub fn read_all<R: Read>(alloc: Global, reader: &mut R) -> Result<Vec<u8>, Fault
     }
 }
 
-/// Writes all of the bytes, through every buffer of the writer. `Fault::Write` where it takes less.
+/// Writes all of the bytes and flushes the writer. `Fault::Write` where it takes less, or cannot flush.
 pub fn write_all<W: Write>(writer: &mut W, bytes: &[u8]) -> Result<(), Fault>
     ensures bytes { OnOk result (Appends (W.contents writer.old) (W.contents writer.new) bytes.now) }
     ensures faults { IfErr result (λ fault. fault ≡ Fault.Write) }

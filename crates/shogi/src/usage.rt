@@ -16,7 +16,7 @@ use std::rt::Env;
 ///
 /// `Fault::WordsNotText` where one of them is not UTF-8.
 pub fn words<R: Env + AllocGlobal>(rt: &R) -> Result<Vec<String>, Fault>
-    ensures { IfErr result (λ fault. (fault ≡ Fault.WordsNotText) ⊎ (fault ≡ Fault.OutOfMemory)) }
+    ensures faults { IfErr result (λ fault. (fault ≡ Fault.WordsNotText) ⊎ (fault ≡ Fault.OutOfMemory)) }
 {
     match env::args(rt) {
         Ok(words) => Ok(words.collect(rt.alloc())?),

@@ -14,11 +14,12 @@ use Rattle.usi_text.specs.Boards.{SpellsCells, SpellsRanks, SpellsBoard, ranks_o
 use Rattle.usi_text.specs.Hands.{IsPile, IsCount, count_text, pile_text}
 use Rattle.usi_text.specs.Letters.{piece_text, side_letter}
 use Rattle.usi_text.specs.Sfen.{side_text}
-use Rattle.usi_text.specs.SfenText.{cells_from, run_text, rank_text, ranks_text, board_text, hands_text}
+use Rattle.usi_text.specs.SfenText.{cells_from, rank_text, ranks_text, board_text, hands_text}
 use Rattle.usi_text.proofs.Runs.{text_after, after_is}
 use Rattle.usi_text.specs.Words.{words, has_bytes}
 use Rattle.usi_text.proofs.Ranks.{part_before}
 use Rattle.usi_text.proofs.Spelt.{side_low, one_digit, two_digits}
+use Rattle.usi_text.specs.Scanning.{run_text}
 
 abbrev pub Lacks : ℕ → List ℕ → Type 0
 Lacks c text = AllByRecursion (λ b. b ≢ c) text

@@ -1,9 +1,10 @@
 -- The first word of a text, and the words behind it.
-use Rattle.std.proofs.Common.{◌≡◌, ◌≢◌, ℕ, zero, suc, ◌<◌, ◌≤◌, ◌==◌, cond, List, [], ◌∷◌, ◌++◌, MatchBool, not, Bool, append_assoc, length, get_or, take, drop, arith, refl, sym, ap, subst, ◌∙◌, inl, inr, true, false}
+use Rattle.std.proofs.Common.{◌≡◌, ◌≢◌, ℕ, zero, suc, ◌<◌, ◌≤◌, ◌==◌, cond, List, [], ◌∷◌, ◌++◌, Bool, append_assoc, length, get_or, take, drop, arith, refl, sym, ap, subst, ◌∙◌, inl, inr, true, false}
 use Rattle.std.specs.List.{filter, slice_split, onto_first}
 use Rattle.std.proofs.lemmas.List.{take-append-drop}
 use Rattle.std.proofs.lemmas.Bool.Decides.{eqb_tells, Decides-eqb}
-use Rattle.usi_text.specs.Words.{words, has_bytes, nth_word, EndsWord, IsBehind}
+use Rattle.usi_text.specs.Words.{words, has_bytes}
+use Rattle.usi_text.specs.Scanning.{EndsWord, IsBehind}
 
 abbrev split : List ℕ → List (List ℕ)
 split text = slice_split (λ b. b == 32) text
@@ -54,17 +55,15 @@ some_taken : (x : ℕ) (xs : List ℕ) (n : ℕ) → 0 < n → 0 < length (take 
 some_taken x xs zero h = absurd (omega arith)
 some_taken x xs (suc n) h = omega arith
 
--- no word, or one and the words behind it
-abbrev pub Taken : List ℕ → List ℕ → List ℕ → Type 0
-Taken all front behind = (front ≡ nth_word (words all) 0) × (words behind ≡ drop 1 (words all))
+no_bytes : (xs : List ℕ) → length xs ≡ 0 → xs ≡ []
+no_bytes [] h = refl
+no_bytes (x ∷ xs) h = absurd (omega arith)
 
-pub taken_word : (all text : List ℕ) (n : ℕ) → words text ≡ words all → (0 < length text → get_or text 0 0 ≡ 32 → ⊥) → n ≤ length text → ((k : ℕ) → k < n → get_or text k 0 ≡ 32 → ⊥) → (n < length text → get_or text n 0 ≡ 32) → Taken all (take n text) (drop n text)
-taken_word all [] zero same first within run ends = rw (← same) (refl, refl)
-taken_word all [] (suc n) same first within run ends = absurd (omega arith)
-taken_word all (x ∷ xs) zero same first within run ends = absurd (first (omega arith) (ends (omega arith)))
-taken_word all (x ∷ xs) (suc n) same first within run ends =
-    let e = first_word (x ∷ xs) (suc n) (some_taken x xs (suc n) (omega arith)) (front (x ∷ xs) (suc n) within run ends) in
-    rw (← same, e) (refl, refl)
+first_of : (all text : List ℕ) (n : ℕ) → words text ≡ words all → 0 < length text → (0 < length text → get_or text 0 0 ≡ 32 → ⊥) → n ≤ length text → ((k : ℕ) → k < n → get_or text k 0 ≡ 32 → ⊥) → (n < length text → get_or text n 0 ≡ 32) → words all ≡ take n text ∷ words (drop n text)
+first_of all [] n same some first within run ends = absurd (omega arith)
+first_of all (x ∷ xs) zero same some first within run ends = absurd (first (omega arith) (ends (omega arith)))
+first_of all (x ∷ xs) (suc n) same some first within run ends =
+    sym same ∙ first_word (x ∷ xs) (suc n) (some_taken x xs (suc n) (omega arith)) (front (x ∷ xs) (suc n) within run ends)
 
 end_here : (rest : List ℕ) → (0 < length rest → get_or rest 0 0 ≡ 32) → EndsWord rest
 end_here [] h = tt
@@ -79,30 +78,6 @@ pub behind_word : (text rest front : List ℕ) (n : ℕ) → text ≡ front ++ r
 behind_word text rest front n e ends =
     (front ++ take n rest, e ∙ (ap (λ r. front ++ r) (sym (take-append-drop n rest)) ∙ sym (append_assoc front (take n rest) (drop n rest))), end_there rest n ends)
 
-full_first : (xs : List (List ℕ)) → nth_word (filter has_bytes xs) 0 ≡ [] → filter has_bytes xs ≡ []
-full_first [] h = refl
-full_first ([] ∷ xs) h = full_first xs h
-full_first ((b ∷ bs) ∷ xs) h = let e : [] ≡ b ∷ bs = sym h in cc
-
-pub no_first : (text : List ℕ) → nth_word (words text) 0 ≡ [] → words text ≡ []
-no_first text h = full_first (split text) h
-
-some_list : (ws : List (List ℕ)) → (nth_word ws 0 ≡ [] → ⊥) → 0 < length ws
-some_list [] h = absurd (h refl)
-some_list (w ∷ ws) h = omega arith
-
-no_bytes : (xs : List ℕ) → length xs ≡ 0 → xs ≡ []
-no_bytes [] h = refl
-no_bytes (x ∷ xs) h = absurd (omega arith)
-
--- a text has a word where its first is not empty
-pub word_told : (text word : List ℕ) (b : Bool) → word ≡ nth_word (words text) 0 → b ≡ (length word == 0) → MatchBool (not b) (0 < length (words text)) (words text ≡ [])
-word_told text word true h e =
-    let none : length word ≡ 0 = (Decides-eqb (length word) 0).0 (sym e) in
-    no_first text (sym h ∙ no_bytes word none)
-word_told text word false h e =
-    some_list (words text) (λ k. let z : word ≡ [] = h ∙ k in let t : (length word == 0) ≡ true = rw z refl in cc)
-
 pub words_behind : (text : List ℕ) (n : ℕ) → n ≤ length text → ((k : ℕ) → k < n → get_or text k 0 ≡ 32) → words (drop n text) ≡ words text
 words_behind text zero within spaces = refl
 words_behind [] (suc n) within spaces = refl
@@ -114,21 +89,52 @@ behind_spaces text zero other some = other some
 behind_spaces [] (suc n) other some = λ e. absurd (omega arith)
 behind_spaces (x ∷ xs) (suc n) other some = behind_spaces xs n (λ h. other (omega arith)) some
 
-taken_behind : (all text : List ℕ) (s n : ℕ) → text ≡ drop s all → s ≤ length all → ((k : ℕ) → k < s → get_or all k 0 ≡ 32) → (s < length all → get_or all s 0 ≡ 32 → ⊥) → n ≤ length text → ((k : ℕ) → k < n → get_or text k 0 ≡ 32 → ⊥) → (n < length text → get_or text n 0 ≡ 32) → Taken all (take n text) (drop n text)
-taken_behind all text s n cut low spaces other within run ends =
-    let same : words text ≡ words all = ap words cut ∙ words_behind all s low spaces in
+is_space : (b : ℕ) → (b == 32) ≡ true → b ≡ 32
+is_space b h = (Decides-eqb b 32).0 h
+
+no_space : (b : ℕ) → (b == 32) ≡ false → b ≡ 32 → ⊥
+no_space b h e = let t = (Decides-eqb b 32).1 e in cc
+
+space_or : (b : ℕ) → ((b == 32) ≡ false → ⊥) → b ≡ 32
+space_or b h =
+    elim (eqb_tells b 32) [
+      | inl same ↦ same.1
+      | inr other ↦ absurd (h other.0)
+    ]
+
+-- so many spaces at the front of a text, and what stands behind them
+pub record Spaces (all text : List ℕ) (n : ℕ) : Type 0 where
+  pub cut : text ≡ drop n all
+  pub within : n ≤ length all
+  pub run : (k : ℕ) → k < n → (get_or all k 0 == 32) ≡ true
+  pub ends : n < length all → (get_or all n 0 == 32) ≡ true → ⊥
+
+-- so many bytes up to the next space or the end
+pub record Letters (text : List ℕ) (n : ℕ) : Type 0 where
+  pub within : n ≤ length text
+  pub run : (k : ℕ) → k < n → (get_or text k 0 == 32) ≡ false
+  pub ends : n < length text → (get_or text n 0 == 32) ≡ false → ⊥
+
+same_words : (all text : List ℕ) (s : ℕ) → Spaces all text s → words text ≡ words all
+same_words all text s h = ap words h.cut ∙ words_behind all s h.within (λ k low. is_space _ (h.run k low))
+
+pub no_word : (all text : List ℕ) (s : ℕ) → Spaces all text s → length text ≡ 0 → words all ≡ []
+no_word all text s h none = sym (same_words all text s h) ∙ ap words (no_bytes text none)
+
+pub one_word : (all text : List ℕ) (s n : ℕ) → Spaces all text s → Letters text n → 0 < length text → words all ≡ take n text ∷ words (drop n text)
+one_word all text s n h l some =
     let P : List ℕ → Type 0 = λ t. 0 < length t → get_or t 0 0 ≡ 32 → ⊥ in
-    taken_word all text n same (subst P (sym cut) (behind_spaces all s other)) within run ends
+    let first : P text = subst P (sym h.cut) (behind_spaces all s (λ low e. h.ends low ((Decides-eqb _ 32).1 e))) in
+    first_of all text n (same_words all text s h) some first l.within (λ k low. no_space _ (l.run k low)) (λ low. space_or _ (l.ends low))
 
-pub word_taken : (all text : List ℕ) (s n : ℕ) → text ≡ drop s all → s ≤ length all → ((k : ℕ) → k < s → get_or all k 0 ≡ 32) → (s < length all → get_or all s 0 ≡ 32 → ⊥) → n ≤ length text → ((k : ℕ) → k < n → get_or text k 0 ≡ 32 → ⊥) → (n < length text → get_or text n 0 ≡ 32) → (front : List ℕ) → front ≡ take n text → front ≡ nth_word (words all) 0
-word_taken all text s n cut low spaces other within run ends front e =
-    let t = taken_behind all text s n cut low spaces other within run ends in e ∙ t.0
+pub rest_behind : (all text : List ℕ) (s n : ℕ) → Spaces all text s → Letters text n → IsBehind all (drop n text)
+rest_behind all text s n h l =
+    let whole : all ≡ take s all ++ text = sym (take-append-drop s all) ∙ ap (λ t. take s all ++ t) (sym h.cut) in
+    behind_word all text (take s all) n whole (λ low. space_or _ (l.ends low))
 
-pub rest_taken : (all text : List ℕ) (s n : ℕ) → text ≡ drop s all → s ≤ length all → ((k : ℕ) → k < s → get_or all k 0 ≡ 32) → (s < length all → get_or all s 0 ≡ 32 → ⊥) → n ≤ length text → ((k : ℕ) → k < n → get_or text k 0 ≡ 32 → ⊥) → (n < length text → get_or text n 0 ≡ 32) → (rest : List ℕ) → rest ≡ drop n text → words rest ≡ drop 1 (words all)
-rest_taken all text s n cut low spaces other within run ends rest e =
-    let t = taken_behind all text s n cut low spaces other within run ends in ap words e ∙ t.1
+pub none_left : (n : ℕ) (b : Bool) → b ≡ (n == 0) → b ≡ true → n ≡ 0
+none_left n b e t = (Decides-eqb n 0).0 (sym e ∙ t)
 
-pub behind_taken : (all text : List ℕ) (s n : ℕ) → text ≡ drop s all → (n < length text → get_or text n 0 ≡ 32) → (rest : List ℕ) → rest ≡ drop n text → IsBehind all rest
-behind_taken all text s n cut ends rest e =
-    let whole : all ≡ take s all ++ text = sym (take-append-drop s all) ∙ ap (λ t. take s all ++ t) (sym cut) in
-    rw e (behind_word all text (take s all) n whole ends)
+pub some_left : (n : ℕ) (b : Bool) → b ≡ (n == 0) → b ≡ false → 0 < n
+some_left zero b e t = let f : true ≡ b = sym e in cc
+some_left (suc n) b e t = omega arith

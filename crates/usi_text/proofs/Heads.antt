@@ -2,8 +2,9 @@
 use Rattle.std.proofs.Common.{◌≡◌, ◌≢◌, ℕ, ◌<◌, inl, List, [], ◌∷◌, ◌++◌, length, drop, arith, sym, ap, ◌∙◌, subst, codes}
 use Rattle.std.specs.List.{AllByRecursion}
 use Rattle.shogi_board.specs.Placed.{Placed, even_start}
-use Rattle.usi_text.specs.Lines.{HasMoves, EvenLine, SfenLine, Split, Starts}
+use Rattle.usi_text.specs.Lines.{HasMoves, EvenLine, SfenLine, Starts}
 use Rattle.usi_text.specs.Words.{nth_word}
+use Rattle.usi_text.specs.Scanning.{Split}
 
 full_list : (ws : List (List ℕ)) (w : List ℕ) → w ≡ nth_word ws 0 → 0 < length w → 0 < length ws
 full_list [] w e h = let z = ap length e in absurd (omega (arith, z))

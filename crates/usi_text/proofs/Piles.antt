@@ -7,10 +7,11 @@ use Rattle.shogi_board.specs.declared.kind.Kind.TheVariants.{Pawn, Lance, Knight
 use Rattle.shogi_board.specs.declared.kind.Piece.{Piece}
 use Rattle.shogi_board.specs.Pieces.{is_promoted, in_hand}
 use Rattle.usi_text.specs.declared.hands.Pile.{Pile}
-use Rattle.usi_text.specs.Hands.{IsPile, IsCount, HasNoDigit, SpellsPiles, SpellsHands, count_text, pile_text}
+use Rattle.usi_text.specs.Hands.{IsPile, IsCount, SpellsPiles, SpellsHands, count_text, pile_text}
 use Rattle.usi_text.specs.Letters.{side_letter}
 use Rattle.usi_text.proofs.Ranks.{no_bytes, empty_is, some_are}
 use Rattle.usi_text.proofs.Spelt.{leads, Only, only_none, only_one, only_two, one_digit, two_digits, side_low, same_piece}
+use Rattle.usi_text.specs.Scanning.{HasNoDigit}
 
 letter_no_digit : (l : ℕ) (x : List ℕ) → 65 ≤ l → HasNoDigit (l ∷ x)
 letter_no_digit l x low digit behind h = let e : l ≡ 48 + digit = cc in let k = h.0 in omega arith

@@ -5,9 +5,10 @@ use Rattle.std.proofs.lemmas.Bool.Decides.{eqb_tells}
 use Rattle.shogi_board.specs.declared.kind.Piece.{Piece}
 use Rattle.usi_text.specs.Boards.{part_text}
 use Rattle.usi_text.specs.Letters.{piece_text}
-use Rattle.usi_text.specs.SfenText.{run_text, with_empty, parts_of}
+use Rattle.usi_text.specs.SfenText.{with_empty, parts_of}
 use Rattle.usi_text.specs.declared.parts.Part.{Part}
 use Rattle.usi_text.specs.declared.parts.Part.TheVariants.{Empty, Stands}
+use Rattle.usi_text.specs.Scanning.{run_text}
 
 -- n empty squares, and then these cells
 abbrev pub text_after : ℕ → List (Option Piece) → List ℕ

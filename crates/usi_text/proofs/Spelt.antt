@@ -12,8 +12,9 @@ use Rattle.shogi_rules.specs.Kinds.{promoted, unpromoted}
 use Rattle.usi_text.specs.declared.parts.Part.{Part}
 use Rattle.usi_text.specs.declared.parts.Part.TheVariants.{Empty, Stands}
 use Rattle.usi_text.specs.Boards.{IsPart, part_text}
-use Rattle.usi_text.specs.Hands.{IsCount, HasNoDigit, count_text}
+use Rattle.usi_text.specs.Hands.{IsCount, count_text}
 use Rattle.usi_text.specs.Letters.{letter, color_letter, side_letter, piece_text}
+use Rattle.usi_text.specs.Scanning.{HasNoDigit}
 
 pub letter_low : (k : Kind) → 65 ≤ letter k
 letter_low Pawn = lit≤ tt

@@ -6,9 +6,10 @@ use Rattle.shogi_board.specs.declared.kind.Piece.{Piece}
 use Rattle.usi_text.specs.declared.hands.Pile.{Pile}
 use Rattle.usi_text.specs.Hands.{pile_text}
 use Rattle.usi_text.specs.Letters.{piece_text}
-use Rattle.usi_text.specs.SfenText.{cell, cells_from, run_text, rank_text, ranks_text, hands_text}
+use Rattle.usi_text.specs.SfenText.{cell, cells_from, rank_text, ranks_text, hands_text}
 use Rattle.usi_text.proofs.Runs.{text_after}
 use Rattle.usi_text.proofs.Piles.{pile_none}
+use Rattle.usi_text.specs.Scanning.{run_text}
 
 abbrev Cells : Type 0
 Cells = List (Option Piece)

@@ -1,7 +1,6 @@
 -- What a board text spells: nine ranks, the farthest from black first, each from file 9 to file 1.
 use Rattle.std.specs.Prelude.{◌≡◌, ℕ, ◌+◌, ◌≤◌, ◌==◌, List, [], ◌∷◌, ◌++◌, Option, Some, None, length, replicate}
 use Rattle.std.specs.List.{AllByRecursion, flat_map, slice_split}
-use Rattle.std.specs.Borrow.{Bor}
 use Rattle.shogi_board.specs.declared.kind.Piece.{Piece}
 use Rattle.usi_text.specs.declared.parts.Part.{Part}
 use Rattle.usi_text.specs.declared.parts.Part.TheVariants.{Empty, Stands}
@@ -39,8 +38,3 @@ ranks_of text = slice_split (λ b. b == 47) text
 
 abbrev pub SpellsBoard : List ℕ → List (Option Piece) → Type 0
 SpellsBoard text cells = (length (ranks_of text) ≡ 9) × SpellsRanks (ranks_of text) cells
-
--- the ranks behind a slash, if there is one
-abbrev pub ranks_behind : Option (Bor (List ℕ)) → List (List ℕ)
-ranks_behind None = []
-ranks_behind (Some text) = ranks_of text.now

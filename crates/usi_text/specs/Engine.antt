@@ -5,15 +5,15 @@ use Rattle.usi_text.specs.declared.engine.EngineWord.TheVariants.{UsiOk, ReadyOk
 use Rattle.usi_text.specs.Words.{nth_word}
 
 -- what the word behind bestmove says; the empty text where there is none
-abbrev pub Answers : List ℕ → EngineWord → Type 0
-Answers word Resign = word ≡ codes "resign"
-Answers word Win = word ≡ codes "win"
-Answers word (Best text) = (text.now ≡ word) × (word ≢ codes "resign") × (word ≢ codes "win")
-Answers word _ = ⊥
+abbrev pub BestSays : List ℕ → EngineWord → Type 0
+BestSays word Resign = word ≡ codes "resign"
+BestSays word Win = word ≡ codes "win"
+BestSays word (Best text) = (text.now ≡ word) × (word ≢ codes "resign") × (word ≢ codes "win")
+BestSays word _ = ⊥
 
 -- of the words of a line; what stands behind the second word does not count
-abbrev pub Says : List (List ℕ) → EngineWord → Type 0
-Says ws UsiOk = nth_word ws 0 ≡ codes "usiok"
-Says ws ReadyOk = nth_word ws 0 ≡ codes "readyok"
-Says ws Other = (nth_word ws 0 ≢ codes "usiok") × (nth_word ws 0 ≢ codes "readyok") × (nth_word ws 0 ≢ codes "bestmove")
-Says ws answer = (nth_word ws 0 ≡ codes "bestmove") × Answers (nth_word ws 1) answer
+abbrev pub LineSays : List (List ℕ) → EngineWord → Type 0
+LineSays ws UsiOk = nth_word ws 0 ≡ codes "usiok"
+LineSays ws ReadyOk = nth_word ws 0 ≡ codes "readyok"
+LineSays ws Other = (nth_word ws 0 ≢ codes "usiok") × (nth_word ws 0 ≢ codes "readyok") × (nth_word ws 0 ≢ codes "bestmove")
+LineSays ws answer = (nth_word ws 0 ≡ codes "bestmove") × BestSays (nth_word ws 1) answer

@@ -44,10 +44,3 @@ pile_total color wanted [] = 0
 pile_total color wanted (pile ∷ piles) =
     (if same_color pile.piece.color color && (place_of pile.piece.kind == place_of wanted) then unwrap_or pile.count 1 else 0)
     + pile_total color wanted piles
-
--- the text begins with that digit, and this stands behind it
-abbrev pub IsDigitBefore : List ℕ → ℕ → List ℕ → Type 0
-IsDigitBefore text digit behind = (digit ≤ 9) × (text ≡ (48 + digit) ∷ behind)
-
-abbrev pub HasNoDigit : List ℕ → Type 0
-HasNoDigit text = (digit : ℕ) (behind : List ℕ) → IsDigitBefore text digit behind → ⊥

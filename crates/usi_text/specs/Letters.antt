@@ -1,5 +1,5 @@
 -- How squares and kinds are spelt.
-use Rattle.std.specs.Prelude.{ℕ, ◌+◌, List, [], ◌∷◌, if◌then◌else◌}
+use Rattle.std.specs.Prelude.{ℕ, ◌+◌, List, [], ◌∷◌, ◌++◌, codes, if◌then◌else◌}
 use Rattle.shogi_board.specs.declared.color.Color.{Color}
 use Rattle.shogi_board.specs.declared.color.Color.TheVariants.{Black, White}
 use Rattle.shogi_board.specs.declared.kind.Kind.{Kind}
@@ -38,6 +38,6 @@ color_letter White kind = letter kind + 32
 abbrev pub side_letter : Piece → ℕ
 side_letter p = color_letter p.color p.kind
 
--- a piece of the board: + (43) before the letter of a promoted one
+-- a piece of the board: + before the letter of a promoted one
 abbrev pub piece_text : Piece → List ℕ
-piece_text p = if is_promoted p.kind then 43 ∷ side_letter p ∷ [] else side_letter p ∷ []
+piece_text p = if is_promoted p.kind then codes "+" ++ (side_letter p ∷ []) else side_letter p ∷ []

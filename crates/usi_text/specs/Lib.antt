@@ -5,6 +5,7 @@ pub mod Letters
 pub mod LineText
 pub mod Lines
 pub mod Moves
+pub mod Scanning
 pub mod Setting
 pub mod Sfen
 pub mod SfenText

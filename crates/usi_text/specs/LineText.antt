@@ -11,11 +11,11 @@ abbrev pub StartText : Placed → List ℕ → Type 0
 StartText p text =
     ((p ≡ even_start) × (text ≡ codes "startpos")) ⊎ ((p ≢ even_start) × (text ≡ codes "sfen " ++ sfen_text p))
 
--- a space (32) and the move's text in the position that it is played in, for each move
+-- a space and the move's text in the position that it is played in, for each move
 abbrev pub MovesText : Placed → List Move → List ℕ → Type 0
 MovesText p [] text = text ≡ []
 MovesText p (m ∷ ms) text =
-    (word : List ℕ) × (rest : List ℕ) × (text ≡ 32 ∷ (word ++ rest)) × UsiMove p word m × MovesText (after p m) ms rest
+    (word : List ℕ) × (rest : List ℕ) × (text ≡ codes " " ++ (word ++ rest)) × UsiMove p word m × MovesText (after p m) ms rest
 
 -- the word moves only where there are moves
 abbrev pub BehindStart : Placed → List Move → List ℕ → Type 0

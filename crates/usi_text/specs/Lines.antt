@@ -31,11 +31,6 @@ pub record SfenLine (ws sfen moves : List (List ℕ)) : Type 0 where
   pub before : AllByRecursion (λ w. w ≢ codes "moves") sfen
   pub behind : HasMoves tail moves
 
--- words split at the first word moves
-abbrev pub Split : List (List ℕ) → List (List ℕ) → List (List ℕ) → Type 0
-Split all front moves =
-    (tail : List (List ℕ)) × (all ≡ front ++ tail) × AllByRecursion (λ w. w ≢ codes "moves") front × HasMoves tail moves
-
 -- the words give that start, and these are the words of the moves
 abbrev pub Starts : List (List ℕ) → Placed → List (List ℕ) → Type 0
 Starts ws start moves =

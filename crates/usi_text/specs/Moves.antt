@@ -1,5 +1,5 @@
 -- USI moves.
-use Rattle.std.specs.Prelude.{◌≡◌, ℕ, ◌⊎◌, true, List, [], ◌∷◌, ◌++◌, Some}
+use Rattle.std.specs.Prelude.{◌≡◌, ℕ, ◌⊎◌, true, List, ◌∷◌, ◌++◌, Some, codes}
 use Rattle.shogi_board.specs.declared.kind.Piece.{Piece}
 use Rattle.shogi_board.specs.Cells.{at}
 use Rattle.shogi_board.specs.Pieces.{in_hand}
@@ -10,11 +10,11 @@ use Rattle.shogi_rules.specs.Kinds.{promoted}
 use Rattle.usi_text.specs.Letters.{square_text, letter}
 
 -- the text is the move in that position.
--- A walk: the square left, the square reached, and the piece keeps its kind; or + (43) behind them, and it promotes.
--- A drop: the letter of the kind, * (42), and the square.
+-- A walk: the square left, the square reached, and the piece keeps its kind; or + behind them, and it promotes.
+-- A drop: the letter of the kind, *, and the square.
 abbrev pub UsiMove : Placed → List ℕ → Move → Type 0
 UsiMove p text (Walk from to kind) =
     (mover : Piece) × (at p.board from ≡ Some mover)
     × (((text ≡ square_text from ++ square_text to) × (kind ≡ mover.kind))
-    ⊎ ((text ≡ square_text from ++ square_text to ++ 43 ∷ []) × (promoted mover.kind ≡ Some kind)))
-UsiMove p text (Put to kind) = (in_hand kind ≡ true) × (text ≡ letter kind ∷ 42 ∷ square_text to)
+    ⊎ ((text ≡ square_text from ++ square_text to ++ codes "+") × (promoted mover.kind ≡ Some kind)))
+UsiMove p text (Put to kind) = (in_hand kind ≡ true) × (text ≡ letter kind ∷ (codes "*" ++ square_text to))

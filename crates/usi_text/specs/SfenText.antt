@@ -24,10 +24,6 @@ abbrev pub cells_from : List (Option Piece) → ℕ → ℕ → List (Option Pie
 cells_from board rank zero = []
 cells_from board rank (suc n) = cell board (suc n) rank ∷ cells_from board rank n
 
--- so many empty squares, as one digit
-abbrev pub run_text : ℕ → List ℕ
-run_text n = if n == 0 then [] else (48 + n) ∷ []
-
 -- one more empty square in front: it joins the count that stands there, or is a count of its own
 abbrev pub with_empty : List Part → List Part
 with_empty (Empty n ∷ parts) = Empty (suc n) ∷ parts
@@ -46,7 +42,7 @@ rank_text board rank = flat_map part_text (parts_of (cells_from board rank 9))
 -- so many ranks from one on, a slash before each
 abbrev pub ranks_text : List (Option Piece) → ℕ → ℕ → List ℕ
 ranks_text board rank zero = []
-ranks_text board rank (suc n) = 47 ∷ (rank_text board rank ++ ranks_text board (rank + 1) n)
+ranks_text board rank (suc n) = codes "/" ++ (rank_text board rank ++ ranks_text board (rank + 1) n)
 
 abbrev pub board_text : List (Option Piece) → List ℕ
 board_text board = rank_text board 1 ++ ranks_text board 2 8
@@ -77,7 +73,7 @@ abbrev pub hands_text : List Pile → List ℕ
 hands_text [] = codes "-"
 hands_text (pile ∷ piles) = flat_map pile_text (pile ∷ piles)
 
--- board, side, hands and the number 1, with spaces (32) between
+-- board, side, hands and the number 1, with spaces between
 abbrev pub sfen_text : Placed → List ℕ
 sfen_text p =
-    board_text p.board ++ (32 ∷ (side_text p.side ++ (32 ∷ (hands_text (both_piles p) ++ (32 ∷ 49 ∷ [])))))
+    board_text p.board ++ (codes " " ++ (side_text p.side ++ (codes " " ++ (hands_text (both_piles p) ++ codes " 1"))))

@@ -1,5 +1,5 @@
 -- Words: the longest runs of bytes without a space, which is the byte 32 alone.
-use Rattle.std.specs.Prelude.{◌≡◌, ℕ, ◌==◌, Bool, true, false, List, [], ◌∷◌, ◌++◌, slice_index_or}
+use Rattle.std.specs.Prelude.{ℕ, ◌==◌, Bool, true, false, List, [], ◌∷◌, slice_index_or}
 use Rattle.std.specs.List.{filter, slice_split}
 
 abbrev pub has_bytes : List ℕ → Bool
@@ -13,12 +13,3 @@ words text = filter has_bytes (slice_split (λ b. b == 32) text)
 -- the nth word, from 0; the empty text, which is no word, where there are fewer
 abbrev pub nth_word : List (List ℕ) → ℕ → List ℕ
 nth_word ws n = slice_index_or ws n []
-
--- nothing, or a space first
-abbrev pub EndsWord : List ℕ → Type 0
-EndsWord [] = Unit {0}
-EndsWord (b ∷ bs) = b ≡ 32
-
--- the rest of a text behind a word's end
-abbrev pub IsBehind : List ℕ → List ℕ → Type 0
-IsBehind text rest = (front : List ℕ) × (text ≡ front ++ rest) × EndsWord rest

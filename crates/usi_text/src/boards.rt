@@ -1,7 +1,8 @@
 ghost use Rattle.std.specs.Prelude.{◌≡◌, ◌≤◌, ◌+◌, ◌++◌, ◌∷◌, List, Option, None, IfSome, MatchBool, MatchOption, length, replicate};
 ghost use Rattle.arrayvec.specs.ArrayVec.{array_vec_len};
 ghost use Rattle.shogi_board.specs.declared.kind.Piece.{Piece};
-ghost use Rattle.usi_text.specs.Boards.{SpellsBoard, SpellsCells, part_cells, ranks_of, ranks_behind};
+ghost use Rattle.usi_text.specs.Boards.{SpellsBoard, SpellsCells, part_cells, ranks_of};
+ghost use Rattle.usi_text.specs.Scanning.{ranks_behind};
 
 use crate::parts::{Part, read_part};
 use arrayvec::ArrayVec;

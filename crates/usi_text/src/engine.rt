@@ -1,4 +1,4 @@
-ghost use Rattle.usi_text.specs.Engine.{Says, Answers};
+ghost use Rattle.usi_text.specs.Engine.{LineSays, BestSays};
 ghost use Rattle.usi_text.specs.Words.{words};
 
 use crate::words::take_word;
@@ -24,7 +24,7 @@ pub enum EngineWord<'a> {
 ///
 /// Words are the longest runs without spaces. Words behind those, such as the move to ponder, do not count.
 pub fn read_engine_line(line: &[u8]) -> EngineWord<'_>
-    ensures { Says (words line.now) result }
+    ensures word { LineSays (words line.now) result }
 {
     let (first, rest) = take_word(line);
     let (second, _) = take_word(rest);
@@ -41,7 +41,7 @@ pub fn read_engine_line(line: &[u8]) -> EngineWord<'_>
 
 // What stands behind `bestmove`.
 fn best(word: &[u8]) -> EngineWord<'_>
-    ensures { Answers word.now result }
+    ensures { BestSays word.now result }
 {
     if word == b"resign".as_slice() {
         EngineWord::Resign

@@ -1,3 +1,7 @@
+ghost use Rattle.std.specs.Prelude.{◌≡◌};
+ghost use Rattle.usi_text.specs.declared.fault.SfenFault.TheVariants.{Start};
+ghost use Rattle.usi_text.specs.declared.fault.UsiFault.TheVariants.{Sfen};
+
 use shogi_board::SetupFault;
 use shogi_rules::Rule;
 use thiserror::Error;
@@ -20,6 +24,14 @@ pub enum SfenFault {
     /// The pieces cannot stand so: SecondKing, TooMany or OpponentInCheck.
     #[error("{0}")]
     Start(SetupFault),
+}
+
+impl From<SetupFault> for SfenFault {
+    ghost from_gives = { λ fault e. e ≡ Start fault };
+
+    fn from(fault: SetupFault) -> SfenFault {
+        SfenFault::Start(fault)
+    }
 }
 
 /// Why a text is no position line whose moves can be played.
@@ -45,4 +57,12 @@ pub enum UsiFault {
     /// A growth of memory was refused.
     #[error("out of memory")]
     OutOfMemory,
+}
+
+impl From<SfenFault> for UsiFault {
+    ghost from_gives = { λ fault e. e ≡ Sfen fault };
+
+    fn from(fault: SfenFault) -> UsiFault {
+        UsiFault::Sfen(fault)
+    }
 }

@@ -1,6 +1,7 @@
 ghost use Rattle.std.specs.Prelude.{◌≡◌, ◌↔◌, IsTrue, codes, ◌<◌, ◌++◌, ◌∷◌, ℕ, List, Option, IfSome, MatchBool, MatchOption, length};
-ghost use Rattle.usi_text.specs.Hands.{SpellsHands, IsPile, IsCount, IsDigitBefore, HasNoDigit, count_text, pile_text};
+ghost use Rattle.usi_text.specs.Hands.{SpellsHands, IsPile, IsCount, count_text, pile_text};
 ghost use Rattle.usi_text.specs.declared.hands.Pile.{Pile};
+ghost use Rattle.usi_text.specs.Scanning.{IsDigitBefore, HasNoDigit};
 
 use crate::letters::piece_of_letter;
 use shogi_board::Piece;

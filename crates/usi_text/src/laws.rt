@@ -36,13 +36,13 @@ pub fn sfen_once()
 
 /// The pieces of an SFEN are refused as SecondKing, TooMany or OpponentInCheck, and in no other way.
 pub fn start_faults()
-    ensures { (ws : List (List ℕ)) (fault : SetupFault) → FirstFault ws (Start fault)
+    ensures three { (ws : List (List ℕ)) (fault : SetupFault) → FirstFault ws (Start fault)
         → (fault ≡ SecondKing) ⊎ (fault ≡ TooMany) ⊎ (fault ≡ OpponentInCheck) }
 {}
 
 /// In the position of an SFEN each cell of the board's text stands on its square.
 pub fn board_stands()
-    ensures { (ws : List (List ℕ)) (p : Placed) (cells : List (Option Piece)) (n : ℕ)
+    ensures squares { (ws : List (List ℕ)) (p : Placed) (cells : List (Option Piece)) (n : ℕ)
         → Sfen ws p → SpellsBoard (nth_word ws 0) cells → n < 81
         → slice_index_or p.board (board_place n) None ≡ slice_index_or cells n None }
 {}
@@ -59,7 +59,7 @@ pub fn hands_held()
 
 /// The SFEN that is written for a sound position is the SFEN of that position.
 pub fn sfen_again()
-    ensures { (p : Placed) → IsSound p → Sfen (words (sfen_text p)) p }
+    ensures again { (p : Placed) → IsSound p → Sfen (words (sfen_text p)) p }
 {}
 
 /// Words are the position line of one start and one list of moves at most, and then they have no fault but want of
@@ -76,22 +76,22 @@ pub fn line_once()
 /// The position line that is written for a start and legal moves from it is the position line of that start and these
 /// moves.
 pub fn line_again()
-    ensures { (start : Placed) (moves : List Move) (text : List ℕ) → IsSound start → IsGame start moves → length moves ≤ 10000
+    ensures again { (start : Placed) (moves : List Move) (text : List ℕ) → IsSound start → IsGame start moves → length moves ≤ 10000
         → LineText start moves text → UsiLine (words text) start moves }
 {}
 
 /// In one position a text is one move at most.
 pub fn one_move()
-    ensures { (p : Placed) (text : List ℕ) (m n : Move) → UsiMove p text m → UsiMove p text n → m ≡ n }
+    ensures one { (p : Placed) (text : List ℕ) (m n : Move) → UsiMove p text m → UsiMove p text n → m ≡ n }
 {}
 
 /// In one position a move has one text at most.
 pub fn one_text()
-    ensures { (p : Placed) (text other : List ℕ) (m : Move) → UsiMove p text m → UsiMove p other m → text ≡ other }
+    ensures one { (p : Placed) (text other : List ℕ) (m : Move) → UsiMove p text m → UsiMove p other m → text ≡ other }
 {}
 
 /// A start and moves have one written position line at most.
 pub fn one_line_text()
-    ensures { (start : Placed) (moves : List Move) (text other : List ℕ)
+    ensures one { (start : Placed) (moves : List Move) (text other : List ℕ)
         → LineText start moves text → LineText start moves other → text ≡ other }
 {}

@@ -1,12 +1,13 @@
 ghost use Rattle.std.specs.Prelude.{◌≡◌, ◌++◌, ◌∷◌, [], Ok, ◌↔◌, ℕ, List, IsTrue, MatchOption, MatchResult};
 ghost use Rattle.shogi_rules.specs.declared.moves.Move.{Move};
-ghost use Rattle.usi_text.specs.Lines.{UsiLine, LineFault, Starts, Plays, Split, HasMoves, IsPlayed, WordFault, PlayedFault, StartedFault, line_of};
+ghost use Rattle.usi_text.specs.Lines.{UsiLine, LineFault, Starts, Plays, HasMoves, IsPlayed, WordFault, PlayedFault, StartedFault, line_of};
 ghost use Rattle.usi_text.specs.Words.{words};
+ghost use Rattle.usi_text.specs.Scanning.{Split};
 
 use crate::fault::UsiFault;
 use crate::moves::read_move;
 use crate::sfen::read_sfen;
-use crate::words::{has_word, take_word};
+use crate::words::{next_word, take_word};
 use shogi_board::Position;
 use shogi_rules::{Line, PlayFault, judge};
 use std::alloc::Global;
@@ -18,12 +19,12 @@ use std::alloc::Global;
 /// breaks, OutOfMemory where it may be played. Moves are numbered from 1. OutOfMemory may come where there are no moves
 /// too; it comes only where no fault that does not need memory stands before.
 pub fn read_position_line(alloc: Global, text: &[u8]) -> Result<Line, UsiFault>
-    ensures { MatchResult result
+    ensures told { MatchResult result
         (λ line. UsiLine (words text.now) line.start line.moves)
         (λ fault. LineFault (words text.now) fault) }
 {
     match read_start(text) {
-        Ok(found) => play_line(alloc, found.0, found.1),
+        Ok(started) => play_line(alloc, started.0, started.1),
         Err(fault) => Err(fault),
     }
 }
@@ -34,9 +35,8 @@ fn play_line(alloc: Global, start: Position, text: &[u8]) -> Result<Line, UsiFau
         (λ line. (line.start ≡ start) × Plays start [] (words text.now) (Ok line.moves))
         (λ fault. StartedFault start (words text.now) fault) }
 {
-    let mut line = match Line::new(alloc, start) {
-        Ok(line) => line,
-        Err(_) => return Err(fault_without_room(start, text)),
+    let Ok(mut line) = Line::new(alloc, start) else {
+        return Err(fault_without_room(start, text));
     };
     play_words(&mut line, text)?;
     Ok(line)
@@ -46,10 +46,9 @@ fn play_line(alloc: Global, start: Position, text: &[u8]) -> Result<Line, UsiFau
 fn fault_without_room(start: Position, text: &[u8]) -> UsiFault
     ensures { StartedFault start (words text.now) result }
 {
-    if !has_word(text) {
+    let Some((word, _)) = next_word(text) else {
         return UsiFault::OutOfMemory;
-    }
-    let (word, _) = take_word(text);
+    };
     let Some(mv) = read_move(&start, word) else {
         return UsiFault::BadMoveText(1);
     };
@@ -71,22 +70,17 @@ fn read_start(text: &[u8]) -> Result<(Position, &[u8]), UsiFault>
         return Err(UsiFault::BadLine);
     }
     if same(second, b"startpos") {
-        return match moves_behind(rest) {
-            Some(moves) => Ok((Position::even(), moves)),
-            None => Err(UsiFault::BadLine),
-        };
+        let moves = moves_behind(rest).ok_or(UsiFault::BadLine)?;
+        return Ok((Position::even(), moves));
     }
     if !same(second, b"sfen") {
         return Err(UsiFault::BadLine);
     }
     let (sfen, moves) = split_moves(rest);
-    if !has_word(sfen) {
+    let Some(_) = next_word(sfen) else {
         return Err(UsiFault::BadLine);
-    }
-    match read_sfen(sfen) {
-        Ok(start) => Ok((start, moves)),
-        Err(fault) => Err(UsiFault::Sfen(fault)),
-    }
+    };
+    Ok((read_sfen(sfen)?, moves))
 }
 
 // What stands behind the word `moves`, or nothing where there is no word.
@@ -95,8 +89,10 @@ fn moves_behind(text: &[u8]) -> Option<&[u8]>
         ((moves : List (List ℕ)) → HasMoves (words text.now) moves → ⊥)
         (λ moves. HasMoves (words text.now) (words moves.now)) }
 {
-    let (word, behind) = take_word(text);
-    if !has_word(text) || same(word, b"moves") {
+    let Some((word, behind)) = next_word(text) else {
+        return Some(text);
+    };
+    if same(word, b"moves") {
         Some(behind)
     } else {
         None
@@ -114,8 +110,7 @@ fn split_moves(text: &[u8]) -> (&[u8], &[u8])
     ensures { Split (words text.now) (words result.0.now) (words result.1.now) }
 {
     let mut rest = text;
-    while has_word(rest) {
-        let (word, behind) = take_word(rest);
+    while let Some((word, behind)) = next_word(rest) {
         if same(word, b"moves") {
             return (&text[..text.len() - rest.len()], behind);
         }
@@ -132,8 +127,7 @@ fn play_words(line: &mut Line, text: &[u8]) -> Result<(), UsiFault>
         (λ fault. PlayedFault line.old.start (words text.now) fault) }
 {
     let mut rest = text;
-    while has_word(rest) {
-        let (word, behind) = take_word(rest);
+    while let Some((word, behind)) = next_word(rest) {
         play_word(line, word)?;
         rest = behind;
     }
@@ -157,8 +151,8 @@ fn play_word(line: &mut Line, word: &[u8]) -> Result<(), UsiFault>
     };
     match line.play(now.side(), mv) {
         Ok(()) => Ok(()),
-        Err(PlayFault::TooManyMoves) => Err(UsiFault::TooManyMoves),
         Err(PlayFault::Broken(rule)) => Err(UsiFault::Broken(n + 1, rule)),
         Err(PlayFault::OutOfMemory) => Err(UsiFault::OutOfMemory),
+        Err(PlayFault::TooManyMoves) => unreachable!(),
     }
 }

@@ -17,7 +17,7 @@ use shogi_rules::Move;
 /// square (`P*5e`). A walk's kind is that of the piece on the square left, or its promoted kind; None where that
 /// square is empty, or `+` stands for a piece without a promoted kind. Whether the move is legal is not asked.
 pub fn read_move(position: &Position, text: &[u8]) -> Option<Move>
-    ensures { MatchOption result
+    ensures told { MatchOption result
         ((mv : Move) → UsiMove position.now text.now mv → ⊥)
         (λ mv. UsiMove position.now text.now mv) }
 {
@@ -45,7 +45,7 @@ pub fn read_move(position: &Position, text: &[u8]) -> Option<Move>
 /// The text of a move that is legal for the side to move. Read in that position, it is that move.
 pub fn move_text(position: &Position, mv: &Move) -> ArrayString<5>
     requires { Legal position.now mv.now }
-    ensures { UsiMove position.now result.bytes mv.now }
+    ensures again { UsiMove position.now result.bytes mv.now }
 {
     let mut text = ArrayString::new();
     match *mv {

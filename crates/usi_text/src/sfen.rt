@@ -16,27 +16,20 @@ use shogi_board::{Color, Position};
 /// empty one; then Start with the first refusal of its pieces, which are set up in the order of the text, the squares
 /// first and then the hands: SecondKing or TooMany; then Start(OpponentInCheck).
 pub fn read_sfen(text: &[u8]) -> Result<Position, SfenFault>
-    ensures { MatchResult result
+    ensures told { MatchResult result
         (λ position. Sfen (words text.now) position)
         (λ fault. FirstFault (words text.now) fault) }
 {
     let words = sfen_words(text);
-    let Some(cells) = read_board(words.board) else {
-        return Err(SfenFault::BadBoard);
-    };
-    let Some(side) = read_side(words.side) else {
-        return Err(SfenFault::BadSide);
-    };
+    let cells = read_board(words.board).ok_or(SfenFault::BadBoard)?;
+    let side = read_side(words.side).ok_or(SfenFault::BadSide)?;
     if !is_hands(words.hands) {
         return Err(SfenFault::BadHands);
     }
     if !is_number(words.number, words.fifth) {
         return Err(SfenFault::BadNumber);
     }
-    match set_up_position(cells.as_slice(), words.hands, side) {
-        Ok(position) => Ok(position),
-        Err(fault) => Err(SfenFault::Start(fault)),
-    }
+    Ok(set_up_position(cells.as_slice(), words.hands, side)?)
 }
 
 // The first five words of a text; where there are fewer, the others are empty.

@@ -1,46 +1,37 @@
-ghost use Rattle.std.specs.Prelude.{◌≡◌, ◌≢◌, ℕ, ◌≤◌, ◌<◌, [], MatchBool, drop, length, slice_index};
-ghost use Rattle.usi_text.specs.Words.{words, nth_word, IsBehind};
+ghost use Rattle.std.specs.Prelude.{◌≡◌, ◌≢◌, ℕ, ◌≤◌, ◌<◌, ◌==◌, [], ◌∷◌, drop, length, slice_index, IfSome, MatchOption};
+ghost use Rattle.usi_text.specs.Words.{words, nth_word};
+ghost use Rattle.usi_text.specs.Scanning.{IsBehind};
+
+// The first word, and what stands behind it; or None where the text has no word.
+pub(crate) fn next_word(text: &[u8]) -> Option<(&[u8], &[u8])>
+    ensures word { MatchOption result
+        (words text.now ≡ [])
+        (λ r. words text.now ≡ r.0.now ∷ words r.1.now) }
+    ensures behind { IfSome result (λ r. IsBehind text.now r.1.now) }
+{
+    let (_, text) = text.split_at(run_length(text, true));
+    if text.is_empty() {
+        return None;
+    }
+    Some(text.split_at(run_length(text, false)))
+}
 
 // The first word, or the empty text where there is none, and what stands behind it.
 pub(crate) fn take_word(text: &[u8]) -> (&[u8], &[u8])
     ensures word { result.0.now ≡ nth_word (words text.now) 0 }
     ensures rest { words result.1.now ≡ drop 1 (words text.now) }
-    ensures behind { IsBehind text.now result.1.now }
 {
-    let (_, text) = text.split_at(spaces_length(text));
-    text.split_at(run_length(text))
+    next_word(text).unwrap_or((&[], &[]))
 }
 
-// Whether the text has a word.
-pub(crate) fn has_word(text: &[u8]) -> bool
-    ensures { MatchBool result (0 < length (words text.now)) (words text.now ≡ []) }
-{
-    let (word, _) = take_word(text);
-    !word.is_empty()
-}
-
-// How many spaces stand at the front of the text.
-fn spaces_length(text: &[u8]) -> usize
+// How many bytes at the front of the text are spaces; or how many are none, where `spaces` is false.
+fn run_length(text: &[u8], spaces: bool) -> usize
     ensures within { result ≤ length text.now }
-    ensures run { (k : ℕ) → k < result → slice_index text.now k ≡ 32 }
-    ensures ends { result < length text.now → slice_index text.now result ≢ 32 }
+    ensures run { (k : ℕ) → k < result → (slice_index text.now k == 32) ≡ spaces }
+    ensures ends { result < length text.now → (slice_index text.now result == 32) ≢ spaces }
 {
     for (i, b) in text.iter().enumerate() {
-        if *b != b' ' {
-            return i;
-        }
-    }
-    text.len()
-}
-
-// How many bytes stand before the first space, or all.
-fn run_length(text: &[u8]) -> usize
-    ensures within { result ≤ length text.now }
-    ensures run { (k : ℕ) → k < result → slice_index text.now k ≢ 32 }
-    ensures ends { result < length text.now → slice_index text.now result ≡ 32 }
-{
-    for (i, b) in text.iter().enumerate() {
-        if *b == b' ' {
+        if (*b == b' ') != spaces {
             return i;
         }
     }

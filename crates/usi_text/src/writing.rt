@@ -4,8 +4,9 @@ ghost use Rattle.shogi_board.specs.Sound.{IsSound};
 ghost use Rattle.usi_text.specs.Hands.{pile_text};
 ghost use Rattle.usi_text.specs.Letters.{piece_text};
 ghost use Rattle.usi_text.specs.Sfen.{Sfen, side_text};
-ghost use Rattle.usi_text.specs.SfenText.{sfen_text, board_text, rank_text, run_text, pile_of, piles_of, hand_piles, both_piles, hands_text, cell};
+ghost use Rattle.usi_text.specs.SfenText.{sfen_text, board_text, rank_text, pile_of, piles_of, hand_piles, both_piles, hands_text, cell};
 ghost use Rattle.usi_text.specs.Words.{words};
+ghost use Rattle.usi_text.specs.Scanning.{run_text};
 
 use crate::letters::{is_promoted, side_letter};
 use itoa::Buffer;

@@ -21,13 +21,14 @@ pub const NAME: &str = "normal";
 
 /// The command's own words: a file, which may be absent.
 pub fn command<'a>(alloc: Global) -> Result<Command<'a>, AllocError> {
-    let file = Arg::new(alloc, "FILE").help("The record; without it standard input is read");
+    let file = Arg::new(alloc, "FILE").help("The record; without it, or with -, standard input is read");
     Command::new(alloc, NAME)
         .about("Prints the canonical text of a record")
         .arg(file)
 }
 
-/// Reads the named file, or standard input where none is named, and prints the record's canonical text.
+/// Reads the named file, or standard input where none is named or the name is `-`, and prints the record's canonical
+/// text.
 pub fn run<R: Files + Input + Print + AllocGlobal>(
     rt: &R,
     words: &ArgMatches<'_>,
@@ -36,8 +37,8 @@ pub fn run<R: Files + Input + Print + AllocGlobal>(
 {
     let mut output = io::writer(rt);
     match words.get_str("FILE") {
+        None | Some("-") => normalise(rt.alloc(), &mut rt.reader(), &mut output),
         Some(path) => normalise(rt.alloc(), &mut streams::open(rt, path)?, &mut output),
-        None => normalise(rt.alloc(), &mut rt.reader(), &mut output),
     }
 }
 

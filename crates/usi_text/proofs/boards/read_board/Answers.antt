@@ -1,7 +1,7 @@
 use Rattle.std.proofs.Common.{◌≡◌, arith, ap, ◌∙◌}
-use Rattle.usi_text.specs.Boards.{ranks_behind}
 use Rattle.usi_text.proofs.Ranks.{boards_start, boards_more, boards_bad_rank, boards_few, boards_many, boards_end}
 use Rattle.usi_text.proofs.boards.read_board.Goals as goal
+use Rattle.usi_text.specs.Scanning.{ranks_behind}
 
 pub loop-init : goal.loop-init
 loop-init c = rw c.new-cells.ensures (boards_start c.args.text.now)

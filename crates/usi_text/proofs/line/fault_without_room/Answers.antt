@@ -5,25 +5,25 @@ use Rattle.shogi_rules.specs.declared.line.PlayFault.TheVariants as play
 use Rattle.usi_text.specs.declared.fault.UsiFault.TheVariants.{Broken, OutOfMemory}
 use Rattle.usi_text.specs.Lines.{line_of}
 use Rattle.usi_text.specs.Words.{words}
-use Rattle.usi_text.proofs.Played.{playing_start, playing_fault, with_first}
+use Rattle.usi_text.proofs.Played.{playing_start, playing_fault}
 use Rattle.usi_text.proofs.line.fault_without_room.Goals as goal
 
 pub returns-in-Some-judge : goal.returns-in-Some-judge
 returns-in-Some-judge c =
     let ws = words c.args.text.now in
-    let m = c.in-Some.mv in
-    let w = c.take_word.result.0.now in
-    let first = with_first ws w (words c.take_word.result.1.now) (c.if-not-has_word.ensures {u = tt}) c.take_word.ensures.word c.take_word.ensures.rest in
+    let m = c.in-Some-read_move.mv in
+    let w = c.in-Some.word.now in
+    let first = c.in-Some.ensures.word in
     let broken = (c.in-Some-judge.ensures {u = tt}).first in
     let judged = subst (λ (s : Color). Answers (line_of c.args.start []) s m (Some (play.Broken c.in-Some-judge.rule))) c.side.ensures.value (omega arith, broken) in
-    inr (playing_fault c.args.start ws ws (words c.take_word.result.1.now) [] w (Broken 1 c.in-Some-judge.rule) (playing_start c.args.start ws) first (refl, m, c.in-Some.ensures {u = tt}, judged))
+    inr (playing_fault c.args.start ws ws _ [] w (Broken 1 c.in-Some-judge.rule) (playing_start c.args.start ws) first (refl, m, (c.in-Some-read_move.ensures {u = tt}).told, judged))
 
 pub returns-in-None : goal.returns-in-None
 returns-in-None c =
     let ws = words c.args.text.now in
-    let m = c.in-Some.mv in
-    let w = c.take_word.result.0.now in
-    let first = with_first ws w (words c.take_word.result.1.now) (c.if-not-has_word.ensures {u = tt}) c.take_word.ensures.word c.take_word.ensures.rest in
+    let m = c.in-Some-read_move.mv in
+    let w = c.in-Some.word.now in
+    let first = c.in-Some.ensures.word in
     let kept = (c.in-None.ensures {u = tt}).first in
     let judged = subst (λ (s : Color). Answers (line_of c.args.start []) s m None) c.side.ensures.value (omega arith, kept) in
-    inr (playing_fault c.args.start ws ws (words c.take_word.result.1.now) [] w OutOfMemory (playing_start c.args.start ws) first (m, (c.in-Some.ensures {u = tt}, judged)))
+    inr (playing_fault c.args.start ws ws _ [] w OutOfMemory (playing_start c.args.start ws) first (m, ((c.in-Some-read_move.ensures {u = tt}).told, judged)))

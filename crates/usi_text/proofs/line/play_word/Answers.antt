@@ -15,7 +15,7 @@ returns-in-Ok c =
     let now = c.now-now.ensures in
     let side = c.side.ensures.value ∙ ap (λ (p : Placed). p.side) now in (
       m,
-      (subst (λ (p : Placed). UsiMove p c.args.word.now m) now c.in-Some.ensures, subst (λ (s : Color). Answers line s m None) side c.in-Ok.ensures.answer),
+      (subst (λ (p : Placed). UsiMove p c.args.word.now m) now c.in-Some.ensures.told, subst (λ (s : Color). Answers line s m None) side c.in-Ok.ensures.answer),
       c.in-Ok.ensures.played,
     )
 
@@ -27,7 +27,7 @@ returns-in-Err-Broken c =
     let side = c.side.ensures.value ∙ ap (λ (p : Placed). p.side) now in
     let a = rw c.in-Err-Broken.field-0-is at c.in-Err-Broken.ensures.answer in
     let n = ap (λ (ms : List Move). length ms + 1) c.moves-n.ensures.value in
-    (n, m, subst (λ (p : Placed). UsiMove p c.args.word.now m) now c.in-Some.ensures, subst (λ (s : Color). Answers line s m (Some (play.Broken c.in-Err-Broken.rule))) side (broken_told line c.side.result m c.in-Err-Broken.rule a))
+    (n, m, subst (λ (p : Placed). UsiMove p c.args.word.now m) now c.in-Some.ensures.told, subst (λ (s : Color). Answers line s m (Some (play.Broken c.in-Err-Broken.rule))) side (broken_told line c.side.result m c.in-Err-Broken.rule a))
 
 pub returns-in-Err-OutOfMemory : goal.returns-in-Err-OutOfMemory
 returns-in-Err-OutOfMemory c =
@@ -36,4 +36,4 @@ returns-in-Err-OutOfMemory c =
     let now = c.now-now.ensures in
     let side = c.side.ensures.value ∙ ap (λ (p : Placed). p.side) now in
     let a = rw c.in-Err-OutOfMemory.field-0-is at c.in-Err-OutOfMemory.ensures.answer in
-    (m, (subst (λ (p : Placed). UsiMove p c.args.word.now m) now c.in-Some.ensures, subst (λ (s : Color). Answers line s m None) side (memory_told line c.side.result m a)))
+    (m, (subst (λ (p : Placed). UsiMove p c.args.word.now m) now c.in-Some.ensures.told, subst (λ (s : Color). Answers line s m None) side (memory_told line c.side.result m a)))

@@ -3,11 +3,11 @@ use Rattle.usi_text.specs.Words.{words}
 use Rattle.usi_text.proofs.Played.{Playing}
 use Rattle.usi_text.proofs.line.play_words.Given as goal
 
-abbrev pub invariant-loop-rest : goal.invariant-loop-rest
-invariant-loop-rest l = record {
+abbrev pub invariant-loop-word : goal.invariant-loop-word
+invariant-loop-word l = record {
   start : l.line.start ≡ l.fn.line.start;
   playing : Playing l.fn.line.start (words l.text) (words l.rest) l.line.moves;
 }
 
-abbrev pub decreases-loop-rest : goal.decreases-loop-rest
-decreases-loop-rest l = length (words l.rest)
+abbrev pub decreases-loop-word : goal.decreases-loop-word
+decreases-loop-word l = length (words l.rest)

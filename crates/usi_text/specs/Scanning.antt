@@ -1,0 +1,36 @@
+-- What private helpers of the readers and writers promise. A reader of the public contracts may skip this file.
+use Rattle.std.specs.Prelude.{◌≡◌, ◌≢◌, ℕ, ◌+◌, ◌≤◌, ◌==◌, List, [], ◌∷◌, ◌++◌, Option, Some, None, codes, if◌then◌else◌}
+use Rattle.std.specs.List.{AllByRecursion}
+use Rattle.std.specs.Borrow.{Bor}
+use Rattle.usi_text.specs.Boards.{ranks_of}
+use Rattle.usi_text.specs.Lines.{HasMoves}
+
+-- nothing, or a space (32) first
+abbrev pub EndsWord : List ℕ → Type 0
+EndsWord [] = Unit {0}
+EndsWord (b ∷ bs) = b ≡ 32
+
+-- the rest of a text behind a word's end
+abbrev pub IsBehind : List ℕ → List ℕ → Type 0
+IsBehind text rest = (front : List ℕ) × (text ≡ front ++ rest) × EndsWord rest
+
+-- words split at the first word moves
+abbrev pub Split : List (List ℕ) → List (List ℕ) → List (List ℕ) → Type 0
+Split all front moves =
+    (tail : List (List ℕ)) × (all ≡ front ++ tail) × AllByRecursion (λ w. w ≢ codes "moves") front × HasMoves tail moves
+
+-- the ranks behind a slash, if there is one
+abbrev pub ranks_behind : Option (Bor (List ℕ)) → List (List ℕ)
+ranks_behind None = []
+ranks_behind (Some text) = ranks_of text.now
+
+-- the text begins with that digit, and this stands behind it
+abbrev pub IsDigitBefore : List ℕ → ℕ → List ℕ → Type 0
+IsDigitBefore text digit behind = (digit ≤ 9) × (text ≡ (48 + digit) ∷ behind)
+
+abbrev pub HasNoDigit : List ℕ → Type 0
+HasNoDigit text = (digit : ℕ) (behind : List ℕ) → IsDigitBefore text digit behind → ⊥
+
+-- so many empty squares, as one digit
+abbrev pub run_text : ℕ → List ℕ
+run_text n = if n == 0 then [] else (48 + n) ∷ []
