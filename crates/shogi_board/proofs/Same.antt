@@ -19,7 +19,7 @@ use Rattle.shogi_board.specs.contracts.kind.PiecePartialEq.TheImpl.{eq-value}
 use Rattle.shogi_board.specs.contracts.position.PositionOrd.TheImpl.{cmp-value}
 use Rattle.shogi_board.specs.contracts.position.PositionOrd.TheImpl.Laws as laws
 
-color-eq : (a b : Color) → Decides (sameb color.the_type a b) (a ≡ b)
+pub color-eq : (a b : Color) → Decides (sameb color.the_type a b) (a ≡ b)
 color-eq a b = (λ h. same_true color.the_type (search rules) a b h, true_same color.the_type a b)
 
 kind-eq : (a b : Kind) → Decides (sameb kind.the_type a b) (a ≡ b)
@@ -48,7 +48,7 @@ piece-eq a b = (
   λ h. and-both _ _ ((color-eq a.color b.color).1 (ap (λ (p : Piece). p.color) h)) ((kind-eq a.kind b.kind).1 (ap (λ (p : Piece). p.kind) h)),
 )
 
-cell-eq : (a b : Option Piece) → Decides (option_eq eq-value.it a b) (a ≡ b)
+pub cell-eq : (a b : Option Piece) → Decides (option_eq eq-value.it a b) (a ≡ b)
 cell-eq None None = (λ h. refl, λ h. refl)
 cell-eq None (Some y) = (λ h. cc, λ h. cc)
 cell-eq (Some x) None = (λ h. cc, λ h. cc)

@@ -11,3 +11,4 @@ pub mod Kept
 pub mod Stretches
 pub mod Once
 pub mod Counts
+pub mod Decided

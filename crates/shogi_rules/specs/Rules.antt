@@ -1,5 +1,5 @@
 -- The rules in the order in which the first broken one is named.
-use Rattle.std.specs.Prelude.{◌≡◌, ◌⊎◌, List, [], ◌∷◌, Option, Some, None}
+use Rattle.std.specs.Prelude.{◌≡◌, ◌⊎◌, ◌++◌, List, [], ◌∷◌, Option, Some, None}
 use Rattle.shogi_board.specs.declared.color.Color.{Color}
 use Rattle.shogi_board.specs.Placed.{Placed}
 use Rattle.shogi_rules.specs.declared.moves.Move.{Move}
@@ -28,11 +28,11 @@ board_rules = NoPiece ∷ WrongKind ∷ Occupied ∷ CannotReach ∷ BadPromotio
 
 -- the rules 3 to 10
 abbrev pub keeping_rules : List Rule
-keeping_rules = NoPiece ∷ WrongKind ∷ Occupied ∷ CannotReach ∷ BadPromotion ∷ MustPromote ∷ DoubledPawn ∷ LeavesKing ∷ []
+keeping_rules = board_rules ++ LeavesKing ∷ []
 
 -- the rules 3 to 11
 abbrev pub move_rules : List Rule
-move_rules = NoPiece ∷ WrongKind ∷ Occupied ∷ CannotReach ∷ BadPromotion ∷ MustPromote ∷ DoubledPawn ∷ LeavesKing ∷ PawnDropMate ∷ []
+move_rules = keeping_rules ++ PawnDropMate ∷ []
 
 abbrev pub all_rules : List Rule
 all_rules = WrongSide ∷ RepetitionOver ∷ move_rules

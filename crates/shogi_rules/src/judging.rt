@@ -1,4 +1,5 @@
-ghost use Rattle.std.specs.Prelude.{◌≡◌, ◌↔◌, [], ◌∷◌, None};
+ghost use Rattle.std.specs.Prelude.{◌≡◌, ◌↔◌, [], ◌∷◌, None, Some};
+ghost use Rattle.shogi_rules.specs.declared.rule.Rule.TheVariants.{RepetitionOver};
 ghost use Rattle.shogi_rules.specs.Legal.{Legal};
 ghost use Rattle.shogi_rules.specs.Rules.{Kept, move_rules, all_rules, IsFirstBroken};
 
@@ -29,6 +30,7 @@ pub(crate) fn broken_by_side(position: &Position, mv: &Move) -> Option<Rule>
 /// The position is taken to stand for the first time, so it never answers RepetitionOver.
 pub fn judge(position: &Position, mover: Color, mv: &Move) -> Option<Rule>
     ensures first { IsFirstBroken (Kept (position.now ∷ []) position.now mover mv.now) all_rules result }
+    ensures once { result ≡ Some RepetitionOver → ⊥ }
     ensures legal { (result ≡ None) ↔ ((mover ≡ position.now.side) × Legal position.now mv.now) }
 {
     if mover != position.side() {

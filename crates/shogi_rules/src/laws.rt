@@ -2,7 +2,7 @@
 //!
 //! A law is a function that does nothing: its contract is the law.
 
-ghost use Rattle.std.specs.Prelude.{◌≡◌, ℕ, ◌+◌, ◌↔◌, List, [], ◌∷◌, Option};
+ghost use Rattle.std.specs.Prelude.{◌≡◌, ℕ, ◌+◌, ◌↔◌, List, [], ◌∷◌, Option, Some, slice_get, length};
 ghost use Rattle.shogi_board.specs.Cells.{at, piece};
 ghost use Rattle.shogi_board.specs.Pieces.{opponent};
 ghost use Rattle.shogi_board.specs.Placed.{Placed};
@@ -17,7 +17,7 @@ ghost use Rattle.shogi_rules.specs.After.{after};
 ghost use Rattle.shogi_rules.specs.Legal.{HasPiece, ReachesTarget, Legal};
 ghost use Rattle.shogi_rules.specs.Order.{IsFirstLegal};
 ghost use Rattle.shogi_rules.specs.Play.{Answers};
-ghost use Rattle.shogi_rules.specs.Positions.{Played, position_after, IsGame};
+ghost use Rattle.shogi_rules.specs.Positions.{Played, position_after, IsGame, now_of, all_of};
 ghost use Rattle.shogi_rules.specs.Repetition.{times, IsNth};
 ghost use Rattle.shogi_rules.specs.Rules.{Kept, all_rules, IsFirstBroken};
 ghost use Rattle.shogi_rules.specs.Verdicts.{Stands};
@@ -87,4 +87,10 @@ pub fn nth_place_once()
 /// No two verdicts hold together.
 pub fn one_verdict()
     ensures { (ps : List Placed) (p : Placed) (u v : Verdict) → Stands ps p u → Stands ps p v → u ≡ v }
+{}
+
+/// The position that a line's moves lead to is the last of its positions.
+pub fn now_stands_last()
+    ensures last { (line : Played) → slice_get (all_of line) (length line.moves) ≡ Some (now_of line) }
+    ensures all { (line : Played) → length (all_of line) ≡ length line.moves + 1 }
 {}

@@ -92,10 +92,7 @@ pub(crate) fn attempt(position: &Position, mv: &Move) -> Result<Position, Rule>
 pub(crate) fn keeps(position: &Position, mv: &Move) -> bool
     ensures { IsTrue result ↔ Keeps position.now mv.now }
 {
-    match attempt(position, mv) {
-        Ok(_) => true,
-        Err(_) => false,
-    }
+    attempt(position, mv).is_ok()
 }
 
 /// Whether the side to move is in check: it has a king, and an enemy piece reaches it.
