@@ -1,35 +1,31 @@
 -- Each rule of a move is kept or not, and each line has a verdict.
-use Rattle.std.proofs.Common.{◌≡◌, ℕ, zero, suc, ◌+◌, ◌<◌, ◌≤◌, ◌⊎◌, inl, inr, List, [], ◌∷◌, Option, Some, None, length, slice_get, take, arith, refl, ap}
+use Rattle.std.proofs.Common.{◌≡◌, ℕ, ◌<◌, ◌≤◌, ◌⊎◌, inl, inr, List, [], ◌∷◌, Option, Some, None, arith, refl, ap}
 use Rattle.std.proofs.lemmas.Bool.{cases_lt}
-use Rattle.shogi_board.specs.Cells.{at, piece, HasPawnOnFile}
-use Rattle.shogi_board.specs.Pieces.{opponent}
+use Rattle.shogi_board.specs.Cells.{at, piece}
 use Rattle.shogi_board.specs.Placed.{Placed, bag_of}
 use Rattle.shogi_board.specs.Reach.{InCheck}
 use Rattle.shogi_board.specs.Totals.{count_in}
 use Rattle.shogi_board.specs.declared.color.Color.{Color}
-use Rattle.shogi_board.specs.declared.color.Color.TheVariants.{Black, White}
+use Rattle.shogi_board.specs.declared.color.Color.TheVariants.{Black}
 use Rattle.shogi_board.specs.declared.kind.Kind.{Kind}
 use Rattle.shogi_board.specs.declared.kind.Kind.TheVariants.{Pawn}
 use Rattle.shogi_board.specs.declared.square.Square.{Square}
-use Rattle.shogi_board.proofs.Decided.{Decision, Below, decide-as, decide-both, decide-either, decide-implies, decide-not, decide-below, decide-square, decide-kind, decide-color, decide-cell, decide-pawn_on_file, decide-reach, decide-in_check}
+use Rattle.shogi_board.proofs.Decided.{Decision, decide-as, decide-both, decide-either, decide-implies, decide-not, decide-square, decide-kind, decide-color, decide-cell, decide-pawn_on_file, decide-reach, decide-in_check}
 use Rattle.shogi_rules.specs.After.{after}
-use Rattle.shogi_rules.specs.Kinds.{promoted, InZone, rank_for, last_rank}
+use Rattle.shogi_rules.specs.Kinds.{promoted, rank_for, last_rank}
 use Rattle.shogi_rules.specs.Legal.{target, kind_after, HasPiece, KindFits, TargetFree, ReachesTarget, MayPromote, HasFurtherMove, LonePawn, KingSafe, FitsBoard, Keeps, Mated, IsPawnDrop, NoDropMate, Legal}
-use Rattle.shogi_rules.specs.Repetition.{times, Over, IsNth, IsStretch, PressedAt, Pressed}
-use Rattle.shogi_rules.specs.Rules.{Kept, board_rules, keeping_rules, move_rules, IsFirstBroken}
-use Rattle.shogi_rules.specs.Verdicts.{NoLegalMove, PressedAlone, StandsByMoves, StandsByStretch, Stands}
-use Rattle.shogi_rules.specs.declared.line.Verdict.{Verdict}
-use Rattle.shogi_rules.specs.declared.line.Verdict.TheVariants.{Ongoing, Mate, NoMove, Repetition, Perpetual}
+use Rattle.shogi_rules.specs.Repetition.{times, Over}
+use Rattle.shogi_rules.specs.Rules.{Kept, IsFirstBroken}
 use Rattle.shogi_rules.specs.declared.moves.Move.{Move}
 use Rattle.shogi_rules.specs.declared.moves.Move.TheVariants.{Walk, Put}
 use Rattle.shogi_rules.specs.declared.rule.Rule.{Rule}
 use Rattle.shogi_rules.specs.declared.rule.Rule.TheVariants.{WrongSide, RepetitionOver, NoPiece, WrongKind, Occupied, CannotReach, BadPromotion, MustPromote, DoubledPawn, LeavesKing, PawnDropMate}
 use Rattle.shogi_rules.proofs.Forms.{piece-kind}
 
-decide-le : (m n : ℕ) → Decision (m ≤ n)
+pub decide-le : (m n : ℕ) → Decision (m ≤ n)
 decide-le m n = elim (cases_lt n m) [ inl lt ↦ inr (λ h. omega (arith, lt, h)) | inr le ↦ inl le ]
 
-decide-lt : (m n : ℕ) → Decision (m < n)
+pub decide-lt : (m n : ℕ) → Decision (m < n)
 decide-lt m n = elim (cases_lt m n) [ inl lt ↦ inl lt | inr le ↦ inr (λ h. omega (arith, le, h)) ]
 
 kind-of : Option Kind → Kind

@@ -12,3 +12,4 @@ pub mod Stretches
 pub mod Once
 pub mod Counts
 pub mod Decided
+pub mod Standing

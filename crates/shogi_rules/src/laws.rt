@@ -62,9 +62,19 @@ pub fn one_first_broken_rule()
     ensures { (ps : List Placed) (p : Placed) (color : Color) (m : Move) (a b : Option Rule) → IsFirstBroken (Kept ps p color m) all_rules a → IsFirstBroken (Kept ps p color m) all_rules b → a ≡ b }
 {}
 
+/// Each move of a side has an answer: some rule, or none, is the first that it breaks.
+pub fn some_first_broken_rule()
+    ensures answer { (ps : List Placed) (p : Placed) (color : Color) (m : Move) → (answer : Option Rule) × IsFirstBroken (Kept ps p color m) all_rules answer }
+{}
+
 /// Memory aside, one answer to a move that is to be played holds.
 pub fn one_answer()
     ensures { (line : Played) (color : Color) (m : Move) (a b : Option PlayFault) → Answers line color m a → Answers line color m b → a ≡ b }
+{}
+
+/// Memory aside, each move that is to be played has an answer.
+pub fn some_answer()
+    ensures answer { (line : Played) (color : Color) (m : Move) → (answer : Option PlayFault) × Answers line color m answer }
 {}
 
 /// One move is the first legal one.
@@ -87,6 +97,11 @@ pub fn nth_place_once()
 /// No two verdicts hold together.
 pub fn one_verdict()
     ensures { (ps : List Placed) (p : Placed) (u v : Verdict) → Stands ps p u → Stands ps p v → u ≡ v }
+{}
+
+/// Each position has a verdict, whatever positions it is looked for in.
+pub fn some_verdict()
+    ensures verdict { (ps : List Placed) (p : Placed) → (verdict : Verdict) × Stands ps p verdict }
 {}
 
 /// The position that a line's moves lead to is the last of its positions.
