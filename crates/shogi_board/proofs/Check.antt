@@ -32,6 +32,9 @@ king_check cells color s b whole one h d = (
       d.1 (rw e at check.2),
 )
 
+pub king-check-for : (cells : Cells) (color seen other : Color) (s : Square) (b : Bool) → length cells ≡ 81 → kings_of cells other ≤ 1 → at cells s ≡ piece color King → (IsTrue b ↔ Attacked cells seen s) → color ≡ other → seen ≡ other → IsTrue b ↔ InCheck cells other
+king-check-for cells color seen other s b whole one h d e f = king_check cells other s b whole one (rw e at h) (rw f at d)
+
 pub king-safe : (cells : Cells) (color : Color) (s : Square) → length cells ≡ 81 → kings_of cells color ≤ 1 → at cells s ≡ piece color King → (Attacked cells color s → ⊥) → InCheck cells color → ⊥
 king-safe cells color s whole one h safe check =
     let e : check.0 ≡ s = one-king cells color s check.0 whole one h check.1 in

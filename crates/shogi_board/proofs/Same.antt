@@ -1,5 +1,5 @@
 -- Values compare as equal where they are equal.
-use Rattle.std.proofs.Common.{rules, ◌≡◌, ℕ, ◌==◌, true, false, ◌↔◌, Bool, nat_eq, Option, Some, None, ◌&&◌, refl, ap, sym, List, [], ◌∷◌, ◌∙◌, get_or}
+use Rattle.std.proofs.Common.{rules, ◌≡◌, ℕ, true, false, ◌↔◌, Bool, nat_eq, Option, Some, None, ◌&&◌, refl, ap, sym, List, [], ◌∷◌, ◌∙◌, get_or}
 use Rattle.std.specs.Option.{option_eq}
 use Rattle.std.specs.Cmp.Lexicographic.{pointwise}
 use Rattle.std.specs.Ordering.{is_eq}

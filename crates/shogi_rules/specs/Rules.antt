@@ -22,6 +22,10 @@ Kept ps p color m DoubledPawn = LonePawn p m
 Kept ps p color m LeavesKing = KingSafe p m
 Kept ps p color m PawnDropMate = NoDropMate p m
 
+-- the side to move keeps a rule where the position stands for the first time
+abbrev pub KeptAlone : Placed → Move → Rule → Type 0
+KeptAlone p m = Kept (p ∷ []) p p.side m
+
 -- the rules that a look at the board before the move decides
 abbrev pub board_rules : List Rule
 board_rules = NoPiece ∷ WrongKind ∷ Occupied ∷ CannotReach ∷ BadPromotion ∷ MustPromote ∷ DoubledPawn ∷ []

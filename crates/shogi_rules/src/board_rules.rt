@@ -3,9 +3,9 @@ ghost use Rattle.shogi_board.specs.Cells.{at, piece};
 ghost use Rattle.shogi_board.specs.declared.kind.Kind.{Kind};
 ghost use Rattle.shogi_rules.specs.Kinds.{promoted};
 ghost use Rattle.shogi_rules.specs.Legal.{target, HasPiece, KindFits, TargetFree, ReachesTarget, MayPromote, HasFurtherMove, LonePawn, FitsBoard};
-ghost use Rattle.shogi_rules.specs.Rules.{Kept, board_rules, IsFirstBroken};
+ghost use Rattle.shogi_rules.specs.Rules.{KeptAlone, board_rules, IsFirstBroken};
 
-use crate::kinds::{in_zone, last_rank, promoted, rank_for};
+use crate::kinds::{in_zone, last_rank, rank_for};
 use crate::moves::Move;
 use crate::rule::Rule;
 use shogi_board::{Kind, Position, Square, reaches};
@@ -40,7 +40,7 @@ fn has_piece(position: &Position, mv: &Move) -> bool
 fn becomes(was: Kind, kind: Kind) -> bool
     ensures { IsTrue result ↔ ((kind ≡ was) ⊎ (promoted was ≡ Some kind)) }
 {
-    kind == was || promoted(was) == Some(kind)
+    kind == was || was.promoted() == Some(kind)
 }
 
 fn kind_fits(position: &Position, mv: &Move) -> bool
@@ -114,7 +114,7 @@ fn is_lone_pawn(position: &Position, mv: &Move) -> bool
 
 // The first of the rules 3 to 9 that the side to move breaks by the move.
 pub(crate) fn broken_on_board(position: &Position, mv: &Move) -> Option<Rule>
-    ensures first { IsFirstBroken (Kept (position.now ∷ []) position.now position.now.side mv.now) board_rules result }
+    ensures first { IsFirstBroken (KeptAlone position.now mv.now) board_rules result }
     ensures fits { IfNone result (FitsBoard position.now mv.now) }
 {
     if !has_piece(position, mv) {

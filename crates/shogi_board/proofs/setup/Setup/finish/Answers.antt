@@ -1,7 +1,6 @@
 use Rattle.std.proofs.Common.{◌≡◌, false, refl}
 use Rattle.shogi_board.specs.Pieces.{opponent}
 use Rattle.shogi_board.specs.Reach.{InCheck}
-use Rattle.shogi_board.specs.Sound.{IsSound}
 use Rattle.shogi_board.proofs.setup.Setup.finish.Goals as goal
 
 pub returns-then-leaves_check-clause-answer : goal.returns-then-leaves_check-clause-answer
