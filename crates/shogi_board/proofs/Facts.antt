@@ -13,6 +13,7 @@ use Rattle.shogi_board.specs.declared.kind.Kind.TheVariants.{Gold, Bishop, Horse
 use Rattle.shogi_board.specs.declared.kind.Piece.{Piece}
 use Rattle.shogi_board.specs.declared.square.Square.{Square}
 use Rattle.shogi_board.proofs.OneOf.{OneOf, one-of, any-of}
+use Rattle.shogi_board.proofs.Pieces.{mover-is}
 use Rattle.shogi_board.proofs.Squares.{place-bound}
 
 -- one step along the direction, as that side sees it
@@ -21,13 +22,6 @@ Step color a b d = IsAway a (turned_for color d) 1 b
 
 abbrev Stands : Square → ℕ × ℕ → Type 0
 Stands s p = (file_of s ≡ p.0) × (rank_of s ≡ p.1)
-
-some-same : (p q : Piece) → Some p ≡ Some q → p ≡ q
-some-same p q e = cc
-
--- the piece that reaches is the one that stands there
-mover-is : (cells : Cells) (a b : Square) (p : Piece) → at cells a ≡ Some p → (r : Reach cells a b) → r.mover ≡ p
-mover-is cells a b p h r = some-same r.mover p (sym r.stands ∙ h)
 
 moves-of : (cells : Cells) (a b : Square) (p : Piece) → at cells a ≡ Some p → Reach cells a b → Steps p a b ⊎ Slides cells p a b
 moves-of cells a b p h r = let e = mover-is cells a b p h r in rw e at r.moves

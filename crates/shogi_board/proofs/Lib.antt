@@ -1,5 +1,6 @@
 pub mod Check
 pub mod Count
+pub mod Decided
 pub mod Facts
 pub mod Moves
 pub mod OneOf

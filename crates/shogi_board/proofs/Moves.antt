@@ -43,7 +43,7 @@ every-diagonal = (
   ),
 )
 
-every-ray : (k : Kind) → Every IsRay (rays k)
+pub every-ray : (k : Kind) → Every IsRay (rays k)
 every-ray Lance = (every-orthogonal.0, tt)
 every-ray Bishop = every-diagonal
 every-ray Rook = every-orthogonal
@@ -59,7 +59,7 @@ every-ray ProLance = tt
 every-ray ProKnight = tt
 every-ray ProSilver = tt
 
-turned-ray : (c : Color) (d : Direction) → IsRay d → IsRay (turned_for c d)
+pub turned-ray : (c : Color) (d : Direction) → IsRay d → IsRay (turned_for c d)
 turned-ray Black d h = h
 turned-ray White d h =
     let a : 1 ≤ d.files = h.0 in

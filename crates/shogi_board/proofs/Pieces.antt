@@ -1,12 +1,14 @@
 -- The tests of kinds and colours say what they are named for.
-use Rattle.std.proofs.Common.{◌≡◌, true, Option, refl}
+use Rattle.std.proofs.Common.{◌≡◌, true, Option, Some, refl, sym, ◌∙◌}
 use Rattle.shogi_board.specs.declared.color.Color.{Color}
 use Rattle.shogi_board.specs.declared.color.Color.TheVariants.{Black, White}
 use Rattle.shogi_board.specs.declared.kind.Kind.TheVariants.{King}
 use Rattle.shogi_board.specs.declared.kind.Piece.{Piece}
-use Rattle.shogi_board.specs.Cells.{piece}
+use Rattle.shogi_board.specs.Cells.{Cells, at, piece}
 use Rattle.shogi_board.specs.Pieces.{same_color}
+use Rattle.shogi_board.specs.Reach.{Reach}
 use Rattle.shogi_board.specs.Totals.{is_king_of}
+use Rattle.shogi_board.specs.declared.square.Square.{Square}
 
 pub same_color-refl : (c : Color) → same_color c c ≡ true
 same_color-refl Black = refl
@@ -15,3 +17,10 @@ same_color-refl White = refl
 -- a king of that side passes the test
 pub is_king_of-king : (c : Color) (cell : Option Piece) → cell ≡ piece c King → is_king_of c cell ≡ true
 is_king_of-king c cell e = rw (e, same_color-refl) refl
+
+some-same : (p q : Piece) → Some p ≡ Some q → p ≡ q
+some-same p q e = cc
+
+-- the piece that reaches is the one that stands there
+pub mover-is : (cells : Cells) (a b : Square) (p : Piece) → at cells a ≡ Some p → (r : Reach cells a b) → r.mover ≡ p
+mover-is cells a b p h r = some-same r.mover p (sym r.stands ∙ h)

@@ -1,17 +1,22 @@
 -- Values compare as equal where they are equal.
-use Rattle.std.proofs.Common.{rules, ◌≡◌, ℕ, true, false, ◌↔◌, Bool, nat_eq, Option, Some, None, ◌&&◌, refl, ap, sym, List, ◌∙◌}
-use Rattle.std.specs.Bool.{Decides}
+use Rattle.std.proofs.Common.{rules, ◌≡◌, ℕ, true, false, ◌↔◌, Bool, nat_eq, Option, Some, None, ◌&&◌, refl, ap, sym, List, [], ◌∷◌, ◌∙◌, get_or}
 use Rattle.std.specs.Option.{option_eq}
 use Rattle.std.specs.Cmp.Lexicographic.{pointwise}
 use Rattle.std.specs.Ordering.{is_eq}
 use Rattle.std.specs.declared.cmp.Ordering.TheVariants.{Equal}
-use Rattle.std.specs.Cmp.{IsTotalOrder, Equal-is}
+use Rattle.std.specs.Bool.{Decides, beq}
+use Rattle.std.specs.Cmp.{IsTotalOrder, Equal-is, booleans_Decides}
 use Rattle.std.proofs.lemmas.Slice.Eq.{slice_eq-Decides}
 use Rattle.std.proofs.lemmas.Bool.Decides.{Decides-eqb}
 use denote.Enum.Bare.{sameb, same_true, true_same}
+use Rattle.shogi_board.specs.Layout.{Layout}
+use Rattle.shogi_board.specs.Pieces.{same_color, same_kind, same, place_of, is_promoted}
 use Rattle.shogi_board.specs.Placed.{Placed}
+use Rattle.shogi_board.specs.Same.{same_cell, same_position}
 use Rattle.shogi_board.specs.declared.color.Color.{Color}
+use Rattle.shogi_board.specs.declared.color.Color.TheVariants.{Black, White}
 use Rattle.shogi_board.specs.declared.kind.Kind.{Kind}
+use Rattle.shogi_board.specs.declared.kind.Kind.TheVariants.{Pawn, Lance, Knight, Silver, Gold, Bishop, Rook, King, ProPawn, ProLance, ProKnight, ProSilver, Horse, Dragon}
 use Rattle.shogi_board.specs.declared.kind.Piece.{Piece}
 use Rattle.shogi_board.specs.contracts.color.Color as color
 use Rattle.shogi_board.specs.contracts.kind.Kind as kind
@@ -19,7 +24,7 @@ use Rattle.shogi_board.specs.contracts.kind.PiecePartialEq.TheImpl.{eq-value}
 use Rattle.shogi_board.specs.contracts.position.PositionOrd.TheImpl.{cmp-value}
 use Rattle.shogi_board.specs.contracts.position.PositionOrd.TheImpl.Laws as laws
 
-color-eq : (a b : Color) → Decides (sameb color.the_type a b) (a ≡ b)
+pub color-eq : (a b : Color) → Decides (sameb color.the_type a b) (a ≡ b)
 color-eq a b = (λ h. same_true color.the_type (search rules) a b h, true_same color.the_type a b)
 
 kind-eq : (a b : Kind) → Decides (sameb kind.the_type a b) (a ≡ b)
@@ -48,7 +53,7 @@ piece-eq a b = (
   λ h. and-both _ _ ((color-eq a.color b.color).1 (ap (λ (p : Piece). p.color) h)) ((kind-eq a.kind b.kind).1 (ap (λ (p : Piece). p.kind) h)),
 )
 
-cell-eq : (a b : Option Piece) → Decides (option_eq eq-value.it a b) (a ≡ b)
+pub cell-eq : (a b : Option Piece) → Decides (option_eq eq-value.it a b) (a ≡ b)
 cell-eq None None = (λ h. refl, λ h. refl)
 cell-eq None (Some y) = (λ h. cc, λ h. cc)
 cell-eq (Some x) None = (λ h. cc, λ h. cc)
@@ -96,3 +101,107 @@ exact-positions a b =
 
 pub total-positions : IsTotalOrder cmp-value.it
 total-positions = laws.total-law
+
+color-same : (a b : Color) → Decides (same_color a b) (a ≡ b)
+color-same Black Black = (λ _. refl, λ _. refl)
+color-same White White = (λ _. refl, λ _. refl)
+color-same Black White = (λ h. cc, λ h. cc)
+color-same White Black = (λ h. cc, λ h. cc)
+
+same-bool : (a b : Bool) → Decides (same a b) (a ≡ b)
+same-bool true true = (λ _. refl, λ _. refl)
+same-bool true false = (λ h. cc, λ h. cc)
+same-bool false true = (λ h. cc, λ h. cc)
+same-bool false false = (λ _. refl, λ _. refl)
+
+-- the kind of a place, promoted or not
+abbrev kind-at : ℕ → Bool → Kind
+kind-at n true = get_or (ProPawn ∷ ProLance ∷ ProKnight ∷ ProSilver ∷ Gold ∷ Horse ∷ Dragon ∷ []) n Pawn
+kind-at n false = get_or (Pawn ∷ Lance ∷ Knight ∷ Silver ∷ Gold ∷ Bishop ∷ Rook ∷ King ∷ []) n Pawn
+
+kind-there : (k : Kind) → kind-at (place_of k) (is_promoted k) ≡ k
+kind-there Pawn = refl
+kind-there Lance = refl
+kind-there Knight = refl
+kind-there Silver = refl
+kind-there Gold = refl
+kind-there Bishop = refl
+kind-there Rook = refl
+kind-there King = refl
+kind-there ProPawn = refl
+kind-there ProLance = refl
+kind-there ProKnight = refl
+kind-there ProSilver = refl
+kind-there Horse = refl
+kind-there Dragon = refl
+
+kind-same : (a b : Kind) → Decides (same_kind a b) (a ≡ b)
+kind-same a b = (
+  λ h.
+      let places : place_of a ≡ place_of b = (Decides-eqb (place_of a) (place_of b)).0 (and-left _ _ h) in
+      let forms : is_promoted a ≡ is_promoted b = (same-bool (is_promoted a) (is_promoted b)).0 (and-right _ _ h) in
+      sym (kind-there a) ∙ (ap (λ (n : ℕ). kind-at n (is_promoted a)) places ∙ (ap (kind-at (place_of b)) forms ∙ kind-there b)),
+  λ h. and-both _ _ ((Decides-eqb (place_of a) (place_of b)).1 (ap place_of h)) ((same-bool (is_promoted a) (is_promoted b)).1 (ap is_promoted h)),
+)
+
+some-piece : (x y : Piece) → Some x ≡ Some y → x ≡ y
+some-piece x y h = cc
+
+cell-same : (a b : Option Piece) → Decides (same_cell a b) (a ≡ b)
+cell-same None None = (λ h. refl, λ h. refl)
+cell-same None (Some y) = (λ h. cc, λ h. cc)
+cell-same (Some x) None = (λ h. cc, λ h. cc)
+cell-same (Some x) (Some y) = (
+  λ h. ap Some (piece-same x y ((color-same x.color y.color).0 (and-left _ _ h)) ((kind-same x.kind y.kind).0 (and-right _ _ h))),
+  λ h.
+      let e : x ≡ y = some-piece x y h in
+      and-both _ _ ((color-same x.color y.color).1 (ap (λ (p : Piece). p.color) e)) ((kind-same x.kind y.kind).1 (ap (λ (p : Piece). p.kind) e)),
+)
+
+cells-same : (a b : List (Option Piece)) → Decides (pointwise same_cell a b) (a ≡ b)
+cells-same a b = slice_eq-Decides cell-same a b _ refl
+
+-- positions are the same where they are equal
+pub position-same : (a b : Placed) → Decides (same_position a b) (a ≡ b)
+position-same a b = (
+  λ h.
+      let h1 = and-right _ _ h in
+      let h2 = and-right _ _ h1 in
+      placed-same a b ((cells-same a.board b.board).0 (and-left _ _ h)) ((counts-eq a.black b.black).0 (and-left _ _ h1))
+      ((counts-eq a.white b.white).0 (and-left _ _ h2)) ((color-same a.side b.side).0 (and-right _ _ h2)),
+  λ h. and-both _ _ ((cells-same a.board b.board).1 (ap (λ (p : Placed). p.board) h))
+      (and-both _ _ ((counts-eq a.black b.black).1 (ap (λ (p : Placed). p.black) h))
+      (and-both _ _ ((counts-eq a.white b.white).1 (ap (λ (p : Placed). p.white) h)) ((color-same a.side b.side).1 (ap (λ (p : Placed). p.side) h)))),
+)
+
+one-test : (a b : Bool) (P : Type 0) → Decides a P → Decides b P → a ≡ b
+one-test true true P d e = refl
+one-test false false P d e = refl
+one-test true false P d e = sym (e.1 (d.0 refl))
+one-test false true P d e = d.1 (e.0 refl)
+
+-- what `==` answers is whether they are the same
+pub eq-same : (a b : Placed) → placed_eq a b ≡ same_position a b
+eq-same a b = one-test (placed_eq a b) (same_position a b) (a ≡ b) (placed-eq a b) (position-same a b)
+
+abbrev laid : List (Option Piece) → List ℕ → List ℕ → Bool → Layout
+laid x y z r = record { board = x; black = y; white = z; rest_given = r }
+
+layout-same : (a b : Layout) → a.board ≡ b.board → a.black ≡ b.black → a.white ≡ b.white → a.rest_given ≡ b.rest_given → a ≡ b
+layout-same a b p q r s =
+    ap (λ x. laid x a.black a.white a.rest_given) p
+    ∙ (ap (λ x. laid b.board x a.white a.rest_given) q
+    ∙ (ap (λ x. laid b.board b.black x a.rest_given) r ∙ ap (λ x. laid b.board b.black b.white x) s))
+
+-- setups compare as equal where they are equal
+pub layout-eq : (a b : Layout) → Decides (pointwise (option_eq eq-value.it) a.board b.board && (pointwise nat_eq a.black b.black && (pointwise nat_eq a.white b.white && beq a.rest_given b.rest_given))) (a ≡ b)
+layout-eq a b = (
+  λ h.
+      let h1 = and-right _ _ h in
+      let h2 = and-right _ _ h1 in
+      layout-same a b ((cells-eq a.board b.board).0 (and-left _ _ h)) ((counts-eq a.black b.black).0 (and-left _ _ h1))
+      ((counts-eq a.white b.white).0 (and-left _ _ h2)) ((booleans_Decides a.rest_given b.rest_given).0 (and-right _ _ h2)),
+  λ h. and-both _ _ ((cells-eq a.board b.board).1 (ap (λ (p : Layout). p.board) h))
+      (and-both _ _ ((counts-eq a.black b.black).1 (ap (λ (p : Layout). p.black) h))
+      (and-both _ _ ((counts-eq a.white b.white).1 (ap (λ (p : Layout). p.white) h)) ((booleans_Decides a.rest_given b.rest_given).1 (ap (λ (p : Layout). p.rest_given) h)))),
+)

@@ -200,7 +200,7 @@ black-seen a d ray far sight =
 white-safe : Attacked even_cells White white_king → ⊥
 unfolding white_king
 white-safe (a, attack) =
-    let far : 7 ≤ a.rank = black-rank a attack.attacker attack.stands attack.enemy in
+    let far : 7 ≤ a.rank = black-rank a attack.reach.mover attack.reach.stands attack.enemy in
     let reach = attack.reach in
     elim reach.moves [
       | inl step ↦
@@ -213,7 +213,7 @@ white-safe (a, attack) =
 black-safe : Attacked even_cells Black black_king → ⊥
 unfolding black_king
 black-safe (a, attack) =
-    let far : a.rank ≤ 3 = white-rank a attack.attacker attack.stands attack.enemy in
+    let far : a.rank ≤ 3 = white-rank a attack.reach.mover attack.reach.stands attack.enemy in
     let reach = attack.reach in
     elim reach.moves [
       | inl step ↦

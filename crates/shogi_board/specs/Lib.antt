@@ -5,6 +5,7 @@ pub mod Neighbours
 pub mod Pieces
 pub mod Placed
 pub mod Reach
+pub mod Same
 pub mod Setup
 pub mod Sound
 pub mod Squares

@@ -1,5 +1,5 @@
 -- The sides and the kinds of pieces.
-use Rattle.std.specs.Prelude.{ℕ, Bool, true, false, ◌==◌, ◌&&◌}
+use Rattle.std.specs.Prelude.{ℕ, Bool, true, false, ◌==◌, ◌&&◌, Option, Some, None}
 use Rattle.shogi_board.specs.declared.color.Color.{Color}
 use Rattle.shogi_board.specs.declared.color.Color.TheVariants.{Black, White}
 use Rattle.shogi_board.specs.declared.kind.Kind.{Kind}
@@ -40,6 +40,26 @@ is_promoted ProSilver = true
 is_promoted Horse = true
 is_promoted Dragon = true
 is_promoted _ = false
+
+-- the kind that a piece of this kind promotes to
+abbrev pub promoted : Kind → Option Kind
+promoted Pawn = Some ProPawn
+promoted Lance = Some ProLance
+promoted Knight = Some ProKnight
+promoted Silver = Some ProSilver
+promoted Bishop = Some Horse
+promoted Rook = Some Dragon
+promoted _ = None
+
+-- the kind that it has in a hand
+abbrev pub unpromoted : Kind → Kind
+unpromoted ProPawn = Pawn
+unpromoted ProLance = Lance
+unpromoted ProKnight = Knight
+unpromoted ProSilver = Silver
+unpromoted Horse = Bishop
+unpromoted Dragon = Rook
+unpromoted kind = kind
 
 abbrev pub is_king : Kind → Bool
 is_king King = true

@@ -35,12 +35,10 @@ pub record Reach (cells : Cells) (a b : Square) : Type 0 where
   pub stands : at cells a ≡ Some mover
   pub moves : Steps mover a b ⊎ Slides cells mover a b
 
--- an enemy piece of that colour stands on a and reaches b
+-- the piece on a is an enemy of that colour and reaches b
 pub record Attack (cells : Cells) (color : Color) (a b : Square) : Type 0 where
-  pub attacker : Piece
-  pub stands : at cells a ≡ Some attacker
-  pub enemy : attacker.color ≡ opponent color
   pub reach : Reach cells a b
+  pub enemy : reach.mover.color ≡ opponent color
 
 -- some enemy piece of that colour reaches the square
 abbrev pub Attacked : Cells → Color → Square → Type 0

@@ -29,7 +29,7 @@ abbrev pub position_of : Layout → Color → Placed
 position_of s side = record { board = s.board; black = s.black; white = s.white; side = side }
 
 -- the first fault of a list whose condition holds
-abbrev pub first_fault : List (SetupFault × Bool) → Option SetupFault
+abbrev pub first_fault : {Fault : Type 0} → List (Fault × Bool) → Option Fault
 first_fault [] = None
 first_fault (f ∷ fs) = if f.1 then Some f.0 else first_fault fs
 

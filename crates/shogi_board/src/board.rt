@@ -1,7 +1,7 @@
-ghost use Rattle.std.specs.Prelude.{◌≡◌, ◌≤◌, ◌<◌, ◌↔◌, IsTrue, MatchOption, count_by, slice_set};
+ghost use Rattle.std.specs.Prelude.{◌≡◌, ◌≤◌, ◌<◌, ◌↔◌, IsTrue, MatchOption, count_by, slice_set, length};
 ghost use Rattle.shogi_board.specs.Cells.{at, piece, even_cells, no_cells, HasPawnOnFile};
 ghost use Rattle.shogi_board.specs.Moves.{IsRay};
-ghost use Rattle.shogi_board.specs.Reach.{Reach, Attack, Attacked, InSight, Slides, Steps};
+ghost use Rattle.shogi_board.specs.Reach.{Reach, Attack, Attacked, InCheck, InSight, Slides, Steps};
 ghost use Rattle.shogi_board.specs.Setup.{holds};
 ghost use Rattle.shogi_board.specs.Squares.{place};
 ghost use Rattle.shogi_board.specs.Totals.{is_of, kings_of, is_king_of};
@@ -160,6 +160,18 @@ impl Board {
             }
         }
         false
+    }
+
+    // Whether that side has a king and it is attacked. It has at most one.
+    pub(crate) fn in_check(&self, color: Color) -> bool
+        requires squares { length self.now ≡ 81 }
+        requires one_king { kings_of self.now color ≤ 1 }
+        ensures { IsTrue result ↔ InCheck self.now color }
+    {
+        match self.king(color) {
+            Some(king) => self.attacked(color, king),
+            None => false,
+        }
     }
 
     // Whether an enemy piece of that colour stands on the one square and reaches the other.

@@ -1,5 +1,5 @@
 ghost use Rattle.std.specs.Prelude.{◌≡◌, ◌<◌, ◌≤◌};
-ghost use Rattle.shogi_board.specs.Pieces.{in_hand, is_king, place_of};
+ghost use Rattle.shogi_board.specs.Pieces.{in_hand, is_king, is_promoted, promoted, unpromoted, place_of};
 ghost use Rattle.shogi_board.specs.Totals.{limit};
 
 use crate::color::Color;
@@ -38,6 +38,51 @@ impl Kind {
                 | Kind::Bishop
                 | Kind::Rook
         )
+    }
+
+    /// Whether it is one of the six promoted kinds.
+    pub fn is_promoted(self) -> bool
+        ensures { result ≡ is_promoted self }
+    {
+        matches!(
+            self,
+            Kind::ProPawn
+                | Kind::ProLance
+                | Kind::ProKnight
+                | Kind::ProSilver
+                | Kind::Horse
+                | Kind::Dragon
+        )
+    }
+
+    /// The kind that a piece of this kind promotes to, or None for the gold, the king and the promoted kinds.
+    pub fn promoted(self) -> Option<Kind>
+        ensures { result ≡ promoted self }
+    {
+        match self {
+            Kind::Pawn => Some(Kind::ProPawn),
+            Kind::Lance => Some(Kind::ProLance),
+            Kind::Knight => Some(Kind::ProKnight),
+            Kind::Silver => Some(Kind::ProSilver),
+            Kind::Bishop => Some(Kind::Horse),
+            Kind::Rook => Some(Kind::Dragon),
+            _ => None,
+        }
+    }
+
+    /// The kind that a promoted piece has in a hand; each other kind is its own.
+    pub fn unpromoted(self) -> Kind
+        ensures { result ≡ unpromoted self }
+    {
+        match self {
+            Kind::ProPawn => Kind::Pawn,
+            Kind::ProLance => Kind::Lance,
+            Kind::ProKnight => Kind::Knight,
+            Kind::ProSilver => Kind::Silver,
+            Kind::Horse => Kind::Bishop,
+            Kind::Dragon => Kind::Rook,
+            kind => kind,
+        }
     }
 
     pub(crate) fn is_king(self) -> bool

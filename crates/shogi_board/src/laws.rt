@@ -4,11 +4,16 @@
 
 ghost use Rattle.std.specs.Prelude.{◌≡◌, ◌<◌, ◌≤◌, ◌↔◌, ◌⊎◌, true, length};
 ghost use Rattle.std.specs.Cmp.{IsTotalOrder};
+ghost use Rattle.std.specs.Cmp.Lexicographic.{slice_cmp};
+ghost use Rattle.std.specs.Option.{option_cmp};
+ghost use Rattle.std.specs.Ordering.{ordering_then, nat_cmp};
 ghost use Rattle.std.specs.declared.cmp.Ordering.TheVariants.{Equal, Less};
 ghost use Rattle.shogi_board.specs.Cells.{Cells, at, piece, even_cells};
+ghost use Rattle.shogi_board.specs.Layout.{Layout};
 ghost use Rattle.shogi_board.specs.Neighbours.{IsAmong, gold_squares, beside, with_cell};
 ghost use Rattle.shogi_board.specs.Placed.{Placed, even_start};
 ghost use Rattle.shogi_board.specs.Reach.{Reach, InCheck};
+ghost use Rattle.shogi_board.specs.Same.{same_position};
 ghost use Rattle.shogi_board.specs.Setup.{even_layout, position_of};
 ghost use Rattle.shogi_board.specs.Sound.{IsSound};
 ghost use Rattle.shogi_board.specs.Squares.{rank_of, place};
@@ -18,7 +23,10 @@ ghost use Rattle.shogi_board.specs.declared.color.Color.TheVariants.{Black};
 ghost use Rattle.shogi_board.specs.declared.kind.Kind.TheVariants.{Gold, Bishop, Horse, Knight};
 ghost use Rattle.shogi_board.specs.declared.square.Square.{Square};
 
+use crate::color::Color;
+use crate::kind::Piece;
 use crate::position::Position;
+use crate::setup::Setup;
 use crate::square::Square;
 
 /// A piece reaches a square exactly where, all turned round, the other side's piece reaches the square turned round.
@@ -48,15 +56,24 @@ pub fn even_is_sound()
     ensures set_up { position_of even_layout Black ≡ even_start }
 {}
 
-/// Two positions are equal exactly where board, hands and side to move are.
+/// Two positions are equal exactly where they are the same: each square holds the same, both hands are the same, and the same
+/// side is to move.
 pub fn equal_positions()
-    ensures { (p q : Placed) → (⟦<Position as PartialEq>⟧.eq p q ≡ true) ↔ (p ≡ q) }
+    ensures same { (p q : Placed) → ⟦<Position as PartialEq>⟧.eq p q ≡ same_position p q }
+    ensures exact { (p q : Placed) → (⟦<Position as PartialEq>⟧.eq p q ≡ true) ↔ (p ≡ q) }
 {}
 
-/// Positions are in a total order, in which only equal ones compare as equal.
+/// Two setups are equal exactly where boards and hands are, and the rest was given in both or in neither.
+pub fn equal_setups()
+    ensures exact { (s t : Layout) → (⟦<Setup as PartialEq>⟧.eq s t ≡ true) ↔ (s ≡ t) }
+{}
+
+/// Positions are in a total order, in which only equal ones compare as equal: by the board, then by black's hand, then by
+/// white's, then by the side to move.
 pub fn ordered_positions()
     ensures total { IsTotalOrder ⟦<Position as Ord>⟧.cmp }
     ensures exact { (p q : Placed) → (⟦<Position as Ord>⟧.cmp p q ≡ Equal) ↔ (p ≡ q) }
+    ensures by_parts { (p q : Placed) → ⟦<Position as Ord>⟧.cmp p q ≡ ordering_then (slice_cmp (option_cmp ⟦<Piece as Ord>⟧.cmp) p.board q.board) (ordering_then (slice_cmp nat_cmp p.black q.black) (ordering_then (slice_cmp nat_cmp p.white q.white) (⟦<Color as Ord>⟧.cmp p.side q.side))) }
 {}
 
 /// Squares are in a total order, that of their files and then of their ranks.

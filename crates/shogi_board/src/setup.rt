@@ -1,6 +1,7 @@
-ghost use Rattle.std.specs.Prelude.{◌≡◌, ◌≤◌, None, Some, MatchResult, OnOk, OnErr, IfOk};
+ghost use Rattle.std.specs.Prelude.{◌≡◌, ◌≤◌, None, Some, MatchResult, OnOk, OnErr, IfOk, ◌↔◌, IsTrue};
 ghost use Rattle.shogi_board.specs.Pieces.{opponent};
-ghost use Rattle.shogi_board.specs.Totals.{total, limit};
+ghost use Rattle.shogi_board.specs.Sound.{IsSound};
+ghost use Rattle.shogi_board.specs.Totals.{total, limit, IsWithinTotals};
 ghost use Rattle.shogi_board.specs.Reach.{InCheck};
 ghost use Rattle.shogi_board.specs.Setup.{empty_layout, even_layout, position_of, is_full, place_fault, placed, add_fault, take_off_fault, taken_off, take_hand_fault, rest_fault, with_rest, count_with_rest, with_hand, hand_of, rest_to, one_more, one_less};
 ghost use Rattle.shogi_board.specs.declared.setup.SetupFault.TheVariants.{OpponentInCheck};
@@ -219,12 +220,11 @@ impl Setup {
             (λ p. InCheck self.now.board (opponent side) → ⊥)
             (λ fault. InCheck self.now.board (opponent side) × (fault ≡ OpponentInCheck)) }
         ensures value { IfOk result (λ p. p ≡ position_of self.now side) }
+        ensures sound { IfOk result (λ p. IsSound p) }
+        ensures within { IsWithinTotals self.now.board self.now.black self.now.white }
     {
-        let other = side.opponent();
-        if let Some(king) = self.board.king(other) {
-            if self.board.attacked(other, king) {
-                return Err(SetupFault::OpponentInCheck);
-            }
+        if self.leaves_check(side) {
+            return Err(SetupFault::OpponentInCheck);
         }
         Ok(Position {
             board: self.board,
@@ -232,6 +232,14 @@ impl Setup {
             white: self.white,
             side,
         })
+    }
+
+    // Whether the king of the other side stands and is attacked, with that side to move.
+    fn leaves_check(&self, side: Color) -> bool
+        ensures value { IsTrue result ↔ InCheck self.now.board (opponent side) }
+        ensures within { IsWithinTotals self.now.board self.now.black self.now.white }
+    {
+        self.board.in_check(side.opponent())
     }
 
     fn hand(&self, color: Color) -> Hand

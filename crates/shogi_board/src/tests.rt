@@ -444,6 +444,22 @@ fn positions_and_their_parts(rt: HostRuntime) -> Result<(), Fail> {
     assert_eq!(rt; even.king(white), Some(on(51)?));
     assert_eq!(rt; black.opponent(), white);
     assert!(rt; Kind::Rook.in_hand() && !Kind::King.in_hand() && !Kind::Horse.in_hand());
+    for (kind, promoted) in [
+        (Kind::Pawn, Some(Kind::ProPawn)),
+        (Kind::Gold, None),
+        (Kind::Rook, Some(Kind::Dragon)),
+        (Kind::King, None),
+        (Kind::Horse, None),
+    ] {
+        assert_eq!(rt; kind.promoted(), promoted);
+        assert_eq!(rt; kind.is_promoted(), kind == Kind::Horse);
+        let back = match promoted {
+            Some(form) => form.unpromoted(),
+            None => kind,
+        };
+        assert_eq!(rt; back, kind);
+    }
+    assert_eq!(rt; Kind::Horse.unpromoted(), Kind::Bishop);
     for (number, file, rank) in [(28, 2, 8), (91, 9, 1), (19, 1, 9)] {
         let square = on(number)?;
         assert_eq!(rt; (square.file(), square.rank()), (file, rank));

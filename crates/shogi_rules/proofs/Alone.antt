@@ -2,8 +2,8 @@
 use Rattle.std.proofs.Common.{[], ◌∷◌, arith}
 use Rattle.std.proofs.lemmas.List.Sums.{count_by-le-length}
 use Rattle.shogi_board.specs.Placed.{Placed}
-use Rattle.shogi_board.specs.contracts.position.PositionPartialEq.TheImpl.{eq-value}
+use Rattle.shogi_board.specs.Same.{same_position}
 use Rattle.shogi_rules.specs.Repetition.{Over}
 
 pub not-over-alone : (p : Placed) → Over (p ∷ []) p → ⊥
-not-over-alone p h = let few = count_by-le-length (λ (q : Placed). eq-value.it q p) (p ∷ []) in omega (arith, few)
+not-over-alone p h = let few = count_by-le-length (λ (q : Placed). same_position q p) (p ∷ []) in omega (arith, few)

@@ -11,3 +11,5 @@ pub mod Kept
 pub mod Stretches
 pub mod Once
 pub mod Counts
+pub mod Decided
+pub mod Standing

@@ -5,10 +5,10 @@ use Rattle.std.proofs.lemmas.List.{take-take}
 use Rattle.std.proofs.lemmas.List.Sums.{count_by_more_yes, sum_by-take-le}
 use Rattle.std.proofs.lemmas.Option.{slice_get_within, get_or_from_slice_get}
 use Rattle.shogi_board.specs.Placed.{Placed}
-use Rattle.shogi_board.specs.contracts.position.PositionPartialEq.TheImpl.{eq-value}
+use Rattle.shogi_board.specs.Same.{same_position}
 use Rattle.shogi_board.specs.declared.color.Color.{Color}
 use Rattle.shogi_board.specs.declared.color.Color.TheVariants.{Black, White}
-use Rattle.shogi_board.proofs.Same.{placed-eq}
+use Rattle.shogi_board.proofs.Same.{position-same}
 use Rattle.shogi_rules.specs.Repetition.{times, IsNth, IsStretch}
 use Rattle.shogi_rules.specs.Verdicts.{PressedAlone, IsPerpetual, IsRepetition, StandsByMoves, StandsByStretch, Stands}
 use Rattle.shogi_rules.specs.declared.line.Verdict.{Verdict}
@@ -18,9 +18,9 @@ use Rattle.shogi_rules.specs.declared.line.Verdict.TheVariants.{Ongoing, Mate, N
 later : (ps : List Placed) (p : Placed) (i j : ℕ) → slice_get ps i ≡ Some p → i < j → times (take i ps) p + 1 ≤ times (take j ps) p
 later ps p i j there low =
     let here : get_or ps i p ≡ p = get_or_from_slice_get ps i p p there in
-    let self : eq-value.it (get_or ps i p) p ≡ true = rw here ((placed-eq p p).1 refl) in
-    let one = count_by_more_yes (λ (q : Placed). eq-value.it q p) ps i p (slice_get_within ps i p there) self in
-    let le = sum_by-take-le (λ (q : Placed). cond (eq-value.it q p) 1 0) (take j ps) (i + 1) in
+    let self : same_position (get_or ps i p) p ≡ true = rw here ((position-same p p).1 refl) in
+    let one = count_by_more_yes (λ (q : Placed). same_position q p) ps i p (slice_get_within ps i p there) self in
+    let le = sum_by-take-le (λ (q : Placed). cond (same_position q p) 1 0) (take j ps) (i + 1) in
     let same : take (i + 1) (take j ps) ≡ take (i + 1) ps = take-take (i + 1) j ps (omega arith) in
     let fewer : times (take (i + 1) ps) p ≤ times (take j ps) p = rw same at le in
     omega (arith, one, fewer)

@@ -13,6 +13,7 @@ use Rattle.shogi_board.specs.declared.kind.Kind.{Kind}
 use Rattle.shogi_board.specs.declared.kind.Kind.TheVariants.{King}
 use Rattle.shogi_board.specs.declared.kind.Piece.{Piece}
 use Rattle.shogi_board.specs.declared.square.Square.{Square}
+use Rattle.shogi_board.proofs.Pieces.{mover-is}
 use Rattle.shogi_board.proofs.Squares.{place-bound}
 use Rattle.shogi_rules.specs.After.{after}
 use Rattle.shogi_rules.specs.Kinds.{promoted, unpromoted}
@@ -102,10 +103,8 @@ no-king-taken p from to its_kind x s there king =
       (
         from,
         record {
-          attacker = record { color = p.side; kind = s.was };
-          stands = s.stands;
-          enemy = sym (opponent-twice p.side);
           reach = s.fits.reaches;
+          enemy = rw (mover-is p.board from to (record { color = p.side; kind = s.was }) s.stands s.fits.reaches) (sym (opponent-twice p.side));
         },
       ),
     )

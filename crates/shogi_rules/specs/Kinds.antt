@@ -1,31 +1,12 @@
--- Promotion, and where a piece may stand.
-use Rattle.std.specs.Prelude.{ℕ, ◌-◌, ◌≤◌, Option, Some, None}
+-- Where a piece may promote, and where it may stand.
+use Rattle.std.specs.Prelude.{ℕ, ◌-◌, ◌≤◌}
 use Rattle.shogi_board.specs.declared.color.Color.{Color}
 use Rattle.shogi_board.specs.declared.color.Color.TheVariants.{Black, White}
 use Rattle.shogi_board.specs.declared.kind.Kind.{Kind}
-use Rattle.shogi_board.specs.declared.kind.Kind.TheVariants.{Pawn, Lance, Knight, Silver, Bishop, Rook, ProPawn, ProLance, ProKnight, ProSilver, Horse, Dragon}
+use Rattle.shogi_board.specs.declared.kind.Kind.TheVariants.{Pawn, Lance, Knight}
 use Rattle.shogi_board.specs.declared.square.Square.{Square}
 use Rattle.shogi_board.specs.Squares.{rank_of}
-
--- the kind that a piece of this kind promotes to
-abbrev pub promoted : Kind → Option Kind
-promoted Pawn = Some ProPawn
-promoted Lance = Some ProLance
-promoted Knight = Some ProKnight
-promoted Silver = Some ProSilver
-promoted Bishop = Some Horse
-promoted Rook = Some Dragon
-promoted _ = None
-
--- the kind that it has in a hand
-abbrev pub unpromoted : Kind → Kind
-unpromoted ProPawn = Pawn
-unpromoted ProLance = Lance
-unpromoted ProKnight = Knight
-unpromoted ProSilver = Silver
-unpromoted Horse = Bishop
-unpromoted Dragon = Rook
-unpromoted kind = kind
+pub use Rattle.shogi_board.specs.Pieces.{promoted, unpromoted}
 
 -- the rank as that side counts it, its last rank being 1
 abbrev pub rank_for : Color → Square → ℕ

@@ -5,7 +5,7 @@ use Rattle.shogi_rules.specs.declared.line.PlayFault.{PlayFault}
 use Rattle.shogi_rules.specs.declared.line.PlayFault.TheVariants.{TooManyMoves, Broken, OutOfMemory}
 use Rattle.shogi_rules.specs.declared.moves.Move.{Move}
 use Rattle.shogi_rules.specs.declared.rule.Rule.{Rule}
-use Rattle.shogi_rules.specs.Positions.{Played, now_of, all_of}
+use Rattle.shogi_rules.specs.Positions.{Played, max_moves, now_of, all_of}
 use Rattle.shogi_rules.specs.Rules.{Kept, all_rules, IsFirstBroken}
 
 -- the first rule that the move breaks, over all positions of the line
@@ -14,7 +14,7 @@ Breaks line color m rule = IsFirstBroken (Kept (all_of line) (now_of line) color
 
 -- memory aside: too many moves, else the first broken rule, else none
 abbrev pub Answers : Played → Color → Move → Option PlayFault → Type 0
-Answers line color m None = (length line.moves < 10000) × Breaks line color m None
-Answers line color m (Some TooManyMoves) = 10000 ≤ length line.moves
-Answers line color m (Some (Broken rule)) = (length line.moves < 10000) × Breaks line color m (Some rule)
+Answers line color m None = (length line.moves < max_moves) × Breaks line color m None
+Answers line color m (Some TooManyMoves) = max_moves ≤ length line.moves
+Answers line color m (Some (Broken rule)) = (length line.moves < max_moves) × Breaks line color m (Some rule)
 Answers line color m (Some OutOfMemory) = ⊥

@@ -1,5 +1,5 @@
 -- A line: a start and the moves from it.
-use Rattle.std.specs.Prelude.{◌≡◌, ◌≤◌, ◌++◌, List, length, [], ◌∷◌}
+use Rattle.std.specs.Prelude.{◌≡◌, ◌≤◌, ◌++◌, ℕ, List, length, [], ◌∷◌}
 use Rattle.shogi_board.specs.Placed.{Placed}
 use Rattle.shogi_rules.specs.declared.moves.Move.{Move}
 use Rattle.shogi_rules.specs.After.{after}
@@ -9,6 +9,10 @@ use Rattle.shogi_rules.specs.Repetition.{Over}
 pub record Played : Type 0 where
   pub start : Placed
   pub moves : List Move
+
+-- a line has at most 10,000 moves
+abbrev pub max_moves : ℕ
+max_moves = 10000
 
 -- the position that the moves lead to
 abbrev pub position_after : Placed → List Move → Placed
@@ -41,4 +45,4 @@ pub record IsLine (start now : Placed) (moves : List Move) (positions : List Pla
   pub leads : now ≡ position_after start moves
   pub all : positions ≡ positions_of start moves
   pub game : IsGame start moves
-  pub few : length moves ≤ 10000
+  pub few : length moves ≤ max_moves

@@ -1,13 +1,13 @@
 -- When a position stands for the fourth time, and who gave check all the while.
 use Rattle.std.specs.Prelude.{◌≡◌, ℕ, ◌+◌, ◌<◌, ◌≤◌, List, Some, take, count_by, slice_get}
-use Rattle.shogi_board.specs.contracts.position.PositionPartialEq.TheImpl.{eq-value}
 use Rattle.shogi_board.specs.declared.color.Color.{Color}
 use Rattle.shogi_board.specs.Placed.{Placed}
 use Rattle.shogi_board.specs.Reach.{InCheck}
+use Rattle.shogi_board.specs.Same.{same_position}
 
 -- how often the position stands in the list, with its board, hands and side to move
 abbrev pub times : List Placed → Placed → ℕ
-times ps p = count_by (λ q. eq-value.it q p) ps
+times ps p = count_by (λ q. same_position q p) ps
 
 -- it stands for the fourth time
 abbrev pub Over : List Placed → Placed → Type 0

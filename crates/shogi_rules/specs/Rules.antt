@@ -1,5 +1,5 @@
 -- The rules in the order in which the first broken one is named.
-use Rattle.std.specs.Prelude.{◌≡◌, ◌⊎◌, List, [], ◌∷◌, Option, Some, None}
+use Rattle.std.specs.Prelude.{◌≡◌, ◌⊎◌, ◌++◌, List, [], ◌∷◌, Option, Some, None}
 use Rattle.shogi_board.specs.declared.color.Color.{Color}
 use Rattle.shogi_board.specs.Placed.{Placed}
 use Rattle.shogi_rules.specs.declared.moves.Move.{Move}
@@ -22,17 +22,21 @@ Kept ps p color m DoubledPawn = LonePawn p m
 Kept ps p color m LeavesKing = KingSafe p m
 Kept ps p color m PawnDropMate = NoDropMate p m
 
+-- the side to move keeps a rule where the position stands for the first time
+abbrev pub KeptAlone : Placed → Move → Rule → Type 0
+KeptAlone p m = Kept (p ∷ []) p p.side m
+
 -- the rules that a look at the board before the move decides
 abbrev pub board_rules : List Rule
 board_rules = NoPiece ∷ WrongKind ∷ Occupied ∷ CannotReach ∷ BadPromotion ∷ MustPromote ∷ DoubledPawn ∷ []
 
 -- the rules 3 to 10
 abbrev pub keeping_rules : List Rule
-keeping_rules = NoPiece ∷ WrongKind ∷ Occupied ∷ CannotReach ∷ BadPromotion ∷ MustPromote ∷ DoubledPawn ∷ LeavesKing ∷ []
+keeping_rules = board_rules ++ LeavesKing ∷ []
 
 -- the rules 3 to 11
 abbrev pub move_rules : List Rule
-move_rules = NoPiece ∷ WrongKind ∷ Occupied ∷ CannotReach ∷ BadPromotion ∷ MustPromote ∷ DoubledPawn ∷ LeavesKing ∷ PawnDropMate ∷ []
+move_rules = keeping_rules ++ PawnDropMate ∷ []
 
 abbrev pub all_rules : List Rule
 all_rules = WrongSide ∷ RepetitionOver ∷ move_rules

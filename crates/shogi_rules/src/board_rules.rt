@@ -1,14 +1,14 @@
 ghost use Rattle.std.specs.Prelude.{◌≡◌, ◌↔◌, IsTrue, MatchOption, IfNone, [], ◌∷◌, ◌⊎◌};
-ghost use Rattle.shogi_board.specs.Cells.{at, piece, HasPawnOnFile};
+ghost use Rattle.shogi_board.specs.Cells.{at, piece};
 ghost use Rattle.shogi_board.specs.declared.kind.Kind.{Kind};
 ghost use Rattle.shogi_rules.specs.Kinds.{promoted};
 ghost use Rattle.shogi_rules.specs.Legal.{target, HasPiece, KindFits, TargetFree, ReachesTarget, MayPromote, HasFurtherMove, LonePawn, FitsBoard};
-ghost use Rattle.shogi_rules.specs.Rules.{Kept, board_rules, IsFirstBroken};
+ghost use Rattle.shogi_rules.specs.Rules.{KeptAlone, board_rules, IsFirstBroken};
 
-use crate::kinds::{in_zone, last_rank, promoted, rank_for};
+use crate::kinds::{in_zone, last_rank, rank_for};
 use crate::moves::Move;
 use crate::rule::Rule;
-use shogi_board::{Color, Kind, Position, Square, reaches};
+use shogi_board::{Kind, Position, Square, reaches};
 
 // The kind of the piece on the square, if it is one of the side to move.
 pub(crate) fn own_kind_at(position: &Position, square: Square) -> Option<Kind>
@@ -40,7 +40,7 @@ fn has_piece(position: &Position, mv: &Move) -> bool
 fn becomes(was: Kind, kind: Kind) -> bool
     ensures { IsTrue result ↔ ((kind ≡ was) ⊎ (promoted was ≡ Some kind)) }
 {
-    kind == was || promoted(was) == Some(kind)
+    kind == was || was.promoted() == Some(kind)
 }
 
 fn kind_fits(position: &Position, mv: &Move) -> bool
@@ -76,10 +76,7 @@ fn reaches_target(position: &Position, mv: &Move) -> bool
 fn keeps_kind(position: &Position, from: Square, kind: Kind) -> bool
     ensures { IsTrue result ↔ (at position.now.board from ≡ piece position.now.side kind) }
 {
-    match own_kind_at(position, from) {
-        Some(was) => was == kind,
-        None => false,
-    }
+    own_kind_at(position, from) == Some(kind)
 }
 
 fn may_promote(position: &Position, mv: &Move) -> bool
@@ -100,13 +97,6 @@ fn has_further_move(position: &Position, mv: &Move) -> bool
     last_rank(mv.kind()) <= rank_for(position.side(), mv.target())
 }
 
-// Whether an unpromoted pawn of that side fills the file of the square.
-fn is_filled(position: &Position, side: Color, square: Square) -> bool
-    ensures { IsTrue result ↔ HasPawnOnFile position.now.board side square }
-{
-    position.pawn_on_file(side, square)
-}
-
 fn is_lone_pawn(position: &Position, mv: &Move) -> bool
     ensures { IsTrue result ↔ LonePawn position.now mv.now }
 {
@@ -114,7 +104,7 @@ fn is_lone_pawn(position: &Position, mv: &Move) -> bool
         Move::Walk { .. } => true,
         Move::Put { to, kind } => {
             if kind == Kind::Pawn {
-                !is_filled(position, position.side(), to)
+                !position.pawn_on_file(position.side(), to)
             } else {
                 true
             }
@@ -124,7 +114,7 @@ fn is_lone_pawn(position: &Position, mv: &Move) -> bool
 
 // The first of the rules 3 to 9 that the side to move breaks by the move.
 pub(crate) fn broken_on_board(position: &Position, mv: &Move) -> Option<Rule>
-    ensures first { IsFirstBroken (Kept (position.now ∷ []) position.now position.now.side mv.now) board_rules result }
+    ensures first { IsFirstBroken (KeptAlone position.now mv.now) board_rules result }
     ensures fits { IfNone result (FitsBoard position.now mv.now) }
 {
     if !has_piece(position, mv) {

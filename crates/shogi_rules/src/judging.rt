@@ -1,18 +1,19 @@
-ghost use Rattle.std.specs.Prelude.{◌≡◌, ◌↔◌, [], ◌∷◌, None};
+ghost use Rattle.std.specs.Prelude.{◌≡◌, ◌↔◌, [], ◌∷◌, None, Some};
+ghost use Rattle.shogi_rules.specs.declared.rule.Rule.TheVariants.{RepetitionOver};
 ghost use Rattle.shogi_rules.specs.Legal.{Legal};
-ghost use Rattle.shogi_rules.specs.Rules.{Kept, move_rules, all_rules, IsFirstBroken};
+ghost use Rattle.shogi_rules.specs.Rules.{Kept, KeptAlone, move_rules, all_rules, IsFirstBroken};
 
 use crate::moves::Move;
-use crate::playing::attempt;
+use crate::playing::after_if_kept;
 use crate::rule::Rule;
 use crate::search::{is_mated, is_pawn_drop};
 use shogi_board::{Color, Position};
 
 // The first of the rules 3 to 11 that the side to move breaks by the move.
 pub(crate) fn broken_by_side(position: &Position, mv: &Move) -> Option<Rule>
-    ensures { IsFirstBroken (Kept (position.now ∷ []) position.now position.now.side mv.now) move_rules result }
+    ensures { IsFirstBroken (KeptAlone position.now mv.now) move_rules result }
 {
-    match attempt(position, mv) {
+    match after_if_kept(position, mv) {
         Err(rule) => Some(rule),
         Ok(next) => {
             if is_pawn_drop(mv) && is_mated(&next) {
@@ -29,6 +30,7 @@ pub(crate) fn broken_by_side(position: &Position, mv: &Move) -> Option<Rule>
 /// The position is taken to stand for the first time, so it never answers RepetitionOver.
 pub fn judge(position: &Position, mover: Color, mv: &Move) -> Option<Rule>
     ensures first { IsFirstBroken (Kept (position.now ∷ []) position.now mover mv.now) all_rules result }
+    ensures once { result ≡ Some RepetitionOver → ⊥ }
     ensures legal { (result ≡ None) ↔ ((mover ≡ position.now.side) × Legal position.now mv.now) }
 {
     if mover != position.side() {

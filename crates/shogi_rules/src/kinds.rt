@@ -1,37 +1,7 @@
 ghost use Rattle.std.specs.Prelude.{◌≡◌, ◌↔◌, IsTrue};
-ghost use Rattle.shogi_rules.specs.Kinds.{promoted, unpromoted, rank_for, InZone, last_rank};
+ghost use Rattle.shogi_rules.specs.Kinds.{rank_for, InZone, last_rank};
 
 use shogi_board::{Color, Kind, Square};
-
-// The kind that a piece of this kind promotes to.
-pub(crate) fn promoted(kind: Kind) -> Option<Kind>
-    ensures { result ≡ promoted kind }
-{
-    match kind {
-        Kind::Pawn => Some(Kind::ProPawn),
-        Kind::Lance => Some(Kind::ProLance),
-        Kind::Knight => Some(Kind::ProKnight),
-        Kind::Silver => Some(Kind::ProSilver),
-        Kind::Bishop => Some(Kind::Horse),
-        Kind::Rook => Some(Kind::Dragon),
-        _ => None,
-    }
-}
-
-// The kind that it has in a hand.
-pub(crate) fn unpromoted(kind: Kind) -> Kind
-    ensures { result ≡ unpromoted kind }
-{
-    match kind {
-        Kind::ProPawn => Kind::Pawn,
-        Kind::ProLance => Kind::Lance,
-        Kind::ProKnight => Kind::Knight,
-        Kind::ProSilver => Kind::Silver,
-        Kind::Horse => Kind::Bishop,
-        Kind::Dragon => Kind::Rook,
-        _ => kind,
-    }
-}
 
 // The rank as that side counts it, its last rank being 1.
 pub(crate) fn rank_for(color: Color, square: Square) -> u8

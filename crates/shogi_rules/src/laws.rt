@@ -2,7 +2,7 @@
 //!
 //! A law is a function that does nothing: its contract is the law.
 
-ghost use Rattle.std.specs.Prelude.{◌≡◌, ℕ, ◌+◌, ◌↔◌, List, [], ◌∷◌, Option};
+ghost use Rattle.std.specs.Prelude.{◌≡◌, ℕ, ◌+◌, ◌↔◌, List, [], ◌∷◌, Option, Some, slice_get, length};
 ghost use Rattle.shogi_board.specs.Cells.{at, piece};
 ghost use Rattle.shogi_board.specs.Pieces.{opponent};
 ghost use Rattle.shogi_board.specs.Placed.{Placed};
@@ -17,7 +17,7 @@ ghost use Rattle.shogi_rules.specs.After.{after};
 ghost use Rattle.shogi_rules.specs.Legal.{HasPiece, ReachesTarget, Legal};
 ghost use Rattle.shogi_rules.specs.Order.{IsFirstLegal};
 ghost use Rattle.shogi_rules.specs.Play.{Answers};
-ghost use Rattle.shogi_rules.specs.Positions.{Played, position_after, IsGame};
+ghost use Rattle.shogi_rules.specs.Positions.{Played, position_after, IsGame, now_of, all_of};
 ghost use Rattle.shogi_rules.specs.Repetition.{times, IsNth};
 ghost use Rattle.shogi_rules.specs.Rules.{Kept, all_rules, IsFirstBroken};
 ghost use Rattle.shogi_rules.specs.Verdicts.{Stands};
@@ -62,9 +62,19 @@ pub fn one_first_broken_rule()
     ensures { (ps : List Placed) (p : Placed) (color : Color) (m : Move) (a b : Option Rule) → IsFirstBroken (Kept ps p color m) all_rules a → IsFirstBroken (Kept ps p color m) all_rules b → a ≡ b }
 {}
 
+/// Each move of a side has an answer: some rule, or none, is the first that it breaks.
+pub fn some_first_broken_rule()
+    ensures answer { (ps : List Placed) (p : Placed) (color : Color) (m : Move) → (answer : Option Rule) × IsFirstBroken (Kept ps p color m) all_rules answer }
+{}
+
 /// Memory aside, one answer to a move that is to be played holds.
 pub fn one_answer()
     ensures { (line : Played) (color : Color) (m : Move) (a b : Option PlayFault) → Answers line color m a → Answers line color m b → a ≡ b }
+{}
+
+/// Memory aside, each move that is to be played has an answer.
+pub fn some_answer()
+    ensures answer { (line : Played) (color : Color) (m : Move) → (answer : Option PlayFault) × Answers line color m answer }
 {}
 
 /// One move is the first legal one.
@@ -87,4 +97,15 @@ pub fn nth_place_once()
 /// No two verdicts hold together.
 pub fn one_verdict()
     ensures { (ps : List Placed) (p : Placed) (u v : Verdict) → Stands ps p u → Stands ps p v → u ≡ v }
+{}
+
+/// Each position has a verdict, whatever positions it is looked for in.
+pub fn some_verdict()
+    ensures verdict { (ps : List Placed) (p : Placed) → (verdict : Verdict) × Stands ps p verdict }
+{}
+
+/// The position that a line's moves lead to is the last of its positions.
+pub fn now_stands_last()
+    ensures last { (line : Played) → slice_get (all_of line) (length line.moves) ≡ Some (now_of line) }
+    ensures all { (line : Played) → length (all_of line) ≡ length line.moves + 1 }
 {}

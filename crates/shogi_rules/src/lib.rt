@@ -14,7 +14,7 @@ mod search;
 mod setups;
 
 pub use judging::judge;
-pub use line::{Line, PlayFault, Verdict};
+pub use line::{Line, MAX_MOVES, PlayFault, Verdict};
 pub use moves::Move;
 pub use playing::{after, in_check};
 pub use rule::Rule;

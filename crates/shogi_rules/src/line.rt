@@ -1,5 +1,5 @@
 ghost use Rattle.std.specs.Prelude.{◌≡◌, ◌≤◌, ◌++◌, [], ◌∷◌, IfOk, OnOk, OnErr, MatchResult, length, ◌⊎◌, ◌↔◌, IsTrue, None, Some};
-ghost use Rattle.shogi_rules.specs.Positions.{now_of, all_of, IsGame};
+ghost use Rattle.shogi_rules.specs.Positions.{max_moves, now_of, all_of, IsGame};
 ghost use Rattle.shogi_rules.specs.Play.{Answers};
 ghost use Rattle.shogi_rules.specs.Repetition.{Over};
 ghost use Rattle.shogi_rules.specs.Rules.{Kept, move_rules, IsFirstBroken};
@@ -54,7 +54,8 @@ pub enum Verdict {
     Perpetual(Color),
 }
 
-const MOST_MOVES: usize = 10000;
+/// The most moves that a line has.
+pub const MAX_MOVES: usize = 10_000;
 
 /// A start and legal moves from it, at most 10,000, none of them played where a position stood for the fourth time.
 #[derive(Drop)]
@@ -104,7 +105,7 @@ impl Line {
     pub fn moves(&self) -> &[Move]
         ensures value { result.now ≡ self.now.moves }
         ensures game { IsGame self.now.start self.now.moves }
-        ensures few { length self.now.moves ≤ 10000 }
+        ensures few { length self.now.moves ≤ max_moves }
     {
         self.moves.as_slice()
     }
@@ -114,6 +115,13 @@ impl Line {
         ensures { result ≡ now_of self.now }
     {
         self.last
+    }
+
+    // Whether no more moves may be played.
+    fn is_full(&self) -> bool
+        ensures { IsTrue result ↔ (max_moves ≤ length self.now.moves) }
+    {
+        self.moves.len() >= MAX_MOVES
     }
 
     // Whether the position stands for the fourth time.
@@ -134,7 +142,7 @@ impl Line {
     pub fn fault(&self, mover: Color, mv: &Move) -> Option<PlayFault>
         ensures { Answers self.now mover mv.now result }
     {
-        if self.moves.len() >= MOST_MOVES {
+        if self.is_full() {
             return Some(PlayFault::TooManyMoves);
         }
         if mover != self.now().side() {

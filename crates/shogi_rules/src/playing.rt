@@ -3,18 +3,17 @@ ghost use Rattle.shogi_board.specs.Reach.{InCheck};
 ghost use Rattle.shogi_board.specs.Setup.{layout_of};
 ghost use Rattle.shogi_rules.specs.After.{after};
 ghost use Rattle.shogi_rules.specs.Legal.{FitsBoard, KingSafe, Keeps};
-ghost use Rattle.shogi_rules.specs.Rules.{Kept, keeping_rules, IsFirstBroken};
+ghost use Rattle.shogi_rules.specs.Rules.{KeptAlone, keeping_rules, IsFirstBroken};
 ghost use Rattle.shogi_rules.specs.declared.rule.Rule.TheVariants.{LeavesKing};
 
 use crate::board_rules::{broken_on_board, own_kind_at};
-use crate::kinds::unpromoted;
 use crate::moves::Move;
 use crate::rule::Rule;
 use crate::setups::{with_captured, with_piece, without, without_held};
 use shogi_board::{Kind, Position, Setup, Square, attacked};
 
 // What stands after a walk that fits the board.
-fn walked(position: &Position, from: Square, to: Square, kind: Kind) -> Setup
+fn setup_after_walk(position: &Position, from: Square, to: Square, kind: Kind) -> Setup
     requires { FitsBoard position.now (Move.Walk from to kind) }
     ensures { result ≡ layout_of (after position.now (Move.Walk from to kind)) }
 {
@@ -26,13 +25,13 @@ fn walked(position: &Position, from: Square, to: Square, kind: Kind) -> Setup
         Some(captured) => {
             let cleared = without(lifted, to, captured.kind);
             let placed = with_piece(cleared, side, to, kind);
-            with_captured(placed, side, unpromoted(captured.kind))
+            with_captured(placed, side, captured.kind.unpromoted())
         }
     }
 }
 
 // What stands after a drop that fits the board.
-fn dropped(position: &Position, to: Square, kind: Kind) -> Setup
+fn setup_after_drop(position: &Position, to: Square, kind: Kind) -> Setup
     requires { FitsBoard position.now (Move.Put to kind) }
     ensures { result ≡ layout_of (after position.now (Move.Put to kind)) }
 {
@@ -42,25 +41,25 @@ fn dropped(position: &Position, to: Square, kind: Kind) -> Setup
 }
 
 // What stands after a move that fits the board.
-fn moved(position: &Position, mv: &Move) -> Setup
+fn setup_after(position: &Position, mv: &Move) -> Setup
     requires { FitsBoard position.now mv.now }
     ensures { result ≡ layout_of (after position.now mv.now) }
 {
     match *mv {
-        Move::Walk { from, to, kind } => walked(position, from, to, kind),
-        Move::Put { to, kind } => dropped(position, to, kind),
+        Move::Walk { from, to, kind } => setup_after_walk(position, from, to, kind),
+        Move::Put { to, kind } => setup_after_drop(position, to, kind),
     }
 }
 
 // The position after a move that fits the board, or the rule that it leaves the king attacked.
-fn settled(position: &Position, mv: &Move) -> Result<Position, Rule>
+fn after_if_king_safe(position: &Position, mv: &Move) -> Result<Position, Rule>
     requires { FitsBoard position.now mv.now }
     ensures { MatchResult result
         (λ next. KingSafe position.now mv.now × (next ≡ after position.now mv.now))
         (λ rule. (KingSafe position.now mv.now → ⊥) × (rule ≡ LeavesKing)) }
 {
     let other = position.side().opponent();
-    match moved(position, mv).finish(other) {
+    match setup_after(position, mv).finish(other) {
         Ok(next) => Ok(next),
         Err(_) => Err(Rule::LeavesKing),
     }
@@ -73,18 +72,18 @@ pub fn after(position: &Position, mv: &Move) -> Position
     requires { Keeps position.now mv.now }
     ensures { result ≡ after position.now mv.now }
 {
-    settled(position, mv).unwrap()
+    after_if_king_safe(position, mv).unwrap()
 }
 
 // The position after the move, or the first of the rules 3 to 10 that the side to move breaks by it.
-pub(crate) fn attempt(position: &Position, mv: &Move) -> Result<Position, Rule>
+pub(crate) fn after_if_kept(position: &Position, mv: &Move) -> Result<Position, Rule>
     ensures { MatchResult result
         (λ next. Keeps position.now mv.now × (next ≡ after position.now mv.now))
-        (λ rule. (Keeps position.now mv.now → ⊥) × IsFirstBroken (Kept (position.now ∷ []) position.now position.now.side mv.now) keeping_rules (Some rule)) }
+        (λ rule. (Keeps position.now mv.now → ⊥) × IsFirstBroken (KeptAlone position.now mv.now) keeping_rules (Some rule)) }
 {
     match broken_on_board(position, mv) {
         Some(rule) => Err(rule),
-        None => settled(position, mv),
+        None => after_if_king_safe(position, mv),
     }
 }
 
@@ -92,10 +91,7 @@ pub(crate) fn attempt(position: &Position, mv: &Move) -> Result<Position, Rule>
 pub(crate) fn keeps(position: &Position, mv: &Move) -> bool
     ensures { IsTrue result ↔ Keeps position.now mv.now }
 {
-    match attempt(position, mv) {
-        Ok(_) => true,
-        Err(_) => false,
-    }
+    after_if_kept(position, mv).is_ok()
 }
 
 /// Whether the side to move is in check: it has a king, and an enemy piece reaches it.

@@ -1,4 +1,5 @@
 ghost use Rattle.std.specs.Prelude.{◌≡◌, ◌+◌, ◌<◌, ◌≤◌, ◌↔◌, IsTrue, MatchOption, length};
+ghost use Rattle.shogi_board.specs.Same.{same_position};
 ghost use Rattle.shogi_board.specs.declared.color.Color.{Color};
 ghost use Rattle.shogi_rules.specs.Repetition.{times, Over, IsNth, PressedAt, Pressed};
 ghost use Rattle.shogi_rules.specs.Verdicts.{PressedAlone, StandsByMoves, StandsByStretch};
@@ -8,11 +9,18 @@ use crate::playing::in_check;
 use crate::search::first_legal;
 use shogi_board::{Color, Position};
 
+// Whether the two are the same position.
+fn is_same(a: &Position, b: &Position) -> bool
+    ensures { result ≡ same_position a.now b.now }
+{
+    *a == *b
+}
+
 // How often the position stands in the list.
 pub(crate) fn times(positions: &[Position], p: &Position) -> usize
     ensures { result ≡ times positions.now p.now }
 {
-    positions.iter().filter(|q| **q == *p).count()
+    positions.iter().filter(|q| is_same(q, p)).count()
 }
 
 // The place where the position stands with that many places before.
@@ -21,7 +29,7 @@ fn nth_place(positions: &[Position], p: &Position, before: usize) -> Option<usiz
 {
     let mut seen = 0;
     for (i, q) in positions.iter().enumerate() {
-        if *q == *p {
+        if is_same(q, p) {
             if seen == before {
                 return Some(i);
             }

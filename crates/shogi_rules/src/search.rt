@@ -1,5 +1,5 @@
 ghost use Rattle.std.specs.Prelude.{◌≡◌, ◌<◌, ◌+◌, ◌*◌, ◌↔◌, IsTrue, MatchOption, IfSome, Some, true};
-ghost use Rattle.shogi_board.specs.Pieces.{is_promoted, in_hand, place_of};
+ghost use Rattle.shogi_board.specs.Pieces.{in_hand, place_of};
 ghost use Rattle.shogi_board.specs.Placed.{Placed};
 ghost use Rattle.shogi_board.specs.Squares.{place};
 ghost use Rattle.shogi_board.specs.declared.kind.Kind.{Kind};
@@ -10,9 +10,8 @@ ghost use Rattle.shogi_rules.specs.Verdicts.{NoLegalMove};
 ghost use Rattle.shogi_rules.specs.declared.moves.Move.{Move};
 
 use crate::board_rules::own_kind_at;
-use crate::kinds::promoted;
 use crate::moves::Move;
-use crate::playing::{attempt, in_check, keeps};
+use crate::playing::{after_if_kept, in_check, keeps};
 use shogi_board::{Kind, Position, Square};
 
 // The walks from each square to each, promoted or not, and the drops of each kind to each square.
@@ -45,28 +44,14 @@ fn hand_kind(n: usize) -> Kind
     }
 }
 
-fn is_promoted(kind: Kind) -> bool
-    ensures { result ≡ is_promoted kind }
-{
-    matches!(
-        kind,
-        Kind::ProPawn
-            | Kind::ProLance
-            | Kind::ProKnight
-            | Kind::ProSilver
-            | Kind::Horse
-            | Kind::Dragon
-    )
-}
-
 // The kind of a piece after a walk, promoted or not, if there is one.
 fn form_of(was: Kind, promotes: bool) -> Option<Kind>
     ensures { result ≡ form_of was promotes }
 {
-    if is_promoted(was) == promotes {
+    if was.is_promoted() == promotes {
         Some(was)
     } else if promotes {
-        promoted(was)
+        was.promoted()
     } else {
         None
     }
@@ -151,7 +136,7 @@ pub(crate) fn is_pawn_drop(mv: &Move) -> bool
 fn is_legal(position: &Position, mv: &Move) -> bool
     ensures { IsTrue result ↔ Legal position.now mv.now }
 {
-    match attempt(position, mv) {
+    match after_if_kept(position, mv) {
         Ok(next) => !(is_pawn_drop(mv) && is_mated(&next)),
         Err(_) => false,
     }

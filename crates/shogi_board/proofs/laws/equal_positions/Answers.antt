@@ -1,5 +1,5 @@
-use Rattle.shogi_board.proofs.Same.{placed-eq}
+use Rattle.shogi_board.proofs.Same.{eq-same, placed-eq}
 use Rattle.shogi_board.proofs.laws.equal_positions.Goals as goal
 
 pub returns : goal.returns
-returns c = placed-eq
+returns c = record { same = eq-same; exact = placed-eq }

@@ -12,5 +12,5 @@ lone-then P false _ e d = (λ _ _ has. let f = d.1 has in cc, λ _. refl)
 pub returns-then-eq : goal.returns-then-eq
 returns-then-eq c =
     let pawn : c.in-Put.kind ≡ Pawn = grind arith in
-    let d = rw c.side.ensures.value at c.is_filled.ensures in
-    rw c.in-Put.is (lone-then _ c.is_filled.result c.in-Put.kind pawn d)
+    let d = rw c.side.ensures.value at c.pawn_on_file.ensures in
+    rw c.in-Put.is (lone-then _ c.pawn_on_file.result c.in-Put.kind pawn d)

@@ -1,4 +1,5 @@
 use Rattle.std.proofs.Common.{sym}
+use Rattle.shogi_board.proofs.Pieces.{mover-is}
 use Rattle.shogi_rules.proofs.Forms.{opponent-twice}
 use Rattle.shogi_rules.proofs.laws.king_never_taken.Goals as goal
 
@@ -10,10 +11,8 @@ returns c = λ p from to kind sound piece reach king.
       (
         from,
         record {
-          attacker = record { color = p.side; kind = piece.0 };
-          stands = piece.1;
-          enemy = sym (opponent-twice p.side);
           reach = reach;
+          enemy = rw (mover-is p.board from to (record { color = p.side; kind = piece.0 }) piece.1 reach) (sym (opponent-twice p.side));
         },
       ),
     )

@@ -7,7 +7,7 @@ use Rattle.shogi_board.proofs.board.Board.attacked.Goals as goal
 
 pub returns-then-attacks : goal.returns-then-attacks
 returns-then-attacks c =
-    let attack : Attack c.args.self.now c.args.color c.at_place.result c.args.square = grind arith in
+    let attack : Attack c.args.self.now c.args.color c.at_place.result c.args.square = c.if-attacks.ensures.0 refl in
     (λ _. (c.at_place.result, attack), λ _. refl)
 
 pub loop-n-preserved : goal.loop-n-preserved

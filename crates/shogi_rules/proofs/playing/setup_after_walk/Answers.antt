@@ -1,6 +1,6 @@
 use Rattle.std.proofs.Common.{sym}
 use Rattle.shogi_rules.proofs.Walks.{start-of, quiet-fits, capture-fits, landing-fits, hand-fits, captured-is}
-use Rattle.shogi_rules.proofs.playing.walked.Goals as goal
+use Rattle.shogi_rules.proofs.playing.setup_after_walk.Goals as goal
 
 pub with_piece-requires : goal.with_piece-requires
 with_piece-requires c =

@@ -1,5 +1,5 @@
 use Rattle.shogi_rules.proofs.Drops.{taken-fits, put-fits, dropped-is}
-use Rattle.shogi_rules.proofs.playing.dropped.Goals as goal
+use Rattle.shogi_rules.proofs.playing.setup_after_drop.Goals as goal
 
 pub without_held-taken-requires : goal.without_held-taken-requires
 without_held-taken-requires c =
