@@ -80,7 +80,7 @@ too_long_whole source piece more handed p new fault h s =
     let stays = long_stays source piece more handed met.1 p met.0 h.0 met.2 met.3 in
     first_long ((source ++ piece) ++ more) stays.0 handed met.0 fault.number fault.offset stays.1 stays.2 h.1 met.3 (omega (arith, s.0, h.0.counted)) met.4
 
-not_short : (xs others : List TextUnit) (u : TextUnit) → AreShort (xs ++ (u ∷ others)) → length u.bytes ≤ 4096
+pub not_short : (xs others : List TextUnit) (u : TextUnit) → AreShort (xs ++ (u ∷ others)) → length u.bytes ≤ 4096
 not_short [] others u h = h.0
 not_short (x ∷ xs) others u h = not_short xs others u h.1
 

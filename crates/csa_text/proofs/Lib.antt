@@ -24,3 +24,5 @@ pub mod Joining
 pub mod Growing
 pub mod FirstLong
 mod Lent
+pub mod WholeRuns
+pub mod LineRuns
