@@ -1,8 +1,8 @@
 -- A whole run of a cutter of pieces, by its steps.
-use Rattle.std.proofs.Common.{◌≡◌, ℕ, ◌+◌, ◌≤◌, List, [], ◌∷◌, ◌++◌, length, length-append, take, append_assoc, append-nil, Option, Some, None, Ok, Err, arith, refl, sym, ap, ◌∙◌, subst}
+use Rattle.std.proofs.Common.{◌≡◌, ℕ, ◌+◌, ◌≤◌, List, [], ◌∷◌, ◌++◌, length, length-append, take, drop, append_assoc, append-nil, Option, Some, None, Ok, Err, arith, refl, sym, ap, ◌∙◌, subst}
 use Rattle.std.proofs.Math.Seq.{take-length}
 use Rattle.csa_text.specs.Cut.{TextUnit, Cut, Statements, mark_length}
-use Rattle.csa_text.specs.Cutting.{Cutting, IsHandedOut, IsTooLong, ToCome}
+use Rattle.csa_text.specs.Cutting.{Cutting, IsTooLong, ToCome, unit_between}
 use Rattle.csa_text.specs.Piecing.{Piecing, Closed, Leads, fresh}
 use Rattle.csa_text.specs.Stepping.{IsNumbered, Stepped, Used, Last, Finished}
 use Rattle.csa_text.specs.TooLong.{AreShort, HasCut, HasCutOf, FirstTooLong}
@@ -11,6 +11,7 @@ use Rattle.csa_text.specs.declared.cutter.Statement.{Statement}
 use Rattle.csa_text.specs.declared.cutter.CutFault.{CutFault}
 use Rattle.csa_text.specs.declared.piece.Cut.{Cut as Step}
 use Rattle.csa_text.proofs.FirstLong.{nothing_fed, too_long_whole, nothing_cut, cutter_refuses, not_short}
+use Rattle.csa_text.proofs.Fronts.{length_between}
 use Rattle.csa_text.proofs.Once.{statements_once}
 use Rattle.csa_text.proofs.Joining.{pieces_joined, pieces_closed, pieces_whole}
 
@@ -75,16 +76,19 @@ cut_told : (gave : List Statement) (handed : List TextUnit) (before : List State
 cut_told [] handed before c d h k r =
     (handed, subst (λ v. HasCut v handed) r h, subst (λ t. AreNumbered 0 handed t) (sym (append-nil before)) k, ap (λ (v : Cutting). v.source) (sym r))
 cut_told (s ∷ gave) handed before c d h k (next, same, out, r) =
-    let unit = out.unit in
+    let unit = unit_between c.source s.offset next.at in
+    let size : s.offset + length unit.bytes ≡ next.at = length_between c.source s.offset next.at (omega (arith, out.first.some)) out.first.within in
+    let short : length unit.bytes ≤ 4096 = omega (arith, size, out.short) in
     let here : HasCut next (handed ++ (unit ∷ [])) = record {
       onward = λ others t.
-          let whole = h.onward (unit ∷ others) (out.first others t) in
+          let behind : Statements next.at (drop next.at c.source) others = subst (λ w. Statements next.at (drop next.at w) others) same t in
+          let whole = h.onward (unit ∷ others) (out.first.first others behind) in
           let there : Cut c.source ((handed ++ (unit ∷ [])) ++ others) = subst (Cut c.source) (sym (append_assoc handed (unit ∷ []) others)) whole in
           subst (λ w. Cut w ((handed ++ (unit ∷ [])) ++ others)) (sym same) there;
       counted = omega (arith, out.counted, out.number_is, h.counted, length-append handed (unit ∷ []));
-      short = short_joined handed (unit ∷ []) h.short (out.short, tt);
+      short = short_joined handed (unit ∷ []) h.short (short, tt);
     } in
-    let numbered : IsNumbered (0 + length handed) unit s = record { number_is = omega (arith, out.number_is, h.counted); place = out.place; slice = out.slice; short = out.short } in
+    let numbered : IsNumbered (0 + length handed) unit s = record { number_is = omega (arith, out.number_is, h.counted); place = refl; slice = out.slice; short = short } in
     let all = cut_told gave (handed ++ (unit ∷ [])) (before ++ (s ∷ [])) next d here (numbered_joined 0 handed (unit ∷ []) before (s ∷ []) k (numbered, tt)) r in
     (all.0, all.1, subst (λ t. AreNumbered 0 all.0 t) (append_assoc before (s ∷ []) gave) all.2, all.3 ∙ same)
 
