@@ -5,9 +5,10 @@ use Rattle.std.specs.List.{AllZip}
 use Rattle.std.proofs.lemmas.List.{append-nil, length_push}
 use Rattle.shogi_board.specs.declared.color.Color.TheVariants.{Black, White}
 use Rattle.csa_text.specs.declared.fault.TextFault.TheVariants.{StatementTooLong}
-use Rattle.csa_text.specs.Cut.{TextUnit, Cut, mark_length, statement_bytes}
+use Rattle.csa_text.specs.Cut.{TextUnit, Cut, Statements, mark_length, statement_bytes}
 use Rattle.csa_text.specs.Cutting as cutting
 use Rattle.csa_text.specs.Spelling.{Saying}
+use Rattle.csa_text.proofs.Fronts.{length_between}
 use Rattle.csa_text.proofs.Runs.{found}
 use Rattle.csa_record.specs.declared.fault.Refusal.{Refusal}
 use Rattle.csa_record.specs.declared.fault.Why.{Why}
@@ -70,49 +71,62 @@ spelt_as unit bytes s slice short spells = (short, rw (← slice) spells)
 no_fault : (s : SoFar) (sayings : List Saying) (saying : Saying) → s ≡ so_far sayings → fault_so_far s saying ≡ None → order_fault sayings saying ≡ None
 no_fault s sayings saying kept h = sym (ap (λ t. fault_so_far t saying) kept ∙ fault_kept sayings saying) ∙ h
 
+-- the unit of a statement that was handed out
+abbrev unit_out : cutting.Cutting → ℕ → cutting.Cutting → TextUnit
+unit_out old offset new = cutting.unit_between old.source offset new.at
+
+short_out : (old new : cutting.Cutting) (number offset : ℕ) (bytes : List ℕ) → cutting.IsHandedOut old new number offset bytes → length (unit_out old offset new).bytes ≤ 4096
+short_out old new number offset bytes out =
+    let size = length_between old.source offset new.at (omega (arith, out.first.some)) out.first.within in
+    omega (arith, size, out.short)
+
 pub taken : (source : List ℕ) (old new : cutting.Cutting) (s t : SoFar) (n number offset : ℕ) (bytes : List ℕ) → ReadSoFar source old s n → cutting.IsHandedOut old new number offset bytes → new.source ≡ old.source → TookBytes s bytes (Ok tt) t → ReadSoFar source new t (number + 1)
 taken source old new s t n number offset bytes r out same took =
     let saying = took.0 in
-    let spelt : IsSpelt out.unit saying = spelt_as out.unit bytes saying out.slice out.short took.1 in
+    let unit = unit_out old offset new in
+    let spelt : IsSpelt unit saying = spelt_as unit bytes saying out.slice (short_out old new number offset bytes out) took.1 in
     let fits : order_fault r.sayings saying ≡ None = no_fault s r.sayings saying r.kept took.2 in
     record {
-      front = r.front ++ out.unit ∷ [];
+      front = r.front ++ unit ∷ [];
       sayings = r.sayings ++ saying ∷ [];
-      faultless = faultless_last [] r.front r.sayings out.unit saying r.faultless spelt fits;
+      faultless = faultless_last [] r.front r.sayings unit saying r.faultless spelt fits;
       kept = took.3 ∙ ap (λ k. with_saying k saying) r.kept ∙ kept_next r.sayings saying fits;
-      counted = omega (arith, length_push r.front out.unit, r.counted, out.number_is, out.counted);
+      counted = omega (arith, length_push r.front unit, r.counted, out.number_is, out.counted);
       next = omega (arith, out.counted);
       same = same ∙ r.same;
-      room = omega (arith, r.room, out.number_is, out.counted, out.rises, out.passed, out.some);
-      within = rw r.same at out.within;
-      whole = λ others come. rw (append_assoc r.front (out.unit ∷ []) others) (r.whole (out.unit ∷ others) (out.first others come));
+      room = omega (arith, r.room, out.number_is, out.counted, out.first.order, out.first.some);
+      within = rw r.same at out.first.within;
+      whole = λ others come.
+          let behind : Statements new.at (drop new.at old.source) others = subst (λ t. Statements new.at (drop new.at t) others) same come in
+          rw (append_assoc r.front (unit ∷ []) others) (r.whole (unit ∷ others) (out.first.first others behind));
     }
 
 -- what stands behind a statement that was handed out
-behind : (c : cutting.Cutting) → (others : List TextUnit) × cutting.ToCome c others
-behind c = found c.at (drop c.at c.source)
+behind : (c : cutting.Cutting) (at : ℕ) → (others : List TextUnit) × Statements at (drop at c.source) others
+behind c at = found at (drop at c.source)
 
-refused_at : (source : List ℕ) (old new : cutting.Cutting) (s : SoFar) (n number offset : ℕ) (bytes : List ℕ) (why : Why) → (r : ReadSoFar source old s n) → (out : cutting.IsHandedOut old new number offset bytes) → Fault r.sayings out.unit why → RefusedAt source number offset why
+refused_at : (source : List ℕ) (old new : cutting.Cutting) (s : SoFar) (n number offset : ℕ) (bytes : List ℕ) (why : Why) → (r : ReadSoFar source old s n) → (out : cutting.IsHandedOut old new number offset bytes) → Fault r.sayings (unit_out old offset new) why → RefusedAt source number offset why
 refused_at source old new s n number offset bytes why r out fault =
-    let others = behind new in
+    let others = behind old new.at in
     record {
       front = r.front;
-      unit = out.unit;
+      unit = unit_out old offset new;
       behind = others.0;
       sayings = r.sayings;
-      cut = r.whole (out.unit ∷ others.0) (out.first others.0 others.1);
+      cut = r.whole (unit_out old offset new ∷ others.0) (out.first.first others.0 others.1);
       faultless = r.faultless;
       fault = fault;
       number_is = omega (arith, out.number_is, r.counted);
-      place = out.place;
+      place = refl;
     }
 
 pub refused : (source : List ℕ) (old new : cutting.Cutting) (s t : SoFar) (n number offset : ℕ) (bytes : List ℕ) (why : Why) → ReadSoFar source old s n → cutting.IsHandedOut old new number offset bytes → TookBytes s bytes (Err why) t → why ≢ OutOfMemory → Refused source number offset why
 refused source old new s t n number offset bytes (Text f) r out took other =
     inl (refused_at source old new s n number offset bytes (Text f) r out
-    (inr (inl (out.short, f, rw out.slice at took, refl))))
+    (inr (inl (short_out old new number offset bytes out, f, rw out.slice at took, refl))))
 refused source old new s t n number offset bytes (Order f) r out took other =
-    let spelt : IsSpelt out.unit took.0 = spelt_as out.unit bytes took.0 out.slice out.short took.1 in
+    let unit = unit_out old offset new in
+    let spelt : IsSpelt unit took.0 = spelt_as unit bytes took.0 out.slice (short_out old new number offset bytes out) took.1 in
     let fault : order_fault r.sayings took.0 ≡ Some f = sym (ap (λ k. fault_so_far k took.0) r.kept ∙ fault_kept r.sayings took.0) ∙ took.2 in
     inl (refused_at source old new s n number offset bytes (Order f) r out (inr (inr (took.0, spelt, f, fault, refl))))
 refused source old new s t n number offset bytes OutOfMemory r out took other = absurd (other refl)
@@ -121,17 +135,18 @@ pub short_of_memory : (source : List ℕ) (old new : cutting.Cutting) (s t : SoF
 short_of_memory source old new s t n number offset bytes (Text f) r out took is = cc
 short_of_memory source old new s t n number offset bytes (Order f) r out took is = cc
 short_of_memory source old new s t n number offset bytes OutOfMemory r out took is =
-    let others = behind new in
-    let spelt : IsSpelt out.unit took.0 = spelt_as out.unit bytes took.0 out.slice out.short took.1 in
+    let others = behind old new.at in
+    let unit = unit_out old offset new in
+    let spelt : IsSpelt unit took.0 = spelt_as unit bytes took.0 out.slice (short_out old new number offset bytes out) took.1 in
     record {
       front = r.front;
-      unit = out.unit;
+      unit = unit;
       behind = others.0;
       sayings = r.sayings ++ took.0 ∷ [];
-      cut = r.whole (out.unit ∷ others.0) (out.first others.0 others.1);
-      faultless = faultless_last [] r.front r.sayings out.unit took.0 r.faultless spelt (no_fault s r.sayings took.0 r.kept took.2);
+      cut = r.whole (unit_out old offset new ∷ others.0) (out.first.first others.0 others.1);
+      faultless = faultless_last [] r.front r.sayings unit took.0 r.faultless spelt (no_fault s r.sayings took.0 r.kept took.2);
       number_is = omega (arith, out.number_is, r.counted);
-      place = out.place;
+      place = refl;
     }
 
 pub too_long : (source : List ℕ) (c : cutting.Cutting) (s : SoFar) (n number offset : ℕ) → ReadSoFar source c s n → cutting.IsTooLong c number offset → Refused source number offset (Text StatementTooLong)

@@ -1,9 +1,9 @@
 -- The first statement that is too long, in a text that goes on.
-use Rattle.std.proofs.Common.{◌≡◌, ℕ, ◌+◌, ◌<◌, ◌≤◌, ◌&&◌, Bool, true, false, List, [], ◌∷◌, ◌++◌, filter, length, take, drop, length-drop, length-append, append_assoc, Option, Some, None, Ok, Err, if◌then◌else◌, arith, refl, sym, ap, ◌∙◌, subst, inl, inr}
+use Rattle.std.proofs.Common.{◌≡◌, ℕ, ◌+◌, ◌<◌, ◌≤◌, ◌&&◌, Bool, true, false, List, [], ◌∷◌, ◌++◌, filter, length, take, drop, length-drop, length-append, Option, Some, None, Ok, Err, if◌then◌else◌, arith, refl, sym, ap, ◌∙◌, subst, inl, inr}
 use Rattle.std.proofs.lemmas.Bool.{cases_Bool}
 use Rattle.std.proofs.Math.Seq.{take-length}
 use Rattle.csa_text.specs.Cut.{TextUnit, Statements, Cut, mark_length}
-use Rattle.csa_text.specs.Cutting.{Cutting, IsHandedOut, IsTooLong}
+use Rattle.csa_text.specs.Cutting.{Cutting, IsTooLong}
 use Rattle.csa_text.specs.Piecing.{Piecing, Closes, Closed, Leads, fresh, is_closed}
 use Rattle.csa_text.specs.Stepping.{Stepped, Used, IsTooLongAt}
 use Rattle.csa_text.specs.TooLong.{AreShort, FirstTooLong, HasCut, HasCutOf}
@@ -80,7 +80,7 @@ too_long_whole source piece more handed p new fault h s =
     let stays = long_stays source piece more handed met.1 p met.0 h.0 met.2 met.3 in
     first_long ((source ++ piece) ++ more) stays.0 handed met.0 fault.number fault.offset stays.1 stays.2 h.1 met.3 (omega (arith, s.0, h.0.counted)) met.4
 
-not_short : (xs others : List TextUnit) (u : TextUnit) → AreShort (xs ++ (u ∷ others)) → length u.bytes ≤ 4096
+pub not_short : (xs others : List TextUnit) (u : TextUnit) → AreShort (xs ++ (u ∷ others)) → length u.bytes ≤ 4096
 not_short [] others u h = h.0
 not_short (x ∷ xs) others u h = not_short xs others u h.1
 
@@ -139,20 +139,6 @@ goes_on_in_pieces source piece handed old new cut h s = used_joined source piece
 pub nothing_cut : (c : Cutting) → c.at ≡ mark_length c.source → c.number ≡ 0 → HasCut c []
 nothing_cut c at number = record { onward = λ others s. rw at at s; counted = number; short = tt }
 
-pub goes_on_cutting : (old new : Cutting) (handed : List TextUnit) (number offset : ℕ) (bytes : List ℕ) → HasCut old handed → new.source ≡ old.source → IsHandedOut old new number offset bytes → (unit : TextUnit) × HasCut new (handed ++ (unit ∷ []))
-goes_on_cutting old new handed number offset bytes h same s =
-    let unit = s.unit in (
-      unit,
-      record {
-        onward = λ others t.
-            let whole = h.onward (unit ∷ others) (s.first others t) in
-            let here : Cut old.source ((handed ++ (unit ∷ [])) ++ others) = subst (Cut old.source) (sym (append_assoc handed (unit ∷ []) others)) whole in
-            subst (λ w. Cut w ((handed ++ (unit ∷ [])) ++ others)) (sym same) here;
-        counted = omega (arith, s.counted, s.number_is, h.counted, length-append handed (unit ∷ []));
-        short = short_joined handed (unit ∷ []) h.short (s.short, tt);
-      },
-    )
-
 pub cutter_refuses : (c : Cutting) (handed : List TextUnit) (number offset : ℕ) → HasCut c handed → IsTooLong c number offset → FirstTooLong c.source number offset
 cutter_refuses c handed number offset h t = record {
   before = handed;
@@ -164,12 +150,6 @@ cutter_refuses c handed number offset h t = record {
   number_is = omega (arith, t.number_is, h.counted);
   place = t.place;
 }
-
-pub none_behind : (c : Cutting) (handed : List TextUnit) (number offset : ℕ) → HasCut c handed → Statements c.at (drop c.at c.source) [] → FirstTooLong c.source number offset → ⊥
-none_behind c handed number offset h s f =
-    let same : handed ++ [] ≡ f.before ++ (f.unit ∷ f.others) = statements_once _ _ _ _ (h.onward [] s) f.cut in
-    let short = not_short f.before f.others f.unit (subst AreShort same (short_joined handed [] h.short tt)) in
-    absurd (omega (arith, short, f.long))
 
 pub closed_joined : (source piece : List ℕ) (closed more : List TextUnit) (p : Piecing) → Leads fresh source closed p → Closes p piece more → Closed (source ++ piece) (closed ++ more)
 closed_joined source piece closed more p h c =

@@ -19,7 +19,7 @@ use Rattle.csa_text.proofs.Passing.{statements_at, statements_of, behind_gap, be
 
 abbrev pub seen : Place → List ℕ → ℕ → ℕ → Option ℕ → Piecing
 seen place held fed number refused =
-    record { fed = fed; number = number; begins = begins place; unfinished = open_of place held; refused = refused }
+    record { fed = fed; number = number; begins = begins place; unfinished = open_of place held; held = held; refused = refused }
 
 pub nothing_left : (o : ℕ) → Statements o [] []
 nothing_left o = no_statements o [] tt

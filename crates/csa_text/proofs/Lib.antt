@@ -24,3 +24,6 @@ pub mod Joining
 pub mod Growing
 pub mod FirstLong
 mod Lent
+pub mod Holding
+pub mod WholeRuns
+pub mod LineRuns

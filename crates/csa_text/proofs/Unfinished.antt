@@ -1,8 +1,8 @@
 -- What is unfinished at the end.
-use Rattle.std.proofs.Common.{◌≡◌, ℕ, zero, suc, ◌+◌, ◌-◌, ◌<◌, ◌≤◌, ◌==◌, true, false, not, List, [], ◌∷◌, ◌++◌, length, take, lit≤, Option, Some, None, arith, refl, sym, ap, ◌∙◌, subst}
+use Rattle.std.proofs.Common.{◌≡◌, ℕ, zero, suc, ◌+◌, ◌-◌, ◌<◌, ◌≤◌, ◌==◌, true, false, not, List, [], ◌∷◌, ◌++◌, length, take, Option, Some, None, arith, refl, sym, ap, ◌∙◌, subst}
 use Rattle.std.proofs.lemmas.Bool.{false≢true}
 use Rattle.csa_text.specs.Cut.{TextUnit, IsUnit, Statements, begins_with, byte_order_mark, mark_length, statement_bytes}
-use Rattle.csa_text.specs.Piecing.{Piecing, Follows, ToCome, KeepsLittle}
+use Rattle.csa_text.specs.Piecing.{Piecing, Follows, ToCome, HoldsLittle}
 use Rattle.csa_text.specs.Places.{IsHeld, begins, open_of, has_unit}
 use Rattle.csa_text.specs.Stepping.{Last}
 use Rattle.csa_text.specs.declared.cutter.Statement.{Statement}
@@ -61,8 +61,8 @@ mark_begins : (k : ℕ) → begins_with 39 (take k byte_order_mark) ≡ true →
 mark_begins zero h = false≢true h
 mark_begins (suc k) h = false≢true h
 
-pub keeps_little : (place : Place) (held : List ℕ) → length held ≤ 4096 → IsHeld place held → KeepsLittle (open_of place held)
-keeps_little Mark held few h = (few, λ t. absurd (mark_begins (length held) (ap (begins_with 39) (sym h.1) ∙ t)))
-keeps_little Gap held few h = (omega arith, λ t. absurd (false≢true t))
-keeps_little InUnit held few h = (few, λ t. absurd (false≢true (sym h.1 ∙ t)))
-keeps_little Comment held few h = rw h (lit≤ tt, λ t. refl)
+pub holds_little : (place : Place) (held : List ℕ) (fed number : ℕ) (refused : Option ℕ) → length held ≤ 4096 → IsHeld place held → HoldsLittle (seen place held fed number refused)
+holds_little Mark held fed number refused few h = (few, λ t. absurd (mark_begins (length held) (ap (begins_with 39) (sym h.1) ∙ t)))
+holds_little Gap held fed number refused few h = (few, λ t. absurd (false≢true t))
+holds_little InUnit held fed number refused few h = (few, λ t. absurd (false≢true (sym h.1 ∙ t)))
+holds_little Comment held fed number refused few h = (few, λ t. h)

@@ -1,10 +1,13 @@
 -- A cutter on its way through a source.
-use Rattle.std.specs.Prelude.{◌≡◌, ℕ, ◌+◌, ◌<◌, ◌≤◌, List, ◌∷◌, length, drop, slice_range}
+use Rattle.std.specs.Prelude.{◌≡◌, ℕ, ◌+◌, ◌<◌, ◌≤◌, List, ◌∷◌, length, drop, slice_range, Option, Result, IfOk, IfSome}
 use Rattle.csa_text.specs.Cut.{TextUnit, Statements, statement_bytes}
+use Rattle.csa_text.specs.declared.cutter.Statement.{Statement}
+use Rattle.csa_text.specs.declared.cutter.CutFault.{CutFault}
 
--- the source, the offset up to which it is cut, and how many statements were handed out
+-- the source and its address, the offset up to which it is cut, and how many statements were handed out
 pub record Cutting : Type 0 where
   pub source : List ℕ
+  pub address : ℕ × ℕ
   pub at : ℕ
   pub number : ℕ
 
@@ -15,20 +18,24 @@ unit_between source start end = record { offset = start; bytes = slice_range sou
 abbrev pub ToCome : Cutting → List TextUnit → Type 0
 ToCome c statements = Statements c.at (drop c.at c.source) statements
 
+-- in the source from one place on, the first unit that is no comment lies between two others
+pub record IsFirstStatement (source : List ℕ) (from start end : ℕ) : Type 0 where
+  pub order : from ≤ start
+  pub some : start < end
+  pub within : end ≤ length source
+  pub first : (others : List TextUnit) → Statements end (drop end source) others → Statements from (drop from source) (unit_between source start end ∷ others)
+
+-- what holds of the statement that was handed out, if one was
+abbrev pub IfHandedOut : Result (Option Statement) CutFault → (Statement → Type 0) → Type 0
+IfHandedOut result Holds = IfOk result (λ found. IfSome found Holds)
+
 -- the first statement that was still to come was handed out, with its number and its offset
 pub record IsHandedOut (old new : Cutting) (number offset : ℕ) (bytes : List ℕ) : Type 0 where
-  pub unit : TextUnit
-  pub first : (others : List TextUnit) → ToCome new others → ToCome old (unit ∷ others)
+  pub first : IsFirstStatement old.source old.at offset new.at
   pub number_is : number ≡ old.number + 1
   pub counted : new.number ≡ number
-  pub place : offset ≡ unit.offset
-  pub rises : old.at ≤ offset
-  pub passed : new.at ≡ offset + length unit.bytes
-  pub within : new.at ≤ length old.source
-  pub of_source : unit.bytes ≡ slice_range old.source offset new.at
-  pub slice : bytes ≡ statement_bytes unit.bytes
-  pub some : 0 < length unit.bytes
-  pub short : length unit.bytes ≤ 4096
+  pub slice : bytes ≡ statement_bytes (slice_range old.source offset new.at)
+  pub short : new.at ≤ offset + 4096
 
 -- the first statement that is still to come is too long
 pub record IsTooLong (c : Cutting) (number offset : ℕ) : Type 0 where
@@ -38,10 +45,3 @@ pub record IsTooLong (c : Cutting) (number offset : ℕ) : Type 0 where
   pub number_is : number ≡ c.number + 1
   pub place : offset ≡ unit.offset
   pub long : 4096 < length unit.bytes
-
--- in the source from one place on, the first unit that is no comment lies between two others
-pub record IsFirstStatement (source : List ℕ) (from start end : ℕ) : Type 0 where
-  pub order : from ≤ start
-  pub some : start < end
-  pub within : end ≤ length source
-  pub first : (others : List TextUnit) → Statements end (drop end source) others → Statements from (drop from source) (unit_between source start end ∷ others)

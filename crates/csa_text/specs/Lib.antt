@@ -16,3 +16,4 @@ pub mod Piecing
 pub mod Stepping
 pub mod Places
 pub mod TooLong
+pub mod WholeRun

@@ -1,24 +1,29 @@
 -- A cutter of pieces on its way.
-use Rattle.std.specs.Prelude.{◌≡◌, ℕ, ◌+◌, ◌-◌, ◌≤◌, ◌||◌, Bool, true, List, [], ◌∷◌, ◌++◌, length, drop, filter, nat_lt, Option, None, if◌then◌else◌}
+use Rattle.std.specs.Prelude.{◌≡◌, ℕ, ◌+◌, ◌-◌, ◌≤◌, ◌||◌, Bool, true, List, [], ◌++◌, length, drop, filter, nat_lt, Option, None, if◌then◌else◌}
 use Rattle.csa_text.specs.Cut.{TextUnit, Statements, Cut, mark_length, begins_with}
 
 -- how many bytes it took; how many statements it handed out; whether these bytes are the beginning of
 -- a byte order mark, or none; what is unfinished: the bytes of that mark, the bytes of a unit, of a
--- comment its first byte and what is held of the rest; and the offset of a statement that is too long, if one was met
+-- comment its first byte; the bytes that are held; and the offset of a statement that is too long, if one was met
 pub record Piecing : Type 0 where
   pub fed : ℕ
   pub number : ℕ
   pub begins : Bool
   pub unfinished : List ℕ
+  pub held : List ℕ
   pub refused : Option ℕ
 
--- no more than 4,096 bytes of a statement, and of a comment no more than its first
-abbrev pub KeepsLittle : List ℕ → Type 0
-KeepsLittle unfinished = (length unfinished ≤ 4096) × (begins_with 39 unfinished ≡ true → unfinished ≡ 39 ∷ [])
+-- no more than 4,096 bytes are held, and none of a comment
+abbrev pub HoldsLittle : Piecing → Type 0
+HoldsLittle p = (length p.held ≤ 4096) × (begins_with 39 p.unfinished ≡ true → p.held ≡ [])
+
+-- what is held of the unfinished bytes: all, but of a comment nothing
+abbrev pub held_of : List ℕ → List ℕ
+held_of unfinished = if begins_with 39 unfinished then [] else unfinished
 
 -- nothing has come
 abbrev pub fresh : Piecing
-fresh = record { fed = 0; number = 0; begins = true; unfinished = []; refused = None }
+fresh = record { fed = 0; number = 0; begins = true; unfinished = []; held = []; refused = None }
 
 -- how much of the text is the mark
 abbrev pub mark_of : Bool → List ℕ → ℕ

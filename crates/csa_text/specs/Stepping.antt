@@ -1,7 +1,7 @@
 -- What a cutter of pieces answers.
-use Rattle.std.specs.Prelude.{◌≡◌, ℕ, ◌+◌, ◌-◌, ◌<◌, ◌≤◌, false, List, [], ◌∷◌, length, take, Option, None, Some, Result, Ok, Err}
+use Rattle.std.specs.Prelude.{◌≡◌, ℕ, ◌+◌, ◌-◌, ◌<◌, ◌≤◌, false, List, [], ◌∷◌, length, take, Option, None, Some, MatchOption, Result, Ok, Err}
 use Rattle.csa_text.specs.Cut.{TextUnit, statement_bytes}
-use Rattle.csa_text.specs.Piecing.{Piecing, ToCome, Closes, Leads}
+use Rattle.csa_text.specs.Piecing.{Piecing, ToCome, Closes, Leads, held_of}
 use Rattle.csa_text.specs.declared.cutter.Statement.{Statement}
 use Rattle.csa_text.specs.declared.cutter.CutFault.{CutFault}
 use Rattle.csa_text.specs.declared.piece.Cut.{Cut}
@@ -17,6 +17,10 @@ pub record IsNumbered (count : ℕ) (unit : TextUnit) (s : Statement) : Type 0 w
 abbrev pub IsLentFrom : ℕ × ℕ → ℕ → Statement → Type 0
 IsLentFrom piece fed s = fed ≤ s.offset → s.bytes.ref_ptr ≡ (piece.0, piece.1 + (s.offset - fed))
 
+-- the whole piece where no statement ends in it, and else at least one byte of it
+abbrev pub IsUsed : List ℕ → Cut → Type 0
+IsUsed piece cut = MatchOption cut.statement (cut.used ≡ length piece) (λ s. (0 < cut.used) × (cut.used ≤ length piece))
+
 -- no statement is closed in the whole piece, or this one is, by the byte behind its unit, which is the
 -- last that was used
 abbrev pub Used : Piecing → List ℕ → ℕ → Option Statement → Piecing → Type 0
@@ -25,6 +29,12 @@ Used old piece used (Some s) new =
     (unit : TextUnit) × IsNumbered old.number unit s × (0 < used) × (used ≤ length piece) × (old.fed + used ≡ unit.offset + length unit.bytes + 1)
     × Leads old (take used piece) (unit ∷ []) new
 
+-- afterwards what is unfinished is held and no more; of a statement that was handed out its bytes, where it
+-- began before this piece, and else none
+abbrev pub HoldsAfter : Piecing → Option Statement → Piecing → Type 0
+HoldsAfter old None new = new.held ≡ held_of new.unfinished
+HoldsAfter old (Some s) new = (old.fed ≤ s.offset → new.held ≡ []) × (s.offset < old.fed → s.bytes.now ≡ statement_bytes new.held)
+
 -- the statement at this offset is the one that was met before, or the first that these bytes close and too long
 abbrev pub IsTooLongAt : Option ℕ → Piecing → List ℕ → ℕ → Type 0
 IsTooLongAt (Some before) old piece offset = offset ≡ before
@@ -32,7 +42,8 @@ IsTooLongAt None old piece offset =
     (unit : TextUnit) × (others : List TextUnit) × Closes old piece (unit ∷ others) × (4096 < length unit.bytes) × (offset ≡ unit.offset)
 
 abbrev pub Stepped : Piecing → List ℕ → Result Cut CutFault → Piecing → Type 0
-Stepped old piece (Ok cut) new = (old.refused ≡ None) × Used old piece cut.used cut.statement new
+Stepped old piece (Ok cut) new =
+    (old.refused ≡ None) × Used old piece cut.used cut.statement new × HoldsAfter old cut.statement new
 Stepped old piece (Err fault) new =
     (fault.number ≡ old.number + 1) × IsTooLongAt old.refused old piece fault.offset × (new ≡ record old { refused = Some fault.offset })
 

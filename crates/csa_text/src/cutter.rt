@@ -1,7 +1,7 @@
-ghost use Rattle.std.specs.Prelude.{◌≡◌, ◌<◌, ◌≤◌, ◌==◌, ◌||◌, ◌&&◌, [], length, drop, not, MatchOption, MatchResult};
+ghost use Rattle.std.specs.Prelude.{◌≡◌, ◌<◌, ◌≤◌, ◌==◌, ◌||◌, ◌&&◌, ◌+◌, [], length, drop, slice_range, not, IfOk, IfErr, IfNone, MatchOption};
 ghost use Rattle.std.specs.List.{position_or_len, prefix_len};
 ghost use Rattle.csa_text.specs.Cut.{Statements, IsNext, IsGap, is_separator, is_blank, takes_line, is_end, mark_length, statement_bytes, without_last_blanks};
-ghost use Rattle.csa_text.specs.Cutting.{Cutting, IsHandedOut, IsTooLong, IsFirstStatement, unit_between};
+ghost use Rattle.csa_text.specs.Cutting.{Cutting, ToCome, IfHandedOut, IsTooLong, IsFirstStatement, unit_between};
 
 use std::marker::Model;
 use thiserror::Error;
@@ -54,7 +54,7 @@ impl<'a> Model for Cutter<'a> {
 
     ghost Value = { Cutting };
 
-    ghost view = { λ c. record { source = c.source.now; at = c.at; number = c.number } };
+    ghost view = { λ c. record { source = c.source.now; address = c.source.ref_ptr; at = c.at; number = c.number } };
 
     ghost invariant = { λ c. (c.at ≤ length c.source.now) × (c.number ≤ c.at) };
 }
@@ -63,6 +63,7 @@ impl<'a> Cutter<'a> {
     /// A cutter at the start of the source.
     pub fn new(source: &'a [u8]) -> Cutter<'a>
         ensures source { result.source ≡ source.now }
+        ensures address { result.address ≡ source.entry.ref_ptr }
         ensures start { (result.at ≡ mark_length source.now) × (result.number ≡ 0) }
         ensures within { result.at ≤ length source.now }
     {
@@ -84,11 +85,15 @@ impl<'a> Cutter<'a> {
     /// later call answers the same.
     pub fn next_statement(&mut self) -> Result<Option<Statement<'a>>, CutFault>
         ensures source { self.new.source ≡ self.old.source }
-        ensures cut { MatchResult result
-            (λ found. MatchOption found
-            (Statements self.old.at (drop self.old.at self.old.source) [] × (self.new ≡ self.old))
-            (λ s. IsHandedOut self.old self.new s.number s.offset s.bytes.now))
-            (λ f. IsTooLong self.old f.number f.offset × (self.new ≡ self.old)) }
+        ensures address { self.new.address ≡ self.old.address }
+        ensures first { IfHandedOut result (λ s. IsFirstStatement self.old.source self.old.at s.offset self.new.at) }
+        ensures number { IfHandedOut result (λ s. s.number ≡ self.old.number + 1) }
+        ensures counted { IfHandedOut result (λ s. self.new.number ≡ s.number) }
+        ensures bytes { IfHandedOut result (λ s. s.bytes.now ≡ statement_bytes (slice_range self.old.source s.offset self.new.at)) }
+        ensures lent { IfHandedOut result (λ s. s.bytes.ref_ptr ≡ (self.old.address.0, self.old.address.1 + s.offset)) }
+        ensures limit { IfHandedOut result (λ s. self.new.at ≤ s.offset + 4096) }
+        ensures end { IfOk result (λ found. IfNone found (ToCome self.old [] × (self.new ≡ self.old))) }
+        ensures fault { IfErr result (λ f. IsTooLong self.old f.number f.offset × (self.new ≡ self.old)) }
     {
         let Some((start, end)) = next_spoken(self.source, self.at) else {
             return Ok(None);

@@ -57,7 +57,7 @@ const ENDINGS: [Ending; 15] = [
 impl Ending {
     /// What stands behind the `%` of this ending.
     pub fn name(self) -> &'static str
-        ensures { result.now ≡ ending_name self }
+        ensures name { result.now ≡ ending_name self }
     {
         match self {
             Ending::Toryo => "TORYO",

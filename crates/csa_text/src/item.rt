@@ -1,4 +1,4 @@
-ghost use Rattle.std.specs.Prelude.{◌≡◌, ◌∷◌, MatchResult};
+ghost use Rattle.std.specs.Prelude.{◌≡◌, ◌∷◌, IfOk, IfErr};
 ghost use Rattle.csa_text.specs.Codes.{sign};
 ghost use Rattle.csa_text.specs.Spelling.{Saying, Spells, fault_of_row};
 ghost use Rattle.csa_text.specs.Saying.{saying_of, IsRead};
@@ -45,9 +45,9 @@ pub enum Item<'a> {
 /// `-`, `BadTime` for `T`, `UnknownEnding` for `%`, and `Unknown` for all else. `StatementTooLong`
 /// is the cutter's and is never answered.
 pub fn read_item(bytes: &[u8]) -> Result<Item<'_>, TextFault>
-    ensures { MatchResult result
-        (λ item. Spells bytes.now (saying_of item))
-        (λ fault. ((saying : Saying) → Spells bytes.now saying → ⊥) × (fault ≡ fault_of_row bytes.now)) }
+    ensures item { IfOk result (λ item. Spells bytes.now (saying_of item)) }
+    ensures none { IfErr result (λ fault. (saying : Saying) → Spells bytes.now saying → ⊥) }
+    ensures fault { IfErr result (λ fault. fault ≡ fault_of_row bytes.now) }
 {
     match bytes {
         [b'V', number @ ..] => read_version(number),

@@ -362,13 +362,15 @@ fn reads_items(rt: HostRuntime) {
     laws::cut_once();
     laws::spelt_once();
     laws::lines_once();
-    laws::lines_joined();
     laws::moment_once();
     laws::equal_moments();
     laws::closed_once();
-    laws::pieces_joined();
-    laws::pieces_closed();
-    laws::pieces_whole();
+    laws::too_long_once();
+    laws::pieces_run();
+    laws::cutter_run();
+    laws::never_both();
+    laws::statements_alike();
+    laws::lines_run();
 }
 
 #[test]

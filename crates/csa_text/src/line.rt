@@ -58,7 +58,9 @@ impl Model for LineCutter {
 impl LineCutter {
     /// A cutter that has seen nothing, of lines of at most `limit` bytes.
     pub fn new(alloc: Global, limit: usize) -> LineCutter
-        ensures { (result.held ≡ []) × (result.limit ≡ limit) × (result.failed ≡ false) }
+        ensures held { result.held ≡ [] }
+        ensures limit { result.limit ≡ limit }
+        ensures failed { result.failed ≡ false }
     {
         LineCutter {
             held: Vec::new(alloc),

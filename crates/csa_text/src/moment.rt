@@ -1,4 +1,4 @@
-ghost use Rattle.std.specs.Prelude.{◌≡◌, ℕ, ◌+◌, ◌<◌, ◌≤◌, ◌++◌, ◌↔◌, pos, ◌≤ℤ◌, unsigned_abs, MatchOption, IfSome, IsSome};
+ghost use Rattle.std.specs.Prelude.{◌≡◌, ℕ, ◌+◌, ◌<◌, ◌≤◌, ◌++◌, ◌↔◌, pos, ◌≤ℤ◌, unsigned_abs, MatchOption, IfSome, IfNone, IsSome};
 ghost use Rattle.jiff_core.specs.Calendar.{IsCivilDate};
 ghost use Rattle.arrayvec.specs.ArrayString.{array_string_len};
 ghost use Rattle.csa_text.specs.Moment.{CalendarMoment, SpellsDate, SpellsTime, SpellsMoment, DateDigits, TimeDigits, date_text, time_text, moment_text, two_digits};
@@ -31,9 +31,8 @@ impl Moment {
 /// or two digits, `:`, two digits, `:`, two digits, where the calendar has that day, the hour is at
 /// most 23 and the minute and the second are at most 59.
 pub fn read_moment(bytes: &[u8]) -> Option<Moment>
-    ensures { MatchOption result
-        ((moment : CalendarMoment) → SpellsMoment bytes.now moment → ⊥)
-        (λ moment. SpellsMoment bytes.now (moment_of moment)) }
+    ensures moment { IfSome result (λ moment. SpellsMoment bytes.now (moment_of moment)) }
+    ensures none { IfNone result ((moment : CalendarMoment) → SpellsMoment bytes.now moment → ⊥) }
 {
     let Some((date, time)) = split_at_byte(bytes, b' ') else {
         return Some(Moment {

@@ -11,7 +11,7 @@ use shogi_rules::Move;
 /// The seven bytes of a move: the sign of its side, the square left or `00` for a drop, the target,
 /// and the kind after the move. `read_item` reads them as that move again.
 pub fn csa_move(color: Color, m: &Move) -> ArrayString<7>
-    ensures { Spells result.bytes (walked color m.now) }
+    ensures spells { Spells result.bytes (walked color m.now) }
 {
     let mut text = ArrayString::new();
     text.push(match color {

@@ -24,21 +24,21 @@ impl<'a> Pairs<'a> {
 
     /// How many pairs there are.
     pub fn len(&self) -> usize
-        ensures { result ≡ length (pairs_of self.now) }
+        ensures count { result ≡ length (pairs_of self.now) }
     {
         self.bytes.len() / PAIR
     }
 
     /// Whether there is none.
     pub fn is_empty(&self) -> bool
-        ensures { IsTrue result ↔ (pairs_of self.now ≡ []) }
+        ensures none { IsTrue result ↔ (pairs_of self.now ≡ []) }
     {
         self.len() == 0
     }
 
     /// The pair at this place, counted from 0, or `None` past the last one.
     pub fn get(&self, i: usize) -> Option<Pair>
-        ensures { result ≡ slice_get (pairs_of self.now) i }
+        ensures pair { result ≡ slice_get (pairs_of self.now) i }
     {
         if self.bytes.len() / PAIR <= i {
             return None;

@@ -1,11 +1,11 @@
-ghost use Rattle.std.specs.Prelude.{◌≡◌, ◌+◌, ◌-◌, ◌^◌, ◌<◌, ◌≤◌, ◌++◌, [], length, true, None, IsSome, IfSome, IfOk, if◌then◌else◌};
+ghost use Rattle.std.specs.Prelude.{◌≡◌, ◌+◌, ◌-◌, ◌^◌, ◌<◌, ◌≤◌, ◌++◌, [], length, true, None, IsSome, IfSome, IfOk, IfErr, if◌then◌else◌};
 ghost use Rattle.std.specs.Borrow.{sem};
 ghost use Rattle.std.specs.Io.BufRead.{Rests};
 ghost use Rattle.arrayvec.specs.ArrayVec.{array_vec_len};
 ghost use Rattle.csa_text.specs.contracts.piece.PieceCutter.{the_row};
 ghost use Rattle.csa_text.specs.Cut.{statement_bytes};
-ghost use Rattle.csa_text.specs.Piecing.{fresh, KeepsLittle};
-ghost use Rattle.csa_text.specs.Stepping.{Stepped, Finished, IsLentFrom};
+ghost use Rattle.csa_text.specs.Piecing.{fresh, HoldsLittle};
+ghost use Rattle.csa_text.specs.Stepping.{Stepped, Finished, IsUsed, IsLentFrom};
 ghost use Rattle.csa_text.specs.Places.{IsKept, IsFoundIn, IsFirstIn, IsCommon, IsHeld, place_found, is_in_mark, kept_of, has_unit};
 
 use crate::cutter::{
@@ -68,7 +68,7 @@ impl Model for PieceCutter {
 
     ghost use Rattle.csa_text.specs.Places.{begins, open_of, IsKept};
 
-    ghost view = { λ c. record { fed = c.fed; number = c.number; begins = begins c.place; unfinished = open_of c.place c.held.items; refused = c.refused } };
+    ghost view = { λ c. record { fed = c.fed; number = c.number; begins = begins c.place; unfinished = open_of c.place c.held.items; held = c.held.items; refused = c.refused } };
 
     ghost invariant = { λ c. IsKept c.place c.held.items c.fed c.number };
 }
@@ -76,7 +76,7 @@ impl Model for PieceCutter {
 impl PieceCutter {
     /// A cutter that has seen nothing.
     pub fn new() -> PieceCutter
-        ensures { result ≡ fresh }
+        ensures start { result ≡ fresh }
     {
         PieceCutter {
             held: ArrayVec::new(),
@@ -90,7 +90,7 @@ impl PieceCutter {
     /// How many bytes were used so far.
     pub fn fed(&self) -> u64
         ensures count { result ≡ self.now.fed }
-        ensures little { KeepsLittle self.now.unfinished }
+        ensures little { HoldsLittle self.now }
     {
         self.fed
     }
@@ -103,6 +103,9 @@ impl PieceCutter {
     /// later call; the cutter is then as before. At most 2^63 bytes may be fed in all.
     pub fn step<'b>(&'b mut self, piece: &'b [u8]) -> Result<Cut<'b>, CutFault>
         requires { self.old.fed + length piece.now ≤ 2 ^ 63 }
+        ensures used { IfOk result (IsUsed piece.now) }
+        ensures number { IfOk result (λ cut. IfSome cut.statement (λ s. s.number ≡ self.old.number + 1)) }
+        ensures fault { IfErr result (λ f. f.number ≡ self.old.number + 1) }
         ensures lent { IfOk result (λ cut. IfSome cut.statement (IsLentFrom piece.entry.ref_ptr self.old.fed)) }
         ensures* stepped { sem 𝓛 (Rests the_row self.entry (λ new. Stepped self.old piece.now result new)) }
     {
@@ -151,6 +154,8 @@ impl PieceCutter {
     /// Afterwards the cutter stands behind it, as if its line had ended there. A `CutFault` comes
     /// where `step` answered it.
     pub fn finish(&mut self) -> Result<Option<Statement<'_>>, CutFault>
+        ensures number { IfOk result (λ last. IfSome last (λ s. s.number ≡ self.old.number + 1)) }
+        ensures fault { IfErr result (λ f. f.number ≡ self.old.number + 1) }
         ensures* finished { sem 𝓛 (Rests the_row self.entry (λ new. Finished self.old result new)) }
     {
         let number = self.number + 1;

@@ -1,9 +1,6 @@
 ghost use Rattle.std.specs.Prelude.{◌≤◌};
 
-use crate::{Cut, CutFault, Cutter, Item, PieceCutter, Statement, read_item};
-use shogi_board::{Color, Kind, Position, Setup, Square};
-use shogi_rules::Line;
-use std::test::Fail;
+use crate::{Cut, CutFault, Cutter, PieceCutter, Statement};
 
 // Whether pieces that end at this place, and behind it after each `size` bytes, give what
 // `Cutter` gives of the whole.
@@ -285,82 +282,6 @@ fn a_long_comment_in_pieces(rt: HostRuntime) -> Result<(), std::alloc::AllocErro
     };
     assert_eq!(rt; cutter.next_statement(), Ok(Some(statement)));
     for size in [1usize, 4095, 4096, 4097] {
-        assert!(rt; same(source.as_slice(), size), "in pieces of {size}");
-    }
-    Ok(())
-}
-
-// The square at a place of a rook's tour of 36 over four files from the given one, up one file and
-// down the next.
-fn push_tour(text: &mut Vec<u8>, first: u8, place: usize) -> Result<(), Fail> {
-    let file = (place % 36 / 9) as u8;
-    let step = (place % 9) as u8;
-    let rank = if file % 2 == 0 { step } else { 8 - step };
-    text.push(first.wrapping_add(file))?;
-    text.push(b'1' + rank)?;
-    Ok(())
-}
-
-// Black's move of that number: its rook goes on, and each 1,250th time it pushes its pawn.
-fn push_black(text: &mut Vec<u8>, n: usize) -> Result<(), Fail> {
-    let pushed = n / 1250;
-    text.push(b'+')?;
-    if n % 1250 == 1249 {
-        let rank = b'7'.wrapping_sub(u8::try_from(pushed)?);
-        text.extend_from_slice(&[b'5', rank, b'5', rank.wrapping_sub(1)])?;
-        text.extend_from_slice(b"FU\n")?;
-        return Ok(());
-    }
-    push_tour(text, b'1', n - pushed)?;
-    push_tour(text, b'1', n - pushed + 1)?;
-    text.extend_from_slice(b"HI\n")?;
-    Ok(())
-}
-
-// White's rook leaves out one square, so that the two together come round after 36 * 35 moves of
-// each side.
-fn push_white(text: &mut Vec<u8>, n: usize) -> Result<(), Fail> {
-    text.push(b'-')?;
-    for place in [n % 35, (n % 35 + 1) % 35] {
-        push_tour(text, b'6', if place == 0 { 0 } else { place + 1 })?;
-    }
-    text.extend_from_slice(b"HI\n")?;
-    Ok(())
-}
-
-// The start `P+11HI57FU`, `P-61HI`, black to move.
-fn two_rooks() -> Result<Position, Fail> {
-    let mut setup = Setup::empty();
-    for (color, file, rank, kind) in [
-        (Color::Black, 1, 1, Kind::Rook),
-        (Color::Black, 5, 7, Kind::Pawn),
-        (Color::White, 6, 1, Kind::Rook),
-    ] {
-        setup.place(color, Square::new(file, rank).ok_or("no square")?, kind)?;
-    }
-    Ok(setup.finish(Color::Black)?)
-}
-
-// A record of 10,000 legal moves, byte by byte.
-#[test]
-fn ten_thousand_moves_in_pieces(rt: HostRuntime) -> Result<(), Fail> {
-    let mut source: Vec<u8> = Vec::new(rt.alloc());
-    source.extend_from_slice(b"P+11HI57FU\nP-61HI\n+\n")?;
-    for n in 0..5000usize {
-        push_black(&mut source, n)?;
-        push_white(&mut source, n)?;
-    }
-    let mut line = Line::new(rt.alloc(), two_rooks()?)?;
-    let mut cutter = Cutter::new(source.as_slice());
-    for _ in 0..10_003u32 {
-        let statement = cutter.next_statement()?.ok_or("no statement")?;
-        if let Item::Walked(color, mv) = read_item(statement.bytes)? {
-            line.play(color, mv)?;
-        }
-    }
-    assert_eq!(rt; cutter.next_statement(), Ok(None));
-    assert_eq!(rt; line.moves().len(), 10_000);
-    for size in [1usize, 2, 7, 100, 4096] {
         assert!(rt; same(source.as_slice(), size), "in pieces of {size}");
     }
     Ok(())

@@ -1,6 +1,7 @@
-use Rattle.csa_text.proofs.Unfinished.{keeps_little}
+use Rattle.csa_text.proofs.Unfinished.{holds_little}
 use Rattle.csa_text.proofs.piece.PieceCutter.fed.Goals as goal
 
 pub returns-clause-little : goal.returns-clause-little
 returns-clause-little c =
-    rw (← c.self.view_is) (keeps_little c.self.inside.place c.self.inside.held.items c.self.invariant.1 c.self.invariant.2)
+    let s = c.self.inside in
+    rw (← c.self.view_is) (holds_little s.place s.held.items s.fed s.number s.refused c.self.invariant.1 c.self.invariant.2)

@@ -1,7 +1,10 @@
-use Rattle.std.proofs.Common.{◌≡◌, ◌+◌, ◌-◌, ◌<◌, ◌≤◌, ◌++◌, length, slice_range, arith, refl, sym, ap, ◌∙◌}
+use Rattle.std.proofs.Common.{◌≡◌, false, [], ◌+◌, ◌-◌, ◌<◌, ◌≤◌, ◌++◌, length, slice_range, arith, refl, sym, ap, ◌∙◌}
+use Rattle.csa_text.specs.Cut.{begins_with}
+use Rattle.csa_text.specs.declared.piece.Place.TheVariants.{Gap}
 use Rattle.csa_text.specs.Places.{IsPart, IsFoundIn, kept_of}
-use Rattle.csa_text.proofs.Leading.{default_step, unit_step, end_step, long_step, kept_size, kept_most, mark_room, all_in_piece, ended_told}
+use Rattle.csa_text.proofs.Leading.{seen, default_step, unit_step, end_step, long_step, kept_size, kept_most, mark_room, all_in_piece, ended_told}
 use Rattle.csa_text.proofs.Lining.{length_range, nothing}
+use Rattle.csa_text.proofs.Holding.{held_found, held_whole, holds_here, holds_before, some_used, number_of}
 use Rattle.csa_text.proofs.Lent.{lent_here, lent_before, kept_on}
 use Rattle.csa_text.specs.Piecing.{Piecing}
 use Rattle.csa_text.proofs.piece.PieceCutter.step.Goals as goal
@@ -19,7 +22,9 @@ returns-in_default-found c =
     let h : IsFoundIn s.place s.held.items c.args.piece.now c.found_in-found.result = rw c.as_slice.ensures.value at c.found_in-found.ensures in
     let done = default_step c.args.self.now s.place c.place_of-self-inside.result s.held.items c.hold_mark.new.held.items c.args.piece.now c.found_in-found.result s.fed s.number s.refused
     c.self.view_is c.in_default.is c.place_of-self-inside.ensures c.hold_mark.ensures c.in_default-found.not-Unit h (omega (arith, i.0)) i.3 in
-    ((refl, λ _. tt, (done.0, rw c.none_ended.ensures.statement (c.none_ended.ensures.used, done.1))), record { lent = rw c.none_ended.ensures.statement tt; stepped = tt })
+    let held = held_found s.place c.place_of-self-inside.result s.held.items c.hold_mark.new.held.items c.args.piece.now c.found_in-found.result c.place_of-self-inside.ensures c.hold_mark.ensures c.in_default-found.not-Unit h in
+    let none = c.none_ended.ensures.statement in
+    ((refl, λ _. tt, (done.0, rw none (c.none_ended.ensures.used, done.1), rw none held)), record { used = rw none c.none_ended.ensures.used; number = rw none tt; fault = tt; lent = rw none tt; stepped = tt })
 
 pub returns-then-kept-part : goal.returns-then-kept-part
 returns-then-kept-part c =
@@ -31,7 +36,8 @@ returns-then-kept-part c =
     let place : s.fed + c.in-Unit.start - c.kept_length-kept.result ≡ s.fed + c.in-Unit.start - length (kept_of c.in-Unit.goes_on s.held.items) = ap (λ n. s.fed + c.in-Unit.start - n) kept in
     let done = long_step c.args.self.now s.place s.held.items c.args.piece.now c.in-Unit.goes_on c.in-Unit.start c.in-Unit.end s.fed s.number _ s.refused
     c.self.view_is c.in_default.is p (omega (arith, i.0)) place (omega (arith, kept, size, c.if-kept-part.true)) in
-    ((refl, λ _. tt, (done.0, done.1, done.2)), record { lent = tt; stepped = tt })
+    let numbered : s.number + 1 ≡ c.args.self.now.number + 1 = done.0 in
+    ((refl, λ _. tt, (done.0, done.1, done.2)), record { used = tt; number = tt; fault = numbered; lent = tt; stepped = tt })
 
 pub returns-then-end-piece : goal.returns-then-end-piece
 returns-then-end-piece c =
@@ -51,7 +57,10 @@ returns-then-end-piece c =
     c.hold.ensures ∙ ap (λ xs. xs ++ slice_range piece start end) left in
     let done = unit_step c.args.self.now s.place s.held.items c.hold.new.held.items piece goes_on start end s.fed s.number s.refused
     c.self.view_is c.in_default.is p (omega (arith, i.0)) c.if-end-piece.true all few in
-    ((refl, λ _. tt, (done.0, rw c.none_ended-then-end-piece.ensures.statement (c.none_ended-then-end-piece.ensures.used ∙ c.if-end-piece.true, done.1))), record { lent = rw c.none_ended-then-end-piece.ensures.statement tt; stepped = tt })
+    let quiet : begins_with 39 c.hold.new.held.items ≡ false = ap (begins_with 39) all ∙ p.spoken in
+    let held = held_whole c.hold.new.held.items quiet in
+    let none = c.none_ended-then-end-piece.ensures.statement in
+    ((refl, λ _. tt, (done.0, rw none (c.none_ended-then-end-piece.ensures.used ∙ c.if-end-piece.true, done.1), rw none held)), record { used = rw none (c.none_ended-then-end-piece.ensures.used ∙ c.if-end-piece.true); number = rw none tt; fault = tt; lent = rw none tt; stepped = tt })
 
 pub returns-then-is_empty : goal.returns-then-is_empty
 returns-then-is_empty c =
@@ -78,7 +87,11 @@ returns-then-is_empty c =
     let told = ended_told c.ended.result.statement _ _ _ (slice_range piece start end) (kept_of goes_on s.held.items ++ slice_range piece start end) place whole c.ended.ensures.place c.ended.ensures.bytes in
     let done = end_step c.args.self.now s.place s.held.items c.keep_held.new.held.items piece goes_on start end s.fed s.number c.ended.result.used s.refused c.ended.result.statement
     c.self.view_is c.in_default.is p (omega (arith, i.0)) behind few c.ended.ensures.used c.ended.ensures.some told in
-    ((refl, λ _. tt, (done.0, done.1)), record { lent = lent; stepped = tt })
+    let empty : c.keep_held.new.held.items ≡ [] = nothing c.keep_held.new.held.items (sym c.is_empty.ensures ∙ c.if-is_empty.true) in
+    let held = holds_here c.args.self.now (seen Gap c.keep_held.new.held.items (s.fed + (end + 1)) (s.number + 1) s.refused) c.ended.result.statement _ (s.fed + start - c.kept_length-kept.result) empty (omega (arith, from)) c.ended.ensures.place c.ended.ensures.some in
+    let used = some_used piece c.ended.result c.ended.ensures.some (omega (arith, c.ended.ensures.used)) (omega (arith, c.ended.ensures.used, behind)) in
+    let numbered = number_of c.ended.result.statement _ _ _ c.ended.ensures.place (ap (λ (v : Piecing). v.number + 1) c.self.view_is) in
+    ((refl, λ _. tt, (done.0, done.1, held)), record { used = used; number = numbered; fault = tt; lent = lent; stepped = tt })
 
 pub returns : goal.returns
 returns c =
@@ -107,4 +120,8 @@ returns c =
     let whole_is = ap length first.1 in
     let before : s.fed + start - c.kept_length-kept.result < c.args.self.now.fed = omega (arith, kept, on.1, fed_is, first.0, whole_is, most, i.0) in
     let lent = lent_before c.ended-2.result.statement _ (s.fed + start - c.kept_length-kept.result) c.args.self.now.fed c.args.piece.ref_ptr before c.ended-2.ensures.place in
-    ((refl, λ _. tt, (done.0, done.1)), record { lent = lent; stepped = tt })
+    let same : c.as_slice-2.result.now ≡ c.hold-2.new.held.items = c.as_slice-2.ensures.value in
+    let held = holds_before c.args.self.now (seen Gap c.hold-2.new.held.items (s.fed + (end + 1)) (s.number + 1) s.refused) c.ended-2.result.statement _ (s.fed + start - c.kept_length-kept.result) c.as_slice-2.result.now same before c.ended-2.ensures.place c.ended-2.ensures.bytes c.ended-2.ensures.some in
+    let used = some_used piece c.ended-2.result c.ended-2.ensures.some (omega (arith, c.ended-2.ensures.used)) (omega (arith, c.ended-2.ensures.used, behind)) in
+    let numbered = number_of c.ended-2.result.statement _ _ _ c.ended-2.ensures.place (ap (λ (v : Piecing). v.number + 1) c.self.view_is) in
+    ((refl, λ _. tt, (done.0, done.1, held)), record { used = used; number = numbered; fault = tt; lent = lent; stepped = tt })

@@ -1,0 +1,49 @@
+-- What a cutter of pieces holds after a step.
+use Rattle.std.proofs.Common.{◌≡◌, ℕ, zero, suc, ◌<◌, ◌≤◌, Bool, false, List, [], ◌++◌, length, take, Option, Some, None, MatchOption, IfSome, if◌then◌else◌, arith, refl, sym, ap, ◌∙◌, ◌+◌, IsSome}
+use Rattle.std.proofs.lemmas.Bool.{false≢true}
+use Rattle.csa_text.specs.Cut.{begins_with, byte_order_mark, statement_bytes}
+use Rattle.csa_text.specs.Piecing.{Piecing, held_of}
+use Rattle.csa_text.specs.Places.{IsFoundIn, open_of, place_found, is_in_mark}
+use Rattle.csa_text.specs.Stepping.{HoldsAfter, IsUsed}
+use Rattle.csa_text.specs.declared.piece.Cut.{Cut}
+use Rattle.csa_text.specs.declared.cutter.Statement.{Statement}
+use Rattle.csa_text.specs.declared.piece.Found.{Found}
+use Rattle.csa_text.specs.declared.piece.Found.TheVariants as found
+use Rattle.csa_text.specs.declared.piece.Place.{Place}
+
+mark_quiet : (k : ℕ) → begins_with 39 (take k byte_order_mark) ≡ false
+mark_quiet zero = refl
+mark_quiet (suc k) = refl
+
+used_by : (P Q : Type 0) (statement : Option Statement) → IsSome statement → Q → MatchOption statement P (λ s. Q)
+used_by P Q None some q = absurd (false≢true some)
+used_by P Q (Some s) some q = q
+
+pub held_whole : (unfinished : List ℕ) → begins_with 39 unfinished ≡ false → unfinished ≡ held_of unfinished
+held_whole unfinished quiet = rw quiet refl
+
+found_held : (place : Place) (held other piece : List ℕ) (f : Found) → other ≡ (if is_in_mark f then held ++ piece else []) → ((x : Bool) (y z : ℕ) → f ≡ found.Unit x y z → ⊥) → IsFoundIn place held piece f → other ≡ held_of (open_of (place_found f) other)
+found_held place held other piece found.Mark o never h =
+    let whole : other ≡ take (length held + length piece) byte_order_mark = o ∙ h.2 in
+    held_whole other (ap (begins_with 39) whole ∙ mark_quiet (length held + length piece))
+found_held place held other piece found.Gap o never h = o
+found_held place held other piece found.Comment o never h = o
+found_held place held other piece (found.Unit x y z) o never h = absurd (never x y z refl)
+
+pub held_found : (place after : Place) (held other piece : List ℕ) (f : Found) → after ≡ place_found f → other ≡ (if is_in_mark f then held ++ piece else []) → ((x : Bool) (y z : ℕ) → f ≡ found.Unit x y z → ⊥) → IsFoundIn place held piece f → other ≡ held_of (open_of after other)
+held_found place after held other piece f leads o never h = found_held place held other piece f o never h ∙ ap (λ t. held_of (open_of t other)) (sym leads)
+
+pub holds_here : (old new : Piecing) (statement : Option Statement) (n offset : ℕ) → new.held ≡ [] → old.fed ≤ offset → IfSome statement (λ s. (s.number ≡ n) × (s.offset ≡ offset)) → IsSome statement → HoldsAfter old statement new
+holds_here old new None n offset none order told some = absurd (false≢true some)
+holds_here old new (Some s) n offset none order told some = (λ _. none, λ before. absurd (omega (arith, told.1, order, before)))
+
+pub holds_before : (old new : Piecing) (statement : Option Statement) (n offset : ℕ) (unit : List ℕ) → unit ≡ new.held → offset < old.fed → IfSome statement (λ s. (s.number ≡ n) × (s.offset ≡ offset)) → IfSome statement (λ s. s.bytes.now ≡ statement_bytes unit) → IsSome statement → HoldsAfter old statement new
+holds_before old new None n offset unit is order told bytes some = absurd (false≢true some)
+holds_before old new (Some s) n offset unit is order told bytes some = (λ here. absurd (omega (arith, told.1, order, here)), λ _. bytes ∙ ap statement_bytes is)
+
+pub some_used : (piece : List ℕ) (cut : Cut) → IsSome cut.statement → 0 < cut.used → cut.used ≤ length piece → IsUsed piece cut
+some_used piece cut some more within = used_by (cut.used ≡ length piece) ((0 < cut.used) × (cut.used ≤ length piece)) cut.statement some (more, within)
+
+pub number_of : (statement : Option Statement) (offset n m : ℕ) → IfSome statement (λ s. (s.number ≡ n) × (s.offset ≡ offset)) → n ≡ m → IfSome statement (λ s. s.number ≡ m)
+number_of None offset n m told same = tt
+number_of (Some s) offset n m told same = told.0 ∙ same

@@ -1,0 +1,11 @@
+use Rattle.csa_text.proofs.LineRuns.{line_run, line_run_long}
+use Rattle.csa_text.proofs.laws.lines_run.Goals as goal
+
+pub returns-clause-lines : goal.returns-clause-lines
+returns-clause-lines c = λ steps old new empty r. (line_run steps old new empty r).0
+
+pub returns-clause-short : goal.returns-clause-short
+returns-clause-short c = λ steps old new empty r. (line_run steps old new empty r).1
+
+pub returns-clause-long : goal.returns-clause-long
+returns-clause-long c = line_run_long

@@ -1,0 +1,5 @@
+use Rattle.csa_text.proofs.LineRuns.{told_alike}
+use Rattle.csa_text.proofs.laws.statements_alike.Goals as goal
+
+pub returns : goal.returns
+returns c = told_alike
