@@ -5,3 +5,8 @@ pub mod TimeLines
 pub mod Filtered
 pub mod Pieces
 pub mod FromEven
+pub mod ByRanks
+pub mod Hands
+pub mod Starting
+pub mod Canonical
+pub mod SaysOnce
