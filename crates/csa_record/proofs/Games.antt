@@ -10,3 +10,4 @@ pub mod Hands
 pub mod Starting
 pub mod Canonical
 pub mod SaysOnce
+pub mod RefusedOnce

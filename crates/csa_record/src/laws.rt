@@ -8,7 +8,9 @@ ghost use Rattle.csa_record.specs.Canon.{canon};
 ghost use Rattle.csa_record.specs.Games.Canon as whole;
 ghost use Rattle.csa_record.specs.Games.Game as games;
 ghost use Rattle.csa_record.specs.Games.Limits as limits;
+ghost use Rattle.csa_record.specs.Games.Refused as refusing;
 ghost use Rattle.csa_record.specs.Games.Tells as telling;
+ghost use Rattle.csa_record.specs.declared.fault.Why.{Why};
 
 /// All bytes tell exactly one game, or are refused in exactly one way, and never both.
 pub fn told_once()
@@ -33,4 +35,15 @@ pub fn whole_canon_tells()
 /// Two whole games have equal canonical texts exactly if they are equal.
 pub fn whole_canon_equal()
     ensures { (g h : games.Game) → limits.IsGame g → limits.IsGame h → ((whole.canon g ≡ whole.canon h) ↔ (g ≡ h)) }
+{}
+
+/// Bytes tell one whole game at most.
+pub fn whole_one_game()
+    ensures { (source : List ℕ) (g h : games.Game) → telling.Tells source g → telling.Tells source h → g ≡ h }
+{}
+
+/// Bytes are refused in one way at most: at one statement, at one offset, for one reason.
+pub fn whole_one_refusal()
+    ensures { (source : List ℕ) (n m offset other : ℕ) (v w : Why) → refusing.Refused source n offset v → refusing.Refused source m other w
+        → (m ≡ n) × (other ≡ offset) × (w ≡ v) }
 {}

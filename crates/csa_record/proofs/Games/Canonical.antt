@@ -84,13 +84,17 @@ parts g =
     ∙ ap (λ ss. name_items Black g.black ++ ss) (append_assoc (name_items White g.white) (map header_item g.headers) (bodies g))))
 
 pub canon_lines : (g : Game) → IsGame g → AllByRecursion IsItemLine (canon_items g)
-canon_lines g h =
-    (version_line, all_joined IsItemLine (name_items Black g.black) _ (name_lines Black g.black h.black)
-    (all_joined IsItemLine (name_items White g.white) _ (name_lines White g.white h.white)
-    (all_joined IsItemLine (map header_item g.headers) _ (header_lines g.headers h.entries)
-    (all_joined IsItemLine (start_items g.start) _ (start_is g.start h.sound.within).lines
-    (turn_line g.start.side, all_joined IsItemLine (move_items g.start.side g.moves) (ending_items g.ending)
-    (move_lines g.start.side g.moves h.times) (end_lines g.ending h.last_time))))))
+canon_lines g h = (
+  version_line,
+  all_joined IsItemLine (name_items Black g.black) _ (name_lines Black g.black h.black)
+      (all_joined IsItemLine (name_items White g.white) _ (name_lines White g.white h.white)
+      (all_joined IsItemLine (map header_item g.headers) _ (header_lines g.headers h.entries)
+      (all_joined IsItemLine (start_items g.start) _ (start_is g.start h.sound.within).lines (
+        turn_line g.start.side,
+        all_joined IsItemLine (move_items g.start.side g.moves) (ending_items g.ending)
+            (move_lines g.start.side g.moves h.times) (end_lines g.ending h.last_time),
+      )))),
+)
 
 -- what the heads are
 abbrev IsNameOrHeader : Saying → Type 0

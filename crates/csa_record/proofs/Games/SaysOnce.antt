@@ -322,7 +322,7 @@ says_once ss g h p q =
     let behind = same_behind (positions ss) (turn g.start.side ∷ played_items g) (turn h.start.side ∷ played_items h) (sym p.in_order ∙ q.in_order) in
     let played : played_items g ≡ played_items h = cc in
     let all : move_items g.start.side g.moves ++ ending_items g.ending ≡ move_items g.start.side h.moves ++ ending_items h.ending
-        = played ∙ ap (λ c. move_items c h.moves ++ ending_items h.ending) (sym side) in
+    = played ∙ ap (λ c. move_items c h.moves ++ ending_items h.ending) (sym side) in
     let parts = moves_once g.start.side g.moves h.moves g.ending h.ending all in
     games_same g h (same_option g.black h.black (sym p.black ∙ q.black)) (same_option g.white h.white (sym p.white ∙ q.white))
     (entries_once (headers ss) g.headers h.headers p.headers q.headers p.game.rising q.game.rising)

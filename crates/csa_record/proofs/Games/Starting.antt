@@ -124,14 +124,34 @@ few_pairs bag h =
     omega (arith, g)
 
 black_few : (p : Placed) → IsWithinTotals p.board p.black p.white → AllByRecursion (λ k. count_in p.black k ≤ 18) hand_order
-black_few p w =
-    (omega (arith, w.totals Rook), (omega (arith, w.totals Bishop), (omega (arith, w.totals Gold), (omega (arith, w.totals Silver),
-    (omega (arith, w.totals Knight), (omega (arith, w.totals Lance), (omega (arith, w.totals Pawn), tt)))))))
+black_few p w = (
+  omega (arith, w.totals Rook),
+  (
+    omega (arith, w.totals Bishop),
+    (
+      omega (arith, w.totals Gold),
+      (
+        omega (arith, w.totals Silver),
+        (omega (arith, w.totals Knight), (omega (arith, w.totals Lance), (omega (arith, w.totals Pawn), tt))),
+      ),
+    ),
+  ),
+)
 
 white_few : (p : Placed) → IsWithinTotals p.board p.black p.white → AllByRecursion (λ k. count_in p.white k ≤ 18) hand_order
-white_few p w =
-    (omega (arith, w.totals Rook), (omega (arith, w.totals Bishop), (omega (arith, w.totals Gold), (omega (arith, w.totals Silver),
-    (omega (arith, w.totals Knight), (omega (arith, w.totals Lance), (omega (arith, w.totals Pawn), tt)))))))
+white_few p w = (
+  omega (arith, w.totals Rook),
+  (
+    omega (arith, w.totals Bishop),
+    (
+      omega (arith, w.totals Gold),
+      (
+        omega (arith, w.totals Silver),
+        (omega (arith, w.totals Knight), (omega (arith, w.totals Lance), (omega (arith, w.totals Pawn), tt))),
+      ),
+    ),
+  ),
+)
 
 -- no number stands twice among these that follow one another
 abbrev count_up : ℕ → ℕ → List ℕ
@@ -163,10 +183,25 @@ rank_item : (p : Placed) (n : ℕ) → 1 ≤ n → n ≤ 9 → IsItemLine (rank 
 rank_item p n low high = rank_line n (rank_cells p.board n) low high refl
 
 rank_lines : (p : Placed) → AllByRecursion IsItemLine (rank_items p.board)
-rank_lines p =
-    (rank_item p 1 (omega arith) (omega arith), (rank_item p 2 (omega arith) (omega arith), (rank_item p 3 (omega arith) (omega arith),
-    (rank_item p 4 (omega arith) (omega arith), (rank_item p 5 (omega arith) (omega arith), (rank_item p 6 (omega arith) (omega arith),
-    (rank_item p 7 (omega arith) (omega arith), (rank_item p 8 (omega arith) (omega arith), (rank_item p 9 (omega arith) (omega arith), tt)))))))))
+rank_lines p = (
+  rank_item p 1 (omega arith) (omega arith),
+  (
+    rank_item p 2 (omega arith) (omega arith),
+    (
+      rank_item p 3 (omega arith) (omega arith),
+      (
+        rank_item p 4 (omega arith) (omega arith),
+        (
+          rank_item p 5 (omega arith) (omega arith),
+          (
+            rank_item p 6 (omega arith) (omega arith),
+            (rank_item p 7 (omega arith) (omega arith), (rank_item p 8 (omega arith) (omega arith), (rank_item p 9 (omega arith) (omega arith), tt))),
+          ),
+        ),
+      ),
+    ),
+  ),
+)
 
 none_even : (p : Placed) → AllByRecursion (λ s. is_even s ≡ false) (hand_items Black p.black ++ hand_items White p.white)
 none_even p =
