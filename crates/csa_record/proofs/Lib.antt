@@ -7,3 +7,4 @@ pub mod Whole
 pub mod Once
 pub mod Found
 pub mod Canonical
+pub mod Games

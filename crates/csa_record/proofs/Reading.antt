@@ -12,7 +12,7 @@ use Rattle.csa_text.proofs.Fronts.{length_between}
 use Rattle.csa_text.proofs.Runs.{found}
 use Rattle.csa_record.specs.declared.fault.Refusal.{Refusal}
 use Rattle.csa_record.specs.declared.fault.Why.{Why}
-use Rattle.csa_record.specs.declared.fault.Why.TheVariants.{Text, Order, OutOfMemory}
+use Rattle.csa_record.specs.declared.fault.Why.TheVariants.{Text, Order, Start, Rule, OutOfMemory}
 use Rattle.csa_record.specs.declared.fault.OrderFault.TheVariants.{MissingTurn}
 use Rattle.csa_record.specs.Game.{Game, IsGame, IsName}
 use Rattle.csa_record.specs.Reads.{Reads}
@@ -129,11 +129,15 @@ refused source old new s t n number offset bytes (Order f) r out took other =
     let spelt : IsSpelt unit took.0 = spelt_as unit bytes took.0 out.slice (short_out old new number offset bytes out) took.1 in
     let fault : order_fault r.sayings took.0 ≡ Some f = sym (ap (λ k. fault_so_far k took.0) r.kept ∙ fault_kept r.sayings took.0) ∙ took.2 in
     inl (refused_at source old new s n number offset bytes (Order f) r out (inr (inr (took.0, spelt, f, fault, refl))))
+refused source old new s t n number offset bytes (Start f) r out took other = absurd took
+refused source old new s t n number offset bytes (Rule f) r out took other = absurd took
 refused source old new s t n number offset bytes OutOfMemory r out took other = absurd (other refl)
 
 pub short_of_memory : (source : List ℕ) (old new : cutting.Cutting) (s t : SoFar) (n number offset : ℕ) (bytes : List ℕ) (why : Why) → ReadSoFar source old s n → cutting.IsHandedOut old new number offset bytes → TookBytes s bytes (Err why) t → why ≡ OutOfMemory → FaultlessTo source number offset
 short_of_memory source old new s t n number offset bytes (Text f) r out took is = cc
 short_of_memory source old new s t n number offset bytes (Order f) r out took is = cc
+short_of_memory source old new s t n number offset bytes (Start f) r out took is = cc
+short_of_memory source old new s t n number offset bytes (Rule f) r out took is = cc
 short_of_memory source old new s t n number offset bytes OutOfMemory r out took is =
     let others = behind old new.at in
     let unit = unit_out old offset new in

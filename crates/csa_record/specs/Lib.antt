@@ -7,3 +7,4 @@ pub mod Refused
 pub mod Canon
 pub mod SoFar
 pub mod TookNext
+pub mod Games

@@ -10,7 +10,7 @@ use Rattle.csa_record.specs.Refused.{stands, first_fault}
 use Rattle.csa_record.specs.declared.fault.OrderFault.{OrderFault}
 use Rattle.csa_record.specs.declared.fault.OrderFault.TheVariants.{VersionOutOfPlace, RepeatedName, MixedStart, PositionLate, RepeatedTurn}
 use Rattle.csa_record.specs.declared.fault.Why.{Why}
-use Rattle.csa_record.specs.declared.fault.Why.TheVariants.{Text, Order, OutOfMemory}
+use Rattle.csa_record.specs.declared.fault.Why.TheVariants.{Text, Order, Start, Rule, OutOfMemory}
 
 -- whether there was an item, the names, whether there was a position statement, and the side to move
 pub record SoFar : Type 0 where
@@ -64,6 +64,8 @@ abbrev pub TookName : SoFar → Color → List ℕ → Result (Unit {0}) Why →
 TookName old color text (Ok _) new = (fault_so_far old (name color text) ≡ None) × (new ≡ with_name old color text)
 TookName old color text (Err (Text f)) new = ⊥
 TookName old color text (Err (Order f)) new = fault_so_far old (name color text) ≡ Some f
+TookName old color text (Err (Start f)) new = ⊥
+TookName old color text (Err (Rule f)) new = ⊥
 TookName old color text (Err OutOfMemory) new = fault_so_far old (name color text) ≡ None
 
 -- the item of a statement was taken, or refused for this reason; one of those that are not taken is unknown
@@ -71,6 +73,8 @@ abbrev pub Took : SoFar → Saying → Result (Unit {0}) Why → SoFar → Type 
 Took old s (Ok _) new = (is_taken s ≡ true) × (fault_so_far old s ≡ None) × (new ≡ with_saying old s)
 Took old s (Err (Text f)) new = (is_taken s ≡ false) × (f ≡ Unknown)
 Took old s (Err (Order f)) new = (is_taken s ≡ true) × (fault_so_far old s ≡ Some f)
+Took old s (Err (Start f)) new = ⊥
+Took old s (Err (Rule f)) new = ⊥
 Took old s (Err OutOfMemory) new = (is_taken s ≡ true) × (fault_so_far old s ≡ None)
 
 -- the bytes of a statement were taken, or refused for this reason
@@ -78,4 +82,6 @@ abbrev pub TookBytes : SoFar → List ℕ → Result (Unit {0}) Why → SoFar �
 TookBytes old bytes (Ok u) new = (s : Saying) × Reads bytes s × (fault_so_far old s ≡ None) × (new ≡ with_saying old s)
 TookBytes old bytes (Err (Text f)) new = IsUnread bytes f
 TookBytes old bytes (Err (Order f)) new = (s : Saying) × Reads bytes s × (fault_so_far old s ≡ Some f)
+TookBytes old bytes (Err (Start f)) new = ⊥
+TookBytes old bytes (Err (Rule f)) new = ⊥
 TookBytes old bytes (Err OutOfMemory) new = (s : Saying) × Reads bytes s × (fault_so_far old s ≡ None)

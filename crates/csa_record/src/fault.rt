@@ -3,6 +3,8 @@ ghost use Rattle.csa_record.specs.declared.fault.Why.TheVariants.{Text, Order, O
 ghost use Rattle.csa_text.specs.declared.fault.TextFault.TheVariants.{StatementTooLong};
 
 use csa_text::{CutFault, TextFault};
+use shogi_board::SetupFault;
+use shogi_rules::Rule;
 use std::alloc::AllocError;
 use thiserror::Error;
 
@@ -57,6 +59,12 @@ pub enum Why {
     /// The item does not fit behind those before it.
     #[error("{0}")]
     Order(OrderFault),
+    /// A piece cannot be placed, or the side to move leaves the enemy king attacked.
+    #[error("{0}")]
+    Start(SetupFault),
+    /// The move breaks this rule.
+    #[error("{0}")]
+    Rule(Rule),
     /// A growth of memory was refused; nothing else was found up to this statement.
     #[error("out of memory")]
     OutOfMemory,

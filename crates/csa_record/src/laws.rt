@@ -5,6 +5,12 @@ ghost use Rattle.csa_record.specs.Game.{Game, IsGame};
 ghost use Rattle.csa_record.specs.Tells.{Tells};
 ghost use Rattle.csa_record.specs.Refused.{ToldAlone, RefusedAlone};
 ghost use Rattle.csa_record.specs.Canon.{canon};
+ghost use Rattle.csa_record.specs.Games.Canon as whole;
+ghost use Rattle.csa_record.specs.Games.Game as games;
+ghost use Rattle.csa_record.specs.Games.Limits as limits;
+ghost use Rattle.csa_record.specs.Games.Refused as refusing;
+ghost use Rattle.csa_record.specs.Games.Tells as telling;
+ghost use Rattle.csa_record.specs.declared.fault.Why.{Why};
 
 /// All bytes tell exactly one game, or are refused in exactly one way, and never both.
 pub fn told_once()
@@ -19,4 +25,25 @@ pub fn canon_tells()
 /// Two games have equal canonical texts exactly if they are equal.
 pub fn canon_equal()
     ensures { (g h : Game) → IsGame g → IsGame h → ((canon g ≡ canon h) ↔ (g ≡ h)) }
+{}
+
+/// The canonical text of a whole game tells that game.
+pub fn whole_canon_tells()
+    ensures { (g : games.Game) → limits.IsGame g → telling.Tells (whole.canon g) g }
+{}
+
+/// Two whole games have equal canonical texts exactly if they are equal.
+pub fn whole_canon_equal()
+    ensures { (g h : games.Game) → limits.IsGame g → limits.IsGame h → ((whole.canon g ≡ whole.canon h) ↔ (g ≡ h)) }
+{}
+
+/// Bytes tell one whole game at most.
+pub fn whole_one_game()
+    ensures { (source : List ℕ) (g h : games.Game) → telling.Tells source g → telling.Tells source h → g ≡ h }
+{}
+
+/// Bytes are refused in one way at most: at one statement, at one offset, for one reason.
+pub fn whole_one_refusal()
+    ensures { (source : List ℕ) (n m offset other : ℕ) (v w : Why) → refusing.Refused source n offset v → refusing.Refused source m other w
+        → (m ≡ n) × (other ≡ offset) × (w ≡ v) }
 {}

@@ -158,10 +158,10 @@ no_time_behind bytes date time (Some t) y m d split never s =
     let same = split_same 32 bytes date time s.0 s.1 split s.2 (date_has_no_space s.0 y m d s.3.0) in
     never t.hour t.minute t.second (rw same.1 s.4)
 
-digit_of : (k : ℕ) → k < 10 → digit_value (48 + k) ≡ k
+pub digit_of : (k : ℕ) → k < 10 → digit_value (48 + k) ≡ k
 digit_of k small = omega (arith, digit_value_digit (48 + k) (omega arith, omega arith))
 
-two_number : (fewest n : ℕ) → fewest ≤ 2 → n < 100 → IsNumber fewest 2 (two_digits n) n
+pub two_number : (fewest n : ℕ) → fewest ≤ 2 → n < 100 → IsNumber fewest 2 (two_digits n) n
 two_number fewest n few small =
     let tens = digit_of (n / 10) (omega arith) in
     let ones = digit_of (n % 10) (omega arith) in

@@ -1,0 +1,13 @@
+pub mod Bytes
+pub mod Lined
+pub mod ItemLines
+pub mod TimeLines
+pub mod Filtered
+pub mod Pieces
+pub mod FromEven
+pub mod ByRanks
+pub mod Hands
+pub mod Starting
+pub mod Canonical
+pub mod SaysOnce
+pub mod RefusedOnce

@@ -1,0 +1,12 @@
+pub mod Game
+pub mod Limits
+pub mod Items
+pub mod Placings
+pub mod Union
+pub mod Says
+pub mod Tells
+pub mod Placing
+pub mod Order
+pub mod Refused
+pub mod Squares
+pub mod Canon
