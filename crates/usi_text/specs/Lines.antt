@@ -6,7 +6,7 @@ use Rattle.shogi_rules.specs.declared.line.PlayFault.{PlayFault}
 use Rattle.shogi_rules.specs.declared.line.PlayFault.TheVariants as play
 use Rattle.shogi_rules.specs.declared.moves.Move.{Move}
 use Rattle.shogi_rules.specs.Play.{Answers}
-use Rattle.shogi_rules.specs.Positions.{Played, now_of}
+use Rattle.shogi_rules.specs.Positions.{Played, max_moves, now_of}
 use Rattle.usi_text.specs.declared.fault.UsiFault.{UsiFault}
 use Rattle.usi_text.specs.declared.fault.UsiFault.TheVariants.{BadLine, BadMoveText, Broken, TooManyMoves, OutOfMemory}
 use Rattle.usi_text.specs.declared.fault.UsiFault.TheVariants as usi
@@ -54,9 +54,9 @@ IsPlayed start before w m = UsiMove (position_now start before) w m × Judged st
 -- the first fault of a word behind those moves; moves are numbered from 1.
 -- Memory is wanting only for a word that may be played
 abbrev pub WordFault : Placed → List Move → List ℕ → UsiFault → Type 0
-WordFault start before w TooManyMoves = 10000 ≤ length before
+WordFault start before w TooManyMoves = max_moves ≤ length before
 WordFault start before w (BadMoveText n) =
-    (n ≡ length before + 1) × (length before < 10000) × ((m : Move) → UsiMove (position_now start before) w m → ⊥)
+    (n ≡ length before + 1) × (length before < max_moves) × ((m : Move) → UsiMove (position_now start before) w m → ⊥)
 WordFault start before w (Broken n rule) =
     (n ≡ length before + 1) × (m : Move) × UsiMove (position_now start before) w m × Judged start before m (Some (play.Broken rule))
 WordFault start before w OutOfMemory = (m : Move) × IsPlayed start before w m

@@ -11,7 +11,7 @@ ghost use Rattle.shogi_board.specs.Placed.{Placed};
 ghost use Rattle.shogi_board.specs.Sound.{IsSound};
 ghost use Rattle.shogi_board.specs.Totals.{count_in};
 ghost use Rattle.shogi_rules.specs.declared.moves.Move.{Move};
-ghost use Rattle.shogi_rules.specs.Positions.{IsGame};
+ghost use Rattle.shogi_rules.specs.Positions.{IsGame, max_moves};
 ghost use Rattle.usi_text.specs.declared.fault.SfenFault.{SfenFault};
 ghost use Rattle.usi_text.specs.declared.fault.SfenFault.TheVariants.{Start};
 ghost use Rattle.usi_text.specs.declared.fault.UsiFault.TheVariants.{OutOfMemory};
@@ -76,7 +76,7 @@ pub fn line_once()
 /// The position line that is written for a start and legal moves from it is the position line of that start and these
 /// moves.
 pub fn line_again()
-    ensures again { (start : Placed) (moves : List Move) (text : List ℕ) → IsSound start → IsGame start moves → length moves ≤ 10000
+    ensures again { (start : Placed) (moves : List Move) (text : List ℕ) → IsSound start → IsGame start moves → length moves ≤ max_moves
         → LineText start moves text → UsiLine (words text) start moves }
 {}
 

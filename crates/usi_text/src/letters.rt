@@ -3,7 +3,6 @@ ghost use Rattle.shogi_board.specs.Pieces.{in_hand, is_promoted};
 ghost use Rattle.shogi_board.specs.declared.kind.Kind.{Kind};
 ghost use Rattle.shogi_board.specs.declared.kind.Piece.{Piece};
 ghost use Rattle.shogi_board.specs.declared.square.Square.{Square};
-ghost use Rattle.shogi_rules.specs.Kinds.{promoted};
 ghost use Rattle.usi_text.specs.Letters.{square_text, letter, side_letter};
 
 use shogi_board::{Color, Kind, Piece, Square};
@@ -42,20 +41,6 @@ pub(crate) fn side_letter(piece: Piece) -> u8
         Color::Black => letter(piece.kind),
         Color::White => letter(piece.kind) + 32,
     }
-}
-
-pub(crate) fn is_promoted(kind: Kind) -> bool
-    ensures { result ≡ is_promoted kind }
-{
-    matches!(
-        kind,
-        Kind::ProPawn
-            | Kind::ProLance
-            | Kind::ProKnight
-            | Kind::ProSilver
-            | Kind::Horse
-            | Kind::Dragon
-    )
 }
 
 // The unpromoted kind that has this capital letter.
@@ -109,21 +94,6 @@ pub(crate) fn promoted_of_letter(byte: u8) -> Option<Piece>
         (λ piece. (is_promoted piece.kind ≡ true) × (side_letter piece ≡ byte)) }
 {
     let piece = piece_of_letter(byte)?;
-    let kind = promoted(piece.kind)?;
+    let kind = piece.kind.promoted()?;
     Some(Piece { kind, ..piece })
-}
-
-// The kind that a piece of this kind promotes to.
-pub(crate) fn promoted(kind: Kind) -> Option<Kind>
-    ensures { result ≡ promoted kind }
-{
-    match kind {
-        Kind::Pawn => Some(Kind::ProPawn),
-        Kind::Lance => Some(Kind::ProLance),
-        Kind::Knight => Some(Kind::ProKnight),
-        Kind::Silver => Some(Kind::ProSilver),
-        Kind::Bishop => Some(Kind::Horse),
-        Kind::Rook => Some(Kind::Dragon),
-        _ => None,
-    }
 }

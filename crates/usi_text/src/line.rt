@@ -9,7 +9,7 @@ use crate::moves::read_move;
 use crate::sfen::read_sfen;
 use crate::words::{next_word, take_word};
 use shogi_board::Position;
-use shogi_rules::{Line, PlayFault, judge};
+use shogi_rules::{Line, MAX_MOVES, PlayFault, judge};
 use std::alloc::Global;
 
 /// The line that a position line tells: its start and its moves.
@@ -142,7 +142,7 @@ fn play_word(line: &mut Line, word: &[u8]) -> Result<(), UsiFault>
         (λ fault. WordFault line.old.start line.old.moves word.now fault) }
 {
     let n = line.moves().len();
-    if n >= 10000 {
+    if n >= MAX_MOVES {
         return Err(UsiFault::TooManyMoves);
     }
     let now = line.now();

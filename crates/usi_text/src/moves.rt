@@ -5,7 +5,7 @@ ghost use Rattle.shogi_rules.specs.declared.moves.Move.{Move};
 ghost use Rattle.usi_text.specs.Letters.{square_text};
 ghost use Rattle.usi_text.specs.Moves.{UsiMove};
 
-use crate::letters::{held_kind, letter, promoted, read_square};
+use crate::letters::{held_kind, letter, read_square};
 use arrayvec::ArrayString;
 use shogi_board::{Position, Square};
 use shogi_rules::Move;
@@ -35,7 +35,7 @@ pub fn read_move(position: &Position, text: &[u8]) -> Option<Move>
         [a, b, c, d, b'+'] => {
             let from = read_square(*a, *b)?;
             let to = read_square(*c, *d)?;
-            let kind = promoted(position.piece_at(from)?.kind)?;
+            let kind = position.piece_at(from)?.kind.promoted()?;
             Some(Move::Walk { from, to, kind })
         }
         _ => None,
