@@ -19,7 +19,7 @@ use Rattle.csa_text.specs.declared.pair.Pair.TheVariants.{On, InHand, Rest}
 use Rattle.csa_text.specs.Codes.{sign, kind_code, cell_text, squares_text}
 use Rattle.csa_text.specs.CodesOnce.{kind_length}
 use Rattle.csa_text.proofs.Codings.{kind_or_not}
-use Rattle.csa_text.specs.Moment.{IsSplit, HasNone}
+use Rattle.csa_text.specs.Fields.{IsSplit, HasNone}
 use Rattle.csa_text.specs.PairTexts.{pair_text, pairs_text, IsOnBoard, AllOnBoard}
 use Rattle.csa_text.specs.PairsOnce.{same_split, pair_length}
 use Rattle.csa_text.specs.TimeTexts.{IsSeconds, IsFraction, IsTime}

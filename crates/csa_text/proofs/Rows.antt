@@ -14,7 +14,7 @@ use Rattle.csa_text.proofs.Moments.{no_split, split_same}
 use Rattle.csa_text.proofs.Texts.{head_same, tail_same}
 use Rattle.csa_text.specs.Codes.{sign, cell_text, move_text, squares_text}
 use Rattle.csa_text.specs.Endings.{ending_name}
-use Rattle.csa_text.specs.Moment.{IsSplit, HasNone}
+use Rattle.csa_text.specs.Fields.{IsSplit, HasNone}
 use Rattle.csa_text.specs.PairTexts.{pairs_text, AllOnBoard}
 use Rattle.csa_text.specs.TimeTexts.{IsTime}
 use Rattle.csa_text.specs.Spelling.{Saying, version, name, header, even, rank, pieces, turn, walked, time, ending, Spells, IsRank, fault_of_row}

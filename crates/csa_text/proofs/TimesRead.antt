@@ -4,7 +4,7 @@ use Rattle.std.proofs.lemmas.Int.Digits.{digits_value_more}
 use Rattle.std.proofs.lemmas.Str.Parse.{digits_value-take-le}
 use Rattle.std.specs.Char.{digit_value}
 use Rattle.std.specs.Str.Parse.{digits_value}
-use Rattle.csa_text.specs.Moment.{HasNone, IsSplit}
+use Rattle.csa_text.specs.Fields.{HasNone, IsSplit}
 use Rattle.csa_text.specs.TimeTexts.{IsSeconds, IsFraction, HasFraction, IsTime}
 use Rattle.csa_text.proofs.Moments.{none_of, no_split, split_same}
 

@@ -10,6 +10,7 @@ pub mod Saying
 pub mod Spelling
 pub mod Lines
 pub mod Lining
+pub mod Fields
 pub mod Moment
 pub mod MomentParts
 pub mod Piecing

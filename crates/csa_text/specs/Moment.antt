@@ -1,7 +1,6 @@
 -- Moments: a date, or a date and a time of day.
-use Rattle.std.specs.Prelude.{◌≡◌, ℕ, ◌+◌, ◌/◌, ◌%◌, ◌≤◌, ◌==◌, false, List, [], ◌∷◌, ◌++◌, length, pos, Option, Some, None}
-use Rattle.std.specs.List.{AllByRecursion}
-use Rattle.std.specs.Str.Parse.{AllDigits, digits_value}
+use Rattle.std.specs.Prelude.{◌≡◌, ℕ, ◌+◌, ◌/◌, ◌%◌, ◌≤◌, List, [], ◌∷◌, ◌++◌, pos, Option, Some, None}
+use Rattle.csa_text.specs.Fields.{IsNumber}
 use Rattle.jiff_core.specs.Calendar.{IsCivilDate}
 
 pub record TimeOfDay : Type 0 where
@@ -14,13 +13,6 @@ pub record CalendarMoment : Type 0 where
   pub month : ℕ
   pub day : ℕ
   pub time : Option TimeOfDay
-
--- at least and at most so many decimal digits, with this value
-pub record IsNumber (fewest most : ℕ) (digits : List ℕ) (value : ℕ) : Type 0 where
-  pub few : fewest ≤ length digits
-  pub many : length digits ≤ most
-  pub digits_only : AllDigits 10 digits
-  pub value_is : value ≡ digits_value 10 digits
 
 -- four digits, `/`, one or two digits, `/`, one or two digits
 pub record DateDigits (bytes : List ℕ) (year month day : ℕ) : Type 0 where
@@ -81,10 +73,3 @@ behind_date (Some t) = 32 ∷ time_text t.hour t.minute t.second
 -- the canonical text of a moment
 abbrev pub moment_text : CalendarMoment → List ℕ
 moment_text m = date_text m.year m.month m.day ++ behind_date m.time
-
-abbrev pub HasNone : ℕ → List ℕ → Type 0
-HasNone mark bytes = AllByRecursion (λ b. (b == mark) ≡ false) bytes
-
--- what stands before and behind the first byte of this value
-abbrev pub IsSplit : ℕ → List ℕ → List ℕ → List ℕ → Type 0
-IsSplit mark bytes front rest = (bytes ≡ front ++ mark ∷ rest) × HasNone mark front

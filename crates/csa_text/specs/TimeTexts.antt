@@ -1,7 +1,7 @@
 -- The time of a move or an ending, in thousandths of a second.
 use Rattle.std.specs.Prelude.{◌≡◌, ℕ, ◌+◌, ◌*◌, ◌-◌, ◌^◌, ◌≤◌, ◌≢◌, ◌⊎◌, List, [], ◌∷◌, ◌++◌, length}
 use Rattle.std.specs.Str.Parse.{AllDigits, digits_value}
-use Rattle.csa_text.specs.Moment.{IsNumber}
+use Rattle.csa_text.specs.Fields.{IsNumber}
 
 -- one or more decimal digits, of a value of at most 4,294,967,295
 pub record IsSeconds (digits : List ℕ) (seconds : ℕ) : Type 0 where

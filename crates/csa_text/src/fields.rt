@@ -1,5 +1,5 @@
 ghost use Rattle.std.specs.Prelude.{ℕ, ◌<◌, ◌≤◌, ◌^◌, MatchOption, IfSome};
-ghost use Rattle.csa_text.specs.Moment.{IsNumber, HasNone, IsSplit};
+ghost use Rattle.csa_text.specs.Fields.{IsNumber, HasNone, IsSplit};
 
 // What stands before the first byte of this value, and what stands behind it.
 pub(crate) fn split_at_byte(bytes: &[u8], mark: u8) -> Option<(&[u8], &[u8])>

@@ -142,10 +142,8 @@ fn read_signed(color: Color, squares: &[u8]) -> Result<Item<'_>, TextFault>
     if squares.is_empty() {
         return Ok(Item::Turn(color));
     }
-    match read_move(squares) {
-        Some(m) => Ok(Item::Walked(color, m)),
-        None => Err(TextFault::BadMove),
-    }
+    let m = read_move(squares).ok_or(TextFault::BadMove)?;
+    Ok(Item::Walked(color, m))
 }
 
 // Behind `T`.
@@ -162,8 +160,6 @@ fn read_spent(text: &[u8]) -> Result<Item<'_>, TextFault>
 fn read_end(name: &[u8]) -> Result<Item<'_>, TextFault>
     ensures { IsRead (37 ∷ name.now) result }
 {
-    match read_ending(name) {
-        Some(ending) => Ok(Item::Ending(ending)),
-        None => Err(TextFault::UnknownEnding),
-    }
+    let ending = read_ending(name).ok_or(TextFault::UnknownEnding)?;
+    Ok(Item::Ending(ending))
 }

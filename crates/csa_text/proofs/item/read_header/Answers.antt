@@ -1,5 +1,5 @@
 use Rattle.std.proofs.Common.{◌≡◌, length, refl, arith}
-use Rattle.csa_text.specs.Moment.{HasNone}
+use Rattle.csa_text.specs.Fields.{HasNone}
 use Rattle.csa_text.proofs.Rows.{no_header, no_colon, no_key}
 use Rattle.csa_text.proofs.item.read_header.Goals as goal
 

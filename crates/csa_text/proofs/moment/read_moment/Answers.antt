@@ -1,4 +1,4 @@
-use Rattle.csa_text.specs.Moment.{HasNone}
+use Rattle.csa_text.specs.Fields.{HasNone}
 use Rattle.csa_text.proofs.Moments.{no_date_alone, no_date_before, no_time_behind}
 use Rattle.csa_text.proofs.moment.read_moment.Goals as goal
 

@@ -1,4 +1,4 @@
-use Rattle.csa_text.specs.Moment.{HasNone}
+use Rattle.csa_text.specs.Fields.{HasNone}
 use Rattle.csa_text.proofs.TimesRead.{no_whole, no_front, no_fraction}
 use Rattle.csa_text.proofs.time.read_time.Goals as goal
 

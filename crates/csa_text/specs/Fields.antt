@@ -1,0 +1,19 @@
+-- Numbers in digits, and texts that a mark parts.
+use Rattle.std.specs.Prelude.{◌≡◌, ℕ, ◌≤◌, ◌==◌, false, List, ◌∷◌, ◌++◌, length}
+use Rattle.std.specs.List.{AllByRecursion}
+use Rattle.std.specs.Str.Parse.{AllDigits, digits_value}
+
+-- at least and at most so many decimal digits, with this value
+pub record IsNumber (fewest most : ℕ) (digits : List ℕ) (value : ℕ) : Type 0 where
+  pub few : fewest ≤ length digits
+  pub many : length digits ≤ most
+  pub digits_only : AllDigits 10 digits
+  pub value_is : value ≡ digits_value 10 digits
+
+-- no byte of this value
+abbrev pub HasNone : ℕ → List ℕ → Type 0
+HasNone mark bytes = AllByRecursion (λ b. (b == mark) ≡ false) bytes
+
+-- what stands before and behind the first byte of this value
+abbrev pub IsSplit : ℕ → List ℕ → List ℕ → List ℕ → Type 0
+IsSplit mark bytes front rest = (bytes ≡ front ++ mark ∷ rest) × HasNone mark front
