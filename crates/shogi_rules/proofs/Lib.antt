@@ -11,5 +11,6 @@ pub mod Kept
 pub mod Stretches
 pub mod Once
 pub mod Counts
+pub mod LastRanks
 pub mod Decided
 pub mod Standing

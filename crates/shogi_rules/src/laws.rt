@@ -2,18 +2,19 @@
 //!
 //! A law is a function that does nothing: its contract is the law.
 
-ghost use Rattle.std.specs.Prelude.{◌≡◌, ℕ, ◌+◌, ◌↔◌, List, [], ◌∷◌, Option, Some, slice_get, length};
-ghost use Rattle.shogi_board.specs.Cells.{at, piece};
+ghost use Rattle.std.specs.Prelude.{◌≡◌, ℕ, ◌+◌, ◌<◌, ◌↔◌, List, [], ◌∷◌, Option, Some, slice_get, length};
+ghost use Rattle.shogi_board.specs.Cells.{Cells, at, piece};
 ghost use Rattle.shogi_board.specs.Pieces.{opponent};
 ghost use Rattle.shogi_board.specs.Placed.{Placed};
 ghost use Rattle.shogi_board.specs.Sound.{IsSound};
-ghost use Rattle.shogi_board.specs.Reach.{InCheck};
+ghost use Rattle.shogi_board.specs.Reach.{Reach, InCheck};
 ghost use Rattle.shogi_board.specs.Totals.{total};
 ghost use Rattle.shogi_board.specs.declared.color.Color.{Color};
 ghost use Rattle.shogi_board.specs.declared.kind.Kind.{Kind};
-ghost use Rattle.shogi_board.specs.declared.kind.Kind.TheVariants.{King};
+ghost use Rattle.shogi_board.specs.declared.kind.Kind.TheVariants.{King, Pawn, Lance, Knight};
 ghost use Rattle.shogi_board.specs.declared.square.Square.{Square};
 ghost use Rattle.shogi_rules.specs.After.{after};
+ghost use Rattle.shogi_rules.specs.Kinds.{rank_for, last_rank};
 ghost use Rattle.shogi_rules.specs.Legal.{HasPiece, ReachesTarget, Legal};
 ghost use Rattle.shogi_rules.specs.Order.{IsFirstLegal};
 ghost use Rattle.shogi_rules.specs.Play.{Answers};
@@ -29,6 +30,13 @@ ghost use Rattle.shogi_rules.specs.declared.rule.Rule.{Rule};
 /// In a sound position no walk that reaches its target lands on the enemy king.
 pub fn king_never_taken()
     ensures { (p : Placed) (from to : Square) (kind : Kind) → IsSound p → HasPiece p (Move.Walk from to kind) → ReachesTarget p (Move.Walk from to kind) → at p.board to ≡ piece (opponent p.side) King → ⊥ }
+{}
+
+/// A pawn, a lance and a knight reach no square exactly where they stand beyond the last rank of their kind, whatever else stands.
+pub fn last_ranks()
+    ensures pawn { (cells : Cells) (color : Color) (a : Square) → at cells a ≡ piece color Pawn → (rank_for color a < last_rank Pawn) ↔ ((b : Square) → Reach cells a b → ⊥) }
+    ensures lance { (cells : Cells) (color : Color) (a : Square) → at cells a ≡ piece color Lance → (rank_for color a < last_rank Lance) ↔ ((b : Square) → Reach cells a b → ⊥) }
+    ensures knight { (cells : Cells) (color : Color) (a : Square) → at cells a ≡ piece color Knight → (rank_for color a < last_rank Knight) ↔ ((b : Square) → Reach cells a b → ⊥) }
 {}
 
 /// A legal move leads from a sound position to a sound one.
