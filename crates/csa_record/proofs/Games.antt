@@ -11,3 +11,6 @@ pub mod Starting
 pub mod Canonical
 pub mod SaysOnce
 pub mod RefusedOnce
+pub mod PlacedUnion
+pub mod LaidOut
+pub mod Entries

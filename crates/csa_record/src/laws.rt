@@ -1,15 +1,23 @@
 //! Laws of the definitions that the contracts of this crate cite. They take and give nothing.
 
-ghost use Rattle.std.specs.Prelude.{◌≡◌, ◌⊎◌, ◌↔◌, ℕ, List};
+ghost use Rattle.std.specs.Prelude.{◌≡◌, ◌⊎◌, ◌↔◌, ℕ, List, [], Ok, drop, filter};
 ghost use Rattle.csa_record.specs.Game.{Game, IsGame};
 ghost use Rattle.csa_record.specs.Tells.{Tells};
 ghost use Rattle.csa_record.specs.Refused.{ToldAlone, RefusedAlone};
 ghost use Rattle.csa_record.specs.Canon.{canon};
 ghost use Rattle.csa_record.specs.Games.Canon as whole;
 ghost use Rattle.csa_record.specs.Games.Game as games;
+ghost use Rattle.csa_record.specs.Games.Items as items;
 ghost use Rattle.csa_record.specs.Games.Limits as limits;
+ghost use Rattle.csa_record.specs.Games.Placing as placing;
 ghost use Rattle.csa_record.specs.Games.Refused as refusing;
 ghost use Rattle.csa_record.specs.Games.Tells as telling;
+ghost use Rattle.csa_record.specs.Games.Union as union;
+ghost use Rattle.csa_text.specs.Spelling.{Saying, Spells};
+ghost use Rattle.shogi_board.specs.Layout.{Layout};
+ghost use Rattle.shogi_board.specs.Setup.{position_of};
+ghost use Rattle.shogi_board.specs.declared.color.Color.{Color};
+ghost use Rattle.std.specs.List.{AllByRecursion};
 ghost use Rattle.csa_record.specs.declared.fault.Why.{Why};
 
 /// All bytes tell exactly one game, or are refused in exactly one way, and never both.
@@ -46,4 +54,12 @@ pub fn whole_one_game()
 pub fn whole_one_refusal()
     ensures { (source : List ℕ) (n m offset other : ℕ) (v w : Why) → refusing.Refused source n offset v → refusing.Refused source m other w
         → (m ≡ n) × (other ≡ offset) × (w ≡ v) }
+{}
+
+/// What position statements place one after another, with `PI` first where it stands, is the union
+/// of what they place: so their order does not matter.
+pub fn whole_laid_out()
+    ensures { (sayings : List Saying) (laid : Layout) (side : Color) → AllByRecursion (λ s. (bytes : List ℕ) × Spells bytes s) sayings
+        → filter items.is_even (drop 1 (items.positions sayings)) ≡ [] → placing.laid_out sayings ≡ Ok laid
+        → union.GiveStart (items.positions sayings) (position_of laid side) }
 {}

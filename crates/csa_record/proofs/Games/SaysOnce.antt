@@ -115,10 +115,10 @@ below_cases b c bs cs h =
       ]
     ]
 
-below_first : (b c : ℕ) (bs cs : List ℕ) → b < c → is_below (b ∷ bs) (c ∷ cs) ≡ true
+pub below_first : (b c : ℕ) (bs cs : List ℕ) → b < c → is_below (b ∷ bs) (c ∷ cs) ≡ true
 below_first b c bs cs h = rw (lt-ltb b c h) refl
 
-below_next : (b c : ℕ) (bs cs : List ℕ) → b ≡ c → is_below bs cs ≡ true → is_below (b ∷ bs) (c ∷ cs) ≡ true
+pub below_next : (b c : ℕ) (bs cs : List ℕ) → b ≡ c → is_below bs cs ≡ true → is_below (b ∷ bs) (c ∷ cs) ≡ true
 below_next b c bs cs e h = rw (e, never_below c) h
 
 below_through : (a b c : List ℕ) → is_below a b ≡ true → is_below b c ≡ true → is_below a c ≡ true
