@@ -13,4 +13,7 @@ pub mod SaysOnce
 pub mod RefusedOnce
 pub mod PlacedUnion
 pub mod LaidOut
+pub mod UnionPlaced
+pub mod Placeable
+pub mod Rows
 pub mod Entries

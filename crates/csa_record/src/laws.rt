@@ -10,14 +10,16 @@ ghost use Rattle.csa_record.specs.Games.Game as games;
 ghost use Rattle.csa_record.specs.Games.Items as items;
 ghost use Rattle.csa_record.specs.Games.Limits as limits;
 ghost use Rattle.csa_record.specs.Games.Placing as placing;
+ghost use Rattle.csa_record.specs.Games.Placings.{placings};
 ghost use Rattle.csa_record.specs.Games.Refused as refusing;
 ghost use Rattle.csa_record.specs.Games.Tells as telling;
 ghost use Rattle.csa_record.specs.Games.Union as union;
 ghost use Rattle.csa_text.specs.Spelling.{Saying, Spells};
 ghost use Rattle.shogi_board.specs.Layout.{Layout};
 ghost use Rattle.shogi_board.specs.Setup.{position_of};
+ghost use Rattle.shogi_board.specs.Totals.{IsWithinTotals};
 ghost use Rattle.shogi_board.specs.declared.color.Color.{Color};
-ghost use Rattle.std.specs.List.{AllByRecursion};
+ghost use Rattle.std.specs.List.{AllByRecursion, filter_map};
 ghost use Rattle.csa_record.specs.declared.fault.Why.{Why};
 
 /// All bytes tell exactly one game, or are refused in exactly one way, and never both.
@@ -62,4 +64,14 @@ pub fn whole_laid_out()
     ensures { (sayings : List Saying) (laid : Layout) (side : Color) → AllByRecursion (λ s. (bytes : List ℕ) × Spells bytes s) sayings
         → filter items.is_even (drop 1 (items.positions sayings)) ≡ [] → placing.laid_out sayings ≡ Ok laid
         → union.GiveStart (items.positions sayings) (position_of laid side) }
+{}
+
+/// The union of what position statements place, with `PI` first where it stands, can be placed one
+/// after another, where no total is passed.
+pub fn whole_union_placed()
+    ensures { (sayings : List Saying) (placed : Layout) → AllByRecursion (λ s. (bytes : List ℕ) × Spells bytes s) sayings
+        → filter items.is_even (drop 1 (items.positions sayings)) ≡ []
+        → union.IsUnion (union.first_board (items.positions sayings)) (placings (items.positions sayings)) placed
+        → IsWithinTotals placed.board placed.black placed.white
+        → placing.laid_out sayings ≡ Ok (union.with_rest_given (filter_map union.rest_given (placings (items.positions sayings))) placed) }
 {}
