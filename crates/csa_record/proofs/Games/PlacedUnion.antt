@@ -148,7 +148,7 @@ was_left cell (Some q) (l ∷ ls) k e h = cc
 pub step_off : (first : Cells) (done : List Placing) (s : Layout) (n : ℕ) (k : Kind) → IsUnion first done s → AllByRecursion OnlyOff done → filter_map rest_given done ≡ [] → n < 81 → holds k (get_or s.board n None) ≡ true → IsUnion first (done ++ off n k ∷ []) (placed s (off n k))
 step_off first done s n k u only none low held =
     let old : left_on (get_or first n None) (filter_map (off_at n) done) ++ [] ≡ option_to_list (get_or s.board n None)
-        = ap (λ ps. left_on (get_or first n None) (filter_map (off_at n) done) ++ ps) (sym (none_put n done only)) ∙ u.cells n low in
+    = ap (λ ps. left_on (get_or first n None) (filter_map (off_at n) done) ++ ps) (sym (none_put n done only)) ∙ u.cells n low in
     let was = was_left (get_or first n None) (get_or s.board n None) (filter_map (off_at n) done) k old held in
     let now : filter_map (off_at n) (done ++ off n k ∷ []) ≡ k ∷ [] = off_here n n k done (itself n) ∙ ap (λ ks. ks ++ k ∷ []) was.0 in
     record {

@@ -21,7 +21,9 @@ pub const NAME: &str = "normal";
 
 /// The command's own words: a file, which may be absent.
 pub fn command<'a>(alloc: Global) -> Result<Command<'a>, AllocError> {
-    let file = Arg::new(alloc, "FILE").help("The record; without it, or with -, standard input is read");
+    let file = Arg::new(alloc, "FILE").help(
+        "The record; without it, or with -, standard input is read",
+    );
     Command::new(alloc, NAME)
         .about("Prints the canonical text of a record")
         .arg(file)
