@@ -1,17 +1,16 @@
 -- The union can be placed one after another.
-use Rattle.std.proofs.Common.{◌≡◌, ◌≢◌, ◌⊎◌, ℕ, zero, suc, ◌+◌, ◌*◌, ◌-◌, ◌<◌, ◌≤◌, ◌==◌, ◌&&◌, Bool, true, false, not, cond, List, [], ◌∷◌, ◌++◌, length, filter, map, get_or, set, count_by, Option, Some, None, Result, Ok, Err, refl, sym, ap, ◌∙◌, subst, append_assoc, arith, inl, inr}
-use Rattle.std.specs.Prelude.{is_some, slice_set, slice_index_or, slice_index, nat_lt, nat_le, replicate, if◌then◌else◌}
-use Rattle.std.specs.List.{AllByRecursion, filter_map, flat_map}
+use Rattle.std.proofs.Common.{◌≡◌, ◌≢◌, ℕ, ◌+◌, ◌<◌, ◌≤◌, ◌==◌, ◌&&◌, Bool, true, false, cond, List, [], ◌∷◌, ◌++◌, length, get_or, set, Option, Some, None, Ok, refl, sym, ap, ◌∙◌, subst, append_assoc, arith, inl, inr}
+use Rattle.std.specs.Prelude.{slice_index, nat_lt, nat_le}
+use Rattle.std.specs.List.{AllByRecursion, filter_map}
 use Rattle.std.specs.Option.{option_to_list}
-use Rattle.std.proofs.lemmas.Bool.{cases_Bool, cases_lt, eqb-true, eqb-false, lt-leb}
-use Rattle.std.proofs.lemmas.List.{append-nil, length-append, length-set, get_or-set_same, get_or-set_other}
-use Rattle.std.proofs.lemmas.List.Elements.{filter_map-append, filter-append}
+use Rattle.std.proofs.lemmas.Bool.{cases_Bool, eqb-true, eqb-false, lt-leb}
+use Rattle.std.proofs.lemmas.List.{append-nil, get_or-set_same, get_or-set_other}
+use Rattle.std.proofs.lemmas.List.Elements.{filter_map-append}
 use Rattle.std.proofs.lemmas.List.Sums.{sum_by-set}
 use Rattle.shogi_board.specs.declared.color.Color.{Color}
 use Rattle.shogi_board.specs.declared.color.Color.TheVariants.{Black, White}
 use Rattle.shogi_board.specs.declared.kind.Kind.{Kind}
 use Rattle.shogi_board.specs.declared.kind.Piece.{Piece}
-use Rattle.shogi_board.specs.declared.setup.SetupFault.{SetupFault}
 use Rattle.shogi_board.specs.Cells.{Cells}
 use Rattle.shogi_board.specs.Layout.{Layout}
 use Rattle.shogi_board.specs.Pieces as kinds
@@ -22,7 +21,7 @@ use Rattle.shogi_rules.proofs.Forms.{held-low, same_color-self, eq-self}
 use Rattle.shogi_rules.proofs.Layouts.{put-total}
 use Rattle.csa_record.specs.Games.Placings.{Placing, on, off, in_hand, rest}
 use Rattle.csa_record.specs.Games.Placing.{placing_fault, placed, unless, place_all}
-use Rattle.csa_record.specs.Games.Union.{put_on, off_at, rest_given, MayBeHeld, RestIsLast, MayTakeOff, left_on, on_square, IsUnion, with_rest_given}
+use Rattle.csa_record.specs.Games.Union.{put_on, off_at, rest_given, MayBeHeld, RestIsLast, MayTakeOff, left_on, IsUnion, with_rest_given}
 use Rattle.csa_record.proofs.Games.PlacedUnion.{OnlyOff, InTurn, step_on, step_off, step_hand, step_rest, rests_more, none_put}
 use Rattle.csa_record.proofs.Games.SaysOnce.{union_once}
 
@@ -88,10 +87,10 @@ puts_mid n p done ps =
 empty_before : (first : Cells) (done ps : List Placing) (s u : Layout) (n : ℕ) (p : Piece) → IsUnion first done s → IsUnion first (done ++ on n p ∷ ps) u → n < 81 → AllByRecursion NoOff ps → get_or s.board n None ≡ None
 empty_before first done ps s u n p a b low none =
     let offs : filter_map (off_at n) (done ++ on n p ∷ ps) ≡ filter_map (off_at n) done
-        = filter_map-append (off_at n) done (on n p ∷ ps) ∙ (ap (λ ks. filter_map (off_at n) done ++ ks) (none_off n ps none) ∙ append-nil (filter_map (off_at n) done)) in
+    = filter_map-append (off_at n) done (on n p ∷ ps) ∙ (ap (λ ks. filter_map (off_at n) done ++ ks) (none_off n ps none) ∙ append-nil (filter_map (off_at n) done)) in
     let all : left_on (get_or first n None) (filter_map (off_at n) done) ++ (filter_map (put_on n) done ++ p ∷ filter_map (put_on n) ps) ≡ option_to_list (get_or u.board n None)
-        = sym (ap (λ ks. left_on (get_or first n None) ks ++ filter_map (put_on n) (done ++ on n p ∷ ps)) offs
-        ∙ ap (λ xs. left_on (get_or first n None) (filter_map (off_at n) done) ++ xs) (puts_mid n p done ps)) ∙ b.cells n low in
+    = sym (ap (λ ks. left_on (get_or first n None) ks ++ filter_map (put_on n) (done ++ on n p ∷ ps)) offs
+    ∙ ap (λ xs. left_on (get_or first n None) (filter_map (off_at n) done) ++ xs) (puts_mid n p done ps)) ∙ b.cells n low in
     no_list (get_or s.board n None)
     (sym (a.cells n low) ∙ alone (left_on (get_or first n None) (filter_map (off_at n) done)) (filter_map (put_on n) done) p (filter_map (put_on n) ps) (get_or u.board n None) all)
 
@@ -118,11 +117,11 @@ same_option (Some x) (Some y) e = let same : x ≡ y = cc in ap Some same
 held_before : (first : Cells) (done ps : List Placing) (s u : Layout) (n : ℕ) (k : Kind) → IsUnion first done s → IsUnion first (done ++ off n k ∷ ps) u → n < 81 → AllByRecursion OnlyOff done → holds k (get_or s.board n None) ≡ true
 held_before first done ps s u n k a b low only =
     let taken : MayTakeOff (get_or first n None) (filter_map (off_at n) done ++ k ∷ filter_map (off_at n) ps)
-        = subst (λ ks. MayTakeOff (get_or first n None) ks) (offs_mid n k done ps) (b.taken n) in
+    = subst (λ ks. MayTakeOff (get_or first n None) ks) (offs_mid n k done ps) (b.taken n) in
     let one = only_one (get_or first n None) (filter_map (off_at n) done) k (filter_map (off_at n) ps) taken in
     let cell : option_to_list (get_or first n None) ++ [] ≡ option_to_list (get_or s.board n None)
-        = sym (ap (λ ks. left_on (get_or first n None) ks ++ filter_map (put_on n) done) one.0
-        ∙ ap (λ xs. option_to_list (get_or first n None) ++ xs) (none_put n done only)) ∙ a.cells n low in
+    = sym (ap (λ ks. left_on (get_or first n None) ks ++ filter_map (put_on n) done) one.0
+    ∙ ap (λ xs. option_to_list (get_or first n None) ++ xs) (none_put n done only)) ∙ a.cells n low in
     ap (holds k) (sym (same_option (get_or first n None) (get_or s.board n None) cell)) ∙ one.1
 
 -- a part of a list in which all hold
@@ -182,9 +181,9 @@ fine_on s u n p free low empty grows within =
     let room : total_of s p.kind < limit p.kind = omega (arith, gained, itself, grows.totals p.kind, within.totals p.kind) in
     let full : nat_le (limit p.kind) (total_of s p.kind) ≡ false = lt-leb _ _ room in
     let lone : is_king p.kind ≡ true → kings_of s.board p.color ≡ 0 = λ h.
-        let more = put_kings s.board n p p.color low empty in
-        let one : ◌≡◌ {A = ℕ} (cond (same_color p.color p.color && is_king p.kind) 1 0) 1 = rw (same_color-self p.color, h) refl in
-        omega (arith, more, one, grows.kings p.color, within.kings p.color) in
+    let more = put_kings s.board n p p.color low empty in
+    let one : ◌≡◌ {A = ℕ} (cond (same_color p.color p.color && is_king p.kind) 1 0) 1 = rw (same_color-self p.color, h) refl in
+    omega (arith, more, one, grows.kings p.color, within.kings p.color) in
     rw (free, empty, king_test (is_king p.kind) (kings_of s.board p.color) lone, full) refl
 
 less_on : (s u : Layout) (n : ℕ) (p : Piece) → n < length s.board → get_or s.board n None ≡ None → Grows (placed s (on n p)) u → Grows s u
@@ -230,7 +229,7 @@ union_placed first done (on n p ∷ ps) s u a none turn b within =
     let empty = empty_before first done ps s u n p a b turn.0 no_off in
     let low : n < length s.board = omega (arith, turn.0, a.squares) in
     let next = union_placed first (done ++ on n p ∷ []) ps (placed s (on n p)) u (step_on first done s n p a none turn.0 empty) (rests_more done (on n p) none refl) turn.1
-        (subst (λ all. IsUnion first all u) (sym (append_assoc done (on n p ∷ []) ps)) b) within in
+    (subst (λ all. IsUnion first all u) (sym (append_assoc done (on n p ∷ []) ps)) b) within in
     let grows = next.grows no_off in
     record {
       all = ap (λ f. unless f (place_all (placed s (on n p)) ps)) (fine_on s u n p a.no_rest low empty grows within) ∙ next.all;
@@ -239,7 +238,7 @@ union_placed first done (on n p ∷ ps) s u a none turn b within =
 union_placed first done (off n k ∷ ps) s u a none turn b within =
     let held = held_before first done ps s u n k a b turn.0 turn.1 in
     let next = union_placed first (done ++ off n k ∷ []) ps (placed s (off n k)) u (step_off first done s n k a turn.1 none turn.0 held) (rests_more done (off n k) none refl) turn.2
-        (subst (λ all. IsUnion first all u) (sym (append_assoc done (off n k ∷ []) ps)) b) within in
+    (subst (λ all. IsUnion first all u) (sym (append_assoc done (off n k ∷ []) ps)) b) within in
     let fine : placing_fault s (off n k) ≡ None = rw (a.no_rest, held) refl in
     record {
       all = ap (λ f. unless f (place_all (placed s (off n k)) ps)) fine ∙ next.all;
@@ -251,7 +250,7 @@ union_placed first done (in_hand c k ∷ ps) s u a none turn b within =
     let black : length s.black ≡ 7 = ap length a.black in
     let white : length s.white ≡ 7 = ap length a.white in
     let next = union_placed first (done ++ in_hand c k ∷ []) ps (placed s (in_hand c k)) u (step_hand first done s c k a none held) (rests_more done (in_hand c k) none refl) turn
-        (subst (λ all. IsUnion first all u) (sym (append_assoc done (in_hand c k ∷ []) ps)) b) within in
+    (subst (λ all. IsUnion first all u) (sym (append_assoc done (in_hand c k ∷ []) ps)) b) within in
     let grows = next.grows no_off in
     record {
       all = ap (λ f. unless f (place_all (placed s (in_hand c k)) ps)) (fine_hand s u c k a.no_rest black white held grows within) ∙ next.all;
