@@ -1,25 +1,25 @@
 -- The canonical text of a game tells that game.
-use Rattle.std.proofs.Common.{◌≡◌, ◌≢◌, ◌⊎◌, ℕ, ◌+◌, ◌≤◌, Bool, true, false, List, [], ◌∷◌, ◌++◌, drop, length, filter, map, Option, Some, None, refl, sym, ap, ◌∙◌, append_assoc, subst, arith, inl, inr}
+use Rattle.std.proofs.Common.{◌≡◌, ◌≢◌, ◌⊎◌, ℕ, true, false, List, [], ◌∷◌, ◌++◌, drop, filter, map, Option, Some, None, refl, sym, ap, ◌∙◌, append_assoc, arith, inl, inr}
 use Rattle.std.specs.Prelude.{IfSome}
-use Rattle.std.specs.List.{AllByRecursion, AllZip, filter_map, flat_map}
+use Rattle.std.specs.List.{AllByRecursion}
 use Rattle.std.specs.Option.{option_to_list}
 use Rattle.std.proofs.lemmas.List.{append-nil}
 use Rattle.std.proofs.lemmas.List.Elements.{filter_map-append, filter-append}
 use Rattle.shogi_board.specs.declared.color.Color.{Color}
 use Rattle.shogi_board.specs.declared.color.Color.TheVariants.{Black, White}
 use Rattle.shogi_board.specs.Pieces.{opponent}
-use Rattle.csa_text.specs.Cut.{TextUnit, Statements}
-use Rattle.csa_text.specs.Moment.{CalendarMoment, TimeOfDay, SpellsMoment, moment_text}
-use Rattle.csa_text.specs.Spelling.{Saying, version, name, header, even, rank, pieces, turn, walked, time, ending}
+use Rattle.csa_text.specs.Cut.{Statements}
+use Rattle.csa_text.specs.Moment.{CalendarMoment, TimeOfDay, moment_text}
+use Rattle.csa_text.specs.Spelling.{Saying, version, header, turn}
 use Rattle.csa_text.proofs.Moments.{InDay, text_spelled}
 use Rattle.csa_record.specs.Games.Game.{Game, Timed, Ended, Entry, HeaderText, moment, plain}
-use Rattle.csa_record.specs.Games.Limits.{IsGame, IsName, IsEntry, IsMomentKey, IsMoment, IsInDay, MayStandUnder, IsTimed, EndsInTime}
+use Rattle.csa_record.specs.Games.Limits.{IsGame, IsName, IsEntry, IsInDay, MayStandUnder, IsTimed, EndsInTime}
 use Rattle.csa_record.specs.Games.Items.{is_version, name_given, names, header_given, headers, is_even, rank_given, ranks, is_position, positions, is_body, body}
-use Rattle.csa_record.specs.Games.Says.{Says, IsValue, AreEntries, time_items, move_items, ending_items, played_items, RanksOnce}
+use Rattle.csa_record.specs.Games.Says.{Says, IsValue, AreEntries, time_items, move_items, ending_items, played_items}
 use Rattle.csa_record.specs.Games.Tells.{Tells}
-use Rattle.csa_record.specs.Games.Canon.{name_items, value_text, header_item, start_items, canon_items, canon, ended_line}
+use Rattle.csa_record.specs.Games.Canon.{name_items, value_text, header_item, start_items, canon_items, canon}
 use Rattle.csa_record.proofs.Games.Bytes.{all_joined}
-use Rattle.csa_record.proofs.Games.Filtered.{AreBody, AreHead, ArePositions, none_of, all_of, nothing_of, no_versions, no_names, no_headers, no_positions, no_evens, no_ranks, no_body, all_body, positions_are_body}
+use Rattle.csa_record.proofs.Games.Filtered.{AreBody, AreHead, none_of, all_of, nothing_of, no_versions, no_names, no_headers, no_positions, no_evens, no_ranks, no_body, all_body, positions_are_body}
 use Rattle.csa_record.proofs.Games.ItemLines.{version_line, name_line, header_line, turn_line, walked_line, ending_line}
 use Rattle.csa_record.proofs.Games.Lined.{IsItemLine, units_of, lines_cut, all_statements, units_spelt}
 use Rattle.csa_record.proofs.Games.Starting.{IsStart, start_is}

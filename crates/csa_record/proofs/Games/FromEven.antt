@@ -1,6 +1,6 @@
 -- `PI` with the missing pieces gives a start from the even board.
-use Rattle.std.proofs.Common.{◌≡◌, ◌⊎◌, ℕ, zero, suc, ◌+◌, ◌*◌, ◌-◌, ◌<◌, ◌≤◌, ◌==◌, ◌&&◌, Bool, true, false, List, [], ◌∷◌, ◌++◌, length, filter, map, get_or, Option, Some, None, refl, sym, ap, ◌∙◌, subst, arith, inl, inr}
-use Rattle.std.specs.Prelude.{slice_index, slice_index_or, replicate}
+use Rattle.std.proofs.Common.{◌≡◌, ℕ, zero, suc, ◌+◌, ◌<◌, ◌≤◌, true, false, List, [], ◌∷◌, ◌++◌, length, filter, map, get_or, Option, Some, None, refl, sym, ap, ◌∙◌, arith}
+use Rattle.std.specs.Prelude.{replicate}
 use Rattle.std.specs.List.{AllByRecursion, filter_map, flat_map}
 use Rattle.std.specs.Option.{option_to_list}
 use Rattle.std.proofs.lemmas.Bool.{ne_eqb}
@@ -10,18 +10,14 @@ use Rattle.shogi_board.specs.declared.color.Color.TheVariants.{Black, White}
 use Rattle.shogi_board.specs.declared.kind.Kind.{Kind}
 use Rattle.shogi_board.specs.declared.kind.Piece.{Piece}
 use Rattle.shogi_board.specs.Cells.{Cells, even_cells}
-use Rattle.shogi_board.specs.Layout.{Layout}
 use Rattle.shogi_board.specs.Placed.{Placed}
-use Rattle.shogi_board.specs.Sound.{IsSound}
-use Rattle.shogi_board.specs.Setup.{holds}
 use Rattle.shogi_board.specs.Squares.{place}
 use Rattle.shogi_board.specs.Totals.{hand_kinds}
 use Rattle.shogi_rules.proofs.Forms.{eq-self}
 use Rattle.csa_text.specs.PairTexts.{AllOnBoard}
-use Rattle.csa_text.specs.Spelling.{Saying, even}
-use Rattle.csa_record.specs.Games.Items.{is_even, ranks}
+use Rattle.csa_text.specs.Spelling.{even}
 use Rattle.csa_record.specs.Games.Placings.{Placing, on, off, in_hand, rest, taken_off, placings}
-use Rattle.csa_record.specs.Games.Union.{off_at, put_on, is_held, rest_given, MayBeHeld, RestIsLast, MayTakeOff, left_on, on_square, bag_given, IsUnion, GiveStart}
+use Rattle.csa_record.specs.Games.Union.{off_at, put_on, is_held, rest_given, MayBeHeld, RestIsLast, MayTakeOff, left_on, bag_given, IsUnion, GiveStart}
 use Rattle.csa_record.specs.Games.Canon.{stands_in, is_part_of, missing}
 use Rattle.csa_record.specs.Games.Squares.{square_at}
 use Rattle.csa_record.proofs.Games.ItemLines.{even_line}

@@ -1,10 +1,9 @@
 -- Ranks and hands give their start: the hands, and all together.
-use Rattle.std.proofs.Common.{◌≡◌, ◌⊎◌, ℕ, zero, suc, ◌+◌, ◌*◌, ◌-◌, ◌<◌, ◌≤◌, ◌==◌, ◌&&◌, Bool, true, false, List, [], ◌∷◌, ◌++◌, length, filter, map, get_or, Option, Some, None, refl, sym, ap, ◌∙◌, subst, append_assoc, arith, inl, inr}
-use Rattle.std.specs.Prelude.{slice_index, slice_index_or, replicate, drop, if◌then◌else◌}
+use Rattle.std.proofs.Common.{◌≡◌, ℕ, zero, suc, ◌+◌, ◌-◌, ◌<◌, ◌&&◌, Bool, true, false, List, [], ◌∷◌, ◌++◌, length, filter, map, get_or, Option, Some, None, refl, sym, ap, ◌∙◌, arith}
+use Rattle.std.specs.Prelude.{replicate, if◌then◌else◌}
 use Rattle.std.specs.List.{AllByRecursion, filter_map, flat_map}
 use Rattle.std.specs.Option.{option_to_list}
-use Rattle.std.proofs.lemmas.Bool.{cases_Bool, cases_lt}
-use Rattle.std.proofs.lemmas.List.{append-nil, length-append, get_or-replicate}
+use Rattle.std.proofs.lemmas.List.{append-nil, length-append}
 use Rattle.std.proofs.lemmas.List.Elements.{filter_map-append, filter-append}
 use Rattle.shogi_board.specs.declared.color.Color.{Color}
 use Rattle.shogi_board.specs.declared.color.Color.TheVariants.{Black, White}
@@ -12,16 +11,15 @@ use Rattle.shogi_board.specs.declared.kind.Kind.{Kind}
 use Rattle.shogi_board.specs.declared.kind.Kind.TheVariants.{Pawn, Lance, Knight, Silver, Gold, Bishop, Rook}
 use Rattle.shogi_board.specs.declared.kind.Piece.{Piece}
 use Rattle.shogi_board.specs.Cells.{Cells, no_cells}
-use Rattle.shogi_board.specs.Layout.{Layout}
 use Rattle.shogi_board.specs.Placed.{Placed}
 use Rattle.shogi_board.specs.Pieces as kinds
 use Rattle.shogi_board.specs.Pieces.{same_color, same_kind}
 use Rattle.shogi_board.specs.Totals.{count_in, hand_kinds}
 use Rattle.csa_text.specs.declared.pair.Pair.{Pair}
-use Rattle.csa_text.specs.declared.pair.Pair.TheVariants.{On, InHand, Rest}
-use Rattle.csa_text.specs.Spelling.{Saying, rank, pieces}
+use Rattle.csa_text.specs.declared.pair.Pair.TheVariants.{InHand}
+use Rattle.csa_text.specs.Spelling.{Saying, rank}
 use Rattle.csa_record.specs.Games.Placings.{Placing, on, off, in_hand, rest, cells_placings, pair_placing, placings_of, placings}
-use Rattle.csa_record.specs.Games.Union.{off_at, put_on, is_held, rest_given, MayBeHeld, RestIsLast, MayTakeOff, left_on, on_square, bag_given, IsUnion, GiveStart}
+use Rattle.csa_record.specs.Games.Union.{off_at, put_on, is_held, rest_given, MayBeHeld, RestIsLast, bag_given, IsUnion, GiveStart}
 use Rattle.csa_record.specs.Games.Canon.{rank_cells, rank_items, hand_pairs, pairs_items, hand_items}
 use Rattle.csa_record.proofs.Games.Bytes.{all_joined}
 use Rattle.csa_record.proofs.Games.ByRanks.{ranks_cell, flat_joined}

@@ -1,9 +1,9 @@
 -- Each item of a canonical text has such a line.
-use Rattle.std.proofs.Common.{◌≡◌, ◌≢◌, ◌⊎◌, ℕ, ◌+◌, ◌*◌, ◌-◌, ◌^◌, ◌<◌, ◌≤◌, ◌==◌, ◌&&◌, ◌||◌, ◌/◌, ◌%◌, Bool, true, false, not, List, [], ◌∷◌, ◌++◌, length, Option, Some, None, refl, sym, ap, ◌∙◌, append_assoc, subst, arith, inl, inr}
-use Rattle.std.specs.Prelude.{codes, pos, nat_lt, if◌then◌else◌}
+use Rattle.std.proofs.Common.{◌≡◌, ◌≢◌, ◌⊎◌, ℕ, ◌+◌, ◌<◌, ◌≤◌, ◌==◌, ◌&&◌, ◌||◌, ◌/◌, ◌%◌, Bool, true, false, List, [], ◌∷◌, ◌++◌, length, Option, Some, None, refl, sym, ◌∙◌, append_assoc, subst, arith, inl, inr}
+use Rattle.std.specs.Prelude.{nat_lt, if◌then◌else◌}
 use Rattle.std.specs.List.{AllByRecursion, flat_map}
 use Rattle.std.proofs.lemmas.Bool.{ne_eqb, cases_Bool, cases_lt, eqb-true, lt-ltb, le-ltb}
-use Rattle.std.proofs.lemmas.List.{append-nil, length-append}
+use Rattle.std.proofs.lemmas.List.{length-append}
 use Rattle.shogi_board.specs.declared.color.Color.{Color}
 use Rattle.shogi_board.specs.declared.color.Color.TheVariants.{Black, White}
 use Rattle.shogi_board.specs.declared.kind.Kind.{Kind}
@@ -14,22 +14,21 @@ use Rattle.shogi_rules.specs.declared.moves.Move.TheVariants.{Walk, Put}
 use Rattle.csa_text.specs.declared.ending.Ending.{Ending}
 use Rattle.csa_text.specs.declared.ending.Ending.TheVariants.{Toryo, Chudan, Sennichite, TimeUp, IllegalMove, BlackIllegalAction, WhiteIllegalAction, Jishogi, Kachi, Hikiwake, MaxMoves, Matta, Tsumi, Fuzumi, Error}
 use Rattle.csa_text.specs.declared.pair.Pair.{Pair}
-use Rattle.csa_text.specs.Codes.{sign, kind_code, cell_text, move_text, squares_text}
+use Rattle.csa_text.specs.Codes.{sign, kind_code, cell_text, squares_text}
 use Rattle.csa_text.specs.Endings.{ending_name}
-use Rattle.csa_text.specs.Cut.{TextUnit, IsUnit, is_end, is_blank, begins_with, statement_bytes, without_last_blanks}
-use Rattle.csa_text.specs.Moment.{CalendarMoment, TimeOfDay, moment_text, date_text, time_text, two_digits, four_digits, behind_date, HasNone, SpellsMoment}
+use Rattle.csa_text.specs.Cut.{is_end, is_blank, without_last_blanks}
+use Rattle.csa_text.specs.Moment.{CalendarMoment, TimeOfDay, moment_text, date_text, behind_date}
 use Rattle.csa_text.specs.PairTexts.{pairs_text, pair_text, AllOnBoard}
-use Rattle.csa_text.specs.Spelling.{Saying, version, name, header, even, rank, pieces, turn, walked, time, ending, Spells, IsHeader, IsRank, rank_text}
+use Rattle.csa_text.specs.Spelling.{version, name, even, rank, pieces, turn, walked, ending}
 use Rattle.csa_text.proofs.Blanks.{kept_last, blank_last}
-use Rattle.csa_text.proofs.Moments.{text_spelled}
 use Rattle.csa_text.specs.CodesOnce.{kind_length}
 use Rattle.csa_text.specs.PairsOnce.{pair_length}
 use Rattle.csa_text.proofs.CellTexts.{cell_length}
 use Rattle.csa_text.proofs.Texts.{texts_length}
 use Rattle.csa_record.specs.Games.Game.{Entry, HeaderText, moment, plain}
-use Rattle.csa_record.specs.Games.Limits.{IsName, IsOneLine, IsEntry, IsMoment, IsMomentKey, IsInDay, MayStandUnder}
-use Rattle.csa_record.specs.Games.Canon.{line_of, header_item, value_text}
-use Rattle.csa_record.proofs.Games.Bytes.{GoesOn, IsSolid, all_joined, all_weaker, solid, solid_sign, solid_digit, solid_pairs, solid_squares, goes_cell, all_flat, no_ends, no_blank, solid_whole}
+use Rattle.csa_record.specs.Games.Limits.{IsName, IsOneLine, IsEntry, IsMomentKey, MayStandUnder}
+use Rattle.csa_record.specs.Games.Canon.{header_item, value_text}
+use Rattle.csa_record.proofs.Games.Bytes.{GoesOn, IsSolid, all_joined, all_weaker, solid, solid_sign, solid_digit, solid_pairs, solid_squares, goes_cell, all_flat, no_ends, solid_whole}
 use Rattle.csa_record.proofs.Games.Lined.{IsItemLine}
 
 pub version_line : IsItemLine version

@@ -1,8 +1,7 @@
 -- What the position statements lay out is the start that they give.
-use Rattle.std.proofs.Common.{◌≡◌, ◌⊎◌, ℕ, ◌+◌, ◌*◌, ◌-◌, ◌<◌, ◌≤◌, Bool, true, false, List, [], ◌∷◌, ◌++◌, drop, length, filter, map, Option, Some, None, Result, Ok, Err, refl, sym, ap, ◌∙◌, subst, append_assoc, arith, inl, inr}
-use Rattle.std.specs.List.{AllByRecursion, filter_map, flat_map}
+use Rattle.std.proofs.Common.{◌≡◌, ℕ, ◌-◌, ◌<◌, ◌≤◌, false, List, [], ◌∷◌, ◌++◌, drop, length, filter, map, Option, Some, None, Ok, refl, ap, arith, inl, inr}
+use Rattle.std.specs.List.{AllByRecursion, flat_map}
 use Rattle.std.proofs.lemmas.Bool.{cases_Bool}
-use Rattle.std.proofs.lemmas.List.{append-nil}
 use Rattle.shogi_board.specs.declared.color.Color.{Color}
 use Rattle.shogi_board.specs.declared.kind.Piece.{Piece}
 use Rattle.shogi_board.specs.declared.square.Square.{Square}
@@ -15,9 +14,9 @@ use Rattle.csa_text.specs.Spelling.{Saying, version, name, header, even, rank, p
 use Rattle.csa_record.specs.Games.Items.{is_even, is_position, positions}
 use Rattle.csa_record.specs.Games.Placing.{laid_out}
 use Rattle.csa_record.specs.Games.Placings.{Placing, on, off, in_hand, rest, taken_off, pair_placing, cells_placings, placings_of, placings}
-use Rattle.csa_record.specs.Games.Union.{first_board, GiveStart, rest_given, with_rest_given}
+use Rattle.csa_record.specs.Games.Union.{first_board, GiveStart}
 use Rattle.csa_record.proofs.Games.Bytes.{all_joined}
-use Rattle.csa_record.proofs.Games.PlacedUnion.{OnlyOff, InTurn, IsPlacedUnion, placed_union, begins}
+use Rattle.csa_record.proofs.Games.PlacedUnion.{OnlyOff, InTurn, placed_union, begins}
 
 -- some bytes spell it
 abbrev pub IsWritten : Saying → Type 0

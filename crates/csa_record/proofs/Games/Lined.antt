@@ -1,8 +1,8 @@
 -- Lines of items are cut into just those statements, and each spells its item.
-use Rattle.std.proofs.Common.{◌≡◌, ◌≢◌, ◌⊎◌, ℕ, ◌+◌, ◌*◌, ◌-◌, ◌^◌, ◌<◌, ◌≤◌, ◌==◌, ◌&&◌, ◌||◌, ◌/◌, ◌%◌, Bool, true, false, not, List, [], ◌∷◌, ◌++◌, length, filter, Option, Some, None, refl, sym, ap, ◌∙◌, append_assoc, subst, arith, inl, inr}
+use Rattle.std.proofs.Common.{◌≡◌, ℕ, ◌+◌, ◌≤◌, true, false, not, List, [], ◌∷◌, ◌++◌, length, filter, refl, sym, ap, append_assoc, subst}
 use Rattle.std.specs.List.{AllByRecursion, AllZip, flat_map}
 use Rattle.std.proofs.lemmas.List.{append-nil}
-use Rattle.csa_text.specs.Cut.{TextUnit, IsGap, IsUnit, IsNext, Units, Statements, is_statement, begins_with, statement_bytes}
+use Rattle.csa_text.specs.Cut.{TextUnit, IsGap, IsUnit, IsNext, Units, is_statement, begins_with, statement_bytes}
 use Rattle.csa_text.specs.Spelling.{Saying, Spells}
 use Rattle.csa_record.specs.Games.Canon.{line_of, ended_line}
 use Rattle.csa_record.specs.Games.Tells.{IsSpelt}

@@ -1,7 +1,7 @@
 -- What can be placed one after another makes the union.
-use Rattle.std.proofs.Common.{◌≡◌, ◌≢◌, ◌⊎◌, ℕ, zero, suc, ◌+◌, ◌*◌, ◌-◌, ◌<◌, ◌≤◌, ◌==◌, ◌&&◌, Bool, true, false, not, List, [], ◌∷◌, ◌++◌, length, filter, map, get_or, Option, Some, None, Result, Ok, Err, refl, sym, ap, ◌∙◌, subst, append_assoc, arith, inl, inr}
-use Rattle.std.specs.Prelude.{is_some, slice_set, slice_index_or, slice_index, nat_lt, replicate, if◌then◌else◌}
-use Rattle.std.specs.List.{AllByRecursion, filter_map, flat_map}
+use Rattle.std.proofs.Common.{◌≡◌, ◌≢◌, ℕ, ◌+◌, ◌<◌, ◌==◌, ◌&&◌, Bool, true, false, not, List, [], ◌∷◌, ◌++◌, length, filter, map, get_or, Option, Some, None, Result, Ok, Err, refl, sym, ap, ◌∙◌, subst, append_assoc, arith, inl, inr}
+use Rattle.std.specs.Prelude.{is_some, slice_set, nat_lt}
+use Rattle.std.specs.List.{AllByRecursion, filter_map}
 use Rattle.std.specs.Option.{option_to_list}
 use Rattle.std.proofs.lemmas.Bool.{cases_Bool, eqb-true, eqb-false}
 use Rattle.std.proofs.lemmas.List.{append-nil, length-append, length-set, get_or-set_same, get_or-set_other}
@@ -19,7 +19,7 @@ use Rattle.shogi_board.specs.Pieces as kinds
 use Rattle.shogi_board.specs.Pieces.{same_color, same_kind, is_king}
 use Rattle.shogi_board.specs.Setup as setup
 use Rattle.shogi_board.specs.Setup.{holds, one_more, rest_to, is_full}
-use Rattle.shogi_board.specs.Totals.{hand_kinds, count_in, kings_of}
+use Rattle.shogi_board.specs.Totals.{hand_kinds, kings_of}
 use Rattle.csa_record.specs.Games.Placings.{Placing, on, off, in_hand, rest}
 use Rattle.csa_record.specs.Games.Placing.{placing_fault, placed, unless, place_all, board_alone}
 use Rattle.csa_record.specs.Games.Union.{put_on, off_at, is_held, rest_given, MayBeHeld, RestIsLast, MayTakeOff, left_on, on_square, bag_given, IsUnion, with_rest_given}

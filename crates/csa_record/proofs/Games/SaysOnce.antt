@@ -1,10 +1,10 @@
 -- Items say one game, and bytes tell one.
-use Rattle.std.proofs.Common.{◌≡◌, ◌≢◌, ◌⊎◌, ℕ, zero, suc, ◌+◌, ◌<◌, ◌≤◌, Bool, true, false, List, [], ◌∷◌, ◌++◌, length, filter, map, get_or, Option, Some, None, refl, sym, ap, ◌∙◌, append_assoc, subst, arith, inl, inr}
-use Rattle.std.specs.Prelude.{nat_lt, slice_index_or}
-use Rattle.std.specs.List.{AllByRecursion, AllZip, filter_map}
+use Rattle.std.proofs.Common.{◌≡◌, ◌⊎◌, ℕ, suc, ◌<◌, Bool, true, false, List, [], ◌∷◌, ◌++◌, length, get_or, Option, Some, None, refl, sym, ap, ◌∙◌, append_assoc, arith, inl, inr}
+use Rattle.std.specs.Prelude.{nat_lt}
+use Rattle.std.specs.List.{AllZip, filter_map}
 use Rattle.std.specs.Option.{option_to_list}
 use Rattle.std.proofs.lemmas.Bool.{cases_lt, lt-ltb, le-ltb}
-use Rattle.std.proofs.lemmas.List.Elements.{filter_map-append, filter-append}
+use Rattle.std.proofs.lemmas.List.Elements.{filter_map-append}
 use Rattle.shogi_board.specs.declared.color.Color.{Color}
 use Rattle.shogi_board.specs.declared.kind.Piece.{Piece}
 use Rattle.shogi_board.specs.Layout.{Layout}
@@ -14,14 +14,13 @@ use Rattle.shogi_board.specs.Setup.{position_of}
 use Rattle.shogi_rules.specs.declared.moves.Move.{Move}
 use Rattle.csa_text.specs.declared.ending.Ending.{Ending}
 use Rattle.csa_text.specs.Cut.{TextUnit, statement_bytes}
-use Rattle.csa_text.specs.Moment.{CalendarMoment, SpellsMoment}
 use Rattle.csa_text.specs.Spelling.{Saying, version, name, header, even, rank, pieces, turn, walked, time, ending}
 use Rattle.csa_text.proofs.Moments.{moment_once}
 use Rattle.csa_text.proofs.Once.{statements_once}
 use Rattle.csa_text.proofs.Sayings.{same_saying}
 use Rattle.csa_record.specs.Games.Game.{Game, Timed, Ended, Entry, HeaderText, moment, plain}
 use Rattle.csa_record.specs.Games.Limits.{is_below, Rising}
-use Rattle.csa_record.specs.Games.Items.{headers, is_position, positions, side_given, sides, is_body, body}
+use Rattle.csa_record.specs.Games.Items.{headers, positions, side_given, sides, body}
 use Rattle.csa_record.specs.Games.Placings.{Placing, placings}
 use Rattle.csa_record.specs.Games.Says.{Says, IsValue, AreEntries, time_items, move_items, ending_items, played_items}
 use Rattle.csa_record.specs.Games.Tells.{Tells, IsSpelt}

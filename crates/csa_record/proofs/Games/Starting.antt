@@ -1,26 +1,26 @@
 -- The position statements of a canonical text.
-use Rattle.std.proofs.Common.{◌≡◌, ◌⊎◌, ℕ, zero, suc, ◌+◌, ◌*◌, ◌<◌, ◌≤◌, ◌==◌, ◌&&◌, Bool, true, false, List, [], ◌∷◌, ◌++◌, length, filter, map, Option, Some, None, refl, sym, ap, ◌∙◌, subst, arith, inl, inr}
-use Rattle.std.specs.Prelude.{replicate, drop, if◌then◌else◌}
-use Rattle.std.specs.List.{AllByRecursion, filter_map, flat_map}
-use Rattle.std.proofs.lemmas.Bool.{cases_Bool, cases_lt, ne_eqb, eqb-true}
-use Rattle.std.proofs.lemmas.List.{append-nil, length-append}
-use Rattle.std.proofs.lemmas.List.Elements.{filter_map-append, filter-append}
+use Rattle.std.proofs.Common.{◌≡◌, ◌⊎◌, ℕ, zero, suc, ◌+◌, ◌<◌, ◌≤◌, ◌==◌, true, false, List, [], ◌∷◌, ◌++◌, length, filter, refl, sym, ap, ◌∙◌, subst, arith, inl, inr}
+use Rattle.std.specs.Prelude.{replicate, drop}
+use Rattle.std.specs.List.{AllByRecursion, flat_map}
+use Rattle.std.proofs.lemmas.Bool.{cases_Bool, ne_eqb, eqb-true}
+use Rattle.std.proofs.lemmas.List.{length-append}
+use Rattle.std.proofs.lemmas.List.Elements.{filter_map-append}
 use Rattle.shogi_board.specs.declared.color.Color.{Color}
 use Rattle.shogi_board.specs.declared.color.Color.TheVariants.{Black, White}
 use Rattle.shogi_board.specs.declared.kind.Kind.{Kind}
 use Rattle.shogi_board.specs.declared.kind.Kind.TheVariants.{Pawn, Lance, Knight, Silver, Gold, Bishop, Rook}
-use Rattle.shogi_board.specs.Cells.{Cells, even_cells}
+use Rattle.shogi_board.specs.Cells.{even_cells}
 use Rattle.shogi_board.specs.Placed.{Placed}
-use Rattle.shogi_board.specs.Totals.{IsWithinTotals, count_in, total, limit, hand_kinds}
+use Rattle.shogi_board.specs.Totals.{IsWithinTotals, count_in}
 use Rattle.csa_text.specs.declared.pair.Pair.{Pair}
-use Rattle.csa_text.specs.declared.pair.Pair.TheVariants.{On, InHand, Rest}
-use Rattle.csa_text.specs.Spelling.{Saying, even, rank, pieces}
+use Rattle.csa_text.specs.declared.pair.Pair.TheVariants.{InHand}
+use Rattle.csa_text.specs.Spelling.{Saying, even, rank}
 use Rattle.csa_record.specs.Games.Items.{is_even, is_position, rank_given, ranks, AtMostOne}
 use Rattle.csa_record.specs.Games.Says.{RanksOnce}
 use Rattle.csa_record.specs.Games.Union.{GiveStart}
-use Rattle.csa_record.specs.Games.Canon.{is_part_of, is_from_even, missing, rank_cells, rank_items, hand_pairs, pairs_items, hand_items, no_items, start_items}
+use Rattle.csa_record.specs.Games.Canon.{is_from_even, missing, rank_cells, rank_items, hand_pairs, pairs_items, hand_items, no_items, start_items}
 use Rattle.csa_record.proofs.Games.Bytes.{all_joined}
-use Rattle.csa_record.proofs.Games.Filtered.{ArePositions, none_of, nothing_of}
+use Rattle.csa_record.proofs.Games.Filtered.{ArePositions, none_of}
 use Rattle.csa_record.proofs.Games.FromEven.{even_gives, even_item}
 use Rattle.csa_record.proofs.Games.Hands.{ranks_give, hand_order}
 use Rattle.csa_record.proofs.Games.ItemLines.{rank_line, pieces_line}

@@ -1,15 +1,14 @@
 -- The line of a time.
-use Rattle.std.proofs.Common.{◌≡◌, ◌≢◌, ◌⊎◌, ℕ, ◌+◌, ◌*◌, ◌-◌, ◌^◌, ◌<◌, ◌≤◌, ◌==◌, ◌&&◌, ◌||◌, ◌/◌, ◌%◌, Bool, true, false, List, [], ◌∷◌, ◌++◌, length, refl, sym, ap, ◌∙◌, append_assoc, subst, arith, inl, inr, decimal}
+use Rattle.std.proofs.Common.{◌≡◌, ◌≢◌, ℕ, ◌+◌, ◌<◌, ◌≤◌, ◌==◌, ◌/◌, ◌%◌, true, false, List, [], ◌∷◌, ◌++◌, length, refl, sym, ap, ◌∙◌, subst, arith, inl, inr, decimal}
 use Rattle.std.specs.Char.{digit_value}
 use Rattle.std.specs.List.{AllByRecursion}
-use Rattle.std.specs.Str.Parse.{AllDigits, digits_value}
-use Rattle.std.proofs.lemmas.Bool.{cases_Bool, eqb-true, eqb-false}
+use Rattle.std.specs.Str.Parse.{AllDigits}
+use Rattle.std.proofs.lemmas.Bool.{cases_Bool, eqb-true}
 use Rattle.std.proofs.lemmas.Fmt.{decimal_is_IsNumeral_wide, length-decimal-le_wide}
 use Rattle.std.proofs.lemmas.List.{append-nil, length-append}
-use Rattle.csa_text.specs.Cut.{IsUnit}
 use Rattle.csa_text.specs.Moment.{two_digits, IsNumber}
-use Rattle.csa_text.specs.Spelling.{Saying, time}
-use Rattle.csa_text.specs.TimeTexts.{IsSeconds, IsFraction, HasFraction, IsWhole, IsTime}
+use Rattle.csa_text.specs.Spelling.{time}
+use Rattle.csa_text.specs.TimeTexts.{IsSeconds, IsFraction, IsTime}
 use Rattle.csa_text.proofs.Moments.{digit_of, two_number}
 use Rattle.csa_record.specs.Games.Canon.{time_text, fraction_text}
 use Rattle.csa_record.proofs.Games.Bytes.{GoesOn, IsSolid, all_joined, all_weaker, solid, solid_digit, no_ends, solid_whole}

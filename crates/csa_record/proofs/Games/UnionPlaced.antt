@@ -1,17 +1,16 @@
 -- The union can be placed one after another.
-use Rattle.std.proofs.Common.{◌≡◌, ◌≢◌, ◌⊎◌, ℕ, zero, suc, ◌+◌, ◌*◌, ◌-◌, ◌<◌, ◌≤◌, ◌==◌, ◌&&◌, Bool, true, false, not, cond, List, [], ◌∷◌, ◌++◌, length, filter, map, get_or, set, count_by, Option, Some, None, Result, Ok, Err, refl, sym, ap, ◌∙◌, subst, append_assoc, arith, inl, inr}
-use Rattle.std.specs.Prelude.{is_some, slice_set, slice_index_or, slice_index, nat_lt, nat_le, replicate, if◌then◌else◌}
-use Rattle.std.specs.List.{AllByRecursion, filter_map, flat_map}
+use Rattle.std.proofs.Common.{◌≡◌, ◌≢◌, ℕ, ◌+◌, ◌<◌, ◌≤◌, ◌==◌, ◌&&◌, Bool, true, false, cond, List, [], ◌∷◌, ◌++◌, length, get_or, set, Option, Some, None, Ok, refl, sym, ap, ◌∙◌, subst, append_assoc, arith, inl, inr}
+use Rattle.std.specs.Prelude.{slice_index, nat_lt, nat_le}
+use Rattle.std.specs.List.{AllByRecursion, filter_map}
 use Rattle.std.specs.Option.{option_to_list}
-use Rattle.std.proofs.lemmas.Bool.{cases_Bool, cases_lt, eqb-true, eqb-false, lt-leb}
-use Rattle.std.proofs.lemmas.List.{append-nil, length-append, length-set, get_or-set_same, get_or-set_other}
-use Rattle.std.proofs.lemmas.List.Elements.{filter_map-append, filter-append}
+use Rattle.std.proofs.lemmas.Bool.{cases_Bool, eqb-true, eqb-false, lt-leb}
+use Rattle.std.proofs.lemmas.List.{append-nil, get_or-set_same, get_or-set_other}
+use Rattle.std.proofs.lemmas.List.Elements.{filter_map-append}
 use Rattle.std.proofs.lemmas.List.Sums.{sum_by-set}
 use Rattle.shogi_board.specs.declared.color.Color.{Color}
 use Rattle.shogi_board.specs.declared.color.Color.TheVariants.{Black, White}
 use Rattle.shogi_board.specs.declared.kind.Kind.{Kind}
 use Rattle.shogi_board.specs.declared.kind.Piece.{Piece}
-use Rattle.shogi_board.specs.declared.setup.SetupFault.{SetupFault}
 use Rattle.shogi_board.specs.Cells.{Cells}
 use Rattle.shogi_board.specs.Layout.{Layout}
 use Rattle.shogi_board.specs.Pieces as kinds
@@ -22,7 +21,7 @@ use Rattle.shogi_rules.proofs.Forms.{held-low, same_color-self, eq-self}
 use Rattle.shogi_rules.proofs.Layouts.{put-total}
 use Rattle.csa_record.specs.Games.Placings.{Placing, on, off, in_hand, rest}
 use Rattle.csa_record.specs.Games.Placing.{placing_fault, placed, unless, place_all}
-use Rattle.csa_record.specs.Games.Union.{put_on, off_at, rest_given, MayBeHeld, RestIsLast, MayTakeOff, left_on, on_square, IsUnion, with_rest_given}
+use Rattle.csa_record.specs.Games.Union.{put_on, off_at, rest_given, MayBeHeld, RestIsLast, MayTakeOff, left_on, IsUnion, with_rest_given}
 use Rattle.csa_record.proofs.Games.PlacedUnion.{OnlyOff, InTurn, step_on, step_off, step_hand, step_rest, rests_more, none_put}
 use Rattle.csa_record.proofs.Games.SaysOnce.{union_once}
 

@@ -1,6 +1,5 @@
 -- Placing pieces one after another, and why one cannot be placed.
-use Rattle.std.specs.Prelude.{◌≡◌, ℕ, ◌&&◌, nat_lt, not, false, List, [], ◌∷◌, Option, Some, None, Result, Ok, Err, is_some, slice_set, slice_index_or}
-use Rattle.shogi_board.specs.declared.color.Color.{Color}
+use Rattle.std.specs.Prelude.{◌&&◌, nat_lt, not, false, List, [], ◌∷◌, Option, Some, None, Result, Ok, Err, is_some, slice_set, slice_index_or}
 use Rattle.shogi_board.specs.declared.setup.SetupFault.{SetupFault}
 use Rattle.shogi_board.specs.declared.setup.SetupFault.TheVariants.{SquareTaken, TooMany, SecondKing, NotThere, AfterRest}
 use Rattle.shogi_board.specs.Cells.{Cells}

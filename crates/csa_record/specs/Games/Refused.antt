@@ -5,12 +5,10 @@ use Rattle.shogi_board.specs.declared.setup.SetupFault.{SetupFault}
 use Rattle.shogi_board.specs.declared.setup.SetupFault.TheVariants.{OpponentInCheck}
 use Rattle.shogi_board.specs.Layout.{Layout}
 use Rattle.shogi_board.specs.Pieces.{opponent}
-use Rattle.shogi_board.specs.Placed.{Placed}
 use Rattle.shogi_board.specs.Reach.{InCheck}
 use Rattle.shogi_board.specs.Setup.{position_of}
 use Rattle.shogi_rules.specs.declared.line.PlayFault.{PlayFault}
 use Rattle.shogi_rules.specs.declared.line.PlayFault.TheVariants as playing
-use Rattle.shogi_rules.specs.declared.moves.Move.{Move}
 use Rattle.shogi_rules.specs.Play as plays
 use Rattle.shogi_rules.specs.Positions.{Played}
 use Rattle.csa_text.specs.Cut.{TextUnit, Cut, statement_bytes}

@@ -1,4 +1,4 @@
-use Rattle.std.proofs.Common.{◌≡◌, List, ℕ, ap, subst}
+use Rattle.std.proofs.Common.{List, ℕ, ap, subst}
 use Rattle.csa_record.specs.Games.Canon.{canon}
 use Rattle.csa_record.specs.Games.Tells.{Tells}
 use Rattle.csa_record.proofs.Games.Canonical.{canon_tells_lem}
