@@ -58,16 +58,16 @@ pub fn whole_one_refusal()
         → (m ≡ n) × (other ≡ offset) × (w ≡ v) }
 {}
 
-/// What position statements place one after another, with `PI` first where it stands, is the union
-/// of what they place: so their order does not matter.
+/// What position statements that bytes spell place one after another, with `PI` first where it stands, is the union of
+/// what they place, which does not speak of their order but for `PI` first and the rest last.
 pub fn whole_laid_out()
     ensures { (sayings : List Saying) (laid : Layout) (side : Color) → AllByRecursion (λ s. (bytes : List ℕ) × Spells bytes s) sayings
         → filter items.is_even (drop 1 (items.positions sayings)) ≡ [] → placing.laid_out sayings ≡ Ok laid
         → union.GiveStart (items.positions sayings) (position_of laid side) }
 {}
 
-/// The union of what position statements place, with `PI` first where it stands, can be placed one
-/// after another, where no total is passed.
+/// The union of what position statements that bytes spell place, with `PI` first where it stands, can be placed one after
+/// another, where no total is passed before the rest is given.
 pub fn whole_union_placed()
     ensures { (sayings : List Saying) (placed : Layout) → AllByRecursion (λ s. (bytes : List ℕ) × Spells bytes s) sayings
         → filter items.is_even (drop 1 (items.positions sayings)) ≡ []

@@ -1,8 +1,8 @@
 -- What is unfinished at the end.
-use Rattle.std.proofs.Common.{◌≡◌, ℕ, zero, suc, ◌+◌, ◌-◌, ◌<◌, ◌≤◌, ◌==◌, true, false, not, List, [], ◌∷◌, ◌++◌, length, take, Option, Some, None, arith, refl, sym, ap, ◌∙◌, subst}
-use Rattle.std.proofs.lemmas.Bool.{false≢true}
+use Rattle.std.proofs.Common.{◌≡◌, ℕ, zero, suc, ◌+◌, ◌-◌, ◌<◌, ◌≤◌, ◌==◌, true, false, not, List, [], ◌∷◌, ◌++◌, length, take, Option, Some, None, arith, refl, sym, ap, ◌∙◌, subst, inl, inr}
+use Rattle.std.proofs.lemmas.Bool.{false≢true, cases_Bool}
 use Rattle.csa_text.specs.Cut.{TextUnit, IsUnit, Statements, begins_with, byte_order_mark, mark_length, statement_bytes}
-use Rattle.csa_text.specs.Piecing.{Piecing, Follows, ToCome, HoldsLittle}
+use Rattle.csa_text.specs.Piecing.{Piecing, Follows, ToCome, HoldsLittle, IsOpen}
 use Rattle.csa_text.specs.Places.{IsHeld, begins, open_of, has_unit}
 use Rattle.csa_text.specs.Stepping.{Last}
 use Rattle.csa_text.specs.declared.cutter.Statement.{Statement}
@@ -66,3 +66,18 @@ holds_little Mark held fed number refused few h = (few, λ t. absurd (mark_begin
 holds_little Gap held fed number refused few h = (few, λ t. absurd (false≢true t))
 holds_little InUnit held fed number refused few h = (few, λ t. absurd (false≢true (sym h.1 ∙ t)))
 holds_little Comment held fed number refused few h = (few, λ t. h)
+
+pub is_open : (place : Place) (held : List ℕ) → IsHeld place held → IsOpen (open_of place held)
+is_open Mark held h =
+    elim (cases_Bool (length held == 0)) [
+      | inl t ↦ inl (nothing held t)
+      | inr f ↦
+          let some : 0 < length held = something held f in
+          inr (inr (
+            subst (λ xs. IsUnit xs []) (sym h.1) (mark_unit (length held) some h.0),
+            ap (begins_with 39) h.1 ∙ mark_silent (length held) some,
+          ))
+    ]
+is_open Gap held h = inl refl
+is_open InUnit held h = inr (inr h)
+is_open Comment held h = inr (inl (ap (λ xs. 39 ∷ xs) h))

@@ -1,6 +1,6 @@
 -- A cutter of pieces on its way.
-use Rattle.std.specs.Prelude.{◌≡◌, ℕ, ◌+◌, ◌-◌, ◌≤◌, ◌||◌, Bool, true, List, [], ◌++◌, length, drop, filter, nat_lt, Option, None, if◌then◌else◌}
-use Rattle.csa_text.specs.Cut.{TextUnit, Statements, Cut, mark_length, begins_with}
+use Rattle.std.specs.Prelude.{◌≡◌, ℕ, ◌+◌, ◌-◌, ◌≤◌, ◌||◌, ◌⊎◌, Bool, true, false, List, [], ◌∷◌, ◌++◌, length, drop, filter, nat_lt, Option, None, if◌then◌else◌}
+use Rattle.csa_text.specs.Cut.{TextUnit, IsUnit, Statements, Cut, mark_length, begins_with}
 
 -- how many bytes it took; how many statements it handed out; whether these bytes are the beginning of
 -- a byte order mark, or none; what is unfinished: the bytes of that mark, the bytes of a unit, of a
@@ -16,6 +16,11 @@ pub record Piecing : Type 0 where
 -- no more than 4,096 bytes are held, and none of a comment
 abbrev pub HoldsLittle : Piecing → Type 0
 HoldsLittle p = (length p.held ≤ 4096) × (begins_with 39 p.unfinished ≡ true → p.held ≡ [])
+
+-- nothing is unfinished, or a comment, of which its first byte stands here, or a statement's unit: so nothing of a gap
+abbrev pub IsOpen : List ℕ → Type 0
+IsOpen unfinished =
+    (unfinished ≡ []) ⊎ ((unfinished ≡ 39 ∷ []) ⊎ (IsUnit unfinished [] × (begins_with 39 unfinished ≡ false)))
 
 -- what is held of the unfinished bytes: all, but of a comment nothing
 abbrev pub held_of : List ℕ → List ℕ

@@ -4,7 +4,7 @@ ghost use Rattle.std.specs.Io.BufRead.{Rests};
 ghost use Rattle.arrayvec.specs.ArrayVec.{array_vec_len};
 ghost use Rattle.csa_text.specs.contracts.piece.PieceCutter.{the_row};
 ghost use Rattle.csa_text.specs.Cut.{statement_bytes};
-ghost use Rattle.csa_text.specs.Piecing.{fresh, HoldsLittle};
+ghost use Rattle.csa_text.specs.Piecing.{fresh, HoldsLittle, IsOpen};
 ghost use Rattle.csa_text.specs.Stepping.{Stepped, Finished, IsUsed, IsLentFrom};
 ghost use Rattle.csa_text.specs.Places.{IsKept, IsFoundIn, IsFirstIn, IsCommon, IsHeld, place_found, is_in_mark, kept_of, has_unit};
 
@@ -50,8 +50,8 @@ enum Found {
 
 /// Cuts a record's bytes that come in pieces into statements, as `Cutter` cuts the whole.
 ///
-/// A statement that lies whole in one piece is lent from there. Of one that is unfinished at most
-/// 4,096 bytes are held, and none of a comment. No memory is taken.
+/// A statement that lies whole in one piece, with the byte that ends it, is lent from there. Of one
+/// that is unfinished at most 4,096 bytes are held, and none of a comment. No memory is taken.
 #[derive(Drop)]
 pub struct PieceCutter {
     held: ArrayVec<u8, 4096>,
@@ -91,6 +91,7 @@ impl PieceCutter {
     pub fn fed(&self) -> u64
         ensures count { result ≡ self.now.fed }
         ensures little { HoldsLittle self.now }
+        ensures open { IsOpen self.now.unfinished }
     {
         self.fed
     }
@@ -100,7 +101,7 @@ impl PieceCutter {
     /// It stops right behind the byte that ends a statement, and uses the whole piece where none
     /// ends. Hand in what is left of the piece next. A statement that begins in this piece is lent
     /// from it. One of more than 4,096 bytes is a `CutFault` as soon as that is known, and at each
-    /// later call; the cutter is then as before. At most 2^63 bytes may be fed in all.
+    /// later call; all else of the cutter is then as before. At most 2^63 bytes may be fed in all.
     pub fn step<'b>(&'b mut self, piece: &'b [u8]) -> Result<Cut<'b>, CutFault>
         requires { self.old.fed + length piece.now ≤ 2 ^ 63 }
         ensures used { IfOk result (IsUsed piece.now) }

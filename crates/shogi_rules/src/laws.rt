@@ -27,7 +27,7 @@ ghost use Rattle.shogi_rules.specs.declared.line.Verdict.{Verdict};
 ghost use Rattle.shogi_rules.specs.declared.moves.Move.{Move};
 ghost use Rattle.shogi_rules.specs.declared.rule.Rule.{Rule};
 
-/// In a sound position no walk that reaches its target lands on the enemy king.
+/// In a sound position no walk of an own piece that reaches its target lands on the enemy king.
 pub fn king_never_taken()
     ensures { (p : Placed) (from to : Square) (kind : Kind) → IsSound p → HasPiece p (Move.Walk from to kind) → ReachesTarget p (Move.Walk from to kind) → at p.board to ≡ piece (opponent p.side) King → ⊥ }
 {}

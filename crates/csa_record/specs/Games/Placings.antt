@@ -22,7 +22,7 @@ pair_placing color (On square of_kind) = on (place square) (record { color = col
 pair_placing color (InHand of_kind) = in_hand color of_kind
 pair_placing color Rest = rest color
 
--- a pair behind `PI`, which has a square
+-- a pair behind `PI`: bytes spell it with a square alone, so that the other two never stand there
 abbrev pub taken_off : Pair → List Placing
 taken_off (On square of_kind) = off (place square) of_kind ∷ []
 taken_off (InHand of_kind) = []

@@ -1,4 +1,4 @@
--- The start that position statements give: the union of what they place, in which their order does not matter.
+-- The start that position statements give: the union of what they place, in which their order does not matter, but for `PI` first and all that remain last.
 use Rattle.std.specs.Prelude.{◌≡◌, ℕ, ◌<◌, ◌==◌, ◌&&◌, Bool, true, false, List, [], ◌∷◌, ◌++◌, length, map, filter, Option, Some, None, slice_index_or, if◌then◌else◌}
 use Rattle.std.specs.List.{AllByRecursion, filter_map}
 use Rattle.std.specs.Option.{option_to_list}
@@ -95,7 +95,7 @@ abbrev pub with_rest_given : List Color → Layout → Layout
 with_rest_given [] s = s
 with_rest_given (color ∷ colors) s = rest_to s color
 
--- with no position statement, and with `PI`, the even board; else the empty one
+-- with no position statement, and with `PI` first, the even board; else the empty one
 abbrev pub first_board : List Saying → Cells
 first_board [] = even_cells
 first_board (s ∷ ss) = if is_even s then even_cells else no_cells
