@@ -6,7 +6,8 @@ use Rattle.std.specs.Str.Parse.{AllDigits}
 use Rattle.std.proofs.lemmas.Bool.{cases_Bool, eqb-true}
 use Rattle.std.proofs.lemmas.Fmt.{decimal_is_IsNumeral_wide, length-decimal-le_wide}
 use Rattle.std.proofs.lemmas.List.{append-nil, length-append}
-use Rattle.csa_text.specs.Moment.{two_digits, IsNumber}
+use Rattle.csa_text.specs.Fields.{IsNumber}
+use Rattle.csa_text.specs.Moment.{two_digits}
 use Rattle.csa_text.specs.Spelling.{time}
 use Rattle.csa_text.specs.TimeTexts.{IsSeconds, IsFraction, IsTime}
 use Rattle.csa_text.proofs.Moments.{digit_of, two_number}

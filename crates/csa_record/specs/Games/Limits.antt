@@ -4,7 +4,8 @@ use Rattle.std.specs.List.{AllByRecursion}
 use Rattle.jiff_core.specs.Calendar.{IsCivilDate}
 use Rattle.shogi_board.specs.Sound.{IsSound}
 use Rattle.shogi_rules.specs.Positions as rules
-use Rattle.csa_text.specs.Moment.{CalendarMoment, TimeOfDay, SpellsMoment, HasNone}
+use Rattle.csa_text.specs.Fields.{HasNone}
+use Rattle.csa_text.specs.Moment.{CalendarMoment, TimeOfDay, SpellsMoment}
 use Rattle.csa_record.specs.Games.Game.{Game, Timed, Ended, HeaderText, moment, plain, Entry, move_of}
 
 -- a text that stands on one line
