@@ -1,10 +1,1 @@
-pub mod Kept
-pub mod Ordered
-pub mod Fits
-pub mod Unread
-pub mod Reading
-pub mod Whole
-pub mod Once
-pub mod Found
-pub mod Canonical
 pub mod Games

@@ -1,10 +1,2 @@
 pub mod Bytes
-pub mod Game
-pub mod Reads
-pub mod Says
-pub mod Tells
-pub mod Refused
-pub mod Canon
-pub mod SoFar
-pub mod TookNext
 pub mod Games

@@ -68,6 +68,9 @@ pub enum Why {
     /// A growth of memory was refused; nothing else was found up to this statement.
     #[error("out of memory")]
     OutOfMemory,
+    /// The reader was refused before, at this statement.
+    #[error("failed")]
+    Failed,
 }
 
 impl From<TextFault> for Why {
@@ -90,6 +93,14 @@ impl From<AllocError> for Why {
     ghost from_gives = { λ _ why. why ≡ OutOfMemory };
 
     fn from(_e: AllocError) -> Why {
+        Why::OutOfMemory
+    }
+}
+
+impl From<shogi_board::OutOfMemory> for Why {
+    ghost from_gives = { λ _ why. why ≡ OutOfMemory };
+
+    fn from(_e: shogi_board::OutOfMemory) -> Why {
         Why::OutOfMemory
     }
 }

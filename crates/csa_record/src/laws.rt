@@ -1,19 +1,15 @@
 //! Laws of the definitions that the contracts of this crate cite. They take and give nothing.
 
 ghost use Rattle.std.specs.Prelude.{◌≡◌, ◌⊎◌, ◌↔◌, ℕ, List, [], Ok, drop, filter};
-ghost use Rattle.csa_record.specs.Game.{Game, IsGame};
-ghost use Rattle.csa_record.specs.Tells.{Tells};
-ghost use Rattle.csa_record.specs.Refused.{ToldAlone, RefusedAlone};
-ghost use Rattle.csa_record.specs.Canon.{canon};
-ghost use Rattle.csa_record.specs.Games.Canon as whole;
-ghost use Rattle.csa_record.specs.Games.Game as games;
-ghost use Rattle.csa_record.specs.Games.Items as items;
-ghost use Rattle.csa_record.specs.Games.Limits as limits;
+ghost use Rattle.csa_record.specs.Games.Canon.{canon};
+ghost use Rattle.csa_record.specs.Games.Game.{Game};
+ghost use Rattle.csa_record.specs.Games.Items.{is_even, positions};
+ghost use Rattle.csa_record.specs.Games.Limits.{IsGame};
 ghost use Rattle.csa_record.specs.Games.Placing as placing;
 ghost use Rattle.csa_record.specs.Games.Placings.{placings};
-ghost use Rattle.csa_record.specs.Games.Refused as refusing;
-ghost use Rattle.csa_record.specs.Games.Tells as telling;
-ghost use Rattle.csa_record.specs.Games.Union as union;
+ghost use Rattle.csa_record.specs.Games.Refused.{Refused, ToldAlone, RefusedAlone};
+ghost use Rattle.csa_record.specs.Games.Tells.{Tells};
+ghost use Rattle.csa_record.specs.Games.Union.{GiveStart, IsUnion, first_board, rest_given, with_rest_given};
 ghost use Rattle.csa_text.specs.Spelling.{Saying, Spells};
 ghost use Rattle.shogi_board.specs.Layout.{Layout};
 ghost use Rattle.shogi_board.specs.Setup.{position_of};
@@ -37,41 +33,31 @@ pub fn canon_equal()
     ensures { (g h : Game) → IsGame g → IsGame h → ((canon g ≡ canon h) ↔ (g ≡ h)) }
 {}
 
-/// The canonical text of a whole game tells that game.
-pub fn whole_canon_tells()
-    ensures { (g : games.Game) → limits.IsGame g → telling.Tells (whole.canon g) g }
-{}
-
-/// Two whole games have equal canonical texts exactly if they are equal.
-pub fn whole_canon_equal()
-    ensures { (g h : games.Game) → limits.IsGame g → limits.IsGame h → ((whole.canon g ≡ whole.canon h) ↔ (g ≡ h)) }
-{}
-
-/// Bytes tell one whole game at most.
-pub fn whole_one_game()
-    ensures { (source : List ℕ) (g h : games.Game) → telling.Tells source g → telling.Tells source h → g ≡ h }
+/// Bytes tell one game at most.
+pub fn one_game()
+    ensures { (source : List ℕ) (g h : Game) → Tells source g → Tells source h → g ≡ h }
 {}
 
 /// Bytes are refused in one way at most: at one statement, at one offset, for one reason.
-pub fn whole_one_refusal()
-    ensures { (source : List ℕ) (n m offset other : ℕ) (v w : Why) → refusing.Refused source n offset v → refusing.Refused source m other w
+pub fn one_refusal()
+    ensures { (source : List ℕ) (n m offset other : ℕ) (v w : Why) → Refused source n offset v → Refused source m other w
         → (m ≡ n) × (other ≡ offset) × (w ≡ v) }
 {}
 
 /// What position statements that bytes spell place one after another, with `PI` first where it stands, is the union of
 /// what they place, which does not speak of their order but for `PI` first and the rest last.
-pub fn whole_laid_out()
+pub fn laid_out()
     ensures { (sayings : List Saying) (laid : Layout) (side : Color) → AllByRecursion (λ s. (bytes : List ℕ) × Spells bytes s) sayings
-        → filter items.is_even (drop 1 (items.positions sayings)) ≡ [] → placing.laid_out sayings ≡ Ok laid
-        → union.GiveStart (items.positions sayings) (position_of laid side) }
+        → filter is_even (drop 1 (positions sayings)) ≡ [] → placing.laid_out sayings ≡ Ok laid
+        → GiveStart (positions sayings) (position_of laid side) }
 {}
 
 /// The union of what position statements that bytes spell place, with `PI` first where it stands, can be placed one after
 /// another, where no total is passed before the rest is given.
-pub fn whole_union_placed()
+pub fn union_placed()
     ensures { (sayings : List Saying) (placed : Layout) → AllByRecursion (λ s. (bytes : List ℕ) × Spells bytes s) sayings
-        → filter items.is_even (drop 1 (items.positions sayings)) ≡ []
-        → union.IsUnion (union.first_board (items.positions sayings)) (placings (items.positions sayings)) placed
+        → filter is_even (drop 1 (positions sayings)) ≡ []
+        → IsUnion (first_board (positions sayings)) (placings (positions sayings)) placed
         → IsWithinTotals placed.board placed.black placed.white
-        → placing.laid_out sayings ≡ Ok (union.with_rest_given (filter_map union.rest_given (placings (items.positions sayings))) placed) }
+        → placing.laid_out sayings ≡ Ok (with_rest_given (filter_map rest_given (placings (positions sayings))) placed) }
 {}

@@ -1,18 +1,42 @@
-//! Games as CSA records tell them: reading with the first fault, and the canonical text.
+//! Games as CSA records tell them: their parts, their limits, and the canonical text.
 //!
 //! The format is CSA V2.2, in the profile of this project (`docs/CSA.md`).
 #![tactic(auto)]
 
+mod course;
 mod fault;
+mod flow;
 pub mod laws;
-mod reader;
+mod laying;
+mod progress;
 mod record;
+mod record_reader;
+mod sink;
+mod source;
+mod start_writer;
+mod titles;
 mod writer;
 
 pub use fault::{OrderFault, Refusal, Why};
-pub use reader::read;
+pub use flow::{FlowFault, MOST_READS, normalise, read_from};
 pub use record::Record;
+pub use record_reader::{RecordReader, read};
+pub use sink::{Sink, Writing};
+pub use source::{Failure, Reading, Source};
+pub use titles::HeaderValue;
 pub use writer::write;
 
 #[cfg(test)]
+mod course_tests;
+#[cfg(test)]
+mod flow_tests;
+#[cfg(test)]
+mod laying_tests;
+#[cfg(test)]
+mod reading_tests;
+#[cfg(test)]
+mod start_writer_tests;
+#[cfg(test)]
 mod tests;
+#[cfg(test)]
+mod titles_tests;

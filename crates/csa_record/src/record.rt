@@ -1,51 +1,226 @@
-ghost use Rattle.std.specs.Prelude.{◌≡◌, MatchOption, IfSome, Some, None};
-ghost use Rattle.csa_record.specs.Game.{IsGame, IsName, name_of};
+ghost use Rattle.std.specs.Prelude.{◌≡◌, ◌≢◌, ◌≤◌, ◌+◌, ◌++◌, ◌∷◌, ◌↔◌, [], length, map, Option, Some, None, IsOk, IfOk, IfErr, IfSome, OnOk, OnErr, MatchOption};
+ghost use Rattle.csa_text.specs.Fields.{HasNone};
+ghost use Rattle.csa_record.specs.declared.fault.Why.{Why};
+ghost use Rattle.csa_record.specs.Games.Answer.{IsAnswer};
+ghost use Rattle.csa_record.specs.Games.Building.{titled_of, course_of, game_of, with_titled, with_course, game_along};
+ghost use Rattle.csa_record.specs.Games.Course.{PlayAnswers, untimed, time_fault, close_fault, with_time, with_ending, time_at, ending_of, ending_time_of};
+ghost use Rattle.csa_record.specs.Games.Game.{move_of};
+ghost use Rattle.csa_record.specs.Games.Limits.{IsGame, IsName, IsOneLine};
+ghost use Rattle.csa_record.specs.Games.Titles.{IsWithHeader, name_of, name_fault, header_fault, with_name, under, shown};
 
-use shogi_board::Color;
+use crate::course::Course;
+use crate::fault::Why;
+use crate::titles::{HeaderValue, Titles};
+use csa_text::Ending;
+use shogi_board::{Color, OutOfMemory, Position};
+use shogi_rules::{Line, Move};
+use std::alloc::Global;
 use std::marker::Model;
 
-/// A game, as a record tells it: the names of both sides, and the side to move at the even start.
+/// A game as a record tells it: the names of both sides, headers, a start, legal moves from it with
+/// their times, and an ending.
 #[derive(Drop)]
 pub struct Record {
-    pub(crate) black: Option<Vec<u8>>,
-    pub(crate) white: Option<Vec<u8>>,
-    pub(crate) side: Color,
+    titles: Titles,
+    course: Course,
 }
 
 impl Model for Record {
-    ghost use Rattle.csa_record.specs.Game.{Game, IsGame};
-    ghost use Rattle.csa_record.specs.Bytes.{game_of};
+    ghost use Rattle.csa_record.specs.Games.Building.{game_of};
+    ghost use Rattle.csa_record.specs.Games.Game.{Game};
+    ghost use Rattle.csa_record.specs.Games.Limits.{IsGame};
 
     ghost Value = { Game };
 
-    ghost view = { λ r. game_of r.black r.white r.side };
+    ghost view = { λ r. game_of r.titles r.course };
 
-    ghost invariant = { λ r. IsGame (game_of r.black r.white r.side) };
+    ghost invariant = { λ r. IsGame (game_of r.titles r.course) };
 }
 
 impl Record {
-    /// The side to move at the start.
-    pub fn side(&self) -> Color
-        ensures side { result ≡ self.now.side }
-        ensures game { IsGame self.now }
+    /// The record of that start alone: no name, header, move or ending.
+    ///
+    /// Refuses OutOfMemory.
+    pub fn new(alloc: Global, start: Position) -> Result<Record, OutOfMemory>
+        ensures { IfOk result (λ r. r ≡ game_along (record { start = start; moves = [] })) }
     {
-        self.side
+        let course = Course::new(alloc, start)?;
+        Ok(Record::from_parts(Titles::new(alloc), course))
     }
 
-    /// The name of that side, if the record has one. It is not empty and stands on one line.
+    /// The record of the line's start and moves: no name, header, time or ending.
+    ///
+    /// Where memory is refused, the answer is the line as it was.
+    pub fn from_line(alloc: Global, line: Line) -> Result<Record, Line>
+        ensures ok { IfOk result (λ r. r ≡ game_along line) }
+        ensures err { IfErr result (λ l. l ≡ line) }
+    {
+        match Course::from_line(alloc, line) {
+            Ok(course) => Ok(Record::from_parts(Titles::new(alloc), course)),
+            Err(line) => Err(line),
+        }
+    }
+
+    // The record of these parts.
+    pub(crate) fn from_parts(titles: Titles, course: Course) -> Record
+        ensures parts { result ≡ game_of titles course }
+        ensures game { IsGame result }
+    {
+        // clauses of these say that the parts are sound
+        let _name = titles.name(Color::Black);
+        let _ending = course.ending();
+        Record { titles, course }
+    }
+
+    /// Gives that side its name, in any character set. An empty name is none: it changes nothing, and
+    /// is not refused.
+    ///
+    /// The name has no CR and no LF, and at most 4,094 bytes. Refuses RepeatedName where that side has
+    /// a name, then OutOfMemory. Refused, it changes nothing.
+    pub fn set_name(&mut self, color: Color, text: &[u8]) -> Result<(), Why>
+        requires one_line { IsOneLine text.now }
+        requires fits { 2 + length text.now ≤ 4096 }
+        ensures answer { IsAnswer (name_fault (titled_of self.old) color text.now) result }
+        ensures changed { OnOk result (self.new ≡ with_titled self.old (with_name (titled_of self.old) color text.now)) }
+        ensures unchanged { OnErr result (self.new ≡ self.old) }
+    {
+        let result = self.titles.set_name(color, text);
+        // a clause of `name` says that the titles are sound
+        let _name = self.titles.name(color);
+        result
+    }
+
+    /// That side's name, if it has one. It is not empty and stands on one line.
     pub fn name(&self, color: Color) -> Option<&[u8]>
         ensures value { MatchOption result
-            (name_of self.now color ≡ None)
-            (λ name. name_of self.now color ≡ Some name.now) }
+            (name_of (titled_of self.now) color ≡ None)
+            (λ name. name_of (titled_of self.now) color ≡ Some name.now) }
         ensures some { IfSome result (λ name. IsName name.now) }
     {
-        let name = match color {
-            Color::Black => &self.black,
-            Color::White => &self.white,
-        };
-        match name {
-            Some(bytes) => Some(bytes.as_slice()),
-            None => None,
-        }
+        self.titles.name(color)
+    }
+
+    /// Adds a header. One with an empty text is none: it changes nothing, and is not refused. Under
+    /// `START_TIME` and `END_TIME` a text that spells a moment is kept as that moment.
+    ///
+    /// The key is not empty and has no colon, neither has a CR or LF, and both have at most 4,094 bytes
+    /// together. Refuses RepeatedHeader where a header of that key stands, then TooManyHeaders where 64
+    /// stand, then OutOfMemory. Refused, it changes nothing.
+    pub fn set_header(&mut self, key: &[u8], text: &[u8]) -> Result<(), Why>
+        requires some { key.now ≢ [] }
+        requires key_line { IsOneLine key.now }
+        requires text_line { IsOneLine text.now }
+        requires no_colon { HasNone 58 key.now }
+        requires fits { 2 + length key.now + length text.now ≤ 4096 }
+        ensures answer { IsAnswer (header_fault (titled_of self.old) key.now text.now) result }
+        ensures changed { OnOk result (IsWithHeader (titled_of self.old) key.now text.now (titled_of self.new)) }
+        ensures rest { self.new ≡ with_titled self.old (titled_of self.new) }
+        ensures unchanged { OnErr result (self.new ≡ self.old) }
+    {
+        let result = self.titles.set_header(key, text);
+        // a clause of `name` says that the titles are sound
+        let _name = self.titles.name(Color::Black);
+        result
+    }
+
+    /// What stands under this key, if something does.
+    pub fn header(&self, key: &[u8]) -> Option<HeaderValue<'_>>
+        ensures { MatchOption result
+            (under key.now self.now.headers ≡ [])
+            (λ value. under key.now self.now.headers ≡ record { key = key.now; text = shown value } ∷ []) }
+    {
+        self.titles.header(key)
+    }
+
+    /// The start and the moves.
+    pub fn line(&self) -> &Line
+        ensures { result.now ≡ record { start = self.now.start; moves = map move_of self.now.moves } }
+    {
+        self.course.line()
+    }
+
+    /// Plays a move of that side, without a time.
+    ///
+    /// Refuses AfterEnding where the record has an ending, then TooManyMoves behind 10,000 moves, then
+    /// the first rule that the move breaks, then OutOfMemory. Refused, it changes nothing.
+    pub fn play(&mut self, color: Color, mv: Move) -> Result<(), Why>
+        ensures answer { (answer : Option Why) × PlayAnswers (course_of self.old) color mv answer × IsAnswer answer result }
+        ensures changed { OnOk result (self.new ≡ record self.old { moves = self.old.moves ++ untimed mv ∷ [] }) }
+        ensures unchanged { OnErr result (self.new ≡ self.old) }
+    {
+        let result = self.course.play(color, mv);
+        // a clause of `ending` says that the course is sound
+        let _ending = self.course.ending();
+        result
+    }
+
+    /// Gives the ending, or else the last move, the time that it took, in thousandths of a second.
+    ///
+    /// That is at most 4,294,967,295,999. Refuses LooseTime where there is neither move nor ending, or
+    /// that one has a time. Refused, it changes nothing. It takes no memory.
+    pub fn set_time(&mut self, thousandths: u64) -> Result<(), Why>
+        requires { thousandths ≤ 4294967295999 }
+        ensures ok { IsOk result ↔ (time_fault (course_of self.old) ≡ None) }
+        ensures answer { IsAnswer (time_fault (course_of self.old)) result }
+        ensures changed { OnOk result (self.new ≡ with_course self.old (with_time (course_of self.old) thousandths)) }
+        ensures unchanged { OnErr result (self.new ≡ self.old) }
+    {
+        let result = self.course.set_time(thousandths);
+        // a clause of `ending` says that the course is sound
+        let _ending = self.course.ending();
+        result
+    }
+
+    /// The time that the move with this index took, counted from 0, in thousandths of a second; None
+    /// where it has none, and past the last move.
+    pub fn time(&self, i: usize) -> Option<u64>
+        ensures { result ≡ time_at self.now.moves i }
+    {
+        self.course.time(i)
+    }
+
+    /// Ends the game so, without a time.
+    ///
+    /// Refuses AfterEnding where the record has an ending. Refused, it changes nothing. It takes no
+    /// memory.
+    pub fn close(&mut self, ending: Ending) -> Result<(), Why>
+        ensures ok { IsOk result ↔ (close_fault (course_of self.old) ≡ None) }
+        ensures answer { IsAnswer (close_fault (course_of self.old)) result }
+        ensures changed { OnOk result (self.new ≡ with_course self.old (with_ending (course_of self.old) ending)) }
+        ensures unchanged { OnErr result (self.new ≡ self.old) }
+    {
+        let result = self.course.close(ending);
+        // a clause of `ending` says that the course is sound
+        let _ending = self.course.ending();
+        result
+    }
+
+    /// How the game ended, if the record says it.
+    pub fn ending(&self) -> Option<Ending>
+        ensures value { result ≡ ending_of self.now.ending }
+        ensures game { IsGame self.now }
+    {
+        self.course.ending()
+    }
+
+    /// The time that the ending took, in thousandths of a second, if it has one.
+    pub fn ending_time(&self) -> Option<u64>
+        ensures { result ≡ ending_time_of self.now.ending }
+    {
+        self.course.ending_time()
+    }
+
+    // Its names and headers.
+    pub(crate) fn titles(&self) -> &Titles
+        ensures { result.now ≡ titled_of self.now }
+    {
+        &self.titles
+    }
+
+    // Its start, its moves and its ending.
+    pub(crate) fn course(&self) -> &Course
+        ensures { result.now ≡ course_of self.now }
+    {
+        &self.course
     }
 }

@@ -1,69 +1,8 @@
-use crate::{OrderFault, Refusal, Why, laws, read, write};
-use csa_text::TextFault;
-use shogi_board::{Color, OutOfMemory};
+use crate::{HeaderValue, OrderFault, Record, Refusal, Why, laws, write};
+use csa_text::{Ending, TextFault, read_moment};
+use shogi_board::{Color, Kind, OutOfMemory, Position, Setup, Square};
+use shogi_rules::{Line, Move, Rule};
 use std::test::Fail;
-
-// Records, and their canonical text.
-const TOLD: [(&[u8], &[u8]); 9] = [
-    (b"PI\n+\n", b"V2.2\nPI\n+\n"),
-    (b"V2.2\n-", b"V2.2\nPI\n-\n"),
-    (b"+", b"V2.2\nPI\n+\n"),
-    (b"N-b\nN+a\n+\n", b"V2.2\nN+a\nN-b\nPI\n+\n"),
-    (b"N+\n+\n", b"V2.2\nPI\n+\n"),
-    (b"N+a,b\nPI\n+\n", b"V2.2\nN+a,b\nPI\n+\n"),
-    (b"\xEF\xBB\xBFV2.2\nPI\n+\n", b"V2.2\nPI\n+\n"),
-    (b"V2.1,PI,-\r\n'x\r\nN+ a \r\n", b"V2.2\nN+ a \nPI\n-\n"),
-    (b"N+\nN+a\nN+\n+\n", b"V2.2\nN+a\nPI\n+\n"),
-];
-
-// Records that are refused: the statement's number, its offset, and the fault.
-const REFUSED: [(&[u8], u64, u64, Why); 13] = [
-    (b"", 1, 0, Why::Order(OrderFault::MissingTurn)),
-    (b"\xEF\xBB\xBF", 1, 3, Why::Order(OrderFault::MissingTurn)),
-    (b"'x\n'y\n", 1, 6, Why::Order(OrderFault::MissingTurn)),
-    (b"V2.2\nPI", 3, 7, Why::Order(OrderFault::MissingTurn)),
-    (b"+\nPI\n", 2, 2, Why::Order(OrderFault::PositionLate)),
-    (b"PI\n+\n-\n", 3, 5, Why::Order(OrderFault::RepeatedTurn)),
-    (
-        b"PI\nV2.2\n+\n",
-        2,
-        3,
-        Why::Order(OrderFault::VersionOutOfPlace),
-    ),
-    (
-        b"V2\nV2\n+\n",
-        2,
-        3,
-        Why::Order(OrderFault::VersionOutOfPlace),
-    ),
-    (
-        b"N+a\nN+b\nPI\n+\n",
-        2,
-        4,
-        Why::Order(OrderFault::RepeatedName),
-    ),
-    (b"PI\nPI\n+\n", 2, 3, Why::Order(OrderFault::MixedStart)),
-    (b"PI\n+\n+7776FU\n", 3, 5, Why::Text(TextFault::Unknown)),
-    (b"V3.0\n", 1, 0, Why::Text(TextFault::BadVersion)),
-    (b"PI\n+\n/\n", 3, 5, Why::Text(TextFault::Unknown)),
-];
-
-// Items that are not taken yet are unknown, and what is no item has the fault of its row: records that
-// end behind such a statement, its number, its offset, and the fault.
-const UNREAD: [(&[u8], u64, u64, TextFault); 12] = [
-    (b"$EVENT:a\n", 1, 0, TextFault::Unknown),
-    (b"$EVENT\n", 1, 0, TextFault::BadHeader),
-    (b"PI82HI\n", 1, 0, TextFault::Unknown),
-    (b"PI82\n", 1, 0, TextFault::BadPosition),
-    (b"P+55FU\n", 1, 0, TextFault::Unknown),
-    (b"P+5FU\n", 1, 0, TextFault::BadPosition),
-    (b"P1 *  *  *  *  *  *  *  *  *\n", 1, 0, TextFault::Unknown),
-    (b"PI\n+\n+7776F\n", 3, 5, TextFault::BadMove),
-    (b"PI\n+\nT1\n", 3, 5, TextFault::Unknown),
-    (b"PI\n+\nT\n", 3, 5, TextFault::BadTime),
-    (b"PI\n+\n%TORYO\n", 3, 5, TextFault::Unknown),
-    (b"PI\n+\n%TOR\n", 3, 5, TextFault::UnknownEnding),
-];
 
 const FAULTS: [(OrderFault, &str); 12] = [
     (OrderFault::VersionOutOfPlace, "G1 VersionOutOfPlace"),
@@ -96,74 +35,251 @@ fn prints_faults(rt: HostRuntime) -> Result<(), Fail> {
     Ok(())
 }
 
+fn square(file: u8, rank: u8) -> Result<Square, Fail> {
+    Ok(Square::new(file, rank).ok_or("no square")?)
+}
+
+fn walk(from: (u8, u8), to: (u8, u8), kind: Kind) -> Result<Move, Fail> {
+    Ok(Move::Walk {
+        from: square(from.0, from.1)?,
+        to: square(to.0, to.1)?,
+        kind,
+    })
+}
+
+fn order(fault: OrderFault) -> Result<(), Why> {
+    Err(Why::Order(fault))
+}
+
 #[test]
-fn reads_and_writes(rt: HostRuntime) -> Result<(), OutOfMemory> {
-    for (source, wanted) in TOLD {
-        match read(rt.alloc(), source) {
-            Ok(game) => assert_eq!(rt; write(rt.alloc(), &game)?.as_slice(), wanted),
-            Err(_) => assert!(rt; false, "refused"),
-        }
-    }
-    for (source, number, offset, why) in REFUSED {
-        let refusal = Refusal {
-            number,
-            offset,
-            why,
-        };
-        assert_eq!(rt; read(rt.alloc(), source).err(), Some(refusal));
-    }
-    laws::told_once();
+fn builds_and_writes(rt: HostRuntime) -> Result<(), Fail> {
+    let alloc = rt.alloc();
+    let mut record = Record::new(alloc, Position::even())?;
+    let first = walk((7, 7), (7, 6), Kind::Pawn)?;
+    let second = walk((3, 3), (3, 4), Kind::Pawn)?;
+    record.set_name(Color::Black, b"a,b")?;
+    record.set_header(b"SITE", b"b")?;
+    record.set_header(b"EVENT", b"a")?;
+    assert_eq!(rt; record.set_time(1), order(OrderFault::LooseTime));
+    record.play(Color::Black, first)?;
+    record.set_time(12000)?;
+    assert_eq!(rt; record.set_time(1), order(OrderFault::LooseTime));
+    record.play(Color::White, second)?;
+    record.set_time(6000)?;
+    record.close(Ending::Toryo)?;
+    assert_eq!(rt;
+        record.play(Color::Black, first),
+        order(OrderFault::AfterEnding)
+    );
+    assert_eq!(rt;
+        record.close(Ending::Chudan),
+        order(OrderFault::AfterEnding)
+    );
+    assert_eq!(rt;
+        write(alloc, &record)?.as_slice(),
+        b"V2.2\nN+a,b\n$EVENT:a\n$SITE:b\nPI\n+\n+7776FU\nT12\n-3334FU\nT6\n%TORYO\n".as_slice()
+    );
+    assert_eq!(rt; record.name(Color::Black), Some(b"a,b".as_slice()));
+    assert_eq!(rt; record.name(Color::White), None);
+    assert_eq!(rt; record.header(b"EVENT"), Some(HeaderValue::Plain(b"a")));
+    assert_eq!(rt; record.header(b"OPENING"), None);
+    assert_eq!(rt; record.line().moves(), [first, second].as_slice());
+    assert_eq!(rt; record.time(1), Some(6000));
+    assert_eq!(rt; record.time(2), None);
+    assert_eq!(rt; record.ending(), Some(Ending::Toryo));
+    assert_eq!(rt; record.ending_time(), None);
     laws::canon_tells();
     laws::canon_equal();
+    laws::one_game();
+    laws::one_refusal();
+    laws::laid_out();
+    laws::union_placed();
     Ok(())
 }
 
 #[test]
-fn leaves_items_unread(rt: HostRuntime) {
-    for (source, number, offset, fault) in UNREAD {
-        let refusal = Refusal {
-            number,
-            offset,
-            why: Why::Text(fault),
-        };
-        assert_eq!(rt; read(rt.alloc(), source).err(), Some(refusal));
+fn refuses_names_and_headers(rt: HostRuntime) -> Result<(), Fail> {
+    let alloc = rt.alloc();
+    let mut record = Record::new(alloc, Position::even())?;
+    record.set_name(Color::Black, b"a")?;
+    assert_eq!(rt;
+        record.set_name(Color::Black, b"b"),
+        order(OrderFault::RepeatedName)
+    );
+    record.set_name(Color::Black, b"")?;
+    record.set_name(Color::White, b"")?;
+    record.set_header(b"EVENT", b"a")?;
+    assert_eq!(rt;
+        record.set_header(b"EVENT", b"b"),
+        order(OrderFault::RepeatedHeader)
+    );
+    record.set_header(b"EVENT", b"")?;
+    record.set_header(b"SITE", b"")?;
+    let text = b"V2.2\nN+a\n$EVENT:a\nPI\n+\n";
+    assert_eq!(rt; write(alloc, &record)?.as_slice(), text.as_slice());
+    for n in 0..63u8 {
+        record.set_header(&[b'a' + n % 8, b'a' + n / 8], b"x")?;
     }
+    assert_eq!(rt;
+        record.set_header(b"SITE", b"b"),
+        order(OrderFault::TooManyHeaders)
+    );
+    assert_eq!(rt;
+        record.set_header(b"EVENT", b"b"),
+        order(OrderFault::RepeatedHeader)
+    );
+    record.set_header(b"SITE", b"")?;
+    Ok(())
 }
 
 #[test]
-fn has_names(rt: HostRuntime) {
-    match read(rt.alloc(), b"N-b\n+\n") {
-        Ok(game) => {
-            assert_eq!(rt; game.side(), Color::Black);
-            assert_eq!(rt; game.name(Color::Black), None);
-            assert_eq!(rt; game.name(Color::White), Some(b"b".as_slice()));
+fn refuses_a_move_of_the_other_side(rt: HostRuntime) -> Result<(), Fail> {
+    let alloc = rt.alloc();
+    let mut record = Record::new(alloc, Position::even())?;
+    assert_eq!(rt;
+        record.play(Color::White, walk((7, 7), (7, 6), Kind::Pawn)?),
+        Err(Why::Rule(Rule::WrongSide))
+    );
+    assert_eq!(rt;
+        write(alloc, &record)?.as_slice(),
+        b"V2.2\nPI\n+\n".as_slice()
+    );
+    Ok(())
+}
+
+#[test]
+fn writes_moments_as_moments(rt: HostRuntime) -> Result<(), Fail> {
+    let alloc = rt.alloc();
+    let mut record = Record::new(alloc, Position::even())?;
+    record.set_header(b"START_TIME", b"2024/2/29 9:05:07")?;
+    record.set_header(b"END_TIME", b"2023/02/29")?;
+    let moment = read_moment(b"2024/02/29 09:05:07").ok_or("no moment")?;
+    assert_eq!(rt;
+        record.header(b"START_TIME"),
+        Some(HeaderValue::Moment(moment))
+    );
+    assert_eq!(rt;
+        record.header(b"END_TIME"),
+        Some(HeaderValue::Plain(b"2023/02/29"))
+    );
+    assert_eq!(rt;
+        write(alloc, &record)?.as_slice(),
+        b"V2.2\n$END_TIME:2023/02/29\n$START_TIME:2024/02/29 09:05:07\nPI\n+\n".as_slice()
+    );
+    Ok(())
+}
+
+fn less_two() -> Result<Position, Fail> {
+    let mut setup = Setup::even();
+    setup.take_off(square(8, 2)?, Kind::Rook)?;
+    setup.take_off(square(2, 2)?, Kind::Bishop)?;
+    Ok(setup.finish(Color::White)?)
+}
+
+fn two_kings() -> Result<Position, Fail> {
+    let mut setup = Setup::empty();
+    setup.place(Color::Black, square(5, 9)?, Kind::King)?;
+    setup.place(Color::White, square(5, 1)?, Kind::King)?;
+    Ok(setup.finish(Color::Black)?)
+}
+
+#[test]
+fn writes_starts(rt: HostRuntime) -> Result<(), Fail> {
+    let alloc = rt.alloc();
+    let handicap = Record::new(alloc, less_two()?)?;
+    assert_eq!(rt;
+        write(alloc, &handicap)?.as_slice(),
+        b"V2.2\nPI22KA82HI\n-\n".as_slice()
+    );
+    let kings = Record::new(alloc, two_kings()?)?;
+    assert_eq!(rt;
+        write(alloc, &kings)?.as_slice(),
+        b"V2.2\nPI11KY13FU17FU19KY21KE22KA23FU27FU28HI29KE31GI33FU37FU39GI41KI43FU47FU49KI53FU57FU61KI63FU67FU69KI71GI73FU77FU79GI81KE82HI83FU87FU88KA89KE91KY93FU97FU99KY\n+\n".as_slice()
+    );
+    Ok(())
+}
+
+#[test]
+fn keeps_a_line(rt: HostRuntime) -> Result<(), Fail> {
+    let alloc = rt.alloc();
+    let mut line = Line::new(alloc, Position::even())?;
+    line.play(Color::Black, walk((2, 7), (2, 6), Kind::Pawn)?)?;
+    match Record::from_line(alloc, line) {
+        Ok(mut record) => {
+            assert_eq!(rt; record.time(0), None);
+            assert_eq!(rt; record.ending(), None);
+            record.set_time(50)?;
+            assert_eq!(rt;
+                write(alloc, &record)?.as_slice(),
+                b"V2.2\nPI\n+\n+2726FU\nT0.05\n".as_slice()
+            );
         }
-        Err(_) => assert!(rt; false, "refused"),
+        Err(_) => return Err(Fail::from("out of memory")),
     }
+    Ok(())
 }
 
-// Run by tests/growths with each growth refused in turn: the answer is want of memory, in `read` at the statement that
-// wanted it, and the call made again succeeds.
-#[test]
-fn refused_growth_is_told(rt: HostRuntime) -> Result<(), Fail> {
-    let source = b"V2.2\nN+a\nN-b\nPI\n+\n";
-    let game = match read(rt.alloc(), source) {
-        Ok(game) => game,
-        Err(refusal) => {
+// The line of one move. A refused growth is told, and the call made again.
+fn one_move(rt: &HostRuntime, mv: Move) -> Result<Line, Fail> {
+    let mut line = match Line::new(rt.alloc(), Position::even()) {
+        Ok(line) => line,
+        Err(OutOfMemory) => {
             println!(rt; "refused")?;
-            assert_eq!(rt; refusal.why, Why::OutOfMemory);
-            let place = (refusal.number, refusal.offset);
-            assert!(rt; place == (2, 5) || place == (3, 9));
-            read(rt.alloc(), source)?
+            Line::new(rt.alloc(), Position::even())?
         }
     };
-    let text = match write(rt.alloc(), &game) {
+    if line.play(Color::Black, mv).is_err() {
+        println!(rt; "refused")?;
+        line.play(Color::Black, mv)?;
+    }
+    Ok(line)
+}
+
+// Run by tests/growths with each growth refused in turn: the answer is want of memory, and nothing has changed, so the
+// call made again succeeds.
+#[test]
+fn refused_growth_is_told(rt: HostRuntime) -> Result<(), Fail> {
+    let alloc = rt.alloc();
+    let mut record = match Record::new(alloc, Position::even()) {
+        Ok(record) => record,
+        Err(OutOfMemory) => {
+            println!(rt; "refused")?;
+            Record::new(alloc, Position::even())?
+        }
+    };
+    if let Err(why) = record.set_name(Color::White, b"b") {
+        println!(rt; "refused")?;
+        assert_eq!(rt; why, Why::OutOfMemory);
+        record.set_name(Color::White, b"b")?;
+    }
+    if let Err(why) = record.set_header(b"EVENT", b"a") {
+        println!(rt; "refused")?;
+        assert_eq!(rt; why, Why::OutOfMemory);
+        record.set_header(b"EVENT", b"a")?;
+    }
+    let mv = walk((7, 7), (7, 6), Kind::Pawn)?;
+    if let Err(why) = record.play(Color::Black, mv) {
+        println!(rt; "refused")?;
+        assert_eq!(rt; why, Why::OutOfMemory);
+        record.play(Color::Black, mv)?;
+    }
+    match Record::from_line(alloc, one_move(&rt, mv)?) {
+        Ok(other) => assert_eq!(rt; other.line().moves(), [mv].as_slice()),
+        Err(line) => {
+            println!(rt; "refused")?;
+            assert_eq!(rt; line.moves(), [mv].as_slice());
+        }
+    }
+    let text = match write(alloc, &record) {
         Ok(text) => text,
         Err(OutOfMemory) => {
             println!(rt; "refused")?;
-            write(rt.alloc(), &game)?
+            write(alloc, &record)?
         }
     };
-    assert_eq!(rt; text.as_slice(), source.as_slice());
+    assert_eq!(rt;
+        text.as_slice(),
+        b"V2.2\nN-b\n$EVENT:a\nPI\n+\n+7776FU\n".as_slice()
+    );
     Ok(())
 }

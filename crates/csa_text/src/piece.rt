@@ -96,6 +96,14 @@ impl PieceCutter {
         self.fed
     }
 
+    /// How many statements were handed out so far.
+    pub fn statements(&self) -> u64
+        ensures count { result ≡ self.now.number }
+        ensures few { (self.now.number ≤ self.now.fed) × (self.now.fed ≤ 2 ^ 63) }
+    {
+        self.number
+    }
+
     /// Takes bytes of the piece: how many it used, and the statement that ended there, if one did.
     ///
     /// It stops right behind the byte that ends a statement, and uses the whole piece where none

@@ -1,8 +1,12 @@
 //! The commands: each has a file of its own, with its name, its words and what it does.
 
+mod check;
+mod csa;
 mod normal;
+mod usi;
 
-ghost use Rattle.std.specs.Prelude.{◌≡◌, ◌≢◌, IfErr, IsErrOf, Some, codes};
+ghost use Rattle.std.specs.Prelude.{◌≢◌, IfErr, IsErrOf};
+ghost use Rattle.shogi.specs.Words.{IsNoCommand};
 ghost use Rattle.clap.specs.Words.{subcommand_name_of};
 
 use crate::fault::Fault;
@@ -17,7 +21,10 @@ pub fn all<'a>(alloc: Global) -> Result<Command<'a>, AllocError> {
         .version("0.1.0")
         .propagate_version(true)
         .subcommand_required(true)
-        .subcommand(normal::command(alloc)?)
+        .subcommand(check::command(alloc)?)?
+        .subcommand(normal::command(alloc)?)?
+        .subcommand(usi::command(alloc)?)?
+        .subcommand(csa::command(alloc)?)
 }
 
 /// Runs the command that the words named.
@@ -27,11 +34,14 @@ pub fn run<R: Files + Input + Print + AllocGlobal>(
     rt: &R,
     matches: &ArgMatches<'_>,
 ) -> Result<(), Fault>
-    ensures unknown { subcommand_name_of matches.now ≢ Some (codes "normal") → IsErrOf result Fault.UnknownCommand }
-    ensures known { subcommand_name_of matches.now ≡ Some (codes "normal") → IfErr result (λ fault. fault ≢ Fault.UnknownCommand) }
+    ensures unknown { IsNoCommand (subcommand_name_of matches.now) → IsErrOf result Fault.UnknownCommand }
+    ensures known { (IsNoCommand (subcommand_name_of matches.now) → ⊥) → IfErr result (λ fault. fault ≢ Fault.UnknownCommand) }
 {
     match matches.subcommand() {
+        Some((check::NAME, words)) => check::run(rt, words),
         Some((normal::NAME, words)) => normal::run(rt, words),
+        Some((usi::NAME, words)) => usi::run(rt, words),
+        Some((csa::NAME, words)) => csa::run(rt, words),
         _ => Err(Fault::UnknownCommand),
     }
 }

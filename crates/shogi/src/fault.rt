@@ -2,19 +2,25 @@
 
 ghost use Rattle.std.specs.Prelude.{◌≡◌, ◌≢◌};
 ghost use Rattle.std.specs.IoError.{error_kind};
-ghost use Rattle.shogi.specs.Faults.{line_of, IsFaultOf};
+ghost use Rattle.shogi.specs.Faults.{line_of, fault_of, IsLineFaultOf, line_fault_of};
 ghost use Rattle.shogi.specs.declared.fault.Fault.TheVariants.{OutOfMemory};
 
-use csa_record::{Refusal, Why};
-use std::alloc::AllocError;
+use csa_record::{FlowFault, Refusal};
+use csa_text::LineFault;
+use std::alloc::{AllocError, AllocFailed};
 use std::io::ErrorKind;
 use std::{fmt, io};
+use usi_text::UsiFault;
 
 /// Why a command did not do its work.
 #[derive(Clone, Copy, Debug)]
 pub enum Fault {
     /// The record was refused.
     Refused(Refusal),
+    /// The position line was refused.
+    Usi(UsiFault),
+    /// A line has more than 65,536 bytes.
+    LongLine,
     /// A word of the command line is not UTF-8.
     WordsNotText,
     /// The command line named a command that is not there.
@@ -34,6 +40,8 @@ impl Fault {
     /// The status that the program ends with.
     pub fn status(&self) -> u8
         ensures refused { (r : Refusal) → self.now ≡ Fault.Refused r → result ≡ 1 }
+        ensures line { (f : UsiFault) → self.now ≡ Fault.Usi f → result ≡ 1 }
+        ensures long { self.now ≡ Fault.LongLine → result ≡ 1 }
         ensures words { self.now ≡ Fault.WordsNotText → result ≡ 2 }
         ensures unknown { self.now ≡ Fault.UnknownCommand → result ≡ 2 }
         ensures read { self.now ≡ Fault.Read → result ≡ 3 }
@@ -41,7 +49,7 @@ impl Fault {
         ensures memory { self.now ≡ Fault.OutOfMemory → result ≡ 5 }
     {
         match self {
-            Fault::Refused(_) => 1,
+            Fault::Refused(_) | Fault::Usi(_) | Fault::LongLine => 1,
             Fault::WordsNotText | Fault::UnknownCommand => USAGE,
             Fault::Read | Fault::Write => 3,
             Fault::OutOfMemory => 5,
@@ -83,6 +91,16 @@ impl fmt::Display for Fault {
     fn fmt<W: fmt::Write>(&self, f: &mut fmt::Formatter<W>) -> fmt::Result {
         match self {
             Fault::Refused(refusal) => write!(f, "refused: {refusal}"),
+            Fault::Usi(UsiFault::BadMoveText(number)) => write!(
+                f,
+                "refused: move {number}: U6 BadMoveText"
+            ),
+            Fault::Usi(UsiFault::Broken(number, rule)) => write!(
+                f,
+                "refused: move {number}: {rule}"
+            ),
+            Fault::Usi(fault) => write!(f, "refused: {fault}"),
+            Fault::LongLine => f.write_str("refused: line too long"),
             Fault::WordsNotText => f.write_str("error: a word of the command line is not UTF-8"),
             Fault::UnknownCommand => f.write_str("error: there is no such command"),
             Fault::Read => f.write_str("read fault"),
@@ -92,14 +110,38 @@ impl fmt::Display for Fault {
     }
 }
 
-impl From<Refusal> for Fault {
-    // want of memory is no refusal of the record
-    ghost from_gives = { IsFaultOf };
+impl From<FlowFault> for Fault {
+    ghost from_gives = { λ flow fault. fault ≡ fault_of flow };
 
-    fn from(refusal: Refusal) -> Fault {
-        match refusal.why {
-            Why::OutOfMemory => Fault::OutOfMemory,
-            _ => Fault::Refused(refusal),
+    fn from(fault: FlowFault) -> Fault {
+        match fault {
+            FlowFault::Refused(refusal) => Fault::Refused(refusal),
+            FlowFault::ReadFault => Fault::Read,
+            FlowFault::WriteFault => Fault::Write,
+            FlowFault::OutOfMemory => Fault::OutOfMemory,
+        }
+    }
+}
+
+impl From<UsiFault> for Fault {
+    // want of memory is no refusal of the line
+    ghost from_gives = { IsLineFaultOf };
+
+    fn from(fault: UsiFault) -> Fault {
+        match fault {
+            UsiFault::OutOfMemory => Fault::OutOfMemory,
+            _ => Fault::Usi(fault),
+        }
+    }
+}
+
+impl From<LineFault> for Fault {
+    ghost from_gives = { λ line fault. fault ≡ line_fault_of line };
+
+    fn from(fault: LineFault) -> Fault {
+        match fault {
+            LineFault::TooLong => Fault::LongLine,
+            LineFault::OutOfMemory => Fault::OutOfMemory,
         }
     }
 }
@@ -108,6 +150,14 @@ impl From<shogi_board::OutOfMemory> for Fault {
     ghost from_gives = { λ _ fault. fault ≡ OutOfMemory };
 
     fn from(_error: shogi_board::OutOfMemory) -> Fault {
+        Fault::OutOfMemory
+    }
+}
+
+impl<T: Drop> From<AllocFailed<T>> for Fault {
+    ghost from_gives = { λ _ fault. fault ≡ OutOfMemory };
+
+    fn from(_error: AllocFailed<T>) -> Fault {
         Fault::OutOfMemory
     }
 }

@@ -1,12 +1,14 @@
 //! What the commands read and write.
 
-ghost use Rattle.std.specs.Prelude.{◌≡◌, ◌⊎◌, IfOk, IfErr, OnOk, IfSome};
-ghost use Rattle.std.specs.Io.KnownBytes.{Appends, IsAtEnd};
+ghost use Rattle.std.specs.Prelude.{◌≡◌, ◌≢◌, ◌⊎◌, IfErr, OnOk};
+ghost use Rattle.std.specs.Io.KnownBytes.{Appends};
 
 use crate::fault::Fault;
+use clap::{Arg, ArgMatches};
+use csa_record::{Reading, Record};
 use std::alloc::Global;
 use std::fs;
-use std::io::{Read, Write};
+use std::io::Write;
 use std::rt::Files;
 
 /// A file to be read from its start. `Fault::Read` where it cannot be opened.
@@ -19,18 +21,23 @@ pub fn open<R: Files>(rt: &R, path: &str) -> Result<R::File, Fault>
     }
 }
 
-/// All the bytes that a reader has left. `Fault::Read` where a read fails, `Fault::OutOfMemory` where the bytes find
-/// no room.
-pub fn read_all<R: Read>(alloc: Global, reader: &mut R) -> Result<Vec<u8>, Fault>
-    ensures bytes { IfOk result (λ bytes. IfSome (R.remaining reader.old) (λ rest. bytes.items ≡ rest)) }
-    ensures end { OnOk result (IsAtEnd (R.remaining reader.new)) }
-    ensures faults { IfErr result (λ fault. (fault ≡ Fault.Read) ⊎ (fault ≡ Fault.OutOfMemory)) }
+/// The word FILE of a command, which may be absent.
+pub fn file<'a>(alloc: Global, help: &'a str) -> Arg<'a> {
+    Arg::new(alloc, "FILE").help(help)
+}
+
+/// The record of the named file, or of standard input where none is named or the name is `-`.
+pub fn record<R: Files + Input + AllocGlobal>(
+    rt: &R,
+    words: &ArgMatches<'_>,
+) -> Result<Record, Fault>
+    ensures faults { IfErr result (λ fault. (fault ≢ Fault.WordsNotText) × (fault ≢ Fault.UnknownCommand)) }
 {
-    let mut bytes = Vec::new(alloc);
-    match reader.read_to_end(&mut bytes) {
-        Ok(_) => Ok(bytes),
-        Err(error) => Err(Fault::of_read(&error)),
-    }
+    let record = match words.get_str("FILE") {
+        None | Some("-") => csa_record::read_from(rt.alloc(), &mut Reading::new(rt.reader()))?,
+        Some(path) => csa_record::read_from(rt.alloc(), &mut Reading::new(open(rt, path)?))?,
+    };
+    Ok(record)
 }
 
 /// Writes all of the bytes and flushes the writer. `Fault::Write` where it takes less, or cannot flush.

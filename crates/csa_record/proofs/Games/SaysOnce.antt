@@ -257,7 +257,7 @@ side_body (walked c m) ss = refl
 side_body (time t) ss = refl
 side_body (ending e) ss = refl
 
-sides_body : (ss : List Saying) → sides (body ss) ≡ sides ss
+pub sides_body : (ss : List Saying) → sides (body ss) ≡ sides ss
 sides_body [] = refl
 sides_body (s ∷ ss) =
     side_body s ss ∙ (ap (λ cs. sides (s ∷ []) ++ cs) (sides_body ss) ∙ sym (filter_map-append side_given (s ∷ []) ss))
@@ -282,12 +282,12 @@ sides_time : (t : Option ℕ) (ss : List Saying) → sides (time_items t ++ ss) 
 sides_time None ss = refl
 sides_time (Some t) ss = refl
 
-sides_moves : (c : Color) (ts : List Timed) (ss : List Saying) → sides (move_items c ts ++ ss) ≡ sides ss
+pub sides_moves : (c : Color) (ts : List Timed) (ss : List Saying) → sides (move_items c ts ++ ss) ≡ sides ss
 sides_moves c [] ss = refl
 sides_moves c (t ∷ ts) ss =
     ap sides (append_assoc (time_items t.time) (move_items (opponent c) ts) ss) ∙ (sides_time t.time (move_items (opponent c) ts ++ ss) ∙ sides_moves (opponent c) ts ss)
 
-sides_ending : (e : Option Ended) → sides (ending_items e) ≡ []
+pub sides_ending : (e : Option Ended) → sides (ending_items e) ≡ []
 sides_ending None = refl
 sides_ending (Some e) = timed e.time
   where

@@ -1,7 +1,9 @@
-use Rattle.std.proofs.Common.{ap}
-use Rattle.csa_record.specs.Canon.{canon}
-use Rattle.csa_record.proofs.Canonical.{canon_equal_lem}
+use Rattle.std.proofs.Common.{List, ℕ, ap, subst}
+use Rattle.csa_record.specs.Games.Canon.{canon}
+use Rattle.csa_record.specs.Games.Tells.{Tells}
+use Rattle.csa_record.proofs.Games.Canonical.{canon_tells_lem}
+use Rattle.csa_record.proofs.Games.SaysOnce.{tells_once}
 use Rattle.csa_record.proofs.laws.canon_equal.Goals as goal
 
 pub returns : goal.returns
-returns c = λ g h p q. (canon_equal_lem g h p q, λ e. ap canon e)
+returns c = λ g h p q. (λ e. tells_once (canon h) g h (subst (λ (xs : List ℕ). Tells xs g) e (canon_tells_lem g p)) (canon_tells_lem h q), λ e. ap canon e)

@@ -1,0 +1,37 @@
+use Rattle.std.proofs.Common.{◌≡◌, sym, ◌++◌, ◌∷◌, [], None, arith}
+use Rattle.std.proofs.lemmas.Grind.{common_steps}
+use Rattle.csa_record.specs.Games.Course.{play_fault}
+use Rattle.csa_record.proofs.Games.Courses.{answer_fault, answer_played, answer_refused, kept_more, course_more}
+use Rattle.csa_record.proofs.course.Course.play.Goals as goal
+
+pub returns-in-Some-clause-answer : goal.returns-in-Some-clause-answer
+returns-in-Some-clause-answer c = answer_fault c.args.self.now c.args.color c.args.mv c.in-Some.fault (sym c.in-Some.ensures)
+
+pub returns-then-is_err-clause-answer : goal.returns-then-is_err-clause-answer
+returns-then-is_err-clause-answer c =
+    let free : play_fault c.args.self.now ≡ None = grind (arith, common_steps) in
+    answer_refused c.self.inside.line c.self.inside.times.items c.self.inside.ending c.args.self.now c.args.color c.args.mv c.why_without_room.result
+    c.self.invariant.long c.self.view_is free c.why_without_room.ensures
+
+pub invariant_of-self-in-Ok : goal.invariant_of-self-in-Ok
+invariant_of-self-in-Ok c =
+    let pushed : c.push.new.self.items ≡ c.self.inside.times.items ++ None ∷ [] = grind (arith, common_steps) in
+    kept_more c.self.inside.line c.play_on.new.line c.self.inside.times.items c.push.new.self.items c.self.inside.ending c.args.mv
+    c.self.invariant c.in-Ok.ensures.ok.1 pushed c.in-Ok.ensures.game.0 c.in-Ok.ensures.game.1
+
+pub returns-in-Ok-clause-answer : goal.returns-in-Ok-clause-answer
+returns-in-Ok-clause-answer c =
+    let free : play_fault c.args.self.now ≡ None = grind (arith, common_steps) in
+    answer_played c.self.inside.line c.self.inside.times.items c.self.inside.ending c.args.self.now c.args.color c.args.mv c.self.invariant.long c.self.view_is free c.in-Ok.ensures.ok.0
+
+pub returns-in-Ok-clause-changed : goal.returns-in-Ok-clause-changed
+returns-in-Ok-clause-changed c =
+    let pushed : c.push.new.self.items ≡ c.self.inside.times.items ++ None ∷ [] = grind (arith, common_steps) in
+    course_more c.self.inside.line c.play_on.new.line c.self.inside.times.items c.push.new.self.items c.self.inside.ending c.args.mv c.args.self.now
+    c.self.invariant.long c.self.view_is c.in-Ok.ensures.ok.1 pushed
+
+pub returns-in-Err-clause-answer : goal.returns-in-Err-clause-answer
+returns-in-Err-clause-answer c =
+    let free : play_fault c.args.self.now ≡ None = grind (arith, common_steps) in
+    answer_refused c.self.inside.line c.self.inside.times.items c.self.inside.ending c.args.self.now c.args.color c.args.mv c.in-Err.why
+    c.self.invariant.long c.self.view_is free c.in-Err.ensures.err

@@ -1,0 +1,16 @@
+use Rattle.std.proofs.Common.{arith, ◌<◌, length, take}
+use Rattle.csa_record.proofs.Games.Flow.{no_piece, piece_refused}
+use Rattle.csa_record.proofs.flow.feed_next.Goals as goal
+
+pub returns-then-taken-eq0 : goal.returns-then-taken-eq0
+returns-then-taken-eq0 g c = λ bytes h.
+    let read = c.in-Ok.ensures in
+    let room : 0 < length c.read.new.buffer = omega (arith, c.read.auto.buffer) in
+    no_piece bytes c.read.new.buffer c.in-Ok.taken _ _ _ _ c.args.reader.now c.if-taken-eq0.true read.bytes.0 read.bytes.1 room read.count h
+
+pub returns-in-Err-feed : goal.returns-in-Err-feed
+returns-in-Err-feed g c = λ bytes h.
+    let read = c.in-Ok.ensures in
+    let fed = c.in-Err-feed.ensures in
+    piece_refused bytes (take c.in-Ok.taken c.read.new.buffer) (g.S.Source.known c.args.source.now) (g.S.Source.known c.read.new.self) (g.S.Source.failed c.args.source.now) (g.S.Source.failed c.read.new.self) c.in-Err-feed.refusal c.from.result c.from.ensures read.bytes.0 read.count
+    (λ more. fed.refused bytes more h) (λ more. fed.memory bytes more h)

@@ -1,0 +1,7 @@
+use Rattle.csa_record.proofs.Games.Flow.{record_refused}
+use Rattle.csa_record.proofs.flow.read_record.Goals as goal
+
+pub returns-in-Err : goal.returns-in-Err
+returns-in-Err g c =
+    let finished = c.in-Err.ensures in
+    record_refused (g.S.Source.known c.args.source.now) (g.S.Source.known c.feed_all.new.source) (g.S.Source.failed c.args.source.now) (g.S.Source.failed c.feed_all.new.source) c.feed_all.new.reader c.in-Err.refusal c.from.result c.from.ensures c.in_ok-feed_all.ensures.fed finished.refused finished.memory

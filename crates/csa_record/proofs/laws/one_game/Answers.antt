@@ -1,0 +1,5 @@
+use Rattle.csa_record.proofs.Games.SaysOnce.{tells_once}
+use Rattle.csa_record.proofs.laws.one_game.Goals as goal
+
+pub returns : goal.returns
+returns c = tells_once

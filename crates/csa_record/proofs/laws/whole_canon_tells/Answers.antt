@@ -1,5 +1,0 @@
-use Rattle.csa_record.proofs.Games.Canonical.{canon_tells_lem}
-use Rattle.csa_record.proofs.laws.whole_canon_tells.Goals as goal
-
-pub returns : goal.returns
-returns c = canon_tells_lem

@@ -1,0 +1,11 @@
+use Rattle.std.proofs.Common.{Option, subst}
+use Rattle.csa_record.specs.declared.fault.Why.{Why}
+use Rattle.csa_record.specs.Games.Answer.{IsAnswer}
+use Rattle.csa_record.specs.Games.Building.{course_of}
+use Rattle.csa_record.specs.Games.Course.{PlayAnswers}
+use Rattle.csa_record.specs.Games.Game.{Game}
+use Rattle.csa_record.proofs.record.Record.play.Goals as goal
+
+pub returns-clause-answer : goal.returns-clause-answer
+returns-clause-answer c =
+    subst (λ (g : Game). (x : Option Why) × PlayAnswers (course_of g) c.args.color c.args.mv x × IsAnswer x c.play-result.result) c.self.view_is c.play-result.ensures.answer

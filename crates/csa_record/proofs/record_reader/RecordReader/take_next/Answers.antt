@@ -1,0 +1,35 @@
+use Rattle.std.proofs.Common.{Ok, ap, ◌∙◌, sym, subst}
+use Rattle.csa_text.specs.Stepping.{Stepped}
+use Rattle.csa_record.specs.Games.FailingOf.{failing_of}
+use Rattle.csa_record.specs.Games.Reading.{HasRead}
+use Rattle.csa_record.proofs.Games.Steps.{given, next_taken, next_refused, none_next, long_next}
+use Rattle.csa_record.proofs.record_reader.RecordReader.take_next.Goals as goal
+use Rattle.csa_record.proofs.record_reader.RecordReader.take_next.Goals.{in-Ok-take_statement, in-Err-take_statement}
+
+pub returns-in-Err-clause-next : goal.returns-in-Err-clause-next
+returns-in-Err-clause-next c = λ source h.
+    long_next source c.args.piece.now c.self.inside.cutter c.step.follows.lender-at-none c.self.inside.progress (failing_of c.self.inside.failing) c.in-Err.fault c.from.result
+    (subst (HasRead source) (sym c.self.view_is) h)
+    (subst (λ r. Stepped c.self.inside.cutter c.args.piece.now r c.step.follows.lender-at-none) c.in-Err.is c.step.follows.holds-at-none) c.from.ensures
+
+pub take_statement-requires : goal.take_statement-requires
+take_statement-requires c = given c.self.inside.cutter c.step.follows.lender-at-none c.args.piece.now c.in-Ok.cut.used c.in-Some.statement
+    (subst (λ r. Stepped c.self.inside.cutter c.args.piece.now r c.step.follows.lender-at-none) (c.in-Ok.is ∙ ap (λ o. Ok (record { used = c.in-Ok.cut.used; statement = o })) c.in-Some.is) c.step.follows.holds-at-none)
+
+pub returns-in_default-clause-next : goal.returns-in_default-clause-next
+returns-in_default-clause-next c = λ source h.
+    none_next source c.args.piece.now c.in-Ok.cut.used c.self.inside.cutter c.step.follows.lender-at-none c.self.inside.progress (failing_of c.self.inside.failing) (subst (HasRead source) (sym c.self.view_is) h)
+    (subst (λ r. Stepped c.self.inside.cutter c.args.piece.now r c.step.follows.lender-at-none) (c.in-Ok.is ∙ ap (λ o. Ok (record { used = c.in-Ok.cut.used; statement = o })) c.in_default.is) c.step.follows.holds-at-none)
+
+pub returns-clause-next : goal.returns-clause-next
+returns-clause-next c = λ source h.
+    let before = (subst (HasRead source) (sym c.self.view_is) h) in
+    let stepped = (subst (λ r. Stepped c.self.inside.cutter c.args.piece.now r c.step.follows.lender-at-none) (c.in-Ok.is ∙ ap (λ o. Ok (record { used = c.in-Ok.cut.used; statement = o })) c.in-Some.is) c.step.follows.holds-at-none) in
+    elim c.match-take_statement.branch [
+      | in-Ok-take_statement w ↦ rw (w.result-is, w.self-inside-is)
+          (next_taken source c.args.piece.now c.in-Ok.cut.used c.self.inside.cutter c.step.follows.lender-at-none c.self.inside.progress c.take_statement.new.progress (failing_of c.self.inside.failing)
+          c.in-Some.statement before stepped (rw w.in-Ok-take_statement.is at (c.take_statement.ensures.taken before.taken.sayings before.taken.keeps)))
+      | in-Err-take_statement w ↦ rw w.result-is
+          (next_refused source c.args.piece.now c.in-Ok.cut.used c.self.inside.cutter c.step.follows.lender-at-none c.self.inside.progress c.take_statement.new.progress (failing_of c.self.inside.failing)
+          c.in-Some.statement w.in-Err-take_statement.refusal before stepped (rw w.in-Err-take_statement.is at (c.take_statement.ensures.refused before.taken.sayings before.taken.keeps)))
+    ]

@@ -1,0 +1,174 @@
+ghost use Rattle.std.specs.Prelude.{◌≡◌, ◌≢◌, ℕ, ◌+◌, ◌-◌, ◌^◌, ◌<◌, ◌≤◌, List, [], IfOk, IfErr, OnOk, OnErr, IsErrOf};
+ghost use Rattle.std.specs.Io.KnownBytes.{Keeps};
+ghost use Rattle.csa_record.specs.declared.flow.FlowFault.{FlowFault};
+ghost use Rattle.csa_record.specs.Games.Flow.{fault_of, IsTold, IsRefusal, IsFaultless, FailsRead, IsReadFault, ReadsRecord, FeedsNext, IsFedAll, IsTextFault, TellsText, IsNormal, IsCutShort, IsFlowFault};
+ghost use Rattle.csa_record.specs.Games.Reading.{HasRead, fed_of};
+
+use crate::fault::{Refusal, Why};
+use crate::record::Record;
+use crate::record_reader::RecordReader;
+use crate::sink::{Sink, send};
+use crate::source::Source;
+use crate::writer::write;
+use std::alloc::Global;
+use thiserror::Error;
+
+/// How often a source is read before its end must have come.
+pub const MOST_READS: u32 = 16_777_216;
+
+// The most bytes of a read.
+const PIECE: usize = 4096;
+
+/// Why a record did not flow from its source to its sink.
+#[derive(Clone, Copy, Debug, PartialEq, Eq, Error)]
+pub enum FlowFault {
+    /// The record is refused.
+    #[error("{0}")]
+    Refused(Refusal),
+    /// The source failed, or its end did not come.
+    #[error("read fault")]
+    ReadFault,
+    /// The sink failed.
+    #[error("write fault")]
+    WriteFault,
+    /// A growth of memory was refused.
+    #[error("out of memory")]
+    OutOfMemory,
+}
+
+impl From<Refusal> for FlowFault {
+    ghost from_gives = { λ refusal fault. fault ≡ fault_of refusal };
+
+    fn from(refusal: Refusal) -> FlowFault {
+        match refusal.why {
+            Why::OutOfMemory => FlowFault::OutOfMemory,
+            _ => FlowFault::Refused(refusal),
+        }
+    }
+}
+
+/// Reads the record that a source gives, up to its end or to the first piece that shows a refusal.
+///
+/// The source is read at most 16,777,216 times, for 4,096 bytes each time. Refuses ReadFault where a
+/// read fails or the end has not come by then, and OutOfMemory where a growth of memory was refused.
+pub fn read_from<S: Source>(alloc: Global, source: &mut S) -> Result<Record, FlowFault>
+    requires { S.failed source.old < 2 ^ 64 - 1 }
+    // The bytes that the source gave up to its end tell the game.
+    ensures told { IfOk result (λ g. IsTold (S.known source.old) (S.known source.new) g) }
+    // A record is refused only where the bytes that the source gave are, whatever comes behind them.
+    ensures refused { (r : Refusal) → IsErrOf result (FlowFault.Refused r) → IsRefusal (S.known source.old) (S.known source.new) r }
+    ensures read_fault { IsErrOf result FlowFault.ReadFault
+        → FailsRead (S.known source.old) (S.known source.new) (S.failed source.old) (S.failed source.new) }
+    ensures quiet { (IsErrOf result FlowFault.ReadFault → ⊥) → S.failed source.new ≡ S.failed source.old }
+    ensures memory { IsErrOf result FlowFault.OutOfMemory → IsFaultless (S.known source.old) (S.known source.new) }
+    ensures no_write { IsErrOf result FlowFault.WriteFault → ⊥ }
+{
+    read_record(alloc, source)
+}
+
+/// Writes the canonical text of the record that a source gives to a sink, and flushes the sink.
+///
+/// The whole record is read and accepted before anything is written. Refuses as `read_from` does;
+/// then OutOfMemory; then WriteFault where the sink fails.
+pub fn normalise<S: Source, T: Sink>(
+    alloc: Global,
+    source: &mut S,
+    sink: &mut T,
+) -> Result<(), FlowFault>
+    requires source { S.failed source.old < 2 ^ 64 - 1 }
+    requires sink { T.failed sink.old < 2 ^ 64 - 1 }
+    // The sink took the canonical text of the game that the source's bytes tell, and nothing else.
+    ensures accepted { OnOk result (IsNormal (S.known source.old) (S.known source.new) (T.held sink.old) (T.held sink.new)) }
+    ensures refused { (r : Refusal) → IsErrOf result (FlowFault.Refused r) → IsRefusal (S.known source.old) (S.known source.new) r }
+    ensures read_fault { IsErrOf result FlowFault.ReadFault
+        → FailsRead (S.known source.old) (S.known source.new) (S.failed source.old) (S.failed source.new) }
+    ensures quiet { (IsErrOf result FlowFault.ReadFault → ⊥) → S.failed source.new ≡ S.failed source.old }
+    // A write fails only where a game is told, and what was written is the front of its text.
+    ensures cut_short { IsErrOf result FlowFault.WriteFault
+        → IsCutShort (S.known source.old) (S.known source.new) (T.held sink.old) (T.held sink.new) }
+    ensures write_fault { IsErrOf result FlowFault.WriteFault → T.failed sink.new ≡ T.failed sink.old + 1 }
+    ensures sink_quiet { (IsErrOf result FlowFault.WriteFault → ⊥) → T.failed sink.new ≡ T.failed sink.old }
+    ensures unwritten { IfErr result (λ fault. fault ≢ FlowFault.WriteFault → Keeps (T.held sink.old) (T.held sink.new)) }
+{
+    pass(alloc, source, sink)
+}
+
+fn pass<S: Source, T: Sink>(alloc: Global, source: &mut S, sink: &mut T) -> Result<(), FlowFault>
+    requires source { S.failed source.old < 2 ^ 64 - 1 }
+    requires sink { T.failed sink.old < 2 ^ 64 - 1 }
+    ensures ok { OnOk result (IsNormal (S.known source.old) (S.known source.new) (T.held sink.old) (T.held sink.new)) }
+    ensures quiet { OnOk result (S.failed source.new ≡ S.failed source.old) }
+    ensures sink_quiet { OnOk result (T.failed sink.new ≡ T.failed sink.old) }
+    ensures fault { IfErr result (IsFlowFault (S.known source.old) (S.known source.new) (T.held sink.old) (T.held sink.new)
+        (S.failed source.old) (S.failed source.new) (T.failed sink.old) (T.failed sink.new)) }
+{
+    let text = read_text(alloc, source)?;
+    match send(sink, text.as_slice()) {
+        Ok(()) => Ok(()),
+        Err(_) => Err(FlowFault::WriteFault),
+    }
+}
+
+// The canonical text of the record that the source gives.
+fn read_text<S: Source>(alloc: Global, source: &mut S) -> Result<Vec<u8>, FlowFault>
+    requires { S.failed source.old < 2 ^ 64 - 1 }
+    ensures text { IfOk result (λ text. TellsText (S.known source.old) (S.known source.new) (S.failed source.old) (S.failed source.new) text.items) }
+    ensures fault { IfErr result (IsTextFault (S.known source.old) (S.known source.new) (S.failed source.old) (S.failed source.new)) }
+{
+    let record = read_record(alloc, source)?;
+    match write(alloc, &record) {
+        Ok(text) => Ok(text),
+        Err(_) => Err(FlowFault::OutOfMemory),
+    }
+}
+
+fn read_record<S: Source>(alloc: Global, source: &mut S) -> Result<Record, FlowFault>
+    requires { S.failed source.old < 2 ^ 64 - 1 }
+    ensures { ReadsRecord (S.known source.old) (S.known source.new) (S.failed source.old) (S.failed source.new) result }
+{
+    let mut reader = RecordReader::new(alloc);
+    feed_all(source, &mut reader)?;
+    match reader.finish() {
+        Ok(record) => Ok(record),
+        Err(refusal) => Err(FlowFault::from(refusal)),
+    }
+}
+
+// Feeds a new reader all that the source gives up to its end.
+fn feed_all<S: Source>(source: &mut S, reader: &mut RecordReader) -> Result<(), FlowFault>
+    requires failed { S.failed source.old < 2 ^ 64 - 1 }
+    requires fresh { HasRead [] reader.old }
+    ensures fed { OnOk result (IsFedAll (S.known source.old) (S.known source.new) (S.failed source.old) (S.failed source.new) reader.new) }
+    ensures fault { IfErr result (IsReadFault (S.known source.old) (S.known source.new) (S.failed source.old) (S.failed source.new)) }
+{
+    let mut reads = 0;
+    while reads < MOST_READS {
+        let more = feed_next(source, reader)?;
+        if !more {
+            return Ok(());
+        }
+        reads += 1;
+    }
+    Err(FlowFault::ReadFault)
+}
+
+// Feeds the reader the next piece that the source gives: whether there was one.
+fn feed_next<S: Source>(source: &mut S, reader: &mut RecordReader) -> Result<bool, FlowFault>
+    requires failed { S.failed source.old < 2 ^ 64 - 1 }
+    requires room { fed_of reader.old + 4096 ≤ 2 ^ 63 }
+    ensures { (bytes : List ℕ) → HasRead bytes reader.old
+        → FeedsNext bytes (S.known source.old) (S.known source.new) (S.failed source.old) (S.failed source.new) result reader.new }
+{
+    let mut buffer = [0u8; PIECE];
+    let taken = match source.read(&mut buffer) {
+        Ok(taken) => taken,
+        Err(_) => return Err(FlowFault::ReadFault),
+    };
+    if taken == 0 {
+        return Ok(false);
+    }
+    match reader.feed(&buffer[..taken]) {
+        Ok(()) => Ok(true),
+        Err(refusal) => Err(FlowFault::from(refusal)),
+    }
+}

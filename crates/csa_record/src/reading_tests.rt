@@ -1,0 +1,63 @@
+use crate::{OrderFault, RecordReader, Refusal, Why, laws, read, write};
+use shogi_rules::Rule;
+use std::test::Fail;
+
+const SHORT: &[u8] = b"V2.2\nPI\n+\n+7776FU,T12\n-3334FU,T6\n%TORYO\n";
+
+const TEXT: &[u8] = b"V2.2\nPI\n+\n+7776FU\nT12\n-3334FU\nT6\n%TORYO\n";
+
+// Its fourth statement is a pawn drop that mates.
+const MATES: &[u8] = b"P+13KI33KE59OU00FU\nP-11OU\n+\n+0012FU\n";
+
+#[test]
+fn reads_all_at_once(rt: HostRuntime) -> Result<(), Fail> {
+    let record = read(rt.alloc(), SHORT)?;
+    assert_eq!(rt; write(rt.alloc(), &record)?.as_slice(), TEXT);
+    let missing = Refusal {
+        number: 1,
+        offset: 0,
+        why: Why::Order(OrderFault::MissingTurn),
+    };
+    assert_eq!(rt; read(rt.alloc(), b"").err(), Some(missing));
+    Ok(())
+}
+
+#[test]
+fn reads_a_piece(rt: HostRuntime) -> Result<(), Fail> {
+    let mut reader = RecordReader::new(rt.alloc());
+    reader.feed(SHORT)?;
+    assert_eq!(rt; reader.fed(), 40);
+    let record = reader.finish()?;
+    assert_eq!(rt; write(rt.alloc(), &record)?.as_slice(), TEXT);
+    Ok(())
+}
+
+#[test]
+fn fails_again(rt: HostRuntime) -> Result<(), Fail> {
+    let mut reader = RecordReader::new(rt.alloc());
+    let refusal = Refusal {
+        number: 4,
+        offset: 28,
+        why: Why::Rule(Rule::PawnDropMate),
+    };
+    assert_eq!(rt; reader.feed(MATES), Err(refusal));
+    assert_eq!(rt; reader.fed(), 0);
+    let failed = Refusal {
+        number: 4,
+        offset: 28,
+        why: Why::Failed,
+    };
+    assert_eq!(rt; reader.finish().err(), Some(failed));
+    Ok(())
+}
+
+#[test]
+fn laws_are_called() {
+    laws::told_once();
+    laws::canon_tells();
+    laws::canon_equal();
+    laws::one_game();
+    laws::one_refusal();
+    laws::laid_out();
+    laws::union_placed();
+}

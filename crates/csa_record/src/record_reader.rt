@@ -1,0 +1,222 @@
+ghost use Rattle.std.specs.Prelude.{◌≡◌, ◌≢◌, ℕ, ◌+◌, ◌^◌, ◌<◌, ◌≤◌, [], ◌++◌, List, length, Some, None, Ok, Err, IfSome, IfOk, IfErr, OnOk, IsErrOf};
+ghost use Rattle.csa_text.specs.Spelling.{Saying};
+ghost use Rattle.csa_record.specs.Games.Fits.{IsOfStatement};
+ghost use Rattle.csa_record.specs.Games.Keeping.{Keeps};
+ghost use Rattle.csa_record.specs.Games.Outcome.{Outcome};
+ghost use Rattle.csa_record.specs.Games.Reading.{HasRead, HasTaken, IsRefusedBy, fed_of, NextTaken, LastTaken};
+ghost use Rattle.csa_record.specs.Games.Refused.{Refused, FaultlessTo};
+ghost use Rattle.csa_record.specs.Games.Tells.{Tells};
+
+use crate::fault::{OrderFault, Refusal, Why};
+use crate::progress::Progress;
+use crate::record::Record;
+use csa_text::{PieceCutter, Statement};
+use std::alloc::Global;
+use std::marker::Model;
+
+// What a refused reader answers again, and how many bytes were fed before.
+#[derive(Clone, Copy, Debug, PartialEq, Eq)]
+struct Failing {
+    refusal: Refusal,
+    fed: u64,
+}
+
+/// Reads a record whose bytes come in pieces.
+///
+/// It holds no more of the source than an unfinished statement of at most 4,096 bytes, and none of a
+/// comment. After a refusal, want of memory among them, `feed` and `finish` answer `Why::Failed`
+/// with the number and the offset of the first refusal.
+#[derive(Drop)]
+pub struct RecordReader {
+    cutter: PieceCutter,
+    progress: Progress,
+    failing: Option<Failing>,
+}
+
+impl Model for RecordReader {
+    ghost use Rattle.csa_record.specs.Games.Reading as told;
+    ghost use Rattle.csa_record.specs.Games.FailingOf.{failing_of};
+
+    ghost Value = { told.Reading };
+
+    ghost view = { λ r. record { cutter = r.cutter; kept = r.progress; failing = failing_of r.failing } };
+}
+
+impl RecordReader {
+    /// A reader that has seen nothing. It takes no memory.
+    pub fn new(alloc: Global) -> RecordReader
+        ensures start { HasRead [] result }
+    {
+        RecordReader {
+            cutter: PieceCutter::new(),
+            progress: Progress::new(alloc),
+            failing: None,
+        }
+    }
+
+    /// How many bytes the calls of `feed` took that were not refused.
+    pub fn fed(&self) -> u64
+        ensures count { result ≡ fed_of self.now }
+    {
+        match self.failing {
+            Some(failing) => failing.fed,
+            None => self.cutter.fed(),
+        }
+    }
+
+    /// Takes the next piece of the record. At most 2^63 bytes may be fed in all, unless it was refused.
+    ///
+    /// It is refused at the first statement that these bytes close and that has a fault; that is the
+    /// refusal of the record, whatever comes behind. `Why::OutOfMemory` comes only where a growth was
+    /// refused, and then no statement up to there has a fault.
+    pub fn feed(&mut self, piece: &[u8]) -> Result<(), Refusal>
+        requires { self.old.failing ≡ None → fed_of self.old + length piece.now ≤ 2 ^ 63 }
+        // All bytes so far have no fault.
+        ensures taken { (source : List ℕ) → HasRead source self.old → OnOk result (HasRead (source ++ piece.now) self.new) }
+        ensures refused { (source more : List ℕ) → HasRead source self.old
+            → IfErr result (λ r. r.why ≢ Why.OutOfMemory → Refused ((source ++ piece.now) ++ more) r.number r.offset r.why) }
+        ensures memory { (source more : List ℕ) → HasRead source self.old
+            → IfErr result (λ r. r.why ≡ Why.OutOfMemory → FaultlessTo ((source ++ piece.now) ++ more) r.number r.offset) }
+        ensures failed { (source : List ℕ) → HasRead source self.old
+            → IfErr result (λ r. self.new.failing ≡ Some (record { refusal = record { number = r.number; offset = r.offset; why = Why.Failed }; fed = length source })) }
+        ensures again { IfSome self.old.failing (λ f. IsErrOf result f.refusal × (self.new ≡ self.old)) }
+    {
+        if let Some(failing) = self.failing {
+            return Err(failing.refusal);
+        }
+        let fed = self.cutter.fed();
+        if let Err(refusal) = self.take_piece(piece) {
+            self.failing = Some(Failing {
+                refusal: Refusal {
+                    number: refusal.number,
+                    offset: refusal.offset,
+                    why: Why::Failed,
+                },
+                fed,
+            });
+            return Err(refusal);
+        }
+        Ok(())
+    }
+
+    // Takes the whole piece, statement by statement.
+    fn take_piece(&mut self, piece: &[u8]) -> Result<(), Refusal>
+        requires { self.old.cutter.fed + length piece.now ≤ 2 ^ 63 }
+        ensures taken { (source : List ℕ) → HasRead source self.old → OnOk result (HasRead (source ++ piece.now) self.new) }
+        ensures refused { (source : List ℕ) → HasRead source self.old → IfErr result (λ r. (more : List ℕ) → IsRefusedBy ((source ++ piece.now) ++ more) r) }
+    {
+        let mut used = 0;
+        while used < piece.len() {
+            match self.take_next(&piece[used..]) {
+                Ok(more) => used += more,
+                Err(refusal) => return Err(refusal),
+            }
+        }
+        Ok(())
+    }
+
+    // Takes bytes of the piece up to the end of a statement, and that statement: how many it used.
+    fn take_next(&mut self, piece: &[u8]) -> Result<usize, Refusal>
+        requires room { self.old.cutter.fed + length piece.now ≤ 2 ^ 63 }
+        requires some { 0 < length piece.now }
+        ensures used { IfOk result (λ used. (0 < used) × (used ≤ length piece.now) × (self.new.cutter.fed ≡ self.old.cutter.fed + used)) }
+        ensures next { (source : List ℕ) → HasRead source self.old → NextTaken source piece.now result self.new }
+    {
+        let cut = match self.cutter.step(piece) {
+            Ok(cut) => cut,
+            Err(fault) => return Err(Refusal::from(fault)),
+        };
+        let Some(statement) = cut.statement else {
+            return Ok(cut.used);
+        };
+        match take_statement(&mut self.progress, statement) {
+            Ok(()) => Ok(cut.used),
+            Err(refusal) => Err(refusal),
+        }
+    }
+
+    /// The record that all the pieces tell, at their end.
+    ///
+    /// It is refused as `feed` says, for its last statement; else, where no statement is the side to
+    /// move, as `MissingTurn`, whose number is one more than that of the statements and whose offset is
+    /// the length of all pieces in bytes.
+    pub fn finish(self) -> Result<Record, Refusal>
+        ensures told { (source : List ℕ) → HasRead source self → IfOk result (λ g. Tells source g) }
+        ensures refused { (source : List ℕ) → HasRead source self
+            → IfErr result (λ r. r.why ≢ Why.OutOfMemory → Refused source r.number r.offset r.why) }
+        ensures memory { (source : List ℕ) → HasRead source self
+            → IfErr result (λ r. r.why ≡ Why.OutOfMemory → FaultlessTo source r.number r.offset) }
+        ensures again { IfSome self.failing (λ f. IsErrOf result f.refusal) }
+    {
+        if let Some(failing) = self.failing {
+            return Err(failing.refusal);
+        }
+        let RecordReader {
+            mut cutter,
+            mut progress,
+            failing: _,
+        } = self;
+        let length = cutter.fed();
+        if let Err(refusal) = take_last(&mut cutter, &mut progress) {
+            return Err(refusal);
+        }
+        match progress.finish() {
+            Some(record) => Ok(record),
+            None => Err(Refusal {
+                number: cutter.statements() + 1,
+                offset: length,
+                why: Why::Order(OrderFault::MissingTurn),
+            }),
+        }
+    }
+}
+
+/// Reads a record of at most 2^63 bytes, all at once.
+///
+/// The answer is the game that the bytes tell, or the first statement with a fault: its number, its
+/// offset in bytes, and the fault. `Why::OutOfMemory` comes only where a growth was refused, and
+/// then no statement up to there has a fault; `Why::Failed` never comes.
+pub fn read(alloc: Global, source: &[u8]) -> Result<Record, Refusal>
+    requires { length source.now ≤ 2 ^ 63 }
+    ensures told { IfOk result (λ g. Tells source.now g) }
+    ensures refused { IfErr result (λ r. r.why ≢ Why.OutOfMemory → Refused source.now r.number r.offset r.why) }
+    ensures memory { IfErr result (λ r. r.why ≡ Why.OutOfMemory → FaultlessTo source.now r.number r.offset) }
+{
+    let mut reader = RecordReader::new(alloc);
+    match reader.feed(source) {
+        Ok(()) => reader.finish(),
+        Err(refusal) => Err(refusal),
+    }
+}
+
+// Takes the statement that the end of the bytes ends, if one is unfinished.
+fn take_last(cutter: &mut PieceCutter, progress: &mut Progress) -> Result<(), Refusal>
+    ensures { (source : List ℕ) → HasTaken source cutter.old progress.old → LastTaken source result cutter.new progress.new }
+{
+    let last = match cutter.finish() {
+        Ok(last) => last,
+        Err(fault) => return Err(Refusal::from(fault)),
+    };
+    match last {
+        Some(statement) => take_statement(progress, statement),
+        None => Ok(()),
+    }
+}
+
+// Takes the next statement, or says why it is refused.
+fn take_statement(progress: &mut Progress, statement: Statement<'_>) -> Result<(), Refusal>
+    requires { IsOfStatement statement.bytes.now }
+    ensures taken { (before : List Saying) → Keeps before progress.old → OnOk result (Outcome before statement.entry.bytes.now (Ok tt) progress.new) }
+    ensures refused { (before : List Saying) → Keeps before progress.old
+        → IfErr result (λ r. (r.number ≡ statement.entry.number) × (r.offset ≡ statement.entry.offset)
+        × Outcome before statement.entry.bytes.now (Err r.why) progress.new) }
+{
+    match progress.take_bytes(statement.bytes) {
+        Ok(()) => Ok(()),
+        Err(why) => Err(Refusal {
+            number: statement.number,
+            offset: statement.offset,
+            why,
+        }),
+    }
+}

@@ -1,0 +1,248 @@
+ghost use Rattle.std.specs.Prelude.{◌≡◌, ◌+◌, ◌*◌, ◌-◌, ◌<◌, ◌≤◌, ◌∷◌, ◌++◌, [], length, map, replicate, OnOk};
+ghost use Rattle.std.specs.List.{flat_map};
+ghost use Rattle.shogi_board.specs.Cells.{even_cells};
+ghost use Rattle.shogi_board.specs.Squares.{place};
+ghost use Rattle.csa_text.specs.Codes.{sign, kind_code, square_text, cell_text};
+ghost use Rattle.csa_text.specs.PairTexts.{pairs_text};
+ghost use Rattle.csa_text.specs.Spelling.{even, rank};
+ghost use Rattle.csa_text.specs.declared.pair.Pair.TheVariants.{InHand};
+ghost use Rattle.csa_record.specs.Games.Canon.{ended_line, start_items, is_from_even, is_part_of, stands_in, missing, rank_cells, rank_items, hand_pairs, hand_items};
+ghost use Rattle.csa_record.specs.Games.Squares.{square_at};
+ghost use Rattle.csa_record.specs.Games.Starting.{gone};
+
+use shogi_board::{Color, Hand, Kind, OutOfMemory, Piece, Position, Square};
+
+// Writes `PI` with the missing pieces of the even board, or else the ranks and the hands that are not empty.
+pub(crate) fn write_start(out: &mut Vec<u8>, start: &Position) -> Result<(), OutOfMemory>
+    ensures { OnOk result (out.new.items ≡ out.old.items ++ flat_map ended_line (start_items start.now)) }
+{
+    // this call's contract says that the board has 81 squares
+    let _ = start.side();
+    if is_from_even(start) {
+        return write_even(out, start);
+    }
+    write_ranks(out, start)?;
+    write_hand(out, Color::Black, start.hand(Color::Black))?;
+    write_hand(out, Color::White, start.hand(Color::White))?;
+    Ok(())
+}
+
+fn is_from_even(start: &Position) -> bool
+    requires { length start.now.board ≡ 81 }
+    ensures { result ≡ is_from_even start.now }
+{
+    count_held(start.hand(Color::Black)) == 0
+        && count_held(start.hand(Color::White)) == 0
+        && is_part_of_even(start)
+}
+
+fn count_held(hand: Hand) -> u32
+    ensures { result ≡ length (hand_pairs hand) }
+{
+    hand.count(Kind::Rook) as u32
+        + hand.count(Kind::Bishop) as u32
+        + hand.count(Kind::Gold) as u32
+        + hand.count(Kind::Silver) as u32
+        + hand.count(Kind::Knight) as u32
+        + hand.count(Kind::Lance) as u32
+        + hand.count(Kind::Pawn) as u32
+}
+
+// Whether each piece stands where the even board has it.
+fn is_part_of_even(start: &Position) -> bool
+    requires { length start.now.board ≡ 81 }
+    ensures { result ≡ is_part_of start.now.board even_cells }
+{
+    let even = Position::even();
+    for n in 0..81u8 {
+        let square = square_at(n);
+        if !stands_in(start.piece_at(square), even.piece_at(square)) {
+            return false;
+        }
+    }
+    true
+}
+
+fn stands_in(cell: Option<Piece>, other: Option<Piece>) -> bool
+    ensures { result ≡ stands_in cell other }
+{
+    let Some(piece) = cell else {
+        return true;
+    };
+    let Some(held) = other else {
+        return false;
+    };
+    piece.color == held.color && piece.kind == held.kind
+}
+
+// The square of this place.
+fn square_at(n: u8) -> Square
+    requires { n < 81 }
+    ensures place { place result ≡ n }
+    ensures text { square_text result ≡ square_text (square_at n) }
+{
+    Square::new(n / 9 + 1, n % 9 + 1).unwrap()
+}
+
+fn write_even(out: &mut Vec<u8>, start: &Position) -> Result<(), OutOfMemory>
+    requires { length start.now.board ≡ 81 }
+    ensures { OnOk result (out.new.items ≡ out.old.items ++ ended_line (even (missing 0 even_cells start.now.board))) }
+{
+    out.extend_from_slice(b"PI")?;
+    write_missing(out, start)?;
+    out.push(b'\n')?;
+    Ok(())
+}
+
+// The pieces of the even board that are missing.
+fn write_missing(out: &mut Vec<u8>, start: &Position) -> Result<(), OutOfMemory>
+    requires { length start.now.board ≡ 81 }
+    ensures { OnOk result (out.new.items ≡ out.old.items ++ pairs_text (missing 0 even_cells start.now.board)) }
+{
+    let even = Position::even();
+    for n in 0..81u8 {
+        let square = square_at(n);
+        write_gone(out, square, even.piece_at(square), start.piece_at(square))?;
+    }
+    Ok(())
+}
+
+fn write_gone(
+    out: &mut Vec<u8>,
+    square: Square,
+    cell: Option<Piece>,
+    other: Option<Piece>,
+) -> Result<(), OutOfMemory>
+    ensures { OnOk result (out.new.items ≡ out.old.items ++ pairs_text (gone square cell other)) }
+{
+    let Some(piece) = cell else {
+        return Ok(());
+    };
+    if other.is_some() {
+        return Ok(());
+    }
+    out.push(b'0' + square.file())?;
+    out.push(b'0' + square.rank())?;
+    write_kind(out, piece.kind)
+}
+
+fn write_ranks(out: &mut Vec<u8>, start: &Position) -> Result<(), OutOfMemory>
+    ensures { OnOk result (out.new.items ≡ out.old.items ++ flat_map ended_line (rank_items start.now.board)) }
+{
+    for number in 1..10u8 {
+        write_rank(out, start, number)?;
+    }
+    Ok(())
+}
+
+fn write_rank(out: &mut Vec<u8>, start: &Position, number: u8) -> Result<(), OutOfMemory>
+    requires low { 1 ≤ number }
+    requires high { number ≤ 9 }
+    ensures { OnOk result (out.new.items ≡ out.old.items ++ ended_line (rank number (rank_cells start.now.board number))) }
+{
+    out.push(b'P')?;
+    out.push(b'0' + number)?;
+    write_cells(out, start, number)?;
+    out.push(b'\n')?;
+    Ok(())
+}
+
+// The cells of a rank, from file 9 to file 1.
+fn write_cells(out: &mut Vec<u8>, start: &Position, number: u8) -> Result<(), OutOfMemory>
+    requires low { 1 ≤ number }
+    requires high { number ≤ 9 }
+    ensures { OnOk result (out.new.items ≡ out.old.items ++ flat_map cell_text (rank_cells start.now.board number)) }
+{
+    for i in 0..9u8 {
+        let square = square_at((8 - i) * 9 + number - 1);
+        write_cell(out, start.piece_at(square))?;
+    }
+    Ok(())
+}
+
+fn write_cell(out: &mut Vec<u8>, cell: Option<Piece>) -> Result<(), OutOfMemory>
+    ensures { OnOk result (out.new.items ≡ out.old.items ++ cell_text cell) }
+{
+    let Some(piece) = cell else {
+        out.extend_from_slice(b" * ")?;
+        return Ok(());
+    };
+    out.push(sign_of(piece.color))?;
+    write_kind(out, piece.kind)
+}
+
+// An empty hand has no line.
+fn write_hand(out: &mut Vec<u8>, color: Color, hand: Hand) -> Result<(), OutOfMemory>
+    ensures { OnOk result (out.new.items ≡ out.old.items ++ flat_map ended_line (hand_items color hand)) }
+{
+    if count_held(hand) == 0 {
+        return Ok(());
+    }
+    out.push(b'P')?;
+    out.push(sign_of(color))?;
+    write_pairs(out, hand)?;
+    out.push(b'\n')?;
+    Ok(())
+}
+
+// A pair for each piece of the hand, rooks first.
+fn write_pairs(out: &mut Vec<u8>, hand: Hand) -> Result<(), OutOfMemory>
+    ensures { OnOk result (out.new.items ≡ out.old.items ++ pairs_text (hand_pairs hand)) }
+{
+    write_held(out, Kind::Rook, hand.count(Kind::Rook))?;
+    write_held(out, Kind::Bishop, hand.count(Kind::Bishop))?;
+    write_held(out, Kind::Gold, hand.count(Kind::Gold))?;
+    write_held(out, Kind::Silver, hand.count(Kind::Silver))?;
+    write_held(out, Kind::Knight, hand.count(Kind::Knight))?;
+    write_held(out, Kind::Lance, hand.count(Kind::Lance))?;
+    write_held(out, Kind::Pawn, hand.count(Kind::Pawn))?;
+    Ok(())
+}
+
+fn write_held(out: &mut Vec<u8>, kind: Kind, count: u8) -> Result<(), OutOfMemory>
+    ensures { OnOk result (out.new.items ≡ out.old.items ++ pairs_text (replicate count (InHand kind))) }
+{
+    for _ in 0..count {
+        out.extend_from_slice(b"00")?;
+        write_kind(out, kind)?;
+    }
+    Ok(())
+}
+
+fn write_kind(out: &mut Vec<u8>, kind: Kind) -> Result<(), OutOfMemory>
+    ensures { OnOk result (out.new.items ≡ out.old.items ++ kind_code kind) }
+{
+    out.extend_from_slice(kind_text(kind).as_bytes())?;
+    Ok(())
+}
+
+fn sign_of(color: Color) -> u8
+    ensures { result ≡ sign color }
+{
+    match color {
+        Color::Black => b'+',
+        Color::White => b'-',
+    }
+}
+
+// The code of a kind.
+fn kind_text(kind: Kind) -> &'static str
+    ensures { result.now ≡ kind_code kind }
+{
+    match kind {
+        Kind::Pawn => "FU",
+        Kind::Lance => "KY",
+        Kind::Knight => "KE",
+        Kind::Silver => "GI",
+        Kind::Gold => "KI",
+        Kind::Bishop => "KA",
+        Kind::Rook => "HI",
+        Kind::King => "OU",
+        Kind::ProPawn => "TO",
+        Kind::ProLance => "NY",
+        Kind::ProKnight => "NK",
+        Kind::ProSilver => "NG",
+        Kind::Horse => "UM",
+        Kind::Dragon => "RY",
+    }
+}

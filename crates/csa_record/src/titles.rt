@@ -1,0 +1,289 @@
+ghost use Rattle.std.specs.Prelude.{◌≡◌, ◌≢◌, ◌⊎◌, ◌↔◌, ℕ, ◌+◌, ◌<◌, ◌≤◌, ◌∷◌, ◌++◌, is_some, List, [], true, IsTrue, None, Some, length, map, IfSome, IfNone, IfOk, IfErr, OnOk, OnErr, MatchOption};
+ghost use Rattle.std.specs.List.{flat_map};
+ghost use Rattle.shogi_board.specs.declared.color.Color.TheVariants.{Black, White};
+ghost use Rattle.csa_text.specs.Codes.{sign};
+ghost use Rattle.csa_text.specs.Fields.{HasNone};
+ghost use Rattle.csa_text.specs.MomentParts.{moment_of};
+ghost use Rattle.csa_text.specs.Moment.{CalendarMoment, SpellsMoment, moment_text};
+ghost use Rattle.csa_record.specs.Bytes.{name_bytes};
+ghost use Rattle.csa_record.specs.Games.Answer.{IsAnswer};
+ghost use Rattle.csa_record.specs.Games.Canon.{ended_line, header_item, name_items, value_text};
+ghost use Rattle.csa_record.specs.Games.Limits.{IsName, IsOneLine, IsMomentKey, IsEntry};
+ghost use Rattle.csa_record.specs.Games.Says.{IsValue};
+ghost use Rattle.csa_record.specs.Games.Titles.{untitled, name_of, under, name_fault, header_fault, with_name, with_entry, IsWithHeader, IsTitled, shown};
+ghost use Rattle.csa_record.specs.Games.TitleBytes.{text_of, entry_of, entries_of};
+
+use crate::fault::{OrderFault, Why};
+use csa_text::{Moment, read_moment};
+use shogi_board::{Color, OutOfMemory};
+use std::alloc::Global;
+use std::collections::BTreeMap;
+use std::marker::Model;
+
+// What stands under a key.
+#[derive(Drop)]
+enum HeaderText {
+    Moment(Moment),
+    Plain(Vec<u8>),
+}
+
+type Headers = BTreeMap<Vec<u8>, HeaderText>;
+
+/// What stands under a key: a moment, or another text.
+#[derive(Clone, Copy, Debug, PartialEq, Eq)]
+pub enum HeaderValue<'a> {
+    /// The moment of `START_TIME` or `END_TIME`.
+    Moment(Moment),
+    /// The text, which is not empty and stands on one line.
+    Plain(&'a [u8]),
+}
+
+// The names and the headers of a record.
+#[derive(Drop)]
+pub(crate) struct Titles {
+    alloc: Global,
+    black: Option<Vec<u8>>,
+    white: Option<Vec<u8>>,
+    headers: Headers,
+}
+
+impl Model for Titles {
+    ghost use Rattle.csa_record.specs.Bytes.{name_bytes};
+    ghost use Rattle.csa_record.specs.Games.Titles.{Titled, IsTitled};
+    ghost use Rattle.csa_record.specs.Games.TitleBytes.{entries_of};
+
+    ghost Value = { Titled };
+
+    ghost view = { λ t. record { black = name_bytes t.black; white = name_bytes t.white; headers = entries_of t.headers.entries } };
+
+    ghost invariant = { λ t. IsTitled (record { black = name_bytes t.black; white = name_bytes t.white; headers = entries_of t.headers.entries }) };
+}
+
+impl Titles {
+    // No name and no header. It takes no memory.
+    pub(crate) fn new(alloc: Global) -> Titles
+        ensures { result ≡ untitled }
+    {
+        Titles {
+            alloc,
+            black: None,
+            white: None,
+            headers: BTreeMap::new(alloc),
+        }
+    }
+
+    // Takes that side's name. An empty name is none.
+    pub(crate) fn set_name(&mut self, color: Color, text: &[u8]) -> Result<(), Why>
+        requires one_line { IsOneLine text.now }
+        requires fits { 2 + length text.now ≤ 4096 }
+        ensures answer { IsAnswer (name_fault self.old color text.now) result }
+        ensures changed { OnOk result (self.new ≡ with_name self.old color text.now) }
+        ensures unchanged { OnErr result (self.new ≡ self.old) }
+    {
+        if text.is_empty() {
+            return Ok(());
+        }
+        match color {
+            Color::Black => fill_name(self.alloc, &mut self.black, text),
+            Color::White => fill_name(self.alloc, &mut self.white, text),
+        }
+    }
+
+    // That side's name, if it has one.
+    pub(crate) fn name(&self, color: Color) -> Option<&[u8]>
+        ensures value { MatchOption result
+            (name_of self.now color ≡ None)
+            (λ name. name_of self.now color ≡ Some name.now) }
+        ensures some { IfSome result (λ name. IsName name.now) }
+        ensures titled { IsTitled self.now }
+    {
+        let name = match color {
+            Color::Black => &self.black,
+            Color::White => &self.white,
+        };
+        match name {
+            Some(bytes) => Some(bytes.as_slice()),
+            None => None,
+        }
+    }
+
+    // Takes a header. One with an empty text is none.
+    pub(crate) fn set_header(&mut self, key: &[u8], text: &[u8]) -> Result<(), Why>
+        requires some { key.now ≢ [] }
+        requires key_line { IsOneLine key.now }
+        requires text_line { IsOneLine text.now }
+        requires no_colon { HasNone 58 key.now }
+        requires fits { 2 + length key.now + length text.now ≤ 4096 }
+        ensures answer { IsAnswer (header_fault self.old key.now text.now) result }
+        ensures changed { OnOk result (IsWithHeader self.old key.now text.now self.new) }
+        ensures unchanged { OnErr result (self.new ≡ self.old) }
+    {
+        if text.is_empty() {
+            return Ok(());
+        }
+        if let Some(fault) = self.order_fault(key) {
+            return Err(Why::Order(fault));
+        }
+        let value = value_under(self.alloc, key, text)?;
+        let key = copied(self.alloc, key)?;
+        self.put(key, value)
+    }
+
+    // Why a header of this key is refused, if its text is not empty.
+    fn order_fault(&self, key: &[u8]) -> Option<OrderFault>
+        ensures fault { (text : List ℕ) → text ≢ [] → MatchOption result
+            (header_fault self.now key.now text ≡ None)
+            (λ fault. header_fault self.now key.now text ≡ Some (Why.Order fault)) }
+        ensures none { IfNone result ((under key.now self.now.headers ≡ []) × (length self.now.headers < 64)) }
+    {
+        if self.headers.contains_key(key) {
+            return Some(OrderFault::RepeatedHeader);
+        }
+        if self.headers.len() >= 64 {
+            return Some(OrderFault::TooManyHeaders);
+        }
+        None
+    }
+
+    // Puts a header in its place.
+    fn put(&mut self, key: Vec<u8>, value: HeaderText) -> Result<(), Why>
+        requires entry { IsEntry (entry_of key value) }
+        requires new_key { under key.items self.old.headers ≡ [] }
+        requires few { length self.old.headers < 64 }
+        ensures ok { OnOk result (self.new ≡ record self.old { headers = with_entry self.old.headers (entry_of key value) }) }
+        ensures why { IfErr result (λ why. why ≡ Why.OutOfMemory) }
+        ensures unchanged { OnErr result (self.new ≡ self.old) }
+    {
+        match self.headers.insert(key, value) {
+            Ok(_) => Ok(()),
+            Err(_) => Err(Why::OutOfMemory),
+        }
+    }
+
+    // What stands under this key, if something does.
+    pub(crate) fn header(&self, key: &[u8]) -> Option<HeaderValue<'_>>
+        ensures { MatchOption result
+            (under key.now self.now.headers ≡ [])
+            (λ value. under key.now self.now.headers ≡ record { key = key.now; text = shown value } ∷ []) }
+    {
+        match self.headers.get(key) {
+            Some(HeaderText::Moment(moment)) => Some(HeaderValue::Moment(*moment)),
+            Some(HeaderText::Plain(text)) => Some(HeaderValue::Plain(text.as_slice())),
+            None => None,
+        }
+    }
+
+    // Writes the lines of the names, black's first.
+    pub(crate) fn write_names(&self, out: &mut Vec<u8>) -> Result<(), OutOfMemory>
+        ensures { OnOk result (out.new.items ≡ out.old.items
+            ++ flat_map ended_line (name_items Black self.now.black ++ name_items White self.now.white)) }
+    {
+        self.write_name(out, Color::Black)?;
+        self.write_name(out, Color::White)
+    }
+
+    fn write_name(&self, out: &mut Vec<u8>, color: Color) -> Result<(), OutOfMemory>
+        ensures { OnOk result (out.new.items ≡ out.old.items ++ flat_map ended_line (name_items color (name_of self.now color))) }
+    {
+        let Some(name) = self.name(color) else {
+            return Ok(());
+        };
+        out.extend_from_slice(&[b'N', sign_of(color)])?;
+        out.extend_from_slice(name)?;
+        out.push(b'\n')?;
+        Ok(())
+    }
+
+    // Writes the lines of the headers, in the order of their keys.
+    pub(crate) fn write_headers(&self, out: &mut Vec<u8>) -> Result<(), OutOfMemory>
+        ensures { OnOk result (out.new.items ≡ out.old.items ++ flat_map ended_line (map header_item self.now.headers)) }
+    {
+        write_entries(out, &self.headers)
+    }
+}
+
+// Sets a name that is not set yet.
+fn fill_name(alloc: Global, name: &mut Option<Vec<u8>>, text: &[u8]) -> Result<(), Why>
+    ensures ok { OnOk result ((name_bytes name.old ≡ None) × (name_bytes name.new ≡ Some text.now)) }
+    ensures why { IfErr result (λ why. (why ≡ Why.Order OrderFault.RepeatedName) × (is_some (name_bytes name.old) ≡ true)
+        ⊎ (why ≡ Why.OutOfMemory) × (name_bytes name.old ≡ None)) }
+    ensures unchanged { OnErr result (name.new ≡ name.old) }
+{
+    if name.is_some() {
+        return Err(Why::Order(OrderFault::RepeatedName));
+    }
+    *name = Some(copied(alloc, text)?);
+    Ok(())
+}
+
+// A copy of the bytes.
+fn copied(alloc: Global, bytes: &[u8]) -> Result<Vec<u8>, Why>
+    ensures ok { IfOk result (λ copy. copy.items ≡ bytes.now) }
+    ensures err { IfErr result (λ why. why ≡ Why.OutOfMemory) }
+{
+    let mut copy = Vec::new(alloc);
+    copy.extend_from_slice(bytes)?;
+    Ok(copy)
+}
+
+// What the text says under this key.
+fn value_under(alloc: Global, key: &[u8], text: &[u8]) -> Result<HeaderText, Why>
+    ensures ok { IfOk result (λ value. IsValue key.now text.now (text_of value)) }
+    ensures err { IfErr result (λ why. why ≡ Why.OutOfMemory) }
+{
+    match moment_under(key, text) {
+        Some(moment) => Ok(HeaderText::Moment(moment)),
+        None => Ok(HeaderText::Plain(copied(alloc, text)?)),
+    }
+}
+
+// The moment, where one may stand under this key and the text spells one.
+fn moment_under(key: &[u8], text: &[u8]) -> Option<Moment>
+    ensures { MatchOption result
+        (IsMomentKey key.now → (m : CalendarMoment) → SpellsMoment text.now m → ⊥)
+        (λ m. IsMomentKey key.now × SpellsMoment text.now (moment_of m)) }
+{
+    if !is_moment_key(key) {
+        return None;
+    }
+    read_moment(text)
+}
+
+// A moment may stand under this key.
+fn is_moment_key(key: &[u8]) -> bool
+    ensures { IsTrue result ↔ IsMomentKey key.now }
+{
+    key == b"START_TIME".as_slice() || key == b"END_TIME".as_slice()
+}
+
+fn sign_of(color: Color) -> u8
+    ensures { result ≡ sign color }
+{
+    match color {
+        Color::Black => b'+',
+        Color::White => b'-',
+    }
+}
+
+fn write_entries(out: &mut Vec<u8>, headers: &Headers) -> Result<(), OutOfMemory>
+    ensures { OnOk result (out.new.items ≡ out.old.items ++ flat_map ended_line (map header_item (entries_of headers.now.entries))) }
+{
+    for (key, text) in headers {
+        out.push(b'$')?;
+        out.extend_from_slice(key.as_slice())?;
+        out.push(b':')?;
+        write_text(out, text)?;
+        out.push(b'\n')?;
+    }
+    Ok(())
+}
+
+fn write_text(out: &mut Vec<u8>, text: &HeaderText) -> Result<(), OutOfMemory>
+    ensures { OnOk result (out.new.items ≡ out.old.items ++ value_text (text_of text.now)) }
+{
+    match text {
+        HeaderText::Moment(moment) => out.extend_from_slice(moment.text().as_bytes())?,
+        HeaderText::Plain(bytes) => out.extend_from_slice(bytes.as_slice())?,
+    }
+    Ok(())
+}

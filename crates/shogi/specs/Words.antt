@@ -1,0 +1,18 @@
+-- The words that the program takes and prints.
+use Rattle.std.specs.Prelude.{◌≢◌, ℕ, List, Option, Some, codes}
+use Rattle.shogi_board.specs.declared.color.Color.TheVariants.{Black, White}
+use Rattle.shogi_rules.specs.declared.line.Verdict.{Verdict}
+use Rattle.shogi_rules.specs.declared.line.Verdict.TheVariants.{Ongoing, Mate, NoMove, Repetition, Perpetual}
+
+-- none of the commands
+abbrev pub IsNoCommand : Option (List ℕ) → Type 0
+IsNoCommand name = (name ≢ Some (codes "check")) × (name ≢ Some (codes "normal")) × (name ≢ Some (codes "usi")) × (name ≢ Some (codes "csa"))
+
+-- how a line stands; of a perpetual check with the sign of the side that lost
+abbrev pub word_of : Verdict → List ℕ
+word_of Ongoing = codes "ongoing"
+word_of Mate = codes "mate"
+word_of NoMove = codes "no-move"
+word_of Repetition = codes "repetition"
+word_of (Perpetual Black) = codes "perpetual+"
+word_of (Perpetual White) = codes "perpetual-"

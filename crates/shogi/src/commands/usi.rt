@@ -1,0 +1,36 @@
+//! `shogi usi [FILE]`: the position line of a record.
+
+ghost use Rattle.std.specs.Prelude.{◌≢◌, IfErr};
+
+use crate::fault::Fault;
+use crate::streams;
+use clap::{ArgMatches, Command};
+use std::alloc::{AllocError, Global};
+use std::io;
+use std::rt::Files;
+
+/// The command's word.
+pub const NAME: &str = "usi";
+
+/// The command's own words: a file, which may be absent.
+pub fn command<'a>(alloc: Global) -> Result<Command<'a>, AllocError> {
+    Command::new(alloc, NAME)
+        .about("Prints the USI position line of a record")
+        .arg(streams::file(
+            alloc,
+            "The record; without it, or with -, standard input is read",
+        ))
+}
+
+/// Prints the position line of the record's start and moves, and LF.
+pub fn run<R: Files + Input + Print + AllocGlobal>(
+    rt: &R,
+    words: &ArgMatches<'_>,
+) -> Result<(), Fault>
+    ensures faults { IfErr result (λ fault. (fault ≢ Fault.WordsNotText) × (fault ≢ Fault.UnknownCommand)) }
+{
+    let record = streams::record(rt, words)?;
+    let mut line = usi_text::position_line(rt.alloc(), record.line())?;
+    line.push(b'\n')?;
+    streams::write_all(&mut io::writer(rt), line.as_slice())
+}

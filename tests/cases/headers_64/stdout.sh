@@ -1,0 +1,1 @@
+printf 'V2.2\n'; seq 10 73 | sed 's/.*/$K&:x/'; printf 'PI\n+\n'

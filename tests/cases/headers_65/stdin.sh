@@ -1,0 +1,1 @@
+seq 10 74 | sed 's/.*/$K&:x/'; printf '+\n'

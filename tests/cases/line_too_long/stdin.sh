@@ -1,0 +1,1 @@
+printf 'position startpos'; head -c 65520 /dev/zero | tr '\0' ' '; printf '\n'

@@ -1,0 +1,2 @@
+# Prints the line of the record.
+cat "${0%/*}/../usi/stdout"

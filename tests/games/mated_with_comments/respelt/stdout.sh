@@ -1,0 +1,2 @@
+# The same as of the record.
+cat "${0%/*}/../normal/stdout"
