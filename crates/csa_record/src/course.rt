@@ -4,11 +4,11 @@ ghost use Rattle.shogi_rules.specs.Play.{Answers};
 ghost use Rattle.shogi_rules.specs.Positions.{IsGame, max_moves};
 ghost use Rattle.csa_text.specs.Spelling.{time};
 ghost use Rattle.csa_record.specs.declared.fault.Why.{Why};
-ghost use Rattle.csa_record.specs.Games.Answer.{IsAnswer};
-ghost use Rattle.csa_record.specs.Games.Canon.{ended_line, fraction_text};
-ghost use Rattle.csa_record.specs.Games.Course.{IsCourse, PlayAnswers, line_of, untimed, play_fault, close_fault, awaits_time, time_fault, with_time, with_ending, time_at, ending_of, ending_time_of};
-ghost use Rattle.csa_record.specs.Games.Coursing.{timed, ended, lacks_last, with_last, played_why, NotPlayed};
-ghost use Rattle.csa_record.specs.Games.Says.{move_items, time_items, ending_items};
+ghost use Rattle.csa_record.specs.Answer.{IsAnswer};
+ghost use Rattle.csa_record.specs.Canon.{ended_line, fraction_text};
+ghost use Rattle.csa_record.specs.Course.{IsCourse, PlayAnswers, line_of, untimed, play_fault, close_fault, awaits_time, time_fault, with_time, with_ending, time_at, ending_of, ending_time_of};
+ghost use Rattle.csa_record.specs.Coursing.{timed, ended, lacks_last, with_last, played_why, NotPlayed};
+ghost use Rattle.csa_record.specs.Says.{move_items, time_items, ending_items};
 
 use crate::fault::{OrderFault, Why};
 use csa_text::{Ending, csa_move};
@@ -35,8 +35,8 @@ pub(crate) struct Course {
 }
 
 impl Model for Course {
-    ghost use Rattle.csa_record.specs.Games.Course as told;
-    ghost use Rattle.csa_record.specs.Games.Coursing.{course_of, IsKept};
+    ghost use Rattle.csa_record.specs.Course as told;
+    ghost use Rattle.csa_record.specs.Coursing.{course_of, IsKept};
 
     ghost Value = { told.Course };
 
@@ -328,14 +328,9 @@ fn write_fraction(out: &mut Vec<u8>, n: u64) -> Result<(), OutOfMemory>
     if n % 100 == 0 {
         out.extend_from_slice(&[b'.', digit(n / 100)])?;
     } else if n % 10 == 0 {
-        out.extend_from_slice(&[b'.', digit(n / 10 / 10), digit(n / 10 % 10)])?;
+        out.extend_from_slice(&[b'.', digit(n / 100), digit(n / 10 % 10)])?;
     } else {
-        out.extend_from_slice(&[
-            b'.',
-            digit(n / 100),
-            digit(n % 100 / 10),
-            digit(n % 100 % 10),
-        ])?;
+        out.extend_from_slice(&[b'.', digit(n / 100), digit(n / 10 % 10), digit(n % 10)])?;
     }
     Ok(())
 }

@@ -1,8 +1,8 @@
-ghost use Rattle.std.specs.Prelude.{◌≡◌, ◌≢◌, ℕ, ◌+◌, ◌-◌, ◌^◌, ◌<◌, ◌≤◌, List, [], IfOk, IfErr, OnOk, OnErr, IsErrOf};
+ghost use Rattle.std.specs.Prelude.{◌≡◌, ◌≢◌, true, ℕ, ◌+◌, ◌-◌, ◌^◌, ◌<◌, ◌≤◌, List, [], IfOk, IfErr, OnOk, OnErr, IsErrOf};
 ghost use Rattle.std.specs.Io.KnownBytes.{Keeps};
 ghost use Rattle.csa_record.specs.declared.flow.FlowFault.{FlowFault};
-ghost use Rattle.csa_record.specs.Games.Flow.{fault_of, IsTold, IsRefusal, IsFaultless, FailsRead, IsReadFault, ReadsRecord, FeedsNext, IsFedAll, IsTextFault, TellsText, IsNormal, IsCutShort, IsFlowFault};
-ghost use Rattle.csa_record.specs.Games.Reading.{HasRead, fed_of};
+ghost use Rattle.csa_record.specs.Flow.{fault_of, IsTold, IsRefusal, IsFaultless, FailsRead, IsReadFault, ReadsRecord, FeedsNext, IsFedAll, IsTextFault, TellsText, IsNormal, IsCutShort, IsFlowFault, IsWanting};
+ghost use Rattle.csa_record.specs.Reading.{HasRead, fed_of};
 
 use crate::fault::{Refusal, Why};
 use crate::record::Record;
@@ -51,6 +51,7 @@ impl From<Refusal> for FlowFault {
 ///
 /// The source is read at most 16,777,216 times, for 4,096 bytes each time. Refuses ReadFault where a
 /// read fails or the end has not come by then, and OutOfMemory where a growth of memory was refused.
+/// To be called where the source has failed fewer than 2^64 - 1 times so far.
 pub fn read_from<S: Source>(alloc: Global, source: &mut S) -> Result<Record, FlowFault>
     requires { S.failed source.old < 2 ^ 64 - 1 }
     // The bytes that the source gave up to its end tell the game.
@@ -69,7 +70,8 @@ pub fn read_from<S: Source>(alloc: Global, source: &mut S) -> Result<Record, Flo
 /// Writes the canonical text of the record that a source gives to a sink, and flushes the sink.
 ///
 /// The whole record is read and accepted before anything is written. Refuses as `read_from` does;
-/// then OutOfMemory; then WriteFault where the sink fails.
+/// then OutOfMemory; then WriteFault where the sink fails. To be called where the source and the sink
+/// each have failed fewer than 2^64 - 1 times so far.
 pub fn normalise<S: Source, T: Sink>(
     alloc: Global,
     source: &mut S,
@@ -83,11 +85,14 @@ pub fn normalise<S: Source, T: Sink>(
     ensures read_fault { IsErrOf result FlowFault.ReadFault
         → FailsRead (S.known source.old) (S.known source.new) (S.failed source.old) (S.failed source.new) }
     ensures quiet { (IsErrOf result FlowFault.ReadFault → ⊥) → S.failed source.new ≡ S.failed source.old }
+    // The sink has sent on all that it took.
+    ensures settled { OnOk result (T.settled sink.new ≡ true) }
     // A write fails only where a game is told, and what was written is the front of its text.
     ensures cut_short { IsErrOf result FlowFault.WriteFault
         → IsCutShort (S.known source.old) (S.known source.new) (T.held sink.old) (T.held sink.new) }
     ensures write_fault { IsErrOf result FlowFault.WriteFault → T.failed sink.new ≡ T.failed sink.old + 1 }
     ensures sink_quiet { (IsErrOf result FlowFault.WriteFault → ⊥) → T.failed sink.new ≡ T.failed sink.old }
+    ensures memory { IsErrOf result FlowFault.OutOfMemory → IsWanting (S.known source.old) (S.known source.new) }
     ensures unwritten { IfErr result (λ fault. fault ≢ FlowFault.WriteFault → Keeps (T.held sink.old) (T.held sink.new)) }
 {
     pass(alloc, source, sink)
@@ -99,6 +104,7 @@ fn pass<S: Source, T: Sink>(alloc: Global, source: &mut S, sink: &mut T) -> Resu
     ensures ok { OnOk result (IsNormal (S.known source.old) (S.known source.new) (T.held sink.old) (T.held sink.new)) }
     ensures quiet { OnOk result (S.failed source.new ≡ S.failed source.old) }
     ensures sink_quiet { OnOk result (T.failed sink.new ≡ T.failed sink.old) }
+    ensures settled { OnOk result (T.settled sink.new ≡ true) }
     ensures fault { IfErr result (IsFlowFault (S.known source.old) (S.known source.new) (T.held sink.old) (T.held sink.new)
         (S.failed source.old) (S.failed source.new) (T.failed sink.old) (T.failed sink.new)) }
 {

@@ -1,15 +1,16 @@
 //! Laws of the definitions that the contracts of this crate cite. They take and give nothing.
 
 ghost use Rattle.std.specs.Prelude.{◌≡◌, ◌⊎◌, ◌↔◌, ℕ, List, [], Ok, drop, filter};
-ghost use Rattle.csa_record.specs.Games.Canon.{canon};
-ghost use Rattle.csa_record.specs.Games.Game.{Game};
-ghost use Rattle.csa_record.specs.Games.Items.{is_even, positions};
-ghost use Rattle.csa_record.specs.Games.Limits.{IsGame};
-ghost use Rattle.csa_record.specs.Games.Placing as placing;
-ghost use Rattle.csa_record.specs.Games.Placings.{placings};
-ghost use Rattle.csa_record.specs.Games.Refused.{Refused, ToldAlone, RefusedAlone};
-ghost use Rattle.csa_record.specs.Games.Tells.{Tells};
-ghost use Rattle.csa_record.specs.Games.Union.{GiveStart, IsUnion, first_board, rest_given, with_rest_given};
+ghost use Rattle.csa_record.specs.Canon.{canon};
+ghost use Rattle.csa_record.specs.Game.{Game};
+ghost use Rattle.csa_record.specs.Items.{is_even, positions};
+ghost use Rattle.csa_record.specs.Limits.{IsGame};
+ghost use Rattle.csa_record.specs.Placing as placing;
+ghost use Rattle.csa_record.specs.Placings.{placings};
+ghost use Rattle.csa_record.specs.Rearranged.{IsRearranged};
+ghost use Rattle.csa_record.specs.Refused.{Refused, ToldAlone, RefusedAlone};
+ghost use Rattle.csa_record.specs.Tells.{Tells};
+ghost use Rattle.csa_record.specs.Union.{GiveStart, IsUnion, first_board, rest_given, with_rest_given};
 ghost use Rattle.csa_text.specs.Spelling.{Saying, Spells};
 ghost use Rattle.shogi_board.specs.Layout.{Layout};
 ghost use Rattle.shogi_board.specs.Setup.{position_of};
@@ -36,6 +37,15 @@ pub fn canon_equal()
 /// Bytes tell one game at most.
 pub fn one_game()
     ensures { (source : List ℕ) (g h : Game) → Tells source g → Tells source h → g ≡ h }
+{}
+
+/// Records whose items differ only in a version, in where names and headers stand, and in the order of the headers, tell
+/// one game, and so have one canonical text. Comments are no items, so they may differ too.
+pub fn headers_anywhere()
+    ensures game { (source other : List ℕ) (g h : Game) (told : Tells source g) (again : Tells other h)
+        → IsRearranged told.sayings again.sayings → g ≡ h }
+    ensures text { (source other : List ℕ) (g h : Game) (told : Tells source g) (again : Tells other h)
+        → IsRearranged told.sayings again.sayings → canon g ≡ canon h }
 {}
 
 /// Bytes are refused in one way at most: at one statement, at one offset, for one reason.

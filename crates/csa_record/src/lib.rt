@@ -23,20 +23,18 @@ pub use record::Record;
 pub use record_reader::{RecordReader, read};
 pub use sink::{Sink, Writing};
 pub use source::{Failure, Reading, Source};
-pub use titles::HeaderValue;
+pub use titles::{HeaderValue, MAX_HEADERS};
 pub use writer::write;
 
 #[cfg(test)]
-mod course_tests;
+mod cut_tests;
 #[cfg(test)]
 mod flow_tests;
 #[cfg(test)]
-mod laying_tests;
+mod growth_tests;
+#[cfg(test)]
+mod long_tests;
 #[cfg(test)]
 mod reading_tests;
 #[cfg(test)]
-mod start_writer_tests;
-#[cfg(test)]
 mod tests;
-#[cfg(test)]
-mod titles_tests;

@@ -1,17 +1,17 @@
-ghost use Rattle.std.specs.Prelude.{◌≡◌, ℕ, ◌+◌, ◌≤◌, [], ◌∷◌, ◌++◌, List, length, Option, Some, None, Ok, Err, MatchResult, MatchOption};
+ghost use Rattle.std.specs.Prelude.{◌≡◌, ℕ, ◌+◌, ◌≤◌, [], ◌∷◌, ◌++◌, List, length, Option, Some, None, Ok, Err, MatchResult, MatchOption, true};
 ghost use Rattle.std.specs.List.{AllByRecursion};
 ghost use Rattle.shogi_board.specs.Setup.{position_of};
 ghost use Rattle.csa_text.specs.Saying.{saying_of, pairs_of};
 ghost use Rattle.csa_text.specs.Spelling.{Saying, version, name, header, even, rank, pieces, turn, walked, time, ending};
 ghost use Rattle.csa_record.specs.declared.fault.Why.{Why};
-ghost use Rattle.csa_record.specs.Games.Answer.{IsAnswer};
-ghost use Rattle.csa_record.specs.Games.Fits.{Fits, IsHeaderLine, IsOfStatement};
-ghost use Rattle.csa_record.specs.Games.Items.{sides};
-ghost use Rattle.csa_record.specs.Games.Keeping.{Keeps, TakenOrRefused};
-ghost use Rattle.csa_record.specs.Games.Limits.{IsOneLine};
-ghost use Rattle.csa_record.specs.Games.Outcome.{Outcome, IsWritten, late};
-ghost use Rattle.csa_record.specs.Games.Refused.{Finishes};
-ghost use Rattle.csa_record.specs.Games.Says.{Says};
+ghost use Rattle.csa_record.specs.Answer.{IsAnswer};
+ghost use Rattle.csa_record.specs.Fits.{Fits, IsHeaderLine, IsOfStatement};
+ghost use Rattle.csa_record.specs.Items.{sides};
+ghost use Rattle.csa_record.specs.Keeping.{Keeps, TakenOrRefused};
+ghost use Rattle.csa_record.specs.Limits.{IsOneLine};
+ghost use Rattle.csa_record.specs.Outcome.{Outcome, IsWritten, late};
+ghost use Rattle.csa_record.specs.Refused.{Finishes};
+ghost use Rattle.csa_record.specs.Says.{Says};
 
 use crate::course::Course;
 use crate::fault::{OrderFault, Why};
@@ -41,8 +41,8 @@ pub(crate) struct Progress {
 }
 
 impl Model for Progress {
-    ghost use Rattle.csa_record.specs.Games.Keeping.{Kept};
-    ghost use Rattle.csa_record.specs.Games.KeptStage.{stage_of};
+    ghost use Rattle.csa_record.specs.Keeping.{Kept};
+    ghost use Rattle.csa_record.specs.KeptStage.{stage_of};
 
     ghost Value = { Kept };
 
@@ -88,12 +88,12 @@ impl Progress {
         self.take(item)
     }
 
-    // Takes the next item, or says why it does not fit.
+    // Takes the next item, or says why it does not fit. Only here it is marked that something was said.
     fn take(&mut self, item: Item<'_>) -> Result<(), Why>
         requires { Fits (saying_of item) }
         ensures { (before : List Saying) → Keeps before self.old → TakenOrRefused before (saying_of item.entry) result self.new }
     {
-        match item {
+        let taken = match item {
             Item::Version => self.take_version(),
             Item::Name(color, text) => self.take_name(color, text),
             Item::Header(key, text) => self.take_header(key, text),
@@ -104,40 +104,38 @@ impl Progress {
             Item::Walked(color, mv) => self.take_move(color, mv),
             Item::Time(thousandths) => self.take_time(thousandths),
             Item::Ending(ending) => self.take_ending(ending),
-        }
+        };
+        self.begun = true;
+        taken
     }
 
     fn take_version(&mut self) -> Result<(), Why>
-        ensures { (before : List Saying) → Keeps before self.old → TakenOrRefused before version result self.new }
+        ensures { (before : List Saying) → Keeps before self.old → TakenOrRefused before version result (record self.new { begun = true }) }
     {
         if self.begun {
             return Err(Why::Order(OrderFault::VersionOutOfPlace));
         }
-        self.begun = true;
         Ok(())
     }
 
     fn take_name(&mut self, color: Color, text: &[u8]) -> Result<(), Why>
         requires one_line { IsOneLine text.now }
         requires fits { 2 + length text.now ≤ 4096 }
-        ensures { (before : List Saying) → Keeps before self.old → TakenOrRefused before (name color text.now) result self.new }
+        ensures { (before : List Saying) → Keeps before self.old → TakenOrRefused before (name color text.now) result (record self.new { begun = true }) }
     {
-        self.begun = true;
         self.titles.set_name(color, text)
     }
 
     fn take_header(&mut self, key: &[u8], text: &[u8]) -> Result<(), Why>
         requires { IsHeaderLine key.now text.now }
-        ensures { (before : List Saying) → Keeps before self.old → TakenOrRefused before (header key.now text.now) result self.new }
+        ensures { (before : List Saying) → Keeps before self.old → TakenOrRefused before (header key.now text.now) result (record self.new { begun = true }) }
     {
-        self.begun = true;
         self.titles.set_header(key, text)
     }
 
     fn take_even(&mut self, pairs: Pairs<'_>) -> Result<(), Why>
-        ensures { (before : List Saying) → Keeps before self.old → TakenOrRefused before (even (pairs_of pairs.entry)) result self.new }
+        ensures { (before : List Saying) → Keeps before self.old → TakenOrRefused before (even (pairs_of pairs.entry)) result (record self.new { begun = true }) }
     {
-        self.begun = true;
         match &mut self.stage {
             Stage::Laying(laying) => laying.lay_even(pairs),
             Stage::Playing(course) => Err(late_in(course, OrderFault::PositionLate)),
@@ -147,9 +145,8 @@ impl Progress {
     fn take_rank(&mut self, number: u8, cells: &[Option<Piece>; 9]) -> Result<(), Why>
         requires low { 1 ≤ number }
         requires high { number ≤ 9 }
-        ensures { (before : List Saying) → Keeps before self.old → TakenOrRefused before (rank number cells.now) result self.new }
+        ensures { (before : List Saying) → Keeps before self.old → TakenOrRefused before (rank number cells.now) result (record self.new { begun = true }) }
     {
-        self.begun = true;
         match &mut self.stage {
             Stage::Laying(laying) => laying.lay_rank(number, cells),
             Stage::Playing(course) => Err(late_in(course, OrderFault::PositionLate)),
@@ -157,9 +154,8 @@ impl Progress {
     }
 
     fn take_pieces(&mut self, color: Color, pairs: Pairs<'_>) -> Result<(), Why>
-        ensures { (before : List Saying) → Keeps before self.old → TakenOrRefused before (pieces color (pairs_of pairs.entry)) result self.new }
+        ensures { (before : List Saying) → Keeps before self.old → TakenOrRefused before (pieces color (pairs_of pairs.entry)) result (record self.new { begun = true }) }
     {
-        self.begun = true;
         match &mut self.stage {
             Stage::Laying(laying) => laying.lay_pieces(color, pairs),
             Stage::Playing(course) => Err(late_in(course, OrderFault::PositionLate)),
@@ -167,9 +163,8 @@ impl Progress {
     }
 
     fn take_turn(&mut self, color: Color) -> Result<(), Why>
-        ensures { (before : List Saying) → Keeps before self.old → TakenOrRefused before (turn color) result self.new }
+        ensures { (before : List Saying) → Keeps before self.old → TakenOrRefused before (turn color) result (record self.new { begun = true }) }
     {
-        self.begun = true;
         let started = match &self.stage {
             Stage::Laying(laying) => course_from(self.alloc, laying, color),
             Stage::Playing(course) => Err(late_in(course, OrderFault::RepeatedTurn)),
@@ -184,9 +179,8 @@ impl Progress {
     }
 
     fn take_move(&mut self, color: Color, mv: Move) -> Result<(), Why>
-        ensures { (before : List Saying) → Keeps before self.old → TakenOrRefused before (walked color mv) result self.new }
+        ensures { (before : List Saying) → Keeps before self.old → TakenOrRefused before (walked color mv) result (record self.new { begun = true }) }
     {
-        self.begun = true;
         match &mut self.stage {
             Stage::Laying(_) => Err(Why::Order(OrderFault::MoveBeforeTurn)),
             Stage::Playing(course) => course.play(color, mv),
@@ -195,9 +189,8 @@ impl Progress {
 
     fn take_time(&mut self, thousandths: u64) -> Result<(), Why>
         requires { thousandths ≤ 4294967295999 }
-        ensures { (before : List Saying) → Keeps before self.old → TakenOrRefused before (time thousandths) result self.new }
+        ensures { (before : List Saying) → Keeps before self.old → TakenOrRefused before (time thousandths) result (record self.new { begun = true }) }
     {
-        self.begun = true;
         match &mut self.stage {
             Stage::Laying(_) => Err(Why::Order(OrderFault::LooseTime)),
             Stage::Playing(course) => course.set_time(thousandths),
@@ -205,9 +198,8 @@ impl Progress {
     }
 
     fn take_ending(&mut self, how: Ending) -> Result<(), Why>
-        ensures { (before : List Saying) → Keeps before self.old → TakenOrRefused before (ending how) result self.new }
+        ensures { (before : List Saying) → Keeps before self.old → TakenOrRefused before (ending how) result (record self.new { begun = true }) }
     {
-        self.begun = true;
         match &mut self.stage {
             Stage::Laying(_) => Err(Why::Order(OrderFault::MoveBeforeTurn)),
             Stage::Playing(course) => course.close(how),

@@ -52,11 +52,51 @@ fn fails_again(rt: HostRuntime) -> Result<(), Fail> {
 }
 
 #[test]
+fn feed_fails_again(rt: HostRuntime) -> Result<(), Fail> {
+    let mut reader = RecordReader::new(rt.alloc());
+    let Err(_) = reader.feed(MATES) else {
+        panic!(rt; "a mating pawn drop was taken");
+    };
+    let failed = Refusal {
+        number: 4,
+        offset: 28,
+        why: Why::Failed,
+    };
+    assert_eq!(rt; reader.feed(b"T1\n"), Err(failed));
+    Ok(())
+}
+
+// Where `PI`, `+` and a gold's move from 77 are refused.
+fn wrong_kind() -> Refusal {
+    Refusal {
+        number: 3,
+        offset: 5,
+        why: Why::Rule(Rule::WrongKind),
+    }
+}
+
+#[test]
+fn a_statement_is_refused_at_its_line_end(rt: HostRuntime) -> Result<(), Fail> {
+    let mut reader = RecordReader::new(rt.alloc());
+    assert_eq!(rt; reader.feed(b"PI\n+\n+7776KI\n"), Err(wrong_kind()));
+    Ok(())
+}
+
+#[test]
+fn an_open_statement_is_refused_at_the_end(rt: HostRuntime) -> Result<(), Fail> {
+    let mut reader = RecordReader::new(rt.alloc());
+    assert_eq!(rt; reader.feed(b"PI\n+\n+7776KI"), Ok(()));
+    assert_eq!(rt; reader.finish().err(), Some(wrong_kind()));
+    Ok(())
+}
+
+#[test]
 fn laws_are_called() {
     laws::told_once();
     laws::canon_tells();
     laws::canon_equal();
     laws::one_game();
+    laws::headers_anywhere();
     laws::one_refusal();
     laws::laid_out();
     laws::union_placed();

@@ -1,12 +1,12 @@
 ghost use Rattle.std.specs.Prelude.{◌≡◌, ◌≢◌, ◌≤◌, ◌+◌, ◌++◌, ◌∷◌, ◌↔◌, [], length, map, Option, Some, None, IsOk, IfOk, IfErr, IfSome, OnOk, OnErr, MatchOption};
 ghost use Rattle.csa_text.specs.Fields.{HasNone};
 ghost use Rattle.csa_record.specs.declared.fault.Why.{Why};
-ghost use Rattle.csa_record.specs.Games.Answer.{IsAnswer};
-ghost use Rattle.csa_record.specs.Games.Building.{titled_of, course_of, game_of, with_titled, with_course, game_along};
-ghost use Rattle.csa_record.specs.Games.Course.{PlayAnswers, untimed, time_fault, close_fault, with_time, with_ending, time_at, ending_of, ending_time_of};
-ghost use Rattle.csa_record.specs.Games.Game.{move_of};
-ghost use Rattle.csa_record.specs.Games.Limits.{IsGame, IsName, IsOneLine};
-ghost use Rattle.csa_record.specs.Games.Titles.{IsWithHeader, name_of, name_fault, header_fault, with_name, under, shown};
+ghost use Rattle.csa_record.specs.Answer.{IsAnswer};
+ghost use Rattle.csa_record.specs.Building.{titled_of, course_of, game_of, with_titled, with_course, game_along};
+ghost use Rattle.csa_record.specs.Course.{PlayAnswers, untimed, time_fault, close_fault, with_time, with_ending, time_at, ending_of, ending_time_of};
+ghost use Rattle.csa_record.specs.Game.{move_of};
+ghost use Rattle.csa_record.specs.Limits.{IsGame, IsName, IsOneLine};
+ghost use Rattle.csa_record.specs.Titles.{IsWithHeader, name_of, name_fault, header_fault, with_name, under, shown};
 
 use crate::course::Course;
 use crate::fault::Why;
@@ -26,9 +26,9 @@ pub struct Record {
 }
 
 impl Model for Record {
-    ghost use Rattle.csa_record.specs.Games.Building.{game_of};
-    ghost use Rattle.csa_record.specs.Games.Game.{Game};
-    ghost use Rattle.csa_record.specs.Games.Limits.{IsGame};
+    ghost use Rattle.csa_record.specs.Building.{game_of};
+    ghost use Rattle.csa_record.specs.Game.{Game};
+    ghost use Rattle.csa_record.specs.Limits.{IsGame};
 
     ghost Value = { Game };
 

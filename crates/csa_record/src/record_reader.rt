@@ -1,11 +1,11 @@
 ghost use Rattle.std.specs.Prelude.{◌≡◌, ◌≢◌, ℕ, ◌+◌, ◌^◌, ◌<◌, ◌≤◌, [], ◌++◌, List, length, Some, None, Ok, Err, IfSome, IfOk, IfErr, OnOk, IsErrOf};
 ghost use Rattle.csa_text.specs.Spelling.{Saying};
-ghost use Rattle.csa_record.specs.Games.Fits.{IsOfStatement};
-ghost use Rattle.csa_record.specs.Games.Keeping.{Keeps};
-ghost use Rattle.csa_record.specs.Games.Outcome.{Outcome};
-ghost use Rattle.csa_record.specs.Games.Reading.{HasRead, HasTaken, IsRefusedBy, fed_of, NextTaken, LastTaken};
-ghost use Rattle.csa_record.specs.Games.Refused.{Refused, FaultlessTo};
-ghost use Rattle.csa_record.specs.Games.Tells.{Tells};
+ghost use Rattle.csa_record.specs.Fits.{IsOfStatement};
+ghost use Rattle.csa_record.specs.Keeping.{Keeps};
+ghost use Rattle.csa_record.specs.Outcome.{Outcome};
+ghost use Rattle.csa_record.specs.Reading.{HasRead, HasTaken, IsRefusedBy, fed_of, NextTaken, LastTaken};
+ghost use Rattle.csa_record.specs.Refused.{Refused, FaultlessTo};
+ghost use Rattle.csa_record.specs.Tells.{Tells};
 
 use crate::fault::{OrderFault, Refusal, Why};
 use crate::progress::Progress;
@@ -14,11 +14,25 @@ use csa_text::{PieceCutter, Statement};
 use std::alloc::Global;
 use std::marker::Model;
 
-// What a refused reader answers again, and how many bytes were fed before.
+// The statement at which a reader was refused, and how many bytes were fed before.
 #[derive(Clone, Copy, Debug, PartialEq, Eq)]
 struct Failing {
-    refusal: Refusal,
+    number: u64,
+    offset: u64,
     fed: u64,
+}
+
+impl Failing {
+    // What a refused reader answers.
+    fn refusal(&self) -> Refusal
+        ensures { result ≡ record { number = self.now.number; offset = self.now.offset; why = Why.Failed } }
+    {
+        Refusal {
+            number: self.number,
+            offset: self.offset,
+            why: Why::Failed,
+        }
+    }
 }
 
 /// Reads a record whose bytes come in pieces.
@@ -34,8 +48,8 @@ pub struct RecordReader {
 }
 
 impl Model for RecordReader {
-    ghost use Rattle.csa_record.specs.Games.Reading as told;
-    ghost use Rattle.csa_record.specs.Games.FailingOf.{failing_of};
+    ghost use Rattle.csa_record.specs.Reading as told;
+    ghost use Rattle.csa_record.specs.FailingOf.{failing_of};
 
     ghost Value = { told.Reading };
 
@@ -57,6 +71,7 @@ impl RecordReader {
     /// How many bytes the calls of `feed` took that were not refused.
     pub fn fed(&self) -> u64
         ensures count { result ≡ fed_of self.now }
+        ensures bytes { (source : List ℕ) → HasRead source self.now → result ≡ length source }
     {
         match self.failing {
             Some(failing) => failing.fed,
@@ -78,20 +93,18 @@ impl RecordReader {
         ensures memory { (source more : List ℕ) → HasRead source self.old
             → IfErr result (λ r. r.why ≡ Why.OutOfMemory → FaultlessTo ((source ++ piece.now) ++ more) r.number r.offset) }
         ensures failed { (source : List ℕ) → HasRead source self.old
-            → IfErr result (λ r. self.new.failing ≡ Some (record { refusal = record { number = r.number; offset = r.offset; why = Why.Failed }; fed = length source })) }
-        ensures again { IfSome self.old.failing (λ f. IsErrOf result f.refusal × (self.new ≡ self.old)) }
+            → IfErr result (λ r. self.new.failing ≡ Some (record { number = r.number; offset = r.offset; fed = length source })) }
+        ensures first { (source : List ℕ) → HasRead source self.old → IfErr result (λ r. r.why ≢ Why.Failed) }
+        ensures again { IfSome self.old.failing (λ f. IsErrOf result (record { number = f.number; offset = f.offset; why = Why.Failed }) × (self.new ≡ self.old)) }
     {
         if let Some(failing) = self.failing {
-            return Err(failing.refusal);
+            return Err(failing.refusal());
         }
         let fed = self.cutter.fed();
         if let Err(refusal) = self.take_piece(piece) {
             self.failing = Some(Failing {
-                refusal: Refusal {
-                    number: refusal.number,
-                    offset: refusal.offset,
-                    why: Why::Failed,
-                },
+                number: refusal.number,
+                offset: refusal.offset,
                 fed,
             });
             return Err(refusal);
@@ -146,10 +159,11 @@ impl RecordReader {
             → IfErr result (λ r. r.why ≢ Why.OutOfMemory → Refused source r.number r.offset r.why) }
         ensures memory { (source : List ℕ) → HasRead source self
             → IfErr result (λ r. r.why ≡ Why.OutOfMemory → FaultlessTo source r.number r.offset) }
-        ensures again { IfSome self.failing (λ f. IsErrOf result f.refusal) }
+        ensures first { (source : List ℕ) → HasRead source self → IfErr result (λ r. r.why ≢ Why.Failed) }
+        ensures again { IfSome self.failing (λ f. IsErrOf result (record { number = f.number; offset = f.offset; why = Why.Failed })) }
     {
         if let Some(failing) = self.failing {
-            return Err(failing.refusal);
+            return Err(failing.refusal());
         }
         let RecordReader {
             mut cutter,
@@ -181,6 +195,7 @@ pub fn read(alloc: Global, source: &[u8]) -> Result<Record, Refusal>
     ensures told { IfOk result (λ g. Tells source.now g) }
     ensures refused { IfErr result (λ r. r.why ≢ Why.OutOfMemory → Refused source.now r.number r.offset r.why) }
     ensures memory { IfErr result (λ r. r.why ≡ Why.OutOfMemory → FaultlessTo source.now r.number r.offset) }
+    ensures first { IfErr result (λ r. r.why ≢ Why.Failed) }
 {
     let mut reader = RecordReader::new(alloc);
     match reader.feed(source) {

@@ -1,9 +1,9 @@
-ghost use Rattle.std.specs.Prelude.{◌≡◌, ℕ, ◌+◌, ◌-◌, ◌^◌, ◌<◌, ◌≤◌, List, length, Option, IfOk, OnOk, OnErr};
+ghost use Rattle.std.specs.Prelude.{◌≡◌, Bool, true, false, ℕ, ◌+◌, ◌-◌, ◌^◌, ◌<◌, ◌≤◌, List, length, Option, IfOk, OnOk, OnErr};
 ghost use Rattle.std.specs.Io.KnownBytes.{Keeps, Appends, WriteAppends};
-ghost use Rattle.csa_record.specs.Games.Flow.{CountsErrors, CountsWrites, AppendsFront};
+ghost use Rattle.csa_record.specs.Flow.{CountsErrors, CountsWrites, AppendsFront};
 
 use crate::source::Failure;
-use std::io::Write;
+use std::io::{ErrorKind, Write};
 
 /// Takes bytes, and counts how often it fails.
 pub trait Sink {
@@ -13,7 +13,14 @@ pub trait Sink {
     // How often it has failed.
     ghost failed: { Self → ℕ };
 
-    /// Takes the front of the piece. To take nothing of some bytes is a failure too.
+    // Whether it has sent on all that it took.
+    ghost settled: { Self → Bool };
+
+    /// Takes bytes from the front of the piece and answers how many. These may be fewer than all of
+    /// them; to take none of a piece that is not empty is counted as a failure too.
+    ///
+    /// Refuses `Failure` where it fails, which is counted, and then takes nothing. To be called where it
+    /// has failed fewer than 2^64 - 1 times so far.
     fn write(&mut self, piece: &[u8]) -> Result<usize, Failure>
         requires { failed self.old < 2 ^ 64 - 1 }
         ensures within { IfOk result (λ taken. taken ≤ length piece.now) }
@@ -21,30 +28,41 @@ pub trait Sink {
         ensures count { CountsWrites (failed self.old) (failed self.new) result piece.now };
 
     /// Sends on what it has taken.
+    ///
+    /// Refuses `Failure` where it fails, which is counted. To be called where it has failed fewer than
+    /// 2^64 - 1 times so far.
     fn flush(&mut self) -> Result<(), Failure>
         requires { failed self.old < 2 ^ 64 - 1 }
         ensures bytes { Keeps (held self.old) (held self.new) }
-        ensures count { CountsErrors (failed self.old) (failed self.new) result };
+        ensures count { CountsErrors (failed self.old) (failed self.new) result }
+        ensures settled { OnOk result (settled self.new ≡ true) };
 
     /// How often it has failed.
     fn failures(&self) -> u64
         ensures { result ≡ failed self.now };
 }
 
-/// A writer, as a sink.
+/// A writer, as a sink. It is settled where nothing was handed to the writer since a flush that did not fail.
+/// A write that is interrupted is made again, and is no failure; a flush that is interrupted is one.
 #[derive(Drop)]
 pub struct Writing<W> {
     inner: W,
     failures: u64,
+    settled: bool,
 }
 
 impl<W> Writing<W> {
-    /// A sink that hands what it takes to that writer. It has not failed.
+    /// A sink that hands what it takes to that writer. It has not failed, and is not settled: the writer may hold bytes.
     pub fn new(inner: W) -> Writing<W>
         ensures inner { result.inner ≡ inner }
         ensures failures { result.failures ≡ 0 }
+        ensures settled { result.settled ≡ false }
     {
-        Writing { inner, failures: 0 }
+        Writing {
+            inner,
+            failures: 0,
+            settled: false,
+        }
     }
 }
 
@@ -53,15 +71,24 @@ impl<W: Write> Sink for Writing<W> {
 
     ghost failed = { λ s. s.failures };
 
-    fn write(&mut self, piece: &[u8]) -> Result<usize, Failure> {
-        match self.inner.write(piece) {
+    ghost settled = { λ s. s.settled };
+
+    fn write(&mut self, piece: &[u8]) -> Result<usize, Failure>
+        requires { self.old.failures < 2 ^ 64 - 1 }
+        ensures within { IfOk result (λ taken. taken ≤ length piece.now) }
+        ensures bytes { WriteAppends (W.contents self.old.inner) (W.contents self.new.inner) result piece.now }
+        ensures count { CountsWrites self.old.failures self.new.failures result piece.now }
+        ensures unsettled { self.new.settled ≡ false }
+    {
+        self.settled = false;
+        match write_uninterrupted(&mut self.inner, piece) {
             Ok(taken) => {
                 if taken == 0 && !piece.is_empty() {
                     self.failures += 1;
                 }
                 Ok(taken)
             }
-            Err(_) => {
+            Err(Failure) => {
                 self.failures += 1;
                 Err(Failure)
             }
@@ -70,7 +97,10 @@ impl<W: Write> Sink for Writing<W> {
 
     fn flush(&mut self) -> Result<(), Failure> {
         match self.inner.flush() {
-            Ok(()) => Ok(()),
+            Ok(()) => {
+                self.settled = true;
+                Ok(())
+            }
             Err(_) => {
                 self.failures += 1;
                 Err(Failure)
@@ -83,6 +113,21 @@ impl<W: Write> Sink for Writing<W> {
     }
 }
 
+// Writes again where it was interrupted.
+fn write_uninterrupted<W: Write>(writer: &mut W, piece: &[u8]) -> Result<usize, Failure>
+    ensures within { IfOk result (λ taken. taken ≤ length piece.now) }
+    ensures bytes { WriteAppends (W.contents writer.old) (W.contents writer.new) result piece.now }
+{
+    for _ in 0..u64::MAX {
+        match writer.write(piece) {
+            Ok(taken) => return Ok(taken),
+            Err(error) if error.kind() == ErrorKind::Interrupted => {}
+            Err(_) => return Err(Failure),
+        }
+    }
+    Err(Failure)
+}
+
 // Writes all of the text and flushes the sink.
 pub(crate) fn send<T: Sink>(sink: &mut T, text: &[u8]) -> Result<(), Failure>
     requires { T.failed sink.old < 2 ^ 64 - 1 }
@@ -90,6 +135,7 @@ pub(crate) fn send<T: Sink>(sink: &mut T, text: &[u8]) -> Result<(), Failure>
     ensures quiet { OnOk result (T.failed sink.new ≡ T.failed sink.old) }
     ensures front { OnErr result (AppendsFront (T.held sink.old) (T.held sink.new) text.now) }
     ensures failed { OnErr result (T.failed sink.new ≡ T.failed sink.old + 1) }
+    ensures settled { OnOk result (T.settled sink.new ≡ true) }
 {
     write_all(sink, text)?;
     sink.flush()

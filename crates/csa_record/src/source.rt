@@ -1,11 +1,13 @@
 ghost use Rattle.std.specs.Prelude.{◌≡◌, ℕ, ◌-◌, ◌^◌, ◌<◌, ◌≤◌, List, length, Option, IfOk};
 ghost use Rattle.std.specs.Io.KnownBytes.{ReadConsumes};
-ghost use Rattle.csa_record.specs.Games.Flow.{CountsErrors};
+ghost use Rattle.csa_record.specs.Flow.{CountsErrors};
 
-use std::io::Read;
+use std::io::{ErrorKind, Read};
+use thiserror::Error;
 
 /// A call of a source or a sink failed.
-#[derive(Clone, Copy, Debug, PartialEq, Eq)]
+#[derive(Clone, Copy, Debug, PartialEq, Eq, Error)]
+#[error("the stream failed")]
 pub struct Failure;
 
 /// Gives bytes, and counts how often it fails.
@@ -16,8 +18,11 @@ pub trait Source {
     // How often it has failed.
     ghost failed: { Self → ℕ };
 
-    /// Gives the next bytes, as many as have room. It gives none only at its end, or where there is
-    /// no room.
+    /// Puts its next bytes at the front of the buffer and answers how many. These may be fewer than
+    /// have room; it answers 0 for a buffer that is not empty only at its end.
+    ///
+    /// Refuses `Failure` where it fails, which is counted, and then gives nothing. To be called where it
+    /// has failed fewer than 2^64 - 1 times so far.
     fn read(&mut self, buffer: &mut [u8]) -> Result<usize, Failure>
         requires { failed self.old < 2 ^ 64 - 1 }
         ensures within { IfOk result (λ taken. taken ≤ length buffer.new) }
@@ -29,7 +34,7 @@ pub trait Source {
         ensures { result ≡ failed self.now };
 }
 
-/// The bytes of a reader, as a source.
+/// The bytes of a reader, as a source. A read that is interrupted is made again, and is no failure.
 #[derive(Drop)]
 pub struct Reading<R> {
     inner: R,
@@ -52,9 +57,9 @@ impl<R: Read> Source for Reading<R> {
     ghost failed = { λ s. s.failures };
 
     fn read(&mut self, buffer: &mut [u8]) -> Result<usize, Failure> {
-        match self.inner.read(buffer) {
+        match read_uninterrupted(&mut self.inner, buffer) {
             Ok(taken) => Ok(taken),
-            Err(_) => {
+            Err(Failure) => {
                 self.failures += 1;
                 Err(Failure)
             }
@@ -64,4 +69,19 @@ impl<R: Read> Source for Reading<R> {
     fn failures(&self) -> u64 {
         self.failures
     }
+}
+
+// Reads again where it was interrupted.
+fn read_uninterrupted<R: Read>(reader: &mut R, buffer: &mut [u8]) -> Result<usize, Failure>
+    ensures within { IfOk result (λ taken. taken ≤ length buffer.new) }
+    ensures bytes { ReadConsumes (R.remaining reader.old) (R.remaining reader.new) result buffer.new }
+{
+    for _ in 0..u64::MAX {
+        match reader.read(buffer) {
+            Ok(taken) => return Ok(taken),
+            Err(error) if error.kind() == ErrorKind::Interrupted => {}
+            Err(_) => return Err(Failure),
+        }
+    }
+    Err(Failure)
 }

@@ -6,10 +6,12 @@ ghost use Rattle.csa_text.specs.Codes.{sign, kind_code, square_text, cell_text};
 ghost use Rattle.csa_text.specs.PairTexts.{pairs_text};
 ghost use Rattle.csa_text.specs.Spelling.{even, rank};
 ghost use Rattle.csa_text.specs.declared.pair.Pair.TheVariants.{InHand};
-ghost use Rattle.csa_record.specs.Games.Canon.{ended_line, start_items, is_from_even, is_part_of, stands_in, missing, rank_cells, rank_items, hand_pairs, hand_items};
-ghost use Rattle.csa_record.specs.Games.Squares.{square_at};
-ghost use Rattle.csa_record.specs.Games.Starting.{gone};
+ghost use Rattle.csa_record.specs.Canon.{ended_line, start_items, is_from_even, is_part_of, stands_in, missing, rank_cells, rank_items, hand_pairs, hand_items};
+ghost use Rattle.csa_record.specs.Squares.{square_at};
+ghost use Rattle.csa_record.specs.Starting.{gone};
 
+use crate::titles::sign_of;
+use csa_text::kind_text;
 use shogi_board::{Color, Hand, Kind, OutOfMemory, Piece, Position, Square};
 
 // Writes `PI` with the missing pieces of the even board, or else the ranks and the hands that are not empty.
@@ -214,35 +216,4 @@ fn write_kind(out: &mut Vec<u8>, kind: Kind) -> Result<(), OutOfMemory>
 {
     out.extend_from_slice(kind_text(kind).as_bytes())?;
     Ok(())
-}
-
-fn sign_of(color: Color) -> u8
-    ensures { result ≡ sign color }
-{
-    match color {
-        Color::Black => b'+',
-        Color::White => b'-',
-    }
-}
-
-// The code of a kind.
-fn kind_text(kind: Kind) -> &'static str
-    ensures { result.now ≡ kind_code kind }
-{
-    match kind {
-        Kind::Pawn => "FU",
-        Kind::Lance => "KY",
-        Kind::Knight => "KE",
-        Kind::Silver => "GI",
-        Kind::Gold => "KI",
-        Kind::Bishop => "KA",
-        Kind::Rook => "HI",
-        Kind::King => "OU",
-        Kind::ProPawn => "TO",
-        Kind::ProLance => "NY",
-        Kind::ProKnight => "NK",
-        Kind::ProSilver => "NG",
-        Kind::Horse => "UM",
-        Kind::Dragon => "RY",
-    }
 }

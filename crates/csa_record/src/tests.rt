@@ -1,7 +1,8 @@
-use crate::{HeaderValue, OrderFault, Record, Refusal, Why, laws, write};
+use crate::{HeaderValue, OrderFault, Record, Refusal, Why, write};
 use csa_text::{Ending, TextFault, read_moment};
-use shogi_board::{Color, Kind, OutOfMemory, Position, Setup, Square};
+use shogi_board::{Color, Kind, OutOfMemory, Position, Square};
 use shogi_rules::{Line, Move, Rule};
+use std::alloc::Global;
 use std::test::Fail;
 
 const FAULTS: [(OrderFault, &str); 12] = [
@@ -51,106 +52,133 @@ fn order(fault: OrderFault) -> Result<(), Why> {
     Err(Why::Order(fault))
 }
 
-#[test]
-fn builds_and_writes(rt: HostRuntime) -> Result<(), Fail> {
-    let alloc = rt.alloc();
+fn first() -> Result<Move, Fail> {
+    walk((7, 7), (7, 6), Kind::Pawn)
+}
+
+fn second() -> Result<Move, Fail> {
+    walk((3, 3), (3, 4), Kind::Pawn)
+}
+
+fn titled(alloc: Global) -> Result<Record, Fail> {
     let mut record = Record::new(alloc, Position::even())?;
-    let first = walk((7, 7), (7, 6), Kind::Pawn)?;
-    let second = walk((3, 3), (3, 4), Kind::Pawn)?;
     record.set_name(Color::Black, b"a,b")?;
     record.set_header(b"SITE", b"b")?;
     record.set_header(b"EVENT", b"a")?;
-    assert_eq!(rt; record.set_time(1), order(OrderFault::LooseTime));
-    record.play(Color::Black, first)?;
+    Ok(record)
+}
+
+fn closed(alloc: Global) -> Result<Record, Fail> {
+    let mut record = titled(alloc)?;
+    record.play(Color::Black, first()?)?;
     record.set_time(12000)?;
-    assert_eq!(rt; record.set_time(1), order(OrderFault::LooseTime));
-    record.play(Color::White, second)?;
+    record.play(Color::White, second()?)?;
     record.set_time(6000)?;
     record.close(Ending::Toryo)?;
+    Ok(record)
+}
+
+#[test]
+fn builds_and_writes(rt: HostRuntime) -> Result<(), Fail> {
+    let record = closed(rt.alloc())?;
     assert_eq!(rt;
-        record.play(Color::Black, first),
+        write(rt.alloc(), &record)?.as_slice(),
+        b"V2.2\nN+a,b\n$EVENT:a\n$SITE:b\nPI\n+\n+7776FU\nT12\n-3334FU\nT6\n%TORYO\n".as_slice()
+    );
+    Ok(())
+}
+
+#[test]
+fn one_time_for_each_move(rt: HostRuntime) -> Result<(), Fail> {
+    let mut record = Record::new(rt.alloc(), Position::even())?;
+    assert_eq!(rt; record.set_time(1), order(OrderFault::LooseTime));
+    record.play(Color::Black, first()?)?;
+    record.set_time(12000)?;
+    assert_eq!(rt; record.set_time(1), order(OrderFault::LooseTime));
+    Ok(())
+}
+
+#[test]
+fn nothing_stands_behind_the_ending(rt: HostRuntime) -> Result<(), Fail> {
+    let mut record = closed(rt.alloc())?;
+    assert_eq!(rt;
+        record.play(Color::Black, first()?),
         order(OrderFault::AfterEnding)
     );
     assert_eq!(rt;
         record.close(Ending::Chudan),
         order(OrderFault::AfterEnding)
     );
-    assert_eq!(rt;
-        write(alloc, &record)?.as_slice(),
-        b"V2.2\nN+a,b\n$EVENT:a\n$SITE:b\nPI\n+\n+7776FU\nT12\n-3334FU\nT6\n%TORYO\n".as_slice()
-    );
-    assert_eq!(rt; record.name(Color::Black), Some(b"a,b".as_slice()));
-    assert_eq!(rt; record.name(Color::White), None);
-    assert_eq!(rt; record.header(b"EVENT"), Some(HeaderValue::Plain(b"a")));
-    assert_eq!(rt; record.header(b"OPENING"), None);
-    assert_eq!(rt; record.line().moves(), [first, second].as_slice());
-    assert_eq!(rt; record.time(1), Some(6000));
-    assert_eq!(rt; record.time(2), None);
-    assert_eq!(rt; record.ending(), Some(Ending::Toryo));
-    assert_eq!(rt; record.ending_time(), None);
-    laws::canon_tells();
-    laws::canon_equal();
-    laws::one_game();
-    laws::one_refusal();
-    laws::laid_out();
-    laws::union_placed();
+    record.set_time(5)?;
+    assert_eq!(rt; record.ending_time(), Some(5));
     Ok(())
 }
 
 #[test]
-fn refuses_names_and_headers(rt: HostRuntime) -> Result<(), Fail> {
-    let alloc = rt.alloc();
-    let mut record = Record::new(alloc, Position::even())?;
-    record.set_name(Color::Black, b"a")?;
+fn shows_names_and_headers(rt: HostRuntime) -> Result<(), Fail> {
+    let record = titled(rt.alloc())?;
+    assert_eq!(rt; record.name(Color::Black), Some(b"a,b".as_slice()));
+    assert_eq!(rt; record.name(Color::White), None);
+    assert_eq!(rt; record.header(b"EVENT"), Some(HeaderValue::Plain(b"a")));
+    assert_eq!(rt; record.header(b"OPENING"), None);
+    Ok(())
+}
+
+#[test]
+fn shows_moves_and_the_ending(rt: HostRuntime) -> Result<(), Fail> {
+    let record = closed(rt.alloc())?;
+    assert_eq!(rt; record.line().moves(), [first()?, second()?].as_slice());
+    assert_eq!(rt; record.time(1), Some(6000));
+    assert_eq!(rt; record.time(2), None);
+    assert_eq!(rt; record.ending(), Some(Ending::Toryo));
+    assert_eq!(rt; record.ending_time(), None);
+    Ok(())
+}
+
+#[test]
+fn keeps_the_first_name(rt: HostRuntime) -> Result<(), Fail> {
+    let mut record = titled(rt.alloc())?;
     assert_eq!(rt;
         record.set_name(Color::Black, b"b"),
         order(OrderFault::RepeatedName)
     );
     record.set_name(Color::Black, b"")?;
     record.set_name(Color::White, b"")?;
-    record.set_header(b"EVENT", b"a")?;
-    assert_eq!(rt;
-        record.set_header(b"EVENT", b"b"),
-        order(OrderFault::RepeatedHeader)
-    );
-    record.set_header(b"EVENT", b"")?;
-    record.set_header(b"SITE", b"")?;
-    let text = b"V2.2\nN+a\n$EVENT:a\nPI\n+\n";
-    assert_eq!(rt; write(alloc, &record)?.as_slice(), text.as_slice());
-    for n in 0..63u8 {
+    assert_eq!(rt; record.name(Color::Black), Some(b"a,b".as_slice()));
+    Ok(())
+}
+
+#[test]
+fn keeps_64_headers(rt: HostRuntime) -> Result<(), Fail> {
+    let mut record = titled(rt.alloc())?;
+    for n in 0..62u8 {
         record.set_header(&[b'a' + n % 8, b'a' + n / 8], b"x")?;
     }
     assert_eq!(rt;
-        record.set_header(b"SITE", b"b"),
+        record.set_header(b"OPENING", b"b"),
         order(OrderFault::TooManyHeaders)
     );
     assert_eq!(rt;
         record.set_header(b"EVENT", b"b"),
         order(OrderFault::RepeatedHeader)
     );
-    record.set_header(b"SITE", b"")?;
+    record.set_header(b"OPENING", b"")?;
     Ok(())
 }
 
 #[test]
 fn refuses_a_move_of_the_other_side(rt: HostRuntime) -> Result<(), Fail> {
-    let alloc = rt.alloc();
-    let mut record = Record::new(alloc, Position::even())?;
+    let mut record = Record::new(rt.alloc(), Position::even())?;
     assert_eq!(rt;
-        record.play(Color::White, walk((7, 7), (7, 6), Kind::Pawn)?),
+        record.play(Color::White, first()?),
         Err(Why::Rule(Rule::WrongSide))
-    );
-    assert_eq!(rt;
-        write(alloc, &record)?.as_slice(),
-        b"V2.2\nPI\n+\n".as_slice()
     );
     Ok(())
 }
 
 #[test]
-fn writes_moments_as_moments(rt: HostRuntime) -> Result<(), Fail> {
-    let alloc = rt.alloc();
-    let mut record = Record::new(alloc, Position::even())?;
+fn keeps_moments_as_moments(rt: HostRuntime) -> Result<(), Fail> {
+    let mut record = Record::new(rt.alloc(), Position::even())?;
     record.set_header(b"START_TIME", b"2024/2/29 9:05:07")?;
     record.set_header(b"END_TIME", b"2023/02/29")?;
     let moment = read_moment(b"2024/02/29 09:05:07").ok_or("no moment")?;
@@ -162,40 +190,6 @@ fn writes_moments_as_moments(rt: HostRuntime) -> Result<(), Fail> {
         record.header(b"END_TIME"),
         Some(HeaderValue::Plain(b"2023/02/29"))
     );
-    assert_eq!(rt;
-        write(alloc, &record)?.as_slice(),
-        b"V2.2\n$END_TIME:2023/02/29\n$START_TIME:2024/02/29 09:05:07\nPI\n+\n".as_slice()
-    );
-    Ok(())
-}
-
-fn less_two() -> Result<Position, Fail> {
-    let mut setup = Setup::even();
-    setup.take_off(square(8, 2)?, Kind::Rook)?;
-    setup.take_off(square(2, 2)?, Kind::Bishop)?;
-    Ok(setup.finish(Color::White)?)
-}
-
-fn two_kings() -> Result<Position, Fail> {
-    let mut setup = Setup::empty();
-    setup.place(Color::Black, square(5, 9)?, Kind::King)?;
-    setup.place(Color::White, square(5, 1)?, Kind::King)?;
-    Ok(setup.finish(Color::Black)?)
-}
-
-#[test]
-fn writes_starts(rt: HostRuntime) -> Result<(), Fail> {
-    let alloc = rt.alloc();
-    let handicap = Record::new(alloc, less_two()?)?;
-    assert_eq!(rt;
-        write(alloc, &handicap)?.as_slice(),
-        b"V2.2\nPI22KA82HI\n-\n".as_slice()
-    );
-    let kings = Record::new(alloc, two_kings()?)?;
-    assert_eq!(rt;
-        write(alloc, &kings)?.as_slice(),
-        b"V2.2\nPI11KY13FU17FU19KY21KE22KA23FU27FU28HI29KE31GI33FU37FU39GI41KI43FU47FU49KI53FU57FU61KI63FU67FU69KI71GI73FU77FU79GI81KE82HI83FU87FU88KA89KE91KY93FU97FU99KY\n+\n".as_slice()
-    );
     Ok(())
 }
 
@@ -203,15 +197,15 @@ fn writes_starts(rt: HostRuntime) -> Result<(), Fail> {
 fn keeps_a_line(rt: HostRuntime) -> Result<(), Fail> {
     let alloc = rt.alloc();
     let mut line = Line::new(alloc, Position::even())?;
-    line.play(Color::Black, walk((2, 7), (2, 6), Kind::Pawn)?)?;
+    line.play(Color::Black, first()?)?;
     match Record::from_line(alloc, line) {
         Ok(mut record) => {
-            assert_eq!(rt; record.time(0), None);
-            assert_eq!(rt; record.ending(), None);
             record.set_time(50)?;
+            record.close(Ending::Kachi)?;
+            record.set_time(5)?;
             assert_eq!(rt;
                 write(alloc, &record)?.as_slice(),
-                b"V2.2\nPI\n+\n+2726FU\nT0.05\n".as_slice()
+                b"V2.2\nPI\n+\n+7776FU\nT0.05\n%KACHI\nT0.005\n".as_slice()
             );
         }
         Err(_) => return Err(Fail::from("out of memory")),

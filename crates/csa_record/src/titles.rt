@@ -6,12 +6,12 @@ ghost use Rattle.csa_text.specs.Fields.{HasNone};
 ghost use Rattle.csa_text.specs.MomentParts.{moment_of};
 ghost use Rattle.csa_text.specs.Moment.{CalendarMoment, SpellsMoment, moment_text};
 ghost use Rattle.csa_record.specs.Bytes.{name_bytes};
-ghost use Rattle.csa_record.specs.Games.Answer.{IsAnswer};
-ghost use Rattle.csa_record.specs.Games.Canon.{ended_line, header_item, name_items, value_text};
-ghost use Rattle.csa_record.specs.Games.Limits.{IsName, IsOneLine, IsMomentKey, IsEntry};
-ghost use Rattle.csa_record.specs.Games.Says.{IsValue};
-ghost use Rattle.csa_record.specs.Games.Titles.{untitled, name_of, under, name_fault, header_fault, with_name, with_entry, IsWithHeader, IsTitled, shown};
-ghost use Rattle.csa_record.specs.Games.TitleBytes.{text_of, entry_of, entries_of};
+ghost use Rattle.csa_record.specs.Answer.{IsAnswer};
+ghost use Rattle.csa_record.specs.Canon.{ended_line, header_item, name_items, value_text};
+ghost use Rattle.csa_record.specs.Limits.{IsName, IsOneLine, IsMomentKey, IsEntry};
+ghost use Rattle.csa_record.specs.Says.{IsValue};
+ghost use Rattle.csa_record.specs.Titles.{untitled, name_of, under, name_fault, header_fault, with_name, with_entry, IsWithHeader, IsTitled, shown};
+ghost use Rattle.csa_record.specs.TitleBytes.{text_of, entry_of, entries_of};
 
 use crate::fault::{OrderFault, Why};
 use csa_text::{Moment, read_moment};
@@ -19,6 +19,9 @@ use shogi_board::{Color, OutOfMemory};
 use std::alloc::Global;
 use std::collections::BTreeMap;
 use std::marker::Model;
+
+/// How many headers a record may have.
+pub const MAX_HEADERS: usize = 64;
 
 // What stands under a key.
 #[derive(Drop)]
@@ -49,8 +52,8 @@ pub(crate) struct Titles {
 
 impl Model for Titles {
     ghost use Rattle.csa_record.specs.Bytes.{name_bytes};
-    ghost use Rattle.csa_record.specs.Games.Titles.{Titled, IsTitled};
-    ghost use Rattle.csa_record.specs.Games.TitleBytes.{entries_of};
+    ghost use Rattle.csa_record.specs.Titles.{Titled, IsTitled};
+    ghost use Rattle.csa_record.specs.TitleBytes.{entries_of};
 
     ghost Value = { Titled };
 
@@ -139,7 +142,7 @@ impl Titles {
         if self.headers.contains_key(key) {
             return Some(OrderFault::RepeatedHeader);
         }
-        if self.headers.len() >= 64 {
+        if self.headers.len() >= MAX_HEADERS {
             return Some(OrderFault::TooManyHeaders);
         }
         None
@@ -256,7 +259,8 @@ fn is_moment_key(key: &[u8]) -> bool
     key == b"START_TIME".as_slice() || key == b"END_TIME".as_slice()
 }
 
-fn sign_of(color: Color) -> u8
+// The sign of a side.
+pub(crate) fn sign_of(color: Color) -> u8
     ensures { result ≡ sign color }
 {
     match color {

@@ -51,8 +51,8 @@ pub(crate) fn read_kind(code: &[u8]) -> Option<Kind>
     }
 }
 
-// The code of a kind.
-pub(crate) fn kind_text(kind: Kind) -> &'static str
+/// The two letters of a kind in CSA V2.2: `FU` of a pawn, `RY` of a dragon. `read_item` reads them as that kind again.
+pub fn kind_text(kind: Kind) -> &'static str
     ensures { result.now ≡ kind_code kind }
 {
     match kind {

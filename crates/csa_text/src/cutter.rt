@@ -1,8 +1,9 @@
-ghost use Rattle.std.specs.Prelude.{◌≡◌, ◌<◌, ◌≤◌, ◌==◌, ◌||◌, ◌&&◌, ◌+◌, [], length, drop, slice_range, not, IfOk, IfErr, IfNone, MatchOption};
+ghost use Rattle.std.specs.Prelude.{◌≡◌, ℕ, false, ◌<◌, ◌≤◌, ◌==◌, ◌||◌, ◌&&◌, ◌+◌, [], length, drop, slice_range, not, IfOk, IfErr, IfNone, MatchOption};
 ghost use Rattle.std.specs.List.{position_or_len, prefix_len};
 ghost use Rattle.csa_text.specs.Cut.{Statements, IsNext, IsGap, is_separator, is_blank, takes_line, is_end, mark_length, statement_bytes, without_last_blanks};
 ghost use Rattle.csa_text.specs.Cutting.{Cutting, ToCome, IfHandedOut, IsTooLong, IsFirstStatement, unit_between};
 
+use crate::line::line_length;
 use std::marker::Model;
 use thiserror::Error;
 
@@ -126,11 +127,11 @@ fn takes_line(first: u8) -> bool
     first == COMMENT || first == b'N' || first == b'$'
 }
 
-// What ends a unit: the end of its line, and a comma where it does not take the whole line.
-fn ends_unit(whole_line: bool, b: u8) -> bool
-    ensures { result ≡ (b == 13 || b == 10 || (b == 44 && not whole_line)) }
+// What ends a statement that does not take the whole line.
+fn ends_statement(b: u8) -> bool
+    ensures { (first : ℕ) → takes_line first ≡ false → result ≡ is_end first b }
 {
-    b == b'\r' || b == b'\n' || (b == b',' && !whole_line)
+    b == b'\r' || b == b'\n' || b == b','
 }
 
 // How many separators the text begins with.
@@ -151,9 +152,11 @@ pub(crate) fn unit_length(first: u8, text: &[u8]) -> usize
     ensures value { result ≡ position_or_len (is_end first) text.now }
     ensures within { result ≤ length text.now }
 {
-    let whole_line = takes_line(first);
+    if takes_line(first) {
+        return line_length(text);
+    }
     for (i, b) in text.iter().enumerate() {
-        if ends_unit(whole_line, *b) {
+        if ends_statement(*b) {
             return i;
         }
     }

@@ -21,6 +21,7 @@ mod rank;
 mod time;
 
 pub use calendar::Moment;
+pub use codes::kind_text;
 pub use cutter::{CutFault, Cutter, Statement};
 pub use ending::Ending;
 pub use fault::TextFault;

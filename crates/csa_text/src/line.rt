@@ -7,6 +7,7 @@ ghost use Rattle.csa_text.specs.declared.line.LineFault.TheVariants.{OutOfMemory
 ghost use Rattle.csa_text.specs.Lines.{is_line_end};
 ghost use Rattle.csa_text.specs.Lining.{BeginsTooLong, IsRun, LineStep, LinesAfter, LastLine, LinesFinished};
 
+use memchr::memchr2;
 use std::alloc::{AllocError, Global};
 use std::marker::Model;
 use thiserror::Error;
@@ -141,16 +142,14 @@ fn line_ends_length(text: &[u8]) -> usize
 }
 
 // How many bytes of the text come before a CR or LF.
-fn line_length(text: &[u8]) -> usize
+pub(crate) fn line_length(text: &[u8]) -> usize
     ensures value { result ≡ position_or_len is_line_end text.now }
     ensures within { result ≤ length text.now }
 {
-    for (i, b) in text.iter().enumerate() {
-        if is_line_end(*b) {
-            return i;
-        }
+    match memchr2(b'\r', b'\n', text) {
+        Some(end) => end,
+        None => text.len(),
     }
-    text.len()
 }
 
 // Empties what is held where it was handed out.

@@ -1,4 +1,4 @@
-use Rattle.csa_record.proofs.Games.Timing.{last_lacks}
+use Rattle.csa_record.proofs.Timing.{last_lacks}
 use Rattle.csa_record.proofs.course.last_missing.Goals as goal
 
 pub returns-in-Some : goal.returns-in-Some

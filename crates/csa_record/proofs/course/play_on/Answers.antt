@@ -1,4 +1,4 @@
-use Rattle.csa_record.proofs.Games.Courses.{not_played}
+use Rattle.csa_record.proofs.Courses.{not_played}
 use Rattle.csa_record.proofs.course.play_on.Goals as goal
 
 pub returns-in-Err-clause-err : goal.returns-in-Err-clause-err

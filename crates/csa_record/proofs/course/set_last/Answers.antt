@@ -1,6 +1,6 @@
 use Rattle.std.proofs.Common.{arith}
 use Rattle.std.proofs.lemmas.Grind.{common_steps}
-use Rattle.csa_record.proofs.Games.Timing.{last_set}
+use Rattle.csa_record.proofs.Timing.{last_set}
 use Rattle.csa_record.proofs.course.set_last.Goals as goal
 
 pub returns-then-count-gt0 : goal.returns-then-count-gt0

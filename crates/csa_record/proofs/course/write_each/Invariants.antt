@@ -1,5 +1,5 @@
 use Rattle.std.proofs.Common.{◌≡◌, ◌++◌, drop}
-use Rattle.csa_record.proofs.Games.Timing.{lines_of}
+use Rattle.csa_record.proofs.Timing.{lines_of}
 use Rattle.csa_record.proofs.course.write_each.Given as goal
 
 abbrev pub invariant-loop-i : goal.invariant-loop-i

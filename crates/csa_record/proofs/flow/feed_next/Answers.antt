@@ -1,5 +1,6 @@
-use Rattle.std.proofs.Common.{arith, ◌<◌, length, take}
-use Rattle.csa_record.proofs.Games.Flow.{no_piece, piece_refused}
+use Rattle.std.proofs.Common.{arith, ◌<◌, ◌≤◌, length, take}
+use Rattle.std.proofs.lemmas.List.{length-take-le}
+use Rattle.csa_record.proofs.Flowing.{no_piece, piece_refused}
 use Rattle.csa_record.proofs.flow.feed_next.Goals as goal
 
 pub returns-then-taken-eq0 : goal.returns-then-taken-eq0
@@ -12,5 +13,6 @@ pub returns-in-Err-feed : goal.returns-in-Err-feed
 returns-in-Err-feed g c = λ bytes h.
     let read = c.in-Ok.ensures in
     let fed = c.in-Err-feed.ensures in
-    piece_refused bytes (take c.in-Ok.taken c.read.new.buffer) (g.S.Source.known c.args.source.now) (g.S.Source.known c.read.new.self) (g.S.Source.failed c.args.source.now) (g.S.Source.failed c.read.new.self) c.in-Err-feed.refusal c.from.result c.from.ensures read.bytes.0 read.count
+    let short : length (take c.in-Ok.taken c.read.new.buffer) ≤ 4096 = omega (arith, length-take-le c.in-Ok.taken c.read.new.buffer read.within, read.within, c.read.auto.buffer) in
+    piece_refused bytes (take c.in-Ok.taken c.read.new.buffer) (g.S.Source.known c.args.source.now) (g.S.Source.known c.read.new.self) (g.S.Source.failed c.args.source.now) (g.S.Source.failed c.read.new.self) c.in-Err-feed.refusal c.from.result c.args.reader.now h short c.from.ensures read.bytes.0 read.count
     (λ more. fed.refused bytes more h) (λ more. fed.memory bytes more h)

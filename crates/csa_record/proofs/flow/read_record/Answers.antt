@@ -1,4 +1,4 @@
-use Rattle.csa_record.proofs.Games.Flow.{record_refused}
+use Rattle.csa_record.proofs.Flowing.{record_refused}
 use Rattle.csa_record.proofs.flow.read_record.Goals as goal
 
 pub returns-in-Err : goal.returns-in-Err

@@ -1,8 +1,8 @@
 use Rattle.std.proofs.Common.{List, ℕ, ap, subst}
-use Rattle.csa_record.specs.Games.Canon.{canon}
-use Rattle.csa_record.specs.Games.Tells.{Tells}
-use Rattle.csa_record.proofs.Games.Canonical.{canon_tells_lem}
-use Rattle.csa_record.proofs.Games.SaysOnce.{tells_once}
+use Rattle.csa_record.specs.Canon.{canon}
+use Rattle.csa_record.specs.Tells.{Tells}
+use Rattle.csa_record.proofs.Canonical.{canon_tells_lem}
+use Rattle.csa_record.proofs.SaysOnce.{tells_once}
 use Rattle.csa_record.proofs.laws.canon_equal.Goals as goal
 
 pub returns : goal.returns

@@ -1,4 +1,4 @@
-use Rattle.csa_record.proofs.Games.LaidOut.{laid_out_gives}
+use Rattle.csa_record.proofs.LaidOut.{laid_out_gives}
 use Rattle.csa_record.proofs.laws.laid_out.Goals as goal
 
 pub returns : goal.returns

@@ -1,4 +1,4 @@
-use Rattle.csa_record.proofs.Games.RefusedOnce.{refused_once}
+use Rattle.csa_record.proofs.RefusedOnce.{refused_once}
 use Rattle.csa_record.proofs.laws.one_refusal.Goals as goal
 
 pub returns : goal.returns

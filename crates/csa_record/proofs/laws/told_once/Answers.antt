@@ -1,4 +1,4 @@
-use Rattle.csa_record.proofs.Games.Told.{told_or_refused}
+use Rattle.csa_record.proofs.Told.{told_or_refused}
 use Rattle.csa_record.proofs.laws.told_once.Goals as goal
 
 pub returns : goal.returns

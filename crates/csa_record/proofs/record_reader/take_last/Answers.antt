@@ -1,7 +1,7 @@
 use Rattle.std.proofs.Common.{Ok, ap, ◌∙◌, subst}
 use Rattle.csa_text.specs.Stepping.{Finished}
-use Rattle.csa_record.proofs.Games.Reading.{last_given, nothing_last}
-use Rattle.csa_record.proofs.Games.Steps.{last_of}
+use Rattle.csa_record.proofs.Onward.{last_given, nothing_last}
+use Rattle.csa_record.proofs.Steps.{last_of}
 use Rattle.csa_record.proofs.record_reader.take_last.Goals as goal
 
 pub take_statement-requires : goal.take_statement-requires

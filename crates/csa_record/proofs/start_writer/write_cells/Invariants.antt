@@ -1,4 +1,4 @@
-use Rattle.csa_record.proofs.Games.StartText.{CellsToWrite}
+use Rattle.csa_record.proofs.StartText.{CellsToWrite}
 use Rattle.csa_record.proofs.start_writer.write_cells.Given as goal
 
 abbrev pub invariant-loop-i : goal.invariant-loop-i

@@ -1,5 +1,5 @@
 use Rattle.std.proofs.Common.{arith, ◌∙◌, ap, [], ◌∷◌, ◌++◌}
-use Rattle.csa_record.proofs.Games.StartText.{line_written}
+use Rattle.csa_record.proofs.StartText.{line_written}
 use Rattle.csa_record.proofs.start_writer.write_hand.Goals as goal
 
 pub returns : goal.returns

@@ -1,4 +1,4 @@
-use Rattle.csa_record.proofs.Games.StartText.{held_more}
+use Rattle.csa_record.proofs.StartText.{held_more}
 use Rattle.csa_record.proofs.start_writer.write_held.Goals as goal
 
 pub loop-preserved : goal.loop-preserved

@@ -1,4 +1,4 @@
-use Rattle.csa_record.proofs.Games.StartText.{MissingLeft}
+use Rattle.csa_record.proofs.StartText.{MissingLeft}
 use Rattle.csa_record.proofs.start_writer.write_missing.Given as goal
 
 abbrev pub invariant-loop-n : goal.invariant-loop-n

@@ -1,6 +1,6 @@
 use Rattle.std.proofs.Common.{[], ◌++◌, ◌∙◌, ap, sym}
 use Rattle.std.proofs.lemmas.List.{append-nil}
-use Rattle.csa_record.proofs.Games.StartText.{kind_more, all_kinds}
+use Rattle.csa_record.proofs.StartText.{kind_more, all_kinds}
 use Rattle.csa_record.proofs.start_writer.write_pairs.Goals as goal
 
 pub returns : goal.returns

@@ -1,4 +1,4 @@
-use Rattle.csa_record.proofs.Games.StartText.{rows_written}
+use Rattle.csa_record.proofs.StartText.{rows_written}
 use Rattle.csa_record.proofs.start_writer.write_ranks.Goals as goal
 
 pub loop-number-preserved : goal.loop-number-preserved

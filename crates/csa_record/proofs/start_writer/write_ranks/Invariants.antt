@@ -1,4 +1,4 @@
-use Rattle.csa_record.proofs.Games.StartText.{RowsLeft}
+use Rattle.csa_record.proofs.StartText.{RowsLeft}
 use Rattle.csa_record.proofs.start_writer.write_ranks.Given as goal
 
 abbrev pub invariant-loop-number : goal.invariant-loop-number

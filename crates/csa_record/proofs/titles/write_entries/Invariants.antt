@@ -1,7 +1,7 @@
 use Rattle.std.proofs.Common.{◌≡◌, ◌++◌, map}
 use Rattle.std.specs.List.{flat_map}
-use Rattle.csa_record.specs.Games.Canon.{ended_line, header_item}
-use Rattle.csa_record.specs.Games.TitleBytes.{entries_of}
+use Rattle.csa_record.specs.Canon.{ended_line, header_item}
+use Rattle.csa_record.specs.TitleBytes.{entries_of}
 use Rattle.csa_record.proofs.titles.write_entries.Given as goal
 
 abbrev pub invariant-loop-key : goal.invariant-loop-key

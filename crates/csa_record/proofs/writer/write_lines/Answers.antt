@@ -1,4 +1,4 @@
-use Rattle.csa_record.proofs.Games.Writing.{lines_written}
+use Rattle.csa_record.proofs.Written.{lines_written}
 use Rattle.csa_record.proofs.writer.write_lines.Goals as goal
 
 pub returns : goal.returns

@@ -1,6 +1,6 @@
 use Rattle.std.proofs.Common.{◌∙◌, ap}
-use Rattle.csa_record.specs.Games.Coursing.{lacks_last}
-use Rattle.csa_record.proofs.Games.Courses.{awaits_seen}
+use Rattle.csa_record.specs.Coursing.{lacks_last}
+use Rattle.csa_record.proofs.Courses.{awaits_seen}
 use Rattle.csa_record.proofs.course.Course.awaits_time.Goals as goal
 
 pub returns-in-None : goal.returns-in-None

@@ -2,8 +2,8 @@ use Rattle.std.proofs.Common.{◌≡◌, None, length, replicate, List, ap, ◌�
 use Rattle.shogi_board.specs.Placed.{Placed}
 use Rattle.shogi_board.specs.Sound.{IsSound}
 use Rattle.shogi_rules.specs.declared.moves.Move.{Move}
-use Rattle.csa_record.proofs.Games.Timing.{none_only}
-use Rattle.csa_record.proofs.Games.Courses.{kept_untimed, course_untimed}
+use Rattle.csa_record.proofs.Timing.{none_only}
+use Rattle.csa_record.proofs.Courses.{kept_untimed, course_untimed}
 use Rattle.csa_record.proofs.course.Course.from_line.Goals as goal
 
 all_none : (c : goal.In-Ok) → c.in-Ok.times.items ≡ replicate (length c.args.line.moves) None

@@ -1,4 +1,4 @@
-use Rattle.csa_record.proofs.Games.Courses.{line_seen}
+use Rattle.csa_record.proofs.Courses.{line_seen}
 use Rattle.csa_record.proofs.course.Course.line.Goals as goal
 
 pub returns : goal.returns

@@ -1,7 +1,7 @@
 use Rattle.std.proofs.Common.{◌≡◌, sym, ◌++◌, ◌∷◌, [], None, arith}
 use Rattle.std.proofs.lemmas.Grind.{common_steps}
-use Rattle.csa_record.specs.Games.Course.{play_fault}
-use Rattle.csa_record.proofs.Games.Courses.{answer_fault, answer_played, answer_refused, kept_more, course_more}
+use Rattle.csa_record.specs.Course.{play_fault}
+use Rattle.csa_record.proofs.Courses.{answer_fault, answer_played, answer_refused, kept_more, course_more}
 use Rattle.csa_record.proofs.course.Course.play.Goals as goal
 
 pub returns-in-Some-clause-answer : goal.returns-in-Some-clause-answer

@@ -1,7 +1,7 @@
 use Rattle.std.proofs.Common.{◌≡◌, sym, false, arith}
 use Rattle.std.specs.Prelude.{is_some}
 use Rattle.std.proofs.lemmas.Grind.{common_steps}
-use Rattle.csa_record.proofs.Games.Courses.{full_seen, free_seen}
+use Rattle.csa_record.proofs.Courses.{full_seen, free_seen}
 use Rattle.csa_record.proofs.course.Course.play_fault.Goals as goal
 
 pub returns-then-len-ge-MAX_MOVES : goal.returns-then-len-ge-MAX_MOVES

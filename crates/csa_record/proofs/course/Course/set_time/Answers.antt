@@ -1,6 +1,6 @@
 use Rattle.std.proofs.Common.{◌∙◌, ap}
-use Rattle.csa_record.specs.Games.Coursing.{course_of}
-use Rattle.csa_record.proofs.Games.Courses.{kept_last, course_last}
+use Rattle.csa_record.specs.Coursing.{course_of}
+use Rattle.csa_record.proofs.Courses.{kept_last, course_last}
 use Rattle.csa_record.proofs.course.Course.set_time.Goals as goal
 
 pub invariant_of-self-in-None : goal.invariant_of-self-in-None

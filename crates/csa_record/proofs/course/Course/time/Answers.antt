@@ -1,6 +1,6 @@
 use Rattle.std.proofs.Common.{◌≡◌, ◌∙◌, None, get_or, arith}
 use Rattle.std.proofs.lemmas.Grind.{common_steps}
-use Rattle.csa_record.proofs.Games.Courses.{time_seen}
+use Rattle.csa_record.proofs.Courses.{time_seen}
 use Rattle.csa_record.proofs.course.Course.time.Goals as goal
 
 pub returns-then-i-len : goal.returns-then-i-len

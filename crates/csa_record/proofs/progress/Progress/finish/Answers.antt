@@ -1,8 +1,9 @@
-use Rattle.std.proofs.Common.{sym, ap, ◌∙◌, subst}
-use Rattle.csa_record.specs.Games.KeptStage.{stage_of}
-use Rattle.csa_record.specs.Games.Limits.{IsGame}
-use Rattle.csa_record.proofs.Games.Progressing.{kept, as_kept}
-use Rattle.csa_record.proofs.Games.KeptGames.{says_of_kept, no_side_of_kept}
+use Rattle.std.proofs.Common.{refl, sym, ap, ◌∙◌, subst}
+use Rattle.csa_record.specs.Keeping.{playing}
+use Rattle.csa_record.specs.KeptStage.{stage_of}
+use Rattle.csa_record.specs.Limits.{IsGame}
+use Rattle.csa_record.proofs.Progressing.{kept, as_kept}
+use Rattle.csa_record.proofs.KeptGames.{says_of_kept, no_side_of_kept}
 use Rattle.csa_record.proofs.progress.Progress.finish.Goals as goal
 
 pub returns-in-Laying : goal.returns-in-Laying
@@ -13,6 +14,7 @@ returns-in-Laying c = λ sayings h written.
 pub returns-in-Playing : goal.returns-in-Playing
 returns-in-Playing c = λ sayings h written.
     rw c.from_parts.ensures.parts
-    (says_of_kept sayings c.self.inside.begun c.self.inside.titles c.in-Playing.course written
+    (says_of_kept sayings (kept c.self.inside.begun c.self.inside.titles (playing c.in-Playing.course)) c.in-Playing.course written
     (as_kept sayings _ c.args.self (ap (λ g. kept c.self.inside.begun c.self.inside.titles g) (sym (ap stage_of c.in-Playing.is)) ∙ c.self.view_is) h)
+    refl
     (subst IsGame c.from_parts.ensures.parts c.from_parts.ensures.game))

@@ -1,5 +1,5 @@
-use Rattle.csa_record.proofs.Games.Fits.{fits_of}
-use Rattle.csa_record.proofs.Games.Outcomes.{outcome_of}
+use Rattle.csa_record.proofs.Fits.{fits_of}
+use Rattle.csa_record.proofs.Outcomes.{outcome_of}
 use Rattle.csa_text.specs.Saying.{saying_of}
 use Rattle.csa_record.proofs.progress.Progress.take_bytes.Goals as goal
 

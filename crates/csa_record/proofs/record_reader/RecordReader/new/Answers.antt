@@ -1,6 +1,6 @@
 use Rattle.std.proofs.Common.{[], refl, sym, subst}
-use Rattle.csa_record.specs.Games.Reading.{HasTaken}
-use Rattle.csa_record.proofs.Games.Reading.{nothing_taken}
+use Rattle.csa_record.specs.Reading.{HasTaken}
+use Rattle.csa_record.proofs.Onward.{nothing_taken}
 use Rattle.csa_record.proofs.record_reader.RecordReader.new.Goals as goal
 
 pub returns : goal.returns

@@ -1,8 +1,8 @@
 use Rattle.std.proofs.Common.{Ok, ap, ◌∙◌, sym, subst}
 use Rattle.csa_text.specs.Stepping.{Stepped}
-use Rattle.csa_record.specs.Games.FailingOf.{failing_of}
-use Rattle.csa_record.specs.Games.Reading.{HasRead}
-use Rattle.csa_record.proofs.Games.Steps.{given, next_taken, next_refused, none_next, long_next}
+use Rattle.csa_record.specs.FailingOf.{failing_of}
+use Rattle.csa_record.specs.Reading.{HasRead}
+use Rattle.csa_record.proofs.Steps.{given, next_taken, next_refused, none_next, long_next}
 use Rattle.csa_record.proofs.record_reader.RecordReader.take_next.Goals as goal
 use Rattle.csa_record.proofs.record_reader.RecordReader.take_next.Goals.{in-Ok-take_statement, in-Err-take_statement}
 

@@ -1,5 +1,5 @@
 use Rattle.std.proofs.Common.{◌++◌, take, arith, length-drop}
-use Rattle.csa_record.proofs.Games.Steps.{piece_more, piece_refused, rest_whole}
+use Rattle.csa_record.proofs.Steps.{piece_more, piece_refused, rest_whole}
 use Rattle.csa_record.proofs.record_reader.RecordReader.take_piece.Goals as goal
 
 pub returns-in-Err-clause-refused : goal.returns-in-Err-clause-refused

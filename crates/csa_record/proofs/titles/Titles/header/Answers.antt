@@ -1,8 +1,8 @@
 use Rattle.std.proofs.Common.{[], ◌∷◌, Some, ap, sym, ◌∙◌}
-use Rattle.csa_record.specs.Games.Game.{plain}
-use Rattle.csa_record.specs.Games.Titles.{Titled}
+use Rattle.csa_record.specs.Game.{plain}
+use Rattle.csa_record.specs.Titles.{Titled}
 use Rattle.csa_record.specs.declared.titles.HeaderText.TheVariants as texts
-use Rattle.csa_record.proofs.Games.Titles.{found_some, found_none}
+use Rattle.csa_record.proofs.TitleEntries.{found_some, found_none}
 use Rattle.csa_record.proofs.titles.Titles.header.Goals as goal
 
 pub returns-in-Some-Moment : goal.returns-in-Some-Moment

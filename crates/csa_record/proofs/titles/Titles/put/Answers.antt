@@ -1,7 +1,7 @@
 use Rattle.std.proofs.Common.{ap, subst}
-use Rattle.csa_record.specs.Games.TitleBytes.{entry_of}
-use Rattle.csa_record.specs.Games.Titles.{Titled, IsTitled}
-use Rattle.csa_record.proofs.Games.Titles.{put_headers, put_view, put_titled}
+use Rattle.csa_record.specs.TitleBytes.{entry_of}
+use Rattle.csa_record.specs.Titles.{Titled, IsTitled}
+use Rattle.csa_record.proofs.TitleEntries.{put_headers, put_view, put_titled}
 use Rattle.csa_record.proofs.titles.Titles.put.Goals as goal
 
 pub returns-in-Ok-clause-ok : goal.returns-in-Ok-clause-ok

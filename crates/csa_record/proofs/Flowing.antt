@@ -1,0 +1,161 @@
+-- What flows from a source through a reader to a sink.
+use Rattle.std.proofs.Common.{◌≡◌, ◌≢◌, inl, inr, ℕ, ◌+◌, ◌<◌, ◌≤◌, true, false, List, [], ◌∷◌, ◌++◌, length, Option, Some, None, Result, Ok, Err, refl, sym, ◌∙◌, ap, subst, arith, append-nil, length-append, take}
+use Rattle.std.specs.Io.KnownBytes.{Consumes, IsAtEnd}
+use Rattle.std.proofs.KnownBytes.{Consumes-trans}
+use Rattle.shogi_board.specs.declared.color.Color.{Color}
+use Rattle.shogi_board.specs.declared.setup.SetupFault.{SetupFault}
+use Rattle.shogi_board.specs.Layout.{Layout}
+use Rattle.shogi_rules.specs.declared.line.PlayFault.{PlayFault}
+use Rattle.shogi_rules.specs.declared.line.PlayFault.TheVariants as playing
+use Rattle.csa_text.specs.Spelling.{Saying, version, name, header, even, rank, pieces, turn, walked, time, ending}
+use Rattle.csa_record.specs.declared.fault.OrderFault.{OrderFault}
+use Rattle.csa_record.specs.declared.fault.Refusal.{Refusal}
+use Rattle.csa_record.specs.declared.fault.Why.{Why}
+use Rattle.csa_record.specs.declared.fault.Why.TheVariants as why
+use Rattle.csa_record.specs.declared.flow.FlowFault.{FlowFault}
+use Rattle.csa_record.specs.Flow.{fault_by, fault_of, IsRefusedBehind, IsRefusal, StopsAt, IsReadFault, FeedsNext, IsFed, IsFedAll}
+use Rattle.csa_record.specs.Order.{order_fault}
+use Rattle.csa_record.specs.Placing.{laid_out}
+use Rattle.csa_record.specs.Reading.{Reading, HasRead, IsRefusedBy}
+use Rattle.csa_record.specs.Refused.{Refused, FaultlessTo, Answers, AnswersAfter, AnswersInOrder, Finishes, IsJudged, start_why}
+
+-- ---- no record is refused as `Failed`
+
+start_first : (r : Result Layout SetupFault) → Some why.Failed ≡ start_why r → ⊥
+start_first (Ok s) h = cc
+start_first (Err fault) h = cc
+
+turn_first : (r : Result Layout SetupFault) (color : Color) → Finishes r color (Some why.Failed) → ⊥
+turn_first (Ok s) color h = let is = h.1 in cc
+turn_first (Err fault) color h = h
+
+judged_first : (played : Option PlayFault) → IsJudged played (Some why.Failed) → ⊥
+judged_first None h = cc
+judged_first (Some (playing.Broken rule)) h = cc
+judged_first (Some playing.TooManyMoves) h = h
+judged_first (Some playing.OutOfMemory) h = h
+
+in_order_first : (before : List Saying) (saying : Saying) → AnswersInOrder before saying (Some why.Failed) → ⊥
+in_order_first before version h = cc
+in_order_first before (name color text) h = cc
+in_order_first before (header key text) h = cc
+in_order_first before (even pairs) h = start_first (laid_out (before ++ even pairs ∷ [])) h
+in_order_first before (rank number cells) h = start_first (laid_out (before ++ rank number cells ∷ [])) h
+in_order_first before (pieces color pairs) h = start_first (laid_out (before ++ pieces color pairs ∷ [])) h
+in_order_first before (turn color) h = turn_first (laid_out before) color h
+in_order_first before (walked color m) h = judged_first h.2 h.4
+in_order_first before (time t) h = cc
+in_order_first before (ending e) h = cc
+
+after_first : (fault : Option OrderFault) (before : List Saying) (saying : Saying) → AnswersAfter fault before saying (Some why.Failed) → ⊥
+after_first (Some fault) before saying h = cc
+after_first None before saying h = in_order_first before saying h
+
+pub never_failed : (source : List ℕ) (number offset : ℕ) (w : Why) → Refused source number offset w → w ≢ why.Failed
+never_failed source number offset w (inl at) = λ is. elim at.fault [
+  | inl long ↦ let text = long.1 in cc
+  | inr rest ↦ elim rest [
+    | inl unspelt ↦ let text = unspelt.2 in cc
+    | inr item ↦ after_first (order_fault at.sayings item.0) at.sayings item.0 (subst (λ x. Answers at.sayings item.0 (Some x)) is item.2)
+  ]
+]
+never_failed source number offset w (inr at) = λ is. let order = at.why_is in cc
+
+pub never_failed_by : (source : List ℕ) (r : Refusal) → IsRefusedBy source r → r.why ≢ why.Failed
+never_failed_by source r (inl h) = never_failed source r.number r.offset r.why h.1
+never_failed_by source r (inr h) = λ is. let want = h.0 in cc
+
+-- ---- a refusal as a fault
+
+behind_first : (new : Option (List ℕ)) (bytes : List ℕ) (r : Refusal) → IsRefusedBehind new bytes r → r.why ≢ why.Failed
+behind_first new bytes r (inl h) = never_failed (bytes ++ []) r.number r.offset r.why (h [])
+behind_first new bytes r (inr h) = never_failed bytes r.number r.offset r.why h.1
+
+refusal_by : (old new : Option (List ℕ)) (bytes : List ℕ) (r : Refusal) → StopsAt bytes → Consumes old new bytes → r.why ≢ why.OutOfMemory → IsRefusedBehind new bytes r → IsRefusal old new r
+refusal_by old new bytes r stopped given no_want refused = record {
+  bytes = bytes;
+  given = given;
+  stopped = stopped;
+  refused = refused;
+  no_want = no_want;
+  first = behind_first new bytes r refused;
+}
+
+fault_by_why : (old new : Option (List ℕ)) (before after : ℕ) (bytes : List ℕ) (r : Refusal) (w : Why) → StopsAt bytes → r.why ≡ w → Consumes old new bytes → after ≡ before
+    → (r.why ≢ why.OutOfMemory → IsRefusedBehind new bytes r) → (r.why ≡ why.OutOfMemory → FaultlessTo bytes r.number r.offset)
+    → IsReadFault old new before after (fault_by w r)
+fault_by_why old new before after bytes r (why.Text fault) stopped is given quiet refused wanting =
+    let no_want : r.why ≢ why.OutOfMemory = λ h. cc in (refusal_by old new bytes r stopped given no_want (refused no_want), quiet)
+fault_by_why old new before after bytes r (why.Order fault) stopped is given quiet refused wanting =
+    let no_want : r.why ≢ why.OutOfMemory = λ h. cc in (refusal_by old new bytes r stopped given no_want (refused no_want), quiet)
+fault_by_why old new before after bytes r (why.Start fault) stopped is given quiet refused wanting =
+    let no_want : r.why ≢ why.OutOfMemory = λ h. cc in (refusal_by old new bytes r stopped given no_want (refused no_want), quiet)
+fault_by_why old new before after bytes r (why.Rule rule) stopped is given quiet refused wanting =
+    let no_want : r.why ≢ why.OutOfMemory = λ h. cc in (refusal_by old new bytes r stopped given no_want (refused no_want), quiet)
+fault_by_why old new before after bytes r why.OutOfMemory stopped is given quiet refused wanting =
+    (record { bytes = bytes; given = given; number = r.number; offset = r.offset; faultless = wanting is; stopped = stopped }, quiet)
+fault_by_why old new before after bytes r why.Failed stopped is given quiet refused wanting =
+    let no_want : r.why ≢ why.OutOfMemory = λ h. cc in (refusal_by old new bytes r stopped given no_want (refused no_want), quiet)
+
+pub fault_tells : (old new : Option (List ℕ)) (before after : ℕ) (bytes : List ℕ) (r : Refusal) (fault : FlowFault) → StopsAt bytes → fault ≡ fault_of r → Consumes old new bytes → after ≡ before
+    → (r.why ≢ why.OutOfMemory → IsRefusedBehind new bytes r) → (r.why ≡ why.OutOfMemory → FaultlessTo bytes r.number r.offset)
+    → IsReadFault old new before after fault
+fault_tells old new before after bytes r fault stopped is given quiet refused wanting =
+    subst (IsReadFault old new before after) (sym is) (fault_by_why old new before after bytes r r.why stopped refl given quiet refused wanting)
+
+-- ---- one piece
+
+-- the piece shows a refusal
+pub piece_refused : (bytes piece : List ℕ) (old new : Option (List ℕ)) (before after : ℕ) (r : Refusal) (fault : FlowFault) (reader : Reading) → HasRead bytes reader → length piece ≤ 4096 → fault ≡ fault_of r → Consumes old new piece → after ≡ before
+    → ((more : List ℕ) → r.why ≢ why.OutOfMemory → Refused ((bytes ++ piece) ++ more) r.number r.offset r.why)
+    → ((more : List ℕ) → r.why ≡ why.OutOfMemory → FaultlessTo ((bytes ++ piece) ++ more) r.number r.offset)
+    → (start : Option (List ℕ)) → Consumes start old bytes → IsReadFault start new before after fault
+piece_refused bytes piece old new before after r fault reader read short is given quiet refused wanting start front =
+    fault_tells start new before after (bytes ++ piece) r fault (record { front = bytes; piece = piece; whole = refl; short = short; reader = reader; read = read }) is (Consumes-trans start old new bytes piece front given) quiet
+    (λ no_want. inl (λ more. refused more no_want))
+    (λ want. subst (λ x. FaultlessTo x r.number r.offset) (append-nil (bytes ++ piece)) (wanting [] want))
+
+-- no byte came, so the source is at its end
+pub no_piece : (bytes buffer : List ℕ) (taken : ℕ) (old new : Option (List ℕ)) (before after : ℕ) (r : Reading) → taken ≡ 0 → Consumes old new (take taken buffer) → (taken ≡ 0 → 0 < length buffer → IsAtEnd new)
+    → 0 < length buffer → after ≡ before → HasRead bytes r → FeedsNext bytes old new before after (Ok false) r
+no_piece bytes buffer taken old new before after r none given end room quiet h =
+    let nothing : take taken buffer ≡ [] = ap (λ n. take n buffer) none in
+    (subst (Consumes old new) nothing given, end none room, quiet, h)
+
+-- ---- piece after piece
+
+pub fed_next : (old mid new : Option (List ℕ)) (before between after reads : ℕ) (r s : Reading) → IsFed old mid before between reads r
+    → ((bytes : List ℕ) → HasRead bytes r → FeedsNext bytes mid new between after (Ok true) s) → IsFed old new before after (reads + 1) s
+fed_next old mid new before between after reads r s h step =
+    let next = step h.bytes h.read in
+    let longer : length (h.bytes ++ next.0) ≡ length h.bytes + length next.0 = length-append h.bytes next.0 in
+    record {
+      bytes = h.bytes ++ next.0;
+      given = Consumes-trans old mid new h.bytes next.0 h.given next.1;
+      quiet = next.4 ∙ h.quiet;
+      least = omega (arith, longer, h.least, next.2);
+      most = omega (arith, longer, h.most, next.3);
+      read = next.5;
+    }
+
+pub fed_last : (old mid new : Option (List ℕ)) (before between after reads : ℕ) (r s : Reading) → reads ≤ 16777216 → IsFed old mid before between reads r
+    → ((bytes : List ℕ) → HasRead bytes r → FeedsNext bytes mid new between after (Ok false) s) → IsFedAll old new before after s
+fed_last old mid new before between after reads r s within h step =
+    let next = step h.bytes h.read in
+    record {
+      bytes = h.bytes;
+      given = subst (Consumes old new) (append-nil h.bytes) (Consumes-trans old mid new h.bytes [] h.given next.0);
+      ended = next.1;
+      few = omega (arith, h.most, within);
+      quiet = next.2 ∙ h.quiet;
+      read = next.3;
+    }
+
+-- ---- the record
+
+pub record_refused : (old new : Option (List ℕ)) (before after : ℕ) (r : Reading) (e : Refusal) (fault : FlowFault) → fault ≡ fault_of e → IsFedAll old new before after r
+    → ((source : List ℕ) → HasRead source r → e.why ≢ why.OutOfMemory → Refused source e.number e.offset e.why)
+    → ((source : List ℕ) → HasRead source r → e.why ≡ why.OutOfMemory → FaultlessTo source e.number e.offset)
+    → IsReadFault old new before after fault
+record_refused old new before after r e fault is h refused wanting =
+    fault_tells old new before after h.bytes e fault (record { front = h.bytes; piece = []; whole = sym (append-nil h.bytes); short = omega (arith); reader = r; read = h.read }) is h.given h.quiet (λ no_want. inr (h.ended, refused h.bytes h.read no_want)) (wanting h.bytes h.read)

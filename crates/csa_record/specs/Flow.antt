@@ -1,0 +1,166 @@
+-- A record that comes from a source, and its canonical text that goes to a sink.
+use Rattle.std.specs.Prelude.{◌≡◌, ◌≢◌, ◌⊎◌, ℕ, ◌+◌, ◌*◌, ◌<◌, ◌≤◌, ◌==◌, ◌&&◌, Bool, true, false, nat_lt, if◌then◌else◌, List, [], ◌++◌, length, take, Option, Result, Ok, Err, MatchResult}
+use Rattle.std.specs.Io.KnownBytes.{Keeps, Appends, Consumes, IsAtEnd}
+use Rattle.csa_record.specs.declared.fault.Refusal.{Refusal}
+use Rattle.csa_record.specs.declared.fault.Why.{Why}
+use Rattle.csa_record.specs.declared.fault.Why.TheVariants as why
+use Rattle.csa_record.specs.declared.flow.FlowFault.{FlowFault}
+use Rattle.csa_record.specs.declared.flow.FlowFault.TheVariants as flow
+use Rattle.csa_record.specs.Canon.{canon}
+use Rattle.csa_record.specs.Game.{Game}
+use Rattle.csa_record.specs.Reading.{Reading, HasRead}
+use Rattle.csa_record.specs.Refused.{Refused, FaultlessTo}
+use Rattle.csa_record.specs.Tells.{Tells}
+
+-- it failed once more at an error, and else not
+abbrev pub CountsErrors : {T E : Type 0} → ℕ → ℕ → Result T E → Type 0
+CountsErrors old new r = MatchResult r (λ _. new ≡ old) (λ _. new ≡ old + 1)
+
+-- a write that takes none of some bytes is a failure too
+abbrev pub after_write : ℕ → ℕ → List ℕ → ℕ
+after_write old taken piece = if taken == 0 && nat_lt 0 (length piece) then old + 1 else old
+
+abbrev pub CountsWrites : {E : Type 0} → ℕ → ℕ → Result ℕ E → List ℕ → Type 0
+CountsWrites old new r piece = MatchResult r (λ taken. new ≡ after_write old taken piece) (λ _. new ≡ old + 1)
+
+-- the known bytes grew by the front of the text, perhaps by nothing and perhaps by all of it
+abbrev pub AppendsFront : Option (List ℕ) → Option (List ℕ) → List ℕ → Type 0
+AppendsFront old new text = (n : ℕ) × (n ≤ length text) × Appends old new (take n text)
+
+abbrev pub fault_by : Why → Refusal → FlowFault
+fault_by (why.Text fault) r = flow.Refused r
+fault_by (why.Order fault) r = flow.Refused r
+fault_by (why.Start fault) r = flow.Refused r
+fault_by (why.Rule rule) r = flow.Refused r
+fault_by why.OutOfMemory r = flow.OutOfMemory
+fault_by why.Failed r = flow.Refused r
+
+-- want of memory is no refusal of the record
+abbrev pub fault_of : Refusal → FlowFault
+fault_of r = fault_by r.why r
+
+-- the source gave bytes that tell this game, and is at its end
+pub record IsTold (old new : Option (List ℕ)) (g : Game) : Type 0 where
+  pub bytes : List ℕ
+  pub given : Consumes old new bytes
+  pub ended : IsAtEnd new
+  pub few : length bytes ≤ 4096 * 16777216
+  pub tells : Tells bytes g
+
+-- bytes with this front are refused so, whatever comes behind it; or the source is at its end, and they are refused there
+abbrev pub IsRefusedBehind : Option (List ℕ) → List ℕ → Refusal → Type 0
+IsRefusedBehind new bytes r =
+    ((more : List ℕ) → Refused (bytes ++ more) r.number r.offset r.why)
+    ⊎ (IsAtEnd new × Refused bytes r.number r.offset r.why)
+
+-- all but a last piece of at most 4,096 bytes was read, and no statement that it closes has a fault
+pub record StopsAt (bytes : List ℕ) : Type 0 where
+  pub front : List ℕ
+  pub piece : List ℕ
+  pub whole : bytes ≡ front ++ piece
+  pub short : length piece ≤ 4096
+  pub reader : Reading
+  pub read : HasRead front reader
+
+-- the source gave bytes that are refused so
+pub record IsRefusal (old new : Option (List ℕ)) (r : Refusal) : Type 0 where
+  pub bytes : List ℕ
+  pub given : Consumes old new bytes
+  pub stopped : StopsAt bytes
+  pub refused : IsRefusedBehind new bytes r
+  pub no_want : r.why ≢ why.OutOfMemory
+  pub first : r.why ≢ why.Failed
+
+-- the source gave bytes of which the statements up to some have no fault
+pub record IsFaultless (old new : Option (List ℕ)) : Type 0 where
+  pub bytes : List ℕ
+  pub given : Consumes old new bytes
+  pub number : ℕ
+  pub offset : ℕ
+  pub faultless : FaultlessTo bytes number offset
+  pub stopped : StopsAt bytes
+
+-- the source gave at least so many bytes
+pub record GaveMany (old new : Option (List ℕ)) (many : ℕ) : Type 0 where
+  pub bytes : List ℕ
+  pub given : Consumes old new bytes
+  pub least : many ≤ length bytes
+
+-- the source failed once; or it has not failed, and after so many bytes its end has not come
+abbrev pub FailsRead : Option (List ℕ) → Option (List ℕ) → ℕ → ℕ → Type 0
+FailsRead old new before after = (after ≡ before + 1) ⊎ ((after ≡ before) × GaveMany old new 16777216)
+
+-- what the source gave has no fault: so far, or to its end, where it tells a game
+abbrev pub IsWanting : Option (List ℕ) → Option (List ℕ) → Type 0
+IsWanting old new = IsFaultless old new ⊎ ((g : Game) × IsTold old new g)
+
+-- what the source gave where a record was not read, and how often it had failed before and after
+abbrev pub IsReadFault : Option (List ℕ) → Option (List ℕ) → ℕ → ℕ → FlowFault → Type 0
+IsReadFault old new before after (flow.Refused r) = IsRefusal old new r × (after ≡ before)
+IsReadFault old new before after flow.ReadFault = FailsRead old new before after
+IsReadFault old new before after flow.WriteFault = ⊥
+IsReadFault old new before after flow.OutOfMemory = IsFaultless old new × (after ≡ before)
+
+-- what the source gave, and what was read of it
+abbrev pub ReadsRecord : Option (List ℕ) → Option (List ℕ) → ℕ → ℕ → Result Game FlowFault → Type 0
+ReadsRecord old new before after (Ok g) = IsTold old new g × (after ≡ before)
+ReadsRecord old new before after (Err fault) = IsReadFault old new before after fault
+
+-- a reader of these bytes was fed the next piece of the source; or the source is at its end; or here the reading stops
+abbrev pub FeedsNext : List ℕ → Option (List ℕ) → Option (List ℕ) → ℕ → ℕ → Result Bool FlowFault → Reading → Type 0
+FeedsNext bytes old new before after (Ok true) reader =
+    (piece : List ℕ) × Consumes old new piece × (0 < length piece) × (length piece ≤ 4096) × (after ≡ before) × HasRead (bytes ++ piece) reader
+FeedsNext bytes old new before after (Ok false) reader = Consumes old new [] × IsAtEnd new × (after ≡ before) × HasRead bytes reader
+FeedsNext bytes old new before after (Err fault) reader =
+    (start : Option (List ℕ)) → Consumes start old bytes → IsReadFault start new before after fault
+
+-- in so many reads a reader was fed what the source gave
+pub record IsFed (old new : Option (List ℕ)) (before after reads : ℕ) (reader : Reading) : Type 0 where
+  pub bytes : List ℕ
+  pub given : Consumes old new bytes
+  pub quiet : after ≡ before
+  pub least : reads ≤ length bytes
+  pub most : length bytes ≤ 4096 * reads
+  pub read : HasRead bytes reader
+
+-- a reader was fed all that the source gave up to its end
+pub record IsFedAll (old new : Option (List ℕ)) (before after : ℕ) (reader : Reading) : Type 0 where
+  pub bytes : List ℕ
+  pub given : Consumes old new bytes
+  pub ended : IsAtEnd new
+  pub few : length bytes ≤ 4096 * 16777216
+  pub quiet : after ≡ before
+  pub read : HasRead bytes reader
+
+-- the source tells a game, and this is its canonical text; or none was read, or memory was wanting
+abbrev pub IsTextFault : Option (List ℕ) → Option (List ℕ) → ℕ → ℕ → FlowFault → Type 0
+IsTextFault old new before after (flow.Refused r) = IsRefusal old new r × (after ≡ before)
+IsTextFault old new before after flow.ReadFault = FailsRead old new before after
+IsTextFault old new before after flow.WriteFault = ⊥
+IsTextFault old new before after flow.OutOfMemory = IsWanting old new × (after ≡ before)
+
+abbrev pub TellsText : Option (List ℕ) → Option (List ℕ) → ℕ → ℕ → List ℕ → Type 0
+TellsText old new before after text = (g : Game) × IsTold old new g × (text ≡ canon g) × (after ≡ before)
+
+-- the source tells a game, of whose canonical text the sink took all and nothing else
+pub record IsNormal (old new held_old held_new : Option (List ℕ)) : Type 0 where
+  pub game : Game
+  pub told : IsTold old new game
+  pub taken : Appends held_old held_new (canon game)
+
+-- the source tells a game, of whose canonical text the sink took the front and nothing else
+pub record IsCutShort (old new held_old held_new : Option (List ℕ)) : Type 0 where
+  pub game : Game
+  pub told : IsTold old new game
+  pub taken : AppendsFront held_old held_new (canon game)
+
+-- what flowed where the text was not written whole, and how often the source and the sink had failed before and after
+abbrev pub IsFlowFault : Option (List ℕ) → Option (List ℕ) → Option (List ℕ) → Option (List ℕ) → ℕ → ℕ → ℕ → ℕ → FlowFault → Type 0
+IsFlowFault old new held_old held_new before after sink_before sink_after (flow.Refused r) =
+    IsRefusal old new r × (after ≡ before) × Keeps held_old held_new × (sink_after ≡ sink_before)
+IsFlowFault old new held_old held_new before after sink_before sink_after flow.ReadFault =
+    FailsRead old new before after × Keeps held_old held_new × (sink_after ≡ sink_before)
+IsFlowFault old new held_old held_new before after sink_before sink_after flow.WriteFault =
+    IsCutShort old new held_old held_new × (after ≡ before) × (sink_after ≡ sink_before + 1)
+IsFlowFault old new held_old held_new before after sink_before sink_after flow.OutOfMemory =
+    IsWanting old new × (after ≡ before) × Keeps held_old held_new × (sink_after ≡ sink_before)

@@ -1,9 +1,0 @@
--- What a reader's own stage is.
-use Rattle.csa_record.specs.declared.progress.Stage.{Stage}
-use Rattle.csa_record.specs.declared.progress.Stage.TheVariants as stages
-use Rattle.csa_record.specs.Games.Keeping as kept
-use Rattle.csa_record.specs.Games.Keeping.{laying, playing}
-
-abbrev pub stage_of : Stage → kept.Stage
-stage_of (stages.Laying l) = laying l
-stage_of (stages.Playing c) = playing c

@@ -1,0 +1,51 @@
+-- Placing pieces one after another, and why one cannot be placed.
+use Rattle.std.specs.Prelude.{◌&&◌, nat_lt, not, false, List, [], ◌∷◌, Option, Some, None, Result, Ok, Err, is_some, slice_set, slice_index_or}
+use Rattle.shogi_board.specs.declared.setup.SetupFault.{SetupFault}
+use Rattle.shogi_board.specs.declared.setup.SetupFault.TheVariants.{SquareTaken, TooMany, SecondKing, NotThere, AfterRest}
+use Rattle.shogi_board.specs.Cells.{Cells}
+use Rattle.shogi_board.specs.Layout.{Layout}
+use Rattle.shogi_board.specs.Pieces.{is_king}
+use Rattle.shogi_board.specs.Setup.{first_fault, add_fault, rest_fault, is_full, holds, with_hand, hand_of, one_more, rest_to}
+use Rattle.shogi_board.specs.Totals.{kings_of, no_pieces}
+use Rattle.csa_text.specs.Spelling.{Saying}
+use Rattle.csa_record.specs.Items.{positions}
+use Rattle.csa_record.specs.Placings.{Placing, on, off, in_hand, rest, placings}
+use Rattle.csa_record.specs.Union.{first_board}
+
+-- why it cannot be placed
+abbrev pub placing_fault : Layout → Placing → Option SetupFault
+placing_fault s (on n p) =
+    first_fault (
+    (AfterRest, s.rest_given)
+    ∷ (SquareTaken, is_some (slice_index_or s.board n None))
+    ∷ (SecondKing, is_king p.kind && nat_lt 0 (kings_of s.board p.color))
+    ∷ (TooMany, is_full s p.kind)
+    ∷ [])
+placing_fault s (off n of_kind) =
+    first_fault ((AfterRest, s.rest_given) ∷ (NotThere, not (holds of_kind (slice_index_or s.board n None))) ∷ [])
+placing_fault s (in_hand color of_kind) = add_fault s of_kind
+placing_fault s (rest color) = rest_fault s
+
+-- with it placed
+abbrev pub placed : Layout → Placing → Layout
+placed s (on n p) = record s { board = slice_set s.board n (Some p) }
+placed s (off n of_kind) = record s { board = slice_set s.board n None }
+placed s (in_hand color of_kind) = with_hand s color (one_more (hand_of s color) of_kind)
+placed s (rest color) = rest_to s color
+
+abbrev pub unless : Option SetupFault → Result Layout SetupFault → Result Layout SetupFault
+unless None next = next
+unless (Some fault) next = Err fault
+
+-- all of them, or why the first that cannot be placed cannot be
+abbrev pub place_all : Layout → List Placing → Result Layout SetupFault
+place_all s [] = Ok s
+place_all s (p ∷ ps) = unless (placing_fault s p) (place_all (placed s p) ps)
+
+-- a board with empty hands
+abbrev pub board_alone : Cells → Layout
+board_alone cells = record { board = cells; black = no_pieces; white = no_pieces; rest_given = false }
+
+-- what the position statements among the items place
+abbrev pub laid_out : List Saying → Result Layout SetupFault
+laid_out sayings = place_all (board_alone (first_board (positions sayings))) (placings (positions sayings))

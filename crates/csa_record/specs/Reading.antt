@@ -1,0 +1,67 @@
+-- A reader of a record that comes in pieces.
+use Rattle.std.specs.Prelude.{◌≡◌, ◌≢◌, ◌⊎◌, ℕ, List, [], ◌++◌, length, take, Option, Some, None, Result, Ok, Err}
+use Rattle.csa_text.specs.Cut.{TextUnit, Cut}
+use Rattle.csa_text.specs.Piecing.{Piecing}
+use Rattle.csa_text.specs.TooLong.{HasCutOf}
+use Rattle.csa_text.specs.Spelling.{Saying}
+use Rattle.csa_record.specs.declared.fault.Refusal.{Refusal}
+use Rattle.csa_record.specs.declared.fault.Why.TheVariants.{OutOfMemory}
+use Rattle.csa_record.specs.Keeping.{Kept, Keeps}
+use Rattle.csa_record.specs.Refused.{Faultless, Refused, FaultlessTo}
+
+-- the statement that was refused, and how many bytes were fed before
+pub record Failing : Type 0 where
+  pub number : ℕ
+  pub offset : ℕ
+  pub fed : ℕ
+
+-- the cutter of its pieces, what is kept of their statements, and where it was refused
+pub record Reading : Type 0 where
+  pub cutter : Piecing
+  pub kept : Kept
+  pub failing : Option Failing
+
+-- the bytes of the pieces that were not refused
+abbrev pub fed_by : Piecing → Option Failing → ℕ
+fed_by p None = p.fed
+fed_by p (Some f) = f.fed
+
+abbrev pub fed_of : Reading → ℕ
+fed_of r = fed_by r.cutter r.failing
+
+-- of these bytes the cutter has handed out the closed statements; none has a fault; and this is kept of their items
+pub record HasTaken (source : List ℕ) (p : Piecing) (k : Kept) : Type 0 where
+  pub closed : List TextUnit
+  pub sayings : List Saying
+  pub cut : HasCutOf source p closed
+  pub faultless : Faultless [] closed sayings
+  pub keeps : Keeps sayings k
+
+-- the reader was fed these bytes, whose closed statements have no fault
+pub record HasRead (source : List ℕ) (r : Reading) : Type 0 where
+  pub going : r.failing ≡ None
+  pub taken : HasTaken source r.cutter r.kept
+
+-- refused for its first fault; or memory was refused where no statement up to there has one
+abbrev pub IsRefusedBy : List ℕ → Refusal → Type 0
+IsRefusedBy source r =
+    ((r.why ≢ OutOfMemory) × Refused source r.number r.offset r.why) ⊎ ((r.why ≡ OutOfMemory) × FaultlessTo source r.number r.offset)
+
+-- the next bytes of the piece were taken; or the bytes with that piece are refused, whatever comes behind them
+abbrev pub NextTaken : List ℕ → List ℕ → Result ℕ Refusal → Reading → Type 0
+NextTaken source piece (Ok used) new = HasRead (source ++ take used piece) new
+NextTaken source piece (Err r) new = (more : List ℕ) → IsRefusedBy ((source ++ piece) ++ more) r
+
+-- the statements of these bytes, none of which has a fault, and what is kept of their items
+pub record HasAll (source : List ℕ) (p : Piecing) (k : Kept) : Type 0 where
+  pub statements : List TextUnit
+  pub sayings : List Saying
+  pub cut : Cut source statements
+  pub faultless : Faultless [] statements sayings
+  pub keeps : Keeps sayings k
+  pub counted : p.number ≡ length statements
+
+-- the last statement was taken, if one was unfinished; or the bytes are refused
+abbrev pub LastTaken : List ℕ → Result (Unit {0}) Refusal → Piecing → Kept → Type 0
+LastTaken source (Ok u) p k = HasAll source p k
+LastTaken source (Err r) p k = IsRefusedBy source r

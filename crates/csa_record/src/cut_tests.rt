@@ -1,0 +1,143 @@
+use crate::{Record, RecordReader, Refusal, read, write};
+use std::alloc::Global;
+use std::test::Fail;
+
+const RECORDS: [&[u8]; 50] = [
+    b"PI\n+\n",
+    b"V2.2\nPI\n+\n+7776FU,T12\n-3334FU,T6\n%TORYO\n",
+    b"",
+    b"P+13KI33KE59OU00FU\nP-11OU\n+\n+0012FU\n",
+    b"P+13KI33KE59OU00FU\nP-11OU21KI\n+\n+0012FU\n",
+    b"P+55FU00FU\n+\n+0054FU\n",
+    b"P+12FU\n+\n+1211FU\n",
+    b"P+12FU\n+\n+1211TO\n",
+    b"P+59OU\nP-51HI\n+\n+5958OU\n",
+    b"P+59OU\nP-51HI\n+\n+5957OU\n",
+    b"P+59OU\nP-51HI\n+\n+5948OU\n",
+    b"N+\n$SITE:b\n$EVENT:a\nPI\n+\n",
+    b"$START_TIME:2024/2/29 9:05:07\nPI\n+\n",
+    b"$START_TIME:2023/02/29\nPI\n+\n",
+    b"PI\n+\n+2838HI\n-8272HI\n+3828HI\n-7282HI\n+2838HI\n-8272HI\n+3828HI\n-7282HI\n+2838HI\n-8272HI\n+3828HI\n-7282HI\n+7776FU\n",
+    b"PI\n+\n+7776FU\nT007\n",
+    b"PI\n+\n+7776FU\nT4294967296\n",
+    b"PI\n+\n+7776FU\nT4294967295.999\n",
+    b"P-51OU\nP+53FU00KI\nP-00AL\n+\n",
+    b"P-51OU\nP+53FU00KI\nP-00AL\nP+00FU\n+\n",
+    b"PI\n+\n+7776FU\n-3334FU\n+8822UM\n-3122GI\n",
+    b"V2.2\nPI\n+\n+7776F",
+    b"V3.0\n",
+    b"N+a,b\nPI\n+\n",
+    b"PI82HI22KA\n-\n",
+    b"P+59OU\nP-51OU\n+\n",
+    b"P9 *  *  *  *  *  *  *  *  * \n+\n",
+    b"P+59HI99OU\nP-41OU\n+\n+5949HI\n-4151OU\n+4959HI\n-5141OU\n+5949HI\n-4151OU\n+4959HI\n-5141OU\n+5949HI\n-4151OU\n+4959HI\n-5141OU\n",
+    b"P+13KI33KE59OU00KI\nP-11OU\n+\n+0012KI\n",
+    b"$EVENT\n+\n",
+    b"P+5FU\n+\n",
+    b"PI\n+\n%TOR\n",
+    b"PI\n+\n%MAX_MOVES\n",
+    b"PI\n+\n/\n",
+    b"P+55FU55KI\n+\n",
+    b"P+00HI00HI\nP-00HI\n+\n",
+    b"P+59OU\nP+58OU\n+\n",
+    b"P+00TO\n+\n",
+    b"PI82KA\n+\n",
+    b"P-51OU\nP+59HI\n+\n",
+    b"PI\nV2.2\n+\n",
+    b"N+a\nN+b\nPI\n+\n",
+    b"$EVENT:a\n$EVENT:b\n+\n",
+    b"PI\nPI\n+\n",
+    b"PI\n+\nP+00FU\n",
+    b"PI\n+7776FU\n",
+    b"PI\n+\n-\n",
+    b"PI\n+\nT1\n",
+    b"PI\n+\n%TORYO\n+7776FU\n",
+    b"\xEF\xBB\xBFV2.2\r\nPI\r\n'a,b\r\n+\r\n+7776FU,T0.050\r\n%TORYO,T3",
+];
+
+// The canonical text, or the refusal.
+fn text_of(
+    alloc: Global,
+    answer: Result<Record, Refusal>,
+) -> Result<Result<Vec<u8>, Refusal>, Fail> {
+    match answer {
+        Ok(record) => Ok(Ok(write(alloc, &record)?)),
+        Err(refusal) => Ok(Err(refusal)),
+    }
+}
+
+// Feeds a piece of a short record, for which there is room.
+fn feed(reader: &mut RecordReader, piece: &[u8]) -> Result<(), Refusal> {
+    if reader.fed() > 10_000 || piece.len() > 10_000 {
+        return Ok(());
+    }
+    reader.feed(piece)
+}
+
+fn in_two(alloc: Global, front: &[u8], behind: &[u8]) -> Result<Record, Refusal> {
+    let mut reader = RecordReader::new(alloc);
+    feed(&mut reader, front)?;
+    feed(&mut reader, behind)?;
+    reader.finish()
+}
+
+fn byte_by_byte(alloc: Global, source: &[u8]) -> Result<Record, Refusal> {
+    let mut reader = RecordReader::new(alloc);
+    for at in 0..source.len() {
+        feed(&mut reader, &source[at..=at])?;
+    }
+    reader.finish()
+}
+
+// Cut in two at any place, the record is read as at once.
+fn reads_in_two(alloc: Global, source: &[u8]) -> Result<bool, Fail> {
+    let whole = text_of(alloc, read(alloc, source))?;
+    for at in 0..=source.len() {
+        let (front, behind) = source.split_at(at);
+        if text_of(alloc, in_two(alloc, front, behind))? != whole {
+            return Ok(false);
+        }
+    }
+    Ok(true)
+}
+
+// Cut off at any place, it is read byte by byte as at once.
+fn reads_byte_by_byte(alloc: Global, source: &[u8]) -> Result<bool, Fail> {
+    for at in 0..=source.len() {
+        let front = &source[..at];
+        let whole = text_of(alloc, read(alloc, front))?;
+        if text_of(alloc, byte_by_byte(alloc, front))? != whole {
+            return Ok(false);
+        }
+    }
+    Ok(true)
+}
+
+#[test]
+fn records_cut_anywhere_are_read_alike(rt: HostRuntime) -> Result<(), Fail> {
+    for record in RECORDS {
+        assert!(rt; reads_in_two(rt.alloc(), record)?);
+        assert!(rt; reads_byte_by_byte(rt.alloc(), record)?);
+    }
+    Ok(())
+}
+
+// A record of one name of so many bytes.
+fn named(alloc: Global, length: usize) -> Result<Vec<u8>, Fail> {
+    let mut source = Vec::new(alloc);
+    source.extend_from_slice(b"N+")?;
+    for _ in 0..length {
+        source.push(b'a')?;
+    }
+    source.extend_from_slice(b"\n+\n")?;
+    Ok(source)
+}
+
+#[test]
+fn long_names_cut_anywhere_are_read_alike(rt: HostRuntime) -> Result<(), Fail> {
+    for length in [4094, 4095] {
+        let source = named(rt.alloc(), length)?;
+        assert!(rt; reads_in_two(rt.alloc(), source.as_slice())?);
+    }
+    Ok(())
+}

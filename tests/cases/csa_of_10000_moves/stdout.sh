@@ -1,0 +1,31 @@
+moves() {
+# Two rooks go round on their own files, black's in 18 steps and white's in 17, and black's pawn is pushed before a
+# position stands for the fourth time.
+awk 'BEGIN {
+    b = w = 0
+    for (i = 1; i <= 9; i++) { black[i - 1] = 10 + i; black[18 - i] = 20 + i }
+    for (i = 1; i <= 9; i++) white[i - 1] = 40 + i
+    white[9] = 59
+    for (i = 7; i >= 1; i--) white[17 - i] = 50 + i
+    pawn = 98
+    for (n = 1; n <= 5000; n++) {
+        if (n % 750 == 0) { printf "+%d%dFU\n", pawn, pawn - 1; pawn-- }
+        else { printf "+%d%dHI\n", black[b], black[(b + 1) % 18]; b = (b + 1) % 18 }
+        printf "-%d%dHI\n", white[w], white[(w + 1) % 17]; w = (w + 1) % 17
+    }
+}'
+}
+cat <<"END"
+V2.2
+P1 *  *  *  *  * -HI *  * +HI
+P2 *  *  *  *  *  *  *  *  * 
+P3 *  *  *  *  *  *  *  *  * 
+P4 *  *  *  *  *  *  *  *  * 
+P5 *  *  *  *  *  *  *  *  * 
+P6 *  *  *  *  *  *  *  *  * 
+P7 *  *  *  *  *  *  *  *  * 
+P8+FU *  *  *  *  *  *  *  * 
+P9 *  *  *  *  *  *  *  *  * 
++
+END
+moves
