@@ -2,6 +2,7 @@
 
 mod check;
 mod csa;
+mod engine;
 mod normal;
 mod usi;
 
@@ -24,7 +25,8 @@ pub fn all<'a>(alloc: Global) -> Result<Command<'a>, AllocError> {
         .subcommand(check::command(alloc)?)?
         .subcommand(normal::command(alloc)?)?
         .subcommand(usi::command(alloc)?)?
-        .subcommand(csa::command(alloc)?)
+        .subcommand(csa::command(alloc)?)?
+        .subcommand(engine::command(alloc))
 }
 
 /// Runs the command that the words named.
@@ -42,6 +44,7 @@ pub fn run<R: Files + Input + Print + AllocGlobal>(
         Some((normal::NAME, words)) => normal::run(rt, words),
         Some((usi::NAME, words)) => usi::run(rt, words),
         Some((csa::NAME, words)) => csa::run(rt, words),
+        Some((engine::NAME, _)) => engine::run(rt),
         _ => Err(Fault::UnknownCommand),
     }
 }

@@ -1,6 +1,6 @@
 //! What the commands read and write.
 
-ghost use Rattle.std.specs.Prelude.{◌≡◌, ◌≢◌, ◌⊎◌, IfErr, OnOk};
+ghost use Rattle.std.specs.Prelude.{◌≡◌, ◌≢◌, ◌⊎◌, ◌≤◌, length, IfOk, IfErr, OnOk};
 ghost use Rattle.std.specs.Io.KnownBytes.{Appends};
 
 use crate::fault::Fault;
@@ -8,8 +8,14 @@ use clap::{Arg, ArgMatches};
 use csa_record::{Reading, Record};
 use std::alloc::Global;
 use std::fs;
-use std::io::Write;
+use std::io::{ErrorKind, Read, Write};
 use std::rt::Files;
+
+/// The most bytes of a line that a command takes.
+pub const LONGEST_LINE: usize = 65_536;
+
+/// The most bytes of a read.
+pub const PIECE: usize = 4096;
 
 /// A file to be read from its start. `Fault::Read` where it cannot be opened.
 pub fn open<R: Files>(rt: &R, path: &str) -> Result<R::File, Fault>
@@ -38,6 +44,21 @@ pub fn record<R: Files + Input + AllocGlobal>(
         Some(path) => csa_record::read_from(rt.alloc(), &mut Reading::new(open(rt, path)?))?,
     };
     Ok(record)
+}
+
+/// The next bytes of the reader: how many there are, none only at its end. A read that is interrupted is made again.
+pub fn read<R: Read>(reader: &mut R, buffer: &mut [u8]) -> Result<usize, Fault>
+    ensures within { IfOk result (λ taken. taken ≤ length buffer.new) }
+    ensures faults { IfErr result (λ fault. (fault ≡ Fault.Read) ⊎ (fault ≡ Fault.OutOfMemory)) }
+{
+    for _ in 0..u64::MAX {
+        match reader.read(buffer) {
+            Ok(taken) => return Ok(taken),
+            Err(error) if error.kind() == ErrorKind::Interrupted => {}
+            Err(error) => return Err(Fault::of_read(&error)),
+        }
+    }
+    Err(Fault::Read)
 }
 
 /// Writes all of the bytes and flushes the writer. `Fault::Write` where it takes less, or cannot flush.

@@ -16,12 +16,6 @@ use usi_text::UsiFault;
 /// The command's word.
 pub const NAME: &str = "csa";
 
-// The most bytes of a line.
-const LIMIT: usize = 65_536;
-
-// The most bytes of a read.
-const PIECE: usize = 4096;
-
 /// The command's own words: a file, which may be absent.
 pub fn command<'a>(alloc: Global) -> Result<Command<'a>, AllocError> {
     Command::new(alloc, NAME)
@@ -58,14 +52,11 @@ pub fn run<R: Files + Input + Print + AllocGlobal>(
 fn one_line<R: Read>(alloc: Global, reader: &mut R) -> Result<Vec<u8>, Fault>
     ensures faults { IfErr result (λ fault. (fault ≢ Fault.WordsNotText) × (fault ≢ Fault.UnknownCommand)) }
 {
-    let mut cutter = LineCutter::new(alloc, LIMIT);
+    let mut cutter = LineCutter::new(alloc, streams::LONGEST_LINE);
     let mut first = None;
-    let mut buffer = [0u8; PIECE];
+    let mut buffer = [0u8; streams::PIECE];
     for _ in 0..u64::MAX {
-        let taken = match reader.read(&mut buffer) {
-            Ok(taken) => taken,
-            Err(error) => return Err(Fault::of_read(&error)),
-        };
+        let taken = streams::read(reader, &mut buffer)?;
         if taken == 0 {
             break;
         }

@@ -1,0 +1,1 @@
+printf 'isready\n'; head -c 65537 /dev/zero | tr '\0' ' '
