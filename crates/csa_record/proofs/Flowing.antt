@@ -15,7 +15,7 @@ use Rattle.csa_record.specs.declared.fault.Why.TheVariants as why
 use Rattle.csa_record.specs.declared.flow.FlowFault.{FlowFault}
 use Rattle.csa_record.specs.Flow.{fault_by, fault_of, IsRefusedBehind, IsRefusal, StopsAt, IsReadFault, FeedsNext, IsFed, IsFedAll}
 use Rattle.csa_record.specs.Order.{order_fault}
-use Rattle.csa_record.specs.Placing.{laid_out}
+use Rattle.csa_record.specs.LaidOut.{laid_out}
 use Rattle.csa_record.specs.Reading.{Reading, HasRead, IsRefusedBy}
 use Rattle.csa_record.specs.Refused.{Refused, FaultlessTo, Answers, AnswersAfter, AnswersInOrder, Finishes, IsJudged, start_why}
 

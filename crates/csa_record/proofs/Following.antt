@@ -38,7 +38,8 @@ use Rattle.csa_record.specs.Laying.{Laid}
 use Rattle.csa_record.specs.Limits.{is_below, Rising}
 use Rattle.csa_record.specs.Order as ordered
 use Rattle.csa_record.specs.Order.{stands, endings, order_fault}
-use Rattle.csa_record.specs.Placing.{place_all, board_alone, laid_out}
+use Rattle.shogi_board.specs.Placing.{place_all, board_alone}
+use Rattle.csa_record.specs.LaidOut.{laid_out}
 use Rattle.csa_record.specs.Placings.{placings_of, placings}
 use Rattle.csa_record.specs.Refused.{Answers, AnswersAfter, AnswersInOrder, Finishes, IsLineOf, start_why}
 use Rattle.csa_record.specs.Says.{Says, AreEntries, time_items, move_items, ending_items, played_items}

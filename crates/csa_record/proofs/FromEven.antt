@@ -16,7 +16,8 @@ use Rattle.shogi_board.specs.Totals.{hand_kinds}
 use Rattle.shogi_rules.proofs.Forms.{eq-self}
 use Rattle.csa_text.specs.PairTexts.{AllOnBoard}
 use Rattle.csa_text.specs.Spelling.{even}
-use Rattle.csa_record.specs.Placings.{Placing, on, off, in_hand, rest, taken_off, placings}
+use Rattle.shogi_board.specs.Placing.{Placing, on, off, in_hand, rest}
+use Rattle.csa_record.specs.Placings.{taken_off, placings}
 use Rattle.csa_record.specs.Union.{off_at, put_on, is_held, rest_given, MayBeHeld, RestIsLast, MayTakeOff, left_on, bag_given, IsUnion, GiveStart}
 use Rattle.csa_record.specs.Canon.{stands_in, is_part_of, missing}
 use Rattle.csa_record.specs.Squares.{square_at}

@@ -18,7 +18,8 @@ use Rattle.shogi_board.specs.Totals.{count_in, hand_kinds}
 use Rattle.csa_text.specs.declared.pair.Pair.{Pair}
 use Rattle.csa_text.specs.declared.pair.Pair.TheVariants.{InHand}
 use Rattle.csa_text.specs.Spelling.{Saying, rank}
-use Rattle.csa_record.specs.Placings.{Placing, on, off, in_hand, rest, cells_placings, pair_placing, placings_of, placings}
+use Rattle.shogi_board.specs.Placing.{Placing, on, off, in_hand, rest}
+use Rattle.csa_record.specs.Placings.{cells_placings, pair_placing, placings_of, placings}
 use Rattle.csa_record.specs.Union.{off_at, put_on, is_held, rest_given, MayBeHeld, RestIsLast, bag_given, IsUnion, GiveStart}
 use Rattle.csa_record.specs.Canon.{rank_cells, rank_items, hand_pairs, pairs_items, hand_items}
 use Rattle.csa_record.proofs.Bytes.{all_joined}

@@ -20,7 +20,8 @@ use Rattle.csa_record.specs.Items.{is_version, name_given, names, header_given, 
 use Rattle.csa_record.specs.Keeping.{Stage, laying, playing, Kept, Keeps, KeepsStage}
 use Rattle.csa_record.specs.Laying.{Laid, Lays}
 use Rattle.csa_record.specs.Order.{stands}
-use Rattle.csa_record.specs.Placing.{place_all, board_alone, laid_out}
+use Rattle.shogi_board.specs.Placing.{place_all, board_alone}
+use Rattle.csa_record.specs.LaidOut.{laid_out}
 use Rattle.csa_record.specs.Placings.{placings}
 use Rattle.csa_record.specs.Says.{AreEntries, RanksOnce, move_items, ending_items}
 use Rattle.csa_record.specs.Titles.{Titled, with_name, IsWithHeader}

@@ -20,7 +20,8 @@ use Rattle.csa_record.specs.declared.fault.Why.TheVariants.{Order, Start}
 use Rattle.csa_record.specs.Items.{is_even, is_position, positions, rank_given, ranks, sides}
 use Rattle.csa_record.specs.Laying.{Laid, Lays, LaidOrRefused}
 use Rattle.csa_record.specs.Order.{stands, endings, order_fault}
-use Rattle.csa_record.specs.Placing.{place_all, board_alone, laid_out}
+use Rattle.shogi_board.specs.Placing.{place_all, board_alone}
+use Rattle.csa_record.specs.LaidOut.{laid_out}
 use Rattle.csa_record.specs.Placings.{placings_of, placings}
 use Rattle.csa_record.specs.Refused.{start_why, AnswersInOrder, AnswersAfter}
 use Rattle.csa_record.specs.Union.{first_board}

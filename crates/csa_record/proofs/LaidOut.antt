@@ -12,8 +12,9 @@ use Rattle.csa_text.specs.declared.pair.Pair.{Pair}
 use Rattle.csa_text.specs.declared.pair.Pair.TheVariants.{On, InHand, Rest}
 use Rattle.csa_text.specs.Spelling.{Saying, version, name, header, even, rank, pieces, turn, walked, time, ending, Spells}
 use Rattle.csa_record.specs.Items.{is_even, is_position, positions}
-use Rattle.csa_record.specs.Placing.{laid_out}
-use Rattle.csa_record.specs.Placings.{Placing, on, off, in_hand, rest, taken_off, pair_placing, cells_placings, placings_of, placings}
+use Rattle.csa_record.specs.LaidOut.{laid_out}
+use Rattle.shogi_board.specs.Placing.{Placing, on, off, in_hand, rest}
+use Rattle.csa_record.specs.Placings.{taken_off, pair_placing, cells_placings, placings_of, placings}
 use Rattle.csa_record.specs.Union.{first_board, GiveStart}
 use Rattle.csa_record.proofs.Bytes.{all_joined}
 use Rattle.csa_record.proofs.PlacedUnion.{OnlyOff, InTurn, placed_union, begins}

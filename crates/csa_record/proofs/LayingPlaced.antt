@@ -11,8 +11,8 @@ use Rattle.shogi_board.specs.Setup as setup
 use Rattle.shogi_board.specs.Squares.{place}
 use Rattle.csa_text.specs.declared.pair.Pair.{Pair}
 use Rattle.csa_text.specs.declared.pair.Pair.TheVariants.{Rest}
-use Rattle.csa_record.specs.Placing.{placing_fault, placed, unless, place_all}
-use Rattle.csa_record.specs.Placings.{Placing, on, cells_placings}
+use Rattle.shogi_board.specs.Placing.{Placing, on, placing_fault, placed, unless, place_all}
+use Rattle.csa_record.specs.Placings.{cells_placings}
 
 step_on : (o : Option SetupFault) (s t : Layout) (ps qs : List Placing) → unless o (place_all s ps) ≡ Ok t → (place_all s ps ≡ Ok t → place_all s (ps ++ qs) ≡ place_all t qs) → unless o (place_all s (ps ++ qs)) ≡ place_all t qs
 step_on None s t ps qs h k = k h

@@ -36,7 +36,7 @@ use Rattle.csa_record.specs.Keeping.{Stage, laying, playing, Kept, Keeps, TakenO
 use Rattle.csa_record.specs.Laying.{Laid, Lays}
 use Rattle.csa_record.specs.Limits.{IsOneLine}
 use Rattle.csa_record.specs.Order.{stands, endings, first_fault, order_fault}
-use Rattle.csa_record.specs.Placing.{place_all}
+use Rattle.shogi_board.specs.Placing.{place_all}
 use Rattle.csa_record.specs.Placings.{placings_of}
 use Rattle.csa_record.specs.Refused.{Answers}
 use Rattle.csa_record.specs.Titles.{Titled, IsTitled, name_fault, header_fault, with_name, with_entry, under}

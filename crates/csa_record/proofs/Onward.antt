@@ -28,7 +28,7 @@ use Rattle.csa_record.specs.Fits.{IsOfStatement}
 use Rattle.csa_record.specs.Keeping.{Kept, Keeps}
 use Rattle.csa_record.specs.Outcome.{Outcome, IsWritten}
 use Rattle.csa_record.specs.Order.{order_fault}
-use Rattle.csa_record.specs.Placing.{laid_out}
+use Rattle.csa_record.specs.LaidOut.{laid_out}
 use Rattle.csa_record.specs.Reading.{HasTaken, HasAll, IsRefusedBy}
 use Rattle.csa_record.specs.Refused.{start_why, Finishes, IsJudged, Answers, AnswersAfter, AnswersInOrder, Fault, Faultless, Refused}
 use Rattle.csa_record.specs.Tells.{IsSpelt}

@@ -5,7 +5,7 @@ use Rattle.shogi_board.specs.Layout.{Layout}
 use Rattle.shogi_board.specs.Totals.{IsWithinTotals}
 use Rattle.csa_text.specs.Spelling.{Saying}
 use Rattle.csa_record.specs.Items.{is_even, positions}
-use Rattle.csa_record.specs.Placing.{laid_out}
+use Rattle.csa_record.specs.LaidOut.{laid_out}
 use Rattle.csa_record.specs.Placings.{placings}
 use Rattle.csa_record.specs.Union.{first_board, IsUnion, rest_given, with_rest_given}
 use Rattle.csa_record.proofs.LaidOut.{IsWritten, statements_in_turn, kept, board_squares}

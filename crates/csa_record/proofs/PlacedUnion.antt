@@ -20,8 +20,7 @@ use Rattle.shogi_board.specs.Pieces.{same_color, same_kind, is_king}
 use Rattle.shogi_board.specs.Setup as setup
 use Rattle.shogi_board.specs.Setup.{holds, one_more, rest_to, is_full}
 use Rattle.shogi_board.specs.Totals.{hand_kinds, kings_of}
-use Rattle.csa_record.specs.Placings.{Placing, on, off, in_hand, rest}
-use Rattle.csa_record.specs.Placing.{placing_fault, placed, unless, place_all, board_alone}
+use Rattle.shogi_board.specs.Placing.{Placing, on, off, in_hand, rest, placing_fault, placed, unless, place_all, board_alone}
 use Rattle.csa_record.specs.Union.{put_on, off_at, is_held, rest_given, MayBeHeld, RestIsLast, MayTakeOff, left_on, on_square, bag_given, IsUnion, with_rest_given}
 use Rattle.csa_record.proofs.Bytes.{all_joined}
 

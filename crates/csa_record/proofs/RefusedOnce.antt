@@ -19,7 +19,7 @@ use Rattle.csa_text.proofs.Sayings.{same_saying}
 use Rattle.csa_record.specs.declared.fault.OrderFault.{OrderFault}
 use Rattle.csa_record.specs.declared.fault.Why.{Why}
 use Rattle.csa_record.specs.Order.{order_fault}
-use Rattle.csa_record.specs.Placing.{laid_out}
+use Rattle.csa_record.specs.LaidOut.{laid_out}
 use Rattle.csa_record.specs.Refused.{Finishes, IsLineOf, IsJudged, AnswersInOrder, AnswersAfter, Answers, Fault, Faultless, Refused, RefusedAt}
 use Rattle.csa_record.specs.Tells.{IsSpelt}
 

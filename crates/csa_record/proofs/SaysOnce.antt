@@ -21,7 +21,8 @@ use Rattle.csa_text.proofs.Sayings.{same_saying}
 use Rattle.csa_record.specs.Game.{Game, Timed, Ended, Entry, HeaderText, moment, plain}
 use Rattle.csa_record.specs.Limits.{is_below, Rising}
 use Rattle.csa_record.specs.Items.{headers, positions, side_given, sides, body}
-use Rattle.csa_record.specs.Placings.{Placing, placings}
+use Rattle.shogi_board.specs.Placing.{Placing}
+use Rattle.csa_record.specs.Placings.{placings}
 use Rattle.csa_record.specs.Says.{Says, IsValue, AreEntries, time_items, move_items, ending_items, played_items}
 use Rattle.csa_record.specs.Tells.{Tells, IsSpelt}
 use Rattle.csa_record.specs.Union.{IsUnion, GiveStart, first_board, rest_given, with_rest_given}

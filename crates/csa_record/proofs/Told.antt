@@ -20,7 +20,7 @@ use Rattle.csa_record.specs.Game.{Game}
 use Rattle.csa_record.specs.Items.{sides}
 use Rattle.csa_record.specs.Keeping.{Stage, laying, playing, Kept, Keeps}
 use Rattle.csa_record.specs.Laying.{Laid}
-use Rattle.csa_record.specs.Placing.{board_alone}
+use Rattle.shogi_board.specs.Placing.{board_alone}
 use Rattle.csa_record.specs.Refused.{Answers, Fault, Faultless, Refused, RefusedAt, RefusedAtEnd, ToldAlone, RefusedAlone}
 use Rattle.csa_record.specs.Says.{Says}
 use Rattle.csa_record.specs.Tells.{Tells, IsSpelt}

@@ -19,8 +19,7 @@ use Rattle.shogi_board.specs.Setup.{holds, one_more, rest_to}
 use Rattle.shogi_board.specs.Totals.{IsWithinTotals, total, limit, kings_of, is_king_of, count_in}
 use Rattle.shogi_rules.proofs.Forms.{held-low, same_color-self, eq-self}
 use Rattle.shogi_rules.proofs.Layouts.{put-total}
-use Rattle.csa_record.specs.Placings.{Placing, on, off, in_hand, rest}
-use Rattle.csa_record.specs.Placing.{placing_fault, placed, unless, place_all}
+use Rattle.shogi_board.specs.Placing.{Placing, on, off, in_hand, rest, placing_fault, placed, unless, place_all}
 use Rattle.csa_record.specs.Union.{put_on, off_at, rest_given, MayBeHeld, RestIsLast, MayTakeOff, left_on, IsUnion, with_rest_given}
 use Rattle.csa_record.proofs.PlacedUnion.{OnlyOff, InTurn, step_on, step_off, step_hand, step_rest, rests_more, none_put}
 use Rattle.csa_record.proofs.SaysOnce.{union_once}

@@ -28,8 +28,8 @@ use Rattle.csa_text.specs.declared.pair.Pair.{Pair}
 use Rattle.csa_text.specs.declared.pair.Pair.TheVariants.{On, InHand, Rest}
 use Rattle.csa_text.specs.Spelling.{Saying, version, name, header, even, rank, pieces, turn, walked, time, ending}
 use Rattle.csa_record.specs.Fits.{Fits}
-use Rattle.csa_record.specs.Placing.{placing_fault, placed, unless, place_all, board_alone}
-use Rattle.csa_record.specs.Placings.{Placing, on, off, in_hand, rest, taken_off, pair_placing, cells_placings, placings_of}
+use Rattle.shogi_board.specs.Placing.{Placing, on, off, in_hand, rest, placing_fault, placed, unless, place_all, board_alone}
+use Rattle.csa_record.specs.Placings.{taken_off, pair_placing, cells_placings, placings_of}
 use Rattle.csa_record.specs.Union.{with_rest_given}
 
 abbrev pub Within : Layout → Type 0

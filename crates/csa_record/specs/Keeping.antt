@@ -11,7 +11,7 @@ use Rattle.csa_record.specs.Course.{Course}
 use Rattle.csa_record.specs.Items.{is_version, names, headers, is_even, ranks, positions, body}
 use Rattle.csa_record.specs.Laying.{Laid, Lays}
 use Rattle.csa_record.specs.Order.{stands}
-use Rattle.csa_record.specs.Placing.{laid_out}
+use Rattle.csa_record.specs.LaidOut.{laid_out}
 use Rattle.csa_record.specs.Refused.{Answers}
 use Rattle.csa_record.specs.Says.{AreEntries, RanksOnce, move_items, ending_items}
 use Rattle.csa_record.specs.Titles.{Titled}

@@ -7,8 +7,8 @@ use Rattle.csa_record.specs.declared.fault.Why.{Why}
 use Rattle.csa_record.specs.Answer.{IsAnswer}
 use Rattle.csa_record.specs.Items.{is_even, ranks, positions}
 use Rattle.csa_record.specs.Order.{stands}
-use Rattle.csa_record.specs.Placing.{place_all, laid_out}
-use Rattle.csa_record.specs.Placings.{Placing}
+use Rattle.shogi_board.specs.Placing.{Placing, place_all}
+use Rattle.csa_record.specs.LaidOut.{laid_out}
 use Rattle.csa_record.specs.Refused.{Answers}
 
 -- what is laid out: the board and hands; whether a position statement stood, whether `PI` did, and which ranks

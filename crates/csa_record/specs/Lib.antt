@@ -6,7 +6,7 @@ pub mod Union
 pub mod Says
 pub mod Rearranged
 pub mod Tells
-pub mod Placing
+pub mod LaidOut
 pub mod Order
 pub mod Refused
 pub mod Squares

@@ -2,19 +2,12 @@
 use Rattle.std.specs.Prelude.{ℕ, ◌+◌, ◌-◌, ◌*◌, List, [], ◌∷◌, Option, Some, None, map}
 use Rattle.std.specs.List.{flat_map}
 use Rattle.shogi_board.specs.declared.color.Color.{Color}
-use Rattle.shogi_board.specs.declared.kind.Kind.{Kind}
 use Rattle.shogi_board.specs.declared.kind.Piece.{Piece}
+use Rattle.shogi_board.specs.Placing.{Placing, on, off, in_hand, rest}
 use Rattle.shogi_board.specs.Squares.{place}
 use Rattle.csa_text.specs.declared.pair.Pair.{Pair}
 use Rattle.csa_text.specs.declared.pair.Pair.TheVariants.{On, InHand, Rest}
 use Rattle.csa_text.specs.Spelling.{Saying, version, name, header, even, rank, pieces, turn, walked, time, ending}
-
--- a piece put on a square, one of that kind taken off it, one put into a hand, or all that remain; squares by their place
-pub data Placing : Type 0 where
-  on : ℕ → Piece → Placing
-  off : ℕ → Kind → Placing
-  in_hand : Color → Kind → Placing
-  rest : Color → Placing
 
 -- a pair behind `P+` or `P-`
 abbrev pub pair_placing : Color → Pair → Placing

@@ -21,7 +21,7 @@ use Rattle.csa_record.specs.declared.fault.Why.TheVariants.{Text, Order, Start, 
 use Rattle.csa_record.specs.Game.{Game}
 use Rattle.csa_record.specs.Items.{sides, moves}
 use Rattle.csa_record.specs.Order.{order_fault}
-use Rattle.csa_record.specs.Placing.{laid_out}
+use Rattle.csa_record.specs.LaidOut.{laid_out}
 use Rattle.csa_record.specs.Tells.{Tells, IsSpelt}
 
 abbrev pub start_why : Result Layout SetupFault → Option Why

@@ -15,7 +15,8 @@ use Rattle.shogi_board.specs.Setup.{holds, rest_to, position_of}
 use Rattle.shogi_board.specs.Totals.{hand_kinds}
 use Rattle.csa_text.specs.Spelling.{Saying}
 use Rattle.csa_record.specs.Items.{is_even}
-use Rattle.csa_record.specs.Placings.{Placing, on, off, in_hand, rest, placings}
+use Rattle.shogi_board.specs.Placing.{Placing, on, off, in_hand, rest}
+use Rattle.csa_record.specs.Placings.{placings}
 
 -- the piece that is put on this square
 abbrev pub put_on : ℕ → Placing → Option Piece

@@ -2,7 +2,7 @@ use crate::{Record, RecordReader, Refusal, read, write};
 use std::alloc::Global;
 use std::test::Fail;
 
-const RECORDS: [&[u8]; 50] = [
+const RECORDS: [&[u8]; 52] = [
     b"PI\n+\n",
     b"V2.2\nPI\n+\n+7776FU,T12\n-3334FU,T6\n%TORYO\n",
     b"",
@@ -53,6 +53,8 @@ const RECORDS: [&[u8]; 50] = [
     b"PI\n+\nT1\n",
     b"PI\n+\n%TORYO\n+7776FU\n",
     b"\xEF\xBB\xBFV2.2\r\nPI\r\n'a,b\r\n+\r\n+7776FU,T0.050\r\n%TORYO,T3",
+    b"P1-KY-KE-GI-KI-OU-KI-GI-KE-KY\r\nP2 * -HI *  *  *  *  * -KA *\r\nP3-FU-FU-FU-FU-FU-FU-FU-FU-FU\r\nP4 *  *  *  *  *  *  *  *  *\r\nP5 *  *  *  *  *  *  *  *  *\r\nP6 *  *  *  *  *  *  *  *  *\r\nP7+FU+FU+FU+FU+FU+FU+FU+FU+FU\r\nP8 * +KA *  *  *  *  * +HI *\r\nP9+KY+KE+GI+KI+OU+KI+GI+KE+KY\r\nP+\r\nP-\r\n+\r\n",
+    b"$aa:x\n$ab:x\n$ac:x\n$ad:x\n$ae:x\n$af:x\n$ag:x\n$ah:x\n$ai:x\n$aj:x\n$ak:x\n$al:x\n$am:x\n$an:x\n$ao:x\n$ap:x\n$aq:x\n$ar:x\n$as:x\n$at:x\n$au:x\n$av:x\n$aw:x\n$ax:x\n$ay:x\n$az:x\n$ba:x\n$bb:x\n$bc:x\n$bd:x\n$be:x\n$bf:x\n$bg:x\n$bh:x\n$bi:x\n$bj:x\n$bk:x\n$bl:x\n$bm:x\n$bn:x\n$bo:x\n$bp:x\n$bq:x\n$br:x\n$bs:x\n$bt:x\n$bu:x\n$bv:x\n$bw:x\n$bx:x\n$by:x\n$bz:x\n$ca:x\n$cb:x\n$cc:x\n$cd:x\n$ce:x\n$cf:x\n$cg:x\n$ch:x\n$ci:x\n$cj:x\n$ck:x\n$cl:x\n$cm:x\n+\n",
 ];
 
 // The canonical text, or the refusal.

@@ -4,7 +4,9 @@ use std::test::Fail;
 
 const GIVEN: &[u8] = b"N+a\n$EVENT:b\nPI\n+\n+7776FU,T1\n%TORYO\n";
 
-const TEXT: &[u8] = b"V2.2\nN+a\n$EVENT:b\nPI\n+\n+7776FU\nT1\n%TORYO\n";
+const SHORT: &[u8] = b"+\n+7776FU\n";
+
+const TEXT: &[u8] = b"V2.2\nPI\n+\n+7776FU\n";
 
 #[test]
 fn refused_growth_of_read_at_once(rt: HostRuntime) -> Result<(), Fail> {
@@ -37,12 +39,12 @@ fn refused_growth_of_read_from(rt: HostRuntime) -> Result<(), Fail> {
 // What a refused call wrote would stand before the text.
 #[test]
 fn refused_growth_of_normalise(rt: HostRuntime) -> Result<(), Fail> {
-    let mut room = [0u8; 41];
+    let mut room = [0u8; 18];
     let mut sink = Writing::new(room.as_mut_slice());
-    if let Err(fault) = normalise(rt.alloc(), &mut Reading::new(GIVEN), &mut sink) {
+    if let Err(fault) = normalise(rt.alloc(), &mut Reading::new(SHORT), &mut sink) {
         println!(rt; "refused")?;
         assert_eq!(rt; fault, FlowFault::OutOfMemory);
-        normalise(rt.alloc(), &mut Reading::new(GIVEN), &mut sink)?;
+        normalise(rt.alloc(), &mut Reading::new(SHORT), &mut sink)?;
     }
     assert_eq!(rt; room.as_slice(), TEXT);
     Ok(())

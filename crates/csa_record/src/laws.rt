@@ -5,7 +5,7 @@ ghost use Rattle.csa_record.specs.Canon.{canon};
 ghost use Rattle.csa_record.specs.Game.{Game};
 ghost use Rattle.csa_record.specs.Items.{is_even, positions};
 ghost use Rattle.csa_record.specs.Limits.{IsGame};
-ghost use Rattle.csa_record.specs.Placing as placing;
+ghost use Rattle.csa_record.specs.LaidOut as starts;
 ghost use Rattle.csa_record.specs.Placings.{placings};
 ghost use Rattle.csa_record.specs.Rearranged.{IsRearranged};
 ghost use Rattle.csa_record.specs.Refused.{Refused, ToldAlone, RefusedAlone};
@@ -58,7 +58,7 @@ pub fn one_refusal()
 /// what they place, which does not speak of their order but for `PI` first and the rest last.
 pub fn laid_out()
     ensures { (sayings : List Saying) (laid : Layout) (side : Color) → AllByRecursion (λ s. (bytes : List ℕ) × Spells bytes s) sayings
-        → filter is_even (drop 1 (positions sayings)) ≡ [] → placing.laid_out sayings ≡ Ok laid
+        → filter is_even (drop 1 (positions sayings)) ≡ [] → starts.laid_out sayings ≡ Ok laid
         → GiveStart (positions sayings) (position_of laid side) }
 {}
 
@@ -69,5 +69,5 @@ pub fn union_placed()
         → filter is_even (drop 1 (positions sayings)) ≡ []
         → IsUnion (first_board (positions sayings)) (placings (positions sayings)) placed
         → IsWithinTotals placed.board placed.black placed.white
-        → placing.laid_out sayings ≡ Ok (with_rest_given (filter_map rest_given (placings (positions sayings))) placed) }
+        → starts.laid_out sayings ≡ Ok (with_rest_given (filter_map rest_given (placings (positions sayings))) placed) }
 {}

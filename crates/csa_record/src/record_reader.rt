@@ -117,6 +117,7 @@ impl RecordReader {
         requires { self.old.cutter.fed + length piece.now ≤ 2 ^ 63 }
         ensures taken { (source : List ℕ) → HasRead source self.old → OnOk result (HasRead (source ++ piece.now) self.new) }
         ensures refused { (source : List ℕ) → HasRead source self.old → IfErr result (λ r. (more : List ℕ) → IsRefusedBy ((source ++ piece.now) ++ more) r) }
+        ensures first { (source : List ℕ) → HasRead source self.old → IfErr result (λ r. r.why ≢ Why.Failed) }
     {
         let mut used = 0;
         while used < piece.len() {

@@ -233,12 +233,11 @@ fn one_move(rt: &HostRuntime, mv: Move) -> Result<Line, Fail> {
 // call made again succeeds.
 #[test]
 fn refused_growth_is_told(rt: HostRuntime) -> Result<(), Fail> {
-    let alloc = rt.alloc();
-    let mut record = match Record::new(alloc, Position::even()) {
+    let mut record = match Record::new(rt.alloc(), Position::even()) {
         Ok(record) => record,
         Err(OutOfMemory) => {
             println!(rt; "refused")?;
-            Record::new(alloc, Position::even())?
+            Record::new(rt.alloc(), Position::even())?
         }
     };
     if let Err(why) = record.set_name(Color::White, b"b") {
@@ -251,29 +250,42 @@ fn refused_growth_is_told(rt: HostRuntime) -> Result<(), Fail> {
         assert_eq!(rt; why, Why::OutOfMemory);
         record.set_header(b"EVENT", b"a")?;
     }
-    let mv = walk((7, 7), (7, 6), Kind::Pawn)?;
-    if let Err(why) = record.play(Color::Black, mv) {
+    if let Err(why) = record.play(Color::Black, first()?) {
         println!(rt; "refused")?;
         assert_eq!(rt; why, Why::OutOfMemory);
-        record.play(Color::Black, mv)?;
+        record.play(Color::Black, first()?)?;
     }
-    match Record::from_line(alloc, one_move(&rt, mv)?) {
-        Ok(other) => assert_eq!(rt; other.line().moves(), [mv].as_slice()),
+    assert_eq!(rt; record.name(Color::White), Some(b"b".as_slice()));
+    assert_eq!(rt; record.header(b"EVENT"), Some(HeaderValue::Plain(b"a")));
+    Ok(())
+}
+
+// `set_time`, `close` and the accessors take no memory.
+#[test]
+fn refused_growth_of_from_line_and_write(rt: HostRuntime) -> Result<(), Fail> {
+    let mv = first()?;
+    let mut record = match Record::from_line(rt.alloc(), one_move(&rt, mv)?) {
+        Ok(record) => record,
         Err(line) => {
             println!(rt; "refused")?;
             assert_eq!(rt; line.moves(), [mv].as_slice());
+            Record::from_line(rt.alloc(), line).ok().ok_or("refused")?
         }
-    }
-    let text = match write(alloc, &record) {
+    };
+    record.set_time(1)?;
+    record.close(Ending::Toryo)?;
+    record.set_time(2)?;
+    assert_eq!(rt; (record.time(0), record.ending_time()), (Some(1), Some(2)));
+    let text = match write(rt.alloc(), &record) {
         Ok(text) => text,
         Err(OutOfMemory) => {
             println!(rt; "refused")?;
-            write(alloc, &record)?
+            write(rt.alloc(), &record)?
         }
     };
     assert_eq!(rt;
         text.as_slice(),
-        b"V2.2\nN-b\n$EVENT:a\nPI\n+\n+7776FU\n".as_slice()
+        b"V2.2\nPI\n+\n+7776FU\nT0.001\n%TORYO\nT0.002\n".as_slice()
     );
     Ok(())
 }

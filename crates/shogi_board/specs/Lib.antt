@@ -4,6 +4,7 @@ pub mod Moves
 pub mod Neighbours
 pub mod Pieces
 pub mod Placed
+pub mod Placing
 pub mod Reach
 pub mod Same
 pub mod Setup

@@ -17,12 +17,13 @@ use Rattle.shogi_board.specs.Totals.{limit, is_of, no_pieces, count_in}
 use Rattle.usi_text.specs.declared.hands.Pile.{Pile}
 use Rattle.usi_text.specs.Hands.{IsPile, SpellsHands, pile_pieces}
 use Rattle.usi_text.specs.SfenText.{written_count, pile_of, piles_of, hand_piles, both_piles, hands_text, board_text, sfen_text}
-use Rattle.usi_text.specs.Setting.{board_place, put_cells, hold_pieces, hold_after, set_up}
+use Rattle.usi_text.specs.Setting.{board_place, set_up}
 use Rattle.usi_text.specs.Sfen.{Sfen, Shape, IsDigit, side_text}
 use Rattle.usi_text.specs.Words.{words}
 use Rattle.usi_text.proofs.Clean.{board_cells, words_front, words_alone, no_space, board_bytes, board_some, board_spelt, hands_word, side_word}
 use Rattle.usi_text.proofs.Filled.{fill, start_filled, filled_board, board_cells-length, board_cells-place, hold_black, hold_white}
 use Rattle.usi_text.proofs.Piles.{answer_empty}
+use Rattle.usi_text.proofs.Setups.{put_cells, hold_pieces, hold_after, set_up_is}
 use Rattle.usi_text.proofs.Written.{flat_map-append}
 
 abbrev Cells : Type 0
@@ -239,7 +240,8 @@ again p s =
       number = (one_digit, refl);
     } in
     let up : set_up (board_cells p.board 1 9) (both_piles p) ≡ Ok (lay p.board p.black p.white) =
-    ap (λ r. hold_after r (flat_map pile_pieces (both_piles p))) (cells_put p s) ∙ bags_held p.board p.black p.white s.within.black_kinds s.within.white_kinds s.within.totals in
+    set_up_is (board_cells p.board 1 9) (both_piles p) (board_cells-length p.board 1 9)
+    ∙ (ap (λ r. hold_after r (flat_map pile_pieces (both_piles p))) (cells_put p s) ∙ bags_held p.board p.black p.white s.within.black_kinds s.within.white_kinds s.within.totals) in
     let whole : Sfen ws p = record {
       cells = board_cells p.board 1 9;
       piles = both_piles p;

@@ -17,7 +17,8 @@ use Rattle.shogi_board.specs.Setup.{empty_layout, add_fault, with_hand, hand_of,
 use Rattle.shogi_board.specs.Totals.{count_in, no_pieces}
 use Rattle.usi_text.specs.declared.hands.Pile.{Pile}
 use Rattle.usi_text.specs.Hands.{SpellsHands, pile_pieces, pile_total}
-use Rattle.usi_text.specs.Setting.{more_fault, put, put_cells, held, hold_pieces, hold_after, set_up, Finishes}
+use Rattle.usi_text.specs.Setting.{set_up, Finishes}
+use Rattle.usi_text.proofs.Setups.{more_fault, put, put_cells, held, hold_pieces, hold_after, set_up_is, board_size}
 use Rattle.usi_text.specs.Sfen.{Sfen}
 use Rattle.usi_text.specs.Words.{nth_word}
 use Rattle.usi_text.proofs.SfenOnce.{hands_once}
@@ -153,10 +154,10 @@ from_none : (a b c : ℕ) → a ≡ b + c → b ≡ 0 → a ≡ c
 from_none a b c h j = omega (arith, h, j)
 
 -- what the pieces are added to holds none
-all_counted : (cells : List (Option Piece)) (piles : List Pile) (t : Layout) (text : List ℕ) (color : Color) (kind : Kind) → SpellsHands text piles → in_hand kind ≡ true → set_up cells piles ≡ Ok t → count_in (hand_of t color) kind ≡ pile_total color kind piles
-all_counted cells piles t text color kind spelt j h =
+all_counted : (cells : List (Option Piece)) (piles : List Pile) (t : Layout) (text : List ℕ) (color : Color) (kind : Kind) → length cells ≡ 81 → SpellsHands text piles → in_hand kind ≡ true → set_up cells piles ≡ Ok t → count_in (hand_of t color) kind ≡ pile_total color kind piles
+all_counted cells piles t text color kind size spelt j h =
     let ps = flat_map pile_pieces piles in
-    let g = held_behind (put_cells empty_layout 0 cells) ps t h in
+    let g = held_behind (put_cells empty_layout 0 cells) ps t (sym (set_up_is cells piles size) ∙ h) in
     let bare = λ (c : Color). put_hands cells empty_layout g.0 0 c g.1 in
     let count = pieces_counted ps g.0 t color kind (bare_size g.0 bare) (hands_held text piles spelt) j g.2 in
     from_none _ _ _ count (ap (λ b. count_in b kind) (bare color) ∙ bare_count color kind) ∙ piles_counted piles color kind
@@ -165,10 +166,10 @@ pub black_counted : (ws : List (List ℕ)) (p : Placed) (piles : List Pile) (kin
 black_counted ws p piles kind s h j =
     let f = finished (set_up s.cells s.piles) p.side p s.stands in
     ap (λ (q : Placed). count_in q.black kind) f.2
-    ∙ (all_counted s.cells s.piles f.0 (nth_word ws 2) Black kind s.shape.hands j f.1 ∙ ap (λ ps. pile_total Black kind ps) (hands_once (nth_word ws 2) s.piles piles s.shape.hands h))
+    ∙ (all_counted s.cells s.piles f.0 (nth_word ws 2) Black kind (board_size (nth_word ws 0) s.cells s.shape.board) s.shape.hands j f.1 ∙ ap (λ ps. pile_total Black kind ps) (hands_once (nth_word ws 2) s.piles piles s.shape.hands h))
 
 pub white_counted : (ws : List (List ℕ)) (p : Placed) (piles : List Pile) (kind : Kind) → Sfen ws p → SpellsHands (nth_word ws 2) piles → in_hand kind ≡ true → count_in p.white kind ≡ pile_total White kind piles
 white_counted ws p piles kind s h j =
     let f = finished (set_up s.cells s.piles) p.side p s.stands in
     ap (λ (q : Placed). count_in q.white kind) f.2
-    ∙ (all_counted s.cells s.piles f.0 (nth_word ws 2) White kind s.shape.hands j f.1 ∙ ap (λ ps. pile_total White kind ps) (hands_once (nth_word ws 2) s.piles piles s.shape.hands h))
+    ∙ (all_counted s.cells s.piles f.0 (nth_word ws 2) White kind (board_size (nth_word ws 0) s.cells s.shape.board) s.shape.hands j f.1 ∙ ap (λ ps. pile_total White kind ps) (hands_once (nth_word ws 2) s.piles piles s.shape.hands h))

@@ -11,13 +11,14 @@ use Rattle.shogi_board.specs.declared.kind.Kind.TheVariants.{Pawn, Lance, Knight
 use Rattle.shogi_board.specs.declared.kind.Piece.{Piece}
 use Rattle.shogi_board.specs.Layout.{Layout}
 use Rattle.shogi_board.specs.Pieces.{place_of, is_king, in_hand, same_color}
+use Rattle.shogi_board.specs.Placing.{unless}
 use Rattle.shogi_board.specs.Setup.{empty_layout, add_fault}
 use Rattle.shogi_board.specs.Totals.{total, limit, count_in, is_of, is_king_of, kings_of, no_pieces}
 use Rattle.shogi_rules.proofs.Forms.{same_color-self, eq-self, held-low}
 use Rattle.shogi_rules.proofs.Layouts.{add-fits, put-total}
 use Rattle.usi_text.specs.SfenText.{cell, cells_from}
-use Rattle.usi_text.specs.Setting.{board_place, more_fault, put, put_cells, unless, held, hold_pieces}
-use Rattle.usi_text.proofs.Settings.{place_bound, places_apart, none_there}
+use Rattle.usi_text.specs.Setting.{board_place}
+use Rattle.usi_text.proofs.Setups.{more_fault, put, put_cells, held, hold_pieces, place_bound, places_apart, none_there}
 use Rattle.usi_text.proofs.Clean.{board_cells}
 
 abbrev Cells : Type 0

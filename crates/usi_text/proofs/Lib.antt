@@ -14,6 +14,7 @@ pub mod Played
 pub mod Ranks
 pub mod Runs
 pub mod Settings
+pub mod Setups
 pub mod SfenOnce
 pub mod Sfens
 pub mod Spelt

@@ -1,78 +1,58 @@
 -- Setting up the pieces of a text, one after another.
-use Rattle.std.proofs.Common.{◌≡◌, ◌≢◌, ℕ, zero, suc, ◌+◌, ◌-◌, ◌<◌, ◌≤◌, false, List, [], ◌∷◌, ◌++◌, Option, Some, None, Ok, Err, length, get_or, set, drop, replicate, arith, refl, sym, ap, ◌∙◌}
+use Rattle.std.proofs.Common.{◌≡◌, ℕ, suc, ◌+◌, ◌-◌, ◌<◌, List, [], ◌∷◌, ◌++◌, Option, Some, None, Ok, Err, length, get_or, set, drop, replicate, arith, refl, sym, ap, ◌∙◌}
 use Rattle.std.specs.List.{flat_map}
-use Rattle.std.proofs.lemmas.List.{get_or-set_other, drop_more}
+use Rattle.std.proofs.lemmas.List.{drop_more}
 use Rattle.shogi_board.specs.declared.kind.Piece.{Piece}
 use Rattle.shogi_board.specs.declared.setup.SetupFault.{SetupFault}
 use Rattle.shogi_board.specs.declared.square.Square.{Square}
-use Rattle.shogi_board.specs.Cells.{at}
 use Rattle.shogi_board.specs.Layout.{Layout}
+use Rattle.shogi_board.specs.Placing as placing
+use Rattle.shogi_board.specs.Placing.{Placing, on, placing_fault, unless, place_all}
 use Rattle.shogi_board.specs.Setup.{empty_layout, place_fault, placed, add_fault}
 use Rattle.shogi_board.specs.Squares.{place}
 use Rattle.usi_text.specs.declared.hands.Pile.{Pile}
 use Rattle.usi_text.specs.Hands.{SpellsPiles, SpellsHands, IsPile, pile_text, pile_pieces}
-use Rattle.usi_text.specs.Setting.{board_place, more_fault, put, put_cells, unless, held, hold_pieces}
+use Rattle.usi_text.specs.Setting.{board_place, cell_placings}
 use Rattle.usi_text.proofs.Piles.{pile_first, no_pile, dash_no_pile}
+use Rattle.usi_text.proofs.Setups.{Cells, held, hold_pieces}
 
-abbrev Cells : Type 0
-Cells = List (Option Piece)
+same_fault : (s : Layout) (square : Square) (n : ℕ) (p : Piece) → place square ≡ n → place_fault s p.color square p.kind ≡ placing_fault s (on n p)
+same_fault s square n p here = ap (λ i. placing_fault s (on i p)) here
 
--- on an empty square only two refusals are left
-place_more : (s : Layout) (square : Square) (p : Piece) → s.rest_given ≡ false → at s.board square ≡ None → place_fault s p.color square p.kind ≡ more_fault s p
-place_more s square p free empty = rw (free, empty) refl
-
-pub place_bound : (n : ℕ) → n < 81 → board_place n < 81
-place_bound n h = omega arith
-
-pub places_apart : (m n : ℕ) → m < 81 → n < 81 → n ≢ m → board_place m ≢ board_place n
-places_apart m n h k differ e = differ (omega arith)
-
-abbrev nothing : Option Piece
-nothing = None
-
-pub none_there : (n i : ℕ) → get_or (replicate n nothing) i nothing ≡ nothing
-none_there zero i = refl
-none_there (suc n) zero = refl
-none_there (suc n) (suc i) = none_there n i
-
--- the first n cells are put
+-- the first n cells are placed
 pub record Putting (cells : Cells) (s : Layout) (n : ℕ) : Type 0 where
-  pub whole : put_cells empty_layout 0 cells ≡ put_cells s n (drop n cells)
-  pub free : s.rest_given ≡ false
-  pub empty : (m : ℕ) → n ≤ m → m < 81 → get_or s.board (board_place m) None ≡ None
+  pub whole : (others : List Placing) → place_all empty_layout (cell_placings 0 cells ++ others) ≡ place_all s (cell_placings n (drop n cells) ++ others)
 
 pub putting_start : (cells : Cells) → Putting cells empty_layout 0
-putting_start cells = record { whole = refl; free = refl; empty = λ m low high. none_there 81 (board_place m) }
+putting_start cells = record { whole = λ others. refl }
+
+cut_here : (cells : Cells) (n : ℕ) (c : Option Piece) → n < length cells → get_or cells n None ≡ c → drop n cells ≡ c ∷ drop (n + 1) cells
+cut_here cells n c low here = drop_more cells n None low ∙ ap (λ x. x ∷ drop (n + 1) cells) here
 
 pub putting_none : (cells : Cells) (s : Layout) (n : ℕ) → Putting cells s n → n < length cells → get_or cells n None ≡ None → Putting cells s (n + 1)
-putting_none cells s n p low here =
-    let e : drop n cells ≡ None ∷ drop (n + 1) cells = drop_more cells n None low ∙ ap (λ c. c ∷ drop (n + 1) cells) here in
+putting_none cells s n p low here = record {
+  whole = λ others. p.whole others ∙ ap (λ c. place_all s (cell_placings n c ++ others)) (cut_here cells n None low here);
+}
+
+pub putting_some : (cells : Cells) (s next : Layout) (n : ℕ) (x : Piece) (square : Square) → Putting cells s n → n < length cells → get_or cells n None ≡ Some x → place square ≡ board_place n → place_fault s x.color square x.kind ≡ None → next ≡ placed s x.color square x.kind → Putting cells next (n + 1)
+putting_some cells s next n x square p low here there fits e =
+    let free : placing_fault s (on (board_place n) x) ≡ None = sym (same_fault s square (board_place n) x there) ∙ fits in
+    let same : next ≡ placing.placed s (on (board_place n) x) = e ∙ ap (λ i. record s { board = set s.board i (Some x) }) there in
     record {
-      whole = p.whole ∙ ap (put_cells s n) e;
-      free = p.free;
-      empty = λ m l h. p.empty m (omega arith) h;
+      whole = λ others.
+          let rest = cell_placings (n + 1) (drop (n + 1) cells) ++ others in
+          p.whole others
+          ∙ (ap (λ c. place_all s (cell_placings n c ++ others)) (cut_here cells n (Some x) low here)
+          ∙ (ap (λ f. unless f (place_all (placing.placed s (on (board_place n) x)) rest)) free ∙ ap (λ t. place_all t rest) (sym same)));
     }
 
-pub putting_some : (cells : Cells) (s next : Layout) (n : ℕ) (x : Piece) (square : Square) → Putting cells s n → length cells ≡ 81 → n < length cells → get_or cells n None ≡ Some x → place square ≡ board_place n → place_fault s x.color square x.kind ≡ None → next ≡ placed s x.color square x.kind → Putting cells next (n + 1)
-putting_some cells s next n x square p size low here on fits e =
-    let cut : drop n cells ≡ Some x ∷ drop (n + 1) cells = drop_more cells n None low ∙ ap (λ c. c ∷ drop (n + 1) cells) here in
-    let bare : at s.board square ≡ None = ap (λ i. get_or s.board i None) on ∙ p.empty n (omega arith) (omega arith) in
-    let more : more_fault s x ≡ None = sym (place_more s square x p.free bare) ∙ fits in
-    let same : next ≡ put s n x = e ∙ ap (λ i. record s { board = set s.board i (Some x) }) on in
-    record {
-      whole = p.whole ∙ (ap (put_cells s n) cut ∙ (ap (λ f. unless f (put_cells (put s n x) (n + 1) (drop (n + 1) cells))) more ∙ ap (λ t. put_cells t (n + 1) (drop (n + 1) cells)) (sym same)));
-      free = ap (λ (t : Layout). t.rest_given) same ∙ p.free;
-      empty = λ m l h.
-          let apart = places_apart m n h (omega arith) (omega arith) in
-          ap (λ (t : Layout). get_or t.board (board_place m) None) same ∙ (get_or-set_other s.board (board_place n) (board_place m) (Some x) None apart ∙ p.empty m (omega arith) h);
-    }
-
-pub putting_fault : (cells : Cells) (s : Layout) (n : ℕ) (x : Piece) (square : Square) (fault : SetupFault) → Putting cells s n → length cells ≡ 81 → n < length cells → get_or cells n None ≡ Some x → place square ≡ board_place n → place_fault s x.color square x.kind ≡ Some fault → put_cells empty_layout 0 cells ≡ Err fault
-putting_fault cells s n x square fault p size low here on fails =
-    let cut : drop n cells ≡ Some x ∷ drop (n + 1) cells = drop_more cells n None low ∙ ap (λ c. c ∷ drop (n + 1) cells) here in
-    let bare : at s.board square ≡ None = ap (λ i. get_or s.board i None) on ∙ p.empty n (omega arith) (omega arith) in
-    let more : more_fault s x ≡ Some fault = sym (place_more s square x p.free bare) ∙ fails in
-    p.whole ∙ (ap (put_cells s n) cut ∙ ap (λ f. unless f (put_cells (put s n x) (n + 1) (drop (n + 1) cells))) more)
+pub putting_fault : (cells : Cells) (s : Layout) (n : ℕ) (x : Piece) (square : Square) (fault : SetupFault) → Putting cells s n → n < length cells → get_or cells n None ≡ Some x → place square ≡ board_place n → place_fault s x.color square x.kind ≡ Some fault → (others : List Placing) → place_all empty_layout (cell_placings 0 cells ++ others) ≡ Err fault
+putting_fault cells s n x square fault p low here there fails others =
+    let found : placing_fault s (on (board_place n) x) ≡ Some fault = sym (same_fault s square (board_place n) x there) ∙ fails in
+    let rest = cell_placings (n + 1) (drop (n + 1) cells) ++ others in
+    p.whole others
+    ∙ (ap (λ c. place_all s (cell_placings n c ++ others)) (cut_here cells n (Some x) low here)
+    ∙ ap (λ f. unless f (place_all (placing.placed s (on (board_place n) x)) rest)) found)
 
 -- of the piles of a text some are held
 abbrev pub Holding : List ℕ → List ℕ → Layout → Layout → Type 0

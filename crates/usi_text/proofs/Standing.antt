@@ -1,5 +1,5 @@
 -- Where the cells of a board's text stand.
-use Rattle.std.proofs.Common.{◌≡◌, ◌≢◌, ℕ, zero, suc, ◌+◌, ◌*◌, ◌<◌, ◌≤◌, List, [], ◌∷◌, Option, Some, None, Result, Ok, Err, length, length-append, get_or, arith, refl, sym, ap, ◌∙◌}
+use Rattle.std.proofs.Common.{◌≡◌, ◌≢◌, ℕ, zero, suc, ◌+◌, ◌<◌, ◌≤◌, List, [], ◌∷◌, Option, Some, None, Result, Ok, Err, length, get_or, arith, refl, sym, ap, ◌∙◌}
 use Rattle.std.specs.List.{flat_map}
 use Rattle.std.proofs.lemmas.List.{get_or-set_same, get_or-set_other, length-set}
 use Rattle.shogi_board.specs.declared.color.Color.{Color}
@@ -9,13 +9,13 @@ use Rattle.shogi_board.specs.declared.setup.SetupFault.{SetupFault}
 use Rattle.shogi_board.specs.Layout.{Layout}
 use Rattle.shogi_board.specs.Placed.{Placed}
 use Rattle.shogi_board.specs.Setup.{empty_layout, add_fault, with_hand, hand_of, one_more}
-use Rattle.usi_text.specs.Boards.{SpellsRanks, SpellsBoard}
+use Rattle.usi_text.specs.Boards.{SpellsBoard}
 use Rattle.usi_text.specs.Hands.{pile_pieces}
-use Rattle.usi_text.specs.Setting.{board_place, more_fault, put, put_cells, held, hold_pieces, hold_after, set_up, Finishes}
+use Rattle.usi_text.specs.Setting.{board_place, set_up, Finishes}
 use Rattle.usi_text.specs.Sfen.{Sfen}
 use Rattle.usi_text.specs.Words.{nth_word}
 use Rattle.usi_text.proofs.SfenOnce.{ranks_once}
-use Rattle.usi_text.proofs.Settings.{place_bound, places_apart, none_there}
+use Rattle.usi_text.proofs.Setups.{more_fault, put, put_cells, held, hold_pieces, hold_after, place_bound, places_apart, none_there, set_up_is, board_size}
 use Rattle.usi_text.proofs.StartFaults.{goes_on}
 
 abbrev Cells : Type 0
@@ -86,13 +86,6 @@ after_stands cells ps t n size low h =
     let s = held_after (put_cells empty_layout 0 cells) ps t h in
     ap (λ b. stands b n) s.2 ∙ cell_stands cells empty_layout s.0 0 n n (omega arith) all_room s.1 (omega arith) (omega arith)
 
-ranks_size : (texts : List (List ℕ)) (cells : Cells) → SpellsRanks texts cells → length cells ≡ length texts * 9
-ranks_size [] cells h = ap length h
-ranks_size (x ∷ xs) cells (rank, others, whole, spelt, nine, rest) =
-    let e = ap length whole in
-    let f = ranks_size xs others rest in
-    omega (arith, e, f, nine, length-append rank others)
-
 finished : (r : Result Layout SetupFault) (side : Color) (p : Placed) → Finishes r side (Ok p) → (t : Layout) × (r ≡ Ok t) × (p.board ≡ t.board)
 finished (Ok t) side p h = (t, refl, ap (λ (q : Placed). q.board) h.1)
 finished (Err f) side p h = cc
@@ -101,7 +94,6 @@ pub board_stands : (ws : List (List ℕ)) (p : Placed) (cells : Cells) (n : ℕ)
 board_stands ws p cells n s h low =
     let same = ranks_once _ s.cells cells s.shape.board.1 h.1 in
     let t = finished (set_up s.cells s.piles) p.side p s.stands in
-    let texts = h.0 in
-    let size = ranks_size _ cells h.1 in
-    let old : length s.cells ≡ 81 = ap length same ∙ omega arith in
-    ap (λ b. stands b n) t.2 ∙ (after_stands s.cells (flat_map pile_pieces s.piles) t.0 n old low t.1 ∙ ap (λ c. get_or c n None) same)
+    let size = board_size (nth_word ws 0) s.cells s.shape.board in
+    ap (λ b. stands b n) t.2
+    ∙ (after_stands s.cells (flat_map pile_pieces s.piles) t.0 n size low (sym (set_up_is s.cells s.piles size) ∙ t.1) ∙ ap (λ c. get_or c n None) same)

@@ -1,5 +1,5 @@
 -- How pieces of an SFEN are refused.
-use Rattle.std.proofs.Common.{◌≡◌, ℕ, zero, suc, ◌+◌, ◌⊎◌, inl, inr, Bool, true, false, not, List, [], ◌∷◌, ◌++◌, Option, Some, None, Result, Ok, Err, replicate, unwrap_or, refl, sym, ap, ◌∙◌}
+use Rattle.std.proofs.Common.{◌≡◌, ℕ, zero, suc, ◌+◌, ◌⊎◌, inl, inr, Bool, true, false, not, List, [], ◌∷◌, ◌++◌, Option, Some, None, Result, Ok, Err, replicate, unwrap_or, refl, sym, ap, ◌∙◌, subst}
 use Rattle.std.specs.List.{AllByRecursion, flat_map}
 use Rattle.shogi_board.specs.declared.color.Color.{Color}
 use Rattle.shogi_board.specs.declared.color.Color.TheVariants.{Black, White}
@@ -8,13 +8,15 @@ use Rattle.shogi_board.specs.declared.setup.SetupFault.{SetupFault}
 use Rattle.shogi_board.specs.declared.setup.SetupFault.TheVariants.{TooMany, SecondKing, OpponentInCheck, AfterRest, NotForHand}
 use Rattle.shogi_board.specs.Layout.{Layout}
 use Rattle.shogi_board.specs.Pieces.{in_hand}
+use Rattle.shogi_board.specs.Placing.{unless}
 use Rattle.shogi_board.specs.Setup.{empty_layout, first_fault, add_fault, with_hand, hand_of, one_more}
 use Rattle.usi_text.specs.declared.fault.SfenFault.TheVariants.{Start}
 use Rattle.usi_text.specs.declared.hands.Pile.{Pile}
 use Rattle.usi_text.specs.Hands.{IsPile, SpellsHands, pile_pieces}
-use Rattle.usi_text.specs.Setting.{more_fault, put, unless, put_cells, held, hold_pieces, hold_after, set_up, Finishes}
+use Rattle.usi_text.specs.Setting.{Finishes}
 use Rattle.usi_text.specs.Sfen.{FirstFault}
 use Rattle.usi_text.specs.Words.{nth_word}
+use Rattle.usi_text.proofs.Setups.{more_fault, put, put_cells, held, hold_pieces, hold_after, set_up_is, board_size}
 
 abbrev IsStartFault : SetupFault → Type 0
 IsStartFault f = (f ≡ SecondKing) ⊎ (f ≡ TooMany) ⊎ (f ≡ OpponentInCheck)
@@ -88,9 +90,9 @@ finish_fault (Ok s) side f first h = inr (inr h.1)
 
 pub start_faults : (ws : List (List ℕ)) (f : SetupFault) → FirstFault ws (Start f) → IsStartFault f
 start_faults ws f (cells, side, piles, shape, stands) =
-    finish_fault (set_up cells piles) side f
+    finish_fault (hold_after (put_cells empty_layout 0 cells) (flat_map pile_pieces piles)) side f
     (λ g. after_fault (put_cells empty_layout 0 cells) (flat_map pile_pieces piles) g
     (put_fault cells empty_layout 0)
     (λ t. put_free cells empty_layout t 0 refl)
     (hands_held (nth_word ws 2) piles shape.hands))
-    stands
+    (subst (λ r. Finishes r side (Err f)) (set_up_is cells piles (board_size (nth_word ws 0) cells shape.board)) stands)

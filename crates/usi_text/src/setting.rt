@@ -1,10 +1,10 @@
-ghost use Rattle.std.specs.Prelude.{◌≡◌, ◌<◌, ◌++◌, List, Ok, Err, MatchResult, length};
-ghost use Rattle.std.specs.List.{flat_map};
+ghost use Rattle.std.specs.Prelude.{◌≡◌, ◌<◌, ◌++◌, List, Ok, Err, MatchResult, length, map};
 ghost use Rattle.shogi_board.specs.declared.kind.Piece.{Piece};
+ghost use Rattle.shogi_board.specs.Placing.{Placing, place_all};
 ghost use Rattle.shogi_board.specs.Setup.{empty_layout};
 ghost use Rattle.shogi_board.specs.Squares.{place};
 ghost use Rattle.usi_text.specs.Hands.{SpellsHands, pile_pieces};
-ghost use Rattle.usi_text.specs.Setting.{board_place, put_cells, hold_pieces, set_up, Finishes};
+ghost use Rattle.usi_text.specs.Setting.{board_place, cell_placings, hand_placing, hand_placings, set_up, Finishes};
 ghost use Rattle.usi_text.specs.declared.hands.Pile.{Pile};
 
 use crate::hands::{Pile, is_dash, read_pile};
@@ -27,9 +27,9 @@ pub(crate) fn set_up_position(
 // The setup with the pieces of these cells.
 fn board_setup(cells: &[Option<Piece>]) -> Result<Setup, SetupFault>
     requires board { length cells.now ≡ 81 }
-    ensures { MatchResult result
-        (λ setup. put_cells empty_layout 0 cells.now ≡ Ok setup)
-        (λ fault. put_cells empty_layout 0 cells.now ≡ Err fault) }
+    ensures { (others : List Placing) → MatchResult result
+        (λ setup. place_all empty_layout (cell_placings 0 cells.now ++ others) ≡ place_all setup others)
+        (λ fault. place_all empty_layout (cell_placings 0 cells.now ++ others) ≡ Err fault) }
 {
     let mut setup = Setup::empty();
     for (n, cell) in cells.iter().enumerate() {
@@ -51,8 +51,8 @@ fn board_square(n: usize) -> Square
 // Adds the pieces of the hands that the text spells.
 fn add_hands(setup: &mut Setup, text: &[u8]) -> Result<(), SetupFault>
     ensures { (piles : List Pile) → SpellsHands text.now piles → MatchResult result
-        (λ _. hold_pieces setup.old (flat_map pile_pieces piles) ≡ Ok setup.new)
-        (λ fault. hold_pieces setup.old (flat_map pile_pieces piles) ≡ Err fault) }
+        (λ _. place_all setup.old (hand_placings piles) ≡ Ok setup.new)
+        (λ fault. place_all setup.old (hand_placings piles) ≡ Err fault) }
 {
     if is_dash(text) {
         return Ok(());
@@ -67,8 +67,8 @@ fn add_hands(setup: &mut Setup, text: &[u8]) -> Result<(), SetupFault>
 
 fn add_pile(setup: &mut Setup, pile: Pile) -> Result<(), SetupFault>
     ensures { (others : List Piece) → MatchResult result
-        (λ _. hold_pieces setup.old (pile_pieces pile ++ others) ≡ hold_pieces setup.new others)
-        (λ fault. hold_pieces setup.old (pile_pieces pile ++ others) ≡ Err fault) }
+        (λ _. place_all setup.old (map hand_placing (pile_pieces pile ++ others)) ≡ place_all setup.new (map hand_placing others))
+        (λ fault. place_all setup.old (map hand_placing (pile_pieces pile ++ others)) ≡ Err fault) }
 {
     for _ in 0..pile.count.unwrap_or(1) {
         setup.add_hand(pile.piece.color, pile.piece.kind)?;

@@ -1,7 +1,7 @@
 use Rattle.std.proofs.Common.{true, refl, sym, ap, ◌-◌, ◌∙◌, set, subst}
 use Rattle.csa_text.specs.Spelling.{rank}
 use Rattle.csa_record.specs.Laying.{Lays}
-use Rattle.csa_record.specs.Placing.{place_all}
+use Rattle.shogi_board.specs.Placing.{place_all}
 use Rattle.csa_record.specs.Placings.{placings_of}
 use Rattle.csa_record.proofs.LaidNext.{Begun, begun_on, begun_empty, laid_as, mixed, refused, taken, rank_beside_even, rank_twice, rank_fits, one_rank, or_none}
 use Rattle.csa_record.proofs.laying.Laying.lay_rank.Goals as goal

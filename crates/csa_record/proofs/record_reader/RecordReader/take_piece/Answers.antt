@@ -1,4 +1,5 @@
-use Rattle.std.proofs.Common.{◌++◌, take, arith, length-drop}
+use Rattle.std.proofs.Common.{[], ◌++◌, take, arith, length-drop}
+use Rattle.csa_record.proofs.Flowing.{never_failed_by}
 use Rattle.csa_record.proofs.Steps.{piece_more, piece_refused, rest_whole}
 use Rattle.csa_record.proofs.record_reader.RecordReader.take_piece.Goals as goal
 
@@ -7,6 +8,12 @@ returns-in-Err-clause-refused c = λ source h more.
     let piece = c.args.piece.now in
     let next = rw (rest_whole c.loop-used.used piece) at c.in-Err.ensures.next in
     piece_refused source piece more c.loop-used.used c.in-Err.refusal (next (source ++ take c.loop-used.used piece) (c.loop-used.invariant.read source h) more)
+
+pub returns-in-Err-clause-first : goal.returns-in-Err-clause-first
+returns-in-Err-clause-first c = λ source h.
+    let piece = c.args.piece.now in
+    let next = rw (rest_whole c.loop-used.used piece) at c.in-Err.ensures.next in
+    never_failed_by _ c.in-Err.refusal (next (source ++ take c.loop-used.used piece) (c.loop-used.invariant.read source h) [])
 
 pub loop-used-preserved : goal.loop-used-preserved
 loop-used-preserved c =

@@ -1,5 +1,8 @@
 -- Placing pieces one after another, and why one cannot be placed.
-use Rattle.std.specs.Prelude.{◌&&◌, nat_lt, not, false, List, [], ◌∷◌, Option, Some, None, Result, Ok, Err, is_some, slice_set, slice_index_or}
+use Rattle.std.specs.Prelude.{ℕ, ◌&&◌, nat_lt, not, false, List, [], ◌∷◌, Option, Some, None, Result, Ok, Err, is_some, slice_set, slice_index_or}
+use Rattle.shogi_board.specs.declared.color.Color.{Color}
+use Rattle.shogi_board.specs.declared.kind.Kind.{Kind}
+use Rattle.shogi_board.specs.declared.kind.Piece.{Piece}
 use Rattle.shogi_board.specs.declared.setup.SetupFault.{SetupFault}
 use Rattle.shogi_board.specs.declared.setup.SetupFault.TheVariants.{SquareTaken, TooMany, SecondKing, NotThere, AfterRest}
 use Rattle.shogi_board.specs.Cells.{Cells}
@@ -7,10 +10,13 @@ use Rattle.shogi_board.specs.Layout.{Layout}
 use Rattle.shogi_board.specs.Pieces.{is_king}
 use Rattle.shogi_board.specs.Setup.{first_fault, add_fault, rest_fault, is_full, holds, with_hand, hand_of, one_more, rest_to}
 use Rattle.shogi_board.specs.Totals.{kings_of, no_pieces}
-use Rattle.csa_text.specs.Spelling.{Saying}
-use Rattle.csa_record.specs.Items.{positions}
-use Rattle.csa_record.specs.Placings.{Placing, on, off, in_hand, rest, placings}
-use Rattle.csa_record.specs.Union.{first_board}
+
+-- a piece put on a square, one of that kind taken off it, one put into a hand, or all that remain; squares by their place
+pub data Placing : Type 0 where
+  on : ℕ → Piece → Placing
+  off : ℕ → Kind → Placing
+  in_hand : Color → Kind → Placing
+  rest : Color → Placing
 
 -- why it cannot be placed
 abbrev pub placing_fault : Layout → Placing → Option SetupFault
@@ -45,7 +51,3 @@ place_all s (p ∷ ps) = unless (placing_fault s p) (place_all (placed s p) ps)
 -- a board with empty hands
 abbrev pub board_alone : Cells → Layout
 board_alone cells = record { board = cells; black = no_pieces; white = no_pieces; rest_given = false }
-
--- what the position statements among the items place
-abbrev pub laid_out : List Saying → Result Layout SetupFault
-laid_out sayings = place_all (board_alone (first_board (positions sayings))) (placings (positions sayings))
