@@ -7,7 +7,7 @@ use Rattle.csa_text.specs.declared.line.LineFault.TheVariants as lines
 use Rattle.usi_text.specs.declared.fault.UsiFault.{UsiFault}
 use Rattle.usi_text.specs.declared.fault.UsiFault.TheVariants as usi
 use Rattle.shogi.specs.declared.fault.Fault.{Fault}
-use Rattle.shogi.specs.declared.fault.Fault.TheVariants.{Refused, Usi, LongLine, WordsNotText, UnknownCommand, Read, Write, OutOfMemory}
+use Rattle.shogi.specs.declared.fault.Fault.TheVariants.{Refused, Usi, LongLine, WordsNotText, UnknownCommand, Read, Write, ClientGone, ClientLineTooLong, OutOfMemory}
 
 -- the line of a fault, where it has one text; that of a refusal ends in the words of the record or of the line
 abbrev pub line_of : Fault → Option (List ℕ)
@@ -18,6 +18,8 @@ line_of WordsNotText = Some (codes "error: a word of the command line is not UTF
 line_of UnknownCommand = Some (codes "error: there is no such command")
 line_of Read = Some (codes "read fault")
 line_of Write = Some (codes "write fault")
+line_of ClientGone = Some (codes "fault: client gone")
+line_of ClientLineTooLong = Some (codes "fault: B7 LineTooLong")
 line_of OutOfMemory = Some (codes "out of memory")
 
 -- a fault of a record on its way, as one of the program

@@ -4,6 +4,7 @@ mod check;
 mod csa;
 mod engine;
 mod normal;
+mod serve;
 mod usi;
 
 ghost use Rattle.std.specs.Prelude.{◌≢◌, IfErr, IsErrOf};
@@ -13,6 +14,7 @@ ghost use Rattle.clap.specs.Words.{subcommand_name_of};
 use crate::fault::Fault;
 use clap::{ArgMatches, Command};
 use std::alloc::{AllocError, Global};
+use std::net::{Net, TcpListener, TcpStream};
 use std::rt::Files;
 
 /// The program's whole command line.
@@ -26,16 +28,16 @@ pub fn all<'a>(alloc: Global) -> Result<Command<'a>, AllocError> {
         .subcommand(normal::command(alloc)?)?
         .subcommand(usi::command(alloc)?)?
         .subcommand(csa::command(alloc)?)?
-        .subcommand(engine::command(alloc))
+        .subcommand(engine::command(alloc))?
+        .subcommand(serve::command(alloc)?)
 }
 
 /// Runs the command that the words named.
 ///
 /// `Fault::UnknownCommand` where they name none of these.
-pub fn run<R: Files + Input + Print + AllocGlobal>(
-    rt: &R,
-    matches: &ArgMatches<'_>,
-) -> Result<(), Fault>
+pub fn run<
+    R: Files + Input + Net<Listener = TcpListener, Stream = TcpStream> + Print + AllocGlobal,
+>(rt: &R, matches: &ArgMatches<'_>) -> Result<(), Fault>
     ensures unknown { IsNoCommand (subcommand_name_of matches.now) → IsErrOf result Fault.UnknownCommand }
     ensures known { (IsNoCommand (subcommand_name_of matches.now) → ⊥) → IfErr result (λ fault. fault ≢ Fault.UnknownCommand) }
 {
@@ -45,6 +47,7 @@ pub fn run<R: Files + Input + Print + AllocGlobal>(
         Some((usi::NAME, words)) => usi::run(rt, words),
         Some((csa::NAME, words)) => csa::run(rt, words),
         Some((engine::NAME, _)) => engine::run(rt),
+        Some((serve::NAME, words)) => serve::run(rt, words),
         _ => Err(Fault::UnknownCommand),
     }
 }

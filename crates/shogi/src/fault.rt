@@ -29,6 +29,10 @@ pub enum Fault {
     Read,
     /// A file or standard output did not take all that was to be written.
     Write,
+    /// The client of `serve` ended before the session was over.
+    ClientGone,
+    /// A line of the client has more than 65,536 bytes.
+    ClientLineTooLong,
     /// A growth of memory was refused.
     OutOfMemory,
 }
@@ -46,12 +50,15 @@ impl Fault {
         ensures unknown { self.now ≡ Fault.UnknownCommand → result ≡ 2 }
         ensures read { self.now ≡ Fault.Read → result ≡ 3 }
         ensures write { self.now ≡ Fault.Write → result ≡ 3 }
+        ensures gone { self.now ≡ Fault.ClientGone → result ≡ 4 }
+        ensures client_long { self.now ≡ Fault.ClientLineTooLong → result ≡ 4 }
         ensures memory { self.now ≡ Fault.OutOfMemory → result ≡ 5 }
     {
         match self {
             Fault::Refused(_) | Fault::Usi(_) | Fault::LongLine => 1,
             Fault::WordsNotText | Fault::UnknownCommand => USAGE,
             Fault::Read | Fault::Write => 3,
+            Fault::ClientGone | Fault::ClientLineTooLong => 4,
             Fault::OutOfMemory => 5,
         }
     }
@@ -105,6 +112,8 @@ impl fmt::Display for Fault {
             Fault::UnknownCommand => f.write_str("error: there is no such command"),
             Fault::Read => f.write_str("read fault"),
             Fault::Write => f.write_str("write fault"),
+            Fault::ClientGone => f.write_str("fault: client gone"),
+            Fault::ClientLineTooLong => f.write_str("fault: B7 LineTooLong"),
             Fault::OutOfMemory => f.write_str("out of memory"),
         }
     }

@@ -4,9 +4,11 @@
 mod commands;
 mod fault;
 mod streams;
+mod talk;
 mod usage;
 
 use fault::Fault;
+use std::net::{Net, TcpListener, TcpStream};
 use std::process::ExitCode;
 use std::rt::{Env, Files};
 
@@ -22,7 +24,15 @@ fn main(rt: HostRuntime) -> ExitCode {
 }
 
 // Reads the words of the command line, and runs the command that they name. The status is that of a run without fault.
-fn run<R: Env + Files + Input + Print + Eprint + AllocGlobal>(rt: &R) -> Result<ExitCode, Fault> {
+fn run<
+    R: Env
+        + Files
+        + Input
+        + Net<Listener = TcpListener, Stream = TcpStream>
+        + Print
+        + Eprint
+        + AllocGlobal,
+>(rt: &R) -> Result<ExitCode, Fault> {
     let words = usage::words(rt)?;
     match commands::all(rt.alloc())?.try_get_matches_from(words.as_slice()) {
         Ok(matches) => {

@@ -1,5 +1,5 @@
 use Rattle.std.proofs.Common.{◌-◌, ◌≤◌, length}
-use Rattle.shogi.proofs.commands.engine.answer_piece.Given as goal
+use Rattle.shogi.proofs.talk.answer_piece.Given as goal
 
 abbrev pub invariant-loop-used : goal.invariant-loop-used
 invariant-loop-used g l = l.used ≤ length l.piece
