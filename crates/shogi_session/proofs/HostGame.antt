@@ -21,45 +21,46 @@ use Rattle.shogi_session.specs.declared.outcome.Outcome.{Outcome}
 use Rattle.shogi_session.specs.declared.outcome.Outcome.TheVariants.{Repetition, Perpetual, MaxMoves}
 use Rattle.shogi_session.specs.Host.{HostState, HostRow, HostTableRow, HostMoves, BeforeLogin, AfterSummary, InPlay, AfterMove, IsHostConfig, IsGoodMove, with_move, moved_line, outcome_lines, even_game, waiting, offered, playing, decided, ended, in_table, skipped}
 use Rattle.shogi_session.specs.Host as row
-use Rattle.shogi_session.specs.HostLogs.{HostStep, HostLeads, begins, next, IsSeconds, client_lines, written, is_start_line, behind_start, Timed, move_of, lines_in_turn, IsTimedGame}
+use Rattle.shogi_session.specs.HostLogs.{HostStep, HostLeads, begins, next, IsSeconds, client_lines, written, behind_start, Timed, move_of, lines_in_turn, IsTimedGame}
 use Rattle.shogi_session.specs.MoveLines.{is_move_line}
+use Rattle.shogi_session.specs.ServerLines.{is_start_line}
 use Rattle.shogi_session.specs.Texts.{with_time}
 use Rattle.shogi_session.proofs.HostRows.{even_goes_on}
 
-abbrev Lines : Type 0
+abbrev pub Lines : Type 0
 Lines = List (List ℕ)
 
 -- 1. lines before and behind START:
-abbrev NoStart : Lines → Type 0
+abbrev pub NoStart : Lines → Type 0
 NoStart lines = AllByRecursion (λ l. is_start_line l ≡ false) lines
 
-abbrev HasStart : Lines → Type 0
+abbrev pub HasStart : Lines → Type 0
 HasStart [] = ⊥
 HasStart (l ∷ ls) = (is_start_line l ≡ true) ⊎ ((is_start_line l ≡ false) × HasStart ls)
 
-no_more : (a b : Lines) → NoStart a → NoStart b → NoStart (a ++ b)
+pub no_more : (a b : Lines) → NoStart a → NoStart b → NoStart (a ++ b)
 no_more [] b h k = k
 no_more (l ∷ ls) b h k = (h.0, no_more ls b h.1 k)
 
-has_more : (a b : Lines) → HasStart a → HasStart (a ++ b)
+pub has_more : (a b : Lines) → HasStart a → HasStart (a ++ b)
 has_more [] b h = absurd h
 has_more (l ∷ ls) b (inl h) = inl h
 has_more (l ∷ ls) b (inr h) = inr (h.0, has_more ls b h.1)
 
-behind_more : (a b : Lines) → HasStart a → behind_start (a ++ b) ≡ behind_start a ++ b
+pub behind_more : (a b : Lines) → HasStart a → behind_start (a ++ b) ≡ behind_start a ++ b
 behind_more [] b h = absurd h
 behind_more (l ∷ ls) b (inl h) = rw h refl
 behind_more (l ∷ ls) b (inr h) = rw h.0 (behind_more ls b h.1)
 
-found : (a : Lines) (l : List ℕ) → NoStart a → is_start_line l ≡ true → HasStart (a ++ l ∷ [])
+pub found : (a : Lines) (l : List ℕ) → NoStart a → is_start_line l ≡ true → HasStart (a ++ l ∷ [])
 found [] l h s = inl s
 found (x ∷ xs) l h s = inr (h.0, found xs l h.1 s)
 
-none_behind : (a : Lines) (l : List ℕ) → NoStart a → is_start_line l ≡ true → behind_start (a ++ l ∷ []) ≡ []
+pub none_behind : (a : Lines) (l : List ℕ) → NoStart a → is_start_line l ≡ true → behind_start (a ++ l ∷ []) ≡ []
 none_behind [] l h s = rw s refl
 none_behind (x ∷ xs) l h s = rw h.0 (none_behind xs l h.1 s)
 
-none_yet : (a : Lines) → NoStart a → behind_start a ≡ []
+pub none_yet : (a : Lines) → NoStart a → behind_start a ≡ []
 none_yet [] h = refl
 none_yet (x ∷ xs) h = rw h.0 (none_yet xs h.1)
 
@@ -181,7 +182,7 @@ host_moves c w ms more t told room goes r =
     ]
 
 -- 4. each row keeps it
-login_lines : (c : HostConfig) (n : List ℕ) → NoStart ((codes "LOGIN:" ++ (n ++ codes " OK")) ∷ row.summary_lines c n)
+pub login_lines : (c : HostConfig) (n : List ℕ) → NoStart ((codes "LOGIN:" ++ (n ++ codes " OK")) ∷ row.summary_lines c n)
 login_lines c n = (refl, (refl, (refl, (refl, (refl, (refl, (refl, (refl, (refl, (refl, (refl, (refl, (refl, tt)))))))))))))
 
 before_login : (c : HostConfig) (w : Lines) (line : List ℕ) (lines : Lines) (t : HostState) → NoStart w → BeforeLogin c line lines t → Holds c (w ++ lines) t

@@ -1,9 +1,29 @@
 pub mod Answering
+pub mod Asked
 mod HostGame
 pub mod HostLines
+pub mod Counting
+pub mod LinesRead
+mod RowOnce
+mod Fitting
+mod Testing
+mod Courses
+mod Tied
+mod Existing
+mod Onward
+mod SentRight
+mod OneStart
+mod BothEnds
+mod Instances
+mod ConfirmedOnce
 mod HostOnce
 pub mod HostRows
 pub mod MoveRead
+pub mod Nexts
+pub mod OfferRead
 pub mod OneStatement
+pub mod PositionGame
+pub mod PositionRead
 pub mod SampleOnce
+pub mod ServerReads
 pub mod Spaces

@@ -15,7 +15,7 @@ pub record AtStart (line : List ℕ) (c : Cutting) : Type 0 where
   pub at : c.at ≡ mark_length line
   pub number : c.number ≡ 0
 
-whole : (line : List ℕ) (c : Cutting) (us : List TextUnit) → AtStart line c → ToCome c us → Cut line us
+pub whole : (line : List ℕ) (c : Cutting) (us : List TextUnit) → AtStart line c → ToCome c us → Cut line us
 whole line c us s h =
     subst (λ n. Statements n (drop n line) us) s.at (subst (λ x. Statements c.at (drop c.at x) us) s.source h)
 

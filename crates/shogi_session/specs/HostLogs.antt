@@ -1,6 +1,6 @@
 -- Logs of a host, and the game that is read off its lines.
-use Rattle.std.specs.Prelude.{◌≡◌, ℕ, ◌++◌, ◌≤◌, Bool, nat_eq, List, [], ◌∷◌, filter, map, length, codes, if◌then◌else◌}
-use Rattle.std.specs.List.{AllByRecursion, flat_map, starts_with}
+use Rattle.std.specs.Prelude.{◌≡◌, ℕ, ◌++◌, ◌≤◌, List, [], ◌∷◌, filter, map, length, if◌then◌else◌}
+use Rattle.std.specs.List.{AllByRecursion, flat_map}
 use Rattle.shogi_board.specs.declared.color.Color.{Color}
 use Rattle.shogi_board.specs.declared.color.Color.TheVariants.{Black}
 use Rattle.shogi_board.specs.Pieces.{opponent}
@@ -11,6 +11,7 @@ use Rattle.csa_text.specs.Codes.{move_text}
 use Rattle.shogi_session.specs.declared.config.HostConfig.{HostConfig}
 use Rattle.shogi_session.specs.Host.{HostState, waiting, HostRow}
 use Rattle.shogi_session.specs.MoveLines.{is_move_line}
+use Rattle.shogi_session.specs.ServerLines.{is_start_line}
 use Rattle.shogi_session.specs.Texts.{with_time}
 
 -- one call of step: the line less the spaces at its end, its seconds, and the lines to the client
@@ -34,9 +35,6 @@ client_lines step = step.to_client
 
 abbrev pub written : List HostStep → List (List ℕ)
 written log = flat_map client_lines log
-
-abbrev pub is_start_line : List ℕ → Bool
-is_start_line line = starts_with nat_eq line (codes "START:")
 
 -- the lines behind the first line `START:` ..
 abbrev pub behind_start : List (List ℕ) → List (List ℕ)

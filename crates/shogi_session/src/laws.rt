@@ -1,10 +1,29 @@
 //! Laws of the definitions that the contracts of this crate cite. They take and give nothing.
 
-ghost use Rattle.std.specs.Prelude.{◌≡◌, ℕ, List};
+ghost use Rattle.std.specs.Prelude.{◌≡◌, ◌↔◌, ◌++◌, ◌∷◌, [], ℕ, List, filter, true, codes};
+ghost use Rattle.std.specs.List.{AllByRecursion, list_any};
+ghost use Rattle.csa_record.specs.Items.{AtMostOne};
+ghost use Rattle.shogi_session.specs.declared.config.Config.{Config};
 ghost use Rattle.shogi_session.specs.declared.config.HostConfig.{HostConfig};
+ghost use Rattle.shogi_session.specs.declared.state.EngineState.TheVariants.{Thinking};
+ghost use Rattle.shogi_session.specs.Asking.{MayAsk};
+ghost use Rattle.shogi_session.specs.declared.fault.MoveCause.TheVariants.{Refused, Unsent};
+ghost use Rattle.shogi_session.specs.declared.fault.SessionFault.TheVariants.{BadServerMove};
+ghost use Rattle.csa_record.specs.declared.fault.Why.TheVariants.{Rule};
+ghost use Rattle.shogi_rules.specs.declared.rule.Rule.TheVariants.{WrongSide};
+ghost use Rattle.shogi_board.specs.declared.square.Square.{Square};
+ghost use Rattle.shogi_session.specs.Events.{Event, Out, no_lines, server_line};
+ghost use Rattle.shogi_session.specs.Examples.{pawn_match, pawn_step, ready};
 ghost use Rattle.shogi_session.specs.Host.{HostRow, HostState, IsHostConfig};
-ghost use Rattle.shogi_session.specs.HostLogs.{HostLeads, HostStep, IsTimedGame, Timed, written_moves};
+ghost use Rattle.shogi_session.specs.HostLogs.{HostLeads, HostStep, IsTimedGame, Timed, written, written_moves};
+ghost use Rattle.shogi_session.specs.Hearing.{heard_after};
+ghost use Rattle.shogi_session.specs.Logs.{Confirmed, Leads, Moved, Step, Taken, counted, is_answer, sends, server_lines};
+ghost use Rattle.shogi_session.specs.MoveLines.{is_move_line};
+ghost use Rattle.shogi_session.specs.Row.{Row, failed};
 ghost use Rattle.shogi_session.specs.Sample.{SampleState, SampleRow};
+ghost use Rattle.shogi_session.specs.Sending.{AskedRight, IsAnswered, IsPrefix, OwnSent, is_position_line};
+ghost use Rattle.shogi_session.specs.State.{Match, State, move, playing, sent, with_move};
+ghost use Rattle.shogi_session.specs.Summary.{CountsAs, Heard, Offer, nothing_heard};
 
 /// One line leads the sample engine to one answer and one state.
 pub fn sample_row_once()
@@ -24,4 +43,77 @@ pub fn host_row_once()
 pub fn host_game()
     ensures { (c : HostConfig) (log : List HostStep) (s : HostState) → IsHostConfig c → HostLeads c log s
         → (ms : List Timed) × IsTimedGame c.max_moves (written_moves log) ms }
+{}
+
+/// Of no lines of a summary nothing counts; and what counts of lines with one line more follows from
+/// what counts of them, and from that line.
+pub fn summary_line_once()
+    ensures first { CountsAs [] nothing_heard }
+    ensures next { (lines : List (List ℕ)) (line : List ℕ) (h new : Heard) → CountsAs lines h
+        → (CountsAs (lines ++ line ∷ []) new ↔ (new ≡ heard_after h line)) }
+{}
+
+/// One event leads a bridge to one answer and one state: no two rows of its table fit one event.
+pub fn row_once()
+    ensures { (c : Config) (s t u : State) (e : Event) (out other : Out)
+        → Row c s e out t → Row c s e other u → (out ≡ other) × (t ≡ u) }
+{}
+
+/// In every log an engine that thinks while the client plays is one that may be asked: the client is
+/// to move, the position does not stand for the fourth time, and fewer than 10,000 moves stand.
+pub fn thinking_may_ask()
+    ensures { (c : Config) (log : List Step) (s : State) (g : Match) → Leads c log s → s.engine ≡ Thinking
+        → s.client ≡ playing g → MayAsk g }
+{}
+
+/// The lines of a log confirm one game at most.
+pub fn confirmed_once()
+    ensures { (log : List Step) (o p : Offer) (ms ns : List Moved) → Confirmed log o ms → Confirmed log p ns → (o ≡ p) × (ms ≡ ns) }
+{}
+
+/// In every log, each line that a step sends the server as an answer of the engine is the text of a
+/// legal move of the client's side in the game that the log before it confirmed, or `%TORYO`, or
+/// `%KACHI`.
+pub fn sent_legal()
+    ensures { (c : Config) (log : List Step) (s t : State) (e : Event) (out : Out) → Leads c log s → Row c s e out t
+        → AllByRecursion (λ line. is_answer line ≡ true → IsAnswered log line) out.to_server }
+{}
+
+/// In every log, a step that answers sends one answer, and all answers before it were moves that the
+/// server confirmed; and from `AGREE` on the answers are the confirmed moves of the client's side, in
+/// order, and then at most one that waits for its confirmation.
+pub fn sent_once()
+    ensures answers { (c : Config) (log : List Step) (s t : State) (e : Event) (out : Out) → Leads c log s → Row c s e out t
+        → list_any is_answer out.to_server ≡ true → AtMostOne out.to_server × OwnSent log [] }
+    ensures log { (c : Config) (log : List Step) (s : State) → Leads c log s
+        → list_any (sends (codes "AGREE")) (counted log) ≡ true → (waiting : List (List ℕ)) × OwnSent log waiting }
+{}
+
+/// In every log, each `position` line that a step sends the engine is that of the game which the log
+/// has confirmed with that step, and its `go` line has the clocks of that game.
+pub fn asked_right()
+    ensures { (c : Config) (log : List Step) (s t : State) (e : Event) (out : Out) → Leads c log s → Row c s e out t
+        → list_any is_position_line out.to_engine ≡ true
+        → AskedRight c (log ++ (record { event = e; out = out; status = t.status }) ∷ []) out.to_engine }
+{}
+
+/// Where the lines that a bridge heard from its server, less the spaces at their end, are the first
+/// of those that a host wrote, with any other events between, the lines of play from `+` or `-` are
+/// the first of those that the host wrote behind `START:`.
+pub fn both_ends()
+    ensures { (c : Config) (log : List Step) (s : State) (host : HostConfig) (wrote : List HostStep) (t : HostState)
+        → Leads c log s → HostLeads host wrote t → IsPrefix (server_lines log) (written wrote)
+        → (taken rest : List (List ℕ)) → Taken log taken rest → IsPrefix (filter is_move_line taken) (written_moves wrote) }
+{}
+
+/// In a game that begins with a black pawn on 77 and nothing else, the client black: `+7776FU` is
+/// confirmed where it was sent, and a fault where nothing was; `-3334FU` breaks the first rule.
+pub fn moves_instanced()
+    ensures confirmed { (c : Config) (from to : Square) → from.file ≡ 7 → from.rank ≡ 7 → to.file ≡ 7 → to.rank ≡ 6
+        → Row c (ready (sent pawn_match (move (pawn_step from to).move))) (server_line (codes "+7776FU")) no_lines
+        (ready (playing (with_move pawn_match (pawn_step from to)))) }
+    ensures unsent { (c : Config) → Row c (ready (playing pawn_match)) (server_line (codes "+7776FU")) no_lines
+        (failed (ready (playing pawn_match)) (BadServerMove Unsent)) }
+    ensures refused { (c : Config) → Row c (ready (playing pawn_match)) (server_line (codes "-3334FU")) no_lines
+        (failed (ready (playing pawn_match)) (BadServerMove (Refused (Rule WrongSide)))) }
 {}

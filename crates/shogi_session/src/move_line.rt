@@ -37,7 +37,7 @@ pub(crate) fn read_move_line(line: &[u8]) -> Option<(Color, Move)>
 }
 
 // The move that the item is, with its side.
-fn walked_of(item: Item<'_>) -> Option<(Color, Move)>
+pub(crate) fn walked_of(item: Item<'_>) -> Option<(Color, Move)>
     ensures { MatchOption result
         ((color : Color) (m : Move) → saying_of item.entry ≡ walked color m → ⊥)
         (λ r. saying_of item.entry ≡ walked r.0 r.1) }

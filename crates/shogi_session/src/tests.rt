@@ -1,5 +1,3 @@
-ghost use Rattle.std.specs.Prelude.{◌≤◌};
-
 use crate::{Host, HostConfig, Sample};
 use arrayvec::ArrayString;
 use shogi_board::Color;
@@ -49,9 +47,10 @@ fn sample_resigns_at_the_fourth_time(rt: HostRuntime) -> Result<(), Fail> {
 }
 
 // A host of the game `local`, which plays as `host`.
-fn host(alloc: Global, client: Color, max_moves: u32) -> Result<Host, Fail>
-    requires { (1 ≤ max_moves) × (max_moves ≤ 10000) }
-{
+pub(crate) fn host(alloc: Global, client: Color, max_moves: u32) -> Result<Host, Fail> {
+    if !(1..=10000).contains(&max_moves) {
+        return Err(Fail::from("a host's game has 1 to 10,000 moves"));
+    }
     let config = HostConfig {
         client,
         max_moves,
@@ -160,5 +159,27 @@ fn host_ends_games(rt: HostRuntime) -> Result<(), Fail> {
             "{second}"
         );
     }
+    Ok(())
+}
+
+// A byte that is no space and no line end, alone and in a word, asks for nothing; in a position line it is refused, and no
+// game is kept.
+#[test]
+fn sample_skips_bytes(rt: HostRuntime) -> Result<(), Fail> {
+    let mut engine = Sample::new(rt.alloc());
+    for b in 0..=255u8 {
+        if b != b'\r' && b != b'\n' && b != b' ' {
+            for line in [[b, b, b, b], [b'u', b's', b'i', b], [b'g', b'o', b, b]] {
+                let out = engine.step(&line)?;
+                assert!(rt; out.lines.bytes().is_empty() && !out.ended, "{b}");
+            }
+        }
+    }
+    engine.step(b"position startpos")?;
+    engine.step(b"position startpos moves \xFF")?;
+    assert_eq!(rt;
+        engine.step(b"go")?.lines.bytes(),
+        b"bestmove resign\n".as_slice()
+    );
     Ok(())
 }

@@ -1,0 +1,137 @@
+-- A bridge's lines of play are the first of those that the host at the other end wrote.
+use Rattle.std.proofs.Common.{◌≡◌, ℕ, ◌++◌, Bool, true, false, List, [], ◌∷◌, Option, Some, None, refl, sym, ap, subst, ◌∙◌, append_assoc}
+use Rattle.std.specs.List.{filter, cons_option}
+use Rattle.std.proofs.lemmas.List.{append-nil}
+use Rattle.std.proofs.lemmas.List.Elements.{filter-append, filter_map-append}
+use Rattle.shogi_session.specs.declared.config.Config.{Config}
+use Rattle.shogi_session.specs.declared.config.HostConfig.{HostConfig}
+use Rattle.shogi_session.specs.Events.{Event, Out}
+use Rattle.shogi_session.specs.Host.{HostState}
+use Rattle.shogi_session.specs.HostLogs.{HostStep, HostLeads, written, written_moves, behind_start}
+use Rattle.shogi_session.specs.Logs.{Step, Leads, new, next, heard, server_lines, passes, behind, counted, Taken, is_sound}
+use Rattle.shogi_session.specs.MoveLines.{is_move_line}
+use Rattle.shogi_session.specs.Row.{Row, in_table, unnamed}
+use Rattle.shogi_session.specs.Sending.{IsPrefix}
+use Rattle.shogi_session.specs.ServerLines.{is_start_line}
+use Rattle.shogi_session.specs.State.{State}
+use Rattle.shogi_session.proofs.Courses.{Steps, Lines, agrees, hears_start}
+use Rattle.shogi_session.proofs.HostGame.{NoStart, none_yet}
+use Rattle.shogi_session.proofs.OneStart.{one_start}
+use Rattle.shogi_session.proofs.Onward.{step, counted_in, counted_out}
+
+-- 1. the lines behind START:
+by_line : (x : Step) (xs : Steps) (o : Option (List ℕ)) (v : Bool) → heard x ≡ o → passes is_start_line o ≡ v
+    → server_lines (behind hears_start xs) ≡ behind_start (server_lines xs) → server_lines (behind hears_start (x ∷ xs)) ≡ behind_start (server_lines (x ∷ xs))
+by_line x xs None true e f h = absurd (let g : false ≡ true = f in cc)
+by_line x xs None false e f h = rw e h
+by_line x xs (Some l) true e f h = rw (e, f) refl
+by_line x xs (Some l) false e f h = rw (e, f) h
+
+same_lines : (xs : Steps) → server_lines (behind hears_start xs) ≡ behind_start (server_lines xs)
+same_lines [] = refl
+same_lines (x ∷ xs) = by_line x xs (heard x) (passes is_start_line (heard x)) refl refl (same_lines xs)
+
+abbrev Front : Lines → Lines → Type 0
+Front whole back = (front : Lines) × (whole ≡ front ++ back)
+
+front_more : (o : Option (List ℕ)) (ls back : Lines) → Front ls back → Front (cons_option o ls) back
+front_more None ls back h = h
+front_more (Some l) ls back h = (l ∷ h.0, ap (λ ys. l ∷ ys) h.1)
+
+by_agree : (x : Step) (xs : Steps) (v : Bool) → agrees x ≡ v → Front (server_lines xs) (server_lines (behind agrees xs)) → Front (server_lines (x ∷ xs)) (server_lines (behind agrees (x ∷ xs)))
+by_agree x xs true e h = rw e (front_more (heard x) (server_lines xs) (server_lines xs) ([], refl))
+by_agree x xs false e h = rw e (front_more (heard x) (server_lines xs) (server_lines (behind agrees xs)) h)
+
+-- the lines behind AGREE stand at the end
+front_of : (xs : Steps) → Front (server_lines xs) (server_lines (behind agrees xs))
+front_of [] = ([], refl)
+front_of (x ∷ xs) = by_agree x xs (agrees x) refl (front_of xs)
+
+-- 2. prefixes
+by_start : (l : List ℕ) (d x : Lines) (v : Bool) → is_start_line l ≡ v → IsPrefix (behind_start d) (behind_start (d ++ x))
+    → IsPrefix (behind_start (l ∷ d)) (behind_start (l ∷ (d ++ x)))
+by_start l d x true e h = rw e (x, refl)
+by_start l d x false e h = rw e h
+
+longer : (d x : Lines) → IsPrefix (behind_start d) (behind_start (d ++ x))
+longer [] x = (behind_start x, refl)
+longer (l ∷ d) x = by_start l d x (is_start_line l) refl (longer d x)
+
+drop_front : (a b : Lines) → NoStart (a ++ b) → NoStart b
+drop_front [] b h = h
+drop_front (l ∷ a) b h = drop_front a b h.1
+
+take_front : (a b : Lines) → NoStart (a ++ b) → NoStart a
+take_front [] b h = tt
+take_front (l ∷ a) b h = (h.0, take_front a b h.1)
+
+by_first : (f : List ℕ) (fs d x : Lines) (v : Bool) → is_start_line f ≡ v
+    → (NoStart (behind_start (fs ++ (d ++ x))) → IsPrefix (behind_start d) (behind_start (fs ++ (d ++ x))))
+    → NoStart (behind_start (f ∷ (fs ++ (d ++ x)))) → IsPrefix (behind_start d) (behind_start (f ∷ (fs ++ (d ++ x))))
+by_first f fs d x true e more h =
+    let all : NoStart (fs ++ (d ++ x)) = rw e at h in
+    let none : behind_start d ≡ [] = none_yet d (take_front d x (drop_front fs (d ++ x) all)) in
+    (behind_start (f ∷ (fs ++ (d ++ x))), ap (λ ls. ls ++ behind_start (f ∷ (fs ++ (d ++ x)))) (sym none))
+by_first f fs d x false e more h = rw e (more (rw e at h))
+
+-- where START: stands once at most, the lines behind the one in a part are those behind the one in the whole
+inner : (fs d x : Lines) → NoStart (behind_start (fs ++ (d ++ x))) → IsPrefix (behind_start d) (behind_start (fs ++ (d ++ x)))
+inner [] d x h = longer d x
+inner (f ∷ fs) d x h = by_first f fs d x (is_start_line f) refl (inner fs d x) h
+
+filtered : (a b : Lines) → IsPrefix a b → IsPrefix (filter is_move_line a) (filter is_move_line b)
+filtered a b h = (filter is_move_line h.0, ap (filter is_move_line) h.1 ∙ filter-append is_move_line a h.0)
+
+prefix_trans : (a b c : Lines) → IsPrefix a b → IsPrefix b c → IsPrefix a c
+prefix_trans a b c h k = (h.0 ++ k.0, k.1 ∙ (ap (λ ls. ls ++ k.0) h.1 ∙ append_assoc a h.0 k.0))
+
+-- 3. the counted steps are the first
+abbrev Counts : Steps → State → Type 0
+Counts log s = (is_sound s.status ≡ true → counted log ≡ log) × (rest : Steps) × (log ≡ counted log ++ rest)
+
+was_sound : (c : Config) (s : State) (e : Event) (out : Out) (t : State) → Row c s e out t → is_sound t.status ≡ true → is_sound s.status ≡ true
+was_sound c s e out t r h =
+    elim r [
+      | in_table k ↦ ap is_sound k.0
+      | unnamed none o n ↦ ap (λ (x : State). is_sound x.status) (sym n) ∙ h
+    ]
+
+counts_next : (before : Steps) (x : Step) (s t : State) (v : Bool) → x.status ≡ t.status → is_sound t.status ≡ v → (is_sound t.status ≡ true → is_sound s.status ≡ true)
+    → Counts before s → Counts (before ++ x ∷ []) t
+counts_next before x s t true z e was h =
+    let all = h.0 (was e) in
+    let now = counted_in before x (ap is_sound z ∙ e) ∙ ap (λ ys. ys ++ x ∷ []) all in
+    ((λ k. now), [], sym (append-nil (counted (before ++ x ∷ [])) ∙ now))
+counts_next before x s t false z e was h =
+    let now = counted_out before x (ap is_sound z ∙ e) in (
+      (λ k. absurd (let f = e in let g = k in cc)),
+      h.1 ++ x ∷ [],
+      ap (λ ys. ys ++ x ∷ []) h.2 ∙ (append_assoc (counted before) h.1 (x ∷ []) ∙ ap (λ ys. ys ++ (h.1 ++ x ∷ [])) (sym now)),
+    )
+
+log_counts : (c : Config) (log : Steps) (s : State) → Leads c log s → Counts log s
+log_counts c log s new = ((λ h. refl), [], refl)
+log_counts c log u (next before s e out t leads r) =
+    counts_next before (step e out t.status) s t (is_sound t.status) refl refl (was_sound c s e out t r) (log_counts c before s leads)
+
+counted_first : (c : Config) (log : Steps) (s : State) → Leads c log s → IsPrefix (server_lines (counted log)) (server_lines log)
+counted_first c log s leads =
+    let h = log_counts c log s leads in
+    (server_lines h.1, ap server_lines h.2 ∙ filter_map-append heard (counted log) h.1)
+
+-- 4. both ends
+started_first : (k : Steps) (w : Lines) → NoStart (behind_start w) → IsPrefix (server_lines k) w → IsPrefix (server_lines (behind hears_start (behind agrees k))) (behind_start w)
+started_first k w one h =
+    let d = server_lines (behind agrees k) in
+    let f = front_of k in
+    let whole : w ≡ f.0 ++ (d ++ h.0) = h.1 ∙ (ap (λ ls. ls ++ h.0) f.1 ∙ append_assoc f.0 d h.0) in
+    let part = inner f.0 d h.0 (subst (λ v. NoStart (behind_start v)) whole one) in
+    subst (λ ls. IsPrefix ls (behind_start w)) (sym (same_lines (behind agrees k))) (subst (λ v. IsPrefix (behind_start d) (behind_start v)) (sym whole) part)
+
+pub both_ends : (c : Config) (log : Steps) (s : State) (host : HostConfig) (wrote : List HostStep) (t : HostState)
+    → Leads c log s → HostLeads host wrote t → IsPrefix (server_lines log) (written wrote)
+    → (taken rest : Lines) → Taken log taken rest → IsPrefix (filter is_move_line taken) (written_moves wrote)
+both_ends c log s host wrote t leads hosted h taken rest split =
+    let heard_first = prefix_trans _ _ _ (counted_first c log s leads) h in
+    let started = started_first (counted log) (written wrote) (one_start host wrote t hosted) heard_first in
+    filtered taken (behind_start (written wrote)) (prefix_trans taken _ _ (rest, split.whole) started)

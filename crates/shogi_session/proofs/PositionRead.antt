@@ -1,0 +1,112 @@
+-- How the text of a position block is gone through.
+use Rattle.std.proofs.Common.{◌≡◌, ◌<◌, ◌≤◌, ◌-◌, ◌↔◌, IsTrue, ℕ, Bool, true, false, List, [], ◌∷◌, ◌++◌, length, append_assoc, append-nil, arith, refl, sym, subst}
+use Rattle.std.specs.List.{AllByRecursion, AllZip}
+use Rattle.csa_text.proofs.Once.{statements_once}
+use Rattle.csa_text.specs.Cut.{TextUnit, Cut}
+use Rattle.csa_text.specs.Cutting.{Cutting, ToCome, IsTooLong}
+use Rattle.csa_text.specs.Spelling.{Saying, Spells}
+use Rattle.csa_record.specs.Tells.{IsSpelt}
+use Rattle.shogi_session.proofs.Nexts.{Handed, unit_of, handed_leads, handed_first, handed_spelt}
+use Rattle.shogi_session.proofs.OneStatement.{AtStart, whole}
+use Rattle.shogi_session.specs.PositionTexts.{SpellsPosition, IsPositionText}
+use Rattle.shogi_session.specs.Summary.{in_position}
+
+abbrev pub FitsIn : Saying → Type 0
+FitsIn s = in_position s ≡ true
+
+-- the statements that were handed out are of these kinds, and what is still to come stands behind them
+pub record HasRead (text : List ℕ) (c : Cutting) : Type 0 where
+  pub source : c.source ≡ text
+  pub handed : List TextUnit
+  pub sayings : List Saying
+  pub spelt : AllZip IsSpelt handed sayings
+  pub fit : AllByRecursion FitsIn sayings
+  pub whole : (others : List TextUnit) → ToCome c others → Cut text (handed ++ others)
+
+pub start_read : (text : List ℕ) (c : Cutting) → AtStart text c → HasRead text c
+start_read text c start =
+    record { source = start.source; handed = []; sayings = []; spelt = tt; fit = tt; whole = λ others behind. whole text c others start behind }
+
+spelt_behind : (us : List TextUnit) (ss : List Saying) (u : TextUnit) (s : Saying) → AllZip IsSpelt us ss → IsSpelt u s
+    → AllZip IsSpelt (us ++ u ∷ []) (ss ++ s ∷ [])
+spelt_behind [] [] u s all one = (one, tt)
+spelt_behind [] (t ∷ ts) u s all one = absurd all
+spelt_behind (v ∷ vs) [] u s all one = absurd all
+spelt_behind (v ∷ vs) (t ∷ ts) u s all one = (all.0, spelt_behind vs ts u s all.1 one)
+
+fit_behind : (ss : List Saying) (s : Saying) → AllByRecursion FitsIn ss → FitsIn s → AllByRecursion FitsIn (ss ++ s ∷ [])
+fit_behind [] s all one = (one, tt)
+fit_behind (t ∷ ts) s all one = (all.0, fit_behind ts s all.1 one)
+
+pub read_on : (text : List ℕ) (c d : Cutting) (number offset : ℕ) (bytes : List ℕ) → HasRead text c → Handed c d number offset bytes
+    → SpellsPosition bytes → HasRead text d
+read_on text c d number offset bytes h out says =
+    let u = unit_of c d offset in
+    record {
+      source = subst (λ x. d.source ≡ x) h.source out.same;
+      handed = h.handed ++ u ∷ [];
+      sayings = h.sayings ++ says.0 ∷ [];
+      spelt = spelt_behind h.handed h.sayings u says.0 h.spelt (handed_spelt c d number offset bytes says.0 out says.1);
+      fit = fit_behind h.sayings says.0 h.fit says.2;
+      whole = λ others behind. rw (append_assoc) (h.whole (u ∷ others) (handed_leads c d number offset bytes out others behind));
+    }
+
+pub read_less : (text : List ℕ) (c d : Cutting) (number offset : ℕ) (bytes : List ℕ) → HasRead text c → Handed c d number offset bytes
+    → length text - d.at < length text - c.at
+read_less text c d number offset bytes h out =
+    let order = out.out.first.order in
+    let some = out.out.first.some in
+    let within = subst (λ x. d.at ≤ length x) h.source out.out.first.within in
+    omega (arith, order, some, within)
+
+pub all_read : (text : List ℕ) (c : Cutting) → HasRead text c → ToCome c [] → IsPositionText text
+all_read text c h end =
+    record {
+      statements = h.handed;
+      sayings = h.sayings;
+      cut = subst (Cut text) (append-nil h.handed) (h.whole [] end);
+      spelt = h.spelt;
+      no_others = h.fit;
+    }
+
+-- the item of a statement among others
+spelt_there : (us : List TextUnit) (u : TextUnit) (behind : List TextUnit) (ss : List Saying) → AllZip IsSpelt (us ++ u ∷ behind) ss
+    → AllByRecursion FitsIn ss → (s : Saying) × IsSpelt u s × FitsIn s
+spelt_there [] u behind [] all fit = absurd all
+spelt_there [] u behind (s ∷ ss) all fit = (s, all.0, fit.0)
+spelt_there (v ∷ vs) u behind [] all fit = absurd all
+spelt_there (v ∷ vs) u behind (s ∷ ss) all fit = spelt_there vs u behind ss all.1 fit.1
+
+there : (text : List ℕ) (c : Cutting) (u : TextUnit) (behind : List TextUnit) → HasRead text c → ToCome c (u ∷ behind) → IsPositionText text
+    → (s : Saying) × IsSpelt u s × FitsIn s
+there text c u behind h come p =
+    let same = statements_once _ _ p.statements (h.handed ++ u ∷ behind) p.cut (h.whole (u ∷ behind) come) in
+    spelt_there h.handed u behind p.sayings (subst (λ us. AllZip IsSpelt us p.sayings) same p.spelt) p.no_others
+
+pub another_read : (text : List ℕ) (c d : Cutting) (number offset : ℕ) (bytes : List ℕ) → HasRead text c → Handed c d number offset bytes
+    → (SpellsPosition bytes → ⊥) → IsPositionText text → ⊥
+another_read text c d number offset bytes h out none p =
+    let first = handed_first c d number offset bytes out in
+    let s = there text c (unit_of c d offset) first.0 h first.1 p in
+    none (s.0, subst (λ b. Spells b s.0) (sym out.out.slice) s.1.1, s.2)
+
+pub long_read : (text : List ℕ) (c : Cutting) (number offset : ℕ) → HasRead text c → IsTooLong c number offset → IsPositionText text → ⊥
+long_read text c number offset h too p =
+    let s = there text c too.unit too.others h too.first p in
+    let long = too.long in
+    let short = s.1.0 in
+    absurd (omega (arith, long, short))
+
+-- 2. Answers
+pub told_so : (P : Type 0) → P → IsTrue true ↔ P
+told_so P p = (λ h. p, λ q. refl)
+
+pub not_so : false ≡ true → ⊥
+not_so h = absurd cc
+
+pub told_otherwise : (P : Type 0) → (P → ⊥) → IsTrue false ↔ P
+told_otherwise P none = (λ h. absurd (not_so h), λ p. absurd (none p))
+
+pub otherwise : (b : Bool) (P : Type 0) → b ≡ false → (IsTrue b ↔ P) → P → ⊥
+otherwise true P e so p = absurd cc
+otherwise false P e so p = not_so (so.1 p)

@@ -1,0 +1,49 @@
+-- What the private helpers promise that go through a line statement by statement.
+use Rattle.std.specs.Prelude.{◌≡◌, ◌<◌, ◌≤◌, ℕ, List, [], ◌∷◌, length, Option, Some, None, Result, Ok, Err, ◌⊎◌}
+use Rattle.csa_text.specs.Cut.{TextUnit, statement_bytes}
+use Rattle.csa_text.specs.Cutting.{Cutting, ToCome}
+use Rattle.csa_text.specs.Saying.{saying_of}
+use Rattle.csa_text.specs.Spelling.{Saying, time, ending, Spells, fault_of_row}
+use Rattle.csa_text.specs.declared.ending.Ending.{Ending}
+use Rattle.csa_text.specs.declared.fault.TextFault.{TextFault}
+use Rattle.csa_text.specs.declared.fault.TextFault.TheVariants.{StatementTooLong}
+use Rattle.csa_text.specs.declared.item.Item.{Item}
+use Rattle.csa_record.specs.Tells.{IsSpelt}
+use Rattle.shogi_session.specs.ServerLines.{IsTime, UnitFault, ExtraFault}
+
+-- the first statement that is still to come is this one, and then come those of the new cutter
+abbrev pub Leads : Cutting → TextUnit → Cutting → Type 0
+Leads old u new = (others : List TextUnit) → ToCome new others → ToCome old (u ∷ others)
+
+-- the statement is too long, or spells nothing
+pub data IsUnread (u : TextUnit) (fault : TextFault) : Type 0 where
+  too_long : 4096 < length u.bytes → fault ≡ StatementTooLong → IsUnread u fault
+  unread :
+      length u.bytes ≤ 4096 → ((s : Saying) → Spells (statement_bytes u.bytes) s → ⊥)
+      → fault ≡ fault_of_row (statement_bytes u.bytes)
+      → IsUnread u fault
+
+-- what the next statement says, its fault, or that none is left
+abbrev pub Next : Cutting → Result (Option Item) TextFault → Cutting → Type 0
+Next old (Ok None) new = ToCome old []
+Next old (Ok (Some item)) new = (u : TextUnit) × IsSpelt u (saying_of item) × Leads old u new
+Next old (Err fault) new = (u : TextUnit) × (behind : List TextUnit) × ToCome old (u ∷ behind) × IsUnread u fault
+
+-- the next statement is one of these, or it has that fault there
+abbrev pub FaultAt : Cutting → (Saying → Type 0) → TextFault → Type 0
+FaultAt old Wanted fault = (u : TextUnit) × (behind : List TextUnit) × ToCome old (u ∷ behind) × UnitFault Wanted u fault
+
+abbrev pub IsEnding : Saying → Type 0
+IsEnding s = (e : Ending) × (s ≡ ending e)
+
+-- a statement is left where none is wanted
+abbrev pub EndFault : Cutting → TextFault → Type 0
+EndFault old fault = (u : TextUnit) × (behind : List TextUnit) × ToCome old (u ∷ behind) × ExtraFault u fault
+
+-- the time that is all that is left, or none, where nothing is; or the first fault of what is left
+abbrev pub LastTime : Cutting → Result (Option ℕ) TextFault → Type 0
+LastTime old (Ok None) = ToCome old []
+LastTime old (Ok (Some t)) = (u : TextUnit) × IsSpelt u (time t) × ToCome old (u ∷ [])
+LastTime old (Err fault) = FaultAt old IsTime fault ⊎ (
+    (u v : TextUnit) × (behind : List TextUnit) × (t : ℕ)
+    × ToCome old (u ∷ v ∷ behind) × IsSpelt u (time t) × ExtraFault v fault)

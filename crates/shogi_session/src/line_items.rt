@@ -1,0 +1,82 @@
+ghost use Rattle.std.specs.Prelude.{◌≡◌, ℕ, [], ◌∷◌, List, MatchOption, MatchResult};
+ghost use Rattle.csa_text.specs.Cut.{TextUnit};
+ghost use Rattle.csa_text.specs.Cutting.{ToCome};
+ghost use Rattle.csa_text.specs.Saying.{saying_of};
+ghost use Rattle.csa_text.specs.Spelling.{time, walked};
+ghost use Rattle.csa_record.specs.Tells.{IsSpelt};
+ghost use Rattle.shogi_session.specs.NextItems.{EndFault, FaultAt, LastTime, Leads, Next};
+ghost use Rattle.shogi_session.specs.ServerLines.{IsMove};
+
+use crate::move_line::walked_of;
+use csa_text::{Cutter, Item, TextFault, read_item};
+use shogi_board::Color;
+use shogi_rules::Move;
+
+// What the next statement says, or None where none is left.
+pub(crate) fn next_item<'a>(cutter: &mut Cutter<'a>) -> Result<Option<Item<'a>>, TextFault>
+    ensures { Next cutter.old result cutter.new }
+{
+    match cutter.next_statement() {
+        Ok(Some(statement)) => match read_item(statement.bytes) {
+            Ok(item) => Ok(Some(item)),
+            Err(fault) => Err(fault),
+        },
+        Ok(None) => Ok(None),
+        Err(_) => Err(TextFault::StatementTooLong),
+    }
+}
+
+// The move that the next statement is, with its side. A statement is still to come.
+pub(crate) fn next_move(cutter: &mut Cutter<'_>) -> Result<(Color, Move), TextFault>
+    requires { ToCome cutter.old [] → ⊥ }
+    ensures { MatchResult result
+        (λ r. (u : TextUnit) × IsSpelt u (walked r.0 r.1) × Leads cutter.old u cutter.new)
+        (λ fault. FaultAt cutter.old IsMove fault) }
+{
+    let Some(item) = next_item(cutter)? else {
+        return Err(TextFault::Unknown);
+    };
+    match walked_of(item) {
+        Some(told) => Ok(told),
+        None => Err(TextFault::Unknown),
+    }
+}
+
+// The time that is all that is left of the line, or None where nothing is.
+pub(crate) fn last_time(cutter: &mut Cutter<'_>) -> Result<Option<u64>, TextFault>
+    ensures { LastTime cutter.old result }
+{
+    let Some(item) = next_item(cutter)? else {
+        return Ok(None);
+    };
+    match time_of(item) {
+        Some(thousandths) => match expect_end(cutter) {
+            Ok(()) => Ok(Some(thousandths)),
+            Err(fault) => Err(fault),
+        },
+        None => Err(TextFault::Unknown),
+    }
+}
+
+// The time that the item is.
+fn time_of(item: Item<'_>) -> Option<u64>
+    ensures { MatchOption result
+        ((t : ℕ) → saying_of item.entry ≡ time t → ⊥)
+        (λ t. saying_of item.entry ≡ time t) }
+{
+    match item {
+        Item::Time(thousandths) => Some(thousandths),
+        _ => None,
+    }
+}
+
+// That nothing is left of the line.
+fn expect_end(cutter: &mut Cutter<'_>) -> Result<(), TextFault>
+    ensures { MatchResult result (λ r. ToCome cutter.old []) (λ fault. EndFault cutter.old fault) }
+{
+    match cutter.next_statement() {
+        Ok(None) => Ok(()),
+        Ok(Some(_)) => Err(TextFault::Unknown),
+        Err(_) => Err(TextFault::StatementTooLong),
+    }
+}
