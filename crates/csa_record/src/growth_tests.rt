@@ -1,10 +1,13 @@
 // Run by tests/growths with each growth refused in turn: the answer is want of memory, and the call made again succeeds.
 use crate::{FlowFault, Reading, RecordReader, Refusal, Why, Writing, normalise, read, read_from};
+use std::alloc::Global;
 use std::test::Fail;
 
 const GIVEN: &[u8] = b"N+a\n$EVENT:b\nPI\n+\n+7776FU,T1\n%TORYO\n";
 
 const SHORT: &[u8] = b"+\n+7776FU\n";
+
+const OPEN: &[u8] = b"+\n+7776FU";
 
 const TEXT: &[u8] = b"V2.2\nPI\n+\n+7776FU\n";
 
@@ -50,49 +53,66 @@ fn refused_growth_of_normalise(rt: HostRuntime) -> Result<(), Fail> {
     Ok(())
 }
 
+// Whether a reader that was refused memory stands where it stood, and fails from then on.
+fn has_failed(reader: RecordReader, refusal: Refusal) -> bool {
+    let failed = Refusal {
+        number: refusal.number,
+        offset: refusal.offset,
+        why: Why::Failed,
+    };
+    refusal.why == Why::OutOfMemory && reader.fed() == 0 && reader.finish().err() == Some(failed)
+}
+
+// How many bytes a new reader has taken.
+fn fed_again(alloc: Global) -> Result<u64, Fail> {
+    let mut reader = RecordReader::new(alloc);
+    reader.feed(GIVEN)?;
+    Ok(reader.fed())
+}
+
 #[test]
 fn refused_growth_of_feed(rt: HostRuntime) -> Result<(), Fail> {
     let mut reader = RecordReader::new(rt.alloc());
-    if let Err(refusal) = reader.feed(GIVEN) {
-        println!(rt; "refused")?;
-        assert_eq!(rt; refusal.why, Why::OutOfMemory);
-        assert_eq!(rt; reader.fed(), 0);
-        assert_eq!(rt; reader.finish().err(), Some(failed(refusal)));
-        reader = RecordReader::new(rt.alloc());
-        reader.feed(GIVEN)?;
-    }
-    assert_eq!(rt; reader.fed(), GIVEN.len() as u64);
+    let fed = match reader.feed(GIVEN) {
+        Ok(()) => reader.fed(),
+        Err(refusal) => {
+            println!(rt; "refused")?;
+            assert!(rt; has_failed(reader, refusal));
+            fed_again(rt.alloc())?
+        }
+    };
+    assert_eq!(rt; fed, GIVEN.len() as u64);
     Ok(())
+}
+
+// A reader of a record whose last statement has no line end.
+fn open_reader(rt: &(impl AllocGlobal + Print)) -> Result<RecordReader, Fail> {
+    let mut reader = RecordReader::new(rt.alloc());
+    if reader.feed(OPEN).is_ok() {
+        return Ok(reader);
+    }
+    println!(rt; "refused")?;
+    let mut reader = RecordReader::new(rt.alloc());
+    reader.feed(OPEN)?;
+    Ok(reader)
 }
 
 // Its last statement is taken at the end.
 #[test]
 fn refused_growth_of_finish(rt: HostRuntime) -> Result<(), Fail> {
-    let mut reader = RecordReader::new(rt.alloc());
-    if reader.feed(b"+\n+7776FU").is_err() {
-        println!(rt; "refused")?;
-        reader = RecordReader::new(rt.alloc());
-        reader.feed(b"+\n+7776FU")?;
-    }
-    let record = match reader.finish() {
+    let record = match open_reader(&rt)?.finish() {
         Ok(record) => record,
         Err(refusal) => {
             println!(rt; "refused")?;
-            assert_eq!(rt;
-                (refusal.number, refusal.offset, refusal.why),
-                (2, 2, Why::OutOfMemory)
-            );
-            read(rt.alloc(), b"+\n+7776FU")?
+            let wanted = Refusal {
+                number: 2,
+                offset: 2,
+                why: Why::OutOfMemory,
+            };
+            assert!(rt; refusal == wanted);
+            read(rt.alloc(), OPEN)?
         }
     };
     assert_eq!(rt; record.line().moves().len(), 1);
     Ok(())
-}
-
-fn failed(refusal: Refusal) -> Refusal {
-    Refusal {
-        number: refusal.number,
-        offset: refusal.offset,
-        why: Why::Failed,
-    }
 }

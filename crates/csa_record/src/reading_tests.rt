@@ -12,23 +12,27 @@ const MATES: &[u8] = b"P+13KI33KE59OU00FU\nP-11OU\n+\n+0012FU\n";
 #[test]
 fn reads_all_at_once(rt: HostRuntime) -> Result<(), Fail> {
     let record = read(rt.alloc(), SHORT)?;
-    assert_eq!(rt; write(rt.alloc(), &record)?.as_slice(), TEXT);
+    assert!(rt; write(rt.alloc(), &record)?.as_slice() == TEXT);
+    Ok(())
+}
+
+#[test]
+fn reads_nothing(rt: HostRuntime) {
     let missing = Refusal {
         number: 1,
         offset: 0,
         why: Why::Order(OrderFault::MissingTurn),
     };
-    assert_eq!(rt; read(rt.alloc(), b"").err(), Some(missing));
-    Ok(())
+    assert!(rt; read(rt.alloc(), b"").err() == Some(missing));
 }
 
 #[test]
 fn reads_a_piece(rt: HostRuntime) -> Result<(), Fail> {
     let mut reader = RecordReader::new(rt.alloc());
     reader.feed(SHORT)?;
-    assert_eq!(rt; reader.fed(), 40);
+    assert!(rt; reader.fed() == 40);
     let record = reader.finish()?;
-    assert_eq!(rt; write(rt.alloc(), &record)?.as_slice(), TEXT);
+    assert!(rt; write(rt.alloc(), &record)?.as_slice() == TEXT);
     Ok(())
 }
 

@@ -3,6 +3,7 @@ use csa_text::{Ending, TextFault, read_moment};
 use shogi_board::{Color, Kind, OutOfMemory, Position, Square};
 use shogi_rules::{Line, Move, Rule};
 use std::alloc::Global;
+use std::process::Abort;
 use std::test::Fail;
 
 const FAULTS: [(OrderFault, &str); 12] = [
@@ -81,70 +82,82 @@ fn closed(alloc: Global) -> Result<Record, Fail> {
 #[test]
 fn builds_and_writes(rt: HostRuntime) -> Result<(), Fail> {
     let record = closed(rt.alloc())?;
-    assert_eq!(rt;
-        write(rt.alloc(), &record)?.as_slice(),
-        b"V2.2\nN+a,b\n$EVENT:a\n$SITE:b\nPI\n+\n+7776FU\nT12\n-3334FU\nT6\n%TORYO\n".as_slice()
-    );
+    let text = write(rt.alloc(), &record)?;
+    let wanted =
+        b"V2.2\nN+a,b\n$EVENT:a\n$SITE:b\nPI\n+\n+7776FU\nT12\n-3334FU\nT6\n%TORYO\n".as_slice();
+    assert!(rt; text.as_slice() == wanted);
     Ok(())
+}
+
+// Whether a time is one too many now.
+fn is_loose(record: &mut Record) -> bool {
+    record.set_time(1) == order(OrderFault::LooseTime)
 }
 
 #[test]
 fn one_time_for_each_move(rt: HostRuntime) -> Result<(), Fail> {
     let mut record = Record::new(rt.alloc(), Position::even())?;
-    assert_eq!(rt; record.set_time(1), order(OrderFault::LooseTime));
+    assert!(rt; is_loose(&mut record));
     record.play(Color::Black, first()?)?;
     record.set_time(12000)?;
-    assert_eq!(rt; record.set_time(1), order(OrderFault::LooseTime));
+    assert!(rt; is_loose(&mut record));
     Ok(())
+}
+
+// Whether a move and an ending are refused as standing behind the ending.
+fn is_closed(record: &mut Record, mv: Move) -> bool {
+    record.play(Color::Black, mv) == order(OrderFault::AfterEnding)
+        && record.close(Ending::Chudan) == order(OrderFault::AfterEnding)
 }
 
 #[test]
 fn nothing_stands_behind_the_ending(rt: HostRuntime) -> Result<(), Fail> {
     let mut record = closed(rt.alloc())?;
-    assert_eq!(rt;
-        record.play(Color::Black, first()?),
-        order(OrderFault::AfterEnding)
-    );
-    assert_eq!(rt;
-        record.close(Ending::Chudan),
-        order(OrderFault::AfterEnding)
-    );
+    assert!(rt; is_closed(&mut record, first()?));
     record.set_time(5)?;
-    assert_eq!(rt; record.ending_time(), Some(5));
+    assert!(rt; record.ending_time() == Some(5));
     Ok(())
 }
 
 #[test]
-fn shows_names_and_headers(rt: HostRuntime) -> Result<(), Fail> {
+fn shows_names(rt: HostRuntime) -> Result<(), Fail> {
     let record = titled(rt.alloc())?;
-    assert_eq!(rt; record.name(Color::Black), Some(b"a,b".as_slice()));
-    assert_eq!(rt; record.name(Color::White), None);
-    assert_eq!(rt; record.header(b"EVENT"), Some(HeaderValue::Plain(b"a")));
-    assert_eq!(rt; record.header(b"OPENING"), None);
+    assert!(rt; record.name(Color::Black) == Some(b"a,b".as_slice()));
+    assert!(rt; record.name(Color::White).is_none());
     Ok(())
 }
 
 #[test]
-fn shows_moves_and_the_ending(rt: HostRuntime) -> Result<(), Fail> {
+fn shows_headers(rt: HostRuntime) -> Result<(), Fail> {
+    let record = titled(rt.alloc())?;
+    assert!(rt; record.header(b"EVENT") == Some(HeaderValue::Plain(b"a")));
+    assert!(rt; record.header(b"OPENING").is_none());
+    Ok(())
+}
+
+#[test]
+fn shows_moves(rt: HostRuntime) -> Result<(), Fail> {
+    let moves = [first()?, second()?];
     let record = closed(rt.alloc())?;
-    assert_eq!(rt; record.line().moves(), [first()?, second()?].as_slice());
-    assert_eq!(rt; record.time(1), Some(6000));
-    assert_eq!(rt; record.time(2), None);
-    assert_eq!(rt; record.ending(), Some(Ending::Toryo));
-    assert_eq!(rt; record.ending_time(), None);
+    assert!(rt; record.line().moves() == moves.as_slice());
+    assert!(rt; record.time(1) == Some(6000) && record.time(2).is_none());
+    Ok(())
+}
+
+#[test]
+fn shows_the_ending(rt: HostRuntime) -> Result<(), Fail> {
+    let record = closed(rt.alloc())?;
+    assert!(rt; record.ending() == Some(Ending::Toryo) && record.ending_time().is_none());
     Ok(())
 }
 
 #[test]
 fn keeps_the_first_name(rt: HostRuntime) -> Result<(), Fail> {
     let mut record = titled(rt.alloc())?;
-    assert_eq!(rt;
-        record.set_name(Color::Black, b"b"),
-        order(OrderFault::RepeatedName)
-    );
+    assert!(rt; record.set_name(Color::Black, b"b") == order(OrderFault::RepeatedName));
     record.set_name(Color::Black, b"")?;
     record.set_name(Color::White, b"")?;
-    assert_eq!(rt; record.name(Color::Black), Some(b"a,b".as_slice()));
+    assert!(rt; record.name(Color::Black) == Some(b"a,b".as_slice()));
     Ok(())
 }
 
@@ -154,14 +167,8 @@ fn keeps_64_headers(rt: HostRuntime) -> Result<(), Fail> {
     for n in 0..62u8 {
         record.set_header(&[b'a' + n % 8, b'a' + n / 8], b"x")?;
     }
-    assert_eq!(rt;
-        record.set_header(b"OPENING", b"b"),
-        order(OrderFault::TooManyHeaders)
-    );
-    assert_eq!(rt;
-        record.set_header(b"EVENT", b"b"),
-        order(OrderFault::RepeatedHeader)
-    );
+    assert!(rt; record.set_header(b"OPENING", b"b") == order(OrderFault::TooManyHeaders));
+    assert!(rt; record.set_header(b"EVENT", b"b") == order(OrderFault::RepeatedHeader));
     record.set_header(b"OPENING", b"")?;
     Ok(())
 }
@@ -169,47 +176,45 @@ fn keeps_64_headers(rt: HostRuntime) -> Result<(), Fail> {
 #[test]
 fn refuses_a_move_of_the_other_side(rt: HostRuntime) -> Result<(), Fail> {
     let mut record = Record::new(rt.alloc(), Position::even())?;
-    assert_eq!(rt;
-        record.play(Color::White, first()?),
-        Err(Why::Rule(Rule::WrongSide))
-    );
+    assert!(rt; record.play(Color::White, first()?) == Err(Why::Rule(Rule::WrongSide)));
     Ok(())
 }
 
 #[test]
-fn keeps_moments_as_moments(rt: HostRuntime) -> Result<(), Fail> {
+fn keeps_a_moment_as_a_moment(rt: HostRuntime) -> Result<(), Fail> {
+    let moment = read_moment(b"2024/02/29 09:05:07").ok_or("no moment")?;
     let mut record = Record::new(rt.alloc(), Position::even())?;
     record.set_header(b"START_TIME", b"2024/2/29 9:05:07")?;
+    assert!(rt; record.header(b"START_TIME") == Some(HeaderValue::Moment(moment)));
+    Ok(())
+}
+
+#[test]
+fn keeps_a_date_that_does_not_exist(rt: HostRuntime) -> Result<(), Fail> {
+    let mut record = Record::new(rt.alloc(), Position::even())?;
     record.set_header(b"END_TIME", b"2023/02/29")?;
-    let moment = read_moment(b"2024/02/29 09:05:07").ok_or("no moment")?;
-    assert_eq!(rt;
-        record.header(b"START_TIME"),
-        Some(HeaderValue::Moment(moment))
-    );
-    assert_eq!(rt;
-        record.header(b"END_TIME"),
-        Some(HeaderValue::Plain(b"2023/02/29"))
-    );
+    assert!(rt; record.header(b"END_TIME") == Some(HeaderValue::Plain(b"2023/02/29")));
+    Ok(())
+}
+
+// Gives the last move and the ending their times.
+fn close(record: &mut Record, time: u32, ending: Ending, ending_time: u32) -> Result<(), Fail> {
+    record.set_time(time as u64)?;
+    record.close(ending)?;
+    record.set_time(ending_time as u64)?;
     Ok(())
 }
 
 #[test]
 fn keeps_a_line(rt: HostRuntime) -> Result<(), Fail> {
-    let alloc = rt.alloc();
-    let mut line = Line::new(alloc, Position::even())?;
+    let mut line = Line::new(rt.alloc(), Position::even())?;
     line.play(Color::Black, first()?)?;
-    match Record::from_line(alloc, line) {
-        Ok(mut record) => {
-            record.set_time(50)?;
-            record.close(Ending::Kachi)?;
-            record.set_time(5)?;
-            assert_eq!(rt;
-                write(alloc, &record)?.as_slice(),
-                b"V2.2\nPI\n+\n+7776FU\nT0.05\n%KACHI\nT0.005\n".as_slice()
-            );
-        }
-        Err(_) => return Err(Fail::from("out of memory")),
-    }
+    let mut record = Record::from_line(rt.alloc(), line)
+        .ok()
+        .ok_or("out of memory")?;
+    close(&mut record, 50, Ending::Kachi, 5)?;
+    let text = write(rt.alloc(), &record)?;
+    assert!(rt; text.as_slice() == b"V2.2\nPI\n+\n+7776FU\nT0.05\n%KACHI\nT0.005\n".as_slice());
     Ok(())
 }
 
@@ -229,63 +234,82 @@ fn one_move(rt: &HostRuntime, mv: Move) -> Result<Line, Fail> {
     Ok(line)
 }
 
+// A new record, made again where memory was wanting.
+fn new_record(rt: &(impl AllocGlobal + Print)) -> Result<Record, Fail> {
+    match Record::new(rt.alloc(), Position::even()) {
+        Ok(record) => Ok(record),
+        Err(OutOfMemory) => {
+            println!(rt; "refused")?;
+            Ok(Record::new(rt.alloc(), Position::even())?)
+        }
+    }
+}
+
+// Whether memory was wanting, which is told.
+fn was_refused(rt: &(impl Print + Abort), answer: Result<(), Why>) -> Result<bool, Fail> {
+    let Err(why) = answer else {
+        return Ok(false);
+    };
+    println!(rt; "refused")?;
+    assert!(rt; why == Why::OutOfMemory);
+    Ok(true)
+}
+
+// Gives the record a name, a header and a move, each again where memory was wanting.
+fn fill(rt: &(impl Print + Abort), record: &mut Record) -> Result<(), Fail> {
+    if was_refused(rt, record.set_name(Color::White, b"b"))? {
+        record.set_name(Color::White, b"b")?;
+    }
+    if was_refused(rt, record.set_header(b"EVENT", b"a"))? {
+        record.set_header(b"EVENT", b"a")?;
+    }
+    if was_refused(rt, record.play(Color::Black, first()?))? {
+        record.play(Color::Black, first()?)?;
+    }
+    Ok(())
+}
+
 // Run by tests/growths with each growth refused in turn: the answer is want of memory, and nothing has changed, so the
 // call made again succeeds.
 #[test]
 fn refused_growth_is_told(rt: HostRuntime) -> Result<(), Fail> {
-    let mut record = match Record::new(rt.alloc(), Position::even()) {
-        Ok(record) => record,
+    let mut record = new_record(&rt)?;
+    fill(&rt, &mut record)?;
+    assert!(rt; record.name(Color::White) == Some(b"b".as_slice()));
+    assert!(rt; record.header(b"EVENT") == Some(HeaderValue::Plain(b"a")));
+    Ok(())
+}
+
+// The record of the line, made again where memory was wanting.
+fn record_of(rt: &(impl AllocGlobal + Print + Abort), line: Line) -> Result<Record, Fail> {
+    match Record::from_line(rt.alloc(), line) {
+        Ok(record) => Ok(record),
+        Err(line) => {
+            println!(rt; "refused")?;
+            assert!(rt; line.moves() == [first()?].as_slice());
+            Ok(Record::from_line(rt.alloc(), line).ok().ok_or("refused")?)
+        }
+    }
+}
+
+// Its text, written again where memory was wanting.
+fn written(rt: &(impl AllocGlobal + Print), record: &Record) -> Result<Vec<u8>, Fail> {
+    match write(rt.alloc(), record) {
+        Ok(text) => Ok(text),
         Err(OutOfMemory) => {
             println!(rt; "refused")?;
-            Record::new(rt.alloc(), Position::even())?
+            Ok(write(rt.alloc(), record)?)
         }
-    };
-    if let Err(why) = record.set_name(Color::White, b"b") {
-        println!(rt; "refused")?;
-        assert_eq!(rt; why, Why::OutOfMemory);
-        record.set_name(Color::White, b"b")?;
     }
-    if let Err(why) = record.set_header(b"EVENT", b"a") {
-        println!(rt; "refused")?;
-        assert_eq!(rt; why, Why::OutOfMemory);
-        record.set_header(b"EVENT", b"a")?;
-    }
-    if let Err(why) = record.play(Color::Black, first()?) {
-        println!(rt; "refused")?;
-        assert_eq!(rt; why, Why::OutOfMemory);
-        record.play(Color::Black, first()?)?;
-    }
-    assert_eq!(rt; record.name(Color::White), Some(b"b".as_slice()));
-    assert_eq!(rt; record.header(b"EVENT"), Some(HeaderValue::Plain(b"a")));
-    Ok(())
 }
 
 // `set_time`, `close` and the accessors take no memory.
 #[test]
 fn refused_growth_of_from_line_and_write(rt: HostRuntime) -> Result<(), Fail> {
-    let mv = first()?;
-    let mut record = match Record::from_line(rt.alloc(), one_move(&rt, mv)?) {
-        Ok(record) => record,
-        Err(line) => {
-            println!(rt; "refused")?;
-            assert_eq!(rt; line.moves(), [mv].as_slice());
-            Record::from_line(rt.alloc(), line).ok().ok_or("refused")?
-        }
-    };
-    record.set_time(1)?;
-    record.close(Ending::Toryo)?;
-    record.set_time(2)?;
-    assert_eq!(rt; (record.time(0), record.ending_time()), (Some(1), Some(2)));
-    let text = match write(rt.alloc(), &record) {
-        Ok(text) => text,
-        Err(OutOfMemory) => {
-            println!(rt; "refused")?;
-            write(rt.alloc(), &record)?
-        }
-    };
-    assert_eq!(rt;
-        text.as_slice(),
-        b"V2.2\nPI\n+\n+7776FU\nT0.001\n%TORYO\nT0.002\n".as_slice()
-    );
+    let mut record = record_of(&rt, one_move(&rt, first()?)?)?;
+    close(&mut record, 1, Ending::Toryo, 2)?;
+    assert!(rt; record.time(0) == Some(1) && record.ending_time() == Some(2));
+    let text = written(&rt, &record)?;
+    assert!(rt; text.as_slice() == b"V2.2\nPI\n+\n+7776FU\nT0.001\n%TORYO\nT0.002\n".as_slice());
     Ok(())
 }
