@@ -38,81 +38,27 @@ const ITEMS: [(&[u8], Item); 26] = [
     (b"T4294967295.999", Item::Time(4_294_967_295_999)),
 ];
 
-const REFUSED: [(&[u8], TextFault); 74] = [
-    (b"", TextFault::Unknown),
-    (b"/", TextFault::Unknown),
-    (b"\xEF\xBB\xBF", TextFault::Unknown),
-    (b"V", TextFault::BadVersion),
-    (b"V1", TextFault::BadVersion),
-    (b"V2.", TextFault::BadVersion),
-    (b"V2.20", TextFault::BadVersion),
-    (b"V3.0", TextFault::BadVersion),
-    (b"N", TextFault::Unknown),
-    (b"Na", TextFault::Unknown),
-    (b"$", TextFault::BadHeader),
-    (b"$:x", TextFault::BadHeader),
-    (b"$x", TextFault::BadHeader),
-    (b"$EVENT", TextFault::BadHeader),
-    (b"P", TextFault::Unknown),
-    (b"P0", TextFault::Unknown),
-    (b"P:", TextFault::Unknown),
-    (b"P,", TextFault::Unknown),
-    (b"PX", TextFault::Unknown),
-    (b"Pi", TextFault::Unknown),
-    (b"PI8", TextFault::BadPosition),
-    (b"PI82H", TextFault::BadPosition),
-    (b"PI82HIx", TextFault::BadPosition),
-    (b"PI00FU", TextFault::BadPosition),
-    (b"PI00AL", TextFault::BadPosition),
-    (b"PI82HI00FU", TextFault::BadPosition),
-    (b"PI+82HI", TextFault::BadPosition),
-    (b"P+5FU", TextFault::BadPosition),
-    (b"P+55AL", TextFault::BadPosition),
-    (b"P-00ALx", TextFault::BadPosition),
-    (b"P+55fu", TextFault::BadPosition),
-    (b"P+50FU", TextFault::BadPosition),
-    (b"P+05FU", TextFault::BadPosition),
-    (b"P+55XX", TextFault::BadPosition),
-    (b"P+ 55FU", TextFault::BadPosition),
-    (b"P+0A55FU", TextFault::BadPosition),
-    (b"P1", TextFault::BadPosition),
-    (b"P1x", TextFault::BadPosition),
-    (b"+0000FU", TextFault::BadMove),
-    (b"+5500FU", TextFault::BadMove),
-    (b"+7776AL", TextFault::BadMove),
-    (b"+0055AL", TextFault::BadMove),
-    (b"+5", TextFault::BadMove),
-    (b"+7776F", TextFault::BadMove),
-    (b"+7776FUx", TextFault::BadMove),
-    (b"+0776FU", TextFault::BadMove),
-    (b"+7076FU", TextFault::BadMove),
-    (b"+7706FU", TextFault::BadMove),
-    (b"+7770FU", TextFault::BadMove),
-    (b"+7776fu", TextFault::BadMove),
-    (b"+777:FU", TextFault::BadMove),
-    (b"+777/FU", TextFault::BadMove),
-    (b"-x", TextFault::BadMove),
-    (b"++", TextFault::BadMove),
-    (b"- ", TextFault::BadMove),
-    (b"T", TextFault::BadTime),
-    (b"T.", TextFault::BadTime),
-    (b"T12.", TextFault::BadTime),
-    (b"T.5", TextFault::BadTime),
-    (b"T1.2345", TextFault::BadTime),
-    (b"T1.2.3", TextFault::BadTime),
-    (b"T4294967296", TextFault::BadTime),
-    (b"T4294967296.0", TextFault::BadTime),
-    (b"T18446744073709551616", TextFault::BadTime),
-    (b"T18446744073709551617", TextFault::BadTime),
-    (b"T4294967297", TextFault::BadTime),
-    (b"Tx", TextFault::BadTime),
-    (b"T+1", TextFault::BadTime),
-    (b"T-1", TextFault::BadTime),
-    (b"T1 ", TextFault::BadTime),
-    (b"T1s", TextFault::BadTime),
-    (b"%", TextFault::UnknownEnding),
-    (b"%TOR", TextFault::UnknownEnding),
-    (b"%toryo", TextFault::UnknownEnding),
+// Texts between semicolons, by what they are refused as.
+const REFUSED: [(TextFault, &str); 7] = [
+    (TextFault::Unknown, ";/;\u{FEFF};N;Na;P;P0;P:;P,;PX;Pi"),
+    (TextFault::BadVersion, "V;V1;V2.;V2.20;V3.0"),
+    (TextFault::BadHeader, "$;$:x;$x;$EVENT"),
+    (
+        TextFault::BadPosition,
+        "PI8;PI82H;PI82HIx;PI00FU;PI00AL;PI82HI00FU;PI+82HI;P+5FU;P+55AL;P-00ALx;P+55fu;P+50FU;P+05FU;\
+         P+55XX;P+ 55FU;P+0A55FU;P1;P1x",
+    ),
+    (
+        TextFault::BadMove,
+        "+0000FU;+5500FU;+7776AL;+0055AL;+5;+7776F;+7776FUx;+0776FU;+7076FU;+7706FU;+7770FU;+7776fu;\
+         +777:FU;+777/FU;-x;++;- ",
+    ),
+    (
+        TextFault::BadTime,
+        "T;T.;T12.;T.5;T1.2345;T1.2.3;T4294967296;T4294967296.0;T18446744073709551616;\
+         T18446744073709551617;T4294967297;Tx;T+1;T-1;T1 ;T1s",
+    ),
+    (TextFault::UnknownEnding, "%;%TOR;%toryo"),
 ];
 
 // The endings of CSA V2.2 that are read.
@@ -321,19 +267,18 @@ const RANKS: [(&[u8], u8, &[(usize, Color, Kind)]); 15] = [
     ),
 ];
 
-const BAD_RANKS: [&[u8]; 11] = [
-    b"P1 *  *  *  *  *  *  *  * *",
-    b"P1 *  *  *  *  *  *  *  *  ",
-    b"P1 *  *  *  *  *  *  *  * ",
-    b"P1 *  *  *  *  *  *  *  *  *  ",
-    b"P1 *  *  *  *  *  *  *  *  *\t",
-    b"P1 *  *  *  *  *  *  *  *  *  * ",
-    b"P1 *  * + FU *  *  *  *  *  *",
-    b"P1 *  *  *  * -AL *  *  *  * ",
-    b"P1 *  *  *  * -hi *  *  *  * ",
-    b"P1 *  *  *  *  HI *  *  *  * ",
-    b"P1-KY-KE-GI-KI-OU-KI-GI-KE-K",
-];
+// Ranks between semicolons.
+const BAD_RANKS: &str = "P1 *  *  *  *  *  *  *  * *;\
+    P1 *  *  *  *  *  *  *  *  ;\
+    P1 *  *  *  *  *  *  *  * ;\
+    P1 *  *  *  *  *  *  *  *  *  ;\
+    P1 *  *  *  *  *  *  *  *  *\t;\
+    P1 *  *  *  *  *  *  *  *  *  * ;\
+    P1 *  * + FU *  *  *  *  *  *;\
+    P1 *  *  *  * -AL *  *  *  * ;\
+    P1 *  *  *  * -hi *  *  *  * ;\
+    P1 *  *  *  *  HI *  *  *  * ;\
+    P1-KY-KE-GI-KI-OU-KI-GI-KE-K";
 
 fn square(number: u8) -> Option<Square> {
     Square::new(number / 10, number % 10)
@@ -354,10 +299,14 @@ fn has_pairs(pairs: &Pairs<'_>, wanted: &[(u8, Option<Kind>)]) -> bool {
     true
 }
 
+fn is_refused(bytes: &[u8], fault: TextFault) -> bool {
+    read_item(bytes) == Err(fault)
+}
+
 #[test]
 fn reads_items(rt: HostRuntime) {
     for (bytes, wanted) in ITEMS {
-        assert_eq!(rt; read_item(bytes), Ok(wanted));
+        assert!(rt; read_item(bytes) == Ok(wanted), "{bytes:?}");
     }
     laws::cut_once();
     laws::spelt_once();
@@ -375,11 +324,16 @@ fn reads_items(rt: HostRuntime) {
 
 #[test]
 fn refuses_what_is_no_item(rt: HostRuntime) {
-    for (bytes, wanted) in REFUSED {
-        assert_eq!(rt; read_item(bytes), Err(wanted));
+    for (fault, texts) in REFUSED {
+        for text in texts.split(';') {
+            assert!(rt; is_refused(text.as_bytes(), fault), "{text}");
+        }
     }
-    for bytes in BAD_RANKS {
-        assert_eq!(rt; read_item(bytes), Err(TextFault::BadPosition));
+    for rank in BAD_RANKS.split(';') {
+        assert!(rt;
+            is_refused(rank.as_bytes(), TextFault::BadPosition),
+            "{rank}"
+        );
     }
 }
 
@@ -397,6 +351,13 @@ fn reads_and_writes_moves(rt: HostRuntime) -> Result<(), Fail> {
     Ok(())
 }
 
+fn has_no_more(pairs: &Pairs<'_>, count: usize) -> bool {
+    pairs.len() == count
+        && pairs.is_empty() == (count == 0)
+        && pairs.get(count).is_none()
+        && pairs.get(usize::MAX).is_none()
+}
+
 #[test]
 fn reads_pairs(rt: HostRuntime) -> Result<(), Fail> {
     for (bytes, wanted_side, wanted) in PAIRS {
@@ -405,12 +366,8 @@ fn reads_pairs(rt: HostRuntime) -> Result<(), Fail> {
             Ok(Item::Pieces(color, pairs)) => (Some(color), pairs),
             _ => return Err(Fail::from("no pairs")),
         };
-        assert_eq!(rt; side, wanted_side);
-        assert_eq!(rt; pairs.len(), wanted.len());
-        assert_eq!(rt; pairs.is_empty(), wanted.is_empty());
-        assert!(rt; has_pairs(&pairs, wanted));
-        assert_eq!(rt; pairs.get(wanted.len()), None);
-        assert_eq!(rt; pairs.get(usize::MAX), None);
+        assert!(rt; side == wanted_side);
+        assert!(rt; has_pairs(&pairs, wanted) && has_no_more(&pairs, wanted.len()));
     }
     Ok(())
 }
@@ -426,7 +383,7 @@ fn reads_ranks(rt: HostRuntime) {
                 kind: *kind,
             });
         }
-        assert_eq!(rt; read_item(bytes), Ok(Item::Rank(number, cells)));
+        assert!(rt; read_item(bytes) == Ok(Item::Rank(number, cells)));
     }
 }
 
@@ -449,13 +406,16 @@ fn reads_ranks_that_were_cut(rt: HostRuntime) {
 fn reads_endings(rt: HostRuntime) -> Result<(), Fail> {
     for (text, ending) in ENDINGS {
         let bytes = text.as_bytes();
-        assert_eq!(rt; read_item(bytes), Ok(Item::Ending(ending)));
-        assert_eq!(rt; ending.name().as_bytes(), &bytes[1..]);
+        assert!(rt; read_item(bytes) == Ok(Item::Ending(ending)), "{text}");
+        assert!(rt; ending.name().as_bytes() == &bytes[1..], "{text}");
         let less = &bytes[..bytes.len() - 1];
-        assert_eq!(rt; read_item(less), Err(TextFault::UnknownEnding));
+        assert!(rt; is_refused(less, TextFault::UnknownEnding), "{text}");
         for last in ["O", "S", " ", "\t"] {
             let more = format!(in rt.alloc(); "{text}{last}")?;
-            assert_eq!(rt; read_item(more.as_bytes()), Err(TextFault::UnknownEnding));
+            assert!(rt;
+                is_refused(more.as_bytes(), TextFault::UnknownEnding),
+                "{more}"
+            );
         }
     }
     Ok(())
@@ -473,16 +433,17 @@ fn goes_by_the_first_byte(rt: HostRuntime) {
             b'%' => TextFault::UnknownEnding,
             _ => TextFault::Unknown,
         };
-        assert_eq!(rt; read_item(&[first, b'x']), Err(wanted));
-        match first {
-            b'+' => assert_eq!(rt; read_item(&[first]), Ok(Item::Turn(Color::Black))),
-            b'-' => assert_eq!(rt; read_item(&[first]), Ok(Item::Turn(Color::White))),
-            _ => assert_eq!(rt; read_item(&[first]), Err(wanted)),
-        }
+        assert!(rt; is_refused(&[first, b'x'], wanted), "{first}");
+        let alone = match first {
+            b'+' => Ok(Item::Turn(Color::Black)),
+            b'-' => Ok(Item::Turn(Color::White)),
+            _ => Err(wanted),
+        };
+        assert!(rt; read_item(&[first]) == alone, "{first}");
         let behind_start = match first {
             b'I' | b'+' | b'-' | b'1'..=b'9' => TextFault::BadPosition,
             _ => TextFault::Unknown,
         };
-        assert_eq!(rt; read_item(&[b'P', first, b'x']), Err(behind_start));
+        assert!(rt; is_refused(&[b'P', first, b'x'], behind_start), "{first}");
     }
 }

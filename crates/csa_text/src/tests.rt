@@ -44,9 +44,9 @@ fn cuts_a_source(rt: HostRuntime) {
                 offset: *offset,
                 bytes,
             };
-            assert_eq!(rt; cutter.next_statement(), Ok(Some(statement)));
+            assert!(rt; cutter.next_statement() == Ok(Some(statement)), "{bytes:?}");
         }
-        assert_eq!(rt; cutter.next_statement(), Ok(None));
+        assert!(rt; cutter.next_statement() == Ok(None), "{source:?}");
     }
 }
 
