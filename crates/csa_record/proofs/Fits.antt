@@ -96,7 +96,7 @@ fraction_small (a ∷ b ∷ c ∷ []) n (value, number, is) =
     omega (arith, low, at, now)
 fraction_small (a ∷ b ∷ c ∷ d ∷ ds) n (value, number, is) = let many = number.many in absurd (omega (arith, many))
 
-time_fits : (text : List ℕ) (n : ℕ) → IsTime text n → n ≤ 4294967295999
+pub time_fits : (text : List ℕ) (n : ℕ) → IsTime text n → n ≤ 4294967295999
 time_fits text n (inl (seconds, is, value)) = let low = is.limit in omega (arith, low, value)
 time_fits text n (inr h) =
     let low = h.seconds_are.limit in

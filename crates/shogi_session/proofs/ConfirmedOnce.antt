@@ -45,9 +45,15 @@ summary_once ls o p a b =
     let same : a.0 ≡ b.0 = counts_is ls a.0 a.1 ∙ sym (counts_is ls b.0 b.1) in
     offer_once b.0 o p (subst (λ h. TellsOffer h o) same a.2) b.2
 
+splits_once : (log : List Step) (o p : Offer) (ms ns : List Moved) (a : Confirmed log o ms) (b : Confirmed log p ns) → (a.taken ≡ b.taken) × (a.rest ≡ b.rest)
+splits_once log o p ms ns a b =
+    same_split a.taken a.rest b.taken b.rest (sym a.lines_are.whole ∙ b.lines_are.whole) a.lines_are.goes_on a.lines_are.ends b.lines_are.goes_on b.lines_are.ends
+
 pub confirmed_once : (log : List Step) (o p : Offer) (ms ns : List Moved) → Confirmed log o ms → Confirmed log p ns → (o ≡ p) × (ms ≡ ns)
-confirmed_once log o p ms ns a b =
-    let split = same_split a.taken a.rest b.taken b.rest (sym a.lines_are.whole ∙ b.lines_are.whole) a.lines_are.goes_on a.lines_are.ends b.lines_are.goes_on b.lines_are.ends in (
-      summary_once (summary_lines log) o p a.told b.told,
-      moved_once (filter is_move_line b.taken) ms ns (subst (λ ls. AllZip IsMoved (filter is_move_line ls) ms) split.0 a.spelt) b.spelt,
-    )
+confirmed_once log o p ms ns a b = (
+  summary_once (summary_lines log) o p a.told b.told,
+  moved_once (filter is_move_line b.taken) ms ns (subst (λ ls. AllZip IsMoved (filter is_move_line ls) ms) (splits_once log o p ms ns a b).0 a.spelt) b.spelt,
+)
+
+pub rest_once : (log : List Step) (o p : Offer) (ms ns : List Moved) (a : Confirmed log o ms) (b : Confirmed log p ns) → a.rest ≡ b.rest
+rest_once log o p ms ns a b = (splits_once log o p ms ns a b).1

@@ -10,7 +10,7 @@ use Rattle.shogi_session.specs.MoveLines.{is_move_line}
 use Rattle.shogi_session.specs.ServerLines.{is_login_ok, is_start_line}
 use Rattle.shogi_session.specs.State.{game_with}
 use Rattle.shogi_session.specs.Summary.{Heard, CountsAs, Offer, TellsOffer, TellsSummary}
-use Rattle.shogi_session.proofs.Testing.{NoneOf, HasOne, all_more, has_more, has_found, behind_found, behind_more, ahead_found, ahead_more, any_has}
+use Rattle.shogi_session.proofs.Testing.{NoneOf, HasOne, all_more, has_more, has_found, behind_found, behind_more, ahead_found, ahead_more, any_has, behind_none}
 
 abbrev pub Steps : Type 0
 Steps = List Step
@@ -134,7 +134,7 @@ course_quiet k x client game taken o moved c e =
     course_more k x client game game taken [] taken [] o moved moved c c.game_is
     (ap (λ ls. (taken ++ []) ++ ls) none ∙ append-nil (taken ++ [])) c.goes_on tt c.spelt
 
-one_extra : (x : Step) (line : List ℕ) → heard x ≡ Some line → extra x ≡ line ∷ []
+pub one_extra : (x : Step) (line : List ℕ) → heard x ≡ Some line → extra x ≡ line ∷ []
 one_extra x line e = rw e refl
 
 with_line : (taken : Lines) (line : List ℕ) (x : Step) → heard x ≡ Some line → (taken ++ []) ++ extra x ≡ (taken ++ line ∷ []) ++ []
@@ -208,7 +208,7 @@ course_begins k x o agreed none e =
       spelt = tt;
     }
 
-pub confirmed_of : (log : Steps) (client : Color) (game : Game) (taken rest : Lines) (o : Offer) (moved : List Moved)
+abbrev pub confirmed_of : (log : Steps) (client : Color) (game : Game) (taken rest : Lines) (o : Offer) (moved : List Moved)
     → Course (counted log) client game taken rest o moved → Confirmed log o moved
 confirmed_of log client game taken rest o moved c = record {
   agreed = any_has agrees (counted log) c.agreed.has;
@@ -217,4 +217,14 @@ confirmed_of log client game taken rest o moved c = record {
   rest = rest;
   lines_are = record { whole = c.whole; goes_on = c.goes_on; ends = c.ends };
   spelt = c.spelt;
+}
+
+abbrev pub confirmed_first : (log : Steps) (o : Offer) → Agreed (counted log) o → NoneOf hears_start (behind agrees (counted log)) → Confirmed log o []
+confirmed_first log o agreed none = record {
+  agreed = any_has agrees (counted log) agreed.has;
+  told = agreed.told;
+  taken = [];
+  rest = [];
+  lines_are = record { whole = ap server_lines (behind_none hears_start (behind agrees (counted log)) none); goes_on = tt; ends = tt };
+  spelt = tt;
 }

@@ -8,7 +8,9 @@ mod RowOnce
 mod Fitting
 mod Testing
 mod Courses
+mod EndTold
 mod Tied
+mod LogGames
 mod Existing
 mod Onward
 mod SentRight
@@ -17,6 +19,9 @@ mod BothEnds
 mod Instances
 mod ConfirmedOnce
 mod HostOnce
+mod GameEnds
+mod MoveSame
+mod PlayRows
 pub mod HostRows
 pub mod MoveRead
 pub mod Nexts
@@ -27,3 +32,8 @@ pub mod PositionRead
 pub mod SampleOnce
 pub mod ServerReads
 pub mod Spaces
+pub mod Unnamed
+pub mod AlwaysAsks
+pub mod EngineRows
+pub mod BridgeRows
+pub mod ServerRows

@@ -35,12 +35,13 @@ use Rattle.shogi_session.specs.State.{Match, Answer, move, toryo, kachi, Finish,
 use Rattle.shogi_session.specs.Summary.{Heard, nothing_heard, CountsAs, Offer, TellsOffer}
 use Rattle.shogi_session.proofs.Counting.{counts_first, counts_next, counts_more}
 use Rattle.shogi_session.proofs.Courses.{Steps, Lines, sends_login, agrees, hears_ok, hears_begin, hears_start, logged_more, login_more, begun_more, Agreed, agreed_now, course_quiet, course_begins}
+use Rattle.shogi_session.proofs.EndTold.{told_ending}
 use Rattle.shogi_session.proofs.Existing.{some_line, fault_or_told}
 use Rattle.shogi_session.proofs.Fitting.{FitsState, idle_only, log_fits}
 use Rattle.shogi_session.proofs.LinesRead.{move_or_ending, move_or_hash}
 use Rattle.shogi_session.proofs.RowOnce.{result_hash}
 use Rattle.shogi_session.proofs.Testing.{HasOne, has_more, has_found, none_more, behind_found, behind_more}
-use Rattle.shogi_session.proofs.Tied.{Tied, Early, IsSilent, Skipped, Passed, nothing_skipped, tied_silent, may_follow, legal_more, plays_of, confirm, finish, hash, over_more}
+use Rattle.shogi_session.proofs.Tied.{Tied, Early, IsSilent, Skipped, Passed, nothing_skipped, tied_silent, may_follow, legal_more, plays_of, confirm, finish, hash, over_closed}
 
 -- 1. rows
 abbrev pub step : Event → Out → Status → Step
@@ -182,13 +183,13 @@ row_tied c k a s e out t status tied fits r =
           (confirm k a p _ l color m (plays_of k a s s.client p tied fits at) refl w j own (move_goes_on l w))))
       | row.ending_told p l kept at ev w v o n ↦
           rw (ev, o, n) (goes_on going (same_answers _ a (reason p.game (record { kept = Some kept; reason = None }))
-          (finish k a p _ l (plays_of k a s s.client p tied fits at) refl (inl (w, kept, v)))))
+          (finish k a p _ l (record { kept = Some kept; reason = None }) None (plays_of k a s s.client p tied fits at) refl (inl (w, kept, v)) (told_ending l kept w v))))
       | row.reason_told g f l at ev w v o n ↦
-          rw (ev, o, n) (goes_on going (same_answers _ a (reason g (with_reason f (reason_of l))) (hash k a s s.client (g, f) _ l tied fits at refl w)))
+          rw (ev, o, n) (goes_on going (same_answers _ a (reason g (with_reason f (reason_of l))) (hash k a s s.client (g, f) _ l None tied fits at refl w v)))
       | row.result_told g f l q at ev w o n ↦
-          rw (ev, o, n) (goes_on going (same_answers _ a (closing g f q) (hash k a s s.client (g, f) _ l tied fits at refl (result_hash l q w))))
+          rw (ev, o, n) (goes_on going (same_answers _ a (closing g f q) (hash k a s s.client (g, f) _ l (Some q) tied fits at refl (result_hash l q w) w)))
       | row.closes g f q at ev o n ↦
-          rw (o, n) (goes_on refl (same_answers _ a (ended g f q) (over_more k g.client g.game a (step e no_lines Done) (subst (Tied k a) at tied))))
+          rw (o, n) (goes_on refl (same_answers _ a (ended g f q) (over_closed k g.client g.game a (step e no_lines Done) f q (subst (Tied k a) at tied))))
       | row.engine_gone at ev o n ↦ rw n (faults refl o refl)
       | row.server_gone at b ev o n ↦ rw n (faults refl o refl)
       | row.line_too_long ev o n ↦ rw n (faults refl o refl)
@@ -272,7 +273,8 @@ line_skipped c s l k a (sent g toryo) z going e tied none =
     passed c s l (record { game = g; waiting = None }) _ going (ap in_play e) (ap before_result e) tied.legal none
 line_skipped c s l k a (sent g kachi) z going e tied none =
     passed c s l (record { game = g; waiting = None }) _ going (ap in_play e) (ap before_result e) tied.legal none
-line_skipped c s l k a (reason g f) z going e tied none = tt
+line_skipped c s l k a (reason g f) z going e tied none =
+    not_true (is_hash_line l) (λ sign. hash_named c s l g f (outcome_of l) going (ap before_result e) refl sign none)
 line_skipped c s l k a (closing g f o) z going e tied none = tt
 line_skipped c s l k a (ended g f o) z going e tied none = tt
 

@@ -22,8 +22,11 @@ use Rattle.csa_record.specs.Game.{Game, Timed, Ended}
 use Rattle.csa_record.specs.Tells.{Tells}
 use Rattle.usi_text.proofs.OneMove.{one_move}
 use Rattle.usi_text.proofs.OneText.{one_line_text}
+use Rattle.usi_text.specs.declared.engine.EngineWord.TheVariants.{UsiOk, ReadyOk}
+use Rattle.usi_text.specs.Engine.{LineSays}
 use Rattle.usi_text.specs.Letters.{letter}
 use Rattle.usi_text.specs.Moves.{UsiMove}
+use Rattle.usi_text.specs.Words.{words}
 use Rattle.shogi_session.specs.declared.config.Config.{Config}
 use Rattle.shogi_session.specs.declared.event.Status.TheVariants.{Done}
 use Rattle.shogi_session.specs.declared.fault.MoveCause.TheVariants.{Refused, Unsent}
@@ -43,10 +46,10 @@ use Rattle.shogi_session.specs.Summary.{Heard, nothing_heard, Offer, one, TellsO
 use Rattle.shogi_session.proofs.Counting.{counts_next}
 use Rattle.shogi_session.proofs.LinesRead.{start_or_reject, move_or_ending, move_or_hash, ending_or_hash, timed_once, ending_once, fault_once, fault_or_move}
 
-abbrev Lines : Type 0
+abbrev pub Lines : Type 0
 Lines = List (List ℕ)
 
-abbrev Gives : Out → State → Out → State → Type 0
+abbrev pub Gives : Out → State → Out → State → Type 0
 Gives o v out t = (out ≡ o) × (t ≡ v)
 
 abbrev Same : Out → State → Out → State → Type 0
@@ -104,7 +107,7 @@ resign_or_win : (word : List ℕ) → word ≡ codes "resign" → word ≡ codes
 unfolding head_of
 resign_or_win word e f = let a : head_of word ≡ 114 = ap head_of e in let b : head_of word ≡ 119 = ap head_of f in omega (arith, a, b)
 
-abbrev IsAnswer : Match → List ℕ → Answer → Match → Type 0
+abbrev pub IsAnswer : Match → List ℕ → Answer → Match → Type 0
 IsAnswer g word (move m) new = IsLegalWord g word m × (new ≡ g)
 IsAnswer g word toryo new = ((word ≡ codes "resign") × (new ≡ g)) ⊎ (IsNoAnswer g word × (new ≡ slipped g))
 IsAnswer g word kachi new = (word ≡ codes "win") × (new ≡ g)
@@ -127,13 +130,13 @@ answer_once g word kachi toryo new old h (inl k) = absurd (resign_or_win word k.
 answer_once g word kachi toryo new old h (inr k) = absurd (k.0.not_win h.0)
 answer_once g word kachi kachi new old h k = (refl, h.1 ∙ sym k.1)
 
-record EngineAnswers (s : State) (g : Match) (l : List ℕ) (out : Out) (t : State) : Type 0 where
-  word : List ℕ
-  answer : Answer
-  new : Match
-  best : IsBestMove l word
-  is : IsAnswer g word answer new
-  gives : Gives (server (answer_line g answer)) (record s { engine = Ready; client = sent new answer }) out t
+pub record EngineAnswers (s : State) (g : Match) (l : List ℕ) (out : Out) (t : State) : Type 0 where
+  pub word : List ℕ
+  pub answer : Answer
+  pub new : Match
+  pub best : IsBestMove l word
+  pub is : IsAnswer g word answer new
+  pub gives : Gives (server (answer_line g answer)) (record s { engine = Ready; client = sent new answer }) out t
 
 answers_once : (s : State) (g : Match) (l : List ℕ) (out other : Out) (t u : State) → EngineAnswers s g l out t → EngineAnswers s g l other u → Same out t other u
 answers_once s g l out other t u a b =
@@ -190,7 +193,7 @@ offer_once h o p a b =
     same_offer o p (sign_once o.client p.client (sym a.client ∙ b.client))
     (named_once o.game p.game game (a.black ∙ sym b.black) (a.white ∙ sym b.white))
 
-data SummaryRow (s : State) (h : Heard) (l : List ℕ) (out : Out) (t : State) : Type 0 where
+pub data SummaryRow (s : State) (h : Heard) (l : List ℕ) (out : Out) (t : State) : Type 0 where
   adds : l ≢ codes "END Game_Summary" → Gives no_lines (client_to s (summary (heard_after h l))) out t → SummaryRow s h l out t
   ends : (o : Offer) → l ≡ codes "END Game_Summary" → TellsOffer h o → Gives (server (codes "AGREE")) (client_to s (agreeing o)) out t → SummaryRow s h l out t
   faults : l ≡ codes "END Game_Summary" → ((o : Offer) → TellsOffer h o → ⊥) → Gives no_lines (failed s BadSummary) out t → SummaryRow s h l out t
@@ -216,7 +219,7 @@ summary_once s h l out other t u a b =
     ]
 
 -- 4. behind the summary
-data AgreedRow (c : Config) (s : State) (o : Offer) (l : List ℕ) (out : Out) (t : State) : Type 0 where
+pub data AgreedRow (c : Config) (s : State) (o : Offer) (l : List ℕ) (out : Out) (t : State) : Type 0 where
   starts : (lines : Lines) (now : EngineState) → is_start_line l ≡ true → Asks c (match_of o) s.engine lines now
       → Gives (engine (codes "usinewgame" ∷ lines)) (record s { engine = now; client = playing (match_of o) }) out t → AgreedRow c s o l out t
   rejects : is_reject_line l ≡ true → Gives no_lines (failed s Rejected) out t → AgreedRow c s o l out t
@@ -282,7 +285,7 @@ taken_or_refused g l v c m a h =
       | row.breaks z n r k d ↦ some_or_none _ (judged_once g l z c n m _ _ k h).2
     ]
 
-data PlayRow (c : Config) (s : State) (p : Play) (l : List ℕ) (out : Out) (t : State) : Type 0 where
+pub data PlayRow (c : Config) (s : State) (p : Play) (l : List ℕ) (out : Out) (t : State) : Type 0 where
   refuses : (cause : Why) → is_move_line l ≡ true → IsRefused p.game l cause → Gives no_lines (failed s (BadServerMove (Refused cause))) out t → PlayRow c s p l out t
   unsent : (color : Color) (m : Timed) → is_move_line l ≡ true → Judged p.game l color m None → (IsExpected p color m → ⊥)
       → Gives no_lines (failed s (BadServerMove Unsent)) out t → PlayRow c s p l out t
@@ -333,7 +336,7 @@ play_once c s p l out other t u a b =
     ]
 
 -- 6. lines from `#`
-data HashRow (s : State) (g : Match) (f : Finish) (l : List ℕ) (out : Out) (t : State) : Type 0 where
+pub data HashRow (s : State) (g : Match) (f : Finish) (l : List ℕ) (out : Out) (t : State) : Type 0 where
   gives_reason : is_hash_line l ≡ true → outcome_of l ≡ None → Gives no_lines (client_to s (reason g (with_reason f (reason_of l)))) out t → HashRow s g f l out t
   gives_result : (o : Outcome) → outcome_of l ≡ Some o
       → Gives (record { to_engine = gameover_line o ∷ codes "quit" ∷ []; to_server = codes "LOGOUT" ∷ [] }) (record s { engine = EngineEnded; client = closing g f o }) out t
@@ -342,7 +345,7 @@ data HashRow (s : State) (g : Match) (f : Finish) (l : List ℕ) (out : Out) (t 
 same_outcome : (a b : Outcome) → Some a ≡ Some b → a ≡ b
 same_outcome a b e = cc
 
-no_outcome : (a : Outcome) → Some a ≡ None → ⊥
+pub no_outcome : (a : Outcome) → Some a ≡ None → ⊥
 no_outcome a e = cc
 
 hash_once : (s : State) (g : Match) (f : Finish) (l : List ℕ) (out other : Out) (t u : State) → HashRow s g f l out t → HashRow s g f l other u → Same out t other u
@@ -375,7 +378,7 @@ look_hash (r ∷ rs) f l o e = by_row (bytes_eq l r.0) r rs l o refl f.0 (look_h
 pub result_hash : (l : List ℕ) (o : Outcome) → outcome_of l ≡ Some o → is_hash_line l ≡ true
 result_hash l o e = look_hash outcomes (refl, (refl, (refl, (refl, (refl, tt))))) l o e
 
-hash_line : (s : State) (g : Match) (f : Finish) (l : List ℕ) (out : Out) (t : State) → HashRow s g f l out t → is_hash_line l ≡ true
+pub hash_line : (s : State) (g : Match) (f : Finish) (l : List ℕ) (out : Out) (t : State) → HashRow s g f l out t → is_hash_line l ≡ true
 hash_line s g f l out t r = elim r [ gives_reason h e x ↦ h | gives_result o e x ↦ result_hash l o e ]
 
 play_or_hash : (c : Config) (s : State) (p : Play) (l : List ℕ) (out : Out) (t : State) → PlayRow c s p l out t → is_hash_line l ≡ true → ⊥
@@ -388,7 +391,7 @@ play_or_hash c s p l out t r h =
     ]
 
 -- 7. lines of the server
-abbrev LoginRow : State → List ℕ → Out → State → Type 0
+abbrev pub LoginRow : State → List ℕ → Out → State → Type 0
 LoginRow s l out t =
     ((is_login_ok l ≡ true) × Gives no_lines (client_to s before_summary) out t)
     ⊎ ((l ≡ codes "LOGIN:incorrect") × Gives no_lines (failed s LoginRefused) out t)
@@ -400,37 +403,37 @@ login_once s l out other t u (inr h) (inl k) = absurd (let e : is_login_ok l ≡
 login_once s l out other t u (inr h) (inr k) = both _ out other _ t u h.1 k.1
 
 -- by the client's state alone
-abbrev StateRow : Config → State → Client → List ℕ → Out → State → Type 0
+abbrev pub StateRow : Config → State → Client → List ℕ → Out → State → Type 0
 StateRow c s idle l out t = ⊥
 StateRow c s logging_in l out t = LoginRow s l out t
-StateRow c s before_summary l out t = Gives no_lines (client_to s (summary nothing_heard)) out t
+StateRow c s before_summary l out t = (l ≡ codes "BEGIN Game_Summary") × Gives no_lines (client_to s (summary nothing_heard)) out t
 StateRow c s (summary h) l out t = SummaryRow s h l out t
 StateRow c s (agreeing o) l out t = AgreedRow c s o l out t
 StateRow c s (playing g) l out t = ⊥
 StateRow c s (sent g a) l out t = ⊥
 StateRow c s (reason g f) l out t = ⊥
-StateRow c s (closing g f o) l out t = Gives no_lines (record s { client = ended g f o; status = Done }) out t
+StateRow c s (closing g f o) l out t = (l ≡ codes "LOGOUT:completed") × Gives no_lines (record s { client = ended g f o; status = Done }) out t
 StateRow c s (ended g f o) l out t = ⊥
 
 state_once : (c : Config) (s : State) (k : Client) (l : List ℕ) (out other : Out) (t u : State) → StateRow c s k l out t → StateRow c s k l other u → Same out t other u
 state_once c s idle l out other t u a b = absurd a
 state_once c s logging_in l out other t u a b = login_once s l out other t u a b
-state_once c s before_summary l out other t u a b = both _ out other _ t u a b
+state_once c s before_summary l out other t u a b = both _ out other _ t u a.1 b.1
 state_once c s (summary h) l out other t u a b = summary_once s h l out other t u a b
 state_once c s (agreeing o) l out other t u a b = agreed_once c s o l out other t u a b
 state_once c s (playing g) l out other t u a b = absurd a
 state_once c s (sent g x) l out other t u a b = absurd a
 state_once c s (reason g f) l out other t u a b = absurd a
-state_once c s (closing g f o) l out other t u a b = both _ out other _ t u a b
+state_once c s (closing g f o) l out other t u a b = both _ out other _ t u a.1 b.1
 state_once c s (ended g f o) l out other t u a b = absurd a
 
-no_play : (p : Play) → None ≡ Some p → ⊥
+pub no_play : (p : Play) → None ≡ Some p → ⊥
 no_play p e = cc
 
-no_result : (x : Match × Finish) → None ≡ Some x → ⊥
+pub no_result : (x : Match × Finish) → None ≡ Some x → ⊥
 no_result x e = cc
 
-state_or_play : (c : Config) (s : State) (k : Client) (l : List ℕ) (out : Out) (t : State) (p : Play) → StateRow c s k l out t → in_play k ≡ Some p → ⊥
+pub state_or_play : (c : Config) (s : State) (k : Client) (l : List ℕ) (out : Out) (t : State) (p : Play) → StateRow c s k l out t → in_play k ≡ Some p → ⊥
 state_or_play c s idle l out t p a e = a
 state_or_play c s logging_in l out t p a e = no_play p e
 state_or_play c s before_summary l out t p a e = no_play p e
@@ -454,7 +457,7 @@ state_or_result c s (reason g f) l out t x a e = a
 state_or_result c s (closing g f o) l out t x a e = no_result x e
 state_or_result c s (ended g f o) l out t x a e = a
 
-data ServerRow (c : Config) (s : State) (l : List ℕ) (out : Out) (t : State) : Type 0 where
+pub data ServerRow (c : Config) (s : State) (l : List ℕ) (out : Out) (t : State) : Type 0 where
   by_state : StateRow c s s.client l out t → ServerRow c s l out t
   by_play : (p : Play) → in_play s.client ≡ Some p → PlayRow c s p l out t → ServerRow c s l out t
   by_hash : (g : Match) (f : Finish) → before_result s.client ≡ Some (g, f) → HashRow s g f l out t → ServerRow c s l out t
@@ -489,19 +492,22 @@ server_once c s l out other t u a b =
     ]
 
 -- 8. all rows
-abbrev Thinks : State → Client → List ℕ → Out → State → Type 0
-Thinks s idle l out t = Gives no_lines (record s { engine = Ready }) out t
-Thinks s logging_in l out t = Gives no_lines (record s { engine = Ready }) out t
-Thinks s before_summary l out t = Gives no_lines (record s { engine = Ready }) out t
-Thinks s (summary h) l out t = Gives no_lines (record s { engine = Ready }) out t
-Thinks s (agreeing o) l out t = Gives no_lines (record s { engine = Ready }) out t
-Thinks s (playing g) l out t = EngineAnswers s g l out t
-Thinks s (sent g a) l out t = Gives no_lines (record s { engine = Ready }) out t
-Thinks s (reason g f) l out t = Gives no_lines (record s { engine = Ready }) out t
-Thinks s (closing g f o) l out t = Gives no_lines (record s { engine = Ready }) out t
-Thinks s (ended g f o) l out t = Gives no_lines (record s { engine = Ready }) out t
+abbrev pub Late : State → List ℕ → Out → State → Type 0
+Late s l out t = (word : List ℕ) × IsBestMove l word × Gives no_lines (record s { engine = Ready }) out t
 
-thinks_late : (s : State) (k : Client) (l : List ℕ) (out : Out) (t : State) → client_state k ≢ clients.Playing → Gives no_lines (record s { engine = Ready }) out t → Thinks s k l out t
+abbrev pub Thinks : State → Client → List ℕ → Out → State → Type 0
+Thinks s idle l out t = Late s l out t
+Thinks s logging_in l out t = Late s l out t
+Thinks s before_summary l out t = Late s l out t
+Thinks s (summary h) l out t = Late s l out t
+Thinks s (agreeing o) l out t = Late s l out t
+Thinks s (playing g) l out t = EngineAnswers s g l out t
+Thinks s (sent g a) l out t = Late s l out t
+Thinks s (reason g f) l out t = Late s l out t
+Thinks s (closing g f o) l out t = Late s l out t
+Thinks s (ended g f o) l out t = Late s l out t
+
+thinks_late : (s : State) (k : Client) (l : List ℕ) (out : Out) (t : State) → client_state k ≢ clients.Playing → Late s l out t → Thinks s k l out t
 thinks_late s idle l out t n x = x
 thinks_late s logging_in l out t n x = x
 thinks_late s before_summary l out t n x = x
@@ -514,35 +520,35 @@ thinks_late s (closing g f o) l out t n x = x
 thinks_late s (ended g f o) l out t n x = x
 
 thinks_once : (s : State) (k : Client) (l : List ℕ) (out other : Out) (t u : State) → Thinks s k l out t → Thinks s k l other u → Same out t other u
-thinks_once s idle l out other t u a b = both _ out other _ t u a b
-thinks_once s logging_in l out other t u a b = both _ out other _ t u a b
-thinks_once s before_summary l out other t u a b = both _ out other _ t u a b
-thinks_once s (summary h) l out other t u a b = both _ out other _ t u a b
-thinks_once s (agreeing o) l out other t u a b = both _ out other _ t u a b
+thinks_once s idle l out other t u a b = both _ out other _ t u a.2 b.2
+thinks_once s logging_in l out other t u a b = both _ out other _ t u a.2 b.2
+thinks_once s before_summary l out other t u a b = both _ out other _ t u a.2 b.2
+thinks_once s (summary h) l out other t u a b = both _ out other _ t u a.2 b.2
+thinks_once s (agreeing o) l out other t u a b = both _ out other _ t u a.2 b.2
 thinks_once s (playing g) l out other t u a b = answers_once s g l out other t u a b
-thinks_once s (sent g x) l out other t u a b = both _ out other _ t u a b
-thinks_once s (reason g f) l out other t u a b = both _ out other _ t u a b
-thinks_once s (closing g f o) l out other t u a b = both _ out other _ t u a b
-thinks_once s (ended g f o) l out other t u a b = both _ out other _ t u a b
+thinks_once s (sent g x) l out other t u a b = both _ out other _ t u a.2 b.2
+thinks_once s (reason g f) l out other t u a b = both _ out other _ t u a.2 b.2
+thinks_once s (closing g f o) l out other t u a b = both _ out other _ t u a.2 b.2
+thinks_once s (ended g f o) l out other t u a b = both _ out other _ t u a.2 b.2
 
-abbrev EngineRow : Config → State → EngineState → List ℕ → Out → State → Type 0
+abbrev pub EngineRow : Config → State → EngineState → List ℕ → Out → State → Type 0
 EngineRow c s New l out t = ⊥
-EngineRow c s Greeting l out t = Gives (engine (codes "isready" ∷ [])) (record s { engine = Readying }) out t
-EngineRow c s Readying l out t = Gives (server (login_line c)) (record s { engine = Ready; client = logging_in }) out t
+EngineRow c s Greeting l out t = LineSays (words l) UsiOk × Gives (engine (codes "isready" ∷ [])) (record s { engine = Readying }) out t
+EngineRow c s Readying l out t = LineSays (words l) ReadyOk × Gives (server (login_line c)) (record s { engine = Ready; client = logging_in }) out t
 EngineRow c s Ready l out t = ⊥
 EngineRow c s Thinking l out t = Thinks s s.client l out t
 EngineRow c s EngineEnded l out t = ⊥
 
 engine_once : (c : Config) (s : State) (e : EngineState) (l : List ℕ) (out other : Out) (t u : State) → EngineRow c s e l out t → EngineRow c s e l other u → Same out t other u
 engine_once c s New l out other t u a b = absurd a
-engine_once c s Greeting l out other t u a b = both _ out other _ t u a b
-engine_once c s Readying l out other t u a b = both _ out other _ t u a b
+engine_once c s Greeting l out other t u a b = both _ out other _ t u a.1 b.1
+engine_once c s Readying l out other t u a b = both _ out other _ t u a.1 b.1
 engine_once c s Ready l out other t u a b = absurd a
 engine_once c s Thinking l out other t u a b = thinks_once s s.client l out other t u a b
 engine_once c s EngineEnded l out other t u a b = absurd a
 
 -- the server's end: it closes, or the server is gone
-abbrev EndRow : State → Client → Out → State → Type 0
+abbrev pub EndRow : State → Client → Out → State → Type 0
 EndRow s idle out t = Gives no_lines (failed s ServerGone) out t
 EndRow s logging_in out t = Gives no_lines (failed s ServerGone) out t
 EndRow s before_summary out t = Gives no_lines (failed s ServerGone) out t
@@ -579,20 +585,20 @@ end_once s (closing g f o) out other t u a b = both _ out other _ t u a b
 end_once s (ended g f o) out other t u a b = absurd a
 
 -- what the rows for an event say
-abbrev Means : Config → State → Event → Out → State → Type 0
-Means c s begin out t = Gives (engine (codes "usi" ∷ [])) (record s { engine = Greeting }) out t
+abbrev pub Means : Config → State → Event → Out → State → Type 0
+Means c s begin out t = (s.engine ≡ New) × Gives (engine (codes "usi" ∷ [])) (record s { engine = Greeting }) out t
 Means c s (engine_line l) out t = EngineRow c s s.engine l out t
 Means c s (server_line l) out t = ServerRow c s l out t
-Means c s engine_end out t = Gives no_lines (failed s EngineGone) out t
+Means c s engine_end out t = (s.engine ≢ EngineEnded) × Gives no_lines (failed s EngineGone) out t
 Means c s server_end out t = EndRow s s.client out t
 Means c s engine_long out t = Gives no_lines (failed s LineTooLong) out t
 Means c s server_long out t = Gives no_lines (failed s LineTooLong) out t
 
 means_once : (c : Config) (s : State) (e : Event) (out other : Out) (t u : State) → Means c s e out t → Means c s e other u → Same out t other u
-means_once c s begin out other t u a b = both _ out other _ t u a b
+means_once c s begin out other t u a b = both _ out other _ t u a.1 b.1
 means_once c s (engine_line l) out other t u a b = engine_once c s s.engine l out other t u a b
 means_once c s (server_line l) out other t u a b = server_once c s l out other t u a b
-means_once c s engine_end out other t u a b = both _ out other _ t u a b
+means_once c s engine_end out other t u a b = both _ out other _ t u a.1 b.1
 means_once c s server_end out other t u a b = end_once s s.client out other t u a b
 means_once c s engine_long out other t u a b = both _ out other _ t u a b
 means_once c s server_long out other t u a b = both _ out other _ t u a b
@@ -612,15 +618,15 @@ by_client c s e l k out t a ev r = by_server c s e l out t ev (by_state (subst (
 at_end : (c : Config) (s : State) (e : Event) (k : Client) (out : Out) (t : State) → s.client ≡ k → e ≡ server_end → EndRow s k out t → Means c s e out t
 at_end c s e k out t a ev r = subst (λ x. Means c s x out t) (sym ev) (subst (λ x. EndRow s x out t) (sym a) r)
 
-means : (c : Config) (s : State) (e : Event) (out : Out) (t : State) → TableRow c s e out t → Means c s e out t
+pub means : (c : Config) (s : State) (e : Event) (out : Out) (t : State) → TableRow c s e out t → Means c s e out t
 means c s e out t r =
     elim r [
-      | row.begins a ev o n ↦ rw ev (o, n)
-      | row.greeted l a ev w o n ↦ by_engine c s e l Greeting out t a ev (o, n)
-      | row.readied l a ev w o n ↦ by_engine c s e l Readying out t a ev (o, n)
+      | row.begins a ev o n ↦ rw ev (a, (o, n))
+      | row.greeted l a ev w o n ↦ by_engine c s e l Greeting out t a ev (w, (o, n))
+      | row.readied l a ev w o n ↦ by_engine c s e l Readying out t a ev (w, (o, n))
       | row.login_taken l a ev w o n ↦ by_client c s e l logging_in out t a ev (inl (w, (o, n)))
       | row.login_refused a ev o n ↦ by_client c s e _ logging_in out t a ev (inr (refl, (o, n)))
-      | row.summary_begins a ev o n ↦ by_client c s e _ before_summary out t a ev (o, n)
+      | row.summary_begins a ev o n ↦ by_client c s e _ before_summary out t a ev (refl, (o, n))
       | row.summary_line ls l h new a ev w x y o n ↦
           let e_new : new ≡ heard_after h l = (counts_next ls l h new x).0 y in
           by_client c s e l (summary h) out t a ev (adds w (o, n ∙ ap (λ z. client_to s (summary z)) e_new))
@@ -636,7 +642,7 @@ means c s e out t r =
           by_thinking c s e l (playing g) out t a b ev (record { word = codes "win"; answer = kachi; new = g; best = w; is = (refl, refl); gives = (o, n) })
       | row.engine_slips g l word a b ev w v o n ↦
           by_thinking c s e l (playing g) out t a b ev (record { word = word; answer = toryo; new = slipped g; best = w; is = inr (v, refl); gives = (o, n) })
-      | row.engine_late l word a b ev w o n ↦ by_engine c s e l Thinking out t a ev (thinks_late s s.client l out t b (o, n))
+      | row.engine_late l word a b ev w o n ↦ by_engine c s e l Thinking out t a ev (thinks_late s s.client l out t b (word, w, (o, n)))
       | row.move_refused p l cause a ev w v o n ↦ by_server c s e l out t ev (by_play p a (refuses cause w v (o, n)))
       | row.move_unsent p l color m a ev w j nope o n ↦ by_server c s e l out t ev (by_play p a (unsent color m w j nope (o, n)))
       | row.move_confirmed p l color m ls now a ev w j x q o n ↦ by_server c s e l out t ev (by_play p a (confirms color m ls now w j x q (o, n)))
@@ -644,10 +650,10 @@ means c s e out t r =
       | row.reason_told g f l a ev w v o n ↦ by_server c s e l out t ev (by_hash g f a (gives_reason w v (o, n)))
       | row.result_told g f l q a ev w o n ↦ by_server c s e l out t ev (by_hash g f a (gives_result q w (o, n)))
       | row.closes g f q a ev o n ↦ elim ev [
-        | inl d ↦ by_client c s e _ (closing g f q) out t a d (o, n)
+        | inl d ↦ by_client c s e _ (closing g f q) out t a d (refl, (o, n))
         | inr d ↦ at_end c s e (closing g f q) out t a d (o, n)
       ]
-      | row.engine_gone a ev o n ↦ rw ev (o, n)
+      | row.engine_gone a ev o n ↦ rw ev (a, (o, n))
       | row.server_gone a b ev o n ↦ at_end c s e s.client out t refl ev (end_gone s s.client out t a b (o, n))
       | row.line_too_long ev o n ↦ elim ev [
         | inl d ↦ rw d (o, n)

@@ -1,5 +1,5 @@
 -- What a bridge sends is what its log allows.
-use Rattle.std.proofs.Common.{◌≡◌, ℕ, ◌++◌, ◌⊎◌, inl, inr, true, false, List, [], ◌∷◌, codes, refl, ap, subst}
+use Rattle.std.proofs.Common.{◌≡◌, ℕ, ◌++◌, ◌⊎◌, inl, inr, true, false, List, [], ◌∷◌, Option, Some, None, codes, refl, ap, subst}
 use Rattle.std.specs.List.{AllByRecursion, list_any}
 use Rattle.shogi_board.specs.declared.color.Color.{Color}
 use Rattle.shogi_rules.specs.declared.moves.Move.{Move}
@@ -11,17 +11,17 @@ use Rattle.shogi_session.specs.declared.config.Config.{Config}
 use Rattle.shogi_session.specs.declared.state.EngineState.{EngineState}
 use Rattle.shogi_session.specs.Asking.{MayAsk, AskLines, Asks, asked, not_asked}
 use Rattle.shogi_session.specs.Events.{Event, Out}
-use Rattle.shogi_session.specs.Logs.{Leads, next, behind, server_lines, Moved, Confirmed, game_confirmed, counted, answers, is_answer}
+use Rattle.shogi_session.specs.Logs.{Leads, next, behind, Moved, Confirmed, game_confirmed, counted, answers, is_answer}
 use Rattle.shogi_session.specs.Row.{TableRow, Row, in_table, unnamed, answer_line, login_line, gameover_line}
 use Rattle.shogi_session.specs.Row as row
 use Rattle.shogi_session.specs.Sending.{match_told, IsAnswered, legal_move, toryo, kachi, OwnSent, is_position_line, AskedRight}
 use Rattle.shogi_session.specs.ServerLines.{Outcome, win, lose, draw, censored, chudan}
-use Rattle.shogi_session.specs.State.{Match, move, Client, idle, logging_in, before_summary, summary, agreeing, playing, sent, reason, closing, ended, State, match_of, position_now, with_move}
+use Rattle.shogi_session.specs.State.{Match, move, Finish, Client, idle, logging_in, before_summary, summary, agreeing, playing, sent, reason, closing, ended, State, match_of, position_now, with_move}
 use Rattle.shogi_session.specs.Summary.{Offer}
-use Rattle.shogi_session.proofs.Courses.{Steps, Lines, agrees, hears_start, Agreed, confirmed_of}
+use Rattle.shogi_session.proofs.Courses.{Steps, Lines, agrees, hears_start, Agreed, confirmed_of, confirmed_first}
 use Rattle.shogi_session.proofs.Fitting.{FitsState, log_fits, thinks_may_ask}
 use Rattle.shogi_session.proofs.Onward.{step, TiedTo, log_tied}
-use Rattle.shogi_session.proofs.Testing.{NoneOf, any_has, any_none, behind_none}
+use Rattle.shogi_session.proofs.Testing.{NoneOf, any_none}
 use Rattle.shogi_session.proofs.Tied.{Tied, InPlay, IsOver}
 
 -- 1. sent_legal
@@ -152,21 +152,14 @@ agreed_sent log o none agreed quiet = (
   record {
     offer = o;
     moved = [];
-    confirmed = record {
-      agreed = any_has agrees (counted log) agreed.has;
-      told = agreed.told;
-      taken = [];
-      rest = [];
-      lines_are = record { whole = ap server_lines (behind_none hears_start (behind agrees (counted log)) quiet); goes_on = tt; ends = tt };
-      spelt = tt;
-    };
+    confirmed = confirmed_first log o agreed quiet;
     sent = none;
     one = tt;
   },
 )
 
-over_sent : (log : Steps) (client : Color) (game : Game) → IsOver (counted log) client game (answers log) → Sent log
-over_sent log client game h = (
+over_sent : (log : Steps) (client : Color) (game : Game) (f : Finish) (result : Option Outcome) → IsOver (counted log) client game (answers log) f result → Sent log
+over_sent log client game f result h = (
   h.waiting,
   record {
     offer = h.offer;
@@ -185,9 +178,9 @@ all_sent log (summary x) h any = absurd (any_none agrees (counted log) h.0.none 
 all_sent log (agreeing o) h any = agreed_sent log o h.0 h.1 h.2
 all_sent log (playing g) h any = ([], own_sent log g h)
 all_sent log (sent g x) h any = (answer_line g x ∷ [], record { offer = h.offer; moved = h.moved; confirmed = confirmed_in log g _ h; sent = h.answered; one = tt })
-all_sent log (reason g f) h any = over_sent log g.client g.game h
-all_sent log (closing g f o) h any = over_sent log g.client g.game h
-all_sent log (ended g f o) h any = over_sent log g.client g.game h
+all_sent log (reason g f) h any = over_sent log g.client g.game f None h
+all_sent log (closing g f o) h any = over_sent log g.client g.game f (Some o) h
+all_sent log (ended g f o) h any = over_sent log g.client g.game f (Some o) h
 
 pub log_sent : (c : Config) (log : Steps) (s : State) → Leads c log s → list_any agrees (counted log) ≡ true → Sent log
 log_sent c log s leads any = all_sent log s.client (log_tied c log s leads).0 any

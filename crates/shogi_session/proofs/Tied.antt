@@ -17,10 +17,11 @@ use Rattle.shogi_session.specs.Logs.{Step, heard, server_lines, behind, behind_l
 use Rattle.shogi_session.specs.MoveLines.{is_move_line}
 use Rattle.shogi_session.specs.Row.{Play, in_play, before_result, Judged, IsExpected, answer_line}
 use Rattle.shogi_session.specs.Sending.{own_text, own_texts}
-use Rattle.shogi_session.specs.ServerLines.{is_hash_line}
-use Rattle.shogi_session.specs.State.{Match, move, toryo, kachi, Finish, Client, idle, logging_in, before_summary, summary, agreeing, playing, sent, reason, closing, ended, State, line_of, position_now, game_with}
+use Rattle.shogi_session.specs.ServerLines.{Outcome, is_hash_line, outcome_of}
+use Rattle.shogi_session.specs.State.{Match, move, toryo, kachi, Finish, nothing_told, Client, idle, logging_in, before_summary, summary, agreeing, playing, sent, reason, closing, ended, State, line_of, position_now, game_with}
 use Rattle.shogi_session.specs.Summary.{CountsAs, Offer}
-use Rattle.shogi_session.proofs.Courses.{Steps, Lines, sends_login, agrees, hears_ok, hears_begin, hears_start, extra, Logged, logged_more, login_more, Begun, begun_more, Agreed, agreed_more, Course, course_quiet, course_skips, course_moves, course_ends, course_over}
+use Rattle.shogi_session.proofs.Courses.{Steps, Lines, sends_login, agrees, hears_ok, hears_begin, hears_start, extra, one_extra, Logged, logged_more, login_more, Begun, begun_more, Agreed, agreed_more, Course, course_quiet, course_skips, course_moves, course_ends, course_over}
+use Rattle.shogi_session.proofs.EndTold.{Told, after_hash, told_hash, told_hash_more, told_more, told_closed}
 use Rattle.shogi_session.proofs.Fitting.{Fits, right_side}
 use Rattle.shogi_session.proofs.Testing.{NoneOf, HasOne, none_more, has_more, behind_more}
 
@@ -38,13 +39,15 @@ pub record InPlay (k : Steps) (client : Color) (game : Game) (a waiting : Lines)
   pub answered : a ≡ own_texts offer.client moved ++ waiting
   pub legal : IsGame game.start (map move_of game.moves)
 
-pub record IsOver (k : Steps) (client : Color) (game : Game) (a : Lines) : Type 0 where
+-- the lines from the end of play on tell this of it, and this result, if they have one
+pub record IsOver (k : Steps) (client : Color) (game : Game) (a : Lines) (f : Finish) (result : Option Outcome) : Type 0 where
   pub offer : Offer
   pub moved : List Moved
   pub taken : Lines
   pub line : List ℕ
   pub rest : Lines
   pub course : Course k client game taken (line ∷ rest) offer moved
+  pub told : Told (line ∷ rest) f result
   pub waiting : Lines
   pub answered : a ≡ own_texts offer.client moved ++ waiting
   pub one : AtMostOne waiting
@@ -57,9 +60,9 @@ Tied k a (summary h) = Early k a × Begun k h
 Tied k a (agreeing o) = (a ≡ []) × Agreed k o × NoneOf hears_start (behind agrees k)
 Tied k a (playing g) = InPlay k g.client g.game a []
 Tied k a (sent g answer) = InPlay k g.client g.game a (answer_line g answer ∷ [])
-Tied k a (reason g f) = IsOver k g.client g.game a
-Tied k a (closing g f o) = IsOver k g.client g.game a
-Tied k a (ended g f o) = IsOver k g.client g.game a
+Tied k a (reason g f) = IsOver k g.client g.game a f None
+Tied k a (closing g f o) = IsOver k g.client g.game a f (Some o)
+Tied k a (ended g f o) = IsOver k g.client g.game a f (Some o)
 
 -- 2. a step that answers nothing
 pub record IsSilent (x : Step) : Type 0 where
@@ -70,6 +73,10 @@ abbrev pub Passed : Option (List ℕ) → Type 0
 Passed None = Unit {0}
 Passed (Some line) = GoesOn line × (is_move_line line ≡ false)
 
+abbrev pub NoHash : Option (List ℕ) → Type 0
+NoHash None = Unit {0}
+NoHash (Some line) = is_hash_line line ≡ false
+
 -- what it heard does not count in that state
 abbrev pub Skipped : Client → Step → Type 0
 Skipped idle x = Unit {0}
@@ -79,7 +86,7 @@ Skipped (summary h) x = heard x ≡ None
 Skipped (agreeing o) x = hears_start x ≡ false
 Skipped (playing g) x = Passed (heard x)
 Skipped (sent g a) x = Passed (heard x)
-Skipped (reason g f) x = Unit {0}
+Skipped (reason g f) x = NoHash (heard x)
 Skipped (closing g f o) x = Unit {0}
 Skipped (ended g f o) x = Unit {0}
 
@@ -91,7 +98,7 @@ nothing_skipped (summary h) x e = e
 nothing_skipped (agreeing o) x e = rw e refl
 nothing_skipped (playing g) x e = rw e tt
 nothing_skipped (sent g a) x e = rw e tt
-nothing_skipped (reason g f) x e = tt
+nothing_skipped (reason g f) x e = rw e tt
 nothing_skipped (closing g f o) x e = tt
 nothing_skipped (ended g f o) x e = tt
 
@@ -117,18 +124,34 @@ pass k client game a waiting x (Some line) e h skipped = record {
   legal = h.legal;
 }
 
-pub over_more : (k : Steps) (client : Color) (game : Game) (a : Lines) (x : Step) → IsOver k client game a → IsOver (k ++ x ∷ []) client game a
-over_more k client game a x h = record {
+over_more : (k : Steps) (client : Color) (game : Game) (a : Lines) (x : Step) (f new : Finish) (old result : Option Outcome) (h : IsOver k client game a f old)
+    → Told (h.line ∷ (h.rest ++ extra x)) new result → IsOver (k ++ x ∷ []) client game a new result
+over_more k client game a x f new old result h told = record {
   offer = h.offer;
   moved = h.moved;
   taken = h.taken;
   line = h.line;
   rest = h.rest ++ extra x;
   course = course_over k x client game h.taken h.line h.rest h.offer h.moved h.course;
+  told = told;
   waiting = h.waiting;
   answered = h.answered;
   one = h.one;
 }
+
+-- whatever stands behind the result
+pub over_closed : (k : Steps) (client : Color) (game : Game) (a : Lines) (x : Step) (f : Finish) (o : Outcome) → IsOver k client game a f (Some o)
+    → IsOver (k ++ x ∷ []) client game a f (Some o)
+over_closed k client game a x f o h = over_more k client game a x f f (Some o) (Some o) h (told_closed h.line h.rest (extra x) f o h.told)
+
+-- nothing heard, or a line that is not from `#`
+over_skips : (k : Steps) (client : Color) (game : Game) (a : Lines) (x : Step) (f : Finish) (o : Option (List ℕ)) → heard x ≡ o → IsOver k client game a f None → NoHash o
+    → IsOver (k ++ x ∷ []) client game a f None
+over_skips k client game a x f None e h skipped =
+    let none : extra x ≡ [] = rw e refl in
+    over_more k client game a x f f None None h (subst (λ ls. Told (h.line ∷ ls) f None) (sym (ap (λ ls. h.rest ++ ls) none ∙ append-nil h.rest)) h.told)
+over_skips k client game a x f (Some line) e h skipped =
+    over_more k client game a x f f None None h (subst (λ ls. Told (h.line ∷ (h.rest ++ ls)) f None) (sym (one_extra x line e)) (told_more h.line line h.rest f h.told skipped))
 
 pub tied_silent : (k : Steps) (a : Lines) (c : Client) (x : Step) → Tied k a c → IsSilent x → Skipped c x → Tied (k ++ x ∷ []) a c
 tied_silent k a idle x h s n = (early_more k a x h.0 s, none_more sends_login k x h.1 s.login)
@@ -151,9 +174,9 @@ tied_silent k a (agreeing o) x h s n =
     (h.0, agreed_more k x o h.1, subst (NoneOf hears_start) (sym (behind_more agrees k (x ∷ []) h.1.has)) (none_more hears_start (behind agrees k) x h.2 n))
 tied_silent k a (playing g) x h s n = pass k g.client g.game a [] x (heard x) refl h n
 tied_silent k a (sent g answer) x h s n = pass k g.client g.game a (answer_line g answer ∷ []) x (heard x) refl h n
-tied_silent k a (reason g f) x h s n = over_more k g.client g.game a x h
-tied_silent k a (closing g f o) x h s n = over_more k g.client g.game a x h
-tied_silent k a (ended g f o) x h s n = over_more k g.client g.game a x h
+tied_silent k a (reason g f) x h s n = over_skips k g.client g.game a x f (heard x) refl h n
+tied_silent k a (closing g f o) x h s n = over_closed k g.client g.game a x f o h
+tied_silent k a (ended g f o) x h s n = over_closed k g.client g.game a x f o h
 
 -- 3. what the rows of play lead to
 -- the match and what waits, in Playing and Sent
@@ -262,9 +285,9 @@ confirm k a p x line color m h e sign j own on =
     }
 
 -- a line that ends play
-pub finish : (k : Steps) (a : Lines) (p : Play) (x : Step) (line : List ℕ) → Plays k a p → heard x ≡ Some line → EndsPlay (line ∷ [])
-    → IsOver (k ++ x ∷ []) p.game.client p.game.game a
-finish k a p x line h e ends =
+pub finish : (k : Steps) (a : Lines) (p : Play) (x : Step) (line : List ℕ) (f : Finish) (result : Option Outcome) → Plays k a p → heard x ≡ Some line → EndsPlay (line ∷ [])
+    → Told (line ∷ []) f result → IsOver (k ++ x ∷ []) p.game.client p.game.game a f result
+finish k a p x line f result h e ends told =
     let i = h.in_play in
     record {
       offer = i.offer;
@@ -273,6 +296,7 @@ finish k a p x line h e ends =
       line = line;
       rest = [];
       course = course_ends k x p.game.client p.game.game i.taken i.offer i.moved line i.course e ends;
+      told = told;
       waiting = h.waiting;
       answered = i.answered;
       one = at_most p.game p.waiting h.waiting h.waits_so;
@@ -284,27 +308,40 @@ no_result x e = cc
 same_result : (x y : Match × Finish) → Some x ≡ Some y → x ≡ y
 same_result x y e = cc
 
+over_hash : (k : Steps) (client : Color) (game : Game) (a : Lines) (x : Step) (f : Finish) (line : List ℕ) (o : Option Outcome) → IsOver k client game a f None
+    → heard x ≡ Some line → is_hash_line line ≡ true → outcome_of line ≡ o → IsOver (k ++ x ∷ []) client game a (after_hash f line o) o
+over_hash k client game a x f line o h e sign is =
+    over_more k client game a x f (after_hash f line o) None o h
+    (subst (λ ls. Told (h.line ∷ (h.rest ++ ls)) (after_hash f line o) o) (sym (one_extra x line e)) (told_hash_more h.line line h.rest f o h.told sign is))
+
+first_hash : (k : Steps) (a : Lines) (p : Play) (x : Step) (line : List ℕ) (o : Option Outcome) → Plays k a p → heard x ≡ Some line → is_hash_line line ≡ true
+    → outcome_of line ≡ o → IsOver (k ++ x ∷ []) p.game.client p.game.game a (after_hash nothing_told line o) o
+first_hash k a p x line o h e sign is = finish k a p x line (after_hash nothing_told line o) o h e (inr sign) (told_hash line o sign is)
+
+abbrev OverSo : Steps → Lines → List ℕ → Option Outcome → Match × Finish → Type 0
+OverSo k a line o y = IsOver k y.0.client y.0.game a (after_hash y.1 line o) o
+
 -- a line from `#` in Playing, Sent, Reason
-pub hash : (k : Steps) (a : Lines) (s : State) (c : Client) (y : Match × Finish) (x : Step) (line : List ℕ) → Tied k a c → Fits c s.engine → before_result c ≡ Some y
-    → heard x ≡ Some line → is_hash_line line ≡ true → IsOver (k ++ x ∷ []) y.0.client y.0.game a
-hash k a s idle y x line h f e r sign = absurd (no_result y e)
-hash k a s logging_in y x line h f e r sign = absurd (no_result y e)
-hash k a s before_summary y x line h f e r sign = absurd (no_result y e)
-hash k a s (summary z) y x line h f e r sign = absurd (no_result y e)
-hash k a s (agreeing o) y x line h f e r sign = absurd (no_result y e)
-hash k a s (playing g) y x line h f e r sign =
-    subst (λ (z : Match × Finish). IsOver (k ++ x ∷ []) z.0.client z.0.game a) (same_result _ y e)
-    (finish k a (record { game = g; waiting = None }) x line (plays_of k a s (playing g) _ h f refl) r (inr sign))
-hash k a s (sent g (move m)) y x line h f e r sign =
-    subst (λ (z : Match × Finish). IsOver (k ++ x ∷ []) z.0.client z.0.game a) (same_result _ y e)
-    (finish k a (record { game = g; waiting = Some m }) x line (plays_of k a s (sent g (move m)) _ h f refl) r (inr sign))
-hash k a s (sent g toryo) y x line h f e r sign =
-    subst (λ (z : Match × Finish). IsOver (k ++ x ∷ []) z.0.client z.0.game a) (same_result _ y e)
-    (finish k a (record { game = g; waiting = None }) x line (plays_of k a s (sent g toryo) _ h f refl) r (inr sign))
-hash k a s (sent g kachi) y x line h f e r sign =
-    subst (λ (z : Match × Finish). IsOver (k ++ x ∷ []) z.0.client z.0.game a) (same_result _ y e)
-    (finish k a (record { game = g; waiting = None }) x line (plays_of k a s (sent g kachi) _ h f refl) r (inr sign))
-hash k a s (reason g z) y x line h f e r sign =
-    subst (λ (w : Match × Finish). IsOver (k ++ x ∷ []) w.0.client w.0.game a) (same_result _ y e) (over_more k g.client g.game a x h)
-hash k a s (closing g z o) y x line h f e r sign = absurd (no_result y e)
-hash k a s (ended g z o) y x line h f e r sign = absurd (no_result y e)
+pub hash : (k : Steps) (a : Lines) (s : State) (c : Client) (y : Match × Finish) (x : Step) (line : List ℕ) (o : Option Outcome) → Tied k a c → Fits c s.engine
+    → before_result c ≡ Some y → heard x ≡ Some line → is_hash_line line ≡ true → outcome_of line ≡ o → OverSo (k ++ x ∷ []) a line o y
+hash k a s idle y x line o h f e r sign is = absurd (no_result y e)
+hash k a s logging_in y x line o h f e r sign is = absurd (no_result y e)
+hash k a s before_summary y x line o h f e r sign is = absurd (no_result y e)
+hash k a s (summary z) y x line o h f e r sign is = absurd (no_result y e)
+hash k a s (agreeing z) y x line o h f e r sign is = absurd (no_result y e)
+hash k a s (playing g) y x line o h f e r sign is =
+    subst (OverSo (k ++ x ∷ []) a line o) (same_result _ y e)
+    (first_hash k a (record { game = g; waiting = None }) x line o (plays_of k a s (playing g) _ h f refl) r sign is)
+hash k a s (sent g (move m)) y x line o h f e r sign is =
+    subst (OverSo (k ++ x ∷ []) a line o) (same_result _ y e)
+    (first_hash k a (record { game = g; waiting = Some m }) x line o (plays_of k a s (sent g (move m)) _ h f refl) r sign is)
+hash k a s (sent g toryo) y x line o h f e r sign is =
+    subst (OverSo (k ++ x ∷ []) a line o) (same_result _ y e)
+    (first_hash k a (record { game = g; waiting = None }) x line o (plays_of k a s (sent g toryo) _ h f refl) r sign is)
+hash k a s (sent g kachi) y x line o h f e r sign is =
+    subst (OverSo (k ++ x ∷ []) a line o) (same_result _ y e)
+    (first_hash k a (record { game = g; waiting = None }) x line o (plays_of k a s (sent g kachi) _ h f refl) r sign is)
+hash k a s (reason g z) y x line o h f e r sign is =
+    subst (OverSo (k ++ x ∷ []) a line o) (same_result _ y e) (over_hash k g.client g.game a x z line o h r sign is)
+hash k a s (closing g z q) y x line o h f e r sign is = absurd (no_result y e)
+hash k a s (ended g z q) y x line o h f e r sign is = absurd (no_result y e)

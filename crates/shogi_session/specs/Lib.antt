@@ -13,6 +13,7 @@ pub mod Logs
 pub mod MoveLines
 pub mod NextItems
 pub mod Offers
+pub mod Phases
 pub mod PositionTexts
 pub mod Promises
 pub mod Requests

@@ -1,5 +1,5 @@
 -- Logs of a bridge, and what is read off their lines alone.
-use Rattle.std.specs.Prelude.{◌≡◌, ℕ, ◌++◌, ◌⊎◌, ◌||◌, Bool, true, false, List, [], ◌∷◌, filter, find, nat_eq, bytes_eq, flat_map, filter_map, map, Option, Some, None, codes, if◌then◌else◌}
+use Rattle.std.specs.Prelude.{◌≡◌, ◌↔◌, ℕ, ◌++◌, ◌⊎◌, ◌||◌, Bool, true, false, List, [], ◌∷◌, filter, find, nat_eq, bytes_eq, flat_map, filter_map, map, Option, Some, None, codes, if◌then◌else◌}
 use Rattle.std.specs.List.{AllByRecursion, AllZip, starts_with, list_any}
 use Rattle.shogi_board.specs.declared.color.Color.{Color}
 use Rattle.csa_record.specs.Game.{Timed, Ended, Game}
@@ -7,11 +7,11 @@ use Rattle.shogi_session.specs.declared.config.Config.{Config}
 use Rattle.shogi_session.specs.declared.event.Status.{Status}
 use Rattle.shogi_session.specs.declared.event.Status.TheVariants.{Going, Done, Failed, Lost}
 use Rattle.shogi_session.specs.Events.{Event, begin, engine_line, server_line, engine_end, server_end, engine_long, server_long, Out}
-use Rattle.shogi_session.specs.GameTold.{ending_of}
+use Rattle.shogi_session.specs.GameTold.{ending_of, game_of}
 use Rattle.shogi_session.specs.MoveLines.{is_move_line}
 use Rattle.shogi_session.specs.Row.{Row}
 use Rattle.shogi_session.specs.ServerLines.{Outcome, Reason, is_login_ok, is_start_line, is_ending_line, is_hash_line, TellsTimed, TellsEnding, outcome_of, reason_of}
-use Rattle.shogi_session.specs.State.{State, first_state, game_with}
+use Rattle.shogi_session.specs.State.{Client, State, first_state, game_with}
 use Rattle.shogi_session.specs.Summary.{Offer, TellsSummary}
 
 -- one call of step: the event, its line less the spaces at its end; the lines; the status
@@ -184,3 +184,7 @@ pub record GameOf (log : List Step) (g : Game) : Type 0 where
   pub kept : Option Ended
   pub keeps : Keeps confirmed.rest kept
   pub game : g ≡ record (game_confirmed offer moved) { ending = ending_of offer.client kept (reason_in confirmed.rest) (result_in confirmed.rest) }
+
+-- the game that a bridge has played so far is that of the log, and none where it has none
+abbrev pub TellsGame : Client → List Step → Type 0
+TellsGame client log = (g : Game) → (game_of client ≡ Some g) ↔ GameOf log g

@@ -7,12 +7,12 @@ use Rattle.shogi_session.specs.declared.config.Config.{Config}
 use Rattle.shogi_session.specs.declared.event.Event.{Event as Handed}
 use Rattle.shogi_session.specs.declared.event.Event.TheVariants as handed
 use Rattle.shogi_session.specs.declared.event.Status.{Status}
-use Rattle.shogi_session.specs.declared.event.Status.TheVariants.{Lost}
+use Rattle.shogi_session.specs.declared.event.Status.TheVariants.{Going, Lost}
 use Rattle.shogi_session.specs.Events.{Event, begin, engine_line, server_line, engine_end, server_end, engine_long, server_long, trimmed, Out}
 use Rattle.shogi_session.specs.GameTold.{game_of}
 use Rattle.shogi_session.specs.Host.{IsLoginWord}
 use Rattle.shogi_session.specs.Row.{Row}
-use Rattle.shogi_session.specs.State.{State, client_state}
+use Rattle.shogi_session.specs.State.{State, client_state, slip_of}
 use Rattle.shogi_session.specs.Texts.{text_of}
 
 -- what callers keep of a name and a password
@@ -59,12 +59,15 @@ pub data KeepsGame (c : Config) (s : State) (e : Event) (t : State) : Type 0 whe
   before : game_of t.client ≡ game_of s.client → KeepsGame c s e t
   after : (out : Out) (u : State) → Row c s e out u → game_of t.client ≡ game_of u.client → KeepsGame c s e t
 
--- a step that answers OutOfMemory: the bridge is lost, both states stay, and its game is whole
+-- a step that answers OutOfMemory, which none does once the session is over: the bridge is lost, both states and the slip
+-- stay, and its game is whole
 pub record Loses (old : Session) (e : Event) (new : Session) : Type 0 where
+  pub going : old.state.status ≡ Going
   pub config : new.config ≡ old.config
   pub status : new.state.status ≡ Lost
   pub engine : new.state.engine ≡ old.state.engine
   pub client : client_state new.state.client ≡ client_state old.state.client
+  pub slip : slip_of new.state.client ≡ slip_of old.state.client
   pub game : KeepsGame old.config old.state (trimmed e) new.state
 
 -- the canonical text of the game, or none before a summary was accepted

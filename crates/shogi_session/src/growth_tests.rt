@@ -1,7 +1,9 @@
 // Run by tests/growths with each growth refused in turn: the answer is want of memory. A host has ended then, and the sample
 // engine keeps no game.
+use crate::bridge_tests::{bridge, read_row};
 use crate::tests::host;
-use crate::{Host, Sample};
+use crate::{Bridge, Host, Out, Sample, Status};
+use csa_record::{read, write};
 use shogi_board::{Color, OutOfMemory};
 use std::process::Abort;
 use std::test::Fail;
@@ -66,5 +68,132 @@ fn refused_growth_of_the_sample_engine(rt: HostRuntime) -> Result<(), Fail> {
             }
         }
     }
+    Ok(())
+}
+
+// Hands a new bridge the rows, with a bar between two. At the first whose growth is refused the session is lost, and None is
+// answered.
+fn hand_each<R: Abort + Print + AllocGlobal>(
+    rt: &R,
+    rows: &[&str],
+) -> Result<Option<Bridge>, Fail> {
+    let mut bridge = bridge(rt.alloc())?;
+    for row in rows.iter().flat_map(|part| part.split('|')) {
+        let states = (bridge.engine_state(), bridge.client_state());
+        match bridge.step(read_row(row.as_bytes())?) {
+            Ok(out) => assert!(rt; out.status == Status::Going, "{row}"),
+            Err(OutOfMemory) => {
+                println!(rt; "refused")?;
+                assert!(rt;
+                    states == (bridge.engine_state(), bridge.client_state()),
+                    "{row}"
+                );
+                is_lost(rt, bridge)?;
+                return Ok(None);
+            }
+        }
+    }
+    Ok(Some(bridge))
+}
+
+// No event gives a line, and the game is whole: one that is read as it was written.
+fn is_lost<R: Abort + AllocGlobal>(rt: &R, bridge: Bridge) -> Result<(), Fail> {
+    let mut bridge = bridge;
+    for row in [
+        "begin",
+        "Eusiok",
+        "SSTART:g",
+        "S#LOSE",
+        "engine ends",
+        "server ends",
+        "long",
+    ] {
+        let out = bridge.step(read_row(row.as_bytes())?)?;
+        assert!(rt; is_silent_and_lost(&out), "{row}");
+    }
+    if let Some(text) = bridge.game_text()? {
+        let game = read(rt.alloc(), text.as_slice())?;
+        assert!(rt; write(rt.alloc(), &game)?.as_slice() == text.as_slice());
+    }
+    Ok(())
+}
+
+fn is_silent_and_lost(out: &Out) -> bool {
+    out.to_engine.bytes().is_empty()
+        && out.to_server.bytes().is_empty()
+        && out.status == Status::Lost
+}
+
+const LOGIN: &str = "begin|Eusiok|Ereadyok|SLOGIN:x OK";
+
+const SUMMARY: &str =
+    "SBEGIN Game_Summary|SYour_Turn:+|SBEGIN Position|S+|SEND Position|SEND Game_Summary";
+
+#[test]
+fn refused_growth_of_a_login(rt: HostRuntime) -> Result<(), Fail> {
+    hand_each(&rt, &[LOGIN])?;
+    Ok(())
+}
+
+#[test]
+fn refused_growth_of_names(rt: HostRuntime) -> Result<(), Fail> {
+    hand_each(
+        &rt,
+        &[
+            LOGIN,
+            "SBEGIN Game_Summary|SName+:bridge|SName-:host|SBEGIN Time|SEND Time",
+        ],
+    )?;
+    Ok(())
+}
+
+#[test]
+fn refused_growth_of_a_summary(rt: HostRuntime) -> Result<(), Fail> {
+    hand_each(&rt, &[LOGIN, SUMMARY])?;
+    Ok(())
+}
+
+#[test]
+fn refused_growth_of_a_start(rt: HostRuntime) -> Result<(), Fail> {
+    hand_each(&rt, &[LOGIN, SUMMARY, "SSTART:g"])?;
+    Ok(())
+}
+
+#[test]
+fn refused_growth_of_moves(rt: HostRuntime) -> Result<(), Fail> {
+    hand_each(
+        &rt,
+        &[
+            LOGIN,
+            SUMMARY,
+            "SSTART:g",
+            "Ebestmove 7g7f|S+7776FU,T12|S-3334FU,T6",
+        ],
+    )?;
+    Ok(())
+}
+
+#[test]
+fn refused_growth_of_a_result(rt: HostRuntime) -> Result<(), Fail> {
+    hand_each(
+        &rt,
+        &[LOGIN, SUMMARY, "SSTART:g", "S%TORYO|S#RESIGN|S#LOSE"],
+    )?;
+    Ok(())
+}
+
+#[test]
+fn refused_growth_of_a_game_text(rt: HostRuntime) -> Result<(), Fail> {
+    let Some(bridge) = hand_each(&rt, &[LOGIN, SUMMARY])? else {
+        return Ok(());
+    };
+    let text = match bridge.game_text() {
+        Ok(text) => text,
+        Err(OutOfMemory) => {
+            println!(rt; "refused")?;
+            bridge.game_text()?
+        }
+    };
+    assert!(rt; text.ok_or("no game")?.as_slice() == b"V2.2\nPI\n+\n".as_slice());
     Ok(())
 }

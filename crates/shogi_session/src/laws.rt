@@ -1,7 +1,8 @@
 //! Laws of the definitions that the contracts of this crate cite. They take and give nothing.
 
-ghost use Rattle.std.specs.Prelude.{◌≡◌, ◌↔◌, ◌++◌, ◌∷◌, [], ℕ, List, filter, true, codes};
+ghost use Rattle.std.specs.Prelude.{◌≡◌, ◌↔◌, ◌⊎◌, ◌++◌, ◌∷◌, [], ℕ, List, filter, true, false, None, codes};
 ghost use Rattle.std.specs.List.{AllByRecursion, list_any};
+ghost use Rattle.csa_record.specs.Game.{Game};
 ghost use Rattle.csa_record.specs.Items.{AtMostOne};
 ghost use Rattle.shogi_session.specs.declared.config.Config.{Config};
 ghost use Rattle.shogi_session.specs.declared.config.HostConfig.{HostConfig};
@@ -14,11 +15,13 @@ ghost use Rattle.shogi_rules.specs.declared.rule.Rule.TheVariants.{WrongSide};
 ghost use Rattle.shogi_board.specs.declared.square.Square.{Square};
 ghost use Rattle.shogi_session.specs.Events.{Event, Out, no_lines, server_line};
 ghost use Rattle.shogi_session.specs.Examples.{pawn_match, pawn_step, ready};
+ghost use Rattle.shogi_session.specs.GameTold.{game_of};
 ghost use Rattle.shogi_session.specs.Host.{HostRow, HostState, IsHostConfig};
 ghost use Rattle.shogi_session.specs.HostLogs.{HostLeads, HostStep, IsTimedGame, Timed, written, written_moves};
 ghost use Rattle.shogi_session.specs.Hearing.{heard_after};
-ghost use Rattle.shogi_session.specs.Logs.{Confirmed, Leads, Moved, Step, Taken, counted, is_answer, sends, server_lines};
+ghost use Rattle.shogi_session.specs.Logs.{Confirmed, GameOf, Leads, Moved, Step, Taken, TellsGame, counted, is_answer, is_sound, sends, server_lines};
 ghost use Rattle.shogi_session.specs.MoveLines.{is_move_line};
+ghost use Rattle.shogi_session.specs.Promises.{KeepsGame};
 ghost use Rattle.shogi_session.specs.Row.{Row, failed};
 ghost use Rattle.shogi_session.specs.Sample.{SampleState, SampleRow};
 ghost use Rattle.shogi_session.specs.Sending.{AskedRight, IsAnswered, IsPrefix, OwnSent, is_position_line};
@@ -95,6 +98,23 @@ pub fn asked_right()
     ensures { (c : Config) (log : List Step) (s t : State) (e : Event) (out : Out) → Leads c log s → Row c s e out t
         → list_any is_position_line out.to_engine ≡ true
         → AskedRight c (log ++ (record { event = e; out = out; status = t.status }) ∷ []) out.to_engine }
+{}
+
+/// In every log, the game that a bridge has played so far is the game of the log, and there is none
+/// exactly until `AGREE` was sent; a log has one game at most, and it has no headers. A step that
+/// faults leaves the game of the log as it was; and what a step keeps of a game for want of memory is
+/// the game of the log before the event, or with it.
+pub fn game_told()
+    ensures log { (c : Config) (log : List Step) (s : State) → Leads c log s → TellsGame s.client log }
+    ensures none { (c : Config) (log : List Step) (s : State) → Leads c log s
+        → ((game_of s.client ≡ None) ↔ (list_any (sends (codes "AGREE")) (counted log) ≡ false)) }
+    ensures once { (log : List Step) (g h : Game) → GameOf log g → GameOf log h → g ≡ h }
+    ensures no_headers { (log : List Step) (g : Game) → GameOf log g → g.headers ≡ [] }
+    ensures fault { (log : List Step) (step : Step) → is_sound step.status ≡ false
+        → (g : Game) → GameOf (log ++ step ∷ []) g ↔ GameOf log g }
+    ensures lost { (c : Config) (log : List Step) (s t : State) (e : Event) → Leads c log s → KeepsGame c s e t
+        → TellsGame t.client log ⊎ ((out : Out) × (u : State) × Row c s e out u
+        × TellsGame t.client (log ++ (record { event = e; out = out; status = u.status }) ∷ [])) }
 {}
 
 /// Where the lines that a bridge heard from its server, less the spaces at their end, are the first

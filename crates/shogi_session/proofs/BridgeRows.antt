@@ -1,0 +1,76 @@
+-- How the calls of a bridge keep what they promise.
+use Rattle.std.proofs.Common.{◌≡◌, ℕ, List, [], Some, None, refl, sym, ap, subst, ◌∙◌}
+use Rattle.csa_record.specs.Canon.{canon}
+use Rattle.shogi_session.specs.declared.config.Config.{Config}
+use Rattle.shogi_session.specs.declared.event.Out.{Out as Answered}
+use Rattle.shogi_session.specs.declared.event.Status.{Status}
+use Rattle.shogi_session.specs.declared.event.Status.TheVariants.{Going, Lost}
+use Rattle.shogi_session.specs.declared.phase.Phase.{Phase}
+use Rattle.shogi_session.specs.declared.phase.Phase.TheVariants as phases
+use Rattle.shogi_session.specs.declared.phase.Play.{Play as Own}
+use Rattle.shogi_session.specs.declared.state.EngineState.{EngineState}
+use Rattle.shogi_session.specs.Events.{Event, no_lines, trimmed}
+use Rattle.shogi_session.specs.GameTold.{game_of}
+use Rattle.shogi_session.specs.Phases.{IsPhase, Reacts, Stays, client_of, going}
+use Rattle.shogi_session.specs.Promises.{IsGameText, game_text, no_game, Session, Steps, Loses, KeepsGame, before, after}
+use Rattle.shogi_session.specs.Row.{unnamed}
+use Rattle.shogi_session.specs.State.{Client, State}
+use Rattle.shogi_session.proofs.Unnamed.{stopped}
+
+-- 1. game_text
+pub text_told : (s : State) (x : Phase) (p : Own) (text : List ℕ) → s.client ≡ client_of x → x ≡ phases.InGame p → IsPhase x → text ≡ canon p.game → IsGameText s (Some text)
+text_told s x p text at is keeps same =
+    subst (λ t. IsGameText s (Some t)) (sym same)
+    (game_text p.game (ap game_of (at ∙ ap client_of is) ∙ (subst IsPhase is keeps).game))
+
+nothing_told : (x : Phase) → ((p : Own) → x ≡ phases.InGame p → ⊥) → game_of (client_of x) ≡ None
+nothing_told phases.Idle h = refl
+nothing_told phases.LoggingIn h = refl
+nothing_told phases.BeforeSummary h = refl
+nothing_told (phases.Summary heard) h = refl
+nothing_told (phases.InGame p) h = absurd (h p refl)
+
+pub text_none : (s : State) (x : Phase) → s.client ≡ client_of x → ((p : Own) → x ≡ phases.InGame p → ⊥) → IsGameText s None
+text_none s x at none = no_game (ap game_of at ∙ nothing_told x none)
+
+-- 2. step
+-- the game that is kept does not hang on the status after it
+lost_game : (c : Config) (engine engine_after : EngineState) (client client_after : Client) (e : Event)
+    → KeepsGame c (going engine client) e (going engine_after client_after)
+    → KeepsGame c (going engine client) e (record { engine = engine_after; client = client_after; status = Lost })
+lost_game c engine engine_after client client_after e (before h) = before h
+lost_game c engine engine_after client client_after e (after out u row h) = after out u row h
+
+abbrev session : Config → EngineState → Client → Status → Session
+session c engine client status = record { config = c; state = record { engine = engine; client = client; status = status } }
+
+pub stepped : (c : Config) (engine engine_after : EngineState) (client client_after : Client) (z : Status) (old new : Session) (e : Event) (o : Answered)
+    → old ≡ session c engine client z → z ≡ Going → new ≡ session c engine_after client_after o.status
+    → Reacts c engine client (trimmed e) o engine_after client_after → Steps old e o.to_engine o.to_server o.status new
+stepped c engine engine_after client client_after z old new e o was goes is r =
+    let at : old ≡ session c engine client Going = was ∙ ap (session c engine client) goes in
+    subst (λ (x : Session). Steps x e o.to_engine o.to_server o.status new) (sym at)
+    (subst (λ (x : Session). Steps (session c engine client Going) e o.to_engine o.to_server o.status x) (sym is)
+    (record { out = r.0; row = r.1; config = refl; engine_text = r.2; server_text = r.3; status_is = refl }))
+
+pub over : (old new : Session) (e : Event) (to_engine to_server : List ℕ) (status : Status) → new ≡ old → (old.state.status ≡ Going → ⊥)
+    → to_engine ≡ [] → to_server ≡ [] → status ≡ old.state.status → Steps old e to_engine to_server status new
+over old new e to_engine to_server status same ended h k s =
+    subst (λ (x : Session). Steps old e to_engine to_server status x) (sym same)
+    (record {
+      out = no_lines;
+      row = unnamed (stopped old.config old.state (trimmed e) ended) refl refl;
+      config = refl;
+      engine_text = h;
+      server_text = k;
+      status_is = s;
+    })
+
+pub lost : (c : Config) (engine engine_after : EngineState) (client client_after : Client) (z : Status) (old new : Session) (e : Event)
+    → old ≡ session c engine client z → z ≡ Going → new ≡ session c engine_after client_after Lost
+    → Stays c engine client (trimmed e) engine_after client_after → Loses old e new
+lost c engine engine_after client client_after z old new e was goes is h =
+    let at : old ≡ session c engine client Going = was ∙ ap (session c engine client) goes in
+    subst (λ (x : Session). Loses x e new) (sym at)
+    (subst (λ (x : Session). Loses (session c engine client Going) e x) (sym is)
+    (record { going = refl; config = refl; status = refl; engine = h.engine_stays; client = h.client_stays; slip = h.slip_stays; game = lost_game c engine engine_after client client_after (trimmed e) h.game }))

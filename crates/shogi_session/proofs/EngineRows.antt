@@ -1,0 +1,140 @@
+-- How the answers to lines of the engine are rows of the table.
+use Rattle.std.proofs.Common.{◌≡◌, ℕ, ◌⊎◌, inl, inr, Bool, List, [], codes, refl, sym, ap, subst, ◌∙◌}
+use Rattle.shogi_board.specs.Placed.{Placed}
+use Rattle.usi_text.specs.declared.engine.EngineWord.TheVariants.{UsiOk, ReadyOk}
+use Rattle.usi_text.specs.Engine.{LineSays}
+use Rattle.usi_text.specs.Words.{words}
+use Rattle.csa_record.specs.Game.{Game}
+use Rattle.shogi_session.specs.declared.config.Config.{Config}
+use Rattle.shogi_session.specs.declared.engine_answer.EngineAnswer.{EngineAnswer}
+use Rattle.shogi_session.specs.declared.engine_answer.EngineAnswer.TheVariants as says
+use Rattle.shogi_session.specs.declared.event.Out.{Out as Answered}
+use Rattle.shogi_session.specs.declared.event.Status.{Status}
+use Rattle.shogi_session.specs.declared.event.Status.TheVariants.{Going, Failed}
+use Rattle.shogi_session.specs.declared.fault.SessionFault.TheVariants.{EngineGone}
+use Rattle.shogi_session.specs.declared.phase.Answer.{Answer as Given}
+use Rattle.shogi_session.specs.declared.phase.Play.{Play as Own}
+use Rattle.shogi_session.specs.declared.phase.Stage.{Stage as OwnStage}
+use Rattle.shogi_session.specs.declared.phase.Stage.TheVariants as stages
+use Rattle.shogi_session.specs.declared.phase.Stage.TheVariants.{Playing as OwnPlaying}
+use Rattle.shogi_session.specs.declared.state.ClientState.TheVariants as clients
+use Rattle.shogi_session.specs.declared.state.EngineState.{EngineState}
+use Rattle.shogi_session.specs.declared.state.EngineState.TheVariants.{New, Greeting, Readying, Ready, Thinking, Ended as EngineEnded}
+use Rattle.shogi_session.specs.EngineAnswers.{Answers}
+use Rattle.shogi_session.specs.Events.{Event, begin, engine_line, engine_end, Out, no_lines, engine}
+use Rattle.shogi_session.specs.GameTold.{game_of}
+use Rattle.shogi_session.specs.Phases.{Reacts, Stays, Same, answer_of, answer_text, given_for, going, match_in, play_client, slip_with, staged}
+use Rattle.shogi_session.specs.Promises.{before}
+use Rattle.shogi_session.specs.Row.{TableRow, IsUnnamed, in_table, unnamed, IsBestMove, login_line, failed}
+use Rattle.shogi_session.specs.Row as row
+use Rattle.shogi_session.specs.State.{Match, Client, playing, sent, logging_in, State, client_state, position_now, slip_of}
+use Rattle.shogi_session.specs.Texts.{text_of, ended_line}
+use Rattle.shogi_session.proofs.Answering.{one_text}
+use Rattle.shogi_session.proofs.Unnamed.{engine_deaf, engine_over}
+
+-- 1. Any row
+abbrev pub state : EngineState → Client → Status → State
+state engine client status = record { engine = engine; client = client; status = status }
+
+pub by_row : (c : Config) (engine engine_after : EngineState) (client client_after : Client) (e : Event) (o : Answered) (out : Out) (z : Status)
+    → TableRow c (going engine client) e out (state engine_after client_after z) → o.status ≡ z
+    → o.to_engine ≡ text_of out.to_engine → o.to_server ≡ text_of out.to_server → Reacts c engine client e o engine_after client_after
+by_row c engine engine_after client client_after e o out z r s h k =
+    (out, in_table (refl, subst (λ x. TableRow c (going engine client) e out (state engine_after client_after x)) (sym s) r), h, k)
+
+pub by_none : (c : Config) (engine : EngineState) (client : Client) (e : Event) (o : Answered)
+    → IsUnnamed c (going engine client) e → o.to_engine ≡ [] → o.to_server ≡ [] → o.status ≡ Going → Reacts c engine client e o engine client
+by_none c engine client e o u h k s = (no_lines, unnamed u refl (ap (state engine client) s), h, k)
+
+pub still : (c : Config) (known engine engine_after : EngineState) (client client_after : Client) (e : Event) (o : Answered)
+    → IsUnnamed c (going known client) e → engine ≡ known → engine_after ≡ engine → client_after ≡ client
+    → o.to_engine ≡ [] → o.to_server ≡ [] → o.status ≡ Going → Reacts c engine client e o engine_after client_after
+still c known engine engine_after client client_after e o u at f g h k s =
+    subst (λ x. Reacts c engine client e o x client_after) (sym f) (subst (λ x. Reacts c engine client e o engine x) (sym g)
+    (by_none c engine client e o (subst (λ x. IsUnnamed c (going x client) e) (sym at) u) h k s))
+
+-- nothing has changed for want of memory
+pub stays : (c : Config) (engine engine_after : EngineState) (client client_after : Client) (e : Event)
+    → Same engine client engine_after client_after → Stays c engine client e engine_after client_after
+stays c engine engine_after client client_after e h =
+    record { engine_stays = h.0; client_stays = ap client_state h.1; slip_stays = ap slip_of h.1; game = before (ap game_of h.1) }
+
+-- 2. Before a game
+pub begun : (c : Config) (engine : EngineState) (client : Client) (o : Answered) → engine ≡ New
+    → o.to_engine ≡ ended_line (codes "usi") → o.to_server ≡ [] → o.status ≡ Going → Reacts c engine client begin o Greeting client
+begun c engine client o at h k s = by_row c engine Greeting client client begin o _ Going (row.begins at refl refl refl) s (h ∙ one_text (codes "usi")) k
+
+pub greeted : (c : Config) (engine : EngineState) (client : Client) (line : List ℕ) (o : Answered) → engine ≡ Greeting → LineSays (words line) UsiOk
+    → o.to_engine ≡ ended_line (codes "isready") → o.to_server ≡ [] → o.status ≡ Going
+    → Reacts c engine client (engine_line line) o Readying client
+greeted c engine client line o at ok h k s =
+    by_row c engine Readying client client (engine_line line) o _ Going (row.greeted line at refl ok refl refl) s (h ∙ one_text (codes "isready")) k
+
+pub readied : (c : Config) (engine : EngineState) (client : Client) (line : List ℕ) (o : Answered) → engine ≡ Readying → LineSays (words line) ReadyOk
+    → o.to_engine ≡ [] → o.to_server ≡ ended_line (login_line c) → o.status ≡ Going
+    → Reacts c engine client (engine_line line) o Ready logging_in
+readied c engine client line o at ok h k s =
+    by_row c engine Ready client logging_in (engine_line line) o _ Going (row.readied line at refl ok refl refl) s h (k ∙ one_text (login_line c))
+
+-- 3. Answers to `go`
+answered : (c : Config) (engine : EngineState) (client : Client) (g : Match) (line : List ℕ) (a : EngineAnswer) (o : Answered)
+    → engine ≡ Thinking → client ≡ playing g → Answers (position_now g) line a
+    → o.to_engine ≡ [] → o.to_server ≡ ended_line (answer_text g.client a) → o.status ≡ Going
+    → Reacts c engine client (engine_line line) o Ready (sent (record g { slip = slip_with a g.slip }) (answer_of (given_for a)))
+answered c engine client g line (says.Move m) o at here a h k s =
+    by_row c engine Ready client _ (engine_line line) o _ Going
+    (row.engine_moves g line a.0 m at here refl a.1 (record { word_is = a.2; legal = a.3 }) refl refl) s h (k ∙ one_text (answer_text g.client (says.Move m)))
+answered c engine client g line says.Resign o at here a h k s =
+    by_row c engine Ready client _ (engine_line line) o _ Going (row.engine_resigns g line at here refl a refl refl) s h
+    (k ∙ one_text (answer_text g.client says.Resign))
+answered c engine client g line says.Win o at here a h k s =
+    by_row c engine Ready client _ (engine_line line) o _ Going (row.engine_wins g line at here refl a refl refl) s h
+    (k ∙ one_text (answer_text g.client says.Win))
+answered c engine client g line says.Slip o at here a h k s =
+    by_row c engine Ready client _ (engine_line line) o _ Going
+    (row.engine_slips g line a.0 at here refl a.1 (record { no_move = λ m l. a.2 m l.word_is l.legal; not_resign = a.3; not_win = a.4 }) refl refl) s h
+    (k ∙ one_text (answer_text g.client says.Slip))
+
+pub answered_play : (c : Config) (engine : EngineState) (p : Own) (line : List ℕ) (a : EngineAnswer) (o : Answered) (now : Placed) (given : Given) (slip : Bool)
+    → engine ≡ Thinking → p.stage ≡ OwnPlaying → now ≡ position_now (match_in p) → Answers now line a → given ≡ given_for a → slip ≡ slip_with a p.slip
+    → o.to_engine ≡ [] → o.to_server ≡ ended_line (answer_text p.client a) → o.status ≡ Going
+    → Reacts c engine (play_client p) (engine_line line) o Ready (sent (record (match_in p) { slip = slip }) (answer_of given))
+answered_play c engine p line a o now given slip at here position says given_is slip_is h k s =
+    subst (λ x. Reacts c engine (play_client p) (engine_line line) o Ready (sent (record (match_in p) { slip = slip }) (answer_of x))) (sym given_is)
+    (subst (λ x. Reacts c engine (play_client p) (engine_line line) o Ready (sent (record (match_in p) { slip = x }) (answer_of (given_for a)))) (sym slip_is)
+    (answered c engine (play_client p) (match_in p) line a o at (ap (staged (match_in p) p.game) here) (subst (λ x. Answers x line a) position says) h k s))
+
+pub late : (c : Config) (engine : EngineState) (client : Client) (line word : List ℕ) (o : Answered) → engine ≡ Thinking
+    → (client_state client ≡ clients.Playing → ⊥) → IsBestMove line word
+    → o.to_engine ≡ [] → o.to_server ≡ [] → o.status ≡ Going → Reacts c engine client (engine_line line) o Ready client
+late c engine client line word o at other best h k s =
+    by_row c engine Ready client client (engine_line line) o _ Going (row.engine_late line word at other refl best refl refl) s h k
+
+by_stage : (g : Match) (game : Game) (stage : OwnStage) → (stage ≡ OwnPlaying → ⊥) → client_state (staged g game stage) ≡ clients.Playing → ⊥
+by_stage g game stages.Agreeing other e = cc
+by_stage g game stages.Playing other e = other refl
+by_stage g game (stages.Sent a) other e = cc
+by_stage g game (stages.Reason told) other e = cc
+by_stage g game (stages.Closing told end) other e = cc
+by_stage g game (stages.Ended told end) other e = cc
+
+pub not_playing : (p : Own) → (p.stage ≡ OwnPlaying → ⊥) → client_state (play_client p) ≡ clients.Playing → ⊥
+not_playing p other = by_stage (match_in p) p.game p.stage other
+
+pub deaf : (c : Config) (engine : EngineState) (client : Client) (line : List ℕ) → (engine ≡ New) ⊎ ((engine ≡ Ready) ⊎ (engine ≡ EngineEnded))
+    → IsUnnamed c (going engine client) (engine_line line)
+deaf c New client line h = engine_deaf c New client line (λ e. cc) (λ e. cc) (λ e. cc)
+deaf c Ready client line h = engine_deaf c Ready client line (λ e. cc) (λ e. cc) (λ e. cc)
+deaf c EngineEnded client line h = engine_deaf c EngineEnded client line (λ e. cc) (λ e. cc) (λ e. cc)
+deaf c Greeting client line h = elim h [ inl e ↦ cc | inr k ↦ elim k [ inl e ↦ cc | inr e ↦ cc ] ]
+deaf c Readying client line h = elim h [ inl e ↦ cc | inr k ↦ elim k [ inl e ↦ cc | inr e ↦ cc ] ]
+deaf c Thinking client line h = elim h [ inl e ↦ cc | inr k ↦ elim k [ inl e ↦ cc | inr e ↦ cc ] ]
+
+-- 4. The end of the engine
+pub engine_gone : (c : Config) (engine : EngineState) (client : Client) (o : Answered) → (engine ≡ EngineEnded → ⊥)
+    → o.to_engine ≡ [] → o.to_server ≡ [] → o.status ≡ Failed EngineGone → Reacts c engine client engine_end o engine client
+engine_gone c engine client o other h k s = by_row c engine engine client client engine_end o _ _ (row.engine_gone other refl refl refl) s h k
+
+pub over : (c : Config) (engine : EngineState) (client : Client) (o : Answered) → engine ≡ EngineEnded
+    → o.to_engine ≡ [] → o.to_server ≡ [] → o.status ≡ Going → Reacts c engine client engine_end o engine client
+over c engine client o at h k s = still c EngineEnded engine engine client client engine_end o (engine_over c client) at refl refl h k s

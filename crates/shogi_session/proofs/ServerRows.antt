@@ -1,0 +1,257 @@
+-- How the answers to lines of the server before a game are rows of the table.
+use Rattle.std.proofs.Common.{◌≡◌, ℕ, ◌++◌, ◌⊎◌, inl, inr, Result, Ok, Err, true, false, List, [], ◌∷◌, Option, Some, None, map, codes, refl, sym, ap, subst, ◌∙◌}
+use Rattle.std.specs.Prelude.{IfOk, MatchResult}
+use Rattle.shogi_rules.specs.Positions.{IsGame}
+use Rattle.csa_record.specs.Game.{Game, Ended, move_of}
+use Rattle.shogi_session.specs.declared.config.Config.{Config}
+use Rattle.shogi_session.specs.declared.event.Out.{Out as Answered}
+use Rattle.shogi_session.specs.declared.event.Status.{Status}
+use Rattle.shogi_session.specs.declared.event.Status.TheVariants.{Going, Done, Failed}
+use Rattle.shogi_session.specs.declared.fault.SessionFault.TheVariants.{LoginRefused, Rejected, BadSummary, ServerGone, LineTooLong}
+use Rattle.shogi_session.specs.declared.phase.Play.{Play as Own}
+use Rattle.shogi_session.specs.declared.phase.Phase.{Phase}
+use Rattle.shogi_session.specs.declared.phase.Phase.TheVariants as phases
+use Rattle.shogi_session.specs.declared.phase.Stage.{Stage}
+use Rattle.shogi_session.specs.declared.phase.Stage.TheVariants as stages
+use Rattle.shogi_session.specs.declared.phase.Told.{Told}
+use Rattle.shogi_session.specs.declared.server_words.GameResult.{GameResult}
+use Rattle.shogi_session.specs.declared.state.ClientState.TheVariants as clients
+use Rattle.shogi_session.specs.declared.state.EngineState.{EngineState}
+use Rattle.shogi_session.specs.Asking.{Asks}
+use Rattle.shogi_session.specs.Events.{Event, begin, server_line, server_end, engine_long, server_long}
+use Rattle.shogi_session.specs.GameTold.{game_of}
+use Rattle.shogi_session.specs.Hearing.{heard_after}
+use Rattle.shogi_session.specs.Phases.{Reacts, Stays, Same, GoesOn, IsPlay, client_of, going, match_in, play_client, staged}
+use Rattle.shogi_session.specs.Promises.{before}
+use Rattle.shogi_session.specs.Row.{IsUnnamed}
+use Rattle.shogi_session.specs.Row as row
+use Rattle.shogi_session.specs.ServerLines.{is_login_ok, is_start_line, is_reject_line}
+use Rattle.shogi_session.specs.State.{Match, Client, logging_in, before_summary, summary, agreeing, playing, client_state, slip_of, match_of}
+use Rattle.shogi_session.specs.Summary.{Heard, nothing_heard, CountsAs, Offer, TellsOffer}
+use Rattle.shogi_session.specs.Texts.{ended_line}
+use Rattle.shogi_session.proofs.AlwaysAsks.{offer_plain, offer_legal}
+use Rattle.shogi_session.proofs.Answering.{one_text}
+use Rattle.shogi_session.proofs.Counting.{counts_more}
+use Rattle.shogi_session.proofs.EngineRows.{by_row, by_none, stays}
+
+abbrev pub Silent : Answered → Status → Type 0
+Silent o z = (o.to_engine ≡ []) × (o.to_server ≡ []) × (o.status ≡ z)
+
+-- 1. nothing changes
+pub quiet : (c : Config) (engine : EngineState) (known client client_after : Client) (e : Event) (o : Answered)
+    → IsUnnamed c (going engine known) e → client ≡ known → client_after ≡ client → Silent o Going → Reacts c engine client e o engine client_after
+quiet c engine known client client_after e o u at same h =
+    subst (λ x. Reacts c engine client e o engine x) (sym same)
+    (by_none c engine client e o (subst (λ x. IsUnnamed c (going engine x) e) (sym at) u) h.0 h.1 h.2)
+
+-- 2. LOGIN
+pub login_taken : (c : Config) (engine : EngineState) (client : Client) (line : List ℕ) (o : Answered) → client ≡ logging_in → is_login_ok line ≡ true
+    → Silent o Going → Reacts c engine client (server_line line) o engine before_summary
+login_taken c engine client line o at ok h =
+    by_row c engine engine client before_summary (server_line line) o _ Going (row.login_taken line at refl ok refl refl) h.2 h.0 h.1
+
+pub login_refused : (c : Config) (engine : EngineState) (client client_after : Client) (line : List ℕ) (o : Answered) → client ≡ logging_in
+    → line ≡ codes "LOGIN:incorrect" → client_after ≡ client → Silent o (Failed LoginRefused) → Reacts c engine client (server_line line) o engine client_after
+login_refused c engine client client_after line o at incorrect same h =
+    subst (λ x. Reacts c engine client (server_line line) o engine x) (sym same)
+    (by_row c engine engine client client (server_line line) o _ (Failed LoginRefused) (row.login_refused at (ap server_line incorrect) refl refl) h.2 h.0 h.1)
+
+-- 3. the summary
+pub summary_begun : (c : Config) (engine : EngineState) (client : Client) (h : Heard) (line : List ℕ) (o : Answered) → client ≡ before_summary
+    → line ≡ codes "BEGIN Game_Summary" → h ≡ nothing_heard → Silent o Going → Reacts c engine client (server_line line) o engine (summary h)
+summary_begun c engine client h line o at begins nothing q =
+    subst (λ x. Reacts c engine client (server_line line) o engine (summary x)) (sym nothing)
+    (by_row c engine engine client (summary nothing_heard) (server_line line) o _ Going (row.summary_begins at (ap server_line begins) refl refl) q.2 q.0 q.1)
+
+abbrev pub Counts : Heard → Type 0
+Counts h = (lines : List (List ℕ)) × CountsAs lines h
+
+pub counts_after : (h new : Heard) (line : List ℕ) → Counts h → new ≡ heard_after h line → Counts new
+counts_after h new line counts e = (counts.0 ++ line ∷ [], subst (CountsAs (counts.0 ++ line ∷ [])) (sym e) (counts_more counts.0 line h counts.1))
+
+pub summary_heard : (c : Config) (engine : EngineState) (h new : Heard) (line : List ℕ) (o : Answered) → (line ≡ codes "END Game_Summary" → ⊥)
+    → Counts h → new ≡ heard_after h line → Silent o Going → Reacts c engine (summary h) (server_line line) o engine (summary new)
+unfolding counts_after
+summary_heard c engine h new line o goes counts e q =
+    by_row c engine engine (summary h) (summary new) (server_line line) o _ Going
+    (row.summary_line counts.0 line h new refl refl goes counts.1 (counts_after h new line counts e).1 refl refl) q.2 q.0 q.1
+
+pub summary_failed : (c : Config) (engine : EngineState) (client client_after : Client) (h : Heard) (o : Answered) → client ≡ summary h
+    → ((offer : Offer) → TellsOffer h offer → ⊥) → client_after ≡ client → Silent o (Failed BadSummary)
+    → Reacts c engine client (server_line (codes "END Game_Summary")) o engine client_after
+summary_failed c engine client client_after h o at none same q =
+    subst (λ x. Reacts c engine client (server_line (codes "END Game_Summary")) o engine x) (sym same)
+    (by_row c engine engine client client _ o _ (Failed BadSummary) (row.summary_fails h at refl none refl refl) q.2 q.0 q.1)
+
+unended : (g : Game) (e : Option Ended) → e ≡ None → g.ending ≡ e → record g { ending = None } ≡ g
+unended g e none is = ap (λ (x : Option Ended). record g { ending = x }) (sym (is ∙ none))
+
+-- the code's own game at the offer
+pub record IsOffered (p : Own) (offer : Offer) : Type 0 where
+  pub client : p.client ≡ offer.client
+  pub game : p.game ≡ offer.game
+  pub slip : p.slip ≡ false
+  pub stage : p.stage ≡ stages.Agreeing
+
+offered_client : (p : Own) (offer : Offer) → IsOffered p offer → offer.game.ending ≡ None → play_client p ≡ agreeing offer
+offered_client p offer i none =
+    ap (staged (match_in p) p.game) i.stage
+    ∙ (ap (λ x. agreeing (record { client = x; game = record p.game { ending = None } })) i.client
+    ∙ (ap (λ (x : Game). agreeing (record { client = offer.client; game = record x { ending = None } })) i.game
+    ∙ ap (λ x. agreeing (record { client = offer.client; game = x })) (unended offer.game offer.game.ending none refl)))
+
+pub summary_told : (c : Config) (engine : EngineState) (client : Client) (h : Heard) (offer : Offer) (p : Own) (o : Answered) → client ≡ summary h
+    → TellsOffer h offer → IsOffered p offer → o.to_engine ≡ [] → o.to_server ≡ ended_line (codes "AGREE") → o.status ≡ Going
+    → Reacts c engine client (server_line (codes "END Game_Summary")) o engine (play_client p)
+summary_told c engine client h offer p o at tells i q r s =
+    subst (λ x. Reacts c engine client (server_line (codes "END Game_Summary")) o engine x)
+    (sym (offered_client p offer i (offer_plain _ _ tells.position).0))
+    (by_row c engine engine client (agreeing offer) _ o _ Going (row.summary_ends h offer at refl tells refl refl) s q (r ∙ one_text (codes "AGREE")))
+
+pub offered_play : (h : Heard) (offer : Offer) (p : Own) → TellsOffer h offer → IsOffered p offer → IsPlay p
+offered_play h offer p tells i =
+    let none = (offer_plain _ _ tells.position).0 in
+    let at = offered_client p offer i none in record {
+      game = ap game_of at ∙ ap Some (sym i.game);
+      legal = subst (λ (x : Game). IsGame x.start (map move_of x.moves)) (sym i.game) (offer_legal _ _ tells.position);
+      slip = ap slip_of at ∙ sym i.slip;
+    }
+
+-- 4. AGREE
+pub rejected : (c : Config) (engine : EngineState) (client client_after : Client) (offer : Offer) (line : List ℕ) (o : Answered) → client ≡ agreeing offer
+    → is_reject_line line ≡ true → client_after ≡ client → Silent o (Failed Rejected) → Reacts c engine client (server_line line) o engine client_after
+rejected c engine client client_after offer line o at reject same h =
+    subst (λ x. Reacts c engine client (server_line line) o engine x) (sym same)
+    (by_row c engine engine client client (server_line line) o _ (Failed Rejected) (row.rejected offer line at refl reject refl refl) h.2 h.0 h.1)
+
+same_some : (g h : Game) → Some g ≡ Some h → g ≡ h
+same_some g h e = cc
+
+plain : (p : Own) → Some (record p.game { ending = None }) ≡ Some p.game → p.game.ending ≡ None
+plain p e = sym (ap (λ (x : Game). x.ending) (same_some (record p.game { ending = None }) p.game e))
+
+-- an offer has no ending
+pub plain_offer : (p : Own) → p.stage ≡ stages.Agreeing → IsPlay p → p.game.ending ≡ None
+plain_offer p at i = plain p (sym (ap (λ x. game_of (staged (match_in p) p.game x)) at) ∙ i.game)
+
+pub goes_on : (p after : Own) → after ≡ record p { stage = stages.Playing } → p.game.ending ≡ None → IsPlay p → IsPlay after
+goes_on p after e none i =
+    subst IsPlay (sym e) (record { game = ap Some (unended p.game p.game.ending none refl); legal = i.legal; slip = refl })
+
+unslipped : (p : Own) → p.stage ≡ stages.Agreeing → IsPlay p → p.slip ≡ false
+unslipped p at i = sym i.slip ∙ ap (λ x. slip_of (staged (match_in p) p.game x)) at
+
+pub started : (c : Config) (engine engine_after : EngineState) (p after : Own) (line : List ℕ) (o : Answered) → p.stage ≡ stages.Agreeing → IsPlay p
+    → is_start_line line ≡ true → GoesOn c engine p (ended_line (codes "usinewgame")) o engine_after after
+    → Reacts c engine (play_client p) (server_line line) o engine_after (play_client after)
+started c engine engine_after p after line o at i start g =
+    let offer : Offer = record { client = p.client; game = record p.game { ending = None } } in
+    let same : match_in p ≡ match_of offer = ap (λ x. record (match_in p) { slip = x }) (unslipped p at i) in
+    subst (λ (x : Own). Reacts c engine (play_client p) (server_line line) o engine_after (play_client x)) (sym g.play)
+    (subst (λ x. Reacts c engine (play_client p) (server_line line) o engine_after (playing x)) (sym same)
+    (by_row c engine engine_after (play_client p) (playing (match_of offer)) (server_line line) o _ Going
+    (row.started offer line g.asked.0 engine_after (ap (staged (match_in p) p.game) at) refl start
+    (subst (λ x. Asks c x engine g.asked.0 engine_after) same g.asked.1) refl refl)
+    g.status (g.to_engine ∙ (ap (λ x. ended_line (codes "usinewgame") ++ x) g.asked.2 ∙ refl)) g.to_server))
+
+pub started_or : {E : Type 0} (r : Result Answered E) (c : Config) (engine engine_after : EngineState) (p after : Own) (line before_it : List ℕ) → p.stage ≡ stages.Agreeing → IsPlay p
+    → is_start_line line ≡ true → before_it ≡ ended_line (codes "usinewgame")
+    → MatchResult r (λ o. GoesOn c engine p before_it o engine_after after) (λ f. (engine_after ≡ engine) × (after ≡ p))
+    → MatchResult r (λ o. Reacts c engine (play_client p) (server_line line) o engine_after (play_client after)) (λ f. Same engine (play_client p) engine_after (play_client after))
+started_or (Ok o) c engine engine_after p after line before_it at i start whole g =
+    started c engine engine_after p after line o at i start (subst (λ x. GoesOn c engine p x o engine_after after) whole g)
+started_or (Err f) c engine engine_after p after line before_it at i start whole g = (g.0, ap play_client g.1)
+
+pub started_play : {E : Type 0} (r : Result Answered E) (c : Config) (engine engine_after : EngineState) (p after : Own) (before_it : List ℕ) → p.stage ≡ stages.Agreeing → IsPlay p
+    → MatchResult r (λ o. GoesOn c engine p before_it o engine_after after) (λ f. (engine_after ≡ engine) × (after ≡ p)) → IsPlay after
+started_play (Ok o) c engine engine_after p after before_it at i g = goes_on p after g.play (plain_offer p at i) i
+started_play (Err f) c engine engine_after p after before_it at i g = subst IsPlay (sym g.1) i
+
+-- 5. the end
+pub logged_out : (c : Config) (engine : EngineState) (p : Own) (told : Told) (res : GameResult) (line : List ℕ) (o : Answered)
+    → p.stage ≡ stages.Closing told res → line ≡ codes "LOGOUT:completed" → Silent o Done
+    → Reacts c engine (play_client p) (server_line line) o engine (play_client (record p { stage = stages.Ended told res }))
+logged_out c engine p told res line o at completed h =
+    by_row c engine engine (play_client p) _ (server_line line) o _ Done
+    (row.closes _ _ _ (ap (staged (match_in p) p.game) at) (inl (ap server_line completed)) refl refl) h.2 h.0 h.1
+
+pub hung_up : (c : Config) (engine : EngineState) (p : Own) (told : Told) (res : GameResult) (o : Answered)
+    → p.stage ≡ stages.Closing told res → Silent o Done
+    → Reacts c engine (play_client p) server_end o engine (play_client (record p { stage = stages.Ended told res }))
+hung_up c engine p told res o at h =
+    by_row c engine engine (play_client p) _ server_end o _ Done
+    (row.closes _ _ _ (ap (staged (match_in p) p.game) at) (inr refl) refl refl) h.2 h.0 h.1
+
+pub over_play : (p : Own) (told : Told) (res : GameResult) → p.stage ≡ stages.Closing told res → IsPlay p → IsPlay (record p { stage = stages.Ended told res })
+over_play p told res at i = record {
+  game = sym (ap (λ x. game_of (staged (match_in p) p.game x)) at) ∙ i.game;
+  legal = i.legal;
+  slip = refl;
+}
+
+pub or_stays : {E : Type 0} (r : Result Answered E) (P : Answered → Type 0) (c : Config) (engine engine_after : EngineState) (client client_after : Client) (e : Event)
+    → MatchResult r P (λ f. Same engine client engine_after client_after) → MatchResult r P (λ f. Stays c engine client e engine_after client_after)
+or_stays (Ok o) P c engine engine_after client client_after e h = h
+or_stays (Err f) P c engine engine_after client client_after e h = stays c engine engine_after client client_after e h
+
+-- 6. faults
+pub server_gone : (c : Config) (engine : EngineState) (client client_after : Client) (o : Answered) → (client_state client ≡ clients.Closing → ⊥)
+    → (client_state client ≡ clients.Ended → ⊥) → client_after ≡ client → Silent o (Failed ServerGone) → Reacts c engine client server_end o engine client_after
+server_gone c engine client client_after o other going same h =
+    subst (λ x. Reacts c engine client server_end o engine x) (sym same)
+    (by_row c engine engine client client server_end o _ (Failed ServerGone) (row.server_gone other going refl refl refl) h.2 h.0 h.1)
+
+pub too_long : (c : Config) (engine : EngineState) (client : Client) (e : Event) (o : Answered) → (e ≡ engine_long) ⊎ (e ≡ server_long)
+    → Silent o (Failed LineTooLong) → Reacts c engine client e o engine client
+too_long c engine client e o long h =
+    by_row c engine engine client client e o _ (Failed LineTooLong) (row.line_too_long long refl refl) h.2 h.0 h.1
+
+stage_not_over : (g : Match) (game : Game) (stage : Stage) → ((t : Told) (r : GameResult) → stage ≡ stages.Closing t r → ⊥)
+    → ((t : Told) (r : GameResult) → stage ≡ stages.Ended t r → ⊥)
+    → (client_state (staged g game stage) ≡ clients.Closing → ⊥) × (client_state (staged g game stage) ≡ clients.Ended → ⊥)
+stage_not_over g game stages.Agreeing h k = (λ e. cc, λ e. cc)
+stage_not_over g game stages.Playing h k = (λ e. cc, λ e. cc)
+stage_not_over g game (stages.Sent a) h k = (λ e. cc, λ e. cc)
+stage_not_over g game (stages.Reason t) h k = (λ e. cc, λ e. cc)
+stage_not_over g game (stages.Closing t r) h k = absurd (h t r refl)
+stage_not_over g game (stages.Ended t r) h k = absurd (k t r refl)
+
+pub play_not_over : (p : Own) → ((t : Told) (r : GameResult) → p.stage ≡ stages.Closing t r → ⊥)
+    → ((t : Told) (r : GameResult) → p.stage ≡ stages.Ended t r → ⊥)
+    → (client_state (play_client p) ≡ clients.Closing → ⊥) × (client_state (play_client p) ≡ clients.Ended → ⊥)
+play_not_over p h k = stage_not_over (match_in p) p.game p.stage h k
+
+pub phase_not_over : (x : Phase) → ((p : Own) → x ≡ phases.InGame p → ⊥)
+    → (client_state (client_of x) ≡ clients.Closing → ⊥) × (client_state (client_of x) ≡ clients.Ended → ⊥)
+phase_not_over phases.Idle h = (λ e. cc, λ e. cc)
+phase_not_over phases.LoggingIn h = (λ e. cc, λ e. cc)
+phase_not_over phases.BeforeSummary h = (λ e. cc, λ e. cc)
+phase_not_over (phases.Summary heard) h = (λ e. cc, λ e. cc)
+phase_not_over (phases.InGame p) h = absurd (h p refl)
+
+-- 7. summaries
+pub ended_or : {E : Type 0} (r : Result Answered E) (c : Config) (engine : EngineState) (client known client_after : Client) (line : List ℕ) → client ≡ known
+    → line ≡ codes "END Game_Summary"
+    → MatchResult r (λ o. Reacts c engine known (server_line (codes "END Game_Summary")) o engine client_after) (λ f. client_after ≡ known)
+    → MatchResult r (λ o. Reacts c engine client (server_line line) o engine client_after) (λ f. Stays c engine client (server_line line) engine client_after)
+ended_or (Ok o) c engine client known client_after line here at h =
+    subst (λ x. Reacts c engine x (server_line line) o engine client_after) (sym here) (subst (λ x. Reacts c engine known (server_line x) o engine client_after) (sym at) h)
+ended_or (Err f) c engine client known client_after line here at h = stays c engine engine client client_after (server_line line) (refl, h ∙ sym here)
+
+pub heard_or : {E : Type 0} (r : Result Answered E) (c : Config) (engine : EngineState) (client : Client) (h new : Heard) (line : List ℕ) → client ≡ summary h
+    → IfOk r (λ o. (d : Config) (x : EngineState) → Reacts d x (summary h) (server_line line) o x (summary new))
+    → MatchResult r (λ o. Reacts c engine client (server_line line) o engine (summary new)) (λ f. Stays c engine client (server_line line) engine (summary new))
+heard_or (Ok o) c engine client h new line at k = subst (λ x. Reacts c engine x (server_line line) o engine (summary new)) (sym at) (k c engine)
+heard_or (Err f) c engine client h new line at k = record {
+  engine_stays = refl;
+  client_stays = sym (ap client_state at);
+  slip_stays = sym (ap slip_of at);
+  game = before (sym (ap game_of at));
+}
+
+-- 8. the beginning
+pub begun_or : {E : Type 0} (r : Result Answered E) (c : Config) (engine engine_after : EngineState) (client : Client)
+    → MatchResult r (λ o. Reacts c engine client begin o engine_after client) (λ f. engine_after ≡ engine)
+    → MatchResult r (λ o. Reacts c engine client begin o engine_after client) (λ f. Stays c engine client begin engine_after client)
+begun_or (Ok o) c engine engine_after client h = h
+begun_or (Err f) c engine engine_after client h = stays c engine engine_after client client begin (h, refl)

@@ -1,0 +1,12 @@
+use Rattle.std.proofs.Common.{ap, sym}
+use Rattle.shogi_session.specs.Promises.{Session}
+use Rattle.shogi_session.proofs.BridgeRows.{text_none, text_told}
+use Rattle.shogi_session.proofs.bridge.Bridge.game_text.Goals as goal
+
+pub returns-in_ok-write-in-InGame : goal.returns-in_ok-write-in-InGame
+returns-in_ok-write-in-InGame c =
+    text_told _ c.self.inside.phase c.in-InGame.play _ (ap (λ (x : Session). x.state.client) (sym c.self.view_is)) c.in-InGame.is c.self.invariant
+    c.in_ok-write-in-InGame.ensures.text
+
+pub returns-in_default : goal.returns-in_default
+returns-in_default c = text_none _ c.self.inside.phase (ap (λ (x : Session). x.state.client) (sym c.self.view_is)) c.in_default.not-InGame

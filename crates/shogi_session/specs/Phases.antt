@@ -1,0 +1,205 @@
+-- A bridge's own states, and what its private helpers promise.
+use Rattle.std.specs.Prelude.{◌≡◌, ◌++◌, ◌∷◌, ◌⊎◌, ℕ, Bool, true, false, List, [], Option, None, Some, Result, Ok, Err, map, codes}
+use Rattle.shogi_board.specs.declared.color.Color.{Color}
+use Rattle.csa_text.specs.Codes.{move_text}
+use Rattle.shogi_board.specs.declared.memory.OutOfMemory.{OutOfMemory}
+use Rattle.shogi_rules.specs.declared.line.PlayFault.{PlayFault}
+use Rattle.shogi_rules.specs.declared.line.PlayFault.TheVariants as play
+use Rattle.shogi_rules.specs.declared.moves.Move as shogi
+use Rattle.csa_record.specs.declared.fault.OrderFault.TheVariants as order
+use Rattle.csa_record.specs.declared.fault.Why.{Why}
+use Rattle.csa_record.specs.declared.fault.Why.TheVariants as why
+use Rattle.shogi_rules.specs.Positions.{IsGame}
+use Rattle.csa_record.specs.Game.{Game, Timed, Ended, move_of}
+use Rattle.shogi_session.specs.declared.config.Config.{Config}
+use Rattle.shogi_session.specs.declared.engine_answer.EngineAnswer.{EngineAnswer}
+use Rattle.shogi_session.specs.declared.engine_answer.EngineAnswer.TheVariants as engine_says
+use Rattle.shogi_session.specs.declared.event.Out.{Out as Answered}
+use Rattle.shogi_session.specs.declared.event.Status.TheVariants.{Going}
+use Rattle.shogi_session.specs.declared.phase.Answer.{Answer as Given}
+use Rattle.shogi_session.specs.declared.phase.Answer.TheVariants.{Move, Toryo, Kachi}
+use Rattle.shogi_session.specs.declared.phase.Phase.{Phase}
+use Rattle.shogi_session.specs.declared.phase.Phase.TheVariants.{Idle, LoggingIn, BeforeSummary, Summary, InGame}
+use Rattle.shogi_session.specs.declared.phase.Play.{Play}
+use Rattle.shogi_session.specs.declared.phase.Stage.{Stage}
+use Rattle.shogi_session.specs.declared.phase.Stage.TheVariants.{Agreeing, Playing, Sent, Reason, Closing, Ended as Over}
+use Rattle.shogi_session.specs.declared.phase.Told.{Told}
+use Rattle.shogi_session.specs.declared.server_words.EndReason.{EndReason}
+use Rattle.shogi_session.specs.declared.state.EngineState.{EngineState}
+use Rattle.shogi_session.specs.Events.{Event, Out}
+use Rattle.shogi_session.specs.Asking.{Asks}
+use Rattle.shogi_session.specs.GameTold.{ending_of, game_of}
+use Rattle.shogi_session.specs.Promises.{KeepsGame}
+use Rattle.shogi_session.specs.Row.{Row}
+use Rattle.shogi_session.specs.ServerLines as lines
+use Rattle.shogi_session.specs.ServerLines.{Outcome, TellsEnding}
+use Rattle.shogi_session.specs.ServerWords.{outcome, reason as reason_is}
+use Rattle.shogi_session.specs.State.{Match, Answer, move, toryo, kachi, Finish, game_with, Client, idle, logging_in, before_summary, summary, agreeing, playing, sent, reason, closing, ended, State, client_state, slip_of}
+use Rattle.shogi_session.specs.Summary.{CountsAs}
+use Rattle.shogi_session.specs.Texts.{text_of}
+
+-- 1. The states
+abbrev pub answer_of : Given → Answer
+answer_of (Move m) = move m
+answer_of Toryo = toryo
+answer_of Kachi = kachi
+
+abbrev pub reason_of : Option EndReason → Option lines.Reason
+reason_of None = None
+reason_of (Some r) = Some (reason_is r)
+
+-- the ending, where it was told
+abbrev pub kept_of : Bool → Option Ended → Option Ended
+kept_of true ending = ending
+kept_of false ending = None
+
+abbrev pub finish_of : Game → Told → Finish
+finish_of game told = record { kept = kept_of told.ending game.ending; reason = reason_of told.reason }
+
+-- the match has the game without its ending
+abbrev pub match_in : Play → Match
+match_in p = record { client = p.client; game = record p.game { ending = None }; slip = p.slip }
+
+abbrev pub staged : Match → Game → Stage → Client
+staged g game Agreeing = agreeing (record { client = g.client; game = g.game })
+staged g game Playing = playing g
+staged g game (Sent a) = sent g (answer_of a)
+staged g game (Reason told) = reason g (finish_of game told)
+staged g game (Closing told result) = closing g (finish_of game told) (outcome result)
+staged g game (Over told result) = ended g (finish_of game told) (outcome result)
+
+abbrev pub play_client : Play → Client
+play_client p = staged (match_in p) p.game p.stage
+
+abbrev pub client_of : Phase → Client
+client_of Idle = idle
+client_of LoggingIn = logging_in
+client_of BeforeSummary = before_summary
+client_of (Summary heard) = summary heard
+client_of (InGame p) = play_client p
+
+-- 2. What they keep
+-- the game has the ending that was told or follows from what was, its moves are legal, and an offer has no slip
+pub record IsPlay (p : Play) : Type 0 where
+  pub game : game_of (play_client p) ≡ Some p.game
+  pub legal : IsGame p.game.start (map move_of p.game.moves)
+  pub slip : slip_of (play_client p) ≡ p.slip
+
+-- what is heard of a summary counts for some lines
+abbrev pub IsPhase : Phase → Type 0
+IsPhase Idle = Unit {0}
+IsPhase LoggingIn = Unit {0}
+IsPhase BeforeSummary = Unit {0}
+IsPhase (Summary heard) = (lines : List (List ℕ)) × CountsAs lines heard
+IsPhase (InGame p) = IsPlay p
+
+-- 3. Steps
+abbrev pub going : EngineState → Client → State
+going engine client = record { engine = engine; client = client; status = Going }
+
+-- the answer is that of a row
+abbrev pub Reacts : Config → EngineState → Client → Event → Answered → EngineState → Client → Type 0
+Reacts c engine client e answered engine_after client_after =
+    (out : Out) × Row c (going engine client) e out (record { engine = engine_after; client = client_after; status = answered.status })
+    × (answered.to_engine ≡ text_of out.to_engine) × (answered.to_server ≡ text_of out.to_server)
+
+-- for want of memory both states stay, and the game is whole
+pub record Stays (c : Config) (engine : EngineState) (client : Client) (e : Event) (engine_after : EngineState) (client_after : Client) : Type 0 where
+  pub engine_stays : engine_after ≡ engine
+  pub client_stays : client_state client_after ≡ client_state client
+  pub slip_stays : slip_of client_after ≡ slip_of client
+  pub game : KeepsGame c (going engine client) e (going engine_after client_after)
+
+-- neither state has changed
+abbrev pub Same : EngineState → Client → EngineState → Client → Type 0
+Same engine client engine_after client_after = (engine_after ≡ engine) × (client_after ≡ client)
+
+-- 4. Answers of the engine
+abbrev pub given_for : EngineAnswer → Given
+given_for (engine_says.Move m) = Move m
+given_for engine_says.Resign = Toryo
+given_for engine_says.Win = Kachi
+given_for engine_says.Slip = Toryo
+
+-- whether the engine has slipped, with this answer
+abbrev pub slip_with : EngineAnswer → Bool → Bool
+slip_with (engine_says.Move m) before = before
+slip_with engine_says.Resign before = before
+slip_with engine_says.Win before = before
+slip_with engine_says.Slip before = true
+
+abbrev pub answer_text : Color → EngineAnswer → List ℕ
+answer_text client (engine_says.Move m) = move_text client m
+answer_text client engine_says.Resign = codes "%TORYO"
+answer_text client engine_says.Win = codes "%KACHI"
+answer_text client engine_says.Slip = codes "%TORYO"
+
+-- 5. Lines of the server in a game
+-- the game is on: Playing, Sent
+abbrev pub IsOn : Stage → Type 0
+IsOn Agreeing = ⊥
+IsOn Playing = Unit {0}
+IsOn (Sent a) = Unit {0}
+IsOn (Reason told) = ⊥
+IsOn (Closing told result) = ⊥
+IsOn (Over told result) = ⊥
+
+-- the sent move that waits for its confirmation
+abbrev pub waiting_in : Stage → Option shogi.Move
+waiting_in Agreeing = None
+waiting_in Playing = None
+waiting_in (Sent (Move m)) = Some m
+waiting_in (Sent Toryo) = None
+waiting_in (Sent Kachi) = None
+waiting_in (Reason told) = None
+waiting_in (Closing told result) = None
+waiting_in (Over told result) = None
+
+abbrev pub no_ending_told : Told
+no_ending_told = record { ending = false; reason = None }
+
+-- this stage or, before anything was told, the game, is where that was told
+abbrev pub TellsEnd : Stage → Told → Type 0
+TellsEnd Agreeing told = ⊥
+TellsEnd Playing told = told ≡ no_ending_told
+TellsEnd (Sent a) told = told ≡ no_ending_told
+TellsEnd (Reason before) told = told ≡ before
+TellsEnd (Closing before result) told = ⊥
+TellsEnd (Over before result) told = ⊥
+
+-- the lines of this text ask the engine, or nothing does
+abbrev pub IsAskText : Config → Match → EngineState → List ℕ → EngineState → Type 0
+IsAskText c g engine text engine_after = (lines : List (List ℕ)) × Asks c g engine lines engine_after × (text ≡ text_of lines)
+
+-- play goes on, and the engine is asked where its side is to move
+pub record GoesOn (c : Config) (engine : EngineState) (p : Play) (before : List ℕ) (answered : Answered) (engine_after : EngineState) (p_after : Play) : Type 0 where
+  pub play : p_after ≡ record p { stage = Playing }
+  pub text : List ℕ
+  pub asked : IsAskText c (match_in p) engine text engine_after
+  pub to_engine : answered.to_engine ≡ before ++ text
+  pub to_server : answered.to_server ≡ []
+  pub status : answered.status ≡ Going
+
+-- the line tells an ending, which the game keeps; or none, and nothing changes
+abbrev pub KeepsEnding : Play → List ℕ → Play → Type 0
+KeepsEnding p line p_after =
+    ((k : Ended) × TellsEnding line k
+    × (p_after ≡ record p { game = record p.game { ending = Some k }; stage = Reason (record { ending = true; reason = None }) }))
+    ⊎ (((k : Ended) → TellsEnding line k → ⊥) × (p_after ≡ p))
+
+-- the game with the ending that it has, or else that follows from the reason and the result
+abbrev pub closed : Play → Option EndReason → Outcome → Game
+closed p why result = record p.game { ending = ending_of p.client p.game.ending (reason_of why) (Some result) }
+
+-- the move is confirmed; for want of memory it is or is not
+abbrev pub Confirms : Config → EngineState → Play → Timed → Result Answered OutOfMemory → EngineState → Play → Type 0
+Confirms c engine p m (Ok answered) engine_after p_after =
+    GoesOn c engine (record p { game = game_with p.game (m ∷ []) }) [] answered engine_after p_after
+Confirms c engine p m (Err fault) engine_after p_after =
+    (engine_after ≡ engine) × ((p_after ≡ p) ⊎ (p_after ≡ record p { game = game_with p.game (m ∷ []) }))
+
+-- why a move is not played
+abbrev pub why_of : PlayFault → Why
+why_of play.TooManyMoves = why.Order order.TooManyMoves
+why_of (play.Broken rule) = why.Rule rule
+why_of play.OutOfMemory = why.OutOfMemory

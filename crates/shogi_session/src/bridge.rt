@@ -1,0 +1,284 @@
+ghost use Rattle.std.specs.Prelude.{◌≡◌, ◌↔◌, Some, None, IsOk, IsTrue, IfOk, OnErr, MatchOption, MatchResult};
+ghost use Rattle.csa_record.specs.Game.{Game};
+ghost use Rattle.shogi_session.specs.declared.config.Config.{Config};
+ghost use Rattle.shogi_session.specs.declared.event.Status.TheVariants.{Going};
+ghost use Rattle.shogi_session.specs.declared.state.EngineState.{EngineState};
+ghost use Rattle.shogi_session.specs.declared.state.EngineState.TheVariants.{Ended, New};
+ghost use Rattle.shogi_session.specs.Events.{begin, engine_end, server_end, trimmed};
+ghost use Rattle.shogi_session.specs.Phases.{IsPhase, Reacts, Stays, client_of, staged};
+ghost use Rattle.shogi_session.specs.Promises.{HoldsLine, IsConfig, IsGameText, Loses, Steps, event_of};
+ghost use Rattle.shogi_session.specs.State.{Client, Match, client_state, first_state, slip_of, waits_for};
+
+use crate::answers::{failed, no_lines, silent, tell_engine};
+use crate::config::Config;
+use crate::engine_side::hear_engine;
+use crate::event::{Event, Out, Status};
+use crate::fault::SessionFault;
+use crate::move_line::without_last_spaces;
+use crate::phase::{Phase, Stage};
+use crate::server_side::hear_server;
+use crate::state::{ClientState, EngineState, Waits};
+use csa_record::write;
+use shogi_board::OutOfMemory;
+use std::alloc::Global;
+use std::marker::Model;
+
+/// A client of a game server that plays with an engine.
+///
+/// It speaks the CSA server protocol with the server and the USI protocol with the engine, and takes
+/// one line or event a call. Each move that it sends is legal, and none is sent while one is
+/// unanswered.
+#[derive(Drop)]
+pub struct Bridge {
+    alloc: Global,
+    config: Config,
+    engine: EngineState,
+    phase: Phase,
+    status: Status,
+}
+
+impl Model for Bridge {
+    ghost use Rattle.shogi_session.specs.Phases.{IsPhase, client_of};
+    ghost use Rattle.shogi_session.specs.Promises.{Session};
+
+    ghost Value = { Session };
+
+    ghost view = { λ b. record { config = b.config; state = record { engine = b.engine; client = client_of b.phase; status = b.status } } };
+
+    ghost invariant = { λ b. IsPhase b.phase };
+}
+
+impl Bridge {
+    /// A bridge to which nothing has happened. It takes no memory, and answers Ok.
+    pub fn new(alloc: Global, config: &Config) -> Result<Bridge, OutOfMemory>
+        requires { IsConfig config.now }
+        ensures made { IsOk result }
+        ensures config { IfOk result (λ b. b.config ≡ config.now) }
+        ensures state { IfOk result (λ b. b.state ≡ first_state) }
+    {
+        Ok(Bridge {
+            alloc,
+            config: *config,
+            engine: EngineState::New,
+            phase: Phase::Idle,
+            status: Status::Going,
+        })
+    }
+
+    /// Takes an event, whose line comes without its line end; spaces at its end do not count. The
+    /// answer is the lines to send, those to the engine first, and how the bridge stands.
+    ///
+    /// A fault gives no line, and no event gives one from then on; both states stay as they were.
+    ///
+    /// Refuses OutOfMemory, and is Lost then: both states stay as they were, and no event gives a line.
+    /// Once the session is over it answers Ok.
+    pub fn step(&mut self, event: Event<'_>) -> Result<Out, OutOfMemory>
+        requires { HoldsLine (event_of event) }
+        ensures row { IfOk result (λ out. Steps self.old (event_of event.entry) out.to_engine out.to_server out.status self.new) }
+        ensures lost { OnErr result (Loses self.old (event_of event.entry) self.new) }
+    {
+        if !is_going(self.status) {
+            return Ok(silent(self.alloc, self.status));
+        }
+        match answer(
+            self.alloc,
+            &self.config,
+            &mut self.engine,
+            &mut self.phase,
+            event,
+        ) {
+            Ok(out) => {
+                self.status = out.status;
+                Ok(out)
+            }
+            Err(fault) => {
+                self.status = Status::Lost;
+                Err(fault)
+            }
+        }
+    }
+
+    /// Whose line it waits for.
+    pub fn waits_for(&self) -> Waits
+        ensures { result ≡ waits_for self.now.state }
+    {
+        if self.status != Status::Going {
+            return Waits::Nobody;
+        }
+        match self.engine {
+            EngineState::New => Waits::Nobody,
+            EngineState::Greeting | EngineState::Readying => Waits::Engine,
+            EngineState::Ready | EngineState::Ended => Waits::Server,
+            EngineState::Thinking => {
+                if self.client_state() == ClientState::Playing {
+                    Waits::Engine
+                } else {
+                    Waits::Server
+                }
+            }
+        }
+    }
+
+    /// How it stands with its engine.
+    pub fn engine_state(&self) -> EngineState
+        ensures { result ≡ self.now.state.engine }
+    {
+        self.engine
+    }
+
+    /// How it stands with its server.
+    pub fn client_state(&self) -> ClientState
+        ensures { result ≡ client_state self.now.state.client }
+    {
+        match &self.phase {
+            Phase::Idle => ClientState::Idle,
+            Phase::LoggingIn => ClientState::LoggingIn,
+            Phase::BeforeSummary | Phase::Summary(_) => ClientState::Summary,
+            Phase::InGame(play) => state_of(play.stage),
+        }
+    }
+
+    /// Whether an answer of the engine in the game was no legal move, so that `%TORYO` was sent. It
+    /// stays so.
+    pub fn slip(&self) -> bool
+        ensures { result ≡ slip_of self.now.state.client }
+    {
+        match &self.phase {
+            Phase::InGame(play) => play.slip,
+            _ => false,
+        }
+    }
+
+    /// The canonical text of the game so far: the names, the start and the confirmed moves, with the
+    /// ending that the server told, or the one that follows from the reason and the result. None before
+    /// a summary was accepted.
+    ///
+    /// Refuses OutOfMemory.
+    pub fn game_text(&self) -> Result<Option<Vec<u8>>, OutOfMemory>
+        ensures { IfOk result (λ found. MatchOption found (IsGameText self.now.state None) (λ text. IsGameText self.now.state (Some text.items))) }
+    {
+        match &self.phase {
+            Phase::InGame(play) => Ok(Some(write(self.alloc, &play.game)?)),
+            _ => Ok(None),
+        }
+    }
+}
+
+fn is_going(status: Status) -> bool
+    ensures { IsTrue result ↔ (status ≡ Going) }
+{
+    match status {
+        Status::Going => true,
+        _ => false,
+    }
+}
+
+fn state_of(stage: Stage) -> ClientState
+    ensures { (g : Match) (game : Game) → result ≡ client_state (staged g game stage) }
+{
+    match stage {
+        Stage::Agreeing => ClientState::Agreeing,
+        Stage::Playing => ClientState::Playing,
+        Stage::Sent(_) => ClientState::Sent,
+        Stage::Reason(_) => ClientState::Reason,
+        Stage::Closing(_, _) => ClientState::Closing,
+        Stage::Ended(_, _) => ClientState::Ended,
+    }
+}
+
+// Answers an event of a session that goes on.
+fn answer(
+    alloc: Global,
+    config: &Config,
+    engine: &mut EngineState,
+    phase: &mut Phase,
+    event: Event<'_>,
+) -> Result<Out, OutOfMemory>
+    requires phase { IsPhase phase.old }
+    requires line { HoldsLine (event_of event) }
+    ensures keeps { IsPhase phase.new }
+    ensures answer { MatchResult result
+        (λ out. Reacts config.now engine.old (client_of phase.old) (trimmed (event_of event.entry)) out engine.new (client_of phase.new))
+        (λ fault. Stays config.now engine.old (client_of phase.old) (trimmed (event_of event.entry)) engine.new (client_of phase.new)) }
+{
+    match event {
+        Event::Begin => begin(alloc, engine),
+        Event::EngineLine(line) => hear_engine(
+            alloc,
+            config,
+            engine,
+            phase,
+            without_last_spaces(line),
+        ),
+        Event::ServerLine(line) => hear_server(
+            alloc,
+            config,
+            engine,
+            phase,
+            without_last_spaces(line),
+        ),
+        Event::EngineEnd => Ok(lose_engine(alloc, *engine)),
+        Event::ServerEnd => Ok(lose_server(alloc, phase)),
+        Event::EngineLong | Event::ServerLong => Ok(failed(alloc, SessionFault::LineTooLong)),
+    }
+}
+
+fn begin(alloc: Global, engine: &mut EngineState) -> Result<Out, OutOfMemory>
+    ensures { (c : Config) (client : Client) → MatchResult result
+        (λ out. Reacts c engine.old client begin out engine.new client)
+        (λ fault. engine.new ≡ engine.old) }
+{
+    if !is_new(*engine) {
+        return Ok(no_lines(alloc));
+    }
+    let out = tell_engine(alloc, b"usi")?;
+    *engine = EngineState::Greeting;
+    Ok(out)
+}
+
+fn is_new(engine: EngineState) -> bool
+    ensures { IsTrue result ↔ (engine ≡ New) }
+{
+    match engine {
+        EngineState::New => true,
+        _ => false,
+    }
+}
+
+fn has_ended(engine: EngineState) -> bool
+    ensures { IsTrue result ↔ (engine ≡ Ended) }
+{
+    match engine {
+        EngineState::Ended => true,
+        _ => false,
+    }
+}
+
+// The engine is gone.
+fn lose_engine(alloc: Global, engine: EngineState) -> Out
+    ensures { (c : Config) (client : Client) → Reacts c engine client engine_end result engine client }
+{
+    if has_ended(engine) {
+        return no_lines(alloc);
+    }
+    failed(alloc, SessionFault::EngineGone)
+}
+
+// The server is gone, which ends a session behind a result.
+fn lose_server(alloc: Global, phase: &mut Phase) -> Out
+    requires phase { IsPhase phase.old }
+    ensures keeps { IsPhase phase.new }
+    ensures answer { (c : Config) (engine : EngineState) → Reacts c engine (client_of phase.old) server_end result engine (client_of phase.new) }
+{
+    match phase {
+        Phase::InGame(play) => match play.stage {
+            Stage::Closing(told, game_result) => {
+                play.stage = Stage::Ended(told, game_result);
+                silent(alloc, Status::Done)
+            }
+            Stage::Ended(_, _) => no_lines(alloc),
+            _ => failed(alloc, SessionFault::ServerGone),
+        },
+        _ => failed(alloc, SessionFault::ServerGone),
+    }
+}

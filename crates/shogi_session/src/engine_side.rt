@@ -1,0 +1,243 @@
+ghost use Rattle.std.specs.Prelude.{◌≡◌, ◌↔◌, ℕ, List, [], IfOk, IsTrue, MatchResult};
+ghost use Rattle.shogi_session.specs.declared.config.Config.{Config};
+ghost use Rattle.shogi_session.specs.declared.event.Status.TheVariants.{Going};
+ghost use Rattle.shogi_session.specs.declared.phase.Stage.TheVariants.{Playing};
+ghost use Rattle.shogi_session.specs.declared.state.EngineState.TheVariants.{Greeting, Readying, Thinking};
+ghost use Rattle.shogi_session.specs.Events.{engine_line};
+ghost use Rattle.shogi_session.specs.Phases.{IsPhase, IsPlay, Reacts, Same, answer_text, client_of, given_for, play_client, slip_with};
+ghost use Rattle.shogi_session.specs.Row.{IsBestMove, login_line};
+ghost use Rattle.shogi_session.specs.State.{Client, client_state};
+ghost use Rattle.shogi_session.specs.declared.state.ClientState.TheVariants as clients;
+ghost use Rattle.shogi_session.specs.Texts.{ended_line};
+ghost use Rattle.usi_text.specs.declared.engine.EngineWord.TheVariants.{ReadyOk, UsiOk};
+ghost use Rattle.usi_text.specs.Engine.{LineSays};
+ghost use Rattle.usi_text.specs.Words.{words};
+
+use crate::answers::{no_lines, tell_engine, tell_server};
+use crate::config::Config;
+use crate::engine_answer::{EngineAnswer, read_answer};
+use crate::event::{Out, Status};
+use crate::lines::Lines;
+use crate::phase::{Answer, Phase, Play, Stage};
+use crate::state::EngineState;
+use csa_text::csa_move;
+use shogi_board::{Color, OutOfMemory};
+use std::alloc::Global;
+use usi_text::{EngineWord, read_engine_line};
+
+// Takes a line of the engine, less the spaces at its end.
+pub(crate) fn hear_engine(
+    alloc: Global,
+    config: &Config,
+    engine: &mut EngineState,
+    phase: &mut Phase,
+    line: &[u8],
+) -> Result<Out, OutOfMemory>
+    requires phase { IsPhase phase.old }
+    ensures keeps { IsPhase phase.new }
+    ensures answer { MatchResult result
+        (λ out. Reacts config.now engine.old (client_of phase.old) (engine_line line.now) out engine.new (client_of phase.new))
+        (λ fault. Same engine.old (client_of phase.old) engine.new (client_of phase.new)) }
+{
+    match *engine {
+        EngineState::Greeting => greet(alloc, engine, line),
+        EngineState::Readying => log_in(alloc, config, engine, phase, line),
+        EngineState::Thinking => hear_thinking(alloc, engine, phase, line),
+        EngineState::New | EngineState::Ready | EngineState::Ended => Ok(no_lines(alloc)),
+    }
+}
+
+// Waits for `usiok`, and then asks whether it is ready.
+fn greet(alloc: Global, engine: &mut EngineState, line: &[u8]) -> Result<Out, OutOfMemory>
+    requires { engine.old ≡ Greeting }
+    ensures { (c : Config) (client : Client) → MatchResult result
+        (λ out. Reacts c engine.old client (engine_line line.now) out engine.new client)
+        (λ fault. Same engine.old client engine.new client) }
+{
+    if !is_usi_ok(line) {
+        return Ok(no_lines(alloc));
+    }
+    let out = tell_engine(alloc, b"isready")?;
+    *engine = EngineState::Readying;
+    Ok(out)
+}
+
+// Whether the line is `usiok`.
+fn is_usi_ok(line: &[u8]) -> bool
+    ensures { IsTrue result ↔ LineSays (words line.now) UsiOk }
+{
+    match read_engine_line(line) {
+        EngineWord::UsiOk => true,
+        _ => false,
+    }
+}
+
+// Whether the line is `readyok`.
+fn is_ready_ok(line: &[u8]) -> bool
+    ensures { IsTrue result ↔ LineSays (words line.now) ReadyOk }
+{
+    match read_engine_line(line) {
+        EngineWord::ReadyOk => true,
+        _ => false,
+    }
+}
+
+// Waits for `readyok`, and then logs in.
+fn log_in(
+    alloc: Global,
+    config: &Config,
+    engine: &mut EngineState,
+    phase: &mut Phase,
+    line: &[u8],
+) -> Result<Out, OutOfMemory>
+    requires state { engine.old ≡ Readying }
+    requires phase { IsPhase phase.old }
+    ensures keeps { IsPhase phase.new }
+    ensures answer { MatchResult result
+        (λ out. Reacts config.now engine.old (client_of phase.old) (engine_line line.now) out engine.new (client_of phase.new))
+        (λ fault. Same engine.old (client_of phase.old) engine.new (client_of phase.new)) }
+{
+    if !is_ready_ok(line) {
+        return Ok(no_lines(alloc));
+    }
+    let out = login(alloc, config)?;
+    *engine = EngineState::Ready;
+    *phase = Phase::LoggingIn;
+    Ok(out)
+}
+
+// `LOGIN`, the name and the password.
+fn login(alloc: Global, config: &Config) -> Result<Out, OutOfMemory>
+    ensures engine { IfOk result (λ out. out.to_engine ≡ []) }
+    ensures server { IfOk result (λ out. out.to_server ≡ ended_line (login_line config.now)) }
+    ensures status { IfOk result (λ out. out.status ≡ Going) }
+{
+    let mut lines = Lines::new(alloc);
+    lines.push_part(b"LOGIN ")?;
+    lines.push_part(config.name.as_str().as_bytes())?;
+    lines.push_joined(b" ", config.password.as_str().as_bytes())?;
+    Ok(Out {
+        to_engine: Lines::new(alloc),
+        to_server: lines,
+        status: Status::Going,
+    })
+}
+
+// Takes a line of an engine that was asked for a move. Where its game is not on any more, it is ready for
+// the next.
+fn hear_thinking(
+    alloc: Global,
+    engine: &mut EngineState,
+    phase: &mut Phase,
+    line: &[u8],
+) -> Result<Out, OutOfMemory>
+    requires state { engine.old ≡ Thinking }
+    requires phase { IsPhase phase.old }
+    ensures keeps { IsPhase phase.new }
+    ensures answer { (c : Config) → MatchResult result
+        (λ out. Reacts c engine.old (client_of phase.old) (engine_line line.now) out engine.new (client_of phase.new))
+        (λ fault. Same engine.old (client_of phase.old) engine.new (client_of phase.new)) }
+{
+    match phase {
+        Phase::InGame(play) => {
+            if is_playing(play.stage) {
+                hear_answer(alloc, engine, play, line)
+            } else {
+                Ok(hear_late(alloc, engine, line))
+            }
+        }
+        Phase::Idle | Phase::LoggingIn | Phase::BeforeSummary | Phase::Summary(_) => {
+            Ok(hear_late(alloc, engine, line))
+        }
+    }
+}
+
+fn is_playing(stage: Stage) -> bool
+    ensures { IsTrue result ↔ (stage ≡ Playing) }
+{
+    match stage {
+        Stage::Playing => true,
+        _ => false,
+    }
+}
+
+// Takes a line of an engine whose game is not on any more: behind its answer it is ready for the next.
+fn hear_late(alloc: Global, engine: &mut EngineState, line: &[u8]) -> Out
+    requires { engine.old ≡ Thinking }
+    ensures { (c : Config) (client : Client) → (client_state client ≡ clients.Playing → ⊥) → Reacts c engine.old client (engine_line line.now) result engine.new client }
+{
+    if !is_best_move(line) {
+        return no_lines(alloc);
+    }
+    *engine = EngineState::Ready;
+    no_lines(alloc)
+}
+
+// Whether the line is `bestmove`, with whatever stands behind it.
+fn is_best_move(line: &[u8]) -> bool
+    ensures { IsTrue result ↔ ((word : List ℕ) × IsBestMove line.now word) }
+{
+    match read_engine_line(line) {
+        EngineWord::Best(_) | EngineWord::Resign | EngineWord::Win => true,
+        EngineWord::UsiOk | EngineWord::ReadyOk | EngineWord::Other => false,
+    }
+}
+
+// Sends the server what the engine answers.
+fn hear_answer(
+    alloc: Global,
+    engine: &mut EngineState,
+    play: &mut Play,
+    line: &[u8],
+) -> Result<Out, OutOfMemory>
+    requires state { engine.old ≡ Thinking }
+    requires stage { play.old.stage ≡ Playing }
+    requires play { IsPlay play.old }
+    ensures keeps { IsPlay play.new }
+    ensures answer { (c : Config) → MatchResult result
+        (λ out. Reacts c engine.old (play_client play.old) (engine_line line.now) out engine.new (play_client play.new))
+        (λ fault. Same engine.old (play_client play.old) engine.new (play_client play.new)) }
+{
+    let Some(answer) = read_answer(&play.game.line().now(), line) else {
+        return Ok(no_lines(alloc));
+    };
+    let out = say(alloc, play.client, answer)?;
+    play.slip = slip_with(answer, play.slip);
+    play.stage = Stage::Sent(given_for(answer));
+    *engine = EngineState::Ready;
+    Ok(out)
+}
+
+// Sends the server an answer of the engine, which plays that side.
+fn say(alloc: Global, client: Color, answer: EngineAnswer) -> Result<Out, OutOfMemory>
+    ensures engine { IfOk result (λ out. out.to_engine ≡ []) }
+    ensures server { IfOk result (λ out. out.to_server ≡ ended_line (answer_text client answer)) }
+    ensures status { IfOk result (λ out. out.status ≡ Going) }
+{
+    match answer {
+        EngineAnswer::Move(mv) => tell_server(alloc, csa_move(client, &mv).as_str().as_bytes()),
+        EngineAnswer::Resign | EngineAnswer::Slip => tell_server(alloc, b"%TORYO"),
+        EngineAnswer::Win => tell_server(alloc, b"%KACHI"),
+    }
+}
+
+// What is sent for an answer of the engine.
+fn given_for(answer: EngineAnswer) -> Answer
+    ensures { result ≡ given_for answer }
+{
+    match answer {
+        EngineAnswer::Move(mv) => Answer::Move(mv),
+        EngineAnswer::Resign | EngineAnswer::Slip => Answer::Toryo,
+        EngineAnswer::Win => Answer::Kachi,
+    }
+}
+
+// Whether the engine has slipped, with this answer.
+fn slip_with(answer: EngineAnswer, before: bool) -> bool
+    ensures { result ≡ slip_with answer before }
+{
+    match answer {
+        EngineAnswer::Slip => true,
+        EngineAnswer::Move(_) | EngineAnswer::Resign | EngineAnswer::Win => before,
+    }
+}

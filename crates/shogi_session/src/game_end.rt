@@ -1,0 +1,61 @@
+ghost use Rattle.std.specs.Prelude.{◌≡◌, None, Some};
+ghost use Rattle.shogi_session.specs.GameTold.{ending_by, ending_of, illegal_action, perpetual_ending, untimed};
+ghost use Rattle.shogi_session.specs.Phases.{reason_of};
+ghost use Rattle.shogi_session.specs.ServerWords.{outcome, reason as reason_is};
+
+use crate::server_words::{EndReason, GameResult};
+use csa_text::Ending;
+use shogi_board::Color;
+
+// The ending of a game with no ending told, for a client of that side, by the reason and the result.
+pub(crate) fn ending_by(
+    client: Color,
+    reason: Option<EndReason>,
+    game_result: GameResult,
+) -> Option<Ending>
+    ensures { untimed result ≡ ending_of client None (reason_of reason) (Some (outcome game_result)) }
+{
+    match reason {
+        Some(reason) => ending_for(client, reason, game_result),
+        None => match game_result {
+            GameResult::Chudan => Some(Ending::Chudan),
+            GameResult::Win | GameResult::Lose | GameResult::Draw | GameResult::Censored => None,
+        },
+    }
+}
+
+// By a reason that was told.
+fn ending_for(client: Color, reason: EndReason, game_result: GameResult) -> Option<Ending>
+    ensures { result ≡ ending_by client (reason_is reason) (outcome game_result) }
+{
+    match reason {
+        EndReason::Resign => Some(Ending::Toryo),
+        EndReason::TimeUp => Some(Ending::TimeUp),
+        EndReason::IllegalMove => Some(Ending::IllegalMove),
+        EndReason::Sennichite => Some(Ending::Sennichite),
+        EndReason::OuteSennichite => Some(perpetual_ending(client, game_result)),
+        EndReason::Jishogi => Some(Ending::Jishogi),
+        EndReason::MaxMoves => Some(Ending::Chudan),
+        EndReason::Other => None,
+    }
+}
+
+// At a perpetual check, by the result of a client of that side.
+fn perpetual_ending(client: Color, game_result: GameResult) -> Ending
+    ensures { result ≡ perpetual_ending client (outcome game_result) }
+{
+    match game_result {
+        GameResult::Lose => illegal_action(client),
+        GameResult::Win => illegal_action(client.opponent()),
+        GameResult::Draw | GameResult::Censored | GameResult::Chudan => Ending::Sennichite,
+    }
+}
+
+fn illegal_action(color: Color) -> Ending
+    ensures { result ≡ illegal_action color }
+{
+    match color {
+        Color::Black => Ending::BlackIllegalAction,
+        Color::White => Ending::WhiteIllegalAction,
+    }
+}

@@ -1,0 +1,202 @@
+ghost use Rattle.std.specs.Prelude.{◌≡◌, ℕ, List, false, codes, IfOk, MatchResult};
+ghost use Rattle.csa_record.specs.Limits.{IsOneLine};
+ghost use Rattle.shogi_session.specs.declared.config.Config.{Config};
+ghost use Rattle.shogi_session.specs.declared.phase.Phase.TheVariants.{BeforeSummary, LoggingIn};
+ghost use Rattle.shogi_session.specs.declared.phase.Stage.TheVariants as stages;
+ghost use Rattle.shogi_session.specs.declared.state.EngineState.{EngineState};
+ghost use Rattle.shogi_session.specs.Events.{server_line};
+ghost use Rattle.shogi_session.specs.Offers.{IsToldBy, offer_of};
+ghost use Rattle.shogi_session.specs.Phases.{IsPhase, IsPlay, Reacts, Same, Stays, client_of, play_client};
+ghost use Rattle.shogi_session.specs.State as state;
+ghost use Rattle.shogi_session.specs.Summary.{CountsAs, Heard};
+
+use crate::answers::{failed, no_lines, silent, tell_server};
+use crate::config::Config;
+use crate::event::{Out, Status};
+use crate::fault::SessionFault;
+use crate::in_play::{ask_engine, hear_end, hear_in_play};
+use crate::lines::Lines;
+use crate::offer::GameOffer;
+use crate::phase::{Phase, Play, Stage};
+use crate::server_words::{is_hash_line, is_login_ok, is_reject_line, is_start_line};
+use crate::state::EngineState;
+use crate::summary_reader::SummaryReader;
+use crate::words::is_same;
+use shogi_board::OutOfMemory;
+use std::alloc::Global;
+
+// Takes a line of the server, less the spaces at its end.
+pub(crate) fn hear_server(
+    alloc: Global,
+    config: &Config,
+    engine: &mut EngineState,
+    phase: &mut Phase,
+    line: &[u8],
+) -> Result<Out, OutOfMemory>
+    requires phase { IsPhase phase.old }
+    requires line { IsOneLine line.now }
+    ensures keeps { IsPhase phase.new }
+    ensures answer { MatchResult result
+        (λ out. Reacts config.now engine.old (client_of phase.old) (server_line line.now) out engine.new (client_of phase.new))
+        (λ fault. Stays config.now engine.old (client_of phase.old) (server_line line.now) engine.new (client_of phase.new)) }
+{
+    match phase {
+        Phase::Idle => Ok(no_lines(alloc)),
+        Phase::LoggingIn => Ok(hear_login(alloc, phase, line)),
+        Phase::BeforeSummary => Ok(hear_begin(alloc, phase, line)),
+        Phase::Summary(reader) => {
+            if is_same(line, b"END Game_Summary") {
+                let found = reader.finish()?;
+                end_summary(alloc, phase, found)
+            } else {
+                hear_summary(alloc, reader, line)
+            }
+        }
+        Phase::InGame(play) => hear_in_game(alloc, config, engine, play, line),
+    }
+}
+
+// Waits for the answer to `LOGIN`.
+fn hear_login(alloc: Global, phase: &mut Phase, line: &[u8]) -> Out
+    requires { phase.old ≡ LoggingIn }
+    ensures keeps { IsPhase phase.new }
+    ensures answer { (c : Config) (engine : EngineState) → Reacts c engine (client_of phase.old) (server_line line.now) result engine (client_of phase.new) }
+{
+    if is_login_ok(line) {
+        *phase = Phase::BeforeSummary;
+        return no_lines(alloc);
+    }
+    if is_same(line, b"LOGIN:incorrect") {
+        return failed(alloc, SessionFault::LoginRefused);
+    }
+    no_lines(alloc)
+}
+
+// Waits for a summary.
+fn hear_begin(alloc: Global, phase: &mut Phase, line: &[u8]) -> Out
+    requires { phase.old ≡ BeforeSummary }
+    ensures keeps { IsPhase phase.new }
+    ensures answer { (c : Config) (engine : EngineState) → Reacts c engine (client_of phase.old) (server_line line.now) result engine (client_of phase.new) }
+{
+    if !is_same(line, b"BEGIN Game_Summary") {
+        return no_lines(alloc);
+    }
+    *phase = Phase::Summary(SummaryReader::new(alloc));
+    no_lines(alloc)
+}
+
+// Takes a line of a summary, not its last. Where memory is refused, the lines before it are given up.
+fn hear_summary(alloc: Global, reader: &mut SummaryReader, line: &[u8]) -> Result<Out, OutOfMemory>
+    requires line { IsOneLine line.now }
+    requires not_last { line.now ≡ codes "END Game_Summary" → ⊥ }
+    requires counts { (lines : List (List ℕ)) × CountsAs lines reader.old }
+    ensures keeps { (lines : List (List ℕ)) × CountsAs lines reader.new }
+    ensures answer { IfOk result (λ out. (c : Config) (engine : EngineState) → Reacts c engine (state.summary reader.old) (server_line line.now) out engine (state.summary reader.new)) }
+{
+    match reader.hear(line) {
+        Ok(()) => Ok(no_lines(alloc)),
+        Err(fault) => {
+            *reader = SummaryReader::new(alloc);
+            Err(fault)
+        }
+    }
+}
+
+// Agrees to the game that a whole summary offers.
+fn end_summary(
+    alloc: Global,
+    phase: &mut Phase,
+    found: Option<GameOffer>,
+) -> Result<Out, OutOfMemory>
+    requires phase { IsPhase phase.old }
+    requires told { (h : Heard) × (client_of phase.old ≡ state.summary h) × IsToldBy h (offer_of found) }
+    ensures keeps { IsPhase phase.new }
+    ensures answer { (c : Config) (engine : EngineState) → MatchResult result
+        (λ out. Reacts c engine (client_of phase.old) (server_line (codes "END Game_Summary")) out engine (client_of phase.new))
+        (λ fault. client_of phase.new ≡ client_of phase.old) }
+{
+    match found {
+        Some(offer) => {
+            let out = tell_server(alloc, b"AGREE")?;
+            *phase = Phase::InGame(play_of(offer));
+            Ok(out)
+        }
+        None => Ok(failed(alloc, SessionFault::BadSummary)),
+    }
+}
+
+fn play_of(offer: GameOffer) -> Play
+    ensures client { result.client ≡ offer.client }
+    ensures game { result.game ≡ offer.game }
+    ensures slip { result.slip ≡ false }
+    ensures stage { result.stage ≡ stages.Agreeing }
+{
+    Play {
+        client: offer.client,
+        game: offer.game,
+        slip: false,
+        stage: Stage::Agreeing,
+    }
+}
+
+// Takes a line behind the summary.
+fn hear_in_game(
+    alloc: Global,
+    config: &Config,
+    engine: &mut EngineState,
+    play: &mut Play,
+    line: &[u8],
+) -> Result<Out, OutOfMemory>
+    requires { IsPlay play.old }
+    ensures keeps { IsPlay play.new }
+    ensures answer { MatchResult result
+        (λ out. Reacts config.now engine.old (play_client play.old) (server_line line.now) out engine.new (play_client play.new))
+        (λ fault. Stays config.now engine.old (play_client play.old) (server_line line.now) engine.new (play_client play.new)) }
+{
+    match play.stage {
+        Stage::Agreeing => hear_agreed(alloc, config, engine, play, line),
+        Stage::Playing => hear_in_play(alloc, config, engine, play, line),
+        Stage::Sent(_) => hear_in_play(alloc, config, engine, play, line),
+        Stage::Reason(told) => {
+            if is_hash_line(line) {
+                hear_end(alloc, engine, play, told, line)
+            } else {
+                Ok(no_lines(alloc))
+            }
+        }
+        Stage::Closing(told, game_result) => {
+            if is_same(line, b"LOGOUT:completed") {
+                play.stage = Stage::Ended(told, game_result);
+                Ok(silent(alloc, Status::Done))
+            } else {
+                Ok(no_lines(alloc))
+            }
+        }
+        Stage::Ended(_, _) => Ok(no_lines(alloc)),
+    }
+}
+
+// Waits for the game to start.
+fn hear_agreed(
+    alloc: Global,
+    config: &Config,
+    engine: &mut EngineState,
+    play: &mut Play,
+    line: &[u8],
+) -> Result<Out, OutOfMemory>
+    requires stage { play.old.stage ≡ stages.Agreeing }
+    requires play { IsPlay play.old }
+    ensures keeps { IsPlay play.new }
+    ensures answer { MatchResult result
+        (λ out. Reacts config.now engine.old (play_client play.old) (server_line line.now) out engine.new (play_client play.new))
+        (λ fault. Same engine.old (play_client play.old) engine.new (play_client play.new)) }
+{
+    if is_start_line(line) {
+        let lines = Lines::one(alloc, b"usinewgame")?;
+        return ask_engine(alloc, config, engine, play, lines);
+    }
+    if is_reject_line(line) {
+        return Ok(failed(alloc, SessionFault::Rejected));
+    }
+    Ok(no_lines(alloc))
+}
