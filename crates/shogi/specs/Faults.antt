@@ -7,9 +7,9 @@ use Rattle.csa_text.specs.declared.line.LineFault.TheVariants as lines
 use Rattle.usi_text.specs.declared.fault.UsiFault.{UsiFault}
 use Rattle.usi_text.specs.declared.fault.UsiFault.TheVariants as usi
 use Rattle.shogi.specs.declared.fault.Fault.{Fault}
-use Rattle.shogi.specs.declared.fault.Fault.TheVariants.{Refused, Usi, LongLine, WordsNotText, UnknownCommand, Read, Write, ClientGone, ClientLineTooLong, OutOfMemory}
+use Rattle.shogi.specs.declared.fault.Fault.TheVariants.{Refused, Usi, LongLine, WordsNotText, UnknownCommand, Read, Write, ClientGone, ClientLineTooLong, Session, OutOfMemory}
 
--- the line of a fault, where it has one text; that of a refusal ends in the words of the record or of the line
+-- the line of a fault, where it has one text; that of a refusal or of a session ends in the words of what it names
 abbrev pub line_of : Fault → Option (List ℕ)
 line_of (Refused refusal) = None
 line_of (Usi fault) = None
@@ -20,6 +20,7 @@ line_of Read = Some (codes "read fault")
 line_of Write = Some (codes "write fault")
 line_of ClientGone = Some (codes "fault: client gone")
 line_of ClientLineTooLong = Some (codes "fault: B7 LineTooLong")
+line_of (Session fault) = None
 line_of OutOfMemory = Some (codes "out of memory")
 
 -- a fault of a record on its way, as one of the program

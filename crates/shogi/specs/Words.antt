@@ -6,7 +6,7 @@ use Rattle.shogi_rules.specs.declared.line.Verdict.TheVariants.{Ongoing, Mate, N
 
 -- none of the commands
 abbrev pub IsNoCommand : Option (List ℕ) → Type 0
-IsNoCommand name = (name ≢ Some (codes "check")) × (name ≢ Some (codes "normal")) × (name ≢ Some (codes "usi")) × (name ≢ Some (codes "csa")) × (name ≢ Some (codes "engine")) × (name ≢ Some (codes "serve"))
+IsNoCommand name = (name ≢ Some (codes "check")) × (name ≢ Some (codes "normal")) × (name ≢ Some (codes "usi")) × (name ≢ Some (codes "csa")) × (name ≢ Some (codes "engine")) × (name ≢ Some (codes "serve")) × (name ≢ Some (codes "play"))
 
 -- how a line stands; of a perpetual check with the sign of the side that lost
 abbrev pub word_of : Verdict → List ℕ

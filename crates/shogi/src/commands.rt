@@ -4,6 +4,7 @@ mod check;
 mod csa;
 mod engine;
 mod normal;
+mod play;
 mod serve;
 mod usi;
 
@@ -15,7 +16,9 @@ use crate::fault::Fault;
 use clap::{ArgMatches, Command};
 use std::alloc::{AllocError, Global};
 use std::net::{Net, TcpListener, TcpStream};
+use std::process::Processes;
 use std::rt::Files;
+use std::time::Clock;
 
 /// The program's whole command line.
 pub fn all<'a>(alloc: Global) -> Result<Command<'a>, AllocError> {
@@ -29,15 +32,23 @@ pub fn all<'a>(alloc: Global) -> Result<Command<'a>, AllocError> {
         .subcommand(usi::command(alloc)?)?
         .subcommand(csa::command(alloc)?)?
         .subcommand(engine::command(alloc))?
-        .subcommand(serve::command(alloc)?)
+        .subcommand(serve::command(alloc)?)?
+        .subcommand(play::command(alloc)?)
 }
 
-/// Runs the command that the words named.
+/// Runs the command that the words named; `is_terminal` says whether standard error is one.
 ///
 /// `Fault::UnknownCommand` where they name none of these.
 pub fn run<
-    R: Files + Input + Net<Listener = TcpListener, Stream = TcpStream> + Print + AllocGlobal,
->(rt: &R, matches: &ArgMatches<'_>) -> Result<(), Fault>
+    R: Files
+        + Input
+        + Net<Listener = TcpListener, Stream = TcpStream>
+        + Processes
+        + Clock
+        + Print
+        + Eprint
+        + AllocGlobal,
+>(rt: &R, matches: &ArgMatches<'_>, is_terminal: bool) -> Result<(), Fault>
     ensures unknown { IsNoCommand (subcommand_name_of matches.now) → IsErrOf result Fault.UnknownCommand }
     ensures known { (IsNoCommand (subcommand_name_of matches.now) → ⊥) → IfErr result (λ fault. fault ≢ Fault.UnknownCommand) }
 {
@@ -48,6 +59,7 @@ pub fn run<
         Some((csa::NAME, words)) => csa::run(rt, words),
         Some((engine::NAME, _)) => engine::run(rt),
         Some((serve::NAME, words)) => serve::run(rt, words),
+        Some((play::NAME, words)) => play::run(rt, words, is_terminal),
         _ => Err(Fault::UnknownCommand),
     }
 }

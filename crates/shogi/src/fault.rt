@@ -7,6 +7,7 @@ ghost use Rattle.shogi.specs.declared.fault.Fault.TheVariants.{OutOfMemory};
 
 use csa_record::{FlowFault, Refusal};
 use csa_text::LineFault;
+use shogi_session::SessionFault;
 use std::alloc::{AllocError, AllocFailed};
 use std::io::ErrorKind;
 use std::{fmt, io};
@@ -33,6 +34,8 @@ pub enum Fault {
     ClientGone,
     /// A line of the client has more than 65,536 bytes.
     ClientLineTooLong,
+    /// The session of `play` failed.
+    Session(SessionFault),
     /// A growth of memory was refused.
     OutOfMemory,
 }
@@ -52,13 +55,14 @@ impl Fault {
         ensures write { self.now ≡ Fault.Write → result ≡ 3 }
         ensures gone { self.now ≡ Fault.ClientGone → result ≡ 4 }
         ensures client_long { self.now ≡ Fault.ClientLineTooLong → result ≡ 4 }
+        ensures session { (f : SessionFault) → self.now ≡ Fault.Session f → result ≡ 4 }
         ensures memory { self.now ≡ Fault.OutOfMemory → result ≡ 5 }
     {
         match self {
             Fault::Refused(_) | Fault::Usi(_) | Fault::LongLine => 1,
             Fault::WordsNotText | Fault::UnknownCommand => USAGE,
             Fault::Read | Fault::Write => 3,
-            Fault::ClientGone | Fault::ClientLineTooLong => 4,
+            Fault::ClientGone | Fault::ClientLineTooLong | Fault::Session(_) => 4,
             Fault::OutOfMemory => 5,
         }
     }
@@ -114,6 +118,7 @@ impl fmt::Display for Fault {
             Fault::Write => f.write_str("write fault"),
             Fault::ClientGone => f.write_str("fault: client gone"),
             Fault::ClientLineTooLong => f.write_str("fault: B7 LineTooLong"),
+            Fault::Session(fault) => write!(f, "fault: {fault}"),
             Fault::OutOfMemory => f.write_str("out of memory"),
         }
     }

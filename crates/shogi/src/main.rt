@@ -1,19 +1,27 @@
 //! The program `shogi`: one command for each of its uses, each in a file of `commands`.
 #![tactic(auto)]
 
+mod bridging;
+mod children;
 mod commands;
 mod fault;
+mod incoming;
+mod out_file;
+mod progress;
 mod streams;
 mod talk;
 mod usage;
 
 use fault::Fault;
+use std::io::IsTerminal;
 use std::net::{Net, TcpListener, TcpStream};
-use std::process::ExitCode;
+use std::process::{ExitCode, Processes};
 use std::rt::{Env, Files};
+use std::time::Clock;
 
 fn main(rt: HostRuntime) -> ExitCode {
-    match run(&rt) {
+    let is_terminal = rt.stderr().is_terminal();
+    match run(&rt, is_terminal) {
         Ok(status) => status,
         Err(fault) => {
             // The status says what happened, also where nobody can be told.
@@ -29,14 +37,16 @@ fn run<
         + Files
         + Input
         + Net<Listener = TcpListener, Stream = TcpStream>
+        + Processes
+        + Clock
         + Print
         + Eprint
         + AllocGlobal,
->(rt: &R) -> Result<ExitCode, Fault> {
+>(rt: &R, is_terminal: bool) -> Result<ExitCode, Fault> {
     let words = usage::words(rt)?;
     match commands::all(rt.alloc())?.try_get_matches_from(words.as_slice()) {
         Ok(matches) => {
-            commands::run(rt, &matches)?;
+            commands::run(rt, &matches, is_terminal)?;
             Ok(ExitCode::SUCCESS)
         }
         Err(error) => usage::answer(rt, &error),

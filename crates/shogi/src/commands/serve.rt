@@ -104,8 +104,8 @@ fn host_of(alloc: Global, words: &ArgMatches<'_>) -> Result<Host, Fault>
     Ok(Host::new(alloc, &config)?)
 }
 
-// How many moves the game may have; the command takes no other numbers.
-fn max_moves(words: &ArgMatches<'_>) -> u32
+/// How many moves the game may have; the command takes no other numbers.
+pub fn max_moves(words: &ArgMatches<'_>) -> u32
     ensures { (1 ≤ result) × (result ≤ 10000) }
 {
     match words.get_one::<u32>("max") {

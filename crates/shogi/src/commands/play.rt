@@ -1,0 +1,221 @@
+//! `shogi play`: an engine plays one game on a server, and the game's record is kept.
+
+ghost use Rattle.std.specs.Prelude.{◌≡◌, ◌≢◌, IfErr};
+
+use crate::bridging::{Side, play};
+use crate::commands::serve;
+use crate::fault::Fault;
+use crate::incoming::{Heard, Incoming};
+use crate::progress::Progress;
+use crate::{children, out_file, streams};
+use arrayvec::ArrayString;
+use clap::{Arg, ArgAction, ArgMatches, Command, value_parser};
+use csa_record::{Why, read};
+use shogi_session::{Bridge, Config, SessionFault};
+use std::alloc::{AllocError, Global};
+use std::io::{Eprint, Read, Write};
+use std::net::{Net, TcpListener, TcpStream};
+use std::process::Processes;
+use std::rt::Files;
+use std::time::Clock;
+use std::{io, str};
+
+/// The command's word.
+pub const NAME: &str = "play";
+
+const TOTAL_MS: u32 = 600_000;
+
+const BYOYOMI_MS: u32 = 10_000;
+
+const SERVER_GONE: Fault = Fault::Session(SessionFault::ServerGone);
+
+const ENGINE_GONE: Fault = Fault::Session(SessionFault::EngineGone);
+
+/// The command, with the programs to start and the file to write.
+pub fn command<'a>(alloc: Global) -> Result<Command<'a>, AllocError> {
+    Command::new(alloc, NAME)
+        .about("Plays one game, an engine against a server, and writes its record")
+        .after_help("Example: shogi play --engine my_engine --server shogi --out game.csa")
+        .arg(program(alloc, "engine", "The USI engine to start"))?
+        .arg(
+            Arg::new(alloc, "engine-arg")
+                .long("engine-arg")
+                .value_name("WORD")
+                .help("The one word that the engine is started with")
+                .allow_hyphen_values(true),
+        )?
+        .arg(program(
+            alloc,
+            "server",
+            "The CSA server to start, with the words: serve --port 0 --max N",
+        ))?
+        .arg(
+            Arg::new(alloc, "max")
+                .long("max")
+                .value_name("N")
+                .help("The server's game ends after so many moves, 1 to 10000 [default: 256]")
+                .value_parser(value_parser!(u32).range(1..=10_000)),
+        )?
+        .arg(
+            Arg::new(alloc, "quiet")
+                .long("quiet")
+                .help("Shows no moves; they are shown only where standard error is a terminal")
+                .action(ArgAction::SetTrue),
+        )?
+        .arg(
+            Arg::new(alloc, "out")
+                .long("out")
+                .value_name("FILE")
+                .help("The file that the record is written to")
+                .required(true),
+        )
+}
+
+fn program<'a>(alloc: Global, name: &'a str, help: &'a str) -> Arg<'a> {
+    Arg::new(alloc, name)
+        .long(name)
+        .value_name("PROGRAM")
+        .help(help)
+        .required(true)
+}
+
+/// Starts the server and then the engine, plays their game, writes its record, and prints `played` and the number of its
+/// moves. The record is written also where the session failed, if a game was offered.
+///
+/// `Fault::Session` where the session failed, and `Fault::Write` where the record could not be written.
+pub fn run<
+    R: Files
+        + Net<Listener = TcpListener, Stream = TcpStream>
+        + Processes
+        + Clock
+        + Print
+        + Eprint
+        + AllocGlobal,
+>(rt: &R, words: &ArgMatches<'_>, is_terminal: bool) -> Result<(), Fault>
+    ensures faults { IfErr result (λ fault. (fault ≢ Fault.WordsNotText) × (fault ≢ Fault.UnknownCommand)) }
+{
+    let program = words.get_str("server").unwrap_or_default();
+    let mut server = children::start_server(rt, program, serve::max_moves(words))?;
+    let mut told = children::lines_of(rt.alloc(), &mut server, SERVER_GONE);
+    let moves = match &mut told {
+        Ok(told) => play_on(rt, words, is_terminal, told),
+        Err(fault) => Err(*fault),
+    };
+    children::end(rt, &mut server, moves.is_ok());
+    let line = format!(in rt.alloc(); "played {}\n", moves?)?;
+    streams::write_all(&mut io::writer(rt), line.as_bytes())
+}
+
+// Plays on the server that tells its port: how many moves the game has.
+fn play_on<
+    R: Files
+        + Net<Listener = TcpListener, Stream = TcpStream>
+        + Processes
+        + Clock
+        + Eprint
+        + AllocGlobal,
+    T: Read + Drop,
+>(rt: &R, words: &ArgMatches<'_>, is_terminal: bool, told: &mut Incoming<T>) -> Result<usize, Fault>
+    ensures faults { IfErr result (λ fault. (fault ≢ Fault.WordsNotText) × (fault ≢ Fault.UnknownCommand)) }
+{
+    let Some(port) = listening_port(told)? else {
+        return Err(SERVER_GONE);
+    };
+    let Ok(stream) = TcpStream::connect(rt, ("127.0.0.1", port)) else {
+        return Err(SERVER_GONE);
+    };
+    let program = words.get_str("engine").unwrap_or_default();
+    let mut engine = children::start_engine(rt, program, words.get_str("engine-arg"))?;
+    let mut lines = children::lines_of(rt.alloc(), &mut engine, ENGINE_GONE);
+    let moves = match (&mut lines, engine.stdin.take()) {
+        (Ok(lines), Some(input)) => play_with(rt, words, is_terminal, &stream, lines, input),
+        (Err(fault), _) => Err(*fault),
+        (_, None) => Err(ENGINE_GONE),
+    };
+    children::end(rt, &mut engine, moves.is_ok());
+    moves
+}
+
+// The port that the server's first line names, or none where that is another line.
+fn listening_port<T: Read + Drop>(told: &mut Incoming<T>) -> Result<Option<u16>, Fault>
+    ensures faults { IfErr result (λ fault. fault ≡ Fault.OutOfMemory) }
+{
+    if told.hear()? != Heard::Line {
+        return Ok(None);
+    }
+    Ok(port_of(told.line()))
+}
+
+// The port of `listening` and a port, which is not 0.
+fn port_of(line: &[u8]) -> Option<u16> {
+    let digits = line.strip_prefix(b"listening ".as_slice())?;
+    if !digits.iter().all(|b| b.is_ascii_digit()) {
+        return None;
+    }
+    match str::from_utf8(digits) {
+        Ok(digits) => digits.parse().ok(),
+        Err(_) => None,
+    }
+}
+
+// Plays between the engine and the server, and writes the record: how many moves the game has.
+fn play_with<R: Files + Eprint + AllocGlobal, T: Read + Drop, W: Write + Drop>(
+    rt: &R,
+    words: &ArgMatches<'_>,
+    is_terminal: bool,
+    stream: &TcpStream,
+    lines: &mut Incoming<T>,
+    input: W,
+) -> Result<usize, Fault>
+    ensures faults { IfErr result (λ fault. (fault ≢ Fault.WordsNotText) × (fault ≢ Fault.UnknownCommand)) }
+{
+    let mut engine = Side {
+        lines,
+        writer: input,
+    };
+    let mut told = Incoming::new(rt.alloc(), stream)?;
+    let mut server = Side {
+        lines: &mut told,
+        writer: stream,
+    };
+    let mut bridge = bridge_of(rt.alloc())?;
+    let mut progress = Progress::new(is_terminal && !words.get_flag("quiet"));
+    let played = play(rt, &mut bridge, &mut engine, &mut server, &mut progress);
+    let text = bridge.game_text()?;
+    let Some(text) = text else {
+        return match played {
+            Ok(()) => Ok(0),
+            Err(fault) => Err(fault),
+        };
+    };
+    out_file::replace(
+        rt,
+        words.get_str("out").unwrap_or_default(),
+        text.as_slice(),
+    )?;
+    played?;
+    moves_in(rt.alloc(), text.as_slice())
+}
+
+fn bridge_of(alloc: Global) -> Result<Bridge, Fault>
+    ensures faults { IfErr result (λ fault. fault ≡ Fault.OutOfMemory) }
+{
+    let config = Config {
+        name: ArrayString::from("bridge").unwrap(),
+        password: ArrayString::from("pw").unwrap(),
+        total_ms: TOTAL_MS,
+        byoyomi_ms: BYOYOMI_MS,
+    };
+    Ok(Bridge::new(alloc, &config)?)
+}
+
+// How many moves a game text has.
+fn moves_in(alloc: Global, text: &[u8]) -> Result<usize, Fault>
+    ensures faults { IfErr result (λ fault. (fault ≢ Fault.WordsNotText) × (fault ≢ Fault.UnknownCommand)) }
+{
+    match read(alloc, text) {
+        Ok(record) => Ok(record.line().moves().len()),
+        Err(refusal) if refusal.why == Why::OutOfMemory => Err(Fault::OutOfMemory),
+        Err(refusal) => Err(Fault::Refused(refusal)),
+    }
+}
