@@ -1,5 +1,5 @@
 -- One move more.
-use Rattle.std.proofs.Common.{◌≡◌, ◌↔◌, inl, inr, ◌<◌, ◌++◌, List, [], ◌∷◌, Option, None, length, length-append, arith, refl, ap, sym}
+use Rattle.std.proofs.Common.{◌≡◌, ◌↔◌, inl, inr, ◌<◌, ◌+◌, ◌++◌, List, [], ◌∷◌, Option, None, length, length-append, arith, refl, ap, sym}
 use Rattle.shogi_board.specs.Placed.{Placed}
 use Rattle.shogi_board.specs.declared.color.Color.{Color}
 use Rattle.shogi_rules.specs.After.{after}
@@ -69,6 +69,14 @@ position-more s (x ∷ xs) m = position-more (after s x) xs m
 positions-more : (s : Placed) (ms : List Move) (m : Move) → positions_of s (ms ++ m ∷ []) ≡ positions_of s ms ++ after (position_after s ms) m ∷ []
 positions-more s [] m = refl
 positions-more s (x ∷ xs) m = ap (λ ps. s ∷ ps) (positions-more (after s x) xs m)
+
+pub positions-long : (s : Placed) (ms : List Move) → length (positions_of s ms) ≡ length ms + 1
+positions-long s [] = refl
+positions-long s (m ∷ ms) = let h = positions-long (after s m) ms in omega (arith, h)
+
+-- there is room for one position more
+pub line-room : (start last : Placed) (moves : List Move) (positions : List Placed) → IsLine start last moves positions → length moves < 10000 → length positions < 10001
+line-room start last moves positions line few = rw line.all (let h = positions-long start moves in omega (arith, h, few))
 
 pub line-more : (start last : Placed) (moves : List Move) (positions : List Placed) (c : Color) (m : Move) → IsLine start last moves positions → length moves < 10000 → IsFirstBroken (Kept (positions_of start moves) (position_after start moves) c m) all_rules None → IsLine start (after (position_after start moves) m) (moves ++ m ∷ []) (positions ++ after (position_after start moves) m ∷ [])
 line-more start last moves positions c m line few none = record {

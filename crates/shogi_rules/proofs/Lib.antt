@@ -11,6 +11,7 @@ pub mod Kept
 pub mod Stretches
 pub mod Once
 pub mod Counts
+pub mod Counted
 pub mod LastRanks
 pub mod Decided
 pub mod Standing

@@ -6,4 +6,5 @@ pub mod Play
 pub mod Positions
 pub mod Repetition
 pub mod Rules
+pub mod Stamps
 pub mod Verdicts

@@ -11,6 +11,7 @@ mod playing;
 mod repetition;
 mod rule;
 mod search;
+mod seen;
 mod setups;
 
 pub use judging::judge;

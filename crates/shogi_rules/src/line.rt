@@ -9,8 +9,9 @@ ghost use Rattle.shogi_rules.specs.declared.line.PlayFault.TheVariants.{OutOfMem
 use crate::judging::broken_by_side;
 use crate::moves::Move;
 use crate::playing::after;
-use crate::repetition::{times, verdict_by_moves, verdict_of_stretch};
+use crate::repetition::{verdict_by_moves, verdict_of_stretch};
 use crate::rule::Rule;
+use crate::seen::Seen;
 use shogi_board::{Color, Position};
 use std::alloc::{AllocFailed, Global};
 use std::marker::Model;
@@ -62,19 +63,23 @@ pub const MAX_MOVES: usize = 10_000;
 pub struct Line {
     start: Position,
     last: Position,
+    // how often the last position stands
+    repeats: u32,
     moves: Vec<Move>,
     // all positions, the start and the last too
-    positions: Vec<Position>,
+    seen: Seen,
 }
 
 impl Model for Line {
+    ghost use Rattle.std.specs.Prelude.{◌≡◌};
     ghost use Rattle.shogi_rules.specs.Positions.{Played, IsLine};
+    ghost use Rattle.shogi_rules.specs.Repetition.{times};
 
     ghost Value = { Played };
 
     ghost view = { λ l. record { start = l.start; moves = l.moves.items } };
 
-    ghost invariant = { λ l. IsLine l.start l.last l.moves.items l.positions.items };
+    ghost invariant = { (λ l. IsLine l.start l.last l.moves.items l.seen × (l.repeats ≡ times l.seen l.last)) };
 }
 
 impl Line {
@@ -84,13 +89,14 @@ impl Line {
     pub fn new(alloc: Global, start: Position) -> Result<Line, shogi_board::OutOfMemory>
         ensures { IfOk result (λ l. l ≡ record { start = start; moves = [] }) }
     {
-        let mut positions = Vec::new(alloc);
-        positions.push(start)?;
+        let mut seen = Seen::new(alloc);
+        let repeats = seen.push(start)?;
         Ok(Line {
             start,
             last: start,
+            repeats,
             moves: Vec::new(alloc),
-            positions,
+            seen,
         })
     }
 
@@ -128,7 +134,7 @@ impl Line {
     fn is_over(&self) -> bool
         ensures { IsTrue result ↔ Over (all_of self.now) (now_of self.now) }
     {
-        times(&self.positions, &self.last) >= 4
+        self.repeats >= 4
     }
 
     // The first of the rules 3 to 11 that the side to move breaks by the move.
@@ -173,9 +179,10 @@ impl Line {
         }
         let next = after(&self.now(), &mv);
         self.moves.push(mv)?;
-        match self.positions.push(next) {
-            Ok(()) => {
+        match self.seen.push(next) {
+            Ok(repeats) => {
                 self.last = next;
+                self.repeats = repeats;
                 Ok(())
             }
             Err(_) => {
@@ -190,7 +197,7 @@ impl Line {
         ensures { Stands (all_of self.now) (now_of self.now) result }
     {
         if self.is_over() {
-            verdict_of_stretch(&self.positions, &self.last)
+            verdict_of_stretch(self.seen.positions(), &self.last)
         } else {
             verdict_by_moves(&self.last)
         }

@@ -16,13 +16,6 @@ fn is_same(a: &Position, b: &Position) -> bool
     *a == *b
 }
 
-// How often the position stands in the list.
-pub(crate) fn times(positions: &[Position], p: &Position) -> usize
-    ensures { result ≡ times positions.now p.now }
-{
-    positions.iter().filter(|q| is_same(q, p)).count()
-}
-
 // The place where the position stands with that many places before.
 fn nth_place(positions: &[Position], p: &Position, before: usize) -> Option<usize>
     ensures { MatchOption result (times positions.now p.now ≤ before) (λ i. (i < length positions.now) × IsNth positions.now p.now (before + 1) i) }

@@ -2,7 +2,7 @@ use Rattle.std.proofs.Common.{◌≡◌, ◌<◌, None, length, ap, ◌∙◌, s
 use Rattle.shogi_rules.specs.After.{after}
 use Rattle.shogi_rules.specs.Positions.{now_of, all_of, position_after, Played}
 use Rattle.shogi_rules.specs.Rules.{Kept, all_rules, IsFirstBroken}
-use Rattle.shogi_rules.proofs.Games.{legal-of-none, line-more}
+use Rattle.shogi_rules.proofs.Games.{legal-of-none, line-more, line-room}
 use Rattle.shogi_rules.proofs.line.Line.play.Goals as goal
 
 pub after-next-requires : goal.after-next-requires
@@ -19,9 +19,16 @@ invariant_of-self-in-Ok c =
     let P : Played → Type 0 = λ s. IsFirstBroken (Kept (all_of s) (now_of s) c.args.mover c.args.mv) all_rules None in
     let none : IsFirstBroken (Kept (all_of v) (now_of v) c.args.mover c.args.mv) all_rules None = subst P (sym c.self.view_is) c.in_default.ensures.1 in
     let next : c.after-next.result ≡ after (position_after i.start i.moves.items) c.args.mv =
-    c.after-next.ensures ∙ ap (λ p. after p c.args.mv) (c.now.ensures ∙ sym (ap now_of c.self.view_is)) in
-    rw (c.in-Ok.ensures.items, c.in_ok-push.ensures.items, next)
-    (line-more i.start i.last i.moves.items i.positions.items c.args.mover c.args.mv c.self.invariant few none)
+    c.after-next.ensures ∙ ap (λ p. after p c.args.mv) (c.now.ensures ∙ sym (ap now_of c.self.view_is)) in (
+      rw (c.in-Ok.ensures.ok, c.in_ok-push.ensures.items, next) (line-more i.start i.last i.moves.items i.seen c.args.mover c.args.mv c.self.invariant.0 few none),
+      c.in-Ok.ensures.value,
+    )
+
+pub push-requires-2 : goal.push-requires-2
+push-requires-2 c =
+    let i = c.self.inside in
+    let few : length i.moves.items < 10000 = rw (← c.self.view_is) at c.in_default.ensures.0 in
+    line-room i.start i.last i.moves.items i.seen c.self.invariant.0 few
 
 pub returns-in-Err-clause-answer : goal.returns-in-Err-clause-answer
 returns-in-Err-clause-answer c = inl (refl, c.in_default.ensures)

@@ -1,0 +1,10 @@
+use Rattle.shogi_rules.proofs.Counted.{stamp-none, stamp-more}
+use Rattle.shogi_rules.proofs.seen.stamp.Goals as goal
+
+pub loop-n-init : goal.loop-n-init
+loop-n-init c = stamp-none c.args.position.now.board
+
+pub loop-n-preserved : goal.loop-n-preserved
+loop-n-preserved c =
+    stamp-more c.args.position.now.board c.square_at.result c.loop-n.n c.loop-n.stamp c.mark.result c.loop-n.invariant c.square_at.ensures
+    (rw c.piece_at-cell.ensures at c.mark.ensures)
