@@ -1,4 +1,5 @@
 ghost use Rattle.std.specs.Prelude.{◌≡◌, ◌≤◌, ◌++◌, [], ◌∷◌, IfOk, OnOk, OnErr, MatchResult, length, ◌⊎◌, ◌↔◌, IsTrue, None, Some};
+ghost use Rattle.shogi_rules.specs.After.{after};
 ghost use Rattle.shogi_rules.specs.Positions.{max_moves, now_of, all_of, IsGame};
 ghost use Rattle.shogi_rules.specs.Play.{Answers};
 ghost use Rattle.shogi_rules.specs.Repetition.{Over};
@@ -6,9 +7,8 @@ ghost use Rattle.shogi_rules.specs.Rules.{Kept, move_rules, IsFirstBroken};
 ghost use Rattle.shogi_rules.specs.Verdicts.{Stands};
 ghost use Rattle.shogi_rules.specs.declared.line.PlayFault.TheVariants.{OutOfMemory};
 
-use crate::judging::broken_by_side;
+use crate::judging::after_by_side;
 use crate::moves::Move;
-use crate::playing::after;
 use crate::repetition::{verdict_by_moves, verdict_of_stretch};
 use crate::rule::Rule;
 use crate::seen::Seen;
@@ -137,30 +137,41 @@ impl Line {
         self.repeats >= 4
     }
 
-    // The first of the rules 3 to 11 that the side to move breaks by the move.
-    fn broken_next(&self, mv: &Move) -> Option<Rule>
-        ensures { IsFirstBroken (Kept (all_of self.now) (now_of self.now) (now_of self.now).side mv.now) move_rules result }
+    // The position after the move, or the first of the rules 3 to 11 that the side to move breaks by it.
+    fn after_next(&self, mv: &Move) -> Result<Position, Rule>
+        ensures { MatchResult result
+            (λ next. IsFirstBroken (Kept (all_of self.now) (now_of self.now) (now_of self.now).side mv.now) move_rules None × (next ≡ after (now_of self.now) mv.now))
+            (λ rule. IsFirstBroken (Kept (all_of self.now) (now_of self.now) (now_of self.now).side mv.now) move_rules (Some rule)) }
     {
-        broken_by_side(&self.last, mv)
+        after_by_side(&self.last, mv)
+    }
+
+    // The position after the move, or what `play` refuses, memory aside.
+    fn next(&self, mover: Color, mv: &Move) -> Result<Position, PlayFault>
+        ensures { MatchResult result
+            (λ next. Answers self.now mover mv.now None × (next ≡ after (now_of self.now) mv.now))
+            (λ fault. Answers self.now mover mv.now (Some fault)) }
+    {
+        if self.is_full() {
+            return Err(PlayFault::TooManyMoves);
+        }
+        if mover != self.now().side() {
+            return Err(PlayFault::Broken(Rule::WrongSide));
+        }
+        if self.is_over() {
+            return Err(PlayFault::Broken(Rule::RepetitionOver));
+        }
+        match self.after_next(mv) {
+            Ok(next) => Ok(next),
+            Err(rule) => Err(PlayFault::Broken(rule)),
+        }
     }
 
     /// What `play` would refuse, memory aside, or None.
     pub fn fault(&self, mover: Color, mv: &Move) -> Option<PlayFault>
         ensures { Answers self.now mover mv.now result }
     {
-        if self.is_full() {
-            return Some(PlayFault::TooManyMoves);
-        }
-        if mover != self.now().side() {
-            return Some(PlayFault::Broken(Rule::WrongSide));
-        }
-        if self.is_over() {
-            return Some(PlayFault::Broken(Rule::RepetitionOver));
-        }
-        match self.broken_next(mv) {
-            Some(rule) => Some(PlayFault::Broken(rule)),
-            None => None,
-        }
+        self.next(mover, mv).err()
     }
 
     /// Plays the move of that side.
@@ -174,10 +185,7 @@ impl Line {
         ensures played { OnOk result (self.new ≡ record self.old { moves = self.old.moves ++ mv ∷ [] }) }
         ensures unchanged { OnErr result (self.new ≡ self.old) }
     {
-        if let Some(fault) = self.fault(mover, &mv) {
-            return Err(fault);
-        }
-        let next = after(&self.now(), &mv);
+        let next = self.next(mover, &mv)?;
         self.moves.push(mv)?;
         match self.seen.push(next) {
             Ok(repeats) => {
