@@ -25,16 +25,3 @@ pub use sink::{Sink, Writing};
 pub use source::{Failure, Reading, Source};
 pub use titles::{HeaderValue, MAX_HEADERS};
 pub use writer::write;
-
-#[cfg(test)]
-mod cut_tests;
-#[cfg(test)]
-mod flow_tests;
-#[cfg(test)]
-mod growth_tests;
-#[cfg(test)]
-mod long_tests;
-#[cfg(test)]
-mod reading_tests;
-#[cfg(test)]
-mod tests;

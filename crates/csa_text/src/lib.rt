@@ -32,10 +32,3 @@ pub use moved::csa_move;
 pub use pair::Pair;
 pub use pairs::Pairs;
 pub use piece::{Cut, PieceCutter};
-
-#[cfg(test)]
-mod item_tests;
-#[cfg(test)]
-mod piece_tests;
-#[cfg(test)]
-mod tests;

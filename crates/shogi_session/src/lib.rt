@@ -44,18 +44,3 @@ pub use host::{Host, HostOut};
 pub use lines::Lines;
 pub use sample::{Sample, SampleOut};
 pub use state::{ClientState, EngineState, Waits};
-
-#[cfg(test)]
-mod bridge_game_tests;
-#[cfg(test)]
-mod bridge_host_tests;
-#[cfg(test)]
-mod bridge_tests;
-#[cfg(test)]
-mod growth_tests;
-#[cfg(test)]
-mod host_tests;
-#[cfg(test)]
-mod reader_tests;
-#[cfg(test)]
-mod tests;

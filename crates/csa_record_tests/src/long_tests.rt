@@ -1,4 +1,4 @@
-use crate::{OrderFault, Refusal, Why, read};
+use csa_record::{OrderFault, Refusal, Why, read};
 use std::alloc::Global;
 use std::test::Fail;
 

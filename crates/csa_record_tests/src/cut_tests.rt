@@ -1,4 +1,4 @@
-use crate::{Record, RecordReader, Refusal, read, write};
+use csa_record::{Record, RecordReader, Refusal, read, write};
 use std::alloc::Global;
 use std::test::Fail;
 

@@ -1,7 +1,7 @@
 use crate::bridge_tests::{bridge, hand, text_of};
 use crate::tests::host;
-use crate::{Bridge, ClientState, EngineState, Host, Waits};
 use shogi_board::Color;
+use shogi_session::{Bridge, ClientState, EngineState, Host, Waits};
 use std::alloc::Global;
 use std::process::Abort;
 use std::test::Fail;

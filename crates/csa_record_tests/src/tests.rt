@@ -1,4 +1,4 @@
-use crate::{HeaderValue, OrderFault, Record, Refusal, Why, write};
+use csa_record::{HeaderValue, OrderFault, Record, Refusal, Why, write};
 use csa_text::{Ending, TextFault, read_moment};
 use shogi_board::{Color, Kind, OutOfMemory, Position, Square};
 use shogi_rules::{Line, Move, Rule};

@@ -1,6 +1,6 @@
 ghost use Rattle.std.specs.Prelude.{◌≡◌, None};
 
-use crate::{
+use csa_record::{
     Failure, FlowFault, Reading, Refusal, Sink, Source, Why, Writing, normalise, read_from,
 };
 use shogi_rules::Rule;

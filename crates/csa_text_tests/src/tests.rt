@@ -1,4 +1,4 @@
-use crate::{CutFault, Cutter, Statement, TextFault};
+use csa_text::{CutFault, Cutter, Statement, TextFault};
 use std::test::Fail;
 
 // What a source is cut into: numbers, offsets and bytes.

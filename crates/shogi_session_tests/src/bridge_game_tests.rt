@@ -1,8 +1,8 @@
 use crate::bridge_tests::{behind, hand, in_script, text_of};
-use crate::{ClientState, EngineState, MoveCause, SessionFault, Status};
 use csa_record::Why;
 use csa_text::TextFault;
 use shogi_rules::Rule;
+use shogi_session::{ClientState, EngineState, MoveCause, SessionFault, Status};
 use std::alloc::Global;
 use std::process::Abort;
 use std::test::Fail;
@@ -75,6 +75,8 @@ fn ending_that_was_told_stands(rt: HostRuntime) -> Result<(), Fail> {
         ("S%x|S#CHUDAN", "%CHUDAN\n"),
         ("S%TORYO,Tx|S#CHUDAN", "%CHUDAN\n"),
         ("S%TORYO,+7776FU|S#CHUDAN", "%CHUDAN\n"),
+        ("S%TORYO,%TORYO|S#CHUDAN", "%CHUDAN\n"),
+        ("S%TORYO,T3,T3|S#CHUDAN", "%CHUDAN\n"),
         ("S#RESIGN|S%CHUDAN|S#LOSE", "%TORYO\n"),
     ];
     for (rows, ending) in table {
@@ -181,6 +183,8 @@ fn moves_of_the_server_are_refused(rt: HostRuntime) -> Result<(), Fail> {
         (SENT, "S+7776FU,-3334FU", Why::Text(TextFault::Unknown)),
         (SENT, "S+7776FU,%TORYO", Why::Text(TextFault::Unknown)),
         (SENT, "S+7776FU,T1,T2", Why::Text(TextFault::Unknown)),
+        (SENT, "S+7776FU,T1,T", Why::Text(TextFault::Unknown)),
+        (SENT, "S+,Tx", Why::Text(TextFault::Unknown)),
         (SENT, "S+7776FU,Tx", Why::Text(TextFault::BadTime)),
         (SENT, "S+7775FU,Tx", Why::Text(TextFault::BadTime)),
         (SENT, "S+7775FU", Why::Rule(Rule::CannotReach)),
@@ -327,6 +331,10 @@ fn summaries_offer_games(rt: HostRuntime) -> Result<(), Fail> {
         (
             "SName+:bridge|SName-:host|SYour_Turn:-|SBEGIN Position|SPI82HI22KA|S-|SEND Position",
             "V2.2\nN+bridge\nN-host\nPI22KA82HI\n-\n",
+        ),
+        (
+            "SName+:a|SName-:b|SName+:c|SYour_Turn:-|SBEGIN Time|SName-:x|SEND Time|SBEGIN Position|SPI|S+|S+7776FU,T5|SEND Position",
+            "V2.2\nN+c\nN-b\nPI\n+\n+7776FU\nT5\n",
         ),
         (
             "SYour_Turn:+|SBEGIN Time|SEND Position|SBEGIN Position|SName+:b|SEND Time|SBEGIN Position|S+|SEND Position",

@@ -1,6 +1,6 @@
 ghost use Rattle.std.specs.Prelude.{◌≤◌};
 
-use crate::{Cut, CutFault, Cutter, PieceCutter, Statement};
+use csa_text::{Cut, CutFault, Cutter, PieceCutter, Statement};
 
 // Whether pieces that end at this place, and behind it after each `size` bytes, give what
 // `Cutter` gives of the whole.

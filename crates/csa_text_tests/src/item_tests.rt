@@ -1,4 +1,4 @@
-use crate::{Cutter, Ending, Item, Pair, Pairs, TextFault, csa_move, laws, read_item};
+use csa_text::{Cutter, Ending, Item, Pair, Pairs, TextFault, csa_move, laws, read_item};
 use shogi_board::{Color, Kind, Piece, Square};
 use shogi_rules::Move;
 use std::test::Fail;

@@ -2,9 +2,9 @@
 // engine keeps no game.
 use crate::bridge_tests::{bridge, read_row};
 use crate::tests::host;
-use crate::{Bridge, Host, Out, Sample, Status};
 use csa_record::{read, write};
 use shogi_board::{Color, OutOfMemory};
+use shogi_session::{Bridge, Host, Out, Sample, Status};
 use std::process::Abort;
 use std::test::Fail;
 

@@ -1,6 +1,6 @@
-use crate::{Host, HostConfig, Sample};
 use arrayvec::ArrayString;
 use shogi_board::Color;
+use shogi_session::{Host, HostConfig, Sample};
 use std::alloc::Global;
 use std::process::Abort;
 use std::test::Fail;

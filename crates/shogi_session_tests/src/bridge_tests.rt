@@ -2,8 +2,8 @@ ghost use Rattle.std.specs.Prelude.{IfOk, IsTrue};
 ghost use Rattle.csa_text.specs.Lines.{HasNoLineEnd};
 ghost use Rattle.shogi_session.specs.Promises.{HoldsLine, event_of};
 
-use crate::{Bridge, ClientState, Config, Event, Out, SessionFault, Status};
 use arrayvec::ArrayString;
+use shogi_session::{Bridge, ClientState, Config, Event, Out, SessionFault, Status};
 use std::alloc::Global;
 use std::process::Abort;
 use std::test::Fail;

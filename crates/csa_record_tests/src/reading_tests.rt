@@ -1,4 +1,4 @@
-use crate::{OrderFault, RecordReader, Refusal, Why, laws, read, write};
+use csa_record::{OrderFault, RecordReader, Refusal, Why, laws, read, write};
 use shogi_rules::Rule;
 use std::test::Fail;
 
