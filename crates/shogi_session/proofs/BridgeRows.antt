@@ -1,5 +1,5 @@
 -- How the calls of a bridge keep what they promise.
-use Rattle.std.proofs.Common.{◌≡◌, ℕ, List, [], Some, None, refl, sym, ap, subst, ◌∙◌}
+use Rattle.std.proofs.Common.{◌≡◌, ℕ, List, Some, None, refl, sym, ap, subst, ◌∙◌}
 use Rattle.csa_record.specs.Canon.{canon}
 use Rattle.shogi_session.specs.declared.config.Config.{Config}
 use Rattle.shogi_session.specs.declared.event.Out.{Out as Answered}
@@ -9,12 +9,14 @@ use Rattle.shogi_session.specs.declared.phase.Phase.{Phase}
 use Rattle.shogi_session.specs.declared.phase.Phase.TheVariants as phases
 use Rattle.shogi_session.specs.declared.phase.Play.{Play as Own}
 use Rattle.shogi_session.specs.declared.state.EngineState.{EngineState}
-use Rattle.shogi_session.specs.Events.{Event, no_lines, trimmed}
+use Rattle.shogi_session.specs.Events.{Event, Out, no_lines, trimmed}
 use Rattle.shogi_session.specs.GameTold.{game_of}
 use Rattle.shogi_session.specs.Phases.{IsPhase, Reacts, Stays, client_of, going}
-use Rattle.shogi_session.specs.Promises.{IsGameText, game_text, no_game, Session, Steps, Loses, KeepsGame, before, after}
-use Rattle.shogi_session.specs.Row.{unnamed}
-use Rattle.shogi_session.specs.State.{Client, State}
+use Rattle.shogi_session.specs.Promises.{IsGameText, game_text, no_game, Session, Steps, SameStates, KeepsGame, before, after}
+use Rattle.shogi_session.specs.Row.{Row, unnamed}
+use Rattle.shogi_session.specs.State.{Client, State, slip_of}
+use Rattle.shogi_session.specs.Texts.{text_of}
+use Rattle.shogi_session.proofs.RowOnce.{row_once}
 use Rattle.shogi_session.proofs.Unnamed.{stopped}
 
 -- 1. game_text
@@ -53,18 +55,27 @@ stepped c engine engine_after client client_after z old new e o was goes is r =
     (subst (λ (x : Session). Steps (session c engine client Going) e o.to_engine o.to_server o.status x) (sym is)
     (record { out = r.0; row = r.1; config = refl; engine_text = r.2; server_text = r.3; status_is = refl }))
 
-pub over : (old new : Session) (e : Event) (to_engine to_server : List ℕ) (status : Status) → new ≡ old → (old.state.status ≡ Going → ⊥)
-    → to_engine ≡ [] → to_server ≡ [] → status ≡ old.state.status → Steps old e to_engine to_server status new
-over old new e to_engine to_server status same ended h k s =
-    subst (λ (x : Session). Steps old e to_engine to_server status x) (sym same)
-    (record {
-      out = no_lines;
-      row = unnamed (stopped old.config old.state (trimmed e) ended) refl refl;
-      config = refl;
-      engine_text = h;
-      server_text = k;
-      status_is = s;
-    })
+-- once the session is over
+pub over_row : (c : Config) (s t : State) (e : Event) → t ≡ s → (s.status ≡ Going → ⊥) → Row c s e no_lines t
+over_row c s t e same ended = unnamed (stopped c s e ended) refl same
+
+-- the bytes of a row's lines are those of any row's, as there is one
+pub engine_told : (c : Config) (s t : State) (e : Event) (o out : Out) (text : List ℕ) → Row c s e o t → text ≡ text_of o.to_engine
+    → Row c s e out t → text ≡ text_of out.to_engine
+engine_told c s t e o out text row is other = is ∙ ap (λ (x : Out). text_of x.to_engine) (row_once c s t t e o out row other).0
+
+pub server_told : (c : Config) (s t : State) (e : Event) (o out : Out) (text : List ℕ) → Row c s e o t → text ≡ text_of o.to_server
+    → Row c s e out t → text ≡ text_of out.to_server
+server_told c s t e o out text row is other = is ∙ ap (λ (x : Out). text_of x.to_server) (row_once c s t t e o out row other).0
+
+-- a step that answers OutOfMemory, whole
+pub record Loses (old : Session) (e : Event) (new : Session) : Type 0 where
+  pub going : old.state.status ≡ Going
+  pub config : new.config ≡ old.config
+  pub status : new.state.status ≡ Lost
+  pub states : SameStates old.state new.state
+  pub slip : slip_of new.state.client ≡ slip_of old.state.client
+  pub game : KeepsGame old.config old.state (trimmed e) new.state
 
 pub lost : (c : Config) (engine engine_after : EngineState) (client client_after : Client) (z : Status) (old new : Session) (e : Event)
     → old ≡ session c engine client z → z ≡ Going → new ≡ session c engine_after client_after Lost
@@ -73,4 +84,4 @@ lost c engine engine_after client client_after z old new e was goes is h =
     let at : old ≡ session c engine client Going = was ∙ ap (session c engine client) goes in
     subst (λ (x : Session). Loses x e new) (sym at)
     (subst (λ (x : Session). Loses (session c engine client Going) e x) (sym is)
-    (record { going = refl; config = refl; status = refl; engine = h.engine_stays; client = h.client_stays; slip = h.slip_stays; game = lost_game c engine engine_after client client_after (trimmed e) h.game }))
+    (record { going = refl; config = refl; status = refl; states = (h.engine_stays, h.client_stays); slip = h.slip_stays; game = lost_game c engine engine_after client client_after (trimmed e) h.game }))

@@ -30,3 +30,10 @@ pub four_texts : (old : List ℕ) (a b c d : List (List ℕ))
     → (((old ++ text_of a) ++ text_of b) ++ text_of c) ++ text_of d ≡ old ++ text_of (a ++ (b ++ (c ++ d)))
 four_texts old a b c d =
     two_texts ((old ++ text_of a) ++ text_of b) c d ∙ two_texts (old ++ text_of a) b (c ++ d) ∙ two_texts old a (b ++ (c ++ d))
+
+pub five_lines : (old a b c d e : List ℕ)
+    → ((old ++ text_of (a ∷ b ∷ [])) ++ text_of (c ∷ d ∷ [])) ++ ended_line e ≡ old ++ text_of (a ∷ b ∷ c ∷ d ∷ e ∷ [])
+five_lines old a b c d e =
+    let front = old ++ text_of (a ∷ b ∷ []) in
+    ap (λ t. (front ++ text_of (c ∷ d ∷ [])) ++ t) (sym (append-nil (ended_line e)))
+    ∙ (two_texts front (c ∷ d ∷ []) (e ∷ []) ∙ two_texts old (a ∷ b ∷ []) (c ∷ d ∷ e ∷ []))

@@ -1,6 +1,7 @@
 -- What counts of a summary's lines with one line more, as a plain function for the code.
-use Rattle.std.specs.Prelude.{ℕ, ◌++◌, List, [], length, drop, Option, Some, None, nat_eq, bytes_eq, codes, if◌then◌else◌}
+use Rattle.std.specs.Prelude.{ℕ, ◌++◌, List, [], length, drop, Option, Some, None, nat_eq, bytes_eq, if◌then◌else◌}
 use Rattle.std.specs.List.{starts_with}
+use Rattle.shogi_session.specs.LineTexts as texts
 use Rattle.shogi_session.specs.Summary.{Heard, PositionBlocks, none, one, several, end_line, is_position}
 use Rattle.shogi_session.specs.Texts.{ended_line}
 
@@ -24,9 +25,9 @@ value_or key old text = if starts_with nat_eq text key then drop (length key) te
 abbrev pub outside : Heard → List ℕ → Heard
 outside h text =
     record h {
-      black = value_or (codes "Name+:") h.black text;
-      white = value_or (codes "Name-:") h.white text;
-      turn = value_or (codes "Your_Turn:") h.turn text;
+      black = value_or texts.black_name h.black text;
+      white = value_or texts.white_name h.white text;
+      turn = value_or texts.your_turn h.turn text;
     }
 
 abbrev pub opened : Heard → List ℕ → Heard
@@ -41,7 +42,7 @@ within h title text =
 
 abbrev pub by_block : Heard → Option (List ℕ) → List ℕ → Heard
 by_block h None text =
-    if starts_with nat_eq text (codes "BEGIN ") then opened h (drop 6 text) else outside h text
+    if starts_with nat_eq text texts.begin then opened h (drop (length texts.begin) text) else outside h text
 by_block h (Some title) text = within h title text
 
 abbrev pub heard_after : Heard → List ℕ → Heard

@@ -17,6 +17,7 @@ use Rattle.usi_text.specs.Words.{words, nth_word}
 use Rattle.shogi_session.specs.declared.config.HostConfig.{HostConfig}
 use Rattle.shogi_session.specs.declared.outcome.Outcome.{Outcome}
 use Rattle.shogi_session.specs.declared.outcome.Outcome.TheVariants.{Repetition, Perpetual, MaxMoves}
+use Rattle.shogi_session.specs.LineTexts as texts
 use Rattle.shogi_session.specs.MoveLines.{is_move_line, TellsMove}
 use Rattle.shogi_session.specs.Texts.{with_time}
 
@@ -47,7 +48,7 @@ pub record IsHostConfig (c : HostConfig) : Type 0 where
 
 -- `LOGIN n p`
 pub record IsLogin (line n p : List ℕ) : Type 0 where
-  pub words_are : words line ≡ codes "LOGIN" ∷ n ∷ p ∷ []
+  pub words_are : words line ≡ texts.login ∷ n ∷ p ∷ []
   pub name : IsLoginWord n
   pub password : IsLoginWord p
 
@@ -61,18 +62,18 @@ name_for c n color = if same_color color c.client then n else c.name.bytes
 
 abbrev pub summary_lines : HostConfig → List ℕ → List (List ℕ)
 summary_lines c n =
-    codes "BEGIN Game_Summary"
-    ∷ (codes "Game_ID:" ++ c.id.bytes)
-    ∷ (codes "Name+:" ++ name_for c n Black)
-    ∷ (codes "Name-:" ++ name_for c n White)
-    ∷ (codes "Your_Turn:" ++ sign c.client ∷ [])
-    ∷ codes "To_Move:+"
-    ∷ (codes "Max_Moves:" ++ decimal c.max_moves)
-    ∷ codes "BEGIN Position"
-    ∷ codes "PI"
-    ∷ codes "+"
-    ∷ codes "END Position"
-    ∷ codes "END Game_Summary"
+    texts.begin_summary
+    ∷ (texts.game_id ++ c.id.bytes)
+    ∷ (texts.black_name ++ name_for c n Black)
+    ∷ (texts.white_name ++ name_for c n White)
+    ∷ (texts.your_turn ++ sign c.client ∷ [])
+    ∷ texts.black_to_move
+    ∷ (texts.most_moves ++ decimal c.max_moves)
+    ∷ texts.begin_position
+    ∷ texts.even_start
+    ∷ texts.black
+    ∷ texts.end_position
+    ∷ texts.end_summary
     ∷ []
 
 -- 2. Moves and results
@@ -93,10 +94,10 @@ AfterMove c g None = (Over (all_of g) (now_of g) → ⊥) × (length g.moves < c
 
 -- the reason, and the result for the client
 abbrev pub outcome_lines : HostConfig → Outcome → List (List ℕ)
-outcome_lines c Repetition = codes "#SENNICHITE" ∷ codes "#DRAW" ∷ []
+outcome_lines c Repetition = texts.sennichite ∷ texts.draw ∷ []
 outcome_lines c (Perpetual loser) =
-    codes "#OUTE_SENNICHITE" ∷ (if same_color loser c.client then codes "#LOSE" else codes "#WIN") ∷ []
-outcome_lines c MaxMoves = codes "#MAX_MOVES" ∷ codes "#CENSORED" ∷ []
+    texts.oute_sennichite ∷ (if same_color loser c.client then texts.lose else texts.win) ∷ []
+outcome_lines c MaxMoves = texts.max_moves ∷ texts.censored ∷ []
 
 -- the host's move is the first legal one; without one it resigns
 pub data HostMoves (c : HostConfig) (g : Played) (lines : List (List ℕ)) (t : HostState) : Type 0 where
@@ -110,7 +111,7 @@ pub data HostMoves (c : HostConfig) (g : Played) (lines : List (List ℕ)) (t : 
       → HostMoves c g lines t
   resigns :
       NoLegalMove (now_of g)
-      → lines ≡ with_time (codes "%TORYO") 0 ∷ codes "#RESIGN" ∷ codes "#WIN" ∷ [] → t ≡ decided
+      → lines ≡ with_time texts.toryo 0 ∷ texts.resign ∷ texts.win ∷ [] → t ≡ decided
       → HostMoves c g lines t
 
 -- the client's line is a move that may be played
@@ -121,11 +122,11 @@ IsGoodMove g line m = (color : Color) × TellsMove line color m × Answers g col
 pub data BeforeLogin (c : HostConfig) (line : List ℕ) (lines : List (List ℕ)) (t : HostState) : Type 0 where
   logs_in : (n p : List ℕ)
       → IsLogin line n p
-      → lines ≡ (codes "LOGIN:" ++ (n ++ codes " OK")) ∷ summary_lines c n → t ≡ offered n
+      → lines ≡ (texts.login_answer ++ (n ++ texts.ok)) ∷ summary_lines c n → t ≡ offered n
       → BeforeLogin c line lines t
   login_incorrect :
-      nth_word (words line) 0 ≡ codes "LOGIN" → ((n p : List ℕ) → IsLogin line n p → ⊥)
-      → lines ≡ codes "LOGIN:incorrect" ∷ [] → t ≡ waiting
+      nth_word (words line) 0 ≡ texts.login → ((n p : List ℕ) → IsLogin line n p → ⊥)
+      → lines ≡ texts.login_incorrect ∷ [] → t ≡ waiting
       → BeforeLogin c line lines t
 
 abbrev pub even_game : Played
@@ -133,16 +134,16 @@ even_game = record { start = even_start; moves = [] }
 
 pub data AfterSummary (c : HostConfig) (n line : List ℕ) (lines : List (List ℕ)) (t : HostState) : Type 0 where
   agrees :
-      IsWordAndOne line (codes "AGREE") → c.client ≡ Black
-      → lines ≡ (codes "START:" ++ c.id.bytes) ∷ [] → t ≡ playing even_game
+      IsWordAndOne line texts.agree → c.client ≡ Black
+      → lines ≡ (texts.start ++ c.id.bytes) ∷ [] → t ≡ playing even_game
       → AfterSummary c n line lines t
   agrees_host_first : (more : List (List ℕ))
-      → IsWordAndOne line (codes "AGREE") → c.client ≡ White → HostMoves c even_game more t
-      → lines ≡ (codes "START:" ++ c.id.bytes) ∷ more
+      → IsWordAndOne line texts.agree → c.client ≡ White → HostMoves c even_game more t
+      → lines ≡ (texts.start ++ c.id.bytes) ∷ more
       → AfterSummary c n line lines t
   rejects :
       IsWordAndOne line (codes "REJECT")
-      → lines ≡ (codes "REJECT:" ++ (c.id.bytes ++ (codes " by " ++ n))) ∷ [] → t ≡ ended
+      → lines ≡ (texts.rejected ++ (c.id.bytes ++ (texts.by ++ n))) ∷ [] → t ≡ ended
       → AfterSummary c n line lines t
 
 pub data InPlay (c : HostConfig) (g : Played) (line : List ℕ) (seconds : ℕ) (lines : List (List ℕ)) (t : HostState) : Type 0 where
@@ -158,16 +159,16 @@ pub data InPlay (c : HostConfig) (g : Played) (line : List ℕ) (seconds : ℕ) 
       → InPlay c g line seconds lines t
   client_errs :
       is_move_line line ≡ true → ((m : Move) → IsGoodMove g line m → ⊥)
-      → lines ≡ codes "#ILLEGAL_MOVE" ∷ codes "#LOSE" ∷ [] → t ≡ decided
+      → lines ≡ texts.illegal_move ∷ texts.lose ∷ [] → t ≡ decided
       → InPlay c g line seconds lines t
   client_resigns :
-      line ≡ codes "%TORYO"
-      → lines ≡ with_time (codes "%TORYO") seconds ∷ codes "#RESIGN" ∷ codes "#LOSE" ∷ [] → t ≡ decided
+      line ≡ texts.toryo
+      → lines ≡ with_time texts.toryo seconds ∷ texts.resign ∷ texts.lose ∷ [] → t ≡ decided
       → InPlay c g line seconds lines t
   -- declarations are not judged
   client_declares :
-      line ≡ codes "%KACHI"
-      → lines ≡ with_time (codes "%KACHI") seconds ∷ codes "#JISHOGI" ∷ codes "#WIN" ∷ [] → t ≡ decided
+      line ≡ texts.kachi
+      → lines ≡ with_time texts.kachi seconds ∷ texts.jishogi ∷ texts.win ∷ [] → t ≡ decided
       → InPlay c g line seconds lines t
 
 pub data HostTableRow (c : HostConfig) (s : HostState) (line : List ℕ) (seconds : ℕ) (lines : List (List ℕ)) (t : HostState) : Type 0 where
@@ -175,8 +176,8 @@ pub data HostTableRow (c : HostConfig) (s : HostState) (line : List ℕ) (second
   after_summary : (n : List ℕ) → s ≡ offered n → AfterSummary c n line lines t → HostTableRow c s line seconds lines t
   in_play : (g : Played) → s ≡ playing g → InPlay c g line seconds lines t → HostTableRow c s line seconds lines t
   logs_out :
-      s ≢ ended → line ≡ codes "LOGOUT"
-      → lines ≡ codes "LOGOUT:completed" ∷ [] → t ≡ ended
+      s ≢ ended → line ≡ texts.logout
+      → lines ≡ texts.logout_completed ∷ [] → t ≡ ended
       → HostTableRow c s line seconds lines t
 
 -- no row names the line

@@ -1,5 +1,5 @@
 -- A host as contracts see it, and what its private helpers promise.
-use Rattle.std.specs.Prelude.{◌≡◌, ℕ, ◌++◌, ◌∷◌, [], List, Some, None, codes}
+use Rattle.std.specs.Prelude.{◌≡◌, ℕ, ◌++◌, ◌∷◌, [], List, Some, None}
 use Rattle.shogi_board.specs.declared.color.Color.{Color}
 use Rattle.shogi_rules.specs.declared.moves.Move.{Move}
 use Rattle.shogi_rules.specs.Play.{Answers}
@@ -10,6 +10,7 @@ use Rattle.shogi_session.specs.declared.outcome.Outcome.{Outcome}
 use Rattle.shogi_session.specs.declared.stage.HostStage.{HostStage}
 use Rattle.shogi_session.specs.declared.stage.HostStage.TheVariants.{Waiting, Offered, Playing, Decided, Ended}
 use Rattle.shogi_session.specs.Host.{HostState, waiting, offered, playing, decided, ended, HostRow, HostMoves, IsWordAndOne, AfterSummary, AfterMove, outcome_lines, with_move}
+use Rattle.shogi_session.specs.LineTexts as texts
 use Rattle.shogi_session.specs.Texts.{text_of, with_time}
 
 pub record HostSession : Type 0 where
@@ -34,7 +35,7 @@ MovesBehind c g before text t = (more : List (List ℕ)) × HostMoves c g more t
 -- the game began, and the bytes are those of its lines
 abbrev pub Begins : HostConfig → List ℕ → HostState → Type 0
 Begins c text t =
-    (lines : List (List ℕ)) × ((n line : List ℕ) → IsWordAndOne line (codes "AGREE") → AfterSummary c n line lines t) × (text ≡ text_of lines)
+    (lines : List (List ℕ)) × ((n line : List ℕ) → IsWordAndOne line texts.agree → AfterSummary c n line lines t) × (text ≡ text_of lines)
 
 -- the client's move was the last of the game: its line, and then what ended the game, or the host's move
 pub data Follows (c : HostConfig) (g : Played) (line text : List ℕ) (t : HostState) : Type 0 where
@@ -46,7 +47,7 @@ pub data Follows (c : HostConfig) (g : Played) (line text : List ℕ) (t : HostS
 pub data Tries (c : HostConfig) (g : Played) (color : Color) (m : Move) (seconds : ℕ) (text : List ℕ) (t : HostState) : Type 0 where
   taken : Answers g color m None → Follows c (with_move g m) (with_time (move_text color m) seconds) text t
       → Tries c g color m seconds text t
-  refused : (Answers g color m None → ⊥) → text ≡ text_of (codes "#ILLEGAL_MOVE" ∷ codes "#LOSE" ∷ []) → t ≡ decided
+  refused : (Answers g color m None → ⊥) → text ≡ text_of (texts.illegal_move ∷ texts.lose ∷ []) → t ≡ decided
       → Tries c g color m seconds text t
 
 -- the host's move was the last of the game: what ended it, or the client is to move

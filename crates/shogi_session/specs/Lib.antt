@@ -9,6 +9,7 @@ pub mod HearingStage
 pub mod Host
 pub mod HostLogs
 pub mod Hosting
+pub mod LineTexts
 pub mod Logs
 pub mod MoveLines
 pub mod NextItems

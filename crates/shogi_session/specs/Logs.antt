@@ -1,5 +1,5 @@
 -- Logs of a bridge, and what is read off their lines alone.
-use Rattle.std.specs.Prelude.{◌≡◌, ◌↔◌, ℕ, ◌++◌, ◌⊎◌, ◌||◌, Bool, true, false, List, [], ◌∷◌, filter, find, nat_eq, bytes_eq, flat_map, filter_map, map, Option, Some, None, codes, if◌then◌else◌}
+use Rattle.std.specs.Prelude.{◌≡◌, ◌↔◌, ℕ, ◌++◌, ◌⊎◌, ◌||◌, Bool, true, false, List, [], ◌∷◌, filter, find, nat_eq, bytes_eq, flat_map, filter_map, map, Option, Some, None, if◌then◌else◌}
 use Rattle.std.specs.List.{AllByRecursion, AllZip, starts_with, list_any}
 use Rattle.shogi_board.specs.declared.color.Color.{Color}
 use Rattle.csa_record.specs.Game.{Timed, Ended, Game}
@@ -8,6 +8,7 @@ use Rattle.shogi_session.specs.declared.event.Status.{Status}
 use Rattle.shogi_session.specs.declared.event.Status.TheVariants.{Going, Done, Failed, Lost}
 use Rattle.shogi_session.specs.Events.{Event, begin, engine_line, server_line, engine_end, server_end, engine_long, server_long, Out}
 use Rattle.shogi_session.specs.GameTold.{ending_of, game_of}
+use Rattle.shogi_session.specs.LineTexts as texts
 use Rattle.shogi_session.specs.MoveLines.{is_move_line}
 use Rattle.shogi_session.specs.Row.{Row}
 use Rattle.shogi_session.specs.ServerLines.{Outcome, Reason, is_login_ok, is_start_line, is_ending_line, is_hash_line, TellsTimed, TellsEnding, outcome_of, reason_of}
@@ -80,21 +81,21 @@ ahead test [] = []
 ahead test (x ∷ xs) = if test x then [] else x ∷ ahead test xs
 
 abbrev pub is_begin_line : List ℕ → Bool
-is_begin_line line = bytes_eq line (codes "BEGIN Game_Summary")
+is_begin_line line = bytes_eq line texts.begin_summary
 
 -- the steps behind the one that sent LOGIN; of these those behind the `LOGIN:` .. ` OK` line
 abbrev pub behind_login : List Step → List Step
-behind_login log = behind (hears is_login_ok) (behind (sends (codes "LOGIN ")) log)
+behind_login log = behind (hears is_login_ok) (behind (sends texts.login_front) log)
 
 -- the lines of the summary: of the steps behind these, and before the one that is answered by AGREE, those behind
 -- `BEGIN Game_Summary`
 abbrev pub summary_lines : List Step → List (List ℕ)
 summary_lines log =
-    server_lines (behind (hears is_begin_line) (behind_login (ahead (sends (codes "AGREE")) (counted log))))
+    server_lines (behind (hears is_begin_line) (behind_login (ahead (sends texts.agree) (counted log))))
 
 -- the lines behind the first `START:` line that follows AGREE
 abbrev pub started_lines : List Step → List (List ℕ)
-started_lines log = server_lines (behind (hears is_start_line) (behind (sends (codes "AGREE")) (counted log)))
+started_lines log = server_lines (behind (hears is_start_line) (behind (sends texts.agree) (counted log)))
 
 -- a readable ending
 abbrev pub IsEnding : List ℕ → Type 0
@@ -132,7 +133,7 @@ IsMoved line m = TellsTimed line m.color m.played
 
 -- the summary was answered by AGREE, and told this; the lines of play spell these moves
 pub record Confirmed (log : List Step) (o : Offer) (moved : List Moved) : Type 0 where
-  pub agreed : list_any (sends (codes "AGREE")) (counted log) ≡ true
+  pub agreed : list_any (sends texts.agree) (counted log) ≡ true
   pub told : TellsSummary (summary_lines log) o
   pub taken : List (List ℕ)
   pub rest : List (List ℕ)

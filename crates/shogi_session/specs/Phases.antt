@@ -1,5 +1,5 @@
 -- A bridge's own states, and what its private helpers promise.
-use Rattle.std.specs.Prelude.{◌≡◌, ◌++◌, ◌∷◌, ◌⊎◌, ℕ, Bool, true, false, List, [], Option, None, Some, Result, Ok, Err, map, codes}
+use Rattle.std.specs.Prelude.{◌≡◌, ◌++◌, ◌∷◌, ◌⊎◌, ℕ, Bool, true, false, List, [], Option, None, Some, Result, Ok, Err, map}
 use Rattle.shogi_board.specs.declared.color.Color.{Color}
 use Rattle.csa_text.specs.Codes.{move_text}
 use Rattle.shogi_board.specs.declared.memory.OutOfMemory.{OutOfMemory}
@@ -29,6 +29,7 @@ use Rattle.shogi_session.specs.declared.state.EngineState.{EngineState}
 use Rattle.shogi_session.specs.Events.{Event, Out}
 use Rattle.shogi_session.specs.Asking.{Asks}
 use Rattle.shogi_session.specs.GameTold.{ending_of, game_of}
+use Rattle.shogi_session.specs.LineTexts as texts
 use Rattle.shogi_session.specs.Promises.{KeepsGame}
 use Rattle.shogi_session.specs.Row.{Row}
 use Rattle.shogi_session.specs.ServerLines as lines
@@ -130,9 +131,9 @@ slip_with engine_says.Slip before = true
 
 abbrev pub answer_text : Color → EngineAnswer → List ℕ
 answer_text client (engine_says.Move m) = move_text client m
-answer_text client engine_says.Resign = codes "%TORYO"
-answer_text client engine_says.Win = codes "%KACHI"
-answer_text client engine_says.Slip = codes "%TORYO"
+answer_text client engine_says.Resign = texts.toryo
+answer_text client engine_says.Win = texts.kachi
+answer_text client engine_says.Slip = texts.toryo
 
 -- 5. Lines of the server in a game
 -- the game is on: Playing, Sent

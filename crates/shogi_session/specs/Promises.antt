@@ -7,12 +7,11 @@ use Rattle.shogi_session.specs.declared.config.Config.{Config}
 use Rattle.shogi_session.specs.declared.event.Event.{Event as Handed}
 use Rattle.shogi_session.specs.declared.event.Event.TheVariants as handed
 use Rattle.shogi_session.specs.declared.event.Status.{Status}
-use Rattle.shogi_session.specs.declared.event.Status.TheVariants.{Going, Lost}
 use Rattle.shogi_session.specs.Events.{Event, begin, engine_line, server_line, engine_end, server_end, engine_long, server_long, trimmed, Out}
 use Rattle.shogi_session.specs.GameTold.{game_of}
 use Rattle.shogi_session.specs.Host.{IsLoginWord}
 use Rattle.shogi_session.specs.Row.{Row}
-use Rattle.shogi_session.specs.State.{State, client_state, slip_of}
+use Rattle.shogi_session.specs.State.{State, client_state}
 use Rattle.shogi_session.specs.Texts.{text_of}
 
 -- what callers keep of a name and a password
@@ -45,10 +44,14 @@ pub record Session : Type 0 where
   pub config : Config
   pub state : State
 
--- a step that answers Ok is a row; the bytes are those of its lines, and the status is that of the next state
+-- a row leads by the event, less the spaces at the end of its line, from one to the other with these lines
+abbrev pub StepRow : Session → Event → Out → Session → Type 0
+StepRow old e out new = Row old.config old.state (trimmed e) out new.state
+
+-- a step that answers Ok, whole: its row, whose lines it gives, and the status after it
 pub record Steps (old : Session) (e : Event) (to_engine to_server : List ℕ) (status : Status) (new : Session) : Type 0 where
   pub out : Out
-  pub row : Row old.config old.state (trimmed e) out new.state
+  pub row : StepRow old e out new
   pub config : new.config ≡ old.config
   pub engine_text : to_engine ≡ text_of out.to_engine
   pub server_text : to_server ≡ text_of out.to_server
@@ -59,16 +62,9 @@ pub data KeepsGame (c : Config) (s : State) (e : Event) (t : State) : Type 0 whe
   before : game_of t.client ≡ game_of s.client → KeepsGame c s e t
   after : (out : Out) (u : State) → Row c s e out u → game_of t.client ≡ game_of u.client → KeepsGame c s e t
 
--- a step that answers OutOfMemory, which none does once the session is over: the bridge is lost, both states and the slip
--- stay, and its game is whole
-pub record Loses (old : Session) (e : Event) (new : Session) : Type 0 where
-  pub going : old.state.status ≡ Going
-  pub config : new.config ≡ old.config
-  pub status : new.state.status ≡ Lost
-  pub engine : new.state.engine ≡ old.state.engine
-  pub client : client_state new.state.client ≡ client_state old.state.client
-  pub slip : slip_of new.state.client ≡ slip_of old.state.client
-  pub game : KeepsGame old.config old.state (trimmed e) new.state
+-- how both states stand, apart from what they have
+abbrev pub SameStates : State → State → Type 0
+SameStates s t = (t.engine ≡ s.engine) × (client_state t.client ≡ client_state s.client)
 
 -- the canonical text of the game, or none before a summary was accepted
 pub data IsGameText (s : State) : Option (List ℕ) → Type 0 where

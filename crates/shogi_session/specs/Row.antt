@@ -27,6 +27,7 @@ use Rattle.shogi_session.specs.declared.state.EngineState.{EngineState}
 use Rattle.shogi_session.specs.declared.state.EngineState.TheVariants.{New, Greeting, Readying, Ready, Thinking, Ended as EngineEnded}
 use Rattle.shogi_session.specs.Asking.{Asks}
 use Rattle.shogi_session.specs.Events.{Event, begin, engine_line, server_line, engine_end, server_end, engine_long, server_long, Out, no_lines, engine, server}
+use Rattle.shogi_session.specs.LineTexts as texts
 use Rattle.shogi_session.specs.MoveLines.{is_move_line}
 use Rattle.shogi_session.specs.ServerLines.{Outcome, win, lose, draw, censored, chudan, Reason, is_login_ok, is_start_line, is_reject_line, is_ending_line, is_hash_line, TellsTimed, TellsEnding, FirstTextFault, outcome_of, reason_of}
 use Rattle.shogi_session.specs.State.{Match, Answer, move, toryo, kachi, Finish, nothing_told, Client, idle, logging_in, before_summary, summary, agreeing, playing, sent, reason, closing, ended, State, client_state, match_of, line_of, position_now, with_move}
@@ -34,7 +35,7 @@ use Rattle.shogi_session.specs.Summary.{Heard, nothing_heard, CountsAs, Offer, T
 
 -- 1. Words of the table
 abbrev pub login_line : Config → List ℕ
-login_line c = codes "LOGIN " ++ (c.name.bytes ++ (codes " " ++ c.password.bytes))
+login_line c = texts.login_front ++ (c.name.bytes ++ (codes " " ++ c.password.bytes))
 
 -- `bestmove` and a word, or the empty text where there is none
 pub record IsBestMove (line word : List ℕ) : Type 0 where
@@ -49,13 +50,13 @@ pub record IsLegalWord (g : Match) (word : List ℕ) (m : Move) : Type 0 where
 -- the word is none of the answers
 pub record IsNoAnswer (g : Match) (word : List ℕ) : Type 0 where
   pub no_move : (m : Move) → IsLegalWord g word m → ⊥
-  pub not_resign : word ≢ codes "resign"
-  pub not_win : word ≢ codes "win"
+  pub not_resign : word ≢ texts.engine_resigns
+  pub not_win : word ≢ texts.engine_wins
 
 abbrev pub answer_line : Match → Answer → List ℕ
 answer_line g (move m) = move_text g.client m
-answer_line g toryo = codes "%TORYO"
-answer_line g kachi = codes "%KACHI"
+answer_line g toryo = texts.toryo
+answer_line g kachi = texts.kachi
 
 abbrev pub slipped : Match → Match
 slipped g = record g { slip = true }
@@ -63,9 +64,9 @@ slipped g = record g { slip = true }
 abbrev pub gameover_line : Outcome → List ℕ
 gameover_line win = codes "gameover win"
 gameover_line lose = codes "gameover lose"
-gameover_line draw = codes "gameover draw"
-gameover_line censored = codes "gameover draw"
-gameover_line chudan = codes "gameover draw"
+gameover_line draw = texts.game_drawn
+gameover_line censored = texts.game_drawn
+gameover_line chudan = texts.game_drawn
 
 -- the reason, if none stands
 abbrev pub first_reason : Option Reason → Reason → Option Reason
@@ -143,12 +144,12 @@ pub data TableRow (c : Config) (s : State) (e : Event) (out : Out) (t : State) :
   -- New | Begin
   begins :
       s.engine ≡ New → e ≡ begin
-      → out ≡ engine (codes "usi" ∷ []) → t ≡ record s { engine = Greeting }
+      → out ≡ engine (texts.usi ∷ []) → t ≡ record s { engine = Greeting }
       → TableRow c s e out t
   -- Greeting | `usiok`
   greeted : (line : List ℕ)
       → s.engine ≡ Greeting → e ≡ engine_line line → LineSays (words line) UsiOk
-      → out ≡ engine (codes "isready" ∷ []) → t ≡ record s { engine = Readying }
+      → out ≡ engine (texts.is_ready ∷ []) → t ≡ record s { engine = Readying }
       → TableRow c s e out t
   -- Readying | `readyok`
   readied : (line : List ℕ)
@@ -162,32 +163,32 @@ pub data TableRow (c : Config) (s : State) (e : Event) (out : Out) (t : State) :
       → TableRow c s e out t
   -- LoggingIn | `LOGIN:incorrect`
   login_refused :
-      s.client ≡ logging_in → e ≡ server_line (codes "LOGIN:incorrect")
+      s.client ≡ logging_in → e ≡ server_line texts.login_incorrect
       → out ≡ no_lines → t ≡ failed s LoginRefused
       → TableRow c s e out t
   -- Summary | the lines of a summary, and its end
   summary_begins :
-      s.client ≡ before_summary → e ≡ server_line (codes "BEGIN Game_Summary")
+      s.client ≡ before_summary → e ≡ server_line texts.begin_summary
       → out ≡ no_lines → t ≡ client_to s (summary nothing_heard)
       → TableRow c s e out t
   summary_line : (lines : List (List ℕ)) (line : List ℕ) (h new : Heard)
-      → s.client ≡ summary h → e ≡ server_line line → line ≢ codes "END Game_Summary"
+      → s.client ≡ summary h → e ≡ server_line line → line ≢ texts.end_summary
       → CountsAs lines h → CountsAs (lines ++ line ∷ []) new
       → out ≡ no_lines → t ≡ client_to s (summary new)
       → TableRow c s e out t
   summary_ends : (h : Heard) (o : Offer)
-      → s.client ≡ summary h → e ≡ server_line (codes "END Game_Summary") → TellsOffer h o
-      → out ≡ server (codes "AGREE") → t ≡ client_to s (agreeing o)
+      → s.client ≡ summary h → e ≡ server_line texts.end_summary → TellsOffer h o
+      → out ≡ server texts.agree → t ≡ client_to s (agreeing o)
       → TableRow c s e out t
   summary_fails : (h : Heard)
-      → s.client ≡ summary h → e ≡ server_line (codes "END Game_Summary") → ((o : Offer) → TellsOffer h o → ⊥)
+      → s.client ≡ summary h → e ≡ server_line texts.end_summary → ((o : Offer) → TellsOffer h o → ⊥)
       → out ≡ no_lines → t ≡ failed s BadSummary
       → TableRow c s e out t
   -- Agreeing | `START:` ..
   started : (o : Offer) (line : List ℕ) (asked : List (List ℕ)) (now : EngineState)
       → s.client ≡ agreeing o → e ≡ server_line line → is_start_line line ≡ true
       → Asks c (match_of o) s.engine asked now
-      → out ≡ engine (codes "usinewgame" ∷ asked) → t ≡ record s { engine = now; client = playing (match_of o) }
+      → out ≡ engine (texts.new_game ∷ asked) → t ≡ record s { engine = now; client = playing (match_of o) }
       → TableRow c s e out t
   -- Agreeing | `REJECT:` ..
   rejected : (o : Offer) (line : List ℕ)
@@ -201,11 +202,11 @@ pub data TableRow (c : Config) (s : State) (e : Event) (out : Out) (t : State) :
       → TableRow c s e out t
   -- Thinking, Playing | `bestmove resign` / `win`
   engine_resigns : (g : Match) (line : List ℕ)
-      → s.engine ≡ Thinking → s.client ≡ playing g → e ≡ engine_line line → IsBestMove line (codes "resign")
+      → s.engine ≡ Thinking → s.client ≡ playing g → e ≡ engine_line line → IsBestMove line texts.engine_resigns
       → out ≡ server (answer_line g toryo) → t ≡ record s { engine = Ready; client = sent g toryo }
       → TableRow c s e out t
   engine_wins : (g : Match) (line : List ℕ)
-      → s.engine ≡ Thinking → s.client ≡ playing g → e ≡ engine_line line → IsBestMove line (codes "win")
+      → s.engine ≡ Thinking → s.client ≡ playing g → e ≡ engine_line line → IsBestMove line texts.engine_wins
       → out ≡ server (answer_line g kachi) → t ≡ record s { engine = Ready; client = sent g kachi }
       → TableRow c s e out t
   -- Thinking, Playing | `bestmove` other
@@ -246,12 +247,12 @@ pub data TableRow (c : Config) (s : State) (e : Event) (out : Out) (t : State) :
   -- Playing, Sent, Reason | `#WIN #LOSE #DRAW #CENSORED #CHUDAN`
   result_told : (g : Match) (f : Finish) (line : List ℕ) (o : Outcome)
       → before_result s.client ≡ Some (g, f) → e ≡ server_line line → outcome_of line ≡ Some o
-      → out ≡ record { to_engine = gameover_line o ∷ codes "quit" ∷ []; to_server = codes "LOGOUT" ∷ [] }
+      → out ≡ record { to_engine = gameover_line o ∷ texts.quit ∷ []; to_server = texts.logout ∷ [] }
       → t ≡ record s { engine = EngineEnded; client = closing g f o }
       → TableRow c s e out t
   -- Closing | `LOGOUT:completed` or ServerEnd
   closes : (g : Match) (f : Finish) (o : Outcome)
-      → s.client ≡ closing g f o → (e ≡ server_line (codes "LOGOUT:completed")) ⊎ (e ≡ server_end)
+      → s.client ≡ closing g f o → (e ≡ server_line texts.logout_completed) ⊎ (e ≡ server_end)
       → out ≡ no_lines → t ≡ record s { client = ended g f o; status = Done }
       → TableRow c s e out t
   -- engine not Ended | EngineEnd

@@ -8,6 +8,7 @@ use Rattle.shogi_rules.specs.Verdicts.{NoLegalMove}
 use Rattle.usi_text.specs.Lines.{UsiLine}
 use Rattle.usi_text.specs.Moves.{UsiMove}
 use Rattle.usi_text.specs.Words.{words, nth_word}
+use Rattle.shogi_session.specs.LineTexts as texts
 
 -- the game that it keeps, if any; or it has quit
 pub data SampleState : Type 0 where
@@ -42,27 +43,27 @@ IsGameOf line None = (g : Played) → UsiLine (words line) g.start g.moves → �
 -- the table: a line to an engine that keeps a game or none, the lines that it answers, and its state afterwards
 pub data SampleTableRow (kept : Option Played) (line : List ℕ) (lines : List (List ℕ)) (t : SampleState) : Type 0 where
   usi :
-      IsWord line (codes "usi")
-      → lines ≡ codes "id name shogi" ∷ codes "id author shogi" ∷ codes "usiok" ∷ [] → t ≡ keeps kept
+      IsWord line texts.usi
+      → lines ≡ texts.id_name ∷ texts.id_author ∷ texts.usi_ok ∷ [] → t ≡ keeps kept
       → SampleTableRow kept line lines t
   isready :
-      IsWord line (codes "isready")
+      IsWord line texts.is_ready
       → lines ≡ codes "readyok" ∷ [] → t ≡ keeps kept
       → SampleTableRow kept line lines t
   position : (told : Option Played)
-      → BeginsWith line (codes "position") → IsGameOf line told
+      → BeginsWith line texts.position → IsGameOf line told
       → lines ≡ [] → t ≡ keeps told
       → SampleTableRow kept line lines t
   go : (g : Played) (word : List ℕ)
-      → BeginsWith line (codes "go") → kept ≡ Some g → IsBest g word
-      → lines ≡ (codes "bestmove " ++ word) ∷ [] → t ≡ keeps kept
+      → BeginsWith line texts.go → kept ≡ Some g → IsBest g word
+      → lines ≡ (texts.best_move ++ word) ∷ [] → t ≡ keeps kept
       → SampleTableRow kept line lines t
   go_resign :
-      BeginsWith line (codes "go") → HasNoMove kept
-      → lines ≡ codes "bestmove resign" ∷ [] → t ≡ keeps kept
+      BeginsWith line texts.go → HasNoMove kept
+      → lines ≡ texts.no_best_move ∷ [] → t ≡ keeps kept
       → SampleTableRow kept line lines t
   quits :
-      IsWord line (codes "quit")
+      IsWord line texts.quit
       → lines ≡ [] → t ≡ quit
       → SampleTableRow kept line lines t
 

@@ -9,6 +9,7 @@ use Rattle.csa_text.specs.Codes.{move_text}
 use Rattle.csa_record.specs.Items.{AtMostOne}
 use Rattle.shogi_session.specs.declared.config.Config.{Config}
 use Rattle.shogi_session.specs.Asking.{MayAsk, AskLines}
+use Rattle.shogi_session.specs.LineTexts as texts
 use Rattle.shogi_session.specs.Logs.{Step, Moved, Confirmed, game_confirmed, answers}
 use Rattle.shogi_session.specs.State.{Match, position_now}
 use Rattle.shogi_session.specs.Summary.{Offer}
@@ -24,8 +25,8 @@ pub data IsAnswered (before : List Step) (line : List ℕ) : Type 0 where
       → Confirmed before o moved → MayAsk (match_told o moved) → Legal (position_now (match_told o moved)) m
       → line ≡ move_text o.client m
       → IsAnswered before line
-  toryo : line ≡ codes "%TORYO" → IsAnswered before line
-  kachi : line ≡ codes "%KACHI" → IsAnswered before line
+  toryo : line ≡ texts.toryo → IsAnswered before line
+  kachi : line ≡ texts.kachi → IsAnswered before line
 
 -- the text of a confirmed move that is of that side
 abbrev pub own_text : Color → Moved → Option (List ℕ)
@@ -54,7 +55,7 @@ pub record AskedRight (c : Config) (log : List Step) (lines : List (List ℕ)) :
   pub confirmed : Confirmed log offer moved
   pub asked : List (List ℕ)
   pub of_game : AskLines c (match_told offer moved) asked
-  pub whole : (lines ≡ asked) ⊎ (lines ≡ codes "usinewgame" ∷ asked)
+  pub whole : (lines ≡ asked) ⊎ (lines ≡ texts.new_game ∷ asked)
 
 -- the lines are the first of the others, in order
 abbrev pub IsPrefix : List (List ℕ) → List (List ℕ) → Type 0

@@ -1,5 +1,5 @@
 -- What a line of the server says, outside the game summary.
-use Rattle.std.specs.Prelude.{◌≡◌, ℕ, ◌<◌, ◌≤◌, ◌&&◌, nat_eq, Bool, List, [], ◌∷◌, length, Option, Some, None, unwrap_or, bytes_eq, codes, if◌then◌else◌}
+use Rattle.std.specs.Prelude.{◌≡◌, ℕ, ◌<◌, ◌≤◌, ◌&&◌, nat_eq, Bool, List, [], ◌∷◌, length, Option, Some, None, unwrap_or, bytes_eq, if◌then◌else◌}
 use Rattle.std.specs.List.{AllZip, starts_with, ends_with}
 use Rattle.shogi_board.specs.declared.color.Color.{Color}
 use Rattle.shogi_rules.specs.declared.moves.Move.{Move}
@@ -10,6 +10,7 @@ use Rattle.csa_text.specs.declared.fault.TextFault.TheVariants.{StatementTooLong
 use Rattle.csa_record.specs.Game.{Timed, Ended}
 use Rattle.csa_record.specs.Says.{time_items, ending_items}
 use Rattle.csa_record.specs.Tells.{IsSpelt}
+use Rattle.shogi_session.specs.LineTexts as texts
 
 -- a line from `%`, from `#`: its first byte
 abbrev pub is_ending_line : List ℕ → Bool
@@ -20,13 +21,13 @@ is_hash_line line = begins_with 35 line
 
 -- `LOGIN:` .. ` OK`, `START:` .., `REJECT:` ..
 abbrev pub is_login_ok : List ℕ → Bool
-is_login_ok line = starts_with nat_eq line (codes "LOGIN:") && ends_with nat_eq line (codes " OK")
+is_login_ok line = starts_with nat_eq line texts.login_answer && ends_with nat_eq line texts.ok
 
 abbrev pub is_start_line : List ℕ → Bool
-is_start_line line = starts_with nat_eq line (codes "START:")
+is_start_line line = starts_with nat_eq line texts.start
 
 abbrev pub is_reject_line : List ℕ → Bool
-is_reject_line line = starts_with nat_eq line (codes "REJECT:")
+is_reject_line line = starts_with nat_eq line texts.rejected
 
 -- 1. Moves and endings
 -- the line is cut into statements, and they spell these items
@@ -99,22 +100,22 @@ look_up (row ∷ rows) text = if bytes_eq text row.0 then Some row.1 else look_u
 
 abbrev pub outcomes : List (List ℕ × Outcome)
 outcomes =
-    (codes "#WIN", win)
-    ∷ (codes "#LOSE", lose)
-    ∷ (codes "#DRAW", draw)
-    ∷ (codes "#CENSORED", censored)
-    ∷ (codes "#CHUDAN", chudan)
+    (texts.win, win)
+    ∷ (texts.lose, lose)
+    ∷ (texts.draw, draw)
+    ∷ (texts.censored, censored)
+    ∷ (texts.chudan, chudan)
     ∷ []
 
 abbrev pub reasons : List (List ℕ × Reason)
 reasons =
-    (codes "#RESIGN", resign)
-    ∷ (codes "#TIME_UP", time_up)
-    ∷ (codes "#ILLEGAL_MOVE", illegal_move)
-    ∷ (codes "#SENNICHITE", sennichite)
-    ∷ (codes "#OUTE_SENNICHITE", oute_sennichite)
-    ∷ (codes "#JISHOGI", jishogi)
-    ∷ (codes "#MAX_MOVES", max_moves)
+    (texts.resign, resign)
+    ∷ (texts.time_up, time_up)
+    ∷ (texts.illegal_move, illegal_move)
+    ∷ (texts.sennichite, sennichite)
+    ∷ (texts.oute_sennichite, oute_sennichite)
+    ∷ (texts.jishogi, jishogi)
+    ∷ (texts.max_moves, max_moves)
     ∷ []
 
 -- the result that a line gives

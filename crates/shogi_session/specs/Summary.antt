@@ -9,6 +9,7 @@ use Rattle.csa_text.specs.Spelling.{Saying, version, name, header, even, rank, p
 use Rattle.csa_record.specs.Game.{Game}
 use Rattle.csa_record.specs.Says.{Says}
 use Rattle.csa_record.specs.Tells.{IsSpelt}
+use Rattle.shogi_session.specs.LineTexts as texts
 use Rattle.shogi_session.specs.Texts.{text_of}
 
 -- 1. What counts of the lines
@@ -43,7 +44,7 @@ pub data Part : Type 0 where
   block : Block → Part
 
 abbrev pub begin_line : List ℕ → List ℕ
-begin_line title = codes "BEGIN " ++ title
+begin_line title = texts.begin ++ title
 
 abbrev pub end_line : List ℕ → List ℕ
 end_line title = codes "END " ++ title
@@ -60,7 +61,7 @@ abbrev pub IsBlock : Block → Type 0
 IsBlock b = AllByRecursion (λ text. text ≢ end_line b.title) b.lines
 
 abbrev pub IsPart : Part → Type 0
-IsPart (line text) = starts_with nat_eq text (codes "BEGIN ") ≡ false
+IsPart (line text) = starts_with nat_eq text texts.begin ≡ false
 IsPart (block b) = IsBlock b
 
 -- what stands behind a key, such as `Name+:`
@@ -71,7 +72,7 @@ value_of key (block b) = None
 abbrev pub last_text : List (List ℕ) → List ℕ
 last_text [] = []
 last_text (text ∷ []) = text
-last_text (text ∷ other ∷ texts) = last_text (other ∷ texts)
+last_text (text ∷ other ∷ rest) = last_text (other ∷ rest)
 
 -- the last one counts
 abbrev pub last_value : List ℕ → List Part → List ℕ
@@ -103,9 +104,9 @@ pub record CountsAs (lines : List (List ℕ)) (h : Heard) : Type 0 where
   pub whole : lines ≡ flat_map part_lines parts ++ flat_map begun_lines (option_to_list begun)
   pub fit : AllByRecursion IsPart parts
   pub begun_fits : IfSome begun IsBlock
-  pub black : h.black ≡ last_value (codes "Name+:") parts
-  pub white : h.white ≡ last_value (codes "Name-:") parts
-  pub turn : h.turn ≡ last_value (codes "Your_Turn:") parts
+  pub black : h.black ≡ last_value texts.black_name parts
+  pub white : h.white ≡ last_value texts.white_name parts
+  pub turn : h.turn ≡ last_value texts.your_turn parts
   pub positions : h.positions ≡ counted (filter_map position_text (filter_map block_of parts ++ option_to_list begun))
   pub title : h.begun ≡ option_map title_of begun
 

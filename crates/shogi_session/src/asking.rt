@@ -9,6 +9,7 @@ ghost use Rattle.shogi_session.specs.Texts.{ended_line};
 
 use crate::config::Config;
 use crate::lines::Lines;
+use crate::texts;
 use csa_record::Record;
 use itoa::Buffer;
 use shogi_board::{Color, OutOfMemory};
@@ -61,9 +62,13 @@ fn is_over(line: &Line) -> bool
 fn push_go(lines: &mut Lines, config: &Config, game: &Record) -> Result<(), OutOfMemory>
     ensures { (g : Match) → g.game ≡ game.now → OnOk result (lines.new ≡ lines.old ++ ended_line (go_line config.now g)) }
 {
-    push_number(lines, b"go btime ", left(config, game, Color::Black))?;
-    push_number(lines, b" wtime ", left(config, game, Color::White))?;
-    push_number(lines, b" byoyomi ", u64::from(config.byoyomi_ms))?;
+    push_number(
+        lines,
+        texts::GO_BLACK_TIME,
+        left(config, game, Color::Black),
+    )?;
+    push_number(lines, texts::WHITE_TIME, left(config, game, Color::White))?;
+    push_number(lines, texts::BYOYOMI, u64::from(config.byoyomi_ms))?;
     lines.end_line()
 }
 

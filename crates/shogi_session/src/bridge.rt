@@ -1,13 +1,14 @@
 ghost use Rattle.std.specs.Prelude.{◌≡◌, ◌↔◌, Some, None, IsOk, IsTrue, IfOk, OnErr, MatchOption, MatchResult};
 ghost use Rattle.csa_record.specs.Game.{Game};
 ghost use Rattle.shogi_session.specs.declared.config.Config.{Config};
-ghost use Rattle.shogi_session.specs.declared.event.Status.TheVariants.{Going};
+ghost use Rattle.shogi_session.specs.declared.event.Status.TheVariants.{Going, Lost};
 ghost use Rattle.shogi_session.specs.declared.state.EngineState.{EngineState};
 ghost use Rattle.shogi_session.specs.declared.state.EngineState.TheVariants.{Ended, New};
-ghost use Rattle.shogi_session.specs.Events.{begin, engine_end, server_end, trimmed};
+ghost use Rattle.shogi_session.specs.Events.{Out as Told, begin, engine_end, server_end, trimmed};
 ghost use Rattle.shogi_session.specs.Phases.{IsPhase, Reacts, Stays, client_of, staged};
-ghost use Rattle.shogi_session.specs.Promises.{HoldsLine, IsConfig, IsGameText, Loses, Steps, event_of};
+ghost use Rattle.shogi_session.specs.Promises.{HoldsLine, IsConfig, IsGameText, KeepsGame, SameStates, StepRow, event_of};
 ghost use Rattle.shogi_session.specs.State.{Client, Match, client_state, first_state, slip_of, waits_for};
+ghost use Rattle.shogi_session.specs.Texts.{text_of};
 
 use crate::answers::{failed, no_lines, silent, tell_engine};
 use crate::config::Config;
@@ -18,6 +19,7 @@ use crate::move_line::without_last_spaces;
 use crate::phase::{Phase, Stage};
 use crate::server_side::hear_server;
 use crate::state::{ClientState, EngineState, Waits};
+use crate::texts;
 use csa_record::write;
 use shogi_board::OutOfMemory;
 use std::alloc::Global;
@@ -74,8 +76,16 @@ impl Bridge {
     /// Once the session is over it answers Ok.
     pub fn step(&mut self, event: Event<'_>) -> Result<Out, OutOfMemory>
         requires { HoldsLine (event_of event) }
-        ensures row { IfOk result (λ out. Steps self.old (event_of event.entry) out.to_engine out.to_server out.status self.new) }
-        ensures lost { OnErr result (Loses self.old (event_of event.entry) self.new) }
+        ensures row { IfOk result (λ answered. (out : Told) × StepRow self.old (event_of event.entry) out self.new) }
+        ensures to_engine { IfOk result (λ answered. (out : Told) → StepRow self.old (event_of event.entry) out self.new → answered.to_engine ≡ text_of out.to_engine) }
+        ensures to_server { IfOk result (λ answered. (out : Told) → StepRow self.old (event_of event.entry) out self.new → answered.to_server ≡ text_of out.to_server) }
+        ensures status { IfOk result (λ answered. answered.status ≡ self.new.state.status) }
+        ensures config { self.new.config ≡ self.old.config }
+        ensures going { OnErr result (self.old.state.status ≡ Going) }
+        ensures lost { OnErr result (self.new.state.status ≡ Lost) }
+        ensures states { OnErr result (SameStates self.old.state self.new.state) }
+        ensures slip { OnErr result (slip_of self.new.state.client ≡ slip_of self.old.state.client) }
+        ensures game { OnErr result (KeepsGame self.old.config self.old.state (trimmed (event_of event.entry)) self.new.state) }
     {
         if !is_going(self.status) {
             return Ok(silent(self.alloc, self.status));
@@ -231,7 +241,7 @@ fn begin(alloc: Global, engine: &mut EngineState) -> Result<Out, OutOfMemory>
     if !is_new(*engine) {
         return Ok(no_lines(alloc));
     }
-    let out = tell_engine(alloc, b"usi")?;
+    let out = tell_engine(alloc, texts::USI)?;
     *engine = EngineState::Greeting;
     Ok(out)
 }

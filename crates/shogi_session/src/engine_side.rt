@@ -20,6 +20,7 @@ use crate::event::{Out, Status};
 use crate::lines::Lines;
 use crate::phase::{Answer, Phase, Play, Stage};
 use crate::state::EngineState;
+use crate::texts;
 use csa_text::csa_move;
 use shogi_board::{Color, OutOfMemory};
 use std::alloc::Global;
@@ -57,7 +58,7 @@ fn greet(alloc: Global, engine: &mut EngineState, line: &[u8]) -> Result<Out, Ou
     if !is_usi_ok(line) {
         return Ok(no_lines(alloc));
     }
-    let out = tell_engine(alloc, b"isready")?;
+    let out = tell_engine(alloc, texts::IS_READY)?;
     *engine = EngineState::Readying;
     Ok(out)
 }
@@ -113,9 +114,10 @@ fn login(alloc: Global, config: &Config) -> Result<Out, OutOfMemory>
     ensures status { IfOk result (λ out. out.status ≡ Going) }
 {
     let mut lines = Lines::new(alloc);
-    lines.push_part(b"LOGIN ")?;
+    lines.push_part(texts::LOGIN)?;
+    lines.push_part(texts::SPACE)?;
     lines.push_part(config.name.as_str().as_bytes())?;
-    lines.push_joined(b" ", config.password.as_str().as_bytes())?;
+    lines.push_joined(texts::SPACE, config.password.as_str().as_bytes())?;
     Ok(Out {
         to_engine: Lines::new(alloc),
         to_server: lines,
@@ -216,8 +218,8 @@ fn say(alloc: Global, client: Color, answer: EngineAnswer) -> Result<Out, OutOfM
 {
     match answer {
         EngineAnswer::Move(mv) => tell_server(alloc, csa_move(client, &mv).as_str().as_bytes()),
-        EngineAnswer::Resign | EngineAnswer::Slip => tell_server(alloc, b"%TORYO"),
-        EngineAnswer::Win => tell_server(alloc, b"%KACHI"),
+        EngineAnswer::Resign | EngineAnswer::Slip => tell_server(alloc, texts::TORYO),
+        EngineAnswer::Win => tell_server(alloc, texts::KACHI),
     }
 }
 

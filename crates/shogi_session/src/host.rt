@@ -1,7 +1,8 @@
-ghost use Rattle.std.specs.Prelude.{◌≡◌, ◌++◌, ◌∷◌, [], ℕ, ◌≤◌, ◌↔◌, codes, IsOk, IsTrue, IfOk, OnErr};
+ghost use Rattle.std.specs.Prelude.{◌≡◌, ◌++◌, ◌∷◌, [], ℕ, ◌≤◌, ◌↔◌, IsOk, IsTrue, IfOk, OnErr};
 ghost use Rattle.shogi_session.specs.Host.{IsHostConfig, waiting, offered, ended, summary_lines};
 ghost use Rattle.shogi_session.specs.declared.config.HostConfig.{HostConfig};
 ghost use Rattle.shogi_session.specs.Hosting.{Begins, IsRowText, state_of};
+ghost use Rattle.shogi_session.specs.LineTexts as texts;
 ghost use Rattle.shogi_session.specs.Texts.{text_of, without_last_spaces};
 
 use crate::config::HostConfig;
@@ -10,6 +11,7 @@ use crate::login::{is_login, push_summary, read_login};
 use crate::move_line::without_last_spaces;
 use crate::playing::{answer_in_play, move_host};
 use crate::stage::{HostStage, Reply};
+use crate::texts;
 use crate::words::{first_word, is_same, is_word_and_one};
 use arrayvec::ArrayVec;
 use shogi_board::{Color, OutOfMemory, Position};
@@ -122,7 +124,7 @@ fn answer(
     requires { config.now.max_moves ≤ 10000 }
     ensures { IfOk result (λ r. IsRowText config.now (state_of stage) line.now seconds r.lines (state_of r.stage)) }
 {
-    if is_same(line, b"LOGOUT") {
+    if is_same(line, texts::LOGOUT) {
         return log_out(alloc, stage);
     }
     match stage {
@@ -142,7 +144,7 @@ fn answer(
 
 // Answers `LOGOUT`.
 fn log_out(alloc: Global, stage: HostStage) -> Result<Reply, OutOfMemory>
-    ensures { (config : HostConfig) (seconds : ℕ) → IfOk result (λ r. IsRowText config (state_of stage) (codes "LOGOUT") seconds r.lines (state_of r.stage)) }
+    ensures { (config : HostConfig) (seconds : ℕ) → IfOk result (λ r. IsRowText config (state_of stage) texts.logout seconds r.lines (state_of r.stage)) }
 {
     if is_ended(&stage) {
         return Ok(Reply {
@@ -152,13 +154,13 @@ fn log_out(alloc: Global, stage: HostStage) -> Result<Reply, OutOfMemory>
     }
     Ok(Reply {
         stage: HostStage::Ended,
-        lines: Lines::one(alloc, b"LOGOUT:completed")?,
+        lines: Lines::one(alloc, texts::LOGOUT_COMPLETED)?,
     })
 }
 
 // Answers a line before login. It is not `LOGOUT`.
 fn log_in(alloc: Global, config: &HostConfig, line: &[u8]) -> Result<Reply, OutOfMemory>
-    requires { line.now ≡ codes "LOGOUT" → ⊥ }
+    requires { line.now ≡ texts.logout → ⊥ }
     ensures { (seconds : ℕ) → IfOk result (λ r. IsRowText config.now waiting line.now seconds r.lines (state_of r.stage)) }
 {
     match read_login(line) {
@@ -167,7 +169,7 @@ fn log_in(alloc: Global, config: &HostConfig, line: &[u8]) -> Result<Reply, OutO
             if is_login(first_word(line)) {
                 Ok(Reply {
                     stage: HostStage::Waiting,
-                    lines: Lines::one(alloc, b"LOGIN:incorrect")?,
+                    lines: Lines::one(alloc, texts::LOGIN_INCORRECT)?,
                 })
             } else {
                 Ok(Reply {
@@ -182,11 +184,11 @@ fn log_in(alloc: Global, config: &HostConfig, line: &[u8]) -> Result<Reply, OutO
 // Lets the client in, and offers it the game.
 fn offer(alloc: Global, config: &HostConfig, name: ArrayVec<u8, 32>) -> Result<Reply, OutOfMemory>
     ensures { IfOk result (λ r. (state_of r.stage ≡ offered name.items)
-        × (r.lines ≡ text_of ((codes "LOGIN:" ++ (name.items ++ codes " OK")) ∷ summary_lines config.now name.items))) }
+        × (r.lines ≡ text_of ((texts.login_answer ++ (name.items ++ texts.ok)) ∷ summary_lines config.now name.items))) }
 {
     let mut lines = Lines::new(alloc);
-    lines.push_part(b"LOGIN:")?;
-    lines.push_joined(name.as_slice(), b" OK")?;
+    lines.push_part(texts::LOGIN_ANSWER)?;
+    lines.push_joined(name.as_slice(), texts::OK)?;
     push_summary(&mut lines, config, name.as_slice())?;
     Ok(Reply {
         stage: HostStage::Offered(name),
@@ -202,12 +204,12 @@ fn agree(
     line: &[u8],
 ) -> Result<Reply, OutOfMemory>
     requires few { config.now.max_moves ≤ 10000 }
-    requires stays { line.now ≡ codes "LOGOUT" → ⊥ }
+    requires stays { line.now ≡ texts.logout → ⊥ }
     ensures { (seconds : ℕ) → IfOk result (λ r. IsRowText config.now (offered name.items) line.now seconds r.lines (state_of r.stage)) }
 {
-    if is_word_and_one(line, b"AGREE") {
+    if is_word_and_one(line, texts::AGREE) {
         begin(alloc, config)
-    } else if is_word_and_one(line, b"REJECT") {
+    } else if is_word_and_one(line, texts::REJECT) {
         reject(alloc, config, name.as_slice())
     } else {
         Ok(Reply {
@@ -220,12 +222,12 @@ fn agree(
 // Tells the client of that name that it called the game off.
 fn reject(alloc: Global, config: &HostConfig, name: &[u8]) -> Result<Reply, OutOfMemory>
     ensures { IfOk result (λ r. (state_of r.stage ≡ ended)
-        × (r.lines ≡ text_of ((codes "REJECT:" ++ (config.now.id.bytes ++ (codes " by " ++ name.now))) ∷ []))) }
+        × (r.lines ≡ text_of ((texts.rejected ++ (config.now.id.bytes ++ (texts.by ++ name.now))) ∷ []))) }
 {
     let mut lines = Lines::new(alloc);
-    lines.push_part(b"REJECT:")?;
+    lines.push_part(texts::REJECTED)?;
     lines.push_part(config.id.as_str().as_bytes())?;
-    lines.push_joined(b" by ", name)?;
+    lines.push_joined(texts::BY, name)?;
     Ok(Reply {
         stage: HostStage::Ended,
         lines,
@@ -238,7 +240,7 @@ fn begin(alloc: Global, config: &HostConfig) -> Result<Reply, OutOfMemory>
     ensures { IfOk result (λ r. Begins config.now r.lines (state_of r.stage)) }
 {
     let mut lines = Lines::new(alloc);
-    lines.push_joined(b"START:", config.id.as_str().as_bytes())?;
+    lines.push_joined(texts::START, config.id.as_str().as_bytes())?;
     let game = Line::new(alloc, Position::even())?;
     match config.client {
         Color::Black => Ok(Reply {

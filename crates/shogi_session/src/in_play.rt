@@ -1,4 +1,4 @@
-ghost use Rattle.std.specs.Prelude.{◌≡◌, ◌↔◌, ◌≤◌, if◌then◌else◌, ℕ, true, Option, None, Some, is_some, [], ◌∷◌, map, codes, IsTrue, IfOk, IfSome, OnOk, OnErr, MatchResult};
+ghost use Rattle.std.specs.Prelude.{◌≡◌, ◌↔◌, ◌≤◌, if◌then◌else◌, ℕ, true, Option, None, Some, is_some, [], ◌∷◌, map, IsTrue, IfOk, IfSome, OnOk, OnErr, MatchResult};
 ghost use Rattle.csa_record.specs.Game.{Game, move_of};
 ghost use Rattle.shogi_rules.specs.Play.{Answers};
 ghost use Rattle.shogi_session.specs.declared.config.Config.{Config};
@@ -8,6 +8,7 @@ ghost use Rattle.shogi_session.specs.declared.fault.SessionFault.TheVariants.{Ba
 ghost use Rattle.shogi_session.specs.declared.phase.Answer.TheVariants as given;
 ghost use Rattle.shogi_session.specs.declared.state.EngineState.TheVariants.{Thinking};
 ghost use Rattle.shogi_session.specs.Events.{server_line};
+ghost use Rattle.shogi_session.specs.LineTexts as texts;
 ghost use Rattle.shogi_session.specs.MoveLines.{is_move_line};
 ghost use Rattle.shogi_session.specs.Phases.{Confirms, GoesOn, IsOn, IsPlay, KeepsEnding, Reacts, Same, Stays, TellsEnd, closed, finish_of, match_in, play_client, waiting_in, why_of};
 ghost use Rattle.shogi_session.specs.Row.{IsExpected, gameover_line, with_reason};
@@ -30,6 +31,7 @@ use crate::server_words::{
     EndReason, GameResult, is_ending_line, is_hash_line, read_reason, read_result,
 };
 use crate::state::EngineState;
+use crate::texts;
 use csa_record::{OrderFault, Record, Why};
 use csa_text::Ending;
 use shogi_board::{Color, OutOfMemory};
@@ -313,13 +315,13 @@ fn close(play: &mut Play, reason: Option<EndReason>, game_result: GameResult)
 
 // Tells the engine and the server that the game is over.
 fn say_end(alloc: Global, game_result: GameResult) -> Result<Out, OutOfMemory>
-    ensures engine { IfOk result (λ out. out.to_engine ≡ text_of (gameover_line (outcome game_result) ∷ codes "quit" ∷ [])) }
-    ensures server { IfOk result (λ out. out.to_server ≡ text_of (codes "LOGOUT" ∷ [])) }
+    ensures engine { IfOk result (λ out. out.to_engine ≡ text_of (gameover_line (outcome game_result) ∷ texts.quit ∷ [])) }
+    ensures server { IfOk result (λ out. out.to_server ≡ text_of (texts.logout ∷ [])) }
     ensures status { IfOk result (λ out. out.status ≡ Going) }
 {
     let mut to_engine = Lines::one(alloc, gameover_line(game_result))?;
-    to_engine.push(b"quit")?;
-    let to_server = Lines::one(alloc, b"LOGOUT")?;
+    to_engine.push(texts::QUIT)?;
+    let to_server = Lines::one(alloc, texts::LOGOUT)?;
     Ok(Out {
         to_engine,
         to_server,
@@ -331,8 +333,8 @@ fn gameover_line(game_result: GameResult) -> &'static [u8]
     ensures { result.now ≡ gameover_line (outcome game_result) }
 {
     match game_result {
-        GameResult::Win => b"gameover win",
-        GameResult::Lose => b"gameover lose",
-        GameResult::Draw | GameResult::Censored | GameResult::Chudan => b"gameover draw",
+        GameResult::Win => texts::GAME_WON,
+        GameResult::Lose => texts::GAME_LOST,
+        GameResult::Draw | GameResult::Censored | GameResult::Chudan => texts::GAME_DRAWN,
     }
 }

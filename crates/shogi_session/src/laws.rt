@@ -6,6 +6,7 @@ ghost use Rattle.csa_record.specs.Game.{Game};
 ghost use Rattle.csa_record.specs.Items.{AtMostOne};
 ghost use Rattle.shogi_session.specs.declared.config.Config.{Config};
 ghost use Rattle.shogi_session.specs.declared.config.HostConfig.{HostConfig};
+ghost use Rattle.shogi_session.specs.declared.event.Status.{Status};
 ghost use Rattle.shogi_session.specs.declared.state.EngineState.TheVariants.{Thinking};
 ghost use Rattle.shogi_session.specs.Asking.{MayAsk};
 ghost use Rattle.shogi_session.specs.declared.fault.MoveCause.TheVariants.{Refused, Unsent};
@@ -19,14 +20,16 @@ ghost use Rattle.shogi_session.specs.GameTold.{game_of};
 ghost use Rattle.shogi_session.specs.Host.{HostRow, HostState, IsHostConfig};
 ghost use Rattle.shogi_session.specs.HostLogs.{HostLeads, HostStep, IsTimedGame, Timed, written, written_moves};
 ghost use Rattle.shogi_session.specs.Hearing.{heard_after};
+ghost use Rattle.shogi_session.specs.LineTexts as texts;
 ghost use Rattle.shogi_session.specs.Logs.{Confirmed, GameOf, Leads, Moved, Step, Taken, TellsGame, counted, is_answer, is_sound, sends, server_lines};
 ghost use Rattle.shogi_session.specs.MoveLines.{is_move_line};
-ghost use Rattle.shogi_session.specs.Promises.{KeepsGame};
+ghost use Rattle.shogi_session.specs.Promises.{KeepsGame, Session, StepRow, Steps};
 ghost use Rattle.shogi_session.specs.Row.{Row, failed};
 ghost use Rattle.shogi_session.specs.Sample.{SampleState, SampleRow};
 ghost use Rattle.shogi_session.specs.Sending.{AskedRight, IsAnswered, IsPrefix, OwnSent, is_position_line};
 ghost use Rattle.shogi_session.specs.State.{Match, State, move, playing, sent, with_move};
 ghost use Rattle.shogi_session.specs.Summary.{CountsAs, Heard, Offer, nothing_heard};
+ghost use Rattle.shogi_session.specs.Texts.{text_of};
 
 /// One line leads the sample engine to one answer and one state.
 pub fn sample_row_once()
@@ -62,6 +65,16 @@ pub fn row_once()
         → Row c s e out t → Row c s e other u → (out ≡ other) × (t ≡ u) }
 {}
 
+/// A step that is a row, gives the bytes of that row's lines and its status, and keeps what it was
+/// configured with, is a step as a whole.
+pub fn step_whole()
+    ensures { (old new : Session) (e : Event) (to_engine to_server : List ℕ) (status : Status)
+        → ((out : Out) × StepRow old e out new)
+        → ((out : Out) → StepRow old e out new → to_engine ≡ text_of out.to_engine)
+        → ((out : Out) → StepRow old e out new → to_server ≡ text_of out.to_server)
+        → status ≡ new.state.status → new.config ≡ old.config → Steps old e to_engine to_server status new }
+{}
+
 /// In every log an engine that thinks while the client plays is one that may be asked: the client is
 /// to move, the position does not stand for the fourth time, and fewer than 10,000 moves stand.
 pub fn thinking_may_ask()
@@ -89,7 +102,7 @@ pub fn sent_once()
     ensures answers { (c : Config) (log : List Step) (s t : State) (e : Event) (out : Out) → Leads c log s → Row c s e out t
         → list_any is_answer out.to_server ≡ true → AtMostOne out.to_server × OwnSent log [] }
     ensures log { (c : Config) (log : List Step) (s : State) → Leads c log s
-        → list_any (sends (codes "AGREE")) (counted log) ≡ true → (waiting : List (List ℕ)) × OwnSent log waiting }
+        → list_any (sends texts.agree) (counted log) ≡ true → (waiting : List (List ℕ)) × OwnSent log waiting }
 {}
 
 /// In every log, each `position` line that a step sends the engine is that of the game which the log
@@ -107,7 +120,7 @@ pub fn asked_right()
 pub fn game_told()
     ensures log { (c : Config) (log : List Step) (s : State) → Leads c log s → TellsGame s.client log }
     ensures none { (c : Config) (log : List Step) (s : State) → Leads c log s
-        → ((game_of s.client ≡ None) ↔ (list_any (sends (codes "AGREE")) (counted log) ≡ false)) }
+        → ((game_of s.client ≡ None) ↔ (list_any (sends texts.agree) (counted log) ≡ false)) }
     ensures once { (log : List Step) (g h : Game) → GameOf log g → GameOf log h → g ≡ h }
     ensures no_headers { (log : List Step) (g : Game) → GameOf log g → g.headers ≡ [] }
     ensures fault { (log : List Step) (step : Step) → is_sound step.status ≡ false

@@ -34,6 +34,7 @@ mod server_words;
 mod stage;
 mod state;
 mod summary_reader;
+mod texts;
 mod words;
 
 pub use bridge::Bridge;

@@ -1,6 +1,7 @@
 ghost use Rattle.std.specs.Prelude.{◌≡◌, ◌∷◌, [], ◌++◌, IfOk, OnOk};
 ghost use Rattle.shogi_session.specs.Texts.{ended_line, text_of, with_time};
 
+use crate::texts;
 use itoa::Buffer;
 use shogi_board::OutOfMemory;
 use std::alloc::Global;
@@ -69,7 +70,7 @@ impl Lines {
     {
         let mut buffer = Buffer::new();
         self.push_part(text)?;
-        self.push_joined(b",T", buffer.format(seconds).as_bytes())
+        self.push_joined(texts::TIME, buffer.format(seconds).as_bytes())
     }
 
     // Adds a part of a line.

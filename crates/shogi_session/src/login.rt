@@ -1,11 +1,13 @@
-ghost use Rattle.std.specs.Prelude.{◌≡◌, ◌++◌, ◌∷◌, [], decimal, ℕ, List, ◌↔◌, IsTrue, OnOk, MatchOption, codes};
+ghost use Rattle.std.specs.Prelude.{◌≡◌, ◌++◌, ◌∷◌, [], decimal, ℕ, List, ◌↔◌, IsTrue, OnOk, MatchOption};
 ghost use Rattle.csa_text.specs.Codes.{sign};
 ghost use Rattle.shogi_board.specs.declared.color.Color.TheVariants.{Black, White};
 ghost use Rattle.shogi_session.specs.Host.{IsLogin, IsLoginWord, name_for, summary_lines};
+ghost use Rattle.shogi_session.specs.LineTexts as texts;
 ghost use Rattle.shogi_session.specs.Texts.{text_of};
 
 use crate::config::HostConfig;
 use crate::lines::Lines;
+use crate::texts;
 use crate::words::next_word;
 use arrayvec::ArrayVec;
 use itoa::Buffer;
@@ -40,9 +42,9 @@ pub(crate) fn read_login(line: &[u8]) -> Option<ArrayVec<u8, 32>>
 
 // Whether the word is `LOGIN`.
 pub(crate) fn is_login(word: &[u8]) -> bool
-    ensures { IsTrue result ↔ (word.now ≡ codes "LOGIN") }
+    ensures { IsTrue result ↔ (word.now ≡ texts.login) }
 {
-    word == b"LOGIN".as_slice()
+    word == texts::LOGIN
 }
 
 fn is_login_word(word: &[u8]) -> bool
@@ -66,54 +68,59 @@ pub(crate) fn push_summary(
 }
 
 fn push_head(lines: &mut Lines, config: &HostConfig) -> Result<(), OutOfMemory>
-    ensures { OnOk result (lines.new ≡ lines.old ++ text_of (codes "BEGIN Game_Summary" ∷ (codes "Game_ID:" ++ config.now.id.bytes) ∷ [])) }
+    ensures { OnOk result (lines.new ≡ lines.old ++ text_of (texts.begin_summary ∷ (texts.game_id ++ config.now.id.bytes) ∷ [])) }
 {
-    lines.push(b"BEGIN Game_Summary")?;
-    lines.push_joined(b"Game_ID:", config.id.as_str().as_bytes())
+    lines.push(texts::BEGIN_SUMMARY)?;
+    lines.push_joined(texts::GAME_ID, config.id.as_str().as_bytes())
 }
 
 // Adds the client's side, the side to move and the length of the game.
 fn push_turn(lines: &mut Lines, config: &HostConfig) -> Result<(), OutOfMemory>
-    ensures { OnOk result (lines.new ≡ lines.old ++ text_of ((codes "Your_Turn:" ++ sign config.now.client ∷ [])
-        ∷ codes "To_Move:+" ∷ (codes "Max_Moves:" ++ decimal config.now.max_moves) ∷ [])) }
+    ensures { OnOk result (lines.new ≡ lines.old ++ text_of ((texts.your_turn ++ sign config.now.client ∷ [])
+        ∷ texts.black_to_move ∷ (texts.most_moves ++ decimal config.now.max_moves) ∷ [])) }
 {
     let mut buffer = Buffer::new();
-    lines.push_joined(b"Your_Turn:", sign_of(config.client))?;
-    lines.push(b"To_Move:+")?;
-    lines.push_joined(b"Max_Moves:", buffer.format(config.max_moves).as_bytes())
+    lines.push_joined(texts::YOUR_TURN, sign_of(config.client))?;
+    lines.push(texts::BLACK_TO_MOVE)?;
+    lines.push_joined(
+        texts::MOST_MOVES,
+        buffer.format(config.max_moves).as_bytes(),
+    )
 }
 
 fn sign_of(color: Color) -> &'static [u8]
     ensures { result.now ≡ sign color ∷ [] }
 {
     match color {
-        Color::Black => b"+",
-        Color::White => b"-",
+        Color::Black => texts::BLACK,
+        Color::White => texts::WHITE,
     }
 }
 
 // Adds the even start with black to move.
 fn push_position(lines: &mut Lines) -> Result<(), OutOfMemory>
-    ensures { OnOk result (lines.new ≡ lines.old ++ text_of (codes "BEGIN Position" ∷ codes "PI" ∷ codes "+" ∷ codes "END Position"
-        ∷ codes "END Game_Summary" ∷ [])) }
+    ensures { OnOk result (lines.new ≡ lines.old ++ text_of (texts.begin_position ∷ texts.even_start ∷ texts.black ∷ texts.end_position
+        ∷ texts.end_summary ∷ [])) }
 {
-    lines.push_part(b"BEGIN Position\nPI\n+\nEND Position\nEND Game_Summary\n")
+    lines.push_two(texts::BEGIN_POSITION, texts::EVEN_START)?;
+    lines.push_two(texts::BLACK, texts::END_POSITION)?;
+    lines.push(texts::END_SUMMARY)
 }
 
 // Adds the names of both sides.
 fn push_names(lines: &mut Lines, config: &HostConfig, name: &[u8]) -> Result<(), OutOfMemory>
-    ensures { OnOk result (lines.new ≡ lines.old ++ text_of ((codes "Name+:" ++ name_for config.now name.now Black)
-        ∷ (codes "Name-:" ++ name_for config.now name.now White) ∷ [])) }
+    ensures { OnOk result (lines.new ≡ lines.old ++ text_of ((texts.black_name ++ name_for config.now name.now Black)
+        ∷ (texts.white_name ++ name_for config.now name.now White) ∷ [])) }
 {
     let host = config.name.as_str().as_bytes();
     match config.client {
         Color::Black => {
-            lines.push_joined(b"Name+:", name)?;
-            lines.push_joined(b"Name-:", host)
+            lines.push_joined(texts::BLACK_NAME, name)?;
+            lines.push_joined(texts::WHITE_NAME, host)
         }
         Color::White => {
-            lines.push_joined(b"Name+:", host)?;
-            lines.push_joined(b"Name-:", name)
+            lines.push_joined(texts::BLACK_NAME, host)?;
+            lines.push_joined(texts::WHITE_NAME, name)
         }
     }
 }

@@ -7,6 +7,7 @@ ghost use Rattle.shogi_board.specs.declared.color.Color.{Color};
 ghost use Rattle.shogi_session.specs.Offers.{IsNamed, IsOfferRead, offer_of};
 
 use crate::position_text::read_position;
+use crate::texts;
 use csa_record::Record;
 use shogi_board::{Color, OutOfMemory};
 use std::alloc::Global;
@@ -52,9 +53,9 @@ fn color_of(turn: &[u8]) -> Option<Color>
         ((color : Color) → turn.now ≡ sign color ∷ [] → ⊥)
         (λ color. turn.now ≡ sign color ∷ []) }
 {
-    if turn == b"+".as_slice() {
+    if turn == texts::BLACK {
         Some(Color::Black)
-    } else if turn == b"-".as_slice() {
+    } else if turn == texts::WHITE {
         Some(Color::White)
     } else {
         None

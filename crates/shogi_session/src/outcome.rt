@@ -4,6 +4,7 @@ ghost use Rattle.shogi_session.specs.Texts.{text_of};
 
 use crate::config::HostConfig;
 use crate::lines::Lines;
+use crate::texts;
 use shogi_board::{Color, OutOfMemory};
 use shogi_rules::{Line, Verdict};
 
@@ -42,12 +43,12 @@ pub(crate) fn push_outcome(
     ensures { OnOk result (lines.new ≡ lines.old ++ text_of (outcome_lines config.now outcome)) }
 {
     match outcome {
-        Outcome::Repetition => lines.push_two(b"#SENNICHITE", b"#DRAW"),
+        Outcome::Repetition => lines.push_two(texts::SENNICHITE, texts::DRAW),
         Outcome::Perpetual(loser) if loser == config.client => lines.push_two(
-            b"#OUTE_SENNICHITE",
-            b"#LOSE",
+            texts::OUTE_SENNICHITE,
+            texts::LOSE,
         ),
-        Outcome::Perpetual(_) => lines.push_two(b"#OUTE_SENNICHITE", b"#WIN"),
-        Outcome::MaxMoves => lines.push_two(b"#MAX_MOVES", b"#CENSORED"),
+        Outcome::Perpetual(_) => lines.push_two(texts::OUTE_SENNICHITE, texts::WIN),
+        Outcome::MaxMoves => lines.push_two(texts::MAX_MOVES, texts::CENSORED),
     }
 }

@@ -1,4 +1,4 @@
-ghost use Rattle.std.specs.Prelude.{◌≡◌, ◌++◌, ◌<◌, ◌≤◌, ◌∷◌, [], codes, length, true, ◌↔◌, IsTrue, IfOk, OnOk};
+ghost use Rattle.std.specs.Prelude.{◌≡◌, ◌++◌, ◌<◌, ◌≤◌, ◌∷◌, [], length, true, ◌↔◌, IsTrue, IfOk, OnOk};
 ghost use Rattle.shogi_rules.specs.Legal.{Legal};
 ghost use Rattle.shogi_rules.specs.Order.{IsFirstLegal};
 ghost use Rattle.shogi_rules.specs.Positions.{now_of, all_of};
@@ -6,6 +6,7 @@ ghost use Rattle.shogi_rules.specs.Repetition.{Over};
 ghost use Rattle.csa_text.specs.Codes.{move_text};
 ghost use Rattle.shogi_session.specs.Host.{playing, decided, outcome_lines, with_move};
 ghost use Rattle.shogi_session.specs.Hosting.{Follows, IsRowText, Rests, Tries, MovesBehind, state_of};
+ghost use Rattle.shogi_session.specs.LineTexts as texts;
 ghost use Rattle.shogi_session.specs.MoveLines.{is_move_line};
 ghost use Rattle.shogi_session.specs.Texts.{ended_line, text_of, with_time};
 
@@ -14,6 +15,7 @@ use crate::lines::Lines;
 use crate::move_line::{is_move_line, read_move_line};
 use crate::outcome::{Outcome, outcome_of, push_outcome};
 use crate::stage::{HostStage, Reply};
+use crate::texts;
 use crate::words::is_same;
 use csa_text::csa_move;
 use shogi_board::{Color, OutOfMemory};
@@ -29,15 +31,15 @@ pub(crate) fn answer_in_play(
     seconds: u32,
 ) -> Result<Reply, OutOfMemory>
     requires few { config.now.max_moves ≤ 10000 }
-    requires stays { line.now ≡ codes "LOGOUT" → ⊥ }
+    requires stays { line.now ≡ texts.logout → ⊥ }
     ensures { IfOk result (λ r. IsRowText config.now (playing game) line.now seconds r.lines (state_of r.stage)) }
 {
     if is_move_line(line) {
         take_move(alloc, config, game, line, seconds)
-    } else if is_same(line, b"%TORYO") {
-        decide(alloc, line, seconds, b"#RESIGN", b"#LOSE")
-    } else if is_same(line, b"%KACHI") {
-        decide(alloc, line, seconds, b"#JISHOGI", b"#WIN")
+    } else if is_same(line, texts::TORYO) {
+        decide(alloc, line, seconds, texts::RESIGN, texts::LOSE)
+    } else if is_same(line, texts::KACHI) {
+        decide(alloc, line, seconds, texts::JISHOGI, texts::WIN)
     } else {
         Ok(Reply {
             stage: HostStage::Playing(game),
@@ -148,10 +150,10 @@ fn end_by(config: &HostConfig, outcome: Outcome, lines: Lines) -> Result<Reply, 
 }
 
 fn lose_by_error(alloc: Global) -> Result<Reply, OutOfMemory>
-    ensures { IfOk result (λ r. (state_of r.stage ≡ decided) × (r.lines ≡ text_of (codes "#ILLEGAL_MOVE" ∷ codes "#LOSE" ∷ []))) }
+    ensures { IfOk result (λ r. (state_of r.stage ≡ decided) × (r.lines ≡ text_of (texts.illegal_move ∷ texts.lose ∷ []))) }
 {
     let mut lines = Lines::new(alloc);
-    lines.push_two(b"#ILLEGAL_MOVE", b"#LOSE")?;
+    lines.push_two(texts::ILLEGAL_MOVE, texts::LOSE)?;
     Ok(Reply {
         stage: HostStage::Decided,
         lines,
@@ -180,11 +182,11 @@ pub(crate) fn move_host(config: &HostConfig, game: Line, lines: Lines) -> Result
 
 fn resign(lines: Lines) -> Result<Reply, OutOfMemory>
     ensures { IfOk result (λ r. (state_of r.stage ≡ decided)
-        × (r.lines ≡ lines ++ text_of (with_time (codes "%TORYO") 0 ∷ codes "#RESIGN" ∷ codes "#WIN" ∷ []))) }
+        × (r.lines ≡ lines ++ text_of (with_time texts.toryo 0 ∷ texts.resign ∷ texts.win ∷ []))) }
 {
     let mut lines = lines;
-    lines.push_timed(b"%TORYO", 0)?;
-    lines.push_two(b"#RESIGN", b"#WIN")?;
+    lines.push_timed(texts::TORYO, 0)?;
+    lines.push_two(texts::RESIGN, texts::WIN)?;
     Ok(Reply {
         stage: HostStage::Decided,
         lines,

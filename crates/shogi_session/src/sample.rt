@@ -1,15 +1,17 @@
-ghost use Rattle.std.specs.Prelude.{◌≡◌, ◌⊎◌, ◌∷◌, [], codes, ◌↔◌, IsTrue, IsOk, IfOk, OnErr, None, MatchOption};
+ghost use Rattle.std.specs.Prelude.{◌≡◌, ◌⊎◌, ◌∷◌, [], ◌↔◌, IsTrue, IsOk, IfOk, OnErr, None, MatchOption};
 ghost use Rattle.shogi_rules.specs.declared.moves.Move.{Move};
 ghost use Rattle.shogi_rules.specs.Order.{IsFirstLegal};
 ghost use Rattle.shogi_rules.specs.Positions.{now_of, all_of};
 ghost use Rattle.shogi_rules.specs.Repetition.{Over};
 ghost use Rattle.shogi_rules.specs.Verdicts.{NoLegalMove};
+ghost use Rattle.shogi_session.specs.LineTexts as texts;
 ghost use Rattle.shogi_session.specs.Requests.{Asks, IsRowText, IsGoText};
 ghost use Rattle.shogi_session.specs.Sample.{IsBest, IsGameOf, keeps, quit};
 ghost use Rattle.shogi_session.specs.Texts.{text_of};
 ghost use Rattle.usi_text.specs.Moves.{UsiMove};
 
 use crate::lines::Lines;
+use crate::texts;
 use crate::words::{first_word, is_word};
 use arrayvec::ArrayString;
 use shogi_board::{OutOfMemory, Position};
@@ -119,7 +121,7 @@ impl Sample {
         };
         match read_request(line) {
             Request::Usi => greet(self.alloc),
-            Request::IsReady => Lines::one(self.alloc, b"readyok"),
+            Request::IsReady => Lines::one(self.alloc, texts::READY_OK),
             Request::Position => {
                 self.stage = Stage::Keeping(read_game(self.alloc, line)?);
                 Ok(Lines::new(self.alloc))
@@ -138,15 +140,15 @@ fn read_request(line: &[u8]) -> Request
     ensures { Asks line.now result }
 {
     let first = first_word(line);
-    if first == b"position".as_slice() {
+    if first == texts::POSITION {
         Request::Position
-    } else if first == b"go".as_slice() {
+    } else if first == texts::GO {
         Request::Go
-    } else if is_word(line, b"usi") {
+    } else if is_word(line, texts::USI) {
         Request::Usi
-    } else if is_word(line, b"isready") {
+    } else if is_word(line, texts::IS_READY) {
         Request::IsReady
-    } else if is_word(line, b"quit") {
+    } else if is_word(line, texts::QUIT) {
         Request::Quit
     } else {
         Request::Other
@@ -154,12 +156,12 @@ fn read_request(line: &[u8]) -> Request
 }
 
 fn greet(alloc: Global) -> Result<Lines, OutOfMemory>
-    ensures { IfOk result (λ l. l ≡ text_of (codes "id name shogi" ∷ codes "id author shogi" ∷ codes "usiok" ∷ [])) }
+    ensures { IfOk result (λ l. l ≡ text_of (texts.id_name ∷ texts.id_author ∷ texts.usi_ok ∷ [])) }
 {
     let mut lines = Lines::new(alloc);
-    lines.push(b"id name shogi")?;
-    lines.push(b"id author shogi")?;
-    lines.push(b"usiok")?;
+    lines.push(texts::ID_NAME)?;
+    lines.push(texts::ID_AUTHOR)?;
+    lines.push(texts::USI_OK)?;
     Ok(lines)
 }
 
@@ -190,13 +192,13 @@ fn best_line(alloc: Global, kept: &Option<Line>) -> Result<Lines, OutOfMemory>
     ensures { IfOk result (λ lines. IsGoText kept.now lines) }
 {
     let Some(game) = kept else {
-        return Lines::one(alloc, b"bestmove resign");
+        return Lines::one(alloc, texts::NO_BEST_MOVE);
     };
     let Some(word) = best_move(game) else {
-        return Lines::one(alloc, b"bestmove resign");
+        return Lines::one(alloc, texts::NO_BEST_MOVE);
     };
     let mut lines = Lines::new(alloc);
-    lines.push_part(b"bestmove ")?;
+    lines.push_part(texts::BEST_MOVE)?;
     lines.push(word.as_str().as_bytes())?;
     Ok(lines)
 }

@@ -1,10 +1,11 @@
-ghost use Rattle.std.specs.Prelude.{◌≡◌, ℕ, List, false, codes, IfOk, MatchResult};
+ghost use Rattle.std.specs.Prelude.{◌≡◌, ℕ, List, false, IfOk, MatchResult};
 ghost use Rattle.csa_record.specs.Limits.{IsOneLine};
 ghost use Rattle.shogi_session.specs.declared.config.Config.{Config};
 ghost use Rattle.shogi_session.specs.declared.phase.Phase.TheVariants.{BeforeSummary, LoggingIn};
 ghost use Rattle.shogi_session.specs.declared.phase.Stage.TheVariants as stages;
 ghost use Rattle.shogi_session.specs.declared.state.EngineState.{EngineState};
 ghost use Rattle.shogi_session.specs.Events.{server_line};
+ghost use Rattle.shogi_session.specs.LineTexts as texts;
 ghost use Rattle.shogi_session.specs.Offers.{IsToldBy, offer_of};
 ghost use Rattle.shogi_session.specs.Phases.{IsPhase, IsPlay, Reacts, Same, Stays, client_of, play_client};
 ghost use Rattle.shogi_session.specs.State as state;
@@ -21,6 +22,7 @@ use crate::phase::{Phase, Play, Stage};
 use crate::server_words::{is_hash_line, is_login_ok, is_reject_line, is_start_line};
 use crate::state::EngineState;
 use crate::summary_reader::SummaryReader;
+use crate::texts;
 use crate::words::is_same;
 use shogi_board::OutOfMemory;
 use std::alloc::Global;
@@ -45,7 +47,7 @@ pub(crate) fn hear_server(
         Phase::LoggingIn => Ok(hear_login(alloc, phase, line)),
         Phase::BeforeSummary => Ok(hear_begin(alloc, phase, line)),
         Phase::Summary(reader) => {
-            if is_same(line, b"END Game_Summary") {
+            if is_same(line, texts::END_SUMMARY) {
                 let found = reader.finish()?;
                 end_summary(alloc, phase, found)
             } else {
@@ -66,7 +68,7 @@ fn hear_login(alloc: Global, phase: &mut Phase, line: &[u8]) -> Out
         *phase = Phase::BeforeSummary;
         return no_lines(alloc);
     }
-    if is_same(line, b"LOGIN:incorrect") {
+    if is_same(line, texts::LOGIN_INCORRECT) {
         return failed(alloc, SessionFault::LoginRefused);
     }
     no_lines(alloc)
@@ -78,7 +80,7 @@ fn hear_begin(alloc: Global, phase: &mut Phase, line: &[u8]) -> Out
     ensures keeps { IsPhase phase.new }
     ensures answer { (c : Config) (engine : EngineState) → Reacts c engine (client_of phase.old) (server_line line.now) result engine (client_of phase.new) }
 {
-    if !is_same(line, b"BEGIN Game_Summary") {
+    if !is_same(line, texts::BEGIN_SUMMARY) {
         return no_lines(alloc);
     }
     *phase = Phase::Summary(SummaryReader::new(alloc));
@@ -88,7 +90,7 @@ fn hear_begin(alloc: Global, phase: &mut Phase, line: &[u8]) -> Out
 // Takes a line of a summary, not its last. Where memory is refused, the lines before it are given up.
 fn hear_summary(alloc: Global, reader: &mut SummaryReader, line: &[u8]) -> Result<Out, OutOfMemory>
     requires line { IsOneLine line.now }
-    requires not_last { line.now ≡ codes "END Game_Summary" → ⊥ }
+    requires not_last { line.now ≡ texts.end_summary → ⊥ }
     requires counts { (lines : List (List ℕ)) × CountsAs lines reader.old }
     ensures keeps { (lines : List (List ℕ)) × CountsAs lines reader.new }
     ensures answer { IfOk result (λ out. (c : Config) (engine : EngineState) → Reacts c engine (state.summary reader.old) (server_line line.now) out engine (state.summary reader.new)) }
@@ -112,12 +114,12 @@ fn end_summary(
     requires told { (h : Heard) × (client_of phase.old ≡ state.summary h) × IsToldBy h (offer_of found) }
     ensures keeps { IsPhase phase.new }
     ensures answer { (c : Config) (engine : EngineState) → MatchResult result
-        (λ out. Reacts c engine (client_of phase.old) (server_line (codes "END Game_Summary")) out engine (client_of phase.new))
+        (λ out. Reacts c engine (client_of phase.old) (server_line texts.end_summary) out engine (client_of phase.new))
         (λ fault. client_of phase.new ≡ client_of phase.old) }
 {
     match found {
         Some(offer) => {
-            let out = tell_server(alloc, b"AGREE")?;
+            let out = tell_server(alloc, texts::AGREE)?;
             *phase = Phase::InGame(play_of(offer));
             Ok(out)
         }
@@ -165,7 +167,7 @@ fn hear_in_game(
             }
         }
         Stage::Closing(told, game_result) => {
-            if is_same(line, b"LOGOUT:completed") {
+            if is_same(line, texts::LOGOUT_COMPLETED) {
                 play.stage = Stage::Ended(told, game_result);
                 Ok(silent(alloc, Status::Done))
             } else {
@@ -192,7 +194,7 @@ fn hear_agreed(
         (λ fault. Same engine.old (play_client play.old) engine.new (play_client play.new)) }
 {
     if is_start_line(line) {
-        let lines = Lines::one(alloc, b"usinewgame")?;
+        let lines = Lines::one(alloc, texts::NEW_GAME)?;
         return ask_engine(alloc, config, engine, play, lines);
     }
     if is_reject_line(line) {

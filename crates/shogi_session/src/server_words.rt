@@ -2,6 +2,8 @@ ghost use Rattle.std.specs.Prelude.{◌≡◌, None, Some, MatchOption, bytes_eq
 ghost use Rattle.shogi_session.specs.ServerLines.{is_ending_line, is_hash_line, is_login_ok, is_reject_line, is_start_line, outcome_of, reason_of};
 ghost use Rattle.shogi_session.specs.ServerWords.{outcome, reason};
 
+use crate::texts;
+
 // How a game ended for the client.
 #[derive(Clone, Copy, Debug, PartialEq, Eq)]
 pub(crate) enum GameResult {
@@ -29,21 +31,21 @@ pub(crate) enum EndReason {
 pub(crate) fn is_login_ok(line: &[u8]) -> bool
     ensures { result ≡ is_login_ok line.now }
 {
-    line.starts_with(b"LOGIN:".as_slice()) && line.ends_with(b" OK".as_slice())
+    line.starts_with(texts::LOGIN_ANSWER) && line.ends_with(texts::OK)
 }
 
 // Whether the line is `START:` ..
 pub(crate) fn is_start_line(line: &[u8]) -> bool
     ensures { result ≡ is_start_line line.now }
 {
-    line.starts_with(b"START:".as_slice())
+    line.starts_with(texts::START)
 }
 
 // Whether the line is `REJECT:` ..
 pub(crate) fn is_reject_line(line: &[u8]) -> bool
     ensures { result ≡ is_reject_line line.now }
 {
-    line.starts_with(b"REJECT:".as_slice())
+    line.starts_with(texts::REJECTED)
 }
 
 // Whether the line is one from `%`.
@@ -72,15 +74,15 @@ pub(crate) fn read_result(line: &[u8]) -> Option<GameResult>
         (outcome_of line.now ≡ None)
         (λ r. outcome_of line.now ≡ Some (outcome r)) }
 {
-    if is_text(line, b"#WIN") {
+    if is_text(line, texts::WIN) {
         Some(GameResult::Win)
-    } else if is_text(line, b"#LOSE") {
+    } else if is_text(line, texts::LOSE) {
         Some(GameResult::Lose)
-    } else if is_text(line, b"#DRAW") {
+    } else if is_text(line, texts::DRAW) {
         Some(GameResult::Draw)
-    } else if is_text(line, b"#CENSORED") {
+    } else if is_text(line, texts::CENSORED) {
         Some(GameResult::Censored)
-    } else if is_text(line, b"#CHUDAN") {
+    } else if is_text(line, texts::CHUDAN) {
         Some(GameResult::Chudan)
     } else {
         None
@@ -91,19 +93,19 @@ pub(crate) fn read_result(line: &[u8]) -> Option<GameResult>
 pub(crate) fn read_reason(line: &[u8]) -> EndReason
     ensures { reason result ≡ reason_of line.now }
 {
-    if is_text(line, b"#RESIGN") {
+    if is_text(line, texts::RESIGN) {
         EndReason::Resign
-    } else if is_text(line, b"#TIME_UP") {
+    } else if is_text(line, texts::TIME_UP) {
         EndReason::TimeUp
-    } else if is_text(line, b"#ILLEGAL_MOVE") {
+    } else if is_text(line, texts::ILLEGAL_MOVE) {
         EndReason::IllegalMove
-    } else if is_text(line, b"#SENNICHITE") {
+    } else if is_text(line, texts::SENNICHITE) {
         EndReason::Sennichite
-    } else if is_text(line, b"#OUTE_SENNICHITE") {
+    } else if is_text(line, texts::OUTE_SENNICHITE) {
         EndReason::OuteSennichite
-    } else if is_text(line, b"#JISHOGI") {
+    } else if is_text(line, texts::JISHOGI) {
         EndReason::Jishogi
-    } else if is_text(line, b"#MAX_MOVES") {
+    } else if is_text(line, texts::MAX_MOVES) {
         EndReason::MaxMoves
     } else {
         EndReason::Other

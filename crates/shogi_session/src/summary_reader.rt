@@ -6,6 +6,7 @@ ghost use Rattle.shogi_session.specs.Offers.{IsToldBy, offer_of};
 ghost use Rattle.shogi_session.specs.Summary.{end_line, is_position, nothing_heard};
 
 use crate::offer::{GameOffer, read_offer};
+use crate::texts;
 use shogi_board::OutOfMemory;
 use std::alloc::Global;
 use std::marker::Model;
@@ -77,7 +78,7 @@ impl SummaryReader {
         ensures { OnOk result (self.new ≡ heard_after self.old line.now) }
     {
         match place_of(&self.begun, line) {
-            Place::Begins => self.begin(&line[6..]),
+            Place::Begins => self.begin(&line[texts::BEGIN.len()..]),
             Place::Outside => self.take_values(line),
             Place::Ends => {
                 self.begun = None;
@@ -125,9 +126,9 @@ impl SummaryReader {
         requires { IsOneLine line.now }
         ensures { OnOk result (self.new ≡ outside self.old line.now) }
     {
-        take_value(&mut self.black, b"Name+:", line)?;
-        take_value(&mut self.white, b"Name-:", line)?;
-        take_value(&mut self.turn, b"Your_Turn:", line)
+        take_value(&mut self.black, texts::BLACK_NAME, line)?;
+        take_value(&mut self.white, texts::WHITE_NAME, line)?;
+        take_value(&mut self.turn, texts::YOUR_TURN, line)
     }
 }
 
@@ -144,7 +145,7 @@ fn place_of(begun: &Option<Vec<u8>>, line: &[u8]) -> Place
 fn place_outside(line: &[u8]) -> Place
     ensures { IsPlace None line.now result }
 {
-    if line.starts_with(b"BEGIN ".as_slice()) {
+    if line.starts_with(texts::BEGIN) {
         Place::Begins
     } else {
         Place::Outside
@@ -167,13 +168,13 @@ fn place_within(title: &[u8], line: &[u8]) -> Place
 fn is_end_of(title: &[u8], line: &[u8]) -> bool
     ensures { result ≡ bytes_eq line.now (end_line title.now) }
 {
-    line.starts_with(b"END ".as_slice()) && &line[4..] == title
+    line.starts_with(texts::END) && &line[texts::END.len()..] == title
 }
 
 fn is_position(title: &[u8]) -> bool
     ensures { result ≡ is_position title.now }
 {
-    title == b"Position".as_slice()
+    title == texts::POSITION_TITLE
 }
 
 // Keeps what stands behind the key, where the line begins with it, in place of what stood there.

@@ -1,0 +1,165 @@
+-- The texts that lines of both protocols are made of.
+use Rattle.std.specs.Prelude.{ℕ, List, codes}
+
+-- 1. The CSA server protocol: what a client sends
+abbrev pub login : List ℕ
+login = codes "LOGIN"
+
+abbrev pub login_front : List ℕ
+login_front = codes "LOGIN "
+
+abbrev pub agree : List ℕ
+agree = codes "AGREE"
+
+abbrev pub toryo : List ℕ
+toryo = codes "%TORYO"
+
+abbrev pub kachi : List ℕ
+kachi = codes "%KACHI"
+
+abbrev pub logout : List ℕ
+logout = codes "LOGOUT"
+
+-- 2. What a server answers to these: whole lines, and the parts of others
+abbrev pub login_answer : List ℕ
+login_answer = codes "LOGIN:"
+
+abbrev pub ok : List ℕ
+ok = codes " OK"
+
+abbrev pub login_incorrect : List ℕ
+login_incorrect = codes "LOGIN:incorrect"
+
+abbrev pub start : List ℕ
+start = codes "START:"
+
+abbrev pub rejected : List ℕ
+rejected = codes "REJECT:"
+
+abbrev pub by : List ℕ
+by = codes " by "
+
+abbrev pub logout_completed : List ℕ
+logout_completed = codes "LOGOUT:completed"
+
+-- 3. Its reasons
+abbrev pub resign : List ℕ
+resign = codes "#RESIGN"
+
+abbrev pub time_up : List ℕ
+time_up = codes "#TIME_UP"
+
+abbrev pub illegal_move : List ℕ
+illegal_move = codes "#ILLEGAL_MOVE"
+
+abbrev pub sennichite : List ℕ
+sennichite = codes "#SENNICHITE"
+
+abbrev pub oute_sennichite : List ℕ
+oute_sennichite = codes "#OUTE_SENNICHITE"
+
+abbrev pub jishogi : List ℕ
+jishogi = codes "#JISHOGI"
+
+abbrev pub max_moves : List ℕ
+max_moves = codes "#MAX_MOVES"
+
+-- 4. Its results
+abbrev pub win : List ℕ
+win = codes "#WIN"
+
+abbrev pub lose : List ℕ
+lose = codes "#LOSE"
+
+abbrev pub draw : List ℕ
+draw = codes "#DRAW"
+
+abbrev pub censored : List ℕ
+censored = codes "#CENSORED"
+
+abbrev pub chudan : List ℕ
+chudan = codes "#CHUDAN"
+
+-- 5. Its game summary
+abbrev pub begin : List ℕ
+begin = codes "BEGIN "
+
+abbrev pub begin_summary : List ℕ
+begin_summary = codes "BEGIN Game_Summary"
+
+abbrev pub end_summary : List ℕ
+end_summary = codes "END Game_Summary"
+
+abbrev pub begin_position : List ℕ
+begin_position = codes "BEGIN Position"
+
+abbrev pub end_position : List ℕ
+end_position = codes "END Position"
+
+abbrev pub game_id : List ℕ
+game_id = codes "Game_ID:"
+
+abbrev pub black_name : List ℕ
+black_name = codes "Name+:"
+
+abbrev pub white_name : List ℕ
+white_name = codes "Name-:"
+
+abbrev pub your_turn : List ℕ
+your_turn = codes "Your_Turn:"
+
+abbrev pub black_to_move : List ℕ
+black_to_move = codes "To_Move:+"
+
+abbrev pub most_moves : List ℕ
+most_moves = codes "Max_Moves:"
+
+abbrev pub even_start : List ℕ
+even_start = codes "PI"
+
+abbrev pub black : List ℕ
+black = codes "+"
+
+-- 6. The USI protocol: what an engine is sent
+abbrev pub usi : List ℕ
+usi = codes "usi"
+
+abbrev pub is_ready : List ℕ
+is_ready = codes "isready"
+
+abbrev pub new_game : List ℕ
+new_game = codes "usinewgame"
+
+abbrev pub position : List ℕ
+position = codes "position"
+
+abbrev pub go : List ℕ
+go = codes "go"
+
+abbrev pub game_drawn : List ℕ
+game_drawn = codes "gameover draw"
+
+abbrev pub quit : List ℕ
+quit = codes "quit"
+
+-- 7. What an engine answers
+abbrev pub id_name : List ℕ
+id_name = codes "id name shogi"
+
+abbrev pub id_author : List ℕ
+id_author = codes "id author shogi"
+
+abbrev pub usi_ok : List ℕ
+usi_ok = codes "usiok"
+
+abbrev pub best_move : List ℕ
+best_move = codes "bestmove "
+
+abbrev pub no_best_move : List ℕ
+no_best_move = codes "bestmove resign"
+
+abbrev pub engine_resigns : List ℕ
+engine_resigns = codes "resign"
+
+abbrev pub engine_wins : List ℕ
+engine_wins = codes "win"
