@@ -11,6 +11,7 @@ mod progress;
 mod streams;
 mod talk;
 mod usage;
+mod wire;
 
 use fault::Fault;
 use std::io::IsTerminal;

@@ -1,7 +1,7 @@
 //! What the commands read and write.
 
 ghost use Rattle.std.specs.Prelude.{◌≡◌, ◌≢◌, ◌⊎◌, ◌≤◌, length, IfOk, IfErr, OnOk};
-ghost use Rattle.std.specs.Io.KnownBytes.{Appends};
+ghost use Rattle.std.specs.Io.KnownBytes.{Appends, ReadConsumes};
 
 use crate::fault::Fault;
 use clap::{Arg, ArgMatches};
@@ -49,6 +49,7 @@ pub fn record<R: Files + Input + AllocGlobal>(
 /// The next bytes of the reader: how many there are, none only at its end. A read that is interrupted is made again.
 pub fn read<R: Read>(reader: &mut R, buffer: &mut [u8]) -> Result<usize, Fault>
     ensures within { IfOk result (λ taken. taken ≤ length buffer.new) }
+    ensures bytes { ReadConsumes (R.remaining reader.old) (R.remaining reader.new) result buffer.new }
     ensures faults { IfErr result (λ fault. (fault ≡ Fault.Read) ⊎ (fault ≡ Fault.OutOfMemory)) }
 {
     for _ in 0..u64::MAX {

@@ -4,6 +4,7 @@ ghost use Rattle.std.specs.Prelude.{◌≢◌, IfErr};
 
 use crate::fault::Fault;
 use crate::talk;
+use crate::wire::Exchange;
 use clap::Command;
 use shogi_session::Sample;
 use std::alloc::Global;
@@ -26,11 +27,7 @@ pub fn run<R: Input + Print + AllocGlobal>(rt: &R) -> Result<(), Fault>
     ensures faults { IfErr result (λ fault. (fault ≢ Fault.WordsNotText) × (fault ≢ Fault.UnknownCommand)) }
 {
     let mut engine = Sample::new(rt.alloc());
-    talk::answer_all(
-        rt.alloc(),
-        &mut engine,
-        &mut rt.reader(),
-        &mut io::writer(rt),
-    )?;
+    let mut wire = Exchange::new(rt.reader(), io::writer(rt));
+    talk::answer_all(rt.alloc(), &mut engine, &mut wire)?;
     Ok(())
 }

@@ -4,6 +4,7 @@ ghost use Rattle.std.specs.Prelude.{◌≡◌, ◌≢◌, ◌≤◌, IfErr, IfOk
 ghost use Rattle.shogi_session.specs.Host.{IsHostConfig};
 
 use crate::fault::Fault;
+use crate::wire::Exchange;
 use crate::{streams, talk};
 use arrayvec::ArrayString;
 use clap::{Arg, ArgAction, ArgMatches, Command, value_parser};
@@ -59,7 +60,8 @@ pub fn run<R: Net<Listener = TcpListener, Stream = TcpStream> + Print + AllocGlo
 {
     let client = accept(rt, words.get_one::<u16>("port").unwrap_or(0))?;
     let mut host = host_of(rt.alloc(), words)?;
-    match talk::answer_all(rt.alloc(), &mut host, &mut &client, &mut &client) {
+    let mut wire = Exchange::new(&client, &client);
+    match talk::answer_all(rt.alloc(), &mut host, &mut wire) {
         Ok(true) => Ok(()),
         Ok(false) => Err(Fault::ClientGone),
         Err(Fault::LongLine) => Err(Fault::ClientLineTooLong),
