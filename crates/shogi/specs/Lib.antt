@@ -1,3 +1,4 @@
 pub mod Faults
+pub mod Plays
 pub mod Talks
 pub mod Words

@@ -1,13 +1,63 @@
 //! A bridge, and the lines that come and go between it, its engine and its server.
 
-ghost use Rattle.std.specs.Prelude.{◌≡◌, ◌≢◌, IfErr};
+ghost use Rattle.std.specs.Prelude.{◌≡◌, ◌≢◌, [], true, false, IsErrOf, IsTrue, IfErr, IfOk, OnOk, OnErr};
+ghost use Rattle.csa_text.specs.Lines.{HasNoLineEnd};
+ghost use Rattle.shogi.specs.Plays.{Delivers, HearsNext, Played, Sends, end_of, event_from, seat_for};
+ghost use Rattle.shogi_session.specs.Promises.{HoldsLine, event_of};
+ghost use Rattle.shogi_session.specs.State.{waits_for};
+ghost use Rattle.shogi_session.specs.declared.event.Status.TheVariants.{Done, Failed};
 
 use crate::fault::Fault;
 use crate::incoming::{Heard, Incoming};
 use crate::progress::Progress;
 use crate::streams;
-use shogi_session::{Bridge, Event, Out, Status, Waits};
+use shogi_session::{Bridge, Event, Out, SessionFault, Status, Waits};
 use std::io::{Eprint, Read, Write};
+
+/// One of the two that a bridge plays between.
+#[derive(Clone, Copy, Debug, PartialEq, Eq)]
+pub enum Seat {
+    /// The engine.
+    Engine,
+    /// The server.
+    Server,
+}
+
+/// Where a bridge hears its engine and its server, and where its lines go to them.
+pub trait Ends {
+    ghost use Rattle.std.specs.Prelude.{ℕ, List};
+    ghost use Rattle.shogi.specs.declared.bridging.Seat.{Seat};
+    ghost use Rattle.shogi_session.specs.Events.{Event as Taken};
+
+    // The line of that seat that was heard last.
+    ghost last_line: { Self → Seat → List ℕ };
+
+    // The event came of that seat.
+    ghost heard: { Self → Seat → Taken → Self → Type 0 };
+
+    // The seat took these lines.
+    ghost told: { Self → Seat → List ℕ → Self → Type 0 };
+
+    // The seat did not take these lines, or not all of them.
+    ghost gone: { Self → Seat → List ℕ → Self → Type 0 };
+
+    /// What comes next of that seat. A line is lent by `line`.
+    ///
+    /// Refuses `Fault::OutOfMemory`.
+    fn hear(&mut self, seat: Seat) -> Result<Heard, Fault>
+        ensures heard { IfOk result (λ what. heard self.old seat (event_from seat what (last_line self.new seat)) self.new) }
+        ensures line { IfOk result (λ what. what ≡ Heard.Line → HasNoLineEnd (last_line self.new seat)) }
+        ensures faults { IfErr result (λ fault. fault ≡ Fault.OutOfMemory) };
+
+    /// The line of that seat that was heard last, without its line end.
+    fn line(&self, seat: Seat) -> &[u8]
+        ensures { result.now ≡ last_line self.now seat };
+
+    /// Hands the seat these lines: whether it took them all.
+    fn tell(&mut self, seat: Seat, lines: &[u8]) -> bool
+        ensures told { result ≡ true → told self.old seat lines.now self.new }
+        ensures gone { result ≡ false → gone self.old seat lines.now self.new };
+}
 
 /// What a bridge hears of its engine or of its server, and where it writes to it.
 #[derive(Drop)]
@@ -18,10 +68,47 @@ pub struct Side<'a, R: Read + Drop, W: Write + Drop> {
     pub writer: W,
 }
 
-impl<R: Read + Drop, W: Write + Drop> Side<'_, R, W> {
-    // Writes the lines, if there are any: whether that side took them.
-    fn tell(&mut self, lines: &[u8]) -> bool {
-        lines.is_empty() || streams::write_all(&mut self.writer, lines).is_ok()
+/// Both sides.
+#[derive(Drop)]
+pub struct Sides<'a, 'b, ER: Read + Drop, EW: Write + Drop, SR: Read + Drop, SW: Write + Drop> {
+    /// The engine's.
+    pub engine: Side<'a, ER, EW>,
+    /// The server's.
+    pub server: Side<'b, SR, SW>,
+}
+
+impl<ER: Read + Drop, EW: Write + Drop, SR: Read + Drop, SW: Write + Drop> Ends
+    for Sides<'_, '_, ER, EW, SR, SW> {
+    ghost use Rattle.std.specs.Prelude.{ℕ, List};
+    ghost use Rattle.shogi.specs.Plays.{line_by_seat};
+
+    ghost last_line = { λ s seat. line_by_seat seat s.engine.lines.now.line.items s.server.lines.now.line.items };
+
+    ghost heard = { λ _ _ _ _. Unit {0} };
+
+    ghost told = { λ _ _ _ _. Unit {0} };
+
+    ghost gone = { λ _ _ _ _. Unit {0} };
+
+    fn hear(&mut self, seat: Seat) -> Result<Heard, Fault> {
+        match seat {
+            Seat::Engine => self.engine.lines.hear(),
+            Seat::Server => self.server.lines.hear(),
+        }
+    }
+
+    fn line(&self, seat: Seat) -> &[u8] {
+        match seat {
+            Seat::Engine => self.engine.lines.line(),
+            Seat::Server => self.server.lines.line(),
+        }
+    }
+
+    fn tell(&mut self, seat: Seat, lines: &[u8]) -> bool {
+        match seat {
+            Seat::Engine => streams::write_all(&mut self.engine.writer, lines).is_ok(),
+            Seat::Server => streams::write_all(&mut self.server.writer, lines).is_ok(),
+        }
     }
 }
 
@@ -29,87 +116,129 @@ impl<R: Read + Drop, W: Write + Drop> Side<'_, R, W> {
 /// read, those to the engine first, until its session is over. A side whose read or write fails is gone.
 ///
 /// `Fault::Session` where the session fails.
-pub fn play<
-    E: Eprint + AllocGlobal,
-    ER: Read + Drop,
-    EW: Write + Drop,
-    SR: Read + Drop,
-    SW: Write + Drop,
->(
-    rt: &E,
+pub fn play<R: Eprint + AllocGlobal, E: Ends>(
+    rt: &R,
     bridge: &mut Bridge,
-    engine: &mut Side<'_, ER, EW>,
-    server: &mut Side<'_, SR, SW>,
+    ends: &mut E,
     progress: &mut Progress,
 ) -> Result<(), Fault>
+    ensures done { OnOk result (Played E.heard E.told E.gone ends.old bridge.old ends.new bridge.new Done) }
+    ensures failed { (fault : SessionFault) → IsErrOf result (Fault.Session fault) → Played E.heard E.told E.gone ends.old bridge.old ends.new bridge.new (Failed fault) }
     ensures faults { IfErr result (λ fault. (fault ≢ Fault.WordsNotText) × (fault ≢ Fault.UnknownCommand)) }
 {
     let mut out = bridge.step(Event::Begin)?;
-    for _ in 0..u64::MAX {
-        match send(bridge, engine, server, &out)? {
+    for _rounds in 0..u64::MAX {
+        match send(bridge, ends, &out)? {
             Status::Going => {}
             Status::Done => return Ok(()),
             Status::Failed(fault) => return Err(Fault::Session(fault)),
             Status::Lost => return Err(Fault::OutOfMemory),
         }
-        out = match bridge.waits_for() {
-            Waits::Engine => hear_engine(bridge, engine.lines)?,
-            Waits::Server | Waits::Nobody => hear_server(rt, bridge, server.lines, progress)?,
-        };
+        out = hear_next(rt, bridge, ends, progress)?;
     }
     Err(Fault::Read)
 }
 
 // Sends what a step answered: how the bridge stands then.
-fn send<ER: Read + Drop, EW: Write + Drop, SR: Read + Drop, SW: Write + Drop>(
-    bridge: &mut Bridge,
-    engine: &mut Side<'_, ER, EW>,
-    server: &mut Side<'_, SR, SW>,
-    out: &Out,
-) -> Result<Status, Fault>
+fn send<E: Ends>(bridge: &mut Bridge, ends: &mut E, out: &Out) -> Result<Status, Fault>
+    ensures sent { IfOk result (λ status. Sends E.told E.gone out.now.to_engine out.now.to_server ends.old bridge.old out.now.status ends.new bridge.new status) }
     ensures faults { IfErr result (λ fault. fault ≡ Fault.OutOfMemory) }
 {
-    let mut status = out.status;
-    if !engine.tell(out.to_engine.bytes()) {
-        status = bridge.step(Event::EngineEnd)?.status;
-    }
-    if !server.tell(out.to_server.bytes()) {
-        status = bridge.step(Event::ServerEnd)?.status;
-    }
-    Ok(status)
+    let status = deliver(
+        bridge,
+        ends,
+        Seat::Engine,
+        out.to_engine.bytes(),
+        out.status,
+    )?;
+    deliver(bridge, ends, Seat::Server, out.to_server.bytes(), status)
 }
 
-// The step of what comes next of the engine.
-fn hear_engine<R: Read + Drop>(bridge: &mut Bridge, lines: &mut Incoming<R>) -> Result<Out, Fault>
+// Hands the seat the lines for it, if there are any: how the bridge stands then. A seat that does not take them is gone.
+fn deliver<E: Ends>(
+    bridge: &mut Bridge,
+    ends: &mut E,
+    seat: Seat,
+    lines: &[u8],
+    status: Status,
+) -> Result<Status, Fault>
+    ensures delivered { IfOk result (λ after. Delivers E.told E.gone seat lines.now ends.old bridge.old status ends.new bridge.new after) }
     ensures faults { IfErr result (λ fault. fault ≡ Fault.OutOfMemory) }
 {
-    let out = match lines.hear()? {
-        Heard::Line => bridge.step(Event::EngineLine(lines.line()))?,
-        Heard::End => bridge.step(Event::EngineEnd)?,
-        Heard::Long => bridge.step(Event::EngineLong)?,
-    };
+    if is_empty(lines) {
+        return Ok(status);
+    }
+    if ends.tell(seat, lines) {
+        return Ok(status);
+    }
+    Ok(bridge.step(end_event(seat))?.status)
+}
+
+fn is_empty(lines: &[u8]) -> bool
+    ensures none { result ≡ true → lines.now ≡ [] }
+{
+    lines.is_empty()
+}
+
+fn end_event(seat: Seat) -> Event<'static>
+    ensures { event_of result ≡ end_of seat }
+{
+    match seat {
+        Seat::Engine => Event::EngineEnd,
+        Seat::Server => Event::ServerEnd,
+    }
+}
+
+// The step of what comes next of the seat that the bridge waits for.
+fn hear_next<R: Eprint + AllocGlobal, E: Ends>(
+    rt: &R,
+    bridge: &mut Bridge,
+    ends: &mut E,
+    progress: &mut Progress,
+) -> Result<Out, Fault>
+    ensures heard { IfOk result (λ out. HearsNext E.heard ends.old bridge.old out.to_engine out.to_server out.status ends.new bridge.new) }
+    ensures faults { IfErr result (λ fault. fault ≡ Fault.OutOfMemory) }
+{
+    let seat = seat_of(bridge.waits_for());
+    let heard = ends.hear(seat)?;
+    let line = ends.line(seat);
+    let was_on = progress.is_on(bridge);
+    let out = bridge.step(event(seat, heard, line))?;
+    if was_on && is_shown(seat, heard, out.status) {
+        progress.show(rt, bridge, line);
+    }
     Ok(out)
 }
 
-// The step of what comes next of the server.
-fn hear_server<E: Eprint + AllocGlobal, R: Read + Drop>(
-    rt: &E,
-    bridge: &mut Bridge,
-    lines: &mut Incoming<R>,
-    progress: &mut Progress,
-) -> Result<Out, Fault>
-    ensures faults { IfErr result (λ fault. fault ≡ Fault.OutOfMemory) }
+fn seat_of(waits: Waits) -> Seat
+    ensures { result ≡ seat_for waits }
 {
-    match lines.hear()? {
-        Heard::Line => {
-            let was_on = progress.is_on(bridge);
-            let out = bridge.step(Event::ServerLine(lines.line()))?;
-            if was_on && out.status == Status::Going {
-                progress.show(rt, bridge, lines.line());
-            }
-            Ok(out)
-        }
-        Heard::End => Ok(bridge.step(Event::ServerEnd)?),
-        Heard::Long => Ok(bridge.step(Event::ServerLong)?),
+    match waits {
+        Waits::Engine => Seat::Engine,
+        Waits::Server | Waits::Nobody => Seat::Server,
     }
+}
+
+// What was heard of the seat, as an event.
+fn event(seat: Seat, heard: Heard, line: &[u8]) -> Event<'_>
+    requires { heard ≡ Heard.Line → HasNoLineEnd line.now }
+    ensures event { event_of result ≡ event_from seat heard line.now }
+    ensures line { HoldsLine (event_of result) }
+{
+    match (seat, heard) {
+        (Seat::Engine, Heard::Line) => Event::EngineLine(line),
+        (Seat::Engine, Heard::End) => Event::EngineEnd,
+        (Seat::Engine, Heard::Long) => Event::EngineLong,
+        (Seat::Server, Heard::Line) => Event::ServerLine(line),
+        (Seat::Server, Heard::End) => Event::ServerEnd,
+        (Seat::Server, Heard::Long) => Event::ServerLong,
+    }
+}
+
+// Whether what was heard may be a move that the bridge took.
+fn is_shown(seat: Seat, heard: Heard, status: Status) -> bool {
+    matches!(
+        (seat, heard, status),
+        (Seat::Server, Heard::Line, Status::Going)
+    )
 }

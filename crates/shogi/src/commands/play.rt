@@ -2,7 +2,7 @@
 
 ghost use Rattle.std.specs.Prelude.{◌≡◌, ◌≢◌, IfErr};
 
-use crate::bridging::{Side, play};
+use crate::bridging::{Side, Sides, play};
 use crate::commands::serve;
 use crate::fault::Fault;
 use crate::incoming::{Heard, Incoming};
@@ -169,18 +169,20 @@ fn play_with<R: Files + Eprint + AllocGlobal, T: Read + Drop, W: Write + Drop>(
 ) -> Result<usize, Fault>
     ensures faults { IfErr result (λ fault. (fault ≢ Fault.WordsNotText) × (fault ≢ Fault.UnknownCommand)) }
 {
-    let mut engine = Side {
-        lines,
-        writer: input,
-    };
     let mut told = Incoming::new(rt.alloc(), stream)?;
-    let mut server = Side {
-        lines: &mut told,
-        writer: stream,
+    let mut sides = Sides {
+        engine: Side {
+            lines,
+            writer: input,
+        },
+        server: Side {
+            lines: &mut told,
+            writer: stream,
+        },
     };
     let mut bridge = bridge_of(rt.alloc())?;
     let mut progress = Progress::new(is_terminal && !words.get_flag("quiet"));
-    let played = play(rt, &mut bridge, &mut engine, &mut server, &mut progress);
+    let played = play(rt, &mut bridge, &mut sides, &mut progress);
     let text = bridge.game_text()?;
     let Some(text) = text else {
         return match played {

@@ -1,0 +1,76 @@
+-- A bridge that plays, round after round.
+use Rattle.std.proofs.Common.{◌≡◌, ℕ, List, Result, Ok, Err, IsErrOf, ap, subst, ◌∙◌}
+use Rattle.shogi_session.specs.declared.event.Status.{Status}
+use Rattle.shogi_session.specs.declared.event.Status.TheVariants.{Going}
+use Rattle.shogi_session.specs.declared.fault.SessionFault.{SessionFault}
+use Rattle.shogi_session.specs.declared.state.Waits.{Waits}
+use Rattle.shogi_session.specs.Events.{Event, Out}
+use Rattle.shogi_session.specs.Promises.{Session, StepRow, Steps}
+use Rattle.shogi_session.specs.State.{waits_for}
+use Rattle.shogi_session.specs.Texts.{text_of}
+use Rattle.shogi.specs.declared.bridging.Seat.{Seat}
+use Rattle.shogi.specs.declared.fault.Fault.{Fault}
+use Rattle.shogi.specs.declared.fault.Fault.TheVariants as fault
+use Rattle.shogi.specs.declared.incoming.Heard.{Heard}
+use Rattle.shogi.specs.Plays.{Answered, HearsNext, Hears, Played, Sends, Tells, event_from, seat_for, first, later, begun, goes_on}
+
+-- the clauses of a step that answers Ok, together
+pub steps_of : (old : Session) (e : Event) (to_engine to_server : List ℕ) (status : Status) (new : Session)
+    → ((out : Out) × StepRow old e out new)
+    → ((out : Out) → StepRow old e out new → to_engine ≡ text_of out.to_engine)
+    → ((out : Out) → StepRow old e out new → to_server ≡ text_of out.to_server)
+    → status ≡ new.state.status → new.config ≡ old.config
+    → Steps old e to_engine to_server status new
+steps_of old e to_engine to_server status new row engine_text server_text status_is config =
+    record { out = row.0; row = row.1; config = config; engine_text = engine_text row.0 row.1; server_text = server_text row.0 row.1; status_is = status_is }
+
+-- the same event
+pub same_step : (old : Session) (e f : Event) (to_engine to_server : List ℕ) (status : Status) (new : Session)
+    → e ≡ f → Steps old e to_engine to_server status new → Steps old f to_engine to_server status new
+same_step old e f to_engine to_server status new same step = subst (λ x. Steps old x to_engine to_server status new) same step
+
+-- what is heard of the seat that the bridge waits for is its next step
+pub heard_next : {E : Type 0} (heard : Hears E) (e : E) (s : Session) (seat : Seat) (waits : Waits) (what : Heard) (line : List ℕ) (f : E) (to_engine to_server : List ℕ) (status : Status) (t : Session)
+    → seat ≡ seat_for waits → waits ≡ waits_for s.state
+    → heard e seat (event_from seat what line) f → Steps s (event_from seat what line) to_engine to_server status t
+    → HearsNext heard e s to_engine to_server status f t
+heard_next heard e s seat waits what line f to_engine to_server status t is_seat is_waits came step =
+    record { event = event_from seat what line; came = subst (λ x. heard e x (event_from seat what line) f) (is_seat ∙ ap seat_for is_waits) came; step = step }
+
+-- the lines of a step are sent, which ends its round
+pub round_sent : {E : Type 0} (heard : Hears E) (told gone : Tells E) (e : E) (s : Session) (to_engine to_server : List ℕ) (status : Status) (f : E) (t : Session) (g : E) (u : Session) (found after : Status)
+    → found ≡ after
+    → Answered heard told gone e s to_engine to_server status f t → Sends told gone to_engine to_server f t status g u found
+    → Played heard told gone e s g u after
+round_sent heard told gone e s to_engine to_server status f t g u found after is (first t' step) sent =
+    subst (λ x. Played heard told gone e s g u x) is (begun g u found (record { to_engine = to_engine; to_server = to_server; stepped = status; session = t; step = step; sent = sent }))
+round_sent heard told gone e s to_engine to_server status f t g u found after is (later f' g' t' u' event played came step) sent =
+    subst (λ x. Played heard told gone e s g u x) is (goes_on f' f g t' u event found played came (record { to_engine = to_engine; to_server = to_server; stepped = status; session = t; step = step; sent = sent }))
+
+-- and while the session goes on, the next event is the next step
+pub round_begun : {E : Type 0} (heard : Hears E) (told gone : Tells E) (e : E) (s : Session) (f : E) (t : Session) (to_engine to_server : List ℕ) (status : Status) (g : E) (u : Session)
+    → Played heard told gone e s f t Going → HearsNext heard f t to_engine to_server status g u
+    → Answered heard told gone e s to_engine to_server status g u
+round_begun heard told gone e s f t to_engine to_server status g u played next = later f g t u next.event played next.came next.step
+
+-- the fault of a session's fault
+abbrev pub session_fault : SessionFault → Fault → SessionFault
+session_fault other (fault.Session f) = f
+session_fault other (fault.Refused r) = other
+session_fault other (fault.Usi f) = other
+session_fault other fault.LongLine = other
+session_fault other fault.WordsNotText = other
+session_fault other fault.UnknownCommand = other
+session_fault other fault.Read = other
+session_fault other fault.Write = other
+session_fault other fault.ClientGone = other
+session_fault other fault.ClientLineTooLong = other
+session_fault other fault.OutOfMemory = other
+
+-- and of a call that ends with it
+abbrev pub failed_with : {T : Type 0} → SessionFault → Result T Fault → SessionFault
+failed_with other (Ok value) = other
+failed_with other (Err f) = session_fault other f
+
+pub same_session_fault : {T : Type 0} (f g : SessionFault) → IsErrOf {T = T} {E = Fault} (Err (fault.Session f)) (fault.Session g) → f ≡ g
+same_session_fault f g same = ap (failed_with f) same
