@@ -1,5 +1,7 @@
 // Run by tests/growths with each growth refused in turn: the answer is want of memory, and the call made again succeeds.
-use csa_record::{FlowFault, Reading, RecordReader, Refusal, Why, Writing, normalise, read, read_from};
+use csa_record::{
+    FlowFault, Reading, RecordReader, Refusal, Why, Writing, normalise, read, read_from,
+};
 use std::alloc::Global;
 use std::test::Fail;
 

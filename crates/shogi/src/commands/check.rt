@@ -19,6 +19,7 @@ pub const NAME: &str = "check";
 pub fn command<'a>(alloc: Global) -> Result<Command<'a>, AllocError> {
     Command::new(alloc, NAME)
         .about("Checks a record: prints how many moves it has and how it stands")
+        .after_help("Example: shogi check game.csa")
         .arg(streams::file(
             alloc,
             "The record; without it, or with -, standard input is read",

@@ -20,6 +20,7 @@ pub const NAME: &str = "csa";
 pub fn command<'a>(alloc: Global) -> Result<Command<'a>, AllocError> {
     Command::new(alloc, NAME)
         .about("Prints the canonical text of a USI position line")
+        .after_help("Example: shogi csa position.txt")
         .arg(streams::file(
             alloc,
             "The line; without it, or with -, standard input is read",

@@ -15,9 +15,11 @@ pub const NAME: &str = "engine";
 
 /// The command, which has no words of its own.
 pub fn command<'a>(alloc: Global) -> Command<'a> {
-    Command::new(alloc, NAME).about(
-        "Answers USI lines as an engine that plays the first legal move",
-    )
+    Command::new(alloc, NAME)
+        .about("Answers USI lines as an engine that plays the first legal move")
+        .after_help(
+            "Example: shogi play --engine shogi --engine-arg engine --server shogi --out game.csa",
+        )
 }
 
 /// Answers each line of standard input before the next one is read, until `quit` or the end of the input.

@@ -17,6 +17,7 @@ pub const NAME: &str = "normal";
 pub fn command<'a>(alloc: Global) -> Result<Command<'a>, AllocError> {
     Command::new(alloc, NAME)
         .about("Prints the canonical text of a record")
+        .after_help("Example: shogi normal game.csa")
         .arg(streams::file(
             alloc,
             "The record; without it, or with -, standard input is read",

@@ -25,6 +25,7 @@ const USUAL_MOVES: u32 = 256;
 pub fn command<'a>(alloc: Global) -> Result<Command<'a>, AllocError> {
     Command::new(alloc, NAME)
         .about("Plays one game with one client, as a CSA server on localhost")
+        .after_help("Example: shogi serve --port 4081 --max 256")
         .arg(
             Arg::new(alloc, "port")
                 .long("port")

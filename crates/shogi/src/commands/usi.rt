@@ -16,6 +16,7 @@ pub const NAME: &str = "usi";
 pub fn command<'a>(alloc: Global) -> Result<Command<'a>, AllocError> {
     Command::new(alloc, NAME)
         .about("Prints the USI position line of a record")
+        .after_help("Example: shogi usi game.csa")
         .arg(streams::file(
             alloc,
             "The record; without it, or with -, standard input is read",

@@ -16,4 +16,4 @@ returns-clause-delivered g c =
     let out = c.in_ok-step.field-0 in
     let row = steps_of c.args.bridge.now (event_of c.end_event.result) out.to_engine out.to_server out.status c.step.new.self step.row step.to_engine step.to_server step.status step.config in
     lost out.to_engine out.to_server out.status (c.tell.ensures.gone c.if-tell.false)
-      (same_step c.args.bridge.now (event_of c.end_event.result) (end_of c.args.seat) out.to_engine out.to_server out.status c.step.new.self c.end_event.ensures row)
+    (same_step c.args.bridge.now (event_of c.end_event.result) (end_of c.args.seat) out.to_engine out.to_server out.status c.step.new.self c.end_event.ensures row)

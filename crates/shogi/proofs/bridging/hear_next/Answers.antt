@@ -14,6 +14,6 @@ returns-clause-heard g c =
     let event = event_of c.event.result in
     let row = steps_of c.args.bridge.now event out.to_engine out.to_server out.status c.step.new.self step.row step.to_engine step.to_server step.status step.config in
     heard_next g.E.Ends.heard c.args.ends.now c.args.bridge.now seat c.waits_for.result what line c.hear.new.self out.to_engine out.to_server out.status c.step.new.self
-      c.seat_of-seat.ensures c.waits_for.ensures c.in_ok-heard.ensures.heard
-      (same_step c.args.bridge.now event (event_from seat what line) out.to_engine out.to_server out.status c.step.new.self
-        (c.event.ensures.event ∙ ap (event_from seat what) c.line-line.ensures) row)
+    c.seat_of-seat.ensures c.waits_for.ensures c.in_ok-heard.ensures.heard
+    (same_step c.args.bridge.now event (event_from seat what line) out.to_engine out.to_server out.status c.step.new.self
+    (c.event.ensures.event ∙ ap (event_from seat what) c.line-line.ensures) row)
