@@ -205,16 +205,16 @@ line_uncut came ends went silent blocked answers wire machine pieces old piece u
 }
 
 pub fell_silent : {W M : Type 0} (came : Passes W) (ends : Calls W) (went : Passes W) (silent : Calls W) (blocked : Passes W) (answers : Answers M) (wire : W) (machine : M) (pieces : ℕ) (old : Lining) (u v : W) (m : M) (fault : Fault)
-    → Talking came ends went answers wire machine pieces old [] u m → silent u v
+    → (fault ≡ Read) ⊎ (fault ≡ OutOfMemory) → Talking came ends went answers wire machine pieces old [] u m → silent u v
     → BreaksOff came ends went silent blocked answers wire machine fault v
-fell_silent came ends went silent blocked answers wire machine pieces old u v m fault t is = record {
+fell_silent came ends went silent blocked answers wire machine pieces old u v m fault why t is = record {
   bytes = t.used ++ [];
   over = false;
   lines = t.lines;
   before = u;
   last = m;
   talked = t.talked;
-  breaks = not_received old.held fault (subst (λ xs. Lines xs t.lines old.held) (sym (append-nil t.used)) t.cut) is;
+  breaks = not_received old.held fault why (subst (λ xs. Lines xs t.lines old.held) (sym (append-nil t.used)) t.cut) is;
 }
 
 pub never_ends : {W M : Type 0} (came : Passes W) (ends : Calls W) (went : Passes W) (silent : Calls W) (blocked : Passes W) (answers : Answers M) (wire : W) (machine : M) (pieces : ℕ) (old : Lining) (u : W) (m : M)

@@ -1,5 +1,5 @@
 -- A machine that answers the lines that come over a wire.
-use Rattle.std.specs.Prelude.{◌≡◌, ℕ, ◌-◌, ◌^◌, ◌≤◌, Bool, true, false, List, [], ◌∷◌, ◌++◌, length, drop, Result, Ok, Err}
+use Rattle.std.specs.Prelude.{◌≡◌, ◌⊎◌, ℕ, ◌-◌, ◌^◌, ◌≤◌, Bool, true, false, List, [], ◌∷◌, ◌++◌, length, drop, Result, Ok, Err}
 use Rattle.csa_text.specs.Lines.{Lines}
 use Rattle.csa_text.specs.Lining.{Lining, BeginsTooLong}
 use Rattle.shogi.specs.declared.fault.Fault.{Fault}
@@ -89,7 +89,7 @@ pub data Breaks {W M : Type 0} (silent : Calls W) (blocked : Passes W) (answers 
   -- the next line is too long
   line_too_long : IsLongNext bytes lines → v ≡ u → Breaks silent blocked answers bytes over lines u n v LongLine
   -- no more could be received
-  not_received : (rest : List ℕ) (fault : Fault) → Lines bytes lines rest → silent u v
+  not_received : (rest : List ℕ) (fault : Fault) → (fault ≡ Read) ⊎ (fault ≡ OutOfMemory) → Lines bytes lines rest → silent u v
       → Breaks silent blocked answers bytes over lines u n v fault
   -- the end has not come
   endless : (rest : List ℕ) → Lines bytes lines rest → 2 ^ 64 - 1 ≤ length bytes → v ≡ u

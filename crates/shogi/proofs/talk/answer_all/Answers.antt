@@ -9,7 +9,7 @@ loop-pieces-init g c =
 
 pub returns-in-Err-clause-breaks_off : goal.returns-in-Err-clause-breaks_off
 returns-in-Err-clause-breaks_off g c =
-    fell_silent g.X.Wire.came g.X.Wire.ends g.X.Wire.went g.X.Wire.silent g.X.Wire.blocked g.M.Machine.answers c.args.wire.now c.args.machine.now c.loop-pieces._pieces c.loop-pieces.cutter c.loop-pieces.wire c.receive.new.self c.loop-pieces.machine c.in-Err.fault c.loop-pieces.invariant c.in-Err.ensures.silent
+    fell_silent g.X.Wire.came g.X.Wire.ends g.X.Wire.went g.X.Wire.silent g.X.Wire.blocked g.M.Machine.answers c.args.wire.now c.args.machine.now c.loop-pieces._pieces c.loop-pieces.cutter c.loop-pieces.wire c.receive.new.self c.loop-pieces.machine c.in-Err.fault c.in-Err.ensures.faults c.loop-pieces.invariant c.in-Err.ensures.silent
 
 pub returns-then-taken-eq0-clause-answered : goal.returns-then-taken-eq0-clause-answered
 returns-then-taken-eq0-clause-answered g c =
