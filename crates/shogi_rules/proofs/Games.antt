@@ -1,5 +1,6 @@
 -- One move more.
-use Rattle.std.proofs.Common.{◌≡◌, ◌↔◌, inl, inr, ◌<◌, ◌+◌, ◌++◌, List, [], ◌∷◌, Option, None, length, length-append, arith, refl, ap, sym}
+use Rattle.std.proofs.Common.{◌≡◌, ◌↔◌, IsTrue, Bool, false, ℕ, ◌≤◌, inl, inr, ◌<◌, ◌+◌, ◌++◌, List, [], ◌∷◌, Option, None, length, length-append, arith, refl, ap, sym}
+use Rattle.std.proofs.lemmas.Bool.{cases_lt}
 use Rattle.shogi_board.specs.Placed.{Placed}
 use Rattle.shogi_board.specs.declared.color.Color.{Color}
 use Rattle.shogi_rules.specs.After.{after}
@@ -88,3 +89,11 @@ line-more start last moves positions c m line few none = record {
       played moves m line.game (record { legal = legal-of-none (positions_of start moves) (position_after start moves) c m none; not_over = rest.0 });
   few = omega (arith, length-append moves (m ∷ []));
 }
+
+-- what a test says is not so
+pub denied : {A : Type 0} (b : Bool) → IsTrue b ↔ A → b ≡ false → A → ⊥
+denied b says off holds = let yes = says.1 holds in cc
+
+-- what a test of a limit says is below it
+pub below : (b : Bool) (n m : ℕ) → IsTrue b ↔ (m ≤ n) → b ≡ false → n < m
+below b n m says off = elim (cases_lt n m) [ inl low ↦ low | inr full ↦ absurd (denied b says off full) ]
