@@ -16,7 +16,7 @@ use Rattle.usi_text.specs.Lines.{UsiLine, LineFault}
 use Rattle.usi_text.specs.Moves.{UsiMove}
 use Rattle.usi_text.specs.Words.{words}
 use Rattle.shogi_session.specs.declared.sample.Request.TheVariants.{Go, Other}
-use Rattle.shogi_session.specs.Requests.{Asks, IsRowText, IsGoText, moves, resigns}
+use Rattle.shogi_session.specs.Requests.{Asks, RowText, IsGoText, moves, resigns}
 use Rattle.shogi_session.specs.Sample.{SampleState, SampleRow, SampleTableRow, IsBest, IsUnnamed, keeps, quit, in_table, skipped, over}
 use Rattle.shogi_session.specs.Sample as row
 use Rattle.shogi_session.specs.Texts.{text_of, ended_line}
@@ -62,11 +62,11 @@ go_rows (Ok t) kept P h f = f t h
 go_rows (Err e) kept P h f = tt
 
 pub named : (s : SampleState) (line text : List ℕ) (t : SampleState) (kept : Option Played) (lines : List (List ℕ))
-    → s ≡ keeps kept → SampleTableRow kept line lines t → text ≡ text_of lines → IsRowText s line text t
+    → s ≡ keeps kept → SampleTableRow kept line lines t → text ≡ text_of lines → RowText s line text t
 named s line text t kept lines e r h = (lines, in_table kept e r, h)
 
 pub go_row : (s : SampleState) (line text : List ℕ) (kept : Option Played)
-    → s ≡ keeps kept → Asks line Go → IsGoText kept text → IsRowText s line text s
+    → s ≡ keeps kept → Asks line Go → IsGoText kept text → RowText s line text s
 go_row s line text kept e asks h =
     elim h [
       | moves g word k best same ↦ named s line text s kept _ e (row.go g word asks k best refl e) same
@@ -86,5 +86,5 @@ unnamed kept line asks lines t r =
     ]
 
 pub other_row : (s : SampleState) (line text : List ℕ) (kept : Option Played)
-    → s ≡ keeps kept → Asks line Other → text ≡ [] → IsRowText s line text s
+    → s ≡ keeps kept → Asks line Other → text ≡ [] → RowText s line text s
 other_row s line text kept e asks h = ([], skipped kept e (unnamed kept line asks) refl refl, h)

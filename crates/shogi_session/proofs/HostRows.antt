@@ -21,7 +21,7 @@ use Rattle.shogi_session.specs.declared.config.HostConfig.{HostConfig}
 use Rattle.shogi_session.specs.declared.outcome.Outcome.{Outcome}
 use Rattle.shogi_session.specs.Host.{HostState, HostRow, HostTableRow, HostMoves, BeforeLogin, AfterSummary, InPlay, AfterMove, IsLogin, IsWordAndOne, IsGoodMove, IsUnnamed, with_move, moved_line, outcome_lines, even_game, waiting, offered, playing, decided, ended, in_table, skipped}
 use Rattle.shogi_session.specs.Host as row
-use Rattle.shogi_session.specs.Hosting.{IsRowText, MovesBehind, Begins, Follows, follows, follows_last, Tries, taken, refused, Rests, rests, rests_last}
+use Rattle.shogi_session.specs.Hosting.{RowText, MovesBehind, Begins, Follows, follows, follows_last, Tries, taken, refused, Rests, rests, rests_last}
 use Rattle.shogi_session.specs.MoveLines.{is_move_line, TellsMove}
 use Rattle.shogi_session.specs.Texts.{text_of, ended_line, with_time}
 use Rattle.shogi_session.proofs.Answering.{one_text}
@@ -30,7 +30,7 @@ use Rattle.shogi_session.proofs.MoveRead.{move_once}
 
 -- 1. LOGOUT, and lines that no row names
 pub logged_out : (c : HostConfig) (s t : HostState) (seconds : ℕ) (text : List ℕ)
-    → (s ≡ ended → ⊥) → t ≡ ended → text ≡ text_of (codes "LOGOUT:completed" ∷ []) → IsRowText c s (codes "LOGOUT") seconds text t
+    → (s ≡ ended → ⊥) → t ≡ ended → text ≡ text_of (codes "LOGOUT:completed" ∷ []) → RowText c s (codes "LOGOUT") seconds text t
 logged_out c s t seconds text running e h = (codes "LOGOUT:completed" ∷ [], in_table (row.logs_out running refl refl e), h)
 
 pub unnamed_ended : (c : HostConfig) (line : List ℕ) (seconds : ℕ) → IsUnnamed c ended line seconds
@@ -53,7 +53,7 @@ unnamed_decided c line seconds stays lines t r =
 
 -- nothing is said
 pub silent : (c : HostConfig) (s t : HostState) (line : List ℕ) (seconds : ℕ) (text : List ℕ)
-    → IsUnnamed c s line seconds → t ≡ s → text ≡ [] → IsRowText c s line seconds text t
+    → IsUnnamed c s line seconds → t ≡ s → text ≡ [] → RowText c s line seconds text t
 silent c s t line seconds text unnamed e h = ([], skipped unnamed refl e, h)
 
 -- 2. before login
@@ -80,23 +80,23 @@ unnamed_waiting c line seconds stays other lines t r =
 
 pub incorrect : (c : HostConfig) (t : HostState) (line : List ℕ) (seconds : ℕ) (text : List ℕ)
     → nth_word (words line) 0 ≡ codes "LOGIN" → ((n p : List ℕ) → IsLogin line n p → ⊥) → t ≡ waiting
-    → text ≡ text_of (codes "LOGIN:incorrect" ∷ []) → IsRowText c waiting line seconds text t
+    → text ≡ text_of (codes "LOGIN:incorrect" ∷ []) → RowText c waiting line seconds text t
 incorrect c t line seconds text word none e h =
     (codes "LOGIN:incorrect" ∷ [], in_table (row.before_login refl (row.login_incorrect word none refl e)), h)
 
 pub let_in : (c : HostConfig) (t : HostState) (line : List ℕ) (seconds : ℕ) (text n p : List ℕ) → IsLogin line n p → t ≡ offered n
-    → text ≡ text_of ((codes "LOGIN:" ++ (n ++ codes " OK")) ∷ row.summary_lines c n) → IsRowText c waiting line seconds text t
+    → text ≡ text_of ((codes "LOGIN:" ++ (n ++ codes " OK")) ∷ row.summary_lines c n) → RowText c waiting line seconds text t
 let_in c t line seconds text n p h e same =
     (_, in_table (row.before_login refl (row.logs_in n p h refl e)), same)
 
 -- 3. behind the summary
 pub agreed : (c : HostConfig) (n line : List ℕ) (seconds : ℕ) (text : List ℕ) (t : HostState)
-    → IsWordAndOne line (codes "AGREE") → Begins c text t → IsRowText c (offered n) line seconds text t
+    → IsWordAndOne line (codes "AGREE") → Begins c text t → RowText c (offered n) line seconds text t
 agreed c n line seconds text t word b = (b.0, in_table (row.after_summary n refl (b.1 n line word)), b.2)
 
 pub rejected : (c : HostConfig) (n line : List ℕ) (seconds : ℕ) (text : List ℕ) (t : HostState)
     → IsWordAndOne line (codes "REJECT") → t ≡ ended
-    → text ≡ text_of ((codes "REJECT:" ++ (c.id.bytes ++ (codes " by " ++ n))) ∷ []) → IsRowText c (offered n) line seconds text t
+    → text ≡ text_of ((codes "REJECT:" ++ (c.id.bytes ++ (codes " by " ++ n))) ∷ []) → RowText c (offered n) line seconds text t
 rejected c n line seconds text t word e h = (_, in_table (row.after_summary n refl (row.rejects word refl e)), h)
 
 not_summary : (c : HostConfig) (n line : List ℕ) (lines : List (List ℕ)) (t : HostState)
@@ -207,7 +207,7 @@ follow_host c g line so_far text t after same m =
 -- the client's line
 moved_row : (c : HostConfig) (g : Played) (line : List ℕ) (color : Color) (m : Move) (seconds : ℕ) (text : List ℕ) (t : HostState)
     → is_move_line line ≡ true → TellsMove line color m → Answers g color m None
-    → Follows c (with_move g m) (moved_line g m seconds) text t → IsRowText c (playing g) line seconds text t
+    → Follows c (with_move g m) (moved_line g m seconds) text t → RowText c (playing g) line seconds text t
 moved_row c g line color m seconds text t sign tells may f =
     elim f [
       | follows more after host h ↦
@@ -217,7 +217,7 @@ moved_row c g line color m seconds text t sign tells may f =
     ]
 
 pub tried : (c : HostConfig) (g : Played) (line : List ℕ) (color : Color) (m : Move) (seconds : ℕ) (text : List ℕ) (t : HostState)
-    → is_move_line line ≡ true → TellsMove line color m → Tries c g color m seconds text t → IsRowText c (playing g) line seconds text t
+    → is_move_line line ≡ true → TellsMove line color m → Tries c g color m seconds text t → RowText c (playing g) line seconds text t
 tried c g line color m seconds text t sign tells r =
     elim r [
       | taken may f ↦
@@ -233,14 +233,14 @@ tried c g line color m seconds text t sign tells r =
 
 pub erred : (c : HostConfig) (g : Played) (line : List ℕ) (seconds : ℕ) (text : List ℕ) (t : HostState)
     → is_move_line line ≡ true → ((color : Color) (m : Move) → TellsMove line color m → ⊥)
-    → t ≡ decided → text ≡ text_of (codes "#ILLEGAL_MOVE" ∷ codes "#LOSE" ∷ []) → IsRowText c (playing g) line seconds text t
+    → t ≡ decided → text ≡ text_of (codes "#ILLEGAL_MOVE" ∷ codes "#LOSE" ∷ []) → RowText c (playing g) line seconds text t
 erred c g line seconds text t sign none e h =
     (_, in_table (row.in_play g refl (row.client_errs sign (λ m good. none good.0 m good.1) refl e)), h)
 
 -- the client's word
 pub resigned : (c : HostConfig) (g : Played) (line : List ℕ) (seconds : ℕ) (text : List ℕ) (t : HostState)
     → line ≡ codes "%TORYO" → t ≡ decided
-    → text ≡ text_of (with_time line seconds ∷ codes "#RESIGN" ∷ codes "#LOSE" ∷ []) → IsRowText c (playing g) line seconds text t
+    → text ≡ text_of (with_time line seconds ∷ codes "#RESIGN" ∷ codes "#LOSE" ∷ []) → RowText c (playing g) line seconds text t
 resigned c g line seconds text t word e h = (
   _,
   in_table (row.in_play g refl (row.client_resigns word refl e)),
@@ -249,7 +249,7 @@ resigned c g line seconds text t word e h = (
 
 pub declared : (c : HostConfig) (g : Played) (line : List ℕ) (seconds : ℕ) (text : List ℕ) (t : HostState)
     → line ≡ codes "%KACHI" → t ≡ decided
-    → text ≡ text_of (with_time line seconds ∷ codes "#JISHOGI" ∷ codes "#WIN" ∷ []) → IsRowText c (playing g) line seconds text t
+    → text ≡ text_of (with_time line seconds ∷ codes "#JISHOGI" ∷ codes "#WIN" ∷ []) → RowText c (playing g) line seconds text t
 declared c g line seconds text t word e h = (
   _,
   in_table (row.in_play g refl (row.client_declares word refl e)),

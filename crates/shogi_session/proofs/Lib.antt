@@ -23,6 +23,7 @@ mod GameEnds
 mod MoveSame
 mod PlayRows
 pub mod HostRows
+pub mod HostSteps
 pub mod MoveRead
 pub mod Nexts
 pub mod OfferRead
@@ -30,6 +31,7 @@ pub mod OneStatement
 pub mod PositionGame
 pub mod PositionRead
 pub mod SampleOnce
+pub mod SampleSteps
 pub mod ServerReads
 pub mod Spaces
 pub mod Unnamed

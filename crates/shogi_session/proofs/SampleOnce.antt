@@ -157,7 +157,7 @@ table_once kept line lines others t u r s =
 keeps_once : (a b : Option Played) → keeps a ≡ keeps b → a ≡ b
 keeps_once a b e = cc
 
-keeps_quit : (s : SampleState) (kept : Option Played) → s ≡ keeps kept → s ≡ quit → ⊥
+pub keeps_quit : (s : SampleState) (kept : Option Played) → s ≡ keeps kept → s ≡ quit → ⊥
 keeps_quit s kept h k = cc
 
 table_row : (s u : SampleState) (kept : Option Played) (line : List ℕ) (lines others : Lines) (t : SampleState)

@@ -1,5 +1,5 @@
 -- When the engine is asked for a move, and how.
-use Rattle.std.specs.Prelude.{◌≡◌, ℕ, ◌+◌, ◌-◌, ◌<◌, ◌++◌, List, [], ◌∷◌, length, Option, Some, None, map, decimal, codes, if◌then◌else◌}
+use Rattle.std.specs.Prelude.{◌≡◌, ℕ, ◌+◌, ◌-◌, ◌<◌, ◌++◌, List, [], ◌∷◌, length, Option, Some, None, map, decimal, if◌then◌else◌}
 use Rattle.shogi_board.specs.declared.color.Color.{Color}
 use Rattle.shogi_board.specs.declared.color.Color.TheVariants.{Black, White}
 use Rattle.shogi_board.specs.Pieces.{opponent, same_color}
@@ -10,6 +10,7 @@ use Rattle.csa_record.specs.Game.{Timed, move_of}
 use Rattle.shogi_session.specs.declared.config.Config.{Config}
 use Rattle.shogi_session.specs.declared.state.EngineState.{EngineState}
 use Rattle.shogi_session.specs.declared.state.EngineState.TheVariants.{Thinking}
+use Rattle.shogi_session.specs.LineTexts as texts
 use Rattle.shogi_session.specs.State.{Match, line_of, position_now}
 
 -- the client is to move, the position does not stand for the fourth time, and fewer than 10,000 moves stand
@@ -33,8 +34,8 @@ left c g color = c.total_ms - used color g.game.start.side g.game.moves
 
 abbrev pub go_line : Config → Match → List ℕ
 go_line c g =
-    codes "go btime " ++ (decimal (left c g Black) ++ (codes " wtime " ++ (decimal (left c g White)
-    ++ (codes " byoyomi " ++ decimal c.byoyomi_ms))))
+    texts.go_black_time ++ (decimal (left c g Black) ++ (texts.white_time ++ (decimal (left c g White)
+    ++ (texts.byoyomi ++ decimal c.byoyomi_ms))))
 
 -- the position line of the game, and the go line
 pub record AskLines (c : Config) (g : Match) (lines : List (List ℕ)) : Type 0 where

@@ -1,5 +1,5 @@
 -- The table of a host, which plays the even start with black to move.
-use Rattle.std.specs.Prelude.{◌≡◌, ◌≢◌, ℕ, ◌≤◌, ◌<◌, ◌++◌, ◌⊎◌, true, List, [], ◌∷◌, length, Option, Some, None, decimal, codes, if◌then◌else◌}
+use Rattle.std.specs.Prelude.{◌≡◌, ◌≢◌, ℕ, ◌≤◌, ◌<◌, ◌++◌, ◌⊎◌, true, List, [], ◌∷◌, length, Option, Some, None, decimal, if◌then◌else◌}
 use Rattle.std.specs.List.{AllByRecursion}
 use Rattle.shogi_board.specs.declared.color.Color.{Color}
 use Rattle.shogi_board.specs.declared.color.Color.TheVariants.{Black, White}
@@ -142,7 +142,7 @@ pub data AfterSummary (c : HostConfig) (n line : List ℕ) (lines : List (List �
       → lines ≡ (texts.start ++ c.id.bytes) ∷ more
       → AfterSummary c n line lines t
   rejects :
-      IsWordAndOne line (codes "REJECT")
+      IsWordAndOne line texts.reject
       → lines ≡ (texts.rejected ++ (c.id.bytes ++ (texts.by ++ n))) ∷ [] → t ≡ ended
       → AfterSummary c n line lines t
 

@@ -11,7 +11,7 @@ use Rattle.shogi_session.specs.declared.stage.HostStage.{HostStage}
 use Rattle.shogi_session.specs.declared.stage.HostStage.TheVariants.{Waiting, Offered, Playing, Decided, Ended}
 use Rattle.shogi_session.specs.Host.{HostState, waiting, offered, playing, decided, ended, HostRow, HostMoves, IsWordAndOne, AfterSummary, AfterMove, outcome_lines, with_move}
 use Rattle.shogi_session.specs.LineTexts as texts
-use Rattle.shogi_session.specs.Texts.{text_of, with_time}
+use Rattle.shogi_session.specs.Texts.{text_of, with_time, without_last_spaces}
 
 pub record HostSession : Type 0 where
   pub config : HostConfig
@@ -24,9 +24,19 @@ state_of (Playing game) = playing game
 state_of Decided = decided
 state_of Ended = ended
 
+-- a row leads by the line, less the spaces at its end, from one to the other with these lines
+abbrev pub StepRow : HostSession → List ℕ → ℕ → List (List ℕ) → HostSession → Type 0
+StepRow old line seconds lines new = HostRow old.config old.state (without_last_spaces line) seconds lines new.state
+
 -- the bytes are those of the lines of a row
+abbrev pub RowText : HostConfig → HostState → List ℕ → ℕ → List ℕ → HostState → Type 0
+RowText c s line seconds text t = (lines : List (List ℕ)) × HostRow c s line seconds lines t × (text ≡ text_of lines)
+
+-- a row leads so, and the bytes are those of that row's lines
 abbrev pub IsRowText : HostConfig → HostState → List ℕ → ℕ → List ℕ → HostState → Type 0
-IsRowText c s line seconds text t = (lines : List (List ℕ)) × HostRow c s line seconds lines t × (text ≡ text_of lines)
+IsRowText c s line seconds text t =
+    ((lines : List (List ℕ)) × HostRow c s line seconds lines t)
+    × ((lines : List (List ℕ)) → HostRow c s line seconds lines t → text ≡ text_of lines)
 
 -- the host moved, and its lines stand behind those before
 abbrev pub MovesBehind : HostConfig → Played → List ℕ → List ℕ → HostState → Type 0

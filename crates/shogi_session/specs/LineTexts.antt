@@ -11,6 +11,9 @@ login_front = codes "LOGIN "
 abbrev pub agree : List ℕ
 agree = codes "AGREE"
 
+abbrev pub reject : List ℕ
+reject = codes "REJECT"
+
 abbrev pub toryo : List ℕ
 toryo = codes "%TORYO"
 
@@ -38,6 +41,9 @@ rejected = codes "REJECT:"
 
 abbrev pub by : List ℕ
 by = codes " by "
+
+abbrev pub time : List ℕ
+time = codes ",T"
 
 abbrev pub logout_completed : List ℕ
 logout_completed = codes "LOGOUT:completed"
@@ -84,11 +90,17 @@ chudan = codes "#CHUDAN"
 abbrev pub begin : List ℕ
 begin = codes "BEGIN "
 
+abbrev pub end : List ℕ
+end = codes "END "
+
 abbrev pub begin_summary : List ℕ
 begin_summary = codes "BEGIN Game_Summary"
 
 abbrev pub end_summary : List ℕ
 end_summary = codes "END Game_Summary"
+
+abbrev pub position_title : List ℕ
+position_title = codes "Position"
 
 abbrev pub begin_position : List ℕ
 begin_position = codes "BEGIN Position"
@@ -133,8 +145,26 @@ new_game = codes "usinewgame"
 abbrev pub position : List ℕ
 position = codes "position"
 
+abbrev pub position_front : List ℕ
+position_front = codes "position "
+
 abbrev pub go : List ℕ
 go = codes "go"
+
+abbrev pub go_black_time : List ℕ
+go_black_time = codes "go btime "
+
+abbrev pub white_time : List ℕ
+white_time = codes " wtime "
+
+abbrev pub byoyomi : List ℕ
+byoyomi = codes " byoyomi "
+
+abbrev pub game_won : List ℕ
+game_won = codes "gameover win"
+
+abbrev pub game_lost : List ℕ
+game_lost = codes "gameover lose"
 
 abbrev pub game_drawn : List ℕ
 game_drawn = codes "gameover draw"
@@ -152,6 +182,12 @@ id_author = codes "id author shogi"
 abbrev pub usi_ok : List ℕ
 usi_ok = codes "usiok"
 
+abbrev pub ready_ok : List ℕ
+ready_ok = codes "readyok"
+
+abbrev pub best_move_word : List ℕ
+best_move_word = codes "bestmove"
+
 abbrev pub best_move : List ℕ
 best_move = codes "bestmove "
 
@@ -163,3 +199,7 @@ engine_resigns = codes "resign"
 
 abbrev pub engine_wins : List ℕ
 engine_wins = codes "win"
+
+-- 8. Both: what stands between words
+abbrev pub space : List ℕ
+space = codes " "

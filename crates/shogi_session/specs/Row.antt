@@ -1,5 +1,5 @@
 -- The table of a bridge: state, event, lines, next state.
-use Rattle.std.specs.Prelude.{◌≡◌, ◌≢◌, ℕ, ◌++◌, ◌⊎◌, true, List, [], ◌∷◌, Option, Some, None, codes}
+use Rattle.std.specs.Prelude.{◌≡◌, ◌≢◌, ℕ, ◌++◌, ◌⊎◌, true, List, [], ◌∷◌, Option, Some, None}
 use Rattle.shogi_board.specs.declared.color.Color.{Color}
 use Rattle.shogi_rules.specs.declared.line.PlayFault.{PlayFault}
 use Rattle.shogi_rules.specs.declared.line.PlayFault.TheVariants as play
@@ -35,11 +35,11 @@ use Rattle.shogi_session.specs.Summary.{Heard, nothing_heard, CountsAs, Offer, T
 
 -- 1. Words of the table
 abbrev pub login_line : Config → List ℕ
-login_line c = texts.login_front ++ (c.name.bytes ++ (codes " " ++ c.password.bytes))
+login_line c = texts.login_front ++ (c.name.bytes ++ (texts.space ++ c.password.bytes))
 
 -- `bestmove` and a word, or the empty text where there is none
 pub record IsBestMove (line word : List ℕ) : Type 0 where
-  pub first : nth_word (words line) 0 ≡ codes "bestmove"
+  pub first : nth_word (words line) 0 ≡ texts.best_move_word
   pub second : nth_word (words line) 1 ≡ word
 
 -- the word is a legal move of the side to move
@@ -62,8 +62,8 @@ abbrev pub slipped : Match → Match
 slipped g = record g { slip = true }
 
 abbrev pub gameover_line : Outcome → List ℕ
-gameover_line win = codes "gameover win"
-gameover_line lose = codes "gameover lose"
+gameover_line win = texts.game_won
+gameover_line lose = texts.game_lost
 gameover_line draw = texts.game_drawn
 gameover_line censored = texts.game_drawn
 gameover_line chudan = texts.game_drawn

@@ -1,5 +1,5 @@
 -- What the sample engine answers.
-use Rattle.std.specs.Prelude.{◌≡◌, ℕ, ◌++◌, ◌⊎◌, List, [], ◌∷◌, Option, Some, None, codes}
+use Rattle.std.specs.Prelude.{◌≡◌, ℕ, ◌++◌, ◌⊎◌, List, [], ◌∷◌, Option, Some, None}
 use Rattle.shogi_rules.specs.declared.moves.Move.{Move}
 use Rattle.shogi_rules.specs.Order.{IsFirstLegal}
 use Rattle.shogi_rules.specs.Positions.{Played, now_of, all_of}
@@ -48,7 +48,7 @@ pub data SampleTableRow (kept : Option Played) (line : List ℕ) (lines : List (
       → SampleTableRow kept line lines t
   isready :
       IsWord line texts.is_ready
-      → lines ≡ codes "readyok" ∷ [] → t ≡ keeps kept
+      → lines ≡ texts.ready_ok ∷ [] → t ≡ keeps kept
       → SampleTableRow kept line lines t
   position : (told : Option Played)
       → BeginsWith line texts.position → IsGameOf line told

@@ -1,5 +1,5 @@
 -- What a log says of the lines that its steps send.
-use Rattle.std.specs.Prelude.{◌≡◌, ℕ, ◌++◌, ◌⊎◌, Bool, false, List, ◌∷◌, nat_eq, Option, Some, None, codes, if◌then◌else◌}
+use Rattle.std.specs.Prelude.{◌≡◌, ℕ, ◌++◌, ◌⊎◌, Bool, false, List, ◌∷◌, nat_eq, Option, Some, None, if◌then◌else◌}
 use Rattle.std.specs.List.{starts_with, filter_map}
 use Rattle.shogi_board.specs.declared.color.Color.{Color}
 use Rattle.shogi_board.specs.Pieces.{same_color}
@@ -45,7 +45,7 @@ pub record OwnSent (log : List Step) (waiting : List (List ℕ)) : Type 0 where
   pub one : AtMostOne waiting
 
 abbrev pub is_position_line : List ℕ → Bool
-is_position_line line = starts_with nat_eq line (codes "position ")
+is_position_line line = starts_with nat_eq line texts.position_front
 
 -- the lines are the position line of the game that the log confirmed and the go line with its clocks, behind
 -- `usinewgame` at the start of play

@@ -1,5 +1,5 @@
 -- What the lines of a game summary tell: those behind `BEGIN Game_Summary`, before `END Game_Summary`.
-use Rattle.std.specs.Prelude.{◌≡◌, ◌≢◌, ℕ, ◌≤◌, Bool, true, false, List, [], ◌∷◌, ◌++◌, length, drop, Option, Some, None, IfSome, option_map, nat_eq, bytes_eq, codes, if◌then◌else◌}
+use Rattle.std.specs.Prelude.{◌≡◌, ◌≢◌, ℕ, ◌≤◌, Bool, true, false, List, [], ◌∷◌, ◌++◌, length, drop, Option, Some, None, IfSome, option_map, nat_eq, bytes_eq, if◌then◌else◌}
 use Rattle.std.specs.List.{AllByRecursion, AllZip, filter_map, flat_map, starts_with}
 use Rattle.std.specs.Option.{option_to_list}
 use Rattle.shogi_board.specs.declared.color.Color.{Color}
@@ -47,7 +47,7 @@ abbrev pub begin_line : List ℕ → List ℕ
 begin_line title = texts.begin ++ title
 
 abbrev pub end_line : List ℕ → List ℕ
-end_line title = codes "END " ++ title
+end_line title = texts.end ++ title
 
 abbrev pub begun_lines : Block → List (List ℕ)
 begun_lines b = begin_line b.title ∷ b.lines
@@ -83,7 +83,7 @@ block_of (line text) = None
 block_of (block b) = Some b
 
 abbrev pub is_position : List ℕ → Bool
-is_position title = bytes_eq title (codes "Position")
+is_position title = bytes_eq title texts.position_title
 
 -- the text of a block `BEGIN Position`: its lines, LF behind each
 abbrev pub position_text : Block → Option (List ℕ)

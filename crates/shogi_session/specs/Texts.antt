@@ -1,6 +1,7 @@
 -- Lines as bytes.
-use Rattle.std.specs.Prelude.{ℕ, ◌==◌, List, [], ◌∷◌, ◌++◌, decimal, codes, if◌then◌else◌}
+use Rattle.std.specs.Prelude.{ℕ, ◌==◌, List, [], ◌∷◌, ◌++◌, decimal, if◌then◌else◌}
 use Rattle.std.specs.List.{flat_map}
+use Rattle.shogi_session.specs.LineTexts as texts
 
 -- a line and its end, which is LF
 abbrev pub ended_line : List ℕ → List ℕ
@@ -21,4 +22,4 @@ without_last_spaces (b ∷ bs) = before_kept b (without_last_spaces bs)
 
 -- a text, `,T` and the seconds
 abbrev pub with_time : List ℕ → ℕ → List ℕ
-with_time text seconds = text ++ (codes ",T" ++ decimal seconds)
+with_time text seconds = text ++ (texts.time ++ decimal seconds)

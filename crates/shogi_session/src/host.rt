@@ -1,9 +1,9 @@
-ghost use Rattle.std.specs.Prelude.{◌≡◌, ◌++◌, ◌∷◌, [], ℕ, ◌≤◌, ◌↔◌, IsOk, IsTrue, IfOk, OnErr};
+ghost use Rattle.std.specs.Prelude.{◌≡◌, ◌++◌, ◌∷◌, [], ℕ, List, ◌≤◌, ◌↔◌, IsOk, IsTrue, IfOk, OnErr};
 ghost use Rattle.shogi_session.specs.Host.{IsHostConfig, waiting, offered, ended, summary_lines};
 ghost use Rattle.shogi_session.specs.declared.config.HostConfig.{HostConfig};
-ghost use Rattle.shogi_session.specs.Hosting.{Begins, IsRowText, state_of};
+ghost use Rattle.shogi_session.specs.Hosting.{Begins, RowText, StepRow, state_of};
 ghost use Rattle.shogi_session.specs.LineTexts as texts;
-ghost use Rattle.shogi_session.specs.Texts.{text_of, without_last_spaces};
+ghost use Rattle.shogi_session.specs.Texts.{text_of};
 
 use crate::config::HostConfig;
 use crate::lines::Lines;
@@ -76,12 +76,16 @@ impl Host {
     /// is not judged. A repetition, a perpetual check and the last move that the game may have end it.
     /// `LOGOUT` gives `LOGOUT:completed` and ends. Other lines are skipped.
     ///
-    /// Refuses OutOfMemory, and has ended then.
+    /// Refuses OutOfMemory, and has ended then. Once it has ended it answers Ok and gives no line.
     pub fn step(&mut self, line: &[u8], seconds: u32) -> Result<HostOut, OutOfMemory>
-        ensures row { IfOk result (λ out. IsRowText self.old.config self.old.state (without_last_spaces line.now) seconds out.to_client self.new.state) }
+        ensures row { IfOk result (λ out. (lines : List (List ℕ)) × StepRow self.old line.now seconds lines self.new) }
+        ensures to_client { IfOk result (λ out. (lines : List (List ℕ)) → StepRow self.old line.now seconds lines self.new → out.to_client ≡ text_of lines) }
         ensures config { self.new.config ≡ self.old.config }
         ensures ended { IfOk result (λ out. IsTrue out.ended ↔ (self.new.state ≡ ended)) }
         ensures lost { OnErr result (self.new.state ≡ ended) }
+        ensures over { self.old.state ≡ ended → IsOk result }
+        ensures silent { self.old.state ≡ ended → IfOk result (λ out. out.to_client ≡ []) }
+        ensures stays { self.old.state ≡ ended → self.new.state ≡ ended }
     {
         let stage = mem::replace(&mut self.stage, HostStage::Ended);
         match answer(
@@ -122,7 +126,8 @@ fn answer(
     seconds: u32,
 ) -> Result<Reply, OutOfMemory>
     requires { config.now.max_moves ≤ 10000 }
-    ensures { IfOk result (λ r. IsRowText config.now (state_of stage) line.now seconds r.lines (state_of r.stage)) }
+    ensures row { IfOk result (λ r. RowText config.now (state_of stage) line.now seconds r.lines (state_of r.stage)) }
+    ensures over { state_of stage ≡ ended → IsOk result }
 {
     if is_same(line, texts::LOGOUT) {
         return log_out(alloc, stage);
@@ -144,7 +149,8 @@ fn answer(
 
 // Answers `LOGOUT`.
 fn log_out(alloc: Global, stage: HostStage) -> Result<Reply, OutOfMemory>
-    ensures { (config : HostConfig) (seconds : ℕ) → IfOk result (λ r. IsRowText config (state_of stage) texts.logout seconds r.lines (state_of r.stage)) }
+    ensures row { (config : HostConfig) (seconds : ℕ) → IfOk result (λ r. RowText config (state_of stage) texts.logout seconds r.lines (state_of r.stage)) }
+    ensures over { state_of stage ≡ ended → IsOk result }
 {
     if is_ended(&stage) {
         return Ok(Reply {
@@ -161,7 +167,7 @@ fn log_out(alloc: Global, stage: HostStage) -> Result<Reply, OutOfMemory>
 // Answers a line before login. It is not `LOGOUT`.
 fn log_in(alloc: Global, config: &HostConfig, line: &[u8]) -> Result<Reply, OutOfMemory>
     requires { line.now ≡ texts.logout → ⊥ }
-    ensures { (seconds : ℕ) → IfOk result (λ r. IsRowText config.now waiting line.now seconds r.lines (state_of r.stage)) }
+    ensures { (seconds : ℕ) → IfOk result (λ r. RowText config.now waiting line.now seconds r.lines (state_of r.stage)) }
 {
     match read_login(line) {
         Some(name) => offer(alloc, config, name),
@@ -205,7 +211,7 @@ fn agree(
 ) -> Result<Reply, OutOfMemory>
     requires few { config.now.max_moves ≤ 10000 }
     requires stays { line.now ≡ texts.logout → ⊥ }
-    ensures { (seconds : ℕ) → IfOk result (λ r. IsRowText config.now (offered name.items) line.now seconds r.lines (state_of r.stage)) }
+    ensures { (seconds : ℕ) → IfOk result (λ r. RowText config.now (offered name.items) line.now seconds r.lines (state_of r.stage)) }
 {
     if is_word_and_one(line, texts::AGREE) {
         begin(alloc, config)

@@ -5,7 +5,7 @@ ghost use Rattle.shogi_rules.specs.Positions.{now_of, all_of};
 ghost use Rattle.shogi_rules.specs.Repetition.{Over};
 ghost use Rattle.csa_text.specs.Codes.{move_text};
 ghost use Rattle.shogi_session.specs.Host.{playing, decided, outcome_lines, with_move};
-ghost use Rattle.shogi_session.specs.Hosting.{Follows, IsRowText, Rests, Tries, MovesBehind, state_of};
+ghost use Rattle.shogi_session.specs.Hosting.{Follows, RowText, Rests, Tries, MovesBehind, state_of};
 ghost use Rattle.shogi_session.specs.LineTexts as texts;
 ghost use Rattle.shogi_session.specs.MoveLines.{is_move_line};
 ghost use Rattle.shogi_session.specs.Texts.{ended_line, text_of, with_time};
@@ -32,7 +32,7 @@ pub(crate) fn answer_in_play(
 ) -> Result<Reply, OutOfMemory>
     requires few { config.now.max_moves ≤ 10000 }
     requires stays { line.now ≡ texts.logout → ⊥ }
-    ensures { IfOk result (λ r. IsRowText config.now (playing game) line.now seconds r.lines (state_of r.stage)) }
+    ensures { IfOk result (λ r. RowText config.now (playing game) line.now seconds r.lines (state_of r.stage)) }
 {
     if is_move_line(line) {
         take_move(alloc, config, game, line, seconds)
@@ -78,7 +78,7 @@ fn take_move(
 ) -> Result<Reply, OutOfMemory>
     requires few { config.now.max_moves ≤ 10000 }
     requires from_a_sign { is_move_line line.now ≡ true }
-    ensures { IfOk result (λ r. IsRowText config.now (playing game) line.now seconds r.lines (state_of r.stage)) }
+    ensures { IfOk result (λ r. RowText config.now (playing game) line.now seconds r.lines (state_of r.stage)) }
 {
     match read_move_line(line) {
         Some(told) => try_move(alloc, config, game, told.0, told.1, seconds),

@@ -1,12 +1,12 @@
-ghost use Rattle.std.specs.Prelude.{◌≡◌, ◌⊎◌, ◌∷◌, [], ◌↔◌, IsTrue, IsOk, IfOk, OnErr, None, MatchOption};
+ghost use Rattle.std.specs.Prelude.{◌≡◌, ◌⊎◌, ◌∷◌, [], ℕ, List, ◌↔◌, IsTrue, IsOk, IfOk, OnErr, None, MatchOption};
 ghost use Rattle.shogi_rules.specs.declared.moves.Move.{Move};
 ghost use Rattle.shogi_rules.specs.Order.{IsFirstLegal};
 ghost use Rattle.shogi_rules.specs.Positions.{now_of, all_of};
 ghost use Rattle.shogi_rules.specs.Repetition.{Over};
 ghost use Rattle.shogi_rules.specs.Verdicts.{NoLegalMove};
 ghost use Rattle.shogi_session.specs.LineTexts as texts;
-ghost use Rattle.shogi_session.specs.Requests.{Asks, IsRowText, IsGoText};
-ghost use Rattle.shogi_session.specs.Sample.{IsBest, IsGameOf, keeps, quit};
+ghost use Rattle.shogi_session.specs.Requests.{Asks, RowText, IsGoText};
+ghost use Rattle.shogi_session.specs.Sample.{IsBest, IsGameOf, SampleRow, keeps, quit};
 ghost use Rattle.shogi_session.specs.Texts.{text_of};
 ghost use Rattle.usi_text.specs.Moves.{UsiMove};
 
@@ -86,10 +86,13 @@ impl Sample {
     ///
     /// Refuses OutOfMemory, and then keeps no game. That does not come once it has quit.
     pub fn step(&mut self, line: &[u8]) -> Result<SampleOut, OutOfMemory>
-        ensures row { IfOk result (λ out. IsRowText self.old line.now out.lines self.new) }
+        ensures row { IfOk result (λ out. (lines : List (List ℕ)) × SampleRow self.old line.now lines self.new) }
+        ensures lines { IfOk result (λ out. (lines : List (List ℕ)) → SampleRow self.old line.now lines self.new → out.lines ≡ text_of lines) }
         ensures ended { IfOk result (λ out. IsTrue out.ended ↔ (self.new ≡ quit)) }
         ensures lost { OnErr result (self.new ≡ keeps None) }
         ensures needs_no_memory_to_stay_silent { self.old ≡ quit → IsOk result }
+        ensures silent { self.old ≡ quit → IfOk result (λ out. out.lines ≡ []) }
+        ensures stays { self.old ≡ quit → self.new ≡ quit }
     {
         match self.answer(line) {
             Ok(lines) => Ok(SampleOut {
@@ -113,7 +116,7 @@ impl Sample {
     }
 
     fn answer(&mut self, line: &[u8]) -> Result<Lines, OutOfMemory>
-        ensures row { IfOk result (λ lines. IsRowText self.old line.now lines self.new) }
+        ensures row { IfOk result (λ lines. RowText self.old line.now lines self.new) }
         ensures silent { self.old ≡ quit → IsOk result }
     {
         let Stage::Keeping(kept) = &self.stage else {
