@@ -48,10 +48,12 @@ fn ending_follows_from_the_reason(rt: HostRuntime) -> Result<(), Fail> {
         ("S#OUTE_SENNICHITE|S#LOSE", "%+ILLEGAL_ACTION\n"),
         ("S#OUTE_SENNICHITE|S#WIN", "%-ILLEGAL_ACTION\n"),
         ("S#OUTE_SENNICHITE|S#DRAW", "%SENNICHITE\n"),
+        ("S#OUTE_SENNICHITE|S#CENSORED", "%SENNICHITE\n"),
         ("S#CHUDAN", "%CHUDAN\n"),
         ("S#LOSE", ""),
         ("S#|S#CHUDAN", ""),
         ("S#LOSE x|S#CHUDAN", ""),
+        ("S#RESIGN x|S#LOSE", ""),
         ("S#RESIGN", ""),
         ("S#TIME_UP|S#RESIGN|S#LOSE", "%TIME_UP\n"),
         ("S#WIN|S#CHUDAN", ""),
@@ -304,6 +306,11 @@ fn engine_is_asked_at_the_start(rt: HostRuntime) -> Result<(), Fail> {
     )?;
     started(
         &rt,
+        "SYour_Turn:-|SYour_Turn:+|SBEGIN Position|SPI|S+|SEND Position",
+        "usinewgame\nposition startpos\ngo btime 600000 wtime 600000 byoyomi 10000\n",
+    )?;
+    started(
+        &rt,
         "SYour_Turn:-|SBEGIN Position|SP+13KI33KE59OU00KI|SP-11OU|S+|S+0012KI|SEND Position",
         "usinewgame\nposition sfen 8k/9/6N1G/9/9/9/9/9/4K4 b G 1 moves G*1b\n\
          go btime 600000 wtime 600000 byoyomi 10000\n",
@@ -341,6 +348,10 @@ fn summaries_offer_games(rt: HostRuntime) -> Result<(), Fail> {
             "V2.2\nPI\n+\n",
         ),
         (
+            "SYour_Turn:x|SYour_Turn:+|SBEGIN a b|SEND a|SBEGIN a b|SName+:x|SEND a b|SBEGIN Position|S+|SEND Position",
+            "V2.2\nPI\n+\n",
+        ),
+        (
             "SEND Time|SYour_Turn:-|SBEGIN Position|S+|SEND Position|SYour_Turn:+|SName-:c",
             "V2.2\nN-c\nPI\n+\n",
         ),
@@ -362,11 +373,30 @@ fn summaries_offer_games(rt: HostRuntime) -> Result<(), Fail> {
     Ok(())
 }
 
+// To a white client, which loses by a perpetual check of its own or wins by one of black.
+#[test]
+fn perpetual_check_is_told_to_white(rt: HostRuntime) -> Result<(), Fail> {
+    let table = [
+        ("S#LOSE", "V2.2\nPI\n+\n%-ILLEGAL_ACTION\n"),
+        ("S#WIN", "V2.2\nPI\n+\n%+ILLEGAL_ACTION\n"),
+    ];
+    for (row, text) in table {
+        let rows = format!(in rt.alloc();
+            "SBEGIN Game_Summary|SYour_Turn:-|SBEGIN Position|SPI|S+|SEND Position|SEND Game_Summary|SSTART:g|S#OUTE_SENNICHITE|{row}"
+        )?;
+        let (bridge, _) = behind(rt.alloc(), LOGGED_IN, rows.as_str())?;
+        assert_eq!(rt; text_of(&bridge)?.as_slice(), text.as_bytes(), "{row}");
+    }
+    Ok(())
+}
+
 #[test]
 fn summaries_are_refused(rt: HostRuntime) -> Result<(), Fail> {
     let table = [
         "SBEGIN Position|SPI|S+|SEND Position",
         "SYour_Turn:x|SBEGIN Position|SPI|S+|SEND Position",
+        "SYour_Turn:+|SYour_Turn:|SBEGIN Position|SPI|S+|SEND Position",
+        "SYour_Turn:+|SBEGIN Position|SPI|S+|SEND Position|SBEGIN a b|SEND a",
         "SYour_Turn:+",
         "SYour_Turn:+|SBEGIN Position|SPI|SEND Position",
         "SYour_Turn:+|SBEGIN Position|SPI|S+",

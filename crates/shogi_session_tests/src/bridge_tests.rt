@@ -2,7 +2,9 @@ ghost use Rattle.std.specs.Prelude.{IfOk, IsTrue};
 ghost use Rattle.csa_text.specs.Lines.{HasNoLineEnd};
 ghost use Rattle.shogi_session.specs.Promises.{HoldsLine, event_of};
 
+use crate::tests::host;
 use arrayvec::ArrayString;
+use shogi_board::Color;
 use shogi_session::{Bridge, ClientState, Config, Event, Out, SessionFault, Status};
 use std::alloc::Global;
 use std::process::Abort;
@@ -52,8 +54,19 @@ pub(crate) fn hand(bridge: &mut Bridge, row: &[u8]) -> Result<Out, Fail> {
     Ok(bridge.step(read_row(row)?)?)
 }
 
-// A whole session: each event with the lines to the engine and those to the server.
-fn script() -> [(&'static str, &'static str, &'static str); 25] {
+// An event, the lines to the engine and those to the server.
+type Row = (&'static str, &'static str, &'static str);
+
+// A whole session.
+fn script() -> [Row; 25] {
+    script_of(
+        "S+7776FU,T12",
+        "position startpos moves 7g7f 3c3d\ngo btime 588000 wtime 594000 byoyomi 10000\n",
+    )
+}
+
+// The same with that line for the first move, and what the engine is asked behind it.
+fn script_of(first: &'static str, asked: &'static str) -> [Row; 25] {
     [
         ("begin", "usi\n", ""),
         ("Eusiok", "isready\n", ""),
@@ -77,12 +90,8 @@ fn script() -> [(&'static str, &'static str, &'static str); 25] {
             "",
         ),
         ("Ebestmove 7g7f", "", "+7776FU\n"),
-        ("S+7776FU,T12", "", ""),
-        (
-            "S-3334FU,T6",
-            "position startpos moves 7g7f 3c3d\ngo btime 588000 wtime 594000 byoyomi 10000\n",
-            "",
-        ),
+        (first, "", ""),
+        ("S-3334FU,T6", asked, ""),
         ("Ebestmove 7f7d", "", "%TORYO\n"),
         ("S%TORYO,T3", "", ""),
         ("S#RESIGN", "", ""),
@@ -109,24 +118,67 @@ const CLOSING: usize = 24;
 
 const DONE: usize = 25;
 
-#[test]
-fn script_passes(rt: HostRuntime) -> Result<(), Fail> {
-    let mut bridge = bridge(rt.alloc())?;
+// Hands the bridge these rows, each of which is answered as it says, and answers how the bridge stands then.
+fn passes<R: Abort>(rt: &R, bridge: &mut Bridge, rows: &[Row]) -> Result<Status, Fail> {
     let mut last = Status::Going;
-    for (row, to_engine, to_server) in script() {
+    for (row, to_engine, to_server) in rows {
         assert!(rt; last == Status::Going, "{row}");
-        let out = hand(&mut bridge, row.as_bytes())?;
+        let out = hand(bridge, row.as_bytes())?;
         assert!(rt; out.to_engine.bytes() == to_engine.as_bytes(), "{row}");
         assert!(rt; out.to_server.bytes() == to_server.as_bytes(), "{row}");
         last = out.status;
     }
-    assert!(rt; last == Status::Done && bridge.slip());
-    let text = text_of(&bridge)?;
-    assert!(rt;
-        text.as_slice()
-            == b"V2.2\nN+bridge\nN-host\nPI\n+\n+7776FU\nT12\n-3334FU\nT6\n%TORYO\nT3\n".as_slice()
-    );
+    Ok(last)
+}
+
+// Hands the bridge what a host answers to its login, line by line. It agrees at the last one, and answers nothing before.
+fn hears_a_host<R: Abort + AllocGlobal>(rt: &R, bridge: &mut Bridge) -> Result<(), Fail> {
+    let mut host = host(rt.alloc(), Color::Black, 256)?;
+    let answer = host.step(b"LOGIN bridge pw", 0)?;
+    for line in answer.to_client.bytes().split(|b| *b == b'\n') {
+        if !is_line(line) {
+            return Err(Fail::from("a line of the host holds a line end"));
+        }
+        let out = bridge.step(Event::ServerLine(line))?;
+        let is_last = line == b"END Game_Summary".as_slice();
+        let to_server = if is_last { "AGREE\n" } else { "" };
+        assert!(rt; out.to_engine.bytes().is_empty());
+        assert!(rt; out.to_server.bytes() == to_server.as_bytes());
+    }
     Ok(())
+}
+
+// The session ends well, and the first move has that time in its game text.
+fn script_ends<R: Abort + AllocGlobal>(rt: &R, rows: &[Row; 25], time: &str) -> Result<(), Fail> {
+    let mut bridge = bridge(rt.alloc())?;
+    let first = passes(rt, &mut bridge, &rows[..LOGGING_IN])?;
+    hears_a_host(rt, &mut bridge)?;
+    let last = passes(rt, &mut bridge, &rows[AGREEING..])?;
+    assert!(rt; first == Status::Going && last == Status::Done && bridge.slip());
+    let wanted = format!(in rt.alloc();
+        "V2.2\nN+bridge\nN-host\nPI\n+\n+7776FU\n{time}\n-3334FU\nT6\n%TORYO\nT3\n"
+    )?;
+    assert!(rt; text_of(&bridge)?.as_slice() == wanted.as_bytes(), "{time}");
+    Ok(())
+}
+
+// With the summary of a host, and with the rows' own, which has the same lines.
+#[test]
+fn script_passes(rt: HostRuntime) -> Result<(), Fail> {
+    script_ends(&rt, &script(), "T12")?;
+    let mut bridge = bridge(rt.alloc())?;
+    let last = passes(&rt, &mut bridge, &script())?;
+    assert!(rt; last == Status::Done);
+    Ok(())
+}
+
+#[test]
+fn script_passes_with_half_a_second(rt: HostRuntime) -> Result<(), Fail> {
+    let rows = script_of(
+        "S+7776FU,T12.5",
+        "position startpos moves 7g7f 3c3d\ngo btime 587500 wtime 594000 byoyomi 10000\n",
+    );
+    script_ends(&rt, &rows, "T12.5")
 }
 
 // The game text of a bridge to which a game was offered.
@@ -174,7 +226,10 @@ fn answers<R: Abort + AllocGlobal>(
         "Eusiok",
         "Ebestmove 7g7f",
         "S+7776FU",
+        "engine ends",
         "server ends",
+        "long line of the engine",
+        "too long line of the server",
     ] {
         let out = hand(&mut bridge, next.as_bytes())?;
         assert!(rt; out.to_engine.bytes().is_empty(), "{count} {next}");
@@ -277,6 +332,40 @@ fn lines_of_each_byte_are_skipped(rt: HostRuntime) -> Result<(), Fail> {
     Ok(())
 }
 
+// A line that begins so and holds each byte but the line ends.
+pub(crate) fn line_of_all_bytes(alloc: Global, first: &[u8]) -> Result<Vec<u8>, Fail> {
+    let mut line = Vec::from_slice(alloc, first)?;
+    for b in 0..=255u8 {
+        if b != b'\r' && b != b'\n' {
+            line.push(b)?;
+        }
+    }
+    Ok(line)
+}
+
+#[test]
+fn lines_of_all_bytes_are_skipped(rt: HostRuntime) -> Result<(), Fail> {
+    let engine = line_of_all_bytes(rt.alloc(), b"E")?;
+    let server = line_of_all_bytes(rt.alloc(), b"S")?;
+    for count in 0..=DONE {
+        let mut bridge = in_script(rt.alloc(), count)?;
+        let client = bridge.client_state();
+        let status = if count == DONE {
+            Status::Done
+        } else {
+            Status::Going
+        };
+        for row in [&engine, &server] {
+            let out = hand(&mut bridge, row.as_slice())?;
+            assert!(rt; out.to_engine.bytes().is_empty(), "{count}");
+            assert!(rt; out.to_server.bytes().is_empty(), "{count}");
+            assert!(rt; out.status == status, "{count}");
+        }
+        assert!(rt; bridge.client_state() == client, "{count}");
+    }
+    Ok(())
+}
+
 // Lines that are a beginning, an end or a whole, and a name of any length.
 #[test]
 fn words_of_the_server_are_taken(rt: HostRuntime) -> Result<(), Fail> {
@@ -292,16 +381,23 @@ fn words_of_the_server_are_taken(rt: HostRuntime) -> Result<(), Fail> {
         (LOGGING_IN, "S LOGIN:x OK", ClientState::LoggingIn),
         (LOGGING_IN, "SLOGIN:x ok", ClientState::LoggingIn),
         (LOGGING_IN, "SLOGIN:incorrect x", ClientState::LoggingIn),
+        (LOGGING_IN, "SLOGIN:incorrect OK", ClientState::Summary),
+        (LOGGING_IN, "SLOGIN:OK", ClientState::LoggingIn),
+        (LOGGED_IN, "SEND Game_Summary", ClientState::Summary),
         (AGREEING, "SSTART:", ClientState::Playing),
         (AGREEING, "SSTART", ClientState::Agreeing),
         (AGREEING, "S START:x", ClientState::Agreeing),
+        (AGREEING, "SREJECT", ClientState::Agreeing),
         (AGREEING, "S REJECT:x", ClientState::Agreeing),
         (THINKING, "S#LOSE  ", ClientState::Closing),
         (THINKING, "S#LOSE x", ClientState::Reason),
         (THINKING, "S#", ClientState::Reason),
         (THINKING, "S #LOSE", ClientState::Playing),
         (THINKING, "S%", ClientState::Playing),
+        (THINKING, "S %TORYO", ClientState::Playing),
+        (SENT, "S +7776FU", ClientState::Sent),
         (CLOSING, "SLOGOUT:completed x", ClientState::Closing),
+        (CLOSING, "S LOGOUT:completed", ClientState::Closing),
         (CLOSING, "SLOGOUT:completed ", ClientState::Ended),
     ];
     for (count, row, state) in table {

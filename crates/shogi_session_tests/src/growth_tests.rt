@@ -1,10 +1,10 @@
 // Run by tests/growths with each growth refused in turn: the answer is want of memory. A host has ended then, and the sample
 // engine keeps no game.
-use crate::bridge_tests::{bridge, read_row};
+use crate::bridge_tests::{bridge, hand, read_row};
 use crate::tests::host;
-use csa_record::{read, write};
 use shogi_board::{Color, OutOfMemory};
 use shogi_session::{Bridge, Host, Out, Sample, Status};
+use std::alloc::Global;
 use std::process::Abort;
 use std::test::Fail;
 
@@ -78,6 +78,7 @@ fn hand_each<R: Abort + Print + AllocGlobal>(
     rows: &[&str],
 ) -> Result<Option<Bridge>, Fail> {
     let mut bridge = bridge(rt.alloc())?;
+    let mut count = 0usize;
     for row in rows.iter().flat_map(|part| part.split('|')) {
         let states = (bridge.engine_state(), bridge.client_state());
         match bridge.step(read_row(row.as_bytes())?) {
@@ -88,17 +89,18 @@ fn hand_each<R: Abort + Print + AllocGlobal>(
                     states == (bridge.engine_state(), bridge.client_state()),
                     "{row}"
                 );
-                is_lost(rt, bridge)?;
+                is_lost(rt, &mut bridge)?;
+                has_game(rt, &bridge, rows, count)?;
                 return Ok(None);
             }
         }
+        count = count.saturating_add(1);
     }
     Ok(Some(bridge))
 }
 
-// No event gives a line, and the game is whole: one that is read as it was written.
-fn is_lost<R: Abort + AllocGlobal>(rt: &R, bridge: Bridge) -> Result<(), Fail> {
-    let mut bridge = bridge;
+// No event gives a line.
+fn is_lost<R: Abort>(rt: &R, bridge: &mut Bridge) -> Result<(), Fail> {
     for row in [
         "begin",
         "Eusiok",
@@ -111,11 +113,30 @@ fn is_lost<R: Abort + AllocGlobal>(rt: &R, bridge: Bridge) -> Result<(), Fail> {
         let out = bridge.step(read_row(row.as_bytes())?)?;
         assert!(rt; is_silent_and_lost(&out), "{row}");
     }
-    if let Some(text) = bridge.game_text()? {
-        let game = read(rt.alloc(), text.as_slice())?;
-        assert!(rt; write(rt.alloc(), &game)?.as_slice() == text.as_slice());
-    }
     Ok(())
+}
+
+// The game is that before the row which so many came before, or that behind it.
+fn has_game<R: Abort + AllocGlobal>(
+    rt: &R,
+    bridge: &Bridge,
+    rows: &[&str],
+    count: usize,
+) -> Result<(), Fail> {
+    let text = bridge.game_text()?;
+    let before = text_behind(rt.alloc(), rows, count)?;
+    let after = text_behind(rt.alloc(), rows, count.saturating_add(1))?;
+    assert!(rt; text == before || text == after);
+    Ok(())
+}
+
+// The game text of a bridge that was handed so many of the rows.
+fn text_behind(alloc: Global, rows: &[&str], count: usize) -> Result<Option<Vec<u8>>, Fail> {
+    let mut bridge = bridge(alloc)?;
+    for row in rows.iter().flat_map(|part| part.split('|')).take(count) {
+        hand(&mut bridge, row.as_bytes())?;
+    }
+    Ok(bridge.game_text()?)
 }
 
 fn is_silent_and_lost(out: &Out) -> bool {

@@ -37,3 +37,37 @@ fn sample_has_ended(rt: HostRuntime) -> Result<(), Fail> {
     }
     Ok(())
 }
+
+// A word that stands alone or is the first of its line, in one session.
+#[test]
+fn sample_takes_its_words(rt: HostRuntime) -> Result<(), Fail> {
+    let mut engine = Sample::new(rt.alloc());
+    let greeting = "id name shogi\nid author shogi\nusiok\n";
+    let table = [
+        ("go", "bestmove resign\n"),
+        ("usi", greeting),
+        ("  usi  ", greeting),
+        ("usi now", ""),
+        ("isready now", ""),
+        ("quit now", ""),
+        ("gone", ""),
+        ("positions startpos", ""),
+        ("  go now", "bestmove resign\n"),
+        ("position startpos", ""),
+        ("go btime 0 wtime 0 byoyomi 0", "bestmove 1g1f\n"),
+        ("stop", ""),
+        ("  position  startpos  moves  1g1f  ", ""),
+        ("go", "bestmove 1a1b\n"),
+        ("position startpos moves 1g1e", ""),
+        ("go", "bestmove resign\n"),
+        (" isready ", "readyok\n"),
+    ];
+    for (line, text) in table {
+        let out = engine.step(line.as_bytes())?;
+        assert!(rt;
+            out.lines.bytes() == text.as_bytes() && !out.ended,
+            "{line}"
+        );
+    }
+    Ok(())
+}
