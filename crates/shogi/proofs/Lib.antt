@@ -1,2 +1,4 @@
+pub mod Coming
+pub mod Hearing
 pub mod Playing
 pub mod Talks

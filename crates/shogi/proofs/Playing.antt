@@ -1,18 +1,30 @@
 -- A bridge that plays, round after round.
-use Rattle.std.proofs.Common.{◌≡◌, ℕ, List, Result, Ok, Err, IsErrOf, ap, subst, ◌∙◌}
+use Rattle.std.proofs.Common.{◌≡◌, ℕ, List, Option, Err, IsErrOf, refl, ap, subst, ◌∙◌}
 use Rattle.shogi_session.specs.declared.event.Status.{Status}
 use Rattle.shogi_session.specs.declared.event.Status.TheVariants.{Going}
 use Rattle.shogi_session.specs.declared.fault.SessionFault.{SessionFault}
 use Rattle.shogi_session.specs.declared.state.Waits.{Waits}
-use Rattle.shogi_session.specs.Events.{Event, Out}
+use Rattle.shogi_session.specs.Events.{Event, Out, begin}
 use Rattle.shogi_session.specs.Promises.{Session, StepRow, Steps}
 use Rattle.shogi_session.specs.State.{waits_for}
 use Rattle.shogi_session.specs.Texts.{text_of}
 use Rattle.shogi.specs.declared.bridging.Seat.{Seat}
+use Rattle.shogi.specs.declared.bridging.Seat.TheVariants.{Engine, Server}
 use Rattle.shogi.specs.declared.fault.Fault.{Fault}
 use Rattle.shogi.specs.declared.fault.Fault.TheVariants as fault
 use Rattle.shogi.specs.declared.incoming.Heard.{Heard}
-use Rattle.shogi.specs.Plays.{Answered, HearsNext, Hears, Played, Sends, Tells, event_from, seat_for, first, later, begun, goes_on}
+use Rattle.shogi.specs.declared.incoming.Heard.TheVariants as heard
+use Rattle.shogi.specs.Incoming.{GivesLine, GivesLongLine, GivesNoLine}
+use Rattle.shogi.specs.Plays.{Comes, HearsNext, Hears, Played, Sends, Tells, event_from, seat_for, begun, goes_on}
+
+-- a step was made whose lines are not sent yet
+pub data Answered {E : Type 0} (heard : Hears E) (told gone : Tells E) (e : E) (s : Session) (to_engine to_server : List ℕ) (status : Status) : E → Session → Type 0 where
+  first : (t : Session) → Steps s begin to_engine to_server status t → Answered heard told gone e s to_engine to_server status e t
+  later : (f g : E) (t u : Session) (event : Event)
+      → Played heard told gone e s f t Going
+      → heard f (seat_for (waits_for t.state)) event g
+      → Steps t event to_engine to_server status u
+      → Answered heard told gone e s to_engine to_server status g u
 
 -- the clauses of a step that answers Ok, together
 pub steps_of : (old : Session) (e : Event) (to_engine to_server : List ℕ) (status : Status) (new : Session)
@@ -53,24 +65,16 @@ pub round_begun : {E : Type 0} (heard : Hears E) (told gone : Tells E) (e : E) (
     → Answered heard told gone e s to_engine to_server status g u
 round_begun heard told gone e s f t to_engine to_server status g u played next = later f g t u next.event played next.came next.step
 
--- the fault of a session's fault
-abbrev pub session_fault : SessionFault → Fault → SessionFault
-session_fault other (fault.Session f) = f
-session_fault other (fault.Refused r) = other
-session_fault other (fault.Usi f) = other
-session_fault other fault.LongLine = other
-session_fault other fault.WordsNotText = other
-session_fault other fault.UnknownCommand = other
-session_fault other fault.Read = other
-session_fault other fault.Write = other
-session_fault other fault.ClientGone = other
-session_fault other fault.ClientLineTooLong = other
-session_fault other fault.OutOfMemory = other
-
--- and of a call that ends with it
-abbrev pub failed_with : {T : Type 0} → SessionFault → Result T Fault → SessionFault
-failed_with other (Ok value) = other
-failed_with other (Err f) = session_fault other f
-
 pub same_session_fault : {T : Type 0} (f g : SessionFault) → IsErrOf {T = T} {E = Fault} (Err (fault.Session f)) (fault.Session g) → f ≡ g
-same_session_fault f g same = ap (failed_with f) same
+same_session_fault f g same = cc
+
+-- what a reader gave is what was heard of its seat
+pub came_of : (old new : Option (List ℕ)) (seat : Seat) (what : Heard) (line : List ℕ)
+    → (what ≡ heard.Line → GivesLine old new line) → (what ≡ heard.End → GivesNoLine old new) → (what ≡ heard.Long → GivesLongLine old new)
+    → Comes old new (event_from seat what line)
+came_of old new Engine heard.Line line gives none long = gives refl
+came_of old new Engine heard.End line gives none long = none refl
+came_of old new Engine heard.Long line gives none long = long refl
+came_of old new Server heard.Line line gives none long = gives refl
+came_of old new Server heard.End line gives none long = none refl
+came_of old new Server heard.Long line gives none long = long refl

@@ -10,9 +10,10 @@ use Rattle.csa_text.specs.declared.line.LineFault.TheVariants as faulty
 use Rattle.shogi.specs.Faults.{line_fault_of}
 use Rattle.csa_text.specs.Lining.{Lining, BeginsTooLong, LineStep, LinesAfter, LastLine}
 use Rattle.csa_text.proofs.LinesOnce.{lines_joined}
+use Rattle.shogi.proofs.Hearing.{rest_run}
 use Rattle.shogi.specs.declared.fault.Fault.{Fault}
 use Rattle.shogi.specs.declared.fault.Fault.TheVariants.{LongLine, Read, OutOfMemory}
-use Rattle.shogi.specs.Talks.{Calls, Passes, Answers, IsLongNext, Talked, nothing, bytes_came, end_came, line_answered, IsEnded, IsAnswered, IsReply, IsUnsent, line_too_long, not_received, endless, not_answered, not_cut, BreaksOff, Talking, GoesOn, Finishes, Stops, TakesNext, TakesPiece, EndsTalk, HasAnswered}
+use Rattle.shogi.specs.Talks.{Calls, Passes, Answers, IsLongNext, Talked, nothing, bytes_came, end_came, line_answered, IsEnded, IsAnswered, IsReply, IsUnsent, line_too_long, not_received, endless, not_answered, not_cut, Breaks, BreaksOff, Talking, GoesOn, Finishes, Stops, TakesNext, TakesPiece, EndsTalk, HasAnswered}
 
 -- ---- lines
 
@@ -21,10 +22,6 @@ at_most a b h = elim (cases_lt a b) [
   | inl less ↦ absurd (h less)
   | inr not ↦ omega arith
 ]
-
-rest_run : (bytes : List ℕ) (lines : List (List ℕ)) (rest : List ℕ) → Lines bytes lines rest → HasNoLineEnd rest
-rest_run bytes [] rest (ends, whole, skipped, run) = run
-rest_run bytes (line ∷ lines) rest (behind, n, others) = rest_run behind lines rest others
 
 -- the front of the piece, and what is left of it
 parted : (used piece : List ℕ) (k : ℕ) → (used ++ take k piece) ++ drop k piece ≡ used ++ piece
@@ -157,19 +154,18 @@ machine_ended came ends went answers wire machine pieces old piece k line u v m 
 
 -- ---- a talk breaks off
 
+breaks_at : {W M : Type 0} (came : Passes W) (ends : Calls W) (went : Passes W) (silent : Calls W) (blocked : Passes W) (answers : Answers M) (wire : W) (machine : M) (pieces : ℕ) (old : Lining) (left : List ℕ) (u v : W) (m : M) (fault : Fault)
+    (t : Talking came ends went answers wire machine pieces old left u m) → Breaks silent blocked answers (t.used ++ left) false t.lines u m v fault
+    → BreaksOff came ends went silent blocked answers wire machine fault v
+breaks_at came ends went silent blocked answers wire machine pieces old left u v m fault t breaks =
+    record { bytes = t.used ++ left; over = false; lines = t.lines; before = u; last = m; talked = t.talked; breaks = breaks }
+
 pub not_replied : {W M : Type 0} (came : Passes W) (ends : Calls W) (went : Passes W) (silent : Calls W) (blocked : Passes W) (answers : Answers M) (wire : W) (machine : M) (pieces : ℕ) (old : Lining) (piece : List ℕ) (k : ℕ) (line : Bor (List ℕ)) (u v : W) (m : M) (fault : Fault)
     → Talking came ends went answers wire machine pieces old piece u m → LineStep old.held piece (k, Some line)
     → IsUnsent blocked answers u m line.now v fault
     → BreaksOff came ends went silent blocked answers wire machine fault v
-not_replied came ends went silent blocked answers wire machine pieces old piece k line u v m fault t step unsent = record {
-  bytes = t.used ++ piece;
-  over = false;
-  lines = t.lines;
-  before = u;
-  last = m;
-  talked = t.talked;
-  breaks = not_answered line.now fault (t.used ++ take k piece, drop k piece, sym (parted t.used piece k), next_of came ends went answers wire machine pieces old piece k line u m t step) unsent;
-}
+not_replied came ends went silent blocked answers wire machine pieces old piece k line u v m fault t step unsent =
+    breaks_at came ends went silent blocked answers wire machine pieces old piece u v m fault t (not_answered line.now fault (t.used ++ take k piece, drop k piece, sym (parted t.used piece k), next_of came ends went answers wire machine pieces old piece k line u m t step) unsent)
 
 long_next : (used piece : List ℕ) (lines : List (List ℕ)) (old : Lining) → Lines used lines old.held → old.limit ≡ 65536 → old.failed ≡ false
     → (old.failed ≡ true) ⊎ BeginsTooLong old.limit (old.held ++ piece) → IsLongNext (used ++ piece) lines
@@ -181,54 +177,26 @@ pub line_long : {W M : Type 0} (came : Passes W) (ends : Calls W) (went : Passes
     → Talking came ends went answers wire machine pieces old piece u m
     → (old.failed ≡ true) ⊎ BeginsTooLong old.limit (old.held ++ piece)
     → BreaksOff came ends went silent blocked answers wire machine LongLine u
-line_long came ends went silent blocked answers wire machine pieces old piece u m t long = record {
-  bytes = t.used ++ piece;
-  over = false;
-  lines = t.lines;
-  before = u;
-  last = m;
-  talked = t.talked;
-  breaks = line_too_long (long_next t.used piece t.lines old t.cut t.limit t.sound long) refl;
-}
+line_long came ends went silent blocked answers wire machine pieces old piece u m t long =
+    breaks_at came ends went silent blocked answers wire machine pieces old piece u u m LongLine t (line_too_long (long_next t.used piece t.lines old t.cut t.limit t.sound long) refl)
 
 pub line_uncut : {W M : Type 0} (came : Passes W) (ends : Calls W) (went : Passes W) (silent : Calls W) (blocked : Passes W) (answers : Answers M) (wire : W) (machine : M) (pieces : ℕ) (old : Lining) (piece : List ℕ) (u : W) (m : M)
     → Talking came ends went answers wire machine pieces old piece u m
     → BreaksOff came ends went silent blocked answers wire machine OutOfMemory u
-line_uncut came ends went silent blocked answers wire machine pieces old piece u m t = record {
-  bytes = t.used ++ piece;
-  over = false;
-  lines = t.lines;
-  before = u;
-  last = m;
-  talked = t.talked;
-  breaks = not_cut refl;
-}
+line_uncut came ends went silent blocked answers wire machine pieces old piece u m t =
+    breaks_at came ends went silent blocked answers wire machine pieces old piece u u m OutOfMemory t (not_cut refl)
 
 pub fell_silent : {W M : Type 0} (came : Passes W) (ends : Calls W) (went : Passes W) (silent : Calls W) (blocked : Passes W) (answers : Answers M) (wire : W) (machine : M) (pieces : ℕ) (old : Lining) (u v : W) (m : M) (fault : Fault)
     → (fault ≡ Read) ⊎ (fault ≡ OutOfMemory) → Talking came ends went answers wire machine pieces old [] u m → silent u v
     → BreaksOff came ends went silent blocked answers wire machine fault v
-fell_silent came ends went silent blocked answers wire machine pieces old u v m fault why t is = record {
-  bytes = t.used ++ [];
-  over = false;
-  lines = t.lines;
-  before = u;
-  last = m;
-  talked = t.talked;
-  breaks = not_received old.held fault why (subst (λ xs. Lines xs t.lines old.held) (sym (append-nil t.used)) t.cut) is;
-}
+fell_silent came ends went silent blocked answers wire machine pieces old u v m fault why t is =
+    breaks_at came ends went silent blocked answers wire machine pieces old [] u v m fault t (not_received old.held fault why (subst (λ xs. Lines xs t.lines old.held) (sym (append-nil t.used)) t.cut) is)
 
 pub never_ends : {W M : Type 0} (came : Passes W) (ends : Calls W) (went : Passes W) (silent : Calls W) (blocked : Passes W) (answers : Answers M) (wire : W) (machine : M) (pieces : ℕ) (old : Lining) (u : W) (m : M)
     → Talking came ends went answers wire machine pieces old [] u m → 2 ^ 64 - 1 ≤ pieces
     → BreaksOff came ends went silent blocked answers wire machine Read u
-never_ends came ends went silent blocked answers wire machine pieces old u m t many = record {
-  bytes = t.used ++ [];
-  over = false;
-  lines = t.lines;
-  before = u;
-  last = m;
-  talked = t.talked;
-  breaks = endless old.held (subst (λ xs. Lines xs t.lines old.held) (sym (append-nil t.used)) t.cut) (omega (arith, many, t.least)) refl;
-}
+never_ends came ends went silent blocked answers wire machine pieces old u m t many =
+    breaks_at came ends went silent blocked answers wire machine pieces old [] u u m Read t (endless old.held (subst (λ xs. Lines xs t.lines old.held) (sym (append-nil t.used)) t.cut) (omega (arith, many, t.least)) refl)
 
 -- ---- the end
 

@@ -1,5 +1,5 @@
 -- A bridge that plays between its engine and its server.
-use Rattle.std.specs.Prelude.{◌≡◌, ℕ, List, []}
+use Rattle.std.specs.Prelude.{◌≡◌, ℕ, List, [], Option}
 use Rattle.shogi_session.specs.declared.event.Status.{Status}
 use Rattle.shogi_session.specs.declared.event.Status.TheVariants.{Going}
 use Rattle.shogi_session.specs.declared.state.Waits.{Waits}
@@ -7,6 +7,7 @@ use Rattle.shogi_session.specs.declared.state.Waits.TheVariants as waits
 use Rattle.shogi_session.specs.Events.{Event, begin, engine_line, server_line, engine_end, server_end, engine_long, server_long}
 use Rattle.shogi_session.specs.Promises.{Session, Steps}
 use Rattle.shogi_session.specs.State.{waits_for}
+use Rattle.shogi.specs.Incoming.{GivesLine, GivesLongLine, GivesNoLine}
 use Rattle.shogi.specs.declared.incoming.Heard.{Heard}
 use Rattle.shogi.specs.declared.incoming.Heard.TheVariants.{Line, End, Long}
 use Rattle.shogi.specs.declared.bridging.Seat.{Seat}
@@ -28,6 +29,21 @@ event_from Engine Long line = engine_long
 event_from Server Line line = server_line line
 event_from Server End line = server_end
 event_from Server Long line = server_long
+
+-- what came of the bytes that a seat still gave, as an event of the bridge
+abbrev pub Comes : Option (List ℕ) → Option (List ℕ) → Event → Type 0
+Comes old new begin = ⊥
+Comes old new (engine_line line) = GivesLine old new line
+Comes old new (server_line line) = GivesLine old new line
+Comes old new engine_end = GivesNoLine old new
+Comes old new server_end = GivesNoLine old new
+Comes old new engine_long = GivesLongLine old new
+Comes old new server_long = GivesLongLine old new
+
+-- of a statement on each, that on the seat
+abbrev pub OfSeat : Seat → Type 0 → Type 0 → Type 0
+OfSeat Engine engine server = engine
+OfSeat Server engine server = server
 
 -- of a line of each, that of the seat
 abbrev pub line_by_seat : Seat → List ℕ → List ℕ → List ℕ
@@ -78,15 +94,6 @@ pub data Played {E : Type 0} (heard : Hears E) (told gone : Tells E) (e : E) (s 
       → heard f (seat_for (waits_for t.state)) event g
       → Round told gone event g t h u status
       → Played heard told gone e s h u status
-
--- a step was made whose lines are not sent yet
-pub data Answered {E : Type 0} (heard : Hears E) (told gone : Tells E) (e : E) (s : Session) (to_engine to_server : List ℕ) (status : Status) : E → Session → Type 0 where
-  first : (t : Session) → Steps s begin to_engine to_server status t → Answered heard told gone e s to_engine to_server status e t
-  later : (f g : E) (t u : Session) (event : Event)
-      → Played heard told gone e s f t Going
-      → heard f (seat_for (waits_for t.state)) event g
-      → Steps t event to_engine to_server status u
-      → Answered heard told gone e s to_engine to_server status g u
 
 -- what is heard of the seat that the bridge waits for is one step
 pub record HearsNext {E : Type 0} (heard : Hears E) (e : E) (s : Session) (to_engine to_server : List ℕ) (status : Status) (f : E) (t : Session) : Type 0 where

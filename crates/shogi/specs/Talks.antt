@@ -1,9 +1,14 @@
 -- A machine that answers the lines that come over a wire.
-use Rattle.std.specs.Prelude.{◌≡◌, ◌⊎◌, ℕ, ◌-◌, ◌^◌, ◌≤◌, Bool, true, false, List, [], ◌∷◌, ◌++◌, length, drop, Result, Ok, Err}
+use Rattle.std.specs.Prelude.{◌≡◌, ◌⊎◌, ℕ, ◌-◌, ◌^◌, ◌≤◌, Bool, true, false, List, [], ◌∷◌, ◌++◌, length, drop, Option, Result, Ok, Err}
 use Rattle.csa_text.specs.Lines.{Lines}
 use Rattle.csa_text.specs.Lining.{Lining, BeginsTooLong}
 use Rattle.shogi.specs.declared.fault.Fault.{Fault}
 use Rattle.shogi.specs.declared.fault.Fault.TheVariants.{LongLine, Read, Write, OutOfMemory}
+
+-- the bytes that still come of a reader, and those that a writer holds, where they are known
+pub record Passing : Type 0 where
+  pub coming : Option (List ℕ)
+  pub written : Option (List ℕ)
 
 -- one call took a wire to another state
 abbrev pub Calls : Type 0 → Type 1

@@ -1,6 +1,6 @@
 //! A bridge, and the lines that come and go between it, its engine and its server.
 
-ghost use Rattle.std.specs.Prelude.{◌≡◌, ◌≢◌, [], true, false, IsErrOf, IsTrue, IfErr, IfOk, OnOk, OnErr};
+ghost use Rattle.std.specs.Prelude.{◌≡◌, ◌⊎◌, [], true, false, IsErrOf, IsTrue, IfErr, IfOk, OnOk, OnErr};
 ghost use Rattle.csa_text.specs.Lines.{HasNoLineEnd};
 ghost use Rattle.shogi.specs.Plays.{Delivers, HearsNext, Played, Sends, end_of, event_from, seat_for};
 ghost use Rattle.shogi_session.specs.Promises.{HoldsLine, event_of};
@@ -77,18 +77,26 @@ pub struct Sides<'a, 'b, ER: Read + Drop, EW: Write + Drop, SR: Read + Drop, SW:
     pub server: Side<'b, SR, SW>,
 }
 
+// What is heard of a side is the next of its reader's bytes, and what it takes is added to what its writer holds, where these
+// are known. The rest of both sides stays as it is.
 impl<ER: Read + Drop, EW: Write + Drop, SR: Read + Drop, SW: Write + Drop> Ends
     for Sides<'_, '_, ER, EW, SR, SW> {
-    ghost use Rattle.std.specs.Prelude.{ℕ, List};
-    ghost use Rattle.shogi.specs.Plays.{line_by_seat};
+    ghost use Rattle.std.specs.Io.KnownBytes.{Appends};
+    ghost use Rattle.shogi.specs.Plays.{Comes, OfSeat, line_by_seat};
 
-    ghost last_line = { λ s seat. line_by_seat seat s.engine.lines.now.line.items s.server.lines.now.line.items };
+    ghost last_line = { λ s seat. line_by_seat seat s.engine.lines.now.line s.server.lines.now.line };
 
-    ghost heard = { λ _ _ _ _. Unit {0} };
+    ghost heard = { λ s seat event t. OfSeat seat
+        (Comes s.engine.lines.now.bytes t.engine.lines.now.bytes event × (t.engine.writer ≡ s.engine.writer) × (t.server ≡ s.server))
+        (Comes s.server.lines.now.bytes t.server.lines.now.bytes event × (t.server.writer ≡ s.server.writer) × (t.engine ≡ s.engine)) };
 
-    ghost told = { λ _ _ _ _. Unit {0} };
+    ghost told = { λ s seat lines t. OfSeat seat
+        (Appends (EW.contents s.engine.writer) (EW.contents t.engine.writer) lines × (t.engine.lines ≡ s.engine.lines) × (t.server ≡ s.server))
+        (Appends (SW.contents s.server.writer) (SW.contents t.server.writer) lines × (t.server.lines ≡ s.server.lines) × (t.engine ≡ s.engine)) };
 
-    ghost gone = { λ _ _ _ _. Unit {0} };
+    ghost gone = { λ s seat lines t. OfSeat seat
+        ((t.engine.lines ≡ s.engine.lines) × (t.server ≡ s.server))
+        ((t.server.lines ≡ s.server.lines) × (t.engine ≡ s.engine)) };
 
     fn hear(&mut self, seat: Seat) -> Result<Heard, Fault> {
         match seat {
@@ -124,7 +132,7 @@ pub fn play<R: Eprint + AllocGlobal, E: Ends>(
 ) -> Result<(), Fault>
     ensures done { OnOk result (Played E.heard E.told E.gone ends.old bridge.old ends.new bridge.new Done) }
     ensures failed { (fault : SessionFault) → IsErrOf result (Fault.Session fault) → Played E.heard E.told E.gone ends.old bridge.old ends.new bridge.new (Failed fault) }
-    ensures faults { IfErr result (λ fault. (fault ≢ Fault.WordsNotText) × (fault ≢ Fault.UnknownCommand)) }
+    ensures faults { IfErr result (λ fault. ((f : SessionFault) × (fault ≡ Fault.Session f)) ⊎ (fault ≡ Fault.OutOfMemory) ⊎ (fault ≡ Fault.Read)) }
 {
     let mut out = bridge.step(Event::Begin)?;
     for _rounds in 0..u64::MAX {

@@ -1,6 +1,7 @@
 //! The programs that `play` starts.
 
-ghost use Rattle.std.specs.Prelude.{◌≡◌, ◌⊎◌, IfErr};
+ghost use Rattle.std.specs.Prelude.{◌≡◌, ◌⊎◌, IfErr, is_some, true};
+ghost use Rattle.std.specs.Process.{child_status};
 
 use crate::fault::Fault;
 use crate::incoming::Incoming;
@@ -73,18 +74,21 @@ pub fn lines_of<P: OpenProcess + Drop>(
     }
 }
 
-/// Leaves no child behind: one whose session ended well has ten seconds to end, and any other is ended at once.
-pub fn end<R: Clock, P: OpenProcess + Drop>(rt: &R, child: &mut Child<P>, is_well: bool) {
+/// Leaves no child behind: one whose session ended well has ten seconds to end, and any other is ended at once. Whether it
+/// has ended.
+pub fn end<R: Clock, P: OpenProcess + Drop>(rt: &R, child: &mut Child<P>, is_well: bool) -> bool
+    ensures ended { result ≡ true → is_some (child_status child.new) ≡ true }
+{
     if is_well && has_ended(rt, child) {
-        return;
+        return true;
     }
-    if child.kill().is_ok() {
-        let _ = child.wait();
-    }
+    child.kill().is_ok() && child.wait().is_ok()
 }
 
 // Whether the child ends in time.
-fn has_ended<R: Clock, P: OpenProcess + Drop>(rt: &R, child: &mut Child<P>) -> bool {
+fn has_ended<R: Clock, P: OpenProcess + Drop>(rt: &R, child: &mut Child<P>) -> bool
+    ensures ended { result ≡ true → is_some (child_status child.new) ≡ true }
+{
     for _ in 0..LOOKS {
         match child.try_wait() {
             Ok(Some(_)) => return true,

@@ -1,13 +1,16 @@
 //! The lines that a reader gives, one at a time.
 
-ghost use Rattle.std.specs.Prelude.{◌≡◌, Some, IfOk, IfErr, true};
-ghost use Rattle.csa_text.specs.Lines.{HasNoLineEnd};
+ghost use Rattle.std.specs.Prelude.{◌≡◌, ◌↔◌, ◌⊎◌, ◌<◌, ◌≤◌, ◌++◌, [], ◌∷◌, length, take, None, Some, Ok, Err, IfOk, IfErr, IsErrOf, true, false};
+ghost use Rattle.csa_text.specs.Lines.{Lines};
+ghost use Rattle.csa_text.specs.Lining.{BeginsTooLong};
+ghost use Rattle.shogi.specs.Incoming.{GivesLine, GivesLongLine, GivesNoLine, IsHearing};
 
 use crate::fault::Fault;
 use crate::streams;
 use csa_text::{LineCutter, LineFault};
 use std::alloc::Global;
 use std::io::{BufRead, BufReader, ErrorKind, Read};
+use std::marker::Model;
 
 /// What comes next of a reader.
 #[derive(Clone, Copy, Debug, PartialEq, Eq)]
@@ -30,9 +33,23 @@ pub struct Incoming<R: Read + Drop> {
     is_over: bool,
 }
 
+impl<R: Read + Drop> Model for Incoming<R> {
+    ghost use Rattle.std.specs.Prelude.{◌≡◌, false};
+    ghost use Rattle.std.specs.Io.Buffered.{reader_remaining};
+    ghost use Rattle.std.specs.Io.KnownBytes.{prepend_known};
+    ghost use Rattle.shogi.specs.Incoming.{Coming, IsHearing};
+
+    ghost Value = { Coming };
+
+    ghost view = { λ i. record { bytes = prepend_known i.cutter.held (reader_remaining R.remaining i.reader); line = i.line.items } };
+
+    ghost invariant = { λ i. i.is_over ≡ false → IsHearing i.cutter };
+}
+
 impl<R: Read + Drop> Incoming<R> {
     /// Nothing is read yet.
     pub fn new(alloc: Global, reader: R) -> Result<Incoming<R>, Fault>
+        ensures bytes { IfOk result (λ i. i.bytes ≡ R.remaining reader) }
         ensures faults { IfErr result (λ fault. fault ≡ Fault.OutOfMemory) }
     {
         let Ok(reader) = BufReader::with_capacity(alloc, streams::PIECE, reader) else {
@@ -48,9 +65,11 @@ impl<R: Read + Drop> Incoming<R> {
     }
 
     /// Reads up to the next line end. What stands at the end without one is a line. A read that is interrupted is made
-    /// again.
+    /// again. Behind a line that is too long, and behind a fault, no line is heard.
     pub fn hear(&mut self) -> Result<Heard, Fault>
-        ensures line { IfOk result (λ heard. heard ≡ Heard.Line → HasNoLineEnd self.new.line.items) }
+        ensures line { IfOk result (λ heard. heard ≡ Heard.Line → GivesLine self.old.bytes self.new.bytes self.new.line) }
+        ensures end { IfOk result (λ heard. heard ≡ Heard.End → GivesNoLine self.old.bytes self.new.bytes) }
+        ensures long { IfOk result (λ heard. heard ≡ Heard.Long → GivesLongLine self.old.bytes self.new.bytes) }
         ensures faults { IfErr result (λ fault. fault ≡ Fault.OutOfMemory) }
     {
         for _ in 0..u64::MAX {
@@ -63,14 +82,17 @@ impl<R: Read + Drop> Incoming<R> {
 
     /// The line that was heard last.
     pub fn line(&self) -> &[u8]
-        ensures value { result.now ≡ self.now.line.items }
+        ensures value { result.now ≡ self.now.line }
     {
         self.line.as_slice()
     }
 
     // What comes of the bytes up to the next line end, or of those that are there; None where no line ended.
     fn take_piece(&mut self) -> Result<Option<Heard>, Fault>
-        ensures line { IfOk result (λ heard. heard ≡ Some Heard.Line → HasNoLineEnd self.new.line.items) }
+        ensures line { IfOk result (λ heard. heard ≡ Some Heard.Line → GivesLine self.old.bytes self.new.bytes self.new.line) }
+        ensures end { IfOk result (λ heard. heard ≡ Some Heard.End → GivesNoLine self.old.bytes self.new.bytes) }
+        ensures long { IfOk result (λ heard. heard ≡ Some Heard.Long → GivesLongLine self.old.bytes self.new.bytes) }
+        ensures none { IfOk result (λ heard. heard ≡ None → GivesNoLine self.old.bytes self.new.bytes) }
         ensures faults { IfErr result (λ fault. fault ≡ Fault.OutOfMemory) }
     {
         if self.is_over {
@@ -82,33 +104,28 @@ impl<R: Read + Drop> Incoming<R> {
             Err(_) => return Ok(Some(Heard::End)),
         };
         if piece.is_empty() {
-            return self.take_last();
+            self.is_over = true;
+            match keep_last(self.alloc, &mut self.cutter, &mut self.line) {
+                Ok(is_line) => return Ok(is_line.then_some(Heard::Line)),
+                Err(fault) => return heard_of(fault),
+            }
         }
         match cut(self.alloc, &mut self.cutter, &mut self.line, piece) {
             Ok((used, is_line)) => {
                 self.reader.consume(used);
                 Ok(is_line.then_some(Heard::Line))
             }
-            Err(fault) => heard_of(fault),
-        }
-    }
-
-    // What stands at the end, which is taken as a line end.
-    fn take_last(&mut self) -> Result<Option<Heard>, Fault>
-        ensures line { IfOk result (λ heard. heard ≡ Some Heard.Line → HasNoLineEnd self.new.line.items) }
-        ensures faults { IfErr result (λ fault. fault ≡ Fault.OutOfMemory) }
-    {
-        self.is_over = true;
-        match cut(self.alloc, &mut self.cutter, &mut self.line, b"\n") {
-            Ok((_, is_line)) => Ok(is_line.then_some(Heard::Line)),
-            Err(fault) => heard_of(fault),
+            Err(fault) => {
+                self.is_over = true;
+                heard_of(fault)
+            }
         }
     }
 }
 
 fn heard_of(fault: LineFault) -> Result<Option<Heard>, Fault>
-    ensures long { IfOk result (λ heard. heard ≡ Some Heard.Long) }
-    ensures faults { IfErr result (λ fault. fault ≡ Fault.OutOfMemory) }
+    ensures long { (fault ≡ LineFault.TooLong) ↔ (result ≡ Ok (Some Heard.Long)) }
+    ensures memory { (fault ≡ LineFault.OutOfMemory) ↔ (result ≡ Err Fault.OutOfMemory) }
 {
     match fault {
         LineFault::TooLong => Ok(Some(Heard::Long)),
@@ -123,7 +140,11 @@ fn cut(
     kept: &mut Vec<u8>,
     piece: &[u8],
 ) -> Result<(usize, bool), LineFault>
-    ensures line { IfOk result (λ r. r.1 ≡ true → HasNoLineEnd kept.new.items) }
+    ensures used { IfOk result (λ r. r.0 ≤ length piece.now) }
+    ensures line { IfOk result (λ r. r.1 ≡ true → (cutter.new.held ≡ []) × Lines (cutter.old.held ++ take r.0 piece.now) (kept.new.items ∷ []) []) }
+    ensures none { IfOk result (λ r. r.1 ≡ false → (r.0 ≡ length piece.now) × Lines (cutter.old.held ++ piece.now) [] cutter.new.held) }
+    ensures keeps { IfOk result (λ r. IsHearing cutter.old → IsHearing cutter.new) }
+    ensures long { IsErrOf result LineFault.TooLong → (cutter.new.held ≡ cutter.old.held) × ((cutter.old.failed ≡ true) ⊎ BeginsTooLong cutter.old.limit (cutter.old.held ++ piece.now)) }
 {
     let (used, line) = cutter.step(piece)?;
     let Some(line) = line else {
@@ -131,4 +152,18 @@ fn cut(
     };
     *kept = Vec::from_slice(alloc, line)?;
     Ok((used, true))
+}
+
+// Keeps the line that is unfinished at the end of the bytes: whether there was one.
+fn keep_last(alloc: Global, cutter: &mut LineCutter, kept: &mut Vec<u8>) -> Result<bool, LineFault>
+    ensures line { IfOk result (λ is_line. is_line ≡ true → (kept.new.items ≡ cutter.old.held) × (0 < length cutter.old.held)) }
+    ensures none { IfOk result (λ is_line. is_line ≡ false → cutter.old.held ≡ []) }
+    ensures empty { IfOk result (λ is_line. cutter.new.held ≡ []) }
+    ensures long { IsErrOf result LineFault.TooLong → cutter.old.failed ≡ true }
+{
+    let Some(line) = cutter.finish()? else {
+        return Ok(false);
+    };
+    *kept = Vec::from_slice(alloc, line)?;
+    Ok(true)
 }

@@ -2,11 +2,12 @@
 
 ghost use Rattle.std.specs.Prelude.{◌≡◌, ◌≢◌, ◌⊎◌, ◌≤◌, length, IfOk, IfErr, OnOk};
 ghost use Rattle.std.specs.Io.KnownBytes.{Appends, ReadConsumes};
+ghost use Rattle.clap.specs.Words.{app_of};
 
 use crate::fault::Fault;
-use clap::{Arg, ArgMatches};
+use clap::{Arg, ArgMatches, Command};
 use csa_record::{Reading, Record};
-use std::alloc::Global;
+use std::alloc::{AllocError, Global};
 use std::fs;
 use std::io::{ErrorKind, Read, Write};
 use std::rt::Files;
@@ -27,9 +28,20 @@ pub fn open<R: Files>(rt: &R, path: &str) -> Result<R::File, Fault>
     }
 }
 
-/// The word FILE of a command, which may be absent.
-pub fn file<'a>(alloc: Global, help: &'a str) -> Arg<'a> {
-    Arg::new(alloc, "FILE").help(help)
+/// A command that reads FILE, a word that may be absent: what it is, an example of it, and what FILE is.
+pub fn command<'a>(
+    alloc: Global,
+    name: &'a str,
+    about: &'a str,
+    example: &'a str,
+    help: &'a str,
+) -> Result<Command<'a>, AllocError>
+    ensures name { IfOk result (λ c. (app_of c).top.name ≡ name.now) }
+{
+    Command::new(alloc, name)
+        .about(about)
+        .after_help(example)
+        .arg(Arg::new(alloc, "FILE").help(help))
 }
 
 /// The record of the named file, or of standard input where none is named or the name is `-`.

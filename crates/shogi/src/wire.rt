@@ -6,6 +6,7 @@ ghost use Rattle.std.specs.Io.KnownBytes.{Appends, Consumes, IsAtEnd, Keeps};
 use crate::fault::Fault;
 use crate::streams;
 use std::io::{Read, Write};
+use std::marker::Model;
 
 /// Where bytes come from and go to. A contract sees each call as a step from one state to the next.
 pub trait Wire {
@@ -44,16 +45,24 @@ pub trait Wire {
 
 /// A reader that bytes come from, and a writer that they go to.
 #[derive(Drop)]
-pub struct Exchange<R, W> {
+pub struct Exchange<R: Read + Drop, W: Write + Drop> {
     reader: R,
     writer: W,
 }
 
-impl<R, W> Exchange<R, W> {
+impl<R: Read + Drop, W: Write + Drop> Model for Exchange<R, W> {
+    ghost use Rattle.shogi.specs.Talks.{Passing};
+
+    ghost Value = { Passing };
+
+    ghost view = { λ e. record { coming = R.remaining e.reader; written = W.contents e.writer } };
+}
+
+impl<R: Read + Drop, W: Write + Drop> Exchange<R, W> {
     /// Nothing has come or gone yet.
     pub fn new(reader: R, writer: W) -> Exchange<R, W>
-        ensures reader { result.reader ≡ reader }
-        ensures writer { result.writer ≡ writer }
+        ensures coming { result.coming ≡ R.remaining reader }
+        ensures written { result.written ≡ W.contents writer }
     {
         Exchange { reader, writer }
     }
@@ -61,16 +70,16 @@ impl<R, W> Exchange<R, W> {
 
 // What comes is taken off what the reader gives, and what goes is added to what the writer holds, where these are known.
 // The other of the two stays as it is.
-impl<R: Read, W: Write> Wire for Exchange<R, W> {
-    ghost came = { (λ s bytes t. Consumes (R.remaining s.reader) (R.remaining t.reader) bytes × (t.writer ≡ s.writer)) };
+impl<R: Read + Drop, W: Write + Drop> Wire for Exchange<R, W> {
+    ghost came = { (λ s bytes t. Consumes s.coming t.coming bytes × (t.written ≡ s.written)) };
 
-    ghost ends = { (λ s t. Consumes (R.remaining s.reader) (R.remaining t.reader) [] × IsAtEnd (R.remaining t.reader) × (t.writer ≡ s.writer)) };
+    ghost ends = { (λ s t. Consumes s.coming t.coming [] × IsAtEnd t.coming × (t.written ≡ s.written)) };
 
-    ghost went = { (λ s bytes t. Appends (W.contents s.writer) (W.contents t.writer) bytes × (t.reader ≡ s.reader)) };
+    ghost went = { (λ s bytes t. Appends s.written t.written bytes × (t.coming ≡ s.coming)) };
 
-    ghost silent = { (λ s t. Keeps (R.remaining s.reader) (R.remaining t.reader) × (t.writer ≡ s.writer)) };
+    ghost silent = { (λ s t. Keeps s.coming t.coming × (t.written ≡ s.written)) };
 
-    ghost blocked = { λ s bytes t. t.reader ≡ s.reader };
+    ghost blocked = { λ s bytes t. t.coming ≡ s.coming };
 
     fn receive(&mut self, buffer: &mut [u8]) -> Result<usize, Fault> {
         streams::read(&mut self.reader, buffer)

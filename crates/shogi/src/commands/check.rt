@@ -1,6 +1,7 @@
 //! `shogi check [FILE]`: whether a record is accepted, how many moves it has, and how it stands.
 
-ghost use Rattle.std.specs.Prelude.{◌≡◌, ◌≢◌, IfErr};
+ghost use Rattle.std.specs.Prelude.{◌≡◌, ◌≢◌, IfErr, IfOk, codes};
+ghost use Rattle.clap.specs.Words.{app_of};
 ghost use Rattle.shogi.specs.Words.{word_of};
 
 use crate::fault::Fault;
@@ -16,14 +17,16 @@ use std::rt::Files;
 pub const NAME: &str = "check";
 
 /// The command's own words: a file, which may be absent.
-pub fn command<'a>(alloc: Global) -> Result<Command<'a>, AllocError> {
-    Command::new(alloc, NAME)
-        .about("Checks a record: prints how many moves it has and how it stands")
-        .after_help("Example: shogi check game.csa")
-        .arg(streams::file(
-            alloc,
-            "The record; without it, or with -, standard input is read",
-        ))
+pub fn command<'a>(alloc: Global) -> Result<Command<'a>, AllocError>
+    ensures name { IfOk result (λ c. (app_of c).top.name ≡ codes "check") }
+{
+    streams::command(
+        alloc,
+        NAME,
+        "Checks a record: prints how many moves it has and how it stands",
+        "Example: shogi check game.csa",
+        "The record; without it, or with -, standard input is read",
+    )
 }
 
 /// Prints `accepted N V`: the number of moves, and the word for how the record's line stands.

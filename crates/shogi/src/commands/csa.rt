@@ -1,6 +1,7 @@
 //! `shogi csa [FILE]`: the canonical text of a USI position line.
 
-ghost use Rattle.std.specs.Prelude.{◌≢◌, ◌<◌, ◌≤◌, length, IfOk, IfErr};
+ghost use Rattle.std.specs.Prelude.{◌≡◌, ◌≢◌, ◌<◌, ◌≤◌, length, IfOk, IfErr, codes};
+ghost use Rattle.clap.specs.Words.{app_of};
 
 use crate::fault::Fault;
 use crate::streams;
@@ -17,14 +18,16 @@ use usi_text::UsiFault;
 pub const NAME: &str = "csa";
 
 /// The command's own words: a file, which may be absent.
-pub fn command<'a>(alloc: Global) -> Result<Command<'a>, AllocError> {
-    Command::new(alloc, NAME)
-        .about("Prints the canonical text of a USI position line")
-        .after_help("Example: shogi csa position.txt")
-        .arg(streams::file(
-            alloc,
-            "The line; without it, or with -, standard input is read",
-        ))
+pub fn command<'a>(alloc: Global) -> Result<Command<'a>, AllocError>
+    ensures name { IfOk result (λ c. (app_of c).top.name ≡ codes "csa") }
+{
+    streams::command(
+        alloc,
+        NAME,
+        "Prints the canonical text of a USI position line",
+        "Example: shogi csa position.txt",
+        "The line; without it, or with -, standard input is read",
+    )
 }
 
 /// Prints the canonical text of the game that the one position line tells.

@@ -1,6 +1,7 @@
 //! `shogi engine`: a USI engine on standard input and output, which plays the first legal move.
 
-ghost use Rattle.std.specs.Prelude.{◌≢◌, IfErr};
+ghost use Rattle.std.specs.Prelude.{◌≡◌, ◌≢◌, IfErr, codes};
+ghost use Rattle.clap.specs.Words.{app_of};
 
 use crate::fault::Fault;
 use crate::talk;
@@ -14,7 +15,9 @@ use std::io;
 pub const NAME: &str = "engine";
 
 /// The command, which has no words of its own.
-pub fn command<'a>(alloc: Global) -> Command<'a> {
+pub fn command<'a>(alloc: Global) -> Command<'a>
+    ensures name { (app_of result).top.name ≡ codes "engine" }
+{
     Command::new(alloc, NAME)
         .about("Answers USI lines as an engine that plays the first legal move")
         .after_help(

@@ -1,6 +1,7 @@
 //! `shogi normal [FILE]`: the canonical text of a record.
 
-ghost use Rattle.std.specs.Prelude.{◌≢◌, IfErr};
+ghost use Rattle.std.specs.Prelude.{◌≡◌, ◌≢◌, IfErr, IfOk, codes};
+ghost use Rattle.clap.specs.Words.{app_of};
 
 use crate::fault::Fault;
 use crate::streams;
@@ -14,14 +15,16 @@ use std::rt::Files;
 pub const NAME: &str = "normal";
 
 /// The command's own words: a file, which may be absent.
-pub fn command<'a>(alloc: Global) -> Result<Command<'a>, AllocError> {
-    Command::new(alloc, NAME)
-        .about("Prints the canonical text of a record")
-        .after_help("Example: shogi normal game.csa")
-        .arg(streams::file(
-            alloc,
-            "The record; without it, or with -, standard input is read",
-        ))
+pub fn command<'a>(alloc: Global) -> Result<Command<'a>, AllocError>
+    ensures name { IfOk result (λ c. (app_of c).top.name ≡ codes "normal") }
+{
+    streams::command(
+        alloc,
+        NAME,
+        "Prints the canonical text of a record",
+        "Example: shogi normal game.csa",
+        "The record; without it, or with -, standard input is read",
+    )
 }
 
 /// Prints the canonical text of the record of the named file, or of standard input where none is named or the name is

@@ -1,6 +1,7 @@
 //! `shogi play`: an engine plays one game on a server, and the game's record is kept.
 
-ghost use Rattle.std.specs.Prelude.{◌≡◌, ◌≢◌, IfErr};
+ghost use Rattle.std.specs.Prelude.{◌≡◌, ◌≢◌, IfErr, IfOk, codes};
+ghost use Rattle.shogi_session.specs.State.{first_state};
 
 use crate::bridging::{Side, Sides, play};
 use crate::commands::serve;
@@ -101,7 +102,7 @@ pub fn run<
         Ok(told) => play_on(rt, words, is_terminal, told),
         Err(fault) => Err(*fault),
     };
-    children::end(rt, &mut server, moves.is_ok());
+    let _ = children::end(rt, &mut server, moves.is_ok());
     let line = format!(in rt.alloc(); "played {}\n", moves?)?;
     streams::write_all(&mut io::writer(rt), line.as_bytes())
 }
@@ -132,7 +133,7 @@ fn play_on<
         (Err(fault), _) => Err(*fault),
         (_, None) => Err(ENGINE_GONE),
     };
-    children::end(rt, &mut engine, moves.is_ok());
+    let _ = children::end(rt, &mut engine, moves.is_ok());
     moves
 }
 
@@ -146,7 +147,7 @@ fn listening_port<T: Read + Drop>(told: &mut Incoming<T>) -> Result<Option<u16>,
     Ok(port_of(told.line()))
 }
 
-// The port of `listening` and a port, which is not 0.
+// The port of `listening` and a number of at most 65535.
 fn port_of(line: &[u8]) -> Option<u16> {
     let digits = line.strip_prefix(b"listening ".as_slice())?;
     if !digits.iter().all(|b| b.is_ascii_digit()) {
@@ -199,7 +200,11 @@ fn play_with<R: Files + Eprint + AllocGlobal, T: Read + Drop, W: Write + Drop>(
     moves_in(rt.alloc(), text.as_slice())
 }
 
+// A bridge to which nothing has happened.
 fn bridge_of(alloc: Global) -> Result<Bridge, Fault>
+    ensures login { IfOk result (λ bridge. (bridge.config.name.bytes ≡ codes "bridge") × (bridge.config.password.bytes ≡ codes "pw")) }
+    ensures clocks { IfOk result (λ bridge. (bridge.config.total_ms ≡ 600000) × (bridge.config.byoyomi_ms ≡ 10000)) }
+    ensures state { IfOk result (λ bridge. bridge.state ≡ first_state) }
     ensures faults { IfErr result (λ fault. fault ≡ Fault.OutOfMemory) }
 {
     let config = Config {

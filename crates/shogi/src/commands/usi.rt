@@ -1,6 +1,7 @@
 //! `shogi usi [FILE]`: the position line of a record.
 
-ghost use Rattle.std.specs.Prelude.{◌≢◌, IfErr};
+ghost use Rattle.std.specs.Prelude.{◌≡◌, ◌≢◌, IfErr, IfOk, codes};
+ghost use Rattle.clap.specs.Words.{app_of};
 
 use crate::fault::Fault;
 use crate::streams;
@@ -13,14 +14,16 @@ use std::rt::Files;
 pub const NAME: &str = "usi";
 
 /// The command's own words: a file, which may be absent.
-pub fn command<'a>(alloc: Global) -> Result<Command<'a>, AllocError> {
-    Command::new(alloc, NAME)
-        .about("Prints the USI position line of a record")
-        .after_help("Example: shogi usi game.csa")
-        .arg(streams::file(
-            alloc,
-            "The record; without it, or with -, standard input is read",
-        ))
+pub fn command<'a>(alloc: Global) -> Result<Command<'a>, AllocError>
+    ensures name { IfOk result (λ c. (app_of c).top.name ≡ codes "usi") }
+{
+    streams::command(
+        alloc,
+        NAME,
+        "Prints the USI position line of a record",
+        "Example: shogi usi game.csa",
+        "The record; without it, or with -, standard input is read",
+    )
 }
 
 /// Prints the position line of the record's start and moves, and LF.

@@ -1,8 +1,7 @@
 use Rattle.shogi_session.specs.Events.{begin}
 use Rattle.shogi_session.specs.declared.event.Status.TheVariants.{Done, Failed, Going}
 use Rattle.std.proofs.Common.{ap, ◌∙◌}
-use Rattle.shogi.specs.Plays.{first}
-use Rattle.shogi.proofs.Playing.{round_begun, round_sent, same_session_fault, steps_of}
+use Rattle.shogi.proofs.Playing.{first, round_begun, round_sent, same_session_fault, steps_of}
 use Rattle.shogi.proofs.bridging.play.Goals as goal
 
 pub loop-rounds-init : goal.loop-rounds-init

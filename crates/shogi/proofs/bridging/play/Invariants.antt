@@ -1,4 +1,4 @@
-use Rattle.shogi.specs.Plays.{Answered}
+use Rattle.shogi.proofs.Playing.{Answered}
 use Rattle.shogi.proofs.bridging.play.Given as goal
 
 abbrev pub invariant-loop-rounds : goal.invariant-loop-rounds

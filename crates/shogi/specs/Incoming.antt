@@ -1,0 +1,29 @@
+-- The lines that a reader gives.
+use Rattle.std.specs.Prelude.{◌≡◌, ℕ, ◌<◌, false, List, [], ◌∷◌, length, Option, IfSome}
+use Rattle.std.specs.Io.KnownBytes.{Consumes}
+use Rattle.csa_text.specs.Lines.{Lines, HasNoLineEnd}
+use Rattle.csa_text.specs.Lining.{Lining, BeginsTooLong}
+
+-- the bytes that still come, those of an unfinished line first, where they are known; and the line that was heard last
+pub record Coming : Type 0 where
+  pub bytes : Option (List ℕ)
+  pub line : List ℕ
+
+-- the next line: behind it a line end, or the end
+pub data GivesLine (old new : Option (List ℕ)) (line : List ℕ) : Type 0 where
+  ended : (front : List ℕ) → Consumes old new front → Lines front (line ∷ []) [] → GivesLine old new line
+  last : (front : List ℕ) → Consumes old new front → IfSome old (λ bytes. bytes ≡ front) → Lines front [] line → 0 < length line → GivesLine old new line
+
+-- no line, but line ends at most
+abbrev pub GivesNoLine : Option (List ℕ) → Option (List ℕ) → Type 0
+GivesNoLine old new = (front : List ℕ) × Consumes old new front × Lines front [] []
+
+-- a line of more than 65,536 bytes comes next, and is not taken
+abbrev pub GivesLongLine : Option (List ℕ) → Option (List ℕ) → Type 0
+GivesLongLine old new = GivesNoLine old new × IfSome old (BeginsTooLong 65536)
+
+-- the cutter of a reader that goes on
+pub record IsHearing (cutter : Lining) : Type 0 where
+  pub limit : cutter.limit ≡ 65536
+  pub run : HasNoLineEnd cutter.held
+  pub sound : cutter.failed ≡ false
