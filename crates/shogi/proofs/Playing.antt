@@ -1,5 +1,5 @@
 -- A bridge that plays, round after round.
-use Rattle.std.proofs.Common.{◌≡◌, ℕ, List, Option, Err, IsErrOf, refl, ap, subst, ◌∙◌}
+use Rattle.std.proofs.Common.{◌≡◌, ℕ, List, Err, IsErrOf, ap, subst, ◌∙◌}
 use Rattle.shogi_session.specs.declared.event.Status.{Status}
 use Rattle.shogi_session.specs.declared.event.Status.TheVariants.{Going}
 use Rattle.shogi_session.specs.declared.fault.SessionFault.{SessionFault}
@@ -9,13 +9,10 @@ use Rattle.shogi_session.specs.Promises.{Session, StepRow, Steps}
 use Rattle.shogi_session.specs.State.{waits_for}
 use Rattle.shogi_session.specs.Texts.{text_of}
 use Rattle.shogi.specs.declared.bridging.Seat.{Seat}
-use Rattle.shogi.specs.declared.bridging.Seat.TheVariants.{Engine, Server}
 use Rattle.shogi.specs.declared.fault.Fault.{Fault}
 use Rattle.shogi.specs.declared.fault.Fault.TheVariants as fault
 use Rattle.shogi.specs.declared.incoming.Heard.{Heard}
-use Rattle.shogi.specs.declared.incoming.Heard.TheVariants as heard
-use Rattle.shogi.specs.Incoming.{GivesLine, GivesLongLine, GivesNoLine}
-use Rattle.shogi.specs.Plays.{Comes, HearsNext, Hears, Played, Sends, Tells, event_from, seat_for, begun, goes_on}
+use Rattle.shogi.specs.Plays.{HearsNext, Hears, Played, Sends, Tells, event_from, seat_for, begun, goes_on}
 
 -- a step was made whose lines are not sent yet
 pub data Answered {E : Type 0} (heard : Hears E) (told gone : Tells E) (e : E) (s : Session) (to_engine to_server : List ℕ) (status : Status) : E → Session → Type 0 where
@@ -67,14 +64,3 @@ round_begun heard told gone e s f t to_engine to_server status g u played next =
 
 pub same_session_fault : {T : Type 0} (f g : SessionFault) → IsErrOf {T = T} {E = Fault} (Err (fault.Session f)) (fault.Session g) → f ≡ g
 same_session_fault f g same = cc
-
--- what a reader gave is what was heard of its seat
-pub came_of : (old new : Option (List ℕ)) (seat : Seat) (what : Heard) (line : List ℕ)
-    → (what ≡ heard.Line → GivesLine old new line) → (what ≡ heard.End → GivesNoLine old new) → (what ≡ heard.Long → GivesLongLine old new)
-    → Comes old new (event_from seat what line)
-came_of old new Engine heard.Line line gives none long = gives refl
-came_of old new Engine heard.End line gives none long = none refl
-came_of old new Engine heard.Long line gives none long = long refl
-came_of old new Server heard.Line line gives none long = gives refl
-came_of old new Server heard.End line gives none long = none refl
-came_of old new Server heard.Long line gives none long = long refl

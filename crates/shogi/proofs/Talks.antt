@@ -35,7 +35,7 @@ line_short limit bytes front behind line is (left, n, others) few = at_most limi
     few (n.ends, line, left ++ behind, whole, n.skipped, n.run, long))
 
 -- nor is what is held of an unfinished one
-held_short : (limit : ℕ) (bytes held : List ℕ) → Lines bytes [] held → (BeginsTooLong limit bytes → ⊥) → length held ≤ limit
+pub held_short : (limit : ℕ) (bytes held : List ℕ) → Lines bytes [] held → (BeginsTooLong limit bytes → ⊥) → length held ≤ limit
 held_short limit bytes held (ends, whole, skipped, run) few = at_most limit (length held) (λ long.
     few (ends, held, [], whole ∙ ap (λ xs. ends ++ xs) (sym (append-nil held)), skipped, run, long))
 
@@ -105,7 +105,7 @@ pub next_of : {W M : Type 0} (came : Passes W) (ends : Calls W) (went : Passes W
 next_of came ends went answers wire machine pieces old piece k line u m t step =
     lines_joined t.used (take k piece) t.lines (line.now ∷ []) old.held [] t.cut step.1.1
 
-next_short : (old : Lining) (piece : List ℕ) (k : ℕ) (line : Bor (List ℕ)) → old.limit ≡ 65536 → (BeginsTooLong old.limit (old.held ++ piece) → ⊥)
+pub next_short : (old : Lining) (piece : List ℕ) (k : ℕ) (line : Bor (List ℕ)) → old.limit ≡ 65536 → (BeginsTooLong old.limit (old.held ++ piece) → ⊥)
     → LineStep old.held piece (k, Some line) → length line.now ≤ 65536
 next_short old piece k line limit few step =
     subst (λ j. length line.now ≤ j) limit (line_short old.limit (old.held ++ piece) (old.held ++ take k piece) (drop k piece) line.now (sym (parted old.held piece k)) step.1.1 few)

@@ -1,5 +1,5 @@
 -- The lines that a reader gives.
-use Rattle.std.specs.Prelude.{◌≡◌, ℕ, ◌<◌, false, List, [], ◌∷◌, length, Option, IfSome}
+use Rattle.std.specs.Prelude.{◌≡◌, ℕ, ◌<◌, ◌≤◌, false, List, [], ◌∷◌, length, Option, IfSome}
 use Rattle.std.specs.Io.KnownBytes.{Consumes}
 use Rattle.csa_text.specs.Lines.{Lines, HasNoLineEnd}
 use Rattle.csa_text.specs.Lining.{Lining, BeginsTooLong}
@@ -26,4 +26,5 @@ GivesLongLine old new = GivesNoLine old new × IfSome old (BeginsTooLong 65536)
 pub record IsHearing (cutter : Lining) : Type 0 where
   pub limit : cutter.limit ≡ 65536
   pub run : HasNoLineEnd cutter.held
+  pub short : length cutter.held ≤ 65536
   pub sound : cutter.failed ≡ false

@@ -1,5 +1,5 @@
 -- A bridge that plays between its engine and its server.
-use Rattle.std.specs.Prelude.{◌≡◌, ℕ, List, [], Option}
+use Rattle.std.specs.Prelude.{◌≡◌, ◌≤◌, ℕ, List, [], length, Option}
 use Rattle.shogi_session.specs.declared.event.Status.{Status}
 use Rattle.shogi_session.specs.declared.event.Status.TheVariants.{Going}
 use Rattle.shogi_session.specs.declared.state.Waits.{Waits}
@@ -30,11 +30,15 @@ event_from Server Line line = server_line line
 event_from Server End line = server_end
 event_from Server Long line = server_long
 
+-- a line of at most 65,536 bytes came
+abbrev pub ComesLine : Option (List ℕ) → Option (List ℕ) → List ℕ → Type 0
+ComesLine old new line = GivesLine old new line × (length line ≤ 65536)
+
 -- what came of the bytes that a seat still gave, as an event of the bridge
 abbrev pub Comes : Option (List ℕ) → Option (List ℕ) → Event → Type 0
 Comes old new begin = ⊥
-Comes old new (engine_line line) = GivesLine old new line
-Comes old new (server_line line) = GivesLine old new line
+Comes old new (engine_line line) = ComesLine old new line
+Comes old new (server_line line) = ComesLine old new line
 Comes old new engine_end = GivesNoLine old new
 Comes old new server_end = GivesNoLine old new
 Comes old new engine_long = GivesLongLine old new

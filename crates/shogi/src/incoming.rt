@@ -68,6 +68,7 @@ impl<R: Read + Drop> Incoming<R> {
     /// again. Behind a line that is too long, and behind a fault, no line is heard.
     pub fn hear(&mut self) -> Result<Heard, Fault>
         ensures line { IfOk result (λ heard. heard ≡ Heard.Line → GivesLine self.old.bytes self.new.bytes self.new.line) }
+        ensures short { IfOk result (λ heard. heard ≡ Heard.Line → length self.new.line ≤ 65536) }
         ensures end { IfOk result (λ heard. heard ≡ Heard.End → GivesNoLine self.old.bytes self.new.bytes) }
         ensures long { IfOk result (λ heard. heard ≡ Heard.Long → GivesLongLine self.old.bytes self.new.bytes) }
         ensures faults { IfErr result (λ fault. fault ≡ Fault.OutOfMemory) }
@@ -90,6 +91,7 @@ impl<R: Read + Drop> Incoming<R> {
     // What comes of the bytes up to the next line end, or of those that are there; None where no line ended.
     fn take_piece(&mut self) -> Result<Option<Heard>, Fault>
         ensures line { IfOk result (λ heard. heard ≡ Some Heard.Line → GivesLine self.old.bytes self.new.bytes self.new.line) }
+        ensures short { IfOk result (λ heard. heard ≡ Some Heard.Line → length self.new.line ≤ 65536) }
         ensures end { IfOk result (λ heard. heard ≡ Some Heard.End → GivesNoLine self.old.bytes self.new.bytes) }
         ensures long { IfOk result (λ heard. heard ≡ Some Heard.Long → GivesLongLine self.old.bytes self.new.bytes) }
         ensures none { IfOk result (λ heard. heard ≡ None → GivesNoLine self.old.bytes self.new.bytes) }
@@ -143,6 +145,7 @@ fn cut(
     ensures used { IfOk result (λ r. r.0 ≤ length piece.now) }
     ensures line { IfOk result (λ r. r.1 ≡ true → (cutter.new.held ≡ []) × Lines (cutter.old.held ++ take r.0 piece.now) (kept.new.items ∷ []) []) }
     ensures none { IfOk result (λ r. r.1 ≡ false → (r.0 ≡ length piece.now) × Lines (cutter.old.held ++ piece.now) [] cutter.new.held) }
+    ensures short { IfOk result (λ r. r.1 ≡ true → IsHearing cutter.old → length kept.new.items ≤ 65536) }
     ensures keeps { IfOk result (λ r. IsHearing cutter.old → IsHearing cutter.new) }
     ensures long { IsErrOf result LineFault.TooLong → (cutter.new.held ≡ cutter.old.held) × ((cutter.old.failed ≡ true) ⊎ BeginsTooLong cutter.old.limit (cutter.old.held ++ piece.now)) }
 {

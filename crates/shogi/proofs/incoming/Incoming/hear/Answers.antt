@@ -9,6 +9,9 @@ loop-init g c = gives_nothing _ _ (Keeps-refl c.args.self.now.bytes)
 pub returns-in-Some-clause-line : goal.returns-in-Some-clause-line
 returns-in-Some-clause-line g c = λ is. none_then_line _ _ _ _ c.loop.invariant (c.in_ok-heard.ensures.line (c.in-Some.is ∙ ap Some is))
 
+pub returns-in-Some-clause-short : goal.returns-in-Some-clause-short
+returns-in-Some-clause-short g c = λ is. c.in_ok-heard.ensures.short (c.in-Some.is ∙ ap Some is)
+
 pub returns-in-Some-clause-end : goal.returns-in-Some-clause-end
 returns-in-Some-clause-end g c = λ is. none_then_none _ _ _ c.loop.invariant (c.in_ok-heard.ensures.end (c.in-Some.is ∙ ap Some is))
 

@@ -17,6 +17,15 @@ returns-in-Ok-keep_last-clause-line g c = λ is.
     let gives = end_line (remaining c.self.inside.reader) (remaining c.fill_buf.follows.lender-at-none) cutter.held (none_over old c.in-Ok.piece.now c.in-Ok.ensures.end none) kept.0 (c.self.invariant c.if-self.false).run line.1 in
     rw (← c.self.view_is, c.in-Ok-keep_last.ensures.empty, line.0) gives
 
+pub returns-in-Ok-keep_last-clause-short : goal.returns-in-Ok-keep_last-clause-short
+returns-in-Ok-keep_last-clause-short g c = λ is.
+    let line = c.in-Ok-keep_last.ensures.line (some_is c.in-Ok-keep_last.is_line Line c.then_some.result c.then_some.ensures is) in
+    rw line.0 (c.self.invariant c.if-self.false).short
+
+pub returns-in-Ok-cut-clause-short : goal.returns-in-Ok-cut-clause-short
+returns-in-Ok-cut-clause-short g c = λ is.
+    c.in-Ok-cut.ensures.short (some_is c.in-Ok-cut.is_line Line c.then_some-in-Ok-cut.result c.then_some-in-Ok-cut.ensures is) (c.self.invariant c.if-self.false)
+
 pub returns-in-Ok-cut-clause-line : goal.returns-in-Ok-cut-clause-line
 returns-in-Ok-cut-clause-line g c = λ is.
     let remaining = reader_remaining g.R.Read.remaining in
