@@ -31,10 +31,10 @@ pub trait Machine {
 }
 
 impl Machine for Sample {
-    ghost use Rattle.shogi_session.specs.Requests.{IsRowText};
+    ghost use Rattle.shogi_session.specs.Requests.{RowText};
     ghost use Rattle.shogi_session.specs.Sample.{quit};
 
-    ghost answers = { (λ s line text over t. IsRowText s line text t × (IsTrue over ↔ (t ≡ quit))) };
+    ghost answers = { (λ s line text over t. RowText s line text t × (IsTrue over ↔ (t ≡ quit))) };
 
     fn answer(&mut self, line: &[u8]) -> Result<Reply, OutOfMemory> {
         let SampleOut { lines, ended } = self.step(line)?;
@@ -45,10 +45,10 @@ impl Machine for Sample {
 // Each move of the client takes no time.
 impl Machine for Host {
     ghost use Rattle.shogi_session.specs.Host.{ended};
-    ghost use Rattle.shogi_session.specs.Hosting.{IsRowText};
+    ghost use Rattle.shogi_session.specs.Hosting.{RowText};
     ghost use Rattle.shogi_session.specs.Texts.{without_last_spaces};
 
-    ghost answers = { (λ s line text over t. IsRowText s.config s.state (without_last_spaces line) 0 text t.state × (t.config ≡ s.config) × (IsTrue over ↔ (t.state ≡ ended))) };
+    ghost answers = { (λ s line text over t. RowText s.config s.state (without_last_spaces line) 0 text t.state × (t.config ≡ s.config) × (IsTrue over ↔ (t.state ≡ ended))) };
 
     fn answer(&mut self, line: &[u8]) -> Result<Reply, OutOfMemory> {
         let HostOut { to_client, ended } = self.step(line, 0)?;

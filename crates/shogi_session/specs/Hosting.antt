@@ -32,12 +32,6 @@ StepRow old line seconds lines new = HostRow old.config old.state (without_last_
 abbrev pub RowText : HostConfig → HostState → List ℕ → ℕ → List ℕ → HostState → Type 0
 RowText c s line seconds text t = (lines : List (List ℕ)) × HostRow c s line seconds lines t × (text ≡ text_of lines)
 
--- a row leads so, and the bytes are those of that row's lines
-abbrev pub IsRowText : HostConfig → HostState → List ℕ → ℕ → List ℕ → HostState → Type 0
-IsRowText c s line seconds text t =
-    ((lines : List (List ℕ)) × HostRow c s line seconds lines t)
-    × ((lines : List (List ℕ)) → HostRow c s line seconds lines t → text ≡ text_of lines)
-
 -- the host moved, and its lines stand behind those before
 abbrev pub MovesBehind : HostConfig → Played → List ℕ → List ℕ → HostState → Type 0
 MovesBehind c g before text t = (more : List (List ℕ)) × HostMoves c g more t × (text ≡ before ++ text_of more)

@@ -21,12 +21,6 @@ Asks line Other =
 abbrev pub RowText : SampleState → List ℕ → List ℕ → SampleState → Type 0
 RowText s line text t = (lines : List (List ℕ)) × SampleRow s line lines t × (text ≡ text_of lines)
 
--- a row leads so, and the bytes are those of that row's lines
-abbrev pub IsRowText : SampleState → List ℕ → List ℕ → SampleState → Type 0
-IsRowText s line text t =
-    ((lines : List (List ℕ)) × SampleRow s line lines t)
-    × ((lines : List (List ℕ)) → SampleRow s line lines t → text ≡ text_of lines)
-
 -- the bytes of the answer to `go`
 pub data IsGoText (kept : Option Played) (text : List ℕ) : Type 0 where
   moves : (g : Played) (word : List ℕ)

@@ -1,12 +1,13 @@
 -- What the lines of a game summary tell: those behind `BEGIN Game_Summary`, before `END Game_Summary`.
-use Rattle.std.specs.Prelude.{◌≡◌, ◌≢◌, ℕ, ◌≤◌, Bool, true, false, List, [], ◌∷◌, ◌++◌, length, drop, Option, Some, None, IfSome, option_map, nat_eq, bytes_eq, if◌then◌else◌}
+use Rattle.std.specs.Prelude.{◌≡◌, ◌≢◌, ℕ, ◌≤◌, ◌&&◌, Bool, not, true, false, List, [], ◌∷◌, ◌++◌, length, drop, Option, Some, None, IfSome, option_map, nat_eq, bytes_eq, if◌then◌else◌}
 use Rattle.std.specs.List.{AllByRecursion, AllZip, filter_map, flat_map, starts_with}
 use Rattle.std.specs.Option.{option_to_list}
 use Rattle.shogi_board.specs.declared.color.Color.{Color}
 use Rattle.csa_text.specs.Codes.{sign}
 use Rattle.csa_text.specs.Cut.{TextUnit, Cut}
-use Rattle.csa_text.specs.Spelling.{Saying, version, name, header, even, rank, pieces, turn, walked, time, ending}
+use Rattle.csa_text.specs.Spelling.{Saying}
 use Rattle.csa_record.specs.Game.{Game}
+use Rattle.csa_record.specs.Items.{is_body, is_ending}
 use Rattle.csa_record.specs.Says.{Says}
 use Rattle.csa_record.specs.Tells.{IsSpelt}
 use Rattle.shogi_session.specs.LineTexts as texts
@@ -116,18 +117,9 @@ pub record Offer : Type 0 where
   pub client : Color
   pub game : Game
 
--- position, side, move and time statements
+-- position, side, move and time statements: the body, but for the ending
 abbrev pub in_position : Saying → Bool
-in_position version = false
-in_position (name color text) = false
-in_position (header key text) = false
-in_position (even pairs) = true
-in_position (rank number cells) = true
-in_position (pieces color pairs) = true
-in_position (turn color) = true
-in_position (walked color m) = true
-in_position (time t) = true
-in_position (ending e) = false
+in_position said = is_body said && not (is_ending said)
 
 abbrev pub nameless : Game → Game
 nameless g = record g { black = None; white = None }
