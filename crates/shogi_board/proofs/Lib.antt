@@ -1,3 +1,4 @@
+pub mod Attackers
 pub mod Check
 pub mod Count
 pub mod Decided

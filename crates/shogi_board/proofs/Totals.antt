@@ -1,17 +1,19 @@
 -- The totals hold after each change of a setup.
-use Rattle.std.proofs.Common.{◌≡◌, ℕ, ◌+◌, ◌<◌, ◌≤◌, ◌==◌, ◌&&◌, Bool, true, false, cond, List, [], ◌∷◌, Option, Some, None, set, get_or, count_by, slice_index, arith, refl, ap, sym, ◌∙◌, length-set}
+use Rattle.std.proofs.Common.{◌≡◌, ℕ, ◌+◌, ◌<◌, ◌≤◌, ◌==◌, ◌&&◌, Bool, true, false, cond, List, [], ◌∷◌, Option, Some, None, nat_le, nat_lt, set, get_or, count_by, slice_index, arith, refl, ap, sym, ◌∙◌, length-set}
 use Rattle.std.proofs.lemmas.List.Sums.{sum_by-set}
-use Rattle.std.proofs.lemmas.Bool.Decides.{Decides-eqb}
+use Rattle.std.proofs.lemmas.Bool.Decides.{Decides-eqb, nat_tests}
 use Rattle.shogi_board.specs.Cells.{Cells, piece}
 use Rattle.shogi_board.specs.Layout.{Layout}
 use Rattle.shogi_board.specs.Pieces.{place_of, same_color, is_king}
-use Rattle.shogi_board.specs.Setup.{with_rest}
+use Rattle.shogi_board.specs.Setup.{with_rest, first_fault, place_fault}
 use Rattle.shogi_board.specs.Totals.{total, limit, is_of, is_king_of, kings_of, IsWithinTotals}
 use Rattle.shogi_board.specs.declared.color.Color.{Color}
 use Rattle.shogi_board.specs.declared.color.Color.TheVariants.{Black, White}
 use Rattle.shogi_board.specs.declared.kind.Kind.{Kind}
 use Rattle.shogi_board.specs.declared.kind.Kind.TheVariants.{Pawn, Lance, Knight, Silver, Gold, Bishop, Rook, King, ProPawn, ProLance, ProKnight, ProSilver, Horse, Dragon}
 use Rattle.shogi_board.specs.declared.kind.Piece.{Piece}
+use Rattle.shogi_board.specs.declared.setup.SetupFault.TheVariants.{SquareTaken, TooMany, SecondKing, AfterRest}
+use Rattle.shogi_board.specs.declared.square.Square.{Square}
 
 abbrev limits : List ℕ
 limits = 18 ∷ 4 ∷ 4 ∷ 4 ∷ 4 ∷ 2 ∷ 2 ∷ 2 ∷ []
@@ -80,6 +82,26 @@ placed-within cells black white color kind i w low room none = record {
       let step = sum_by-set (λ x. cond (is_king_of c x) 1 0) cells i (piece color kind) None (omega arith) in
       more (same_color color c && is_king kind) _ (kings_of cells c) _ (cond (is_king_of c (get_or cells i None)) 1 0) (omega (arith, step)) (w.kings c) (kings-more cells color c kind none);
 }
+
+no-fault : (late taken king full : Bool) → first_fault ((AfterRest, late) ∷ (SquareTaken, taken) ∷ (SecondKing, king) ∷ (TooMany, full) ∷ []) ≡ None → (king ≡ false) × (full ≡ false)
+no-fault true taken king full h = absurd (cc)
+no-fault false true king full h = absurd (cc)
+no-fault false false true full h = absurd (cc)
+no-fault false false false true h = absurd (cc)
+no-fault false false false false h = (refl, refl)
+
+no-king-test : (b : Bool) (n : ℕ) → (b && nat_lt 0 n) ≡ false → b ≡ true → n ≡ 0
+no-king-test true n h e = grind (arith, nat_tests)
+no-king-test false n h e = cc
+
+room-test : (n m : ℕ) → nat_le m n ≡ false → n < m
+room-test n m h = grind (arith, nat_tests)
+
+-- where a piece may be placed there is room for it, and its side has no king if it is one
+pub place-room : (s : Layout) (color : Color) (square : Square) (kind : Kind) → place_fault s color square kind ≡ None → (total s.board s.black s.white kind < limit kind) × (is_king kind ≡ true → kings_of s.board color ≡ 0)
+place-room s color square kind h =
+    let e = no-fault _ _ _ _ h in
+    (room-test _ _ e.1, no-king-test (is_king kind) _ e.0)
 
 -- a square made empty
 pub removed-within : (cells : Cells) (black white : List ℕ) (i : ℕ) → IsWithinTotals cells black white → i < 81 → IsWithinTotals (set cells i None) black white

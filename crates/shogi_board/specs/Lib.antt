@@ -1,3 +1,4 @@
+pub mod Attackers
 pub mod Cells
 pub mod Layout
 pub mod Moves

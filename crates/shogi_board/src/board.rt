@@ -1,6 +1,7 @@
 ghost use Rattle.std.specs.Prelude.{◌≡◌, ◌≤◌, ◌<◌, ◌↔◌, IsTrue, MatchOption, count_by, slice_set, length};
 ghost use Rattle.shogi_board.specs.Cells.{at, piece, even_cells, no_cells, HasPawnOnFile};
-ghost use Rattle.shogi_board.specs.Moves.{IsRay};
+ghost use Rattle.shogi_board.specs.Attackers.{AttackAcross, AttackInSight, IsAttackedByJump, IsAttackedInLine};
+ghost use Rattle.shogi_board.specs.Moves.{IsNear, IsRay};
 ghost use Rattle.shogi_board.specs.Reach.{Reach, Attack, Attacked, InCheck, InSight, Slides, Steps};
 ghost use Rattle.shogi_board.specs.Setup.{holds};
 ghost use Rattle.shogi_board.specs.Squares.{place};
@@ -45,6 +46,12 @@ impl Board {
         Board {
             cells: even_cells(),
         }
+    }
+
+    pub(crate) fn cells(&self) -> &[Option<Piece>]
+        ensures { result.now ≡ self.now }
+    {
+        self.cells.as_slice()
     }
 
     pub(crate) fn at(&self, square: Square) -> Option<Piece>
@@ -92,9 +99,8 @@ impl Board {
             (λ s. at self.now s ≡ piece color King) }
     {
         for n in 0..81usize {
-            let square = Square::at_place(n);
-            if is_king_of(self.at(square), color) {
-                return Some(square);
+            if is_king_of(self.cells[n], color) {
+                return Some(Square::at_place(n));
             }
         }
         None
@@ -154,12 +160,57 @@ impl Board {
     pub(crate) fn attacked(&self, color: Color, square: Square) -> bool
         ensures { IsTrue result ↔ Attacked self.now color square }
     {
-        for n in 0..81usize {
-            if self.attacks(color, Square::at_place(n), square) {
+        self.attacked_in_line(color, square) || self.attacked_by_jump(color, square)
+    }
+
+    // Whether the first piece in one of the eight directions from the square attacks it.
+    fn attacked_in_line(&self, color: Color, square: Square) -> bool
+        ensures { IsTrue result ↔ IsAttackedInLine self.now color square }
+    {
+        for direction in Kind::King.steps() {
+            if self.attacked_from(color, square, direction.turned_for(color)) {
                 return true;
             }
         }
         false
+    }
+
+    // Whether a piece a knight's jump away from the square attacks it.
+    fn attacked_by_jump(&self, color: Color, square: Square) -> bool
+        ensures { IsTrue result ↔ IsAttackedByJump self.now color square }
+    {
+        for direction in Kind::Knight.steps() {
+            if self.attacked_across(color, square, direction.turned_for(color)) {
+                return true;
+            }
+        }
+        false
+    }
+
+    // Whether the first piece in that direction from the square is an enemy of that colour that reaches it.
+    fn attacked_from(&self, color: Color, square: Square, direction: Direction) -> bool
+        requires { IsRay direction }
+        ensures { IsTrue result ↔ AttackInSight self.now color square direction }
+    {
+        for n in 1..9u8 {
+            if let Some(from) = square.away(direction, n) {
+                if self.at(from).is_some() {
+                    return self.attacks(color, from, square);
+                }
+            }
+        }
+        false
+    }
+
+    // Whether an enemy of that colour stands one step of that direction away from the square and reaches it.
+    fn attacked_across(&self, color: Color, square: Square, direction: Direction) -> bool
+        requires { IsNear direction }
+        ensures { IsTrue result ↔ AttackAcross self.now color square direction }
+    {
+        match square.away(direction, 1) {
+            Some(from) => self.attacks(color, from, square),
+            None => false,
+        }
     }
 
     // Whether that side has a king and it is attacked. It has at most one.

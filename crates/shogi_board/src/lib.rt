@@ -20,6 +20,3 @@ pub use memory::OutOfMemory;
 pub use position::{Position, attacked, reaches};
 pub use setup::{Setup, SetupFault};
 pub use square::Square;
-
-#[cfg(test)]
-mod tests;

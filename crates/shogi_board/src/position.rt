@@ -1,4 +1,4 @@
-ghost use Rattle.std.specs.Prelude.{◌≡◌, ◌↔◌, IsTrue, MatchOption};
+ghost use Rattle.std.specs.Prelude.{◌≡◌, ◌↔◌, IsTrue, MatchOption, length};
 ghost use Rattle.shogi_board.specs.Cells.{at, piece, HasPawnOnFile};
 ghost use Rattle.shogi_board.specs.Placed.{bag_of, even_start};
 ghost use Rattle.shogi_board.specs.Reach.{Reach, Attacked};
@@ -60,6 +60,14 @@ impl Position {
         ensures { result ≡ at self.now.board square }
     {
         self.board.at(square)
+    }
+
+    /// What stands on each of the 81 squares, in their order.
+    pub fn cells(&self) -> &[Option<Piece>]
+        ensures value { result.now ≡ self.now.board }
+        ensures all { length result.now ≡ 81 }
+    {
+        self.board.cells()
     }
 
     /// The hand of that side.

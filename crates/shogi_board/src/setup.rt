@@ -1,4 +1,4 @@
-ghost use Rattle.std.specs.Prelude.{◌≡◌, ◌≤◌, None, Some, MatchResult, OnOk, OnErr, IfOk, ◌↔◌, IsTrue};
+ghost use Rattle.std.specs.Prelude.{◌≡◌, ◌≤◌, false, None, Some, MatchResult, OnOk, OnErr, IfOk, ◌↔◌, IsTrue};
 ghost use Rattle.shogi_board.specs.Pieces.{opponent};
 ghost use Rattle.shogi_board.specs.Sound.{IsSound};
 ghost use Rattle.shogi_board.specs.Totals.{total, limit, IsWithinTotals};
@@ -112,8 +112,16 @@ impl Setup {
         if self.is_full(kind) {
             return Err(SetupFault::TooMany);
         }
-        self.board.put(square, Some(Piece { color, kind }));
+        self.put(color, square, kind);
         Ok(())
+    }
+
+    /// Places a piece as `place` does, where it is known that `place` would not refuse, and so without its questions.
+    pub fn put(&mut self, color: Color, square: Square, kind: Kind)
+        requires { place_fault self.old color square kind ≡ None }
+        ensures { self.new ≡ placed self.old color square kind }
+    {
+        self.board.put(square, Some(Piece { color, kind }));
     }
 
     /// Adds a piece of that kind to the hand of that side.
@@ -136,12 +144,20 @@ impl Setup {
         if self.is_full(kind) {
             return Err(SetupFault::TooMany);
         }
+        self.put_in_hand(color, kind);
+        Ok(())
+    }
+
+    /// Adds a piece to the hand as `add_hand` does, where it is known that `add_hand` would not refuse.
+    pub fn put_in_hand(&mut self, color: Color, kind: Kind)
+        requires { add_fault self.old kind ≡ None }
+        ensures { self.new ≡ with_hand self.old color (one_more (hand_of self.old color) kind) }
+    {
         let count = self.hand(color).count(kind);
         match color {
             Color::Black => self.black.set(kind, count + 1),
             Color::White => self.white.set(kind, count + 1),
         }
-        Ok(())
     }
 
     /// Takes the piece of that kind, of either side, off the square.
@@ -161,8 +177,16 @@ impl Setup {
         if !self.board.holds(square, kind) {
             return Err(SetupFault::NotThere);
         }
-        self.board.put(square, None);
+        self.clear(square);
         Ok(())
+    }
+
+    /// Takes off what stands on the square, of whatever kind, where the rest was not given. An empty square stays empty.
+    pub fn clear(&mut self, square: Square)
+        requires { self.old.rest_given ≡ false }
+        ensures { self.new ≡ taken_off self.old square }
+    {
+        self.board.put(square, None);
     }
 
     /// Takes a piece of that kind out of the hand of that side.
@@ -179,15 +203,23 @@ impl Setup {
         if self.rest_given {
             return Err(SetupFault::AfterRest);
         }
-        let count = self.hand(color).count(kind);
-        if count == 0 {
+        if self.hand(color).count(kind) == 0 {
             return Err(SetupFault::NotThere);
         }
+        self.take_from_hand(color, kind);
+        Ok(())
+    }
+
+    /// Takes a piece out of the hand as `take_hand` does, where it is known that `take_hand` would not refuse.
+    pub fn take_from_hand(&mut self, color: Color, kind: Kind)
+        requires { take_hand_fault self.old color kind ≡ None }
+        ensures { self.new ≡ with_hand self.old color (one_less (hand_of self.old color) kind) }
+    {
+        let count = self.hand(color).count(kind);
         match color {
             Color::Black => self.black.set(kind, count - 1),
             Color::White => self.white.set(kind, count - 1),
         }
-        Ok(())
     }
 
     /// Gives all pieces that are neither placed nor in a hand to the hand of that side, kings not.

@@ -1,18 +1,16 @@
 -- One position more among those that are counted.
-use Rattle.std.proofs.Common.{◌≡◌, ℕ, suc, ◌+◌, ◌*◌, ◌%◌, ◌^◌, ◌≤◌, List, [], ◌∷◌, ◌++◌, Bool, true, false, cond, Some, Option, arith, refl, sym, ap, ◌∙◌, length, ◌&&◌, nat_eq}
+use Rattle.std.proofs.Common.{◌≡◌, ℕ, suc, ◌+◌, ◌*◌, ◌%◌, ◌^◌, ◌≤◌, List, [], ◌∷◌, ◌++◌, Bool, true, false, cond, Some, None, Option, get_or, arith, refl, sym, ap, ◌∙◌, length, ◌&&◌, nat_eq}
 use Rattle.std.specs.Prelude.{unwrap_or}
 use Rattle.std.specs.BTreeMap.{BTreeMap, get, is_at}
 use Rattle.std.specs.Ordering.{is_eq}
 use Rattle.std.proofs.lemmas.Bool.Decides.{Decides-eqb}
-use Rattle.shogi_board.specs.Cells.{Cells, at}
+use Rattle.shogi_board.specs.Cells.{Cells}
 use Rattle.shogi_board.specs.Placed.{Placed}
 use Rattle.shogi_board.specs.Same.{same_position}
 use Rattle.shogi_board.proofs.Same.{position-same, eq-same, placed_eq}
 use Rattle.shogi_rules.specs.Repetition.{times}
 use Rattle.shogi_rules.specs.Stamps.{Counts, stamped, stamp_of, stamp_before, mark}
 use Rattle.shogi_rules.specs.declared.seen.Stamped.{Stamped}
-use Rattle.shogi_board.specs.Squares.{place}
-use Rattle.shogi_board.specs.declared.square.Square.{Square}
 use Rattle.shogi_rules.specs.contracts.seen.StampedOrd.TheImpl.{cmp-value}
 use Rattle.shogi_rules.specs.contracts.seen.StampedOrd.TheImpl.Laws as laws
 use Rattle.shogi_rules.proofs.Counts.{first}
@@ -76,6 +74,6 @@ pub stamp-none : (cells : Cells) → 0 ≡ stamp_before cells 0
 unfolding stamp_before
 stamp-none cells = refl
 
-pub stamp-more : (cells : Cells) (s : Square) (n total new : ℕ) → total ≡ stamp_before cells n → place s ≡ n → new ≡ mark (at cells s) → (total * 31 % 2 ^ 64 + new) % 2 ^ 64 ≡ stamp_before cells (n + 1)
+pub stamp-more : (cells : Cells) (n total new : ℕ) → total ≡ stamp_before cells n → new ≡ mark (get_or cells n None) → (total * 31 % 2 ^ 64 + new) % 2 ^ 64 ≡ stamp_before cells (n + 1)
 unfolding stamp_before
-stamp-more cells s n total new e d f = let next : n + 1 ≡ suc n = omega arith in rw (next, e, f, d) refl
+stamp-more cells n total new e f = let next : n + 1 ≡ suc n = omega arith in rw (next, e, f) refl

@@ -6,33 +6,16 @@ use Rattle.std.proofs.lemmas.List.Sums.{sum_by-set}
 use Rattle.shogi_board.specs.Cells.{Cells, at, piece}
 use Rattle.shogi_board.specs.Layout.{Layout}
 use Rattle.shogi_board.specs.Pieces.{place_of, is_king, in_hand, same_color}
-use Rattle.shogi_board.specs.Setup.{place_fault, add_fault, take_off_fault, take_hand_fault, hand_of}
+use Rattle.shogi_board.specs.Setup.{place_fault, add_fault, take_hand_fault, hand_of}
 use Rattle.shogi_board.specs.Totals.{total, limit, kings_of, count_in, is_of, is_king_of}
 use Rattle.shogi_board.specs.declared.color.Color.{Color}
 use Rattle.shogi_board.specs.declared.kind.Kind.{Kind}
-use Rattle.shogi_board.specs.declared.kind.Kind.TheVariants.{Pawn, Lance, Knight, Silver, Gold, Bishop, Rook, King, ProPawn, ProLance, ProKnight, ProSilver, Horse, Dragon}
 use Rattle.shogi_board.specs.declared.square.Square.{Square}
 
 pub set-twice : {X : Type 0} (xs : List X) (i : ℕ) (a b : X) → set (set xs i a) i b ≡ set xs i b
 set-twice [] i a b = refl
 set-twice (x ∷ xs) zero a b = refl
 set-twice (x ∷ xs) (suc i) a b = ap (λ ys. x ∷ ys) (set-twice xs i a b)
-
-pub take_off-fits : (s : Layout) (square : Square) (color : Color) (kind : Kind) → s.rest_given ≡ false → at s.board square ≡ piece color kind → take_off_fault s square kind ≡ None
-take_off-fits s square color Pawn free stands = rw (free, stands) refl
-take_off-fits s square color Lance free stands = rw (free, stands) refl
-take_off-fits s square color Knight free stands = rw (free, stands) refl
-take_off-fits s square color Silver free stands = rw (free, stands) refl
-take_off-fits s square color Gold free stands = rw (free, stands) refl
-take_off-fits s square color Bishop free stands = rw (free, stands) refl
-take_off-fits s square color Rook free stands = rw (free, stands) refl
-take_off-fits s square color King free stands = rw (free, stands) refl
-take_off-fits s square color ProPawn free stands = rw (free, stands) refl
-take_off-fits s square color ProLance free stands = rw (free, stands) refl
-take_off-fits s square color ProKnight free stands = rw (free, stands) refl
-take_off-fits s square color ProSilver free stands = rw (free, stands) refl
-take_off-fits s square color Horse free stands = rw (free, stands) refl
-take_off-fits s square color Dragon free stands = rw (free, stands) refl
 
 king-test : (b : Bool) (n : ℕ) → (b ≡ true → n ≡ 0) → (b && nat_lt 0 n) ≡ false
 king-test true n h = rw (h refl) refl

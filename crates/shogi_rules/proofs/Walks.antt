@@ -4,7 +4,7 @@ use Rattle.shogi_board.specs.Cells.{Cells, at, piece}
 use Rattle.shogi_board.specs.Pieces.{place_of, is_king, opponent, same_color}
 use Rattle.shogi_board.specs.Placed.{Placed}
 use Rattle.shogi_board.specs.Sound.{IsSound}
-use Rattle.shogi_board.specs.Setup.{layout_of, take_off_fault, place_fault, add_fault, taken_off, placed, with_hand, hand_of, one_more}
+use Rattle.shogi_board.specs.Setup.{layout_of, place_fault, add_fault, taken_off, placed, with_hand, hand_of, one_more}
 use Rattle.shogi_board.specs.Squares.{place}
 use Rattle.shogi_board.specs.Totals.{total, limit, kings_of}
 use Rattle.shogi_board.specs.declared.color.Color.{Color}
@@ -20,7 +20,7 @@ use Rattle.shogi_rules.specs.Kinds.{promoted, unpromoted}
 use Rattle.shogi_rules.specs.Legal.{FitsBoard}
 use Rattle.shogi_rules.specs.declared.moves.Move.TheVariants.{Walk}
 use Rattle.shogi_rules.proofs.Forms.{form-place, form-king, captured-held, unpromoted-place, opponent-twice, other-color, same_color-self, eq-self}
-use Rattle.shogi_rules.proofs.Layouts.{set-twice, take_off-fits, place-fits, add-fits, lifted-total, put-total, lifted-kings}
+use Rattle.shogi_rules.proofs.Layouts.{set-twice, place-fits, add-fits, lifted-total, put-total, lifted-kings}
 
 -- what the walk starts from
 pub record Start (p : Placed) (from to : Square) (its_kind : Kind) : Type 0 where
@@ -72,10 +72,6 @@ target-stays p from to its_kind s =
 pub quiet-fits : (p : Placed) (from to : Square) (its_kind : Kind) → Start p from to its_kind → at p.board to ≡ None → place_fault (taken_off (layout_of p) from) p.side to its_kind ≡ None
 quiet-fits p from to its_kind s empty =
     place-fits (taken_off (layout_of p) from) p.side to its_kind refl (target-stays p from to its_kind s ∙ empty) (no-king p from to its_kind s) (room p from to its_kind s)
-
-pub capture-fits : (p : Placed) (from to : Square) (its_kind : Kind) (x : Piece) → Start p from to its_kind → at p.board to ≡ Some x → take_off_fault (taken_off (layout_of p) from) to x.kind ≡ None
-capture-fits p from to its_kind x s there =
-    take_off-fits (taken_off (layout_of p) from) to x.color x.kind refl (target-stays p from to its_kind s ∙ there)
 
 pub longer : (cells : Cells) (i j : ℕ) → j < length cells → j < length (set cells i None)
 longer cells i j h = rw length-set h

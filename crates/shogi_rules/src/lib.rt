@@ -12,7 +12,6 @@ mod repetition;
 mod rule;
 mod search;
 mod seen;
-mod setups;
 
 pub use judging::judge;
 pub use line::{Line, MAX_MOVES, PlayFault, Verdict};
@@ -20,6 +19,3 @@ pub use moves::Move;
 pub use playing::{after, in_check};
 pub use rule::Rule;
 pub use search::first_legal;
-
-#[cfg(test)]
-mod tests;

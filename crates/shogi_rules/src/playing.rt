@@ -6,10 +6,9 @@ ghost use Rattle.shogi_rules.specs.Legal.{FitsBoard, KingSafe, Keeps};
 ghost use Rattle.shogi_rules.specs.Rules.{KeptAlone, keeping_rules, IsFirstBroken};
 ghost use Rattle.shogi_rules.specs.declared.rule.Rule.TheVariants.{LeavesKing};
 
-use crate::board_rules::{broken_on_board, own_kind_at};
+use crate::board_rules::broken_on_board;
 use crate::moves::Move;
 use crate::rule::Rule;
-use crate::setups::{with_captured, with_piece, without, without_held};
 use shogi_board::{Kind, Position, Setup, Square, attacked};
 
 // What stands after a walk that fits the board.
@@ -18,16 +17,17 @@ fn setup_after_walk(position: &Position, from: Square, to: Square, kind: Kind) -
     ensures { result ≡ layout_of (after position.now (Move.Walk from to kind)) }
 {
     let side = position.side();
-    let was = own_kind_at(position, from).unwrap();
-    let lifted = without(position.setup(), from, was);
+    let mut setup = position.setup();
+    setup.clear(from);
     match position.piece_at(to) {
-        None => with_piece(lifted, side, to, kind),
+        None => setup.put(side, to, kind),
         Some(captured) => {
-            let cleared = without(lifted, to, captured.kind);
-            let placed = with_piece(cleared, side, to, kind);
-            with_captured(placed, side, captured.kind.unpromoted())
+            setup.clear(to);
+            setup.put(side, to, kind);
+            setup.put_in_hand(side, captured.kind.unpromoted());
         }
     }
+    setup
 }
 
 // What stands after a drop that fits the board.
@@ -36,8 +36,10 @@ fn setup_after_drop(position: &Position, to: Square, kind: Kind) -> Setup
     ensures { result ≡ layout_of (after position.now (Move.Put to kind)) }
 {
     let side = position.side();
-    let taken = without_held(position.setup(), side, kind);
-    with_piece(taken, side, to, kind)
+    let mut setup = position.setup();
+    setup.take_from_hand(side, kind);
+    setup.put(side, to, kind);
+    setup
 }
 
 // What stands after a move that fits the board.

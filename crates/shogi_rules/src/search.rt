@@ -20,7 +20,7 @@ const WALKS: usize = 13122;
 const MOVES: usize = 13689;
 
 // The square at a place in the order 11, 12, .. 19, 21, .. 99.
-pub(crate) fn square_at(n: usize) -> Square
+fn square_at(n: usize) -> Square
     requires { n < 81 }
     ensures { place result ≡ n }
 {

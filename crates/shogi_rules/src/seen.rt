@@ -2,7 +2,6 @@ ghost use Rattle.std.specs.Prelude.{◌≡◌, ◌++◌, ◌<◌, [], ◌∷◌,
 ghost use Rattle.shogi_rules.specs.Repetition.{times};
 ghost use Rattle.shogi_rules.specs.Stamps.{color_mark, mark, stamp_of, stamped};
 
-use crate::search::square_at;
 use shogi_board::{Color, Piece, Position};
 use std::alloc::{AllocError, Global};
 use std::collections::BTreeMap;
@@ -30,10 +29,10 @@ impl Stamped {
 fn stamp(position: &Position) -> u64
     ensures { result ≡ stamp_of position.now }
 {
+    let cells = position.cells();
     let mut stamp = 0u64;
     for n in 0..81usize {
-        let cell = position.piece_at(square_at(n));
-        stamp = stamp.wrapping_mul(31).wrapping_add(mark(cell));
+        stamp = stamp.wrapping_mul(31).wrapping_add(mark(cells[n]));
     }
     stamp
 }

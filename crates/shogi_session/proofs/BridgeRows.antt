@@ -7,8 +7,10 @@ use Rattle.shogi_session.specs.declared.event.Status.{Status}
 use Rattle.shogi_session.specs.declared.event.Status.TheVariants.{Going, Lost}
 use Rattle.shogi_session.specs.declared.phase.Phase.{Phase}
 use Rattle.shogi_session.specs.declared.phase.Phase.TheVariants as phases
+use Rattle.shogi_session.specs.declared.offer.GameOffer.{GameOffer}
 use Rattle.shogi_session.specs.declared.phase.Play.{Play as Own}
 use Rattle.shogi_session.specs.declared.state.EngineState.{EngineState}
+use Rattle.csa_record.specs.Game.{Game}
 use Rattle.shogi_session.specs.Events.{Event, Out, no_lines, trimmed}
 use Rattle.shogi_session.specs.GameTold.{game_of}
 use Rattle.shogi_session.specs.Phases.{IsPhase, Reacts, Stays, client_of, going}
@@ -20,20 +22,26 @@ use Rattle.shogi_session.proofs.RowOnce.{row_once}
 use Rattle.shogi_session.proofs.Unnamed.{stopped}
 
 -- 1. game_text
+text_of_game : (s : State) (x : Phase) (g : Game) (text : List ℕ) → s.client ≡ client_of x → game_of (client_of x) ≡ Some g → text ≡ canon g → IsGameText s (Some text)
+text_of_game s x g text at has same = subst (λ t. IsGameText s (Some t)) (sym same) (game_text g (ap game_of at ∙ has))
+
+pub text_offered : (s : State) (x : Phase) (o : GameOffer) (text : List ℕ) → s.client ≡ client_of x → x ≡ phases.Agreeing o → text ≡ canon o.game → IsGameText s (Some text)
+text_offered s x o text at is same = text_of_game s x o.game text at (ap (λ y. game_of (client_of y)) is) same
+
 pub text_told : (s : State) (x : Phase) (p : Own) (text : List ℕ) → s.client ≡ client_of x → x ≡ phases.InGame p → IsPhase x → text ≡ canon p.game → IsGameText s (Some text)
-text_told s x p text at is keeps same =
-    subst (λ t. IsGameText s (Some t)) (sym same)
-    (game_text p.game (ap game_of (at ∙ ap client_of is) ∙ (subst IsPhase is keeps).game))
+text_told s x p text at is keeps same = text_of_game s x p.game text at (ap (λ y. game_of (client_of y)) is ∙ (subst IsPhase is keeps).game) same
 
-nothing_told : (x : Phase) → ((p : Own) → x ≡ phases.InGame p → ⊥) → game_of (client_of x) ≡ None
-nothing_told phases.Idle h = refl
-nothing_told phases.LoggingIn h = refl
-nothing_told phases.BeforeSummary h = refl
-nothing_told (phases.Summary heard) h = refl
-nothing_told (phases.InGame p) h = absurd (h p refl)
+nothing_told : (x : Phase) → ((o : GameOffer) → x ≡ phases.Agreeing o → ⊥) → ((p : Own) → x ≡ phases.InGame p → ⊥) → game_of (client_of x) ≡ None
+nothing_told phases.Idle h k = refl
+nothing_told phases.LoggingIn h k = refl
+nothing_told phases.BeforeSummary h k = refl
+nothing_told (phases.Summary heard) h k = refl
+nothing_told (phases.Agreeing o) h k = absurd (h o refl)
+nothing_told (phases.InGame p) h k = absurd (k p refl)
 
-pub text_none : (s : State) (x : Phase) → s.client ≡ client_of x → ((p : Own) → x ≡ phases.InGame p → ⊥) → IsGameText s None
-text_none s x at none = no_game (ap game_of at ∙ nothing_told x none)
+pub text_none : (s : State) (x : Phase) → s.client ≡ client_of x → ((o : GameOffer) → x ≡ phases.Agreeing o → ⊥) → ((p : Own) → x ≡ phases.InGame p → ⊥)
+    → IsGameText s None
+text_none s x at h k = no_game (ap game_of at ∙ nothing_told x h k)
 
 -- 2. step
 -- the game that is kept does not hang on the status after it

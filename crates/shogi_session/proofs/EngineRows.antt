@@ -111,7 +111,6 @@ late c engine client line word o at other best h k s =
     by_row c engine Ready client client (engine_line line) o _ Going (row.engine_late line word at other refl best refl refl) s h k
 
 by_stage : (g : Match) (game : Game) (stage : OwnStage) → (stage ≡ OwnPlaying → ⊥) → client_state (staged g game stage) ≡ clients.Playing → ⊥
-by_stage g game stages.Agreeing other e = cc
 by_stage g game stages.Playing other e = other refl
 by_stage g game (stages.Sent a) other e = cc
 by_stage g game (stages.Reason told) other e = cc

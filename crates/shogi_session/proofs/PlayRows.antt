@@ -51,7 +51,6 @@ abbrev pub play_of : Own → Play
 play_of p = record { game = match_in p; waiting = waiting_in p.stage }
 
 in_play_by : (g : Match) (game : Game) (stage : OwnStage) → IsOn stage → in_play (staged g game stage) ≡ Some (record { game = g; waiting = waiting_in stage })
-in_play_by g game stages.Agreeing on = absurd on
 in_play_by g game stages.Playing on = refl
 in_play_by g game (stages.Sent (given.Move m)) on = refl
 in_play_by g game (stages.Sent given.Toryo) on = refl
@@ -64,23 +63,20 @@ in_play_of : (p : Own) → IsOn p.stage → in_play (play_client p) ≡ Some (pl
 in_play_of p on = in_play_by (match_in p) p.game p.stage on
 
 game_by : (g : Match) (game : Game) (stage : OwnStage) → IsOn stage → game_of (staged g game stage) ≡ Some g.game
-game_by g game stages.Agreeing on = absurd on
 game_by g game stages.Playing on = refl
 game_by g game (stages.Sent a) on = refl
 game_by g game (stages.Reason told) on = absurd on
 game_by g game (stages.Closing told end) on = absurd on
 game_by g game (stages.Ended told end) on = absurd on
 
-slip_by : (g : Match) (game : Game) (stage : OwnStage) → IsOn stage → slip_of (staged g game stage) ≡ g.slip
-slip_by g game stages.Agreeing on = absurd on
-slip_by g game stages.Playing on = refl
-slip_by g game (stages.Sent a) on = refl
-slip_by g game (stages.Reason told) on = absurd on
-slip_by g game (stages.Closing told end) on = absurd on
-slip_by g game (stages.Ended told end) on = absurd on
+pub slip_by : (g : Match) (game : Game) (stage : OwnStage) → slip_of (staged g game stage) ≡ g.slip
+slip_by g game stages.Playing = refl
+slip_by g game (stages.Sent a) = refl
+slip_by g game (stages.Reason told) = refl
+slip_by g game (stages.Closing told end) = refl
+slip_by g game (stages.Ended told end) = refl
 
 state_by : (g k : Match) (game other : Game) (stage : OwnStage) → client_state (staged g game stage) ≡ client_state (staged k other stage)
-state_by g k game other stages.Agreeing = refl
 state_by g k game other stages.Playing = refl
 state_by g k game other (stages.Sent a) = refl
 state_by g k game other (stages.Reason told) = refl
@@ -101,7 +97,6 @@ open_ending client (Some k) why = refl
 
 kept_by : (p : Own) (stage : OwnStage) (told : Told) → TellsEnd stage told → game_of (staged (match_in p) p.game stage) ≡ Some p.game
     → kept_of told.ending p.game.ending ≡ p.game.ending
-kept_by p stages.Agreeing told t h = absurd t
 kept_by p stages.Playing told t h = ap (λ (x : Told). kept_of x.ending p.game.ending) t ∙ ap ending_in h
 kept_by p (stages.Sent a) told t h = ap (λ (x : Told). kept_of x.ending p.game.ending) t ∙ ap ending_in h
 kept_by p (stages.Reason first) told t h =
@@ -114,7 +109,6 @@ kept_so : (p : Own) (told : Told) → TellsEnd p.stage told → IsPlay p → kep
 kept_so p told t h = kept_by p p.stage told t h.game
 
 before_by : (g : Match) (game : Game) (stage : OwnStage) (told : Told) → TellsEnd stage told → before_result (staged g game stage) ≡ Some (g, finish_of game told)
-before_by g game stages.Agreeing told t = absurd t
 before_by g game stages.Playing told t = ap (λ (x : Told). Some (g, finish_of game x)) (sym t)
 before_by g game (stages.Sent a) told t = ap (λ (x : Told). Some (g, finish_of game x)) (sym t)
 before_by g game (stages.Reason first) told t = ap (λ (x : Told). Some (g, finish_of game x)) (sym t)
@@ -175,11 +169,11 @@ ask_text : (c : Config) (g : Match) (engine later : EngineState) (was_asked : Bo
 ask_text c g engine later true text h e = (h.1, asked h.0 h.2 e, h.3)
 ask_text c g engine later false text h e = ([], not_asked h.0 refl e, h.1)
 
-pub goes_on : (c : Config) (engine later : EngineState) (p new : Own) (before text : List ℕ) (was_asked : Bool) (o : Answered)
-    → IsAsked c (match_in p) was_asked text → later ≡ (if was_asked then Thinking else engine) → new ≡ record p { stage = stages.Playing }
-    → o.to_engine ≡ before ++ text → o.to_server ≡ [] → o.status ≡ Going → GoesOn c engine p before o later new
-goes_on c engine later p new before text was_asked o h e is to_engine to_server s = record {
-  play = is;
+pub goes_on : (c : Config) (engine later : EngineState) (p : Own) (before text : List ℕ) (was_asked : Bool) (o : Answered)
+    → IsAsked c (match_in p) was_asked text → later ≡ (if was_asked then Thinking else engine)
+    → o.to_engine ≡ before ++ text → o.to_server ≡ [] → o.status ≡ Going → GoesOn c engine p before o later (record p { stage = stages.Playing })
+goes_on c engine later p before text was_asked o h e to_engine to_server s = record {
+  play = refl;
   text = text;
   asked = ask_text c (match_in p) engine later was_asked text h e;
   to_engine = to_engine;
@@ -237,7 +231,6 @@ keeps_moved p color m stage on was h a = record {
   game = game_by (match_in (moved p m)) (game_with p.game (m ∷ [])) stage on
       ∙ ap (λ (x : Option Ended). Some (record (game_with p.game (m ∷ [])) { ending = x })) (sym (no_ending p was h));
   legal = legal_more p.game m h.legal (may_follow (match_in p) color m.move a);
-  slip = slip_by (match_in (moved p m)) (game_with p.game (m ∷ [])) stage on;
 }
 
 confirmed_row : (c : Config) (old later : EngineState) (p new : Own) (line : List ℕ) (color : Color) (m : Timed) (o : Answered) → IsOn p.stage → is_move_line line ≡ true
@@ -259,7 +252,7 @@ stays_moved c old p line color m on h sign j own =
     record {
       engine_stays = refl;
       client_stays = state_by (match_in (moved p m)) (match_in p) (game_with p.game (m ∷ [])) p.game p.stage;
-      slip_stays = slip_by (match_in (moved p m)) (game_with p.game (m ∷ [])) p.stage on ∙ sym (slip_by (match_in p) p.game p.stage on);
+      slip_stays = slip_by (match_in (moved p m)) (game_with p.game (m ∷ [])) p.stage ∙ sym (slip_by (match_in p) p.game p.stage);
       game = after (engine asking.0) (state asking.1 (playing (with_move (match_in p) m)) Going)
           (in_table (refl, row.move_confirmed (play_of p) line color m asking.0 asking.1 (in_play_of p on) refl sign j own asking.2 refl refl))
           (game_by (match_in (moved p m)) (game_with p.game (m ∷ [])) p.stage on);

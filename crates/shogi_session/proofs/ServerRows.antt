@@ -1,13 +1,13 @@
 -- How the answers to lines of the server before a game are rows of the table.
-use Rattle.std.proofs.Common.{◌≡◌, ℕ, ◌++◌, ◌⊎◌, inl, inr, Result, Ok, Err, true, false, List, [], ◌∷◌, Option, Some, None, map, codes, refl, sym, ap, subst, ◌∙◌}
+use Rattle.std.proofs.Common.{◌≡◌, ℕ, ◌++◌, ◌⊎◌, inl, inr, Result, Ok, Err, true, false, List, [], ◌∷◌, Option, Some, None, codes, refl, sym, ap, subst, ◌∙◌}
 use Rattle.std.specs.Prelude.{IfOk, MatchResult}
-use Rattle.shogi_rules.specs.Positions.{IsGame}
-use Rattle.csa_record.specs.Game.{Game, Ended, move_of}
+use Rattle.csa_record.specs.Game.{Game, Ended}
 use Rattle.shogi_session.specs.declared.config.Config.{Config}
 use Rattle.shogi_session.specs.declared.event.Out.{Out as Answered}
 use Rattle.shogi_session.specs.declared.event.Status.{Status}
 use Rattle.shogi_session.specs.declared.event.Status.TheVariants.{Going, Done, Failed}
 use Rattle.shogi_session.specs.declared.fault.SessionFault.TheVariants.{LoginRefused, Rejected, BadSummary, ServerGone, LineTooLong}
+use Rattle.shogi_session.specs.declared.offer.GameOffer.{GameOffer}
 use Rattle.shogi_session.specs.declared.phase.Play.{Play as Own}
 use Rattle.shogi_session.specs.declared.phase.Phase.{Phase}
 use Rattle.shogi_session.specs.declared.phase.Phase.TheVariants as phases
@@ -21,7 +21,8 @@ use Rattle.shogi_session.specs.Asking.{Asks}
 use Rattle.shogi_session.specs.Events.{Event, begin, server_line, server_end, engine_long, server_long}
 use Rattle.shogi_session.specs.GameTold.{game_of}
 use Rattle.shogi_session.specs.Hearing.{heard_after}
-use Rattle.shogi_session.specs.Phases.{Reacts, Stays, Same, GoesOn, IsPlay, client_of, going, match_in, play_client, staged}
+use Rattle.shogi_session.specs.Offers.{offer_in}
+use Rattle.shogi_session.specs.Phases.{Reacts, Stays, Same, GoesOn, IsOpen, IsPhase, IsPlay, begun, client_of, going, match_in, play_client, staged}
 use Rattle.shogi_session.specs.Promises.{before}
 use Rattle.shogi_session.specs.Row.{IsUnnamed}
 use Rattle.shogi_session.specs.Row as row
@@ -86,86 +87,53 @@ summary_failed c engine client client_after h o at none same q =
 unended : (g : Game) (e : Option Ended) → e ≡ None → g.ending ≡ e → record g { ending = None } ≡ g
 unended g e none is = ap (λ (x : Option Ended). record g { ending = x }) (sym (is ∙ none))
 
--- the code's own game at the offer
-pub record IsOffered (p : Own) (offer : Offer) : Type 0 where
-  pub client : p.client ≡ offer.client
-  pub game : p.game ≡ offer.game
-  pub slip : p.slip ≡ false
-  pub stage : p.stage ≡ stages.Agreeing
+pub summary_told : (c : Config) (engine : EngineState) (client : Client) (h : Heard) (o : GameOffer) (out : Answered) → client ≡ summary h
+    → TellsOffer h (offer_in o) → out.to_engine ≡ [] → out.to_server ≡ ended_line (codes "AGREE") → out.status ≡ Going
+    → Reacts c engine client (server_line (codes "END Game_Summary")) out engine (agreeing (offer_in o))
+summary_told c engine client h o out at tells q r s =
+    by_row c engine engine client (agreeing (offer_in o)) _ out _ Going (row.summary_ends h (offer_in o) at refl tells refl refl) s q (r ∙ one_text (codes "AGREE"))
 
-offered_client : (p : Own) (offer : Offer) → IsOffered p offer → offer.game.ending ≡ None → play_client p ≡ agreeing offer
-offered_client p offer i none =
-    ap (staged (match_in p) p.game) i.stage
-    ∙ (ap (λ x. agreeing (record { client = x; game = record p.game { ending = None } })) i.client
-    ∙ (ap (λ (x : Game). agreeing (record { client = offer.client; game = record x { ending = None } })) i.game
-    ∙ ap (λ x. agreeing (record { client = offer.client; game = x })) (unended offer.game offer.game.ending none refl)))
-
-pub summary_told : (c : Config) (engine : EngineState) (client : Client) (h : Heard) (offer : Offer) (p : Own) (o : Answered) → client ≡ summary h
-    → TellsOffer h offer → IsOffered p offer → o.to_engine ≡ [] → o.to_server ≡ ended_line (codes "AGREE") → o.status ≡ Going
-    → Reacts c engine client (server_line (codes "END Game_Summary")) o engine (play_client p)
-summary_told c engine client h offer p o at tells i q r s =
-    subst (λ x. Reacts c engine client (server_line (codes "END Game_Summary")) o engine x)
-    (sym (offered_client p offer i (offer_plain _ _ tells.position).0))
-    (by_row c engine engine client (agreeing offer) _ o _ Going (row.summary_ends h offer at refl tells refl refl) s q (r ∙ one_text (codes "AGREE")))
-
-pub offered_play : (h : Heard) (offer : Offer) (p : Own) → TellsOffer h offer → IsOffered p offer → IsPlay p
-offered_play h offer p tells i =
-    let none = (offer_plain _ _ tells.position).0 in
-    let at = offered_client p offer i none in record {
-      game = ap game_of at ∙ ap Some (sym i.game);
-      legal = subst (λ (x : Game). IsGame x.start (map move_of x.moves)) (sym i.game) (offer_legal _ _ tells.position);
-      slip = ap slip_of at ∙ sym i.slip;
-    }
+pub offered : (h : Heard) (o : GameOffer) → TellsOffer h (offer_in o) → IsOpen o.game
+offered h o tells = record { none = (offer_plain _ _ tells.position).0; legal = offer_legal _ _ tells.position }
 
 -- 4. AGREE
-pub rejected : (c : Config) (engine : EngineState) (client client_after : Client) (offer : Offer) (line : List ℕ) (o : Answered) → client ≡ agreeing offer
-    → is_reject_line line ≡ true → client_after ≡ client → Silent o (Failed Rejected) → Reacts c engine client (server_line line) o engine client_after
-rejected c engine client client_after offer line o at reject same h =
-    subst (λ x. Reacts c engine client (server_line line) o engine x) (sym same)
-    (by_row c engine engine client client (server_line line) o _ (Failed Rejected) (row.rejected offer line at refl reject refl refl) h.2 h.0 h.1)
+pub rejected : (c : Config) (engine : EngineState) (offer : Offer) (line : List ℕ) (o : Answered)
+    → is_reject_line line ≡ true → Silent o (Failed Rejected) → Reacts c engine (agreeing offer) (server_line line) o engine (agreeing offer)
+rejected c engine offer line o reject h =
+    by_row c engine engine (agreeing offer) (agreeing offer) (server_line line) o _ (Failed Rejected) (row.rejected offer line refl refl reject refl refl) h.2 h.0 h.1
 
-same_some : (g h : Game) → Some g ≡ Some h → g ≡ h
-same_some g h e = cc
+pub begun_play : (o : GameOffer) → IsOpen o.game → IsPlay (begun o)
+begun_play o i = record { game = ap Some (unended o.game o.game.ending i.none refl); legal = i.legal }
 
-plain : (p : Own) → Some (record p.game { ending = None }) ≡ Some p.game → p.game.ending ≡ None
-plain p e = sym (ap (λ (x : Game). x.ending) (same_some (record p.game { ending = None }) p.game e))
+-- the match at the start is that of the offer
+begun_match : (o : GameOffer) → IsOpen o.game → match_in (begun o) ≡ match_of (offer_in o)
+begun_match o i = ap (λ (x : Game). record { client = o.client; game = x; slip = false }) (unended o.game o.game.ending i.none refl)
 
--- an offer has no ending
-pub plain_offer : (p : Own) → p.stage ≡ stages.Agreeing → IsPlay p → p.game.ending ≡ None
-plain_offer p at i = plain p (sym (ap (λ x. game_of (staged (match_in p) p.game x)) at) ∙ i.game)
-
-pub goes_on : (p after : Own) → after ≡ record p { stage = stages.Playing } → p.game.ending ≡ None → IsPlay p → IsPlay after
-goes_on p after e none i =
-    subst IsPlay (sym e) (record { game = ap Some (unended p.game p.game.ending none refl); legal = i.legal; slip = refl })
-
-unslipped : (p : Own) → p.stage ≡ stages.Agreeing → IsPlay p → p.slip ≡ false
-unslipped p at i = sym i.slip ∙ ap (λ x. slip_of (staged (match_in p) p.game x)) at
-
-pub started : (c : Config) (engine engine_after : EngineState) (p after : Own) (line : List ℕ) (o : Answered) → p.stage ≡ stages.Agreeing → IsPlay p
-    → is_start_line line ≡ true → GoesOn c engine p (ended_line (codes "usinewgame")) o engine_after after
-    → Reacts c engine (play_client p) (server_line line) o engine_after (play_client after)
-started c engine engine_after p after line o at i start g =
-    let offer : Offer = record { client = p.client; game = record p.game { ending = None } } in
-    let same : match_in p ≡ match_of offer = ap (λ x. record (match_in p) { slip = x }) (unslipped p at i) in
-    subst (λ (x : Own). Reacts c engine (play_client p) (server_line line) o engine_after (play_client x)) (sym g.play)
-    (subst (λ x. Reacts c engine (play_client p) (server_line line) o engine_after (playing x)) (sym same)
-    (by_row c engine engine_after (play_client p) (playing (match_of offer)) (server_line line) o _ Going
-    (row.started offer line g.asked.0 engine_after (ap (staged (match_in p) p.game) at) refl start
+pub started : (c : Config) (engine engine_after : EngineState) (o : GameOffer) (line : List ℕ) (out : Answered) → IsOpen o.game
+    → is_start_line line ≡ true → GoesOn c engine (begun o) (ended_line (codes "usinewgame")) out engine_after (begun o)
+    → Reacts c engine (agreeing (offer_in o)) (server_line line) out engine_after (play_client (begun o))
+started c engine engine_after o line out i start g =
+    let same = begun_match o i in
+    subst (λ x. Reacts c engine (agreeing (offer_in o)) (server_line line) out engine_after (playing x)) (sym same)
+    (by_row c engine engine_after (agreeing (offer_in o)) (playing (match_of (offer_in o))) (server_line line) out _ Going
+    (row.started (offer_in o) line g.asked.0 engine_after refl refl start
     (subst (λ x. Asks c x engine g.asked.0 engine_after) same g.asked.1) refl refl)
-    g.status (g.to_engine ∙ (ap (λ x. ended_line (codes "usinewgame") ++ x) g.asked.2 ∙ refl)) g.to_server))
+    g.status (g.to_engine ∙ (ap (λ x. ended_line (codes "usinewgame") ++ x) g.asked.2 ∙ refl)) g.to_server)
 
-pub started_or : {E : Type 0} (r : Result Answered E) (c : Config) (engine engine_after : EngineState) (p after : Own) (line before_it : List ℕ) → p.stage ≡ stages.Agreeing → IsPlay p
-    → is_start_line line ≡ true → before_it ≡ ended_line (codes "usinewgame")
-    → MatchResult r (λ o. GoesOn c engine p before_it o engine_after after) (λ f. (engine_after ≡ engine) × (after ≡ p))
-    → MatchResult r (λ o. Reacts c engine (play_client p) (server_line line) o engine_after (play_client after)) (λ f. Same engine (play_client p) engine_after (play_client after))
-started_or (Ok o) c engine engine_after p after line before_it at i start whole g =
-    started c engine engine_after p after line o at i start (subst (λ x. GoesOn c engine p x o engine_after after) whole g)
-started_or (Err f) c engine engine_after p after line before_it at i start whole g = (g.0, ap play_client g.1)
+pub started_from : (c : Config) (engine engine_after : EngineState) (x after : Phase) (o : GameOffer) (line : List ℕ) (out : Answered) → x ≡ phases.Agreeing o → IsPhase x
+    → after ≡ phases.InGame (begun o) → is_start_line line ≡ true → GoesOn c engine (begun o) (ended_line (codes "usinewgame")) out engine_after (begun o)
+    → Reacts c engine (client_of x) (server_line line) out engine_after (client_of after)
+started_from c engine engine_after x after o line out at keeps is start g =
+    subst (λ y. Reacts c engine (client_of y) (server_line line) out engine_after (client_of after)) (sym at)
+    (subst (λ y. Reacts c engine (agreeing (offer_in o)) (server_line line) out engine_after (client_of y)) (sym is)
+    (started c engine engine_after o line out (subst IsPhase at keeps) start g))
 
-pub started_play : {E : Type 0} (r : Result Answered E) (c : Config) (engine engine_after : EngineState) (p after : Own) (before_it : List ℕ) → p.stage ≡ stages.Agreeing → IsPlay p
-    → MatchResult r (λ o. GoesOn c engine p before_it o engine_after after) (λ f. (engine_after ≡ engine) × (after ≡ p)) → IsPlay after
-started_play (Ok o) c engine engine_after p after before_it at i g = goes_on p after g.play (plain_offer p at i) i
-started_play (Err f) c engine engine_after p after before_it at i g = subst IsPlay (sym g.1) i
+pub first_asked : {E : Type 0} (r : Result Answered E) (c : Config) (engine engine_after : EngineState) (p : Own) (lines whole : List ℕ) → lines ≡ whole
+    → IfOk r (λ o. (q : Own) → q.client ≡ p.client → q.game ≡ p.game → GoesOn c engine q lines o engine_after (record q { stage = stages.Playing }))
+    → IfOk r (λ o. GoesOn c engine p whole o engine_after (record p { stage = stages.Playing }))
+first_asked (Ok o) c engine engine_after p lines whole same h =
+    subst (λ x. GoesOn c engine p x o engine_after (record p { stage = stages.Playing })) same (h p refl refl)
+first_asked (Err f) c engine engine_after p lines whole same h = h
 
 -- 5. the end
 pub logged_out : (c : Config) (engine : EngineState) (p : Own) (told : Told) (res : GameResult) (line : List ℕ) (o : Answered)
@@ -186,7 +154,6 @@ pub over_play : (p : Own) (told : Told) (res : GameResult) → p.stage ≡ stage
 over_play p told res at i = record {
   game = sym (ap (λ x. game_of (staged (match_in p) p.game x)) at) ∙ i.game;
   legal = i.legal;
-  slip = refl;
 }
 
 pub or_stays : {E : Type 0} (r : Result Answered E) (P : Answered → Type 0) (c : Config) (engine engine_after : EngineState) (client client_after : Client) (e : Event)
@@ -209,7 +176,6 @@ too_long c engine client e o long h =
 stage_not_over : (g : Match) (game : Game) (stage : Stage) → ((t : Told) (r : GameResult) → stage ≡ stages.Closing t r → ⊥)
     → ((t : Told) (r : GameResult) → stage ≡ stages.Ended t r → ⊥)
     → (client_state (staged g game stage) ≡ clients.Closing → ⊥) × (client_state (staged g game stage) ≡ clients.Ended → ⊥)
-stage_not_over g game stages.Agreeing h k = (λ e. cc, λ e. cc)
 stage_not_over g game stages.Playing h k = (λ e. cc, λ e. cc)
 stage_not_over g game (stages.Sent a) h k = (λ e. cc, λ e. cc)
 stage_not_over g game (stages.Reason t) h k = (λ e. cc, λ e. cc)
@@ -227,6 +193,7 @@ phase_not_over phases.Idle h = (λ e. cc, λ e. cc)
 phase_not_over phases.LoggingIn h = (λ e. cc, λ e. cc)
 phase_not_over phases.BeforeSummary h = (λ e. cc, λ e. cc)
 phase_not_over (phases.Summary heard) h = (λ e. cc, λ e. cc)
+phase_not_over (phases.Agreeing o) h = (λ e. cc, λ e. cc)
 phase_not_over (phases.InGame p) h = absurd (h p refl)
 
 -- 7. summaries

@@ -5,9 +5,12 @@ use Rattle.csa_text.specs.Codes.{sign}
 use Rattle.shogi_session.specs.declared.offer.GameOffer.{GameOffer}
 use Rattle.shogi_session.specs.Summary.{Heard, Offer, TellsPosition, TellsOffer, name_given}
 
+abbrev pub offer_in : GameOffer → Offer
+offer_in o = record { client = o.client; game = o.game }
+
 abbrev pub offer_of : Option GameOffer → Option Offer
 offer_of None = None
-offer_of (Some o) = Some (record { client = o.client; game = o.game })
+offer_of (Some o) = Some (offer_in o)
 
 -- the game with these names; an empty one is none
 abbrev pub IsNamed : Game → List ℕ → List ℕ → Game → Type 0

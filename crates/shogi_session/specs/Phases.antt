@@ -16,13 +16,14 @@ use Rattle.shogi_session.specs.declared.engine_answer.EngineAnswer.{EngineAnswer
 use Rattle.shogi_session.specs.declared.engine_answer.EngineAnswer.TheVariants as engine_says
 use Rattle.shogi_session.specs.declared.event.Out.{Out as Answered}
 use Rattle.shogi_session.specs.declared.event.Status.TheVariants.{Going}
+use Rattle.shogi_session.specs.declared.offer.GameOffer.{GameOffer}
 use Rattle.shogi_session.specs.declared.phase.Answer.{Answer as Given}
 use Rattle.shogi_session.specs.declared.phase.Answer.TheVariants.{Move, Toryo, Kachi}
 use Rattle.shogi_session.specs.declared.phase.Phase.{Phase}
-use Rattle.shogi_session.specs.declared.phase.Phase.TheVariants.{Idle, LoggingIn, BeforeSummary, Summary, InGame}
+use Rattle.shogi_session.specs.declared.phase.Phase.TheVariants.{Idle, LoggingIn, BeforeSummary, Summary, Agreeing, InGame}
 use Rattle.shogi_session.specs.declared.phase.Play.{Play}
 use Rattle.shogi_session.specs.declared.phase.Stage.{Stage}
-use Rattle.shogi_session.specs.declared.phase.Stage.TheVariants.{Agreeing, Playing, Sent, Reason, Closing, Ended as Over}
+use Rattle.shogi_session.specs.declared.phase.Stage.TheVariants.{Playing, Sent, Reason, Closing, Ended as Over}
 use Rattle.shogi_session.specs.declared.phase.Told.{Told}
 use Rattle.shogi_session.specs.declared.server_words.EndReason.{EndReason}
 use Rattle.shogi_session.specs.declared.state.EngineState.{EngineState}
@@ -30,6 +31,7 @@ use Rattle.shogi_session.specs.Events.{Event, Out}
 use Rattle.shogi_session.specs.Asking.{Asks}
 use Rattle.shogi_session.specs.GameTold.{ending_of, game_of}
 use Rattle.shogi_session.specs.LineTexts as texts
+use Rattle.shogi_session.specs.Offers.{offer_in}
 use Rattle.shogi_session.specs.Promises.{KeepsGame}
 use Rattle.shogi_session.specs.Row.{Row}
 use Rattle.shogi_session.specs.ServerLines as lines
@@ -62,7 +64,6 @@ abbrev pub match_in : Play → Match
 match_in p = record { client = p.client; game = record p.game { ending = None }; slip = p.slip }
 
 abbrev pub staged : Match → Game → Stage → Client
-staged g game Agreeing = agreeing (record { client = g.client; game = g.game })
 staged g game Playing = playing g
 staged g game (Sent a) = sent g (answer_of a)
 staged g game (Reason told) = reason g (finish_of game told)
@@ -77,14 +78,23 @@ client_of Idle = idle
 client_of LoggingIn = logging_in
 client_of BeforeSummary = before_summary
 client_of (Summary heard) = summary heard
+client_of (Agreeing o) = agreeing (offer_in o)
 client_of (InGame p) = play_client p
 
+-- the play that starts with an offer
+abbrev pub begun : GameOffer → Play
+begun o = record { client = o.client; game = o.game; slip = false; stage = Playing }
+
 -- 2. What they keep
--- the game has the ending that was told or follows from what was, its moves are legal, and an offer has no slip
+-- the game has the ending that was told or follows from what was, and its moves are legal
 pub record IsPlay (p : Play) : Type 0 where
   pub game : game_of (play_client p) ≡ Some p.game
   pub legal : IsGame p.game.start (map move_of p.game.moves)
-  pub slip : slip_of (play_client p) ≡ p.slip
+
+-- an offered game has no ending, and its moves are legal
+pub record IsOpen (g : Game) : Type 0 where
+  pub none : g.ending ≡ None
+  pub legal : IsGame g.start (map move_of g.moves)
 
 -- what is heard of a summary counts for some lines
 abbrev pub IsPhase : Phase → Type 0
@@ -92,6 +102,7 @@ IsPhase Idle = Unit {0}
 IsPhase LoggingIn = Unit {0}
 IsPhase BeforeSummary = Unit {0}
 IsPhase (Summary heard) = (lines : List (List ℕ)) × CountsAs lines heard
+IsPhase (Agreeing o) = IsOpen o.game
 IsPhase (InGame p) = IsPlay p
 
 -- 3. Steps
@@ -138,7 +149,6 @@ answer_text client engine_says.Slip = texts.toryo
 -- 5. Lines of the server in a game
 -- the game is on: Playing, Sent
 abbrev pub IsOn : Stage → Type 0
-IsOn Agreeing = ⊥
 IsOn Playing = Unit {0}
 IsOn (Sent a) = Unit {0}
 IsOn (Reason told) = ⊥
@@ -147,7 +157,6 @@ IsOn (Over told result) = ⊥
 
 -- the sent move that waits for its confirmation
 abbrev pub waiting_in : Stage → Option shogi.Move
-waiting_in Agreeing = None
 waiting_in Playing = None
 waiting_in (Sent (Move m)) = Some m
 waiting_in (Sent Toryo) = None
@@ -161,7 +170,6 @@ no_ending_told = record { ending = false; reason = None }
 
 -- this stage or, before anything was told, the game, is where that was told
 abbrev pub TellsEnd : Stage → Told → Type 0
-TellsEnd Agreeing told = ⊥
 TellsEnd Playing told = told ≡ no_ending_told
 TellsEnd (Sent a) told = told ≡ no_ending_told
 TellsEnd (Reason before) told = told ≡ before

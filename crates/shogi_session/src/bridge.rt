@@ -144,6 +144,7 @@ impl Bridge {
             Phase::Idle => ClientState::Idle,
             Phase::LoggingIn => ClientState::LoggingIn,
             Phase::BeforeSummary | Phase::Summary(_) => ClientState::Summary,
+            Phase::Agreeing(_) => ClientState::Agreeing,
             Phase::InGame(play) => state_of(play.stage),
         }
     }
@@ -168,6 +169,7 @@ impl Bridge {
         ensures { IfOk result (λ found. MatchOption found (IsGameText self.now.state None) (λ text. IsGameText self.now.state (Some text.items))) }
     {
         match &self.phase {
+            Phase::Agreeing(offer) => Ok(Some(write(self.alloc, &offer.game)?)),
             Phase::InGame(play) => Ok(Some(write(self.alloc, &play.game)?)),
             _ => Ok(None),
         }
@@ -187,7 +189,6 @@ fn state_of(stage: Stage) -> ClientState
     ensures { (g : Match) (game : Game) → result ≡ client_state (staged g game stage) }
 {
     match stage {
-        Stage::Agreeing => ClientState::Agreeing,
         Stage::Playing => ClientState::Playing,
         Stage::Sent(_) => ClientState::Sent,
         Stage::Reason(_) => ClientState::Reason,

@@ -148,9 +148,11 @@ fn hear_thinking(
                 Ok(hear_late(alloc, engine, line))
             }
         }
-        Phase::Idle | Phase::LoggingIn | Phase::BeforeSummary | Phase::Summary(_) => {
-            Ok(hear_late(alloc, engine, line))
-        }
+        Phase::Idle
+        | Phase::LoggingIn
+        | Phase::BeforeSummary
+        | Phase::Summary(_)
+        | Phase::Agreeing(_) => Ok(hear_late(alloc, engine, line)),
     }
 }
 

@@ -6,6 +6,8 @@ ghost use Rattle.shogi_session.specs.declared.event.Status.TheVariants.{Failed, 
 ghost use Rattle.shogi_session.specs.declared.fault.MoveCause.TheVariants.{Refused};
 ghost use Rattle.shogi_session.specs.declared.fault.SessionFault.TheVariants.{BadServerMove};
 ghost use Rattle.shogi_session.specs.declared.phase.Answer.TheVariants as given;
+ghost use Rattle.shogi_session.specs.declared.phase.Play.{Play};
+ghost use Rattle.shogi_session.specs.declared.phase.Stage.TheVariants.{Playing};
 ghost use Rattle.shogi_session.specs.declared.state.EngineState.TheVariants.{Thinking};
 ghost use Rattle.shogi_session.specs.Events.{server_line};
 ghost use Rattle.shogi_session.specs.LineTexts as texts;
@@ -161,8 +163,7 @@ fn is_waiting(stage: Stage, mv: Move) -> bool
 {
     match stage {
         Stage::Sent(answer) => is_move(answer, mv),
-        Stage::Agreeing | Stage::Playing => false,
-        Stage::Reason(_) | Stage::Closing(_, _) | Stage::Ended(_, _) => false,
+        Stage::Playing | Stage::Reason(_) | Stage::Closing(_, _) | Stage::Ended(_, _) => false,
     }
 }
 
@@ -199,7 +200,16 @@ fn confirm(
     ensures { Confirms config.now engine.old play.old (record { move = mv; time = time }) result engine.new play.new }
 {
     play_move(&mut play.game, color, mv, time)?;
-    ask_engine(alloc, config, engine, play, Lines::new(alloc))
+    let out = ask_engine(
+        alloc,
+        config,
+        engine,
+        play.client,
+        &play.game,
+        Lines::new(alloc),
+    )?;
+    play.stage = Stage::Playing;
+    Ok(out)
 }
 
 // Adds the move with its time to the game, where it may be played.
@@ -229,18 +239,18 @@ pub(crate) fn ask_engine(
     alloc: Global,
     config: &Config,
     engine: &mut EngineState,
-    play: &mut Play,
+    client: Color,
+    game: &Record,
     lines: Lines,
 ) -> Result<Out, OutOfMemory>
-    requires { play.old.game.ending ≡ None }
-    ensures { MatchResult result
-        (λ out. GoesOn config.now engine.old play.old lines out engine.new play.new)
-        (λ fault. (engine.new ≡ engine.old) × (play.new ≡ play.old)) }
+    requires { game.now.ending ≡ None }
+    ensures goes_on { IfOk result (λ out. (p : Play) → p.client ≡ client → p.game ≡ game.now
+        → GoesOn config.now engine.old p lines out engine.new (record p { stage = Playing })) }
+    ensures engine { OnErr result (engine.new ≡ engine.old) }
 {
     let mut lines = lines;
-    let asked = ask(&mut lines, alloc, config, play.client, &play.game)?;
+    let asked = ask(&mut lines, alloc, config, client, game)?;
     *engine = engine_after(*engine, asked);
-    play.stage = Stage::Playing;
     Ok(to_engine(alloc, lines))
 }
 

@@ -1,3 +1,4 @@
+use crate::offer::GameOffer;
 use crate::server_words::{EndReason, GameResult};
 use crate::summary_reader::SummaryReader;
 use csa_record::Record;
@@ -20,10 +21,9 @@ pub(crate) struct Told {
     pub(crate) reason: Option<EndReason>,
 }
 
-// Where a game stands, from its offer on.
+// Where a game stands, from its start on.
 #[derive(Clone, Copy, Debug, PartialEq, Eq)]
 pub(crate) enum Stage {
-    Agreeing,
     Playing,
     Sent(Answer),
     Reason(Told),
@@ -31,7 +31,7 @@ pub(crate) enum Stage {
     Ended(Told, GameResult),
 }
 
-// A game that was offered: its confirmed moves, its ending as far as that is known, and whether the
+// A game that has started: its confirmed moves, its ending as far as that is known, and whether the
 // engine slipped.
 #[derive(Drop)]
 pub(crate) struct Play {
@@ -48,5 +48,6 @@ pub(crate) enum Phase {
     LoggingIn,
     BeforeSummary,
     Summary(SummaryReader),
+    Agreeing(GameOffer),
     InGame(Play),
 }

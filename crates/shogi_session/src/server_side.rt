@@ -1,15 +1,17 @@
-ghost use Rattle.std.specs.Prelude.{◌≡◌, ℕ, List, false, IfOk, MatchResult};
+ghost use Rattle.std.specs.Prelude.{◌≡◌, ℕ, List, false, None, IfOk, OnErr, MatchResult};
 ghost use Rattle.csa_record.specs.Limits.{IsOneLine};
 ghost use Rattle.shogi_session.specs.declared.config.Config.{Config};
-ghost use Rattle.shogi_session.specs.declared.phase.Phase.TheVariants.{BeforeSummary, LoggingIn};
-ghost use Rattle.shogi_session.specs.declared.phase.Stage.TheVariants as stages;
+ghost use Rattle.shogi_session.specs.declared.offer.GameOffer.{GameOffer};
+ghost use Rattle.shogi_session.specs.declared.phase.Phase.TheVariants.{Agreeing, BeforeSummary, InGame, LoggingIn};
 ghost use Rattle.shogi_session.specs.declared.state.EngineState.{EngineState};
 ghost use Rattle.shogi_session.specs.Events.{server_line};
 ghost use Rattle.shogi_session.specs.LineTexts as texts;
 ghost use Rattle.shogi_session.specs.Offers.{IsToldBy, offer_of};
-ghost use Rattle.shogi_session.specs.Phases.{IsPhase, IsPlay, Reacts, Same, Stays, client_of, play_client};
+ghost use Rattle.shogi_session.specs.Phases.{GoesOn, IsPhase, IsPlay, Reacts, Stays, begun, client_of, play_client};
 ghost use Rattle.shogi_session.specs.State as state;
-ghost use Rattle.shogi_session.specs.Summary.{CountsAs, Heard};
+ghost use Rattle.shogi_session.specs.ServerLines.{is_start_line};
+ghost use Rattle.shogi_session.specs.Summary.{CountsAs, Heard, Offer};
+ghost use Rattle.shogi_session.specs.Texts.{ended_line};
 
 use crate::answers::{failed, no_lines, silent, tell_server};
 use crate::config::Config;
@@ -26,6 +28,7 @@ use crate::texts;
 use crate::words::is_same;
 use shogi_board::OutOfMemory;
 use std::alloc::Global;
+use std::mem;
 
 // Takes a line of the server, less the spaces at its end.
 pub(crate) fn hear_server(
@@ -53,6 +56,14 @@ pub(crate) fn hear_server(
             } else {
                 hear_summary(alloc, reader, line)
             }
+        }
+        Phase::Agreeing(offer) => {
+            if !is_start_line(line) {
+                return Ok(hear_unstarted(alloc, line));
+            }
+            let out = ask_first(alloc, config, engine, offer)?;
+            start(phase);
+            Ok(out)
         }
         Phase::InGame(play) => hear_in_game(alloc, config, engine, play, line),
     }
@@ -120,28 +131,55 @@ fn end_summary(
     match found {
         Some(offer) => {
             let out = tell_server(alloc, texts::AGREE)?;
-            *phase = Phase::InGame(play_of(offer));
+            *phase = Phase::Agreeing(offer);
             Ok(out)
         }
         None => Ok(failed(alloc, SessionFault::BadSummary)),
     }
 }
 
-fn play_of(offer: GameOffer) -> Play
-    ensures client { result.client ≡ offer.client }
-    ensures game { result.game ≡ offer.game }
-    ensures slip { result.slip ≡ false }
-    ensures stage { result.stage ≡ stages.Agreeing }
+// Takes a line behind `AGREE` that does not start the game.
+fn hear_unstarted(alloc: Global, line: &[u8]) -> Out
+    requires { is_start_line line.now ≡ false }
+    ensures { (c : Config) (engine : EngineState) (o : Offer) → Reacts c engine (state.agreeing o) (server_line line.now) result engine (state.agreeing o) }
 {
-    Play {
-        client: offer.client,
-        game: offer.game,
-        slip: false,
-        stage: Stage::Agreeing,
+    if is_reject_line(line) {
+        return failed(alloc, SessionFault::Rejected);
     }
+    no_lines(alloc)
 }
 
-// Takes a line behind the summary.
+// Tells the engine that a game starts, and asks it where its side is to move and may.
+fn ask_first(
+    alloc: Global,
+    config: &Config,
+    engine: &mut EngineState,
+    offer: &GameOffer,
+) -> Result<Out, OutOfMemory>
+    requires { offer.now.game.ending ≡ None }
+    ensures goes_on { IfOk result (λ out. GoesOn config.now engine.old (begun offer.now) (ended_line texts.new_game) out engine.new (begun offer.now)) }
+    ensures engine { OnErr result (engine.new ≡ engine.old) }
+{
+    let lines = Lines::one(alloc, texts::NEW_GAME)?;
+    ask_engine(alloc, config, engine, offer.client, &offer.game, lines)
+}
+
+// Starts the game that was offered.
+fn start(phase: &mut Phase)
+    ensures { (o : GameOffer) → phase.old ≡ Agreeing o → phase.new ≡ InGame (begun o) }
+{
+    *phase = match mem::replace(phase, Phase::Idle) {
+        Phase::Agreeing(offer) => Phase::InGame(Play {
+            client: offer.client,
+            game: offer.game,
+            slip: false,
+            stage: Stage::Playing,
+        }),
+        other => other,
+    };
+}
+
+// Takes a line behind the start of the game.
 fn hear_in_game(
     alloc: Global,
     config: &Config,
@@ -156,9 +194,7 @@ fn hear_in_game(
         (λ fault. Stays config.now engine.old (play_client play.old) (server_line line.now) engine.new (play_client play.new)) }
 {
     match play.stage {
-        Stage::Agreeing => hear_agreed(alloc, config, engine, play, line),
-        Stage::Playing => hear_in_play(alloc, config, engine, play, line),
-        Stage::Sent(_) => hear_in_play(alloc, config, engine, play, line),
+        Stage::Playing | Stage::Sent(_) => hear_in_play(alloc, config, engine, play, line),
         Stage::Reason(told) => {
             if is_hash_line(line) {
                 hear_end(alloc, engine, play, told, line)
@@ -176,29 +212,4 @@ fn hear_in_game(
         }
         Stage::Ended(_, _) => Ok(no_lines(alloc)),
     }
-}
-
-// Waits for the game to start.
-fn hear_agreed(
-    alloc: Global,
-    config: &Config,
-    engine: &mut EngineState,
-    play: &mut Play,
-    line: &[u8],
-) -> Result<Out, OutOfMemory>
-    requires stage { play.old.stage ≡ stages.Agreeing }
-    requires play { IsPlay play.old }
-    ensures keeps { IsPlay play.new }
-    ensures answer { MatchResult result
-        (λ out. Reacts config.now engine.old (play_client play.old) (server_line line.now) out engine.new (play_client play.new))
-        (λ fault. Same engine.old (play_client play.old) engine.new (play_client play.new)) }
-{
-    if is_start_line(line) {
-        let lines = Lines::one(alloc, texts::NEW_GAME)?;
-        return ask_engine(alloc, config, engine, play, lines);
-    }
-    if is_reject_line(line) {
-        return Ok(failed(alloc, SessionFault::Rejected));
-    }
-    Ok(no_lines(alloc))
 }

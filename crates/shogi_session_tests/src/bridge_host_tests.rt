@@ -68,25 +68,49 @@ impl Pair {
     }
 }
 
-// A whole session, whose engine gives these answers, one after another, and resigns then.
-fn play(alloc: Global, client: Color, max_moves: u32, answers: &str) -> Result<Pair, Fail> {
-    let mut pair = Pair::new(alloc, client, max_moves)?;
-    pair.hand(b"begin")?;
+// Plays on, the engine with these answers one after another, until none is left or the session is over.
+fn play_on(pair: &mut Pair, answers: &str) -> Result<(), Fail> {
     let mut answers = answers.split(' ');
     for _ in 0..2000 {
         match pair.bridge.waits_for() {
             Waits::Nobody => break,
             Waits::Server => pair.hand_line()?,
             Waits::Engine if pair.bridge.engine_state() == EngineState::Thinking => {
-                pair.hand_answer(answers.next().unwrap_or("resign"))?;
+                let Some(answer) = answers.next() else { break };
+                pair.hand_answer(answer)?;
             }
             Waits::Engine => pair.hand_answer("")?,
         }
     }
+    Ok(())
+}
+
+// A session whose engine gives these answers, one after another.
+fn play(alloc: Global, client: Color, max_moves: u32, answers: &str) -> Result<Pair, Fail> {
+    let mut pair = Pair::new(alloc, client, max_moves)?;
+    pair.hand(b"begin")?;
+    play_on(&mut pair, answers)?;
     Ok(pair)
 }
 
-// The session ends well, the engine is told that result, and the game text ends so.
+// The session ended well, the engine was told that result, and the game text ends so.
+fn has_ended<R: Abort + AllocGlobal>(
+    rt: &R,
+    pair: &Pair,
+    outcome: &str,
+    text: &str,
+) -> Result<(), Fail> {
+    assert!(rt; pair.bridge.client_state() == ClientState::Ended, "{text}");
+    let told = format!(in rt.alloc(); "gameover {outcome}\nquit\n")?;
+    assert!(rt; pair.told.as_slice() == told.as_bytes(), "{text}");
+    assert!(rt;
+        text_of(&pair.bridge)?.as_slice().ends_with(text.as_bytes()),
+        "{text}"
+    );
+    Ok(())
+}
+
+// A session whose engine gives these answers ends well, with that result and that end of the game text.
 fn ends<R: Abort + AllocGlobal>(
     rt: &R,
     game: (Color, u32, &str),
@@ -95,17 +119,7 @@ fn ends<R: Abort + AllocGlobal>(
 ) -> Result<(), Fail> {
     let (client, max_moves, answers) = game;
     let pair = play(rt.alloc(), client, max_moves, answers)?;
-    assert!(rt;
-        pair.bridge.client_state() == ClientState::Ended,
-        "{answers}"
-    );
-    let told = format!(in rt.alloc(); "gameover {outcome}\nquit\n")?;
-    assert!(rt; pair.told.as_slice() == told.as_bytes(), "{answers}");
-    assert!(rt;
-        text_of(&pair.bridge)?.as_slice().ends_with(text.as_bytes()),
-        "{answers}"
-    );
-    Ok(())
+    has_ended(rt, &pair, outcome, text)
 }
 
 #[test]
@@ -179,7 +193,7 @@ fn game_ends_at_a_mate(rt: HostRuntime) -> Result<(), Fail> {
 fn game_ends_at_its_last_move(rt: HostRuntime) -> Result<(), Fail> {
     ends(
         &rt,
-        (Color::Black, 4, "1g1f 1f1e"),
+        (Color::Black, 4, "1g1f 1f1e resign"),
         "draw",
         "V2.2\nN+bridge\nN-host\nPI\n+\n+1716FU\nT2\n-1112KY\nT0\n+1615FU\nT2\n-1314FU\nT0\n%CHUDAN\n",
     )?;
@@ -230,4 +244,20 @@ fn game_ends_by_the_engine(rt: HostRuntime) -> Result<(), Fail> {
         ends(&rt, (client, 256, answers), outcome, text)?;
     }
     Ok(())
+}
+
+// A move that is changed on its way to the host is no legal one there.
+#[test]
+fn game_ends_at_an_illegal_move(rt: HostRuntime) -> Result<(), Fail> {
+    let mut pair = play(rt.alloc(), Color::Black, 256, "7g7f")?;
+    hand(&mut pair.bridge, b"Ebestmove 2g2f")?;
+    let answer = pair.host.step(b"+2725FU", 2)?;
+    pair.unread.extend_from_slice(answer.to_client.bytes())?;
+    play_on(&mut pair, "resign")?;
+    has_ended(
+        &rt,
+        &pair,
+        "lose",
+        "\n+7776FU\nT2\n-1112KY\nT0\n%ILLEGAL_MOVE\n",
+    )
 }

@@ -25,6 +25,3 @@ pub use line_writing::position_line;
 pub use moves::{move_text, read_move};
 pub use sfen::read_sfen;
 pub use writing::write_sfen;
-
-#[cfg(test)]
-mod tests;

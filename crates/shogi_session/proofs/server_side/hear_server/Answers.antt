@@ -1,6 +1,9 @@
-use Rattle.std.proofs.Common.{refl, ap}
-use Rattle.shogi_session.specs.Phases.{client_of}
-use Rattle.shogi_session.proofs.ServerRows.{ended_or, heard_or, quiet}
+use Rattle.std.proofs.Common.{refl, ap, subst, sym, ◌∙◌}
+use Rattle.shogi_session.specs.Events.{server_line}
+use Rattle.shogi_session.specs.Offers.{offer_in}
+use Rattle.shogi_session.specs.State.{agreeing}
+use Rattle.shogi_session.specs.Phases.{Reacts, client_of}
+use Rattle.shogi_session.proofs.ServerRows.{ended_or, heard_or, quiet, started_from}
 use Rattle.shogi_session.proofs.Unnamed.{idle_line}
 use Rattle.shogi_session.proofs.server_side.hear_server.Goals as goal
 
@@ -16,3 +19,13 @@ returns-in_ok-found-in-Summary-clause-answer c =
 pub returns-else-is_same-clause-answer : goal.returns-else-is_same-clause-answer
 returns-else-is_same-clause-answer c =
     heard_or c.hear_summary.result _ _ _ _ _ c.args.line.now (ap client_of c.in-Summary.is) c.hear_summary.ensures.answer
+
+pub returns-then-not-is_start_line-clause-answer : goal.returns-then-not-is_start_line-clause-answer
+returns-then-not-is_start_line-clause-answer c =
+    subst (λ x. Reacts c.args.config.now c.args.engine.now x (server_line c.args.line.now) c.hear_unstarted.result c.args.engine.now (agreeing (offer_in c.in-Agreeing.offer)))
+    (sym (ap client_of c.in-Agreeing.is)) (c.hear_unstarted.ensures c.args.config.now c.args.engine.now (offer_in c.in-Agreeing.offer))
+
+pub returns-in_ok-out-in-Agreeing-clause-answer : goal.returns-in_ok-out-in-Agreeing-clause-answer
+returns-in_ok-out-in-Agreeing-clause-answer c =
+    started_from _ _ _ _ _ c.in-Agreeing.offer c.args.line.now c.in_ok-out-in-Agreeing.out c.in-Agreeing.is c.requires.phase
+    (c.start.ensures c.in-Agreeing.offer refl) (sym c.is_start_line.ensures ∙ c.if-not-is_start_line.false) c.in_ok-out-in-Agreeing.ensures.goes_on

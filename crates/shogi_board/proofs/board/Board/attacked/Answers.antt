@@ -1,22 +1,15 @@
-use Rattle.std.proofs.Common.{◌≡◌, arith, refl, inl, inr}
-use Rattle.std.proofs.lemmas.Bool.{cases_lt}
-use Rattle.shogi_board.specs.Reach.{Attack}
-use Rattle.shogi_board.specs.Squares.{place}
-use Rattle.shogi_board.proofs.Squares.{place-same}
+use Rattle.std.proofs.Common.{refl, inl, inr}
+use Rattle.shogi_board.proofs.Attackers.{attackers, by-jump, in-line}
 use Rattle.shogi_board.proofs.board.Board.attacked.Goals as goal
 
-pub returns-then-attacks : goal.returns-then-attacks
-returns-then-attacks c =
-    let attack : Attack c.args.self.now c.args.color c.at_place.result c.args.square = c.if-attacks.ensures.0 refl in
-    (λ _. (c.at_place.result, attack), λ _. refl)
+pub returns-then-attacked_in_line : goal.returns-then-attacked_in_line
+returns-then-attacked_in_line c = (λ _. in-line _ _ _ (c.if-attacked_in_line.ensures.0 refl), λ _. c.if-attacked_in_line.true)
 
-pub loop-n-preserved : goal.loop-n-preserved
-loop-n-preserved c a h k =
-    elim (cases_lt (place a) c.loop-n.n) [
-      | inl lt ↦ c.loop-n.invariant a lt k
-      | inr ge ↦
-          let e : a ≡ c.at_place.result = place-same a c.at_place.result (omega (arith, c.at_place.ensures)) in
-          let there : Attack c.args.self.now c.args.color c.at_place.result c.args.square = rw e at k in
-          let no = c.if-attacks.ensures.1 there in
-          cc
-    ]
+pub returns-else-attacked_in_line : goal.returns-else-attacked_in_line
+returns-else-attacked_in_line c = (
+  λ h. by-jump _ _ _ (c.attacked_by_jump.ensures.0 h),
+  λ x. elim (attackers c.args.self.now c.args.color c.args.square x) [
+    | inl line ↦ let no = c.if-attacked_in_line.ensures.1 line in cc
+    | inr jump ↦ c.attacked_by_jump.ensures.1 jump
+  ],
+)

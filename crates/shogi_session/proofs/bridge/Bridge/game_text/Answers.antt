@@ -1,7 +1,12 @@
 use Rattle.std.proofs.Common.{ap, sym}
 use Rattle.shogi_session.specs.Promises.{Session}
-use Rattle.shogi_session.proofs.BridgeRows.{text_none, text_told}
+use Rattle.shogi_session.proofs.BridgeRows.{text_none, text_offered, text_told}
 use Rattle.shogi_session.proofs.bridge.Bridge.game_text.Goals as goal
+
+pub returns-in_ok-write-in-Agreeing : goal.returns-in_ok-write-in-Agreeing
+returns-in_ok-write-in-Agreeing c =
+    text_offered _ c.self.inside.phase c.in-Agreeing.offer _ (ap (λ (x : Session). x.state.client) (sym c.self.view_is)) c.in-Agreeing.is
+    c.in_ok-write-in-Agreeing.ensures.text
 
 pub returns-in_ok-write-in-InGame : goal.returns-in_ok-write-in-InGame
 returns-in_ok-write-in-InGame c =
@@ -9,4 +14,4 @@ returns-in_ok-write-in-InGame c =
     c.in_ok-write-in-InGame.ensures.text
 
 pub returns-in_default : goal.returns-in_default
-returns-in_default c = text_none _ c.self.inside.phase (ap (λ (x : Session). x.state.client) (sym c.self.view_is)) c.in_default.not-InGame
+returns-in_default c = text_none _ c.self.inside.phase (ap (λ (x : Session). x.state.client) (sym c.self.view_is)) c.in_default.not-Agreeing c.in_default.not-InGame

@@ -1,7 +1,7 @@
 use Rattle.shogi_board.specs.Squares.{place}
 use Rattle.shogi_board.proofs.Squares.{place-bound}
 use Rattle.shogi_board.proofs.Totals.{removed-within}
-use Rattle.shogi_board.proofs.setup.Setup.take_off.Goals as goal
+use Rattle.shogi_board.proofs.setup.Setup.clear.Goals as goal
 
 pub invariant_of-self : goal.invariant_of-self
 invariant_of-self c =

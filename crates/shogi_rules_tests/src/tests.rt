@@ -1,5 +1,7 @@
-use crate::{Line, Move, PlayFault, Rule, Verdict, after, first_legal, in_check, judge, laws};
 use shogi_board::{Color, Kind, OutOfMemory, Position, Setup, Square};
+use shogi_rules::{
+    Line, Move, PlayFault, Rule, Verdict, after, first_legal, in_check, judge, laws,
+};
 use std::alloc::AllocGlobal;
 use std::test::Fail;
 

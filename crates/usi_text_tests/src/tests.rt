@@ -1,12 +1,12 @@
-use crate::{
-    EngineWord, SfenFault, UsiFault, move_text, position_line, read_engine_line, read_move,
-    read_position_line, read_sfen, write_sfen,
-};
 use arrayvec::ArrayString;
 use shogi_board::{Color, Kind, OutOfMemory, Piece, Position, Setup, SetupFault, Square};
 use shogi_rules::{Line, Move, Rule, judge};
 use std::process::Abort;
 use std::test::Fail;
+use usi_text::{
+    EngineWord, SfenFault, UsiFault, move_text, position_line, read_engine_line, read_move,
+    read_position_line, read_sfen, write_sfen,
+};
 
 // The square of two digits.
 fn square(digits: u8) -> Result<Square, Fail> {

@@ -1,4 +1,6 @@
-use crate::{Color, Hand, Kind, Piece, Position, Setup, SetupFault, Square, attacked, reaches};
+use shogi_board::{
+    Color, Hand, Kind, Piece, Position, Setup, SetupFault, Square, attacked, reaches,
+};
 use std::collections::BTreeMap;
 use std::test::Fail;
 

@@ -1,0 +1,200 @@
+-- Who attacks a square is seen from it: in one of eight directions, or a knight's jump away.
+use Rattle.std.proofs.Common.{◌≡◌, ℕ, ◌+◌, ◌-◌, ◌*◌, ◌<◌, ◌≤◌, ◌⊎◌, inl, inr, List, [], ◌∷◌, ◌++◌, Any, get_or, length, None, Option, true, is_some, arith, ap, subst, ◌∙◌}
+use Rattle.std.proofs.lemmas.Bool.{cases_lt}
+use Rattle.std.proofs.lemmas.List.{get_or_default}
+use Rattle.shogi_board.specs.Attackers.{IsAttackedByJump, IsAttackedInLine}
+use Rattle.shogi_board.specs.Cells.{Cells, at}
+use Rattle.shogi_board.specs.Moves.{IsNear, IsRay, diagonals, orthogonals, rays, steps, turned_for}
+use Rattle.shogi_board.specs.Pieces.{opponent}
+use Rattle.shogi_board.specs.Reach.{Attack, Attacked, InSight, IsClear}
+use Rattle.shogi_board.specs.Squares.{IsAway}
+use Rattle.shogi_board.specs.declared.color.Color.{Color}
+use Rattle.shogi_board.specs.declared.color.Color.TheVariants.{Black, White}
+use Rattle.shogi_board.specs.declared.direction.Direction.{Direction}
+use Rattle.shogi_board.specs.declared.kind.Kind.{Kind}
+use Rattle.shogi_board.specs.declared.kind.Kind.TheVariants.{Pawn, Lance, Knight, Silver, Gold, Bishop, Rook, King, ProPawn, ProLance, ProKnight, ProSilver, Horse, Dragon}
+use Rattle.shogi_board.specs.declared.square.Square.{Square}
+use Rattle.shogi_board.proofs.Moves.{near-ray, near-step}
+use Rattle.shogi_board.proofs.OneOf.{OneOf, any-of, one-of}
+use Rattle.shogi_board.proofs.Sight.{too-far}
+use Rattle.shogi_board.proofs.Squares.{away-same}
+
+-- 1. The way back
+back-one : (x y n f g : ℕ) → f + g ≡ 4 → y + n * 2 ≡ x + n * f → x + n * 2 ≡ y + n * g
+back-one x y n f g s h = let e : n * (f + g) ≡ n * 4 = ap (λ m. n * m) s in omega (arith, e)
+
+back-part : (x y z m k f g : ℕ) → f + g ≡ 4 → y + (m + k) * 2 ≡ x + (m + k) * f → z + k * 2 ≡ y + k * g → z + m * 2 ≡ x + m * f
+back-part x y z m k f g s h j = let e : k * (f + g) ≡ k * 4 = ap (λ i. k * i) s in omega (arith, e)
+
+-- both sides' views of a direction are each other's way back
+both-ways : (color : Color) (d : Direction) → IsNear d
+    → ((turned_for (opponent color) d).files + (turned_for color d).files ≡ 4) × ((turned_for (opponent color) d).ranks + (turned_for color d).ranks ≡ 4)
+both-ways Black d near =
+    let files : d.files ≤ 4 = near.0 in
+    let ranks : d.ranks ≤ 4 = near.1 in
+    (omega arith, omega arith)
+both-ways White d near =
+    let files : d.files ≤ 4 = near.0 in
+    let ranks : d.ranks ≤ 4 = near.1 in
+    (omega arith, omega arith)
+
+back : (a s : Square) (color : Color) (d : Direction) (n : ℕ) → IsNear d → IsAway a (turned_for (opponent color) d) n s → IsAway s (turned_for color d) n a
+back a s color d n near away =
+    let ways = both-ways color d near in (
+      back-one a.file s.file n (turned_for (opponent color) d).files (turned_for color d).files ways.0 away.0,
+      back-one a.rank s.rank n (turned_for (opponent color) d).ranks (turned_for color d).ranks ways.1 away.1,
+    )
+
+between : (a s t : Square) (color : Color) (d : Direction) (m k : ℕ) → IsNear d → IsAway a (turned_for (opponent color) d) (m + k) s → IsAway s (turned_for color d) k t
+    → IsAway a (turned_for (opponent color) d) m t
+between a s t color d m k near away there =
+    let ways = both-ways color d near in (
+      back-part a.file s.file t.file m k (turned_for (opponent color) d).files (turned_for color d).files ways.0 away.0 there.0,
+      back-part a.rank s.rank t.rank m k (turned_for (opponent color) d).ranks (turned_for color d).ranks ways.1 away.1 there.1,
+    )
+
+sight-back : (cells : Cells) (a s : Square) (color : Color) (d : Direction) → IsNear d → InSight cells a (turned_for (opponent color) d) s → InSight cells s (turned_for color d) a
+sight-back cells a s color d near sight = record {
+  distance = sight.distance;
+  some = sight.some;
+  away = back a s color d sight.distance near sight.away;
+  clear = λ k t low high there.
+      let parts : sight.distance ≡ (sight.distance - k) + k = omega arith in
+      let whole : IsAway a (turned_for (opponent color) d) ((sight.distance - k) + k) s = subst (λ n. IsAway a (turned_for (opponent color) d) n s) parts sight.away in
+      sight.clear (sight.distance - k) t (omega arith) (omega arith) (between a s t color d (sight.distance - k) k near whole there);
+}
+
+-- 2. The directions of a piece
+in-front : (P : Direction → Type 0) (xs ys : List Direction) → OneOf P xs → OneOf P (xs ++ ys)
+in-front P [] ys h = elim h [ ]
+in-front P (x ∷ xs) ys (inl h) = inl h
+in-front P (x ∷ xs) ys (inr h) = inr (in-front P xs ys h)
+
+behind : (P : Direction → Type 0) (xs ys : List Direction) → OneOf P ys → OneOf P (xs ++ ys)
+behind P [] ys h = h
+behind P (x ∷ xs) ys h = inr (behind P xs ys h)
+
+ray-line : (P : Direction → Type 0) (kind : Kind) → OneOf P (rays kind) → OneOf P (steps King)
+ray-line P Lance (inl h) = inl h
+ray-line P Lance (inr h) = elim h [ ]
+ray-line P Bishop h = behind P orthogonals diagonals h
+ray-line P Rook h = in-front P orthogonals diagonals h
+ray-line P Horse h = behind P orthogonals diagonals h
+ray-line P Dragon h = in-front P orthogonals diagonals h
+ray-line P Pawn h = elim h [ ]
+ray-line P Knight h = elim h [ ]
+ray-line P Silver h = elim h [ ]
+ray-line P Gold h = elim h [ ]
+ray-line P King h = elim h [ ]
+ray-line P ProPawn h = elim h [ ]
+ray-line P ProLance h = elim h [ ]
+ray-line P ProKnight h = elim h [ ]
+ray-line P ProSilver h = elim h [ ]
+
+gold-line : (P : Direction → Type 0) → OneOf P (steps Gold) → OneOf P (steps King)
+gold-line P (inl h) = inl h
+gold-line P (inr (inl h)) = inr (inl h)
+gold-line P (inr (inr (inl h))) = inr (inr (inl h))
+gold-line P (inr (inr (inr (inl h)))) = inr (inr (inr (inl h)))
+gold-line P (inr (inr (inr (inr (inl h))))) = inr (inr (inr (inr (inl h))))
+gold-line P (inr (inr (inr (inr (inr (inl h)))))) = inr (inr (inr (inr (inr (inl h)))))
+gold-line P (inr (inr (inr (inr (inr (inr h)))))) = elim h [ ]
+
+step-line : (P : Direction → Type 0) (kind : Kind) → OneOf P (steps kind) → OneOf P (steps King) ⊎ OneOf P (steps Knight)
+step-line P Pawn (inl h) = inl (inl h)
+step-line P Pawn (inr h) = elim h [ ]
+step-line P Knight h = inr h
+step-line P Silver (inl h) = inl (inl h)
+step-line P Silver (inr h) = inl (behind P orthogonals diagonals h)
+step-line P Gold h = inl (gold-line P h)
+step-line P King h = inl h
+step-line P ProPawn h = inl (gold-line P h)
+step-line P ProLance h = inl (gold-line P h)
+step-line P ProKnight h = inl (gold-line P h)
+step-line P ProSilver h = inl (gold-line P h)
+step-line P Horse h = inl (in-front P orthogonals diagonals h)
+step-line P Dragon h = inl (behind P orthogonals diagonals h)
+step-line P Lance h = elim h [ ]
+step-line P Bishop h = elim h [ ]
+step-line P Rook h = elim h [ ]
+
+-- 3. Attackers
+-- one step away nothing lies between
+next-to : (cells : Cells) (a s : Square) (d : Direction) → IsAway s d 1 a → InSight cells s d a
+next-to cells a s d away = record { distance = 1; some = omega arith; away = away; clear = λ k t low high there. absurd (omega arith) }
+
+stepped : (cells : Cells) (color : Color) (a s : Square) → Attack cells color a s → (kind : Kind) → Any (λ d. IsAway a (turned_for (opponent color) d) 1 s) (steps kind)
+    → IsAttackedInLine cells color s ⊎ IsAttackedByJump cells color s
+stepped cells color a s attack kind step =
+    let away : Any (λ d. IsAway s (turned_for color d) 1 a) (steps kind) =
+    (step.0, step.1, step.2, step.3, back a s color step.1 1 (near-step kind step.0 step.1 step.2 step.3) step.4) in
+    elim (step-line (λ d. IsAway s (turned_for color d) 1 a) kind (one-of (λ d. IsAway s (turned_for color d) 1 a) (steps kind) away)) [
+      | inl h ↦
+          let found = any-of (λ d. IsAway s (turned_for color d) 1 a) (steps King) h in
+          inl (found.0, found.1, found.2, found.3, (a, next-to cells a s (turned_for color found.1) found.4, attack))
+      | inr h ↦
+          let found = any-of (λ d. IsAway s (turned_for color d) 1 a) (steps Knight) h in
+          inr (found.0, found.1, found.2, found.3, (a, found.4, attack))
+    ]
+
+slid : (cells : Cells) (color : Color) (a s : Square) → Attack cells color a s → (kind : Kind) → Any (λ d. InSight cells a (turned_for (opponent color) d) s) (rays kind)
+    → IsAttackedInLine cells color s
+slid cells color a s attack kind slide =
+    let sight : Any (λ d. InSight cells s (turned_for color d) a) (rays kind) =
+    (slide.0, slide.1, slide.2, slide.3, sight-back cells a s color slide.1 (near-ray kind slide.0 slide.1 slide.2 slide.3) slide.4) in
+    let found = any-of (λ d. InSight cells s (turned_for color d) a) (steps King)
+    (ray-line (λ d. InSight cells s (turned_for color d) a) kind (one-of (λ d. InSight cells s (turned_for color d) a) (rays kind) sight)) in
+    (found.0, found.1, found.2, found.3, (a, found.4, attack))
+
+pub attackers : (cells : Cells) (color : Color) (s : Square) → Attacked cells color s → IsAttackedInLine cells color s ⊎ IsAttackedByJump cells color s
+attackers cells color s attacked =
+    let a = attacked.0 in
+    let attack = attacked.1 in
+    let mover = attack.reach.mover in
+    elim attack.reach.moves [
+      | inl step ↦ stepped cells color a s attack mover.kind (subst (λ x. Any (λ d. IsAway a (turned_for x d) 1 s) (steps mover.kind)) attack.enemy step)
+      | inr slide ↦ inl (slid cells color a s attack mover.kind (subst (λ x. Any (λ d. InSight cells a (turned_for x d) s) (rays mover.kind)) attack.enemy slide))
+    ]
+
+pub in-line : (cells : Cells) (color : Color) (s : Square) → IsAttackedInLine cells color s → Attacked cells color s
+in-line cells color s h = (h.4.0, h.4.2)
+
+pub by-jump : (cells : Cells) (color : Color) (s : Square) → IsAttackedByJump cells color s → Attacked cells color s
+by-jump cells color s h = (h.4.0, h.4.2)
+
+-- 4. Loops
+pub taken-there : {A : Type 0} (found cell : Option A) → found ≡ cell → true ≡ is_some found → cell ≡ None → ⊥
+taken-there {A = A} found cell same some none = let no : true ≡ is_some {T = A} None = some ∙ ap is_some (same ∙ none) in cc
+
+pub at-index : (P : Direction → Type 0) (xs : List Direction) (n : ℕ) (e : Direction) → n < length xs → P (get_or xs n e) → Any P xs
+at-index P xs n e lt h = (n, get_or xs n e, lt, get_or_default xs n (get_or xs n e) e lt, h)
+
+pub clear-more : (cells : Cells) (a : Square) (d : Direction) (n : ℕ) → IsClear cells a d n → ((s : Square) → IsAway a d n s → at cells s ≡ None) → IsClear cells a d (n + 1)
+clear-more cells a d n clear empty k s low high away =
+    elim (cases_lt k n) [
+      | inl lt ↦ clear k s low lt away
+      | inr ge ↦ let e : k ≡ n = omega arith in let there : IsAway a d n s = rw e at away in empty s there
+    ]
+
+-- what is in sight behind clear squares is the piece that stands there
+pub first-one : (cells : Cells) (color : Color) (s a b : Square) (d : Direction) (n : ℕ) → 1 ≤ n → IsClear cells s d n → IsAway s d n b → (at cells b ≡ None → ⊥)
+    → InSight cells s d a → Attack cells color a s → a ≡ b
+first-one cells color s a b d n some clear here taken sight attack =
+    elim (cases_lt sight.distance n) [
+      | inl lt ↦ let none = clear sight.distance a sight.some lt sight.away in let stands = attack.reach.stands in cc
+      | inr ge ↦ elim (cases_lt n sight.distance) [
+        | inl lt ↦ absurd (taken (sight.clear n b some lt here))
+        | inr le ↦
+            let e : sight.distance ≡ n = omega arith in
+            let there : IsAway s d n a = subst (λ k. IsAway s d k a) e sight.away in
+            away-same s a b d n there here
+      ]
+    ]
+
+-- where all squares are clear none is in sight
+pub none-there : (cells : Cells) (color : Color) (s a : Square) (d : Direction) (n : ℕ) → IsRay d → 9 ≤ n → IsClear cells s d n → InSight cells s d a → Attack cells color a s → ⊥
+none-there cells color s a d n ray far clear sight attack =
+    elim (cases_lt sight.distance n) [
+      | inl lt ↦ let none = clear sight.distance a sight.some lt sight.away in let stands = attack.reach.stands in cc
+      | inr ge ↦ too-far s a d sight.distance ray (omega arith) sight.away
+    ]
