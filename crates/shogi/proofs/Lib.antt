@@ -1,4 +1,5 @@
 pub mod Coming
+pub mod CommandNames
 pub mod Cutting
 pub mod Hearing
 pub mod Playing

@@ -1,6 +1,6 @@
 //! A bridge, and the lines that come and go between it, its engine and its server.
 
-ghost use Rattle.std.specs.Prelude.{◌≡◌, ◌⊎◌, [], true, false, IsErrOf, IsTrue, IfErr, IfOk, OnOk, OnErr};
+ghost use Rattle.std.specs.Prelude.{◌≡◌, ◌⊎◌, ◌↔◌, [], true, false, IsErrOf, IsTrue, IfErr, IfOk, OnOk, OnErr};
 ghost use Rattle.csa_text.specs.Lines.{HasNoLineEnd};
 ghost use Rattle.shogi.specs.Plays.{Delivers, HearsNext, Played, Sends, end_of, event_from, seat_for};
 ghost use Rattle.shogi_session.specs.Promises.{HoldsLine, event_of};
@@ -183,7 +183,7 @@ fn deliver<E: Ends>(
 }
 
 fn is_empty(lines: &[u8]) -> bool
-    ensures none { result ≡ true → lines.now ≡ [] }
+    ensures { IsTrue result ↔ (lines.now ≡ []) }
 {
     lines.is_empty()
 }

@@ -1,15 +1,21 @@
 //! The programs that `play` starts.
 
-ghost use Rattle.std.specs.Prelude.{◌≡◌, ◌⊎◌, IfErr, is_some, true};
-ghost use Rattle.std.specs.Process.{child_status};
+ghost use Rattle.std.specs.Prelude.{◌≡◌, ◌⊎◌, [], ◌∷◌, IfErr, IfOk, MatchOption, codes, decimal, is_some, true};
+ghost use Rattle.std.specs.Process.{child_status, command_args, command_program};
 
-use crate::fault::Fault;
+use crate::fault::{Fault, memory_or};
 use crate::incoming::Incoming;
 use shogi_session::SessionFault;
-use std::alloc::Global;
+use std::alloc::{AllocError, Global};
 use std::process::{Child, Command, OpenProcess, Processes, Stdio};
 use std::thread;
 use std::time::{Clock, Duration};
+
+/// The server is not there any more.
+pub const SERVER_GONE: Fault = Fault::Session(SessionFault::ServerGone);
+
+/// The engine is not there any more.
+pub const ENGINE_GONE: Fault = Fault::Session(SessionFault::EngineGone);
 
 // How often it is looked whether a child has ended, and how long it has each time: ten seconds in all.
 const LOOKS: u32 = 1000;
@@ -25,18 +31,33 @@ pub fn start_server<R: Processes + AllocGlobal>(
 ) -> Result<Child<R::Started>, Fault>
     ensures faults { IfErr result (λ fault. (fault ≡ Fault.Session SessionFault.ServerGone) ⊎ (fault ≡ Fault.OutOfMemory)) }
 {
-    let mut command = Command::new(rt.alloc(), program)?;
-    let max_moves = format!(in rt.alloc(); "{max_moves}")?;
-    for word in ["serve", "--port", "0", "--max", max_moves.as_str()] {
-        command.arg(word)?;
-    }
+    let mut command = server_command(rt.alloc(), program, max_moves)?;
     command.stdin(Stdio::null());
     command.stdout(Stdio::piped());
     command.stderr(Stdio::null());
     match command.spawn(rt) {
         Ok(child) => Ok(child),
-        Err(_) => Err(Fault::Session(SessionFault::ServerGone)),
+        Err(error) => Err(memory_or(error.kind(), SERVER_GONE)),
     }
+}
+
+// The server and its words.
+fn server_command(
+    alloc: Global,
+    program: &str,
+    max_moves: u32,
+) -> Result<Command<Global>, AllocError>
+    ensures program { IfOk result (λ c. command_program c ≡ program.now) }
+    ensures words { IfOk result (λ c. command_args c ≡ codes "serve" ∷ codes "--port" ∷ codes "0" ∷ codes "--max" ∷ decimal max_moves ∷ []) }
+{
+    let mut command = Command::new(alloc, program)?;
+    let max_moves = format!(in alloc; "{max_moves}")?;
+    command.arg("serve")?;
+    command.arg("--port")?;
+    command.arg("0")?;
+    command.arg("--max")?;
+    command.arg(max_moves.as_str())?;
+    Ok(command)
 }
 
 /// Starts the engine, with that word if there is one. `B5 EngineGone` where it cannot be started.
@@ -47,17 +68,30 @@ pub fn start_engine<R: Processes + AllocGlobal>(
 ) -> Result<Child<R::Started>, Fault>
     ensures faults { IfErr result (λ fault. (fault ≡ Fault.Session SessionFault.EngineGone) ⊎ (fault ≡ Fault.OutOfMemory)) }
 {
-    let mut command = Command::new(rt.alloc(), program)?;
-    if let Some(word) = word {
-        command.arg(word)?;
-    }
+    let mut command = engine_command(rt.alloc(), program, word)?;
     command.stdin(Stdio::piped());
     command.stdout(Stdio::piped());
     command.stderr(Stdio::null());
     match command.spawn(rt) {
         Ok(child) => Ok(child),
-        Err(_) => Err(Fault::Session(SessionFault::EngineGone)),
+        Err(error) => Err(memory_or(error.kind(), ENGINE_GONE)),
     }
+}
+
+// The engine, and its word if there is one.
+fn engine_command(
+    alloc: Global,
+    program: &str,
+    word: Option<&str>,
+) -> Result<Command<Global>, AllocError>
+    ensures program { IfOk result (λ c. command_program c ≡ program.now) }
+    ensures words { IfOk result (λ c. MatchOption word.entry (command_args c ≡ []) (λ w. command_args c ≡ w.now ∷ [])) }
+{
+    let mut command = Command::new(alloc, program)?;
+    if let Some(word) = word {
+        command.arg(word)?;
+    }
+    Ok(command)
 }
 
 /// The lines of the child's standard output, or the fault where it has none to be read.

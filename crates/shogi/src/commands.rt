@@ -8,9 +8,9 @@ mod play;
 mod serve;
 mod usi;
 
-ghost use Rattle.std.specs.Prelude.{◌≢◌, IfErr, IsErrOf};
-ghost use Rattle.shogi.specs.Words.{IsNoCommand};
-ghost use Rattle.clap.specs.Words.{subcommand_name_of};
+ghost use Rattle.std.specs.Prelude.{◌≡◌, ◌≢◌, [], IfErr, IfOk, IsErrOf};
+ghost use Rattle.shogi.specs.Words.{IsNoCommand, commands};
+ghost use Rattle.clap.specs.Words.{subcommand_name_of, subcommand_names};
 
 use crate::fault::Fault;
 use clap::{ArgMatches, Command};
@@ -21,12 +21,10 @@ use std::rt::Files;
 use std::time::Clock;
 
 /// The program's whole command line.
-pub fn all<'a>(alloc: Global) -> Result<Command<'a>, AllocError> {
-    Command::new(alloc, "shogi")
-        .about("Reads, checks and rewrites shogi records")
-        .version("0.1.0")
-        .propagate_version(true)
-        .subcommand_required(true)
+pub fn all<'a>(alloc: Global) -> Result<Command<'a>, AllocError>
+    ensures { IfOk result (λ c. subcommand_names c ≡ commands) }
+{
+    program(alloc)
         .subcommand(check::command(alloc)?)?
         .subcommand(normal::command(alloc)?)?
         .subcommand(usi::command(alloc)?)?
@@ -34,6 +32,17 @@ pub fn all<'a>(alloc: Global) -> Result<Command<'a>, AllocError> {
         .subcommand(engine::command(alloc))?
         .subcommand(serve::command(alloc)?)?
         .subcommand(play::command(alloc)?)
+}
+
+// The program, without its commands.
+fn program<'a>(alloc: Global) -> Command<'a>
+    ensures none { subcommand_names result ≡ [] }
+{
+    Command::new(alloc, "shogi")
+        .about("Reads, checks and rewrites shogi records")
+        .version("0.1.0")
+        .propagate_version(true)
+        .subcommand_required(true)
 }
 
 /// Runs the command that the words named; `is_terminal` says whether standard error is one.

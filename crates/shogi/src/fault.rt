@@ -84,8 +84,8 @@ impl Fault {
     }
 }
 
-// Want of memory, or else the other fault.
-fn memory_or(kind: ErrorKind, other: Fault) -> Fault
+/// Want of memory, or else the other fault.
+pub fn memory_or(kind: ErrorKind, other: Fault) -> Fault
     ensures memory { kind ≡ ErrorKind.OutOfMemory → result ≡ Fault.OutOfMemory }
     ensures other { kind ≢ ErrorKind.OutOfMemory → result ≡ other }
 {

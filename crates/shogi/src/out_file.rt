@@ -2,7 +2,7 @@
 
 ghost use Rattle.std.specs.Prelude.{◌≡◌, ◌⊎◌, IfErr};
 
-use crate::fault::Fault;
+use crate::fault::{Fault, memory_or};
 use crate::streams;
 use std::fs;
 use std::fs::{File, OpenFile, Permissions};
@@ -13,7 +13,7 @@ use std::rt::Files;
 const NAMES: u32 = 100;
 
 /// Writes the text in place of what stands in the file. It is written beside it and then renamed, so that what stood
-/// there is lost only for the whole text; a device or a pipe is written to.
+/// there is lost only for the whole text; a link is followed, and a device or a pipe is written to.
 ///
 /// `Fault::Write` where that cannot be.
 pub fn replace<R: Files + AllocGlobal>(rt: &R, path: &str, text: &[u8]) -> Result<(), Fault>
@@ -21,16 +21,33 @@ pub fn replace<R: Files + AllocGlobal>(rt: &R, path: &str, text: &[u8]) -> Resul
 {
     match fs::metadata(rt, path) {
         Ok(there) if there.is_file() => {
-            let Ok(target) = fs::canonicalize(rt, path) else {
-                return Err(Fault::Write);
-            };
-            rename_over(rt, target.as_str(), text, Some(there.permissions()))
+            let permissions = Some(there.permissions());
+            if !is_link(rt, path) {
+                return rename_over(rt, path, text, permissions);
+            }
+            match fs::canonicalize(rt, path) {
+                Ok(target) => rename_over(rt, target.as_str(), text, permissions),
+                Err(error) => Err(memory_or(error.kind(), Fault::Write)),
+            }
         }
-        Ok(_) => match fs::create(rt, path) {
-            Ok(mut file) => streams::write_all(&mut file, text),
-            Err(_) => Err(Fault::Write),
-        },
+        Ok(_) => write_to(rt, path, text),
+        // a link to a file that is not there yet
+        Err(_) if is_link(rt, path) => write_to(rt, path, text),
         Err(_) => rename_over(rt, path, text, None),
+    }
+}
+
+fn is_link<R: Files>(rt: &R, path: &str) -> bool {
+    fs::symlink_metadata(rt, path).is_ok_and(|there| there.is_symlink())
+}
+
+// Writes to what the path leads to.
+fn write_to<R: Files>(rt: &R, path: &str, text: &[u8]) -> Result<(), Fault>
+    ensures faults { IfErr result (λ fault. fault ≡ Fault.Write) }
+{
+    match fs::create(rt, path) {
+        Ok(mut file) => streams::write_all(&mut file, text),
+        Err(_) => Err(Fault::Write),
     }
 }
 

@@ -28,6 +28,13 @@ pub fn open<R: Files>(rt: &R, path: &str) -> Result<R::File, Fault>
     }
 }
 
+/// A command of that name: what it is, and an example of it.
+pub fn named<'a>(alloc: Global, name: &'a str, about: &'a str, example: &'a str) -> Command<'a>
+    ensures name { (app_of result).top.name ≡ name.now }
+{
+    Command::new(alloc, name).about(about).after_help(example)
+}
+
 /// A command that reads FILE, a word that may be absent: what it is, an example of it, and what FILE is.
 pub fn command<'a>(
     alloc: Global,
@@ -38,10 +45,7 @@ pub fn command<'a>(
 ) -> Result<Command<'a>, AllocError>
     ensures name { IfOk result (λ c. (app_of c).top.name ≡ name.now) }
 {
-    Command::new(alloc, name)
-        .about(about)
-        .after_help(example)
-        .arg(Arg::new(alloc, "FILE").help(help))
+    named(alloc, name, about, example).arg(Arg::new(alloc, "FILE").help(help))
 }
 
 /// The record of the named file, or of standard input where none is named or the name is `-`.

@@ -1,6 +1,7 @@
 //! `shogi csa [FILE]`: the canonical text of a USI position line.
 
-ghost use Rattle.std.specs.Prelude.{◌≡◌, ◌≢◌, ◌<◌, ◌≤◌, length, IfOk, IfErr, codes};
+ghost use Rattle.std.specs.Prelude.{◌≡◌, ◌≢◌, ◌<◌, ◌≤◌, length, None, Some, IfOk, IfErr, IsErrOf, IsSome, OnOk, option_map, codes};
+ghost use Rattle.usi_text.specs.declared.fault.UsiFault.{UsiFault};
 ghost use Rattle.clap.specs.Words.{app_of};
 
 use crate::fault::Fault;
@@ -120,6 +121,8 @@ fn keep_next(
 
 // Keeps the first line; a second one is refused.
 fn keep_line(alloc: Global, first: &mut Option<Vec<u8>>, line: &[u8]) -> Result<(), Fault>
+    ensures first { OnOk result ((first.old ≡ None) × (option_map (λ text. text.items) first.new ≡ Some line.now)) }
+    ensures second { IsSome first.old → IsErrOf result (Fault.Usi UsiFault.BadLine) }
     ensures faults { IfErr result (λ fault. (fault ≢ Fault.WordsNotText) × (fault ≢ Fault.UnknownCommand)) }
 {
     if first.is_some() {

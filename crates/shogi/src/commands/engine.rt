@@ -4,8 +4,8 @@ ghost use Rattle.std.specs.Prelude.{◌≡◌, ◌≢◌, IfErr, codes};
 ghost use Rattle.clap.specs.Words.{app_of};
 
 use crate::fault::Fault;
-use crate::talk;
 use crate::wire::Exchange;
+use crate::{streams, talk};
 use clap::Command;
 use shogi_session::Sample;
 use std::alloc::Global;
@@ -18,11 +18,12 @@ pub const NAME: &str = "engine";
 pub fn command<'a>(alloc: Global) -> Command<'a>
     ensures name { (app_of result).top.name ≡ codes "engine" }
 {
-    Command::new(alloc, NAME)
-        .about("Answers USI lines as an engine that plays the first legal move")
-        .after_help(
-            "Example: shogi play --engine shogi --engine-arg engine --server shogi --out game.csa",
-        )
+    streams::named(
+        alloc,
+        NAME,
+        "Answers USI lines as an engine that plays the first legal move",
+        "Example: shogi play --engine shogi --engine-arg engine --server shogi --out game.csa",
+    )
 }
 
 /// Answers each line of standard input before the next one is read, until `quit` or the end of the input.

@@ -1,7 +1,8 @@
 //! `shogi serve`: a server on localhost, which plays one game with one client.
 
-ghost use Rattle.std.specs.Prelude.{◌≡◌, ◌≢◌, ◌≤◌, IfErr, IfOk};
-ghost use Rattle.shogi_session.specs.Host.{IsHostConfig};
+ghost use Rattle.std.specs.Prelude.{◌≡◌, ◌≢◌, ◌≤◌, true, false, Ok, Err, IfErr, IfOk, IsOk, IsErrOf, codes};
+ghost use Rattle.clap.specs.Words.{app_of};
+ghost use Rattle.shogi_session.specs.Host.{IsHostConfig, waiting};
 
 use crate::fault::Fault;
 use crate::wire::Exchange;
@@ -22,30 +23,35 @@ const MAX_MOVES: u32 = 10_000;
 const USUAL_MOVES: u32 = 256;
 
 /// The command, with `--port`, `--max` and `--white`.
-pub fn command<'a>(alloc: Global) -> Result<Command<'a>, AllocError> {
-    Command::new(alloc, NAME)
-        .about("Plays one game with one client, as a CSA server on localhost")
-        .after_help("Example: shogi serve --port 4081 --max 256")
-        .arg(
-            Arg::new(alloc, "port")
-                .long("port")
-                .value_name("N")
-                .help("The port to listen on, 0 to 65535; 0 is any free one [default: 0]")
-                .value_parser(value_parser!(u16)),
-        )?
-        .arg(
-            Arg::new(alloc, "max")
-                .long("max")
-                .value_name("N")
-                .help("The game ends after so many moves, 1 to 10000 [default: 256]")
-                .value_parser(value_parser!(u32).range(1..=10_000)),
-        )?
-        .arg(
-            Arg::new(alloc, "white")
-                .long("white")
-                .help("The client has white")
-                .action(ArgAction::SetTrue),
-        )
+pub fn command<'a>(alloc: Global) -> Result<Command<'a>, AllocError>
+    ensures name { IfOk result (λ c. (app_of c).top.name ≡ codes "serve") }
+{
+    streams::named(
+        alloc,
+        NAME,
+        "Plays one game with one client, as a CSA server on localhost",
+        "Example: shogi serve --port 4081 --max 256",
+    )
+    .arg(
+        Arg::new(alloc, "port")
+            .long("port")
+            .value_name("N")
+            .help("The port to listen on, 0 to 65535; 0 is any free one [default: 0]")
+            .value_parser(value_parser!(u16)),
+    )?
+    .arg(
+        Arg::new(alloc, "max")
+            .long("max")
+            .value_name("N")
+            .help("The game ends after so many moves, 1 to 10000 [default: 256]")
+            .value_parser(value_parser!(u32).range(1..=10_000)),
+    )?
+    .arg(
+        Arg::new(alloc, "white")
+            .long("white")
+            .help("The client has white")
+            .action(ArgAction::SetTrue),
+    )
 }
 
 /// Listens on localhost, prints `listening` and the port, and answers each line of the first client before the next one
@@ -62,7 +68,19 @@ pub fn run<R: Net<Listener = TcpListener, Stream = TcpStream> + Print + AllocGlo
     let client = accept(rt, words.get_one::<u16>("port").unwrap_or(0))?;
     let mut host = host_of(rt.alloc(), words)?;
     let mut wire = Exchange::new(&client, &client);
-    match talk::answer_all(rt.alloc(), &mut host, &mut wire) {
+    served(talk::answer_all(rt.alloc(), &mut host, &mut wire))
+}
+
+// What has become of a client whose lines were answered so: a session that is over, or not.
+fn served(answered: Result<bool, Fault>) -> Result<(), Fault>
+    requires { IfErr answered (λ fault. (fault ≢ Fault.WordsNotText) × (fault ≢ Fault.UnknownCommand)) }
+    ensures over { answered ≡ Ok true → IsOk result }
+    ensures gone { answered ≡ Ok false → IsErrOf result Fault.ClientGone }
+    ensures long { answered ≡ Err Fault.LongLine → IsErrOf result Fault.ClientLineTooLong }
+    ensures other { (fault : Fault) → answered ≡ Err fault → fault ≢ Fault.LongLine → IsErrOf result fault }
+    ensures faults { IfErr result (λ fault. (fault ≢ Fault.WordsNotText) × (fault ≢ Fault.UnknownCommand)) }
+{
+    match answered {
         Ok(true) => Ok(()),
         Ok(false) => Err(Fault::ClientGone),
         Err(Fault::LongLine) => Err(Fault::ClientLineTooLong),
@@ -91,7 +109,11 @@ fn accept<R: Net<Listener = TcpListener, Stream = TcpStream> + Print + AllocGlob
     }
 }
 
+// A host to which nothing has come.
 fn host_of(alloc: Global, words: &ArgMatches<'_>) -> Result<Host, Fault>
+    ensures names { IfOk result (λ host. (host.config.id.bytes ≡ codes "local") × (host.config.name.bytes ≡ codes "host")) }
+    ensures moves { IfOk result (λ host. (1 ≤ host.config.max_moves) × (host.config.max_moves ≤ 10000)) }
+    ensures state { IfOk result (λ host. host.state ≡ waiting) }
     ensures faults { IfErr result (λ fault. fault ≡ Fault.OutOfMemory) }
 {
     let config = HostConfig {

@@ -1,11 +1,15 @@
 //! `shogi usi [FILE]`: the position line of a record.
 
-ghost use Rattle.std.specs.Prelude.{◌≡◌, ◌≢◌, IfErr, IfOk, codes};
+ghost use Rattle.std.specs.Prelude.{◌≡◌, ◌≢◌, ◌++◌, ◌∷◌, [], ℕ, List, map, IfErr, IfOk, codes};
 ghost use Rattle.clap.specs.Words.{app_of};
+ghost use Rattle.csa_record.specs.Game.{move_of};
+ghost use Rattle.usi_text.specs.LineText.{LineText};
 
 use crate::fault::Fault;
 use crate::streams;
 use clap::{ArgMatches, Command};
+use csa_record::Record;
+use shogi_board::OutOfMemory;
 use std::alloc::{AllocError, Global};
 use std::io;
 use std::rt::Files;
@@ -26,7 +30,7 @@ pub fn command<'a>(alloc: Global) -> Result<Command<'a>, AllocError>
     )
 }
 
-/// Prints the position line of the record's start and moves, and LF.
+/// Prints the position line of the game's start and moves, and LF.
 pub fn run<R: Files + Input + Print + AllocGlobal>(
     rt: &R,
     words: &ArgMatches<'_>,
@@ -34,7 +38,15 @@ pub fn run<R: Files + Input + Print + AllocGlobal>(
     ensures faults { IfErr result (λ fault. (fault ≢ Fault.WordsNotText) × (fault ≢ Fault.UnknownCommand)) }
 {
     let record = streams::record(rt, words)?;
-    let mut line = usi_text::position_line(rt.alloc(), record.line())?;
+    let text = position_text(rt.alloc(), &record)?;
+    streams::write_all(&mut io::writer(rt), text.as_slice())
+}
+
+// The position line of the game's start and moves, and LF.
+fn position_text(alloc: Global, game: &Record) -> Result<Vec<u8>, OutOfMemory>
+    ensures { IfOk result (λ text. (line : List ℕ) × LineText game.now.start (map move_of game.now.moves) line × (text.items ≡ line ++ 10 ∷ [])) }
+{
+    let mut line = usi_text::position_line(alloc, game.line())?;
     line.push(b'\n')?;
-    streams::write_all(&mut io::writer(rt), line.as_slice())
+    Ok(line)
 }

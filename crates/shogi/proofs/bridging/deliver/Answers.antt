@@ -5,7 +5,7 @@ use Rattle.shogi.proofs.Playing.{same_step, steps_of}
 use Rattle.shogi.proofs.bridging.deliver.Goals as goal
 
 pub returns-then-is_empty-clause-delivered : goal.returns-then-is_empty-clause-delivered
-returns-then-is_empty-clause-delivered g c = no_lines (c.is_empty.ensures.none c.if-is_empty.true) refl refl
+returns-then-is_empty-clause-delivered g c = no_lines (c.is_empty.ensures.0 c.if-is_empty.true) refl refl
 
 pub returns-then-tell-clause-delivered : goal.returns-then-tell-clause-delivered
 returns-then-tell-clause-delivered g c = taken (c.tell.ensures.told c.if-tell.true) refl
