@@ -12,8 +12,8 @@ ghost use Rattle.std.specs.Prelude.{◌≡◌, ◌≢◌, [], IfErr, IfOk, IsErr
 ghost use Rattle.shogi.specs.Words.{IsNoCommand, commands};
 ghost use Rattle.clap.specs.Words.{subcommand_name_of, subcommand_names};
 
-use crate::fault::Fault;
 use clap::{ArgMatches, Command};
+use shogi_commands::Fault;
 use std::alloc::{AllocError, Global};
 use std::net::{Net, TcpListener, TcpStream};
 use std::process::Processes;
@@ -66,7 +66,7 @@ pub fn run<
         Some((normal::NAME, words)) => normal::run(rt, words),
         Some((usi::NAME, words)) => usi::run(rt, words),
         Some((csa::NAME, words)) => csa::run(rt, words),
-        Some((engine::NAME, _)) => engine::run(rt),
+        Some((engine::NAME, _)) => shogi_commands::engine::run(rt),
         Some((serve::NAME, words)) => serve::run(rt, words),
         Some((play::NAME, words)) => play::run(rt, words, is_terminal),
         _ => Err(Fault::UnknownCommand),

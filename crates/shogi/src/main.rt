@@ -1,19 +1,11 @@
-//! The program `shogi`: one command for each of its uses, each in a file of `commands`.
+//! The program `shogi`: one command for each of its uses, each in a file of `commands`, which `shogi_commands` does.
 #![tactic(auto)]
 
-mod bridging;
-mod children;
 mod commands;
-mod fault;
-mod incoming;
-mod out_file;
-mod progress;
-mod streams;
-mod talk;
 mod usage;
-mod wire;
+mod words;
 
-use fault::Fault;
+use shogi_commands::Fault;
 use std::io::IsTerminal;
 use std::net::{Net, TcpListener, TcpStream};
 use std::process::{ExitCode, Processes};

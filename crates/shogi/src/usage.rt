@@ -5,9 +5,9 @@ ghost use Rattle.std.specs.Prelude.{◌≡◌, ◌≢◌, ◌⊎◌, IfOk, IfErr
 ghost use Rattle.std.specs.Process.{exit_status};
 ghost use Rattle.clap.specs.Values.{kind_of};
 
-use crate::fault::{Fault, USAGE};
 use clap::Error;
 use clap::error::ErrorKind;
+use shogi_commands::{Fault, USAGE};
 use std::env;
 use std::process::ExitCode;
 use std::rt::Env;

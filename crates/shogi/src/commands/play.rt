@@ -1,40 +1,28 @@
 //! `shogi play`: an engine plays one game on a server, and the game's record is kept.
 
-ghost use Rattle.std.specs.Prelude.{◌≡◌, ◌≢◌, IfErr, IfOk, codes};
-ghost use Rattle.clap.specs.Words.{app_of};
-ghost use Rattle.shogi_session.specs.State.{first_state};
+ghost use Rattle.std.specs.Prelude.{◌≡◌, ◌≢◌, ℕ, List, IfErr, IfOk, None, Some, codes, false, option_map, true};
+ghost use Rattle.clap.specs.Words.{app_of, first_value, found_of, one_text};
 
-use crate::bridging::{Side, Sides, play};
-use crate::children::{ENGINE_GONE, SERVER_GONE};
 use crate::commands::serve;
-use crate::fault::Fault;
-use crate::incoming::{Heard, Incoming};
-use crate::progress::Progress;
-use crate::{children, out_file, streams};
-use arrayvec::ArrayString;
+use crate::words;
 use clap::{Arg, ArgAction, ArgMatches, Command, value_parser};
-use csa_record::{Why, read};
-use shogi_session::{Bridge, Config};
+use shogi_commands::play::Plan;
+use shogi_commands::{Fault, play};
 use std::alloc::{AllocError, Global};
-use std::io::{Eprint, Read, Write};
+use std::io::Eprint;
 use std::net::{Net, TcpListener, TcpStream};
 use std::process::Processes;
 use std::rt::Files;
 use std::time::Clock;
-use std::{io, str};
 
 /// The command's word.
 pub const NAME: &str = "play";
-
-const TOTAL_MS: u32 = 600_000;
-
-const BYOYOMI_MS: u32 = 10_000;
 
 /// The command, with the programs to start and the file to write.
 pub fn command<'a>(alloc: Global) -> Result<Command<'a>, AllocError>
     ensures name { IfOk result (λ c. (app_of c).top.name ≡ codes "play") }
 {
-    streams::named(
+    words::named(
         alloc,
         NAME,
         "Plays one game, an engine against a server, and writes its record",
@@ -83,10 +71,7 @@ fn program<'a>(alloc: Global, name: &'a str, help: &'a str) -> Arg<'a> {
         .required(true)
 }
 
-/// Starts the server and then the engine, plays their game, writes its record, and prints `played` and the number of its
-/// moves. The record is written also where the session failed, if a game was offered.
-///
-/// `Fault::Session` where the session failed, and `Fault::Write` where the record could not be written.
+/// Plays the game that the words plan; moves are shown where standard error is a terminal and the words do not say `--quiet`.
 pub fn run<
     R: Files
         + Net<Listener = TcpListener, Stream = TcpStream>
@@ -95,154 +80,29 @@ pub fn run<
         + Print
         + Eprint
         + AllocGlobal,
->(rt: &R, words: &ArgMatches<'_>, is_terminal: bool) -> Result<(), Fault>
+>(rt: &R, matches: &ArgMatches<'_>, is_terminal: bool) -> Result<(), Fault>
     ensures faults { IfErr result (λ fault. (fault ≢ Fault.WordsNotText) × (fault ≢ Fault.UnknownCommand)) }
 {
-    let program = words.get_str("server").unwrap_or_default();
-    let mut server = children::start_server(rt, program, serve::max_moves(words))?;
-    let mut told = children::lines_of(rt.alloc(), &mut server, SERVER_GONE);
-    let mut is_over = false;
-    let moves = match &mut told {
-        Ok(told) => play_on(rt, words, is_terminal, told, &mut is_over),
-        Err(fault) => Err(*fault),
-    };
-    let _ = children::end(rt, &mut server, is_over);
-    let line = format!(in rt.alloc(); "played {}\n", moves?)?;
-    streams::write_all(&mut io::writer(rt), line.as_bytes())
+    play::run(rt, &plan_of(matches, is_terminal))
 }
 
-// Plays on the server that tells its port: how many moves the game has. `is_over` is set where the session ended well.
-fn play_on<
-    R: Files
-        + Net<Listener = TcpListener, Stream = TcpStream>
-        + Processes
-        + Clock
-        + Eprint
-        + AllocGlobal,
-    T: Read + Drop,
->(
-    rt: &R,
-    words: &ArgMatches<'_>,
-    is_terminal: bool,
-    told: &mut Incoming<T>,
-    is_over: &mut bool,
-) -> Result<usize, Fault>
-    ensures faults { IfErr result (λ fault. (fault ≢ Fault.WordsNotText) × (fault ≢ Fault.UnknownCommand)) }
+// What the words plan.
+fn plan_of<'a>(matches: &ArgMatches<'a>, is_terminal: bool) -> Plan<'a>
+    ensures server { (text : List ℕ) → first_value (found_of matches.now) (codes "server") ≡ Some text → result.server.now ≡ text }
+    ensures engine { (text : List ℕ) → first_value (found_of matches.now) (codes "engine") ≡ Some text → result.engine.now ≡ text }
+    ensures word { option_map (λ s. s.now) result.engine_word ≡ first_value (found_of matches.now) (codes "engine-arg") }
+    ensures out { (text : List ℕ) → first_value (found_of matches.now) (codes "out") ≡ Some text → result.out.now ≡ text }
+    ensures usual { one_text (found_of matches.now) (codes "max") ≡ None → result.max_moves ≡ 256 }
+    ensures hidden { is_terminal ≡ false → result.is_shown ≡ false }
+    ensures quiet { one_text (found_of matches.now) (codes "quiet") ≡ Some (codes "true") → result.is_shown ≡ false }
+    ensures shown { is_terminal ≡ true → one_text (found_of matches.now) (codes "quiet") ≡ Some (codes "false") → result.is_shown ≡ true }
 {
-    let Some(port) = listening_port(told)? else {
-        return Err(SERVER_GONE);
-    };
-    let Ok(stream) = TcpStream::connect(rt, ("127.0.0.1", port)) else {
-        return Err(SERVER_GONE);
-    };
-    let program = words.get_str("engine").unwrap_or_default();
-    let mut engine = children::start_engine(rt, program, words.get_str("engine-arg"))?;
-    let mut lines = children::lines_of(rt.alloc(), &mut engine, ENGINE_GONE);
-    let moves = match (&mut lines, engine.stdin.take()) {
-        (Ok(lines), Some(input)) => play_with(
-            rt,
-            words,
-            is_terminal,
-            &stream,
-            (lines, input),
-            is_over,
-        ),
-        (Err(fault), _) => Err(*fault),
-        (_, None) => Err(ENGINE_GONE),
-    };
-    let _ = children::end(rt, &mut engine, *is_over);
-    moves
-}
-
-// The port that the server's first line names, or none where that is another line.
-fn listening_port<T: Read + Drop>(told: &mut Incoming<T>) -> Result<Option<u16>, Fault>
-    ensures faults { IfErr result (λ fault. fault ≡ Fault.OutOfMemory) }
-{
-    if told.hear()? != Heard::Line {
-        return Ok(None);
-    }
-    Ok(port_of(told.line()))
-}
-
-// The port of `listening` and a number of at most 65535.
-fn port_of(line: &[u8]) -> Option<u16> {
-    let digits = line.strip_prefix(b"listening ".as_slice())?;
-    if !digits.iter().all(|b| b.is_ascii_digit()) {
-        return None;
-    }
-    match str::from_utf8(digits) {
-        Ok(digits) => digits.parse().ok(),
-        Err(_) => None,
-    }
-}
-
-// Plays between the engine and the server, and writes the record: how many moves the game has. `is_over` is set where the
-// session ended well.
-fn play_with<R: Files + Eprint + AllocGlobal, T: Read + Drop, W: Write + Drop>(
-    rt: &R,
-    words: &ArgMatches<'_>,
-    is_terminal: bool,
-    stream: &TcpStream,
-    engine: (&mut Incoming<T>, W),
-    is_over: &mut bool,
-) -> Result<usize, Fault>
-    ensures faults { IfErr result (λ fault. (fault ≢ Fault.WordsNotText) × (fault ≢ Fault.UnknownCommand)) }
-{
-    let (lines, input) = engine;
-    let mut told = Incoming::new(rt.alloc(), stream)?;
-    let mut sides = Sides {
-        engine: Side {
-            lines,
-            writer: input,
-        },
-        server: Side {
-            lines: &mut told,
-            writer: stream,
-        },
-    };
-    let mut bridge = bridge_of(rt.alloc())?;
-    let mut progress = Progress::new(is_terminal && !words.get_flag("quiet"));
-    let played = play(rt, &mut bridge, &mut sides, &mut progress);
-    *is_over = played.is_ok();
-    let text = bridge.game_text()?;
-    let Some(text) = text else {
-        return match played {
-            Ok(()) => Ok(0),
-            Err(fault) => Err(fault),
-        };
-    };
-    out_file::replace(
-        rt,
-        words.get_str("out").unwrap_or_default(),
-        text.as_slice(),
-    )?;
-    played?;
-    moves_in(rt.alloc(), text.as_slice())
-}
-
-// A bridge to which nothing has happened.
-fn bridge_of(alloc: Global) -> Result<Bridge, Fault>
-    ensures login { IfOk result (λ bridge. (bridge.config.name.bytes ≡ codes "bridge") × (bridge.config.password.bytes ≡ codes "pw")) }
-    ensures clocks { IfOk result (λ bridge. (bridge.config.total_ms ≡ 600000) × (bridge.config.byoyomi_ms ≡ 10000)) }
-    ensures state { IfOk result (λ bridge. bridge.state ≡ first_state) }
-    ensures faults { IfErr result (λ fault. fault ≡ Fault.OutOfMemory) }
-{
-    let config = Config {
-        name: ArrayString::from("bridge").unwrap(),
-        password: ArrayString::from("pw").unwrap(),
-        total_ms: TOTAL_MS,
-        byoyomi_ms: BYOYOMI_MS,
-    };
-    Ok(Bridge::new(alloc, &config)?)
-}
-
-// How many moves a game text has.
-fn moves_in(alloc: Global, text: &[u8]) -> Result<usize, Fault>
-    ensures faults { IfErr result (λ fault. (fault ≢ Fault.WordsNotText) × (fault ≢ Fault.UnknownCommand)) }
-{
-    match read(alloc, text) {
-        Ok(record) => Ok(record.line().moves().len()),
-        Err(refusal) if refusal.why == Why::OutOfMemory => Err(Fault::OutOfMemory),
-        Err(refusal) => Err(Fault::Refused(refusal)),
+    Plan {
+        server: matches.get_str("server").unwrap_or_default(),
+        max_moves: serve::max_moves(matches),
+        engine: matches.get_str("engine").unwrap_or_default(),
+        engine_word: matches.get_str("engine-arg"),
+        out: matches.get_str("out").unwrap_or_default(),
+        is_shown: is_terminal && !matches.get_flag("quiet"),
     }
 }

@@ -1,18 +1,13 @@
 //! `shogi serve`: a server on localhost, which plays one game with one client.
 
-ghost use Rattle.std.specs.Prelude.{◌≡◌, ◌≢◌, ◌≤◌, true, false, Ok, Err, IfErr, IfOk, IsOk, IsErrOf, codes};
-ghost use Rattle.clap.specs.Words.{app_of};
-ghost use Rattle.shogi_session.specs.Host.{IsHostConfig, waiting};
+ghost use Rattle.std.specs.Prelude.{◌≡◌, ◌≢◌, ◌≤◌, IfErr, IfOk, None, Some, codes};
+ghost use Rattle.clap.specs.Words.{app_of, found_of, one_text};
 
-use crate::fault::Fault;
-use crate::wire::Exchange;
-use crate::{streams, talk};
-use arrayvec::ArrayString;
+use crate::words;
 use clap::{Arg, ArgAction, ArgMatches, Command, value_parser};
 use shogi_board::Color;
-use shogi_session::{Host, HostConfig};
+use shogi_commands::{Fault, serve};
 use std::alloc::{AllocError, Global};
-use std::io;
 use std::net::{Net, TcpListener, TcpStream};
 
 /// The command's word.
@@ -26,7 +21,7 @@ const USUAL_MOVES: u32 = 256;
 pub fn command<'a>(alloc: Global) -> Result<Command<'a>, AllocError>
     ensures name { IfOk result (λ c. (app_of c).top.name ≡ codes "serve") }
 {
-    streams::named(
+    words::named(
         alloc,
         NAME,
         "Plays one game with one client, as a CSA server on localhost",
@@ -54,86 +49,35 @@ pub fn command<'a>(alloc: Global) -> Result<Command<'a>, AllocError>
     )
 }
 
-/// Listens on localhost, prints `listening` and the port, and answers each line of the first client before the next one
-/// is read, until the game's session is over. Each move of the client takes 0 seconds.
-///
-/// `Fault::Read` where there is no socket to listen on, `Fault::ClientGone` where the client ends before the session,
-/// and `Fault::ClientLineTooLong` for a line of more than 65,536 bytes as soon as that is known.
+/// Plays one game with the first client on the port that the words name.
 pub fn run<R: Net<Listener = TcpListener, Stream = TcpStream> + Print + AllocGlobal>(
     rt: &R,
-    words: &ArgMatches<'_>,
+    matches: &ArgMatches<'_>,
 ) -> Result<(), Fault>
     ensures faults { IfErr result (λ fault. (fault ≢ Fault.WordsNotText) × (fault ≢ Fault.UnknownCommand)) }
 {
-    let client = accept(rt, words.get_one::<u16>("port").unwrap_or(0))?;
-    let mut host = host_of(rt.alloc(), words)?;
-    let mut wire = Exchange::new(&client, &client);
-    served(talk::answer_all(rt.alloc(), &mut host, &mut wire))
+    let port = matches.get_one::<u16>("port").unwrap_or(0);
+    serve::run(rt, port, client(matches), max_moves(matches))
 }
 
-// What has become of a client whose lines were answered so: a session that is over, or not.
-fn served(answered: Result<bool, Fault>) -> Result<(), Fault>
-    requires { IfErr answered (λ fault. (fault ≢ Fault.WordsNotText) × (fault ≢ Fault.UnknownCommand)) }
-    ensures over { answered ≡ Ok true → IsOk result }
-    ensures gone { answered ≡ Ok false → IsErrOf result Fault.ClientGone }
-    ensures long { answered ≡ Err Fault.LongLine → IsErrOf result Fault.ClientLineTooLong }
-    ensures other { (fault : Fault) → answered ≡ Err fault → fault ≢ Fault.LongLine → IsErrOf result fault }
-    ensures faults { IfErr result (λ fault. (fault ≢ Fault.WordsNotText) × (fault ≢ Fault.UnknownCommand)) }
+// The client's side.
+fn client(matches: &ArgMatches<'_>) -> Color
+    ensures black { one_text (found_of matches.now) (codes "white") ≡ Some (codes "false") → result ≡ Color.Black }
+    ensures white { one_text (found_of matches.now) (codes "white") ≡ Some (codes "true") → result ≡ Color.White }
 {
-    match answered {
-        Ok(true) => Ok(()),
-        Ok(false) => Err(Fault::ClientGone),
-        Err(Fault::LongLine) => Err(Fault::ClientLineTooLong),
-        Err(fault) => Err(fault),
+    if matches.get_flag("white") {
+        Color::White
+    } else {
+        Color::Black
     }
-}
-
-// Says on which port it listens, and waits for the first client.
-fn accept<R: Net<Listener = TcpListener, Stream = TcpStream> + Print + AllocGlobal>(
-    rt: &R,
-    port: u16,
-) -> Result<TcpStream, Fault>
-    ensures faults { IfErr result (λ fault. (fault ≢ Fault.WordsNotText) × (fault ≢ Fault.UnknownCommand)) }
-{
-    let Ok(listener) = TcpListener::bind(rt, ("127.0.0.1", port)) else {
-        return Err(Fault::Read);
-    };
-    let Ok(address) = listener.local_addr() else {
-        return Err(Fault::Read);
-    };
-    let line = format!(in rt.alloc(); "listening {}\n", address.port())?;
-    streams::write_all(&mut io::writer(rt), line.as_bytes())?;
-    match listener.accept() {
-        Ok((client, _)) => Ok(client),
-        Err(error) => Err(Fault::of_read(&error)),
-    }
-}
-
-// A host to which nothing has come.
-fn host_of(alloc: Global, words: &ArgMatches<'_>) -> Result<Host, Fault>
-    ensures names { IfOk result (λ host. (host.config.id.bytes ≡ codes "local") × (host.config.name.bytes ≡ codes "host")) }
-    ensures moves { IfOk result (λ host. (1 ≤ host.config.max_moves) × (host.config.max_moves ≤ 10000)) }
-    ensures state { IfOk result (λ host. host.state ≡ waiting) }
-    ensures faults { IfErr result (λ fault. fault ≡ Fault.OutOfMemory) }
-{
-    let config = HostConfig {
-        client: if words.get_flag("white") {
-            Color::White
-        } else {
-            Color::Black
-        },
-        max_moves: max_moves(words),
-        id: ArrayString::from("local").unwrap(),
-        name: ArrayString::from("host").unwrap(),
-    };
-    Ok(Host::new(alloc, &config)?)
 }
 
 /// How many moves the game may have; the command takes no other numbers.
-pub fn max_moves(words: &ArgMatches<'_>) -> u32
-    ensures { (1 ≤ result) × (result ≤ 10000) }
+pub fn max_moves(matches: &ArgMatches<'_>) -> u32
+    ensures within { (1 ≤ result) × (result ≤ 10000) }
+    ensures usual { one_text (found_of matches.now) (codes "max") ≡ None → result ≡ 256 }
 {
-    match words.get_one::<u32>("max") {
+    match matches.get_one::<u32>("max") {
         Some(moves) => moves.clamp(1, MAX_MOVES),
         None => USUAL_MOVES,
     }

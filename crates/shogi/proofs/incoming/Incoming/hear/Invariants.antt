@@ -1,5 +1,0 @@
-use Rattle.shogi.specs.Incoming.{GivesNoLine}
-use Rattle.shogi.proofs.incoming.Incoming.hear.Given as goal
-
-abbrev pub invariant-loop : goal.invariant-loop
-invariant-loop g l = GivesNoLine l.fn.self.bytes l.self.bytes

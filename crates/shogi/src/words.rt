@@ -1,0 +1,34 @@
+//! What the commands that read FILE have in common.
+
+ghost use Rattle.std.specs.Prelude.{◌≡◌, IfOk, codes, option_map};
+ghost use Rattle.clap.specs.Words.{app_of, first_value, found_of};
+
+use clap::{Arg, ArgMatches, Command};
+use std::alloc::{AllocError, Global};
+
+/// A command of that name: what it is, and an example of it.
+pub fn named<'a>(alloc: Global, name: &'a str, about: &'a str, example: &'a str) -> Command<'a>
+    ensures name { (app_of result).top.name ≡ name.now }
+{
+    Command::new(alloc, name).about(about).after_help(example)
+}
+
+/// A command that reads FILE, a word that may be absent: what it is, an example of it, and what FILE is.
+pub fn command<'a>(
+    alloc: Global,
+    name: &'a str,
+    about: &'a str,
+    example: &'a str,
+    help: &'a str,
+) -> Result<Command<'a>, AllocError>
+    ensures name { IfOk result (λ c. (app_of c).top.name ≡ name.now) }
+{
+    named(alloc, name, about, example).arg(Arg::new(alloc, "FILE").help(help))
+}
+
+/// FILE, where the words have it.
+pub fn file<'a>(matches: &ArgMatches<'a>) -> Option<&'a str>
+    ensures { option_map (λ s. s.now) result ≡ first_value (found_of matches.now) (codes "FILE") }
+{
+    matches.get_str("FILE")
+}

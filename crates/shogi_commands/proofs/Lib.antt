@@ -1,0 +1,5 @@
+pub mod Coming
+pub mod Cutting
+pub mod Hearing
+pub mod Playing
+pub mod Talks

@@ -1,0 +1,40 @@
+//! Whether a record is accepted, how many moves it has, and how it stands.
+
+ghost use Rattle.std.specs.Prelude.{◌≡◌, ◌≢◌, IfErr};
+ghost use Rattle.shogi_commands.specs.Words.{word_of};
+
+use crate::fault::Fault;
+use crate::streams;
+use shogi_board::Color;
+use shogi_rules::Verdict;
+use std::io;
+use std::rt::Files;
+
+/// Prints `accepted N V`: the number of moves of the record in the file, and the word for how its line stands. Where no
+/// file is named, or the name is `-`, standard input is read.
+///
+/// `Fault::Refused` where the record is refused, `Fault::Read` where it cannot be read, and `Fault::Write` where standard
+/// output does not take the line.
+pub fn run<R: Files + Input + Print + AllocGlobal>(rt: &R, file: Option<&str>) -> Result<(), Fault>
+    ensures faults { IfErr result (λ fault. (fault ≢ Fault.WordsNotText) × (fault ≢ Fault.UnknownCommand)) }
+{
+    let record = streams::record(rt, file)?;
+    let moves = record.line().moves().len();
+    let verdict = word(record.line().verdict());
+    let line = format!(in rt.alloc(); "accepted {moves} {verdict}\n")?;
+    streams::write_all(&mut io::writer(rt), line.as_bytes())
+}
+
+// How a line stands, in a word; of a perpetual check the sign of the side that lost.
+fn word(verdict: Verdict) -> &'static str
+    ensures { result.now ≡ word_of verdict }
+{
+    match verdict {
+        Verdict::Ongoing => "ongoing",
+        Verdict::Mate => "mate",
+        Verdict::NoMove => "no-move",
+        Verdict::Repetition => "repetition",
+        Verdict::Perpetual(Color::Black) => "perpetual+",
+        Verdict::Perpetual(Color::White) => "perpetual-",
+    }
+}

@@ -1,0 +1,186 @@
+//! An engine plays one game on a server, and the game's record is kept.
+
+ghost use Rattle.std.specs.Prelude.{◌≡◌, ◌≢◌, IfErr, IfOk, codes};
+ghost use Rattle.shogi_session.specs.State.{first_state};
+
+use crate::bridging::{Side, Sides, play};
+use crate::children::{ENGINE_GONE, SERVER_GONE};
+use crate::fault::Fault;
+use crate::incoming::{Heard, Incoming};
+use crate::progress::Progress;
+use crate::{children, out_file, streams};
+use arrayvec::ArrayString;
+use csa_record::{Why, read};
+use shogi_session::{Bridge, Config};
+use std::alloc::Global;
+use std::io::{Eprint, Read, Write};
+use std::net::{Net, TcpListener, TcpStream};
+use std::process::Processes;
+use std::rt::Files;
+use std::time::Clock;
+use std::{io, str};
+
+const TOTAL_MS: u32 = 600_000;
+
+const BYOYOMI_MS: u32 = 10_000;
+
+/// Which programs play, how long, and where their record goes.
+#[derive(Clone, Copy, Debug)]
+pub struct Plan<'a> {
+    /// The CSA server to start, with the words `serve --port 0 --max N`.
+    pub server: &'a str,
+    /// N, the most moves of the server's game.
+    pub max_moves: u32,
+    /// The USI engine to start.
+    pub engine: &'a str,
+    /// The one word that the engine is started with, if there is one.
+    pub engine_word: Option<&'a str>,
+    /// The file that the record is written to.
+    pub out: &'a str,
+    /// Whether moves are shown on standard error.
+    pub is_shown: bool,
+}
+
+/// Starts the server and then the engine, plays their game, writes its record, and prints `played` and the number of its
+/// moves. The record is written also where the session failed, if a game was offered.
+///
+/// `Fault::Session` where the session failed, and `Fault::Write` where the record could not be written.
+pub fn run<
+    R: Files
+        + Net<Listener = TcpListener, Stream = TcpStream>
+        + Processes
+        + Clock
+        + Print
+        + Eprint
+        + AllocGlobal,
+>(rt: &R, plan: &Plan<'_>) -> Result<(), Fault>
+    ensures faults { IfErr result (λ fault. (fault ≢ Fault.WordsNotText) × (fault ≢ Fault.UnknownCommand)) }
+{
+    let mut server = children::start_server(rt, plan.server, plan.max_moves)?;
+    let mut told = children::lines_of(rt.alloc(), &mut server, SERVER_GONE);
+    let mut is_over = false;
+    let moves = match &mut told {
+        Ok(told) => play_on(rt, plan, told, &mut is_over),
+        Err(fault) => Err(*fault),
+    };
+    let _ = children::end(rt, &mut server, is_over);
+    let line = format!(in rt.alloc(); "played {}\n", moves?)?;
+    streams::write_all(&mut io::writer(rt), line.as_bytes())
+}
+
+// Plays on the server that tells its port: how many moves the game has. `is_over` is set where the session ended well.
+fn play_on<
+    R: Files
+        + Net<Listener = TcpListener, Stream = TcpStream>
+        + Processes
+        + Clock
+        + Eprint
+        + AllocGlobal,
+    T: Read + Drop,
+>(rt: &R, plan: &Plan<'_>, told: &mut Incoming<T>, is_over: &mut bool) -> Result<usize, Fault>
+    ensures faults { IfErr result (λ fault. (fault ≢ Fault.WordsNotText) × (fault ≢ Fault.UnknownCommand)) }
+{
+    let Some(port) = listening_port(told)? else {
+        return Err(SERVER_GONE);
+    };
+    let Ok(stream) = TcpStream::connect(rt, ("127.0.0.1", port)) else {
+        return Err(SERVER_GONE);
+    };
+    let mut engine = children::start_engine(rt, plan.engine, plan.engine_word)?;
+    let mut lines = children::lines_of(rt.alloc(), &mut engine, ENGINE_GONE);
+    let moves = match (&mut lines, engine.stdin.take()) {
+        (Ok(lines), Some(input)) => play_with(rt, plan, &stream, (lines, input), is_over),
+        (Err(fault), _) => Err(*fault),
+        (_, None) => Err(ENGINE_GONE),
+    };
+    let _ = children::end(rt, &mut engine, *is_over);
+    moves
+}
+
+// The port that the server's first line names, or none where that is another line.
+fn listening_port<T: Read + Drop>(told: &mut Incoming<T>) -> Result<Option<u16>, Fault>
+    ensures faults { IfErr result (λ fault. fault ≡ Fault.OutOfMemory) }
+{
+    if told.hear()? != Heard::Line {
+        return Ok(None);
+    }
+    Ok(port_of(told.line()))
+}
+
+// The port of `listening` and a number of at most 65535.
+fn port_of(line: &[u8]) -> Option<u16> {
+    let digits = line.strip_prefix(b"listening ".as_slice())?;
+    if !digits.iter().all(|b| b.is_ascii_digit()) {
+        return None;
+    }
+    match str::from_utf8(digits) {
+        Ok(digits) => digits.parse().ok(),
+        Err(_) => None,
+    }
+}
+
+// Plays between the engine and the server, and writes the record: how many moves the game has. `is_over` is set where the
+// session ended well.
+fn play_with<R: Files + Eprint + AllocGlobal, T: Read + Drop, W: Write + Drop>(
+    rt: &R,
+    plan: &Plan<'_>,
+    stream: &TcpStream,
+    engine: (&mut Incoming<T>, W),
+    is_over: &mut bool,
+) -> Result<usize, Fault>
+    ensures faults { IfErr result (λ fault. (fault ≢ Fault.WordsNotText) × (fault ≢ Fault.UnknownCommand)) }
+{
+    let (lines, input) = engine;
+    let mut told = Incoming::new(rt.alloc(), stream)?;
+    let mut sides = Sides {
+        engine: Side {
+            lines,
+            writer: input,
+        },
+        server: Side {
+            lines: &mut told,
+            writer: stream,
+        },
+    };
+    let mut bridge = bridge_of(rt.alloc())?;
+    let mut progress = Progress::new(plan.is_shown);
+    let played = play(rt, &mut bridge, &mut sides, &mut progress);
+    *is_over = played.is_ok();
+    let text = bridge.game_text()?;
+    let Some(text) = text else {
+        return match played {
+            Ok(()) => Ok(0),
+            Err(fault) => Err(fault),
+        };
+    };
+    out_file::replace(rt, plan.out, text.as_slice())?;
+    played?;
+    moves_in(rt.alloc(), text.as_slice())
+}
+
+// A bridge to which nothing has happened.
+fn bridge_of(alloc: Global) -> Result<Bridge, Fault>
+    ensures login { IfOk result (λ bridge. (bridge.config.name.bytes ≡ codes "bridge") × (bridge.config.password.bytes ≡ codes "pw")) }
+    ensures clocks { IfOk result (λ bridge. (bridge.config.total_ms ≡ 600000) × (bridge.config.byoyomi_ms ≡ 10000)) }
+    ensures state { IfOk result (λ bridge. bridge.state ≡ first_state) }
+    ensures faults { IfErr result (λ fault. fault ≡ Fault.OutOfMemory) }
+{
+    let config = Config {
+        name: ArrayString::from("bridge").unwrap(),
+        password: ArrayString::from("pw").unwrap(),
+        total_ms: TOTAL_MS,
+        byoyomi_ms: BYOYOMI_MS,
+    };
+    Ok(Bridge::new(alloc, &config)?)
+}
+
+// How many moves a game text has.
+fn moves_in(alloc: Global, text: &[u8]) -> Result<usize, Fault>
+    ensures faults { IfErr result (λ fault. (fault ≢ Fault.WordsNotText) × (fault ≢ Fault.UnknownCommand)) }
+{
+    match read(alloc, text) {
+        Ok(record) => Ok(record.line().moves().len()),
+        Err(refusal) if refusal.why == Why::OutOfMemory => Err(Fault::OutOfMemory),
+        Err(refusal) => Err(Fault::Refused(refusal)),
+    }
+}

@@ -1,0 +1,91 @@
+//! A server on localhost, which plays one game with one client.
+
+ghost use Rattle.std.specs.Prelude.{◌≡◌, ◌≢◌, ◌≤◌, true, false, Ok, Err, IfErr, IfOk, IsOk, IsErrOf, codes};
+ghost use Rattle.shogi_session.specs.Host.{waiting};
+
+use crate::fault::Fault;
+use crate::wire::Exchange;
+use crate::{streams, talk};
+use arrayvec::ArrayString;
+use shogi_board::Color;
+use shogi_session::{Host, HostConfig};
+use std::alloc::Global;
+use std::io;
+use std::net::{Net, TcpListener, TcpStream};
+
+/// Listens on that port of localhost, of which 0 is any free one, prints `listening` and the port, and answers each line of the first client before the next one
+/// is read, until the game's session is over. The client has that side, and the game at most so many moves. Each move of
+/// the client takes 0 seconds.
+///
+/// `Fault::Read` where there is no socket to listen on, `Fault::ClientGone` where the client ends before the session,
+/// and `Fault::ClientLineTooLong` for a line of more than 65,536 bytes as soon as that is known.
+pub fn run<R: Net<Listener = TcpListener, Stream = TcpStream> + Print + AllocGlobal>(
+    rt: &R,
+    port: u16,
+    client: Color,
+    max_moves: u32,
+) -> Result<(), Fault>
+    requires { (1 ≤ max_moves) × (max_moves ≤ 10000) }
+    ensures faults { IfErr result (λ fault. (fault ≢ Fault.WordsNotText) × (fault ≢ Fault.UnknownCommand)) }
+{
+    let stream = accept(rt, port)?;
+    let mut host = host_of(rt.alloc(), client, max_moves)?;
+    let mut wire = Exchange::new(&stream, &stream);
+    served(talk::answer_all(rt.alloc(), &mut host, &mut wire))
+}
+
+// What has become of a client whose lines were answered so: a session that is over, or not.
+fn served(answered: Result<bool, Fault>) -> Result<(), Fault>
+    requires { IfErr answered (λ fault. (fault ≢ Fault.WordsNotText) × (fault ≢ Fault.UnknownCommand)) }
+    ensures over { answered ≡ Ok true → IsOk result }
+    ensures gone { answered ≡ Ok false → IsErrOf result Fault.ClientGone }
+    ensures long { answered ≡ Err Fault.LongLine → IsErrOf result Fault.ClientLineTooLong }
+    ensures other { (fault : Fault) → answered ≡ Err fault → fault ≢ Fault.LongLine → IsErrOf result fault }
+    ensures faults { IfErr result (λ fault. (fault ≢ Fault.WordsNotText) × (fault ≢ Fault.UnknownCommand)) }
+{
+    match answered {
+        Ok(true) => Ok(()),
+        Ok(false) => Err(Fault::ClientGone),
+        Err(Fault::LongLine) => Err(Fault::ClientLineTooLong),
+        Err(fault) => Err(fault),
+    }
+}
+
+// Says on which port it listens, and waits for the first client.
+fn accept<R: Net<Listener = TcpListener, Stream = TcpStream> + Print + AllocGlobal>(
+    rt: &R,
+    port: u16,
+) -> Result<TcpStream, Fault>
+    ensures faults { IfErr result (λ fault. (fault ≢ Fault.WordsNotText) × (fault ≢ Fault.UnknownCommand)) }
+{
+    let Ok(listener) = TcpListener::bind(rt, ("127.0.0.1", port)) else {
+        return Err(Fault::Read);
+    };
+    let Ok(address) = listener.local_addr() else {
+        return Err(Fault::Read);
+    };
+    let line = format!(in rt.alloc(); "listening {}\n", address.port())?;
+    streams::write_all(&mut io::writer(rt), line.as_bytes())?;
+    match listener.accept() {
+        Ok((client, _)) => Ok(client),
+        Err(error) => Err(Fault::of_read(&error)),
+    }
+}
+
+// A host to which nothing has come.
+fn host_of(alloc: Global, client: Color, max_moves: u32) -> Result<Host, Fault>
+    requires { (1 ≤ max_moves) × (max_moves ≤ 10000) }
+    ensures names { IfOk result (λ host. (host.config.id.bytes ≡ codes "local") × (host.config.name.bytes ≡ codes "host")) }
+    ensures client { IfOk result (λ host. host.config.client ≡ client) }
+    ensures moves { IfOk result (λ host. host.config.max_moves ≡ max_moves) }
+    ensures state { IfOk result (λ host. host.state ≡ waiting) }
+    ensures faults { IfErr result (λ fault. fault ≡ Fault.OutOfMemory) }
+{
+    let config = HostConfig {
+        client,
+        max_moves,
+        id: ArrayString::from("local").unwrap(),
+        name: ArrayString::from("host").unwrap(),
+    };
+    Ok(Host::new(alloc, &config)?)
+}
