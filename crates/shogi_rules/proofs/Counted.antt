@@ -1,32 +1,22 @@
--- One position more among those that are counted.
-use Rattle.std.proofs.Common.{◌≡◌, ℕ, suc, ◌+◌, ◌*◌, ◌%◌, ◌^◌, ◌≤◌, List, [], ◌∷◌, ◌++◌, Bool, true, false, cond, Some, None, Option, get_or, arith, refl, sym, ap, ◌∙◌, length, ◌&&◌, nat_eq}
+-- One position more among those that are counted and linked.
+use Rattle.std.proofs.Common.{◌≡◌, ℕ, suc, ◌+◌, ◌<◌, ◌≤◌, List, [], ◌∷◌, ◌++◌, Bool, true, false, cond, Some, None, Option, get_or, take, slice_get, arith, refl, sym, ap, ◌∙◌, length, inl, inr, subst, zero}
 use Rattle.std.specs.Prelude.{unwrap_or}
 use Rattle.std.specs.BTreeMap.{BTreeMap, get, is_at}
-use Rattle.std.specs.Ordering.{is_eq}
+use Rattle.std.specs.Ordering.{nat_cmp}
+use Rattle.std.specs.Cmp.{unsigned_tied}
+use Rattle.std.proofs.lemmas.Bool.{cases_lt}
 use Rattle.std.proofs.lemmas.Bool.Decides.{Decides-eqb}
+use Rattle.std.proofs.lemmas.List.{take-append-le, take_all, length-append}
+use Rattle.std.proofs.lemmas.List.Sums.{count_by_more_no}
+use Rattle.std.proofs.lemmas.Option.{get_or_from_slice_get, slice_get_within}
 use Rattle.shogi_board.specs.Cells.{Cells}
 use Rattle.shogi_board.specs.Placed.{Placed}
 use Rattle.shogi_board.specs.Same.{same_position}
-use Rattle.shogi_board.proofs.Same.{position-same, eq-same, placed_eq}
+use Rattle.shogi_board.proofs.Same.{position-same}
 use Rattle.shogi_rules.specs.Repetition.{times}
-use Rattle.shogi_rules.specs.Stamps.{Counts, stamped, stamp_of, stamp_before, mark}
-use Rattle.shogi_rules.specs.declared.seen.Stamped.{Stamped}
-use Rattle.shogi_rules.specs.contracts.seen.StampedOrd.TheImpl.{cmp-value}
-use Rattle.shogi_rules.specs.contracts.seen.StampedOrd.TheImpl.Laws as laws
+use Rattle.shogi_rules.specs.Stamps.{Leads, IsLink, AreLinked, stamp_of, stamp_before, with_cell}
+use Rattle.shogi_rules.specs.declared.seen.Link.{Link}
 use Rattle.shogi_rules.proofs.Counts.{first}
-
-and-if : (a b : Bool) → (b ≡ true → a ≡ true) → (a && b) ≡ b
-and-if true b h = refl
-and-if false true h = h refl
-and-if false false h = refl
-
--- a position and its stamp compare as equal where the position is the same
-same-stamped : (p q : Placed) → is_eq (cmp-value.it (stamped p) (stamped q)) ≡ same_position p q
-same-stamped p q =
-    let e : (nat_eq (stamp_of p) (stamp_of q) && placed_eq p q) ≡ is_eq (cmp-value.it (stamped p) (stamped q)) = laws.matches_eq-law (stamped p) (stamped q) in
-    let one : placed_eq p q ≡ true → nat_eq (stamp_of p) (stamp_of q) ≡ true = λ h.
-    (Decides-eqb (stamp_of p) (stamp_of q)).1 (ap stamp_of ((position-same p q).0 (sym (eq-same p q) ∙ h))) in
-    sym e ∙ (and-if _ _ one ∙ eq-same p q)
 
 pub pushed : (ps : List Placed) (p q : Placed) → times (ps ++ p ∷ []) q ≡ times ps q + cond (same_position p q) 1 0
 pushed [] p q = let e = first [] p q in omega (arith, e)
@@ -34,26 +24,6 @@ pushed (x ∷ xs) p q =
     let e = first (xs ++ p ∷ []) x q in
     let d = first xs x q in
     omega (arith, e, d, pushed xs p q)
-
-picked : (b : Bool) (x y : Option ℕ) (n : ℕ) → (b ≡ true → unwrap_or x 0 ≡ n + 1) → (b ≡ false → unwrap_or y 0 ≡ n) → unwrap_or (cond b x y) 0 ≡ n + cond b 1 0
-picked true x y n hit miss = hit refl
-picked false x y n hit miss = miss refl ∙ omega arith
-
-counts-push : (ps : List Placed) (m more : BTreeMap Stamped ℕ) (p : Placed) → Counts ps m → ((q : Stamped) → get cmp-value.it more q ≡ cond (is_at (cmp-value.it (stamped p)) q) (Some (times ps p + 1)) (get cmp-value.it m q)) → Counts (ps ++ p ∷ []) more
-counts-push ps m more p old changes q =
-    let same : is_at (cmp-value.it (stamped p)) (stamped q) ≡ same_position p q = same-stamped p q in
-    let last : times (ps ++ p ∷ []) q ≡ times ps q + cond (same_position p q) 1 0 = pushed ps p q in
-    ap (λ (o : Option ℕ). unwrap_or o 0) (changes (stamped q))
-    ∙ (ap (λ (b : Bool). unwrap_or (cond b (Some (times ps p + 1)) (get cmp-value.it m (stamped q))) 0) same
-    ∙ (picked (same_position p q) _ _ (times ps q) (λ h. ap (λ (x : Placed). times ps x + 1) ((position-same p q).0 h)) (λ h. old q)
-    ∙ sym last))
-
--- the same by what the code has found
-pub counts-pushed : (ps : List Placed) (m more : BTreeMap Stamped ℕ) (p : Placed) (key : Stamped) (n : ℕ) → Counts ps m → key ≡ stamped p → n ≡ times ps p → ((q : Stamped) → get cmp-value.it more q ≡ cond (is_at (cmp-value.it key) q) (Some (n + 1)) (get cmp-value.it m q)) → Counts (ps ++ p ∷ []) more
-counts-pushed ps m more p key n old same counted changes =
-    counts-push ps m more p old
-    (λ q. changes q ∙ (ap (λ (k : Stamped). cond (is_at (cmp-value.it k) q) (Some (n + 1)) (get cmp-value.it m q)) same
-    ∙ ap (λ (k : ℕ). cond (is_at (cmp-value.it (stamped p)) q) (Some (k + 1)) (get cmp-value.it m q)) counted))
 
 le-step : (b : Bool) (n k : ℕ) → n ≤ k → cond b 1 0 + n ≤ k + 1
 le-step true n k h = omega arith
@@ -70,10 +40,174 @@ one-counted false n m h e = cc
 pub times-last : (ps : List Placed) (p : Placed) → times (ps ++ p ∷ []) p ≡ times ps p + 1
 times-last ps p = one-counted (same_position p p) _ _ ((position-same p p).1 refl) (pushed ps p p)
 
+is-false : (b : Bool) → (b ≡ true → ⊥) → b ≡ false
+is-false true h = absurd (h refl)
+is-false false h = refl
+
+apart : (p q : Placed) → (p ≡ q → ⊥) → same_position p q ≡ false
+apart p q h = is-false (same_position p q) (λ e. h ((position-same p q).0 e))
+
+times-whole : (ps : List Placed) (n : ℕ) (q : Placed) → length ps ≤ n → times (take n ps) q ≡ times ps q
+times-whole ps n q h = ap (λ (l : List Placed). times l q) (take_all n ps h)
+
+times-kept : (ps : List Placed) (p : Placed) (n : ℕ) (q : Placed) → n ≤ length ps → times (take n (ps ++ p ∷ [])) q ≡ times (take n ps) q
+times-kept ps p n q h = ap (λ (l : List Placed). times l q) (take-append-le n ps (p ∷ []) h)
+
+get-left : {X : Type 0} (xs ys : List X) (i : ℕ) → i < length xs → slice_get (xs ++ ys) i ≡ slice_get xs i
+get-left [] ys i low = absurd (omega arith)
+get-left (x ∷ xs) ys zero low = refl
+get-left (x ∷ xs) ys (suc i) low = get-left xs ys i (omega arith)
+
+get-behind : {X : Type 0} (xs : List X) (y : X) (i : ℕ) → i ≡ length xs → slice_get (xs ++ y ∷ []) i ≡ Some y
+get-behind [] y zero e = refl
+get-behind [] y (suc i) e = absurd (omega (arith, e))
+get-behind (x ∷ xs) y zero e = absurd (omega (arith, e))
+get-behind (x ∷ xs) y (suc i) e = get-behind xs y i (omega (arith, e))
+
+stands-kept : (ps : List Placed) (p q : Placed) (i : ℕ) → i < length ps → slice_get (ps ++ p ∷ []) i ≡ Some q → slice_get ps i ≡ Some q
+stands-kept ps p q i h at = sym (get-left ps (p ∷ []) i h) ∙ at
+
+-- what led among the first n still leads where one stands behind them
+leads-kept : (ps : List Placed) (p : Placed) (n : ℕ) (q : Placed) (m : ℕ) → n ≤ length ps → Leads ps n q m → Leads (ps ++ p ∷ []) n q m
+leads-kept ps p n q m h led = record {
+  low = led.low;
+  all = times-kept ps p m q (omega (arith, h, led.low)) ∙ (led.all ∙ sym (times-kept ps p n q h));
+  stamp = λ i x e at. led.stamp i x e (stands-kept ps p x i (omega (arith, h, led.low, e)) at);
+}
+
+times-other : (ps : List Placed) (p q : Placed) (b : Bool) → same_position p q ≡ b → b ≡ false → times (ps ++ p ∷ []) q ≡ times ps q
+times-other ps p q true e h = cc
+times-other ps p q false e h = let more : times (ps ++ p ∷ []) q ≡ times ps q + 0 = rw e at (pushed ps p q) in omega (arith, more)
+
+long-more : (ps : List Placed) (p : Placed) → length (ps ++ p ∷ []) ≡ length ps + 1
+long-more ps p = length-append ps (p ∷ [])
+
+-- one of another stamp behind them changes nothing
+leads-other : (ps : List Placed) (p q : Placed) (m : ℕ) → (stamp_of p ≡ stamp_of q → ⊥) → Leads ps (length ps) q m → Leads (ps ++ p ∷ []) (length (ps ++ p ∷ [])) q m
+leads-other ps p q m other led =
+    let kept = leads-kept ps p (length ps) q m (omega arith) led in
+    let old : times (take (length ps) (ps ++ p ∷ [])) q ≡ times ps q = times-kept ps p (length ps) q (omega arith) ∙ times-whole ps (length ps) q (omega arith) in
+    let new : times (take (length (ps ++ p ∷ [])) (ps ++ p ∷ [])) q ≡ times ps q =
+    times-whole (ps ++ p ∷ []) (length (ps ++ p ∷ [])) q (omega arith)
+    ∙ times-other ps p q (same_position p q) refl (apart p q (λ e. other (ap stamp_of e))) in
+    record {
+      low = let long = long-more ps p in omega (arith, long, led.low);
+      all = kept.all ∙ (old ∙ sym new);
+      stamp = kept.stamp;
+    }
+
+some-placed : (p q : Placed) → Some p ≡ Some q → p ≡ q
+some-placed p q e = cc
+
+last-place : (ps : List Placed) (p q : Placed) (i : ℕ) → i ≡ length ps → slice_get (ps ++ p ∷ []) i ≡ Some q → p ≡ q
+last-place ps p q i e at = some-placed p q (sym (get-behind ps p i e) ∙ at)
+
+leads-last : (ps : List Placed) (p q : Placed) → stamp_of p ≡ stamp_of q → Leads (ps ++ p ∷ []) (length (ps ++ p ∷ [])) q (length ps + 1)
+leads-last ps p q same =
+    let long = long-more ps p in
+    record {
+      low = omega (arith, long);
+      all = ap (λ (n : ℕ). times (take n (ps ++ p ∷ [])) q) (sym long);
+      stamp = λ i x e at. ap stamp_of (sym (last-place ps p x i (omega (arith, e)) at)) ∙ same;
+    }
+
+found-if : (b : Bool) (ps : List Placed) (p q : Placed) (o : Option ℕ) → (b ≡ true → stamp_of p ≡ stamp_of q) → (stamp_of p ≡ stamp_of q → b ≡ true) → Leads ps (length ps) q (unwrap_or o 0) → Leads (ps ++ p ∷ []) (length (ps ++ p ∷ [])) q (unwrap_or (cond b (Some (length ps + 1)) o) 0)
+found-if true ps p q o yes-same back led = leads-last ps p q (yes-same refl)
+found-if false ps p q o yes-same back led = leads-other ps p q (unwrap_or o 0) (λ e. let f = back e in cc) led
+
+some-link : (k l : Link) → Some k ≡ Some l → k ≡ l
+some-link k l e = cc
+
+link-kept : (ps : List Placed) (x : Placed) (i : ℕ) (p : Placed) (link : Link) → i < length ps → IsLink ps i p link → IsLink (ps ++ x ∷ []) i p link
+link-kept ps x i p link h is = record {
+  count = is.count ∙ sym (times-kept ps x (i + 1) p (omega (arith, h)));
+  earlier = λ q same. leads-kept ps x i q link.earlier (omega (arith, h)) (is.earlier q same);
+}
+
+link-last : (ps : List Placed) (p : Placed) (link : Link) → link.count ≡ times ps p + 1 → ((q : Placed) → stamp_of q ≡ stamp_of p → Leads ps (length ps) q link.earlier) → IsLink (ps ++ p ∷ []) (length ps) p link
+link-last ps p link counted leads = record {
+  count =
+      let long = long-more ps p in
+      counted ∙ (sym (times-last ps p) ∙ sym (times-whole (ps ++ p ∷ []) (length ps + 1) p (omega (arith, long))));
+  earlier = λ q same. leads-kept ps p (length ps) q link.earlier (omega arith) (leads q same);
+}
+
+link-at-last : (ps : List Placed) (links : List Link) (p q : Placed) (link x : Link) (i : ℕ) → length links ≡ length ps → i ≡ length ps → IsLink (ps ++ p ∷ []) (length ps) p link → slice_get (ps ++ p ∷ []) i ≡ Some q → slice_get (links ++ link ∷ []) i ≡ Some x → IsLink (ps ++ p ∷ []) i q x
+link-at-last ps links p q link x i long e is at beside =
+    let one : p ≡ q = last-place ps p q i e at in
+    let two : link ≡ x = some-link link x (sym (get-behind links link i (omega (arith, e, long))) ∙ beside) in
+    subst (λ (n : ℕ). IsLink (ps ++ p ∷ []) n q x) (sym e) (subst (λ (l : Link). IsLink (ps ++ p ∷ []) (length ps) q l) two (subst (λ (r : Placed). IsLink (ps ++ p ∷ []) (length ps) r link) one is))
+
+linked-pushed : (ps : List Placed) (links : List Link) (m more : BTreeMap ℕ ℕ) (p : Placed) (link : Link) → AreLinked ps links m → link.count ≡ times ps p + 1 → ((q : Placed) → stamp_of q ≡ stamp_of p → Leads ps (length ps) q link.earlier) → ((s : ℕ) → get nat_cmp more s ≡ cond (is_at (nat_cmp (stamp_of p)) s) (Some (length ps + 1)) (get nat_cmp m s)) → AreLinked (ps ++ p ∷ []) (links ++ link ∷ []) more
+linked-pushed ps links m more p link old counted leads changes = record {
+  long =
+      let a = length-append links (link ∷ []) in
+      let b = long-more ps p in
+      let c = old.long in
+      omega (arith, a, b, c);
+  each = λ i q x at beside.
+      elim (cases_lt i (length ps)) [
+        | inl low ↦
+            link-kept ps p i q x low (old.each i q x (stands-kept ps p q i low at)
+            (sym (get-left links (link ∷ []) i (omega (arith, low, old.long))) ∙ beside))
+        | inr le ↦
+            let within = slice_get_within (ps ++ p ∷ []) i q at in
+            let long = long-more ps p in
+            link-at-last ps links p q link x i old.long (omega (arith, le, within, long)) (link-last ps p link counted leads) at beside
+      ];
+  found = λ q.
+      let tied = unsigned_tied (stamp_of p) (stamp_of q) in
+      let d = Decides-eqb (stamp_of p) (stamp_of q) in
+      subst (λ (o : Option ℕ). Leads (ps ++ p ∷ []) (length (ps ++ p ∷ [])) q (unwrap_or o 0)) (sym (changes (stamp_of q)))
+      (found-if (is_at (nat_cmp (stamp_of p)) (stamp_of q)) ps p q (get nat_cmp m (stamp_of q))
+      (λ h. d.0 (sym tied ∙ h)) (λ h. tied ∙ d.1 h) (old.found q));
+}
+
+-- the walk over the links: past a position that is another, and at one that is the same
+pub walk-on : (ps : List Placed) (links : List Link) (m : BTreeMap ℕ ℕ) (q p : Placed) (link : Link) (n i : ℕ) → AreLinked ps links m → Leads ps (length ps) q n → n ≡ i + 1 → slice_get ps i ≡ Some p → slice_get links i ≡ Some link → same_position p q ≡ false → Leads ps (length ps) q link.earlier
+walk-on ps links m q p link n i old led e at beside other =
+    let within = slice_get_within ps i p at in
+    let on = (old.each i p link at beside).earlier q (sym (led.stamp i p e at)) in
+    let here : get_or ps i p ≡ p = get_or_from_slice_get ps i p p at in
+    let past : same_position (get_or ps i p) q ≡ false = rw here other in
+    let skip : times (take (i + 1) ps) q ≡ times (take i ps) q = count_by_more_no (λ (x : Placed). same_position x q) ps i p within past in
+    let all : times (take (i + 1) ps) q ≡ times (take (length ps) ps) q = rw e at led.all in
+    record { low = let low = on.low in omega (arith, low, within); all = on.all ∙ (sym skip ∙ all); stamp = on.stamp }
+
+pub walk-less : (ps : List Placed) (links : List Link) (m : BTreeMap ℕ ℕ) (q p : Placed) (link : Link) (n i : ℕ) → AreLinked ps links m → Leads ps (length ps) q n → n ≡ i + 1 → slice_get ps i ≡ Some p → slice_get links i ≡ Some link → link.earlier < n
+walk-less ps links m q p link n i old led e at beside =
+    let on = (old.each i p link at beside).earlier q (sym (led.stamp i p e at)) in
+    omega (arith, on.low, e)
+
+pub walk-ends : (ps : List Placed) (links : List Link) (m : BTreeMap ℕ ℕ) (q p : Placed) (link : Link) (n i : ℕ) → AreLinked ps links m → Leads ps (length ps) q n → n ≡ i + 1 → slice_get ps i ≡ Some p → slice_get links i ≡ Some link → same_position p q ≡ true → link.count ≡ times ps q
+walk-ends ps links m q p link n i old led e at beside same =
+    let one : p ≡ q = (position-same p q).0 same in
+    let all : times (take (i + 1) ps) q ≡ times (take (length ps) ps) q = rw e at led.all in
+    (old.each i p link at beside).count ∙ (ap (λ (x : Placed). times (take (i + 1) ps) x) one ∙ (all ∙ times-whole ps (length ps) q (omega arith)))
+
+-- the same by what the code has found
+pub linked-more : (ps : List Placed) (links : List Link) (m more : BTreeMap ℕ ℕ) (p : Placed) (key n count earlier : ℕ) → AreLinked ps links m → key ≡ stamp_of p → n ≡ length ps → count ≡ times ps p → ((q : Placed) → stamp_of q ≡ key → Leads ps (length ps) q earlier) → ((s : ℕ) → get nat_cmp more s ≡ cond (is_at (nat_cmp key) s) (Some (n + 1)) (get nat_cmp m s)) → AreLinked (ps ++ p ∷ []) (links ++ record { count = count + 1; earlier = earlier } ∷ []) more
+linked-more ps links m more p key n count earlier old same long counted leads changes =
+    linked-pushed ps links m more p (record { count = count + 1; earlier = earlier }) old (ap (λ (k : ℕ). k + 1) counted)
+    (λ q e. leads q (e ∙ sym same))
+    (λ s. changes s ∙ (ap (λ (k : ℕ). cond (is_at (nat_cmp k) s) (Some (n + 1)) (get nat_cmp m s)) same
+    ∙ ap (λ (k : ℕ). cond (is_at (nat_cmp (stamp_of p)) s) (Some (k + 1)) (get nat_cmp m s)) long))
+
+pub linked-same : (ps : List Placed) (links : List Link) (m n : BTreeMap ℕ ℕ) → n.entries ≡ m.entries → AreLinked ps links m → AreLinked ps links n
+linked-same ps links m n e old = record {
+  long = old.long;
+  each = old.each;
+  found = λ q.
+      let same : get nat_cmp n (stamp_of q) ≡ get nat_cmp m (stamp_of q) = rw e refl in
+      subst (λ (o : Option ℕ). Leads ps (length ps) q (unwrap_or o 0)) (sym same) (old.found q);
+}
+
 pub stamp-none : (cells : Cells) → 0 ≡ stamp_before cells 0
 unfolding stamp_before
 stamp-none cells = refl
 
-pub stamp-more : (cells : Cells) (n total new : ℕ) → total ≡ stamp_before cells n → new ≡ mark (get_or cells n None) → (total * 31 % 2 ^ 64 + new) % 2 ^ 64 ≡ stamp_before cells (n + 1)
+pub stamp-more : (cells : Cells) (n total new : ℕ) → total ≡ stamp_before cells n → new ≡ with_cell total n (get_or cells n None) → new ≡ stamp_before cells (n + 1)
 unfolding stamp_before
-stamp-more cells n total new e f = let next : n + 1 ≡ suc n = omega arith in rw (next, e, f) refl
+stamp-more cells n total new e f =
+    let next : n + 1 ≡ suc n = omega arith in
+    rw next (f ∙ ap (λ (t : ℕ). with_cell t n (get_or cells n None)) e)

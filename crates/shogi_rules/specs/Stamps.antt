@@ -1,35 +1,45 @@
--- Positions by which others are told apart fast: each beside a number that equal positions share.
-use Rattle.std.specs.Prelude.{◌≡◌, ℕ, zero, suc, ◌+◌, ◌*◌, ◌%◌, ◌^◌, List, Option, Some, None, slice_index_or, unwrap_or}
+-- Positions and how often they stand, found fast by a number that equal positions share.
+use Rattle.std.specs.Prelude.{◌≡◌, ℕ, zero, suc, ◌+◌, ◌*◌, ◌%◌, ◌^◌, ◌≤◌, List, Option, Some, None, length, take, slice_get, slice_index_or, unwrap_or}
 use Rattle.std.specs.BTreeMap.{BTreeMap, get}
+use Rattle.std.specs.Ordering.{nat_cmp}
 use Rattle.shogi_board.specs.Cells.{Cells}
 use Rattle.shogi_board.specs.Placed.{Placed}
 use Rattle.shogi_board.specs.declared.color.Color.{Color}
 use Rattle.shogi_board.specs.declared.color.Color.TheVariants.{Black, White}
 use Rattle.shogi_board.specs.declared.kind.Piece.{Piece}
 use Rattle.shogi_rules.specs.Repetition.{times}
-use Rattle.shogi_rules.specs.declared.seen.Stamped.{Stamped}
-use Rattle.shogi_rules.specs.contracts.seen.StampedOrd.TheImpl.{cmp-value}
+use Rattle.shogi_rules.specs.declared.seen.Link.{Link}
 
 abbrev pub color_mark : Color → ℕ
 color_mark Black = 1
 color_mark White = 2
 
--- who holds a square
-abbrev pub mark : Option Piece → ℕ
-mark None = 0
-mark (Some p) = color_mark p.color
+-- the stamp with the cell at that place; an empty one changes nothing
+abbrev pub with_cell : ℕ → ℕ → Option Piece → ℕ
+with_cell stamp place None = stamp
+with_cell stamp place (Some p) = (stamp * 167 % 2 ^ 64 + (place * 2 + color_mark p.color)) % 2 ^ 64
 
--- who holds the first n squares, as one number modulo 2^64
+-- who holds which of the first n squares, as one number modulo 2^64
 unfoldable pub stamp_before : Cells → ℕ → ℕ
 stamp_before cells zero = 0
-stamp_before cells (suc n) = (stamp_before cells n * 31 % 2 ^ 64 + mark (slice_index_or cells n None)) % 2 ^ 64
+stamp_before cells (suc n) = with_cell (stamp_before cells n) n (slice_index_or cells n None)
 
 abbrev pub stamp_of : Placed → ℕ
 stamp_of p = stamp_before p.board 81
 
-abbrev pub stamped : Placed → Stamped
-stamped p = record { stamp = stamp_of p; position = p }
+-- the first m positions have that one as often as the first n, and the m-th has its stamp
+pub record Leads (ps : List Placed) (n : ℕ) (q : Placed) (m : ℕ) : Type 0 where
+  pub low : m ≤ n
+  pub all : times (take m ps) q ≡ times (take n ps) q
+  pub stamp : (i : ℕ) (p : Placed) → m ≡ i + 1 → slice_get ps i ≡ Some p → stamp_of p ≡ stamp_of q
 
--- the map has how often each position stands in the list
-abbrev pub Counts : List Placed → BTreeMap Stamped ℕ → Type 0
-Counts ps counts = (p : Placed) → unwrap_or (get cmp-value.it counts (stamped p)) 0 ≡ times ps p
+-- the link has how often the position at that place stands up to there, and leads to those before it
+pub record IsLink (ps : List Placed) (i : ℕ) (p : Placed) (link : Link) : Type 0 where
+  pub count : link.count ≡ times (take (i + 1) ps) p
+  pub earlier : (q : Placed) → stamp_of q ≡ stamp_of p → Leads ps i q link.earlier
+
+-- a link stands beside each position, and the map leads to each position by its stamp
+pub record AreLinked (ps : List Placed) (links : List Link) (latest : BTreeMap ℕ ℕ) : Type 0 where
+  pub long : length links ≡ length ps
+  pub each : (i : ℕ) (p : Placed) (link : Link) → slice_get ps i ≡ Some p → slice_get links i ≡ Some link → IsLink ps i p link
+  pub found : (q : Placed) → Leads ps (length ps) q (unwrap_or (get nat_cmp latest (stamp_of q)) 0)

@@ -6,5 +6,5 @@ loop-n-init c = stamp-none c.args.position.now.board
 
 pub loop-n-preserved : goal.loop-n-preserved
 loop-n-preserved c =
-    stamp-more c.args.position.now.board c.loop-n.n c.loop-n.stamp c.mark.result c.loop-n.invariant
-    (rw c.cells-cells.ensures.value at c.mark.ensures)
+    stamp-more c.args.position.now.board c.loop-n.n c.loop-n.stamp c.with_cell-stamp.result c.loop-n.invariant
+    (rw c.cells-cells.ensures.value at c.with_cell-stamp.ensures)

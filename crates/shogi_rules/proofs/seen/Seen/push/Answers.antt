@@ -1,19 +1,38 @@
-use Rattle.std.proofs.Common.{◌≡◌, sym}
+use Rattle.std.proofs.Common.{◌≡◌, ◌+◌, List, [], ◌∷◌, ◌++◌, arith, sym, length}
+use Rattle.std.proofs.lemmas.Grind.{common_steps}
+use Rattle.shogi_board.specs.Placed.{Placed}
 use Rattle.shogi_rules.specs.Repetition.{times}
-use Rattle.shogi_rules.proofs.Counted.{counts-pushed, times-last}
+use Rattle.shogi_rules.specs.Stamps.{Leads, stamp_of}
+use Rattle.shogi_rules.specs.declared.seen.Link.{Link}
+use Rattle.shogi_rules.proofs.Counted.{linked-more, linked-same, times-last}
 use Rattle.shogi_rules.proofs.seen.Seen.push.Goals as goal
 
-pub invariant_of-self-in-Ok : goal.invariant_of-self-in-Ok
-invariant_of-self-in-Ok c =
+pub invariant_of-self-in_err-insert : goal.invariant_of-self-in_err-insert
+invariant_of-self-in_err-insert c =
     let i = c.self.inside in
-    let p = c.args.position in
-    let counted : c.count-count.result ≡ times i.positions.items p = rw (c.new-key.ensures, sym c.self.view_is) at c.count-count.ensures in
-    rw c.in_ok-push.ensures.items
-    (counts-pushed i.positions.items i.counts c.insert.new.self p c.new-key.result c.count-count.result c.self.invariant c.new-key.ensures counted c.in-Ok.ensures.updates.0)
+    rw (c.reserve.ensures.items, c.reserve-2.ensures.items)
+    (linked-same i.positions.items i.links.items i.latest c.insert.new.self c.in_err-insert.ensures.err c.self.invariant)
 
-pub returns-in-Ok-clause-value : goal.returns-in-Ok-clause-value
-returns-in-Ok-clause-value c =
+pub invariant_of-self-2 : goal.invariant_of-self-2
+invariant_of-self-2 c =
     let i = c.self.inside in
     let p = c.args.position in
-    let counted : c.count-count.result ≡ times i.positions.items p = rw (c.new-key.ensures, sym c.self.view_is) at c.count-count.ensures in
-    rw (c.in_ok-push.ensures.items, counted) (sym (times-last i.positions.items p))
+    let ps : List Placed = i.positions.items in
+    let count = c.count-count.result in
+    let earlier = c.latest-earlier.result in
+    let link : Link = record { count = count + 1; earlier = earlier } in
+    let pushed : c.push.new.self.items ≡ ps ++ p ∷ [] = grind (arith, common_steps) in
+    let beside : c.push-2.new.self.items ≡ i.links.items ++ link ∷ [] = grind (arith, common_steps) in
+    let counted : count ≡ times ps p = rw (sym c.self.view_is) at c.count-count.ensures in
+    let leads : (q : Placed) → stamp_of q ≡ c.stamp-stamp.result → Leads ps (length ps) q earlier = rw (sym c.self.view_is) at c.latest-earlier.ensures in
+    let long : c.len.result ≡ length ps = grind (arith, common_steps) in
+    rw (pushed, beside)
+    (linked-more ps i.links.items i.latest c.insert.new.self p c.stamp-stamp.result c.len.result count earlier c.self.invariant c.stamp-stamp.ensures long counted leads c.in_ok-insert.ensures.updates.0)
+
+pub returns-clause-value : goal.returns-clause-value
+returns-clause-value c =
+    let p = c.args.position in
+    let ps : List Placed = c.self.inside.positions.items in
+    let pushed : c.push.new.self.items ≡ ps ++ p ∷ [] = grind (arith, common_steps) in
+    let counted : c.count-count.result ≡ times ps p = rw (sym c.self.view_is) at c.count-count.ensures in
+    rw (pushed, counted) (sym (times-last ps p))

@@ -1,0 +1,48 @@
+use Rattle.std.proofs.Common.{◌-◌, ◌<◌, arith, refl, sym, ◌∙◌, length}
+use Rattle.std.proofs.lemmas.Option.{slice_get_read}
+use Rattle.shogi_board.proofs.Same.{eq-same}
+use Rattle.shogi_rules.specs.Stamps.{Leads}
+use Rattle.shogi_rules.proofs.Counted.{walk-on, walk-less, walk-ends}
+use Rattle.shogi_rules.proofs.seen.Seen.count.Goals as goal
+
+pub returns-then-eq : goal.returns-then-eq
+returns-then-eq c =
+    let i = c.self.inside in
+    let ps = i.positions.items in
+    let p = c.index.result.now in
+    let q = c.args.position.now in
+    let n = c.loop-n.n in
+    let led : Leads ps (length ps) q n = rw (sym c.self.view_is) at c.loop-n.invariant in
+    let low : n - 1 < length ps = omega (arith, led.low, c.loop-n-test.true) in
+    let at = slice_get_read ps (length ps) (n - 1) p refl low c.index.ensures in
+    let long = i.links.items in
+    let beside = slice_get_read long (length ps) (n - 1) c.index-link.result.now (sym c.self.invariant.long) low c.index-link.ensures in
+    let same = sym (eq-same p q) ∙ (sym c.eq.ensures ∙ c.if-eq.true) in
+    rw (sym c.self.view_is) (walk-ends ps long i.latest q p c.index-link.result.now n (n - 1) c.self.invariant led (omega (arith, c.loop-n-test.true)) at beside same)
+
+pub loop-n-smaller : goal.loop-n-smaller
+loop-n-smaller c =
+    let i = c.self.inside in
+    let ps = i.positions.items in
+    let p = c.index.result.now in
+    let q = c.args.position.now in
+    let n = c.loop-n.n in
+    let led : Leads ps (length ps) q n = rw (sym c.self.view_is) at c.loop-n.invariant in
+    let low : n - 1 < length ps = omega (arith, led.low, c.loop-n-test.true) in
+    let at = slice_get_read ps (length ps) (n - 1) p refl low c.index.ensures in
+    let beside = slice_get_read i.links.items (length ps) (n - 1) c.index-link.result.now (sym c.self.invariant.long) low c.index-link.ensures in
+    walk-less ps i.links.items i.latest q p c.index-link.result.now n (n - 1) c.self.invariant led (omega (arith, c.loop-n-test.true)) at beside
+
+pub loop-n-preserved : goal.loop-n-preserved
+loop-n-preserved c =
+    let i = c.self.inside in
+    let ps = i.positions.items in
+    let p = c.index.result.now in
+    let q = c.args.position.now in
+    let n = c.loop-n.n in
+    let led : Leads ps (length ps) q n = rw (sym c.self.view_is) at c.loop-n.invariant in
+    let low : n - 1 < length ps = omega (arith, led.low, c.loop-n-test.true) in
+    let at = slice_get_read ps (length ps) (n - 1) p refl low c.index.ensures in
+    let beside = slice_get_read i.links.items (length ps) (n - 1) c.index-link.result.now (sym c.self.invariant.long) low c.index-link.ensures in
+    let other = sym (eq-same p q) ∙ (sym c.eq.ensures ∙ c.if-eq.false) in
+    rw (sym c.self.view_is) (walk-on ps i.links.items i.latest q p c.index-link.result.now n (n - 1) c.self.invariant led (omega (arith, c.loop-n-test.true)) at beside other)
