@@ -147,9 +147,10 @@ fn feed_all<S: Source>(source: &mut S, reader: &mut RecordReader) -> Result<(), 
     ensures fed { OnOk result (IsFedAll (S.known source.old) (S.known source.new) (S.failed source.old) (S.failed source.new) reader.new) }
     ensures fault { IfErr result (IsReadFault (S.known source.old) (S.known source.new) (S.failed source.old) (S.failed source.new)) }
 {
+    let mut buffer = [0u8; PIECE];
     let mut reads = 0;
     while reads < MOST_READS {
-        let more = feed_next(source, reader)?;
+        let more = feed_next(source, reader, &mut buffer)?;
         if !more {
             return Ok(());
         }
@@ -158,15 +159,18 @@ fn feed_all<S: Source>(source: &mut S, reader: &mut RecordReader) -> Result<(), 
     Err(FlowFault::ReadFault)
 }
 
-// Feeds the reader the next piece that the source gives: whether there was one.
-fn feed_next<S: Source>(source: &mut S, reader: &mut RecordReader) -> Result<bool, FlowFault>
+// Feeds the reader the next piece that the source gives into the buffer: whether there was one.
+fn feed_next<S: Source>(
+    source: &mut S,
+    reader: &mut RecordReader,
+    buffer: &mut [u8; PIECE],
+) -> Result<bool, FlowFault>
     requires failed { S.failed source.old < 2 ^ 64 - 1 }
     requires room { fed_of reader.old + 4096 ≤ 2 ^ 63 }
     ensures { (bytes : List ℕ) → HasRead bytes reader.old
         → FeedsNext bytes (S.known source.old) (S.known source.new) (S.failed source.old) (S.failed source.new) result reader.new }
 {
-    let mut buffer = [0u8; PIECE];
-    let taken = match source.read(&mut buffer) {
+    let taken = match source.read(buffer) {
         Ok(taken) => taken,
         Err(_) => return Err(FlowFault::ReadFault),
     };

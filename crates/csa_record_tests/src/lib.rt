@@ -9,8 +9,6 @@ mod flow_tests;
 #[cfg(test)]
 mod growth_tests;
 #[cfg(test)]
-mod long_tests;
-#[cfg(test)]
 mod reading_tests;
 #[cfg(test)]
 mod tests;

@@ -1,4 +1,4 @@
-use csa_record::{OrderFault, RecordReader, Refusal, Why, laws, read, write};
+use csa_record::{RecordReader, Refusal, Why, laws, write};
 use shogi_rules::Rule;
 use std::test::Fail;
 
@@ -8,23 +8,6 @@ const TEXT: &[u8] = b"V2.2\nPI\n+\n+7776FU\nT12\n-3334FU\nT6\n%TORYO\n";
 
 // Its fourth statement is a pawn drop that mates.
 const MATES: &[u8] = b"P+13KI33KE59OU00FU\nP-11OU\n+\n+0012FU\n";
-
-#[test]
-fn reads_all_at_once(rt: HostRuntime) -> Result<(), Fail> {
-    let record = read(rt.alloc(), SHORT)?;
-    assert!(rt; write(rt.alloc(), &record)?.as_slice() == TEXT);
-    Ok(())
-}
-
-#[test]
-fn reads_nothing(rt: HostRuntime) {
-    let missing = Refusal {
-        number: 1,
-        offset: 0,
-        why: Why::Order(OrderFault::MissingTurn),
-    };
-    assert!(rt; read(rt.alloc(), b"").err() == Some(missing));
-}
 
 #[test]
 fn reads_a_piece(rt: HostRuntime) -> Result<(), Fail> {
@@ -77,13 +60,6 @@ fn wrong_kind() -> Refusal {
         offset: 5,
         why: Why::Rule(Rule::WrongKind),
     }
-}
-
-#[test]
-fn a_statement_is_refused_at_its_line_end(rt: HostRuntime) -> Result<(), Fail> {
-    let mut reader = RecordReader::new(rt.alloc());
-    assert_eq!(rt; reader.feed(b"PI\n+\n+7776KI\n"), Err(wrong_kind()));
-    Ok(())
 }
 
 #[test]

@@ -1,41 +1,10 @@
-use csa_record::{HeaderValue, OrderFault, Record, Refusal, Why, write};
-use csa_text::{Ending, TextFault, read_moment};
+use csa_record::{HeaderValue, OrderFault, Record, Why, write};
+use csa_text::Ending;
 use shogi_board::{Color, Kind, OutOfMemory, Position, Square};
-use shogi_rules::{Line, Move, Rule};
+use shogi_rules::{Line, Move};
 use std::alloc::Global;
 use std::process::Abort;
 use std::test::Fail;
-
-const FAULTS: [(OrderFault, &str); 12] = [
-    (OrderFault::VersionOutOfPlace, "G1 VersionOutOfPlace"),
-    (OrderFault::RepeatedName, "G2 RepeatedName"),
-    (OrderFault::RepeatedHeader, "G3 RepeatedHeader"),
-    (OrderFault::TooManyHeaders, "G4 TooManyHeaders"),
-    (OrderFault::MixedStart, "G5 MixedStart"),
-    (OrderFault::PositionLate, "G6 PositionLate"),
-    (OrderFault::MoveBeforeTurn, "G7 MoveBeforeTurn"),
-    (OrderFault::RepeatedTurn, "G8 RepeatedTurn"),
-    (OrderFault::LooseTime, "G9 LooseTime"),
-    (OrderFault::AfterEnding, "G10 AfterEnding"),
-    (OrderFault::TooManyMoves, "G11 TooManyMoves"),
-    (OrderFault::MissingTurn, "G12 MissingTurn"),
-];
-
-#[test]
-fn prints_faults(rt: HostRuntime) -> Result<(), Fail> {
-    for (fault, wanted) in FAULTS {
-        let printed = format!(in rt.alloc(); "{fault}")?;
-        assert_eq!(rt; printed.as_str(), wanted);
-    }
-    let refusal = Refusal {
-        number: 4,
-        offset: 28,
-        why: Why::Text(TextFault::BadMove),
-    };
-    let printed = format!(in rt.alloc(); "{refusal}")?;
-    assert_eq!(rt; printed.as_str(), "statement 4, offset 28: C5 BadMove");
-    Ok(())
-}
 
 fn square(file: u8, rank: u8) -> Result<Square, Fail> {
     Ok(Square::new(file, rank).ok_or("no square")?)
@@ -89,18 +58,15 @@ fn builds_and_writes(rt: HostRuntime) -> Result<(), Fail> {
     Ok(())
 }
 
-// Whether a time is one too many now.
-fn is_loose(record: &mut Record) -> bool {
-    record.set_time(1) == order(OrderFault::LooseTime)
-}
-
 #[test]
-fn one_time_for_each_move(rt: HostRuntime) -> Result<(), Fail> {
-    let mut record = Record::new(rt.alloc(), Position::even())?;
-    assert!(rt; is_loose(&mut record));
-    record.play(Color::Black, first()?)?;
-    record.set_time(12000)?;
-    assert!(rt; is_loose(&mut record));
+fn shows_its_parts(rt: HostRuntime) -> Result<(), Fail> {
+    let record = closed(rt.alloc())?;
+    assert!(rt; record.name(Color::Black) == Some(b"a,b".as_slice()));
+    assert!(rt; record.name(Color::White).is_none());
+    assert!(rt; record.header(b"EVENT") == Some(HeaderValue::Plain(b"a")));
+    assert!(rt; record.line().moves() == [first()?, second()?].as_slice());
+    assert!(rt; record.time(1) == Some(6000) && record.time(2).is_none());
+    assert!(rt; record.ending() == Some(Ending::Toryo) && record.ending_time().is_none());
     Ok(())
 }
 
@@ -116,38 +82,6 @@ fn nothing_stands_behind_the_ending(rt: HostRuntime) -> Result<(), Fail> {
     assert!(rt; is_closed(&mut record, first()?));
     record.set_time(5)?;
     assert!(rt; record.ending_time() == Some(5));
-    Ok(())
-}
-
-#[test]
-fn shows_names(rt: HostRuntime) -> Result<(), Fail> {
-    let record = titled(rt.alloc())?;
-    assert!(rt; record.name(Color::Black) == Some(b"a,b".as_slice()));
-    assert!(rt; record.name(Color::White).is_none());
-    Ok(())
-}
-
-#[test]
-fn shows_headers(rt: HostRuntime) -> Result<(), Fail> {
-    let record = titled(rt.alloc())?;
-    assert!(rt; record.header(b"EVENT") == Some(HeaderValue::Plain(b"a")));
-    assert!(rt; record.header(b"OPENING").is_none());
-    Ok(())
-}
-
-#[test]
-fn shows_moves(rt: HostRuntime) -> Result<(), Fail> {
-    let moves = [first()?, second()?];
-    let record = closed(rt.alloc())?;
-    assert!(rt; record.line().moves() == moves.as_slice());
-    assert!(rt; record.time(1) == Some(6000) && record.time(2).is_none());
-    Ok(())
-}
-
-#[test]
-fn shows_the_ending(rt: HostRuntime) -> Result<(), Fail> {
-    let record = closed(rt.alloc())?;
-    assert!(rt; record.ending() == Some(Ending::Toryo) && record.ending_time().is_none());
     Ok(())
 }
 
@@ -170,30 +104,6 @@ fn keeps_64_headers(rt: HostRuntime) -> Result<(), Fail> {
     assert!(rt; record.set_header(b"OPENING", b"b") == order(OrderFault::TooManyHeaders));
     assert!(rt; record.set_header(b"EVENT", b"b") == order(OrderFault::RepeatedHeader));
     record.set_header(b"OPENING", b"")?;
-    Ok(())
-}
-
-#[test]
-fn refuses_a_move_of_the_other_side(rt: HostRuntime) -> Result<(), Fail> {
-    let mut record = Record::new(rt.alloc(), Position::even())?;
-    assert!(rt; record.play(Color::White, first()?) == Err(Why::Rule(Rule::WrongSide)));
-    Ok(())
-}
-
-#[test]
-fn keeps_a_moment_as_a_moment(rt: HostRuntime) -> Result<(), Fail> {
-    let moment = read_moment(b"2024/02/29 09:05:07").ok_or("no moment")?;
-    let mut record = Record::new(rt.alloc(), Position::even())?;
-    record.set_header(b"START_TIME", b"2024/2/29 9:05:07")?;
-    assert!(rt; record.header(b"START_TIME") == Some(HeaderValue::Moment(moment)));
-    Ok(())
-}
-
-#[test]
-fn keeps_a_date_that_does_not_exist(rt: HostRuntime) -> Result<(), Fail> {
-    let mut record = Record::new(rt.alloc(), Position::even())?;
-    record.set_header(b"END_TIME", b"2023/02/29")?;
-    assert!(rt; record.header(b"END_TIME") == Some(HeaderValue::Plain(b"2023/02/29")));
     Ok(())
 }
 
