@@ -18,7 +18,7 @@ use Rattle.shogi_session.specs.declared.state.EngineState.TheVariants.{Thinking}
 use Rattle.shogi_session.specs.Asking.{MayAsk, Asks, asked, not_asked, go_line}
 use Rattle.shogi_session.specs.State.{Match, line_of, position_now}
 use Rattle.shogi_session.specs.Summary.{TellsPosition}
-use Rattle.shogi_session.specs.Texts.{before_kept, without_last_spaces}
+use Rattle.session_lines.specs.Texts.{before_kept, without_last_spaces}
 use Rattle.shogi_session.proofs.Existing.{some_line}
 use Rattle.shogi_session.proofs.PositionRead.{FitsIn, not_so}
 

@@ -12,7 +12,7 @@ use Rattle.shogi_session.specs.declared.config.Config.{Config}
 use Rattle.shogi_session.specs.Asked.{IsAsked}
 use Rattle.shogi_session.specs.Asking.{MayAsk, go_line, thousandths, used}
 use Rattle.shogi_session.specs.State.{Match, line_of}
-use Rattle.shogi_session.specs.Texts.{ended_line, text_of}
+use Rattle.session_lines.specs.Texts.{ended_line, text_of}
 
 abbrev played_of : Game → Played
 played_of x = record { start = x.start; moves = map move_of x.moves }

@@ -17,7 +17,7 @@ use Rattle.shogi_session.specs.Phases.{IsPhase, Reacts, Stays, client_of, going}
 use Rattle.shogi_session.specs.Promises.{IsGameText, game_text, no_game, Session, Steps, SameStates, KeepsGame, before, after}
 use Rattle.shogi_session.specs.Row.{Row, unnamed}
 use Rattle.shogi_session.specs.State.{Client, State, slip_of}
-use Rattle.shogi_session.specs.Texts.{text_of}
+use Rattle.session_lines.specs.Texts.{text_of}
 use Rattle.shogi_session.proofs.RowOnce.{row_once}
 use Rattle.shogi_session.proofs.Unnamed.{stopped}
 

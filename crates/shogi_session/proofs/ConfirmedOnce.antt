@@ -4,10 +4,10 @@ use Rattle.std.specs.List.{AllByRecursion, AllZip, filter}
 use Rattle.shogi_board.specs.declared.color.Color.{Color}
 use Rattle.csa_record.specs.Game.{Timed}
 use Rattle.shogi_session.specs.Logs.{Step, Moved, IsMoved, GoesOn, EndsPlay, Confirmed, summary_lines}
-use Rattle.shogi_session.specs.MoveLines.{is_move_line}
+use Rattle.session_lines.specs.MoveLines.{is_move_line}
 use Rattle.shogi_session.specs.Summary.{Offer, TellsOffer, TellsSummary}
 use Rattle.shogi_session.proofs.Counting.{counts_is}
-use Rattle.shogi_session.proofs.LinesRead.{timed_once}
+use Rattle.session_lines.proofs.LinesRead.{timed_once}
 use Rattle.shogi_session.proofs.RowOnce.{offer_once}
 
 abbrev Lines : Type 0

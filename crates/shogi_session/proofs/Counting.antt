@@ -10,7 +10,7 @@ use Rattle.std.proofs.lemmas.List.Elements.{filter_map-append}
 use Rattle.std.proofs.lemmas.Slice.Eq.{bytes_eq-Decides, slice_eq-Decides}
 use Rattle.shogi_session.specs.Hearing.{one_more, extended, value_or, heard_after}
 use Rattle.shogi_session.specs.Summary.{PositionBlocks, none, one, several, Heard, nothing_heard, Block, Part, line, block, begin_line, end_line, begun_lines, part_lines, IsBlock, IsPart, value_of, last_text, last_value, block_of, is_position, position_text, counted, title_of, CountsAs}
-use Rattle.shogi_session.specs.Texts.{ended_line, text_of}
+use Rattle.session_lines.specs.Texts.{ended_line, text_of}
 
 abbrev Lines : Type 0
 Lines = List (List ℕ)

@@ -6,8 +6,8 @@ use Rattle.std.proofs.lemmas.List.Elements.{filter-append, filter_map-append}
 use Rattle.shogi_board.specs.declared.color.Color.{Color}
 use Rattle.csa_record.specs.Game.{Game, Timed}
 use Rattle.shogi_session.specs.Logs.{Step, hears, sends, heard, server_lines, behind, ahead, behind_login, is_begin_line, EndsPlay, GoesOn, Moved, timed_of, IsMoved, Confirmed, game_confirmed, counted}
-use Rattle.shogi_session.specs.MoveLines.{is_move_line}
-use Rattle.shogi_session.specs.ServerLines.{is_login_ok, is_start_line}
+use Rattle.session_lines.specs.MoveLines.{is_move_line}
+use Rattle.session_lines.specs.ServerLines.{is_login_ok, is_start_line}
 use Rattle.shogi_session.specs.State.{game_with}
 use Rattle.shogi_session.specs.Summary.{Heard, CountsAs, Offer, TellsOffer, TellsSummary}
 use Rattle.shogi_session.proofs.Testing.{NoneOf, HasOne, all_more, has_more, has_found, behind_found, behind_more, ahead_found, ahead_more, any_has, behind_none}

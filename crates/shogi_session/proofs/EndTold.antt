@@ -3,9 +3,9 @@ use Rattle.std.proofs.Common.{◌≡◌, ℕ, ◌++◌, Bool, true, false, List,
 use Rattle.csa_record.specs.Game.{Ended}
 use Rattle.shogi_session.specs.Logs.{Keeps, result_in, reason_in}
 use Rattle.shogi_session.specs.Row.{first_reason, with_reason}
-use Rattle.shogi_session.specs.ServerLines.{Outcome, Reason, is_ending_line, is_hash_line, TellsEnding, outcome_of, reason_of}
+use Rattle.session_lines.specs.ServerLines.{Outcome, Reason, is_ending_line, is_hash_line, TellsEnding, outcome_of, reason_of}
 use Rattle.shogi_session.specs.State.{Finish, nothing_told}
-use Rattle.shogi_session.proofs.LinesRead.{ending_or_hash}
+use Rattle.session_lines.proofs.LinesRead.{ending_or_hash}
 use Rattle.shogi_session.proofs.RowOnce.{no_outcome, result_hash}
 
 abbrev Lines : Type 0

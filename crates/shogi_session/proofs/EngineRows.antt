@@ -28,8 +28,8 @@ use Rattle.shogi_session.specs.Promises.{before}
 use Rattle.shogi_session.specs.Row.{TableRow, IsUnnamed, in_table, unnamed, IsBestMove, login_line, failed}
 use Rattle.shogi_session.specs.Row as row
 use Rattle.shogi_session.specs.State.{Match, Client, playing, sent, logging_in, State, client_state, position_now, slip_of}
-use Rattle.shogi_session.specs.Texts.{text_of, ended_line}
-use Rattle.shogi_session.proofs.Answering.{one_text}
+use Rattle.session_lines.specs.Texts.{text_of, ended_line}
+use Rattle.session_lines.proofs.OneLine.{one_text}
 use Rattle.shogi_session.proofs.Unnamed.{engine_deaf, engine_over}
 
 -- 1. Any row

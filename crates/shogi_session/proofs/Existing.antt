@@ -27,10 +27,10 @@ use Rattle.usi_text.specs.Letters.{square_text, letter}
 use Rattle.usi_text.specs.LineText.{StartText, MovesText, BehindStart, LineText}
 use Rattle.usi_text.specs.Moves.{UsiMove}
 use Rattle.usi_text.specs.SfenText.{sfen_text}
-use Rattle.shogi_session.specs.MoveLines.{is_move_line}
-use Rattle.shogi_session.specs.ServerLines.{TellsTimed, IsMove, IsTime, UnitFault, ExtraFault, FirstTextFault}
-use Rattle.shogi_session.specs.ServerLines as lines
-use Rattle.shogi_session.proofs.LinesRead.{head_of, begins_so, either}
+use Rattle.session_lines.specs.MoveLines.{is_move_line}
+use Rattle.session_lines.specs.ServerLines.{TellsTimed, IsMove, IsTime, UnitFault, ExtraFault, FirstTextFault}
+use Rattle.session_lines.specs.ServerLines as lines
+use Rattle.session_lines.proofs.LinesRead.{head_of, begins_so, either}
 
 -- 1. position lines
 walk_word : (p : Placed) (from to : Square) (k : Kind) → KindFits p (Walk from to k) → (word : List ℕ) × UsiMove p word (Walk from to k)

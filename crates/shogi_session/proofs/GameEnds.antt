@@ -15,7 +15,7 @@ use Rattle.csa_record.specs.Says.{time_items}
 use Rattle.csa_record.specs.Tells.{IsSpelt}
 use Rattle.shogi_session.specs.GameTold.{ending_of}
 use Rattle.shogi_session.specs.Phases.{kept_of}
-use Rattle.shogi_session.specs.ServerLines.{Outcome, Reason, TellsEnding, TellsTimed}
+use Rattle.session_lines.specs.ServerLines.{Outcome, Reason, TellsEnding, TellsTimed}
 use Rattle.shogi_session.specs.State.{game_with}
 
 -- 1. the time that a line tells

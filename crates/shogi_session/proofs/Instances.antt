@@ -27,7 +27,7 @@ use Rattle.shogi_session.specs.Events.{server_line, no_lines}
 use Rattle.shogi_session.specs.Examples.{pawn_start, pawn_match, pawn_step, ready}
 use Rattle.shogi_session.specs.Row.{Row, in_table, failed, Judged, breaks}
 use Rattle.shogi_session.specs.Row as row
-use Rattle.shogi_session.specs.ServerLines.{TellsTimed}
+use Rattle.session_lines.specs.ServerLines.{TellsTimed}
 use Rattle.shogi_session.specs.State.{move, playing, sent, line_of, with_move}
 
 abbrev from : Square

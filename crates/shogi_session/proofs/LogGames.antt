@@ -10,13 +10,13 @@ use Rattle.shogi_session.specs.GameTold.{ending_of, ended_game, game_of}
 use Rattle.shogi_session.specs.Logs.{Step, Leads, next, counted, is_sound, behind, Moved, Confirmed, game_confirmed, Keeps, reason_in, result_in, GameOf, TellsGame}
 use Rattle.shogi_session.specs.Promises.{KeepsGame, before, after}
 use Rattle.shogi_session.specs.Row.{Row}
-use Rattle.shogi_session.specs.ServerLines.{Outcome, Reason}
+use Rattle.session_lines.specs.ServerLines.{Outcome, Reason}
 use Rattle.shogi_session.specs.State.{Match, Finish, Client, idle, logging_in, before_summary, summary, agreeing, playing, sent, reason, closing, ended, State}
 use Rattle.shogi_session.specs.Summary.{Offer, TellsSummary}
 use Rattle.shogi_session.proofs.AlwaysAsks.{offer_plain}
 use Rattle.shogi_session.proofs.ConfirmedOnce.{confirmed_once, rest_once}
 use Rattle.shogi_session.proofs.Courses.{Steps, Lines, agrees, hears_start, Agreed, confirmed_of, confirmed_first, summary_of, started_of}
-use Rattle.shogi_session.proofs.LinesRead.{ending_once}
+use Rattle.session_lines.proofs.LinesRead.{ending_once}
 use Rattle.shogi_session.proofs.Onward.{step, counted_out, log_tied}
 use Rattle.shogi_session.proofs.Testing.{NoneOf, HasOne, any_has, any_none}
 use Rattle.shogi_session.proofs.Tied.{Tied, InPlay, IsOver}

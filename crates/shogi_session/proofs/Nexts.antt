@@ -11,7 +11,7 @@ use Rattle.csa_text.specs.declared.fault.TextFault.TheVariants.{Unknown}
 use Rattle.csa_text.specs.declared.item.Item.{Item}
 use Rattle.csa_record.specs.Tells.{IsSpelt}
 use Rattle.shogi_session.specs.NextItems.{Leads, IsUnread, unread, Next, FaultAt, EndFault, LastTime}
-use Rattle.shogi_session.specs.ServerLines.{another, extra}
+use Rattle.session_lines.specs.ServerLines.{another, extra}
 
 -- a cutter that handed out a statement
 pub record Handed (c d : Cutting) (number offset : ℕ) (bytes : List ℕ) : Type 0 where

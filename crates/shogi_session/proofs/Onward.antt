@@ -26,11 +26,11 @@ use Rattle.shogi_session.specs.Asking.{Asks, asked, not_asked, go_line}
 use Rattle.shogi_session.specs.Events.{Event, begin, engine_line, server_line, engine_end, server_end, engine_long, server_long, Out, no_lines}
 use Rattle.shogi_session.specs.Hearing.{heard_after}
 use Rattle.shogi_session.specs.Logs.{Step, Leads, new, next, server_lines, behind, behind_login, is_begin_line, GoesOn, is_answer, is_sound, counted, is_counted, answers, sent_lines}
-use Rattle.shogi_session.specs.MoveLines.{is_move_line}
+use Rattle.session_lines.specs.MoveLines.{is_move_line}
 use Rattle.shogi_session.specs.Row.{Play, in_play, before_result, Judged, IsExpected, TableRow, IsInTable, IsUnnamed, Row, in_table, unnamed, answer_line, login_line, with_reason, text_fault, too_many, breaks}
 use Rattle.shogi_session.specs.Row as row
 use Rattle.shogi_session.specs.Sending.{own_texts}
-use Rattle.shogi_session.specs.ServerLines.{Outcome, is_login_ok, is_start_line, is_hash_line, outcome_of, reason_of}
+use Rattle.session_lines.specs.ServerLines.{Outcome, is_login_ok, is_start_line, is_hash_line, outcome_of, reason_of}
 use Rattle.shogi_session.specs.State.{Match, Answer, move, toryo, kachi, Finish, Client, idle, logging_in, before_summary, summary, agreeing, playing, sent, reason, closing, ended, State, match_of, line_of, with_move}
 use Rattle.shogi_session.specs.Summary.{Heard, nothing_heard, CountsAs, Offer, TellsOffer}
 use Rattle.shogi_session.proofs.Counting.{counts_first, counts_next, counts_more}
@@ -38,7 +38,7 @@ use Rattle.shogi_session.proofs.Courses.{Steps, Lines, sends_login, agrees, hear
 use Rattle.shogi_session.proofs.EndTold.{told_ending}
 use Rattle.shogi_session.proofs.Existing.{some_line, fault_or_told}
 use Rattle.shogi_session.proofs.Fitting.{FitsState, idle_only, log_fits}
-use Rattle.shogi_session.proofs.LinesRead.{move_or_ending, move_or_hash}
+use Rattle.session_lines.proofs.LinesRead.{move_or_ending, move_or_hash}
 use Rattle.shogi_session.proofs.RowOnce.{result_hash}
 use Rattle.shogi_session.proofs.Testing.{HasOne, has_more, has_found, none_more, behind_found, behind_more}
 use Rattle.shogi_session.proofs.Tied.{Tied, Early, IsSilent, Skipped, Passed, nothing_skipped, tied_silent, may_follow, legal_more, plays_of, confirm, finish, hash, over_closed}

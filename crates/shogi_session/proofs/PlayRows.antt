@@ -30,16 +30,16 @@ use Rattle.shogi_session.specs.Asked.{IsAsked}
 use Rattle.shogi_session.specs.Asking.{asked, not_asked}
 use Rattle.shogi_session.specs.Events.{Event, server_line, engine}
 use Rattle.shogi_session.specs.GameTold.{ending_of, game_of}
-use Rattle.shogi_session.specs.MoveLines.{is_move_line}
+use Rattle.session_lines.specs.MoveLines.{is_move_line}
 use Rattle.shogi_session.specs.Phases.{Confirms, GoesOn, IsAskText, IsOn, IsPlay, KeepsEnding, Reacts, Same, Stays, TellsEnd, closed, finish_of, kept_of, match_in, play_client, reason_of, staged, waiting_in, why_of}
 use Rattle.shogi_session.specs.Promises.{after}
 use Rattle.shogi_session.specs.Row.{Play, in_play, before_result, in_table, IsRefused, IsExpected, Judged, gameover_line, with_reason}
 use Rattle.shogi_session.specs.Row as row
-use Rattle.shogi_session.specs.ServerLines.{Outcome, Reason, is_ending_line, is_hash_line, outcome_of, TellsEnding, TellsTimed, FirstTextFault}
-use Rattle.shogi_session.specs.ServerLines as lines
+use Rattle.session_lines.specs.ServerLines.{Outcome, Reason, is_ending_line, is_hash_line, outcome_of, TellsEnding, TellsTimed, FirstTextFault}
+use Rattle.session_lines.specs.ServerLines as lines
 use Rattle.shogi_session.specs.ServerWords.{outcome, reason as reason_is}
 use Rattle.shogi_session.specs.State.{Match, Finish, Client, playing, reason, closing, client_state, slip_of, line_of, game_with, with_move}
-use Rattle.shogi_session.specs.Texts.{text_of}
+use Rattle.session_lines.specs.Texts.{text_of}
 use Rattle.shogi_session.proofs.AlwaysAsks.{some_ask}
 use Rattle.shogi_session.proofs.EngineRows.{by_row, state, still, stays}
 use Rattle.shogi_session.proofs.GameEnds.{kept_again}

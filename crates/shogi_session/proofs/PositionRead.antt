@@ -7,7 +7,7 @@ use Rattle.csa_text.specs.Cutting.{Cutting, ToCome, IsTooLong}
 use Rattle.csa_text.specs.Spelling.{Saying, Spells}
 use Rattle.csa_record.specs.Tells.{IsSpelt}
 use Rattle.shogi_session.proofs.Nexts.{Handed, unit_of, handed_leads, handed_first, handed_spelt}
-use Rattle.shogi_session.proofs.OneStatement.{AtStart, whole}
+use Rattle.session_lines.proofs.OneStatement.{AtStart, whole}
 use Rattle.shogi_session.specs.PositionTexts.{SpellsPosition, IsPositionText}
 use Rattle.shogi_session.specs.Summary.{in_position}
 

@@ -37,14 +37,14 @@ use Rattle.shogi_session.specs.declared.state.EngineState.TheVariants.{New, Gree
 use Rattle.shogi_session.specs.Asking.{Asks, asked, not_asked, go_line}
 use Rattle.shogi_session.specs.Events.{Event, begin, engine_line, server_line, engine_end, server_end, engine_long, server_long, Out, no_lines, engine, server}
 use Rattle.shogi_session.specs.Hearing.{heard_after}
-use Rattle.shogi_session.specs.MoveLines.{is_move_line}
+use Rattle.session_lines.specs.MoveLines.{is_move_line}
 use Rattle.shogi_session.specs.Row.{TableRow, IsInTable, Row, in_table, unnamed, Play, in_play, before_result, client_to, failed, login_line, answer_line, slipped, gameover_line, with_reason, IsBestMove, IsLegalWord, IsNoAnswer, Judged, IsRefused, IsExpected}
 use Rattle.shogi_session.specs.Row as row
-use Rattle.shogi_session.specs.ServerLines.{Outcome, is_login_ok, is_start_line, is_reject_line, is_ending_line, is_hash_line, TellsEnding, look_up, outcomes, outcome_of, reason_of}
+use Rattle.session_lines.specs.ServerLines.{Outcome, is_login_ok, is_start_line, is_reject_line, is_ending_line, is_hash_line, TellsEnding, look_up, outcomes, outcome_of, reason_of}
 use Rattle.shogi_session.specs.State.{Match, Answer, move, toryo, kachi, Finish, Client, idle, logging_in, before_summary, summary, agreeing, playing, sent, reason, closing, ended, State, client_state, match_of, line_of, position_now, with_move}
 use Rattle.shogi_session.specs.Summary.{Heard, nothing_heard, Offer, one, TellsOffer, TellsPosition, nameless}
 use Rattle.shogi_session.proofs.Counting.{counts_next}
-use Rattle.shogi_session.proofs.LinesRead.{start_or_reject, move_or_ending, move_or_hash, ending_or_hash, timed_once, ending_once, fault_once, fault_or_move}
+use Rattle.session_lines.proofs.LinesRead.{start_or_reject, move_or_ending, move_or_hash, ending_or_hash, timed_once, ending_once, fault_once, fault_or_move}
 
 abbrev pub Lines : Type 0
 Lines = List (List ℕ)

@@ -15,7 +15,7 @@ use Rattle.shogi_session.specs.Logs.{Leads, next, behind, Moved, Confirmed, game
 use Rattle.shogi_session.specs.Row.{TableRow, Row, in_table, unnamed, answer_line, login_line, gameover_line}
 use Rattle.shogi_session.specs.Row as row
 use Rattle.shogi_session.specs.Sending.{match_told, IsAnswered, legal_move, toryo, kachi, OwnSent, is_position_line, AskedRight}
-use Rattle.shogi_session.specs.ServerLines.{Outcome, win, lose, draw, censored, chudan}
+use Rattle.session_lines.specs.ServerLines.{Outcome, win, lose, draw, censored, chudan}
 use Rattle.shogi_session.specs.State.{Match, move, Finish, Client, idle, logging_in, before_summary, summary, agreeing, playing, sent, reason, closing, ended, State, match_of, position_now, with_move}
 use Rattle.shogi_session.specs.Summary.{Offer}
 use Rattle.shogi_session.proofs.Courses.{Steps, Lines, agrees, hears_start, Agreed, confirmed_of, confirmed_first}

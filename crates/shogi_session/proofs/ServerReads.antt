@@ -14,10 +14,10 @@ use Rattle.csa_record.specs.Says.{time_items}
 use Rattle.csa_record.specs.Tells.{IsSpelt}
 use Rattle.shogi_board.specs.declared.color.Color.{Color}
 use Rattle.shogi_rules.specs.declared.moves.Move.{Move}
-use Rattle.shogi_session.proofs.OneStatement.{AtStart, whole}
-use Rattle.shogi_session.specs.MoveLines.{is_move_line}
+use Rattle.session_lines.proofs.OneStatement.{AtStart, whole}
+use Rattle.session_lines.specs.MoveLines.{is_move_line}
 use Rattle.shogi_session.specs.NextItems.{Leads, FaultAt, LastTime, IsEnding}
-use Rattle.shogi_session.specs.ServerLines.{IsLineOf, IsMove, IsTime, TellsEnding, UnitFault, too_long, unread, another, FirstTextFault, no_move, no_time, more}
+use Rattle.session_lines.specs.ServerLines.{IsLineOf, IsMove, IsTime, TellsEnding, UnitFault, too_long, unread, another, FirstTextFault, no_move, no_time, more}
 
 -- 1. What is read
 -- a statement, and then all that is left

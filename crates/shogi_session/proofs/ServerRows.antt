@@ -26,12 +26,12 @@ use Rattle.shogi_session.specs.Phases.{Reacts, Stays, Same, GoesOn, IsOpen, IsPh
 use Rattle.shogi_session.specs.Promises.{before}
 use Rattle.shogi_session.specs.Row.{IsUnnamed}
 use Rattle.shogi_session.specs.Row as row
-use Rattle.shogi_session.specs.ServerLines.{is_login_ok, is_start_line, is_reject_line}
+use Rattle.session_lines.specs.ServerLines.{is_login_ok, is_start_line, is_reject_line}
 use Rattle.shogi_session.specs.State.{Match, Client, logging_in, before_summary, summary, agreeing, playing, client_state, slip_of, match_of}
 use Rattle.shogi_session.specs.Summary.{Heard, nothing_heard, CountsAs, Offer, TellsOffer}
-use Rattle.shogi_session.specs.Texts.{ended_line}
+use Rattle.session_lines.specs.Texts.{ended_line}
 use Rattle.shogi_session.proofs.AlwaysAsks.{offer_plain, offer_legal}
-use Rattle.shogi_session.proofs.Answering.{one_text}
+use Rattle.session_lines.proofs.OneLine.{one_text}
 use Rattle.shogi_session.proofs.Counting.{counts_more}
 use Rattle.shogi_session.proofs.EngineRows.{by_row, by_none, stays}
 

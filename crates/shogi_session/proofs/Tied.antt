@@ -14,10 +14,10 @@ use Rattle.csa_text.specs.Codes.{move_text}
 use Rattle.csa_record.specs.Game.{Game, Timed, move_of}
 use Rattle.csa_record.specs.Items.{AtMostOne}
 use Rattle.shogi_session.specs.Logs.{Step, heard, server_lines, behind, behind_login, EndsPlay, GoesOn, Moved}
-use Rattle.shogi_session.specs.MoveLines.{is_move_line}
+use Rattle.session_lines.specs.MoveLines.{is_move_line}
 use Rattle.shogi_session.specs.Row.{Play, in_play, before_result, Judged, IsExpected, answer_line}
 use Rattle.shogi_session.specs.Sending.{own_text, own_texts}
-use Rattle.shogi_session.specs.ServerLines.{Outcome, is_hash_line, outcome_of}
+use Rattle.session_lines.specs.ServerLines.{Outcome, is_hash_line, outcome_of}
 use Rattle.shogi_session.specs.State.{Match, move, toryo, kachi, Finish, nothing_told, Client, idle, logging_in, before_summary, summary, agreeing, playing, sent, reason, closing, ended, State, line_of, position_now, game_with}
 use Rattle.shogi_session.specs.Summary.{CountsAs, Offer}
 use Rattle.shogi_session.proofs.Courses.{Steps, Lines, sends_login, agrees, hears_ok, hears_begin, hears_start, extra, one_extra, Logged, logged_more, login_more, Begun, begun_more, Agreed, agreed_more, Course, course_quiet, course_skips, course_moves, course_ends, course_over}

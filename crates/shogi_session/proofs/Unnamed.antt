@@ -9,10 +9,10 @@ use Rattle.shogi_session.specs.declared.event.Status.TheVariants.{Going}
 use Rattle.shogi_session.specs.declared.state.EngineState.{EngineState}
 use Rattle.shogi_session.specs.declared.state.EngineState.TheVariants.{New, Greeting, Readying, Ready, Thinking, Ended as EngineEnded}
 use Rattle.shogi_session.specs.Events.{Event, begin, engine_line, server_line, engine_end, server_end, Out}
-use Rattle.shogi_session.specs.MoveLines.{is_move_line}
+use Rattle.session_lines.specs.MoveLines.{is_move_line}
 use Rattle.shogi_session.specs.Phases.{going}
 use Rattle.shogi_session.specs.Row.{IsUnnamed, IsBestMove, Play, in_play, before_result}
-use Rattle.shogi_session.specs.ServerLines.{Outcome, is_login_ok, is_start_line, is_reject_line, is_ending_line, is_hash_line, TellsEnding}
+use Rattle.session_lines.specs.ServerLines.{Outcome, is_login_ok, is_start_line, is_reject_line, is_ending_line, is_hash_line, TellsEnding}
 use Rattle.shogi_session.specs.State.{Match, Finish, Client, idle, logging_in, before_summary, summary, agreeing, playing, sent, reason, closing, ended, State}
 use Rattle.shogi_session.specs.Summary.{Offer}
 use Rattle.shogi_session.proofs.RowOnce.{StateRow, PlayRow, refuses, unsent, confirms, tells_end, starts, rejects, HashRow, hash_line, ServerRow, by_state, by_play, by_hash, EngineRow, Thinks, means, no_play, no_result, state_or_play}

@@ -3,7 +3,7 @@ use Rattle.std.specs.Prelude.{◌≡◌, ℕ, Bool, true, false, List, []}
 use Rattle.shogi_session.specs.declared.config.Config.{Config}
 use Rattle.shogi_session.specs.Asking.{MayAsk, AskLines}
 use Rattle.shogi_session.specs.State.{Match}
-use Rattle.shogi_session.specs.Texts.{text_of}
+use Rattle.session_lines.specs.Texts.{text_of}
 
 -- it may be asked, and the text is the lines that ask it; or it may not, and there is no text
 abbrev pub IsAsked : Config → Match → Bool → List ℕ → Type 0

@@ -10,7 +10,7 @@ use Rattle.csa_record.specs.Game.{Timed, move_of}
 use Rattle.shogi_session.specs.declared.config.Config.{Config}
 use Rattle.shogi_session.specs.declared.state.EngineState.{EngineState}
 use Rattle.shogi_session.specs.declared.state.EngineState.TheVariants.{Thinking}
-use Rattle.shogi_session.specs.LineTexts as texts
+use Rattle.session_lines.specs.LineTexts as texts
 use Rattle.shogi_session.specs.State.{Match, line_of, position_now}
 
 -- the client is to move, the position does not stand for the fourth time, and fewer than 10,000 moves stand

@@ -1,6 +1,6 @@
 -- What happens to a bridge, and the lines that it gives.
 use Rattle.std.specs.Prelude.{ℕ, List, [], ◌∷◌}
-use Rattle.shogi_session.specs.Texts.{without_last_spaces}
+use Rattle.session_lines.specs.Texts.{without_last_spaces}
 
 pub data Event : Type 0 where
   begin : Event

@@ -6,7 +6,7 @@ use Rattle.shogi_board.specs.Pieces.{opponent}
 use Rattle.csa_text.specs.declared.ending.Ending.{Ending}
 use Rattle.csa_text.specs.declared.ending.Ending.TheVariants.{Toryo, Chudan, Sennichite, TimeUp, IllegalMove, BlackIllegalAction, WhiteIllegalAction, Jishogi}
 use Rattle.csa_record.specs.Game.{Game, Ended}
-use Rattle.shogi_session.specs.ServerLines.{Outcome, win, lose, draw, censored, chudan, Reason, resign, time_up, illegal_move, sennichite, oute_sennichite, jishogi, max_moves, other}
+use Rattle.session_lines.specs.ServerLines.{Outcome, win, lose, draw, censored, chudan, Reason, resign, time_up, illegal_move, sennichite, oute_sennichite, jishogi, max_moves, other}
 use Rattle.shogi_session.specs.State.{Match, Finish, Client, idle, logging_in, before_summary, summary, agreeing, playing, sent, reason, closing, ended}
 
 -- that side's sign in `%+ILLEGAL_ACTION` or `%-ILLEGAL_ACTION`

@@ -1,9 +1,9 @@
 -- What counts of a summary's lines with one line more, as a plain function for the code.
 use Rattle.std.specs.Prelude.{ℕ, ◌++◌, List, [], length, drop, Option, Some, None, nat_eq, bytes_eq, if◌then◌else◌}
 use Rattle.std.specs.List.{starts_with}
-use Rattle.shogi_session.specs.LineTexts as texts
+use Rattle.session_lines.specs.LineTexts as texts
 use Rattle.shogi_session.specs.Summary.{Heard, PositionBlocks, none, one, several, end_line, is_position}
-use Rattle.shogi_session.specs.Texts.{ended_line}
+use Rattle.session_lines.specs.Texts.{ended_line}
 
 -- a position block begins
 abbrev pub one_more : PositionBlocks → PositionBlocks

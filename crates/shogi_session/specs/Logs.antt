@@ -8,10 +8,10 @@ use Rattle.shogi_session.specs.declared.event.Status.{Status}
 use Rattle.shogi_session.specs.declared.event.Status.TheVariants.{Going, Done, Failed, Lost}
 use Rattle.shogi_session.specs.Events.{Event, begin, engine_line, server_line, engine_end, server_end, engine_long, server_long, Out}
 use Rattle.shogi_session.specs.GameTold.{ending_of, game_of}
-use Rattle.shogi_session.specs.LineTexts as texts
-use Rattle.shogi_session.specs.MoveLines.{is_move_line}
+use Rattle.session_lines.specs.LineTexts as texts
+use Rattle.session_lines.specs.MoveLines.{is_move_line}
 use Rattle.shogi_session.specs.Row.{Row}
-use Rattle.shogi_session.specs.ServerLines.{Outcome, Reason, is_login_ok, is_start_line, is_ending_line, is_hash_line, TellsTimed, TellsEnding, outcome_of, reason_of}
+use Rattle.session_lines.specs.ServerLines.{Outcome, Reason, is_login_ok, is_start_line, is_ending_line, is_hash_line, TellsTimed, TellsEnding, outcome_of, reason_of}
 use Rattle.shogi_session.specs.State.{Client, State, first_state, game_with}
 use Rattle.shogi_session.specs.Summary.{Offer, TellsSummary}
 

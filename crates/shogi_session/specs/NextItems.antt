@@ -9,7 +9,7 @@ use Rattle.csa_text.specs.declared.fault.TextFault.{TextFault}
 use Rattle.csa_text.specs.declared.fault.TextFault.TheVariants.{StatementTooLong}
 use Rattle.csa_text.specs.declared.item.Item.{Item}
 use Rattle.csa_record.specs.Tells.{IsSpelt}
-use Rattle.shogi_session.specs.ServerLines.{IsTime, UnitFault, ExtraFault}
+use Rattle.session_lines.specs.ServerLines.{IsTime, UnitFault, ExtraFault}
 
 -- the first statement that is still to come is this one, and then come those of the new cutter
 abbrev pub Leads : Cutting → TextUnit → Cutting → Type 0

@@ -30,16 +30,16 @@ use Rattle.shogi_session.specs.declared.state.EngineState.{EngineState}
 use Rattle.shogi_session.specs.Events.{Event, Out}
 use Rattle.shogi_session.specs.Asking.{Asks}
 use Rattle.shogi_session.specs.GameTold.{ending_of, game_of}
-use Rattle.shogi_session.specs.LineTexts as texts
+use Rattle.session_lines.specs.LineTexts as texts
 use Rattle.shogi_session.specs.Offers.{offer_in}
 use Rattle.shogi_session.specs.Promises.{KeepsGame}
 use Rattle.shogi_session.specs.Row.{Row}
-use Rattle.shogi_session.specs.ServerLines as lines
-use Rattle.shogi_session.specs.ServerLines.{Outcome, TellsEnding}
+use Rattle.session_lines.specs.ServerLines as lines
+use Rattle.session_lines.specs.ServerLines.{Outcome, TellsEnding}
 use Rattle.shogi_session.specs.ServerWords.{outcome, reason as reason_is}
 use Rattle.shogi_session.specs.State.{Match, Answer, move, toryo, kachi, Finish, game_with, Client, idle, logging_in, before_summary, summary, agreeing, playing, sent, reason, closing, ended, State, client_state, slip_of}
 use Rattle.shogi_session.specs.Summary.{CountsAs}
-use Rattle.shogi_session.specs.Texts.{text_of}
+use Rattle.session_lines.specs.Texts.{text_of}
 
 -- 1. The states
 abbrev pub answer_of : Given → Answer

@@ -9,10 +9,10 @@ use Rattle.shogi_session.specs.declared.event.Event.TheVariants as handed
 use Rattle.shogi_session.specs.declared.event.Status.{Status}
 use Rattle.shogi_session.specs.Events.{Event, begin, engine_line, server_line, engine_end, server_end, engine_long, server_long, trimmed, Out}
 use Rattle.shogi_session.specs.GameTold.{game_of}
-use Rattle.shogi_session.specs.Host.{IsLoginWord}
+use Rattle.session_peers.specs.Host.{IsLoginWord}
 use Rattle.shogi_session.specs.Row.{Row}
 use Rattle.shogi_session.specs.State.{State, client_state}
-use Rattle.shogi_session.specs.Texts.{text_of}
+use Rattle.session_lines.specs.Texts.{text_of}
 
 -- what callers keep of a name and a password
 pub record IsConfig (c : Config) : Type 0 where

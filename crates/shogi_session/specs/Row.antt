@@ -27,9 +27,9 @@ use Rattle.shogi_session.specs.declared.state.EngineState.{EngineState}
 use Rattle.shogi_session.specs.declared.state.EngineState.TheVariants.{New, Greeting, Readying, Ready, Thinking, Ended as EngineEnded}
 use Rattle.shogi_session.specs.Asking.{Asks}
 use Rattle.shogi_session.specs.Events.{Event, begin, engine_line, server_line, engine_end, server_end, engine_long, server_long, Out, no_lines, engine, server}
-use Rattle.shogi_session.specs.LineTexts as texts
-use Rattle.shogi_session.specs.MoveLines.{is_move_line}
-use Rattle.shogi_session.specs.ServerLines.{Outcome, win, lose, draw, censored, chudan, Reason, is_login_ok, is_start_line, is_reject_line, is_ending_line, is_hash_line, TellsTimed, TellsEnding, FirstTextFault, outcome_of, reason_of}
+use Rattle.session_lines.specs.LineTexts as texts
+use Rattle.session_lines.specs.MoveLines.{is_move_line}
+use Rattle.session_lines.specs.ServerLines.{Outcome, win, lose, draw, censored, chudan, Reason, is_login_ok, is_start_line, is_reject_line, is_ending_line, is_hash_line, TellsTimed, TellsEnding, FirstTextFault, outcome_of, reason_of}
 use Rattle.shogi_session.specs.State.{Match, Answer, move, toryo, kachi, Finish, nothing_told, Client, idle, logging_in, before_summary, summary, agreeing, playing, sent, reason, closing, ended, State, client_state, match_of, line_of, position_now, with_move}
 use Rattle.shogi_session.specs.Summary.{Heard, nothing_heard, CountsAs, Offer, TellsOffer}
 

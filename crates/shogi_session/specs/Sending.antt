@@ -9,7 +9,7 @@ use Rattle.csa_text.specs.Codes.{move_text}
 use Rattle.csa_record.specs.Items.{AtMostOne}
 use Rattle.shogi_session.specs.declared.config.Config.{Config}
 use Rattle.shogi_session.specs.Asking.{MayAsk, AskLines}
-use Rattle.shogi_session.specs.LineTexts as texts
+use Rattle.session_lines.specs.LineTexts as texts
 use Rattle.shogi_session.specs.Logs.{Step, Moved, Confirmed, game_confirmed, answers}
 use Rattle.shogi_session.specs.State.{Match, position_now}
 use Rattle.shogi_session.specs.Summary.{Offer}

@@ -3,7 +3,7 @@ use Rattle.shogi_session.specs.declared.server_words.GameResult.{GameResult}
 use Rattle.shogi_session.specs.declared.server_words.GameResult.TheVariants.{Win, Lose, Draw, Censored, Chudan}
 use Rattle.shogi_session.specs.declared.server_words.EndReason.{EndReason}
 use Rattle.shogi_session.specs.declared.server_words.EndReason.TheVariants.{Resign, TimeUp, IllegalMove, Sennichite, OuteSennichite, Jishogi, MaxMoves, Other}
-use Rattle.shogi_session.specs.ServerLines.{Outcome, win, lose, draw, censored, chudan, Reason, resign, time_up, illegal_move, sennichite, oute_sennichite, jishogi, max_moves, other}
+use Rattle.session_lines.specs.ServerLines.{Outcome, win, lose, draw, censored, chudan, Reason, resign, time_up, illegal_move, sennichite, oute_sennichite, jishogi, max_moves, other}
 
 abbrev pub outcome : GameResult → Outcome
 outcome Win = win

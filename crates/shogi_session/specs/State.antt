@@ -13,7 +13,7 @@ use Rattle.shogi_session.specs.declared.state.EngineState.{EngineState}
 use Rattle.shogi_session.specs.declared.state.EngineState.TheVariants.{New, Greeting, Readying, Ready, Thinking, Ended as EngineEnded}
 use Rattle.shogi_session.specs.declared.state.Waits.{Waits}
 use Rattle.shogi_session.specs.declared.state.Waits.TheVariants.{Engine, Server, Nobody}
-use Rattle.shogi_session.specs.ServerLines.{Outcome, Reason}
+use Rattle.session_lines.specs.ServerLines.{Outcome, Reason}
 use Rattle.shogi_session.specs.Summary.{Heard, Offer}
 
 -- a match: the client's side, the game so far, whose moves are the confirmed ones, those of the summary first, and

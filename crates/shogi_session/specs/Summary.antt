@@ -10,8 +10,8 @@ use Rattle.csa_record.specs.Game.{Game}
 use Rattle.csa_record.specs.Items.{is_body, is_ending}
 use Rattle.csa_record.specs.Says.{Says}
 use Rattle.csa_record.specs.Tells.{IsSpelt}
-use Rattle.shogi_session.specs.LineTexts as texts
-use Rattle.shogi_session.specs.Texts.{text_of}
+use Rattle.session_lines.specs.LineTexts as texts
+use Rattle.session_lines.specs.Texts.{text_of}
 
 -- 1. What counts of the lines
 -- the position blocks: none, the text of the only one, or several

@@ -1,10 +1,10 @@
 ghost use Rattle.std.specs.Prelude.{◌≡◌, [], IfOk};
 ghost use Rattle.shogi_session.specs.declared.event.Status.TheVariants.{Failed, Going};
-ghost use Rattle.shogi_session.specs.Texts.{ended_line};
+ghost use Rattle.session_lines.specs.Texts.{ended_line};
 
 use crate::event::{Out, Status};
 use crate::fault::SessionFault;
-use crate::lines::Lines;
+use session_lines::Lines;
 use shogi_board::OutOfMemory;
 use std::alloc::Global;
 

@@ -5,13 +5,12 @@ ghost use Rattle.shogi_rules.specs.Repetition.{Over};
 ghost use Rattle.shogi_session.specs.Asked.{IsAsked};
 ghost use Rattle.shogi_session.specs.Asking.{MayAsk, left, go_line, thousandths};
 ghost use Rattle.shogi_session.specs.State.{Match};
-ghost use Rattle.shogi_session.specs.Texts.{ended_line};
+ghost use Rattle.session_lines.specs.Texts.{ended_line};
 
 use crate::config::Config;
-use crate::lines::Lines;
-use crate::texts;
 use csa_record::Record;
 use itoa::Buffer;
+use session_lines::{Lines, texts};
 use shogi_board::{Color, OutOfMemory};
 use shogi_rules::{Line, MAX_MOVES, Verdict};
 use std::alloc::Global;

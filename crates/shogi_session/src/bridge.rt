@@ -8,19 +8,18 @@ ghost use Rattle.shogi_session.specs.Events.{Out as Told, begin, engine_end, ser
 ghost use Rattle.shogi_session.specs.Phases.{IsPhase, Reacts, Stays, client_of, staged};
 ghost use Rattle.shogi_session.specs.Promises.{HoldsLine, IsConfig, IsGameText, KeepsGame, SameStates, StepRow, event_of};
 ghost use Rattle.shogi_session.specs.State.{Client, Match, client_state, first_state, slip_of, waits_for};
-ghost use Rattle.shogi_session.specs.Texts.{text_of};
+ghost use Rattle.session_lines.specs.Texts.{text_of};
 
 use crate::answers::{failed, no_lines, silent, tell_engine};
 use crate::config::Config;
 use crate::engine_side::hear_engine;
 use crate::event::{Event, Out, Status};
 use crate::fault::SessionFault;
-use crate::move_line::without_last_spaces;
 use crate::phase::{Phase, Stage};
 use crate::server_side::hear_server;
 use crate::state::{ClientState, EngineState, Waits};
-use crate::texts;
 use csa_record::write;
+use session_lines::{texts, without_last_spaces};
 use shogi_board::OutOfMemory;
 use std::alloc::Global;
 use std::marker::Model;

@@ -1,5 +1,5 @@
 use crate::fault::SessionFault;
-use crate::lines::Lines;
+use session_lines::Lines;
 
 /// What happens to a bridge. A line comes without its line end.
 #[derive(Clone, Copy, Debug, PartialEq, Eq)]

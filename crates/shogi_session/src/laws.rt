@@ -5,7 +5,7 @@ ghost use Rattle.std.specs.List.{AllByRecursion, list_any};
 ghost use Rattle.csa_record.specs.Game.{Game};
 ghost use Rattle.csa_record.specs.Items.{AtMostOne};
 ghost use Rattle.shogi_session.specs.declared.config.Config.{Config};
-ghost use Rattle.shogi_session.specs.declared.config.HostConfig.{HostConfig};
+ghost use Rattle.session_peers.specs.declared.config.HostConfig.{HostConfig};
 ghost use Rattle.shogi_session.specs.declared.event.Status.{Status};
 ghost use Rattle.shogi_session.specs.declared.state.EngineState.TheVariants.{Thinking};
 ghost use Rattle.shogi_session.specs.Asking.{MayAsk};
@@ -17,58 +17,22 @@ ghost use Rattle.shogi_board.specs.declared.square.Square.{Square};
 ghost use Rattle.shogi_session.specs.Events.{Event, Out, no_lines, server_line};
 ghost use Rattle.shogi_session.specs.Examples.{pawn_match, pawn_step, ready};
 ghost use Rattle.shogi_session.specs.GameTold.{game_of};
-ghost use Rattle.shogi_session.specs.Host.{HostRow, HostState, IsHostConfig};
-ghost use Rattle.shogi_session.specs.HostLogs.{HostLeads, HostStep, IsTimedGame, Timed, written, written_moves};
-ghost use Rattle.shogi_session.specs.Hosting.{HostSession, RowText as HostText, StepRow as HostStepRow};
+ghost use Rattle.session_peers.specs.Host.{HostState};
+ghost use Rattle.session_peers.specs.HostLogs.{HostLeads, HostStep, written, written_moves};
 ghost use Rattle.shogi_session.specs.Hearing.{heard_after};
-ghost use Rattle.shogi_session.specs.LineTexts as texts;
+ghost use Rattle.session_lines.specs.LineTexts as texts;
 ghost use Rattle.shogi_session.specs.Logs.{Confirmed, GameOf, Leads, Moved, Step, Taken, TellsGame, counted, is_answer, is_sound, sends, server_lines};
-ghost use Rattle.shogi_session.specs.MoveLines.{is_move_line};
+ghost use Rattle.session_lines.specs.MoveLines.{is_move_line};
 ghost use Rattle.shogi_session.specs.Promises.{KeepsGame, Session, StepRow, Steps};
-ghost use Rattle.shogi_session.specs.Requests.{RowText as SampleText};
 ghost use Rattle.shogi_session.specs.Row.{Row, failed};
-ghost use Rattle.shogi_session.specs.Sample.{SampleState, SampleRow};
 ghost use Rattle.shogi_session.specs.Sending.{AskedRight, IsAnswered, IsPrefix, OwnSent, is_position_line};
 ghost use Rattle.shogi_session.specs.State.{Match, State, move, playing, sent, with_move};
 ghost use Rattle.shogi_session.specs.Summary.{CountsAs, Heard, Offer, nothing_heard};
-ghost use Rattle.shogi_session.specs.Texts.{text_of, without_last_spaces};
+ghost use Rattle.session_lines.specs.Texts.{text_of};
 
-/// One line leads the sample engine to one answer and one state.
-pub fn sample_row_once()
-    ensures { (s t u : SampleState) (line : List ℕ) (lines others : List (List ℕ))
-        → SampleRow s line lines t → SampleRow s line others u → (lines ≡ others) × (t ≡ u) }
-{}
-
-/// One line leads a host to one answer and one state.
-pub fn host_row_once()
-    ensures { (c : HostConfig) (s t u : HostState) (line : List ℕ) (seconds : ℕ) (lines others : List (List ℕ))
-        → HostRow c s line seconds lines t → HostRow c s line seconds others u → (lines ≡ others) × (t ≡ u) }
-{}
-
-/// A step of the sample engine that is a row, and gives the bytes of that row's lines, gives the bytes
-/// of a row that leads so.
-pub fn sample_step_whole()
-    ensures { (s t : SampleState) (line text : List ℕ)
-        → ((lines : List (List ℕ)) × SampleRow s line lines t)
-        → ((lines : List (List ℕ)) → SampleRow s line lines t → text ≡ text_of lines) → SampleText s line text t }
-{}
-
-/// A step of a host that is a row, and gives the bytes of that row's lines, gives the bytes of a row
-/// that leads so.
-pub fn host_step_whole()
-    ensures { (old new : HostSession) (line : List ℕ) (seconds : ℕ) (text : List ℕ)
-        → ((lines : List (List ℕ)) × HostStepRow old line seconds lines new)
-        → ((lines : List (List ℕ)) → HostStepRow old line seconds lines new → text ≡ text_of lines)
-        → HostText old.config old.state (without_last_spaces line) seconds text new.state }
-{}
-
-/// In every log of a host, the lines from `+` or `-` that it wrote behind `START:` are the moves of a
-/// game from the even start, in order and with their times, and they are no more than its game may
-/// have.
-pub fn host_game()
-    ensures { (c : HostConfig) (log : List HostStep) (s : HostState) → IsHostConfig c → HostLeads c log s
-        → (ms : List Timed) × IsTimedGame c.max_moves (written_moves log) ms }
-{}
+pub use session_peers::laws::{
+    host_game, host_row_once, host_step_whole, sample_row_once, sample_step_whole,
+};
 
 /// Of no lines of a summary nothing counts; and what counts of lines with one line more follows from
 /// what counts of them, and from that line.

@@ -5,10 +5,10 @@ ghost use Rattle.csa_text.specs.Saying.{saying_of};
 ghost use Rattle.csa_text.specs.Spelling.{time, walked};
 ghost use Rattle.csa_record.specs.Tells.{IsSpelt};
 ghost use Rattle.shogi_session.specs.NextItems.{EndFault, FaultAt, LastTime, Leads, Next};
-ghost use Rattle.shogi_session.specs.ServerLines.{IsMove};
+ghost use Rattle.session_lines.specs.ServerLines.{IsMove};
 
-use crate::move_line::walked_of;
 use csa_text::{Cutter, Item, TextFault, read_item};
+use session_lines::walked_of;
 use shogi_board::Color;
 use shogi_rules::Move;
 

@@ -7,8 +7,8 @@ ghost use Rattle.shogi_board.specs.declared.color.Color.{Color};
 ghost use Rattle.shogi_session.specs.Offers.{IsNamed, IsOfferRead, offer_of};
 
 use crate::position_text::read_position;
-use crate::texts;
 use csa_record::Record;
+use session_lines::texts;
 use shogi_board::{Color, OutOfMemory};
 use std::alloc::Global;
 

@@ -6,9 +6,9 @@ ghost use Rattle.csa_text.specs.Spelling.{ending};
 ghost use Rattle.csa_text.specs.declared.ending.Ending.{Ending};
 ghost use Rattle.csa_record.specs.Game.{Ended};
 ghost use Rattle.csa_record.specs.Tells.{IsSpelt};
-ghost use Rattle.shogi_session.specs.MoveLines.{is_move_line};
+ghost use Rattle.session_lines.specs.MoveLines.{is_move_line};
 ghost use Rattle.shogi_session.specs.NextItems.{FaultAt, IsEnding, Leads};
-ghost use Rattle.shogi_session.specs.ServerLines.{FirstTextFault, TellsEnding, TellsTimed};
+ghost use Rattle.session_lines.specs.ServerLines.{FirstTextFault, TellsEnding, TellsTimed};
 
 use crate::line_items::{last_time, next_item, next_move};
 use csa_text::{Cutter, Ending, Item, TextFault};

@@ -1,8 +1,8 @@
 ghost use Rattle.std.specs.Prelude.{◌≡◌, None, Some, MatchOption, bytes_eq};
-ghost use Rattle.shogi_session.specs.ServerLines.{is_ending_line, is_hash_line, is_login_ok, is_reject_line, is_start_line, outcome_of, reason_of};
+ghost use Rattle.session_lines.specs.ServerLines.{is_ending_line, is_hash_line, is_login_ok, is_reject_line, is_start_line, outcome_of, reason_of};
 ghost use Rattle.shogi_session.specs.ServerWords.{outcome, reason};
 
-use crate::texts;
+use session_lines::texts;
 
 // How a game ended for the client.
 #[derive(Clone, Copy, Debug, PartialEq, Eq)]

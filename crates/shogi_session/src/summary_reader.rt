@@ -6,7 +6,7 @@ ghost use Rattle.shogi_session.specs.Offers.{IsToldBy, offer_of};
 ghost use Rattle.shogi_session.specs.Summary.{end_line, is_position, nothing_heard};
 
 use crate::offer::{GameOffer, read_offer};
-use crate::texts;
+use session_lines::texts;
 use shogi_board::OutOfMemory;
 use std::alloc::Global;
 use std::marker::Model;

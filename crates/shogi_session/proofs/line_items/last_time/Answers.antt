@@ -1,5 +1,5 @@
 use Rattle.std.proofs.Common.{inl}
-use Rattle.shogi_session.specs.ServerLines.{IsTime}
+use Rattle.session_lines.specs.ServerLines.{IsTime}
 use Rattle.shogi_session.proofs.Nexts.{other_item, time_then}
 use Rattle.shogi_session.proofs.line_items.last_time.Goals as goal
 

@@ -1,4 +1,4 @@
-use Rattle.shogi_session.specs.ServerLines.{IsMove}
+use Rattle.session_lines.specs.ServerLines.{IsMove}
 use Rattle.shogi_session.proofs.Nexts.{other_item}
 use Rattle.shogi_session.proofs.line_items.next_move.Goals as goal
 

@@ -1,0 +1,5 @@
+pub mod LinesRead
+pub mod MoveRead
+pub mod OneLine
+pub mod OneStatement
+pub mod Spaces

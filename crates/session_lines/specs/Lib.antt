@@ -1,0 +1,4 @@
+pub mod LineTexts
+pub mod MoveLines
+pub mod ServerLines
+pub mod Texts

@@ -1,0 +1,85 @@
+ghost use Rattle.std.specs.Prelude.{◌≡◌, ◌==◌, MatchOption};
+ghost use Rattle.csa_text.specs.Cut.{TextUnit, statement_bytes};
+ghost use Rattle.csa_text.specs.Saying.{saying_of};
+ghost use Rattle.csa_text.specs.Spelling.{walked};
+ghost use Rattle.shogi_board.specs.declared.color.Color.{Color};
+ghost use Rattle.shogi_rules.specs.declared.moves.Move.{Move};
+ghost use Rattle.session_lines.specs.MoveLines.{is_move_line, IsAlone, TellsMove};
+ghost use Rattle.session_lines.specs.Texts.{without_last_spaces};
+
+use csa_text::{Cutter, Item, read_item};
+use shogi_board::Color;
+use shogi_rules::Move;
+
+/// Whether the line is one from `+` or `-`.
+pub fn is_move_line(line: &[u8]) -> bool
+    ensures { result ≡ is_move_line line.now }
+{
+    match line.first() {
+        Some(b) => *b == b'+' || *b == b'-',
+        None => false,
+    }
+}
+
+/// The move that is the line's one statement, with its side; or None.
+pub fn read_move_line(line: &[u8]) -> Option<(Color, Move)>
+    ensures { MatchOption result
+        ((color : Color) (m : Move) → TellsMove line.now color m → ⊥)
+        (λ r. TellsMove line.now r.0 r.1) }
+{
+    let Some(statement) = only_statement(line) else {
+        return None;
+    };
+    match read_item(statement) {
+        Ok(item) => walked_of(item),
+        Err(_) => None,
+    }
+}
+
+/// The move that the item is, with its side.
+pub fn walked_of(item: Item<'_>) -> Option<(Color, Move)>
+    ensures { MatchOption result
+        ((color : Color) (m : Move) → saying_of item.entry ≡ walked color m → ⊥)
+        (λ r. saying_of item.entry ≡ walked r.0 r.1) }
+{
+    match item {
+        Item::Walked(color, mv) => Some((color, mv)),
+        _ => None,
+    }
+}
+
+// The bytes of the line's one statement; None where it has none, two or more, or one that is too long.
+fn only_statement(line: &[u8]) -> Option<&[u8]>
+    ensures { MatchOption result
+        ((unit : TextUnit) → IsAlone line.now unit → ⊥)
+        (λ bytes. (unit : TextUnit) × IsAlone line.now unit × (bytes.now ≡ statement_bytes unit.bytes)) }
+{
+    let mut cutter = Cutter::new(line);
+    let statement = match cutter.next_statement() {
+        Ok(Some(statement)) => statement,
+        Ok(None) => return None,
+        Err(_) => return None,
+    };
+    match cutter.next_statement() {
+        Ok(Some(_)) => None,
+        Ok(None) => Some(statement.bytes),
+        Err(_) => None,
+    }
+}
+
+fn is_space(b: u8) -> bool
+    ensures { result ≡ (b == 32) }
+{
+    b == b' '
+}
+
+/// The line less the spaces at its end.
+pub fn without_last_spaces(line: &[u8]) -> &[u8]
+    ensures { result.now ≡ without_last_spaces line.now }
+{
+    let mut end = line.len();
+    while end > 0 && is_space(line[end - 1]) {
+        end -= 1;
+    }
+    &line[..end]
+}

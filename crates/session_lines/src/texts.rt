@@ -1,0 +1,207 @@
+//! The texts that lines of both protocols are made of.
+
+ghost use Rattle.std.specs.Prelude.{◌≡◌, ◌↔◌, IsTrue};
+
+// The CSA server protocol: what a client sends.
+
+/// A client logs in: name and password follow.
+pub const LOGIN: &[u8] = b"LOGIN";
+
+/// A client agrees to a game.
+pub const AGREE: &[u8] = b"AGREE";
+
+/// A client rejects a game.
+pub const REJECT: &[u8] = b"REJECT";
+
+/// A client resigns.
+pub const TORYO: &[u8] = b"%TORYO";
+
+/// A client declares its win by points.
+pub const KACHI: &[u8] = b"%KACHI";
+
+/// A client logs out.
+pub const LOGOUT: &[u8] = b"LOGOUT";
+
+// What a server answers to these: whole lines, and the parts of others.
+
+/// How the answer to a login begins.
+pub const LOGIN_ANSWER: &[u8] = b"LOGIN:";
+
+/// How the answer to a login ends that is taken.
+pub const OK: &[u8] = b" OK";
+
+/// The answer to a login that is refused.
+pub const LOGIN_INCORRECT: &[u8] = b"LOGIN:incorrect";
+
+/// How the line begins that starts a game.
+pub const START: &[u8] = b"START:";
+
+/// How the line begins that tells of a rejected game.
+pub const REJECTED: &[u8] = b"REJECT:";
+
+/// What stands before the name of who rejected it.
+pub const BY: &[u8] = b" by ";
+
+/// What stands between a text and its seconds.
+pub const TIME: &[u8] = b",T";
+
+/// The answer to a logout.
+pub const LOGOUT_COMPLETED: &[u8] = b"LOGOUT:completed";
+
+// Its reasons.
+
+/// A side resigned.
+pub const RESIGN: &[u8] = b"#RESIGN";
+
+/// A side's time is over.
+pub const TIME_UP: &[u8] = b"#TIME_UP";
+
+/// A side made an illegal move.
+pub const ILLEGAL_MOVE: &[u8] = b"#ILLEGAL_MOVE";
+
+/// A position stood for the fourth time.
+pub const SENNICHITE: &[u8] = b"#SENNICHITE";
+
+/// It did so by perpetual check.
+pub const OUTE_SENNICHITE: &[u8] = b"#OUTE_SENNICHITE";
+
+/// A side declared its win by points.
+pub const JISHOGI: &[u8] = b"#JISHOGI";
+
+/// The game has as many moves as it may have.
+pub const MAX_MOVES: &[u8] = b"#MAX_MOVES";
+
+// Its results.
+
+/// The client has won.
+pub const WIN: &[u8] = b"#WIN";
+
+/// The client has lost.
+pub const LOSE: &[u8] = b"#LOSE";
+
+/// The game is drawn.
+pub const DRAW: &[u8] = b"#DRAW";
+
+/// The game is over and counts for neither side.
+pub const CENSORED: &[u8] = b"#CENSORED";
+
+/// The game was broken off.
+pub const CHUDAN: &[u8] = b"#CHUDAN";
+
+// Its game summary.
+
+/// How the first line of a block of the summary begins.
+pub const BEGIN: &[u8] = b"BEGIN ";
+
+/// How its last line begins.
+pub const END: &[u8] = b"END ";
+
+/// The first line of the summary.
+pub const BEGIN_SUMMARY: &[u8] = b"BEGIN Game_Summary";
+
+/// Its last line.
+pub const END_SUMMARY: &[u8] = b"END Game_Summary";
+
+/// The title of the block of the start.
+pub const POSITION_TITLE: &[u8] = b"Position";
+
+/// The first line of that block.
+pub const BEGIN_POSITION: &[u8] = b"BEGIN Position";
+
+/// Its last line.
+pub const END_POSITION: &[u8] = b"END Position";
+
+/// The game's name follows.
+pub const GAME_ID: &[u8] = b"Game_ID:";
+
+/// Black's name follows.
+pub const BLACK_NAME: &[u8] = b"Name+:";
+
+/// White's name follows.
+pub const WHITE_NAME: &[u8] = b"Name-:";
+
+/// The client's side follows.
+pub const YOUR_TURN: &[u8] = b"Your_Turn:";
+
+/// Black moves first.
+pub const BLACK_TO_MOVE: &[u8] = b"To_Move:+";
+
+/// The most moves that the game may have follow.
+pub const MOST_MOVES: &[u8] = b"Max_Moves:";
+
+/// The even start.
+pub const EVEN_START: &[u8] = b"PI";
+
+/// Black's sign.
+pub const BLACK: &[u8] = b"+";
+
+/// White's sign.
+pub const WHITE: &[u8] = b"-";
+
+// The USI protocol: what an engine is sent.
+
+/// The engine is to greet.
+pub const USI: &[u8] = b"usi";
+
+/// The engine is to get ready.
+pub const IS_READY: &[u8] = b"isready";
+
+/// A game begins.
+pub const NEW_GAME: &[u8] = b"usinewgame";
+
+/// The first word of a position line.
+pub const POSITION: &[u8] = b"position";
+
+/// The first word of a line that asks for a move.
+pub const GO: &[u8] = b"go";
+
+/// How a line begins that asks for a move with clocks; black's clock follows.
+pub const GO_BLACK_TIME: &[u8] = b"go btime ";
+
+/// White's clock follows.
+pub const WHITE_TIME: &[u8] = b" wtime ";
+
+/// The time for each move follows.
+pub const BYOYOMI: &[u8] = b" byoyomi ";
+
+/// The engine's side has won.
+pub const GAME_WON: &[u8] = b"gameover win";
+
+/// The engine's side has lost.
+pub const GAME_LOST: &[u8] = b"gameover lose";
+
+/// Neither side has won.
+pub const GAME_DRAWN: &[u8] = b"gameover draw";
+
+/// The engine is to quit.
+pub const QUIT: &[u8] = b"quit";
+
+// What an engine answers.
+
+/// The engine's name.
+pub const ID_NAME: &[u8] = b"id name shogi";
+
+/// The engine's author.
+pub const ID_AUTHOR: &[u8] = b"id author shogi";
+
+/// The engine has greeted.
+pub const USI_OK: &[u8] = b"usiok";
+
+/// The engine is ready.
+pub const READY_OK: &[u8] = b"readyok";
+
+/// The engine's move follows.
+pub const BEST_MOVE: &[u8] = b"bestmove ";
+
+/// The engine resigns.
+pub const NO_BEST_MOVE: &[u8] = b"bestmove resign";
+
+/// What stands between words.
+pub const SPACE: &[u8] = b" ";
+
+/// Whether a text is the wanted one.
+pub fn is_same(text: &[u8], wanted: &[u8]) -> bool
+    ensures { IsTrue result ↔ (text.now ≡ wanted.now) }
+{
+    text == wanted
+}

@@ -1,0 +1,5 @@
+use Rattle.session_peers.proofs.HostOnce.{host_row_once}
+use Rattle.session_peers.proofs.laws.host_row_once.Goals as goal
+
+pub returns : goal.returns
+returns c = host_row_once

@@ -1,0 +1,19 @@
+use Rattle.usi_text.proofs.Fronts.{no_word, one_word, none_left, some_left}
+use Rattle.session_peers.proofs.words.next_word.Goals as goal
+
+pub returns-then-is_empty : goal.returns-then-is_empty
+returns-then-is_empty c =
+    let all = c.run_length.ensures in
+    no_word c.args.text.now c.split_at.result.1.now c.run_length.result
+    (record { cut = c.split_at.ensures.back; within = all.within; run = all.run; ends = all.ends })
+    (none_left _ c.is_empty.result c.is_empty.ensures c.if-is_empty.true)
+
+pub returns : goal.returns
+returns c =
+    let all = c.run_length.ensures in
+    let word = c.run_length-2.ensures in
+    let some = some_left _ c.is_empty.result c.is_empty.ensures c.if-is_empty.false in
+    rw (c.split_at-2.ensures.front, c.split_at-2.ensures.back)
+    (one_word c.args.text.now c.split_at.result.1.now c.run_length.result c.run_length-2.result
+    (record { cut = c.split_at.ensures.back; within = all.within; run = all.run; ends = all.ends })
+    (record { within = word.within; run = word.run; ends = word.ends }) some)

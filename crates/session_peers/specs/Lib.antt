@@ -1,0 +1,10 @@
+pub mod Host
+pub mod HostLogs
+pub mod Hosting
+pub mod Requests
+pub mod Sample
+pub mod SampleStage
+pub use Rattle.session_lines.specs.LineTexts
+pub use Rattle.session_lines.specs.MoveLines
+pub use Rattle.session_lines.specs.ServerLines
+pub use Rattle.session_lines.specs.Texts

@@ -1,0 +1,29 @@
+-- What a line asks of the sample engine, and the bytes of its answer: what its private helpers promise.
+use Rattle.std.specs.Prelude.{◌≡◌, ℕ, ◌++◌, ◌∷◌, [], List, Option, Some}
+use Rattle.shogi_rules.specs.Positions.{Played}
+use Rattle.session_peers.specs.declared.sample.Request.{Request}
+use Rattle.session_peers.specs.declared.sample.Request.TheVariants.{Usi, IsReady, Position, Go, Quit, Other}
+use Rattle.session_lines.specs.LineTexts as texts
+use Rattle.session_peers.specs.Sample.{SampleState, SampleRow, IsWord, BeginsWith, HasNoMove, IsBest}
+use Rattle.session_lines.specs.Texts.{text_of}
+
+abbrev pub Asks : List ℕ → Request → Type 0
+Asks line Usi = IsWord line texts.usi
+Asks line IsReady = IsWord line texts.is_ready
+Asks line Position = BeginsWith line texts.position
+Asks line Go = BeginsWith line texts.go
+Asks line Quit = IsWord line texts.quit
+Asks line Other =
+    (IsWord line texts.usi → ⊥) × (IsWord line texts.is_ready → ⊥) × (BeginsWith line texts.position → ⊥)
+    × (BeginsWith line texts.go → ⊥) × (IsWord line texts.quit → ⊥)
+
+-- the bytes are those of the lines of a row
+abbrev pub RowText : SampleState → List ℕ → List ℕ → SampleState → Type 0
+RowText s line text t = (lines : List (List ℕ)) × SampleRow s line lines t × (text ≡ text_of lines)
+
+-- the bytes of the answer to `go`
+pub data IsGoText (kept : Option Played) (text : List ℕ) : Type 0 where
+  moves : (g : Played) (word : List ℕ)
+      → kept ≡ Some g → IsBest g word → text ≡ text_of ((texts.best_move ++ word) ∷ [])
+      → IsGoText kept text
+  resigns : HasNoMove kept → text ≡ text_of (texts.no_best_move ∷ []) → IsGoText kept text

@@ -1,0 +1,8 @@
+-- What the sample engine's own stage is.
+use Rattle.session_peers.specs.declared.sample.Stage.{Stage}
+use Rattle.session_peers.specs.declared.sample.Stage.TheVariants.{Keeping, Quit}
+use Rattle.session_peers.specs.Sample.{SampleState, keeps, quit}
+
+abbrev pub state_of : Stage → SampleState
+state_of (Keeping kept) = keeps kept
+state_of Quit = quit

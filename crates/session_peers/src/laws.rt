@@ -1,0 +1,47 @@
+//! Laws of the definitions that the contracts of this crate cite. They take and give nothing.
+
+ghost use Rattle.std.specs.Prelude.{◌≡◌, ℕ, List};
+ghost use Rattle.session_peers.specs.declared.config.HostConfig.{HostConfig};
+ghost use Rattle.session_peers.specs.Host.{HostRow, HostState, IsHostConfig};
+ghost use Rattle.session_peers.specs.HostLogs.{HostLeads, HostStep, IsTimedGame, Timed, written_moves};
+ghost use Rattle.session_peers.specs.Hosting.{HostSession, RowText as HostText, StepRow as HostStepRow};
+ghost use Rattle.session_peers.specs.Requests.{RowText as SampleText};
+ghost use Rattle.session_peers.specs.Sample.{SampleState, SampleRow};
+ghost use Rattle.session_lines.specs.Texts.{text_of, without_last_spaces};
+
+/// One line leads the sample engine to one answer and one state.
+pub fn sample_row_once()
+    ensures { (s t u : SampleState) (line : List ℕ) (lines others : List (List ℕ))
+        → SampleRow s line lines t → SampleRow s line others u → (lines ≡ others) × (t ≡ u) }
+{}
+
+/// One line leads a host to one answer and one state.
+pub fn host_row_once()
+    ensures { (c : HostConfig) (s t u : HostState) (line : List ℕ) (seconds : ℕ) (lines others : List (List ℕ))
+        → HostRow c s line seconds lines t → HostRow c s line seconds others u → (lines ≡ others) × (t ≡ u) }
+{}
+
+/// A step of the sample engine that is a row, and gives the bytes of that row's lines, gives the bytes
+/// of a row that leads so.
+pub fn sample_step_whole()
+    ensures { (s t : SampleState) (line text : List ℕ)
+        → ((lines : List (List ℕ)) × SampleRow s line lines t)
+        → ((lines : List (List ℕ)) → SampleRow s line lines t → text ≡ text_of lines) → SampleText s line text t }
+{}
+
+/// A step of a host that is a row, and gives the bytes of that row's lines, gives the bytes of a row
+/// that leads so.
+pub fn host_step_whole()
+    ensures { (old new : HostSession) (line : List ℕ) (seconds : ℕ) (text : List ℕ)
+        → ((lines : List (List ℕ)) × HostStepRow old line seconds lines new)
+        → ((lines : List (List ℕ)) → HostStepRow old line seconds lines new → text ≡ text_of lines)
+        → HostText old.config old.state (without_last_spaces line) seconds text new.state }
+{}
+
+/// In every log of a host, the lines from `+` or `-` that it wrote behind `START:` are the moves of a
+/// game from the even start, in order and with their times, and they are no more than its game may
+/// have.
+pub fn host_game()
+    ensures { (c : HostConfig) (log : List HostStep) (s : HostState) → IsHostConfig c → HostLeads c log s
+        → (ms : List Timed) × IsTimedGame c.max_moves (written_moves log) ms }
+{}

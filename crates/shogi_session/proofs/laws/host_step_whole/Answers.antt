@@ -1,4 +1,0 @@
-use Rattle.shogi_session.proofs.laws.host_step_whole.Goals as goal
-
-pub returns : goal.returns
-returns c = λ old new line seconds text found bytes. (found.0, found.1, bytes found.0 found.1)

@@ -1,9 +1,0 @@
-use Rattle.shogi_session.specs.LineTexts as texts
-use Rattle.shogi_session.proofs.HostLines.{five_lines, on_ok}
-use Rattle.shogi_session.proofs.login.push_position.Goals as goal
-
-pub returns : goal.returns
-returns c =
-    on_ok c.push.result _ _ _ c.push.ensures
-    (rw (c.in_ok-push_two-2.ensures, c.in_ok-push_two.ensures)
-    (five_lines c.args.lines.now texts.begin_position texts.even_start texts.black texts.end_position texts.end_summary))

@@ -1,7 +1,0 @@
-use Rattle.shogi_session.proofs.HostLines.{if_ok}
-use Rattle.shogi_session.proofs.HostRows.{host_resigned}
-use Rattle.shogi_session.proofs.playing.move_host.Goals as goal
-
-pub returns-in-None : goal.returns-in-None
-returns-in-None c =
-    if_ok c.resign.result _ _ c.resign.ensures (λ r h. host_resigned _ _ c.now.result _ _ _ c.now.ensures c.in-None.ensures h.0 h.1)

@@ -1,8 +1,0 @@
-use Rattle.shogi_session.proofs.HostLines.{if_ok}
-use Rattle.shogi_session.proofs.HostRows.{host_moved}
-use Rattle.shogi_session.proofs.playing.play_host.Goals as goal
-
-pub returns-in-Ok : goal.returns-in-Ok
-returns-in-Ok c =
-    if_ok c.rest.result _ _ c.rest.ensures (λ r h. host_moved _ _ _ c.now.result c.side.result _ _ _ _ _ c.now.ensures c.side.ensures.value
-    c.requires.first c.in-Ok.ensures c.in_ok-push_move.ensures h)

@@ -1,5 +1,0 @@
-use Rattle.shogi_session.proofs.Answering.{best_of}
-use Rattle.shogi_session.proofs.sample.best_move.Goals as goal
-
-pub returns-in-Ongoing : goal.returns-in-Ongoing
-returns-in-Ongoing c = best_of c.first_move.result c.args.game.now c.now.result c.now.ensures c.in-Ongoing.ensures c.first_move.ensures

@@ -1,8 +1,0 @@
--- What the sample engine's own stage is.
-use Rattle.shogi_session.specs.declared.sample.Stage.{Stage}
-use Rattle.shogi_session.specs.declared.sample.Stage.TheVariants.{Keeping, Quit}
-use Rattle.shogi_session.specs.Sample.{SampleState, keeps, quit}
-
-abbrev pub state_of : Stage → SampleState
-state_of (Keeping kept) = keeps kept
-state_of Quit = quit
