@@ -1,0 +1,59 @@
+//! What a line of the script says.
+
+ghost use Rattle.std.specs.Prelude.{◌≡◌, ◌↔◌, IsTrue, IfSome};
+ghost use Rattle.csa_text.specs.Lines.{HasNoLineEnd};
+ghost use Rattle.shogi_session.specs.Promises.{HoldsLine, event_of};
+
+use shogi_session::Event;
+use std::alloc::{AllocError, Global};
+
+/// The bytes of a text in which `\xNN` stands for a byte.
+pub fn unescape(alloc: Global, text: &str) -> Result<Vec<u8>, AllocError> {
+    let mut parts = text.split("\\x");
+    let mut bytes = Vec::from_slice(alloc, parts.next().unwrap_or("").as_bytes())?;
+    for part in parts {
+        let (digits, rest) = part.split_at_checked(2).unwrap_or(("", part));
+        bytes.push(u8::from_str_radix(digits, 16).unwrap_or(b'?'))?;
+        bytes.extend_from_slice(rest.as_bytes())?;
+    }
+    Ok(bytes)
+}
+
+fn is_line(line: &[u8]) -> bool
+    ensures { IsTrue result → HasNoLineEnd line.now }
+{
+    line.iter().all(|b| !(*b == b'\r' || *b == b'\n'))
+}
+
+/// The event of those bytes, if they are one: `begin`, `engine:` or `server:` and a line, `ends` or `long`.
+pub fn read_event(bytes: &[u8]) -> Option<Event<'_>>
+    ensures { IfSome result (λ event. HoldsLine (event_of event)) }
+{
+    if !is_line(bytes) {
+        return None;
+    }
+    match bytes {
+        b"begin" => Some(Event::Begin),
+        b"engine ends" => Some(Event::EngineEnd),
+        b"engine long" => Some(Event::EngineLong),
+        b"server ends" => Some(Event::ServerEnd),
+        b"server long" => Some(Event::ServerLong),
+        _ => read_line(bytes),
+    }
+}
+
+fn read_line(bytes: &[u8]) -> Option<Event<'_>>
+    ensures { IfSome result (λ event. HoldsLine (event_of event)) }
+{
+    let mut parts = bytes.splitn(2, |b| *b == b':');
+    let seat = parts.next()?;
+    let line = parts.next()?;
+    if !is_line(line) {
+        return None;
+    }
+    match seat {
+        b"engine" => Some(Event::EngineLine(line)),
+        b"server" => Some(Event::ServerLine(line)),
+        _ => None,
+    }
+}

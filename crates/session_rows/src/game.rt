@@ -1,0 +1,76 @@
+//! A game of the bridge and the host.
+
+use crate::desk::{Desk, print_state};
+use crate::event::read_event;
+use anyhow::{Result, bail};
+use shogi_session::{EngineState, Waits};
+use std::io::Print;
+
+// The most lines that a bridge hears in a game.
+const MOST_LINES: u32 = 100_000;
+
+/// Plays on, the engine with these answers one after another, until none is left or the session is over. Prints what the
+/// engine was told last, and how the bridge stands.
+pub fn play_on<R: Print>(rt: &R, desk: &mut Desk<'_>, answers: &str) -> Result<()> {
+    exchange(desk, b"begin")?;
+    let mut answers = answers.split(' ');
+    for _ in 0..MOST_LINES {
+        match desk.bridge.waits_for() {
+            Waits::Nobody => break,
+            Waits::Server => hear_host(desk)?,
+            Waits::Engine => {
+                let answer = match desk.bridge.engine_state() {
+                    EngineState::Greeting => "usiok",
+                    EngineState::Readying => "readyok",
+                    _ => answers.next().unwrap_or(""),
+                };
+                if answer.is_empty() {
+                    break;
+                }
+                hear_engine(desk, answer)?;
+            }
+        }
+    }
+    print!(rt; "  engine {}\n ", desk.told.as_slice().escape_ascii())?;
+    print_state(rt, &desk.bridge)
+}
+
+// Hands the bridge an event, and the host each line that the bridge sends it, for which it took 2 seconds.
+fn exchange(desk: &mut Desk<'_>, bytes: &[u8]) -> Result<()> {
+    let Some(event) = read_event(bytes) else {
+        bail!("a line with a line end");
+    };
+    let out = desk.bridge.step(event)?;
+    if !out.to_engine.bytes().is_empty() {
+        desk.told = Vec::from_slice(desk.alloc, out.to_engine.bytes())?;
+    }
+    for line in out.to_server.bytes().split(|b| *b == b'\n') {
+        if !line.is_empty() {
+            let answer = desk.host.step(line, 2)?;
+            desk.unread.extend_from_slice(answer.to_client.bytes())?;
+        }
+    }
+    Ok(())
+}
+
+fn hear_engine(desk: &mut Desk<'_>, answer: &str) -> Result<()> {
+    let line = if answer.ends_with("ok") {
+        format!(in desk.alloc; "engine:{answer}")?
+    } else {
+        format!(in desk.alloc; "engine:bestmove {answer}")?
+    };
+    exchange(desk, line.as_bytes())
+}
+
+// Hands the bridge the host's next line; where there is none, the host is gone.
+fn hear_host(desk: &mut Desk<'_>) -> Result<()> {
+    if desk.unread.is_empty() {
+        return exchange(desk, b"server ends");
+    }
+    let mut event = Vec::from_slice(desk.alloc, b"server:")?;
+    let mut parts = desk.unread.as_slice().splitn(2, |b| *b == b'\n');
+    event.extend_from_slice(parts.next().unwrap_or(b""))?;
+    let rest = Vec::from_slice(desk.alloc, parts.next().unwrap_or(b""))?;
+    desk.unread = rest;
+    exchange(desk, event.as_slice())
+}
