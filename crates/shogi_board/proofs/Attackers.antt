@@ -16,7 +16,7 @@ use Rattle.shogi_board.specs.declared.kind.Kind.TheVariants.{Pawn, Lance, Knight
 use Rattle.shogi_board.specs.declared.square.Square.{Square}
 use Rattle.shogi_board.proofs.Moves.{near-ray, near-step}
 use Rattle.shogi_board.proofs.OneOf.{OneOf, any-of, one-of}
-use Rattle.shogi_board.proofs.Sight.{too-far}
+use Rattle.shogi_board.proofs.Sight.{too-far, off-edge}
 use Rattle.shogi_board.proofs.Squares.{away-same}
 
 -- 1. The way back
@@ -197,4 +197,11 @@ none-there cells color s a d n ray far clear sight attack =
     elim (cases_lt sight.distance n) [
       | inl lt ↦ let none = clear sight.distance a sight.some lt sight.away in let stands = attack.reach.stands in cc
       | inr ge ↦ too-far s a d sight.distance ray (omega arith) sight.away
+    ]
+
+pub edge-there : (cells : Cells) (color : Color) (s a : Square) (d : Direction) (n : ℕ) → IsRay d → ((t : Square) → IsAway s d n t → ⊥) → IsClear cells s d n → InSight cells s d a → Attack cells color a s → ⊥
+edge-there cells color s a d n ray off clear sight attack =
+    elim (cases_lt sight.distance n) [
+      | inl lt ↦ let none = clear sight.distance a sight.some lt sight.away in let stands = attack.reach.stands in cc
+      | inr ge ↦ off-edge s a d n sight.distance ray (omega arith) off sight.away
     ]

@@ -1,5 +1,6 @@
 pub mod Attackers
 pub mod Cells
+pub mod Kings
 pub mod Layout
 pub mod Moves
 pub mod Neighbours

@@ -193,10 +193,11 @@ impl Board {
         ensures { IsTrue result ↔ AttackInSight self.now color square direction }
     {
         for n in 1..9u8 {
-            if let Some(from) = square.away(direction, n) {
-                if self.at(from).is_some() {
-                    return self.attacks(color, from, square);
-                }
+            let Some(from) = square.away(direction, n) else {
+                return false;
+            };
+            if self.at(from).is_some() {
+                return self.attacks(color, from, square);
             }
         }
         false

@@ -47,8 +47,8 @@ settled-safe p m s other e d safe check =
     let back : opponent other ≡ p.side = ap opponent d ∙ opponent-twice p.side in
     safe (rw (e, back) check)
 
-pub settled-attacked : (p : Placed) (m : Move) (s : Layout) (other : Color) → s ≡ layout_of (after p m) → other ≡ opponent p.side → InCheck s.board (opponent other) → KingSafe p m → ⊥
-settled-attacked p m s other e d check safe =
+pub settled-unsafe : (p : Placed) (m : Move) (s : Layout) (other : Color) → s ≡ layout_of (after p m) → other ≡ opponent p.side → KingSafe p m → InCheck s.board (opponent other) → ⊥
+settled-unsafe p m s other e d safe check =
     let back : opponent other ≡ p.side = ap opponent d ∙ opponent-twice p.side in
     let there : InCheck (after p m).board p.side = rw (e, back) at check in
     safe there

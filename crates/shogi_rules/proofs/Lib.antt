@@ -15,3 +15,4 @@ pub mod Counted
 pub mod LastRanks
 pub mod Decided
 pub mod Standing
+pub mod MovedKings

@@ -1,6 +1,7 @@
 pub mod After
 pub mod Kinds
 pub mod Legal
+pub mod LineKings
 pub mod Order
 pub mod Play
 pub mod Positions

@@ -1,33 +1,44 @@
-ghost use Rattle.std.specs.Prelude.{◌≡◌, ◌↔◌, [], ◌∷◌, None, Some, MatchResult};
+ghost use Rattle.std.specs.Prelude.{◌≡◌, ◌↔◌, [], ◌∷◌, None, Some};
+ghost use Rattle.shogi_board.specs.Kings.{IsKingOf};
 ghost use Rattle.shogi_rules.specs.declared.rule.Rule.TheVariants.{RepetitionOver};
 ghost use Rattle.shogi_rules.specs.After.{after};
 ghost use Rattle.shogi_rules.specs.Legal.{Legal};
 ghost use Rattle.shogi_rules.specs.Rules.{Kept, KeptAlone, move_rules, all_rules, IsFirstBroken};
 
 use crate::moves::Move;
-use crate::playing::after_if_kept;
+use crate::playing::{make_if_kept, own_king};
 use crate::rule::Rule;
 use crate::search::{is_mated, is_pawn_drop};
-use shogi_board::{Color, Position};
+use shogi_board::{Color, Position, Square};
 
-// The position after the move, or the first of the rules 3 to 11 that the side to move breaks by it.
-pub(crate) fn after_by_side(position: &Position, mv: &Move) -> Result<Position, Rule>
-    ensures { MatchResult result
-        (λ next. IsFirstBroken (KeptAlone position.now mv.now) move_rules None × (next ≡ after position.now mv.now))
-        (λ rule. IsFirstBroken (KeptAlone position.now mv.now) move_rules (Some rule)) }
+// Makes `next` the position after the move, or says which of the rules 3 to 11 the side to move breaks first by it.
+pub(crate) fn make_by_side(
+    position: &Position,
+    king: Option<Square>,
+    mv: &Move,
+    next: &mut Position,
+) -> Option<Rule>
+    requires { IsKingOf position.now.board position.now.side king }
+    ensures broken { IsFirstBroken (KeptAlone position.now mv.now) move_rules result }
+    ensures value { result ≡ None → next.new ≡ after position.now mv.now }
 {
-    let next = after_if_kept(position, mv)?;
-    if is_pawn_drop(mv) && is_mated(&next) {
-        return Err(Rule::PawnDropMate);
+    match make_if_kept(position, king, mv, next) {
+        Some(rule) => Some(rule),
+        None => {
+            if is_pawn_drop(mv) && is_mated(next) {
+                return Some(Rule::PawnDropMate);
+            }
+            None
+        }
     }
-    Ok(next)
 }
 
 // The first of the rules 3 to 11 that the side to move breaks by the move.
 fn broken_by_side(position: &Position, mv: &Move) -> Option<Rule>
     ensures { IsFirstBroken (KeptAlone position.now mv.now) move_rules result }
 {
-    after_by_side(position, mv).err()
+    let mut next = *position;
+    make_by_side(position, own_king(position), mv, &mut next)
 }
 
 /// The first rule that the move of that side breaks, in the order of their numbers, or None exactly where it is legal.

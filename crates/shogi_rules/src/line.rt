@@ -7,12 +7,13 @@ ghost use Rattle.shogi_rules.specs.Rules.{Kept, move_rules, IsFirstBroken};
 ghost use Rattle.shogi_rules.specs.Verdicts.{Stands};
 ghost use Rattle.shogi_rules.specs.declared.line.PlayFault.TheVariants.{OutOfMemory};
 
-use crate::judging::after_by_side;
+use crate::judging::make_by_side;
 use crate::moves::Move;
+use crate::playing::king_after;
 use crate::repetition::{verdict_by_moves, verdict_of_stretch};
 use crate::rule::Rule;
 use crate::seen::Seen;
-use shogi_board::{Color, Position};
+use shogi_board::{Color, Position, Square};
 use std::alloc::{AllocFailed, Global};
 use std::marker::Model;
 use thiserror::Error;
@@ -68,18 +69,22 @@ pub struct Line {
     moves: Vec<Move>,
     // all positions, the start and the last too
     seen: Seen,
+    // where the kings of the last position stand: that of the side to move, and the other
+    own_king: Option<Square>,
+    other_king: Option<Square>,
 }
 
 impl Model for Line {
     ghost use Rattle.std.specs.Prelude.{◌≡◌};
     ghost use Rattle.shogi_rules.specs.Positions.{Played, IsLine};
     ghost use Rattle.shogi_rules.specs.Repetition.{times};
+    ghost use Rattle.shogi_rules.specs.LineKings.{AreKings};
 
     ghost Value = { Played };
 
     ghost view = { λ l. record { start = l.start; moves = l.moves.items } };
 
-    ghost invariant = { (λ l. IsLine l.start l.last l.moves.items l.seen × (l.repeats ≡ times l.seen l.last)) };
+    ghost invariant = { (λ l. IsLine l.start l.last l.moves.items l.seen × (l.repeats ≡ times l.seen l.last) × AreKings l.last l.own_king l.other_king) };
 }
 
 impl Line {
@@ -89,6 +94,7 @@ impl Line {
     pub fn new(alloc: Global, start: Position) -> Result<Line, shogi_board::OutOfMemory>
         ensures { IfOk result (λ l. l ≡ record { start = start; moves = [] }) }
     {
+        let side = start.side();
         let mut seen = Seen::new(alloc);
         let repeats = seen.push(start)?;
         Ok(Line {
@@ -97,6 +103,8 @@ impl Line {
             repeats,
             moves: Vec::new(alloc),
             seen,
+            own_king: start.king(side),
+            other_king: start.king(side.opponent()),
         })
     }
 
@@ -137,33 +145,39 @@ impl Line {
         self.repeats >= 4
     }
 
-    // The position after the move, or the first of the rules 3 to 11 that the side to move breaks by it.
-    fn after_next(&self, mv: &Move) -> Result<Position, Rule>
-        ensures { MatchResult result
-            (λ next. IsFirstBroken (Kept (all_of self.now) (now_of self.now) (now_of self.now).side mv.now) move_rules None × (next ≡ after (now_of self.now) mv.now))
-            (λ rule. IsFirstBroken (Kept (all_of self.now) (now_of self.now) (now_of self.now).side mv.now) move_rules (Some rule)) }
+    // The side to move.
+    fn side(&self) -> Color
+        ensures { result ≡ (now_of self.now).side }
     {
-        after_by_side(&self.last, mv)
+        self.last.side()
     }
 
-    // The position after the move, or what `play` refuses, memory aside.
-    fn next(&self, mover: Color, mv: &Move) -> Result<Position, PlayFault>
+    // Makes `next` the position after the move, or says which of the rules 3 to 11 the side to move breaks first by it.
+    fn make_next(&self, mv: &Move, next: &mut Position) -> Option<Rule>
+        ensures broken { IsFirstBroken (Kept (all_of self.now) (now_of self.now) (now_of self.now).side mv.now) move_rules result }
+        ensures value { result ≡ None → next.new ≡ after (now_of self.now) mv.now }
+    {
+        make_by_side(&self.last, self.own_king, mv, next)
+    }
+
+    // Makes `next` the position after the move, or says what `play` refuses, memory aside.
+    fn answer(&self, mover: Color, mv: &Move, next: &mut Position) -> Result<(), PlayFault>
         ensures { MatchResult result
-            (λ next. Answers self.now mover mv.now None × (next ≡ after (now_of self.now) mv.now))
+            (λ _. Answers self.now mover mv.now None × (next.new ≡ after (now_of self.now) mv.now))
             (λ fault. Answers self.now mover mv.now (Some fault)) }
     {
         if self.is_full() {
             return Err(PlayFault::TooManyMoves);
         }
-        if mover != self.now().side() {
+        if mover != self.side() {
             return Err(PlayFault::Broken(Rule::WrongSide));
         }
         if self.is_over() {
             return Err(PlayFault::Broken(Rule::RepetitionOver));
         }
-        match self.after_next(mv) {
-            Ok(next) => Ok(next),
-            Err(rule) => Err(PlayFault::Broken(rule)),
+        match self.make_next(mv, next) {
+            None => Ok(()),
+            Some(rule) => Err(PlayFault::Broken(rule)),
         }
     }
 
@@ -171,7 +185,8 @@ impl Line {
     pub fn fault(&self, mover: Color, mv: &Move) -> Option<PlayFault>
         ensures { Answers self.now mover mv.now result }
     {
-        self.next(mover, mv).err()
+        let mut next = self.last;
+        self.answer(mover, mv, &mut next).err()
     }
 
     /// Plays the move of that side.
@@ -185,10 +200,16 @@ impl Line {
         ensures played { OnOk result (self.new ≡ record self.old { moves = self.old.moves ++ mv ∷ [] }) }
         ensures unchanged { OnErr result (self.new ≡ self.old) }
     {
-        let next = self.next(mover, &mv)?;
+        let mut next = self.last;
+        // a clause of `side` says that the last position is sound
+        let _side = self.last.side();
+        self.answer(mover, &mv, &mut next)?;
         self.moves.push(mv)?;
         match self.seen.push(next) {
             Ok(repeats) => {
+                let king = king_after(self.own_king, &mv);
+                self.own_king = self.other_king;
+                self.other_king = king;
                 self.last = next;
                 self.repeats = repeats;
                 Ok(())

@@ -1,23 +1,24 @@
-ghost use Rattle.std.specs.Prelude.{◌≡◌, ◌↔◌, IsTrue, MatchResult, [], ◌∷◌, Some};
+ghost use Rattle.std.specs.Prelude.{◌≡◌, ◌↔◌, IsTrue, true, MatchOption, MatchResult, [], ◌∷◌, None, Some};
+ghost use Rattle.shogi_board.specs.Kings.{IsKingOf};
 ghost use Rattle.shogi_board.specs.Reach.{InCheck};
 ghost use Rattle.shogi_board.specs.Setup.{layout_of};
 ghost use Rattle.shogi_rules.specs.After.{after};
-ghost use Rattle.shogi_rules.specs.Legal.{FitsBoard, KingSafe, Keeps};
+ghost use Rattle.shogi_board.specs.declared.kind.Kind.TheVariants.{King};
+ghost use Rattle.shogi_rules.specs.Legal.{FitsBoard, KingSafe, Keeps, kind_after, target};
 ghost use Rattle.shogi_rules.specs.Rules.{KeptAlone, keeping_rules, IsFirstBroken};
-ghost use Rattle.shogi_rules.specs.declared.rule.Rule.TheVariants.{LeavesKing};
 
 use crate::board_rules::broken_on_board;
 use crate::moves::Move;
 use crate::rule::Rule;
 use shogi_board::{Kind, Position, Setup, Square, attacked};
 
-// What stands after a walk that fits the board.
-fn setup_after_walk(position: &Position, from: Square, to: Square, kind: Kind) -> Setup
-    requires { FitsBoard position.now (Move.Walk from to kind) }
-    ensures { result ≡ layout_of (after position.now (Move.Walk from to kind)) }
+// Makes of the position's setup what stands after a walk that fits the board.
+fn walk(setup: &mut Setup, position: &Position, from: Square, to: Square, kind: Kind)
+    requires fits { FitsBoard position.now (Move.Walk from to kind) }
+    requires start { setup.old ≡ layout_of position.now }
+    ensures { setup.new ≡ layout_of (after position.now (Move.Walk from to kind)) }
 {
     let side = position.side();
-    let mut setup = position.setup();
     setup.clear(from);
     match position.piece_at(to) {
         None => setup.put(side, to, kind),
@@ -27,44 +28,54 @@ fn setup_after_walk(position: &Position, from: Square, to: Square, kind: Kind) -
             setup.put_in_hand(side, captured.kind.unpromoted());
         }
     }
-    setup
 }
 
-// What stands after a drop that fits the board.
-fn setup_after_drop(position: &Position, to: Square, kind: Kind) -> Setup
-    requires { FitsBoard position.now (Move.Put to kind) }
-    ensures { result ≡ layout_of (after position.now (Move.Put to kind)) }
+// Makes of the position's setup what stands after a drop that fits the board.
+fn drop_piece(setup: &mut Setup, position: &Position, to: Square, kind: Kind)
+    requires fits { FitsBoard position.now (Move.Put to kind) }
+    requires start { setup.old ≡ layout_of position.now }
+    ensures { setup.new ≡ layout_of (after position.now (Move.Put to kind)) }
 {
     let side = position.side();
-    let mut setup = position.setup();
     setup.take_from_hand(side, kind);
     setup.put(side, to, kind);
-    setup
 }
 
-// What stands after a move that fits the board.
-fn setup_after(position: &Position, mv: &Move) -> Setup
-    requires { FitsBoard position.now mv.now }
-    ensures { result ≡ layout_of (after position.now mv.now) }
+// Makes of the position's setup what stands after a move that fits the board.
+fn make(setup: &mut Setup, position: &Position, mv: &Move)
+    requires fits { FitsBoard position.now mv.now }
+    requires start { setup.old ≡ layout_of position.now }
+    ensures { setup.new ≡ layout_of (after position.now mv.now) }
 {
     match *mv {
-        Move::Walk { from, to, kind } => setup_after_walk(position, from, to, kind),
-        Move::Put { to, kind } => setup_after_drop(position, to, kind),
+        Move::Walk { from, to, kind } => walk(setup, position, from, to, kind),
+        Move::Put { to, kind } => drop_piece(setup, position, to, kind),
     }
 }
 
-// The position after a move that fits the board, or the rule that it leaves the king attacked.
-fn after_if_king_safe(position: &Position, mv: &Move) -> Result<Position, Rule>
-    requires { FitsBoard position.now mv.now }
-    ensures { MatchResult result
-        (λ next. KingSafe position.now mv.now × (next ≡ after position.now mv.now))
-        (λ rule. (KingSafe position.now mv.now → ⊥) × (rule ≡ LeavesKing)) }
+// Where the mover's king stands after the move.
+pub(crate) fn king_after(king: Option<Square>, mv: &Move) -> Option<Square>
+    ensures moved { kind_after mv.now ≡ King → result ≡ Some (target mv.now) }
+    ensures stays { (kind_after mv.now ≡ King → ⊥) → result ≡ king }
+{
+    if mv.kind() == Kind::King {
+        Some(mv.target())
+    } else {
+        king
+    }
+}
+
+// Makes `next` the position after a move that fits the board, where it leaves the mover's king safe, and says whether it does.
+fn make_if_safe(position: &Position, king: Option<Square>, mv: &Move, next: &mut Position) -> bool
+    requires fits { FitsBoard position.now mv.now }
+    requires king { IsKingOf position.now.board position.now.side king }
+    ensures safe { IsTrue result ↔ KingSafe position.now mv.now }
+    ensures value { result ≡ true → next.new ≡ after position.now mv.now }
 {
     let other = position.side().opponent();
-    match setup_after(position, mv).finish(other) {
-        Ok(next) => Ok(next),
-        Err(_) => Err(Rule::LeavesKing),
-    }
+    let mut setup = position.setup();
+    make(&mut setup, position, mv);
+    setup.settle(other, king_after(king, mv), next)
 }
 
 /// The position after the move of the side to move.
@@ -74,7 +85,32 @@ pub fn after(position: &Position, mv: &Move) -> Position
     requires { Keeps position.now mv.now }
     ensures { result ≡ after position.now mv.now }
 {
-    after_if_king_safe(position, mv).unwrap()
+    after_if_kept(position, mv).unwrap()
+}
+
+// Makes `next` the position after the move, or says which of the rules 3 to 10 the side to move breaks first by it.
+pub(crate) fn make_if_kept(
+    position: &Position,
+    king: Option<Square>,
+    mv: &Move,
+    next: &mut Position,
+) -> Option<Rule>
+    requires { IsKingOf position.now.board position.now.side king }
+    ensures kept { MatchOption result
+        (Keeps position.now mv.now)
+        (λ rule. (Keeps position.now mv.now → ⊥) × IsFirstBroken (KeptAlone position.now mv.now) keeping_rules (Some rule)) }
+    ensures value { result ≡ None → next.new ≡ after position.now mv.now }
+{
+    match broken_on_board(position, mv) {
+        Some(rule) => Some(rule),
+        None => {
+            if make_if_safe(position, king, mv, next) {
+                None
+            } else {
+                Some(Rule::LeavesKing)
+            }
+        }
+    }
 }
 
 // The position after the move, or the first of the rules 3 to 10 that the side to move breaks by it.
@@ -83,10 +119,18 @@ pub(crate) fn after_if_kept(position: &Position, mv: &Move) -> Result<Position, 
         (λ next. Keeps position.now mv.now × (next ≡ after position.now mv.now))
         (λ rule. (Keeps position.now mv.now → ⊥) × IsFirstBroken (KeptAlone position.now mv.now) keeping_rules (Some rule)) }
 {
-    match broken_on_board(position, mv) {
+    let mut next = *position;
+    match make_if_kept(position, own_king(position), mv, &mut next) {
+        None => Ok(next),
         Some(rule) => Err(rule),
-        None => after_if_king_safe(position, mv),
     }
+}
+
+// The square of the king of the side to move, if it has one.
+pub(crate) fn own_king(position: &Position) -> Option<Square>
+    ensures { IsKingOf position.now.board position.now.side result }
+{
+    position.king(position.side())
 }
 
 // Whether the side to move keeps the rules 3 to 10 by the move.

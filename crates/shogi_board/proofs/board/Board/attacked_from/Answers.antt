@@ -1,10 +1,15 @@
 use Rattle.std.proofs.Common.{◌≡◌, None, arith, subst}
 use Rattle.shogi_board.specs.Cells.{at}
 use Rattle.shogi_board.specs.Reach.{Attack}
-use Rattle.shogi_board.proofs.Attackers.{clear-more, first-one, none-there, taken-there}
+use Rattle.shogi_board.proofs.Attackers.{clear-more, edge-there, first-one, none-there, taken-there}
 use Rattle.shogi_board.proofs.Squares.{away-same}
 use Rattle.shogi_board.proofs.board.Board.attacked_from.Goals as goal
-use Rattle.shogi_board.proofs.board.Board.attacked_from.Goals.{in-Some+else-is_some, in_default}
+
+pub returns-in_default : goal.returns-in_default
+returns-in_default c = (
+  λ h. cc,
+  λ x. absurd (edge-there c.args.self.now c.args.color c.args.square x.0 c.args.direction c.loop-n.n c.requires c.in_default.ensures c.loop-n.invariant x.1 x.2),
+)
 
 pub returns-then-is_some : goal.returns-then-is_some
 returns-then-is_some c =
@@ -18,13 +23,9 @@ returns-then-is_some c =
 pub loop-n-preserved : goal.loop-n-preserved
 loop-n-preserved c =
     clear-more c.args.self.now c.args.square c.args.direction c.loop-n.n c.loop-n.invariant (λ s h.
-    elim c.match-away.branch [
-      | in-Some+else-is_some w ↦
-          let cell : at c.args.self.now w.in-Some.from ≡ None = grind arith in
-          let e : s ≡ w.in-Some.from = away-same c.args.square s w.in-Some.from c.args.direction c.loop-n.n h w.in-Some.ensures in
-          rw e cell
-      | in_default w ↦ absurd (w.in_default.ensures s h)
-    ])
+    let cell : at c.args.self.now c.in-Some.from ≡ None = grind arith in
+    let e : s ≡ c.in-Some.from = away-same c.args.square s c.in-Some.from c.args.direction c.loop-n.n h c.in-Some.ensures in
+    rw e cell)
 
 pub returns : goal.returns
 returns c = (
