@@ -1,12 +1,73 @@
-// Run by tests/growths with each growth refused in turn: the answer is want of memory. A host has ended then, and the sample
-// engine keeps no game.
-use crate::bridge_tests::{bridge, hand, read_row};
-use crate::tests::host;
+// Run by tests/growths with each growth refused in turn: the answer is want of memory. A host has ended then, the sample
+// engine keeps no game, and a bridge is lost with both states and a whole game.
+ghost use Rattle.std.specs.Prelude.{IfOk, IsTrue};
+ghost use Rattle.csa_text.specs.Lines.{HasNoLineEnd};
+ghost use Rattle.shogi_session.specs.Promises.{HoldsLine, event_of};
+
+use arrayvec::ArrayString;
 use shogi_board::{Color, OutOfMemory};
-use shogi_session::{Bridge, Host, Out, Sample, Status};
+use shogi_session::{Bridge, Config, Event, Host, HostConfig, Out, Sample, Status};
 use std::alloc::Global;
 use std::process::Abort;
 use std::test::Fail;
+
+// A host of the game `local`, which plays as `host`.
+fn host(alloc: Global, client: Color, max_moves: u32) -> Result<Host, Fail> {
+    if !(1..=10000).contains(&max_moves) {
+        return Err(Fail::from("a host's game has 1 to 10,000 moves"));
+    }
+    let config = HostConfig {
+        client,
+        max_moves,
+        id: ArrayString::from("local")?,
+        name: ArrayString::from("host")?,
+    };
+    Ok(Host::new(alloc, &config)?)
+}
+
+// A bridge with name `bridge`, password `pw`, 600,000 and 10,000 milliseconds.
+fn bridge(alloc: Global) -> Result<Bridge, Fail> {
+    let config = Config {
+        name: ArrayString::from("bridge")?,
+        password: ArrayString::from("pw")?,
+        total_ms: 600000,
+        byoyomi_ms: 10000,
+    };
+    Ok(Bridge::new(alloc, &config)?)
+}
+
+fn is_line(line: &[u8]) -> bool
+    ensures { IsTrue result → HasNoLineEnd line.now }
+{
+    line.iter().all(|b| !(*b == b'\r' || *b == b'\n'))
+}
+
+// The event of a row: `E` or `S` and a line of the engine or of the server; and by their first letters `engine ends`,
+// `server ends`, `long line of the engine`, `too long line of the server`, and anything else for the beginning.
+fn read_row(row: &[u8]) -> Result<Event<'_>, Fail>
+    ensures { IfOk result (λ event. HoldsLine (event_of event)) }
+{
+    let Some((first, line)) = row.split_first() else {
+        return Ok(Event::Begin);
+    };
+    if !is_line(line) {
+        return Err(Fail::from("a row holds a line end"));
+    }
+    match first {
+        b'E' => Ok(Event::EngineLine(line)),
+        b'S' => Ok(Event::ServerLine(line)),
+        b'e' => Ok(Event::EngineEnd),
+        b's' => Ok(Event::ServerEnd),
+        b'l' => Ok(Event::EngineLong),
+        b't' => Ok(Event::ServerLong),
+        _ => Ok(Event::Begin),
+    }
+}
+
+// Hands the bridge the event of a row.
+fn hand(bridge: &mut Bridge, row: &[u8]) -> Result<Out, Fail> {
+    Ok(bridge.step(read_row(row)?)?)
+}
 
 // A new host takes no memory.
 #[test]
@@ -151,12 +212,6 @@ const SUMMARY: &str =
     "SBEGIN Game_Summary|SYour_Turn:+|SBEGIN Position|S+|SEND Position|SEND Game_Summary";
 
 #[test]
-fn refused_growth_of_a_login(rt: HostRuntime) -> Result<(), Fail> {
-    hand_each(&rt, &[LOGIN])?;
-    Ok(())
-}
-
-#[test]
 fn refused_growth_of_names(rt: HostRuntime) -> Result<(), Fail> {
     hand_each(
         &rt,
@@ -165,18 +220,6 @@ fn refused_growth_of_names(rt: HostRuntime) -> Result<(), Fail> {
             "SBEGIN Game_Summary|SName+:bridge|SName-:host|SBEGIN Time|SEND Time",
         ],
     )?;
-    Ok(())
-}
-
-#[test]
-fn refused_growth_of_a_summary(rt: HostRuntime) -> Result<(), Fail> {
-    hand_each(&rt, &[LOGIN, SUMMARY])?;
-    Ok(())
-}
-
-#[test]
-fn refused_growth_of_a_start(rt: HostRuntime) -> Result<(), Fail> {
-    hand_each(&rt, &[LOGIN, SUMMARY, "SSTART:g"])?;
     Ok(())
 }
 
