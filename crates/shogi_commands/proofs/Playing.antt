@@ -1,9 +1,9 @@
 -- A bridge that plays, round after round.
 use Rattle.std.proofs.Common.{◌≡◌, ◌≤◌, ◌+◌, ◌-◌, ◌^◌, ℕ, List, Err, IsErrOf, ap, arith, refl, subst, ◌∙◌}
-use Rattle.shogi_session.specs.declared.event.Status.{Status}
-use Rattle.shogi_session.specs.declared.event.Status.TheVariants.{Going}
-use Rattle.shogi_session.specs.declared.fault.SessionFault.{SessionFault}
-use Rattle.shogi_session.specs.declared.state.Waits.{Waits}
+use Rattle.session_table.specs.declared.event.Status.{Status}
+use Rattle.session_table.specs.declared.event.Status.TheVariants.{Going}
+use Rattle.session_table.specs.declared.fault.SessionFault.{SessionFault}
+use Rattle.session_table.specs.declared.state.Waits.{Waits}
 use Rattle.shogi_session.specs.Events.{Event, Out, begin}
 use Rattle.shogi_session.specs.Promises.{Session, StepRow, Steps}
 use Rattle.shogi_session.specs.State.{waits_for}

@@ -1,9 +1,9 @@
 -- A bridge that plays between its engine and its server.
 use Rattle.std.specs.Prelude.{◌≡◌, ◌≤◌, ◌+◌, ◌-◌, ◌^◌, ℕ, List, [], length, Option}
-use Rattle.shogi_session.specs.declared.event.Status.{Status}
-use Rattle.shogi_session.specs.declared.event.Status.TheVariants.{Going}
-use Rattle.shogi_session.specs.declared.state.Waits.{Waits}
-use Rattle.shogi_session.specs.declared.state.Waits.TheVariants as waits
+use Rattle.session_table.specs.declared.event.Status.{Status}
+use Rattle.session_table.specs.declared.event.Status.TheVariants.{Going}
+use Rattle.session_table.specs.declared.state.Waits.{Waits}
+use Rattle.session_table.specs.declared.state.Waits.TheVariants as waits
 use Rattle.shogi_session.specs.Events.{Event, begin, engine_line, server_line, engine_end, server_end, engine_long, server_long}
 use Rattle.shogi_session.specs.Promises.{Session, Steps}
 use Rattle.shogi_session.specs.State.{waits_for}

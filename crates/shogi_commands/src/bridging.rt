@@ -5,7 +5,7 @@ ghost use Rattle.csa_text.specs.Lines.{HasNoLineEnd};
 ghost use Rattle.shogi_commands.specs.Plays.{Delivers, HearsNext, IsEndless, Played, Sends, end_of, event_from, seat_for};
 ghost use Rattle.shogi_session.specs.Promises.{HoldsLine, event_of};
 ghost use Rattle.shogi_session.specs.State.{waits_for};
-ghost use Rattle.shogi_session.specs.declared.event.Status.TheVariants.{Done, Failed};
+ghost use Rattle.session_table.specs.declared.event.Status.TheVariants.{Done, Failed};
 
 use crate::fault::Fault;
 use crate::incoming::{Heard, Incoming};

@@ -8,10 +8,10 @@ use Rattle.shogi_rules.specs.Repetition.{Over}
 use Rattle.usi_text.specs.LineText.{LineText}
 use Rattle.csa_record.specs.Course.{time_at, time_of}
 use Rattle.csa_record.specs.Game.{Game, Timed, move_of}
-use Rattle.shogi_session.specs.declared.config.Config.{Config}
+use Rattle.session_table.specs.declared.config.Config.{Config}
 use Rattle.shogi_session.specs.Asked.{IsAsked}
-use Rattle.shogi_session.specs.Asking.{MayAsk, go_line, thousandths, used}
-use Rattle.shogi_session.specs.State.{Match, line_of}
+use Rattle.session_table.specs.Asking.{MayAsk, go_line, thousandths, used}
+use Rattle.session_table.specs.State.{Match, line_of}
 use Rattle.session_lines.specs.Texts.{ended_line, text_of}
 
 abbrev played_of : Game → Played

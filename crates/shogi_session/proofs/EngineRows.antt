@@ -5,29 +5,29 @@ use Rattle.usi_text.specs.declared.engine.EngineWord.TheVariants.{UsiOk, ReadyOk
 use Rattle.usi_text.specs.Engine.{LineSays}
 use Rattle.usi_text.specs.Words.{words}
 use Rattle.csa_record.specs.Game.{Game}
-use Rattle.shogi_session.specs.declared.config.Config.{Config}
+use Rattle.session_table.specs.declared.config.Config.{Config}
 use Rattle.shogi_session.specs.declared.engine_answer.EngineAnswer.{EngineAnswer}
 use Rattle.shogi_session.specs.declared.engine_answer.EngineAnswer.TheVariants as says
-use Rattle.shogi_session.specs.declared.event.Out.{Out as Answered}
-use Rattle.shogi_session.specs.declared.event.Status.{Status}
-use Rattle.shogi_session.specs.declared.event.Status.TheVariants.{Going, Failed}
-use Rattle.shogi_session.specs.declared.fault.SessionFault.TheVariants.{EngineGone}
+use Rattle.session_table.specs.declared.event.Out.{Out as Answered}
+use Rattle.session_table.specs.declared.event.Status.{Status}
+use Rattle.session_table.specs.declared.event.Status.TheVariants.{Going, Failed}
+use Rattle.session_table.specs.declared.fault.SessionFault.TheVariants.{EngineGone}
 use Rattle.shogi_session.specs.declared.phase.Answer.{Answer as Given}
 use Rattle.shogi_session.specs.declared.phase.Play.{Play as Own}
 use Rattle.shogi_session.specs.declared.phase.Stage.{Stage as OwnStage}
 use Rattle.shogi_session.specs.declared.phase.Stage.TheVariants as stages
 use Rattle.shogi_session.specs.declared.phase.Stage.TheVariants.{Playing as OwnPlaying}
-use Rattle.shogi_session.specs.declared.state.ClientState.TheVariants as clients
-use Rattle.shogi_session.specs.declared.state.EngineState.{EngineState}
-use Rattle.shogi_session.specs.declared.state.EngineState.TheVariants.{New, Greeting, Readying, Ready, Thinking, Ended as EngineEnded}
+use Rattle.session_table.specs.declared.state.ClientState.TheVariants as clients
+use Rattle.session_table.specs.declared.state.EngineState.{EngineState}
+use Rattle.session_table.specs.declared.state.EngineState.TheVariants.{New, Greeting, Readying, Ready, Thinking, Ended as EngineEnded}
 use Rattle.shogi_session.specs.EngineAnswers.{Answers}
-use Rattle.shogi_session.specs.Events.{Event, begin, engine_line, engine_end, Out, no_lines, engine}
-use Rattle.shogi_session.specs.GameTold.{game_of}
+use Rattle.session_table.specs.Events.{Event, begin, engine_line, engine_end, Out, no_lines, engine}
+use Rattle.session_table.specs.GameTold.{game_of}
 use Rattle.shogi_session.specs.Phases.{Reacts, Stays, Same, answer_of, answer_text, given_for, going, match_in, play_client, slip_with, staged}
-use Rattle.shogi_session.specs.Promises.{before}
-use Rattle.shogi_session.specs.Row.{TableRow, IsUnnamed, in_table, unnamed, IsBestMove, login_line, failed}
-use Rattle.shogi_session.specs.Row as row
-use Rattle.shogi_session.specs.State.{Match, Client, playing, sent, logging_in, State, client_state, position_now, slip_of}
+use Rattle.session_table.specs.Promises.{before}
+use Rattle.session_table.specs.Row.{TableRow, IsUnnamed, in_table, unnamed, IsBestMove, login_line, failed}
+use Rattle.session_table.specs.Row as row
+use Rattle.session_table.specs.State.{Match, Client, playing, sent, logging_in, State, client_state, position_now, slip_of}
 use Rattle.session_lines.specs.Texts.{text_of, ended_line}
 use Rattle.session_lines.proofs.OneLine.{one_text}
 use Rattle.shogi_session.proofs.Unnamed.{engine_deaf, engine_over}

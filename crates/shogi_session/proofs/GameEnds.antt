@@ -13,10 +13,10 @@ use Rattle.csa_record.specs.Course.{untimed, awaits, with_last_time, with_time, 
 use Rattle.csa_record.specs.Game.{Game, Timed, Ended}
 use Rattle.csa_record.specs.Says.{time_items}
 use Rattle.csa_record.specs.Tells.{IsSpelt}
-use Rattle.shogi_session.specs.GameTold.{ending_of}
+use Rattle.session_table.specs.GameTold.{ending_of}
 use Rattle.shogi_session.specs.Phases.{kept_of}
 use Rattle.session_lines.specs.ServerLines.{Outcome, Reason, TellsEnding, TellsTimed}
-use Rattle.shogi_session.specs.State.{game_with}
+use Rattle.session_table.specs.State.{game_with}
 
 -- 1. the time that a line tells
 last_time : (us : List TextUnit) (s : Saying) (o : Option ℕ) → AllZip IsSpelt us (s ∷ time_items o) → IfSome o (λ t. t ≤ 4294967295999)

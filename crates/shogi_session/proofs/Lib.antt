@@ -1,18 +1,5 @@
-pub mod Asked
-pub mod Counting
-mod RowOnce
-mod Fitting
-mod Testing
-mod Courses
-mod EndTold
-mod Tied
-mod LogGames
-mod Existing
-mod Onward
-mod SentRight
 mod BothEnds
-mod Instances
-mod ConfirmedOnce
+pub mod Asked
 mod GameEnds
 mod MoveSame
 mod PlayRows
@@ -22,7 +9,6 @@ pub mod PositionGame
 pub mod PositionRead
 pub mod ServerReads
 pub mod Unnamed
-pub mod AlwaysAsks
 pub mod EngineRows
 pub mod BridgeRows
 pub mod ServerRows

@@ -2,7 +2,7 @@
 use Rattle.std.proofs.Common.{◌≡◌, ℕ, List, Option, Some, None, Result, Ok, Err, subst}
 use Rattle.std.specs.Prelude.{IfOk}
 use Rattle.shogi_session.specs.Offers.{TellsParts, IsOfferRead, IsToldBy, offer_of}
-use Rattle.shogi_session.specs.Summary.{Heard, one, Offer, TellsPosition, TellsOffer}
+use Rattle.session_table.specs.Summary.{Heard, one, Offer, TellsPosition, TellsOffer}
 use Rattle.shogi_session.specs.declared.offer.GameOffer.{GameOffer}
 
 same_text : (h : Heard) (a b : List ℕ) → h.positions ≡ one a → h.positions ≡ one b → b ≡ a

@@ -12,11 +12,11 @@ use Rattle.csa_text.specs.declared.fault.TextFault.{TextFault}
 use Rattle.csa_record.specs.declared.fault.Why.{Why}
 use Rattle.csa_record.specs.declared.fault.Why.TheVariants as causes
 use Rattle.csa_record.specs.Game.{Game, Timed, Ended}
-use Rattle.shogi_session.specs.declared.config.Config.{Config}
-use Rattle.shogi_session.specs.declared.event.Out.{Out as Answered}
-use Rattle.shogi_session.specs.declared.event.Status.TheVariants.{Going, Failed}
-use Rattle.shogi_session.specs.declared.fault.MoveCause.TheVariants.{Refused, Unsent}
-use Rattle.shogi_session.specs.declared.fault.SessionFault.TheVariants.{BadServerMove}
+use Rattle.session_table.specs.declared.config.Config.{Config}
+use Rattle.session_table.specs.declared.event.Out.{Out as Answered}
+use Rattle.session_table.specs.declared.event.Status.TheVariants.{Going, Failed}
+use Rattle.session_table.specs.declared.fault.MoveCause.TheVariants.{Refused, Unsent}
+use Rattle.session_table.specs.declared.fault.SessionFault.TheVariants.{BadServerMove}
 use Rattle.shogi_session.specs.declared.phase.Answer.TheVariants as given
 use Rattle.shogi_session.specs.declared.phase.Play.{Play as Own}
 use Rattle.shogi_session.specs.declared.phase.Stage.{Stage as OwnStage}
@@ -24,26 +24,26 @@ use Rattle.shogi_session.specs.declared.phase.Stage.TheVariants as stages
 use Rattle.shogi_session.specs.declared.phase.Told.{Told}
 use Rattle.shogi_session.specs.declared.server_words.EndReason.{EndReason}
 use Rattle.shogi_session.specs.declared.server_words.GameResult.{GameResult}
-use Rattle.shogi_session.specs.declared.state.EngineState.{EngineState}
-use Rattle.shogi_session.specs.declared.state.EngineState.TheVariants.{Thinking, Ended as EngineEnded}
+use Rattle.session_table.specs.declared.state.EngineState.{EngineState}
+use Rattle.session_table.specs.declared.state.EngineState.TheVariants.{Thinking, Ended as EngineEnded}
 use Rattle.shogi_session.specs.Asked.{IsAsked}
-use Rattle.shogi_session.specs.Asking.{asked, not_asked}
-use Rattle.shogi_session.specs.Events.{Event, server_line, engine}
-use Rattle.shogi_session.specs.GameTold.{ending_of, game_of}
+use Rattle.session_table.specs.Asking.{asked, not_asked}
+use Rattle.session_table.specs.Events.{Event, server_line, engine}
+use Rattle.session_table.specs.GameTold.{ending_of, game_of}
 use Rattle.session_lines.specs.MoveLines.{is_move_line}
 use Rattle.shogi_session.specs.Phases.{Confirms, GoesOn, IsAskText, IsOn, IsPlay, KeepsEnding, Reacts, Same, Stays, TellsEnd, closed, finish_of, kept_of, match_in, play_client, reason_of, staged, waiting_in, why_of}
-use Rattle.shogi_session.specs.Promises.{after}
-use Rattle.shogi_session.specs.Row.{Play, in_play, before_result, in_table, IsRefused, IsExpected, Judged, gameover_line, with_reason}
-use Rattle.shogi_session.specs.Row as row
+use Rattle.session_table.specs.Promises.{after}
+use Rattle.session_table.specs.Row.{Play, in_play, before_result, in_table, IsRefused, IsExpected, Judged, gameover_line, with_reason}
+use Rattle.session_table.specs.Row as row
 use Rattle.session_lines.specs.ServerLines.{Outcome, Reason, is_ending_line, is_hash_line, outcome_of, TellsEnding, TellsTimed, FirstTextFault}
 use Rattle.session_lines.specs.ServerLines as lines
 use Rattle.shogi_session.specs.ServerWords.{outcome, reason as reason_is}
-use Rattle.shogi_session.specs.State.{Match, Finish, Client, playing, reason, closing, client_state, slip_of, line_of, game_with, with_move}
+use Rattle.session_table.specs.State.{Match, Finish, Client, playing, reason, closing, client_state, slip_of, line_of, game_with, with_move}
 use Rattle.session_lines.specs.Texts.{text_of}
-use Rattle.shogi_session.proofs.AlwaysAsks.{some_ask}
+use Rattle.session_table.proofs.AlwaysAsks.{some_ask}
 use Rattle.shogi_session.proofs.EngineRows.{by_row, state, still, stays}
 use Rattle.shogi_session.proofs.GameEnds.{kept_again}
-use Rattle.shogi_session.proofs.Tied.{may_follow, legal_more}
+use Rattle.session_table.proofs.Tied.{may_follow, legal_more}
 use Rattle.shogi_session.proofs.Unnamed.{other_in_play}
 
 -- 1. A game that is on

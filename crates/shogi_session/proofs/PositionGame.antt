@@ -14,9 +14,9 @@ use Rattle.csa_text.proofs.Once.{statements_once}
 use Rattle.csa_text.specs.Spelling.{Saying, version, name, header, even, rank, pieces, turn, walked, time, ending}
 use Rattle.shogi_board.specs.declared.color.Color.{Color}
 use Rattle.shogi_board.specs.declared.color.Color.TheVariants.{Black, White}
-use Rattle.shogi_session.proofs.PositionRead.{FitsIn, not_so}
+use Rattle.session_table.proofs.PositionFits.{FitsIn, not_so}
 use Rattle.shogi_session.specs.PositionTexts.{IsPositionText}
-use Rattle.shogi_session.specs.Summary.{TellsPosition, nameless}
+use Rattle.session_table.specs.Summary.{TellsPosition, nameless}
 
 -- none of these statements is a name
 no_names : (side : Color) (ss : List Saying) → AllByRecursion FitsIn ss → names side ss ≡ []

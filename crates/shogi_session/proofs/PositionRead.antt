@@ -8,11 +8,8 @@ use Rattle.csa_text.specs.Spelling.{Saying, Spells}
 use Rattle.csa_record.specs.Tells.{IsSpelt}
 use Rattle.shogi_session.proofs.Nexts.{Handed, unit_of, handed_leads, handed_first, handed_spelt}
 use Rattle.session_lines.proofs.OneStatement.{AtStart, whole}
+use Rattle.session_table.proofs.PositionFits.{FitsIn, not_so}
 use Rattle.shogi_session.specs.PositionTexts.{SpellsPosition, IsPositionText}
-use Rattle.shogi_session.specs.Summary.{in_position}
-
-abbrev pub FitsIn : Saying → Type 0
-FitsIn s = in_position s ≡ true
 
 -- the statements that were handed out are of these kinds, and what is still to come stands behind them
 pub record HasRead (text : List ℕ) (c : Cutting) : Type 0 where
@@ -100,9 +97,6 @@ long_read text c number offset h too p =
 -- 2. Answers
 pub told_so : (P : Type 0) → P → IsTrue true ↔ P
 told_so P p = (λ h. p, λ q. refl)
-
-pub not_so : false ≡ true → ⊥
-not_so h = absurd cc
 
 pub told_otherwise : (P : Type 0) → (P → ⊥) → IsTrue false ↔ P
 told_otherwise P none = (λ h. absurd (not_so h), λ p. absurd (none p))

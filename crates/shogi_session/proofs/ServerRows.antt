@@ -2,11 +2,11 @@
 use Rattle.std.proofs.Common.{◌≡◌, ℕ, ◌++◌, ◌⊎◌, inl, inr, Result, Ok, Err, true, false, List, [], ◌∷◌, Option, Some, None, codes, refl, sym, ap, subst, ◌∙◌}
 use Rattle.std.specs.Prelude.{IfOk, MatchResult}
 use Rattle.csa_record.specs.Game.{Game, Ended}
-use Rattle.shogi_session.specs.declared.config.Config.{Config}
-use Rattle.shogi_session.specs.declared.event.Out.{Out as Answered}
-use Rattle.shogi_session.specs.declared.event.Status.{Status}
-use Rattle.shogi_session.specs.declared.event.Status.TheVariants.{Going, Done, Failed}
-use Rattle.shogi_session.specs.declared.fault.SessionFault.TheVariants.{LoginRefused, Rejected, BadSummary, ServerGone, LineTooLong}
+use Rattle.session_table.specs.declared.config.Config.{Config}
+use Rattle.session_table.specs.declared.event.Out.{Out as Answered}
+use Rattle.session_table.specs.declared.event.Status.{Status}
+use Rattle.session_table.specs.declared.event.Status.TheVariants.{Going, Done, Failed}
+use Rattle.session_table.specs.declared.fault.SessionFault.TheVariants.{LoginRefused, Rejected, BadSummary, ServerGone, LineTooLong}
 use Rattle.shogi_session.specs.declared.offer.GameOffer.{GameOffer}
 use Rattle.shogi_session.specs.declared.phase.Play.{Play as Own}
 use Rattle.shogi_session.specs.declared.phase.Phase.{Phase}
@@ -15,24 +15,24 @@ use Rattle.shogi_session.specs.declared.phase.Stage.{Stage}
 use Rattle.shogi_session.specs.declared.phase.Stage.TheVariants as stages
 use Rattle.shogi_session.specs.declared.phase.Told.{Told}
 use Rattle.shogi_session.specs.declared.server_words.GameResult.{GameResult}
-use Rattle.shogi_session.specs.declared.state.ClientState.TheVariants as clients
-use Rattle.shogi_session.specs.declared.state.EngineState.{EngineState}
-use Rattle.shogi_session.specs.Asking.{Asks}
-use Rattle.shogi_session.specs.Events.{Event, begin, server_line, server_end, engine_long, server_long}
-use Rattle.shogi_session.specs.GameTold.{game_of}
-use Rattle.shogi_session.specs.Hearing.{heard_after}
+use Rattle.session_table.specs.declared.state.ClientState.TheVariants as clients
+use Rattle.session_table.specs.declared.state.EngineState.{EngineState}
+use Rattle.session_table.specs.Asking.{Asks}
+use Rattle.session_table.specs.Events.{Event, begin, server_line, server_end, engine_long, server_long}
+use Rattle.session_table.specs.GameTold.{game_of}
+use Rattle.session_table.specs.Hearing.{heard_after}
 use Rattle.shogi_session.specs.Offers.{offer_in}
 use Rattle.shogi_session.specs.Phases.{Reacts, Stays, Same, GoesOn, IsOpen, IsPhase, IsPlay, begun, client_of, going, match_in, play_client, staged}
-use Rattle.shogi_session.specs.Promises.{before}
-use Rattle.shogi_session.specs.Row.{IsUnnamed}
-use Rattle.shogi_session.specs.Row as row
+use Rattle.session_table.specs.Promises.{before}
+use Rattle.session_table.specs.Row.{IsUnnamed}
+use Rattle.session_table.specs.Row as row
 use Rattle.session_lines.specs.ServerLines.{is_login_ok, is_start_line, is_reject_line}
-use Rattle.shogi_session.specs.State.{Match, Client, logging_in, before_summary, summary, agreeing, playing, client_state, slip_of, match_of}
-use Rattle.shogi_session.specs.Summary.{Heard, nothing_heard, CountsAs, Offer, TellsOffer}
+use Rattle.session_table.specs.State.{Match, Client, logging_in, before_summary, summary, agreeing, playing, client_state, slip_of, match_of}
+use Rattle.session_table.specs.Summary.{Heard, nothing_heard, CountsAs, Offer, TellsOffer}
 use Rattle.session_lines.specs.Texts.{ended_line}
-use Rattle.shogi_session.proofs.AlwaysAsks.{offer_plain, offer_legal}
+use Rattle.session_table.proofs.AlwaysAsks.{offer_plain, offer_legal}
 use Rattle.session_lines.proofs.OneLine.{one_text}
-use Rattle.shogi_session.proofs.Counting.{counts_more}
+use Rattle.session_table.proofs.Counting.{counts_more}
 use Rattle.shogi_session.proofs.EngineRows.{by_row, by_none, stays}
 
 abbrev pub Silent : Answered → Status → Type 0

@@ -7,7 +7,7 @@ use Rattle.usi_text.specs.Moves.{UsiMove}
 use Rattle.shogi_session.specs.declared.engine_answer.EngineAnswer.{EngineAnswer}
 use Rattle.shogi_session.specs.declared.engine_answer.EngineAnswer.TheVariants.{Move, Resign, Win, Slip}
 use Rattle.session_lines.specs.LineTexts as texts
-use Rattle.shogi_session.specs.Row.{IsBestMove}
+use Rattle.session_table.specs.Row.{IsBestMove}
 
 -- the word is a legal move; none of the words that a bridge hands on; or one of the two others
 abbrev pub Answers : Placed → List ℕ → EngineAnswer → Type 0

@@ -7,7 +7,7 @@ use Rattle.shogi_session.specs.declared.summary_reader.Place.TheVariants.{Begins
 use Rattle.shogi_session.specs.declared.summary_reader.Positions.{Positions}
 use Rattle.shogi_session.specs.declared.summary_reader.Positions.TheVariants.{Missing, One, Several}
 use Rattle.session_lines.specs.LineTexts as texts
-use Rattle.shogi_session.specs.Summary.{PositionBlocks, none, one, several, end_line, is_position}
+use Rattle.session_table.specs.Summary.{PositionBlocks, none, one, several, end_line, is_position}
 
 abbrev pub blocks_of : Positions → PositionBlocks
 blocks_of Missing = none

@@ -3,7 +3,7 @@ use Rattle.std.specs.Prelude.{◌≡◌, ℕ, ◌≤◌, List, [], ◌∷◌, le
 use Rattle.csa_record.specs.Game.{Game}
 use Rattle.csa_text.specs.Codes.{sign}
 use Rattle.shogi_session.specs.declared.offer.GameOffer.{GameOffer}
-use Rattle.shogi_session.specs.Summary.{Heard, Offer, TellsPosition, TellsOffer, name_given}
+use Rattle.session_table.specs.Summary.{Heard, Offer, TellsPosition, TellsOffer, name_given}
 
 abbrev pub offer_in : GameOffer → Offer
 offer_in o = record { client = o.client; game = o.game }

@@ -11,11 +11,11 @@ use Rattle.csa_record.specs.declared.fault.Why.{Why}
 use Rattle.csa_record.specs.declared.fault.Why.TheVariants as why
 use Rattle.shogi_rules.specs.Positions.{IsGame}
 use Rattle.csa_record.specs.Game.{Game, Timed, Ended, move_of}
-use Rattle.shogi_session.specs.declared.config.Config.{Config}
+use Rattle.session_table.specs.declared.config.Config.{Config}
 use Rattle.shogi_session.specs.declared.engine_answer.EngineAnswer.{EngineAnswer}
 use Rattle.shogi_session.specs.declared.engine_answer.EngineAnswer.TheVariants as engine_says
-use Rattle.shogi_session.specs.declared.event.Out.{Out as Answered}
-use Rattle.shogi_session.specs.declared.event.Status.TheVariants.{Going}
+use Rattle.session_table.specs.declared.event.Out.{Out as Answered}
+use Rattle.session_table.specs.declared.event.Status.TheVariants.{Going}
 use Rattle.shogi_session.specs.declared.offer.GameOffer.{GameOffer}
 use Rattle.shogi_session.specs.declared.phase.Answer.{Answer as Given}
 use Rattle.shogi_session.specs.declared.phase.Answer.TheVariants.{Move, Toryo, Kachi}
@@ -26,19 +26,19 @@ use Rattle.shogi_session.specs.declared.phase.Stage.{Stage}
 use Rattle.shogi_session.specs.declared.phase.Stage.TheVariants.{Playing, Sent, Reason, Closing, Ended as Over}
 use Rattle.shogi_session.specs.declared.phase.Told.{Told}
 use Rattle.shogi_session.specs.declared.server_words.EndReason.{EndReason}
-use Rattle.shogi_session.specs.declared.state.EngineState.{EngineState}
-use Rattle.shogi_session.specs.Events.{Event, Out}
-use Rattle.shogi_session.specs.Asking.{Asks}
-use Rattle.shogi_session.specs.GameTold.{ending_of, game_of}
+use Rattle.session_table.specs.declared.state.EngineState.{EngineState}
+use Rattle.session_table.specs.Events.{Event, Out}
+use Rattle.session_table.specs.Asking.{Asks}
+use Rattle.session_table.specs.GameTold.{ending_of, game_of}
 use Rattle.session_lines.specs.LineTexts as texts
 use Rattle.shogi_session.specs.Offers.{offer_in}
-use Rattle.shogi_session.specs.Promises.{KeepsGame}
-use Rattle.shogi_session.specs.Row.{Row}
+use Rattle.session_table.specs.Promises.{KeepsGame}
+use Rattle.session_table.specs.Row.{Row}
 use Rattle.session_lines.specs.ServerLines as lines
 use Rattle.session_lines.specs.ServerLines.{Outcome, TellsEnding}
 use Rattle.shogi_session.specs.ServerWords.{outcome, reason as reason_is}
-use Rattle.shogi_session.specs.State.{Match, Answer, move, toryo, kachi, Finish, game_with, Client, idle, logging_in, before_summary, summary, agreeing, playing, sent, reason, closing, ended, State, client_state, slip_of}
-use Rattle.shogi_session.specs.Summary.{CountsAs}
+use Rattle.session_table.specs.State.{Match, Answer, move, toryo, kachi, Finish, game_with, Client, idle, logging_in, before_summary, summary, agreeing, playing, sent, reason, closing, ended, State, client_state, slip_of}
+use Rattle.session_table.specs.Summary.{CountsAs}
 use Rattle.session_lines.specs.Texts.{text_of}
 
 -- 1. The states

@@ -5,7 +5,7 @@ use Rattle.csa_text.specs.Cut.{TextUnit, Cut}
 use Rattle.csa_text.specs.Spelling.{Saying, Spells}
 use Rattle.csa_record.specs.Game.{Game}
 use Rattle.csa_record.specs.Tells.{IsSpelt}
-use Rattle.shogi_session.specs.Summary.{in_position, TellsPosition}
+use Rattle.session_table.specs.Summary.{in_position, TellsPosition}
 
 -- the bytes spell a position, side, move or time statement
 abbrev pub SpellsPosition : List ℕ → Type 0

@@ -1,10 +1,9 @@
 ghost use Rattle.std.specs.Prelude.{◌≡◌, [], IfOk};
-ghost use Rattle.shogi_session.specs.declared.event.Status.TheVariants.{Failed, Going};
+ghost use Rattle.session_table.specs.declared.event.Status.TheVariants.{Failed, Going};
 ghost use Rattle.session_lines.specs.Texts.{ended_line};
 
-use crate::event::{Out, Status};
-use crate::fault::SessionFault;
 use session_lines::Lines;
+use session_table::{Out, SessionFault, Status};
 use shogi_board::OutOfMemory;
 use std::alloc::Global;
 

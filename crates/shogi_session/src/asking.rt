@@ -3,14 +3,14 @@ ghost use Rattle.shogi_board.specs.Pieces.{same_color};
 ghost use Rattle.shogi_rules.specs.Positions.{now_of, all_of};
 ghost use Rattle.shogi_rules.specs.Repetition.{Over};
 ghost use Rattle.shogi_session.specs.Asked.{IsAsked};
-ghost use Rattle.shogi_session.specs.Asking.{MayAsk, left, go_line, thousandths};
-ghost use Rattle.shogi_session.specs.State.{Match};
+ghost use Rattle.session_table.specs.Asking.{MayAsk, left, go_line, thousandths};
+ghost use Rattle.session_table.specs.State.{Match};
 ghost use Rattle.session_lines.specs.Texts.{ended_line};
 
-use crate::config::Config;
 use csa_record::Record;
 use itoa::Buffer;
 use session_lines::{Lines, texts};
+use session_table::Config;
 use shogi_board::{Color, OutOfMemory};
 use shogi_rules::{Line, MAX_MOVES, Verdict};
 use std::alloc::Global;

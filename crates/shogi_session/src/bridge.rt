@@ -1,25 +1,23 @@
 ghost use Rattle.std.specs.Prelude.{◌≡◌, ◌↔◌, Some, None, IsOk, IsTrue, IfOk, OnErr, MatchOption, MatchResult};
 ghost use Rattle.csa_record.specs.Game.{Game};
-ghost use Rattle.shogi_session.specs.declared.config.Config.{Config};
-ghost use Rattle.shogi_session.specs.declared.event.Status.TheVariants.{Going, Lost};
-ghost use Rattle.shogi_session.specs.declared.state.EngineState.{EngineState};
-ghost use Rattle.shogi_session.specs.declared.state.EngineState.TheVariants.{Ended, New};
-ghost use Rattle.shogi_session.specs.Events.{Out as Told, begin, engine_end, server_end, trimmed};
+ghost use Rattle.session_table.specs.declared.config.Config.{Config};
+ghost use Rattle.session_table.specs.declared.event.Status.TheVariants.{Going, Lost};
+ghost use Rattle.session_table.specs.declared.state.EngineState.{EngineState};
+ghost use Rattle.session_table.specs.declared.state.EngineState.TheVariants.{Ended, New};
+ghost use Rattle.session_table.specs.Events.{Out as Told, begin, engine_end, server_end, trimmed};
 ghost use Rattle.shogi_session.specs.Phases.{IsPhase, Reacts, Stays, client_of, staged};
-ghost use Rattle.shogi_session.specs.Promises.{HoldsLine, IsConfig, IsGameText, KeepsGame, SameStates, StepRow, event_of};
-ghost use Rattle.shogi_session.specs.State.{Client, Match, client_state, first_state, slip_of, waits_for};
+ghost use Rattle.shogi_session.specs.Configs.{IsConfig};
+ghost use Rattle.session_table.specs.Promises.{HoldsLine, IsGameText, KeepsGame, SameStates, StepRow, event_of};
+ghost use Rattle.session_table.specs.State.{Client, Match, client_state, first_state, slip_of, waits_for};
 ghost use Rattle.session_lines.specs.Texts.{text_of};
 
 use crate::answers::{failed, no_lines, silent, tell_engine};
-use crate::config::Config;
 use crate::engine_side::hear_engine;
-use crate::event::{Event, Out, Status};
-use crate::fault::SessionFault;
 use crate::phase::{Phase, Stage};
 use crate::server_side::hear_server;
-use crate::state::{ClientState, EngineState, Waits};
 use csa_record::write;
 use session_lines::{texts, without_last_spaces};
+use session_table::{ClientState, Config, EngineState, Event, Out, SessionFault, Status, Waits};
 use shogi_board::OutOfMemory;
 use std::alloc::Global;
 use std::marker::Model;
@@ -40,7 +38,7 @@ pub struct Bridge {
 
 impl Model for Bridge {
     ghost use Rattle.shogi_session.specs.Phases.{IsPhase, client_of};
-    ghost use Rattle.shogi_session.specs.Promises.{Session};
+    ghost use Rattle.session_table.specs.Promises.{Session};
 
     ghost Value = { Session };
 

@@ -2,7 +2,7 @@ ghost use Rattle.std.specs.Prelude.{◌≡◌, ℕ, List, MatchOption};
 ghost use Rattle.shogi_rules.specs.declared.moves.Move as moves;
 ghost use Rattle.shogi_rules.specs.Legal.{Legal};
 ghost use Rattle.shogi_session.specs.EngineAnswers.{Answers};
-ghost use Rattle.shogi_session.specs.Row.{IsBestMove};
+ghost use Rattle.session_table.specs.Row.{IsBestMove};
 ghost use Rattle.usi_text.specs.Moves.{UsiMove};
 
 use shogi_board::Position;

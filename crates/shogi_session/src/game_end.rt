@@ -1,5 +1,5 @@
 ghost use Rattle.std.specs.Prelude.{◌≡◌, None, Some};
-ghost use Rattle.shogi_session.specs.GameTold.{ending_by, ending_of, illegal_action, perpetual_ending, untimed};
+ghost use Rattle.session_table.specs.GameTold.{ending_by, ending_of, illegal_action, perpetual_ending, untimed};
 ghost use Rattle.shogi_session.specs.Phases.{reason_of};
 ghost use Rattle.shogi_session.specs.ServerWords.{outcome, reason as reason_is};
 

@@ -1,39 +1,36 @@
 ghost use Rattle.std.specs.Prelude.{◌≡◌, ◌↔◌, ◌≤◌, if◌then◌else◌, ℕ, true, Option, None, Some, is_some, [], ◌∷◌, map, IsTrue, IfOk, IfSome, OnOk, OnErr, MatchResult};
 ghost use Rattle.csa_record.specs.Game.{Game, move_of};
 ghost use Rattle.shogi_rules.specs.Play.{Answers};
-ghost use Rattle.shogi_session.specs.declared.config.Config.{Config};
-ghost use Rattle.shogi_session.specs.declared.event.Status.TheVariants.{Failed, Going};
-ghost use Rattle.shogi_session.specs.declared.fault.MoveCause.TheVariants.{Refused};
-ghost use Rattle.shogi_session.specs.declared.fault.SessionFault.TheVariants.{BadServerMove};
+ghost use Rattle.session_table.specs.declared.config.Config.{Config};
+ghost use Rattle.session_table.specs.declared.event.Status.TheVariants.{Failed, Going};
+ghost use Rattle.session_table.specs.declared.fault.MoveCause.TheVariants.{Refused};
+ghost use Rattle.session_table.specs.declared.fault.SessionFault.TheVariants.{BadServerMove};
 ghost use Rattle.shogi_session.specs.declared.phase.Answer.TheVariants as given;
 ghost use Rattle.shogi_session.specs.declared.phase.Play.{Play};
 ghost use Rattle.shogi_session.specs.declared.phase.Stage.TheVariants.{Playing};
-ghost use Rattle.shogi_session.specs.declared.state.EngineState.TheVariants.{Thinking};
-ghost use Rattle.shogi_session.specs.Events.{server_line};
+ghost use Rattle.session_table.specs.declared.state.EngineState.TheVariants.{Thinking};
+ghost use Rattle.session_table.specs.Events.{server_line};
 ghost use Rattle.session_lines.specs.LineTexts as texts;
 ghost use Rattle.session_lines.specs.MoveLines.{is_move_line};
 ghost use Rattle.shogi_session.specs.Phases.{Confirms, GoesOn, IsOn, IsPlay, KeepsEnding, Reacts, Same, Stays, TellsEnd, closed, finish_of, match_in, play_client, waiting_in, why_of};
-ghost use Rattle.shogi_session.specs.Row.{IsExpected, gameover_line, with_reason};
+ghost use Rattle.session_table.specs.Row.{IsExpected, gameover_line, with_reason};
 ghost use Rattle.session_lines.specs.ServerLines.{is_hash_line};
 ghost use Rattle.shogi_session.specs.ServerWords.{outcome, reason as reason_is};
-ghost use Rattle.shogi_session.specs.State.{game_with, line_of};
+ghost use Rattle.session_table.specs.State.{game_with, line_of};
 ghost use Rattle.session_lines.specs.Texts.{text_of};
 
 use crate::answers::{failed, no_lines, to_engine};
 use crate::asking::ask;
-use crate::config::Config;
-use crate::event::{Out, Status};
-use crate::fault::{MoveCause, SessionFault};
 use crate::game_end::ending_by;
 use crate::phase::{Answer, Play, Stage, Told};
 use crate::server_lines::{read_server_ending, read_server_move};
 use crate::server_words::{
     EndReason, GameResult, is_ending_line, is_hash_line, read_reason, read_result,
 };
-use crate::state::EngineState;
 use csa_record::{OrderFault, Record, Why};
 use csa_text::Ending;
 use session_lines::{Lines, is_move_line, texts};
+use session_table::{Config, EngineState, MoveCause, Out, SessionFault, Status};
 use shogi_board::{Color, OutOfMemory};
 use shogi_rules::{Move, PlayFault};
 use std::alloc::Global;

@@ -9,11 +9,8 @@
 mod answers;
 mod asking;
 mod bridge;
-mod config;
 mod engine_answer;
 mod engine_side;
-mod event;
-mod fault;
 mod game_end;
 mod in_play;
 pub mod laws;
@@ -24,13 +21,11 @@ mod position_text;
 mod server_lines;
 mod server_side;
 mod server_words;
-mod state;
 mod summary_reader;
 
 pub use bridge::Bridge;
-pub use config::Config;
-pub use event::{Event, Out, Status};
-pub use fault::{MoveCause, SessionFault};
 pub use session_lines::Lines;
 pub use session_peers::{Host, HostConfig, HostOut, Sample, SampleOut};
-pub use state::{ClientState, EngineState, Waits};
+pub use session_table::{
+    ClientState, Config, EngineState, Event, MoveCause, Out, SessionFault, Status, Waits,
+};

@@ -1,7 +1,7 @@
 ghost use Rattle.std.specs.Prelude.{◌≡◌, ◌↔◌, IsTrue, IfOk};
 ghost use Rattle.csa_text.specs.Saying.{saying_of};
 ghost use Rattle.shogi_session.specs.PositionTexts.{IsPositionRead, IsPositionText, SpellsPosition};
-ghost use Rattle.shogi_session.specs.Summary.{in_position};
+ghost use Rattle.session_table.specs.Summary.{in_position};
 
 use csa_record::{Record, Why, read};
 use csa_text::{Cutter, Item, read_item};

@@ -1,9 +1,9 @@
 ghost use Rattle.std.specs.Prelude.{◌≡◌, None, Some, IfOk, OnOk, bytes_eq};
 ghost use Rattle.csa_record.specs.Limits.{IsOneLine};
 ghost use Rattle.shogi_session.specs.HearingStage.{blocks_of, title_items, IsPlace};
-ghost use Rattle.shogi_session.specs.Hearing.{extended, heard_after, one_more, opened, outside, value_or};
+ghost use Rattle.session_table.specs.Hearing.{extended, heard_after, one_more, opened, outside, value_or};
 ghost use Rattle.shogi_session.specs.Offers.{IsToldBy, offer_of};
-ghost use Rattle.shogi_session.specs.Summary.{end_line, is_position, nothing_heard};
+ghost use Rattle.session_table.specs.Summary.{end_line, is_position, nothing_heard};
 
 use crate::offer::{GameOffer, read_offer};
 use session_lines::texts;
@@ -48,7 +48,7 @@ pub(crate) struct SummaryReader {
 impl Model for SummaryReader {
     ghost use Rattle.csa_record.specs.Limits.{IsOneLine};
     ghost use Rattle.shogi_session.specs.HearingStage.{blocks_of, title_items};
-    ghost use Rattle.shogi_session.specs.Summary.{Heard};
+    ghost use Rattle.session_table.specs.Summary.{Heard};
 
     ghost Value = { Heard };
 

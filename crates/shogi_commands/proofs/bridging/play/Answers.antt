@@ -1,5 +1,5 @@
 use Rattle.shogi_session.specs.Events.{begin}
-use Rattle.shogi_session.specs.declared.event.Status.TheVariants.{Done, Failed, Going}
+use Rattle.session_table.specs.declared.event.Status.TheVariants.{Done, Failed, Going}
 use Rattle.std.proofs.Common.{ap, ◌∙◌}
 use Rattle.shogi_commands.proofs.Playing.{first, round_begun, round_sent, same_session_fault, steps_of}
 use Rattle.shogi_commands.proofs.bridging.play.Goals as goal

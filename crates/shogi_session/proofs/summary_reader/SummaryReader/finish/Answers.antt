@@ -2,7 +2,7 @@ use Rattle.std.proofs.Common.{ap, sym, subst, ◌∙◌}
 use Rattle.std.specs.Prelude.{IfOk}
 use Rattle.shogi_session.specs.HearingStage.{blocks_of, title_items}
 use Rattle.shogi_session.specs.Offers.{IsToldBy, offer_of}
-use Rattle.shogi_session.specs.Summary.{Heard, one}
+use Rattle.session_table.specs.Summary.{Heard, one}
 use Rattle.shogi_session.proofs.OfferRead.{told_slices}
 use Rattle.shogi_session.proofs.summary_reader.SummaryReader.finish.Goals as goal
 

@@ -1,0 +1,15 @@
+pub mod AlwaysAsks
+mod ConfirmedOnce
+pub mod Counting
+pub mod Courses
+mod EndTold
+mod Existing
+mod Fitting
+mod Instances
+mod LogGames
+pub mod Onward
+pub mod PositionFits
+pub mod RowOnce
+mod SentRight
+mod Testing
+pub mod Tied

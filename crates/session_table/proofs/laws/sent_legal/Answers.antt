@@ -1,0 +1,5 @@
+use Rattle.session_table.proofs.SentRight.{sent_legal}
+use Rattle.session_table.proofs.laws.sent_legal.Goals as goal
+
+pub returns : goal.returns
+returns c = sent_legal

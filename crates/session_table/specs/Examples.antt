@@ -1,0 +1,32 @@
+-- Three lines of a server in a game that begins with one pawn on the board.
+use Rattle.std.specs.Prelude.{false, [], None, slice_set}
+use Rattle.shogi_board.specs.declared.color.Color.TheVariants.{Black}
+use Rattle.shogi_board.specs.declared.kind.Kind.TheVariants.{Pawn}
+use Rattle.shogi_board.specs.declared.square.Square.{Square}
+use Rattle.shogi_board.specs.Cells.{no_cells, piece}
+use Rattle.shogi_board.specs.Placed.{Placed}
+use Rattle.shogi_board.specs.Totals.{no_pieces}
+use Rattle.shogi_rules.specs.declared.moves.Move.TheVariants.{Walk}
+use Rattle.csa_record.specs.Game.{Game, Timed}
+use Rattle.session_table.specs.declared.event.Status.TheVariants.{Going}
+use Rattle.session_table.specs.declared.state.EngineState.TheVariants.{Ready}
+use Rattle.session_table.specs.State.{Match, Client, State}
+
+-- a black pawn on 77, black to move
+abbrev pub pawn_start : Placed
+pawn_start = record { board = slice_set no_cells 60 (piece Black Pawn); black = no_pieces; white = no_pieces; side = Black }
+
+abbrev pub pawn_game : Game
+pawn_game = record { black = None; white = None; headers = []; start = pawn_start; moves = []; ending = None }
+
+-- the client is black
+abbrev pub pawn_match : Match
+pawn_match = record { client = Black; game = pawn_game; slip = false }
+
+-- the pawn's step
+abbrev pub pawn_step : Square → Square → Timed
+pawn_step from to = record { move = Walk from to Pawn; time = None }
+
+-- the engine is ready, and the client in that state
+abbrev pub ready : Client → State
+ready client = record { engine = Ready; client = client; status = Going }

@@ -1,0 +1,15 @@
+pub mod Asking
+pub mod Events
+pub mod Examples
+pub mod GameTold
+pub mod Hearing
+pub mod Logs
+pub mod Promises
+pub mod Row
+pub mod Sending
+pub mod State
+pub mod Summary
+pub use Rattle.session_lines.specs.LineTexts
+pub use Rattle.session_lines.specs.MoveLines
+pub use Rattle.session_lines.specs.ServerLines
+pub use Rattle.session_lines.specs.Texts

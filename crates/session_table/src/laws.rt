@@ -1,0 +1,118 @@
+//! Laws of the table of a bridge, over one step and over every log. They take and give nothing.
+
+ghost use Rattle.std.specs.Prelude.{◌≡◌, ◌↔◌, ◌⊎◌, ◌++◌, ◌∷◌, [], ℕ, List, true, false, None, codes};
+ghost use Rattle.std.specs.List.{AllByRecursion, list_any};
+ghost use Rattle.csa_record.specs.Game.{Game};
+ghost use Rattle.csa_record.specs.Items.{AtMostOne};
+ghost use Rattle.session_table.specs.declared.config.Config.{Config};
+ghost use Rattle.session_table.specs.declared.event.Status.{Status};
+ghost use Rattle.session_table.specs.declared.state.EngineState.TheVariants.{Thinking};
+ghost use Rattle.session_table.specs.Asking.{MayAsk};
+ghost use Rattle.session_table.specs.declared.fault.MoveCause.TheVariants.{Refused, Unsent};
+ghost use Rattle.session_table.specs.declared.fault.SessionFault.TheVariants.{BadServerMove};
+ghost use Rattle.csa_record.specs.declared.fault.Why.TheVariants.{Rule};
+ghost use Rattle.shogi_rules.specs.declared.rule.Rule.TheVariants.{WrongSide};
+ghost use Rattle.shogi_board.specs.declared.square.Square.{Square};
+ghost use Rattle.session_table.specs.Events.{Event, Out, no_lines, server_line};
+ghost use Rattle.session_table.specs.Examples.{pawn_match, pawn_step, ready};
+ghost use Rattle.session_table.specs.GameTold.{game_of};
+ghost use Rattle.session_table.specs.Hearing.{heard_after};
+ghost use Rattle.session_lines.specs.LineTexts as texts;
+ghost use Rattle.session_table.specs.Logs.{Confirmed, GameOf, Leads, Moved, Step, TellsGame, counted, is_answer, is_sound, sends};
+ghost use Rattle.session_table.specs.Promises.{KeepsGame, Session, StepRow, Steps};
+ghost use Rattle.session_table.specs.Row.{Row, failed};
+ghost use Rattle.session_table.specs.Sending.{AskedRight, IsAnswered, OwnSent, is_position_line};
+ghost use Rattle.session_table.specs.State.{Match, State, move, playing, sent, with_move};
+ghost use Rattle.session_table.specs.Summary.{CountsAs, Heard, Offer, nothing_heard};
+ghost use Rattle.session_lines.specs.Texts.{text_of};
+
+/// Of no lines of a summary nothing counts; and what counts of lines with one line more follows from
+/// what counts of them, and from that line.
+pub fn summary_line_once()
+    ensures first { CountsAs [] nothing_heard }
+    ensures next { (lines : List (List ℕ)) (line : List ℕ) (h new : Heard) → CountsAs lines h
+        → (CountsAs (lines ++ line ∷ []) new ↔ (new ≡ heard_after h line)) }
+{}
+
+/// One event leads a bridge to one answer and one state: no two rows of its table fit one event.
+pub fn row_once()
+    ensures { (c : Config) (s t u : State) (e : Event) (out other : Out)
+        → Row c s e out t → Row c s e other u → (out ≡ other) × (t ≡ u) }
+{}
+
+/// A step that is a row, gives the bytes of that row's lines and its status, and keeps what it was
+/// configured with, is a step as a whole.
+pub fn step_whole()
+    ensures { (old new : Session) (e : Event) (to_engine to_server : List ℕ) (status : Status)
+        → ((out : Out) × StepRow old e out new)
+        → ((out : Out) → StepRow old e out new → to_engine ≡ text_of out.to_engine)
+        → ((out : Out) → StepRow old e out new → to_server ≡ text_of out.to_server)
+        → status ≡ new.state.status → new.config ≡ old.config → Steps old e to_engine to_server status new }
+{}
+
+/// In every log an engine that thinks while the client plays is one that may be asked: the client is
+/// to move, the position does not stand for the fourth time, and fewer than 10,000 moves stand.
+pub fn thinking_may_ask()
+    ensures { (c : Config) (log : List Step) (s : State) (g : Match) → Leads c log s → s.engine ≡ Thinking
+        → s.client ≡ playing g → MayAsk g }
+{}
+
+/// The lines of a log confirm one game at most.
+pub fn confirmed_once()
+    ensures { (log : List Step) (o p : Offer) (ms ns : List Moved) → Confirmed log o ms → Confirmed log p ns → (o ≡ p) × (ms ≡ ns) }
+{}
+
+/// In every log, each line that a step sends the server as an answer of the engine is the text of a
+/// legal move of the client's side in the game that the log before it confirmed, or `%TORYO`, or
+/// `%KACHI`.
+pub fn sent_legal()
+    ensures { (c : Config) (log : List Step) (s t : State) (e : Event) (out : Out) → Leads c log s → Row c s e out t
+        → AllByRecursion (λ line. is_answer line ≡ true → IsAnswered log line) out.to_server }
+{}
+
+/// In every log, a step that answers sends one answer, and all answers before it were moves that the
+/// server confirmed; and from `AGREE` on the answers are the confirmed moves of the client's side, in
+/// order, and then at most one that waits for its confirmation.
+pub fn sent_once()
+    ensures answers { (c : Config) (log : List Step) (s t : State) (e : Event) (out : Out) → Leads c log s → Row c s e out t
+        → list_any is_answer out.to_server ≡ true → AtMostOne out.to_server × OwnSent log [] }
+    ensures log { (c : Config) (log : List Step) (s : State) → Leads c log s
+        → list_any (sends texts.agree) (counted log) ≡ true → (waiting : List (List ℕ)) × OwnSent log waiting }
+{}
+
+/// In every log, each `position` line that a step sends the engine is that of the game which the log
+/// has confirmed with that step, and its `go` line has the clocks of that game.
+pub fn asked_right()
+    ensures { (c : Config) (log : List Step) (s t : State) (e : Event) (out : Out) → Leads c log s → Row c s e out t
+        → list_any is_position_line out.to_engine ≡ true
+        → AskedRight c (log ++ (record { event = e; out = out; status = t.status }) ∷ []) out.to_engine }
+{}
+
+/// In every log, the game that a bridge has played so far is the game of the log, and there is none
+/// exactly until `AGREE` was sent; a log has one game at most, and it has no headers. A step that
+/// faults leaves the game of the log as it was; and what a step keeps of a game for want of memory is
+/// the game of the log before the event, or with it.
+pub fn game_told()
+    ensures log { (c : Config) (log : List Step) (s : State) → Leads c log s → TellsGame s.client log }
+    ensures none { (c : Config) (log : List Step) (s : State) → Leads c log s
+        → ((game_of s.client ≡ None) ↔ (list_any (sends texts.agree) (counted log) ≡ false)) }
+    ensures once { (log : List Step) (g h : Game) → GameOf log g → GameOf log h → g ≡ h }
+    ensures no_headers { (log : List Step) (g : Game) → GameOf log g → g.headers ≡ [] }
+    ensures fault { (log : List Step) (step : Step) → is_sound step.status ≡ false
+        → (g : Game) → GameOf (log ++ step ∷ []) g ↔ GameOf log g }
+    ensures lost { (c : Config) (log : List Step) (s t : State) (e : Event) → Leads c log s → KeepsGame c s e t
+        → TellsGame t.client log ⊎ ((out : Out) × (u : State) × Row c s e out u
+        × TellsGame t.client (log ++ (record { event = e; out = out; status = u.status }) ∷ [])) }
+{}
+
+/// In a game that begins with a black pawn on 77 and nothing else, the client black: `+7776FU` is
+/// confirmed where it was sent, and a fault where nothing was; `-3334FU` breaks the first rule.
+pub fn moves_instanced()
+    ensures confirmed { (c : Config) (from to : Square) → from.file ≡ 7 → from.rank ≡ 7 → to.file ≡ 7 → to.rank ≡ 6
+        → Row c (ready (sent pawn_match (move (pawn_step from to).move))) (server_line (codes "+7776FU")) no_lines
+        (ready (playing (with_move pawn_match (pawn_step from to)))) }
+    ensures unsent { (c : Config) → Row c (ready (playing pawn_match)) (server_line (codes "+7776FU")) no_lines
+        (failed (ready (playing pawn_match)) (BadServerMove Unsent)) }
+    ensures refused { (c : Config) → Row c (ready (playing pawn_match)) (server_line (codes "-3334FU")) no_lines
+        (failed (ready (playing pawn_match)) (BadServerMove (Refused (Rule WrongSide)))) }
+{}

@@ -1,5 +1,0 @@
-use Rattle.shogi_session.proofs.Fitting.{log_fits, thinks_may_ask}
-use Rattle.shogi_session.proofs.laws.thinking_may_ask.Goals as goal
-
-pub returns : goal.returns
-returns c = λ config log s g leads thinks plays. thinks_may_ask s g (log_fits config log s leads) thinks plays

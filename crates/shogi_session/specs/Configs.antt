@@ -1,0 +1,8 @@
+-- How a bridge is configured.
+use Rattle.session_peers.specs.Host.{IsLoginWord}
+use Rattle.session_table.specs.declared.config.Config.{Config}
+
+-- what callers keep of a name and a password
+pub record IsConfig (c : Config) : Type 0 where
+  pub name : IsLoginWord c.name.bytes
+  pub password : IsLoginWord c.password.bytes
