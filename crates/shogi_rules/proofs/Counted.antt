@@ -14,7 +14,7 @@ use Rattle.shogi_board.specs.Placed.{Placed}
 use Rattle.shogi_board.specs.Same.{same_position}
 use Rattle.shogi_board.proofs.Same.{position-same}
 use Rattle.shogi_rules.specs.Repetition.{times}
-use Rattle.shogi_rules.specs.Stamps.{Leads, IsLink, AreLinked, stamp_of, stamp_before, with_cell}
+use Rattle.shogi_rules.specs.Stamps.{Leads, IsLink, AreLinked, stamp_of, stamp_before, mark}
 use Rattle.shogi_rules.specs.declared.seen.Link.{Link}
 use Rattle.shogi_rules.proofs.Counts.{first}
 
@@ -206,8 +206,8 @@ pub stamp-none : (cells : Cells) → 0 ≡ stamp_before cells 0
 unfolding stamp_before
 stamp-none cells = refl
 
-pub stamp-more : (cells : Cells) (n total new : ℕ) → total ≡ stamp_before cells n → new ≡ with_cell total n (get_or cells n None) → new ≡ stamp_before cells (n + 1)
+pub stamp-more : (cells : Cells) (n total new : ℕ) → total ≡ stamp_before cells n → new ≡ mark n (get_or cells n None) → total + new ≡ stamp_before cells (n + 1)
 unfolding stamp_before
 stamp-more cells n total new e f =
     let next : n + 1 ≡ suc n = omega arith in
-    rw next (f ∙ ap (λ (t : ℕ). with_cell t n (get_or cells n None)) e)
+    rw (next, e, f) refl

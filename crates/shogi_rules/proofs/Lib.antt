@@ -16,3 +16,4 @@ pub mod LastRanks
 pub mod Decided
 pub mod Standing
 pub mod MovedKings
+pub mod StampAfter

@@ -187,3 +187,7 @@ kings-played ps last p color m own other king next e made sound none kings moved
 pub king-found : (cells : Cells) (color : Color) (king : Option Square) → MatchOption king ((s : Square) → at cells s ≡ piece color King → ⊥) (λ s. at cells s ≡ piece color King) → IsKingOf cells color king
 king-found cells color None h = h
 king-found cells color (Some s) h = h
+
+pub fits-played : (ps : List Placed) (last p : Placed) (color : Color) (m : Move) → last ≡ p → IsFirstBroken (Kept ps p color m) all_rules None → FitsBoard last m
+fits-played ps last p color m e none =
+    let legal = legal-of-none ps p color m none in subst (λ q. FitsBoard q m) (sym e) legal.keeps.fits

@@ -1,5 +1,5 @@
 -- Positions and how often they stand, found fast by a number that equal positions share.
-use Rattle.std.specs.Prelude.{◌≡◌, ℕ, zero, suc, ◌+◌, ◌*◌, ◌%◌, ◌^◌, ◌≤◌, List, Option, Some, None, length, take, slice_get, slice_index_or, unwrap_or}
+use Rattle.std.specs.Prelude.{◌≡◌, ℕ, zero, suc, ◌+◌, ◌*◌, ◌≤◌, List, Option, Some, None, length, take, slice_get, slice_index_or, unwrap_or}
 use Rattle.std.specs.BTreeMap.{BTreeMap, get}
 use Rattle.std.specs.Ordering.{nat_cmp}
 use Rattle.shogi_board.specs.Cells.{Cells}
@@ -14,15 +14,15 @@ abbrev pub color_mark : Color → ℕ
 color_mark Black = 1
 color_mark White = 2
 
--- the stamp with the cell at that place; an empty one changes nothing
-abbrev pub with_cell : ℕ → ℕ → Option Piece → ℕ
-with_cell stamp place None = stamp
-with_cell stamp place (Some p) = (stamp * 167 % 2 ^ 64 + (place * 2 + color_mark p.color)) % 2 ^ 64
+-- what the cell at that place adds; an empty one nothing
+abbrev pub mark : ℕ → Option Piece → ℕ
+mark place None = 0
+mark place (Some p) = (place * 2 + color_mark p.color) * (place * 2 + color_mark p.color)
 
--- who holds which of the first n squares, as one number modulo 2^64
+-- who holds which of the first n squares, as one number
 unfoldable pub stamp_before : Cells → ℕ → ℕ
 stamp_before cells zero = 0
-stamp_before cells (suc n) = with_cell (stamp_before cells n) n (slice_index_or cells n None)
+stamp_before cells (suc n) = stamp_before cells n + mark n (slice_index_or cells n None)
 
 abbrev pub stamp_of : Placed → ℕ
 stamp_of p = stamp_before p.board 81

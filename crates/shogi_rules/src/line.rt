@@ -12,7 +12,7 @@ use crate::moves::Move;
 use crate::playing::king_after;
 use crate::repetition::{verdict_by_moves, verdict_of_stretch};
 use crate::rule::Rule;
-use crate::seen::Seen;
+use crate::seen::{Seen, stamp, stamp_after};
 use shogi_board::{Color, Position, Square};
 use std::alloc::{AllocFailed, Global};
 use std::marker::Model;
@@ -69,6 +69,8 @@ pub struct Line {
     moves: Vec<Move>,
     // all positions, the start and the last too
     seen: Seen,
+    // of the last position
+    stamp: u64,
     // where the kings of the last position stand: that of the side to move, and the other
     own_king: Option<Square>,
     other_king: Option<Square>,
@@ -79,12 +81,13 @@ impl Model for Line {
     ghost use Rattle.shogi_rules.specs.Positions.{Played, IsLine};
     ghost use Rattle.shogi_rules.specs.Repetition.{times};
     ghost use Rattle.shogi_rules.specs.LineKings.{AreKings};
+    ghost use Rattle.shogi_rules.specs.Stamps.{stamp_of};
 
     ghost Value = { Played };
 
     ghost view = { λ l. record { start = l.start; moves = l.moves.items } };
 
-    ghost invariant = { (λ l. IsLine l.start l.last l.moves.items l.seen × (l.repeats ≡ times l.seen l.last) × AreKings l.last l.own_king l.other_king) };
+    ghost invariant = { (λ l. IsLine l.start l.last l.moves.items l.seen × (l.repeats ≡ times l.seen l.last) × AreKings l.last l.own_king l.other_king × (l.stamp ≡ stamp_of l.last)) };
 }
 
 impl Line {
@@ -96,13 +99,15 @@ impl Line {
     {
         let side = start.side();
         let mut seen = Seen::new(alloc);
-        let repeats = seen.push(start)?;
+        let stamp = stamp(&start);
+        let repeats = seen.push(&start, stamp)?;
         Ok(Line {
             start,
             last: start,
             repeats,
             moves: Vec::new(alloc),
             seen,
+            stamp,
             own_king: start.king(side),
             other_king: start.king(side.opponent()),
         })
@@ -205,8 +210,10 @@ impl Line {
         let _side = self.last.side();
         self.answer(mover, &mv, &mut next)?;
         self.moves.push(mv)?;
-        match self.seen.push(next) {
+        let stamp = stamp_after(self.stamp, &self.last, &mv);
+        match self.seen.push(&next, stamp) {
             Ok(repeats) => {
+                self.stamp = stamp;
                 let king = king_after(self.own_king, &mv);
                 self.own_king = self.other_king;
                 self.other_king = king;

@@ -1,35 +1,69 @@
 ghost use Rattle.std.specs.Prelude.{◌≡◌, ◌++◌, ◌<◌, ◌≤◌, [], ◌∷◌, OnOk, OnErr, IfOk, length};
 ghost use Rattle.shogi_board.specs.Placed.{Placed};
+ghost use Rattle.shogi_board.specs.Squares.{place};
+ghost use Rattle.shogi_rules.specs.After.{after};
+ghost use Rattle.shogi_rules.specs.Legal.{FitsBoard};
 ghost use Rattle.shogi_rules.specs.Repetition.{times};
-ghost use Rattle.shogi_rules.specs.Stamps.{color_mark, with_cell, stamp_of, Leads};
+ghost use Rattle.shogi_rules.specs.Stamps.{color_mark, mark, stamp_of, Leads};
 
-use shogi_board::{Color, Piece, Position};
+use crate::moves::Move;
+use shogi_board::{Color, Piece, Position, Square};
 use std::alloc::{AllocError, Global};
 use std::collections::BTreeMap;
 use std::marker::Model;
 
 // A number that equal positions share: who holds each square.
-fn stamp(position: &Position) -> u64
+pub(crate) fn stamp(position: &Position) -> u64
     ensures { result ≡ stamp_of position.now }
 {
     let cells = position.cells();
     let mut stamp = 0u64;
     for n in 0..81usize {
-        stamp = with_cell(stamp, n, cells[n]);
+        stamp += mark(n, cells[n]);
     }
     stamp
 }
 
-// The stamp with the cell at that place.
-fn with_cell(stamp: u64, place: usize, cell: Option<Piece>) -> u64
+// What the cell at that place adds to a stamp.
+fn mark(place: usize, cell: Option<Piece>) -> u64
     requires { place < 81 }
-    ensures { result ≡ with_cell stamp place cell }
+    ensures value { result ≡ mark place cell }
+    ensures low { result ≤ 26244 }
 {
     match cell {
-        Some(piece) => stamp
-            .wrapping_mul(167)
-            .wrapping_add(place as u64 * 2 + color_mark(piece.color)),
-        None => stamp,
+        Some(piece) => {
+            let holder = place as u64 * 2 + color_mark(piece.color);
+            holder * holder
+        }
+        None => 0,
+    }
+}
+
+// The place of a square in the order of the squares.
+fn place_of(square: Square) -> usize
+    ensures value { result ≡ place square }
+    ensures bound { result < 81 }
+{
+    (square.file() as usize - 1) * 9 + (square.rank() as usize - 1)
+}
+
+// The stamp after a move that fits the board of a position with that stamp.
+pub(crate) fn stamp_after(stamp: u64, position: &Position, mv: &Move) -> u64
+    requires fits { FitsBoard position.now mv.now }
+    requires stamp { stamp ≡ stamp_of position.now }
+    ensures { result ≡ stamp_of (after position.now mv.now) }
+{
+    let color = position.side();
+    let kind = mv.kind();
+    let to = mv.target();
+    let there = mark(place_of(to), position.piece_at(to));
+    let landed = stamp + mark(place_of(to), Some(Piece { color, kind }));
+    match *mv {
+        Move::Walk { from, .. } => {
+            let left = mark(place_of(from), position.piece_at(from));
+            landed - there - left
+        }
+        Move::Put { .. } => landed - there,
     }
 }
 
@@ -112,20 +146,20 @@ impl Seen {
         0
     }
 
-    // Adds the position, and says how often it stands now. A refused growth changes nothing.
-    pub(crate) fn push(&mut self, position: Position) -> Result<u32, AllocError>
-        requires { length self.old < 10001 }
-        ensures value { IfOk result (λ n. n ≡ times self.new position) }
-        ensures ok { OnOk result (self.new ≡ self.old ++ position ∷ []) }
+    // Adds the position, which has that stamp, and says how often it stands now. A refused growth changes nothing.
+    pub(crate) fn push(&mut self, position: &Position, stamp: u64) -> Result<u32, AllocError>
+        requires room { length self.old < 10001 }
+        requires stamp { stamp ≡ stamp_of position.now }
+        ensures value { IfOk result (λ n. n ≡ times self.new position.now) }
+        ensures ok { OnOk result (self.new ≡ self.old ++ position.now ∷ []) }
         ensures err { OnErr result (self.new ≡ self.old) }
     {
-        let stamp = stamp(&position);
         let earlier = self.latest(stamp);
-        let count = self.count(earlier, &position) + 1;
+        let count = self.count(earlier, position) + 1;
         self.positions.reserve(1)?;
         self.links.reserve(1)?;
         self.latest.insert(stamp, self.positions.len() + 1)?;
-        self.positions.push(position).unwrap();
+        self.positions.push(*position).unwrap();
         self.links.push(Link { count, earlier }).unwrap();
         Ok(count)
     }

@@ -16,7 +16,7 @@ invariant_of-self-in_err-insert c =
 pub invariant_of-self-2 : goal.invariant_of-self-2
 invariant_of-self-2 c =
     let i = c.self.inside in
-    let p = c.args.position in
+    let p = c.args.position.now in
     let ps : List Placed = i.positions.items in
     let count = c.count-count.result in
     let earlier = c.latest-earlier.result in
@@ -24,14 +24,14 @@ invariant_of-self-2 c =
     let pushed : c.push.new.self.items ≡ ps ++ p ∷ [] = grind (arith, common_steps) in
     let beside : c.push-2.new.self.items ≡ i.links.items ++ link ∷ [] = grind (arith, common_steps) in
     let counted : count ≡ times ps p = rw (sym c.self.view_is) at c.count-count.ensures in
-    let leads : (q : Placed) → stamp_of q ≡ c.stamp-stamp.result → Leads ps (length ps) q earlier = rw (sym c.self.view_is) at c.latest-earlier.ensures in
+    let leads : (q : Placed) → stamp_of q ≡ c.args.stamp → Leads ps (length ps) q earlier = rw (sym c.self.view_is) at c.latest-earlier.ensures in
     let long : c.len.result ≡ length ps = grind (arith, common_steps) in
     rw (pushed, beside)
-    (linked-more ps i.links.items i.latest c.insert.new.self p c.stamp-stamp.result c.len.result count earlier c.self.invariant c.stamp-stamp.ensures long counted leads c.in_ok-insert.ensures.updates.0)
+    (linked-more ps i.links.items i.latest c.insert.new.self p c.args.stamp c.len.result count earlier c.self.invariant c.requires.stamp long counted leads c.in_ok-insert.ensures.updates.0)
 
 pub returns-clause-value : goal.returns-clause-value
 returns-clause-value c =
-    let p = c.args.position in
+    let p = c.args.position.now in
     let ps : List Placed = c.self.inside.positions.items in
     let pushed : c.push.new.self.items ≡ ps ++ p ∷ [] = grind (arith, common_steps) in
     let counted : c.count-count.result ≡ times ps p = rw (sym c.self.view_is) at c.count-count.ensures in

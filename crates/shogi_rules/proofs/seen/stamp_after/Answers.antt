@@ -1,0 +1,49 @@
+use Rattle.std.proofs.Common.{◌≡◌, ◌+◌, ◌-◌, ◌≤◌, arith}
+use Rattle.shogi_board.specs.Cells.{at, piece}
+use Rattle.shogi_board.specs.Squares.{place}
+use Rattle.shogi_rules.specs.Legal.{kind_after, target}
+use Rattle.shogi_rules.specs.Stamps.{mark}
+use Rattle.shogi_rules.proofs.StampAfter.{put-sum, walk-sum, whole-low}
+use Rattle.shogi_rules.proofs.seen.stamp_after.Goals as goal
+
+pub overflow_add-landed : goal.overflow_add-landed
+overflow_add-landed c =
+    let whole = whole-low c.args.position.now in
+    let low = c.mark.ensures.low in
+    let same = c.requires.stamp in
+    omega (arith, whole, low, same)
+
+pub overflow_sub-result : goal.overflow_sub-result
+overflow_sub-result c =
+    let p = c.args.position.now in
+    let there : c.mark-there.result ≡ mark (place (target c.args.mv.now)) (at p.board (target c.args.mv.now)) = rw (c.place_of.ensures.value, c.piece_at.ensures, c.target-to.ensures) at c.mark-there.ensures.value in
+    let new : c.mark.result ≡ mark (place (target c.args.mv.now)) (piece p.side (kind_after c.args.mv.now)) = rw (c.place_of-2.ensures.value, c.target-to.ensures, c.side-color.ensures.value) at c.mark.ensures.value in
+    let left : c.mark-left.result ≡ mark (place c.in-Walk.from) (at p.board c.in-Walk.from) = rw (c.place_of-in-Walk.ensures.value, c.piece_at-in-Walk.ensures) at c.mark-left.ensures.value in
+    let sum = walk-sum p c.args.mv.now c.in-Walk.from c.in-Walk.to c.in-Walk.kind c.args.stamp c.mark-there.result c.mark.result c.mark-left.result c.in-Walk.is c.side-color.ensures.sound c.requires.fits c.requires.stamp there new left in
+    omega (arith, sum)
+
+pub overflow_sub-result-in-Walk : goal.overflow_sub-result-in-Walk
+overflow_sub-result-in-Walk c =
+    let p = c.args.position.now in
+    let there : c.mark-there.result ≡ mark (place (target c.args.mv.now)) (at p.board (target c.args.mv.now)) = rw (c.place_of.ensures.value, c.piece_at.ensures, c.target-to.ensures) at c.mark-there.ensures.value in
+    let new : c.mark.result ≡ mark (place (target c.args.mv.now)) (piece p.side (kind_after c.args.mv.now)) = rw (c.place_of-2.ensures.value, c.target-to.ensures, c.side-color.ensures.value) at c.mark.ensures.value in
+    let left : c.mark-left.result ≡ mark (place c.in-Walk.from) (at p.board c.in-Walk.from) = rw (c.place_of-in-Walk.ensures.value, c.piece_at-in-Walk.ensures) at c.mark-left.ensures.value in
+    let sum = walk-sum p c.args.mv.now c.in-Walk.from c.in-Walk.to c.in-Walk.kind c.args.stamp c.mark-there.result c.mark.result c.mark-left.result c.in-Walk.is c.side-color.ensures.sound c.requires.fits c.requires.stamp there new left in
+    omega (arith, sum)
+
+pub returns-in-Walk : goal.returns-in-Walk
+returns-in-Walk c =
+    let p = c.args.position.now in
+    let there : c.mark-there.result ≡ mark (place (target c.args.mv.now)) (at p.board (target c.args.mv.now)) = rw (c.place_of.ensures.value, c.piece_at.ensures, c.target-to.ensures) at c.mark-there.ensures.value in
+    let new : c.mark.result ≡ mark (place (target c.args.mv.now)) (piece p.side (kind_after c.args.mv.now)) = rw (c.place_of-2.ensures.value, c.target-to.ensures, c.side-color.ensures.value) at c.mark.ensures.value in
+    let left : c.mark-left.result ≡ mark (place c.in-Walk.from) (at p.board c.in-Walk.from) = rw (c.place_of-in-Walk.ensures.value, c.piece_at-in-Walk.ensures) at c.mark-left.ensures.value in
+    let sum = walk-sum p c.args.mv.now c.in-Walk.from c.in-Walk.to c.in-Walk.kind c.args.stamp c.mark-there.result c.mark.result c.mark-left.result c.in-Walk.is c.side-color.ensures.sound c.requires.fits c.requires.stamp there new left in
+    omega (arith, sum)
+
+pub returns-in-Put : goal.returns-in-Put
+returns-in-Put c =
+    let p = c.args.position.now in
+    let there : c.mark-there.result ≡ mark (place (target c.args.mv.now)) (at p.board (target c.args.mv.now)) = rw (c.place_of.ensures.value, c.piece_at.ensures, c.target-to.ensures) at c.mark-there.ensures.value in
+    let new : c.mark.result ≡ mark (place (target c.args.mv.now)) (piece p.side (kind_after c.args.mv.now)) = rw (c.place_of-2.ensures.value, c.target-to.ensures, c.side-color.ensures.value) at c.mark.ensures.value in
+    let sum = put-sum p c.args.mv.now c.in-Put.to c.in-Put.kind c.args.stamp c.mark-there.result c.mark.result c.in-Put.is c.side-color.ensures.sound c.requires.stamp there new in
+    omega (arith, sum)
