@@ -1,6 +1,7 @@
 /* Loaded in front of the C library: reads of standard input and writes of standard output take at most PIECE bytes each;
    the read that FAILED_READ numbers, counted from 1, and the write that FAILED_WRITE numbers fail; with INTERRUPTED each
-   read is interrupted once before it is made, and with EMPTY_WRITES a write takes no byte. */
+   read is interrupted once before it is made, and with EMPTY_WRITES a write takes no byte. With PLAYING it is the reads of
+   `play` alone, of pipes and sockets. */
 typedef unsigned long size;
 typedef long ssize;
 
@@ -8,9 +9,9 @@ extern char *getenv(const char *);
 extern long syscall(long, ...);
 extern int *__errno_location(void);
 
-enum { READ = 0, WRITE = 1, INTERRUPT = 4, BROKEN = 5 };
+enum { READ = 0, WRITE = 1, RECEIVE = 45, INTERRUPT = 4, BROKEN = 5 };
 
-static unsigned long reads, writes, piece, failed_read, failed_write, interrupted, empty_writes, again;
+static unsigned long reads, writes, piece, failed_read, failed_write, interrupted, empty_writes, playing, again;
 
 static unsigned long number(const char *name) {
     const char *digit = getenv(name);
@@ -20,7 +21,14 @@ static unsigned long number(const char *name) {
     return found;
 }
 
-__attribute__((constructor)) static void read_numbers(void) {
+static int is_play(const char *word) {
+    return word[0] == 'p' && word[1] == 'l' && word[2] == 'a' && word[3] == 'y' && !word[4];
+}
+
+__attribute__((constructor)) static void read_numbers(int count, char **words) {
+    playing = number("PLAYING");
+    if (playing && !(count > 1 && is_play(words[1])))
+        return;
     piece = number("PIECE");
     failed_read = number("FAILED_READ");
     failed_write = number("FAILED_WRITE");
@@ -37,19 +45,28 @@ static size within(size bytes) {
     return piece && piece < bytes ? piece : bytes;
 }
 
-ssize read(int file, void *buffer, size bytes) {
-    if (file != 0)
-        return syscall(READ, file, buffer, bytes);
+/* Why a read is not made, or 0. */
+static int why_not(int file) {
+    if (playing ? file < 3 : file != 0)
+        return 0;
     again = !again;
     if (interrupted && again)
-        return fails(INTERRUPT);
-    if (++reads == failed_read)
-        return fails(BROKEN);
-    return syscall(READ, file, buffer, within(bytes));
+        return INTERRUPT;
+    return ++reads == failed_read ? BROKEN : 0;
+}
+
+ssize read(int file, void *buffer, size bytes) {
+    int why = why_not(file);
+    return why ? fails(why) : syscall(READ, file, buffer, file ? bytes : within(bytes));
+}
+
+ssize recv(int file, void *buffer, size bytes, int flags) {
+    int why = why_not(file);
+    return why ? fails(why) : syscall(RECEIVE, file, buffer, bytes, flags, 0, 0);
 }
 
 ssize write(int file, const void *buffer, size bytes) {
-    if (file != 1)
+    if (playing || file != 1)
         return syscall(WRITE, file, buffer, bytes);
     if (++writes == failed_write)
         return fails(BROKEN);

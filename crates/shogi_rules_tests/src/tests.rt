@@ -250,7 +250,7 @@ fn count_lines(p: &Position, depth: usize) -> usize {
 }
 
 // Counts that programs for shogi agree on: one, two and three moves deep at the even start, at the position with the
-// most moves that is known, and in two games. `rt try --test` needs `--seconds 600` here and for the ten thousand moves.
+// most moves that is known, and in two games. `rt try --test` needs `--seconds 600` here.
 #[test]
 fn counts_legal_moves(rt: HostRuntime) -> Result<(), Fail> {
     let most =
