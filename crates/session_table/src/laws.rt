@@ -7,7 +7,7 @@ ghost use Rattle.csa_record.specs.Items.{AtMostOne};
 ghost use Rattle.session_table.specs.declared.config.Config.{Config};
 ghost use Rattle.session_table.specs.declared.event.Status.{Status};
 ghost use Rattle.session_table.specs.declared.state.EngineState.TheVariants.{Thinking};
-ghost use Rattle.session_table.specs.Asking.{AskLines, MayAsk};
+ghost use Rattle.session_table.specs.Asking.{MayAsk};
 ghost use Rattle.session_table.specs.declared.fault.MoveCause.TheVariants.{Refused, Unsent};
 ghost use Rattle.session_table.specs.declared.fault.SessionFault.TheVariants.{BadServerMove};
 ghost use Rattle.csa_record.specs.declared.fault.Why.TheVariants.{Rule};
@@ -86,12 +86,6 @@ pub fn asked_right()
     ensures { (c : Config) (log : List Step) (s t : State) (e : Event) (out : Out) → Leads c log s → Row c s e out t
         → list_any is_position_line out.to_engine ≡ true
         → AskedRight c (log ++ (record { event = e; out = out; status = t.status }) ∷ []) out.to_engine }
-{}
-
-/// The lines by which an engine is asked for a move have a `position` line among them, so that what
-/// `asked_right` says of such lines is said of all that ask.
-pub fn asking_has_a_position()
-    ensures { (c : Config) (g : Match) (lines : List (List ℕ)) → AskLines c g lines → list_any is_position_line lines ≡ true }
 {}
 
 /// In every log, the game that a bridge has played so far is the game of the log, and there is none
