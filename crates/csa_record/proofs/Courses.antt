@@ -12,17 +12,19 @@ use Rattle.shogi_rules.specs.declared.moves.Move.{Move}
 use Rattle.shogi_rules.specs.Play.{Answers}
 use Rattle.shogi_rules.specs.Positions.{Played, IsGame}
 use Rattle.csa_record.specs.declared.course.Ended as stored
-use Rattle.csa_record.specs.declared.fault.OrderFault.{OrderFault}
-use Rattle.csa_record.specs.declared.fault.OrderFault.TheVariants.{AfterEnding, TooManyMoves}
-use Rattle.csa_record.specs.declared.fault.Why.{Why}
-use Rattle.csa_record.specs.declared.fault.Why.TheVariants.{Order, Rule}
-use Rattle.csa_record.specs.Answer.{IsAnswer}
-use Rattle.csa_record.specs.Course.{Course, line_of, untimed, play_fault, PlayAnswers, PlayAnswersAfter, awaits_time, with_time, time_at}
+use Rattle.record_game.specs.declared.fault.OrderFault.{OrderFault}
+use Rattle.record_game.specs.declared.fault.OrderFault.TheVariants.{AfterEnding, TooManyMoves}
+use Rattle.record_game.specs.declared.fault.Why.{Why}
+use Rattle.record_game.specs.declared.fault.Why.TheVariants.{Rule}
+use Rattle.record_game.specs.Answer.{IsAnswer}
+use Rattle.record_game.specs.Course.{Course, line_of, untimed, play_fault, PlayAnswers, awaits_time, with_time, time_at}
 use Rattle.csa_record.specs.Coursing.{timed, ended, course_of, IsKept, lacks_last, with_last, NotPlayed, played_why}
-use Rattle.csa_record.specs.Game.{Timed, Ended}
-use Rattle.csa_record.specs.Limits.{EndsInTime}
-use Rattle.csa_record.specs.Order.{first_fault}
-use Rattle.csa_record.proofs.Timing.{moves_timed, times_timed, length_timed, timed_more, timed_none, awaits_timed, timed_last, length_with_last, AllFit, fit_more, fit_none, fit_last}
+use Rattle.record_game.specs.Game.{Timed, Ended}
+use Rattle.record_game.specs.Limits.{EndsInTime}
+use Rattle.record_game.specs.Order.{first_fault}
+use Rattle.record_game.proofs.FitTimes.{AllFit, fit_more, fit_none, fit_last}
+use Rattle.record_game.proofs.PlayAnswered.{after}
+use Rattle.csa_record.proofs.Timing.{moves_timed, times_timed, length_timed, timed_more, timed_none, awaits_timed, timed_last, length_with_last}
 
 pub line_is : (line : Played) (ts : List (Option ℕ)) (e : Option stored.Ended) → length ts ≡ length line.moves → line_of (course_of line ts e) ≡ line
 line_is line ts e h = ap (λ (ms : List Move). record line { moves = ms }) (moves_timed line.moves ts h)
@@ -121,12 +123,6 @@ few_played line ts e c long v free =
     omega (arith, few, long)
 
 -- what a move answers
-
-after : (fault : Option OrderFault) (c : Course) (color : Color) (m : Move) (answer : Option Why) → play_fault c ≡ fault → PlayAnswersAfter fault c color m answer → PlayAnswers c color m answer
-after fault c color m answer is h = rw is h
-
-pub answer_fault : (c : Course) (color : Color) (m : Move) (fault : OrderFault) → play_fault c ≡ Some fault → (answer : Option Why) × PlayAnswers c color m answer × IsAnswer answer (Err (Order fault))
-answer_fault c color m fault is = (Some (Order fault), after (Some fault) c color m (Some (Order fault)) is refl, refl)
 
 pub answer_played : (line : Played) (ts : List (Option ℕ)) (e : Option stored.Ended) (c : Course) (color : Color) (m : Move) → length ts ≡ length line.moves → course_of line ts e ≡ c → play_fault c ≡ None → Answers line color m None → (answer : Option Why) × PlayAnswers c color m answer × IsAnswer answer (Ok (tt {0}))
 answer_played line ts e c color m long v free h =

@@ -8,16 +8,16 @@ use Rattle.shogi_board.specs.Layout.{Layout}
 use Rattle.shogi_rules.specs.declared.line.PlayFault.{PlayFault}
 use Rattle.shogi_rules.specs.declared.line.PlayFault.TheVariants as playing
 use Rattle.csa_text.specs.Spelling.{Saying, version, name, header, even, rank, pieces, turn, walked, time, ending}
-use Rattle.csa_record.specs.declared.fault.OrderFault.{OrderFault}
-use Rattle.csa_record.specs.declared.fault.Refusal.{Refusal}
-use Rattle.csa_record.specs.declared.fault.Why.{Why}
-use Rattle.csa_record.specs.declared.fault.Why.TheVariants as why
+use Rattle.record_game.specs.declared.fault.OrderFault.{OrderFault}
+use Rattle.record_game.specs.declared.fault.Refusal.{Refusal}
+use Rattle.record_game.specs.declared.fault.Why.{Why}
+use Rattle.record_game.specs.declared.fault.Why.TheVariants as why
 use Rattle.csa_record.specs.declared.flow.FlowFault.{FlowFault}
 use Rattle.csa_record.specs.Flow.{fault_by, fault_of, IsRefusedBehind, IsRefusal, StopsAt, IsReadFault, FeedsNext, IsFed, IsFedAll}
-use Rattle.csa_record.specs.Order.{order_fault}
-use Rattle.csa_record.specs.LaidOut.{laid_out}
+use Rattle.record_game.specs.Order.{order_fault}
+use Rattle.record_game.specs.LaidOut.{laid_out}
 use Rattle.csa_record.specs.Reading.{Reading, HasRead, IsRefusedBy}
-use Rattle.csa_record.specs.Refused.{Refused, FaultlessTo, Answers, AnswersAfter, AnswersInOrder, Finishes, IsJudged, start_why}
+use Rattle.record_game.specs.Refused.{Refused, FaultlessTo, Answers, AnswersAfter, AnswersInOrder, Finishes, IsJudged, start_why}
 
 -- ---- no record is refused as `Failed`
 

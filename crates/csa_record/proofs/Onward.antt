@@ -20,19 +20,19 @@ use Rattle.csa_text.proofs.FirstLong.{too_long_whole, nothing_fed}
 use Rattle.csa_text.proofs.Joining.{pieces_joined, pieces_whole}
 use Rattle.csa_text.proofs.Once.{statements_once}
 use Rattle.csa_text.proofs.Runs.{found}
-use Rattle.csa_record.specs.declared.fault.OrderFault.{OrderFault}
-use Rattle.csa_record.specs.declared.fault.Refusal.{Refusal}
-use Rattle.csa_record.specs.declared.fault.Why.{Why}
-use Rattle.csa_record.specs.declared.fault.Why.TheVariants.{Text, OutOfMemory}
-use Rattle.csa_record.specs.Fits.{IsOfStatement}
-use Rattle.csa_record.specs.Keeping.{Kept, Keeps}
-use Rattle.csa_record.specs.Outcome.{Outcome, IsWritten}
-use Rattle.csa_record.specs.Order.{order_fault}
-use Rattle.csa_record.specs.LaidOut.{laid_out}
+use Rattle.record_game.specs.declared.fault.OrderFault.{OrderFault}
+use Rattle.record_game.specs.declared.fault.Refusal.{Refusal}
+use Rattle.record_game.specs.declared.fault.Why.{Why}
+use Rattle.record_game.specs.declared.fault.Why.TheVariants.{Text, OutOfMemory}
+use Rattle.record_game.specs.Fits.{IsOfStatement}
+use Rattle.record_game.specs.Keeping.{Kept, Keeps}
+use Rattle.record_game.specs.Outcome.{Outcome, IsWritten}
+use Rattle.record_game.specs.Order.{order_fault}
+use Rattle.record_game.specs.LaidOut.{laid_out}
 use Rattle.csa_record.specs.Reading.{HasTaken, HasAll, IsRefusedBy}
-use Rattle.csa_record.specs.Refused.{start_why, Finishes, IsJudged, Answers, AnswersAfter, AnswersInOrder, Fault, Faultless, Refused}
-use Rattle.csa_record.specs.Tells.{IsSpelt}
-use Rattle.csa_record.proofs.Units.{IsSomeUnit, kept_units, statements_are}
+use Rattle.record_game.specs.Refused.{start_why, Finishes, IsJudged, Answers, AnswersAfter, AnswersInOrder, Fault, Faultless, Refused}
+use Rattle.record_game.specs.Tells.{IsSpelt}
+use Rattle.record_game.proofs.Units.{IsSomeUnit, kept_units, statements_are}
 
 -- what is to come exists
 to_come : (p : Piecing) (text : List ℕ) → (others : List TextUnit) × ToCome p text others

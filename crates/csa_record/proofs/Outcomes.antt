@@ -1,11 +1,11 @@
 -- What becomes of a statement whose item is answered.
 use Rattle.std.proofs.Common.{ℕ, List, Option, Some, None, Result, Ok, Err, sym, subst, inl, inr}
 use Rattle.csa_text.specs.Spelling.{Saying, Spells}
-use Rattle.csa_record.specs.declared.fault.Why.{Why}
-use Rattle.csa_record.specs.Answer.{IsAnswer}
-use Rattle.csa_record.specs.Keeping.{Kept, TakenOrRefused}
-use Rattle.csa_record.specs.Outcome.{Outcome}
-use Rattle.csa_record.specs.Refused.{Answers}
+use Rattle.record_game.specs.declared.fault.Why.{Why}
+use Rattle.record_game.specs.Answer.{IsAnswer}
+use Rattle.record_game.specs.Keeping.{Kept, TakenOrRefused}
+use Rattle.record_game.specs.Outcome.{Outcome}
+use Rattle.record_game.specs.Refused.{Answers}
 
 by_answer : (before : List Saying) (bytes : List ℕ) (s : Saying) (why : Why) (new : Kept) (answer : Option Why) → Spells bytes s → Answers before s answer → IsAnswer answer (Err why) → Outcome before bytes (Err why) new
 by_answer before bytes s why new None spells answers is = inl (is, (s, (spells, answers)))

@@ -8,9 +8,9 @@ use Rattle.shogi_board.specs.Cells.{even_cells}
 use Rattle.shogi_board.specs.Placed.{Placed, even_start}
 use Rattle.shogi_rules.specs.declared.moves.Move.TheVariants.{Walk}
 use Rattle.csa_text.specs.declared.ending.Ending.TheVariants.{Toryo}
-use Rattle.csa_record.specs.Canon.{canon, time_text}
-use Rattle.csa_record.specs.Game.{Game, Timed, Ended}
-use Rattle.csa_record.specs.Squares.{square_at}
+use Rattle.record_game.specs.Canon.{canon, time_text}
+use Rattle.record_game.specs.Game.{Game, Timed, Ended}
+use Rattle.record_game.specs.Squares.{square_at}
 
 abbrev started : Placed → List Timed → Option Ended → Game
 started start moves ending = record { black = None; white = None; headers = []; start = start; moves = moves; ending = ending }

@@ -16,7 +16,7 @@ use Rattle.csa_text.specs.PairTexts.{pair_text, pairs_text}
 use Rattle.csa_text.specs.Spelling.{rank, pieces}
 use Rattle.csa_text.specs.declared.pair.Pair.{Pair}
 use Rattle.csa_text.specs.declared.pair.Pair.TheVariants.{InHand}
-use Rattle.csa_record.specs.Canon.{ended_line, start_items, is_from_even, missing, rank_cells, rank_items, hand_pairs, hand_items, pairs_items}
+use Rattle.record_game.specs.Canon.{ended_line, start_items, is_from_even, missing, rank_cells, rank_items, hand_pairs, hand_items, pairs_items}
 
 -- the text so far, and what is still to be written, are the whole
 abbrev pub MissingLeft : List ℕ → List ℕ → Cells → ℕ → Type 0

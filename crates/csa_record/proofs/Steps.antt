@@ -11,18 +11,18 @@ use Rattle.csa_text.specs.declared.cutter.CutFault.{CutFault}
 use Rattle.csa_text.specs.declared.cutter.Statement.{Statement}
 use Rattle.csa_text.specs.declared.fault.TextFault.TheVariants.{StatementTooLong}
 use Rattle.csa_text.specs.declared.piece.Cut.{Cut}
-use Rattle.csa_record.specs.declared.fault.Refusal.{Refusal}
-use Rattle.csa_record.specs.declared.fault.OrderFault.TheVariants.{MissingTurn}
-use Rattle.csa_record.specs.declared.fault.Why.TheVariants.{Text, Order, OutOfMemory}
-use Rattle.csa_record.specs.Fits.{IsOfStatement}
-use Rattle.csa_record.specs.Game.{Game}
-use Rattle.csa_record.specs.Items.{sides}
-use Rattle.csa_record.specs.Keeping.{Kept, Keeps}
-use Rattle.csa_record.specs.Outcome.{Outcome, IsWritten}
+use Rattle.record_game.specs.declared.fault.Refusal.{Refusal}
+use Rattle.record_game.specs.declared.fault.OrderFault.TheVariants.{MissingTurn}
+use Rattle.record_game.specs.declared.fault.Why.TheVariants.{Text, Order, OutOfMemory}
+use Rattle.record_game.specs.Fits.{IsOfStatement}
+use Rattle.record_game.specs.Game.{Game}
+use Rattle.record_game.specs.Items.{sides}
+use Rattle.record_game.specs.Keeping.{Kept, Keeps}
+use Rattle.record_game.specs.Outcome.{Outcome, IsWritten}
 use Rattle.csa_record.specs.Reading.{Failing, Reading, HasTaken, HasRead, HasAll, IsRefusedBy, LastTaken}
-use Rattle.csa_record.specs.Refused.{Refused, FaultlessTo}
-use Rattle.csa_record.specs.Says.{Says}
-use Rattle.csa_record.specs.Tells.{Tells}
+use Rattle.record_game.specs.Refused.{Refused, FaultlessTo}
+use Rattle.record_game.specs.Says.{Says}
+use Rattle.record_game.specs.Tells.{Tells}
 use Rattle.csa_record.proofs.Onward.{statement_given, statement_taken, statement_refused, nothing_given, long_refused, last_taken, last_refused, all_spelt, all_written, fed_length}
 
 -- the refusal of a statement

@@ -1,15 +1,14 @@
 -- Moves with their times.
-use Rattle.std.proofs.Common.{◌≡◌, ℕ, zero, suc, ◌-◌, ◌<◌, ◌≤◌, Bool, true, false, not, List, [], ◌∷◌, ◌++◌, length, map, replicate, set, Option, Some, None, arith, refl, sym, ap, ◌∙◌}
+use Rattle.std.proofs.Common.{◌≡◌, ℕ, zero, suc, ◌-◌, ◌<◌, Bool, true, false, not, List, [], ◌∷◌, ◌++◌, length, map, replicate, set, Option, Some, None, arith, refl, sym, ap, ◌∙◌}
 use Rattle.std.specs.Prelude.{is_some, slice_get}
-use Rattle.std.specs.List.{AllByRecursion, flat_map}
+use Rattle.std.specs.List.{flat_map}
 use Rattle.shogi_board.specs.declared.color.Color.{Color}
 use Rattle.shogi_rules.specs.declared.moves.Move.{Move}
-use Rattle.csa_record.specs.Canon.{ended_line}
-use Rattle.csa_record.specs.Course.{awaits, untimed, with_last_time, time_of}
+use Rattle.record_game.specs.Canon.{ended_line}
+use Rattle.record_game.specs.Course.{awaits, untimed, with_last_time, time_of}
 use Rattle.csa_record.specs.Coursing.{timed, lacks_last, with_last}
-use Rattle.csa_record.specs.Game.{Timed, move_of}
-use Rattle.csa_record.specs.Limits.{IsTimed}
-use Rattle.csa_record.specs.Says.{move_items}
+use Rattle.record_game.specs.Game.{Timed, move_of}
+use Rattle.record_game.specs.Says.{move_items}
 
 pub moves_timed : (ms : List Move) (ts : List (Option ℕ)) → length ts ≡ length ms → map move_of (timed ms ts) ≡ ms
 moves_timed [] ts h = refl
@@ -92,23 +91,6 @@ pub last_lacks : (ts : List (Option ℕ)) (t : Option ℕ) (b : Bool) → Some t
 last_lacks [] t b e h = cc
 last_lacks (x ∷ ts) t b e h =
     turned (is_some t) b h ∙ sym (lacks_at (x ∷ ts) (length (x ∷ ts) - 1) t (omega arith) (sym e))
-
--- times that may stand
-abbrev pub AllFit : List Timed → Type 0
-AllFit ts = AllByRecursion (λ (t : Timed). IsTimed t.time) ts
-
-pub fit_more : (ts : List Timed) (m : Move) → AllFit ts → AllFit (ts ++ untimed m ∷ [])
-fit_more [] m h = (tt, tt)
-fit_more (t ∷ ts) m h = (h.0, fit_more ts m h.1)
-
-pub fit_none : (ms : List Move) → AllFit (map untimed ms)
-fit_none [] = tt
-fit_none (m ∷ ms) = (tt, fit_none ms)
-
-pub fit_last : (ts : List Timed) (time : ℕ) → time ≤ 4294967295999 → AllFit ts → AllFit (with_last_time ts time)
-fit_last [] time small h = tt
-fit_last (t ∷ []) time small h = (small, tt)
-fit_last (t ∷ u ∷ ts) time small h = (h.0, fit_last (u ∷ ts) time small h.1)
 
 -- the lines of these moves and times, the first of this side
 abbrev pub lines_of : Color → List Move → List (Option ℕ) → List ℕ

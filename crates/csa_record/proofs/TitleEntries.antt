@@ -1,25 +1,24 @@
 -- Names and headers: the headers of a map in memory are entries in the order of their keys.
-use Rattle.std.proofs.Common.{◌≡◌, ◌≢◌, ℕ, suc, ◌<◌, ◌≤◌, Bool, true, false, List, [], ◌∷◌, length, Option, Some, None, MatchOption, nat_eq, nat_cmp, is_eq, is_lt, is_some, Ordering, Less, Equal, Greater, refl, sym, ap, ◌∙◌, subst, arith, inl, inr, cond}
+use Rattle.std.proofs.Common.{◌≡◌, ◌≢◌, ℕ, suc, ◌<◌, ◌≤◌, Bool, true, false, List, [], ◌∷◌, length, Option, Some, None, MatchOption, nat_eq, nat_cmp, is_eq, is_lt, is_some, Ordering, Less, Equal, Greater, refl, sym, ap, ◌∙◌, subst, arith, cond}
 use Rattle.std.specs.Prelude.{if◌then◌else◌, nat_le}
 use Rattle.std.specs.BTreeMap.{insert_entry}
 use Rattle.std.specs.Cmp.{partial_equiv_from_equiv, nat_eq_equiv, ranks}
 use Rattle.std.specs.Cmp.Lexicographic.{slice_cmp, pointwise, lists_per, bytes_decides}
 use Rattle.std.specs.Global.{Vec}
-use Rattle.std.specs.List.{AllByRecursion}
 use Rattle.std.specs.Map.{lookup}
 use Rattle.std.specs.Ordering.{match_ordering, MatchOrdering}
 use Rattle.std.proofs.lemmas.Bool.{lt-ltb, le-ltb, le-leb, lt-leb, false≢true}
 use Rattle.std.proofs.lemmas.Cmp.{same_from_slice_cmp}
 use Rattle.std.proofs.lemmas.Map.Text.{is_eq-slice_cmp}
-use Rattle.csa_record.specs.declared.fault.Why.TheVariants.{Order}
-use Rattle.csa_record.specs.declared.fault.OrderFault.TheVariants.{RepeatedHeader, TooManyHeaders}
+use Rattle.record_game.specs.declared.fault.Why.TheVariants.{Order}
+use Rattle.record_game.specs.declared.fault.OrderFault.TheVariants.{RepeatedHeader, TooManyHeaders}
 use Rattle.csa_record.specs.declared.titles.HeaderText as memory
-use Rattle.csa_record.specs.Game.{Entry}
-use Rattle.csa_record.specs.Limits.{IsEntry, is_below, Rising}
+use Rattle.record_game.specs.Game.{Entry}
+use Rattle.record_game.specs.Limits.{IsEntry, is_below, Rising}
 use Rattle.csa_record.specs.TitleBytes.{text_of, entry_of, entries_of}
-use Rattle.csa_record.specs.Titles.{Titled, under, header_fault, with_entry, IsTitled}
-use Rattle.csa_record.proofs.Entries.{below_total}
-use Rattle.csa_record.proofs.OtherKeys.{none_later}
+use Rattle.record_game.specs.Titles.{Titled, under, header_fault, with_entry, IsTitled}
+use Rattle.record_game.proofs.EntriesWith.{rising_tail, kept, titled_with}
+use Rattle.record_game.proofs.OtherKeys.{none_later}
 
 -- the order of the map is that of the entries
 pub same_key : (key k : List ℕ) → is_eq (slice_cmp nat_cmp key k) ≡ pointwise nat_eq k key
@@ -38,10 +37,6 @@ same_byte x y xs ys Greater h =
 
 pub below_cmp : (a b : List ℕ) → is_lt (slice_cmp nat_cmp a b) ≡ is_below a b
 below_cmp a b = same_from_slice_cmp nat_cmp is_lt is_below refl (λ y ys. refl) (λ x xs. refl) same_byte a b (slice_cmp nat_cmp a b) refl
-
-rising_tail : (e : Entry) (es : List Entry) → Rising (e ∷ es) → Rising es
-rising_tail e [] h = tt
-rising_tail e (f ∷ es) h = h.1
 
 abbrev Heads : Type 0
 Heads = List (Vec ℕ × memory.HeaderText)
@@ -68,10 +63,6 @@ under_found (e ∷ es) key h =
 abbrev pub by_bytes : Vec ℕ → Vec ℕ → Ordering
 by_bytes a b = slice_cmp nat_cmp a.items b.items
 
-kept : (b : Bool) (e : Entry) (es : List Entry) → cond b (e ∷ es) es ≡ [] → (b ≡ false) × (es ≡ [])
-kept true e es h = cc
-kept false e es h = (refl, h)
-
 put_step : (o : Ordering) (e : Vec ℕ × memory.HeaderText) (es : Heads) (k : Vec ℕ) (v : memory.HeaderText) → is_eq o ≡ false → entries_of (insert_entry by_bytes es k v) ≡ with_entry (entries_of es) (entry_of k v) → entries_of (match_ordering o ((k, v) ∷ e ∷ es) ((e.0, v) ∷ es) (e ∷ insert_entry by_bytes es k v)) ≡ (if is_lt o then entry_of k v ∷ entries_of (e ∷ es) else entry_of e.0 e.1 ∷ with_entry (entries_of es) (entry_of k v))
 put_step Less e es k v h p = refl
 put_step Equal e es k v h p = absurd (false≢true (sym h))
@@ -84,65 +75,8 @@ put_entries (e ∷ es) k v h =
     let differs : is_eq (slice_cmp nat_cmp k.items e.0.items) ≡ false = same_key k.items e.0.items ∙ parts.0 in
     rw (← below_cmp k.items e.0.items) (put_step (slice_cmp nat_cmp k.items e.0.items) e es k v differs (put_entries es k v parts.1))
 
--- with an entry more
-all_step : (P : Entry → Type 0) (b : Bool) (e f : Entry) (es fs : List Entry) → P e → P f → AllByRecursion P es → AllByRecursion P fs → AllByRecursion P (if b then e ∷ f ∷ es else f ∷ fs)
-all_step P true e f es fs p q h k = (p, (q, h))
-all_step P false e f es fs p q h k = (q, k)
-
-pub all_with : (P : Entry → Type 0) (es : List Entry) (e : Entry) → P e → AllByRecursion P es → AllByRecursion P (with_entry es e)
-all_with P [] e p h = (p, tt)
-all_with P (f ∷ es) e p h = all_step P (is_below e.key f.key) e f es (with_entry es e) p h.0 h.1 (all_with P es e p h.1)
-
-length_step : (b : Bool) (e f : Entry) (es fs : List Entry) → length fs ≡ suc (length es) → length (if b then e ∷ f ∷ es else f ∷ fs) ≡ suc (suc (length es))
-length_step true e f es fs h = refl
-length_step false e f es fs h = ap suc h
-
-pub length_with : (es : List Entry) (e : Entry) → length (with_entry es e) ≡ suc (length es)
-length_with [] e = refl
-length_with (f ∷ es) e = length_step (is_below e.key f.key) e f es (with_entry es e) (length_with es e)
-
-second_step : (b : Bool) (f e g : Entry) (es fs : List Entry) → is_below f.key e.key ≡ true → is_below f.key g.key ≡ true → Rising (if b then e ∷ g ∷ es else g ∷ fs) → Rising (f ∷ (if b then e ∷ g ∷ es else g ∷ fs))
-second_step true f e g es fs h k r = (h, r)
-second_step false f e g es fs h k r = (k, r)
-
-later_with : (f e : Entry) (es : List Entry) → Rising (f ∷ es) → is_below f.key e.key ≡ true → Rising (with_entry es e) → Rising (f ∷ with_entry es e)
-later_with f e [] r h s = (h, tt)
-later_with f e (g ∷ es) r h s = second_step (is_below e.key g.key) f e g es (with_entry es e) h r.0 s
-
-after : (e f : List ℕ) → is_below e f ≡ false → pointwise nat_eq f e ≡ false → is_below f e ≡ true
-after e f h n =
-    elim (below_total e f) [
-      | inl below ↦ absurd (false≢true (sym h ∙ below))
-      | inr other ↦ elim other [
-        | inl above ↦ above
-        | inr same ↦ absurd (false≢true (sym n ∙ (bytes_decides f e).1 (sym same)))
-      ]
-    ]
-
-rising_step : (b : Bool) (e f : Entry) (es fs : List Entry) → (b ≡ true → is_below e.key f.key ≡ true) → Rising (f ∷ es) → (b ≡ false → Rising (f ∷ fs)) → Rising (if b then e ∷ f ∷ es else f ∷ fs)
-rising_step true e f es fs h r s = (h refl, r)
-rising_step false e f es fs h r s = s refl
-
-pub rising_with : (es : List Entry) (e : Entry) → Rising es → under e.key es ≡ [] → Rising (with_entry es e)
-rising_with [] e r h = tt
-rising_with (f ∷ es) e r h =
-    let parts = kept (pointwise nat_eq f.key e.key) f (under e.key es) h in
-    let rest = rising_with es e (rising_tail f es r) parts.1 in
-    rising_step (is_below e.key f.key) e f es (with_entry es e) (λ t. t) r
-    (λ n. later_with f e es r (after e.key f.key n parts.0) rest)
-
 abbrev pub titled : Option (List ℕ) → Option (List ℕ) → List Entry → Titled
 titled black white headers = record { black = black; white = white; headers = headers }
-
--- what is titled stays so with an entry more
-pub titled_with : (t : Titled) (e : Entry) → IsTitled t → IsEntry e → under e.key t.headers ≡ [] → length t.headers < 64 → IsTitled (record t { headers = with_entry t.headers e })
-titled_with t e h entry new few = record {
-  black = h.black;
-  white = h.white;
-  entries = all_with IsEntry t.headers e entry h.entries;
-  rising = rising_with t.headers e h.rising new;
-  few_headers = omega (arith, length_with t.headers e, few);
-}
 
 -- refusals of a header
 pub fault_free : (t : Titled) (key text : List ℕ) → under key t.headers ≡ [] → length t.headers < 64 → header_fault t key text ≡ None

@@ -6,12 +6,12 @@ use Rattle.shogi_board.specs.declared.color.Color.TheVariants.{Black, White}
 use Rattle.shogi_board.specs.Placed.{Placed}
 use Rattle.shogi_rules.specs.Positions.{Played}
 use Rattle.csa_text.specs.Spelling.{Saying, version, turn}
-use Rattle.csa_record.specs.Canon.{name_items, header_item, start_items, canon_items, ended_line, canon}
-use Rattle.csa_record.specs.Building.{course_of}
-use Rattle.csa_record.specs.Course.{Course}
-use Rattle.csa_record.specs.Game.{Game, move_of}
-use Rattle.csa_record.specs.Says.{move_items, ending_items, played_items}
-use Rattle.csa_record.proofs.ByRanks.{flat_joined}
+use Rattle.record_game.specs.Canon.{name_items, header_item, start_items, canon_items, ended_line, canon}
+use Rattle.record_game.specs.Building.{course_of}
+use Rattle.record_game.specs.Course.{Course}
+use Rattle.record_game.specs.Game.{Game, move_of}
+use Rattle.record_game.specs.Says.{move_items, ending_items, played_items}
+use Rattle.record_game.proofs.ByRanks.{flat_joined}
 
 -- the version, the names and the headers
 abbrev pub titles : Game → List Saying

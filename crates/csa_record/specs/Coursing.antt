@@ -7,11 +7,11 @@ use Rattle.shogi_rules.specs.declared.line.PlayFault.TheVariants as playing
 use Rattle.shogi_rules.specs.declared.moves.Move.{Move}
 use Rattle.shogi_rules.specs.Positions.{Played}
 use Rattle.csa_record.specs.declared.course.Ended as stored
-use Rattle.csa_record.specs.declared.fault.OrderFault.TheVariants.{TooManyMoves}
-use Rattle.csa_record.specs.declared.fault.Why.{Why}
-use Rattle.csa_record.specs.declared.fault.Why.TheVariants.{Order, Rule, OutOfMemory}
-use Rattle.csa_record.specs.Course.{Course, IsCourse}
-use Rattle.csa_record.specs.Game.{Timed, Ended}
+use Rattle.record_game.specs.declared.fault.OrderFault.TheVariants.{TooManyMoves}
+use Rattle.record_game.specs.declared.fault.Why.{Why}
+use Rattle.record_game.specs.declared.fault.Why.TheVariants.{Order, Rule, OutOfMemory}
+use Rattle.record_game.specs.Course.{Course, IsCourse}
+use Rattle.record_game.specs.Game.{Timed, Ended}
 
 -- each move with its time
 abbrev pub timed : List Move → List (Option ℕ) → List Timed

@@ -1,16 +1,16 @@
 -- A record that comes from a source, and its canonical text that goes to a sink.
 use Rattle.std.specs.Prelude.{◌≡◌, ◌≢◌, ◌⊎◌, ℕ, ◌+◌, ◌*◌, ◌<◌, ◌≤◌, ◌==◌, ◌&&◌, Bool, true, false, nat_lt, if◌then◌else◌, List, [], ◌++◌, length, take, Option, Result, Ok, Err, MatchResult}
 use Rattle.std.specs.Io.KnownBytes.{Keeps, Appends, Consumes, IsAtEnd}
-use Rattle.csa_record.specs.declared.fault.Refusal.{Refusal}
-use Rattle.csa_record.specs.declared.fault.Why.{Why}
-use Rattle.csa_record.specs.declared.fault.Why.TheVariants as why
+use Rattle.record_game.specs.declared.fault.Refusal.{Refusal}
+use Rattle.record_game.specs.declared.fault.Why.{Why}
+use Rattle.record_game.specs.declared.fault.Why.TheVariants as why
 use Rattle.csa_record.specs.declared.flow.FlowFault.{FlowFault}
 use Rattle.csa_record.specs.declared.flow.FlowFault.TheVariants as flow
-use Rattle.csa_record.specs.Canon.{canon}
-use Rattle.csa_record.specs.Game.{Game}
+use Rattle.record_game.specs.Canon.{canon}
+use Rattle.record_game.specs.Game.{Game}
 use Rattle.csa_record.specs.Reading.{Reading, HasRead}
-use Rattle.csa_record.specs.Refused.{Refused, FaultlessTo}
-use Rattle.csa_record.specs.Tells.{Tells}
+use Rattle.record_game.specs.Refused.{Refused, FaultlessTo}
+use Rattle.record_game.specs.Tells.{Tells}
 
 -- it failed once more at an error, and else not
 abbrev pub CountsErrors : {T E : Type 0} → ℕ → ℕ → Result T E → Type 0

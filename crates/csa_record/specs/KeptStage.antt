@@ -1,8 +1,8 @@
 -- What a reader's own stage is.
 use Rattle.csa_record.specs.declared.progress.Stage.{Stage}
 use Rattle.csa_record.specs.declared.progress.Stage.TheVariants as stages
-use Rattle.csa_record.specs.Keeping as kept
-use Rattle.csa_record.specs.Keeping.{laying, playing}
+use Rattle.record_game.specs.Keeping as kept
+use Rattle.record_game.specs.Keeping.{laying, playing}
 
 abbrev pub stage_of : Stage → kept.Stage
 stage_of (stages.Laying l) = laying l

@@ -4,10 +4,10 @@ use Rattle.csa_text.specs.Cut.{TextUnit, Cut}
 use Rattle.csa_text.specs.Piecing.{Piecing}
 use Rattle.csa_text.specs.TooLong.{HasCutOf}
 use Rattle.csa_text.specs.Spelling.{Saying}
-use Rattle.csa_record.specs.declared.fault.Refusal.{Refusal}
-use Rattle.csa_record.specs.declared.fault.Why.TheVariants.{OutOfMemory}
-use Rattle.csa_record.specs.Keeping.{Kept, Keeps}
-use Rattle.csa_record.specs.Refused.{Faultless, Refused, FaultlessTo}
+use Rattle.record_game.specs.declared.fault.Refusal.{Refusal}
+use Rattle.record_game.specs.declared.fault.Why.TheVariants.{OutOfMemory}
+use Rattle.record_game.specs.Keeping.{Kept, Keeps}
+use Rattle.record_game.specs.Refused.{Faultless, Refused, FaultlessTo}
 
 -- the statement that was refused, and how many bytes were fed before
 pub record Failing : Type 0 where

@@ -3,16 +3,16 @@ ghost use Rattle.std.specs.List.{flat_map};
 ghost use Rattle.shogi_rules.specs.Play.{Answers};
 ghost use Rattle.shogi_rules.specs.Positions.{IsGame, max_moves};
 ghost use Rattle.csa_text.specs.Spelling.{time};
-ghost use Rattle.csa_record.specs.declared.fault.Why.{Why};
-ghost use Rattle.csa_record.specs.Answer.{IsAnswer};
-ghost use Rattle.csa_record.specs.Canon.{ended_line, fraction_text};
-ghost use Rattle.csa_record.specs.Course.{IsCourse, PlayAnswers, line_of, untimed, play_fault, close_fault, awaits_time, time_fault, with_time, with_ending, time_at, ending_of, ending_time_of};
+ghost use Rattle.record_game.specs.declared.fault.Why.{Why};
+ghost use Rattle.record_game.specs.Answer.{IsAnswer};
+ghost use Rattle.record_game.specs.Canon.{ended_line, fraction_text};
+ghost use Rattle.record_game.specs.Course.{IsCourse, PlayAnswers, line_of, untimed, play_fault, close_fault, awaits_time, time_fault, with_time, with_ending, time_at, ending_of, ending_time_of};
 ghost use Rattle.csa_record.specs.Coursing.{timed, ended, lacks_last, with_last, played_why, NotPlayed};
-ghost use Rattle.csa_record.specs.Says.{move_items, time_items, ending_items};
+ghost use Rattle.record_game.specs.Says.{move_items, time_items, ending_items};
 
-use crate::fault::{OrderFault, Why};
 use csa_text::{Ending, csa_move};
 use itoa::Buffer;
+use record_game::{OrderFault, Why};
 use shogi_board::{Color, OutOfMemory, Position};
 use shogi_rules::{Line, MAX_MOVES, Move, PlayFault};
 use std::alloc::Global;
@@ -35,7 +35,7 @@ pub(crate) struct Course {
 }
 
 impl Model for Course {
-    ghost use Rattle.csa_record.specs.Course as told;
+    ghost use Rattle.record_game.specs.Course as told;
     ghost use Rattle.csa_record.specs.Coursing.{course_of, IsKept};
 
     ghost Value = { told.Course };

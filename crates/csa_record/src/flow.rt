@@ -4,12 +4,12 @@ ghost use Rattle.csa_record.specs.declared.flow.FlowFault.{FlowFault};
 ghost use Rattle.csa_record.specs.Flow.{fault_of, IsTold, IsRefusal, IsFaultless, FailsRead, IsReadFault, ReadsRecord, FeedsNext, IsFedAll, IsTextFault, TellsText, IsNormal, IsCutShort, IsFlowFault, IsWanting};
 ghost use Rattle.csa_record.specs.Reading.{HasRead, fed_of};
 
-use crate::fault::{Refusal, Why};
 use crate::record::Record;
 use crate::record_reader::RecordReader;
 use crate::sink::{Sink, send};
 use crate::source::Source;
 use crate::writer::write;
+use record_game::{Refusal, Why};
 use std::alloc::Global;
 use thiserror::Error;
 

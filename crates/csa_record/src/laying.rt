@@ -9,14 +9,14 @@ ghost use Rattle.shogi_board.specs.Totals.{IsWithinTotals};
 ghost use Rattle.shogi_board.specs.declared.setup.SetupFault.TheVariants.{OpponentInCheck};
 ghost use Rattle.csa_text.specs.Saying.{pairs_of};
 ghost use Rattle.csa_text.specs.Spelling.{Saying, even, rank, pieces};
-ghost use Rattle.csa_record.specs.declared.fault.Why.TheVariants.{OutOfMemory};
-ghost use Rattle.csa_record.specs.Items.{sides};
-ghost use Rattle.csa_record.specs.Laying.{Lays, LaidOrRefused, Places};
-ghost use Rattle.csa_record.specs.Order.{endings};
-ghost use Rattle.csa_record.specs.Placings.{taken_off, pair_placing, cells_placings};
+ghost use Rattle.record_game.specs.declared.fault.Why.TheVariants.{OutOfMemory};
+ghost use Rattle.record_game.specs.Items.{sides};
+ghost use Rattle.record_game.specs.Laying.{Lays, LaidOrRefused, Places};
+ghost use Rattle.record_game.specs.Order.{endings};
+ghost use Rattle.record_game.specs.Placings.{taken_off, pair_placing, cells_placings};
 
-use crate::fault::{OrderFault, Why};
 use csa_text::{Pair, Pairs};
+use record_game::{OrderFault, Why};
 use shogi_board::{Color, Piece, Position, Setup, SetupFault, Square};
 use std::marker::Model;
 
@@ -31,7 +31,7 @@ pub(crate) struct Laying {
 
 impl Model for Laying {
     ghost use Rattle.std.specs.Prelude.{◌≡◌, length};
-    ghost use Rattle.csa_record.specs.Laying.{Laid};
+    ghost use Rattle.record_game.specs.Laying.{Laid};
 
     ghost Value = { Laid };
 

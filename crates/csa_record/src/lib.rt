@@ -1,12 +1,10 @@
-//! Games as CSA records tell them: their parts, their limits, and the canonical text.
+//! Games as CSA records tell them, read and written: whole or piece by piece, and the canonical text.
 //!
 //! The format is CSA V2.2, in the profile of this project (`docs/CSA.md`).
 #![tactic(auto)]
 
 mod course;
-mod fault;
 mod flow;
-pub mod laws;
 mod laying;
 mod progress;
 mod record;
@@ -17,9 +15,9 @@ mod start_writer;
 mod titles;
 mod writer;
 
-pub use fault::{OrderFault, Refusal, Why};
 pub use flow::{FlowFault, MOST_READS, normalise, read_from};
 pub use record::Record;
+pub use record_game::{OrderFault, Refusal, Why, laws};
 pub use record_reader::{RecordReader, read};
 pub use sink::{Sink, Writing};
 pub use source::{Failure, Reading, Source};

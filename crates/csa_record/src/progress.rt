@@ -3,22 +3,22 @@ ghost use Rattle.std.specs.List.{AllByRecursion};
 ghost use Rattle.shogi_board.specs.Setup.{position_of};
 ghost use Rattle.csa_text.specs.Saying.{saying_of, pairs_of};
 ghost use Rattle.csa_text.specs.Spelling.{Saying, version, name, header, even, rank, pieces, turn, walked, time, ending};
-ghost use Rattle.csa_record.specs.declared.fault.Why.{Why};
-ghost use Rattle.csa_record.specs.Answer.{IsAnswer};
-ghost use Rattle.csa_record.specs.Fits.{Fits, IsHeaderLine, IsOfStatement};
-ghost use Rattle.csa_record.specs.Items.{sides};
-ghost use Rattle.csa_record.specs.Keeping.{Keeps, TakenOrRefused};
-ghost use Rattle.csa_record.specs.Limits.{IsOneLine};
-ghost use Rattle.csa_record.specs.Outcome.{Outcome, IsWritten, late};
-ghost use Rattle.csa_record.specs.Refused.{Finishes};
-ghost use Rattle.csa_record.specs.Says.{Says};
+ghost use Rattle.record_game.specs.declared.fault.Why.{Why};
+ghost use Rattle.record_game.specs.Answer.{IsAnswer};
+ghost use Rattle.record_game.specs.Fits.{Fits, IsHeaderLine, IsOfStatement};
+ghost use Rattle.record_game.specs.Items.{sides};
+ghost use Rattle.record_game.specs.Keeping.{Keeps, TakenOrRefused};
+ghost use Rattle.record_game.specs.Limits.{IsOneLine};
+ghost use Rattle.record_game.specs.Outcome.{Outcome, IsWritten, late};
+ghost use Rattle.record_game.specs.Refused.{Finishes};
+ghost use Rattle.record_game.specs.Says.{Says};
 
 use crate::course::Course;
-use crate::fault::{OrderFault, Why};
 use crate::laying::Laying;
 use crate::record::Record;
 use crate::titles::Titles;
 use csa_text::{Ending, Item, Pairs, read_item};
+use record_game::{OrderFault, Why};
 use shogi_board::{Color, Piece};
 use shogi_rules::Move;
 use std::alloc::Global;
@@ -41,7 +41,7 @@ pub(crate) struct Progress {
 }
 
 impl Model for Progress {
-    ghost use Rattle.csa_record.specs.Keeping.{Kept};
+    ghost use Rattle.record_game.specs.Keeping.{Kept};
     ghost use Rattle.csa_record.specs.KeptStage.{stage_of};
 
     ghost Value = { Kept };

@@ -1,17 +1,18 @@
 ghost use Rattle.std.specs.Prelude.{◌≡◌, ◌≢◌, ◌≤◌, ◌+◌, ◌++◌, ◌∷◌, ◌↔◌, [], length, map, Option, Some, None, IsOk, IfOk, IfErr, IfSome, OnOk, OnErr, MatchOption};
 ghost use Rattle.csa_text.specs.Fields.{HasNone};
-ghost use Rattle.csa_record.specs.declared.fault.Why.{Why};
-ghost use Rattle.csa_record.specs.Answer.{IsAnswer};
-ghost use Rattle.csa_record.specs.Building.{titled_of, course_of, game_of, with_titled, with_course, game_along};
-ghost use Rattle.csa_record.specs.Course.{PlayAnswers, untimed, time_fault, close_fault, with_time, with_ending, time_at, ending_of, ending_time_of};
-ghost use Rattle.csa_record.specs.Game.{move_of};
-ghost use Rattle.csa_record.specs.Limits.{IsGame, IsName, IsOneLine};
-ghost use Rattle.csa_record.specs.Titles.{IsWithHeader, name_of, name_fault, header_fault, with_name, under, shown};
+ghost use Rattle.record_game.specs.declared.fault.Why.{Why};
+ghost use Rattle.record_game.specs.Answer.{IsAnswer};
+ghost use Rattle.record_game.specs.Building.{titled_of, course_of, game_of, with_titled, with_course, game_along};
+ghost use Rattle.record_game.specs.Course.{PlayAnswers, untimed, time_fault, close_fault, with_time, with_ending, time_at, ending_of, ending_time_of};
+ghost use Rattle.record_game.specs.Game.{move_of};
+ghost use Rattle.record_game.specs.Limits.{IsGame, IsName, IsOneLine};
+ghost use Rattle.record_game.specs.Titles.{IsWithHeader, name_of, name_fault, header_fault, with_name, under};
+ghost use Rattle.csa_record.specs.TitleBytes.{shown};
 
 use crate::course::Course;
-use crate::fault::Why;
 use crate::titles::{HeaderValue, Titles};
 use csa_text::Ending;
+use record_game::Why;
 use shogi_board::{Color, OutOfMemory, Position};
 use shogi_rules::{Line, Move};
 use std::alloc::Global;
@@ -26,9 +27,9 @@ pub struct Record {
 }
 
 impl Model for Record {
-    ghost use Rattle.csa_record.specs.Building.{game_of};
-    ghost use Rattle.csa_record.specs.Game.{Game};
-    ghost use Rattle.csa_record.specs.Limits.{IsGame};
+    ghost use Rattle.record_game.specs.Building.{game_of};
+    ghost use Rattle.record_game.specs.Game.{Game};
+    ghost use Rattle.record_game.specs.Limits.{IsGame};
 
     ghost Value = { Game };
 

@@ -1,16 +1,16 @@
 ghost use Rattle.std.specs.Prelude.{◌≡◌, ◌≢◌, ℕ, ◌+◌, ◌^◌, ◌<◌, ◌≤◌, [], ◌++◌, List, length, Some, None, Ok, Err, IfSome, IfOk, IfErr, OnOk, IsErrOf};
 ghost use Rattle.csa_text.specs.Spelling.{Saying};
-ghost use Rattle.csa_record.specs.Fits.{IsOfStatement};
-ghost use Rattle.csa_record.specs.Keeping.{Keeps};
-ghost use Rattle.csa_record.specs.Outcome.{Outcome};
+ghost use Rattle.record_game.specs.Fits.{IsOfStatement};
+ghost use Rattle.record_game.specs.Keeping.{Keeps};
+ghost use Rattle.record_game.specs.Outcome.{Outcome};
 ghost use Rattle.csa_record.specs.Reading.{HasRead, HasTaken, IsRefusedBy, fed_of, NextTaken, LastTaken};
-ghost use Rattle.csa_record.specs.Refused.{Refused, FaultlessTo};
-ghost use Rattle.csa_record.specs.Tells.{Tells};
+ghost use Rattle.record_game.specs.Refused.{Refused, FaultlessTo};
+ghost use Rattle.record_game.specs.Tells.{Tells};
 
-use crate::fault::{OrderFault, Refusal, Why};
 use crate::progress::Progress;
 use crate::record::Record;
 use csa_text::{PieceCutter, Statement};
+use record_game::{OrderFault, Refusal, Why};
 use std::alloc::Global;
 use std::marker::Model;
 

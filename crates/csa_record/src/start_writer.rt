@@ -6,8 +6,8 @@ ghost use Rattle.csa_text.specs.Codes.{sign, kind_code, square_text, cell_text};
 ghost use Rattle.csa_text.specs.PairTexts.{pairs_text};
 ghost use Rattle.csa_text.specs.Spelling.{even, rank};
 ghost use Rattle.csa_text.specs.declared.pair.Pair.TheVariants.{InHand};
-ghost use Rattle.csa_record.specs.Canon.{ended_line, start_items, is_from_even, is_part_of, stands_in, missing, rank_cells, rank_items, hand_pairs, hand_items};
-ghost use Rattle.csa_record.specs.Squares.{square_at};
+ghost use Rattle.record_game.specs.Canon.{ended_line, start_items, is_from_even, is_part_of, stands_in, missing, rank_cells, rank_items, hand_pairs, hand_items};
+ghost use Rattle.record_game.specs.Squares.{square_at};
 ghost use Rattle.csa_record.specs.Starting.{gone};
 
 use crate::titles::sign_of;

@@ -6,15 +6,15 @@ ghost use Rattle.csa_text.specs.Fields.{HasNone};
 ghost use Rattle.csa_text.specs.MomentParts.{moment_of};
 ghost use Rattle.csa_text.specs.Moment.{CalendarMoment, SpellsMoment, moment_text};
 ghost use Rattle.csa_record.specs.Bytes.{name_bytes};
-ghost use Rattle.csa_record.specs.Answer.{IsAnswer};
-ghost use Rattle.csa_record.specs.Canon.{ended_line, header_item, name_items, value_text};
-ghost use Rattle.csa_record.specs.Limits.{IsName, IsOneLine, IsMomentKey, IsEntry};
-ghost use Rattle.csa_record.specs.Says.{IsValue};
-ghost use Rattle.csa_record.specs.Titles.{untitled, name_of, under, name_fault, header_fault, with_name, with_entry, IsWithHeader, IsTitled, shown};
-ghost use Rattle.csa_record.specs.TitleBytes.{text_of, entry_of, entries_of};
+ghost use Rattle.record_game.specs.Answer.{IsAnswer};
+ghost use Rattle.record_game.specs.Canon.{ended_line, header_item, name_items, value_text};
+ghost use Rattle.record_game.specs.Limits.{IsName, IsOneLine, IsMomentKey, IsEntry};
+ghost use Rattle.record_game.specs.Says.{IsValue};
+ghost use Rattle.record_game.specs.Titles.{untitled, name_of, under, name_fault, header_fault, with_name, with_entry, IsWithHeader, IsTitled};
+ghost use Rattle.csa_record.specs.TitleBytes.{text_of, entry_of, entries_of, shown};
 
-use crate::fault::{OrderFault, Why};
 use csa_text::{Moment, read_moment};
+use record_game::{OrderFault, Why};
 use shogi_board::{Color, OutOfMemory};
 use std::alloc::Global;
 use std::collections::BTreeMap;
@@ -52,7 +52,7 @@ pub(crate) struct Titles {
 
 impl Model for Titles {
     ghost use Rattle.csa_record.specs.Bytes.{name_bytes};
-    ghost use Rattle.csa_record.specs.Titles.{Titled, IsTitled};
+    ghost use Rattle.record_game.specs.Titles.{Titled, IsTitled};
     ghost use Rattle.csa_record.specs.TitleBytes.{entries_of};
 
     ghost Value = { Titled };

@@ -2,8 +2,8 @@ ghost use Rattle.std.specs.Prelude.{◌≡◌, ◌++◌, ◌∷◌, map, IfOk, O
 ghost use Rattle.std.specs.List.{flat_map};
 ghost use Rattle.shogi_board.specs.declared.color.Color.TheVariants.{Black, White};
 ghost use Rattle.csa_text.specs.Spelling.{version, turn};
-ghost use Rattle.csa_record.specs.Canon.{canon, ended_line, header_item, name_items};
-ghost use Rattle.csa_record.specs.Tells.{Tells};
+ghost use Rattle.record_game.specs.Canon.{canon, ended_line, header_item, name_items};
+ghost use Rattle.record_game.specs.Tells.{Tells};
 
 use crate::record::Record;
 use crate::start_writer::write_start;

@@ -10,7 +10,7 @@ use Rattle.csa_text.specs.Cut.{TextUnit, Cut, begins_with, statement_bytes}
 use Rattle.csa_text.specs.Spelling.{Saying, walked, time, ending}
 use Rattle.csa_text.specs.declared.ending.Ending.{Ending}
 use Rattle.csa_text.specs.declared.fault.TextFault.{TextFault}
-use Rattle.csa_record.proofs.SaysOnce.{same_items}
+use Rattle.record_game.proofs.SaysOnce.{same_items}
 use Rattle.csa_record.specs.Game.{Timed, Ended}
 use Rattle.csa_record.specs.Says.{time_items}
 use Rattle.csa_record.specs.Tells.{IsSpelt}

@@ -17,7 +17,7 @@ use Rattle.shogi_rules.specs.After.{after}
 use Rattle.shogi_rules.specs.Legal.{ReachesTarget, KingSafe}
 use Rattle.shogi_rules.specs.Play.{Answers}
 use Rattle.usi_text.proofs.OneMove.{same_square}
-use Rattle.csa_record.specs.declared.fault.Why.TheVariants as causes
+use Rattle.record_game.specs.declared.fault.Why.TheVariants as causes
 use Rattle.csa_record.specs.Game.{Timed}
 use Rattle.session_table.specs.declared.config.Config.{Config}
 use Rattle.session_table.specs.declared.fault.MoveCause.TheVariants.{Refused, Unsent}

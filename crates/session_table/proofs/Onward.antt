@@ -14,8 +14,8 @@ use Rattle.shogi_rules.specs.declared.line.PlayFault.TheVariants as play
 use Rattle.shogi_rules.specs.declared.moves.Move.{Move}
 use Rattle.shogi_rules.specs.Positions.{IsGame}
 use Rattle.csa_text.specs.Codes.{move_text}
-use Rattle.csa_record.specs.declared.fault.OrderFault.TheVariants as order
-use Rattle.csa_record.specs.declared.fault.Why.TheVariants as causes
+use Rattle.record_game.specs.declared.fault.OrderFault.TheVariants as order
+use Rattle.record_game.specs.declared.fault.Why.TheVariants as causes
 use Rattle.csa_record.specs.Game.{Timed, move_of}
 use Rattle.session_table.specs.declared.config.Config.{Config}
 use Rattle.session_table.specs.declared.event.Status.{Status}

@@ -15,9 +15,9 @@ use Rattle.shogi_rules.specs.declared.moves.Move.TheVariants.{Walk, Put}
 use Rattle.shogi_rules.specs.declared.rule.Rule.{Rule}
 use Rattle.shogi_rules.specs.Play.{Answers}
 use Rattle.csa_text.specs.Codes.{sign}
-use Rattle.csa_record.proofs.SaysOnce.{tells_once}
-use Rattle.csa_record.specs.declared.fault.Why.{Why}
-use Rattle.csa_record.specs.declared.fault.Why.TheVariants as causes
+use Rattle.record_game.proofs.SaysOnce.{tells_once}
+use Rattle.record_game.specs.declared.fault.Why.{Why}
+use Rattle.record_game.specs.declared.fault.Why.TheVariants as causes
 use Rattle.csa_record.specs.Game.{Game, Timed, Ended}
 use Rattle.csa_record.specs.Tells.{Tells}
 use Rattle.usi_text.proofs.OneMove.{one_move}

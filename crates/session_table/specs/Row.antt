@@ -13,9 +13,9 @@ use Rattle.usi_text.specs.declared.engine.EngineWord.TheVariants.{UsiOk, ReadyOk
 use Rattle.usi_text.specs.Engine.{LineSays}
 use Rattle.usi_text.specs.Moves.{UsiMove}
 use Rattle.usi_text.specs.Words.{words, nth_word}
-use Rattle.csa_record.specs.declared.fault.OrderFault.TheVariants as order
-use Rattle.csa_record.specs.declared.fault.Why.{Why}
-use Rattle.csa_record.specs.declared.fault.Why.TheVariants as why
+use Rattle.record_game.specs.declared.fault.OrderFault.TheVariants as order
+use Rattle.record_game.specs.declared.fault.Why.{Why}
+use Rattle.record_game.specs.declared.fault.Why.TheVariants as why
 use Rattle.csa_record.specs.Game.{Timed, Ended}
 use Rattle.session_table.specs.declared.config.Config.{Config}
 use Rattle.session_table.specs.declared.event.Status.TheVariants.{Going, Done, Failed}

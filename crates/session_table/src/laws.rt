@@ -10,7 +10,7 @@ ghost use Rattle.session_table.specs.declared.state.EngineState.TheVariants.{Thi
 ghost use Rattle.session_table.specs.Asking.{MayAsk};
 ghost use Rattle.session_table.specs.declared.fault.MoveCause.TheVariants.{Refused, Unsent};
 ghost use Rattle.session_table.specs.declared.fault.SessionFault.TheVariants.{BadServerMove};
-ghost use Rattle.csa_record.specs.declared.fault.Why.TheVariants.{Rule};
+ghost use Rattle.record_game.specs.declared.fault.Why.TheVariants.{Rule};
 ghost use Rattle.shogi_rules.specs.declared.rule.Rule.TheVariants.{WrongSide};
 ghost use Rattle.shogi_board.specs.declared.square.Square.{Square};
 ghost use Rattle.session_table.specs.Events.{Event, Out, no_lines, server_line};

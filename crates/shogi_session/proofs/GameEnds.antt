@@ -5,8 +5,8 @@ use Rattle.shogi_board.specs.declared.color.Color.{Color}
 use Rattle.shogi_rules.specs.declared.moves.Move.{Move}
 use Rattle.csa_text.specs.Cut.{TextUnit}
 use Rattle.csa_text.specs.Spelling.{Saying, ending, walked}
-use Rattle.csa_record.proofs.Fits.{time_fits}
-use Rattle.csa_record.specs.declared.fault.Why.{Why}
+use Rattle.record_game.proofs.Fits.{time_fits}
+use Rattle.record_game.specs.declared.fault.Why.{Why}
 use Rattle.csa_record.specs.Building.{course_of, with_course}
 use Rattle.csa_record.specs.Course as course
 use Rattle.csa_record.specs.Course.{untimed, awaits, with_last_time, with_time, time_fault, close_fault, with_ending}

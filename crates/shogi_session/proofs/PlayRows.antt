@@ -9,8 +9,8 @@ use Rattle.shogi_rules.specs.declared.moves.Move as shogi
 use Rattle.shogi_rules.specs.Play.{Answers}
 use Rattle.shogi_rules.specs.Positions.{Played}
 use Rattle.csa_text.specs.declared.fault.TextFault.{TextFault}
-use Rattle.csa_record.specs.declared.fault.Why.{Why}
-use Rattle.csa_record.specs.declared.fault.Why.TheVariants as causes
+use Rattle.record_game.specs.declared.fault.Why.{Why}
+use Rattle.record_game.specs.declared.fault.Why.TheVariants as causes
 use Rattle.csa_record.specs.Game.{Game, Timed, Ended}
 use Rattle.session_table.specs.declared.config.Config.{Config}
 use Rattle.session_table.specs.declared.event.Out.{Out as Answered}

@@ -2,14 +2,14 @@
 use Rattle.std.proofs.Common.{◌≡◌, ℕ, List, [], ◌∷◌, Option, Some, None, inl, inr, refl, sym, ap, subst, ◌∙◌}
 use Rattle.std.specs.List.{AllByRecursion, AllZip}
 use Rattle.std.specs.Option.{option_to_list}
-use Rattle.csa_record.proofs.SaysOnce.{same_items}
-use Rattle.csa_record.proofs.Told.{told_or_refused}
+use Rattle.record_game.proofs.SaysOnce.{same_items}
+use Rattle.record_game.proofs.Told.{told_or_refused}
 use Rattle.csa_record.specs.Game.{Game}
 use Rattle.csa_record.specs.Items.{names}
 use Rattle.csa_record.specs.Refused.{Refused}
 use Rattle.csa_record.specs.Says.{Says}
 use Rattle.csa_record.specs.Tells.{IsSpelt, Tells}
-use Rattle.csa_record.specs.declared.fault.Why.{Why}
+use Rattle.record_game.specs.declared.fault.Why.{Why}
 use Rattle.csa_text.proofs.Once.{statements_once}
 use Rattle.csa_text.specs.Spelling.{Saying, version, name, header, even, rank, pieces, turn, walked, time, ending}
 use Rattle.shogi_board.specs.declared.color.Color.{Color}

@@ -6,9 +6,9 @@ use Rattle.shogi_board.specs.declared.memory.OutOfMemory.{OutOfMemory}
 use Rattle.shogi_rules.specs.declared.line.PlayFault.{PlayFault}
 use Rattle.shogi_rules.specs.declared.line.PlayFault.TheVariants as play
 use Rattle.shogi_rules.specs.declared.moves.Move as shogi
-use Rattle.csa_record.specs.declared.fault.OrderFault.TheVariants as order
-use Rattle.csa_record.specs.declared.fault.Why.{Why}
-use Rattle.csa_record.specs.declared.fault.Why.TheVariants as why
+use Rattle.record_game.specs.declared.fault.OrderFault.TheVariants as order
+use Rattle.record_game.specs.declared.fault.Why.{Why}
+use Rattle.record_game.specs.declared.fault.Why.TheVariants as why
 use Rattle.shogi_rules.specs.Positions.{IsGame}
 use Rattle.csa_record.specs.Game.{Game, Timed, Ended, move_of}
 use Rattle.session_table.specs.declared.config.Config.{Config}

@@ -1,5 +1,5 @@
 use Rattle.std.proofs.Common.{arith}
-use Rattle.csa_record.proofs.LayingPlaced.{cells_none, cells_some}
+use Rattle.record_game.proofs.LayingPlaced.{cells_none, cells_some}
 use Rattle.csa_record.proofs.laying.place_cells.Goals as goal
 use Rattle.csa_record.proofs.laying.place_cells.Goals.{in-Some+in_ok-place, in_default}
 

@@ -1,4 +1,4 @@
-use Rattle.csa_record.proofs.LayingPlaced.{CellsLeft}
+use Rattle.record_game.proofs.LayingPlaced.{CellsLeft}
 use Rattle.csa_record.proofs.laying.place_cells.Given as goal
 
 abbrev pub invariant-loop-i : goal.invariant-loop-i

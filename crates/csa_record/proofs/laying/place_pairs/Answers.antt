@@ -2,8 +2,8 @@ use Rattle.std.proofs.Common.{arith, [], ◌∷◌, ◌∙◌, sym, ap}
 use Rattle.std.proofs.lemmas.Result.{err_from_is_err_and}
 use Rattle.csa_text.specs.Saying.{pairs_of}
 use Rattle.shogi_board.specs.Placing.{place_all}
-use Rattle.csa_record.specs.Placings.{pair_placing}
-use Rattle.csa_record.proofs.LayingPlaced.{left_more, left_fault, never_past, singles}
+use Rattle.record_game.specs.Placings.{pair_placing}
+use Rattle.record_game.proofs.LayingPlaced.{left_more, left_fault, never_past, singles}
 use Rattle.csa_record.proofs.laying.place_pairs.Goals as goal
 use Rattle.csa_record.proofs.laying.place_pairs.Goals.{in-Some+in_ok-place_pair, in_default}
 

@@ -1,7 +1,7 @@
 use Rattle.std.proofs.Common.{[], ◌∷◌}
 use Rattle.csa_text.specs.Saying.{pairs_of}
-use Rattle.csa_record.specs.Placings.{pair_placing}
-use Rattle.csa_record.proofs.LayingPlaced.{Left}
+use Rattle.record_game.specs.Placings.{pair_placing}
+use Rattle.record_game.proofs.LayingPlaced.{Left}
 use Rattle.csa_record.proofs.laying.place_pairs.Given as goal
 
 abbrev pub invariant-loop-i : goal.invariant-loop-i

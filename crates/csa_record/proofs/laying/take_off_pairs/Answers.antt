@@ -1,8 +1,8 @@
 use Rattle.std.proofs.Common.{arith}
 use Rattle.std.proofs.lemmas.Result.{err_from_is_err_and}
 use Rattle.csa_text.specs.Saying.{pairs_of}
-use Rattle.csa_record.specs.Placings.{taken_off}
-use Rattle.csa_record.proofs.LayingPlaced.{left_more, left_fault, never_past}
+use Rattle.record_game.specs.Placings.{taken_off}
+use Rattle.record_game.proofs.LayingPlaced.{left_more, left_fault, never_past}
 use Rattle.csa_record.proofs.laying.take_off_pairs.Goals as goal
 use Rattle.csa_record.proofs.laying.take_off_pairs.Goals.{in-Some+in_ok-take_off_pair, in_default}
 

@@ -1,6 +1,6 @@
 use Rattle.csa_text.specs.Saying.{pairs_of}
-use Rattle.csa_record.specs.Placings.{taken_off}
-use Rattle.csa_record.proofs.LayingPlaced.{Left}
+use Rattle.record_game.specs.Placings.{taken_off}
+use Rattle.record_game.proofs.LayingPlaced.{Left}
 use Rattle.csa_record.proofs.laying.take_off_pairs.Given as goal
 
 abbrev pub invariant-loop-i : goal.invariant-loop-i

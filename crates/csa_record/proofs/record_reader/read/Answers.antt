@@ -1,7 +1,7 @@
 use Rattle.std.proofs.Common.{◌≡◌, ◌≢◌, [], subst}
 use Rattle.std.proofs.lemmas.List.{append-nil}
-use Rattle.csa_record.specs.declared.fault.Why.TheVariants.{OutOfMemory}
-use Rattle.csa_record.specs.Refused.{Refused, FaultlessTo}
+use Rattle.record_game.specs.declared.fault.Why.TheVariants.{OutOfMemory}
+use Rattle.record_game.specs.Refused.{Refused, FaultlessTo}
 use Rattle.csa_record.proofs.record_reader.read.Goals as goal
 
 pub returns-in-Ok-clause-refused : goal.returns-in-Ok-clause-refused

@@ -1,6 +1,6 @@
 use Rattle.std.proofs.Common.{◌≡◌, drop}
 use Rattle.shogi_board.specs.Cells.{even_cells}
-use Rattle.csa_record.specs.Canon.{is_part_of}
+use Rattle.record_game.specs.Canon.{is_part_of}
 use Rattle.csa_record.proofs.start_writer.is_part_of_even.Given as goal
 
 abbrev pub invariant-loop-n : goal.invariant-loop-n

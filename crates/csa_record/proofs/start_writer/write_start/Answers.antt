@@ -1,7 +1,7 @@
 use Rattle.std.proofs.Common.{◌∙◌, ◌++◌, sym, ap}
 use Rattle.std.specs.List.{flat_map}
 use Rattle.shogi_board.specs.declared.color.Color.TheVariants.{Black, White}
-use Rattle.csa_record.specs.Canon.{ended_line, hand_items}
+use Rattle.record_game.specs.Canon.{ended_line, hand_items}
 use Rattle.csa_record.proofs.StartText.{start_written}
 use Rattle.csa_record.proofs.start_writer.write_start.Goals as goal
 

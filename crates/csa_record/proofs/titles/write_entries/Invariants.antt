@@ -1,6 +1,6 @@
 use Rattle.std.proofs.Common.{◌≡◌, ◌++◌, map}
 use Rattle.std.specs.List.{flat_map}
-use Rattle.csa_record.specs.Canon.{ended_line, header_item}
+use Rattle.record_game.specs.Canon.{ended_line, header_item}
 use Rattle.csa_record.specs.TitleBytes.{entries_of}
 use Rattle.csa_record.proofs.titles.write_entries.Given as goal
 

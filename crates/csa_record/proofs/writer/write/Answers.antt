@@ -1,7 +1,7 @@
 use Rattle.std.proofs.Common.{◌≡◌, arith}
 use Rattle.std.proofs.lemmas.Grind.{common_steps}
-use Rattle.csa_record.specs.Canon.{canon}
-use Rattle.csa_record.proofs.Canonical.{canon_tells_lem}
+use Rattle.record_game.specs.Canon.{canon}
+use Rattle.record_game.proofs.Canonical.{canon_tells_lem}
 use Rattle.csa_record.proofs.writer.write.Goals as goal
 
 pub returns-clause-read_back : goal.returns-clause-read_back

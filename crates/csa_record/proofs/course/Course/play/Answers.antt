@@ -1,7 +1,8 @@
 use Rattle.std.proofs.Common.{◌≡◌, sym, ◌++◌, ◌∷◌, [], None, arith}
 use Rattle.std.proofs.lemmas.Grind.{common_steps}
-use Rattle.csa_record.specs.Course.{play_fault}
-use Rattle.csa_record.proofs.Courses.{answer_fault, answer_played, answer_refused, kept_more, course_more}
+use Rattle.record_game.specs.Course.{play_fault}
+use Rattle.record_game.proofs.PlayAnswered.{answer_fault}
+use Rattle.csa_record.proofs.Courses.{answer_played, answer_refused, kept_more, course_more}
 use Rattle.csa_record.proofs.course.Course.play.Goals as goal
 
 pub returns-in-Some-clause-answer : goal.returns-in-Some-clause-answer

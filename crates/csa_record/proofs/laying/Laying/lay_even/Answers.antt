@@ -1,10 +1,10 @@
 use Rattle.std.proofs.Common.{true, refl, sym, ap, ◌∙◌, subst}
 use Rattle.csa_text.specs.Saying.{pairs_of}
 use Rattle.csa_text.specs.Spelling.{even}
-use Rattle.csa_record.specs.Laying.{Lays}
+use Rattle.record_game.specs.Laying.{Lays}
 use Rattle.shogi_board.specs.Placing.{place_all}
-use Rattle.csa_record.specs.Placings.{placings_of}
-use Rattle.csa_record.proofs.LaidNext.{laid_as, mixed, refused, taken, even_late, even_fits, begins_even, same_ranks, or_one}
+use Rattle.record_game.specs.Placings.{placings_of}
+use Rattle.record_game.proofs.LaidNext.{laid_as, mixed, refused, taken, even_late, even_fits, begins_even, same_ranks, or_one}
 use Rattle.csa_record.proofs.laying.Laying.lay_even.Goals as goal
 
 pub returns-then-self-clause-taken : goal.returns-then-self-clause-taken

@@ -1,10 +1,10 @@
 use Rattle.std.proofs.Common.{true, refl, sym, ap, ◌∙◌, subst}
 use Rattle.csa_text.specs.Saying.{pairs_of}
 use Rattle.csa_text.specs.Spelling.{pieces}
-use Rattle.csa_record.specs.Laying.{Lays}
+use Rattle.record_game.specs.Laying.{Lays}
 use Rattle.shogi_board.specs.Placing.{place_all}
-use Rattle.csa_record.specs.Placings.{placings_of}
-use Rattle.csa_record.proofs.LaidNext.{Begun, begun_on, begun_empty, laid_as, refused, taken, pieces_fit, same_ranks, or_none}
+use Rattle.record_game.specs.Placings.{placings_of}
+use Rattle.record_game.proofs.LaidNext.{Begun, begun_on, begun_empty, laid_as, refused, taken, pieces_fit, same_ranks, or_none}
 use Rattle.csa_record.proofs.laying.Laying.lay_pieces.Goals as goal
 use Rattle.csa_record.proofs.laying.Laying.lay_pieces.Goals.{then-not-self, else-not-self}
 

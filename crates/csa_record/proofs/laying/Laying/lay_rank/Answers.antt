@@ -1,9 +1,9 @@
 use Rattle.std.proofs.Common.{true, refl, sym, ap, ◌-◌, ◌∙◌, set, subst}
 use Rattle.csa_text.specs.Spelling.{rank}
-use Rattle.csa_record.specs.Laying.{Lays}
+use Rattle.record_game.specs.Laying.{Lays}
 use Rattle.shogi_board.specs.Placing.{place_all}
-use Rattle.csa_record.specs.Placings.{placings_of}
-use Rattle.csa_record.proofs.LaidNext.{Begun, begun_on, begun_empty, laid_as, mixed, refused, taken, rank_beside_even, rank_twice, rank_fits, one_rank, or_none}
+use Rattle.record_game.specs.Placings.{placings_of}
+use Rattle.record_game.proofs.LaidNext.{Begun, begun_on, begun_empty, laid_as, mixed, refused, taken, rank_beside_even, rank_twice, rank_fits, one_rank, or_none}
 use Rattle.csa_record.proofs.laying.Laying.lay_rank.Goals as goal
 use Rattle.csa_record.proofs.laying.Laying.lay_rank.Goals.{then-not-self, else-not-self, then-self-via-then-self, then-self-via-else-self+then-self-number}
 

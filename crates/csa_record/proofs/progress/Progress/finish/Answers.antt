@@ -1,9 +1,9 @@
 use Rattle.std.proofs.Common.{refl, sym, ap, ◌∙◌, subst}
-use Rattle.csa_record.specs.Keeping.{playing}
+use Rattle.record_game.specs.Keeping.{playing}
 use Rattle.csa_record.specs.KeptStage.{stage_of}
-use Rattle.csa_record.specs.Limits.{IsGame}
-use Rattle.csa_record.proofs.Progressing.{kept, as_kept}
-use Rattle.csa_record.proofs.KeptGames.{says_of_kept, no_side_of_kept}
+use Rattle.record_game.specs.Limits.{IsGame}
+use Rattle.record_game.proofs.Progressing.{kept, as_kept}
+use Rattle.record_game.proofs.KeptGames.{says_of_kept, no_side_of_kept}
 use Rattle.csa_record.proofs.progress.Progress.finish.Goals as goal
 
 pub returns-in-Laying : goal.returns-in-Laying

@@ -1,4 +1,4 @@
-use Rattle.csa_record.proofs.Fits.{fits_of}
+use Rattle.record_game.proofs.Fits.{fits_of}
 use Rattle.csa_record.proofs.Outcomes.{outcome_of}
 use Rattle.csa_text.specs.Saying.{saying_of}
 use Rattle.csa_record.proofs.progress.Progress.take_bytes.Goals as goal

@@ -1,7 +1,7 @@
 use Rattle.std.proofs.Common.{ap}
 use Rattle.csa_record.specs.KeptStage.{stage_of}
-use Rattle.csa_record.proofs.Answering as answering
-use Rattle.csa_record.proofs.Progressing as step
+use Rattle.record_game.proofs.Answering as answering
+use Rattle.record_game.proofs.Progressing as step
 use Rattle.csa_record.proofs.progress.Progress.take_move.Goals as goal
 use Rattle.csa_record.proofs.progress.Progress.take_move.Goals.{in-Laying, in-Playing}
 

@@ -1,5 +1,5 @@
 use Rattle.csa_record.specs.KeptStage.{stage_of}
-use Rattle.csa_record.proofs.Progressing as step
+use Rattle.record_game.proofs.Progressing as step
 use Rattle.csa_record.proofs.progress.Progress.take_name.Goals as goal
 
 pub returns : goal.returns

@@ -1,8 +1,8 @@
 use Rattle.std.proofs.Common.{ap}
 use Rattle.csa_text.specs.Saying.{pairs_of}
 use Rattle.csa_record.specs.KeptStage.{stage_of}
-use Rattle.csa_record.proofs.Answering as answering
-use Rattle.csa_record.proofs.Progressing as step
+use Rattle.record_game.proofs.Answering as answering
+use Rattle.record_game.proofs.Progressing as step
 use Rattle.csa_record.proofs.progress.Progress.take_pieces.Goals as goal
 use Rattle.csa_record.proofs.progress.Progress.take_pieces.Goals.{in-Laying, in-Playing}
 

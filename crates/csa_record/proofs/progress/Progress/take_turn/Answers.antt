@@ -1,7 +1,7 @@
 use Rattle.std.proofs.Common.{◌≡◌, ap, ◌∙◌, sym, Ok, Err}
 use Rattle.csa_record.specs.KeptStage.{stage_of}
-use Rattle.csa_record.proofs.Answering as answering
-use Rattle.csa_record.proofs.Progressing as step
+use Rattle.record_game.proofs.Answering as answering
+use Rattle.record_game.proofs.Progressing as step
 use Rattle.csa_record.proofs.progress.Progress.take_turn.Goals as goal
 use Rattle.csa_record.proofs.progress.Progress.take_turn.Goals.{in-Laying, in-Playing}
 

@@ -1,6 +1,6 @@
 use Rattle.csa_record.specs.KeptStage.{stage_of}
-use Rattle.csa_record.proofs.Answering as answering
-use Rattle.csa_record.proofs.Progressing as step
+use Rattle.record_game.proofs.Answering as answering
+use Rattle.record_game.proofs.Progressing as step
 use Rattle.csa_record.proofs.progress.Progress.take_version.Goals as goal
 
 pub returns-then-self : goal.returns-then-self

@@ -1,9 +1,9 @@
 use Rattle.std.proofs.Common.{Option, subst}
-use Rattle.csa_record.specs.declared.fault.Why.{Why}
-use Rattle.csa_record.specs.Answer.{IsAnswer}
-use Rattle.csa_record.specs.Building.{course_of}
-use Rattle.csa_record.specs.Course.{PlayAnswers}
-use Rattle.csa_record.specs.Game.{Game}
+use Rattle.record_game.specs.declared.fault.Why.{Why}
+use Rattle.record_game.specs.Answer.{IsAnswer}
+use Rattle.record_game.specs.Building.{course_of}
+use Rattle.record_game.specs.Course.{PlayAnswers}
+use Rattle.record_game.specs.Game.{Game}
 use Rattle.csa_record.proofs.record.Record.play.Goals as goal
 
 pub returns-clause-answer : goal.returns-clause-answer

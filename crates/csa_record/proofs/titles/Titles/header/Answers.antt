@@ -1,6 +1,6 @@
 use Rattle.std.proofs.Common.{[], ◌∷◌, Some, ap, sym, ◌∙◌}
-use Rattle.csa_record.specs.Game.{plain}
-use Rattle.csa_record.specs.Titles.{Titled}
+use Rattle.record_game.specs.Game.{plain}
+use Rattle.record_game.specs.Titles.{Titled}
 use Rattle.csa_record.specs.declared.titles.HeaderText.TheVariants as texts
 use Rattle.csa_record.proofs.TitleEntries.{found_some, found_none}
 use Rattle.csa_record.proofs.titles.Titles.header.Goals as goal

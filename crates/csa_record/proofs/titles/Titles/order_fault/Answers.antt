@@ -1,5 +1,5 @@
 use Rattle.std.proofs.Common.{arith, ap, sym}
-use Rattle.csa_record.specs.Titles.{Titled}
+use Rattle.record_game.specs.Titles.{Titled}
 use Rattle.csa_record.proofs.TitleEntries.{repeated, new_key, as_long, too_many, fault_free}
 use Rattle.csa_record.proofs.titles.Titles.order_fault.Goals as goal
 

@@ -1,5 +1,0 @@
-use Rattle.csa_record.proofs.RefusedOnce.{refused_once}
-use Rattle.csa_record.proofs.laws.one_refusal.Goals as goal
-
-pub returns : goal.returns
-returns c = λ source n m offset other v w p q. refused_once source n offset m other v w p q

@@ -1,0 +1,68 @@
+-- A new header has its place among the entries.
+use Rattle.std.proofs.Common.{◌≡◌, ◌≢◌, ◌⊎◌, ℕ, true, List, [], ◌∷◌, ◌++◌, refl, sym, ap, ◌∙◌, subst, arith, inl, inr}
+use Rattle.std.specs.List.{AllByRecursion}
+use Rattle.std.proofs.lemmas.Bool.{cases_lt}
+use Rattle.record_game.specs.Game.{Entry}
+use Rattle.record_game.specs.Limits.{is_below, Rising}
+use Rattle.record_game.specs.Says.{IsValue, AreEntries}
+use Rattle.record_game.proofs.SaysOnce.{below_first, below_next}
+
+-- of two texts one comes before the other, or they are equal
+pub below_total : (a b : List ℕ) → (is_below a b ≡ true) ⊎ ((is_below b a ≡ true) ⊎ (a ≡ b))
+below_total [] [] = inr (inr refl)
+below_total [] (c ∷ cs) = inl refl
+below_total (b ∷ bs) [] = inr (inl refl)
+below_total (b ∷ bs) (c ∷ cs) =
+    elim (cases_lt b c) [
+      | inl low ↦ inl (below_first b c bs cs low)
+      | inr high ↦ elim (cases_lt c b) [
+        | inl above ↦ inr (inl (below_first c b cs bs above))
+        | inr level ↦
+            let same : b ≡ c = omega (arith, high, level) in
+            elim (below_total bs cs) [
+              | inl less ↦ inl (below_next b c bs cs same less)
+              | inr other ↦ elim other [
+                | inl more ↦ inr (inl (below_next c b cs bs (sym same) more))
+                | inr equal ↦ inr (inr (ap (λ x. x ∷ bs) same ∙ ap (λ xs. c ∷ xs) equal))
+              ]
+            ]
+      ]
+    ]
+
+-- where it goes in
+pub record HasPlace (es : List Entry) (e : Entry) : Type 0 where
+  pub front : List Entry
+  pub behind : List Entry
+  pub whole : es ≡ front ++ behind
+  pub rising : Rising (front ++ e ∷ behind)
+
+later : (x : Entry) (front behind : List Entry) (e : Entry) → Rising (x ∷ (front ++ behind)) → is_below x.key e.key ≡ true → Rising (front ++ e ∷ behind) → Rising (x ∷ (front ++ e ∷ behind))
+later x [] behind e r h s = (h, s)
+later x (y ∷ front) behind e r h s = (r.0, s)
+
+rising_tail : (e : Entry) (es : List Entry) → Rising (e ∷ es) → Rising es
+rising_tail e [] h = tt
+rising_tail e (f ∷ es) h = h.1
+
+pub place_for : (es : List Entry) (e : Entry) → Rising es → AllByRecursion (λ (x : Entry). x.key ≢ e.key) es → HasPlace es e
+place_for [] e r new = record { front = []; behind = []; whole = refl; rising = tt }
+place_for (x ∷ xs) e r new =
+    elim (below_total e.key x.key) [
+      | inl before ↦ record { front = []; behind = x ∷ xs; whole = refl; rising = (before, r) }
+      | inr other ↦ elim other [
+        | inl after ↦
+            let p = place_for xs e (rising_tail x xs r) new.1 in
+            let all : Rising (x ∷ (p.front ++ p.behind)) = subst (λ es. Rising (x ∷ es)) p.whole r in
+            record {
+              front = x ∷ p.front;
+              behind = p.behind;
+              whole = ap (λ es. x ∷ es) p.whole;
+              rising = later x p.front p.behind e all after p.rising;
+            }
+        | inr equal ↦ absurd (new.0 (sym equal))
+      ]
+    ]
+
+-- a header more is an entry more, wherever it goes in
+pub entry_more : (h : List ℕ × List ℕ) (hs : List (List ℕ × List ℕ)) (es : List Entry) (e : Entry) → AreEntries hs es → e.key ≡ h.0 → IsValue h.0 h.1 e.text → (p : HasPlace es e) → AreEntries (h ∷ hs) (p.front ++ e ∷ p.behind)
+entry_more h hs es e a key value p = (p.front, e, p.behind, refl, key, value, subst (AreEntries hs) p.whole a)

@@ -1,0 +1,35 @@
+-- What the bytes of a statement may spell.
+use Rattle.std.specs.Prelude.{◌≡◌, ◌≢◌, ℕ, ◌+◌, ◌≤◌, List, [], length}
+use Rattle.csa_text.specs.Cut.{IsUnit, statement_bytes}
+use Rattle.csa_text.specs.Fields.{HasNone}
+use Rattle.csa_text.specs.Spelling.{Saying, version, name, header, even, rank, pieces, turn, walked, time, ending}
+use Rattle.record_game.specs.Limits.{IsOneLine}
+
+-- the bytes of a statement: of a unit of at most 4,096 bytes
+pub record IsOfStatement (bytes : List ℕ) : Type 0 where
+  pub unit : List ℕ
+  pub behind : List ℕ
+  pub is_unit : IsUnit unit behind
+  pub short : length unit ≤ 4096
+  pub whole : bytes ≡ statement_bytes unit
+
+-- a key, which is not empty and has no colon, and a text, on one line of at most 4,096 bytes
+pub record IsHeaderLine (key text : List ℕ) : Type 0 where
+  pub some : key ≢ []
+  pub key_line : IsOneLine key
+  pub text_line : IsOneLine text
+  pub no_colon : HasNone 58 key
+  pub fits : 2 + length key + length text ≤ 4096
+
+-- texts on one line and numbers within their limits
+abbrev pub Fits : Saying → Type 0
+Fits version = Unit {0}
+Fits (name color text) = IsOneLine text × (2 + length text ≤ 4096)
+Fits (header key text) = IsHeaderLine key text
+Fits (even pairs) = Unit {0}
+Fits (rank number cells) = (1 ≤ number) × (number ≤ 9)
+Fits (pieces color pairs) = Unit {0}
+Fits (turn color) = Unit {0}
+Fits (walked color m) = Unit {0}
+Fits (time t) = t ≤ 4294967295999
+Fits (ending e) = Unit {0}

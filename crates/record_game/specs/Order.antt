@@ -1,0 +1,68 @@
+-- Why the next item does not fit behind the items before it.
+use Rattle.std.specs.Prelude.{ℕ, ◌==◌, nat_le, nat_eq, not, Bool, true, false, List, [], ◌∷◌, length, filter, Option, Some, None, if◌then◌else◌}
+use Rattle.std.specs.Cmp.Lexicographic.{pointwise}
+use Rattle.csa_text.specs.Spelling.{Saying, version, name, header, even, rank, pieces, turn, walked, time, ending}
+use Rattle.record_game.specs.Items.{names, headers, is_even, ranks, positions, sides, moves, is_ending, body}
+use Rattle.record_game.specs.declared.fault.OrderFault.{OrderFault}
+use Rattle.record_game.specs.declared.fault.OrderFault.TheVariants.{VersionOutOfPlace, RepeatedName, RepeatedHeader, TooManyHeaders, MixedStart, PositionLate, MoveBeforeTurn, RepeatedTurn, LooseTime, AfterEnding, TooManyMoves}
+
+-- something stands in the list
+abbrev pub stands : {X : Type 0} → List X → Bool
+stands [] = false
+stands (x ∷ xs) = true
+
+-- the first fault whose test holds
+abbrev pub first_fault : List (Bool × OrderFault) → Option OrderFault
+first_fault [] = None
+first_fault (f ∷ fs) = if f.0 then Some f.1 else first_fault fs
+
+-- the headers of this key
+abbrev pub under : List ℕ → List Saying → List (List ℕ × List ℕ)
+under key sayings = filter (λ h. pointwise nat_eq h.0 key) (headers sayings)
+
+abbrev pub endings : List Saying → List Saying
+endings sayings = filter is_ending sayings
+
+-- a move or an ending, which may have a time
+abbrev pub may_have_time : Saying → Bool
+may_have_time version = false
+may_have_time (name color text) = false
+may_have_time (header key text) = false
+may_have_time (even pairs) = false
+may_have_time (rank number cells) = false
+may_have_time (pieces color pairs) = false
+may_have_time (turn color) = false
+may_have_time (walked color m) = true
+may_have_time (time t) = false
+may_have_time (ending e) = true
+
+-- the last of these items may have a time
+abbrev pub awaits_time : List Saying → Bool
+awaits_time [] = false
+awaits_time (s ∷ []) = may_have_time s
+awaits_time (s ∷ t ∷ ss) = awaits_time (t ∷ ss)
+
+-- the order faults of the next item, in the order in which they are looked for; an empty name or an empty text has none
+abbrev pub order_faults : List Saying → Saying → List (Bool × OrderFault)
+order_faults before version = (stands before, VersionOutOfPlace) ∷ []
+order_faults before (name color []) = []
+order_faults before (name color (b ∷ bs)) = (stands (names color before), RepeatedName) ∷ []
+order_faults before (header key []) = []
+order_faults before (header key (b ∷ bs)) =
+    (stands (under key before), RepeatedHeader) ∷ (nat_le 64 (length (headers before)), TooManyHeaders) ∷ []
+order_faults before (even pairs) =
+    (stands (endings before), AfterEnding) ∷ (stands (sides before), PositionLate) ∷ (stands (positions before), MixedStart) ∷ []
+order_faults before (rank number cells) =
+    (stands (endings before), AfterEnding) ∷ (stands (sides before), PositionLate)
+    ∷ (stands (filter is_even before), MixedStart) ∷ (stands (filter (λ n. n == number) (ranks before)), MixedStart) ∷ []
+order_faults before (pieces color pairs) =
+    (stands (endings before), AfterEnding) ∷ (stands (sides before), PositionLate) ∷ []
+order_faults before (turn color) = (stands (endings before), AfterEnding) ∷ (stands (sides before), RepeatedTurn) ∷ []
+order_faults before (walked color m) =
+    (stands (endings before), AfterEnding) ∷ (not (stands (sides before)), MoveBeforeTurn)
+    ∷ (nat_le 10000 (length (moves before)), TooManyMoves) ∷ []
+order_faults before (time t) = (not (awaits_time (body before)), LooseTime) ∷ []
+order_faults before (ending e) = (stands (endings before), AfterEnding) ∷ (not (stands (sides before)), MoveBeforeTurn) ∷ []
+
+abbrev pub order_fault : List Saying → Saying → Option OrderFault
+order_fault before saying = first_fault (order_faults before saying)

@@ -1,0 +1,37 @@
+-- What becomes of the next statement.
+use Rattle.std.specs.Prelude.{◌≡◌, ◌⊎◌, ℕ, List, [], ◌∷◌, ◌++◌, Option, Some, None, Result, Ok, Err}
+use Rattle.csa_text.specs.Spelling.{Saying, Spells, fault_of_row}
+use Rattle.record_game.specs.declared.fault.OrderFault.{OrderFault}
+use Rattle.record_game.specs.declared.fault.OrderFault.TheVariants.{AfterEnding}
+use Rattle.record_game.specs.declared.fault.Why.{Why}
+use Rattle.record_game.specs.declared.fault.Why.TheVariants.{Text, OutOfMemory}
+use Rattle.record_game.specs.Game.{Ended}
+use Rattle.record_game.specs.Keeping.{Kept, Keeps}
+use Rattle.record_game.specs.Refused.{Answers}
+
+-- some bytes spell it
+abbrev pub IsWritten : Saying → Type 0
+IsWritten s = (bytes : List ℕ) × Spells bytes s
+
+-- bytes that spell no item have the fault of their row
+abbrev pub SpellNothing : List ℕ → Why → Type 0
+SpellNothing bytes why = ((s : Saying) → Spells bytes s → ⊥) × (why ≡ Text (fault_of_row bytes))
+
+-- the item that they spell is refused after those before it
+abbrev pub SpellRefused : List Saying → List ℕ → Why → Type 0
+SpellRefused before bytes why = (s : Saying) × Spells bytes s × Answers before s (Some why)
+
+-- the item that they spell has no fault
+abbrev pub SpellTaken : List Saying → List ℕ → Saying → Type 0
+SpellTaken before bytes s = Spells bytes s × Answers before s None
+
+-- the item that the bytes spell was taken; or it could be, and memory was refused; or the bytes are refused
+abbrev pub Outcome : List Saying → List ℕ → Result (Unit {0}) Why → Kept → Type 0
+Outcome before bytes (Ok u) new = (s : Saying) × SpellTaken before bytes s × Keeps (before ++ s ∷ []) new
+Outcome before bytes (Err why) new =
+    ((why ≡ OutOfMemory) × ((s : Saying) × SpellTaken before bytes s)) ⊎ (SpellNothing bytes why ⊎ SpellRefused before bytes why)
+
+-- the fault of a position statement or a side behind the side to move; behind an ending that comes first
+abbrev pub late : Option Ended → OrderFault → OrderFault
+late None fault = fault
+late (Some e) fault = AfterEnding

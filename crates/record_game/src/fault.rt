@@ -1,0 +1,132 @@
+ghost use Rattle.std.specs.Prelude.{◌≡◌};
+ghost use Rattle.record_game.specs.declared.fault.Why.TheVariants.{Text, Order, OutOfMemory};
+ghost use Rattle.csa_text.specs.declared.fault.TextFault.TheVariants.{StatementTooLong};
+
+use csa_text::{CutFault, TextFault};
+use shogi_board::SetupFault;
+use shogi_rules::Rule;
+use std::alloc::AllocError;
+use thiserror::Error;
+
+/// Why a statement does not fit behind those before it. Each prints as its number and name,
+/// `G8 RepeatedTurn`.
+#[derive(Clone, Copy, Debug, PartialEq, Eq, PartialOrd, Ord, Error)]
+pub enum OrderFault {
+    /// A version that is not the first statement.
+    #[error("G1 VersionOutOfPlace")]
+    VersionOutOfPlace,
+    /// A second name of one side.
+    #[error("G2 RepeatedName")]
+    RepeatedName,
+    /// A second header with one key.
+    #[error("G3 RepeatedHeader")]
+    RepeatedHeader,
+    /// A header behind 64 others.
+    #[error("G4 TooManyHeaders")]
+    TooManyHeaders,
+    /// `PI` beside another position statement, or a rank twice.
+    #[error("G5 MixedStart")]
+    MixedStart,
+    /// A position statement behind the side to move.
+    #[error("G6 PositionLate")]
+    PositionLate,
+    /// A move or an ending before the side to move.
+    #[error("G7 MoveBeforeTurn")]
+    MoveBeforeTurn,
+    /// A second side to move.
+    #[error("G8 RepeatedTurn")]
+    RepeatedTurn,
+    /// A time with no move or ending before it, or a second one.
+    #[error("G9 LooseTime")]
+    LooseTime,
+    /// A position statement, a side, a move or an ending behind an ending.
+    #[error("G10 AfterEnding")]
+    AfterEnding,
+    /// A move behind 10,000 others.
+    #[error("G11 TooManyMoves")]
+    TooManyMoves,
+    /// The end of the record with no side to move.
+    #[error("G12 MissingTurn")]
+    MissingTurn,
+}
+
+/// Why a record is refused.
+#[derive(Clone, Copy, Debug, PartialEq, Eq, PartialOrd, Ord, Error)]
+pub enum Why {
+    /// The statement is too long, or spells no item.
+    #[error("{0}")]
+    Text(TextFault),
+    /// The item does not fit behind those before it.
+    #[error("{0}")]
+    Order(OrderFault),
+    /// A piece cannot be placed, or the side to move leaves the enemy king attacked.
+    #[error("{0}")]
+    Start(SetupFault),
+    /// The move breaks this rule.
+    #[error("{0}")]
+    Rule(Rule),
+    /// A growth of memory was refused; nothing else was found up to this statement.
+    #[error("out of memory")]
+    OutOfMemory,
+    /// The reader was refused before, at this statement.
+    #[error("failed")]
+    Failed,
+}
+
+impl From<TextFault> for Why {
+    ghost from_gives = { λ fault why. why ≡ Text fault };
+
+    fn from(fault: TextFault) -> Why {
+        Why::Text(fault)
+    }
+}
+
+impl From<OrderFault> for Why {
+    ghost from_gives = { λ fault why. why ≡ Order fault };
+
+    fn from(fault: OrderFault) -> Why {
+        Why::Order(fault)
+    }
+}
+
+impl From<AllocError> for Why {
+    ghost from_gives = { λ _ why. why ≡ OutOfMemory };
+
+    fn from(_e: AllocError) -> Why {
+        Why::OutOfMemory
+    }
+}
+
+impl From<shogi_board::OutOfMemory> for Why {
+    ghost from_gives = { λ _ why. why ≡ OutOfMemory };
+
+    fn from(_e: shogi_board::OutOfMemory) -> Why {
+        Why::OutOfMemory
+    }
+}
+
+/// A record is refused at its first statement that has a fault.
+#[derive(Clone, Copy, Debug, PartialEq, Eq, Error)]
+#[error("statement {number}, offset {offset}: {why}")]
+pub struct Refusal {
+    /// The number of the statement, counted from 1; at the end of the record one more than the
+    /// number of its statements.
+    pub number: u64,
+    /// The offset of the statement's first byte, counted from 0; at the end of the record its
+    /// length in bytes.
+    pub offset: u64,
+    /// The fault.
+    pub why: Why,
+}
+
+impl From<CutFault> for Refusal {
+    ghost from_gives = { λ fault refusal. refusal ≡ record { number = fault.number; offset = fault.offset; why = Text StatementTooLong } };
+
+    fn from(fault: CutFault) -> Refusal {
+        Refusal {
+            number: fault.number,
+            offset: fault.offset,
+            why: Why::Text(TextFault::StatementTooLong),
+        }
+    }
+}

@@ -1,0 +1,73 @@
+//! Laws of the definitions that the contracts of this crate cite. They take and give nothing.
+
+ghost use Rattle.std.specs.Prelude.{◌≡◌, ◌⊎◌, ◌↔◌, ℕ, List, [], Ok, drop, filter};
+ghost use Rattle.record_game.specs.Canon.{canon};
+ghost use Rattle.record_game.specs.Game.{Game};
+ghost use Rattle.record_game.specs.Items.{is_even, positions};
+ghost use Rattle.record_game.specs.Limits.{IsGame};
+ghost use Rattle.record_game.specs.LaidOut as starts;
+ghost use Rattle.record_game.specs.Placings.{placings};
+ghost use Rattle.record_game.specs.Rearranged.{IsRearranged};
+ghost use Rattle.record_game.specs.Refused.{Refused, ToldAlone, RefusedAlone};
+ghost use Rattle.record_game.specs.Tells.{Tells};
+ghost use Rattle.record_game.specs.Union.{GiveStart, IsUnion, first_board, rest_given, with_rest_given};
+ghost use Rattle.csa_text.specs.Spelling.{Saying, Spells};
+ghost use Rattle.shogi_board.specs.Layout.{Layout};
+ghost use Rattle.shogi_board.specs.Setup.{position_of};
+ghost use Rattle.shogi_board.specs.Totals.{IsWithinTotals};
+ghost use Rattle.shogi_board.specs.declared.color.Color.{Color};
+ghost use Rattle.std.specs.List.{AllByRecursion, filter_map};
+ghost use Rattle.record_game.specs.declared.fault.Why.{Why};
+
+/// All bytes tell exactly one game, or are refused in exactly one way, and never both.
+pub fn told_once()
+    ensures { (source : List ℕ) → ToldAlone source ⊎ RefusedAlone source }
+{}
+
+/// The canonical text of a game tells that game.
+pub fn canon_tells()
+    ensures { (g : Game) → IsGame g → Tells (canon g) g }
+{}
+
+/// Two games have equal canonical texts exactly if they are equal.
+pub fn canon_equal()
+    ensures { (g h : Game) → IsGame g → IsGame h → ((canon g ≡ canon h) ↔ (g ≡ h)) }
+{}
+
+/// Bytes tell one game at most.
+pub fn one_game()
+    ensures { (source : List ℕ) (g h : Game) → Tells source g → Tells source h → g ≡ h }
+{}
+
+/// Records whose items differ only in a version, in where names and headers stand, and in the order of the headers, tell
+/// one game, and so have one canonical text. Comments are no items, so they may differ too.
+pub fn headers_anywhere()
+    ensures game { (source other : List ℕ) (g h : Game) (told : Tells source g) (again : Tells other h)
+        → IsRearranged told.sayings again.sayings → g ≡ h }
+    ensures text { (source other : List ℕ) (g h : Game) (told : Tells source g) (again : Tells other h)
+        → IsRearranged told.sayings again.sayings → canon g ≡ canon h }
+{}
+
+/// Bytes are refused in one way at most: at one statement, at one offset, for one reason.
+pub fn one_refusal()
+    ensures { (source : List ℕ) (n m offset other : ℕ) (v w : Why) → Refused source n offset v → Refused source m other w
+        → (m ≡ n) × (other ≡ offset) × (w ≡ v) }
+{}
+
+/// What position statements that bytes spell place one after another, with `PI` first where it stands, is the union of
+/// what they place, which does not speak of their order but for `PI` first and the rest last.
+pub fn laid_out()
+    ensures { (sayings : List Saying) (laid : Layout) (side : Color) → AllByRecursion (λ s. (bytes : List ℕ) × Spells bytes s) sayings
+        → filter is_even (drop 1 (positions sayings)) ≡ [] → starts.laid_out sayings ≡ Ok laid
+        → GiveStart (positions sayings) (position_of laid side) }
+{}
+
+/// The union of what position statements that bytes spell place, with `PI` first where it stands, can be placed one after
+/// another, where no total is passed before the rest is given.
+pub fn union_placed()
+    ensures { (sayings : List Saying) (placed : Layout) → AllByRecursion (λ s. (bytes : List ℕ) × Spells bytes s) sayings
+        → filter is_even (drop 1 (positions sayings)) ≡ []
+        → IsUnion (first_board (positions sayings)) (placings (positions sayings)) placed
+        → IsWithinTotals placed.board placed.black placed.white
+        → starts.laid_out sayings ≡ Ok (with_rest_given (filter_map rest_given (placings (positions sayings))) placed) }
+{}
