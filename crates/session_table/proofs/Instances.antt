@@ -1,4 +1,4 @@
--- Rows for three lines of a server.
+-- Rows for three lines of a server and one of an engine.
 use Rattle.std.proofs.Common.{◌≡◌, ℕ, zero, suc, ◌+◌, subst, inl, inr, Bool, true, false, [], ◌∷◌, Option, Some, None, codes, arith, refl, sym, ap, lit≤, get_or}
 use Rattle.std.specs.Prelude.{not, ◌&&◌}
 use Rattle.std.specs.List.{list_all}
@@ -14,7 +14,7 @@ use Rattle.shogi_board.specs.Squares.{place}
 use Rattle.shogi_rules.proofs.Alone.{not-over-alone}
 use Rattle.shogi_rules.specs.declared.rule.Rule.TheVariants.{WrongSide}
 use Rattle.shogi_rules.specs.After.{after}
-use Rattle.shogi_rules.specs.Legal.{ReachesTarget, KingSafe}
+use Rattle.shogi_rules.specs.Legal.{ReachesTarget, KingSafe, Legal}
 use Rattle.shogi_rules.specs.Play.{Answers}
 use Rattle.usi_text.proofs.OneMove.{same_square}
 use Rattle.record_game.specs.declared.fault.Why.TheVariants as causes
@@ -23,8 +23,8 @@ use Rattle.session_table.specs.declared.config.Config.{Config}
 use Rattle.session_table.specs.declared.fault.MoveCause.TheVariants.{Refused, Unsent}
 use Rattle.session_table.specs.declared.fault.SessionFault.TheVariants.{BadServerMove}
 use Rattle.session_table.specs.Asking.{not_asked}
-use Rattle.session_table.specs.Events.{server_line, no_lines}
-use Rattle.session_table.specs.Examples.{pawn_start, pawn_match, pawn_step, ready}
+use Rattle.session_table.specs.Events.{engine_line, server_line, server, no_lines}
+use Rattle.session_table.specs.Examples.{pawn_start, pawn_match, pawn_step, ready, thinking}
 use Rattle.session_table.specs.Row.{Row, in_table, failed, Judged, breaks}
 use Rattle.session_table.specs.Row as row
 use Rattle.session_lines.specs.ServerLines.{TellsTimed}
@@ -105,7 +105,31 @@ safe = no_check (after pawn_start opening.move).board Black refl
 pub legal : Answers (line_of pawn_match) Black opening.move None
 legal = (omega arith, inr (refl, inr (not-over-alone pawn_start, inr ((Pawn, refl), inr ((Pawn, refl, inl refl), inr ((λ own e. absurd (let f = e in cc)), inr (reaches, inr (inl refl, inr (omega arith, inr (tt, inr (safe, inr ((λ d. absurd d), refl))))))))))))
 
+keeps : Legal pawn_start opening.move
+keeps = record {
+  keeps = record {
+    fits = record {
+      has_piece = (Pawn, refl);
+      kind_fits = (Pawn, refl, inl refl);
+      target_free = λ own e. absurd (let f = e in cc);
+      reaches = reaches;
+      may_promote = inl refl;
+      further_move = omega arith;
+      lone_pawn = tt;
+    };
+    king_safe = safe;
+  };
+  no_drop_mate = λ d. absurd d;
+}
+
 -- 3. rows
+pub answers : (c : Config) → Row c (thinking (playing pawn_match)) (engine_line (codes "bestmove 7g7f")) (server (codes "+7776FU")) (ready (sent pawn_match (move opening.move)))
+answers c = in_table (
+  refl,
+  row.engine_moves pawn_match (codes "bestmove 7g7f") (codes "7g7f") opening.move refl refl refl (record { first = refl; second = refl })
+      (record { word_is = (record { color = Black; kind = Pawn }, refl, inl (refl, refl)); legal = keeps }) refl refl,
+)
+
 judged : Judged pawn_match (codes "+7776FU") Black opening None
 judged = record { told = told; answers = legal }
 
@@ -133,3 +157,11 @@ plays_for c a b p q r s =
     let next : b ≡ to = same_square b to (ap (λ n. 48 + n) r) (ap (λ n. 96 + n) s) in
     subst (λ x. Row c (ready (sent pawn_match (move (pawn_step x b).move))) (server_line (codes "+7776FU")) no_lines (ready (playing (with_move pawn_match (pawn_step x b))))) (sym first)
     (subst (λ x. Row c (ready (sent pawn_match (move (pawn_step from x).move))) (server_line (codes "+7776FU")) no_lines (ready (playing (with_move pawn_match (pawn_step from x))))) (sym next) (plays c))
+
+pub answers_for : (c : Config) (a b : Square) → a.file ≡ 7 → a.rank ≡ 7 → b.file ≡ 7 → b.rank ≡ 6
+    → Row c (thinking (playing pawn_match)) (engine_line (codes "bestmove 7g7f")) (server (codes "+7776FU")) (ready (sent pawn_match (move (pawn_step a b).move)))
+answers_for c a b p q r s =
+    let first : a ≡ from = same_square a from (ap (λ n. 48 + n) p) (ap (λ n. 96 + n) q) in
+    let next : b ≡ to = same_square b to (ap (λ n. 48 + n) r) (ap (λ n. 96 + n) s) in
+    subst (λ x. Row c (thinking (playing pawn_match)) (engine_line (codes "bestmove 7g7f")) (server (codes "+7776FU")) (ready (sent pawn_match (move (pawn_step x b).move)))) (sym first)
+    (subst (λ x. Row c (thinking (playing pawn_match)) (engine_line (codes "bestmove 7g7f")) (server (codes "+7776FU")) (ready (sent pawn_match (move (pawn_step from x).move)))) (sym next) (answers c))

@@ -1,4 +1,4 @@
--- Three lines of a server in a game that begins with one pawn on the board.
+-- Three lines of a server and one of an engine in a game that begins with one pawn on the board.
 use Rattle.std.specs.Prelude.{false, [], None, slice_set}
 use Rattle.shogi_board.specs.declared.color.Color.TheVariants.{Black}
 use Rattle.shogi_board.specs.declared.kind.Kind.TheVariants.{Pawn}
@@ -9,7 +9,7 @@ use Rattle.shogi_board.specs.Totals.{no_pieces}
 use Rattle.shogi_rules.specs.declared.moves.Move.TheVariants.{Walk}
 use Rattle.csa_record.specs.Game.{Game, Timed}
 use Rattle.session_table.specs.declared.event.Status.TheVariants.{Going}
-use Rattle.session_table.specs.declared.state.EngineState.TheVariants.{Ready}
+use Rattle.session_table.specs.declared.state.EngineState.TheVariants.{Ready, Thinking}
 use Rattle.session_table.specs.State.{Match, Client, State}
 
 -- a black pawn on 77, black to move
@@ -30,3 +30,7 @@ pawn_step from to = record { move = Walk from to Pawn; time = None }
 -- the engine is ready, and the client in that state
 abbrev pub ready : Client → State
 ready client = record { engine = Ready; client = client; status = Going }
+
+-- the engine thinks, and the client is in that state
+abbrev pub thinking : Client → State
+thinking client = record { engine = Thinking; client = client; status = Going }

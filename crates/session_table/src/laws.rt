@@ -7,14 +7,14 @@ ghost use Rattle.csa_record.specs.Items.{AtMostOne};
 ghost use Rattle.session_table.specs.declared.config.Config.{Config};
 ghost use Rattle.session_table.specs.declared.event.Status.{Status};
 ghost use Rattle.session_table.specs.declared.state.EngineState.TheVariants.{Thinking};
-ghost use Rattle.session_table.specs.Asking.{MayAsk};
+ghost use Rattle.session_table.specs.Asking.{AskLines, MayAsk};
 ghost use Rattle.session_table.specs.declared.fault.MoveCause.TheVariants.{Refused, Unsent};
 ghost use Rattle.session_table.specs.declared.fault.SessionFault.TheVariants.{BadServerMove};
 ghost use Rattle.record_game.specs.declared.fault.Why.TheVariants.{Rule};
 ghost use Rattle.shogi_rules.specs.declared.rule.Rule.TheVariants.{WrongSide};
 ghost use Rattle.shogi_board.specs.declared.square.Square.{Square};
-ghost use Rattle.session_table.specs.Events.{Event, Out, no_lines, server_line};
-ghost use Rattle.session_table.specs.Examples.{pawn_match, pawn_step, ready};
+ghost use Rattle.session_table.specs.Events.{Event, Out, engine_line, no_lines, server, server_line};
+ghost use Rattle.session_table.specs.Examples.{pawn_match, pawn_step, ready, thinking};
 ghost use Rattle.session_table.specs.GameTold.{game_of};
 ghost use Rattle.session_table.specs.Hearing.{heard_after};
 ghost use Rattle.session_lines.specs.LineTexts as texts;
@@ -88,6 +88,12 @@ pub fn asked_right()
         → AskedRight c (log ++ (record { event = e; out = out; status = t.status }) ∷ []) out.to_engine }
 {}
 
+/// The lines by which an engine is asked for a move have a `position` line among them, so that what
+/// `asked_right` says of such lines is said of all that ask.
+pub fn asking_has_a_position()
+    ensures { (c : Config) (g : Match) (lines : List (List ℕ)) → AskLines c g lines → list_any is_position_line lines ≡ true }
+{}
+
 /// In every log, the game that a bridge has played so far is the game of the log, and there is none
 /// exactly until `AGREE` was sent; a log has one game at most, and it has no headers. A step that
 /// faults leaves the game of the log as it was; and what a step keeps of a game for want of memory is
@@ -105,9 +111,13 @@ pub fn game_told()
         × TellsGame t.client (log ++ (record { event = e; out = out; status = u.status }) ∷ [])) }
 {}
 
-/// In a game that begins with a black pawn on 77 and nothing else, the client black: `+7776FU` is
-/// confirmed where it was sent, and a fault where nothing was; `-3334FU` breaks the first rule.
+/// In a game that begins with a black pawn on 77 and nothing else, the client black: `bestmove 7g7f` of
+/// an engine that thinks is answered by `+7776FU`; `+7776FU` is confirmed where it was sent, and a fault
+/// where nothing was; `-3334FU` breaks the first rule.
 pub fn moves_instanced()
+    ensures answered { (c : Config) (from to : Square) → from.file ≡ 7 → from.rank ≡ 7 → to.file ≡ 7 → to.rank ≡ 6
+        → Row c (thinking (playing pawn_match)) (engine_line (codes "bestmove 7g7f")) (server (codes "+7776FU"))
+        (ready (sent pawn_match (move (pawn_step from to).move))) }
     ensures confirmed { (c : Config) (from to : Square) → from.file ≡ 7 → from.rank ≡ 7 → to.file ≡ 7 → to.rank ≡ 6
         → Row c (ready (sent pawn_match (move (pawn_step from to).move))) (server_line (codes "+7776FU")) no_lines
         (ready (playing (with_move pawn_match (pawn_step from to)))) }

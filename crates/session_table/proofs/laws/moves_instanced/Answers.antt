@@ -1,5 +1,8 @@
-use Rattle.session_table.proofs.Instances.{plays_for, not_sent, wrong_side}
+use Rattle.session_table.proofs.Instances.{answers_for, plays_for, not_sent, wrong_side}
 use Rattle.session_table.proofs.laws.moves_instanced.Goals as goal
+
+pub returns-clause-answered : goal.returns-clause-answered
+returns-clause-answered c = answers_for
 
 pub returns-clause-confirmed : goal.returns-clause-confirmed
 returns-clause-confirmed c = plays_for
