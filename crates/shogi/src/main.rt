@@ -1,9 +1,8 @@
-//! The program `shogi`: one command for each of its uses, each in a file of `commands`, which `shogi_commands` does.
+//! The program `shogi`: its command line is read by `shogi_words`, and what that asks for `shogi_commands` does.
 #![tactic(auto)]
 
-mod commands;
+mod requests;
 mod usage;
-mod words;
 
 use shogi_commands::Fault;
 use std::io::IsTerminal;
@@ -24,7 +23,7 @@ fn main(rt: HostRuntime) -> ExitCode {
     }
 }
 
-// Reads the words of the command line, and runs the command that they name. The status is that of a run without fault.
+// Reads the words of the command line, and does what they ask for. The status is that of a run without fault.
 fn run<
     R: Env
         + Files
@@ -37,9 +36,9 @@ fn run<
         + AllocGlobal,
 >(rt: &R, is_terminal: bool) -> Result<ExitCode, Fault> {
     let words = usage::words(rt)?;
-    match commands::all(rt.alloc())?.try_get_matches_from(words.as_slice()) {
+    match shogi_words::all(rt.alloc())?.try_get_matches_from(words.as_slice()) {
         Ok(matches) => {
-            commands::run(rt, &matches, is_terminal)?;
+            requests::meet(rt, &requests::requested(&matches)?, is_terminal)?;
             Ok(ExitCode::SUCCESS)
         }
         Err(error) => usage::answer(rt, &error),

@@ -1,5 +1,5 @@
 -- The words that the commands print.
-use Rattle.std.specs.Prelude.{◌≡◌, ◌⊎◌, ℕ, Bool, List, [], ◌∷◌, Option, codes}
+use Rattle.std.specs.Prelude.{ℕ, List, codes}
 use Rattle.shogi_board.specs.declared.color.Color.TheVariants.{Black, White}
 use Rattle.shogi_rules.specs.declared.line.Verdict.{Verdict}
 use Rattle.shogi_rules.specs.declared.line.Verdict.TheVariants.{Ongoing, Mate, NoMove, Repetition, Perpetual}
@@ -12,13 +12,3 @@ word_of NoMove = codes "no-move"
 word_of Repetition = codes "repetition"
 word_of (Perpetual Black) = codes "perpetual+"
 word_of (Perpetual White) = codes "perpetual-"
-
--- the line begins with the sign of a side
-abbrev pub IsSigned : List ℕ → Type 0
-IsSigned [] = ⊥
-IsSigned (b ∷ line) = (b ≡ 43) ⊎ (b ≡ 45)
-
--- whether moves are shown, and the number of the one that was shown last, if one was
-pub record Showing : Type 0 where
-  pub is_on : Bool
-  pub moves : Option ℕ

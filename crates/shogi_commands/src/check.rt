@@ -3,8 +3,7 @@
 ghost use Rattle.std.specs.Prelude.{◌≡◌, ◌≢◌, IfErr};
 ghost use Rattle.shogi_commands.specs.Words.{word_of};
 
-use crate::fault::Fault;
-use crate::streams;
+use session_loops::{Fault, streams};
 use shogi_board::Color;
 use shogi_rules::Verdict;
 use std::io;

@@ -3,8 +3,8 @@
 ghost use Rattle.std.specs.Prelude.{◌≡◌, ◌⊎◌, [], ◌∷◌, IfErr, IfOk, MatchOption, codes, decimal, is_some, true};
 ghost use Rattle.std.specs.Process.{child_status, command_args, command_program};
 
-use crate::fault::{Fault, memory_or};
-use crate::incoming::Incoming;
+use session_loops::incoming::Incoming;
+use session_loops::{Fault, memory_or};
 use shogi_session::SessionFault;
 use std::alloc::{AllocError, Global};
 use std::process::{Child, Command, OpenProcess, Processes, Stdio};

@@ -3,10 +3,9 @@
 ghost use Rattle.std.specs.Prelude.{◌≡◌, ◌≢◌, ◌<◌, ◌≤◌, length, None, Some, IfOk, IfErr, IsErrOf, IsSome, OnOk, option_map};
 ghost use Rattle.usi_text.specs.declared.fault.UsiFault.{UsiFault};
 
-use crate::fault::Fault;
-use crate::streams;
 use csa_record::Record;
 use csa_text::LineCutter;
+use session_loops::{Fault, streams};
 use std::alloc::Global;
 use std::io;
 use std::io::Read;

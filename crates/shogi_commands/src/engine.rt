@@ -2,9 +2,8 @@
 
 ghost use Rattle.std.specs.Prelude.{◌≡◌, ◌≢◌, IfErr};
 
-use crate::fault::Fault;
-use crate::talk;
-use crate::wire::Exchange;
+use session_loops::wire::Exchange;
+use session_loops::{Fault, talk};
 use shogi_session::Sample;
 use std::io;
 

@@ -2,9 +2,8 @@
 
 ghost use Rattle.std.specs.Prelude.{◌≡◌, ◌≢◌, IfErr};
 
-use crate::fault::Fault;
-use crate::streams;
 use csa_record::{Reading, Writing};
+use session_loops::{Fault, streams};
 use std::io;
 use std::rt::Files;
 

@@ -2,8 +2,7 @@
 
 ghost use Rattle.std.specs.Prelude.{◌≡◌, ◌⊎◌, IfErr};
 
-use crate::fault::{Fault, memory_or};
-use crate::streams;
+use session_loops::{Fault, memory_or, streams};
 use std::fs;
 use std::fs::{File, OpenFile, Permissions};
 use std::io::ErrorKind;

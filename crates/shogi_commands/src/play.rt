@@ -3,14 +3,13 @@
 ghost use Rattle.std.specs.Prelude.{◌≡◌, ◌≢◌, IfErr, IfOk, codes};
 ghost use Rattle.shogi_session.specs.State.{first_state};
 
-use crate::bridging::{Side, Sides, play};
 use crate::children::{ENGINE_GONE, SERVER_GONE};
-use crate::fault::Fault;
-use crate::incoming::{Heard, Incoming};
-use crate::progress::Progress;
-use crate::{children, out_file, streams};
+use crate::{children, out_file};
 use arrayvec::ArrayString;
 use csa_record::{Why, read};
+use session_loops::bridging::{Side, Sides, play};
+use session_loops::incoming::{Heard, Incoming};
+use session_loops::{Fault, Progress, streams};
 use shogi_session::{Bridge, Config};
 use std::alloc::Global;
 use std::io::{Eprint, Read, Write};

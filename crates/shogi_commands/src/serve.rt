@@ -3,10 +3,9 @@
 ghost use Rattle.std.specs.Prelude.{◌≡◌, ◌≢◌, ◌≤◌, true, false, Ok, Err, IfErr, IfOk, IsOk, IsErrOf, codes};
 ghost use Rattle.shogi_session.specs.Host.{waiting};
 
-use crate::fault::Fault;
-use crate::wire::Exchange;
-use crate::{streams, talk};
 use arrayvec::ArrayString;
+use session_loops::wire::Exchange;
+use session_loops::{Fault, streams, talk};
 use shogi_board::Color;
 use shogi_session::{Host, HostConfig};
 use std::alloc::Global;

@@ -4,9 +4,8 @@ ghost use Rattle.std.specs.Prelude.{◌≡◌, ◌≢◌, ◌++◌, ◌∷◌, [
 ghost use Rattle.csa_record.specs.Game.{move_of};
 ghost use Rattle.usi_text.specs.LineText.{LineText};
 
-use crate::fault::Fault;
-use crate::streams;
 use csa_record::Record;
+use session_loops::{Fault, streams};
 use shogi_board::OutOfMemory;
 use std::alloc::Global;
 use std::io;

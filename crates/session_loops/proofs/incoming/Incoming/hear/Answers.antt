@@ -1,0 +1,22 @@
+use Rattle.std.proofs.Common.{ap, ◌∙◌, Some}
+use Rattle.std.proofs.KnownBytes.{Keeps-refl}
+use Rattle.session_loops.proofs.Hearing.{gives_nothing, none_then_line, none_then_long, none_then_none}
+use Rattle.session_loops.proofs.incoming.Incoming.hear.Goals as goal
+
+pub loop-init : goal.loop-init
+loop-init g c = gives_nothing _ _ (Keeps-refl c.args.self.now.bytes)
+
+pub returns-in-Some-clause-line : goal.returns-in-Some-clause-line
+returns-in-Some-clause-line g c = λ is. none_then_line _ _ _ _ c.loop.invariant (c.in_ok-heard.ensures.line (c.in-Some.is ∙ ap Some is))
+
+pub returns-in-Some-clause-short : goal.returns-in-Some-clause-short
+returns-in-Some-clause-short g c = λ is. c.in_ok-heard.ensures.short (c.in-Some.is ∙ ap Some is)
+
+pub returns-in-Some-clause-end : goal.returns-in-Some-clause-end
+returns-in-Some-clause-end g c = λ is. none_then_none _ _ _ c.loop.invariant (c.in_ok-heard.ensures.end (c.in-Some.is ∙ ap Some is))
+
+pub returns-in-Some-clause-long : goal.returns-in-Some-clause-long
+returns-in-Some-clause-long g c = λ is. none_then_long _ _ _ c.loop.invariant (c.in_ok-heard.ensures.long (c.in-Some.is ∙ ap Some is))
+
+pub loop-preserved : goal.loop-preserved
+loop-preserved g c = none_then_none _ _ _ c.loop.invariant (c.in_ok-heard.ensures.none c.in_default.is)

@@ -1,0 +1,5 @@
+use Rattle.session_loops.specs.Incoming.{GivesNoLine}
+use Rattle.session_loops.proofs.incoming.Incoming.hear.Given as goal
+
+abbrev pub invariant-loop : goal.invariant-loop
+invariant-loop g l = GivesNoLine l.fn.self.bytes l.self.bytes

@@ -1,0 +1,5 @@
+pub mod Faults
+pub mod Incoming
+pub mod Plays
+pub mod Showing
+pub mod Talks

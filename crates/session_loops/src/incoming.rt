@@ -1,0 +1,172 @@
+//! The lines that a reader gives, one at a time.
+
+ghost use Rattle.std.specs.Prelude.{◌≡◌, ◌↔◌, ◌⊎◌, ◌<◌, ◌≤◌, ◌++◌, [], ◌∷◌, length, take, None, Some, Ok, Err, IfOk, IfErr, IsErrOf, true, false};
+ghost use Rattle.csa_text.specs.Lines.{Lines};
+ghost use Rattle.csa_text.specs.Lining.{BeginsTooLong};
+ghost use Rattle.session_loops.specs.Incoming.{GivesLine, GivesLongLine, GivesNoLine, IsHearing};
+
+use crate::fault::Fault;
+use crate::streams;
+use csa_text::{LineCutter, LineFault};
+use std::alloc::Global;
+use std::io::{BufRead, BufReader, ErrorKind, Read};
+use std::marker::Model;
+
+/// What comes next of a reader.
+#[derive(Clone, Copy, Debug, PartialEq, Eq)]
+pub enum Heard {
+    /// A line, which `line` lends.
+    Line,
+    /// The end, or a read that failed.
+    End,
+    /// A line of more than 65,536 bytes.
+    Long,
+}
+
+/// A reader, cut into lines as it comes.
+#[derive(Drop)]
+pub struct Incoming<R: Read + Drop> {
+    alloc: Global,
+    reader: BufReader<R>,
+    cutter: LineCutter,
+    line: Vec<u8>,
+    is_over: bool,
+}
+
+impl<R: Read + Drop> Model for Incoming<R> {
+    ghost use Rattle.std.specs.Prelude.{◌≡◌, false};
+    ghost use Rattle.std.specs.Io.Buffered.{reader_remaining};
+    ghost use Rattle.std.specs.Io.KnownBytes.{prepend_known};
+    ghost use Rattle.session_loops.specs.Incoming.{Coming, IsHearing};
+
+    ghost Value = { Coming };
+
+    ghost view = { λ i. record { bytes = prepend_known i.cutter.held (reader_remaining R.remaining i.reader); line = i.line.items } };
+
+    ghost invariant = { λ i. i.is_over ≡ false → IsHearing i.cutter };
+}
+
+impl<R: Read + Drop> Incoming<R> {
+    /// Nothing is read yet.
+    pub fn new(alloc: Global, reader: R) -> Result<Incoming<R>, Fault>
+        ensures bytes { IfOk result (λ i. i.bytes ≡ R.remaining reader) }
+        ensures faults { IfErr result (λ fault. fault ≡ Fault.OutOfMemory) }
+    {
+        let Ok(reader) = BufReader::with_capacity(alloc, streams::PIECE, reader) else {
+            return Err(Fault::OutOfMemory);
+        };
+        Ok(Incoming {
+            alloc,
+            reader,
+            cutter: LineCutter::new(alloc, streams::LONGEST_LINE),
+            line: Vec::new(alloc),
+            is_over: false,
+        })
+    }
+
+    /// Reads up to the next line end. What stands at the end without one is a line. A read that is interrupted is made
+    /// again. Behind a line that is too long, and behind a fault, no line is heard.
+    pub fn hear(&mut self) -> Result<Heard, Fault>
+        ensures line { IfOk result (λ heard. heard ≡ Heard.Line → GivesLine self.old.bytes self.new.bytes self.new.line) }
+        ensures short { IfOk result (λ heard. heard ≡ Heard.Line → length self.new.line ≤ 65536) }
+        ensures end { IfOk result (λ heard. heard ≡ Heard.End → GivesNoLine self.old.bytes self.new.bytes) }
+        ensures long { IfOk result (λ heard. heard ≡ Heard.Long → GivesLongLine self.old.bytes self.new.bytes) }
+        ensures faults { IfErr result (λ fault. fault ≡ Fault.OutOfMemory) }
+    {
+        for _ in 0..u64::MAX {
+            if let Some(heard) = self.take_piece()? {
+                return Ok(heard);
+            }
+        }
+        Ok(Heard::End)
+    }
+
+    /// The line that was heard last.
+    pub fn line(&self) -> &[u8]
+        ensures value { result.now ≡ self.now.line }
+    {
+        self.line.as_slice()
+    }
+
+    // What comes of the bytes up to the next line end, or of those that are there; None where no line ended.
+    fn take_piece(&mut self) -> Result<Option<Heard>, Fault>
+        ensures line { IfOk result (λ heard. heard ≡ Some Heard.Line → GivesLine self.old.bytes self.new.bytes self.new.line) }
+        ensures short { IfOk result (λ heard. heard ≡ Some Heard.Line → length self.new.line ≤ 65536) }
+        ensures end { IfOk result (λ heard. heard ≡ Some Heard.End → GivesNoLine self.old.bytes self.new.bytes) }
+        ensures long { IfOk result (λ heard. heard ≡ Some Heard.Long → GivesLongLine self.old.bytes self.new.bytes) }
+        ensures none { IfOk result (λ heard. heard ≡ None → GivesNoLine self.old.bytes self.new.bytes) }
+        ensures faults { IfErr result (λ fault. fault ≡ Fault.OutOfMemory) }
+    {
+        if self.is_over {
+            return Ok(Some(Heard::End));
+        }
+        let piece = match self.reader.fill_buf() {
+            Ok(piece) => piece,
+            Err(error) if error.kind() == ErrorKind::Interrupted => return Ok(None),
+            Err(_) => return Ok(Some(Heard::End)),
+        };
+        if piece.is_empty() {
+            self.is_over = true;
+            match keep_last(self.alloc, &mut self.cutter, &mut self.line) {
+                Ok(is_line) => return Ok(is_line.then_some(Heard::Line)),
+                Err(fault) => return heard_of(fault),
+            }
+        }
+        match cut(self.alloc, &mut self.cutter, &mut self.line, piece) {
+            Ok((used, is_line)) => {
+                self.reader.consume(used);
+                Ok(is_line.then_some(Heard::Line))
+            }
+            Err(fault) => {
+                self.is_over = true;
+                heard_of(fault)
+            }
+        }
+    }
+}
+
+fn heard_of(fault: LineFault) -> Result<Option<Heard>, Fault>
+    ensures long { (fault ≡ LineFault.TooLong) ↔ (result ≡ Ok (Some Heard.Long)) }
+    ensures memory { (fault ≡ LineFault.OutOfMemory) ↔ (result ≡ Err Fault.OutOfMemory) }
+{
+    match fault {
+        LineFault::TooLong => Ok(Some(Heard::Long)),
+        LineFault::OutOfMemory => Err(Fault::OutOfMemory),
+    }
+}
+
+// Cuts the piece up to its first line end: how many bytes were used, and whether a line ended, which is kept.
+fn cut(
+    alloc: Global,
+    cutter: &mut LineCutter,
+    kept: &mut Vec<u8>,
+    piece: &[u8],
+) -> Result<(usize, bool), LineFault>
+    ensures used { IfOk result (λ r. r.0 ≤ length piece.now) }
+    ensures line { IfOk result (λ r. r.1 ≡ true → (cutter.new.held ≡ []) × Lines (cutter.old.held ++ take r.0 piece.now) (kept.new.items ∷ []) []) }
+    ensures none { IfOk result (λ r. r.1 ≡ false → (r.0 ≡ length piece.now) × Lines (cutter.old.held ++ piece.now) [] cutter.new.held) }
+    ensures short { IfOk result (λ r. r.1 ≡ true → IsHearing cutter.old → length kept.new.items ≤ 65536) }
+    ensures keeps { IfOk result (λ r. IsHearing cutter.old → IsHearing cutter.new) }
+    ensures long { IsErrOf result LineFault.TooLong → (cutter.new.held ≡ cutter.old.held) × ((cutter.old.failed ≡ true) ⊎ BeginsTooLong cutter.old.limit (cutter.old.held ++ piece.now)) }
+{
+    let (used, line) = cutter.step(piece)?;
+    let Some(line) = line else {
+        return Ok((used, false));
+    };
+    *kept = Vec::from_slice(alloc, line)?;
+    Ok((used, true))
+}
+
+// Keeps the line that is unfinished at the end of the bytes: whether there was one.
+fn keep_last(alloc: Global, cutter: &mut LineCutter, kept: &mut Vec<u8>) -> Result<bool, LineFault>
+    ensures line { IfOk result (λ is_line. is_line ≡ true → (kept.new.items ≡ cutter.old.held) × (0 < length cutter.old.held)) }
+    ensures none { IfOk result (λ is_line. is_line ≡ false → cutter.old.held ≡ []) }
+    ensures empty { IfOk result (λ is_line. cutter.new.held ≡ []) }
+    ensures long { IsErrOf result LineFault.TooLong → cutter.old.failed ≡ true }
+{
+    let Some(line) = cutter.finish()? else {
+        return Ok(false);
+    };
+    *kept = Vec::from_slice(alloc, line)?;
+    Ok(true)
+}

@@ -1,0 +1,66 @@
+//! What the words of the command line ask for, and how it is done.
+
+ghost use Rattle.std.specs.Prelude.{◌≡◌, ◌≢◌, ◌≤◌, ◌↔◌, IfErr, IfOk, IsTrue, Some, false};
+ghost use Rattle.clap.specs.Words.{subcommand_name_of};
+ghost use Rattle.shogi_words.specs.Words.{IsNoCommand, word_of};
+
+use clap::ArgMatches;
+use shogi_commands::play::Plan;
+use shogi_commands::{Fault, check, csa, engine, normal, play, serve, usi};
+use shogi_words::{Match, Request, Service, request_of};
+use std::io::Eprint;
+use std::net::{Net, TcpListener, TcpStream};
+use std::process::Processes;
+use std::rt::Files;
+use std::time::Clock;
+
+/// What the words ask for.
+///
+/// `Fault::UnknownCommand` where they name no command.
+pub fn requested<'a>(matches: &ArgMatches<'a>) -> Result<Request<'a>, Fault>
+    ensures named { IfOk result (λ r. subcommand_name_of matches.now ≡ Some (word_of r)) }
+    ensures within { IfOk result (λ r. (s : Service) → r ≡ Request.Serve s → (1 ≤ s.max_moves) × (s.max_moves ≤ 10000)) }
+    ensures unknown { IfErr result (λ fault. (fault ≡ Fault.UnknownCommand) × IsNoCommand (subcommand_name_of matches.now)) }
+{
+    request_of(matches).ok_or(Fault::UnknownCommand)
+}
+
+/// Does what is asked for; `is_terminal` says whether standard error is a terminal.
+pub fn meet<
+    R: Files
+        + Input
+        + Net<Listener = TcpListener, Stream = TcpStream>
+        + Processes
+        + Clock
+        + Print
+        + Eprint
+        + AllocGlobal,
+>(rt: &R, request: &Request<'_>, is_terminal: bool) -> Result<(), Fault>
+    requires { (s : Service) → request.now ≡ Request.Serve s → (1 ≤ s.max_moves) × (s.max_moves ≤ 10000) }
+    ensures faults { IfErr result (λ fault. (fault ≢ Fault.WordsNotText) × (fault ≢ Fault.UnknownCommand)) }
+{
+    match *request {
+        Request::Check(file) => check::run(rt, file),
+        Request::Normal(file) => normal::run(rt, file),
+        Request::Usi(file) => usi::run(rt, file),
+        Request::Csa(file) => csa::run(rt, file),
+        Request::Engine => engine::run(rt),
+        Request::Serve(asked) => serve::run(rt, asked.port, asked.client, asked.max_moves),
+        Request::Play(asked) => play::run(rt, &plan_of(&asked, is_terminal)),
+    }
+}
+
+// Moves are shown where standard error is a terminal and the words do not say `--quiet`.
+fn plan_of<'a>(asked: &Match<'a>, is_terminal: bool) -> Plan<'a>
+    ensures programs { (result.server.now ≡ asked.now.server.now) × (result.engine.now ≡ asked.now.engine.now) }
+    ensures shown { IsTrue result.is_shown ↔ (IsTrue is_terminal × (asked.now.is_quiet ≡ false)) }
+{
+    Plan {
+        server: asked.server,
+        max_moves: asked.max_moves,
+        engine: asked.engine,
+        engine_word: asked.engine_word,
+        out: asked.out,
+        is_shown: is_terminal && !asked.is_quiet,
+    }
+}

@@ -1,0 +1,14 @@
+use Rattle.std.proofs.Common.{◌≡◌, codes}
+use Rattle.clap.specs.Words.{app_of}
+use Rattle.shogi_words.proofs.CommandNames.{adds_name, keeps_name}
+use Rattle.shogi_words.proofs.play.command.Goals as goal
+
+pub returns : goal.returns
+returns c =
+    let first : (app_of c.named.result).top.name ≡ codes "play" = c.named.ensures.name in
+    let name-1 = keeps_name _ _ _ _ c.in_ok-arg.ensures first in
+    let name-2 = keeps_name _ _ _ _ c.in_ok-arg-2.ensures name-1 in
+    let name-3 = keeps_name _ _ _ _ c.in_ok-arg-3.ensures name-2 in
+    let name-4 = keeps_name _ _ _ _ c.in_ok-arg-4.ensures name-3 in
+    let name-5 = keeps_name _ _ _ _ c.in_ok-arg-5.ensures name-4 in
+    record { name = adds_name c.arg-6.result _ _ _ c.arg-6.ensures name-5 }

@@ -1,0 +1,22 @@
+-- The words of the commands.
+use Rattle.std.specs.Prelude.{◌≢◌, ℕ, List, [], ◌∷◌, Option, Some, codes}
+use Rattle.shogi_words.specs.declared.request.Request.{Request}
+use Rattle.shogi_words.specs.declared.request.Request.TheVariants.{Check, Normal, Usi, Csa, Engine, Serve, Play}
+
+-- the words of the commands, in the order of the help
+abbrev pub commands : List (List ℕ)
+commands = codes "check" ∷ codes "normal" ∷ codes "usi" ∷ codes "csa" ∷ codes "engine" ∷ codes "serve" ∷ codes "play" ∷ []
+
+-- none of the commands
+abbrev pub IsNoCommand : Option (List ℕ) → Type 0
+IsNoCommand name = (name ≢ Some (codes "check")) × (name ≢ Some (codes "normal")) × (name ≢ Some (codes "usi")) × (name ≢ Some (codes "csa")) × (name ≢ Some (codes "engine")) × (name ≢ Some (codes "serve")) × (name ≢ Some (codes "play"))
+
+-- the word of what is asked for
+abbrev pub word_of : Request → List ℕ
+word_of (Check file) = codes "check"
+word_of (Normal file) = codes "normal"
+word_of (Usi file) = codes "usi"
+word_of (Csa file) = codes "csa"
+word_of Engine = codes "engine"
+word_of (Serve service) = codes "serve"
+word_of (Play game) = codes "play"

@@ -1,0 +1,55 @@
+//! The commands, and which of them a command line names.
+
+ghost use Rattle.std.specs.Prelude.{◌≡◌, ◌≤◌, [], IfOk, IfSome, None, Some};
+ghost use Rattle.shogi_words.specs.Words.{IsNoCommand, commands, word_of};
+ghost use Rattle.clap.specs.Words.{subcommand_name_of, subcommand_names};
+
+use crate::request::Request;
+use crate::serve::Service;
+use crate::{play, records, serve, words};
+use clap::{ArgMatches, Command};
+use std::alloc::{AllocError, Global};
+
+/// The program's whole command line.
+pub fn all<'a>(alloc: Global) -> Result<Command<'a>, AllocError>
+    ensures { IfOk result (λ c. subcommand_names c ≡ commands) }
+{
+    program(alloc)
+        .subcommand(records::check(alloc)?)?
+        .subcommand(records::normal(alloc)?)?
+        .subcommand(records::usi(alloc)?)?
+        .subcommand(records::csa(alloc)?)?
+        .subcommand(records::engine(alloc))?
+        .subcommand(serve::command(alloc)?)?
+        .subcommand(play::command(alloc)?)
+}
+
+// The program, without its commands.
+fn program<'a>(alloc: Global) -> Command<'a>
+    ensures none { subcommand_names result ≡ [] }
+{
+    Command::new(alloc, "shogi")
+        .about("Reads, checks and rewrites shogi records")
+        .version("0.1.0")
+        .propagate_version(true)
+        .subcommand_required(true)
+}
+
+/// What the words ask for, or None where they name none of the commands.
+pub fn request_of<'a>(matches: &ArgMatches<'a>) -> Option<Request<'a>>
+    ensures named { IfSome result (λ r. subcommand_name_of matches.now ≡ Some (word_of r)) }
+    ensures within { IfSome result (λ r. (s : Service) → r ≡ Request.Serve s → (1 ≤ s.max_moves) × (s.max_moves ≤ 10000)) }
+    ensures unknown { result ≡ None → IsNoCommand (subcommand_name_of matches.now) }
+{
+    let (name, words) = matches.subcommand()?;
+    match name {
+        records::CHECK => Some(Request::Check(words::file(words))),
+        records::NORMAL => Some(Request::Normal(words::file(words))),
+        records::USI => Some(Request::Usi(words::file(words))),
+        records::CSA => Some(Request::Csa(words::file(words))),
+        records::ENGINE => Some(Request::Engine),
+        serve::NAME => Some(Request::Serve(serve::service_of(words))),
+        play::NAME => Some(Request::Play(play::match_of(words))),
+        _ => None,
+    }
+}

@@ -1,0 +1,101 @@
+//! `shogi play`: an engine plays one game on a server, and the game's record is kept.
+
+ghost use Rattle.std.specs.Prelude.{◌≡◌, ℕ, List, IfOk, None, Some, codes, false, option_map, true};
+ghost use Rattle.clap.specs.Words.{app_of, first_value, found_of, one_text};
+
+use crate::{serve, words};
+use clap::{Arg, ArgAction, ArgMatches, Command, value_parser};
+use std::alloc::{AllocError, Global};
+
+/// Which programs play a game, how long it may be, and where its record goes.
+#[derive(Clone, Copy, Debug)]
+pub struct Match<'a> {
+    /// The CSA server to start.
+    pub server: &'a str,
+    /// The most moves of the game, 1 to 10,000.
+    pub max_moves: u32,
+    /// The USI engine to start.
+    pub engine: &'a str,
+    /// The one word that the engine is started with, if there is one.
+    pub engine_word: Option<&'a str>,
+    /// The file that the record is written to.
+    pub out: &'a str,
+    /// Whether no move is to be shown.
+    pub is_quiet: bool,
+}
+
+/// The command's word.
+pub const NAME: &str = "play";
+
+/// The command, with the programs to start and the file to write.
+pub fn command<'a>(alloc: Global) -> Result<Command<'a>, AllocError>
+    ensures name { IfOk result (λ c. (app_of c).top.name ≡ codes "play") }
+{
+    words::named(
+        alloc,
+        NAME,
+        "Plays one game, an engine against a server, and writes its record",
+        "Example: shogi play --engine my_engine --server shogi --out game.csa",
+    )
+    .arg(program(alloc, "engine", "The USI engine to start"))?
+    .arg(
+        Arg::new(alloc, "engine-arg")
+            .long("engine-arg")
+            .value_name("WORD")
+            .help("The one word that the engine is started with")
+            .allow_hyphen_values(true),
+    )?
+    .arg(program(
+        alloc,
+        "server",
+        "The CSA server to start, with the words: serve --port 0 --max N",
+    ))?
+    .arg(
+        Arg::new(alloc, "max")
+            .long("max")
+            .value_name("N")
+            .help("The server's game ends after so many moves, 1 to 10000 [default: 256]")
+            .value_parser(value_parser!(u32).range(1..=10_000)),
+    )?
+    .arg(
+        Arg::new(alloc, "quiet")
+            .long("quiet")
+            .help("Shows no moves; they are shown only where standard error is a terminal")
+            .action(ArgAction::SetTrue),
+    )?
+    .arg(
+        Arg::new(alloc, "out")
+            .long("out")
+            .value_name("FILE")
+            .help("The file that the record is written to")
+            .required(true),
+    )
+}
+
+fn program<'a>(alloc: Global, name: &'a str, help: &'a str) -> Arg<'a> {
+    Arg::new(alloc, name)
+        .long(name)
+        .value_name("PROGRAM")
+        .help(help)
+        .required(true)
+}
+
+/// What the words say of the game.
+pub fn match_of<'a>(matches: &ArgMatches<'a>) -> Match<'a>
+    ensures server { (text : List ℕ) → first_value (found_of matches.now) (codes "server") ≡ Some text → result.server.now ≡ text }
+    ensures engine { (text : List ℕ) → first_value (found_of matches.now) (codes "engine") ≡ Some text → result.engine.now ≡ text }
+    ensures word { option_map (λ s. s.now) result.engine_word ≡ first_value (found_of matches.now) (codes "engine-arg") }
+    ensures out { (text : List ℕ) → first_value (found_of matches.now) (codes "out") ≡ Some text → result.out.now ≡ text }
+    ensures usual { one_text (found_of matches.now) (codes "max") ≡ None → result.max_moves ≡ 256 }
+    ensures quiet { one_text (found_of matches.now) (codes "quiet") ≡ Some (codes "true") → result.is_quiet ≡ true }
+    ensures shown { one_text (found_of matches.now) (codes "quiet") ≡ Some (codes "false") → result.is_quiet ≡ false }
+{
+    Match {
+        server: matches.get_str("server").unwrap_or_default(),
+        max_moves: serve::max_moves(matches),
+        engine: matches.get_str("engine").unwrap_or_default(),
+        engine_word: matches.get_str("engine-arg"),
+        out: matches.get_str("out").unwrap_or_default(),
+        is_quiet: matches.get_flag("quiet"),
+    }
+}

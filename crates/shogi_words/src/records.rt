@@ -1,0 +1,91 @@
+//! The commands that read FILE alone, and `engine`, which has no words.
+
+ghost use Rattle.std.specs.Prelude.{◌≡◌, IfOk, codes};
+ghost use Rattle.clap.specs.Words.{app_of};
+
+use crate::words;
+use clap::Command;
+use std::alloc::{AllocError, Global};
+
+/// The word of the command that checks a record.
+pub const CHECK: &str = "check";
+
+/// The word of the command that writes the canonical text of a record.
+pub const NORMAL: &str = "normal";
+
+/// The word of the command that writes the position line of a record.
+pub const USI: &str = "usi";
+
+/// The word of the command that writes the canonical text of a position line.
+pub const CSA: &str = "csa";
+
+/// The word of the command that is an engine.
+pub const ENGINE: &str = "engine";
+
+const RECORD: &str = "The record; without it, or with -, standard input is read";
+
+const LINE: &str = "The line; without it, or with -, standard input is read";
+
+/// `shogi check [FILE]`: whether a record is accepted, how many moves it has, and how it stands.
+pub fn check<'a>(alloc: Global) -> Result<Command<'a>, AllocError>
+    ensures name { IfOk result (λ c. (app_of c).top.name ≡ codes "check") }
+{
+    words::command(
+        alloc,
+        CHECK,
+        "Checks a record: prints how many moves it has and how it stands",
+        "Example: shogi check game.csa",
+        RECORD,
+    )
+}
+
+/// `shogi normal [FILE]`: the canonical text of a record.
+pub fn normal<'a>(alloc: Global) -> Result<Command<'a>, AllocError>
+    ensures name { IfOk result (λ c. (app_of c).top.name ≡ codes "normal") }
+{
+    words::command(
+        alloc,
+        NORMAL,
+        "Prints the canonical text of a record",
+        "Example: shogi normal game.csa",
+        RECORD,
+    )
+}
+
+/// `shogi usi [FILE]`: the USI position line of a record.
+pub fn usi<'a>(alloc: Global) -> Result<Command<'a>, AllocError>
+    ensures name { IfOk result (λ c. (app_of c).top.name ≡ codes "usi") }
+{
+    words::command(
+        alloc,
+        USI,
+        "Prints the USI position line of a record",
+        "Example: shogi usi game.csa",
+        RECORD,
+    )
+}
+
+/// `shogi csa [FILE]`: the canonical text of a USI position line.
+pub fn csa<'a>(alloc: Global) -> Result<Command<'a>, AllocError>
+    ensures name { IfOk result (λ c. (app_of c).top.name ≡ codes "csa") }
+{
+    words::command(
+        alloc,
+        CSA,
+        "Prints the canonical text of a USI position line",
+        "Example: shogi csa position.txt",
+        LINE,
+    )
+}
+
+/// `shogi engine`: a USI engine on standard input and output, which plays the first legal move.
+pub fn engine<'a>(alloc: Global) -> Command<'a>
+    ensures name { (app_of result).top.name ≡ codes "engine" }
+{
+    words::named(
+        alloc,
+        ENGINE,
+        "Answers USI lines as an engine that plays the first legal move",
+        "Example: shogi play --engine shogi --engine-arg engine --server shogi --out game.csa",
+    )
+}

@@ -1,0 +1,96 @@
+//! `shogi serve`: a server on localhost, which plays one game with one client.
+
+ghost use Rattle.std.specs.Prelude.{◌≡◌, ◌≤◌, IfOk, None, Some, codes};
+ghost use Rattle.clap.specs.Words.{app_of, found_of, one_text};
+
+use crate::words;
+use clap::{Arg, ArgAction, ArgMatches, Command, value_parser};
+use shogi_board::Color;
+use std::alloc::{AllocError, Global};
+
+/// Where a server listens, and which game it plays.
+#[derive(Clone, Copy, Debug, PartialEq, Eq)]
+pub struct Service {
+    /// The port to listen on; 0 is any free one.
+    pub port: u16,
+    /// The client's side.
+    pub client: Color,
+    /// The most moves of the game, 1 to 10,000.
+    pub max_moves: u32,
+}
+
+/// The command's word.
+pub const NAME: &str = "serve";
+
+const MAX_MOVES: u32 = 10_000;
+
+const USUAL_MOVES: u32 = 256;
+
+/// The command, with `--port`, `--max` and `--white`.
+pub fn command<'a>(alloc: Global) -> Result<Command<'a>, AllocError>
+    ensures name { IfOk result (λ c. (app_of c).top.name ≡ codes "serve") }
+{
+    words::named(
+        alloc,
+        NAME,
+        "Plays one game with one client, as a CSA server on localhost",
+        "Example: shogi serve --port 4081 --max 256",
+    )
+    .arg(
+        Arg::new(alloc, "port")
+            .long("port")
+            .value_name("N")
+            .help("The port to listen on, 0 to 65535; 0 is any free one [default: 0]")
+            .value_parser(value_parser!(u16)),
+    )?
+    .arg(
+        Arg::new(alloc, "max")
+            .long("max")
+            .value_name("N")
+            .help("The game ends after so many moves, 1 to 10000 [default: 256]")
+            .value_parser(value_parser!(u32).range(1..=10_000)),
+    )?
+    .arg(
+        Arg::new(alloc, "white")
+            .long("white")
+            .help("The client has white")
+            .action(ArgAction::SetTrue),
+    )
+}
+
+/// What the words say of the server.
+pub fn service_of(matches: &ArgMatches<'_>) -> Service
+    ensures black { one_text (found_of matches.now) (codes "white") ≡ Some (codes "false") → result.client ≡ Color.Black }
+    ensures white { one_text (found_of matches.now) (codes "white") ≡ Some (codes "true") → result.client ≡ Color.White }
+    ensures within { (1 ≤ result.max_moves) × (result.max_moves ≤ 10000) }
+    ensures usual { one_text (found_of matches.now) (codes "max") ≡ None → result.max_moves ≡ 256 }
+{
+    Service {
+        port: matches.get_one::<u16>("port").unwrap_or(0),
+        client: client(matches),
+        max_moves: max_moves(matches),
+    }
+}
+
+// The client's side.
+fn client(matches: &ArgMatches<'_>) -> Color
+    ensures black { one_text (found_of matches.now) (codes "white") ≡ Some (codes "false") → result ≡ Color.Black }
+    ensures white { one_text (found_of matches.now) (codes "white") ≡ Some (codes "true") → result ≡ Color.White }
+{
+    if matches.get_flag("white") {
+        Color::White
+    } else {
+        Color::Black
+    }
+}
+
+/// How many moves the game may have; the command takes no other numbers.
+pub fn max_moves(matches: &ArgMatches<'_>) -> u32
+    ensures within { (1 ≤ result) × (result ≤ 10000) }
+    ensures usual { one_text (found_of matches.now) (codes "max") ≡ None → result ≡ 256 }
+{
+    match matches.get_one::<u32>("max") {
+        Some(moves) => moves.clamp(1, MAX_MOVES),
+        None => USUAL_MOVES,
+    }
+}
