@@ -1,7 +1,7 @@
 /* Loaded in front of the C library: reads of standard input and writes of standard output take at most PIECE bytes each;
    the read that FAILED_READ numbers, counted from 1, and the write that FAILED_WRITE numbers fail; with INTERRUPTED each
    read is interrupted once before it is made, and with EMPTY_WRITES a write takes no byte. With PLAYING it is the reads of
-   `play` alone, of pipes and sockets. */
+   `play` alone, of pipes and sockets. With FAILED_SYNC no file reaches its device. */
 typedef unsigned long size;
 typedef long ssize;
 
@@ -9,9 +9,9 @@ extern char *getenv(const char *);
 extern long syscall(long, ...);
 extern int *__errno_location(void);
 
-enum { READ = 0, WRITE = 1, RECEIVE = 45, INTERRUPT = 4, BROKEN = 5 };
+enum { READ = 0, WRITE = 1, RECEIVE = 45, SYNC = 74, INTERRUPT = 4, BROKEN = 5 };
 
-static unsigned long reads, writes, piece, failed_read, failed_write, interrupted, empty_writes, playing, again;
+static unsigned long reads, writes, piece, failed_read, failed_write, interrupted, empty_writes, playing, failed_sync, again;
 
 static unsigned long number(const char *name) {
     const char *digit = getenv(name);
@@ -34,6 +34,7 @@ __attribute__((constructor)) static void read_numbers(int count, char **words) {
     failed_write = number("FAILED_WRITE");
     interrupted = number("INTERRUPTED");
     empty_writes = number("EMPTY_WRITES");
+    failed_sync = number("FAILED_SYNC");
 }
 
 static ssize fails(int why) {
@@ -71,4 +72,8 @@ ssize write(int file, const void *buffer, size bytes) {
     if (++writes == failed_write)
         return fails(BROKEN);
     return empty_writes ? 0 : syscall(WRITE, file, buffer, within(bytes));
+}
+
+int fsync(int file) {
+    return failed_sync ? (int)fails(BROKEN) : (int)syscall(SYNC, file);
 }
