@@ -245,9 +245,11 @@ fn event(seat: Seat, heard: Heard, line: &[u8]) -> Event<'_>
 }
 
 // Whether what was heard may be a move that the bridge took.
-fn is_shown(seat: Seat, heard: Heard, status: Status) -> bool {
-    matches!(
-        (seat, heard, status),
-        (Seat::Server, Heard::Line, Status::Going)
-    )
+fn is_shown(seat: Seat, heard: Heard, status: Status) -> bool
+    ensures { IsTrue result ↔ (seat ≡ Seat.Server) × (heard ≡ Heard.Line) × (status ≡ Status.Going) }
+{
+    match (seat, heard, status) {
+        (Seat::Server, Heard::Line, Status::Going) => true,
+        _ => false,
+    }
 }
