@@ -13,7 +13,7 @@ pub rising_tail : (e : Entry) (es : List Entry) → Rising (e ∷ es) → Rising
 rising_tail e [] h = tt
 rising_tail e (f ∷ es) h = h.1
 
--- an entry of another key stands behind
+-- where no entry is kept, neither the first is nor one behind it
 pub kept : (b : Bool) (e : Entry) (es : List Entry) → cond b (e ∷ es) es ≡ [] → (b ≡ false) × (es ≡ [])
 kept true e es h = cc
 kept false e es h = (refl, h)
