@@ -1,4 +1,4 @@
-use csa_text::{Ending, Item, Pair, TextFault, csa_move, laws, read_item};
+use csa_text::{Ending, Item, Pair, TextFault, csa_move, kind_text, laws, read_item};
 use shogi_board::{Color, Kind, Square};
 use shogi_rules::Move;
 use std::test::Fail;
@@ -106,5 +106,29 @@ fn goes_by_the_first_byte(rt: HostRuntime) {
             _ => TextFault::Unknown,
         };
         assert!(rt; read_item(&[first, b'x']) == Err(wanted));
+    }
+}
+
+// The letters of CSA V2.2.
+#[test]
+fn letters_of_the_kinds(rt: HostRuntime) {
+    let table = [
+        (Kind::Pawn, "FU"),
+        (Kind::Lance, "KY"),
+        (Kind::Knight, "KE"),
+        (Kind::Silver, "GI"),
+        (Kind::Gold, "KI"),
+        (Kind::Bishop, "KA"),
+        (Kind::Rook, "HI"),
+        (Kind::King, "OU"),
+        (Kind::ProPawn, "TO"),
+        (Kind::ProLance, "NY"),
+        (Kind::ProKnight, "NK"),
+        (Kind::ProSilver, "NG"),
+        (Kind::Horse, "UM"),
+        (Kind::Dragon, "RY"),
+    ];
+    for (kind, letters) in table {
+        assert!(rt; kind_text(kind) == letters, "{letters}");
     }
 }

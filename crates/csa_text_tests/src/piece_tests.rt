@@ -78,3 +78,14 @@ fn pieces_of_each_size_give_the_same(rt: HostRuntime) {
         }
     }
 }
+
+// A comment is no statement, and neither is one that is not closed yet.
+#[test]
+fn counts_statements(rt: HostRuntime) {
+    let mut pieces = PieceCutter::new();
+    for (piece, statements) in [(b"PI\n".as_slice(), 1), (b"'x\n", 1), (b"+77", 1), (b"76FU,", 2)] {
+        let cut = pieces.step(piece);
+        assert!(rt; cut.map(|cut| cut.used) == Ok(piece.len()));
+        assert!(rt; pieces.statements() == statements);
+    }
+}

@@ -267,13 +267,15 @@ impl Setup {
         })
     }
 
-    /// Makes the position the one that `finish` answers, where it does not refuse, and says whether it did.
+    /// Makes the position the one that `finish` answers, where it does not refuse, and says whether it did. Else the
+    /// position stays as it was.
     ///
     /// The king is the square of the other side's king, or None where that side has none.
     pub fn settle(&self, side: Color, king: Option<Square>, position: &mut Position) -> bool
         requires { IsKingOf self.now.board (opponent side) king }
         ensures answer { IsTrue result ↔ (InCheck self.now.board (opponent side) → ⊥) }
         ensures value { result ≡ true → position.new ≡ position_of self.now side }
+        ensures unchanged { result ≡ false → position.new ≡ position.old }
     {
         if self.attacks_king(side.opponent(), king) {
             return false;

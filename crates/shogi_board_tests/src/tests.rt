@@ -1,5 +1,5 @@
 use shogi_board::{
-    Color, Hand, Kind, Piece, Position, Setup, SetupFault, Square, attacked, reaches,
+    Color, Hand, Kind, Piece, Position, Setup, SetupFault, Square, attacked, laws, reaches,
 };
 use std::collections::BTreeMap;
 use std::test::Fail;
@@ -346,4 +346,77 @@ fn positions_as_keys(rt: HostRuntime) -> Result<(), Fail> {
     }
     assert!(rt; times_seen.len() == 8);
     Ok(())
+}
+
+// Places a piece by `put` where `place` does it, and says whether that gave the same, or None where `place` refuses.
+fn put_is_place(setup: &mut Setup, color: Color, square: Square, kind: Kind) -> Option<bool> {
+    let mut placed = *setup;
+    placed.place(color, square, kind).ok()?;
+    setup.put(color, square, kind);
+    Some(*setup == placed)
+}
+
+// The same of a piece into a hand, and of one out of it.
+fn put_in_hand_is_add(setup: &mut Setup, color: Color, kind: Kind) -> Option<bool> {
+    let mut added = *setup;
+    added.add_hand(color, kind).ok()?;
+    setup.put_in_hand(color, kind);
+    Some(*setup == added)
+}
+
+fn take_from_hand_is_take(setup: &mut Setup, color: Color, kind: Kind) -> Option<bool> {
+    let mut taken = *setup;
+    taken.take_hand(color, kind).ok()?;
+    setup.take_from_hand(color, kind);
+    Some(*setup == taken)
+}
+
+#[test]
+fn calls_without_questions_change_the_same(rt: HostRuntime) -> Result<(), Fail> {
+    let mut setup = Setup::empty();
+    assert!(rt; put_is_place(&mut setup, Color::White, on(55)?, Kind::Horse) == Some(true));
+    assert!(rt; put_is_place(&mut setup, Color::White, on(55)?, Kind::Pawn).is_none());
+    for color in [Color::Black, Color::White] {
+        assert!(rt; put_in_hand_is_add(&mut setup, color, Kind::Lance) == Some(true));
+        assert!(rt; put_in_hand_is_add(&mut setup, color, Kind::King).is_none());
+        assert!(rt; take_from_hand_is_take(&mut setup, color, Kind::Lance) == Some(true));
+        assert!(rt; take_from_hand_is_take(&mut setup, color, Kind::Lance).is_none());
+    }
+    Ok(())
+}
+
+// Whether `settle` answers for that side to move as `finish` does, and makes the same position.
+fn settles_as_finished(position: &Position, side: Color) -> bool {
+    let setup = position.setup();
+    let mut made = *position;
+    let settled = setup.settle(side, position.king(side.opponent()), &mut made);
+    match setup.finish(side) {
+        Ok(finished) => settled && made == finished && made.side() == side,
+        Err(_) => !settled && made == *position,
+    }
+}
+
+// White's lance on 51 attacks black's king, so white may not be to move.
+#[test]
+fn settles_where_finish_answers(rt: HostRuntime) -> Result<(), Fail> {
+    let checked = position("-51KY,+57OU")?;
+    assert!(rt; checked.setup().finish(Color::White) == Err(SetupFault::OpponentInCheck));
+    for position in [checked, Position::even(), position("+33TO,-55FU")?] {
+        assert!(rt; settles_as_finished(&position, Color::White));
+        assert!(rt; settles_as_finished(&position, Color::Black));
+    }
+    Ok(())
+}
+
+#[test]
+fn laws_are_calls(_rt: HostRuntime) {
+    laws::reach_turned();
+    laws::gold_reaches_six();
+    laws::horse_reaches();
+    laws::knight_without_move();
+    laws::even_is_sound();
+    laws::equal_positions();
+    laws::equal_setups();
+    laws::ordered_positions();
+    laws::ordered_squares();
 }
