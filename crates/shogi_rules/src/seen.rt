@@ -10,6 +10,7 @@ use crate::moves::Move;
 use shogi_board::{Color, Piece, Position, Square};
 use std::alloc::{AllocError, Global};
 use std::marker::Model;
+use std::slice;
 
 // How many chains there are.
 const CHAINS: usize = 4096;
@@ -170,7 +171,7 @@ impl Seen {
         let earlier = self.latest(chain);
         let count = self.count(earlier, position) + 1;
         self.links.reserve(1)?;
-        self.positions.push(*position)?;
+        self.positions.extend_from_slice(slice::from_ref(position))?;
         self.links.push(Link { count, earlier }).unwrap();
         self.heads[chain] = self.positions.len() as u16;
         Ok(count)
