@@ -109,9 +109,9 @@ impl Board {
     pub(crate) fn has_pawn_on_file(&self, color: Color, square: Square) -> bool
         ensures { IsTrue result ↔ HasPawnOnFile self.now color square }
     {
-        for n in 0..81usize {
-            let other = Square::at_place(n);
-            if other.file() == square.file() && is_pawn_of(self.at(other), color) {
+        let first = (square.file() as usize - 1) * 9;
+        for rank in 0..9usize {
+            if is_pawn_of(self.cells[first + rank], color) {
                 return true;
             }
         }
@@ -144,6 +144,9 @@ impl Board {
         requires { IsRay direction }
         ensures { IsTrue result ↔ InSight self.now from direction to }
     {
+        if !from.is_before(direction, to) {
+            return false;
+        }
         for n in 1..9u8 {
             if let Some(square) = from.away(direction, n) {
                 if square == to {

@@ -1,4 +1,4 @@
-ghost use Rattle.std.specs.Prelude.{◌≡◌, ◌+◌, ◌*◌, ◌-◌, ◌<◌, ◌≤◌, MatchOption, ◌⊎◌, ◌↔◌, IsTrue};
+ghost use Rattle.std.specs.Prelude.{◌≡◌, true, ℕ, ◌+◌, ◌*◌, ◌-◌, ◌<◌, ◌≤◌, MatchOption, ◌⊎◌, ◌↔◌, IsTrue};
 
 use crate::direction::Direction;
 
@@ -72,6 +72,14 @@ impl Square {
             && other.rank + times * 2 == self.rank + times * direction.ranks
     }
 
+    // Whether file and rank of the other square differ as the direction says. Where not, it lies nowhere in that direction.
+    pub(crate) fn is_before(self, direction: Direction, other: Square) -> bool
+        ensures { (times : ℕ) → 1 ≤ times → IsAway self direction times other → result ≡ true }
+    {
+        differs(direction.files, self.file, other.file)
+            && differs(direction.ranks, self.rank, other.rank)
+    }
+
     // The square that lies `times` the direction away, if that is on the board.
     pub(crate) fn away(self, direction: Direction, times: u8) -> Option<Square>
         requires small { (direction.files ≤ 4) × (direction.ranks ≤ 4) × (times ≤ 9) }
@@ -85,5 +93,18 @@ impl Square {
             return None;
         }
         Square::new(file - 2 * times, rank - 2 * times)
+    }
+}
+
+// Whether the one number is less than the other where a step is less than 2, the same at 2, and greater above.
+fn differs(step: u8, from: u8, to: u8) -> bool
+    ensures { (times : ℕ) → 1 ≤ times → to + times * 2 ≡ from + times * step → result ≡ true }
+{
+    if step < 2 {
+        to < from
+    } else if step == 2 {
+        to == from
+    } else {
+        from < to
     }
 }

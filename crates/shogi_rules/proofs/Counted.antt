@@ -1,12 +1,7 @@
 -- One position more among those that are counted and linked.
-use Rattle.std.proofs.Common.{◌≡◌, ℕ, suc, ◌+◌, ◌<◌, ◌≤◌, List, [], ◌∷◌, ◌++◌, Bool, true, false, cond, Some, None, Option, get_or, take, slice_get, arith, refl, sym, ap, ◌∙◌, length, inl, inr, subst, zero}
-use Rattle.std.specs.Prelude.{unwrap_or}
-use Rattle.std.specs.BTreeMap.{BTreeMap, get, is_at}
-use Rattle.std.specs.Ordering.{nat_cmp}
-use Rattle.std.specs.Cmp.{unsigned_tied}
+use Rattle.std.proofs.Common.{◌≡◌, ◌≢◌, ℕ, set, get_or-set_same, get_or-set_other, suc, ◌+◌, ◌<◌, ◌≤◌, List, [], ◌∷◌, ◌++◌, Bool, true, false, cond, Some, None, get_or, take, slice_get, arith, refl, sym, ap, ◌∙◌, length, length-set, replicate, inl, inr, subst, zero}
 use Rattle.std.proofs.lemmas.Bool.{cases_lt}
-use Rattle.std.proofs.lemmas.Bool.Decides.{Decides-eqb}
-use Rattle.std.proofs.lemmas.List.{take-append-le, take_all, length-append}
+use Rattle.std.proofs.lemmas.List.{take-append-le, take_all, length-append, length-replicate, get_or-replicate}
 use Rattle.std.proofs.lemmas.List.Sums.{count_by_more_no}
 use Rattle.std.proofs.lemmas.Option.{get_or_from_slice_get, slice_get_within}
 use Rattle.shogi_board.specs.Cells.{Cells}
@@ -14,7 +9,7 @@ use Rattle.shogi_board.specs.Placed.{Placed}
 use Rattle.shogi_board.specs.Same.{same_position}
 use Rattle.shogi_board.proofs.Same.{position-same}
 use Rattle.shogi_rules.specs.Repetition.{times}
-use Rattle.shogi_rules.specs.Stamps.{Leads, IsLink, AreLinked, stamp_of, stamp_before, mark}
+use Rattle.shogi_rules.specs.Stamps.{Leads, IsLink, AreLinked, chain_of, stamp_before, mark}
 use Rattle.shogi_rules.specs.declared.seen.Link.{Link}
 use Rattle.shogi_rules.proofs.Counts.{first}
 
@@ -72,7 +67,7 @@ leads-kept : (ps : List Placed) (p : Placed) (n : ℕ) (q : Placed) (m : ℕ) �
 leads-kept ps p n q m h led = record {
   low = led.low;
   all = times-kept ps p m q (omega (arith, h, led.low)) ∙ (led.all ∙ sym (times-kept ps p n q h));
-  stamp = λ i x e at. led.stamp i x e (stands-kept ps p x i (omega (arith, h, led.low, e)) at);
+  chain = λ i x e at. led.chain i x e (stands-kept ps p x i (omega (arith, h, led.low, e)) at);
 }
 
 times-other : (ps : List Placed) (p q : Placed) (b : Bool) → same_position p q ≡ b → b ≡ false → times (ps ++ p ∷ []) q ≡ times ps q
@@ -82,18 +77,18 @@ times-other ps p q false e h = let more : times (ps ++ p ∷ []) q ≡ times ps 
 long-more : (ps : List Placed) (p : Placed) → length (ps ++ p ∷ []) ≡ length ps + 1
 long-more ps p = length-append ps (p ∷ [])
 
--- one of another stamp behind them changes nothing
-leads-other : (ps : List Placed) (p q : Placed) (m : ℕ) → (stamp_of p ≡ stamp_of q → ⊥) → Leads ps (length ps) q m → Leads (ps ++ p ∷ []) (length (ps ++ p ∷ [])) q m
+-- one of another chain behind them changes nothing
+leads-other : (ps : List Placed) (p q : Placed) (m : ℕ) → (chain_of p ≡ chain_of q → ⊥) → Leads ps (length ps) q m → Leads (ps ++ p ∷ []) (length (ps ++ p ∷ [])) q m
 leads-other ps p q m other led =
     let kept = leads-kept ps p (length ps) q m (omega arith) led in
     let old : times (take (length ps) (ps ++ p ∷ [])) q ≡ times ps q = times-kept ps p (length ps) q (omega arith) ∙ times-whole ps (length ps) q (omega arith) in
     let new : times (take (length (ps ++ p ∷ [])) (ps ++ p ∷ [])) q ≡ times ps q =
     times-whole (ps ++ p ∷ []) (length (ps ++ p ∷ [])) q (omega arith)
-    ∙ times-other ps p q (same_position p q) refl (apart p q (λ e. other (ap stamp_of e))) in
+    ∙ times-other ps p q (same_position p q) refl (apart p q (λ e. other (ap chain_of e))) in
     record {
       low = let long = long-more ps p in omega (arith, long, led.low);
       all = kept.all ∙ (old ∙ sym new);
-      stamp = kept.stamp;
+      chain = kept.chain;
     }
 
 some-placed : (p q : Placed) → Some p ≡ Some q → p ≡ q
@@ -102,18 +97,35 @@ some-placed p q e = cc
 last-place : (ps : List Placed) (p q : Placed) (i : ℕ) → i ≡ length ps → slice_get (ps ++ p ∷ []) i ≡ Some q → p ≡ q
 last-place ps p q i e at = some-placed p q (sym (get-behind ps p i e) ∙ at)
 
-leads-last : (ps : List Placed) (p q : Placed) → stamp_of p ≡ stamp_of q → Leads (ps ++ p ∷ []) (length (ps ++ p ∷ [])) q (length ps + 1)
+leads-last : (ps : List Placed) (p q : Placed) → chain_of p ≡ chain_of q → Leads (ps ++ p ∷ []) (length (ps ++ p ∷ [])) q (length ps + 1)
 leads-last ps p q same =
     let long = long-more ps p in
     record {
       low = omega (arith, long);
       all = ap (λ (n : ℕ). times (take n (ps ++ p ∷ [])) q) (sym long);
-      stamp = λ i x e at. ap stamp_of (sym (last-place ps p x i (omega (arith, e)) at)) ∙ same;
+      chain = λ i x e at. ap chain_of (sym (last-place ps p x i (omega (arith, e)) at)) ∙ same;
     }
 
-found-if : (b : Bool) (ps : List Placed) (p q : Placed) (o : Option ℕ) → (b ≡ true → stamp_of p ≡ stamp_of q) → (stamp_of p ≡ stamp_of q → b ≡ true) → Leads ps (length ps) q (unwrap_or o 0) → Leads (ps ++ p ∷ []) (length (ps ++ p ∷ [])) q (unwrap_or (cond b (Some (length ps + 1)) o) 0)
-found-if true ps p q o yes-same back led = leads-last ps p q (yes-same refl)
-found-if false ps p q o yes-same back led = leads-other ps p q (unwrap_or o 0) (λ e. let f = back e in cc) led
+chain-low : (p : Placed) → chain_of p < 4096
+chain-low p = omega arith
+
+-- the head of its chain leads to the new one too, and those of the others lead as before
+found-more : (ps : List Placed) (heads : List ℕ) (p q : Placed) → length heads ≡ 4096 → Leads ps (length ps) q (get_or heads (chain_of q) 0) → Leads (ps ++ p ∷ []) (length (ps ++ p ∷ [])) q (get_or (set heads (chain_of p) (length ps + 1)) (chain_of q) 0)
+found-more ps heads p q wide led =
+    let low : chain_of p < length heads = rw wide (chain-low p) in
+    let apart : (chain_of q ≢ chain_of p) → Leads (ps ++ p ∷ []) (length (ps ++ p ∷ [])) q (get_or (set heads (chain_of p) (length ps + 1)) (chain_of q) 0) = λ other.
+    subst (λ (n : ℕ). Leads (ps ++ p ∷ []) (length (ps ++ p ∷ [])) q n) (sym (get_or-set_other heads (chain_of p) (chain_of q) (length ps + 1) 0 other))
+    (leads-other ps p q (get_or heads (chain_of q) 0) (λ e. other (sym e)) led) in
+    elim (cases_lt (chain_of p) (chain_of q)) [
+      | inl lt ↦ apart (λ e. absurd (omega (arith, e, lt)))
+      | inr le ↦ elim (cases_lt (chain_of q) (chain_of p)) [
+        | inl gt ↦ apart (λ e. absurd (omega (arith, e, gt)))
+        | inr ge ↦
+            let same : chain_of p ≡ chain_of q = omega (arith, le, ge) in
+            let at : get_or (set heads (chain_of p) (length ps + 1)) (chain_of q) 0 ≡ length ps + 1 = ap (λ (n : ℕ). get_or (set heads (chain_of p) (length ps + 1)) n 0) (sym same) ∙ get_or-set_same heads (chain_of p) (length ps + 1) 0 low in
+            subst (λ (n : ℕ). Leads (ps ++ p ∷ []) (length (ps ++ p ∷ [])) q n) (sym at) (leads-last ps p q same)
+      ]
+    ]
 
 some-link : (k l : Link) → Some k ≡ Some l → k ≡ l
 some-link k l e = cc
@@ -124,7 +136,7 @@ link-kept ps x i p link h is = record {
   earlier = λ q same. leads-kept ps x i q link.earlier (omega (arith, h)) (is.earlier q same);
 }
 
-link-last : (ps : List Placed) (p : Placed) (link : Link) → link.count ≡ times ps p + 1 → ((q : Placed) → stamp_of q ≡ stamp_of p → Leads ps (length ps) q link.earlier) → IsLink (ps ++ p ∷ []) (length ps) p link
+link-last : (ps : List Placed) (p : Placed) (link : Link) → link.count ≡ times ps p + 1 → ((q : Placed) → chain_of q ≡ chain_of p → Leads ps (length ps) q link.earlier) → IsLink (ps ++ p ∷ []) (length ps) p link
 link-last ps p link counted leads = record {
   count =
       let long = long-more ps p in
@@ -138,13 +150,14 @@ link-at-last ps links p q link x i long e is at beside =
     let two : link ≡ x = some-link link x (sym (get-behind links link i (omega (arith, e, long))) ∙ beside) in
     subst (λ (n : ℕ). IsLink (ps ++ p ∷ []) n q x) (sym e) (subst (λ (l : Link). IsLink (ps ++ p ∷ []) (length ps) q l) two (subst (λ (r : Placed). IsLink (ps ++ p ∷ []) (length ps) r link) one is))
 
-linked-pushed : (ps : List Placed) (links : List Link) (m more : BTreeMap ℕ ℕ) (p : Placed) (link : Link) → AreLinked ps links m → link.count ≡ times ps p + 1 → ((q : Placed) → stamp_of q ≡ stamp_of p → Leads ps (length ps) q link.earlier) → ((s : ℕ) → get nat_cmp more s ≡ cond (is_at (nat_cmp (stamp_of p)) s) (Some (length ps + 1)) (get nat_cmp m s)) → AreLinked (ps ++ p ∷ []) (links ++ link ∷ []) more
-linked-pushed ps links m more p link old counted leads changes = record {
+linked-pushed : (ps : List Placed) (links : List Link) (heads : List ℕ) (p : Placed) (link : Link) → AreLinked ps links heads → link.count ≡ times ps p + 1 → ((q : Placed) → chain_of q ≡ chain_of p → Leads ps (length ps) q link.earlier) → AreLinked (ps ++ p ∷ []) (links ++ link ∷ []) (set heads (chain_of p) (length ps + 1))
+linked-pushed ps links heads p link old counted leads = record {
   long =
       let a = length-append links (link ∷ []) in
       let b = long-more ps p in
       let c = old.long in
       omega (arith, a, b, c);
+  wide = length-set heads (chain_of p) (length ps + 1) ∙ old.wide;
   each = λ i q x at beside.
       elim (cases_lt i (length ps)) [
         | inl low ↦
@@ -155,51 +168,47 @@ linked-pushed ps links m more p link old counted leads changes = record {
             let long = long-more ps p in
             link-at-last ps links p q link x i old.long (omega (arith, le, within, long)) (link-last ps p link counted leads) at beside
       ];
-  found = λ q.
-      let tied = unsigned_tied (stamp_of p) (stamp_of q) in
-      let d = Decides-eqb (stamp_of p) (stamp_of q) in
-      subst (λ (o : Option ℕ). Leads (ps ++ p ∷ []) (length (ps ++ p ∷ [])) q (unwrap_or o 0)) (sym (changes (stamp_of q)))
-      (found-if (is_at (nat_cmp (stamp_of p)) (stamp_of q)) ps p q (get nat_cmp m (stamp_of q))
-      (λ h. d.0 (sym tied ∙ h)) (λ h. tied ∙ d.1 h) (old.found q));
+  found = λ q. found-more ps heads p q old.wide (old.found q);
 }
 
 -- the walk over the links: past a position that is another, and at one that is the same
-pub walk-on : (ps : List Placed) (links : List Link) (m : BTreeMap ℕ ℕ) (q p : Placed) (link : Link) (n i : ℕ) → AreLinked ps links m → Leads ps (length ps) q n → n ≡ i + 1 → slice_get ps i ≡ Some p → slice_get links i ≡ Some link → same_position p q ≡ false → Leads ps (length ps) q link.earlier
+pub walk-on : (ps : List Placed) (links : List Link) (m : List ℕ) (q p : Placed) (link : Link) (n i : ℕ) → AreLinked ps links m → Leads ps (length ps) q n → n ≡ i + 1 → slice_get ps i ≡ Some p → slice_get links i ≡ Some link → same_position p q ≡ false → Leads ps (length ps) q link.earlier
 walk-on ps links m q p link n i old led e at beside other =
     let within = slice_get_within ps i p at in
-    let on = (old.each i p link at beside).earlier q (sym (led.stamp i p e at)) in
+    let on = (old.each i p link at beside).earlier q (sym (led.chain i p e at)) in
     let here : get_or ps i p ≡ p = get_or_from_slice_get ps i p p at in
     let past : same_position (get_or ps i p) q ≡ false = rw here other in
     let skip : times (take (i + 1) ps) q ≡ times (take i ps) q = count_by_more_no (λ (x : Placed). same_position x q) ps i p within past in
     let all : times (take (i + 1) ps) q ≡ times (take (length ps) ps) q = rw e at led.all in
-    record { low = let low = on.low in omega (arith, low, within); all = on.all ∙ (sym skip ∙ all); stamp = on.stamp }
+    record { low = let low = on.low in omega (arith, low, within); all = on.all ∙ (sym skip ∙ all); chain = on.chain }
 
-pub walk-less : (ps : List Placed) (links : List Link) (m : BTreeMap ℕ ℕ) (q p : Placed) (link : Link) (n i : ℕ) → AreLinked ps links m → Leads ps (length ps) q n → n ≡ i + 1 → slice_get ps i ≡ Some p → slice_get links i ≡ Some link → link.earlier < n
+pub walk-less : (ps : List Placed) (links : List Link) (m : List ℕ) (q p : Placed) (link : Link) (n i : ℕ) → AreLinked ps links m → Leads ps (length ps) q n → n ≡ i + 1 → slice_get ps i ≡ Some p → slice_get links i ≡ Some link → link.earlier < n
 walk-less ps links m q p link n i old led e at beside =
-    let on = (old.each i p link at beside).earlier q (sym (led.stamp i p e at)) in
+    let on = (old.each i p link at beside).earlier q (sym (led.chain i p e at)) in
     omega (arith, on.low, e)
 
-pub walk-ends : (ps : List Placed) (links : List Link) (m : BTreeMap ℕ ℕ) (q p : Placed) (link : Link) (n i : ℕ) → AreLinked ps links m → Leads ps (length ps) q n → n ≡ i + 1 → slice_get ps i ≡ Some p → slice_get links i ≡ Some link → same_position p q ≡ true → link.count ≡ times ps q
+pub walk-ends : (ps : List Placed) (links : List Link) (m : List ℕ) (q p : Placed) (link : Link) (n i : ℕ) → AreLinked ps links m → Leads ps (length ps) q n → n ≡ i + 1 → slice_get ps i ≡ Some p → slice_get links i ≡ Some link → same_position p q ≡ true → link.count ≡ times ps q
 walk-ends ps links m q p link n i old led e at beside same =
     let one : p ≡ q = (position-same p q).0 same in
     let all : times (take (i + 1) ps) q ≡ times (take (length ps) ps) q = rw e at led.all in
     (old.each i p link at beside).count ∙ (ap (λ (x : Placed). times (take (i + 1) ps) x) one ∙ (all ∙ times-whole ps (length ps) q (omega arith)))
 
 -- the same by what the code has found
-pub linked-more : (ps : List Placed) (links : List Link) (m more : BTreeMap ℕ ℕ) (p : Placed) (key n count earlier : ℕ) → AreLinked ps links m → key ≡ stamp_of p → n ≡ length ps → count ≡ times ps p → ((q : Placed) → stamp_of q ≡ key → Leads ps (length ps) q earlier) → ((s : ℕ) → get nat_cmp more s ≡ cond (is_at (nat_cmp key) s) (Some (n + 1)) (get nat_cmp m s)) → AreLinked (ps ++ p ∷ []) (links ++ record { count = count + 1; earlier = earlier } ∷ []) more
-linked-more ps links m more p key n count earlier old same long counted leads changes =
-    linked-pushed ps links m more p (record { count = count + 1; earlier = earlier }) old (ap (λ (k : ℕ). k + 1) counted)
-    (λ q e. leads q (e ∙ sym same))
-    (λ s. changes s ∙ (ap (λ (k : ℕ). cond (is_at (nat_cmp k) s) (Some (n + 1)) (get nat_cmp m s)) same
-    ∙ ap (λ (k : ℕ). cond (is_at (nat_cmp (stamp_of p)) s) (Some (k + 1)) (get nat_cmp m s)) long))
+pub linked-more : (ps : List Placed) (links : List Link) (heads : List ℕ) (p : Placed) (key n count earlier : ℕ) → AreLinked ps links heads → key ≡ chain_of p → n ≡ length ps + 1 → count ≡ times ps p → ((q : Placed) → chain_of q ≡ key → Leads ps (length ps) q earlier) → AreLinked (ps ++ p ∷ []) (links ++ record { count = count + 1; earlier = earlier } ∷ []) (set heads key n)
+linked-more ps links heads p key n count earlier old same long counted leads =
+    rw (same, long)
+    (linked-pushed ps links heads p (record { count = count + 1; earlier = earlier }) old (ap (λ (k : ℕ). k + 1) counted)
+    (λ q e. leads q (e ∙ sym same)))
 
-pub linked-same : (ps : List Placed) (links : List Link) (m n : BTreeMap ℕ ℕ) → n.entries ≡ m.entries → AreLinked ps links m → AreLinked ps links n
-linked-same ps links m n e old = record {
-  long = old.long;
-  each = old.each;
+-- with no position each chain is empty
+pub none-linked : (heads : List ℕ) (n : ℕ) → n ≡ 4096 → heads ≡ replicate n 0 → AreLinked [] [] heads
+none-linked heads n wide all = record {
+  long = refl;
+  wide = rw all (length-replicate n 0) ∙ wide;
+  each = λ i p link at beside. cc;
   found = λ q.
-      let same : get nat_cmp n (stamp_of q) ≡ get nat_cmp m (stamp_of q) = rw e refl in
-      subst (λ (o : Option ℕ). Leads ps (length ps) q (unwrap_or o 0)) (sym same) (old.found q);
+      let none : get_or heads (chain_of q) 0 ≡ 0 = rw all (get_or-replicate n (chain_of q) 0 0 (rw wide (chain-low q))) in
+      record { low = omega (arith, none); all = rw none refl; chain = λ i p e at. cc };
 }
 
 pub stamp-none : (cells : Cells) → 0 ≡ stamp_before cells 0

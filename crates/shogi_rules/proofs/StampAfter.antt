@@ -1,8 +1,9 @@
 -- The stamp after a move, from that before it.
-use Rattle.std.proofs.Common.{◌≡◌, ◌≢◌, ℕ, zero, suc, ◌+◌, ◌*◌, ◌<◌, ◌≤◌, inl, inr, Option, Some, None, length, set, get_or, arith, refl, ap, sym, ◌∙◌, subst, length-set, get_or-set_same, get_or-set_other}
+use Rattle.std.proofs.Common.{◌≡◌, ◌≢◌, ℕ, zero, suc, ◌+◌, ◌-◌, ◌*◌, ◌<◌, ◌≤◌, inl, inr, Option, Some, None, length, set, get_or, arith, refl, ap, ◌∙◌, subst, get_or-set_same, get_or-set_other}
 use Rattle.std.proofs.lemmas.Bool.{cases_lt}
 use Rattle.std.proofs.lemmas.Nat.{mul-le}
 use Rattle.shogi_board.specs.Cells.{Cells, at, piece}
+use Rattle.shogi_board.specs.Pieces.{opponent}
 use Rattle.shogi_board.specs.Placed.{Placed}
 use Rattle.shogi_board.specs.Sound.{IsSound}
 use Rattle.shogi_board.specs.Squares.{place}
@@ -12,7 +13,7 @@ use Rattle.shogi_board.specs.declared.kind.Kind.{Kind}
 use Rattle.shogi_board.specs.declared.kind.Piece.{Piece}
 use Rattle.shogi_board.specs.declared.square.Square.{Square}
 use Rattle.shogi_board.proofs.Squares.{place-bound}
-use Rattle.shogi_rules.specs.After.{after, board_after}
+use Rattle.shogi_rules.specs.After.{after}
 use Rattle.shogi_rules.specs.Legal.{FitsBoard, kind_after, target}
 use Rattle.shogi_rules.specs.Stamps.{color_mark, mark, stamp_of, stamp_before}
 use Rattle.shogi_rules.specs.declared.moves.Move.{Move}
@@ -46,10 +47,10 @@ set-past cells i (suc n) c low h =
           omega (arith, new, old, before)
     ]
 
-pub put-stamp : (p : Placed) (to : Square) (k : Kind) → IsSound p → stamp_of (after p (Put to k)) + mark (place to) (at p.board to) ≡ stamp_of p + mark (place to) (piece p.side k)
+pub put-stamp : (p : Placed) (to : Square) (k : Kind) → IsSound p → stamp_before (after p (Put to k)).board 81 + mark (place to) (at p.board to) ≡ stamp_before p.board 81 + mark (place to) (piece p.side k)
 put-stamp p to k sound = set-past p.board (place to) 81 (piece p.side k) (on-board p to sound) (place-bound to)
 
-pub walk-stamp : (p : Placed) (from to : Square) (k : Kind) → IsSound p → FitsBoard p (Walk from to k) → stamp_of (after p (Walk from to k)) + mark (place to) (at p.board to) + mark (place from) (at p.board from) ≡ stamp_of p + mark (place to) (piece p.side k)
+pub walk-stamp : (p : Placed) (from to : Square) (k : Kind) → IsSound p → FitsBoard p (Walk from to k) → stamp_before (after p (Walk from to k)).board 81 + mark (place to) (at p.board to) + mark (place from) (at p.board from) ≡ stamp_before p.board 81 + mark (place to) (piece p.side k)
 walk-stamp p from to k sound fits =
     let lifted = set p.board (place from) None in
     let one : stamp_before lifted 81 + mark (place from) (get_or p.board (place from) None) ≡ stamp_before p.board 81 + 0 = set-past p.board (place from) 81 None (on-board p from sound) (place-bound from) in
@@ -76,23 +77,26 @@ stamp-low cells (suc n) h =
     let more = mark-low n (get_or cells n None) (omega (arith, h)) in
     omega (arith, before, more)
 
-pub whole-low : (p : Placed) → stamp_of p ≤ 2125764
-whole-low p = stamp-low p.board 81 (omega arith)
+pub whole-low : (p : Placed) → stamp_of p ≤ 2125766
+whole-low p =
+    let low = stamp-low p.board 81 (omega arith) in
+    let side = color-low p.side in
+    omega (arith, low, side)
 
 -- what the code adds and takes away
-pub walk-sum : (p : Placed) (m : Move) (from to : Square) (k : Kind) (stamp there new left : ℕ) → m ≡ Walk from to k → IsSound p → FitsBoard p m → stamp ≡ stamp_of p → there ≡ mark (place (target m)) (at p.board (target m)) → new ≡ mark (place (target m)) (piece p.side (kind_after m)) → left ≡ mark (place from) (at p.board from) → stamp_of (after p m) + there + left ≡ stamp + new
-walk-sum p m from to k stamp there new left e sound fits s t n l =
+pub walk-sum : (p : Placed) (m : Move) (from to : Square) (k : Kind) (stamp was now there new left : ℕ) → m ≡ Walk from to k → IsSound p → FitsBoard p m → stamp ≡ stamp_of p → was ≡ color_mark p.side → now ≡ color_mark (opponent p.side) → there ≡ mark (place (target m)) (at p.board (target m)) → new ≡ mark (place (target m)) (piece p.side (kind_after m)) → left ≡ mark (place from) (at p.board from) → stamp_of (after p m) + there + left ≡ stamp - was + now + new
+walk-sum p m from to k stamp was now there new left e sound fits s w o t n l =
     let fits_walk : FitsBoard p (Walk from to k) = subst (λ (x : Move). FitsBoard p x) e fits in
     let t2 : there ≡ mark (place to) (at p.board to) = t ∙ ap (λ (x : Move). mark (place (target x)) (at p.board (target x))) e in
     let n2 : new ≡ mark (place to) (piece p.side k) = n ∙ ap (λ (x : Move). mark (place (target x)) (piece p.side (kind_after x))) e in
     let a : stamp_of (after p m) ≡ stamp_of (after p (Walk from to k)) = ap (λ (x : Move). stamp_of (after p x)) e in
     let sum = walk-stamp p from to k sound fits_walk in
-    omega (arith, sum, t2, n2, a, s, l)
+    omega (arith, sum, t2, n2, a, s, w, o, l)
 
-pub put-sum : (p : Placed) (m : Move) (to : Square) (k : Kind) (stamp there new : ℕ) → m ≡ Put to k → IsSound p → stamp ≡ stamp_of p → there ≡ mark (place (target m)) (at p.board (target m)) → new ≡ mark (place (target m)) (piece p.side (kind_after m)) → stamp_of (after p m) + there ≡ stamp + new
-put-sum p m to k stamp there new e sound s t n =
+pub put-sum : (p : Placed) (m : Move) (to : Square) (k : Kind) (stamp was now there new : ℕ) → m ≡ Put to k → IsSound p → stamp ≡ stamp_of p → was ≡ color_mark p.side → now ≡ color_mark (opponent p.side) → there ≡ mark (place (target m)) (at p.board (target m)) → new ≡ mark (place (target m)) (piece p.side (kind_after m)) → stamp_of (after p m) + there ≡ stamp - was + now + new
+put-sum p m to k stamp was now there new e sound s w o t n =
     let t2 : there ≡ mark (place to) (at p.board to) = t ∙ ap (λ (x : Move). mark (place (target x)) (at p.board (target x))) e in
     let n2 : new ≡ mark (place to) (piece p.side k) = n ∙ ap (λ (x : Move). mark (place (target x)) (piece p.side (kind_after x))) e in
     let a : stamp_of (after p m) ≡ stamp_of (after p (Put to k)) = ap (λ (x : Move). stamp_of (after p x)) e in
     let sum = put-stamp p to k sound in
-    omega (arith, sum, t2, n2, a, s)
+    omega (arith, sum, t2, n2, a, s, w, o)

@@ -98,7 +98,7 @@ impl Line {
         ensures { IfOk result (λ l. l ≡ record { start = start; moves = [] }) }
     {
         let side = start.side();
-        let mut seen = Seen::new(alloc);
+        let mut seen = Seen::new(alloc)?;
         let stamp = stamp(&start);
         let repeats = seen.push(&start, stamp)?;
         Ok(Line {

@@ -1,18 +1,21 @@
-ghost use Rattle.std.specs.Prelude.{◌≡◌, ◌++◌, ◌<◌, ◌≤◌, [], ◌∷◌, OnOk, OnErr, IfOk, length};
+ghost use Rattle.std.specs.Prelude.{◌≡◌, ◌++◌, ◌%◌, ◌<◌, ◌≤◌, [], ◌∷◌, OnOk, OnErr, IfOk, length};
 ghost use Rattle.shogi_board.specs.Placed.{Placed};
 ghost use Rattle.shogi_board.specs.Squares.{place};
 ghost use Rattle.shogi_rules.specs.After.{after};
 ghost use Rattle.shogi_rules.specs.Legal.{FitsBoard};
 ghost use Rattle.shogi_rules.specs.Repetition.{times};
-ghost use Rattle.shogi_rules.specs.Stamps.{color_mark, mark, stamp_of, Leads};
+ghost use Rattle.shogi_rules.specs.Stamps.{color_mark, mark, stamp_of, chain_of, Leads};
 
 use crate::moves::Move;
 use shogi_board::{Color, Piece, Position, Square};
 use std::alloc::{AllocError, Global};
-use std::collections::BTreeMap;
 use std::marker::Model;
+use std::slice;
 
-// A number that equal positions share: who holds each square.
+// How many chains there are.
+const CHAINS: usize = 4096;
+
+// A number that equal positions share: who holds each square, and who is to move.
 pub(crate) fn stamp(position: &Position) -> u64
     ensures { result ≡ stamp_of position.now }
 {
@@ -21,7 +24,7 @@ pub(crate) fn stamp(position: &Position) -> u64
     for n in 0..81usize {
         stamp += mark(n, cells[n]);
     }
-    stamp
+    stamp + color_mark(position.side())
 }
 
 // What the cell at that place adds to a stamp.
@@ -57,7 +60,8 @@ pub(crate) fn stamp_after(stamp: u64, position: &Position, mv: &Move) -> u64
     let kind = mv.kind();
     let to = mv.target();
     let there = mark(place_of(to), position.piece_at(to));
-    let landed = stamp + mark(place_of(to), Some(Piece { color, kind }));
+    let turned = stamp - color_mark(color) + color_mark(color.opponent());
+    let landed = turned + mark(place_of(to), Some(Piece { color, kind }));
     match *mv {
         Move::Walk { from, .. } => {
             let left = mark(place_of(from), position.piece_at(from));
@@ -77,7 +81,15 @@ fn color_mark(color: Color) -> u64
     }
 }
 
-// How often a position stands up to its own place, and how many stand up to the one before it that has its stamp, or 0.
+// Which chain a position with that stamp stands in.
+fn chain_of(stamp: u64) -> usize
+    ensures value { result ≡ stamp % 4096 }
+    ensures bound { result < 4096 }
+{
+    stamp as usize % CHAINS
+}
+
+// How often a position stands up to its own place, and how many stand up to the one before it in its chain, or 0.
 #[derive(Clone, Copy)]
 struct Link {
     count: u32,
@@ -90,8 +102,8 @@ pub(crate) struct Seen {
     positions: Vec<Position>,
     // one for each position
     links: Vec<Link>,
-    // how many positions stand up to the last of each stamp
-    latest: BTreeMap<u64, usize>,
+    // how many positions stand up to the last of each chain
+    heads: Vec<u16>,
 }
 
 impl Model for Seen {
@@ -103,18 +115,18 @@ impl Model for Seen {
 
     ghost view = { λ s. s.positions.items };
 
-    ghost invariant = { λ s. AreLinked s.positions.items s.links.items s.latest };
+    ghost invariant = { λ s. AreLinked s.positions.items s.links.items s.heads.items };
 }
 
 impl Seen {
-    pub(crate) fn new(alloc: Global) -> Seen
-        ensures { result ≡ [] }
+    pub(crate) fn new(alloc: Global) -> Result<Seen, AllocError>
+        ensures { IfOk result (λ s. s ≡ []) }
     {
-        Seen {
+        Ok(Seen {
             positions: Vec::new(alloc),
             links: Vec::new(alloc),
-            latest: BTreeMap::new(alloc),
-        }
+            heads: vec![in alloc; 0u16; CHAINS]?,
+        })
     }
 
     pub(crate) fn positions(&self) -> &[Position]
@@ -123,14 +135,15 @@ impl Seen {
         self.positions.as_slice()
     }
 
-    // How many positions stand up to the last that has the stamp, or 0.
-    fn latest(&self, stamp: u64) -> usize
-        ensures { (q : Placed) → stamp_of q ≡ stamp → Leads self.now (length self.now) q result }
+    // How many positions stand up to the last of the chain, or 0.
+    fn latest(&self, chain: usize) -> usize
+        requires { chain < 4096 }
+        ensures { (q : Placed) → chain_of q ≡ chain → Leads self.now (length self.now) q result }
     {
-        self.latest.get(&stamp).copied().unwrap_or(0)
+        self.heads[chain] as usize
     }
 
-    // How often the position stands, by the positions of its stamp from the latest back.
+    // How often the position stands, by the positions of its chain from the latest back.
     fn count(&self, latest: usize, position: &Position) -> u32
         requires { Leads self.now (length self.now) position.now latest }
         ensures { result ≡ times self.now position.now }
@@ -154,13 +167,13 @@ impl Seen {
         ensures ok { OnOk result (self.new ≡ self.old ++ position.now ∷ []) }
         ensures err { OnErr result (self.new ≡ self.old) }
     {
-        let earlier = self.latest(stamp);
+        let chain = chain_of(stamp);
+        let earlier = self.latest(chain);
         let count = self.count(earlier, position) + 1;
-        self.positions.reserve(1)?;
         self.links.reserve(1)?;
-        self.latest.insert(stamp, self.positions.len() + 1)?;
-        self.positions.push(*position).unwrap();
+        self.positions.extend_from_slice(slice::from_ref(position))?;
         self.links.push(Link { count, earlier }).unwrap();
+        self.heads[chain] = self.positions.len() as u16;
         Ok(count)
     }
 }

@@ -1,4 +1,4 @@
-use Rattle.std.proofs.Common.{◌≡◌, IsTrue, true, refl, ◌∙◌}
+use Rattle.std.proofs.Common.{◌≡◌, ◌∙◌}
 use Rattle.shogi_board.specs.Pieces.{opponent}
 use Rattle.shogi_rules.proofs.Broken.{settled-safe, settled-unsafe, settled-is}
 use Rattle.shogi_rules.proofs.MovedKings.{settled-king}

@@ -1,7 +1,5 @@
 use Rattle.std.proofs.Common.{◌≡◌, ◌<◌, None, length, ap, ◌∙◌, sym, subst, inl, refl}
-use Rattle.shogi_board.specs.Placed.{Placed}
 use Rattle.shogi_rules.specs.After.{after}
-use Rattle.shogi_rules.specs.LineKings.{AreKings}
 use Rattle.shogi_rules.specs.Positions.{now_of, all_of, position_after, Played}
 use Rattle.shogi_rules.specs.Rules.{Kept, all_rules, IsFirstBroken}
 use Rattle.shogi_rules.specs.Stamps.{stamp_of}

@@ -18,7 +18,7 @@ returns-then-eq c =
     let long = i.links.items in
     let beside = slice_get_read long (length ps) (n - 1) c.index-link.result.now (sym c.self.invariant.long) low c.index-link.ensures in
     let same = sym (eq-same p q) ∙ (sym c.eq.ensures ∙ c.if-eq.true) in
-    rw (sym c.self.view_is) (walk-ends ps long i.latest q p c.index-link.result.now n (n - 1) c.self.invariant led (omega (arith, c.loop-n-test.true)) at beside same)
+    rw (sym c.self.view_is) (walk-ends ps long i.heads.items q p c.index-link.result.now n (n - 1) c.self.invariant led (omega (arith, c.loop-n-test.true)) at beside same)
 
 pub loop-n-smaller : goal.loop-n-smaller
 loop-n-smaller c =
@@ -31,7 +31,7 @@ loop-n-smaller c =
     let low : n - 1 < length ps = omega (arith, led.low, c.loop-n-test.true) in
     let at = slice_get_read ps (length ps) (n - 1) p refl low c.index.ensures in
     let beside = slice_get_read i.links.items (length ps) (n - 1) c.index-link.result.now (sym c.self.invariant.long) low c.index-link.ensures in
-    walk-less ps i.links.items i.latest q p c.index-link.result.now n (n - 1) c.self.invariant led (omega (arith, c.loop-n-test.true)) at beside
+    walk-less ps i.links.items i.heads.items q p c.index-link.result.now n (n - 1) c.self.invariant led (omega (arith, c.loop-n-test.true)) at beside
 
 pub loop-n-preserved : goal.loop-n-preserved
 loop-n-preserved c =
@@ -45,4 +45,4 @@ loop-n-preserved c =
     let at = slice_get_read ps (length ps) (n - 1) p refl low c.index.ensures in
     let beside = slice_get_read i.links.items (length ps) (n - 1) c.index-link.result.now (sym c.self.invariant.long) low c.index-link.ensures in
     let other = sym (eq-same p q) ∙ (sym c.eq.ensures ∙ c.if-eq.false) in
-    rw (sym c.self.view_is) (walk-on ps i.links.items i.latest q p c.index-link.result.now n (n - 1) c.self.invariant led (omega (arith, c.loop-n-test.true)) at beside other)
+    rw (sym c.self.view_is) (walk-on ps i.links.items i.heads.items q p c.index-link.result.now n (n - 1) c.self.invariant led (omega (arith, c.loop-n-test.true)) at beside other)

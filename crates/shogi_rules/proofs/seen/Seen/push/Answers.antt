@@ -2,16 +2,10 @@ use Rattle.std.proofs.Common.{◌≡◌, ◌+◌, List, [], ◌∷◌, ◌++◌,
 use Rattle.std.proofs.lemmas.Grind.{common_steps}
 use Rattle.shogi_board.specs.Placed.{Placed}
 use Rattle.shogi_rules.specs.Repetition.{times}
-use Rattle.shogi_rules.specs.Stamps.{Leads, stamp_of}
+use Rattle.shogi_rules.specs.Stamps.{Leads, chain_of}
 use Rattle.shogi_rules.specs.declared.seen.Link.{Link}
-use Rattle.shogi_rules.proofs.Counted.{linked-more, linked-same, times-last}
+use Rattle.shogi_rules.proofs.Counted.{linked-more, times-last}
 use Rattle.shogi_rules.proofs.seen.Seen.push.Goals as goal
-
-pub invariant_of-self-in_err-insert : goal.invariant_of-self-in_err-insert
-invariant_of-self-in_err-insert c =
-    let i = c.self.inside in
-    rw (c.reserve.ensures.items, c.reserve-2.ensures.items)
-    (linked-same i.positions.items i.links.items i.latest c.insert.new.self c.in_err-insert.ensures.err c.self.invariant)
 
 pub invariant_of-self-2 : goal.invariant_of-self-2
 invariant_of-self-2 c =
@@ -21,18 +15,19 @@ invariant_of-self-2 c =
     let count = c.count-count.result in
     let earlier = c.latest-earlier.result in
     let link : Link = record { count = count + 1; earlier = earlier } in
-    let pushed : c.push.new.self.items ≡ ps ++ p ∷ [] = grind (arith, common_steps) in
-    let beside : c.push-2.new.self.items ≡ i.links.items ++ link ∷ [] = grind (arith, common_steps) in
+    let pushed : c.extend_from_slice.new.self.items ≡ ps ++ p ∷ [] = grind (arith, common_steps) in
+    let beside : c.push.new.self.items ≡ i.links.items ++ link ∷ [] = grind (arith, common_steps) in
     let counted : count ≡ times ps p = rw (sym c.self.view_is) at c.count-count.ensures in
-    let leads : (q : Placed) → stamp_of q ≡ c.args.stamp → Leads ps (length ps) q earlier = rw (sym c.self.view_is) at c.latest-earlier.ensures in
-    let long : c.len.result ≡ length ps = grind (arith, common_steps) in
+    let leads : (q : Placed) → chain_of q ≡ c.chain_of-chain.result → Leads ps (length ps) q earlier = rw (sym c.self.view_is) at c.latest-earlier.ensures in
+    let long : c.len.result ≡ length ps + 1 = grind (arith, common_steps) in
+    let same : c.chain_of-chain.result ≡ chain_of p = rw c.requires.stamp at c.chain_of-chain.ensures.value in
     rw (pushed, beside)
-    (linked-more ps i.links.items i.latest c.insert.new.self p c.args.stamp c.len.result count earlier c.self.invariant c.requires.stamp long counted leads c.in_ok-insert.ensures.updates.0)
+    (linked-more ps i.links.items i.heads.items p c.chain_of-chain.result c.len.result count earlier c.self.invariant same long counted leads)
 
 pub returns-clause-value : goal.returns-clause-value
 returns-clause-value c =
     let p = c.args.position.now in
     let ps : List Placed = c.self.inside.positions.items in
-    let pushed : c.push.new.self.items ≡ ps ++ p ∷ [] = grind (arith, common_steps) in
+    let pushed : c.extend_from_slice.new.self.items ≡ ps ++ p ∷ [] = grind (arith, common_steps) in
     let counted : c.count-count.result ≡ times ps p = rw (sym c.self.view_is) at c.count-count.ensures in
     rw (pushed, counted) (sym (times-last ps p))
