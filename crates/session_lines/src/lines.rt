@@ -1,4 +1,4 @@
-ghost use Rattle.std.specs.Prelude.{◌≡◌, ◌∷◌, [], ◌++◌, IfOk, OnOk};
+ghost use Rattle.std.specs.Prelude.{◌≡◌, ◌∷◌, [], ◌++◌, IfOk, OnErr, OnOk, take};
 ghost use Rattle.session_lines.specs.Texts.{ended_line, text_of, with_time};
 
 use crate::texts;
@@ -7,7 +7,7 @@ use shogi_board::OutOfMemory;
 use std::alloc::Global;
 use std::marker::Model;
 
-/// Lines to send, LF behind each.
+/// Lines to send, LF behind each. A call that is refused for want of memory leaves them as they were.
 #[derive(Drop)]
 pub struct Lines {
     bytes: Vec<u8>,
@@ -42,40 +42,53 @@ impl Lines {
 
     /// Adds a line, which has no line end.
     pub fn push(&mut self, line: &[u8]) -> Result<(), OutOfMemory>
-        ensures { OnOk result (self.new ≡ self.old ++ ended_line line.now) }
+        ensures added { OnOk result (self.new ≡ self.old ++ ended_line line.now) }
+        ensures unchanged { OnErr result (self.new ≡ self.old) }
     {
-        self.push_part(line)?;
-        self.end_line()
+        self.bytes.reserve(line.len() + 1)?;
+        self.bytes.extend_from_slice(line).unwrap();
+        self.bytes.push(b'\n').unwrap();
+        Ok(())
     }
 
     /// Adds two lines.
     pub fn push_two(&mut self, first: &[u8], second: &[u8]) -> Result<(), OutOfMemory>
-        ensures { OnOk result (self.new ≡ self.old ++ text_of (first.now ∷ second.now ∷ [])) }
+        ensures added { OnOk result (self.new ≡ self.old ++ text_of (first.now ∷ second.now ∷ [])) }
+        ensures unchanged { OnErr result (self.new ≡ self.old) }
     {
+        let before = self.bytes.len();
         self.push(first)?;
-        self.push(second)
+        let added = self.push(second);
+        self.keep(before, added)
     }
 
     /// Adds a line of two parts.
     pub fn push_joined(&mut self, front: &[u8], back: &[u8]) -> Result<(), OutOfMemory>
-        ensures { OnOk result (self.new ≡ self.old ++ ended_line (front.now ++ back.now)) }
+        ensures added { OnOk result (self.new ≡ self.old ++ ended_line (front.now ++ back.now)) }
+        ensures unchanged { OnErr result (self.new ≡ self.old) }
     {
+        let before = self.bytes.len();
         self.push_part(front)?;
-        self.push(back)
+        let added = self.push(back);
+        self.keep(before, added)
     }
 
     /// Adds the text, `,T` and the seconds, as a line.
     pub fn push_timed(&mut self, text: &[u8], seconds: u32) -> Result<(), OutOfMemory>
-        ensures { OnOk result (self.new ≡ self.old ++ ended_line (with_time text.now seconds)) }
+        ensures added { OnOk result (self.new ≡ self.old ++ ended_line (with_time text.now seconds)) }
+        ensures unchanged { OnErr result (self.new ≡ self.old) }
     {
         let mut buffer = Buffer::new();
+        let before = self.bytes.len();
         self.push_part(text)?;
-        self.push_joined(texts::TIME, buffer.format(seconds).as_bytes())
+        let added = self.push_joined(texts::TIME, buffer.format(seconds).as_bytes());
+        self.keep(before, added)
     }
 
     /// Adds a part of a line.
     pub fn push_part(&mut self, part: &[u8]) -> Result<(), OutOfMemory>
-        ensures { OnOk result (self.new ≡ self.old ++ part.now) }
+        ensures added { OnOk result (self.new ≡ self.old ++ part.now) }
+        ensures unchanged { OnErr result (self.new ≡ self.old) }
     {
         self.bytes.extend_from_slice(part)?;
         Ok(())
@@ -83,10 +96,23 @@ impl Lines {
 
     /// Ends the line.
     pub fn end_line(&mut self) -> Result<(), OutOfMemory>
-        ensures { OnOk result (self.new ≡ self.old ++ 10 ∷ []) }
+        ensures added { OnOk result (self.new ≡ self.old ++ 10 ∷ []) }
+        ensures unchanged { OnErr result (self.new ≡ self.old) }
     {
         self.bytes.push(b'\n')?;
         Ok(())
+    }
+
+    // Keeps what was added; where it was refused, goes back to that many bytes.
+    fn keep(&mut self, before: usize, added: Result<(), OutOfMemory>) -> Result<(), OutOfMemory>
+        ensures same { result ≡ added }
+        ensures added { OnOk added (self.new ≡ self.old) }
+        ensures refused { OnErr added (self.new ≡ take before self.old) }
+    {
+        if added.is_err() {
+            self.bytes.truncate(before);
+        }
+        added
     }
 
     /// The bytes to send.

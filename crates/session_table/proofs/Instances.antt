@@ -30,10 +30,10 @@ use Rattle.session_table.specs.Row as row
 use Rattle.session_lines.specs.ServerLines.{TellsTimed}
 use Rattle.session_table.specs.State.{move, playing, sent, line_of, with_move}
 
-abbrev from : Square
+abbrev pub from : Square
 from = record { file = 7; rank = 7; on_board = (lit≤ tt, lit≤ tt, lit≤ tt, lit≤ tt) }
 
-abbrev to : Square
+abbrev pub to : Square
 to = record { file = 7; rank = 6; on_board = (lit≤ tt, lit≤ tt, lit≤ tt, lit≤ tt) }
 
 abbrev far : Square
@@ -42,7 +42,7 @@ far = record { file = 3; rank = 3; on_board = (lit≤ tt, lit≤ tt, lit≤ tt, 
 abbrev near : Square
 near = record { file = 3; rank = 4; on_board = (lit≤ tt, lit≤ tt, lit≤ tt, lit≤ tt) }
 
-abbrev opening : Timed
+abbrev pub opening : Timed
 opening = pawn_step from to
 
 -- 1. the lines
@@ -94,6 +94,10 @@ no_check cells color h check =
     let a : no_king (at cells check.0) ≡ true = none_at cells (place check.0) h in
     let b : no_king (at cells check.0) ≡ false = ap no_king check.1 in
     cc
+
+pub start_safe : (color : Color) → InCheck pawn_start.board color → ⊥
+unfolding no_king
+start_safe color = no_check pawn_start.board color refl
 
 reaches : ReachesTarget pawn_start opening.move
 reaches = record { mover = record { color = Black; kind = Pawn }; stands = refl; moves = inl (0, _, omega arith, refl, (refl, refl)) }

@@ -13,3 +13,4 @@ pub mod RowOnce
 mod SentRight
 mod Testing
 pub mod Tied
+mod WholeLog

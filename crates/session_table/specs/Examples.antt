@@ -1,5 +1,5 @@
--- Three lines of a server and one of an engine in a game that begins with one pawn on the board.
-use Rattle.std.specs.Prelude.{false, [], None, slice_set}
+-- A game that begins with one pawn on the board: lines of its server and of its engine, and the events up to its first move.
+use Rattle.std.specs.Prelude.{false, List, [], ◌∷◌, None, codes, slice_set}
 use Rattle.shogi_board.specs.declared.color.Color.TheVariants.{Black}
 use Rattle.shogi_board.specs.declared.kind.Kind.TheVariants.{Pawn}
 use Rattle.shogi_board.specs.declared.square.Square.{Square}
@@ -10,6 +10,7 @@ use Rattle.shogi_rules.specs.declared.moves.Move.TheVariants.{Walk}
 use Rattle.csa_record.specs.Game.{Game, Timed}
 use Rattle.session_table.specs.declared.event.Status.TheVariants.{Going}
 use Rattle.session_table.specs.declared.state.EngineState.TheVariants.{Ready, Thinking}
+use Rattle.session_table.specs.Events.{Event, begin, engine_line, server_line}
 use Rattle.session_table.specs.State.{Match, Client, State}
 
 -- a black pawn on 77, black to move
@@ -34,3 +35,21 @@ ready client = record { engine = Ready; client = client; status = Going }
 -- the engine thinks, and the client is in that state
 abbrev pub thinking : Client → State
 thinking client = record { engine = Thinking; client = client; status = Going }
+
+-- what a bridge hears that is offered the game as black, up to its engine's move
+abbrev pub pawn_events : List Event
+pawn_events =
+    begin
+    ∷ engine_line (codes "usiok")
+    ∷ engine_line (codes "readyok")
+    ∷ server_line (codes "LOGIN:x OK")
+    ∷ server_line (codes "BEGIN Game_Summary")
+    ∷ server_line (codes "Your_Turn:+")
+    ∷ server_line (codes "BEGIN Position")
+    ∷ server_line (codes "P+77FU")
+    ∷ server_line (codes "+")
+    ∷ server_line (codes "END Position")
+    ∷ server_line (codes "END Game_Summary")
+    ∷ server_line (codes "START:x")
+    ∷ engine_line (codes "bestmove 7g7f")
+    ∷ []

@@ -21,6 +21,9 @@ pub record Step : Type 0 where
   pub out : Out
   pub status : Status
 
+abbrev pub event_in : Step → Event
+event_in step = step.event
+
 -- calls of step one after another, each a row, from New on
 pub data Leads (c : Config) : List Step → State → Type 0 where
   new : Leads c [] first_state

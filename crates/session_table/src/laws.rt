@@ -1,6 +1,6 @@
 //! Laws of the table of a bridge, over one step and over every log. They take and give nothing.
 
-ghost use Rattle.std.specs.Prelude.{◌≡◌, ◌↔◌, ◌⊎◌, ◌++◌, ◌∷◌, [], ℕ, List, true, false, None, codes};
+ghost use Rattle.std.specs.Prelude.{◌≡◌, ◌↔◌, ◌⊎◌, ◌++◌, ◌∷◌, [], ℕ, List, true, false, None, codes, map};
 ghost use Rattle.std.specs.List.{AllByRecursion, list_any};
 ghost use Rattle.csa_record.specs.Game.{Game};
 ghost use Rattle.csa_record.specs.Items.{AtMostOne};
@@ -14,11 +14,11 @@ ghost use Rattle.record_game.specs.declared.fault.Why.TheVariants.{Rule};
 ghost use Rattle.shogi_rules.specs.declared.rule.Rule.TheVariants.{WrongSide};
 ghost use Rattle.shogi_board.specs.declared.square.Square.{Square};
 ghost use Rattle.session_table.specs.Events.{Event, Out, engine_line, no_lines, server, server_line};
-ghost use Rattle.session_table.specs.Examples.{pawn_match, pawn_step, ready, thinking};
+ghost use Rattle.session_table.specs.Examples.{pawn_events, pawn_match, pawn_step, ready, thinking};
 ghost use Rattle.session_table.specs.GameTold.{game_of};
 ghost use Rattle.session_table.specs.Hearing.{heard_after};
 ghost use Rattle.session_lines.specs.LineTexts as texts;
-ghost use Rattle.session_table.specs.Logs.{Confirmed, GameOf, Leads, Moved, Step, TellsGame, counted, is_answer, is_sound, sends};
+ghost use Rattle.session_table.specs.Logs.{Confirmed, GameOf, Leads, Moved, Step, TellsGame, answers, counted, event_in, is_answer, is_sound, sends};
 ghost use Rattle.session_table.specs.Promises.{KeepsGame, Session, StepRow, Steps};
 ghost use Rattle.session_table.specs.Row.{Row, failed};
 ghost use Rattle.session_table.specs.Sending.{AskedRight, IsAnswered, OwnSent, is_position_line};
@@ -125,4 +125,12 @@ pub fn moves_instanced()
         (failed (ready (playing pawn_match)) (BadServerMove Unsent)) }
     ensures refused { (c : Config) → Row c (ready (playing pawn_match)) (server_line (codes "-3334FU")) no_lines
         (failed (ready (playing pawn_match)) (BadServerMove (Refused (Rule WrongSide)))) }
+{}
+
+/// There is a log with an answer: a bridge that is offered that game as black, is asked and hears
+/// `bestmove 7g7f` has sent `+7776FU` and no other answer.
+pub fn log_instanced()
+    ensures { (c : Config) (from to : Square) → from.file ≡ 7 → from.rank ≡ 7 → to.file ≡ 7 → to.rank ≡ 6
+        → (log : List Step) × (map event_in log ≡ pawn_events) × (answers log ≡ codes "+7776FU" ∷ [])
+        × Leads c log (ready (sent pawn_match (move (pawn_step from to).move))) }
 {}

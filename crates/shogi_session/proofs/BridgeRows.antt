@@ -45,11 +45,11 @@ text_none s x at h k = no_game (ap game_of at ∙ nothing_told x h k)
 
 -- 2. step
 -- the game that is kept does not hang on the status after it
-lost_game : (c : Config) (engine engine_after : EngineState) (client client_after : Client) (e : Event)
+lost_game : (c : Config) (engine engine_after : EngineState) (client client_after : Client) (z : Status) (e : Event)
     → KeepsGame c (going engine client) e (going engine_after client_after)
-    → KeepsGame c (going engine client) e (record { engine = engine_after; client = client_after; status = Lost })
-lost_game c engine engine_after client client_after e (before h) = before h
-lost_game c engine engine_after client client_after e (after out u row h) = after out u row h
+    → KeepsGame c (going engine client) e (record { engine = engine_after; client = client_after; status = z })
+lost_game c engine engine_after client client_after z e (before h) = before h
+lost_game c engine engine_after client client_after z e (after out u row h) = after out u row h
 
 abbrev session : Config → EngineState → Client → Status → Session
 session c engine client status = record { config = c; state = record { engine = engine; client = client; status = status } }
@@ -76,20 +76,12 @@ pub server_told : (c : Config) (s t : State) (e : Event) (o out : Out) (text : L
     → Row c s e out t → text ≡ text_of out.to_server
 server_told c s t e o out text row is other = is ∙ ap (λ (x : Out). text_of x.to_server) (row_once c s t t e o out row other).0
 
--- a step that answers OutOfMemory, whole
-pub record Loses (old : Session) (e : Event) (new : Session) : Type 0 where
-  pub going : old.state.status ≡ Going
-  pub config : new.config ≡ old.config
-  pub status : new.state.status ≡ Lost
-  pub states : SameStates old.state new.state
-  pub slip : slip_of new.state.client ≡ slip_of old.state.client
-  pub game : KeepsGame old.config old.state (trimmed e) new.state
-
-pub lost : (c : Config) (engine engine_after : EngineState) (client client_after : Client) (z : Status) (old new : Session) (e : Event)
-    → old ≡ session c engine client z → z ≡ Going → new ≡ session c engine_after client_after Lost
-    → Stays c engine client (trimmed e) engine_after client_after → Loses old e new
-lost c engine engine_after client client_after z old new e was goes is h =
+-- where memory is refused
+pub lost : (c : Config) (engine engine_after : EngineState) (client client_after : Client) (z z_after : Status) (old new : Session) (e : Event)
+    → old ≡ session c engine client z → z ≡ Going → new ≡ session c engine_after client_after z_after
+    → Stays c engine client (trimmed e) engine_after client_after → KeepsGame old.config old.state (trimmed e) new.state
+lost c engine engine_after client client_after z z_after old new e was goes is h =
     let at : old ≡ session c engine client Going = was ∙ ap (session c engine client) goes in
-    subst (λ (x : Session). Loses x e new) (sym at)
-    (subst (λ (x : Session). Loses (session c engine client Going) e x) (sym is)
-    (record { going = refl; config = refl; status = refl; states = (h.engine_stays, h.client_stays); slip = h.slip_stays; game = lost_game c engine engine_after client client_after (trimmed e) h.game }))
+    subst (λ (x : Session). KeepsGame x.config x.state (trimmed e) new.state) (sym at)
+    (subst (λ (x : Session). KeepsGame c (going engine client) (trimmed e) x.state) (sym is)
+    (lost_game c engine engine_after client client_after z_after (trimmed e) h.game))

@@ -9,7 +9,7 @@ use Rattle.record_game.proofs.Fits.{time_fits}
 use Rattle.record_game.specs.declared.fault.Why.{Why}
 use Rattle.csa_record.specs.Building.{course_of, with_course}
 use Rattle.csa_record.specs.Course as course
-use Rattle.csa_record.specs.Course.{untimed, awaits, with_last_time, with_time, time_fault, close_fault, with_ending}
+use Rattle.csa_record.specs.Course.{untimed, awaits, with_last_time, with_time, time_fault}
 use Rattle.csa_record.specs.Game.{Game, Timed, Ended}
 use Rattle.csa_record.specs.Says.{time_items}
 use Rattle.csa_record.specs.Tells.{IsSpelt}

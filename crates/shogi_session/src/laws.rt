@@ -15,8 +15,8 @@ pub use session_peers::laws::{
     host_game, host_row_once, host_step_whole, sample_row_once, sample_step_whole,
 };
 pub use session_table::laws::{
-    asked_right, asking_has_a_position, confirmed_once, game_told, moves_instanced, row_once,
-    sent_legal, sent_once, step_whole, summary_line_once, thinking_may_ask,
+    asked_right, asking_has_a_position, confirmed_once, game_told, log_instanced, moves_instanced,
+    row_once, sent_legal, sent_once, step_whole, summary_line_once, thinking_may_ask,
 };
 
 /// Where the lines that a bridge heard from its server, less the spaces at their end, are the first

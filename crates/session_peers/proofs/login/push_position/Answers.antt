@@ -4,6 +4,6 @@ use Rattle.session_peers.proofs.login.push_position.Goals as goal
 
 pub returns : goal.returns
 returns c =
-    on_ok c.push.result _ _ _ c.push.ensures
-    (rw (c.in_ok-push_two-2.ensures, c.in_ok-push_two.ensures)
+    on_ok c.push.result _ _ _ c.push.ensures.added
+    (rw (c.in_ok-push_two-2.ensures.added, c.in_ok-push_two.ensures.added)
     (five_lines c.args.lines.now texts.begin_position texts.even_start texts.black texts.end_position texts.end_summary))

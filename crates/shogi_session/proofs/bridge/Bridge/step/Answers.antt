@@ -34,5 +34,4 @@ returns-in-Ok-clause-to_server c = λ out row.
 
 pub returns-in-Err-clause-game : goal.returns-in-Err-clause-game
 returns-in-Err-clause-game c =
-    let l = lost _ _ _ _ _ _ _ _ (event_of c.args.event) (sym c.self.view_is) (c.is_going.ensures.0 c.if-not-is_going.false) refl c.in-Err.ensures.answer in
-    l.game
+    lost _ _ _ _ _ _ _ _ _ (event_of c.args.event) (sym c.self.view_is) (c.is_going.ensures.0 c.if-not-is_going.false) refl c.in-Err.ensures.answer
