@@ -85,14 +85,23 @@ fn count_behind(pieces: &mut PieceCutter, piece: &[u8]) -> Option<u64> {
         return None;
     }
     let used = pieces.step(piece).ok()?.used;
-    if used == piece.len() { Some(pieces.statements()) } else { None }
+    if used == piece.len() {
+        Some(pieces.statements())
+    } else {
+        None
+    }
 }
 
 // A comment is no statement, and neither is one that is not closed yet.
 #[test]
 fn counts_statements(rt: HostRuntime) {
     let mut pieces = PieceCutter::new();
-    for (piece, statements) in [(b"PI\n".as_slice(), 1), (b"'x\n", 1), (b"+77", 1), (b"76FU,", 2)] {
+    for (piece, statements) in [
+        (b"PI\n".as_slice(), 1),
+        (b"'x\n", 1),
+        (b"+77", 1),
+        (b"76FU,", 2),
+    ] {
         assert!(rt; count_behind(&mut pieces, piece) == Some(statements));
     }
 }
