@@ -1,5 +1,6 @@
 -- The words of the commands.
 use Rattle.std.specs.Prelude.{◌≢◌, ℕ, List, [], ◌∷◌, Option, Some, codes}
+use Rattle.clap.specs.Words.{App, new_app, new_rule, with_rule}
 use Rattle.shogi_words.specs.declared.request.Request.{Request}
 use Rattle.shogi_words.specs.declared.request.Request.TheVariants.{Check, Normal, Usi, Csa, Engine, Serve, Play}
 
@@ -20,3 +21,7 @@ word_of (Csa file) = codes "csa"
 word_of Engine = codes "engine"
 word_of (Serve service) = codes "serve"
 word_of (Play game) = codes "play"
+
+-- a command of that name whose one word is FILE, which may be absent
+abbrev pub takes_file : List ℕ → App
+takes_file name = with_rule (new_app name) (new_rule (codes "FILE"))

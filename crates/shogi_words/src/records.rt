@@ -1,7 +1,8 @@
 //! The commands that read FILE alone, and `engine`, which has no words.
 
 ghost use Rattle.std.specs.Prelude.{◌≡◌, IfOk, codes};
-ghost use Rattle.clap.specs.Words.{app_of};
+ghost use Rattle.clap.specs.Words.{app_of, new_app};
+ghost use Rattle.shogi_words.specs.Words.{takes_file};
 
 use crate::words;
 use clap::Command;
@@ -29,6 +30,7 @@ const LINE: &str = "The line; without it, or with -, standard input is read";
 /// `shogi check [FILE]`: whether a record is accepted, how many moves it has, and how it stands.
 pub fn check<'a>(alloc: Global) -> Result<Command<'a>, AllocError>
     ensures name { IfOk result (λ c. (app_of c).top.name ≡ codes "check") }
+    ensures word { IfOk result (λ c. app_of c ≡ takes_file (codes "check")) }
 {
     words::command(
         alloc,
@@ -42,6 +44,7 @@ pub fn check<'a>(alloc: Global) -> Result<Command<'a>, AllocError>
 /// `shogi normal [FILE]`: the canonical text of a record.
 pub fn normal<'a>(alloc: Global) -> Result<Command<'a>, AllocError>
     ensures name { IfOk result (λ c. (app_of c).top.name ≡ codes "normal") }
+    ensures word { IfOk result (λ c. app_of c ≡ takes_file (codes "normal")) }
 {
     words::command(
         alloc,
@@ -55,6 +58,7 @@ pub fn normal<'a>(alloc: Global) -> Result<Command<'a>, AllocError>
 /// `shogi usi [FILE]`: the USI position line of a record.
 pub fn usi<'a>(alloc: Global) -> Result<Command<'a>, AllocError>
     ensures name { IfOk result (λ c. (app_of c).top.name ≡ codes "usi") }
+    ensures word { IfOk result (λ c. app_of c ≡ takes_file (codes "usi")) }
 {
     words::command(
         alloc,
@@ -68,6 +72,7 @@ pub fn usi<'a>(alloc: Global) -> Result<Command<'a>, AllocError>
 /// `shogi csa [FILE]`: the canonical text of a USI position line.
 pub fn csa<'a>(alloc: Global) -> Result<Command<'a>, AllocError>
     ensures name { IfOk result (λ c. (app_of c).top.name ≡ codes "csa") }
+    ensures word { IfOk result (λ c. app_of c ≡ takes_file (codes "csa")) }
 {
     words::command(
         alloc,
@@ -81,6 +86,7 @@ pub fn csa<'a>(alloc: Global) -> Result<Command<'a>, AllocError>
 /// `shogi engine`: a USI engine on standard input and output, which plays the first legal move.
 pub fn engine<'a>(alloc: Global) -> Command<'a>
     ensures name { (app_of result).top.name ≡ codes "engine" }
+    ensures no_words { app_of result ≡ new_app (codes "engine") }
 {
     words::named(
         alloc,

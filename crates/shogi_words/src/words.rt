@@ -1,7 +1,8 @@
 //! What the commands that read FILE have in common.
 
 ghost use Rattle.std.specs.Prelude.{◌≡◌, IfOk, codes, option_map};
-ghost use Rattle.clap.specs.Words.{app_of, first_value, found_of};
+ghost use Rattle.clap.specs.Words.{app_of, first_value, found_of, new_app};
+ghost use Rattle.shogi_words.specs.Words.{takes_file};
 
 use clap::{Arg, ArgMatches, Command};
 use std::alloc::{AllocError, Global};
@@ -9,6 +10,7 @@ use std::alloc::{AllocError, Global};
 /// A command of that name: what it is, and an example of it.
 pub fn named<'a>(alloc: Global, name: &'a str, about: &'a str, example: &'a str) -> Command<'a>
     ensures name { (app_of result).top.name ≡ name.now }
+    ensures no_words { app_of result ≡ new_app name.now }
 {
     Command::new(alloc, name).about(about).after_help(example)
 }
@@ -22,6 +24,7 @@ pub fn command<'a>(
     help: &'a str,
 ) -> Result<Command<'a>, AllocError>
     ensures name { IfOk result (λ c. (app_of c).top.name ≡ name.now) }
+    ensures word { IfOk result (λ c. app_of c ≡ takes_file name.now) }
 {
     named(alloc, name, about, example).arg(Arg::new(alloc, "FILE").help(help))
 }
