@@ -73,8 +73,8 @@ fn make_if_safe(position: &Position, king: Option<Square>, mv: &Move, next: &mut
     ensures value { result ≡ true → next.new ≡ after position.now mv.now }
 {
     let other = position.side().opponent();
-    let setup = &mut position.setup();
-    make(setup, position, mv);
+    let mut setup = position.setup();
+    make(&mut setup, position, mv);
     setup.settle(other, king_after(king, mv), next)
 }
 

@@ -1,7 +1,5 @@
 use Rattle.std.proofs.Common.{◌≡◌, ap}
-use Rattle.shogi_board.specs.Cells.{Cells, at, piece}
 use Rattle.shogi_board.specs.Layout.{Layout}
-use Rattle.shogi_board.specs.declared.kind.Kind.TheVariants.{King}
 use Rattle.shogi_board.proofs.Check.{king-check-in}
 use Rattle.shogi_board.proofs.setup.Setup.attacks_king.Goals as goal
 

@@ -1,5 +1,4 @@
-use Rattle.std.proofs.Common.{◌≡◌, false, true, ap, refl, sym}
-use Rattle.shogi_board.specs.Cells.{Cells}
+use Rattle.std.proofs.Common.{◌≡◌, false, ap, refl, sym}
 use Rattle.shogi_board.specs.Layout.{Layout}
 use Rattle.shogi_board.specs.Pieces.{opponent}
 use Rattle.shogi_board.specs.Reach.{InCheck}
