@@ -4,100 +4,36 @@ ghost use Rattle.shogi_board.specs.Cells.{even_cells};
 use crate::color::Color;
 use crate::kind::{Kind, Piece};
 
-const EMPTY: Option<Piece> = None;
+macro_rules! black {
+    ($kind:ident) => {
+        Some(Piece {
+            color: Color::Black,
+            kind: Kind::$kind,
+        })
+    };
+}
 
-const BLACK_PAWN: Option<Piece> = Some(Piece {
-    color: Color::Black,
-    kind: Kind::Pawn,
-});
-
-const BLACK_LANCE: Option<Piece> = Some(Piece {
-    color: Color::Black,
-    kind: Kind::Lance,
-});
-
-const BLACK_KNIGHT: Option<Piece> = Some(Piece {
-    color: Color::Black,
-    kind: Kind::Knight,
-});
-
-const BLACK_SILVER: Option<Piece> = Some(Piece {
-    color: Color::Black,
-    kind: Kind::Silver,
-});
-
-const BLACK_GOLD: Option<Piece> = Some(Piece {
-    color: Color::Black,
-    kind: Kind::Gold,
-});
-
-const BLACK_BISHOP: Option<Piece> = Some(Piece {
-    color: Color::Black,
-    kind: Kind::Bishop,
-});
-
-const BLACK_ROOK: Option<Piece> = Some(Piece {
-    color: Color::Black,
-    kind: Kind::Rook,
-});
-
-const BLACK_KING: Option<Piece> = Some(Piece {
-    color: Color::Black,
-    kind: Kind::King,
-});
-
-const WHITE_PAWN: Option<Piece> = Some(Piece {
-    color: Color::White,
-    kind: Kind::Pawn,
-});
-
-const WHITE_LANCE: Option<Piece> = Some(Piece {
-    color: Color::White,
-    kind: Kind::Lance,
-});
-
-const WHITE_KNIGHT: Option<Piece> = Some(Piece {
-    color: Color::White,
-    kind: Kind::Knight,
-});
-
-const WHITE_SILVER: Option<Piece> = Some(Piece {
-    color: Color::White,
-    kind: Kind::Silver,
-});
-
-const WHITE_GOLD: Option<Piece> = Some(Piece {
-    color: Color::White,
-    kind: Kind::Gold,
-});
-
-const WHITE_BISHOP: Option<Piece> = Some(Piece {
-    color: Color::White,
-    kind: Kind::Bishop,
-});
-
-const WHITE_ROOK: Option<Piece> = Some(Piece {
-    color: Color::White,
-    kind: Kind::Rook,
-});
-
-const WHITE_KING: Option<Piece> = Some(Piece {
-    color: Color::White,
-    kind: Kind::King,
-});
+macro_rules! white {
+    ($kind:ident) => {
+        Some(Piece {
+            color: Color::White,
+            kind: Kind::$kind,
+        })
+    };
+}
 
 // The even board, a file in each row of nine.
 #[rattlefmt::skip]
 static EVEN: [Option<Piece>; 81] = [
-    WHITE_LANCE, EMPTY, WHITE_PAWN, EMPTY, EMPTY, EMPTY, BLACK_PAWN, EMPTY, BLACK_LANCE,
-    WHITE_KNIGHT, WHITE_BISHOP, WHITE_PAWN, EMPTY, EMPTY, EMPTY, BLACK_PAWN, BLACK_ROOK, BLACK_KNIGHT,
-    WHITE_SILVER, EMPTY, WHITE_PAWN, EMPTY, EMPTY, EMPTY, BLACK_PAWN, EMPTY, BLACK_SILVER,
-    WHITE_GOLD, EMPTY, WHITE_PAWN, EMPTY, EMPTY, EMPTY, BLACK_PAWN, EMPTY, BLACK_GOLD,
-    WHITE_KING, EMPTY, WHITE_PAWN, EMPTY, EMPTY, EMPTY, BLACK_PAWN, EMPTY, BLACK_KING,
-    WHITE_GOLD, EMPTY, WHITE_PAWN, EMPTY, EMPTY, EMPTY, BLACK_PAWN, EMPTY, BLACK_GOLD,
-    WHITE_SILVER, EMPTY, WHITE_PAWN, EMPTY, EMPTY, EMPTY, BLACK_PAWN, EMPTY, BLACK_SILVER,
-    WHITE_KNIGHT, WHITE_ROOK, WHITE_PAWN, EMPTY, EMPTY, EMPTY, BLACK_PAWN, BLACK_BISHOP, BLACK_KNIGHT,
-    WHITE_LANCE, EMPTY, WHITE_PAWN, EMPTY, EMPTY, EMPTY, BLACK_PAWN, EMPTY, BLACK_LANCE,
+    white!(Lance), None, white!(Pawn), None, None, None, black!(Pawn), None, black!(Lance),
+    white!(Knight), white!(Bishop), white!(Pawn), None, None, None, black!(Pawn), black!(Rook), black!(Knight),
+    white!(Silver), None, white!(Pawn), None, None, None, black!(Pawn), None, black!(Silver),
+    white!(Gold), None, white!(Pawn), None, None, None, black!(Pawn), None, black!(Gold),
+    white!(King), None, white!(Pawn), None, None, None, black!(Pawn), None, black!(King),
+    white!(Gold), None, white!(Pawn), None, None, None, black!(Pawn), None, black!(Gold),
+    white!(Silver), None, white!(Pawn), None, None, None, black!(Pawn), None, black!(Silver),
+    white!(Knight), white!(Rook), white!(Pawn), None, None, None, black!(Pawn), black!(Bishop), black!(Knight),
+    white!(Lance), None, white!(Pawn), None, None, None, black!(Pawn), None, black!(Lance),
 ];
 
 // What stands on each square of the even board.

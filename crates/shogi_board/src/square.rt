@@ -44,16 +44,16 @@ impl Square {
         self.rank
     }
 
-    // Its place in the order of the squares.
-    pub(crate) fn place(self) -> usize
+    /// Its place in the order of the squares, from 0 to 80.
+    pub fn place(self) -> usize
         ensures value { result ≡ place self }
         ensures bound { result < 81 }
     {
         (self.file as usize - 1) * 9 + (self.rank as usize - 1)
     }
 
-    // The square at a place in the order of the squares.
-    pub(crate) fn at_place(n: usize) -> Square
+    /// The square at that place in the order of the squares, from 0 to 80.
+    pub fn at_place(n: usize) -> Square
         requires { n < 81 }
         ensures { place result ≡ n }
     {

@@ -42,14 +42,6 @@ fn mark(place: usize, cell: Option<Piece>) -> u64
     }
 }
 
-// The place of a square in the order of the squares.
-fn place_of(square: Square) -> usize
-    ensures value { result ≡ place square }
-    ensures bound { result < 81 }
-{
-    (square.file() as usize - 1) * 9 + (square.rank() as usize - 1)
-}
-
 // The stamp after a move that fits the board of a position with that stamp.
 pub(crate) fn stamp_after(stamp: u64, position: &Position, mv: &Move) -> u64
     requires fits { FitsBoard position.now mv.now }
@@ -59,12 +51,12 @@ pub(crate) fn stamp_after(stamp: u64, position: &Position, mv: &Move) -> u64
     let color = position.side();
     let kind = mv.kind();
     let to = mv.target();
-    let there = mark(place_of(to), position.piece_at(to));
+    let there = mark(to.place(), position.piece_at(to));
     let turned = stamp - color_mark(color) + color_mark(color.opponent());
-    let landed = turned + mark(place_of(to), Some(Piece { color, kind }));
+    let landed = turned + mark(to.place(), Some(Piece { color, kind }));
     match *mv {
         Move::Walk { from, .. } => {
-            let left = mark(place_of(from), position.piece_at(from));
+            let left = mark(from.place(), position.piece_at(from));
             landed - there - left
         }
         Move::Put { .. } => landed - there,

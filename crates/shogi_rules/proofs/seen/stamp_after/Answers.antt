@@ -34,9 +34,9 @@ overflow_sub-result c =
     let p = c.args.position.now in
     let was : c.color_mark.result ≡ color_mark p.side = rw c.side-color.ensures.value at c.color_mark.ensures.value in
     let now : c.color_mark-2.result ≡ color_mark (opponent p.side) = rw (c.opponent.ensures, c.side-color.ensures.value) at c.color_mark-2.ensures.value in
-    let there : c.mark-there.result ≡ mark (place (target c.args.mv.now)) (at p.board (target c.args.mv.now)) = rw (c.place_of.ensures.value, c.piece_at.ensures, c.target-to.ensures) at c.mark-there.ensures.value in
-    let new : c.mark.result ≡ mark (place (target c.args.mv.now)) (piece p.side (kind_after c.args.mv.now)) = rw (c.place_of-2.ensures.value, c.target-to.ensures, c.side-color.ensures.value) at c.mark.ensures.value in
-    let left : c.mark-left.result ≡ mark (place c.in-Walk.from) (at p.board c.in-Walk.from) = rw (c.place_of-in-Walk.ensures.value, c.piece_at-in-Walk.ensures) at c.mark-left.ensures.value in
+    let there : c.mark-there.result ≡ mark (place (target c.args.mv.now)) (at p.board (target c.args.mv.now)) = rw (c.place.ensures.value, c.piece_at.ensures, c.target-to.ensures) at c.mark-there.ensures.value in
+    let new : c.mark.result ≡ mark (place (target c.args.mv.now)) (piece p.side (kind_after c.args.mv.now)) = rw (c.place-2.ensures.value, c.target-to.ensures, c.side-color.ensures.value) at c.mark.ensures.value in
+    let left : c.mark-left.result ≡ mark (place c.in-Walk.from) (at p.board c.in-Walk.from) = rw (c.place-in-Walk.ensures.value, c.piece_at-in-Walk.ensures) at c.mark-left.ensures.value in
     let sum = walk-sum p c.args.mv.now c.in-Walk.from c.in-Walk.to c.in-Walk.kind c.args.stamp c.color_mark.result c.color_mark-2.result c.mark-there.result c.mark.result c.mark-left.result c.in-Walk.is c.side-color.ensures.sound c.requires.fits c.requires.stamp was now there new left in
     omega (arith, sum)
 
@@ -45,9 +45,9 @@ overflow_sub-result-in-Walk c =
     let p = c.args.position.now in
     let was : c.color_mark.result ≡ color_mark p.side = rw c.side-color.ensures.value at c.color_mark.ensures.value in
     let now : c.color_mark-2.result ≡ color_mark (opponent p.side) = rw (c.opponent.ensures, c.side-color.ensures.value) at c.color_mark-2.ensures.value in
-    let there : c.mark-there.result ≡ mark (place (target c.args.mv.now)) (at p.board (target c.args.mv.now)) = rw (c.place_of.ensures.value, c.piece_at.ensures, c.target-to.ensures) at c.mark-there.ensures.value in
-    let new : c.mark.result ≡ mark (place (target c.args.mv.now)) (piece p.side (kind_after c.args.mv.now)) = rw (c.place_of-2.ensures.value, c.target-to.ensures, c.side-color.ensures.value) at c.mark.ensures.value in
-    let left : c.mark-left.result ≡ mark (place c.in-Walk.from) (at p.board c.in-Walk.from) = rw (c.place_of-in-Walk.ensures.value, c.piece_at-in-Walk.ensures) at c.mark-left.ensures.value in
+    let there : c.mark-there.result ≡ mark (place (target c.args.mv.now)) (at p.board (target c.args.mv.now)) = rw (c.place.ensures.value, c.piece_at.ensures, c.target-to.ensures) at c.mark-there.ensures.value in
+    let new : c.mark.result ≡ mark (place (target c.args.mv.now)) (piece p.side (kind_after c.args.mv.now)) = rw (c.place-2.ensures.value, c.target-to.ensures, c.side-color.ensures.value) at c.mark.ensures.value in
+    let left : c.mark-left.result ≡ mark (place c.in-Walk.from) (at p.board c.in-Walk.from) = rw (c.place-in-Walk.ensures.value, c.piece_at-in-Walk.ensures) at c.mark-left.ensures.value in
     let sum = walk-sum p c.args.mv.now c.in-Walk.from c.in-Walk.to c.in-Walk.kind c.args.stamp c.color_mark.result c.color_mark-2.result c.mark-there.result c.mark.result c.mark-left.result c.in-Walk.is c.side-color.ensures.sound c.requires.fits c.requires.stamp was now there new left in
     omega (arith, sum)
 
@@ -56,9 +56,9 @@ returns-in-Walk c =
     let p = c.args.position.now in
     let was : c.color_mark.result ≡ color_mark p.side = rw c.side-color.ensures.value at c.color_mark.ensures.value in
     let now : c.color_mark-2.result ≡ color_mark (opponent p.side) = rw (c.opponent.ensures, c.side-color.ensures.value) at c.color_mark-2.ensures.value in
-    let there : c.mark-there.result ≡ mark (place (target c.args.mv.now)) (at p.board (target c.args.mv.now)) = rw (c.place_of.ensures.value, c.piece_at.ensures, c.target-to.ensures) at c.mark-there.ensures.value in
-    let new : c.mark.result ≡ mark (place (target c.args.mv.now)) (piece p.side (kind_after c.args.mv.now)) = rw (c.place_of-2.ensures.value, c.target-to.ensures, c.side-color.ensures.value) at c.mark.ensures.value in
-    let left : c.mark-left.result ≡ mark (place c.in-Walk.from) (at p.board c.in-Walk.from) = rw (c.place_of-in-Walk.ensures.value, c.piece_at-in-Walk.ensures) at c.mark-left.ensures.value in
+    let there : c.mark-there.result ≡ mark (place (target c.args.mv.now)) (at p.board (target c.args.mv.now)) = rw (c.place.ensures.value, c.piece_at.ensures, c.target-to.ensures) at c.mark-there.ensures.value in
+    let new : c.mark.result ≡ mark (place (target c.args.mv.now)) (piece p.side (kind_after c.args.mv.now)) = rw (c.place-2.ensures.value, c.target-to.ensures, c.side-color.ensures.value) at c.mark.ensures.value in
+    let left : c.mark-left.result ≡ mark (place c.in-Walk.from) (at p.board c.in-Walk.from) = rw (c.place-in-Walk.ensures.value, c.piece_at-in-Walk.ensures) at c.mark-left.ensures.value in
     let sum = walk-sum p c.args.mv.now c.in-Walk.from c.in-Walk.to c.in-Walk.kind c.args.stamp c.color_mark.result c.color_mark-2.result c.mark-there.result c.mark.result c.mark-left.result c.in-Walk.is c.side-color.ensures.sound c.requires.fits c.requires.stamp was now there new left in
     omega (arith, sum)
 
@@ -67,7 +67,7 @@ returns-in-Put c =
     let p = c.args.position.now in
     let was : c.color_mark.result ≡ color_mark p.side = rw c.side-color.ensures.value at c.color_mark.ensures.value in
     let now : c.color_mark-2.result ≡ color_mark (opponent p.side) = rw (c.opponent.ensures, c.side-color.ensures.value) at c.color_mark-2.ensures.value in
-    let there : c.mark-there.result ≡ mark (place (target c.args.mv.now)) (at p.board (target c.args.mv.now)) = rw (c.place_of.ensures.value, c.piece_at.ensures, c.target-to.ensures) at c.mark-there.ensures.value in
-    let new : c.mark.result ≡ mark (place (target c.args.mv.now)) (piece p.side (kind_after c.args.mv.now)) = rw (c.place_of-2.ensures.value, c.target-to.ensures, c.side-color.ensures.value) at c.mark.ensures.value in
+    let there : c.mark-there.result ≡ mark (place (target c.args.mv.now)) (at p.board (target c.args.mv.now)) = rw (c.place.ensures.value, c.piece_at.ensures, c.target-to.ensures) at c.mark-there.ensures.value in
+    let new : c.mark.result ≡ mark (place (target c.args.mv.now)) (piece p.side (kind_after c.args.mv.now)) = rw (c.place-2.ensures.value, c.target-to.ensures, c.side-color.ensures.value) at c.mark.ensures.value in
     let sum = put-sum p c.args.mv.now c.in-Put.to c.in-Put.kind c.args.stamp c.color_mark.result c.color_mark-2.result c.mark-there.result c.mark.result c.in-Put.is c.side-color.ensures.sound c.requires.stamp was now there new in
     omega (arith, sum)
