@@ -3,9 +3,9 @@ use Rattle.std.proofs.Common.{◌≡◌, ◌≢◌, ℕ, ◌+◌, ◌≤◌, Lis
 use Rattle.std.specs.List.{AllByRecursion, AllZip}
 use Rattle.std.proofs.lemmas.List.{append-nil, length-append, take-append-drop}
 use Rattle.std.proofs.Math.Seq.{take-length}
-use Rattle.csa_text.specs.Cut.{TextUnit, Cut, statement_bytes}
-use Rattle.csa_text.specs.Piecing.{Piecing, ToCome, Leads, is_closed, fresh}
-use Rattle.csa_text.specs.Stepping.{Stepped, Finished, IsNumbered}
+use Rattle.csa_text.specs.Cut.{TextUnit, IsCut, statement_bytes}
+use Rattle.csa_text.specs.PieceCutting.{PieceCutting, ToComeWith, Leads, is_closed, fresh}
+use Rattle.csa_text.specs.PieceSteps.{Stepped, Finished, IsNumbered}
 use Rattle.csa_text.specs.TooLong.{AreShort}
 use Rattle.shogi_board.specs.declared.color.Color.{Color}
 use Rattle.shogi_board.specs.declared.setup.SetupFault.{SetupFault}
@@ -35,7 +35,7 @@ use Rattle.record_game.specs.Tells.{IsSpelt}
 use Rattle.record_game.proofs.Units.{IsSomeUnit, kept_units, statements_are}
 
 -- what is to come exists
-to_come : (p : Piecing) (text : List ℕ) → (others : List TextUnit) × ToCome p text others
+to_come : (p : PieceCutting) (text : List ℕ) → (others : List TextUnit) × ToComeWith p text others
 to_come p text = found _ _
 
 -- one more without a fault
@@ -51,36 +51,36 @@ short_more [] u h k = (k, tt)
 short_more (v ∷ vs) u h k = (h.0, short_more vs u h.1 k)
 
 -- the cut of all bytes, whatever stands behind
-record Onward (source piece : List ℕ) (used : ℕ) (handed : List TextUnit) (unit : TextUnit) (q : Piecing) : Type 0 where
+record Onward (source piece : List ℕ) (used : ℕ) (handed : List TextUnit) (unit : TextUnit) (q : PieceCutting) : Type 0 where
   leads : Leads fresh (source ++ take used piece) (handed ++ unit ∷ []) q
-  cut : (more : List ℕ) → (others : List TextUnit) × Cut ((source ++ piece) ++ more) (handed ++ unit ∷ others)
+  cut : (more : List ℕ) → (others : List TextUnit) × IsCut ((source ++ piece) ++ more) (handed ++ unit ∷ others)
 
 taken_rest : (used : ℕ) (piece more : List ℕ) → take used piece ++ (drop used piece ++ more) ≡ piece ++ more
 taken_rest used piece more = sym (append_assoc (take used piece) (drop used piece) more) ∙ ap (λ xs. xs ++ more) (take-append-drop used piece)
 
-onward : (source piece : List ℕ) (used : ℕ) (handed : List TextUnit) (unit : TextUnit) (p q : Piecing) → Leads fresh source handed p → Leads p (take used piece) (unit ∷ []) q → Onward source piece used handed unit q
+onward : (source piece : List ℕ) (used : ℕ) (handed : List TextUnit) (unit : TextUnit) (p q : PieceCutting) → Leads fresh source handed p → Leads p (take used piece) (unit ∷ []) q → Onward source piece used handed unit q
 onward source piece used handed unit p q a b =
     let all = pieces_joined fresh p q source (take used piece) handed (unit ∷ []) a b in
     record {
       leads = all;
       cut = λ more.
           let rest = to_come q (drop used piece ++ more) in
-          let whole : Cut ((source ++ take used piece) ++ (drop used piece ++ more)) ((handed ++ unit ∷ []) ++ rest.0) = pieces_whole (source ++ take used piece) (drop used piece ++ more) (handed ++ unit ∷ []) rest.0 q all rest.1 in
+          let whole : IsCut ((source ++ take used piece) ++ (drop used piece ++ more)) ((handed ++ unit ∷ []) ++ rest.0) = pieces_whole (source ++ take used piece) (drop used piece ++ more) (handed ++ unit ∷ []) rest.0 q all rest.1 in
           let bytes : (source ++ take used piece) ++ (drop used piece ++ more) ≡ (source ++ piece) ++ more = append_assoc source (take used piece) (drop used piece ++ more) ∙ (ap (λ xs. source ++ xs) (taken_rest used piece more) ∙ sym (append_assoc source piece more)) in
-          (rest.0, subst (λ bs. Cut bs (handed ++ unit ∷ rest.0)) bytes (subst (Cut ((source ++ take used piece) ++ (drop used piece ++ more))) (append_assoc handed (unit ∷ []) rest.0) whole));
+          (rest.0, subst (λ bs. IsCut bs (handed ++ unit ∷ rest.0)) bytes (subst (IsCut ((source ++ take used piece) ++ (drop used piece ++ more))) (append_assoc handed (unit ∷ []) rest.0) whole));
     }
 
 of_unit : (count : ℕ) (u : TextUnit) (s : Statement) → IsSomeUnit u → IsNumbered count u s → IsOfStatement s.bytes.now
 of_unit count u s unit n = record { unit = u.bytes; behind = unit.0; is_unit = unit.1; short = n.short; whole = n.slice }
 
 -- what a step and the end hand out is the bytes of a statement
-pub statement_given : (p q : Piecing) (text : List ℕ) (u : TextUnit) (s : Statement) → IsNumbered p.number u s → Leads p text (u ∷ []) q → IsOfStatement s.bytes.now
+pub statement_given : (p q : PieceCutting) (text : List ℕ) (u : TextUnit) (s : Statement) → IsNumbered p.number u s → Leads p text (u ∷ []) q → IsOfStatement s.bytes.now
 statement_given p q text u s n leads =
     let closed = leads.closes in
     let units : AllByRecursion IsSomeUnit (u ∷ []) = subst (AllByRecursion IsSomeUnit) (sym closed.2) (kept_units (is_closed (p.fed + length text)) closed.0 (statements_are _ _ closed.0 closed.1)) in
     of_unit p.number u s units.0 n
 
-pub last_given : (p q : Piecing) (s : Statement) → Finished p (Ok (Some s)) q → IsOfStatement s.bytes.now
+pub last_given : (p q : PieceCutting) (s : Statement) → Finished p (Ok (Some s)) q → IsOfStatement s.bytes.now
 last_given p q s f =
     let units : AllByRecursion IsSomeUnit (f.1.0 ∷ []) = statements_are _ _ (f.1.0 ∷ []) f.1.2 in
     of_unit p.number f.1.0 s units.0 f.1.1
@@ -125,7 +125,7 @@ record IsNext (source : List ℕ) (handed : List TextUnit) (unit : TextUnit) (sa
   short : length unit.bytes ≤ 4096
   number_is : number ≡ length handed + 1
   behind : List TextUnit
-  cut : Cut source (handed ++ unit ∷ behind)
+  cut : IsCut source (handed ++ unit ∷ behind)
 
 refused_at : (source : List ℕ) (handed : List TextUnit) (unit : TextUnit) (sayings : List Saying) (r : Refusal) → IsNext source handed unit sayings r.number → r.offset ≡ unit.offset → Fault sayings unit r.why → Refused source r.number r.offset r.why
 refused_at source handed unit sayings r n place fault =
@@ -155,11 +155,11 @@ refused_next source handed unit sayings new r n place (inr (inr (s, spells, answ
     inl (never_memory sayings s r.why answers, refused_at source handed unit sayings r n place (inr (inr (s, (n.short, spells), answers))))
 
 -- how many statements the cutter has handed out
-count_of : (source : List ℕ) (handed : List TextUnit) (p : Piecing) → Leads fresh source handed p → p.number ≡ length handed
+count_of : (source : List ℕ) (handed : List TextUnit) (p : PieceCutting) → Leads fresh source handed p → p.number ≡ length handed
 count_of source handed p h = h.counted ∙ omega arith
 
 -- the cutter's next statement
-next_of : (source piece more : List ℕ) (used : ℕ) (p q : Piecing) (k : Kept) (unit : TextUnit) (s : Statement) (h : HasTaken source p k) → IsNumbered p.number unit s → Leads p (take used piece) (unit ∷ []) q → IsNext ((source ++ piece) ++ more) h.closed unit h.sayings s.number
+next_of : (source piece more : List ℕ) (used : ℕ) (p q : PieceCutting) (k : Kept) (unit : TextUnit) (s : Statement) (h : HasTaken source p k) → IsNumbered p.number unit s → Leads p (take used piece) (unit ∷ []) q → IsNext ((source ++ piece) ++ more) h.closed unit h.sayings s.number
 next_of source piece more used p q k unit s h n leads =
     let on = onward source piece used h.closed unit p q h.cut.0 leads in
     let cut = on.cut more in
@@ -171,7 +171,7 @@ next_of source piece more used p q k unit s h n leads =
       cut = cut.1;
     }
 
-pub statement_taken : (source piece : List ℕ) (used : ℕ) (p q : Piecing) (k new : Kept) (unit : TextUnit) (s : Statement) (h : HasTaken source p k) → IsNumbered p.number unit s → Leads p (take used piece) (unit ∷ []) q
+pub statement_taken : (source piece : List ℕ) (used : ℕ) (p q : PieceCutting) (k new : Kept) (unit : TextUnit) (s : Statement) (h : HasTaken source p k) → IsNumbered p.number unit s → Leads p (take used piece) (unit ∷ []) q
     → Outcome h.sayings s.bytes.now (Ok tt) new → HasTaken (source ++ take used piece) q new
 statement_taken source piece used p q k new unit s h n leads (saying, (spells, fine), keeps) =
     let spelt : Spells (statement_bytes unit.bytes) saying = subst (λ bs. Spells bs saying) n.slice spells in
@@ -183,7 +183,7 @@ statement_taken source piece used p q k new unit s h n leads (saying, (spells, f
       keeps = keeps;
     }
 
-pub statement_refused : (source piece more : List ℕ) (used : ℕ) (p q : Piecing) (k new : Kept) (unit : TextUnit) (s : Statement) (r : Refusal) (h : HasTaken source p k) → IsNumbered p.number unit s → Leads p (take used piece) (unit ∷ []) q
+pub statement_refused : (source piece more : List ℕ) (used : ℕ) (p q : PieceCutting) (k new : Kept) (unit : TextUnit) (s : Statement) (r : Refusal) (h : HasTaken source p k) → IsNumbered p.number unit s → Leads p (take used piece) (unit ∷ []) q
     → r.number ≡ s.number → r.offset ≡ s.offset → Outcome h.sayings s.bytes.now (Err r.why) new → IsRefusedBy ((source ++ piece) ++ more) r
 statement_refused source piece more used p q k new unit s r h n leads number_is place outcome =
     refused_next ((source ++ piece) ++ more) h.closed unit h.sayings new r
@@ -191,7 +191,7 @@ statement_refused source piece more used p q k new unit s r h n leads number_is 
     (subst (λ bs. Outcome h.sayings bs (Err r.why) new) n.slice outcome)
 
 -- no statement ends in the piece
-pub nothing_given : (source piece : List ℕ) (used : ℕ) (p q : Piecing) (k : Kept) → HasTaken source p k → used ≡ length piece → Leads p piece [] q → HasTaken (source ++ take used piece) q k
+pub nothing_given : (source piece : List ℕ) (used : ℕ) (p q : PieceCutting) (k : Kept) → HasTaken source p k → used ≡ length piece → Leads p piece [] q → HasTaken (source ++ take used piece) q k
 nothing_given source piece used p q k h whole leads =
     let all : take used piece ≡ piece = ap (λ n. take n piece) whole ∙ take-length piece in
     let on : Leads fresh (source ++ piece) (h.closed ++ []) q = pieces_joined fresh p q source piece h.closed [] h.cut.0 leads in
@@ -214,11 +214,11 @@ same_front (x ∷ xs) (y ∷ ys) us vs e n =
     let fewer : length xs ≡ length ys = omega (arith, n) in
     ap (λ z. z ∷ xs) first ∙ ap (λ zs. y ∷ zs) (same_front xs ys us vs rest fewer)
 
-pub long_refused : (source piece more : List ℕ) (p q : Piecing) (k : Kept) (fault : CutFault) (r : Refusal) → HasTaken source p k → Stepped p piece (Err fault) q → r ≡ record { number = fault.number; offset = fault.offset; why = Text StatementTooLong } → IsRefusedBy ((source ++ piece) ++ more) r
+pub long_refused : (source piece more : List ℕ) (p q : PieceCutting) (k : Kept) (fault : CutFault) (r : Refusal) → HasTaken source p k → Stepped p piece (Err fault) q → r ≡ record { number = fault.number; offset = fault.offset; why = Text StatementTooLong } → IsRefusedBy ((source ++ piece) ++ more) r
 long_refused source piece more p q k fault r h stepped is =
     let f = too_long_whole source piece more h.closed p q fault h.cut stepped in
     let rest = to_come p (piece ++ more) in
-    let cut : Cut ((source ++ piece) ++ more) (h.closed ++ rest.0) = subst (λ bs. Cut bs (h.closed ++ rest.0)) (sym (append_assoc source piece more)) (pieces_whole source (piece ++ more) h.closed rest.0 p h.cut.0 rest.1) in
+    let cut : IsCut ((source ++ piece) ++ more) (h.closed ++ rest.0) = subst (λ bs. IsCut bs (h.closed ++ rest.0)) (sym (append_assoc source piece more)) (pieces_whole source (piece ++ more) h.closed rest.0 p h.cut.0 rest.1) in
     let same : f.before ++ (f.unit ∷ f.others) ≡ h.closed ++ rest.0 = statements_once _ _ _ _ f.cut cut in
     let count : length f.before ≡ length h.closed = omega (arith, f.number_is, stepped.0, count_of source h.closed p h.cut.0) in
     let front = same_front f.before h.closed (f.unit ∷ f.others) rest.0 same count in
@@ -239,20 +239,20 @@ long_refused source piece more p q k fault r h stepped is =
     ))
 
 -- the end
-ends : (source : List ℕ) (handed last : List TextUnit) (p : Piecing) → Leads fresh source handed p → ToCome p [] last → Cut source (handed ++ last)
-ends source handed last p leads to = subst (λ bs. Cut bs (handed ++ last)) (append-nil source) (pieces_whole source [] handed last p leads to)
+ends : (source : List ℕ) (handed last : List TextUnit) (p : PieceCutting) → Leads fresh source handed p → ToComeWith p [] last → IsCut source (handed ++ last)
+ends source handed last p leads to = subst (λ bs. IsCut bs (handed ++ last)) (append-nil source) (pieces_whole source [] handed last p leads to)
 
-pub nothing_last : (source : List ℕ) (p q : Piecing) (k : Kept) → HasTaken source p k → Finished p (Ok None) q → HasAll source q k
+pub nothing_last : (source : List ℕ) (p q : PieceCutting) (k : Kept) → HasTaken source p k → Finished p (Ok None) q → HasAll source q k
 nothing_last source p q k h f = record {
   statements = h.closed;
   sayings = h.sayings;
-  cut = subst (Cut source) (append-nil h.closed) (ends source h.closed [] p h.cut.0 f.1.0);
+  cut = subst (IsCut source) (append-nil h.closed) (ends source h.closed [] p h.cut.0 f.1.0);
   faultless = h.faultless;
   keeps = h.keeps;
   counted = f.1.1 ∙ count_of source h.closed p h.cut.0;
 }
 
-last_next : (source : List ℕ) (p : Piecing) (k : Kept) (unit : TextUnit) (s : Statement) (h : HasTaken source p k) → IsNumbered p.number unit s → ToCome p [] (unit ∷ []) → IsNext source h.closed unit h.sayings s.number
+last_next : (source : List ℕ) (p : PieceCutting) (k : Kept) (unit : TextUnit) (s : Statement) (h : HasTaken source p k) → IsNumbered p.number unit s → ToComeWith p [] (unit ∷ []) → IsNext source h.closed unit h.sayings s.number
 last_next source p k unit s h n to = record {
   faultless = h.faultless;
   short = n.short;
@@ -264,7 +264,7 @@ last_next source p k unit s h n to = record {
 more_by_one : (us : List TextUnit) (u : TextUnit) → length (us ++ u ∷ []) ≡ length us + 1
 more_by_one us u = length-append us (u ∷ []) ∙ omega arith
 
-pub last_taken : (source : List ℕ) (p q : Piecing) (k new : Kept) (s : Statement) (h : HasTaken source p k) → Finished p (Ok (Some s)) q → Outcome h.sayings s.bytes.now (Ok tt) new → HasAll source q new
+pub last_taken : (source : List ℕ) (p q : PieceCutting) (k new : Kept) (s : Statement) (h : HasTaken source p k) → Finished p (Ok (Some s)) q → Outcome h.sayings s.bytes.now (Ok tt) new → HasAll source q new
 last_taken source p q k new s h f (saying, (spells, fine), keeps) =
     let unit = f.1.0 in
     let numbered = f.1.1 in
@@ -278,7 +278,7 @@ last_taken source p q k new s h f (saying, (spells, fine), keeps) =
       counted = f.1.3 ∙ (numbered.number_is ∙ (ap (λ c. c + 1) (count_of source h.closed p h.cut.0) ∙ sym (more_by_one h.closed unit)));
     }
 
-pub last_refused : (source : List ℕ) (p q : Piecing) (k new : Kept) (s : Statement) (r : Refusal) (h : HasTaken source p k) → Finished p (Ok (Some s)) q → r.number ≡ s.number → r.offset ≡ s.offset → Outcome h.sayings s.bytes.now (Err r.why) new → IsRefusedBy source r
+pub last_refused : (source : List ℕ) (p q : PieceCutting) (k new : Kept) (s : Statement) (r : Refusal) (h : HasTaken source p k) → Finished p (Ok (Some s)) q → r.number ≡ s.number → r.offset ≡ s.offset → Outcome h.sayings s.bytes.now (Err r.why) new → IsRefusedBy source r
 last_refused source p q k new s r h f number_is place outcome =
     let unit = f.1.0 in
     let numbered = f.1.1 in
@@ -286,7 +286,7 @@ last_refused source p q k new s r h f number_is place outcome =
     (subst (IsNext source h.closed unit h.sayings) (sym number_is) (last_next source p k unit s h numbered f.1.2)) (place ∙ numbered.place)
     (subst (λ bs. Outcome h.sayings bs (Err r.why) new) numbered.slice outcome)
 
-pub never_long_last : (source : List ℕ) (p q : Piecing) (k : Kept) (fault : CutFault) → HasTaken source p k → Finished p (Err fault) q → ⊥
+pub never_long_last : (source : List ℕ) (p q : PieceCutting) (k : Kept) (fault : CutFault) → HasTaken source p k → Finished p (Err fault) q → ⊥
 never_long_last source p q k fault h f = let e : None ≡ Some fault.offset = sym h.cut.0.going ∙ f.0 in cc
 
 -- statements without a fault are spelt
@@ -303,7 +303,7 @@ all_written (u ∷ us) [] h = absurd h
 all_written (u ∷ us) (s ∷ ss) h = ((statement_bytes u.bytes, h.0.1), all_written us ss h.1)
 
 -- as many bytes as were fed
-pub fed_length : (source : List ℕ) (p : Piecing) (k : Kept) → HasTaken source p k → p.fed ≡ length source
+pub fed_length : (source : List ℕ) (p : PieceCutting) (k : Kept) → HasTaken source p k → p.fed ≡ length source
 fed_length source p k h = h.cut.0.took ∙ omega arith
 
 -- nothing yet

@@ -4,8 +4,8 @@ use Rattle.std.specs.Prelude.{OnOk, IfErr}
 use Rattle.std.specs.List.{AllByRecursion}
 use Rattle.std.proofs.Math.Seq.{take-add, take-length}
 use Rattle.std.proofs.lemmas.List.{length-take-le, take-append-drop}
-use Rattle.csa_text.specs.Piecing.{Piecing}
-use Rattle.csa_text.specs.Stepping.{Stepped, Finished}
+use Rattle.csa_text.specs.PieceCutting.{PieceCutting}
+use Rattle.csa_text.specs.PieceSteps.{Stepped, Finished}
 use Rattle.csa_text.specs.Spelling.{Saying}
 use Rattle.csa_text.specs.declared.cutter.CutFault.{CutFault}
 use Rattle.csa_text.specs.declared.cutter.Statement.{Statement}
@@ -29,39 +29,39 @@ use Rattle.csa_record.proofs.Onward.{statement_given, statement_taken, statement
 abbrev pub RefusalOf : Statement → List Saying → Kept → Refusal → Type 0
 RefusalOf s before new r = (r.number ≡ s.number) × (r.offset ≡ s.offset) × Outcome before s.bytes.now (Err r.why) new
 
-pub last_of : (source : List ℕ) (p q : Piecing) (k new : Kept) (s : Statement) (result : Result (Unit {0}) Refusal) (h : HasTaken source p k) → Finished p (Ok (Some s)) q
+pub last_of : (source : List ℕ) (p q : PieceCutting) (k new : Kept) (s : Statement) (result : Result (Unit {0}) Refusal) (h : HasTaken source p k) → Finished p (Ok (Some s)) q
     → OnOk result (Outcome h.sayings s.bytes.now (Ok tt) new) → IfErr result (RefusalOf s h.sayings new) → LastTaken source result q new
 last_of source p q k new s (Ok u) h f taken refused = last_taken source p q k new s h f taken
 last_of source p q k new s (Err r) h f taken refused = last_refused source p q k new s r h f refused.0 refused.1 refused.2
 
-pub given : (p q : Piecing) (piece : List ℕ) (used : ℕ) (s : Statement) → Stepped p piece (Ok (record { used = used; statement = Some s })) q → IsOfStatement s.bytes.now
+pub given : (p q : PieceCutting) (piece : List ℕ) (used : ℕ) (s : Statement) → Stepped p piece (Ok (record { used = used; statement = Some s })) q → IsOfStatement s.bytes.now
 given p q piece used s f = let u = f.1 in statement_given p q (take used piece) u.0 s u.1 u.5
 
 -- a reader by its parts
-abbrev pub reading : Piecing → Kept → Option Failing → Reading
+abbrev pub reading : PieceCutting → Kept → Option Failing → Reading
 reading p k f = record { cutter = p; kept = k; failing = f }
 
-pub next_taken : (source piece : List ℕ) (used : ℕ) (p q : Piecing) (k new : Kept) (f : Option Failing) (s : Statement) (h : HasRead source (reading p k f)) → Stepped p piece (Ok (record { used = used; statement = Some s })) q
+pub next_taken : (source piece : List ℕ) (used : ℕ) (p q : PieceCutting) (k new : Kept) (f : Option Failing) (s : Statement) (h : HasRead source (reading p k f)) → Stepped p piece (Ok (record { used = used; statement = Some s })) q
     → Outcome h.taken.sayings s.bytes.now (Ok tt) new → HasRead (source ++ take used piece) (reading q new f)
 next_taken source piece used p q k new f s h step taken =
     let u = step.1 in
     record { going = h.going; taken = statement_taken source piece used p q k new u.0 s h.taken u.1 u.5 taken }
 
-pub next_refused : (source piece : List ℕ) (used : ℕ) (p q : Piecing) (k new : Kept) (f : Option Failing) (s : Statement) (r : Refusal) (h : HasRead source (reading p k f)) → Stepped p piece (Ok (record { used = used; statement = Some s })) q
+pub next_refused : (source piece : List ℕ) (used : ℕ) (p q : PieceCutting) (k new : Kept) (f : Option Failing) (s : Statement) (r : Refusal) (h : HasRead source (reading p k f)) → Stepped p piece (Ok (record { used = used; statement = Some s })) q
     → RefusalOf s h.taken.sayings new r → (more : List ℕ) → IsRefusedBy ((source ++ piece) ++ more) r
 next_refused source piece used p q k new f s r h step refused more =
     let u = step.1 in
     statement_refused source piece more used p q k new u.0 s r h.taken u.1 u.5 refused.0 refused.1 refused.2
 
-pub none_next : (source piece : List ℕ) (used : ℕ) (p q : Piecing) (k : Kept) (f : Option Failing) → HasRead source (reading p k f) → Stepped p piece (Ok (record { used = used; statement = None })) q → HasRead (source ++ take used piece) (reading q k f)
+pub none_next : (source piece : List ℕ) (used : ℕ) (p q : PieceCutting) (k : Kept) (f : Option Failing) → HasRead source (reading p k f) → Stepped p piece (Ok (record { used = used; statement = None })) q → HasRead (source ++ take used piece) (reading q k f)
 none_next source piece used p q k f h step = let u = step.1 in record { going = h.going; taken = nothing_given source piece used p q k h.taken u.0 u.1 }
 
-pub long_next : (source piece : List ℕ) (p q : Piecing) (k : Kept) (f : Option Failing) (fault : CutFault) (r : Refusal) → HasRead source (reading p k f) → Stepped p piece (Err fault) q → r ≡ record { number = fault.number; offset = fault.offset; why = Text StatementTooLong }
+pub long_next : (source piece : List ℕ) (p q : PieceCutting) (k : Kept) (f : Option Failing) (fault : CutFault) (r : Refusal) → HasRead source (reading p k f) → Stepped p piece (Err fault) q → r ≡ record { number = fault.number; offset = fault.offset; why = Text StatementTooLong }
     → (more : List ℕ) → IsRefusedBy ((source ++ piece) ++ more) r
 long_next source piece p q k f fault r h step is more = long_refused source piece more p q k fault r h.taken step is
 
 -- how far the cutter went
-pub went : (p q : Piecing) (piece : List ℕ) (cut : Cut) → 0 < length piece → Stepped p piece (Ok cut) q → (0 < cut.used) × (cut.used ≤ length piece) × (q.fed ≡ p.fed + cut.used)
+pub went : (p q : PieceCutting) (piece : List ℕ) (cut : Cut) → 0 < length piece → Stepped p piece (Ok cut) q → (0 < cut.used) × (cut.used ≤ length piece) × (q.fed ≡ p.fed + cut.used)
 went p q piece cut some f = by_statement cut.used cut.statement f
   where
     by_statement : (used : ℕ) (o : Option Statement) → Stepped p piece (Ok (record { used = used; statement = o })) q → (0 < used) × (used ≤ length piece) × (q.fed ≡ p.fed + used)
@@ -91,12 +91,12 @@ memory_of source r (inl h) is = absurd (h.0 is)
 memory_of source r (inr h) is = h.1
 
 -- the end, where all statements were taken
-pub told_of : (source : List ℕ) (p : Piecing) (k : Kept) (g : Game) → HasAll source p k → ((sayings : List Saying) → Keeps sayings k → AllByRecursion IsWritten sayings → Says sayings g) → Tells source g
+pub told_of : (source : List ℕ) (p : PieceCutting) (k : Kept) (g : Game) → HasAll source p k → ((sayings : List Saying) → Keeps sayings k → AllByRecursion IsWritten sayings → Says sayings g) → Tells source g
 told_of source p k g h says =
     let spelt = all_spelt [] h.statements h.sayings h.faultless in
     record { statements = h.statements; sayings = h.sayings; cut = h.cut; spelt = spelt; says = says h.sayings h.keeps (all_written h.statements h.sayings spelt) }
 
-pub missing_of : (source : List ℕ) (p q : Piecing) (k new : Kept) → HasTaken source p k → HasAll source q new → ((sayings : List Saying) → Keeps sayings new → AllByRecursion IsWritten sayings → sides sayings ≡ [])
+pub missing_of : (source : List ℕ) (p q : PieceCutting) (k new : Kept) → HasTaken source p k → HasAll source q new → ((sayings : List Saying) → Keeps sayings new → AllByRecursion IsWritten sayings → sides sayings ≡ [])
     → Refused source (q.number + 1) p.fed (Order MissingTurn)
 missing_of source p q k new taken h none =
     let spelt = all_spelt [] h.statements h.sayings h.faultless in

@@ -1,7 +1,7 @@
 -- A reader of a record that comes in pieces.
 use Rattle.std.specs.Prelude.{◌≡◌, ◌≢◌, ◌⊎◌, ℕ, List, [], ◌++◌, length, take, Option, Some, None, Result, Ok, Err}
-use Rattle.csa_text.specs.Cut.{TextUnit, Cut}
-use Rattle.csa_text.specs.Piecing.{Piecing}
+use Rattle.csa_text.specs.Cut.{TextUnit, IsCut}
+use Rattle.csa_text.specs.PieceCutting.{PieceCutting}
 use Rattle.csa_text.specs.TooLong.{HasCutOf}
 use Rattle.csa_text.specs.Spelling.{Saying}
 use Rattle.record_game.specs.declared.fault.Refusal.{Refusal}
@@ -17,12 +17,12 @@ pub record Failing : Type 0 where
 
 -- the cutter of its pieces, what is kept of their statements, and where it was refused
 pub record Reading : Type 0 where
-  pub cutter : Piecing
+  pub cutter : PieceCutting
   pub kept : Kept
   pub failing : Option Failing
 
 -- the bytes of the pieces that were not refused
-abbrev pub fed_by : Piecing → Option Failing → ℕ
+abbrev pub fed_by : PieceCutting → Option Failing → ℕ
 fed_by p None = p.fed
 fed_by p (Some f) = f.fed
 
@@ -30,7 +30,7 @@ abbrev pub fed_of : Reading → ℕ
 fed_of r = fed_by r.cutter r.failing
 
 -- of these bytes the cutter has handed out the closed statements; none has a fault; and this is kept of their items
-pub record HasTaken (source : List ℕ) (p : Piecing) (k : Kept) : Type 0 where
+pub record HasTaken (source : List ℕ) (p : PieceCutting) (k : Kept) : Type 0 where
   pub closed : List TextUnit
   pub sayings : List Saying
   pub cut : HasCutOf source p closed
@@ -53,15 +53,15 @@ NextTaken source piece (Ok used) new = HasRead (source ++ take used piece) new
 NextTaken source piece (Err r) new = (more : List ℕ) → IsRefusedBy ((source ++ piece) ++ more) r
 
 -- the statements of these bytes, none of which has a fault, and what is kept of their items
-pub record HasAll (source : List ℕ) (p : Piecing) (k : Kept) : Type 0 where
+pub record HasAll (source : List ℕ) (p : PieceCutting) (k : Kept) : Type 0 where
   pub statements : List TextUnit
   pub sayings : List Saying
-  pub cut : Cut source statements
+  pub cut : IsCut source statements
   pub faultless : Faultless [] statements sayings
   pub keeps : Keeps sayings k
   pub counted : p.number ≡ length statements
 
 -- the last statement was taken, if one was unfinished; or the bytes are refused
-abbrev pub LastTaken : List ℕ → Result (Unit {0}) Refusal → Piecing → Kept → Type 0
+abbrev pub LastTaken : List ℕ → Result (Unit {0}) Refusal → PieceCutting → Kept → Type 0
 LastTaken source (Ok u) p k = HasAll source p k
 LastTaken source (Err r) p k = IsRefusedBy source r

@@ -7,13 +7,13 @@ use Rattle.std.proofs.lemmas.List.Sums.{prefix_len_stops, prefix_len-le-length}
 use Rattle.std.proofs.Math.Seq.{drop-cons, drop-length, take-length, take-add}
 use Rattle.std.specs.List.{AllByRecursion, position_or_len}
 use Rattle.csa_text.specs.Cut.{TextUnit, IsUnit, EndsBefore, Statements, is_end, begins_with, byte_order_mark, mark_length}
-use Rattle.csa_text.specs.Piecing.{Follows}
+use Rattle.csa_text.specs.PieceCutting.{Follows}
 use Rattle.csa_text.specs.Places.{IsPart, IsUnitIn, IsFoundIn, IsFirstIn, IsCommon}
 use Rattle.csa_text.specs.declared.piece.Found.{Found}
 use Rattle.csa_text.specs.declared.piece.Found.TheVariants as found
 use Rattle.csa_text.specs.declared.piece.Place.TheVariants.{Mark, Gap, Unit as InUnit, Comment}
 use Rattle.csa_text.proofs.Fronts.{passes, weaker, turned_true, turned_false, ends_before, unit_front}
-use Rattle.csa_text.proofs.Lining.{all_joined}
+use Rattle.csa_text.proofs.LineCutting.{all_joined}
 use Rattle.csa_text.proofs.Passing.{statements_at, statements_of, behind_open_comment, behind_comment, unit_before, whole_range, split_range, head_range}
 
 -- from the front

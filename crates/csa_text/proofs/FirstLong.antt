@@ -2,10 +2,10 @@
 use Rattle.std.proofs.Common.{◌≡◌, ℕ, ◌+◌, ◌<◌, ◌≤◌, ◌&&◌, Bool, true, false, List, [], ◌∷◌, ◌++◌, filter, length, take, drop, length-drop, length-append, Option, Some, None, Ok, Err, if◌then◌else◌, arith, refl, sym, ap, ◌∙◌, subst, inl, inr}
 use Rattle.std.proofs.lemmas.Bool.{cases_Bool}
 use Rattle.std.proofs.Math.Seq.{take-length}
-use Rattle.csa_text.specs.Cut.{TextUnit, Statements, Cut, mark_length}
+use Rattle.csa_text.specs.Cut.{TextUnit, Statements, IsCut, mark_length}
 use Rattle.csa_text.specs.Cutting.{Cutting, IsTooLong}
-use Rattle.csa_text.specs.Piecing.{Piecing, Closes, Closed, Leads, fresh, is_closed}
-use Rattle.csa_text.specs.Stepping.{Stepped, Used, IsTooLongAt}
+use Rattle.csa_text.specs.PieceCutting.{PieceCutting, Closes, Closed, Leads, fresh, is_closed}
+use Rattle.csa_text.specs.PieceSteps.{Stepped, Used, IsTooLongAt}
 use Rattle.csa_text.specs.TooLong.{AreShort, FirstTooLong, HasCut, HasCutOf}
 use Rattle.csa_text.specs.declared.cutter.Statement.{Statement}
 use Rattle.csa_text.specs.declared.cutter.CutFault.{CutFault}
@@ -51,30 +51,30 @@ head_is o text end closed (x ∷ y ∷ zs) others unit e s kept =
     (y ∷ zs, cc)
 
 -- a statement that is too long is too long in each longer source
-long_stays : (source piece more : List ℕ) (closed others : List TextUnit) (p : Piecing) (unit : TextUnit) → Leads fresh source closed p → Closes p piece (unit ∷ others) → 4096 < length unit.bytes → (all : List TextUnit) × Cut ((source ++ piece) ++ more) all × Longer closed unit all
+long_stays : (source piece more : List ℕ) (closed others : List TextUnit) (p : PieceCutting) (unit : TextUnit) → Leads fresh source closed p → Closes p piece (unit ∷ others) → 4096 < length unit.bytes → (all : List TextUnit) × IsCut ((source ++ piece) ++ more) all × Longer closed unit all
 long_stays source piece more closed others p unit h c long =
     let w = source ++ piece in
     let m = mark_length w in
-    let s : Cut w (closed ++ c.0) = pieces_whole source piece closed c.0 p h c.1 in
+    let s : IsCut w (closed ++ c.0) = pieces_whole source piece closed c.0 p h c.1 in
     let end : p.fed + length piece ≡ m + length (drop m w) = omega (arith, h.took, length-append source piece, text_ends w) in
     let head = head_is m (drop m w) (p.fed + length piece) closed c.0 others unit end s c.2 in
-    let here : Cut w (closed ++ (unit ∷ head.0)) = subst (λ zs. Cut w (closed ++ zs)) head.1 s in
+    let here : IsCut w (closed ++ (unit ∷ head.0)) = subst (λ zs. IsCut w (closed ++ zs)) head.1 s in
     let size : length unit.bytes ≤ length (drop m w) = fits m (drop m w) closed head.0 unit here in
     cut_grown w more closed head.0 unit (omega (arith, size, long, text_ends w)) here
 
-first_long : (source : List ℕ) (all handed : List TextUnit) (unit : TextUnit) (number offset : ℕ) → Cut source all → Longer handed unit all → AreShort handed → 4096 < length unit.bytes → number ≡ length handed + 1 → offset ≡ unit.offset → FirstTooLong source number offset
+first_long : (source : List ℕ) (all handed : List TextUnit) (unit : TextUnit) (number offset : ℕ) → IsCut source all → Longer handed unit all → AreShort handed → 4096 < length unit.bytes → number ≡ length handed + 1 → offset ≡ unit.offset → FirstTooLong source number offset
 first_long source all handed unit number offset cut longer short long numbered place = record {
   before = handed;
   unit = longer.long;
   others = longer.rest;
-  cut = subst (Cut source) (sym longer.whole) cut;
+  cut = subst (IsCut source) (sym longer.whole) cut;
   short = short;
   long = omega (arith, long, longer.size);
   number_is = numbered;
   place = place ∙ sym longer.place;
 }
 
-pub too_long_whole : (source piece more : List ℕ) (handed : List TextUnit) (p new : Piecing) (fault : CutFault) → HasCutOf source p handed → Stepped p piece (Err fault) new → FirstTooLong ((source ++ piece) ++ more) fault.number fault.offset
+pub too_long_whole : (source piece more : List ℕ) (handed : List TextUnit) (p new : PieceCutting) (fault : CutFault) → HasCutOf source p handed → Stepped p piece (Err fault) new → FirstTooLong ((source ++ piece) ++ more) fault.number fault.offset
 too_long_whole source piece more handed p new fault h s =
     let met : IsTooLongAt None p piece fault.offset = rw h.0.going at s.1 in
     let stays = long_stays source piece more handed met.1 p met.0 h.0 met.2 met.3 in
@@ -84,7 +84,7 @@ pub not_short : (xs others : List TextUnit) (u : TextUnit) → AreShort (xs ++ (
 not_short [] others u h = h.0
 not_short (x ∷ xs) others u h = not_short xs others u h.1
 
-pub none_too_long : (source : List ℕ) (handed : List TextUnit) (p : Piecing) (number offset : ℕ) → HasCutOf source p handed → FirstTooLong source number offset → ⊥
+pub none_too_long : (source : List ℕ) (handed : List TextUnit) (p : PieceCutting) (number offset : ℕ) → HasCutOf source p handed → FirstTooLong source number offset → ⊥
 none_too_long source handed p number offset h f =
     let n = length source in
     let c = pieces_closed source handed p h.0 in
@@ -113,7 +113,7 @@ short_joined : (xs ys : List TextUnit) → AreShort xs → AreShort ys → AreSh
 short_joined [] ys h k = k
 short_joined (x ∷ xs) ys h k = (h.0, short_joined xs ys h.1 k)
 
-used_joined : (source piece : List ℕ) (handed : List TextUnit) (old new : Piecing) (used : ℕ) (statement : Option Statement) → HasCutOf source old handed → Used old piece used statement new → (more : List TextUnit) × HasCutOf (source ++ take used piece) new (handed ++ more)
+used_joined : (source piece : List ℕ) (handed : List TextUnit) (old new : PieceCutting) (used : ℕ) (statement : Option Statement) → HasCutOf source old handed → Used old piece used statement new → (more : List TextUnit) × HasCutOf (source ++ take used piece) new (handed ++ more)
 used_joined source piece handed old new used None h u =
     let all : take used piece ≡ piece = ap (λ n. take n piece) u.0 ∙ take-length piece in
     let leads : Leads old (take used piece) [] new = subst (λ t. Leads old t [] new) (sym all) u.1 in
@@ -133,7 +133,7 @@ nothing_fed = (
   tt,
 )
 
-pub goes_on_in_pieces : (source piece : List ℕ) (handed : List TextUnit) (old new : Piecing) (cut : CutOff) → HasCutOf source old handed → Stepped old piece (Ok cut) new → (more : List TextUnit) × HasCutOf (source ++ take cut.used piece) new (handed ++ more)
+pub goes_on_in_pieces : (source piece : List ℕ) (handed : List TextUnit) (old new : PieceCutting) (cut : CutOff) → HasCutOf source old handed → Stepped old piece (Ok cut) new → (more : List TextUnit) × HasCutOf (source ++ take cut.used piece) new (handed ++ more)
 goes_on_in_pieces source piece handed old new cut h s = used_joined source piece handed old new cut.used cut.statement h s.1
 
 pub nothing_cut : (c : Cutting) → c.at ≡ mark_length c.source → c.number ≡ 0 → HasCut c []
@@ -151,7 +151,7 @@ cutter_refuses c handed number offset h t = record {
   place = t.place;
 }
 
-pub closed_joined : (source piece : List ℕ) (closed more : List TextUnit) (p : Piecing) → Leads fresh source closed p → Closes p piece more → Closed (source ++ piece) (closed ++ more)
+pub closed_joined : (source piece : List ℕ) (closed more : List TextUnit) (p : PieceCutting) → Leads fresh source closed p → Closes p piece more → Closed (source ++ piece) (closed ++ more)
 closed_joined source piece closed more p h c =
     let size : length (source ++ piece) ≡ p.fed + length piece = omega (arith, h.took, length-append source piece) in
     let first = h.closes in

@@ -3,7 +3,7 @@ use Rattle.std.proofs.Common.{◌≡◌, ℕ, ◌+◌, ◌<◌, ◌≤◌, ◌�
 use Rattle.std.proofs.lemmas.Bool.{cases_Bool}
 use Rattle.std.proofs.lemmas.List.{take-append-drop}
 use Rattle.std.specs.List.{position_or_len}
-use Rattle.csa_text.specs.Cut.{TextUnit, IsNext, IsUnit, EndsBefore, Units, Statements, Cut, is_statement, is_end, mark_length}
+use Rattle.csa_text.specs.Cut.{TextUnit, IsNext, IsUnit, EndsBefore, Units, Statements, IsCut, is_statement, is_end, mark_length}
 use Rattle.csa_text.proofs.Finding.{rest_unit, first_of_held, begins_still, unit_some}
 use Rattle.csa_text.proofs.Passing.{unit_before, statements_of}
 use Rattle.csa_text.proofs.Runs.{found}
@@ -158,7 +158,7 @@ front_grown true a b c w more = refl
 front_grown false a b c w more = refl
 
 -- a statement of so many bytes that no mark is to come stands in each longer text, at its place, and is no shorter
-pub cut_grown : (source more : List ℕ) (xs ys : List TextUnit) (u : TextUnit) → 3 ≤ length source → Cut source (xs ++ (u ∷ ys)) → (all : List TextUnit) × Cut (source ++ more) all × Longer xs u all
+pub cut_grown : (source more : List ℕ) (xs ys : List TextUnit) (u : TextUnit) → 3 ≤ length source → IsCut source (xs ++ (u ∷ ys)) → (all : List TextUnit) × IsCut (source ++ more) all × Longer xs u all
 cut_grown [] more xs ys u size s = absurd (omega arith)
 cut_grown (a ∷ []) more xs ys u size s = absurd (omega arith)
 cut_grown (a ∷ b ∷ []) more xs ys u size s = absurd (omega arith)

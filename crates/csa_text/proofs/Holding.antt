@@ -2,9 +2,9 @@
 use Rattle.std.proofs.Common.{◌≡◌, ℕ, zero, suc, ◌<◌, ◌≤◌, Bool, false, List, [], ◌++◌, length, take, Option, Some, None, MatchOption, IfSome, if◌then◌else◌, arith, refl, sym, ap, ◌∙◌, ◌+◌, IsSome}
 use Rattle.std.proofs.lemmas.Bool.{false≢true}
 use Rattle.csa_text.specs.Cut.{begins_with, byte_order_mark, statement_bytes}
-use Rattle.csa_text.specs.Piecing.{Piecing, held_of}
+use Rattle.csa_text.specs.PieceCutting.{PieceCutting, held_of}
 use Rattle.csa_text.specs.Places.{IsFoundIn, open_of, place_found, is_in_mark}
-use Rattle.csa_text.specs.Stepping.{HoldsAfter, IsUsed}
+use Rattle.csa_text.specs.PieceSteps.{HoldsAfter, IsUsed}
 use Rattle.csa_text.specs.declared.piece.Cut.{Cut}
 use Rattle.csa_text.specs.declared.cutter.Statement.{Statement}
 use Rattle.csa_text.specs.declared.piece.Found.{Found}
@@ -33,11 +33,11 @@ found_held place held other piece (found.Unit x y z) o never h = absurd (never x
 pub held_found : (place after : Place) (held other piece : List ℕ) (f : Found) → after ≡ place_found f → other ≡ (if is_in_mark f then held ++ piece else []) → ((x : Bool) (y z : ℕ) → f ≡ found.Unit x y z → ⊥) → IsFoundIn place held piece f → other ≡ held_of (open_of after other)
 held_found place after held other piece f leads o never h = found_held place held other piece f o never h ∙ ap (λ t. held_of (open_of t other)) (sym leads)
 
-pub holds_here : (old new : Piecing) (statement : Option Statement) (n offset : ℕ) → new.held ≡ [] → old.fed ≤ offset → IfSome statement (λ s. (s.number ≡ n) × (s.offset ≡ offset)) → IsSome statement → HoldsAfter old statement new
+pub holds_here : (old new : PieceCutting) (statement : Option Statement) (n offset : ℕ) → new.held ≡ [] → old.fed ≤ offset → IfSome statement (λ s. (s.number ≡ n) × (s.offset ≡ offset)) → IsSome statement → HoldsAfter old statement new
 holds_here old new None n offset none order told some = absurd (false≢true some)
 holds_here old new (Some s) n offset none order told some = (λ _. none, λ before. absurd (omega (arith, told.1, order, before)))
 
-pub holds_before : (old new : Piecing) (statement : Option Statement) (n offset : ℕ) (unit : List ℕ) → unit ≡ new.held → offset < old.fed → IfSome statement (λ s. (s.number ≡ n) × (s.offset ≡ offset)) → IfSome statement (λ s. s.bytes.now ≡ statement_bytes unit) → IsSome statement → HoldsAfter old statement new
+pub holds_before : (old new : PieceCutting) (statement : Option Statement) (n offset : ℕ) (unit : List ℕ) → unit ≡ new.held → offset < old.fed → IfSome statement (λ s. (s.number ≡ n) × (s.offset ≡ offset)) → IfSome statement (λ s. s.bytes.now ≡ statement_bytes unit) → IsSome statement → HoldsAfter old statement new
 holds_before old new None n offset unit is order told bytes some = absurd (false≢true some)
 holds_before old new (Some s) n offset unit is order told bytes some = (λ here. absurd (omega (arith, told.1, order, here)), λ _. bytes ∙ ap statement_bytes is)
 

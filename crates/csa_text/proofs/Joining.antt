@@ -2,8 +2,8 @@
 use Rattle.std.proofs.Common.{◌≡◌, ℕ, ◌+◌, ◌≤◌, ◌||◌, Bool, true, false, nat_lt, List, [], ◌∷◌, ◌++◌, filter, length, drop, length-append, append_assoc, arith, refl, sym, ap, ◌∙◌, subst, inl, inr}
 use Rattle.std.proofs.lemmas.Bool.{cases_Bool}
 use Rattle.std.proofs.lemmas.Bool.Decides.{nat_tests}
-use Rattle.csa_text.specs.Cut.{TextUnit, Cut, mark_length}
-use Rattle.csa_text.specs.Piecing.{Piecing, ToCome, Closed, Leads, fresh, is_closed}
+use Rattle.csa_text.specs.Cut.{TextUnit, IsCut, mark_length}
+use Rattle.csa_text.specs.PieceCutting.{PieceCutting, ToComeWith, Closed, Leads, fresh, is_closed}
 use Rattle.csa_text.proofs.Once.{statements_once}
 use Rattle.csa_text.proofs.Passing.{statements_at}
 
@@ -39,7 +39,7 @@ kept_all e n xs us vs h same =
     ap (filter (is_closed n)) same ∙ filter_still (is_closed n) (is_closed e) (closed_still e n h) us ∙ sym same in
     filter_joined (is_closed n) xs vs ∙ ap (λ zs. zs ++ filter (is_closed n) vs) all
 
-pub pieces_joined : (a b c : Piecing) (x y : List ℕ) (xs ys : List TextUnit) → Leads a x xs b → Leads b y ys c → Leads a (x ++ y) (xs ++ ys) c
+pub pieces_joined : (a b c : PieceCutting) (x y : List ℕ) (xs ys : List TextUnit) → Leads a x xs b → Leads b y ys c → Leads a (x ++ y) (xs ++ ys) c
 pieces_joined a b c x y xs ys p q =
     let size = length-append x y in
     let first = p.took in
@@ -56,21 +56,21 @@ pieces_joined a b c x y xs ys p q =
       closes = (xs ++ there.0, p.onward y there.0 there.1, kept ∙ ap (λ n. filter (is_closed n) (xs ++ there.0)) end);
       onward = λ more others s.
           let next = p.onward (y ++ more) (ys ++ others) (q.onward more others s) in
-          let text = subst (λ t. ToCome a t (xs ++ (ys ++ others))) (sym (append_assoc x y more)) next in
-          subst (λ zs. ToCome a ((x ++ y) ++ more) zs) (sym (append_assoc xs ys others)) text;
+          let text = subst (λ t. ToComeWith a t (xs ++ (ys ++ others))) (sym (append_assoc x y more)) next in
+          subst (λ zs. ToComeWith a ((x ++ y) ++ more) zs) (sym (append_assoc xs ys others)) text;
       going = q.going;
     }
 
-pub from_start : (source : List ℕ) (statements : List TextUnit) → ToCome fresh source statements → Cut source statements
+pub from_start : (source : List ℕ) (statements : List TextUnit) → ToComeWith fresh source statements → IsCut source statements
 from_start source statements s = statements_at _ (mark_length source) (drop (mark_length source) source) statements (omega arith) s
 
-pub pieces_closed : (source : List ℕ) (closed : List TextUnit) (p : Piecing) → Leads fresh source closed p → Closed source closed
+pub pieces_closed : (source : List ℕ) (closed : List TextUnit) (p : PieceCutting) → Leads fresh source closed p → Closed source closed
 pieces_closed source closed p h =
     let c = h.closes in
     let count : 0 + length source ≡ length source = omega arith in
     (c.0, from_start source c.0 c.1, c.2 ∙ ap (λ n. filter (is_closed n) c.0) count)
 
-pub pieces_whole : (source more : List ℕ) (closed others : List TextUnit) (p : Piecing) → Leads fresh source closed p → ToCome p more others → Cut (source ++ more) (closed ++ others)
+pub pieces_whole : (source more : List ℕ) (closed others : List TextUnit) (p : PieceCutting) → Leads fresh source closed p → ToComeWith p more others → IsCut (source ++ more) (closed ++ others)
 pieces_whole source more closed others p h s = from_start (source ++ more) (closed ++ others) (h.onward more others s)
 
 pub closed_once : (source : List ℕ) (a b : List TextUnit) → Closed source a → Closed source b → a ≡ b

@@ -5,19 +5,19 @@ use Rattle.std.proofs.lemmas.Bool.Decides.{nat_tests}
 use Rattle.std.proofs.lemmas.List.{length-take-le}
 use Rattle.std.proofs.Math.Seq.{drop-cons, drop-length, take-length}
 use Rattle.csa_text.specs.Cut.{TextUnit, IsGap, IsUnit, EndsBefore, Statements, is_separator, is_end, takes_line, byte_order_mark, statement_bytes}
-use Rattle.csa_text.specs.Piecing.{Piecing, Follows, Closes, Leads, is_closed, mark_of}
+use Rattle.csa_text.specs.PieceCutting.{PieceCutting, Follows, Closes, Leads, is_closed, mark_of}
 use Rattle.csa_text.specs.Places.{IsPart, IsFoundIn, begins, open_of, kept_of, place_found, is_in_mark}
-use Rattle.csa_text.specs.Stepping.{Used, IsTooLongAt}
+use Rattle.csa_text.specs.PieceSteps.{Used, IsTooLongAt}
 use Rattle.csa_text.specs.declared.cutter.Statement.{Statement}
 use Rattle.csa_text.specs.declared.piece.Found.{Found}
 use Rattle.csa_text.specs.declared.piece.Found.TheVariants as found
 use Rattle.csa_text.specs.declared.piece.Place.{Place}
 use Rattle.csa_text.specs.declared.piece.Place.TheVariants.{Mark, Gap, Unit as InUnit, Comment}
 use Rattle.csa_text.proofs.Runs.{no_statements, statement_first, found}
-use Rattle.csa_text.proofs.Lining.{length_range, nothing}
+use Rattle.csa_text.proofs.LineCutting.{length_range, nothing}
 use Rattle.csa_text.proofs.Passing.{statements_at, statements_of, behind_gap, behind_comment, unit_at, unit_before, head_range, split_range, whole_range}
 
-abbrev pub seen : Place → List ℕ → ℕ → ℕ → Option ℕ → Piecing
+abbrev pub seen : Place → List ℕ → ℕ → ℕ → Option ℕ → PieceCutting
 seen place held fed number refused =
     record { fed = fed; number = number; begins = begins place; unfinished = open_of place held; held = held; refused = refused }
 
@@ -234,16 +234,16 @@ default_lead place held other piece found.Gap fed number o never h few same = le
 default_lead place held other piece found.Comment fed number o never h few same = rw o (leads_to_comment place held piece fed number h few)
 default_lead place held other piece (found.Unit x y z) fed number o never h few same = absurd (never x y z refl)
 
-pub default_step : (now : Piecing) (place after : Place) (held other piece : List ℕ) (f : Found) (fed number : ℕ) (refused : Option ℕ) → seen place held fed number refused ≡ now → refused ≡ None → after ≡ place_found f → other ≡ (if is_in_mark f then held ++ piece else []) → ((x : Bool) (y z : ℕ) → f ≡ found.Unit x y z → ⊥) → IsFoundIn place held piece f → length (open_of place held) ≤ fed → (begins place ≡ true → fed ≡ length held) → (now.refused ≡ None) × Leads now piece [] (seen after other (fed + length piece) number refused)
+pub default_step : (now : PieceCutting) (place after : Place) (held other piece : List ℕ) (f : Found) (fed number : ℕ) (refused : Option ℕ) → seen place held fed number refused ≡ now → refused ≡ None → after ≡ place_found f → other ≡ (if is_in_mark f then held ++ piece else []) → ((x : Bool) (y z : ℕ) → f ≡ found.Unit x y z → ⊥) → IsFoundIn place held piece f → length (open_of place held) ≤ fed → (begins place ≡ true → fed ≡ length held) → (now.refused ≡ None) × Leads now piece [] (seen after other (fed + length piece) number refused)
 default_step now place after held other piece f fed number refused view none leads o never h few same =
     rw (← view, none, leads) (refl, default_lead place held other piece f fed number o never h few same)
 
-pub unit_step : (now : Piecing) (place : Place) (held other piece : List ℕ) (goes_on : Bool) (start end fed number : ℕ) (refused : Option ℕ) → seen place held fed number refused ≡ now → refused ≡ None → IsPart place held piece goes_on start end → length (open_of place held) ≤ fed → end ≡ length piece → other ≡ kept_of goes_on held ++ slice_range piece start end → length (kept_of goes_on held) + (end - start) ≤ 4096 → (now.refused ≡ None) × Leads now piece [] (seen InUnit other (fed + end) number refused)
+pub unit_step : (now : PieceCutting) (place : Place) (held other piece : List ℕ) (goes_on : Bool) (start end fed number : ℕ) (refused : Option ℕ) → seen place held fed number refused ≡ now → refused ≡ None → IsPart place held piece goes_on start end → length (open_of place held) ≤ fed → end ≡ length piece → other ≡ kept_of goes_on held ++ slice_range piece start end → length (kept_of goes_on held) + (end - start) ≤ 4096 → (now.refused ≡ None) × Leads now piece [] (seen InUnit other (fed + end) number refused)
 unit_step now place held other piece goes_on start end fed number refused view none p few all o short =
     let size = part_size goes_on held piece start end p.within in
     rw (← view, none, o) (refl, leads_to_unit place held piece goes_on start end fed number p few all (omega arith))
 
-pub end_step : (now : Piecing) (place : Place) (held other piece : List ℕ) (goes_on : Bool) (start end fed number used : ℕ) (refused : Option ℕ) (statement : Option Statement) → seen place held fed number refused ≡ now → refused ≡ None → IsPart place held piece goes_on start end → length (open_of place held) ≤ fed → end < length piece → length (kept_of goes_on held) + (end - start) ≤ 4096 → used ≡ end + 1 → IsSome statement → IfSome statement (λ s. (s.number ≡ number + 1) × (s.offset ≡ fed + start - length (kept_of goes_on held)) × (s.bytes.now ≡ statement_bytes (kept_of goes_on held ++ slice_range piece start end))) → (now.refused ≡ None) × Used now piece used statement (seen Gap other (fed + (end + 1)) (number + 1) refused)
+pub end_step : (now : PieceCutting) (place : Place) (held other piece : List ℕ) (goes_on : Bool) (start end fed number used : ℕ) (refused : Option ℕ) (statement : Option Statement) → seen place held fed number refused ≡ now → refused ≡ None → IsPart place held piece goes_on start end → length (open_of place held) ≤ fed → end < length piece → length (kept_of goes_on held) + (end - start) ≤ 4096 → used ≡ end + 1 → IsSome statement → IfSome statement (λ s. (s.number ≡ number + 1) × (s.offset ≡ fed + start - length (kept_of goes_on held)) × (s.bytes.now ≡ statement_bytes (kept_of goes_on held ++ slice_range piece start end))) → (now.refused ≡ None) × Used now piece used statement (seen Gap other (fed + (end + 1)) (number + 1) refused)
 end_step now place held other piece goes_on start end fed number used refused None view none p few left short is_used some told = absurd (false≢true some)
 end_step now place held other piece goes_on start end fed number used refused (Some s) view none p few left short is_used some told =
     let size = part_size goes_on held piece start end p.within in
@@ -260,7 +260,7 @@ end_step now place held other piece goes_on start end fed number used refused (S
       ),
     )
 
-pub long_step : (now : Piecing) (place : Place) (held piece : List ℕ) (goes_on : Bool) (start end fed number o : ℕ) (refused : Option ℕ) → seen place held fed number refused ≡ now → refused ≡ None → IsPart place held piece goes_on start end → length (open_of place held) ≤ fed → o ≡ fed + start - length (kept_of goes_on held) → 4096 < length (kept_of goes_on held) + (end - start) → (number + 1 ≡ now.number + 1) × IsTooLongAt now.refused now piece o × (seen place held fed number (Some o) ≡ record now { refused = Some o })
+pub long_step : (now : PieceCutting) (place : Place) (held piece : List ℕ) (goes_on : Bool) (start end fed number o : ℕ) (refused : Option ℕ) → seen place held fed number refused ≡ now → refused ≡ None → IsPart place held piece goes_on start end → length (open_of place held) ≤ fed → o ≡ fed + start - length (kept_of goes_on held) → 4096 < length (kept_of goes_on held) + (end - start) → (number + 1 ≡ now.number + 1) × IsTooLongAt now.refused now piece o × (seen place held fed number (Some o) ≡ record now { refused = Some o })
 long_step now place held piece goes_on start end fed number o refused view none p few is_offset long =
     let size = part_size goes_on held piece start end p.within in
     let more : 4096 < length (kept_of goes_on held ++ slice_range piece start end) = omega arith in

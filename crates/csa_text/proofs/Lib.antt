@@ -11,7 +11,7 @@ pub mod Decided
 pub mod Codings
 pub mod Blanks
 pub mod Once
-pub mod Lining
+pub mod LineCutting
 pub mod LinesOnce
 mod LinesFound
 pub mod LongLines

@@ -4,15 +4,15 @@ use Rattle.std.specs.Borrow.{Bor}
 use Rattle.std.proofs.Math.Seq.{take-length}
 use Rattle.csa_text.specs.Cut.{TextUnit}
 use Rattle.csa_text.specs.Lines.{Lines}
-use Rattle.csa_text.specs.Lining.{Lining, BeginsTooLong, HasLongLine, LineStep, LinesAfter}
-use Rattle.csa_text.specs.Stepping.{IsNumbered}
+use Rattle.csa_text.specs.LineCutting.{LineCutting, BeginsTooLong, HasLongLine, LineStep, LinesAfter}
+use Rattle.csa_text.specs.PieceSteps.{IsNumbered}
 use Rattle.csa_text.specs.WholeRun.{AreNumbered, AreStatementsOf, told, all_told, LineAnswers, all_taken, line_given, all_lines}
 use Rattle.csa_text.specs.declared.cutter.Statement.{Statement}
 use Rattle.csa_text.proofs.LinesOnce.{lines_joined}
 use Rattle.csa_text.proofs.LongLines.{long_found, none_missed}
 use Rattle.csa_text.proofs.Once.{statements_once}
 
-one_taken : (old new : Lining) (first piece : List ℕ) (lines : List (List ℕ)) (r : ℕ × Option (Bor (List ℕ))) → Lines first lines old.held → LineStep old.held piece r → LinesAfter old piece (Ok r) new → Lines (first ++ take r.0 piece) (lines ++ line_given r.1) new.held
+one_taken : (old new : LineCutting) (first piece : List ℕ) (lines : List (List ℕ)) (r : ℕ × Option (Bor (List ℕ))) → Lines first lines old.held → LineStep old.held piece r → LinesAfter old piece (Ok r) new → Lines (first ++ take r.0 piece) (lines ++ line_given r.1) new.held
 one_taken old new first piece lines (n, None) p step after =
     let all : take n piece ≡ piece = ap (λ k. take k piece) step.1 ∙ take-length piece in
     rw all (lines_joined first piece lines [] old.held new.held p after.2)
@@ -20,9 +20,9 @@ one_taken old new first piece lines (n, Some line) p step after =
     let empty : new.held ≡ [] = after.2 in
     rw empty (lines_joined first (take n piece) lines (line.now ∷ []) old.held [] p step.1.1)
 
-lines_told : (steps : List (List ℕ × (ℕ × Option (Bor (List ℕ))))) (first : List ℕ) (lines : List (List ℕ)) (old new : Lining) → Lines first lines old.held → (HasLongLine old.limit first → ⊥) → LineAnswers old steps new → Lines (first ++ all_taken steps) (lines ++ all_lines steps) new.held × (HasLongLine old.limit (first ++ all_taken steps) → ⊥)
+lines_told : (steps : List (List ℕ × (ℕ × Option (Bor (List ℕ))))) (first : List ℕ) (lines : List (List ℕ)) (old new : LineCutting) → Lines first lines old.held → (HasLongLine old.limit first → ⊥) → LineAnswers old steps new → Lines (first ++ all_taken steps) (lines ++ all_lines steps) new.held × (HasLongLine old.limit (first ++ all_taken steps) → ⊥)
 lines_told [] first lines old new p few r =
-    let here : Lines first lines new.held = subst (λ (v : Lining). Lines first lines v.held) r p in (
+    let here : Lines first lines new.held = subst (λ (v : LineCutting). Lines first lines v.held) r p in (
       subst (λ t. Lines t (lines ++ []) new.held) (sym (append-nil first)) (subst (λ t. Lines first t new.held) (sym (append-nil lines)) here),
       subst (λ t. HasLongLine old.limit t → ⊥) (sym (append-nil first)) few,
     )
@@ -42,16 +42,16 @@ none_at_first limit (before, long, after, whole, solid, more) =
     let size : 0 ≡ length (before ++ (long ++ after)) = ap length whole in
     absurd (omega (arith, more, size, length-append before (long ++ after), length-append long after))
 
-pub line_run : (steps : List (List ℕ × (ℕ × Option (Bor (List ℕ))))) (old new : Lining) → old.held ≡ [] → LineAnswers old steps new → Lines (all_taken steps) (all_lines steps) new.held × (HasLongLine old.limit (all_taken steps) → ⊥)
+pub line_run : (steps : List (List ℕ × (ℕ × Option (Bor (List ℕ))))) (old new : LineCutting) → old.held ≡ [] → LineAnswers old steps new → Lines (all_taken steps) (all_lines steps) new.held × (HasLongLine old.limit (all_taken steps) → ⊥)
 line_run steps old new empty r =
     let start : Lines [] [] old.held = rw empty ([], refl, tt, tt) in
     lines_told steps [] [] old new start (none_at_first old.limit) r
 
-same_limit : (steps : List (List ℕ × (ℕ × Option (Bor (List ℕ))))) (old new : Lining) → LineAnswers old steps new → new.limit ≡ old.limit
-same_limit [] old new r = ap (λ (v : Lining). v.limit) (sym r)
+same_limit : (steps : List (List ℕ × (ℕ × Option (Bor (List ℕ))))) (old new : LineCutting) → LineAnswers old steps new → new.limit ≡ old.limit
+same_limit [] old new r = ap (λ (v : LineCutting). v.limit) (sym r)
 same_limit (s ∷ steps) old new (next, short, step, after, r) = same_limit steps next new r ∙ after.0
 
-pub line_run_long : (steps : List (List ℕ × (ℕ × Option (Bor (List ℕ))))) (old new : Lining) (piece : List ℕ) → old.held ≡ [] → LineAnswers old steps new → BeginsTooLong new.limit (new.held ++ piece) → HasLongLine old.limit (all_taken steps ++ piece)
+pub line_run_long : (steps : List (List ℕ × (ℕ × Option (Bor (List ℕ))))) (old new : LineCutting) (piece : List ℕ) → old.held ≡ [] → LineAnswers old steps new → BeginsTooLong new.limit (new.held ++ piece) → HasLongLine old.limit (all_taken steps ++ piece)
 line_run_long steps old new piece empty r h =
     let limit = same_limit steps old new r in
     long_found old.limit (all_taken steps) piece (all_lines steps) new.held (line_run steps old new empty r).0 (subst (λ m. BeginsTooLong m (new.held ++ piece)) limit h)

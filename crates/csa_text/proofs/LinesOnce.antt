@@ -2,7 +2,7 @@
 use Rattle.std.proofs.Common.{◌≡◌, ℕ, ◌<◌, true, false, List, [], ◌∷◌, ◌++◌, length, append_assoc, arith, refl, sym, ap, ◌∙◌, subst}
 use Rattle.csa_text.specs.Lines.{is_line_end, AreLineEnds, HasNoLineEnd, BeginsWithLineEnd, IsNextLine, Lines}
 use Rattle.csa_text.proofs.Once.{Stops, same_front}
-use Rattle.csa_text.proofs.Lining.{all_joined}
+use Rattle.csa_text.proofs.LineCutting.{all_joined}
 
 no_end : (b : ℕ) → is_line_end b ≡ false → is_line_end b ≡ true → ⊥
 no_end b f t = cc

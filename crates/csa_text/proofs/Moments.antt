@@ -11,7 +11,7 @@ use Rattle.std.proofs.lemmas.Str.{digit_value_digit}
 use Rattle.jiff_core.specs.Calendar.{IsCivilDate, days_in_month, is_leap_year}
 use Rattle.jiff_core.specs.declared.civil.date.Date.{Date}
 use Rattle.jiff_core.specs.declared.civil.time.Time.{Time}
-use Rattle.csa_text.proofs.Lining.{all_joined}
+use Rattle.csa_text.proofs.LineCutting.{all_joined}
 use Rattle.csa_text.specs.Fields.{IsNumber, HasNone, IsSplit}
 use Rattle.csa_text.specs.Moment.{TimeOfDay, CalendarMoment, DateDigits, TimeDigits, SpellsDate, SpellsTime, SpellsDateAnd, SpellsMoment, two_digits, four_digits, date_text, time_text, behind_date}
 use Rattle.csa_text.specs.MomentParts.{time_of}

@@ -1,7 +1,7 @@
 -- A text is cut in one way, and the bytes of a statement spell one thing.
 use Rattle.std.proofs.Common.{◌≡◌, ℕ, ◌+◌, Bool, true, false, List, [], ◌∷◌, ◌++◌, filter, length, drop, refl, sym, ap, ◌∙◌}
 use Rattle.std.specs.List.{AllByRecursion}
-use Rattle.csa_text.specs.Cut.{TextUnit, IsNext, IsGap, IsUnit, EndsBefore, Units, Statements, Cut, is_statement, is_separator, is_end, mark_length}
+use Rattle.csa_text.specs.Cut.{TextUnit, IsNext, IsGap, IsUnit, EndsBefore, Units, Statements, IsCut, is_statement, is_separator, is_end, mark_length}
 use Rattle.csa_text.proofs.Runs.{found}
 
 -- the list is at its end, or its first element gives another answer
@@ -80,5 +80,5 @@ pub statements_once : (offset : ℕ) (text : List ℕ) (a b : List TextUnit) →
 statements_once offset text a b p q =
     p.kept ∙ ap (filter is_statement) (units_once offset text p.units q.units p.cut q.cut) ∙ sym q.kept
 
-pub cut_found : (source : List ℕ) → (statements : List TextUnit) × Cut source statements
+pub cut_found : (source : List ℕ) → (statements : List TextUnit) × IsCut source statements
 cut_found source = found (mark_length source) (drop (mark_length source) source)

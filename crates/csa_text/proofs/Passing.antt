@@ -8,7 +8,7 @@ use Rattle.csa_text.specs.Cut.{TextUnit, IsNext, IsGap, IsUnit, EndsBefore, Unit
 use Rattle.csa_text.specs.Cutting.{unit_between}
 use Rattle.csa_text.specs.Places.{Passes, IsUnitIn}
 use Rattle.csa_text.proofs.Fronts.{first_between, length_between}
-use Rattle.csa_text.proofs.Lining.{all_joined}
+use Rattle.csa_text.proofs.LineCutting.{all_joined}
 use Rattle.csa_text.proofs.Runs.{comment_first}
 
 pub statements_at : (o p : ℕ) (text : List ℕ) (others : List TextUnit) → o ≡ p → Statements o text others → Statements p text others

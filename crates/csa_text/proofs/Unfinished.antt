@@ -2,15 +2,15 @@
 use Rattle.std.proofs.Common.{◌≡◌, ℕ, zero, suc, ◌+◌, ◌-◌, ◌<◌, ◌≤◌, ◌==◌, true, false, not, List, [], ◌∷◌, ◌++◌, length, take, Option, Some, None, arith, refl, sym, ap, ◌∙◌, subst, inl, inr}
 use Rattle.std.proofs.lemmas.Bool.{false≢true, cases_Bool}
 use Rattle.csa_text.specs.Cut.{TextUnit, IsUnit, Statements, begins_with, byte_order_mark, mark_length, statement_bytes}
-use Rattle.csa_text.specs.Piecing.{Piecing, Follows, ToCome, HoldsLittle, IsOpen}
+use Rattle.csa_text.specs.PieceCutting.{PieceCutting, Follows, ToComeWith, HoldsLittle, IsOpen}
 use Rattle.csa_text.specs.Places.{IsHeld, begins, open_of, has_unit}
-use Rattle.csa_text.specs.Stepping.{Last}
+use Rattle.csa_text.specs.PieceSteps.{Last}
 use Rattle.csa_text.specs.declared.cutter.Statement.{Statement}
 use Rattle.csa_text.specs.declared.piece.Place.{Place}
 use Rattle.csa_text.specs.declared.piece.Place.TheVariants.{Mark, Gap, Unit as InUnit, Comment}
 use Rattle.csa_text.proofs.Fronts.{turned_true, turned_false}
 use Rattle.csa_text.proofs.Runs.{no_statements, statement_first}
-use Rattle.csa_text.proofs.Lining.{nothing, something}
+use Rattle.csa_text.proofs.LineCutting.{nothing, something}
 use Rattle.csa_text.proofs.Passing.{behind_comment, unit_at}
 use Rattle.csa_text.proofs.Finding.{without_mark, follows_plain, mark_unit, mark_silent}
 use Rattle.csa_text.proofs.Leading.{seen}
@@ -48,11 +48,11 @@ unit_to_come Gap held fed h is_held = absurd (false≢true h)
 unit_to_come InUnit held fed h is_held = follows_plain fed (fed - length held) held [] _ refl (alone held fed is_held.0 is_held.1)
 unit_to_come Comment held fed h is_held = absurd (false≢true h)
 
-pub none_left : (now : Piecing) (place : Place) (held : List ℕ) (fed number : ℕ) (refused : Option ℕ) → seen place held fed number refused ≡ now → refused ≡ None → has_unit place held ≡ false → IsHeld place held → (now.refused ≡ None) × (ToCome now [] [] × (number ≡ now.number)) × (seen Gap held fed number refused ≡ record now { number = number; begins = false; unfinished = [] })
+pub none_left : (now : PieceCutting) (place : Place) (held : List ℕ) (fed number : ℕ) (refused : Option ℕ) → seen place held fed number refused ≡ now → refused ≡ None → has_unit place held ≡ false → IsHeld place held → (now.refused ≡ None) × (ToComeWith now [] [] × (number ≡ now.number)) × (seen Gap held fed number refused ≡ record now { number = number; begins = false; unfinished = [] })
 none_left now place held fed number refused view none h is_held =
     rw (← view, none) (refl, (nothing_to_come place held fed h is_held, refl), refl)
 
-pub one_left : (now : Piecing) (place : Place) (held : List ℕ) (fed number : ℕ) (refused : Option ℕ) (s : Statement) → seen place held fed number refused ≡ now → refused ≡ None → has_unit place held ≡ true → IsHeld place held → length held ≤ 4096 → s.number ≡ number + 1 → s.offset ≡ fed - length held → s.bytes.now ≡ statement_bytes held → (now.refused ≡ None) × Last now (Some s) (number + 1) × (seen Gap held fed (number + 1) refused ≡ record now { number = number + 1; begins = false; unfinished = [] })
+pub one_left : (now : PieceCutting) (place : Place) (held : List ℕ) (fed number : ℕ) (refused : Option ℕ) (s : Statement) → seen place held fed number refused ≡ now → refused ≡ None → has_unit place held ≡ true → IsHeld place held → length held ≤ 4096 → s.number ≡ number + 1 → s.offset ≡ fed - length held → s.bytes.now ≡ statement_bytes held → (now.refused ≡ None) × Last now (Some s) (number + 1) × (seen Gap held fed (number + 1) refused ≡ record now { number = number + 1; begins = false; unfinished = [] })
 one_left now place held fed number refused s view none h is_held short numbered place_is bytes =
     rw (← view, none)
     (refl, (last_of held fed, record { number_is = numbered; place = place_is; slice = bytes; short = short }, unit_to_come place held fed h is_held, sym numbered), refl)

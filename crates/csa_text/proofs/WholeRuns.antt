@@ -1,10 +1,10 @@
 -- A whole run of a cutter of pieces, by its steps.
 use Rattle.std.proofs.Common.{◌≡◌, ℕ, ◌+◌, ◌≤◌, List, [], ◌∷◌, ◌++◌, length, length-append, take, drop, append_assoc, append-nil, Option, Some, None, Ok, Err, arith, refl, sym, ap, ◌∙◌, subst}
 use Rattle.std.proofs.Math.Seq.{take-length}
-use Rattle.csa_text.specs.Cut.{TextUnit, Cut, Statements, mark_length}
+use Rattle.csa_text.specs.Cut.{TextUnit, IsCut, Statements, mark_length}
 use Rattle.csa_text.specs.Cutting.{Cutting, IsTooLong, ToCome, unit_between}
-use Rattle.csa_text.specs.Piecing.{Piecing, Closed, Leads, fresh}
-use Rattle.csa_text.specs.Stepping.{IsNumbered, Stepped, Used, Last, Finished}
+use Rattle.csa_text.specs.PieceCutting.{PieceCutting, Closed, Leads, fresh}
+use Rattle.csa_text.specs.PieceSteps.{IsNumbered, Stepped, Used, Last, Finished}
 use Rattle.csa_text.specs.TooLong.{AreShort, HasCut, HasCutOf, FirstTooLong}
 use Rattle.csa_text.specs.WholeRun.{AreNumbered, AreStatementsOf, given, Answered, all_used, all_given, HandedOut}
 use Rattle.csa_text.specs.declared.cutter.Statement.{Statement}
@@ -27,7 +27,7 @@ numbered_joined n (u ∷ us) vs (s ∷ ss) ts h k =
     let same : n + length (u ∷ us) ≡ n + 1 + length us = omega arith in
     (h.0, numbered_joined (n + 1) us vs ss ts h.1 (subst (λ m. AreNumbered m vs ts) same k))
 
-one_more : (source piece : List ℕ) (handed : List TextUnit) (gave : List Statement) (old new : Piecing) (used : ℕ) (statement : Option Statement) → HasCutOf source old handed → AreNumbered 0 handed gave → Used old piece used statement new → (all : List TextUnit) × HasCutOf (source ++ take used piece) new all × AreNumbered 0 all (gave ++ given statement)
+one_more : (source piece : List ℕ) (handed : List TextUnit) (gave : List Statement) (old new : PieceCutting) (used : ℕ) (statement : Option Statement) → HasCutOf source old handed → AreNumbered 0 handed gave → Used old piece used statement new → (all : List TextUnit) × HasCutOf (source ++ take used piece) new all × AreNumbered 0 all (gave ++ given statement)
 one_more source piece handed gave old new used None h k u =
     let all : take used piece ≡ piece = ap (λ n. take n piece) u.0 ∙ take-length piece in
     let leads : Leads old (take used piece) [] new = subst (λ t. Leads old t [] new) (sym all) u.1 in
@@ -37,7 +37,7 @@ one_more source piece handed gave old new used (Some s) h k u =
     let here : IsNumbered (0 + length handed) u.0 s = subst (λ n. IsNumbered n u.0 s) count u.1 in
     (handed ++ (u.0 ∷ []), (pieces_joined fresh old new source (take used piece) handed (u.0 ∷ []) h.0 u.5, short_joined handed (u.0 ∷ []) h.1 (u.1.short, tt)), numbered_joined 0 handed (u.0 ∷ []) gave (s ∷ []) k (here, tt))
 
-all_told : (steps : List (List ℕ × Step)) (source : List ℕ) (handed : List TextUnit) (gave : List Statement) (p q : Piecing) → HasCutOf source p handed → AreNumbered 0 handed gave → Answered p steps q → (all : List TextUnit) × HasCutOf (source ++ all_used steps) q all × AreNumbered 0 all (gave ++ all_given steps)
+all_told : (steps : List (List ℕ × Step)) (source : List ℕ) (handed : List TextUnit) (gave : List Statement) (p q : PieceCutting) → HasCutOf source p handed → AreNumbered 0 handed gave → Answered p steps q → (all : List TextUnit) × HasCutOf (source ++ all_used steps) q all × AreNumbered 0 all (gave ++ all_given steps)
 all_told [] source handed gave p q h k r =
     let here : HasCutOf (source ++ []) q handed = subst (λ t. HasCutOf t q handed) (sym (append-nil source)) (subst (λ v. HasCutOf source v handed) r h) in
     (handed, here, subst (λ t. AreNumbered 0 handed t) (sym (append-nil gave)) k)
@@ -49,25 +49,25 @@ all_told (s ∷ steps) source handed gave p q h k (next, stepped, r) =
       subst (λ t. AreNumbered 0 all.0 t) (append_assoc gave (given s.1.statement) (all_given steps)) all.2,
     )
 
-last_told : (source : List ℕ) (handed : List TextUnit) (gave : List Statement) (p : Piecing) (last : Option Statement) (number : ℕ) → HasCutOf source p handed → AreNumbered 0 handed gave → Last p last number → AreStatementsOf source (gave ++ given last)
+last_told : (source : List ℕ) (handed : List TextUnit) (gave : List Statement) (p : PieceCutting) (last : Option Statement) (number : ℕ) → HasCutOf source p handed → AreNumbered 0 handed gave → Last p last number → AreStatementsOf source (gave ++ given last)
 last_told source handed gave p None number h k l =
-    (handed ++ [], subst (λ t. Cut t (handed ++ [])) (append-nil source) (pieces_whole source [] handed [] p h.0 l.0), numbered_joined 0 handed [] gave [] k tt)
+    (handed ++ [], subst (λ t. IsCut t (handed ++ [])) (append-nil source) (pieces_whole source [] handed [] p h.0 l.0), numbered_joined 0 handed [] gave [] k tt)
 last_told source handed gave p (Some s) number h k l =
     let count : p.number ≡ 0 + length handed = h.0.counted in
     let here : IsNumbered (0 + length handed) l.0 s = subst (λ n. IsNumbered n l.0 s) count l.1 in
-    (handed ++ (l.0 ∷ []), subst (λ t. Cut t (handed ++ (l.0 ∷ []))) (append-nil source) (pieces_whole source [] handed (l.0 ∷ []) p h.0 l.2), numbered_joined 0 handed (l.0 ∷ []) gave (s ∷ []) k (here, tt))
+    (handed ++ (l.0 ∷ []), subst (λ t. IsCut t (handed ++ (l.0 ∷ []))) (append-nil source) (pieces_whole source [] handed (l.0 ∷ []) p h.0 l.2), numbered_joined 0 handed (l.0 ∷ []) gave (s ∷ []) k (here, tt))
 
-pub closed_run : (steps : List (List ℕ × Step)) (p : Piecing) → Answered fresh steps p → (closed : List TextUnit) × Closed (all_used steps) closed × AreNumbered 0 closed (all_given steps)
+pub closed_run : (steps : List (List ℕ × Step)) (p : PieceCutting) → Answered fresh steps p → (closed : List TextUnit) × Closed (all_used steps) closed × AreNumbered 0 closed (all_given steps)
 closed_run steps p r =
     let all = all_told steps [] [] [] fresh p nothing_fed tt r in
     (all.0, pieces_closed (all_used steps) all.0 p all.1.0, all.2)
 
-pub whole_run : (steps : List (List ℕ × Step)) (last : Option Statement) (p q : Piecing) → Answered fresh steps p → Finished p (Ok last) q → AreStatementsOf (all_used steps) (all_given steps ++ given last)
+pub whole_run : (steps : List (List ℕ × Step)) (last : Option Statement) (p q : PieceCutting) → Answered fresh steps p → Finished p (Ok last) q → AreStatementsOf (all_used steps) (all_given steps ++ given last)
 whole_run steps last p q r f =
     let all = all_told steps [] [] [] fresh p nothing_fed tt r in
     last_told (all_used steps) all.0 (all_given steps) p last q.number all.1 all.2 f.1
 
-pub run_refused : (steps : List (List ℕ × Step)) (piece more : List ℕ) (fault : CutFault) (p q : Piecing) → Answered fresh steps p → Stepped p piece (Err fault) q → FirstTooLong ((all_used steps ++ piece) ++ more) fault.number fault.offset
+pub run_refused : (steps : List (List ℕ × Step)) (piece more : List ℕ) (fault : CutFault) (p q : PieceCutting) → Answered fresh steps p → Stepped p piece (Err fault) q → FirstTooLong ((all_used steps ++ piece) ++ more) fault.number fault.offset
 run_refused steps piece more fault p q r s =
     let all = all_told steps [] [] [] fresh p nothing_fed tt r in
     too_long_whole (all_used steps) piece more all.0 p q fault all.1 s
@@ -83,8 +83,8 @@ cut_told (s ∷ gave) handed before c d h k (next, same, out, r) =
       onward = λ others t.
           let behind : Statements next.at (drop next.at c.source) others = subst (λ w. Statements next.at (drop next.at w) others) same t in
           let whole = h.onward (unit ∷ others) (out.first.first others behind) in
-          let there : Cut c.source ((handed ++ (unit ∷ [])) ++ others) = subst (Cut c.source) (sym (append_assoc handed (unit ∷ []) others)) whole in
-          subst (λ w. Cut w ((handed ++ (unit ∷ [])) ++ others)) (sym same) there;
+          let there : IsCut c.source ((handed ++ (unit ∷ [])) ++ others) = subst (IsCut c.source) (sym (append_assoc handed (unit ∷ []) others)) whole in
+          subst (λ w. IsCut w ((handed ++ (unit ∷ [])) ++ others)) (sym same) there;
       counted = omega (arith, out.counted, out.number_is, h.counted, length-append handed (unit ∷ []));
       short = short_joined handed (unit ∷ []) h.short (short, tt);
     } in
@@ -95,8 +95,8 @@ cut_told (s ∷ gave) handed before c d h k (next, same, out, r) =
 pub whole_cut : (gave : List Statement) (c d : Cutting) → c.at ≡ mark_length c.source → c.number ≡ 0 → HandedOut c gave d → ToCome d [] → AreStatementsOf c.source gave
 whole_cut gave c d at number r end =
     let all = cut_told gave [] [] c d (nothing_cut c at number) tt r in
-    let whole : Cut d.source (all.0 ++ []) = all.1.onward [] end in
-    (all.0, subst (λ t. Cut c.source t) (append-nil all.0) (subst (λ w. Cut w (all.0 ++ [])) all.3 whole), all.2)
+    let whole : IsCut d.source (all.0 ++ []) = all.1.onward [] end in
+    (all.0, subst (λ t. IsCut c.source t) (append-nil all.0) (subst (λ w. IsCut w (all.0 ++ [])) all.3 whole), all.2)
 
 pub cut_refused : (gave : List Statement) (c d : Cutting) (number offset : ℕ) → c.at ≡ mark_length c.source → c.number ≡ 0 → HandedOut c gave d → IsTooLong d number offset → FirstTooLong c.source number offset
 cut_refused gave c d number offset at zero r long =

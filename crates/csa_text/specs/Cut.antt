@@ -87,5 +87,5 @@ pub record Statements (offset : ℕ) (text : List ℕ) (statements : List TextUn
   pub kept : statements ≡ filter is_statement units
 
 -- the statements of a record's bytes
-abbrev pub Cut : List ℕ → List TextUnit → Type 0
-Cut source statements = Statements (mark_length source) (drop (mark_length source) source) statements
+abbrev pub IsCut : List ℕ → List TextUnit → Type 0
+IsCut source statements = Statements (mark_length source) (drop (mark_length source) source) statements

@@ -9,12 +9,12 @@ pub mod TimeTexts
 pub mod Saying
 pub mod Spelling
 pub mod Lines
-pub mod Lining
+pub mod LineCutting
 pub mod Fields
 pub mod Moment
 pub mod MomentParts
-pub mod Piecing
-pub mod Stepping
+pub mod PieceCutting
+pub mod PieceSteps
 pub mod Places
 pub mod TooLong
 pub mod WholeRun

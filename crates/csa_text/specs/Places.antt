@@ -2,7 +2,7 @@
 -- These are definitions for private helpers, and for how the private fields of `PieceCutter` make its view; a reader of the contracts may skip them.
 use Rattle.std.specs.Prelude.{◌≡◌, ℕ, ◌+◌, ◌-◌, ◌^◌, not, ◌<◌, ◌≤◌, ◌==◌, ◌⊎◌, if◌then◌else◌, Bool, true, false, List, [], ◌∷◌, ◌++◌, length, take, drop, slice_range, slice_index}
 use Rattle.csa_text.specs.Cut.{TextUnit, Statements, IsUnit, byte_order_mark, begins_with}
-use Rattle.csa_text.specs.Piecing.{Follows}
+use Rattle.csa_text.specs.PieceCutting.{Follows}
 use Rattle.csa_text.specs.declared.piece.Found.{Found}
 use Rattle.csa_text.specs.declared.piece.Found.TheVariants as found
 use Rattle.csa_text.specs.declared.piece.Place.{Place}

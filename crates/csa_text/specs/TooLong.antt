@@ -1,9 +1,9 @@
 -- The first statement of a record that is too long.
 use Rattle.std.specs.Prelude.{◌≡◌, ℕ, ◌+◌, ◌<◌, ◌≤◌, List, ◌∷◌, ◌++◌, length}
 use Rattle.std.specs.List.{AllByRecursion}
-use Rattle.csa_text.specs.Cut.{TextUnit, Cut}
+use Rattle.csa_text.specs.Cut.{TextUnit, IsCut}
 use Rattle.csa_text.specs.Cutting.{Cutting, ToCome}
-use Rattle.csa_text.specs.Piecing.{Piecing, Leads, fresh}
+use Rattle.csa_text.specs.PieceCutting.{PieceCutting, Leads, fresh}
 
 -- none has more than 4,096 bytes
 abbrev pub AreShort : List TextUnit → Type 0
@@ -14,7 +14,7 @@ pub record FirstTooLong (source : List ℕ) (number offset : ℕ) : Type 0 where
   pub before : List TextUnit
   pub unit : TextUnit
   pub others : List TextUnit
-  pub cut : Cut source (before ++ (unit ∷ others))
+  pub cut : IsCut source (before ++ (unit ∷ others))
   pub short : AreShort before
   pub long : 4096 < length unit.bytes
   pub number_is : number ≡ length before + 1
@@ -22,10 +22,10 @@ pub record FirstTooLong (source : List ℕ) (number offset : ℕ) : Type 0 where
 
 -- the cutter has handed out these statements of its source, and none of them is too long
 pub record HasCut (c : Cutting) (handed : List TextUnit) : Type 0 where
-  pub onward : (others : List TextUnit) → ToCome c others → Cut c.source (handed ++ others)
+  pub onward : (others : List TextUnit) → ToCome c others → IsCut c.source (handed ++ others)
   pub counted : c.number ≡ length handed
   pub short : AreShort handed
 
 -- a cutter of pieces that was fed this source has handed out these statements, and none of them is too long
-abbrev pub HasCutOf : List ℕ → Piecing → List TextUnit → Type 0
+abbrev pub HasCutOf : List ℕ → PieceCutting → List TextUnit → Type 0
 HasCutOf source p handed = Leads fresh source handed p × AreShort handed

@@ -1,11 +1,11 @@
 -- A whole run of a cutter: its steps, one after another.
 use Rattle.std.specs.Prelude.{◌≡◌, ℕ, ◌+◌, List, [], ◌∷◌, ◌++◌, take, Option, Some, None, Ok}
-use Rattle.csa_text.specs.Cut.{TextUnit, Cut}
+use Rattle.csa_text.specs.Cut.{TextUnit, IsCut}
 use Rattle.csa_text.specs.Cutting.{Cutting, IsHandedOut}
 use Rattle.std.specs.Borrow.{Bor}
-use Rattle.csa_text.specs.Lining.{Lining, BeginsTooLong, LineStep, LinesAfter}
-use Rattle.csa_text.specs.Piecing.{Piecing}
-use Rattle.csa_text.specs.Stepping.{IsNumbered, Stepped}
+use Rattle.csa_text.specs.LineCutting.{LineCutting, BeginsTooLong, LineStep, LinesAfter}
+use Rattle.csa_text.specs.PieceCutting.{PieceCutting}
+use Rattle.csa_text.specs.PieceSteps.{IsNumbered, Stepped}
 use Rattle.csa_text.specs.declared.cutter.Statement.{Statement}
 use Rattle.csa_text.specs.declared.piece.Cut.{Cut as Step}
 
@@ -18,16 +18,16 @@ AreNumbered count (u ∷ us) (s ∷ ss) = IsNumbered count u s × AreNumbered (c
 
 -- these are the statements of the source, with their numbers, offsets and bytes, and none is too long
 abbrev pub AreStatementsOf : List ℕ → List Statement → Type 0
-AreStatementsOf source given = (units : List TextUnit) × Cut source units × AreNumbered 0 units given
+AreStatementsOf source given = (units : List TextUnit) × IsCut source units × AreNumbered 0 units given
 
 abbrev pub given : Option Statement → List Statement
 given None = []
 given (Some s) = s ∷ []
 
 -- pieces and the answers to them, one after another
-abbrev pub Answered : Piecing → List (List ℕ × Step) → Piecing → Type 0
+abbrev pub Answered : PieceCutting → List (List ℕ × Step) → PieceCutting → Type 0
 Answered old [] new = old ≡ new
-Answered old (s ∷ steps) new = (next : Piecing) × Stepped old s.0 (Ok s.1) next × Answered next steps new
+Answered old (s ∷ steps) new = (next : PieceCutting) × Stepped old s.0 (Ok s.1) next × Answered next steps new
 
 -- the bytes that were used
 abbrev pub all_used : List (List ℕ × Step) → List ℕ
@@ -53,9 +53,9 @@ all_told [] = []
 all_told (s ∷ ss) = told s ∷ all_told ss
 
 -- pieces and the answers of a cutter of lines to them, one after another
-abbrev pub LineAnswers : Lining → List (List ℕ × (ℕ × Option (Bor (List ℕ)))) → Lining → Type 0
+abbrev pub LineAnswers : LineCutting → List (List ℕ × (ℕ × Option (Bor (List ℕ)))) → LineCutting → Type 0
 LineAnswers old [] new = old ≡ new
-LineAnswers old (s ∷ steps) new = (next : Lining) × (BeginsTooLong old.limit (old.held ++ s.0) → ⊥) × LineStep old.held s.0 s.1 × LinesAfter old s.0 (Ok s.1) next × LineAnswers next steps new
+LineAnswers old (s ∷ steps) new = (next : LineCutting) × (BeginsTooLong old.limit (old.held ++ s.0) → ⊥) × LineStep old.held s.0 s.1 × LinesAfter old s.0 (Ok s.1) next × LineAnswers next steps new
 
 abbrev pub all_taken : List (List ℕ × (ℕ × Option (Bor (List ℕ)))) → List ℕ
 all_taken [] = []

@@ -2,15 +2,15 @@
 
 ghost use Rattle.std.specs.Prelude.{◌≡◌, ℕ, List, [], ◌++◌, ◌↔◌, true, Option, Ok, Err};
 ghost use Rattle.std.specs.Borrow.{Bor};
-ghost use Rattle.csa_text.specs.Cut.{TextUnit, Cut, Statements, mark_length};
+ghost use Rattle.csa_text.specs.Cut.{TextUnit, IsCut, Statements, mark_length};
 ghost use Rattle.csa_text.specs.Cutting.{Cutting, ToCome, IsTooLong};
 ghost use Rattle.csa_text.specs.Lines.{Lines};
-ghost use Rattle.csa_text.specs.Lining.{Lining, BeginsTooLong, HasLongLine};
+ghost use Rattle.csa_text.specs.LineCutting.{LineCutting, BeginsTooLong, HasLongLine};
 ghost use Rattle.csa_text.specs.Moment.{CalendarMoment, SpellsMoment};
 ghost use Rattle.csa_text.specs.MomentParts.{moment_of};
-ghost use Rattle.csa_text.specs.Piecing.{Piecing, Closed, fresh};
+ghost use Rattle.csa_text.specs.PieceCutting.{PieceCutting, Closed, fresh};
 ghost use Rattle.csa_text.specs.Spelling.{Saying, Spells};
-ghost use Rattle.csa_text.specs.Stepping.{Stepped, Finished};
+ghost use Rattle.csa_text.specs.PieceSteps.{Stepped, Finished};
 ghost use Rattle.csa_text.specs.TooLong.{FirstTooLong};
 ghost use Rattle.csa_text.specs.WholeRun.{AreNumbered, AreStatementsOf, given, Answered, all_used, all_given, HandedOut, all_told, LineAnswers, all_taken, all_lines};
 ghost use Rattle.csa_text.specs.declared.calendar.Moment.{Moment};
@@ -25,8 +25,8 @@ use crate::calendar::Moment;
 pub fn cut_once()
     ensures anywhere { (offset : ℕ) (text : List ℕ) → (statements : List TextUnit) × Statements offset text statements
         × ((others : List TextUnit) → Statements offset text others → others ≡ statements) }
-    ensures source { (source : List ℕ) → (statements : List TextUnit) × Cut source statements
-        × ((others : List TextUnit) → Cut source others → others ≡ statements) }
+    ensures source { (source : List ℕ) → (statements : List TextUnit) × IsCut source statements
+        × ((others : List TextUnit) → IsCut source others → others ≡ statements) }
 {}
 
 /// The bytes of a statement spell one thing at most.
@@ -66,11 +66,11 @@ pub fn too_long_once()
 /// statements of the bytes that were used; with what `finish` hands out, all of them; and its
 /// `CutFault` names the first statement that is too long, whatever comes behind the piece.
 pub fn pieces_run()
-    ensures so_far { (steps : List (List ℕ × Step)) (p : Piecing) → Answered fresh steps p
+    ensures so_far { (steps : List (List ℕ × Step)) (p : PieceCutting) → Answered fresh steps p
         → (closed : List TextUnit) × Closed (all_used steps) closed × AreNumbered 0 closed (all_given steps) }
-    ensures finished { (steps : List (List ℕ × Step)) (last : Option Statement) (p q : Piecing)
+    ensures finished { (steps : List (List ℕ × Step)) (last : Option Statement) (p q : PieceCutting)
         → Answered fresh steps p → Finished p (Ok last) q → AreStatementsOf (all_used steps) (all_given steps ++ given last) }
-    ensures refused { (steps : List (List ℕ × Step)) (piece more : List ℕ) (fault : CutFault) (p q : Piecing)
+    ensures refused { (steps : List (List ℕ × Step)) (piece more : List ℕ) (fault : CutFault) (p q : PieceCutting)
         → Answered fresh steps p → Stepped p piece (Err fault) q
         → FirstTooLong ((all_used steps ++ piece) ++ more) fault.number fault.offset }
 {}
@@ -100,11 +100,11 @@ pub fn statements_alike()
 /// the bytes that were used, it holds their rest, and no line has more than the limit; where it
 /// answers `TooLong`, the bytes with that piece have a line over the limit.
 pub fn lines_run()
-    ensures lines { (steps : List (List ℕ × (ℕ × Option (Bor (List ℕ))))) (old new : Lining)
+    ensures lines { (steps : List (List ℕ × (ℕ × Option (Bor (List ℕ))))) (old new : LineCutting)
         → old.held ≡ [] → LineAnswers old steps new → Lines (all_taken steps) (all_lines steps) new.held }
-    ensures short { (steps : List (List ℕ × (ℕ × Option (Bor (List ℕ))))) (old new : Lining)
+    ensures short { (steps : List (List ℕ × (ℕ × Option (Bor (List ℕ))))) (old new : LineCutting)
         → old.held ≡ [] → LineAnswers old steps new → HasLongLine old.limit (all_taken steps) → ⊥ }
-    ensures long { (steps : List (List ℕ × (ℕ × Option (Bor (List ℕ))))) (old new : Lining) (piece : List ℕ)
+    ensures long { (steps : List (List ℕ × (ℕ × Option (Bor (List ℕ))))) (old new : LineCutting) (piece : List ℕ)
         → old.held ≡ [] → LineAnswers old steps new → BeginsTooLong new.limit (new.held ++ piece)
         → HasLongLine old.limit (all_taken steps ++ piece) }
 {}

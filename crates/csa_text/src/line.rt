@@ -5,7 +5,7 @@ ghost use Rattle.std.specs.Io.BufRead.{Rests};
 ghost use Rattle.csa_text.specs.contracts.line.LineCutter.{the_row};
 ghost use Rattle.csa_text.specs.declared.line.LineFault.TheVariants.{OutOfMemory};
 ghost use Rattle.csa_text.specs.Lines.{is_line_end};
-ghost use Rattle.csa_text.specs.Lining.{BeginsTooLong, IsRun, LineStep, LinesAfter, LastLine, LinesFinished};
+ghost use Rattle.csa_text.specs.LineCutting.{BeginsTooLong, IsRun, LineStep, LinesAfter, LastLine, LinesFinished};
 
 use memchr::memchr2;
 use std::alloc::{AllocError, Global};
@@ -47,9 +47,9 @@ pub struct LineCutter {
 impl Model for LineCutter {
     ghost use Rattle.std.specs.Prelude.{[], if◌then◌else◌, length, ◌≤◌};
     ghost use Rattle.csa_text.specs.Lines.{HasNoLineEnd};
-    ghost use Rattle.csa_text.specs.Lining.{Lining};
+    ghost use Rattle.csa_text.specs.LineCutting.{LineCutting};
 
-    ghost Value = { Lining };
+    ghost Value = { LineCutting };
 
     ghost view = { λ c. record { held = if c.spent then [] else c.held.items; limit = c.limit; failed = c.failed } };
 

@@ -4,8 +4,8 @@ ghost use Rattle.std.specs.Io.BufRead.{Rests};
 ghost use Rattle.arrayvec.specs.ArrayVec.{array_vec_len};
 ghost use Rattle.csa_text.specs.contracts.piece.PieceCutter.{the_row};
 ghost use Rattle.csa_text.specs.Cut.{statement_bytes};
-ghost use Rattle.csa_text.specs.Piecing.{fresh, HoldsLittle, IsOpen};
-ghost use Rattle.csa_text.specs.Stepping.{Stepped, Finished, IsUsed, IsLentFrom};
+ghost use Rattle.csa_text.specs.PieceCutting.{fresh, HoldsLittle, IsOpen};
+ghost use Rattle.csa_text.specs.PieceSteps.{Stepped, Finished, IsUsed, IsLentFrom};
 ghost use Rattle.csa_text.specs.Places.{IsKept, IsFoundIn, IsFirstIn, IsCommon, IsHeld, place_found, is_in_mark, kept_of, has_unit};
 
 use crate::cutter::{
@@ -62,9 +62,9 @@ pub struct PieceCutter {
 }
 
 impl Model for PieceCutter {
-    ghost use Rattle.csa_text.specs.Piecing.{Piecing};
+    ghost use Rattle.csa_text.specs.PieceCutting.{PieceCutting};
 
-    ghost Value = { Piecing };
+    ghost Value = { PieceCutting };
 
     ghost use Rattle.csa_text.specs.Places.{begins, open_of, IsKept};
 

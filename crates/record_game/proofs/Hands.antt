@@ -29,7 +29,7 @@ use Rattle.record_game.proofs.ByRanks.{ranks_cell, flat_joined}
 abbrev IsPlain : Placing → Type 0
 IsPlain (on m p) = Unit {0}
 IsPlain (off m k) = ⊥
-IsPlain (in_hand c k) = kinds.in_hand k ≡ true
+IsPlain (in_hand c k) = kinds.is_hand_kind k ≡ true
 IsPlain (rest c) = ⊥
 
 none_off : (n : ℕ) (ps : List Placing) → AllByRecursion IsPlain ps → filter_map (off_at n) ps ≡ []
@@ -121,11 +121,11 @@ hand_placed : (c : Color) (bag : List ℕ) → placings (hand_items c bag) ≡ h
 hand_placed c bag = pairs_placed c (hand_pairs bag) ∙ pairs_held c bag hand_order
 
 -- they are of the seven kinds, and on no square
-many_plain : (c : Color) (k : Kind) (m : ℕ) → kinds.in_hand k ≡ true → AllByRecursion IsPlain (replicate m (in_hand c k))
+many_plain : (c : Color) (k : Kind) (m : ℕ) → kinds.is_hand_kind k ≡ true → AllByRecursion IsPlain (replicate m (in_hand c k))
 many_plain c k zero h = tt
 many_plain c k (suc m) h = (h, many_plain c k m h)
 
-held_plain : (c : Color) (bag : List ℕ) (ks : List Kind) → AllByRecursion (λ k. kinds.in_hand k ≡ true) ks → AllByRecursion IsPlain (held_pairs c bag ks)
+held_plain : (c : Color) (bag : List ℕ) (ks : List Kind) → AllByRecursion (λ k. kinds.is_hand_kind k ≡ true) ks → AllByRecursion IsPlain (held_pairs c bag ks)
 held_plain c bag [] h = tt
 held_plain c bag (k ∷ ks) h =
     all_joined IsPlain (replicate (count_in bag k) (in_hand c k)) (held_pairs c bag ks) (many_plain c k (count_in bag k) h.0) (held_plain c bag ks h.1)
@@ -193,7 +193,7 @@ all_is p =
     (placings_joined (hand_items Black p.black) (hand_items White p.white)
     ∙ (ap (λ ps. ps ++ placings (hand_items White p.white)) (hand_placed Black p.black) ∙ ap (λ ps. held_pairs Black p.black hand_order ++ ps) (hand_placed White p.white)))
 
-order_held : AllByRecursion (λ k. kinds.in_hand k ≡ true) hand_order
+order_held : AllByRecursion (λ k. kinds.is_hand_kind k ≡ true) hand_order
 order_held = (refl, (refl, (refl, (refl, (refl, (refl, (refl, tt)))))))
 
 all_plain : (p : Placed) → AllByRecursion IsPlain (all_placed p)

@@ -203,7 +203,7 @@ seven : (a b c d e f g p q r s t u v : ℕ) → a ≡ p → b ≡ q → c ≡ r 
 seven a b c d e f g p q r s t u v h i j k l m n = rw (h, i, j, k, l, m, n) refl
 
 -- the bag has one more of that kind
-bag_one_more : (c : Color) (done : List Placing) (k : Kind) → ((j : Kind) → is_held c j (in_hand c k) ≡ same_kind k j) → kinds.in_hand k ≡ true → bag_given c (done ++ in_hand c k ∷ []) ≡ one_more (bag_given c done) k
+bag_one_more : (c : Color) (done : List Placing) (k : Kind) → ((j : Kind) → is_held c j (in_hand c k) ≡ same_kind k j) → kinds.is_hand_kind k ≡ true → bag_given c (done ++ in_hand c k ∷ []) ≡ one_more (bag_given c done) k
 bag_one_more c done Pawn same h = seven _ _ _ _ _ _ _ _ _ _ _ _ _ _ (held_hit c Pawn done c Pawn (same Pawn)) (held_miss c Lance done c Pawn (same Lance)) (held_miss c Knight done c Pawn (same Knight)) (held_miss c Silver done c Pawn (same Silver)) (held_miss c Gold done c Pawn (same Gold)) (held_miss c Bishop done c Pawn (same Bishop)) (held_miss c Rook done c Pawn (same Rook))
 bag_one_more c done Lance same h = seven _ _ _ _ _ _ _ _ _ _ _ _ _ _ (held_miss c Pawn done c Lance (same Pawn)) (held_hit c Lance done c Lance (same Lance)) (held_miss c Knight done c Lance (same Knight)) (held_miss c Silver done c Lance (same Silver)) (held_miss c Gold done c Lance (same Gold)) (held_miss c Bishop done c Lance (same Bishop)) (held_miss c Rook done c Lance (same Rook))
 bag_one_more c done Knight same h = seven _ _ _ _ _ _ _ _ _ _ _ _ _ _ (held_miss c Pawn done c Knight (same Pawn)) (held_miss c Lance done c Knight (same Lance)) (held_hit c Knight done c Knight (same Knight)) (held_miss c Silver done c Knight (same Silver)) (held_miss c Gold done c Knight (same Gold)) (held_miss c Bishop done c Knight (same Bishop)) (held_miss c Rook done c Knight (same Rook))
@@ -230,7 +230,7 @@ hand_cells first done s c k u m less =
     ap (λ ks. left_on (get_or first m None) ks ++ filter_map (put_on m) (done ++ in_hand c k ∷ [])) (offs_more m done (in_hand c k) refl)
     ∙ (ap (λ ps. left_on (get_or first m None) (filter_map (off_at m) done) ++ ps) (puts_more m done (in_hand c k) refl) ∙ u.cells m less)
 
-pub step_hand : (first : Cells) (done : List Placing) (s : Layout) (c : Color) (k : Kind) → IsUnion first done s → filter_map rest_given done ≡ [] → kinds.in_hand k ≡ true → IsUnion first (done ++ in_hand c k ∷ []) (placed s (in_hand c k))
+pub step_hand : (first : Cells) (done : List Placing) (s : Layout) (c : Color) (k : Kind) → IsUnion first done s → filter_map rest_given done ≡ [] → kinds.is_hand_kind k ≡ true → IsUnion first (done ++ in_hand c k ∷ []) (placed s (in_hand c k))
 step_hand first done s Black k u none held =
     record {
       squares = u.squares;
@@ -308,11 +308,11 @@ held_if s n k fine =
     let test = not (holds k (get_or s.board n None)) in
     untrue (holds k (get_or s.board n None)) (not_first NotThere test [] (not_first AfterRest s.rest_given ((NotThere, test) ∷ []) fine).1).0
 
-fits_if : (s : Layout) (c : Color) (k : Kind) → placing_fault s (in_hand c k) ≡ None → kinds.in_hand k ≡ true
+fits_if : (s : Layout) (c : Color) (k : Kind) → placing_fault s (in_hand c k) ≡ None → kinds.is_hand_kind k ≡ true
 fits_if s c k fine =
     let later : List (SetupFault × Bool) = (TooMany, is_full s k) ∷ [] in
-    let seven_kinds : List (SetupFault × Bool) = (NotForHand, not (kinds.in_hand k)) ∷ later in
-    untrue (kinds.in_hand k) (not_first NotForHand (not (kinds.in_hand k)) later (not_first AfterRest s.rest_given seven_kinds fine).1).0
+    let seven_kinds : List (SetupFault × Bool) = (NotForHand, not (kinds.is_hand_kind k)) ∷ later in
+    untrue (kinds.is_hand_kind k) (not_first NotForHand (not (kinds.is_hand_kind k)) later (not_first AfterRest s.rest_given seven_kinds fine).1).0
 
 pub placed_union : (first : Cells) (done ps : List Placing) (s t : Layout) → IsUnion first done s → filter_map rest_given done ≡ [] → InTurn done ps → place_all s ps ≡ Ok t → IsPlacedUnion first (done ++ ps) t
 placed_union first done [] s t u none turn h =

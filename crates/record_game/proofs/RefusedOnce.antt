@@ -12,7 +12,7 @@ use Rattle.shogi_rules.specs.declared.moves.Move.{Move}
 use Rattle.shogi_rules.specs.Play as plays
 use Rattle.shogi_rules.specs.Positions.{Played}
 use Rattle.shogi_rules.proofs.Once.{one-answer}
-use Rattle.csa_text.specs.Cut.{TextUnit, Cut, statement_bytes}
+use Rattle.csa_text.specs.Cut.{TextUnit, IsCut, statement_bytes}
 use Rattle.csa_text.specs.Spelling.{Saying, version, name, header, even, rank, pieces, turn, walked, time, ending}
 use Rattle.csa_text.proofs.Once.{statements_once}
 use Rattle.csa_text.proofs.Sayings.{same_saying}
@@ -171,7 +171,7 @@ first_fault_once before (m ∷ ms) (n ∷ ns) u v c d (s ∷ ss) (t ∷ ts) w x 
     record { count = omega (arith, more.count); unit = more.unit; why = more.why }
 
 -- a record that is refused at a statement has no cut without a fault
-refused_at_whole : (source : List ℕ) (n o : ℕ) (why : Why) (statements : List TextUnit) (sayings : List Saying) → RefusedAt source n o why → Cut source statements → Faultless [] statements sayings → ⊥
+refused_at_whole : (source : List ℕ) (n o : ℕ) (why : Why) (statements : List TextUnit) (sayings : List Saying) → RefusedAt source n o why → IsCut source statements → Faultless [] statements sayings → ⊥
 refused_at_whole source n o why statements sayings r cut whole =
     let same : statements ≡ r.front ++ r.unit ∷ r.behind = statements_once _ _ statements _ cut r.cut in
     never [] r.front r.unit r.behind r.sayings sayings why (rw same at whole) r.faultless r.fault

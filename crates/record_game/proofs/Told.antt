@@ -6,7 +6,7 @@ use Rattle.std.proofs.lemmas.Bool.{cases_lt}
 use Rattle.std.proofs.lemmas.List.{append-nil}
 use Rattle.shogi_board.specs.Cells.{even_cells}
 use Rattle.csa_text.specs.declared.fault.TextFault.TheVariants.{StatementTooLong}
-use Rattle.csa_text.specs.Cut.{TextUnit, Cut, statement_bytes}
+use Rattle.csa_text.specs.Cut.{TextUnit, IsCut, statement_bytes}
 use Rattle.csa_text.specs.Spelling.{Saying, fault_of_row}
 use Rattle.csa_text.proofs.Once.{cut_found, statements_once}
 use Rattle.csa_text.proofs.Sayings.{same_saying, spells_or_not}
@@ -228,7 +228,7 @@ abbrev IsRefused : List ℕ → Type 0
 IsRefused source = (n o : ℕ) × (why : Why) × Refused source n o why
 
 -- without a fault they tell a game, or lack the side
-told_by : (source : List ℕ) (us : List TextUnit) → Cut source us → (f : NoFault [] us) (stage : Stage) → f.kept.stage ≡ stage → ((g : Game) × Tells source g) ⊎ IsRefused source
+told_by : (source : List ℕ) (us : List TextUnit) → IsCut source us → (f : NoFault [] us) (stage : Stage) → f.kept.stage ≡ stage → ((g : Game) × Tells source g) ⊎ IsRefused source
 told_by source us cut f (playing c) is =
     let spelt = spelt_all [] us f.sayings f.faultless in
     let course : IsCourse c = subst IsWellStage is f.well.1 in
@@ -273,7 +273,7 @@ tells_or_refused source =
           unit = f.unit;
           behind = f.behind;
           sayings = f.sayings;
-          cut = subst (Cut source) f.whole cut.1;
+          cut = subst (IsCut source) f.whole cut.1;
           faultless = f.faultless;
           fault = f.fault;
           number_is = refl;

@@ -149,7 +149,7 @@ put_kings cells i p c low empty =
     let e : kings_of (set cells i (Some p)) c + 0 ≡ kings_of cells c + cond (same_color p.color c && is_king p.kind) 1 0 = rw empty at step in
     omega (arith, e)
 
-bag_grows : (bag : List ℕ) (k : Kind) (j : ℕ) → length bag ≡ 7 → kinds.in_hand k ≡ true → slice_index bag j ≤ slice_index (one_more bag k) j
+bag_grows : (bag : List ℕ) (k : Kind) (j : ℕ) → length bag ≡ 7 → kinds.is_hand_kind k ≡ true → slice_index bag j ≤ slice_index (one_more bag k) j
 bag_grows bag k j seven held =
     elim (cases_Bool (place_of k == j)) [
       | inl hit ↦
@@ -163,7 +163,7 @@ bag_grows bag k j seven held =
           omega (arith, same)
     ]
 
-bag_gains : (bag : List ℕ) (k : Kind) → length bag ≡ 7 → kinds.in_hand k ≡ true → slice_index (one_more bag k) (place_of k) ≡ slice_index bag (place_of k) + 1
+bag_gains : (bag : List ℕ) (k : Kind) → length bag ≡ 7 → kinds.is_hand_kind k ≡ true → slice_index (one_more bag k) (place_of k) ≡ slice_index bag (place_of k) + 1
 bag_gains bag k seven held =
     let count : count_in bag k ≡ slice_index bag (place_of k) = rw held refl in
     let now : slice_index (one_more bag k) (place_of k) ≡ count_in bag k + 1 = get_or-set_same bag (place_of k) (count_in bag k + 1) 0 (omega (arith, held-low k held, seven)) in
@@ -191,7 +191,7 @@ less_on s u n p low empty grows = record {
   kings = λ c. omega (arith, put_kings s.board n p c low empty, grows.kings c);
 }
 
-less_hand : (s u : Layout) (c : Color) (k : Kind) → length s.black ≡ 7 → length s.white ≡ 7 → kinds.in_hand k ≡ true → Grows (placed s (in_hand c k)) u → Grows s u
+less_hand : (s u : Layout) (c : Color) (k : Kind) → length s.black ≡ 7 → length s.white ≡ 7 → kinds.is_hand_kind k ≡ true → Grows (placed s (in_hand c k)) u → Grows s u
 less_hand s u Black k b w held grows = record {
   totals = λ j. omega (arith, bag_grows s.black k (place_of j) b held, grows.totals j);
   kings = grows.kings;
@@ -201,11 +201,11 @@ less_hand s u White k b w held grows = record {
   kings = grows.kings;
 }
 
-gain_hand : (s : Layout) (c : Color) (k : Kind) → length s.black ≡ 7 → length s.white ≡ 7 → kinds.in_hand k ≡ true → total_of (placed s (in_hand c k)) k ≡ total_of s k + 1
+gain_hand : (s : Layout) (c : Color) (k : Kind) → length s.black ≡ 7 → length s.white ≡ 7 → kinds.is_hand_kind k ≡ true → total_of (placed s (in_hand c k)) k ≡ total_of s k + 1
 gain_hand s Black k b w held = omega (arith, bag_gains s.black k b held)
 gain_hand s White k b w held = omega (arith, bag_gains s.white k w held)
 
-fine_hand : (s u : Layout) (c : Color) (k : Kind) → s.rest_given ≡ false → length s.black ≡ 7 → length s.white ≡ 7 → kinds.in_hand k ≡ true → Grows (placed s (in_hand c k)) u → IsWithinTotals u.board u.black u.white → placing_fault s (in_hand c k) ≡ None
+fine_hand : (s u : Layout) (c : Color) (k : Kind) → s.rest_given ≡ false → length s.black ≡ 7 → length s.white ≡ 7 → kinds.is_hand_kind k ≡ true → Grows (placed s (in_hand c k)) u → IsWithinTotals u.board u.black u.white → placing_fault s (in_hand c k) ≡ None
 fine_hand s u c k free b w held grows within =
     let room : total_of s k < limit k = omega (arith, gain_hand s c k b w held, grows.totals k, within.totals k) in
     let full : nat_le (limit k) (total_of s k) ≡ false = lt-leb _ _ room in
@@ -245,7 +245,7 @@ union_placed first done (off n k ∷ ps) s u a none turn b within =
     }
 union_placed first done (in_hand c k ∷ ps) s u a none turn b within =
     let no_off = no_more_off (done ++ in_hand c k ∷ []) ps turn (mixed done (in_hand c k) (λ h. h)) in
-    let held : kinds.in_hand k ≡ true = mid_held done (in_hand c k) ps b.held in
+    let held : kinds.is_hand_kind k ≡ true = mid_held done (in_hand c k) ps b.held in
     let black : length s.black ≡ 7 = ap length a.black in
     let white : length s.white ≡ 7 = ap length a.white in
     let next = union_placed first (done ++ in_hand c k ∷ []) ps (placed s (in_hand c k)) u (step_hand first done s c k a none held) (rests_more done (in_hand c k) none refl) turn

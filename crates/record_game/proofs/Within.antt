@@ -71,7 +71,7 @@ within_on s n p low fine w =
     placed-within s.board s.black s.white p.color p.kind n w low (room_in s p.kind fourth.0) (λ h. no_king (is_king p.kind) (kings_of s.board p.color) third.0 h)
 
 -- one more in a bag
-bag_more : (bag : List ℕ) (k j : Kind) → length bag ≡ 7 → kinds.in_hand k ≡ true → slice_index (one_more bag k) (place_of j) ≡ slice_index bag (place_of j) + cond (place_of k == place_of j) 1 0
+bag_more : (bag : List ℕ) (k j : Kind) → length bag ≡ 7 → kinds.is_hand_kind k ≡ true → slice_index (one_more bag k) (place_of j) ≡ slice_index bag (place_of j) + cond (place_of k == place_of j) 1 0
 bag_more bag k j seven held =
     let low = held-low k held in
     let counted : count_in bag k ≡ slice_index bag (place_of k) = rw held refl in
@@ -95,7 +95,7 @@ more false new old many e low h = omega (arith, e, low)
 eq_place : (m n : ℕ) → (m == n) ≡ true → m ≡ n
 eq_place m n h = grind (arith, nat_tests, h)
 
-within_hand : (s : Layout) (c : Color) (k : Kind) → kinds.in_hand k ≡ true → total s.board s.black s.white k < limit k → Within s → Within (placed s (in_hand c k))
+within_hand : (s : Layout) (c : Color) (k : Kind) → kinds.is_hand_kind k ≡ true → total s.board s.black s.white k < limit k → Within s → Within (placed s (in_hand c k))
 within_hand s Black k held room w = record {
   squares = w.squares;
   black_kinds = length-set s.black _ _ ∙ w.black_kinds;
@@ -126,11 +126,11 @@ within_placed s (on n p) low fine w = within_on s n p low fine w
 within_placed s (off n k) low fine w = removed-within s.board s.black s.white n w low
 within_placed s (in_hand c k) low fine w =
     let full : List (SetupFault × Bool) = (TooMany, is_full s k) ∷ [] in
-    let seven_kinds : List (SetupFault × Bool) = (NotForHand, not (kinds.in_hand k)) ∷ full in
+    let seven_kinds : List (SetupFault × Bool) = (NotForHand, not (kinds.is_hand_kind k)) ∷ full in
     let first = not_first AfterRest s.rest_given seven_kinds fine in
-    let second = not_first NotForHand (not (kinds.in_hand k)) full first.1 in
+    let second = not_first NotForHand (not (kinds.is_hand_kind k)) full first.1 in
     let third = not_first TooMany (is_full s k) [] second.1 in
-    within_hand s c k (untrue (kinds.in_hand k) second.0) (room_in s k third.0) w
+    within_hand s c k (untrue (kinds.is_hand_kind k) second.0) (room_in s k third.0) w
 within_placed s (rest c) low fine w = within_rest s c w
 
 fine_first : (fault : Option SetupFault) (next : Result Layout SetupFault) (t : Layout) → unless fault next ≡ Ok t → (fault ≡ None) × (next ≡ Ok t)

@@ -11,7 +11,7 @@ use Rattle.shogi_rules.specs.declared.line.PlayFault.{PlayFault}
 use Rattle.shogi_rules.specs.declared.line.PlayFault.TheVariants as playing
 use Rattle.shogi_rules.specs.Play as plays
 use Rattle.shogi_rules.specs.Positions.{Played}
-use Rattle.csa_text.specs.Cut.{TextUnit, Cut, statement_bytes}
+use Rattle.csa_text.specs.Cut.{TextUnit, IsCut, statement_bytes}
 use Rattle.csa_text.specs.Spelling.{Saying, version, name, header, even, rank, pieces, turn, walked, time, ending, Spells, fault_of_row}
 use Rattle.csa_text.specs.declared.fault.TextFault.TheVariants.{StatementTooLong}
 use Rattle.record_game.specs.declared.fault.OrderFault.{OrderFault}
@@ -101,7 +101,7 @@ pub record RefusedAt (source : List ℕ) (number offset : ℕ) (why : Why) : Typ
   pub unit : TextUnit
   pub behind : List TextUnit
   pub sayings : List Saying
-  pub cut : Cut source (front ++ unit ∷ behind)
+  pub cut : IsCut source (front ++ unit ∷ behind)
   pub faultless : Faultless [] front sayings
   pub fault : Fault sayings unit why
   pub number_is : number ≡ length front + 1
@@ -111,7 +111,7 @@ pub record RefusedAt (source : List ℕ) (number offset : ℕ) (why : Why) : Typ
 pub record RefusedAtEnd (source : List ℕ) (number offset : ℕ) (why : Why) : Type 0 where
   pub statements : List TextUnit
   pub sayings : List Saying
-  pub cut : Cut source statements
+  pub cut : IsCut source statements
   pub faultless : Faultless [] statements sayings
   pub no_side : sides sayings ≡ []
   pub number_is : number ≡ length statements + 1
@@ -127,7 +127,7 @@ pub record FaultlessTo (source : List ℕ) (number offset : ℕ) : Type 0 where
   pub unit : TextUnit
   pub behind : List TextUnit
   pub sayings : List Saying
-  pub cut : Cut source (front ++ unit ∷ behind)
+  pub cut : IsCut source (front ++ unit ∷ behind)
   pub faultless : Faultless [] (front ++ unit ∷ []) sayings
   pub number_is : number ≡ length front + 1
   pub place : offset ≡ unit.offset

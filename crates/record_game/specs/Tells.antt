@@ -1,7 +1,7 @@
 -- Which game the bytes of a record tell.
 use Rattle.std.specs.Prelude.{ℕ, ◌≤◌, List, length}
 use Rattle.std.specs.List.{AllZip}
-use Rattle.csa_text.specs.Cut.{TextUnit, Cut, statement_bytes}
+use Rattle.csa_text.specs.Cut.{TextUnit, IsCut, statement_bytes}
 use Rattle.csa_text.specs.Spelling.{Saying, Spells}
 use Rattle.record_game.specs.Game.{Game}
 use Rattle.record_game.specs.Says.{Says}
@@ -14,6 +14,6 @@ IsSpelt unit saying = (length unit.bytes ≤ 4096) × Spells (statement_bytes un
 pub record Tells (source : List ℕ) (g : Game) : Type 0 where
   pub statements : List TextUnit
   pub sayings : List Saying
-  pub cut : Cut source statements
+  pub cut : IsCut source statements
   pub spelt : AllZip IsSpelt statements sayings
   pub says : Says sayings g

@@ -50,7 +50,7 @@ rest_given (rest color) = Some color
 abbrev pub MayBeHeld : Placing → Type 0
 MayBeHeld (on m p) = Unit {0}
 MayBeHeld (off m of_kind) = Unit {0}
-MayBeHeld (in_hand color of_kind) = pieces.in_hand of_kind ≡ true
+MayBeHeld (in_hand color of_kind) = pieces.is_hand_kind of_kind ≡ true
 MayBeHeld (rest color) = Unit {0}
 
 -- all that remain are given last, and once

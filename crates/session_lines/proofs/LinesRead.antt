@@ -6,7 +6,7 @@ use Rattle.std.proofs.lemmas.Bool.Decides.{Decides-eqb}
 use Rattle.std.proofs.lemmas.Slice.Eq.{slice_eq-Decides}
 use Rattle.csa_text.proofs.Once.{statements_once}
 use Rattle.csa_text.proofs.Sayings.{same_saying}
-use Rattle.csa_text.specs.Cut.{TextUnit, Cut, begins_with, statement_bytes}
+use Rattle.csa_text.specs.Cut.{TextUnit, IsCut, begins_with, statement_bytes}
 use Rattle.csa_text.specs.Spelling.{Saying, walked, time, ending}
 use Rattle.csa_text.specs.declared.ending.Ending.{Ending}
 use Rattle.csa_text.specs.declared.fault.TextFault.{TextFault}
@@ -20,7 +20,7 @@ use Rattle.session_lines.specs.MoveLines.{is_move_line}
 use Rattle.session_lines.specs.ServerLines.{is_start_line, is_reject_line, is_ending_line, is_hash_line, IsLineOf, TellsTimed, TellsEnding, IsMove, IsTime, UnitFault, ExtraFault, FirstTextFault, no_move, no_time, more}
 use Rattle.session_lines.specs.ServerLines as lines
 
-cut_once : (line : List ℕ) (us vs : List TextUnit) → Cut line us → Cut line vs → us ≡ vs
+cut_once : (line : List ℕ) (us vs : List TextUnit) → IsCut line us → IsCut line vs → us ≡ vs
 cut_once line us vs a b = statements_once _ _ us vs a b
 
 pub items_once : (line : List ℕ) (ss ts : List Saying) → IsLineOf line ss → IsLineOf line ts → ss ≡ ts
@@ -153,14 +153,14 @@ is_time : (t : ℕ) → IsTime (time t)
 is_time t = (t, refl)
 
 -- the first statement has a fault, and spells a move
-first_apart : (line : List ℕ) (u v : TextUnit) (us vs : Units) (f : TextFault) (c : Color) (m : Move) → Cut line (u ∷ us) → Cut line (v ∷ vs)
+first_apart : (line : List ℕ) (u v : TextUnit) (us vs : Units) (f : TextFault) (c : Color) (m : Move) → IsCut line (u ∷ us) → IsCut line (v ∷ vs)
     → UnitFault IsMove u f → IsSpelt v (walked c m) → ⊥
 first_apart line u v us vs f c m a b fault spelt =
     let e = heads u v us vs (cut_once line (u ∷ us) (v ∷ vs) a b) in
     not_wanted IsMove v f (walked c m) (subst (λ x. UnitFault IsMove x f) e.0 fault) spelt (is_move c m)
 
 -- the second has a fault, and spells a time
-second_apart : (line : List ℕ) (u v w x : TextUnit) (us vs : Units) (f : TextFault) (t : ℕ) → Cut line (u ∷ v ∷ us) → Cut line (w ∷ x ∷ vs)
+second_apart : (line : List ℕ) (u v w x : TextUnit) (us vs : Units) (f : TextFault) (t : ℕ) → IsCut line (u ∷ v ∷ us) → IsCut line (w ∷ x ∷ vs)
     → UnitFault IsTime v f → IsSpelt x (time t) → ⊥
 second_apart line u v w x us vs f t a b fault spelt =
     let e = heads u w (v ∷ us) (x ∷ vs) (cut_once line (u ∷ v ∷ us) (w ∷ x ∷ vs) a b) in
@@ -198,10 +198,10 @@ fault_once line f g a b =
 
 -- the units of a line that tells a move: one, or a second that spells the time
 pub data MoveUnits (line : List ℕ) (c : Color) (m : Timed) : Type 0 where
-  alone : (u : TextUnit) → Cut line (u ∷ []) → IsSpelt u (walked c m.move) → MoveUnits line c m
-  timed : (u v : TextUnit) (t : ℕ) → Cut line (u ∷ v ∷ []) → IsSpelt u (walked c m.move) → IsSpelt v (time t) → MoveUnits line c m
+  alone : (u : TextUnit) → IsCut line (u ∷ []) → IsSpelt u (walked c m.move) → MoveUnits line c m
+  timed : (u v : TextUnit) (t : ℕ) → IsCut line (u ∷ v ∷ []) → IsSpelt u (walked c m.move) → IsSpelt v (time t) → MoveUnits line c m
 
-units_are : (line : List ℕ) (c : Color) (m : Timed) (us : Units) (o : Option ℕ) → Cut line us → AllZip IsSpelt us (walked c m.move ∷ time_items o) → MoveUnits line c m
+units_are : (line : List ℕ) (c : Color) (m : Timed) (us : Units) (o : Option ℕ) → IsCut line us → AllZip IsSpelt us (walked c m.move ∷ time_items o) → MoveUnits line c m
 units_are line c m [] o cut h = absurd h
 units_are line c m (u ∷ []) None cut h = alone u cut h.0
 units_are line c m (u ∷ v ∷ us) None cut h = absurd h.1
@@ -212,10 +212,10 @@ units_are line c m (u ∷ v ∷ w ∷ us) (Some t) cut h = absurd h.1.1
 pub move_units : (line : List ℕ) (c : Color) (m : Timed) → TellsTimed line c m → MoveUnits line c m
 move_units line c m h = units_are line c m h.0 m.time h.1 h.2
 
-one_two : (line : List ℕ) (u v w : TextUnit) (vs : Units) → Cut line (u ∷ []) → Cut line (v ∷ w ∷ vs) → ⊥
+one_two : (line : List ℕ) (u v w : TextUnit) (vs : Units) → IsCut line (u ∷ []) → IsCut line (v ∷ w ∷ vs) → ⊥
 one_two line u v w vs a b = let e = heads u v [] (w ∷ vs) (cut_once line (u ∷ []) (v ∷ w ∷ vs) a b) in let f = ap length e.1 in omega (arith, f)
 
-two_three : (line : List ℕ) (u x v w y : TextUnit) (vs : Units) → Cut line (u ∷ x ∷ []) → Cut line (v ∷ w ∷ y ∷ vs) → ⊥
+two_three : (line : List ℕ) (u x v w y : TextUnit) (vs : Units) → IsCut line (u ∷ x ∷ []) → IsCut line (v ∷ w ∷ y ∷ vs) → ⊥
 two_three line u x v w y vs a b =
     let e = ap length (cut_once line (u ∷ x ∷ []) (v ∷ w ∷ y ∷ vs) a b) in omega (arith, e)
 

@@ -3,7 +3,7 @@ use Rattle.std.proofs.Common.{◌≡◌, ℕ, List, [], ◌∷◌, length, drop,
 use Rattle.csa_text.proofs.Once.{statements_once}
 use Rattle.csa_text.proofs.Runs.{found}
 use Rattle.csa_text.proofs.WholeRuns.{whole_cut}
-use Rattle.csa_text.specs.Cut.{TextUnit, Cut, Statements, mark_length, statement_bytes}
+use Rattle.csa_text.specs.Cut.{TextUnit, IsCut, Statements, mark_length, statement_bytes}
 use Rattle.csa_text.specs.Cutting.{Cutting, ToCome, IsFirstStatement, IsHandedOut, IsTooLong, unit_between}
 use Rattle.csa_text.specs.declared.cutter.Statement.{Statement}
 use Rattle.csa_text.specs.WholeRun.{AreNumbered}
@@ -15,11 +15,11 @@ pub record AtStart (line : List ℕ) (c : Cutting) : Type 0 where
   pub at : c.at ≡ mark_length line
   pub number : c.number ≡ 0
 
-pub whole : (line : List ℕ) (c : Cutting) (us : List TextUnit) → AtStart line c → ToCome c us → Cut line us
+pub whole : (line : List ℕ) (c : Cutting) (us : List TextUnit) → AtStart line c → ToCome c us → IsCut line us
 whole line c us s h =
     subst (λ n. Statements n (drop n line) us) s.at (subst (λ x. Statements c.at (drop c.at x) us) s.source h)
 
-one_unit : (line : List ℕ) (us : List TextUnit) (u : TextUnit) → Cut line us → IsAlone line u → us ≡ u ∷ []
+one_unit : (line : List ℕ) (us : List TextUnit) (u : TextUnit) → IsCut line us → IsAlone line u → us ≡ u ∷ []
 one_unit line us u cut alone = statements_once _ _ us (u ∷ []) cut alone.0
 
 pub no_statement : (line : List ℕ) (c : Cutting) → AtStart line c → ToCome c [] → (u : TextUnit) → IsAlone line u → ⊥
@@ -60,7 +60,7 @@ pub long_behind : (line : List ℕ) (c d : Cutting) (offset number place : ℕ)
     → (u : TextUnit) → IsAlone line u → ⊥
 long_behind line c d offset number place s same first h u alone = two_units line c d offset h.unit h.others s same first h.first u alone
 
-one_of : (line : List ℕ) (s : Statement) (us : List TextUnit) → Cut line us → AreNumbered 0 us (s ∷ [])
+one_of : (line : List ℕ) (s : Statement) (us : List TextUnit) → IsCut line us → AreNumbered 0 us (s ∷ [])
     → (u : TextUnit) × IsAlone line u × (s.bytes.now ≡ statement_bytes u.bytes)
 one_of line s [] cut h = absurd h
 one_of line s (u ∷ []) cut h = (u, (cut, h.0.short), h.0.slice)
@@ -72,4 +72,4 @@ pub only_one : (line : List ℕ) (c d : Cutting) (s : Statement) → AtStart lin
 only_one line c d s start same out behind =
     let at : c.at ≡ mark_length c.source = start.at ∙ ap mark_length (sym start.source) in
     let all = whole_cut (s ∷ []) c d at start.number (d, same, out, refl) behind in
-    one_of line s all.0 (subst (λ l. Cut l all.0) start.source all.1) all.2
+    one_of line s all.0 (subst (λ l. IsCut l all.0) start.source all.1) all.2

@@ -3,7 +3,7 @@ use Rattle.std.specs.Prelude.{◌≡◌, ℕ, ◌<◌, ◌≤◌, ◌&&◌, nat_
 use Rattle.std.specs.List.{AllZip, starts_with, ends_with}
 use Rattle.shogi_board.specs.declared.color.Color.{Color}
 use Rattle.shogi_rules.specs.declared.moves.Move.{Move}
-use Rattle.csa_text.specs.Cut.{TextUnit, Cut, statement_bytes, begins_with}
+use Rattle.csa_text.specs.Cut.{TextUnit, IsCut, statement_bytes, begins_with}
 use Rattle.csa_text.specs.Spelling.{Saying, walked, time, Spells, fault_of_row}
 use Rattle.csa_text.specs.declared.fault.TextFault.{TextFault}
 use Rattle.csa_text.specs.declared.fault.TextFault.TheVariants.{StatementTooLong, Unknown}
@@ -32,7 +32,7 @@ is_reject_line line = starts_with nat_eq line texts.rejected
 -- 1. Moves and endings
 -- the line is cut into statements, and they spell these items
 abbrev pub IsLineOf : List ℕ → List Saying → Type 0
-IsLineOf line sayings = (units : List TextUnit) × Cut line units × AllZip IsSpelt units sayings
+IsLineOf line sayings = (units : List TextUnit) × IsCut line units × AllZip IsSpelt units sayings
 
 -- a move of that side, optionally a time
 abbrev pub TellsTimed : List ℕ → Color → Timed → Type 0
@@ -66,13 +66,13 @@ pub data ExtraFault (u : TextUnit) (fault : TextFault) : Type 0 where
 -- of the first statement, where the move is wanted; of the second, where the time is; or of the third
 pub data FirstTextFault (line : List ℕ) (fault : TextFault) : Type 0 where
   no_move : (u : TextUnit) (behind : List TextUnit)
-      → Cut line (u ∷ behind) → UnitFault IsMove u fault
+      → IsCut line (u ∷ behind) → UnitFault IsMove u fault
       → FirstTextFault line fault
   no_time : (u v : TextUnit) (behind : List TextUnit) (color : Color) (m : Move)
-      → Cut line (u ∷ v ∷ behind) → IsSpelt u (walked color m) → UnitFault IsTime v fault
+      → IsCut line (u ∷ v ∷ behind) → IsSpelt u (walked color m) → UnitFault IsTime v fault
       → FirstTextFault line fault
   more : (u v w : TextUnit) (behind : List TextUnit) (color : Color) (m : Move) (t : ℕ)
-      → Cut line (u ∷ v ∷ w ∷ behind) → IsSpelt u (walked color m) → IsSpelt v (time t) → ExtraFault w fault
+      → IsCut line (u ∷ v ∷ w ∷ behind) → IsSpelt u (walked color m) → IsSpelt v (time t) → ExtraFault w fault
       → FirstTextFault line fault
 
 -- 3. Results and reasons

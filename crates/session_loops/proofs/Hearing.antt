@@ -8,7 +8,7 @@ use Rattle.std.specs.Io.BufRead.{DropsConsumable}
 use Rattle.std.specs.Io.KnownBytes.{Consumes, Keeps, prepend_known}
 use Rattle.std.proofs.KnownBytes.{Consumes-kept, Consumes-nil, Consumes-trans, starts_with_rest}
 use Rattle.csa_text.specs.Lines.{Lines, AreLineEnds, HasNoLineEnd}
-use Rattle.csa_text.specs.Lining.{Lining, BeginsTooLong}
+use Rattle.csa_text.specs.LineCutting.{LineCutting, BeginsTooLong}
 use Rattle.csa_text.proofs.LinesOnce.{lines_joined}
 use Rattle.csa_text.specs.declared.line.LineFault.{LineFault}
 use Rattle.csa_text.specs.declared.line.LineFault.TheVariants as faulty
@@ -154,7 +154,7 @@ pub long_heard : (G : Type 0) (fault : LineFault) (r : Result (Option Heard) Fau
 long_heard G fault (Ok heard) same gives = λ is. gives (same.1 (ap Ok is))
 long_heard G fault (Err other) same gives = tt
 
-pub begins_long : (c : Lining) (piece : List ℕ) → IsHearing c → (c.failed ≡ true) ⊎ BeginsTooLong c.limit (c.held ++ piece) → BeginsTooLong 65536 (c.held ++ piece)
+pub begins_long : (c : LineCutting) (piece : List ℕ) → IsHearing c → (c.failed ≡ true) ⊎ BeginsTooLong c.limit (c.held ++ piece) → BeginsTooLong 65536 (c.held ++ piece)
 begins_long c piece h (inl failed) = absurd cc
 begins_long c piece h (inr long) = subst (λ j. BeginsTooLong j (c.held ++ piece)) h.limit long
 

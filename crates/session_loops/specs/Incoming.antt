@@ -2,7 +2,7 @@
 use Rattle.std.specs.Prelude.{◌≡◌, ℕ, ◌<◌, ◌≤◌, false, List, [], ◌∷◌, length, Option, IfSome}
 use Rattle.std.specs.Io.KnownBytes.{Consumes}
 use Rattle.csa_text.specs.Lines.{Lines, HasNoLineEnd}
-use Rattle.csa_text.specs.Lining.{Lining, BeginsTooLong}
+use Rattle.csa_text.specs.LineCutting.{LineCutting, BeginsTooLong}
 
 -- the bytes that still come, those of an unfinished line first, where they are known; and the line that was heard last
 pub record Coming : Type 0 where
@@ -23,7 +23,7 @@ abbrev pub GivesLongLine : Option (List ℕ) → Option (List ℕ) → Type 0
 GivesLongLine old new = GivesNoLine old new × IfSome old (BeginsTooLong 65536)
 
 -- the cutter of a reader that goes on
-pub record IsHearing (cutter : Lining) : Type 0 where
+pub record IsHearing (cutter : LineCutting) : Type 0 where
   pub limit : cutter.limit ≡ 65536
   pub run : HasNoLineEnd cutter.held
   pub short : length cutter.held ≤ 65536

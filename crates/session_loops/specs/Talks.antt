@@ -1,7 +1,7 @@
 -- A machine that answers the lines that come over a wire.
 use Rattle.std.specs.Prelude.{◌≡◌, ◌⊎◌, ℕ, ◌-◌, ◌^◌, ◌≤◌, Bool, true, false, List, [], ◌∷◌, ◌++◌, length, drop, Option, Result, Ok, Err}
 use Rattle.csa_text.specs.Lines.{Lines}
-use Rattle.csa_text.specs.Lining.{Lining, BeginsTooLong}
+use Rattle.csa_text.specs.LineCutting.{LineCutting, BeginsTooLong}
 use Rattle.session_loops.specs.declared.fault.Fault.{Fault}
 use Rattle.session_loops.specs.declared.fault.Fault.TheVariants.{LongLine, Read, Write, OutOfMemory}
 
@@ -116,7 +116,7 @@ pub record BreaksOff {W M : Type 0} (came : Passes W) (ends : Calls W) (went : P
   pub breaks : Breaks silent blocked answers bytes over lines before last v fault
 
 -- a talk on its way, after so many pieces: what came is cut but for what is left, and the lines so far were answered
-pub record Talking {W M : Type 0} (came : Passes W) (ends : Calls W) (went : Passes W) (answers : Answers M) (wire : W) (machine : M) (pieces : ℕ) (cutter : Lining) (left : List ℕ) (v : W) (m : M) : Type 0 where
+pub record Talking {W M : Type 0} (came : Passes W) (ends : Calls W) (went : Passes W) (answers : Answers M) (wire : W) (machine : M) (pieces : ℕ) (cutter : LineCutting) (left : List ℕ) (v : W) (m : M) : Type 0 where
   pub used : List ℕ
   pub lines : List (List ℕ)
   pub talked : Talked came ends went answers wire machine (used ++ left) false lines v m
@@ -127,35 +127,35 @@ pub record Talking {W M : Type 0} (came : Passes W) (ends : Calls W) (went : Pas
   pub short : length cutter.held ≤ 65536
 
 -- from wherever a talk began, it goes on
-abbrev pub GoesOn : {W M : Type 0} → Passes W → Calls W → Passes W → Answers M → Lining → List ℕ → W → M → Lining → List ℕ → W → M → Type 0
+abbrev pub GoesOn : {W M : Type 0} → Passes W → Calls W → Passes W → Answers M → LineCutting → List ℕ → W → M → LineCutting → List ℕ → W → M → Type 0
 GoesOn {W} {M} came ends went answers old piece u n new left v m =
     (wire : W) (machine : M) (pieces : ℕ) → Talking came ends went answers wire machine pieces old piece u n
     → Talking came ends went answers wire machine pieces new left v m
 
 -- from wherever a talk began, the machine ends it
-abbrev pub Finishes : {W M : Type 0} → Passes W → Calls W → Passes W → Answers M → Lining → List ℕ → W → M → W → M → Type 0
+abbrev pub Finishes : {W M : Type 0} → Passes W → Calls W → Passes W → Answers M → LineCutting → List ℕ → W → M → W → M → Type 0
 Finishes {W} {M} came ends went answers old piece u n v m =
     (wire : W) (machine : M) (pieces : ℕ) → Talking came ends went answers wire machine pieces old piece u n
     → IsEnded came ends went answers wire machine v m
 
 -- from wherever a talk began, it breaks off
-abbrev pub Stops : {W M : Type 0} → Passes W → Calls W → Passes W → Calls W → Passes W → Answers M → Lining → List ℕ → W → M → Fault → W → Type 0
+abbrev pub Stops : {W M : Type 0} → Passes W → Calls W → Passes W → Calls W → Passes W → Answers M → LineCutting → List ℕ → W → M → Fault → W → Type 0
 Stops {W} {M} came ends went silent blocked answers old piece u n fault v =
     (wire : W) (machine : M) (pieces : ℕ) → Talking came ends went answers wire machine pieces old piece u n
     → BreaksOff came ends went silent blocked answers wire machine fault v
 
-abbrev pub TakesNext : {W M : Type 0} → Passes W → Calls W → Passes W → Calls W → Passes W → Answers M → Lining → List ℕ → W → M → Result (ℕ × Bool) Fault → Lining → W → M → Type 0
+abbrev pub TakesNext : {W M : Type 0} → Passes W → Calls W → Passes W → Calls W → Passes W → Answers M → LineCutting → List ℕ → W → M → Result (ℕ × Bool) Fault → LineCutting → W → M → Type 0
 TakesNext came ends went silent blocked answers old piece u n (Ok (used, false)) new v m = GoesOn came ends went answers old piece u n new (drop used piece) v m
 TakesNext came ends went silent blocked answers old piece u n (Ok (used, true)) new v m = Finishes came ends went answers old piece u n v m
 TakesNext came ends went silent blocked answers old piece u n (Err fault) new v m = Stops came ends went silent blocked answers old piece u n fault v
 
-abbrev pub TakesPiece : {W M : Type 0} → Passes W → Calls W → Passes W → Calls W → Passes W → Answers M → Lining → List ℕ → W → M → Result Bool Fault → Lining → W → M → Type 0
+abbrev pub TakesPiece : {W M : Type 0} → Passes W → Calls W → Passes W → Calls W → Passes W → Answers M → LineCutting → List ℕ → W → M → Result Bool Fault → LineCutting → W → M → Type 0
 TakesPiece came ends went silent blocked answers old piece u n (Ok false) new v m = GoesOn came ends went answers old piece u n new [] v m
 TakesPiece came ends went silent blocked answers old piece u n (Ok true) new v m = Finishes came ends went answers old piece u n v m
 TakesPiece came ends went silent blocked answers old piece u n (Err fault) new v m = Stops came ends went silent blocked answers old piece u n fault v
 
 -- the end came, and the unfinished line was answered
-abbrev pub EndsTalk : {W M : Type 0} → Passes W → Calls W → Passes W → Calls W → Passes W → Answers M → Lining → W → M → Result Bool Fault → W → M → Type 0
+abbrev pub EndsTalk : {W M : Type 0} → Passes W → Calls W → Passes W → Calls W → Passes W → Answers M → LineCutting → W → M → Result Bool Fault → W → M → Type 0
 EndsTalk {W} {M} came ends went silent blocked answers old u n (Ok ended) v m =
     (wire : W) (machine : M) (pieces : ℕ) (before : W) → Talking came ends went answers wire machine pieces old [] before n → ends before u
     → HasAnswered came ends went answers wire machine ended v m

@@ -2,7 +2,7 @@
 
 ghost use Rattle.std.specs.Prelude.{◌≡◌, ◌↔◌, ◌⊎◌, ◌<◌, ◌≤◌, ◌++◌, [], ◌∷◌, length, take, None, Some, Ok, Err, IfOk, IfErr, IsErrOf, true, false};
 ghost use Rattle.csa_text.specs.Lines.{Lines};
-ghost use Rattle.csa_text.specs.Lining.{BeginsTooLong};
+ghost use Rattle.csa_text.specs.LineCutting.{BeginsTooLong};
 ghost use Rattle.session_loops.specs.Incoming.{GivesLine, GivesLongLine, GivesNoLine, IsHearing};
 
 use crate::fault::Fault;

@@ -16,7 +16,7 @@ use Rattle.shogi_rules.specs.Legal.{Legal, KindFits, HasPiece}
 use Rattle.shogi_rules.specs.Positions.{IsGame, begun, played, position_after}
 use Rattle.csa_text.proofs.Once.{cut_found}
 use Rattle.csa_text.proofs.Sayings.{spells_or_not}
-use Rattle.csa_text.specs.Cut.{TextUnit, Cut, Units, IsGap, IsUnit, is_statement, is_separator, begins_with, statement_bytes}
+use Rattle.csa_text.specs.Cut.{TextUnit, IsCut, Units, IsGap, IsUnit, is_statement, is_separator, begins_with, statement_bytes}
 use Rattle.csa_text.specs.Spelling.{Saying, version, name, header, even, rank, pieces, turn, walked, time, ending, fault_of_row}
 use Rattle.csa_text.specs.declared.fault.TextFault.{TextFault}
 use Rattle.csa_text.specs.declared.fault.TextFault.TheVariants.{StatementTooLong, Unknown}
@@ -93,17 +93,17 @@ first_unit b bs (u ∷ us) solid plain h kept =
     let at = unit_head b bs h.1.gap u.bytes h.0 solid h.1.whole h.1.separators h.1.unit in
     statement_kept u us (no_comment b u.bytes at.0 at.1 plain) kept
 
-plus : (bs : List ℕ) → Cut (43 ∷ bs) [] → ⊥
+plus : (bs : List ℕ) → IsCut (43 ∷ bs) [] → ⊥
 plus bs c = first_unit 43 bs c.units refl refl c.cut c.kept
 
-minus : (bs : List ℕ) → Cut (45 ∷ bs) [] → ⊥
+minus : (bs : List ℕ) → IsCut (45 ∷ bs) [] → ⊥
 minus bs c = first_unit 45 bs c.units refl refl c.cut c.kept
 
-no_units : (l : List ℕ) → is_move_line l ≡ true → Cut l [] → ⊥
+no_units : (l : List ℕ) → is_move_line l ≡ true → IsCut l [] → ⊥
 no_units [] h c = absurd (let e : false ≡ true = h in cc)
 no_units (b ∷ bs) h c = elim (signed (b ∷ bs) h) [
-  | inl e ↦ plus bs (subst (λ n. Cut (n ∷ bs) []) e c)
-  | inr e ↦ minus bs (subst (λ n. Cut (n ∷ bs) []) e c)
+  | inl e ↦ plus bs (subst (λ n. IsCut (n ∷ bs) []) e c)
+  | inr e ↦ minus bs (subst (λ n. IsCut (n ∷ bs) []) e c)
 ]
 
 -- 3. it has a first fault, or tells a move
@@ -113,7 +113,7 @@ NoFault l = (f : TextFault) → FirstTextFault l f → ⊥
 abbrev NoMove : List ℕ → Type 0
 NoMove l = (color : Color) (m : Timed) → TellsTimed l color m → ⊥
 
-third : (l : List ℕ) (u v : TextUnit) (us : List TextUnit) (c : Color) (m : Move) (t : ℕ) → Cut l (u ∷ v ∷ us) → IsSpelt u (walked c m) → IsSpelt v (time t) → NoFault l → NoMove l → ⊥
+third : (l : List ℕ) (u v : TextUnit) (us : List TextUnit) (c : Color) (m : Move) (t : ℕ) → IsCut l (u ∷ v ∷ us) → IsSpelt u (walked c m) → IsSpelt v (time t) → NoFault l → NoMove l → ⊥
 third l u v [] c m t cut first next no_fault no_move = no_move c (record { move = m; time = Some t }) (u ∷ v ∷ [], cut, (first, (next, tt)))
 third l u v (w ∷ ws) c m t cut first next no_fault no_move =
     elim (cases_lt 4096 (length w.bytes)) [
@@ -121,11 +121,11 @@ third l u v (w ∷ ws) c m t cut first next no_fault no_move =
       | inr short ↦ no_fault Unknown (lines.more u v w ws c m t cut first next (lines.extra short refl))
     ]
 
-other_time : (l : List ℕ) (u v : TextUnit) (us : List TextUnit) (c : Color) (m : Move) (s : Saying) → Cut l (u ∷ v ∷ us) → IsSpelt u (walked c m) → IsSpelt v s
+other_time : (l : List ℕ) (u v : TextUnit) (us : List TextUnit) (c : Color) (m : Move) (s : Saying) → IsCut l (u ∷ v ∷ us) → IsSpelt u (walked c m) → IsSpelt v s
     → (IsTime s → ⊥) → NoFault l → ⊥
 other_time l u v us c m s cut first next other no_fault = no_fault Unknown (lines.no_time u v us c m cut first (lines.another s next other refl))
 
-second_item : (l : List ℕ) (u v : TextUnit) (us : List TextUnit) (c : Color) (m : Move) (s : Saying) → Cut l (u ∷ v ∷ us) → IsSpelt u (walked c m) → IsSpelt v s
+second_item : (l : List ℕ) (u v : TextUnit) (us : List TextUnit) (c : Color) (m : Move) (s : Saying) → IsCut l (u ∷ v ∷ us) → IsSpelt u (walked c m) → IsSpelt v s
     → NoFault l → NoMove l → ⊥
 second_item l u v us c m version cut first next no_fault no_move = other_time l u v us c m _ cut first next (λ h. let e : version ≡ time h.0 = h.1 in cc) no_fault
 second_item l u v us c m (name d x) cut first next no_fault no_move = other_time l u v us c m _ cut first next (λ h. let e : name d x ≡ time h.0 = h.1 in cc) no_fault
@@ -138,7 +138,7 @@ second_item l u v us c m (walked d x) cut first next no_fault no_move = other_ti
 second_item l u v us c m (time t) cut first next no_fault no_move = third l u v us c m t cut first next no_fault no_move
 second_item l u v us c m (ending x) cut first next no_fault no_move = other_time l u v us c m _ cut first next (λ h. let e : ending x ≡ time h.0 = h.1 in cc) no_fault
 
-second : (l : List ℕ) (u : TextUnit) (us : List TextUnit) (c : Color) (m : Move) → Cut l (u ∷ us) → IsSpelt u (walked c m) → NoFault l → NoMove l → ⊥
+second : (l : List ℕ) (u : TextUnit) (us : List TextUnit) (c : Color) (m : Move) → IsCut l (u ∷ us) → IsSpelt u (walked c m) → NoFault l → NoMove l → ⊥
 second l u [] c m cut first no_fault no_move = no_move c (record { move = m; time = None }) (u ∷ [], cut, (first, tt))
 second l u (v ∷ vs) c m cut first no_fault no_move =
     elim (cases_lt 4096 (length v.bytes)) [
@@ -149,10 +149,10 @@ second l u (v ∷ vs) c m cut first no_fault no_move =
       ]
     ]
 
-other_move : (l : List ℕ) (u : TextUnit) (us : List TextUnit) (s : Saying) → Cut l (u ∷ us) → IsSpelt u s → (IsMove s → ⊥) → NoFault l → ⊥
+other_move : (l : List ℕ) (u : TextUnit) (us : List TextUnit) (s : Saying) → IsCut l (u ∷ us) → IsSpelt u s → (IsMove s → ⊥) → NoFault l → ⊥
 other_move l u us s cut first other no_fault = no_fault Unknown (lines.no_move u us cut (lines.another s first other refl))
 
-first_item : (l : List ℕ) (u : TextUnit) (us : List TextUnit) (s : Saying) → Cut l (u ∷ us) → IsSpelt u s → NoFault l → NoMove l → ⊥
+first_item : (l : List ℕ) (u : TextUnit) (us : List TextUnit) (s : Saying) → IsCut l (u ∷ us) → IsSpelt u s → NoFault l → NoMove l → ⊥
 first_item l u us version cut first no_fault no_move = other_move l u us _ cut first (λ h. let e : version ≡ walked h.0 h.1 = h.2 in cc) no_fault
 first_item l u us (name d x) cut first no_fault no_move = other_move l u us _ cut first (λ h. let e : name d x ≡ walked h.0 h.1 = h.2 in cc) no_fault
 first_item l u us (header x y) cut first no_fault no_move = other_move l u us _ cut first (λ h. let e : header x y ≡ walked h.0 h.1 = h.2 in cc) no_fault
@@ -164,7 +164,7 @@ first_item l u us (walked c m) cut first no_fault no_move = second l u us c m cu
 first_item l u us (time t) cut first no_fault no_move = other_move l u us _ cut first (λ h. let e : time t ≡ walked h.0 h.1 = h.2 in cc) no_fault
 first_item l u us (ending x) cut first no_fault no_move = other_move l u us _ cut first (λ h. let e : ending x ≡ walked h.0 h.1 = h.2 in cc) no_fault
 
-by_units : (l : List ℕ) (us : List TextUnit) → is_move_line l ≡ true → Cut l us → NoFault l → NoMove l → ⊥
+by_units : (l : List ℕ) (us : List TextUnit) → is_move_line l ≡ true → IsCut l us → NoFault l → NoMove l → ⊥
 by_units l [] sign cut no_fault no_move = no_units l sign cut
 by_units l (u ∷ us) sign cut no_fault no_move =
     elim (cases_lt 4096 (length u.bytes)) [

@@ -4,7 +4,7 @@ use Rattle.std.specs.List.{AllByRecursion, AllZip, filter_map, flat_map, starts_
 use Rattle.std.specs.Option.{option_to_list}
 use Rattle.shogi_board.specs.declared.color.Color.{Color}
 use Rattle.csa_text.specs.Codes.{sign}
-use Rattle.csa_text.specs.Cut.{TextUnit, Cut}
+use Rattle.csa_text.specs.Cut.{TextUnit, IsCut}
 use Rattle.csa_text.specs.Spelling.{Saying}
 use Rattle.csa_record.specs.Game.{Game}
 use Rattle.csa_record.specs.Items.{is_body, is_ending}
@@ -128,7 +128,7 @@ nameless g = record g { black = None; white = None }
 pub record TellsPosition (text : List ℕ) (g : Game) : Type 0 where
   pub statements : List TextUnit
   pub sayings : List Saying
-  pub cut : Cut text statements
+  pub cut : IsCut text statements
   pub spelt : AllZip IsSpelt statements sayings
   pub no_others : AllByRecursion (λ s. in_position s ≡ true) sayings
   pub says : Says sayings (nameless g)

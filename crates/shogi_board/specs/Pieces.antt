@@ -66,15 +66,15 @@ is_king King = true
 is_king _ = false
 
 -- a hand may hold each unpromoted kind but the king
-abbrev pub in_hand : Kind → Bool
-in_hand Pawn = true
-in_hand Lance = true
-in_hand Knight = true
-in_hand Silver = true
-in_hand Gold = true
-in_hand Bishop = true
-in_hand Rook = true
-in_hand _ = false
+abbrev pub is_hand_kind : Kind → Bool
+is_hand_kind Pawn = true
+is_hand_kind Lance = true
+is_hand_kind Knight = true
+is_hand_kind Silver = true
+is_hand_kind Gold = true
+is_hand_kind Bishop = true
+is_hand_kind Rook = true
+is_hand_kind _ = false
 
 abbrev pub same : Bool → Bool → Bool
 same true b = b

@@ -9,7 +9,7 @@ use Rattle.shogi_board.specs.declared.setup.SetupFault.TheVariants.{SquareTaken,
 use Rattle.shogi_board.specs.declared.square.Square.{Square}
 use Rattle.shogi_board.specs.Cells.{at, piece, even_cells, no_cells}
 use Rattle.shogi_board.specs.Layout.{Layout}
-use Rattle.shogi_board.specs.Pieces.{in_hand, is_king, same_kind, place_of}
+use Rattle.shogi_board.specs.Pieces.{is_hand_kind, is_king, same_kind, place_of}
 use Rattle.shogi_board.specs.Placed.{Placed}
 use Rattle.shogi_board.specs.Squares.{place}
 use Rattle.shogi_board.specs.Totals.{total, limit, kings_of, count_in, hand_kinds, no_pieces}
@@ -66,7 +66,7 @@ placed s color square kind = record s { board = slice_set s.board (place square)
 -- why a piece may not be added to a hand
 abbrev pub add_fault : Layout → Kind → Option SetupFault
 add_fault s kind =
-    first_fault ((AfterRest, s.rest_given) ∷ (NotForHand, not (in_hand kind)) ∷ (TooMany, is_full s kind) ∷ [])
+    first_fault ((AfterRest, s.rest_given) ∷ (NotForHand, not (is_hand_kind kind)) ∷ (TooMany, is_full s kind) ∷ [])
 
 -- one more of a kind in a bag
 abbrev pub one_more : List ℕ → Kind → List ℕ

@@ -5,7 +5,7 @@ use Rattle.shogi_board.specs.declared.kind.Kind.{Kind}
 use Rattle.shogi_board.specs.declared.kind.Kind.TheVariants.{Pawn, Lance, Knight, Silver, Gold, Bishop, Rook, King, ProPawn, ProLance, ProKnight, ProSilver, Horse, Dragon}
 use Rattle.shogi_board.specs.declared.kind.Piece.{Piece}
 use Rattle.shogi_board.specs.Cells.{Cells}
-use Rattle.shogi_board.specs.Pieces.{place_of, in_hand, same_color, is_king}
+use Rattle.shogi_board.specs.Pieces.{place_of, is_hand_kind, same_color, is_king}
 
 -- a bag: how many of each kind a hand holds, in the order of these kinds
 abbrev pub hand_kinds : List Kind
@@ -16,7 +16,7 @@ no_pieces = 0 ∷ 0 ∷ 0 ∷ 0 ∷ 0 ∷ 0 ∷ 0 ∷ []
 
 -- how many of that kind a hand holds; kings and promoted pieces never
 abbrev pub count_in : List ℕ → Kind → ℕ
-count_in bag kind = if in_hand kind then slice_index bag (place_of kind) else 0
+count_in bag kind = if is_hand_kind kind then slice_index bag (place_of kind) else 0
 
 -- the cell holds a piece of that kind, a promoted one counted as its unpromoted kind
 abbrev pub is_of : Kind → Option Piece → Bool

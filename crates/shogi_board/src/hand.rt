@@ -1,5 +1,5 @@
 ghost use Rattle.std.specs.Prelude.{◌≡◌, ◌-◌, true, slice_index, slice_set};
-ghost use Rattle.shogi_board.specs.Pieces.{place_of, in_hand};
+ghost use Rattle.shogi_board.specs.Pieces.{place_of, is_hand_kind};
 ghost use Rattle.shogi_board.specs.Totals.{count_in, no_pieces};
 
 use crate::kind::Kind;
@@ -27,7 +27,7 @@ impl Hand {
     pub fn count(&self, kind: Kind) -> u8
         ensures { result ≡ count_in self.now kind }
     {
-        if kind.in_hand() {
+        if kind.is_hand_kind() {
             self.counts[kind.place()]
         } else {
             0
@@ -56,7 +56,7 @@ impl Hand {
 
     // Sets how many pieces of a kind it holds.
     pub(crate) fn set(&mut self, kind: Kind, count: u8)
-        requires { in_hand kind ≡ true }
+        requires { is_hand_kind kind ≡ true }
         ensures { self.new ≡ slice_set self.old (place_of kind) count }
     {
         self.counts[kind.place()] = count;

@@ -1,5 +1,5 @@
 ghost use Rattle.std.specs.Prelude.{◌≡◌, ◌<◌, ◌≤◌};
-ghost use Rattle.shogi_board.specs.Pieces.{in_hand, is_king, is_promoted, promoted, unpromoted, place_of};
+ghost use Rattle.shogi_board.specs.Pieces.{is_hand_kind, is_king, is_promoted, promoted, unpromoted, place_of};
 ghost use Rattle.shogi_board.specs.Totals.{limit};
 
 use crate::color::Color;
@@ -25,8 +25,8 @@ pub enum Kind {
 
 impl Kind {
     /// Whether a hand may hold it: each unpromoted kind but the king.
-    pub fn in_hand(self) -> bool
-        ensures { result ≡ in_hand self }
+    pub fn is_hand_kind(self) -> bool
+        ensures { result ≡ is_hand_kind self }
     {
         matches!(
             self,

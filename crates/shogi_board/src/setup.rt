@@ -139,7 +139,7 @@ impl Setup {
         if self.rest_given {
             return Err(SetupFault::AfterRest);
         }
-        if !kind.in_hand() {
+        if !kind.is_hand_kind() {
             return Err(SetupFault::NotForHand);
         }
         if self.is_full(kind) {

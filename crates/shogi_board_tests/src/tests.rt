@@ -305,7 +305,7 @@ fn parts_of_a_bare_position(rt: HostRuntime) -> Result<(), Fail> {
 
 #[test]
 fn kinds_and_their_forms(rt: HostRuntime) {
-    assert!(rt; Kind::Rook.in_hand() && !Kind::King.in_hand() && !Kind::Horse.in_hand());
+    assert!(rt; Kind::Rook.is_hand_kind() && !Kind::King.is_hand_kind() && !Kind::Horse.is_hand_kind());
     assert!(rt; Kind::Pawn.promoted() == Some(Kind::ProPawn) && Kind::Gold.promoted().is_none());
     assert!(rt; Kind::Horse.is_promoted() && !Kind::Bishop.is_promoted());
     assert!(rt; Kind::Horse.unpromoted() == Kind::Bishop);

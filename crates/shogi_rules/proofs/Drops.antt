@@ -2,7 +2,7 @@
 use Rattle.std.proofs.Common.{◌≡◌, ℕ, ◌+◌, ◌-◌, ◌<◌, Bool, true, false, List, None, length, slice_index, arith, refl, get_or-set_same}
 use Rattle.std.specs.Prelude.{if◌then◌else◌}
 use Rattle.shogi_board.specs.Cells.{Cells, at}
-use Rattle.shogi_board.specs.Pieces.{place_of, in_hand}
+use Rattle.shogi_board.specs.Pieces.{place_of, is_hand_kind}
 use Rattle.shogi_board.specs.Placed.{Placed, bag_of}
 use Rattle.shogi_board.specs.Sound.{IsSound}
 use Rattle.shogi_board.specs.Setup.{layout_of, take_hand_fault, place_fault, placed, with_hand, hand_of, one_less}
@@ -31,13 +31,13 @@ some-held : (b : Bool) (n : ℕ) → 0 < (if b then n else 0) → (b ≡ true) �
 some-held true n h = (refl, h)
 some-held false n h = absurd (omega arith)
 
-pub held-of : (bag : List ℕ) (its_kind : Kind) → 0 < count_in bag its_kind → (in_hand its_kind ≡ true) × (0 < slice_index bag (place_of its_kind))
-held-of bag its_kind some = some-held (in_hand its_kind) (slice_index bag (place_of its_kind)) some
+pub held-of : (bag : List ℕ) (its_kind : Kind) → 0 < count_in bag its_kind → (is_hand_kind its_kind ≡ true) × (0 < slice_index bag (place_of its_kind))
+held-of bag its_kind some = some-held (is_hand_kind its_kind) (slice_index bag (place_of its_kind)) some
 
 fewer : (bag : List ℕ) (its_kind : Kind) → length bag ≡ 7 → 0 < count_in bag its_kind → slice_index (one_less bag its_kind) (place_of its_kind) + 1 ≡ slice_index bag (place_of its_kind)
 fewer bag its_kind seven some =
     let h = held-of bag its_kind some in
-    let held : in_hand its_kind ≡ true = h.0 in
+    let held : is_hand_kind its_kind ≡ true = h.0 in
     let low : place_of its_kind < length bag = let l = held-low its_kind held in omega arith in
     let e : slice_index (one_less bag its_kind) (place_of its_kind) ≡ count_in bag its_kind - 1 = get_or-set_same bag (place_of its_kind) (count_in bag its_kind - 1) 0 low in
     let f : count_in bag its_kind ≡ slice_index bag (place_of its_kind) = rw held refl in

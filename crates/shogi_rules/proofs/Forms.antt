@@ -3,7 +3,7 @@ use Rattle.std.proofs.Common.{◌≡◌, ℕ, ◌<◌, ◌==◌, true, Option, S
 use Rattle.std.proofs.lemmas.Bool.Decides.{Decides-eqb}
 use Rattle.shogi_board.specs.Cells.{piece}
 use Rattle.shogi_board.specs.declared.kind.Piece.{Piece}
-use Rattle.shogi_board.specs.Pieces.{place_of, is_king, in_hand, same_kind, opponent, same_color}
+use Rattle.shogi_board.specs.Pieces.{place_of, is_king, is_hand_kind, same_kind, opponent, same_color}
 use Rattle.shogi_board.specs.declared.color.Color.{Color}
 use Rattle.shogi_board.specs.declared.color.Color.TheVariants.{Black, White}
 use Rattle.shogi_board.specs.declared.kind.Kind.{Kind}
@@ -84,7 +84,7 @@ pub form-king : (was its_kind : Kind) → (its_kind ≡ was) ⊎ (promoted was �
 form-king was its_kind form h = place-king was (sym (form-place was its_kind form) ∙ king-place its_kind h)
 
 -- a piece that is no king may be held
-pub captured-held : (k : Kind) → (k ≡ King → ⊥) → in_hand (unpromoted k) ≡ true
+pub captured-held : (k : Kind) → (k ≡ King → ⊥) → is_hand_kind (unpromoted k) ≡ true
 captured-held Pawn h = refl
 captured-held Lance h = refl
 captured-held Knight h = refl
@@ -116,7 +116,7 @@ unpromoted-place ProSilver = refl
 unpromoted-place Horse = refl
 unpromoted-place Dragon = refl
 
-pub held-low : (k : Kind) → in_hand k ≡ true → place_of k < 7
+pub held-low : (k : Kind) → is_hand_kind k ≡ true → place_of k < 7
 held-low Pawn h = lit< tt
 held-low Lance h = lit< tt
 held-low Knight h = lit< tt
@@ -132,7 +132,7 @@ held-low ProSilver h = cc
 held-low Horse h = cc
 held-low Dragon h = cc
 
-pub held-no-king : (k : Kind) → in_hand k ≡ true → is_king k ≡ true → ⊥
+pub held-no-king : (k : Kind) → is_hand_kind k ≡ true → is_king k ≡ true → ⊥
 held-no-king Pawn h e = cc
 held-no-king Lance h e = cc
 held-no-king Knight h e = cc

@@ -4,7 +4,7 @@ use Rattle.std.proofs.lemmas.Bool.{cases_eq, cases_Bool, and_right, ne_eqb}
 use Rattle.std.proofs.lemmas.List.Sums.{sum_by-set}
 use Rattle.std.specs.List.{sum_by}
 use Rattle.shogi_board.specs.Cells.{at, piece}
-use Rattle.shogi_board.specs.Pieces.{place_of, is_king, in_hand, same_color}
+use Rattle.shogi_board.specs.Pieces.{place_of, is_king, is_hand_kind, same_color}
 use Rattle.shogi_board.specs.Placed.{Placed, bag_of}
 use Rattle.shogi_board.specs.Sound.{IsSound}
 use Rattle.shogi_board.specs.Setup.{one_more, one_less}
@@ -66,7 +66,7 @@ less-at true new old n c f some e = omega (arith, f, some, e)
 less-at false new old n c f some e = omega (arith, e)
 
 -- one more of a kind in a bag
-bag-more : (bag : List ℕ) (its_kind k : Kind) → length bag ≡ 7 → in_hand its_kind ≡ true → slice_index (one_more bag its_kind) (place_of k) ≡ slice_index bag (place_of k) + cond (place_of its_kind == place_of k) 1 0
+bag-more : (bag : List ℕ) (its_kind k : Kind) → length bag ≡ 7 → is_hand_kind its_kind ≡ true → slice_index (one_more bag its_kind) (place_of k) ≡ slice_index bag (place_of k) + cond (place_of its_kind == place_of k) 1 0
 bag-more bag its_kind k seven held =
     let low = held-low its_kind held in
     let e = other-count bag (place_of its_kind) (place_of k) (count_in bag its_kind + 1) (omega (arith, low, seven)) in

@@ -5,7 +5,7 @@ use Rattle.std.proofs.lemmas.Bool.Decides.{nat_tests}
 use Rattle.std.proofs.lemmas.List.Sums.{sum_by-set}
 use Rattle.shogi_board.specs.Cells.{Cells, at, piece}
 use Rattle.shogi_board.specs.Layout.{Layout}
-use Rattle.shogi_board.specs.Pieces.{place_of, is_king, in_hand, same_color}
+use Rattle.shogi_board.specs.Pieces.{place_of, is_king, is_hand_kind, same_color}
 use Rattle.shogi_board.specs.Setup.{place_fault, add_fault, take_hand_fault, hand_of}
 use Rattle.shogi_board.specs.Totals.{total, limit, kings_of, count_in, is_of, is_king_of}
 use Rattle.shogi_board.specs.declared.color.Color.{Color}
@@ -27,7 +27,7 @@ place-fits s color square kind free empty none room =
     let full : nat_le (limit kind) (total s.board s.black s.white kind) ≡ false = lt-leb _ _ room in
     rw (free, empty, king, full) refl
 
-pub add-fits : (s : Layout) (kind : Kind) → s.rest_given ≡ false → in_hand kind ≡ true → total s.board s.black s.white kind < limit kind → add_fault s kind ≡ None
+pub add-fits : (s : Layout) (kind : Kind) → s.rest_given ≡ false → is_hand_kind kind ≡ true → total s.board s.black s.white kind < limit kind → add_fault s kind ≡ None
 add-fits s kind free held room =
     let full : nat_le (limit kind) (total s.board s.black s.white kind) ≡ false = lt-leb _ _ room in
     rw (free, held, full) refl

@@ -3,7 +3,7 @@ use Rattle.std.proofs.Common.{◌≡◌, ℕ, ◌%◌, Bool, true, List, [], ◌
 use Rattle.std.specs.Prelude.{if◌then◌else◌}
 use Rattle.std.proofs.lemmas.Bool.{cases_order}
 use Rattle.shogi_board.specs.Cells.{at, piece}
-use Rattle.shogi_board.specs.Pieces.{place_of, is_promoted, in_hand}
+use Rattle.shogi_board.specs.Pieces.{place_of, is_promoted, is_hand_kind}
 use Rattle.shogi_board.specs.Placed.{Placed, bag_of}
 use Rattle.shogi_board.specs.Squares.{place}
 use Rattle.shogi_board.specs.Totals.{hand_kinds}
@@ -55,7 +55,7 @@ one-answer line color m None (Some OutOfMemory) h k = absurd k
 one-answer line color m (Some TooManyMoves) (Some OutOfMemory) h k = absurd k
 one-answer line color m (Some (Broken q)) (Some OutOfMemory) h k = absurd k
 
-held-at : (k : Kind) → in_hand k ≡ true → get_or hand_kinds (place_of k) Pawn ≡ k
+held-at : (k : Kind) → is_hand_kind k ≡ true → get_or hand_kinds (place_of k) Pawn ≡ k
 held-at Pawn h = refl
 held-at Lance h = refl
 held-at Knight h = refl

@@ -2,7 +2,7 @@
 use Rattle.std.proofs.Common.{◌≡◌, ℕ, ◌+◌, ◌*◌, ◌/◌, ◌%◌, ◌<◌, ◌≤◌, ◌==◌, Bool, true, false, Some, ◌⊎◌, inl, inr, arith, refl, sym, ◌∙◌}
 use Rattle.std.specs.Prelude.{if◌then◌else◌}
 use Rattle.shogi_board.specs.Cells.{at, piece}
-use Rattle.shogi_board.specs.Pieces.{place_of, is_promoted, in_hand}
+use Rattle.shogi_board.specs.Pieces.{place_of, is_promoted, is_hand_kind}
 use Rattle.shogi_board.specs.Placed.{Placed, bag_of}
 use Rattle.shogi_board.specs.Squares.{place}
 use Rattle.shogi_board.specs.declared.kind.Kind.{Kind}
@@ -89,7 +89,7 @@ walk-found p n from to (Walk f t k) low a b e fits =
     }
 walk-found p n from to (Put t k) low a b e fits = absurd (omega arith)
 
-pub drop-found : (p : Placed) (n : ℕ) (to : Square) (its_kind : Kind) (m : Move) → place to ≡ n % 81 → ((k : Kind) → in_hand k ≡ true → place_of k ≡ n / 81 → its_kind ≡ k) → turn_of m ≡ 13122 + n → FitsBoard p m → Put to its_kind ≡ m
+pub drop-found : (p : Placed) (n : ℕ) (to : Square) (its_kind : Kind) (m : Move) → place to ≡ n % 81 → ((k : Kind) → is_hand_kind k ≡ true → place_of k ≡ n / 81 → its_kind ≡ k) → turn_of m ≡ 13122 + n → FitsBoard p m → Put to its_kind ≡ m
 drop-found p n to its_kind (Walk f t k) a b e fits =
     let low = place-bound f in
     let low2 = place-bound t in

@@ -1,5 +1,5 @@
 ghost use Rattle.std.specs.Prelude.{◌≡◌, ◌<◌, ◌+◌, ◌*◌, ◌↔◌, IsTrue, MatchOption, IfSome, Some, true};
-ghost use Rattle.shogi_board.specs.Pieces.{in_hand, place_of};
+ghost use Rattle.shogi_board.specs.Pieces.{is_hand_kind, place_of};
 ghost use Rattle.shogi_board.specs.Placed.{Placed};
 ghost use Rattle.shogi_board.specs.Squares.{place};
 ghost use Rattle.shogi_board.specs.declared.kind.Kind.{Kind};
@@ -30,7 +30,7 @@ fn square_at(n: usize) -> Square
 // The kinds that a hand holds, in order.
 fn hand_kind(n: usize) -> Kind
     requires { n < 7 }
-    ensures kind { (kind : Kind) → in_hand kind ≡ true → place_of kind ≡ n → result ≡ kind }
+    ensures kind { (kind : Kind) → is_hand_kind kind ≡ true → place_of kind ≡ n → result ≡ kind }
     ensures place { place_of result ≡ n }
 {
     match n {

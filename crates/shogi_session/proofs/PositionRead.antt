@@ -2,7 +2,7 @@
 use Rattle.std.proofs.Common.{◌≡◌, ◌<◌, ◌≤◌, ◌-◌, ◌↔◌, IsTrue, ℕ, Bool, true, false, List, [], ◌∷◌, ◌++◌, length, append_assoc, append-nil, arith, refl, sym, subst}
 use Rattle.std.specs.List.{AllByRecursion, AllZip}
 use Rattle.csa_text.proofs.Once.{statements_once}
-use Rattle.csa_text.specs.Cut.{TextUnit, Cut}
+use Rattle.csa_text.specs.Cut.{TextUnit, IsCut}
 use Rattle.csa_text.specs.Cutting.{Cutting, ToCome, IsTooLong}
 use Rattle.csa_text.specs.Spelling.{Saying, Spells}
 use Rattle.csa_record.specs.Tells.{IsSpelt}
@@ -18,7 +18,7 @@ pub record HasRead (text : List ℕ) (c : Cutting) : Type 0 where
   pub sayings : List Saying
   pub spelt : AllZip IsSpelt handed sayings
   pub fit : AllByRecursion FitsIn sayings
-  pub whole : (others : List TextUnit) → ToCome c others → Cut text (handed ++ others)
+  pub whole : (others : List TextUnit) → ToCome c others → IsCut text (handed ++ others)
 
 pub start_read : (text : List ℕ) (c : Cutting) → AtStart text c → HasRead text c
 start_read text c start =
@@ -61,7 +61,7 @@ all_read text c h end =
     record {
       statements = h.handed;
       sayings = h.sayings;
-      cut = subst (Cut text) (append-nil h.handed) (h.whole [] end);
+      cut = subst (IsCut text) (append-nil h.handed) (h.whole [] end);
       spelt = h.spelt;
       no_others = h.fit;
     }

@@ -5,7 +5,7 @@ use Rattle.std.proofs.lemmas.Bool.Decides.{Decides-eqb}
 use Rattle.std.specs.List.{AllZip}
 use Rattle.csa_text.proofs.Once.{statements_once}
 use Rattle.csa_text.proofs.Sayings.{same_saying}
-use Rattle.csa_text.specs.Cut.{TextUnit, Cut, Units, IsGap, is_separator, IsUnit, is_statement, begins_with, statement_bytes}
+use Rattle.csa_text.specs.Cut.{TextUnit, IsCut, Units, IsGap, is_separator, IsUnit, is_statement, begins_with, statement_bytes}
 use Rattle.csa_text.specs.Cutting.{Cutting, ToCome}
 use Rattle.csa_text.specs.Spelling.{Saying, walked, time, ending}
 use Rattle.csa_text.specs.declared.fault.TextFault.{TextFault}
@@ -46,11 +46,11 @@ not_wanted Wanted u fault s (unread short none e) wanted spelt = none s spelt.1
 not_wanted Wanted u fault s (another other is unwanted e) wanted spelt =
     unwanted (subst Wanted (same_saying (statement_bytes u.bytes) s other spelt.1 is.1) wanted)
 
-cut_same : (line : List ℕ) (us vs : List TextUnit) → Cut line us → Cut line vs → us ≡ vs
+cut_same : (line : List ℕ) (us vs : List TextUnit) → IsCut line us → IsCut line vs → us ≡ vs
 cut_same line us vs a b = statements_once _ _ us vs a b
 
 -- the items that the statements of a line spell, where its statements are these
-at_these : (line : List ℕ) (us : List TextUnit) (ss : List Saying) → Cut line us → IsLineOf line ss → AllZip IsSpelt us ss
+at_these : (line : List ℕ) (us : List TextUnit) (ss : List Saying) → IsCut line us → IsLineOf line ss → AllZip IsSpelt us ss
 at_these line us ss cut told = subst (λ vs. AllZip IsSpelt vs ss) (cut_same line told.0 us told.1 cut) told.2
 
 pub nothing_said : (line : List ℕ) (c : Cutting) → AtStart line c → ToCome c [] → (e : Ended) → TellsEnding line e → ⊥
@@ -99,9 +99,9 @@ none_said x bs (u ∷ us) s n (behind, next, rest) kept =
     let k : [] ≡ u ∷ filter is_statement us = rw says at kept in
     absurd (omega (arith, ap length k))
 
-sign_said : (x : ℕ) (bs : List ℕ) → (x ≡ 43) ⊎ (x ≡ 45) → Cut (x ∷ bs) [] → ⊥
-sign_said x bs (inl e) cut = let c : Cut (43 ∷ bs) [] = subst (λ b. Cut (b ∷ bs) []) e cut in none_said 43 bs c.units refl refl c.cut c.kept
-sign_said x bs (inr e) cut = let c : Cut (45 ∷ bs) [] = subst (λ b. Cut (b ∷ bs) []) e cut in none_said 45 bs c.units refl refl c.cut c.kept
+sign_said : (x : ℕ) (bs : List ℕ) → (x ≡ 43) ⊎ (x ≡ 45) → IsCut (x ∷ bs) [] → ⊥
+sign_said x bs (inl e) cut = let c : IsCut (43 ∷ bs) [] = subst (λ b. IsCut (b ∷ bs) []) e cut in none_said 43 bs c.units refl refl c.cut c.kept
+sign_said x bs (inr e) cut = let c : IsCut (45 ∷ bs) [] = subst (λ b. IsCut (b ∷ bs) []) e cut in none_said 45 bs c.units refl refl c.cut c.kept
 
 two_signs : (x : ℕ) → (x == 43 || x == 45) ≡ true → (x ≡ 43) ⊎ (x ≡ 45)
 two_signs x h =
@@ -110,7 +110,7 @@ two_signs x h =
       | inr f ↦ inr ((Decides-eqb x 45).0 (rw f at h))
     ]
 
-cut_of_signs : (line : List ℕ) → is_move_line line ≡ true → Cut line [] → ⊥
+cut_of_signs : (line : List ℕ) → is_move_line line ≡ true → IsCut line [] → ⊥
 cut_of_signs [] from cut = absurd cc
 cut_of_signs (x ∷ bs) from cut = sign_said x bs (two_signs x from) cut
 

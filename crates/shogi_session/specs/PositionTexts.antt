@@ -1,7 +1,7 @@
 -- The text of a position block, apart from what it tells.
 use Rattle.std.specs.Prelude.{◌≡◌, ℕ, true, List, Option, Some, None}
 use Rattle.std.specs.List.{AllByRecursion, AllZip}
-use Rattle.csa_text.specs.Cut.{TextUnit, Cut}
+use Rattle.csa_text.specs.Cut.{TextUnit, IsCut}
 use Rattle.csa_text.specs.Spelling.{Saying, Spells}
 use Rattle.csa_record.specs.Game.{Game}
 use Rattle.csa_record.specs.Tells.{IsSpelt}
@@ -15,7 +15,7 @@ SpellsPosition bytes = (s : Saying) × Spells bytes s × (in_position s ≡ true
 pub record IsPositionText (text : List ℕ) : Type 0 where
   pub statements : List TextUnit
   pub sayings : List Saying
-  pub cut : Cut text statements
+  pub cut : IsCut text statements
   pub spelt : AllZip IsSpelt statements sayings
   pub no_others : AllByRecursion (λ s. in_position s ≡ true) sayings
 

@@ -9,7 +9,7 @@ use Rattle.shogi_board.specs.declared.kind.Kind.{Kind}
 use Rattle.shogi_board.specs.declared.kind.Kind.TheVariants.{Pawn, Lance, Knight, Silver, Gold, Bishop, Rook, King, ProPawn, ProLance, ProKnight, ProSilver, Horse, Dragon}
 use Rattle.shogi_board.specs.declared.kind.Piece.{Piece}
 use Rattle.shogi_board.specs.Layout.{Layout}
-use Rattle.shogi_board.specs.Pieces.{place_of, in_hand}
+use Rattle.shogi_board.specs.Pieces.{place_of, is_hand_kind}
 use Rattle.shogi_board.specs.Placed.{Placed}
 use Rattle.shogi_board.specs.Sound.{IsSound}
 use Rattle.shogi_board.specs.Setup.{empty_layout}
@@ -49,14 +49,14 @@ pile_all : (p : Piece) (n : ℕ) → flat_map pile_pieces (pile_of p n) ≡ repl
 pile_all p zero = refl
 pile_all p (suc m) = rw (not_none m) (append-nil (pile_pieces (record { count = written_count (suc m); piece = p })) ∙ one_pile p (suc m))
 
-written_fits : (n : ℕ) (p : Piece) → 1 ≤ n → n ≤ 99 → in_hand p.kind ≡ true → IsPile (record { count = written_count n; piece = p })
+written_fits : (n : ℕ) (p : Piece) → 1 ≤ n → n ≤ 99 → is_hand_kind p.kind ≡ true → IsPile (record { count = written_count n; piece = p })
 written_fits n p low high h =
     elim (eqb_tells n 1) [
       | inl same ↦ rw same.0 (tt, h)
       | inr other ↦ rw other.0 ((low, high), h)
     ]
 
-piles_fit : (p : Piece) (n : ℕ) → n ≤ 99 → in_hand p.kind ≡ true → AllByRecursion IsPile (pile_of p n)
+piles_fit : (p : Piece) (n : ℕ) → n ≤ 99 → is_hand_kind p.kind ≡ true → AllByRecursion IsPile (pile_of p n)
 piles_fit p zero high h = tt
 piles_fit p (suc m) high h = rw (not_none m) (written_fits (suc m) p (omega arith) high h, tt)
 
@@ -144,11 +144,11 @@ bags_held b black white h k fits =
     let f : Fits b (x.a0 ∷ x.a1 ∷ x.a2 ∷ x.a3 ∷ x.a4 ∷ x.a5 ∷ x.a6 ∷ []) (y.a0 ∷ y.a1 ∷ y.a2 ∷ y.a3 ∷ y.a4 ∷ y.a5 ∷ y.a6 ∷ []) = subst (λ w. Fits b (x.a0 ∷ x.a1 ∷ x.a2 ∷ x.a3 ∷ x.a4 ∷ x.a5 ∷ x.a6 ∷ []) w) y.is (subst (λ l. Fits b l white) x.is fits) in
     subst (λ l. P l white) (sym x.is) (subst (λ w. P (x.a0 ∷ x.a1 ∷ x.a2 ∷ x.a3 ∷ x.a4 ∷ x.a5 ∷ x.a6 ∷ []) w) (sym y.is) (hands_held b x.a0 x.a1 x.a2 x.a3 x.a4 x.a5 x.a6 y.a0 y.a1 y.a2 y.a3 y.a4 y.a5 y.a6 f))
 
-hand_fits : (c : Color) (bag : List ℕ) (ks : List Kind) → ((k : Kind) → count_in bag k ≤ 99) → AllByRecursion (λ k. in_hand k ≡ true) ks → AllByRecursion IsPile (flat_map (piles_of c bag) ks)
+hand_fits : (c : Color) (bag : List ℕ) (ks : List Kind) → ((k : Kind) → count_in bag k ≤ 99) → AllByRecursion (λ k. is_hand_kind k ≡ true) ks → AllByRecursion IsPile (flat_map (piles_of c bag) ks)
 hand_fits c bag [] few h = tt
 hand_fits c bag (k ∷ ks) few h = all_joined (piles_of c bag k) (flat_map (piles_of c bag) ks) (piles_fit (made c k) (count_in bag k) (few k) h.0) (hand_fits c bag ks few h.1)
 
-order_held : AllByRecursion (λ k. in_hand k ≡ true) order
+order_held : AllByRecursion (λ k. is_hand_kind k ≡ true) order
 order_held = (refl, (refl, (refl, (refl, (refl, (refl, (refl, tt)))))))
 
 limit_few : (k : Kind) → limit k ≤ 18
@@ -175,8 +175,8 @@ pub both_fit : (p : Placed) → IsSound p → AllByRecursion IsPile (both_piles 
 both_fit p s =
     let t = s.within.totals in
     all_joined (hand_piles Black p.black) (hand_piles White p.white)
-    (hand_fits Black p.black order (λ k. count_less (in_hand k) (slice_index p.black (place_of k)) (let f = t k in let l = limit_few k in omega arith)) order_held)
-    (hand_fits White p.white order (λ k. count_less (in_hand k) (slice_index p.white (place_of k)) (let f = t k in let l = limit_few k in omega arith)) order_held)
+    (hand_fits Black p.black order (λ k. count_less (is_hand_kind k) (slice_index p.black (place_of k)) (let f = t k in let l = limit_few k in omega arith)) order_held)
+    (hand_fits White p.white order (λ k. count_less (is_hand_kind k) (slice_index p.white (place_of k)) (let f = t k in let l = limit_few k in omega arith)) order_held)
 
 pub hands_spelt : (ps : List Pile) → AllByRecursion IsPile ps → SpellsHands (hands_text ps) ps
 hands_spelt [] h = refl

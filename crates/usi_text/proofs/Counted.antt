@@ -11,7 +11,7 @@ use Rattle.shogi_board.specs.declared.kind.Kind.TheVariants.{Pawn, Lance, Knight
 use Rattle.shogi_board.specs.declared.kind.Piece.{Piece}
 use Rattle.shogi_board.specs.declared.setup.SetupFault.{SetupFault}
 use Rattle.shogi_board.specs.Layout.{Layout}
-use Rattle.shogi_board.specs.Pieces.{in_hand, place_of, same_color}
+use Rattle.shogi_board.specs.Pieces.{is_hand_kind, place_of, same_color}
 use Rattle.shogi_board.specs.Placed.{Placed}
 use Rattle.shogi_board.specs.Setup.{empty_layout, add_fault, with_hand, hand_of, one_more, position_of}
 use Rattle.shogi_board.specs.Totals.{count_in, no_pieces}
@@ -31,7 +31,7 @@ abbrev pieces_total : Color → Kind → List Piece → ℕ
 pieces_total color wanted [] = 0
 pieces_total color wanted (p ∷ ps) = cond (is_one color wanted p) 1 0 + pieces_total color wanted ps
 
-held_place : (k : Kind) → in_hand k ≡ true → place_of k < 7
+held_place : (k : Kind) → is_hand_kind k ≡ true → place_of k < 7
 held_place Pawn h = omega arith
 held_place Lance h = omega arith
 held_place Knight h = omega arith
@@ -47,10 +47,10 @@ held_place ProSilver h = cc
 held_place Horse h = cc
 held_place Dragon h = cc
 
-count_there : (bag : List ℕ) (k : Kind) → in_hand k ≡ true → count_in bag k ≡ get_or bag (place_of k) 0
+count_there : (bag : List ℕ) (k : Kind) → is_hand_kind k ≡ true → count_in bag k ≡ get_or bag (place_of k) 0
 count_there bag k h = ap (λ b. cond b (get_or bag (place_of k) 0) 0) h
 
-one_counted : (bag : List ℕ) (k kind : Kind) → length bag ≡ 7 → in_hand k ≡ true → in_hand kind ≡ true → count_in (one_more bag k) kind ≡ count_in bag kind + cond (place_of k == place_of kind) 1 0
+one_counted : (bag : List ℕ) (k kind : Kind) → length bag ≡ 7 → is_hand_kind k ≡ true → is_hand_kind kind ≡ true → count_in (one_more bag k) kind ≡ count_in bag kind + cond (place_of k == place_of kind) 1 0
 one_counted bag k kind size h j =
     let low = held_place k h in
     let more = one_more bag k in
@@ -68,7 +68,7 @@ one_counted bag k kind size h j =
 nothing_more : (n : ℕ) → n ≡ n + 0
 nothing_more n = omega arith
 
-held_counted : (s : Layout) (c color : Color) (k kind : Kind) → length (hand_of s c) ≡ 7 → in_hand k ≡ true → in_hand kind ≡ true → count_in (hand_of (with_hand s c (one_more (hand_of s c) k)) color) kind ≡ count_in (hand_of s color) kind + cond (same_color c color && (place_of k == place_of kind)) 1 0
+held_counted : (s : Layout) (c color : Color) (k kind : Kind) → length (hand_of s c) ≡ 7 → is_hand_kind k ≡ true → is_hand_kind kind ≡ true → count_in (hand_of (with_hand s c (one_more (hand_of s c) k)) color) kind ≡ count_in (hand_of s color) kind + cond (same_color c color && (place_of k == place_of kind)) 1 0
 held_counted s Black Black k kind size h j = one_counted s.black k kind size h j
 held_counted s Black White k kind size h j = nothing_more (count_in s.white kind)
 held_counted s White Black k kind size h j = nothing_more (count_in s.black kind)
@@ -83,7 +83,7 @@ held_size s White White k h = length-set s.white (place_of k) (count_in s.white 
 adds : (a b c d e : ℕ) → a ≡ b + c → b ≡ d + e → a ≡ d + (e + c)
 adds a b c d e h j = omega (arith, h, j)
 
-pieces_counted : (ps : List Piece) (s t : Layout) (color : Color) (kind : Kind) → ((c : Color) → length (hand_of s c) ≡ 7) → AllByRecursion InHand ps → in_hand kind ≡ true → hold_pieces s ps ≡ Ok t → count_in (hand_of t color) kind ≡ count_in (hand_of s color) kind + pieces_total color kind ps
+pieces_counted : (ps : List Piece) (s t : Layout) (color : Color) (kind : Kind) → ((c : Color) → length (hand_of s c) ≡ 7) → AllByRecursion InHand ps → is_hand_kind kind ≡ true → hold_pieces s ps ≡ Ok t → count_in (hand_of t color) kind ≡ count_in (hand_of s color) kind + pieces_total color kind ps
 pieces_counted [] s t color kind size all j h =
     let e : t ≡ s = cc in
     ap (λ (l : Layout). count_in (hand_of l color) kind) e ∙ nothing_more (count_in (hand_of s color) kind)
@@ -154,7 +154,7 @@ from_none : (a b c : ℕ) → a ≡ b + c → b ≡ 0 → a ≡ c
 from_none a b c h j = omega (arith, h, j)
 
 -- what the pieces are added to holds none
-all_counted : (cells : List (Option Piece)) (piles : List Pile) (t : Layout) (text : List ℕ) (color : Color) (kind : Kind) → length cells ≡ 81 → SpellsHands text piles → in_hand kind ≡ true → set_up cells piles ≡ Ok t → count_in (hand_of t color) kind ≡ pile_total color kind piles
+all_counted : (cells : List (Option Piece)) (piles : List Pile) (t : Layout) (text : List ℕ) (color : Color) (kind : Kind) → length cells ≡ 81 → SpellsHands text piles → is_hand_kind kind ≡ true → set_up cells piles ≡ Ok t → count_in (hand_of t color) kind ≡ pile_total color kind piles
 all_counted cells piles t text color kind size spelt j h =
     let ps = flat_map pile_pieces piles in
     let g = held_behind (put_cells empty_layout 0 cells) ps t (sym (set_up_is cells piles size) ∙ h) in
@@ -162,13 +162,13 @@ all_counted cells piles t text color kind size spelt j h =
     let count = pieces_counted ps g.0 t color kind (bare_size g.0 bare) (hands_held text piles spelt) j g.2 in
     from_none _ _ _ count (ap (λ b. count_in b kind) (bare color) ∙ bare_count color kind) ∙ piles_counted piles color kind
 
-pub black_counted : (ws : List (List ℕ)) (p : Placed) (piles : List Pile) (kind : Kind) → Sfen ws p → SpellsHands (nth_word ws 2) piles → in_hand kind ≡ true → count_in p.black kind ≡ pile_total Black kind piles
+pub black_counted : (ws : List (List ℕ)) (p : Placed) (piles : List Pile) (kind : Kind) → Sfen ws p → SpellsHands (nth_word ws 2) piles → is_hand_kind kind ≡ true → count_in p.black kind ≡ pile_total Black kind piles
 black_counted ws p piles kind s h j =
     let f = finished (set_up s.cells s.piles) p.side p s.stands in
     ap (λ (q : Placed). count_in q.black kind) f.2
     ∙ (all_counted s.cells s.piles f.0 (nth_word ws 2) Black kind (board_size (nth_word ws 0) s.cells s.shape.board) s.shape.hands j f.1 ∙ ap (λ ps. pile_total Black kind ps) (hands_once (nth_word ws 2) s.piles piles s.shape.hands h))
 
-pub white_counted : (ws : List (List ℕ)) (p : Placed) (piles : List Pile) (kind : Kind) → Sfen ws p → SpellsHands (nth_word ws 2) piles → in_hand kind ≡ true → count_in p.white kind ≡ pile_total White kind piles
+pub white_counted : (ws : List (List ℕ)) (p : Placed) (piles : List Pile) (kind : Kind) → Sfen ws p → SpellsHands (nth_word ws 2) piles → is_hand_kind kind ≡ true → count_in p.white kind ≡ pile_total White kind piles
 white_counted ws p piles kind s h j =
     let f = finished (set_up s.cells s.piles) p.side p s.stands in
     ap (λ (q : Placed). count_in q.white kind) f.2

@@ -10,7 +10,7 @@ use Rattle.shogi_board.specs.declared.kind.Kind.{Kind}
 use Rattle.shogi_board.specs.declared.kind.Kind.TheVariants.{Pawn, Lance, Knight, Silver, Gold, Bishop, Rook, King, ProPawn, ProLance, ProKnight, ProSilver, Horse, Dragon}
 use Rattle.shogi_board.specs.declared.kind.Piece.{Piece}
 use Rattle.shogi_board.specs.Layout.{Layout}
-use Rattle.shogi_board.specs.Pieces.{place_of, is_king, in_hand, same_color}
+use Rattle.shogi_board.specs.Pieces.{place_of, is_king, is_hand_kind, same_color}
 use Rattle.shogi_board.specs.Placing.{unless}
 use Rattle.shogi_board.specs.Setup.{empty_layout, add_fault}
 use Rattle.shogi_board.specs.Totals.{total, limit, count_in, is_of, is_king_of, kings_of, no_pieces}
@@ -267,11 +267,11 @@ lay b black white = record { board = b; black = black; white = white; rest_given
 abbrev made : Color → Kind → Piece
 made c k = record { color = c; kind = k }
 
-held_count : (bag : List ℕ) (k : Kind) (x : ℕ) → in_hand k ≡ true → get_or bag (place_of k) 0 ≡ x → count_in bag k ≡ x
+held_count : (bag : List ℕ) (k : Kind) (x : ℕ) → is_hand_kind k ≡ true → get_or bag (place_of k) 0 ≡ x → count_in bag k ≡ x
 held_count bag k x h e = rw h e
 
 -- so many of a kind in black's hand, one after another
-pub hold_black : (b : Cells) (bag white : List ℕ) (k : Kind) (n x y : ℕ) (rest : List Piece) → in_hand k ≡ true → length bag ≡ 7 → get_or bag (place_of k) 0 ≡ x → y ≡ x + n → count_by (is_of k) b + y + get_or white (place_of k) 0 ≤ limit k → hold_pieces (lay b bag white) (replicate n (made Black k) ++ rest) ≡ hold_pieces (lay b (set bag (place_of k) y) white) rest
+pub hold_black : (b : Cells) (bag white : List ℕ) (k : Kind) (n x y : ℕ) (rest : List Piece) → is_hand_kind k ≡ true → length bag ≡ 7 → get_or bag (place_of k) 0 ≡ x → y ≡ x + n → count_by (is_of k) b + y + get_or white (place_of k) 0 ≤ limit k → hold_pieces (lay b bag white) (replicate n (made Black k) ++ rest) ≡ hold_pieces (lay b (set bag (place_of k) y) white) rest
 hold_black b bag white k zero x y rest h size at e room =
     let same : y ≡ get_or bag (place_of k) 0 = omega (arith, e, at) in
     let t : bag ≡ set bag (place_of k) y = sym (ap (set bag (place_of k)) same ∙ set-get_or bag (place_of k) 0) in
@@ -288,7 +288,7 @@ hold_black b bag white k (suc n) x y rest h size at e room =
     ap (λ f. unless f (hold_pieces (held (lay b bag white) (made Black k)) whole)) fits
     ∙ (ap (λ s. hold_pieces s whole) next ∙ (more ∙ ap (λ l. hold_pieces (lay b l white) rest) (set-set bag i (x + 1) y)))
 
-pub hold_white : (b : Cells) (black bag : List ℕ) (k : Kind) (n x y : ℕ) (rest : List Piece) → in_hand k ≡ true → length bag ≡ 7 → get_or bag (place_of k) 0 ≡ x → y ≡ x + n → count_by (is_of k) b + get_or black (place_of k) 0 + y ≤ limit k → hold_pieces (lay b black bag) (replicate n (made White k) ++ rest) ≡ hold_pieces (lay b black (set bag (place_of k) y)) rest
+pub hold_white : (b : Cells) (black bag : List ℕ) (k : Kind) (n x y : ℕ) (rest : List Piece) → is_hand_kind k ≡ true → length bag ≡ 7 → get_or bag (place_of k) 0 ≡ x → y ≡ x + n → count_by (is_of k) b + get_or black (place_of k) 0 + y ≤ limit k → hold_pieces (lay b black bag) (replicate n (made White k) ++ rest) ≡ hold_pieces (lay b black (set bag (place_of k) y)) rest
 hold_white b black bag k zero x y rest h size at e room =
     let same : y ≡ get_or bag (place_of k) 0 = omega (arith, e, at) in
     let t : bag ≡ set bag (place_of k) y = sym (ap (set bag (place_of k)) same ∙ set-get_or bag (place_of k) 0) in

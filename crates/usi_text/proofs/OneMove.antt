@@ -5,7 +5,7 @@ use Rattle.shogi_board.specs.declared.kind.Kind.TheVariants.{Pawn, Lance, Knight
 use Rattle.shogi_board.specs.declared.kind.Piece.{Piece}
 use Rattle.shogi_board.specs.declared.square.Square.{Square}
 use Rattle.shogi_board.specs.Cells.{at}
-use Rattle.shogi_board.specs.Pieces.{in_hand}
+use Rattle.shogi_board.specs.Pieces.{is_hand_kind}
 use Rattle.shogi_board.specs.Placed.{Placed}
 use Rattle.shogi_board.specs.Squares.{file_of, rank_of}
 use Rattle.shogi_board.proofs.Squares.{square-same}
@@ -18,7 +18,7 @@ use Rattle.usi_text.specs.Moves.{UsiMove}
 abbrev by_letter : ℕ → Kind
 by_letter n = cond (n == 80) Pawn (cond (n == 76) Lance (cond (n == 78) Knight (cond (n == 83) Silver (cond (n == 71) Gold (cond (n == 66) Bishop Rook)))))
 
-held_by : (a : Kind) → in_hand a ≡ true → by_letter (letter a) ≡ a
+held_by : (a : Kind) → is_hand_kind a ≡ true → by_letter (letter a) ≡ a
 held_by Pawn h = refl
 held_by Lance h = refl
 held_by Knight h = refl
@@ -35,7 +35,7 @@ held_by Horse h = cc
 held_by Dragon h = cc
 
 -- the kinds of a hand are told apart by their letters
-pub held_letter : (a b : Kind) → in_hand a ≡ true → in_hand b ≡ true → letter a ≡ letter b → a ≡ b
+pub held_letter : (a b : Kind) → is_hand_kind a ≡ true → is_hand_kind b ≡ true → letter a ≡ letter b → a ≡ b
 held_letter a b h k e = sym (held_by a h) ∙ (ap by_letter e ∙ held_by b k)
 
 abbrev digit : Square → ℕ

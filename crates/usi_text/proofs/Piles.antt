@@ -5,7 +5,7 @@ use Rattle.std.proofs.lemmas.Bool.{cases_lt}
 use Rattle.shogi_board.specs.declared.kind.Kind.{Kind}
 use Rattle.shogi_board.specs.declared.kind.Kind.TheVariants.{Pawn, Lance, Knight, Silver, Gold, Bishop, Rook, King, ProPawn, ProLance, ProKnight, ProSilver, Horse, Dragon}
 use Rattle.shogi_board.specs.declared.kind.Piece.{Piece}
-use Rattle.shogi_board.specs.Pieces.{is_promoted, in_hand}
+use Rattle.shogi_board.specs.Pieces.{is_promoted, is_hand_kind}
 use Rattle.usi_text.specs.declared.hands.Pile.{Pile}
 use Rattle.usi_text.specs.Hands.{IsPile, IsCount, SpellsPiles, SpellsHands, count_text, pile_text}
 use Rattle.usi_text.specs.Letters.{side_letter}
@@ -30,7 +30,7 @@ only_count (Some n) l x h low =
           subst (λ m. Only (count_text (Some n) ++ l ∷ x) (Some m) (l ∷ x)) e r
     ]
 
-held_plain : (k : Kind) → in_hand k ≡ true → is_promoted k ≡ false
+held_plain : (k : Kind) → is_hand_kind k ≡ true → is_promoted k ≡ false
 held_plain Pawn h = refl
 held_plain Lance h = refl
 held_plain Knight h = refl

@@ -7,7 +7,7 @@ use Rattle.shogi_board.specs.declared.kind.Piece.{Piece}
 use Rattle.shogi_board.specs.declared.setup.SetupFault.{SetupFault}
 use Rattle.shogi_board.specs.declared.setup.SetupFault.TheVariants.{TooMany, SecondKing, OpponentInCheck, AfterRest, NotForHand}
 use Rattle.shogi_board.specs.Layout.{Layout}
-use Rattle.shogi_board.specs.Pieces.{in_hand}
+use Rattle.shogi_board.specs.Pieces.{is_hand_kind}
 use Rattle.shogi_board.specs.Placing.{unless}
 use Rattle.shogi_board.specs.Setup.{empty_layout, first_fault, add_fault, with_hand, hand_of, one_more}
 use Rattle.usi_text.specs.declared.fault.SfenFault.TheVariants.{Start}
@@ -54,7 +54,7 @@ hand_free s Black bag free = free
 hand_free s White bag free = free
 
 abbrev pub InHand : Piece → Type 0
-InHand p = in_hand p.kind ≡ true
+InHand p = is_hand_kind p.kind ≡ true
 
 full_alone : (given held full : Bool) (f : SetupFault) → given ≡ false → held ≡ true → first_fault ((AfterRest, given) ∷ (NotForHand, not held) ∷ (TooMany, full) ∷ []) ≡ Some f → IsStartFault f
 full_alone given held true f free h told = let e = rw (free, h) at told in inr (inl cc)

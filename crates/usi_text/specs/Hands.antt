@@ -4,7 +4,7 @@ use Rattle.std.specs.List.{AllByRecursion, flat_map}
 use Rattle.shogi_board.specs.declared.color.Color.{Color}
 use Rattle.shogi_board.specs.declared.kind.Kind.{Kind}
 use Rattle.shogi_board.specs.declared.kind.Piece.{Piece}
-use Rattle.shogi_board.specs.Pieces.{in_hand, place_of, same_color}
+use Rattle.shogi_board.specs.Pieces.{is_hand_kind, place_of, same_color}
 use Rattle.usi_text.specs.declared.hands.Pile.{Pile}
 use Rattle.usi_text.specs.Letters.{side_letter}
 
@@ -23,7 +23,7 @@ IsCount (Some n) = (1 ≤ n) × (n ≤ 99)
 
 -- of a kind that a hand may hold
 abbrev pub IsPile : Pile → Type 0
-IsPile pile = IsCount pile.count × (in_hand pile.piece.kind ≡ true)
+IsPile pile = IsCount pile.count × (is_hand_kind pile.piece.kind ≡ true)
 
 -- the text is the piles one behind another
 abbrev pub SpellsPiles : List ℕ → List Pile → Type 0

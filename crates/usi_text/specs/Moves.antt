@@ -2,7 +2,7 @@
 use Rattle.std.specs.Prelude.{◌≡◌, ℕ, ◌⊎◌, true, List, ◌∷◌, ◌++◌, Some, codes}
 use Rattle.shogi_board.specs.declared.kind.Piece.{Piece}
 use Rattle.shogi_board.specs.Cells.{at}
-use Rattle.shogi_board.specs.Pieces.{in_hand}
+use Rattle.shogi_board.specs.Pieces.{is_hand_kind}
 use Rattle.shogi_board.specs.Placed.{Placed}
 use Rattle.shogi_rules.specs.declared.moves.Move.{Move}
 use Rattle.shogi_rules.specs.declared.moves.Move.TheVariants.{Walk, Put}
@@ -17,4 +17,4 @@ UsiMove p text (Walk from to kind) =
     (mover : Piece) × (at p.board from ≡ Some mover)
     × (((text ≡ square_text from ++ square_text to) × (kind ≡ mover.kind))
     ⊎ ((text ≡ square_text from ++ square_text to ++ codes "+") × (promoted mover.kind ≡ Some kind)))
-UsiMove p text (Put to kind) = (in_hand kind ≡ true) × (text ≡ letter kind ∷ (codes "*" ++ square_text to))
+UsiMove p text (Put to kind) = (is_hand_kind kind ≡ true) × (text ≡ letter kind ∷ (codes "*" ++ square_text to))

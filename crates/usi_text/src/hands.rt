@@ -25,7 +25,7 @@ pub(crate) fn read_pile(text: &[u8]) -> Option<(Pile, &[u8])>
         return None;
     };
     let piece = piece_of_letter(*letter)?;
-    if !piece.kind.in_hand() {
+    if !piece.kind.is_hand_kind() {
         return None;
     }
     Some((Pile { count, piece }, behind))

@@ -6,7 +6,7 @@ ghost use Rattle.shogi_board.specs.declared.kind.Kind.{Kind};
 ghost use Rattle.shogi_board.specs.declared.kind.Piece.{Piece};
 ghost use Rattle.shogi_board.specs.declared.setup.SetupFault.{SetupFault};
 ghost use Rattle.shogi_board.specs.declared.setup.SetupFault.TheVariants.{SecondKing, TooMany, OpponentInCheck};
-ghost use Rattle.shogi_board.specs.Pieces.{in_hand};
+ghost use Rattle.shogi_board.specs.Pieces.{is_hand_kind};
 ghost use Rattle.shogi_board.specs.Placed.{Placed};
 ghost use Rattle.shogi_board.specs.Sound.{IsSound};
 ghost use Rattle.shogi_board.specs.Totals.{count_in};
@@ -50,10 +50,10 @@ pub fn board_stands()
 /// In the position of an SFEN each hand has the pieces of that side's piles, and no other.
 pub fn hands_held()
     ensures black { (ws : List (List ℕ)) (p : Placed) (piles : List Pile) (kind : Kind)
-        → Sfen ws p → SpellsHands (nth_word ws 2) piles → in_hand kind ≡ true
+        → Sfen ws p → SpellsHands (nth_word ws 2) piles → is_hand_kind kind ≡ true
         → count_in p.black kind ≡ pile_total Black kind piles }
     ensures white { (ws : List (List ℕ)) (p : Placed) (piles : List Pile) (kind : Kind)
-        → Sfen ws p → SpellsHands (nth_word ws 2) piles → in_hand kind ≡ true
+        → Sfen ws p → SpellsHands (nth_word ws 2) piles → is_hand_kind kind ≡ true
         → count_in p.white kind ≡ pile_total White kind piles }
 {}
 

@@ -1,5 +1,5 @@
 ghost use Rattle.std.specs.Prelude.{◌≡◌, ◌<◌, [], ◌∷◌, true, false, MatchOption};
-ghost use Rattle.shogi_board.specs.Pieces.{in_hand, is_promoted};
+ghost use Rattle.shogi_board.specs.Pieces.{is_hand_kind, is_promoted};
 ghost use Rattle.shogi_board.specs.declared.kind.Kind.{Kind};
 ghost use Rattle.shogi_board.specs.declared.kind.Piece.{Piece};
 ghost use Rattle.shogi_board.specs.declared.square.Square.{Square};
@@ -65,11 +65,11 @@ fn kind_of_letter(byte: u8) -> Option<Kind>
 // The kind that a hand may hold and that has this capital letter.
 pub(crate) fn held_kind(byte: u8) -> Option<Kind>
     ensures { MatchOption result
-        ((kind : Kind) → in_hand kind ≡ true → letter kind ≡ byte → ⊥)
-        (λ kind. (in_hand kind ≡ true) × (letter kind ≡ byte)) }
+        ((kind : Kind) → is_hand_kind kind ≡ true → letter kind ≡ byte → ⊥)
+        (λ kind. (is_hand_kind kind ≡ true) × (letter kind ≡ byte)) }
 {
     let kind = kind_of_letter(byte)?;
-    if kind.in_hand() { Some(kind) } else { None }
+    if kind.is_hand_kind() { Some(kind) } else { None }
 }
 
 // The unpromoted piece that has this letter: a capital for black, a small one for white.

@@ -1,6 +1,6 @@
 use Rattle.std.proofs.Common.{List, length, filter, refl}
 use Rattle.csa_text.specs.Cut.{TextUnit}
-use Rattle.csa_text.specs.Piecing.{Closed, is_closed}
+use Rattle.csa_text.specs.PieceCutting.{Closed, is_closed}
 use Rattle.csa_text.proofs.Joining.{closed_once}
 use Rattle.csa_text.proofs.Once.{cut_found}
 use Rattle.csa_text.proofs.laws.closed_once.Goals as goal

@@ -2,7 +2,7 @@ use Rattle.std.proofs.Common.{◌≡◌, ◌<◌, [], length, drop, sym, ap, ◌
 use Rattle.std.specs.List.{prefix_len, position_or_len}
 use Rattle.csa_text.specs.Lines.{is_line_end}
 use Rattle.csa_text.proofs.Fronts.{rest_of}
-use Rattle.csa_text.proofs.Lining.{run_skipping, run_on, nothing, something}
+use Rattle.csa_text.proofs.LineCutting.{run_skipping, run_on, nothing, something}
 use Rattle.csa_text.proofs.line.first_run.Goals as goal
 use Rattle.csa_text.proofs.line.first_run.Goals.{then-is_empty, else-is_empty}
 

@@ -2,11 +2,11 @@ use Rattle.std.proofs.Common.{◌≡◌, ℕ, ◌+◌, ◌<◌, ◌≤◌, ◌-�
 use Rattle.std.specs.Vec.{vec_len}
 use Rattle.std.proofs.lemmas.Result.{err_from_is_err_and}
 use Rattle.csa_text.specs.Lines.{HasNoLineEnd, Lines}
-use Rattle.csa_text.specs.Lining.{Lining, IsRun}
-use Rattle.csa_text.proofs.Lining.{line_unfinished, line_waits, line_closed, line_long, line_short, length_range}
+use Rattle.csa_text.specs.LineCutting.{LineCutting, IsRun}
+use Rattle.csa_text.proofs.LineCutting.{line_unfinished, line_waits, line_closed, line_long, line_short, length_range}
 use Rattle.csa_text.proofs.line.LineCutter.step.Goals as goal
 
-same_lining : (a b : List ℕ) (m n : ℕ) (f g : Bool) → a ≡ b → m ≡ n → f ≡ g → (let x : Lining = record { held = a; limit = m; failed = f } in let y : Lining = record { held = b; limit = n; failed = g } in x ≡ y)
+same_lining : (a b : List ℕ) (m n : ℕ) (f g : Bool) → a ≡ b → m ≡ n → f ≡ g → (let x : LineCutting = record { held = a; limit = m; failed = f } in let y : LineCutting = record { held = b; limit = n; failed = g } in x ≡ y)
 same_lining a b m n f g p q r = rw (p, q, r) refl
 
 forgotten : (spent : Bool) (items held : List ℕ) → held ≡ cond spent [] items → HasNoLineEnd items → HasNoLineEnd held
@@ -23,8 +23,8 @@ not_long b P h k (inr p) = k p
 
 pub returns-then-self-len : goal.returns-then-self-len
 returns-then-self-len c =
-    let same : c.forget.new.held.items ≡ c.args.self.now.held = c.forget.ensures ∙ ap (λ (v : Lining). v.held) c.self.view_is in
-    let limit : c.self.inside.limit ≡ c.args.self.now.limit = ap (λ (v : Lining). v.limit) c.self.view_is in
+    let same : c.forget.new.held.items ≡ c.args.self.now.held = c.forget.ensures ∙ ap (λ (v : LineCutting). v.held) c.self.view_is in
+    let limit : c.self.inside.limit ≡ c.args.self.now.limit = ap (λ (v : LineCutting). v.limit) c.self.view_is in
     let solid : HasNoLineEnd c.args.self.now.held = subst HasNoLineEnd same (forgotten c.self.inside.spent c.self.inside.held.items c.forget.new.held.items c.forget.ensures c.self.invariant.1) in
     let run : IsRun c.args.self.now.held c.args.piece.now c.first_run-start.result.0 c.first_run-start.result.1 =
     rw (c.as_slice.ensures.value, same) at c.first_run-start.ensures in
@@ -36,9 +36,9 @@ returns-then-self-len c =
 
 pub returns-in_err-extend_from_slice : goal.returns-in_err-extend_from_slice
 returns-in_err-extend_from_slice c =
-    let same : c.forget.new.held.items ≡ c.args.self.now.held = c.forget.ensures ∙ ap (λ (v : Lining). v.held) c.self.view_is in
-    let limit : c.self.inside.limit ≡ c.args.self.now.limit = ap (λ (v : Lining). v.limit) c.self.view_is in
-    let failed : c.self.inside.failed ≡ c.args.self.now.failed = ap (λ (v : Lining). v.failed) c.self.view_is in
+    let same : c.forget.new.held.items ≡ c.args.self.now.held = c.forget.ensures ∙ ap (λ (v : LineCutting). v.held) c.self.view_is in
+    let limit : c.self.inside.limit ≡ c.args.self.now.limit = ap (λ (v : LineCutting). v.limit) c.self.view_is in
+    let failed : c.self.inside.failed ≡ c.args.self.now.failed = ap (λ (v : LineCutting). v.failed) c.self.view_is in
     let solid : HasNoLineEnd c.args.self.now.held = subst HasNoLineEnd same (forgotten c.self.inside.spent c.self.inside.held.items c.forget.new.held.items c.forget.ensures c.self.invariant.1) in
     let run : IsRun c.args.self.now.held c.args.piece.now c.first_run-start.result.0 c.first_run-start.result.1 =
     rw (c.as_slice.ensures.value, same) at c.first_run-start.ensures in
@@ -57,9 +57,9 @@ returns-in_err-extend_from_slice c =
 
 pub returns-then-end-piece : goal.returns-then-end-piece
 returns-then-end-piece c =
-    let same : c.forget.new.held.items ≡ c.args.self.now.held = c.forget.ensures ∙ ap (λ (v : Lining). v.held) c.self.view_is in
-    let limit : c.self.inside.limit ≡ c.args.self.now.limit = ap (λ (v : Lining). v.limit) c.self.view_is in
-    let failed : c.self.inside.failed ≡ c.args.self.now.failed = ap (λ (v : Lining). v.failed) c.self.view_is in
+    let same : c.forget.new.held.items ≡ c.args.self.now.held = c.forget.ensures ∙ ap (λ (v : LineCutting). v.held) c.self.view_is in
+    let limit : c.self.inside.limit ≡ c.args.self.now.limit = ap (λ (v : LineCutting). v.limit) c.self.view_is in
+    let failed : c.self.inside.failed ≡ c.args.self.now.failed = ap (λ (v : LineCutting). v.failed) c.self.view_is in
     let solid : HasNoLineEnd c.args.self.now.held = subst HasNoLineEnd same (forgotten c.self.inside.spent c.self.inside.held.items c.forget.new.held.items c.forget.ensures c.self.invariant.1) in
     let run : IsRun c.args.self.now.held c.args.piece.now c.first_run-start.result.0 c.first_run-start.result.1 =
     rw (c.as_slice.ensures.value, same) at c.first_run-start.ensures in
@@ -79,9 +79,9 @@ returns-then-end-piece c =
 
 pub returns : goal.returns
 returns c =
-    let same : c.forget.new.held.items ≡ c.args.self.now.held = c.forget.ensures ∙ ap (λ (v : Lining). v.held) c.self.view_is in
-    let limit : c.self.inside.limit ≡ c.args.self.now.limit = ap (λ (v : Lining). v.limit) c.self.view_is in
-    let failed : c.self.inside.failed ≡ c.args.self.now.failed = ap (λ (v : Lining). v.failed) c.self.view_is in
+    let same : c.forget.new.held.items ≡ c.args.self.now.held = c.forget.ensures ∙ ap (λ (v : LineCutting). v.held) c.self.view_is in
+    let limit : c.self.inside.limit ≡ c.args.self.now.limit = ap (λ (v : LineCutting). v.limit) c.self.view_is in
+    let failed : c.self.inside.failed ≡ c.args.self.now.failed = ap (λ (v : LineCutting). v.failed) c.self.view_is in
     let solid : HasNoLineEnd c.args.self.now.held = subst HasNoLineEnd same (forgotten c.self.inside.spent c.self.inside.held.items c.forget.new.held.items c.forget.ensures c.self.invariant.1) in
     let run : IsRun c.args.self.now.held c.args.piece.now c.first_run-start.result.0 c.first_run-start.result.1 =
     rw (c.as_slice.ensures.value, same) at c.first_run-start.ensures in

@@ -3,10 +3,10 @@ use Rattle.csa_text.specs.Cut.{begins_with}
 use Rattle.csa_text.specs.declared.piece.Place.TheVariants.{Gap}
 use Rattle.csa_text.specs.Places.{IsPart, IsFoundIn, kept_of}
 use Rattle.csa_text.proofs.Leading.{seen, default_step, unit_step, end_step, long_step, kept_size, kept_most, mark_room, all_in_piece, ended_told}
-use Rattle.csa_text.proofs.Lining.{length_range, nothing}
+use Rattle.csa_text.proofs.LineCutting.{length_range, nothing}
 use Rattle.csa_text.proofs.Holding.{held_found, held_whole, holds_here, holds_before, some_used, number_of}
 use Rattle.csa_text.proofs.Lent.{lent_here, lent_before, kept_on}
-use Rattle.csa_text.specs.Piecing.{Piecing}
+use Rattle.csa_text.specs.PieceCutting.{PieceCutting}
 use Rattle.csa_text.proofs.piece.PieceCutter.step.Goals as goal
 
 pub hold_mark-requires : goal.hold_mark-requires
@@ -80,7 +80,7 @@ returns-then-is_empty c =
     let whole : slice_range piece start end ≡ kept_of goes_on s.held.items ++ slice_range piece start end =
     all_in_piece goes_on s.held.items c.keep_held.new.held.items (slice_range piece start end) left (sym c.is_empty.ensures ∙ c.if-is_empty.true) in
     let place : s.fed + start - c.kept_length-kept.result ≡ s.fed + start - length (kept_of goes_on s.held.items) = ap (λ n. s.fed + start - n) kept in
-    let fed_is : s.fed ≡ c.args.self.now.fed = ap (λ (v : Piecing). v.fed) c.self.view_is in
+    let fed_is : s.fed ≡ c.args.self.now.fed = ap (λ (v : PieceCutting). v.fed) c.self.view_is in
     let none : length (kept_of goes_on s.held.items) ≡ 0 = ap length (sym left ∙ nothing c.keep_held.new.held.items (sym c.is_empty.ensures ∙ c.if-is_empty.true)) in
     let from : s.fed + start - c.kept_length-kept.result ≡ c.args.self.now.fed + start = omega (arith, kept, none, fed_is) in
     let lent = lent_here c.ended.result.statement _ (s.fed + start - c.kept_length-kept.result) c.args.self.now.fed start c.args.piece.ref_ptr from c.ended.ensures.place c.ended.ensures.lent in
@@ -90,7 +90,7 @@ returns-then-is_empty c =
     let empty : c.keep_held.new.held.items ≡ [] = nothing c.keep_held.new.held.items (sym c.is_empty.ensures ∙ c.if-is_empty.true) in
     let held = holds_here c.args.self.now (seen Gap c.keep_held.new.held.items (s.fed + (end + 1)) (s.number + 1) s.refused) c.ended.result.statement _ (s.fed + start - c.kept_length-kept.result) empty (omega (arith, from)) c.ended.ensures.place c.ended.ensures.some in
     let used = some_used piece c.ended.result c.ended.ensures.some (omega (arith, c.ended.ensures.used)) (omega (arith, c.ended.ensures.used, behind)) in
-    let numbered = number_of c.ended.result.statement _ _ _ c.ended.ensures.place (ap (λ (v : Piecing). v.number + 1) c.self.view_is) in
+    let numbered = number_of c.ended.result.statement _ _ _ c.ended.ensures.place (ap (λ (v : PieceCutting). v.number + 1) c.self.view_is) in
     ((refl, λ _. tt, (done.0, done.1, held)), record { used = used; number = numbered; fault = tt; lent = lent; stepped = tt })
 
 pub returns : goal.returns
@@ -114,7 +114,7 @@ returns c =
     let told = ended_told c.ended-2.result.statement _ _ _ c.as_slice-2.result.now (kept_of goes_on s.held.items ++ slice_range piece start end) place whole c.ended-2.ensures.place c.ended-2.ensures.bytes in
     let done = end_step c.args.self.now s.place s.held.items c.hold-2.new.held.items piece goes_on start end s.fed s.number c.ended-2.result.used s.refused c.ended-2.result.statement
     c.self.view_is c.in_default.is p (omega (arith, i.0)) behind few c.ended-2.ensures.used c.ended-2.ensures.some told in
-    let fed_is : s.fed ≡ c.args.self.now.fed = ap (λ (v : Piecing). v.fed) c.self.view_is in
+    let fed_is : s.fed ≡ c.args.self.now.fed = ap (λ (v : PieceCutting). v.fed) c.self.view_is in
     let on = kept_on goes_on s.held.items c.keep_held.new.held.items left (sym c.is_empty.ensures ∙ c.if-is_empty.false) in
     let first = p.first on.0 in
     let whole_is = ap length first.1 in
@@ -123,5 +123,5 @@ returns c =
     let same : c.as_slice-2.result.now ≡ c.hold-2.new.held.items = c.as_slice-2.ensures.value in
     let held = holds_before c.args.self.now (seen Gap c.hold-2.new.held.items (s.fed + (end + 1)) (s.number + 1) s.refused) c.ended-2.result.statement _ (s.fed + start - c.kept_length-kept.result) c.as_slice-2.result.now same before c.ended-2.ensures.place c.ended-2.ensures.bytes c.ended-2.ensures.some in
     let used = some_used piece c.ended-2.result c.ended-2.ensures.some (omega (arith, c.ended-2.ensures.used)) (omega (arith, c.ended-2.ensures.used, behind)) in
-    let numbered = number_of c.ended-2.result.statement _ _ _ c.ended-2.ensures.place (ap (λ (v : Piecing). v.number + 1) c.self.view_is) in
+    let numbered = number_of c.ended-2.result.statement _ _ _ c.ended-2.ensures.place (ap (λ (v : PieceCutting). v.number + 1) c.self.view_is) in
     ((refl, λ _. tt, (done.0, done.1, held)), record { used = used; number = numbered; fault = tt; lent = lent; stepped = tt })

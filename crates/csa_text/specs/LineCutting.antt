@@ -6,7 +6,7 @@ use Rattle.csa_text.specs.declared.line.LineFault.{LineFault}
 use Rattle.csa_text.specs.declared.line.LineFault.TheVariants.{TooLong, OutOfMemory}
 
 -- what has come of the unfinished line, the most bytes of a line, and whether one had more
-pub record Lining : Type 0 where
+pub record LineCutting : Type 0 where
   pub held : List ℕ
   pub limit : ℕ
   pub failed : Bool
@@ -40,7 +40,7 @@ LineStep held piece r = (r.0 ≤ length piece) × MatchOption r.1
     (λ line. (0 < r.0) × Lines (held ++ take r.0 piece) (line.now ∷ []) [] × Lines (held ++ take (r.0 - 1) piece) [] line.now)
 
 -- what is held after a step
-abbrev pub LinesAfter : Lining → List ℕ → Result (ℕ × Option (Bor (List ℕ))) LineFault → Lining → Type 0
+abbrev pub LinesAfter : LineCutting → List ℕ → Result (ℕ × Option (Bor (List ℕ))) LineFault → LineCutting → Type 0
 LinesAfter old piece (Ok r) new =
     (new.limit ≡ old.limit) × (new.failed ≡ false) × MatchOption r.1 (Lines (old.held ++ piece) [] new.held) (λ line. new.held ≡ [])
 LinesAfter old piece (Err TooLong) new = new ≡ record old { failed = true }
@@ -50,6 +50,6 @@ LinesAfter old piece (Err OutOfMemory) new = new ≡ old
 abbrev pub LastLine : List ℕ → Option (Bor (List ℕ)) → Type 0
 LastLine held last = MatchOption last (held ≡ []) (λ line. (line.now ≡ held) × (0 < length held))
 
-abbrev pub LinesFinished : Lining → Result (Option (Bor (List ℕ))) LineFault → Lining → Type 0
+abbrev pub LinesFinished : LineCutting → Result (Option (Bor (List ℕ))) LineFault → LineCutting → Type 0
 LinesFinished old (Ok last) new = new ≡ record old { held = [] }
 LinesFinished old (Err fault) new = new ≡ old
