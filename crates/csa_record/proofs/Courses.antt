@@ -21,7 +21,7 @@ use Rattle.record_game.specs.Course.{Course, line_of, untimed, play_fault, PlayA
 use Rattle.csa_record.specs.Coursing.{timed, ended, course_of, IsKept, lacks_last, with_last, NotPlayed, played_why}
 use Rattle.record_game.specs.Game.{Timed, Ended}
 use Rattle.record_game.specs.Limits.{EndsInTime}
-use Rattle.record_game.specs.Order.{first_fault}
+use Rattle.shogi_board.specs.Setup.{first_fault}
 use Rattle.record_game.proofs.FitTimes.{AllFit, fit_more, fit_none, fit_last}
 use Rattle.record_game.proofs.PlayAnswered.{after}
 use Rattle.csa_record.proofs.Timing.{moves_timed, times_timed, length_timed, timed_more, timed_none, awaits_timed, timed_last, length_with_last}
@@ -99,7 +99,7 @@ ended_some None = refl
 ended_some (Some e) = refl
 
 abbrev faults : Bool → Bool → Option OrderFault
-faults closed full = first_fault ((closed, AfterEnding) ∷ (full, TooManyMoves) ∷ [])
+faults closed full = first_fault ((AfterEnding, closed) ∷ (TooManyMoves, full) ∷ [])
 
 fault_seen : (line : Played) (ts : List (Option ℕ)) (e : Option stored.Ended) (c : Course) → length ts ≡ length line.moves → course_of line ts e ≡ c → play_fault c ≡ faults (is_some e) (nat_le 10000 (length ts))
 fault_seen line ts e c long v =

@@ -16,8 +16,8 @@ use thiserror::Error;
 /// How often a source is read before its end must have come.
 pub const MOST_READS: u32 = 16_777_216;
 
-// The most bytes of a read.
-const PIECE: usize = 4096;
+/// The most bytes of a read.
+pub const PIECE: usize = 4096;
 
 /// Why a record did not flow from its source to its sink.
 #[derive(Clone, Copy, Debug, PartialEq, Eq, Error)]

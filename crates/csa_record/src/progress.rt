@@ -12,6 +12,7 @@ ghost use Rattle.record_game.specs.Limits.{IsOneLine};
 ghost use Rattle.record_game.specs.Outcome.{Outcome, IsWritten, late};
 ghost use Rattle.record_game.specs.Refused.{Finishes};
 ghost use Rattle.record_game.specs.Says.{Says};
+ghost use Rattle.csa_text.specs.Cut.{longest_statement};
 
 use crate::course::Course;
 use crate::laying::Laying;
@@ -120,7 +121,7 @@ impl Progress {
 
     fn take_name(&mut self, color: Color, text: &[u8]) -> Result<(), Why>
         requires one_line { IsOneLine text.now }
-        requires fits { 2 + length text.now ≤ 4096 }
+        requires fits { 2 + length text.now ≤ longest_statement }
         ensures { (before : List Saying) → Keeps before self.old → TakenOrRefused before (name color text.now) result (record self.new { begun = true }) }
     {
         self.titles.set_name(color, text)

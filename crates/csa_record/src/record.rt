@@ -8,6 +8,7 @@ ghost use Rattle.record_game.specs.Game.{move_of};
 ghost use Rattle.record_game.specs.Limits.{IsGame, IsName, IsOneLine};
 ghost use Rattle.record_game.specs.Titles.{IsWithHeader, name_of, name_fault, header_fault, with_name, under};
 ghost use Rattle.csa_record.specs.TitleBytes.{shown};
+ghost use Rattle.csa_text.specs.Cut.{longest_statement};
 
 use crate::course::Course;
 use crate::titles::{HeaderValue, Titles};
@@ -80,7 +81,7 @@ impl Record {
     /// a name, then OutOfMemory. Refused, it changes nothing.
     pub fn set_name(&mut self, color: Color, text: &[u8]) -> Result<(), Why>
         requires one_line { IsOneLine text.now }
-        requires fits { 2 + length text.now ≤ 4096 }
+        requires fits { 2 + length text.now ≤ longest_statement }
         ensures answer { IsAnswer (name_fault (titled_of self.old) color text.now) result }
         ensures changed { OnOk result (self.new ≡ with_titled self.old (with_name (titled_of self.old) color text.now)) }
         ensures unchanged { OnErr result (self.new ≡ self.old) }
@@ -112,7 +113,7 @@ impl Record {
         requires key_line { IsOneLine key.now }
         requires text_line { IsOneLine text.now }
         requires no_colon { HasNone 58 key.now }
-        requires fits { 2 + length key.now + length text.now ≤ 4096 }
+        requires fits { 2 + length key.now + length text.now ≤ longest_statement }
         ensures answer { IsAnswer (header_fault (titled_of self.old) key.now text.now) result }
         ensures changed { OnOk result (IsWithHeader (titled_of self.old) key.now text.now (titled_of self.new)) }
         ensures rest { self.new ≡ with_titled self.old (titled_of self.new) }

@@ -10,8 +10,7 @@ ghost use Rattle.record_game.specs.Canon.{ended_line, start_items, is_from_even,
 ghost use Rattle.record_game.specs.Squares.{square_at};
 ghost use Rattle.csa_record.specs.Starting.{gone};
 
-use crate::titles::sign_of;
-use csa_text::kind_text;
+use csa_text::{kind_text, sign_of};
 use shogi_board::{Color, Hand, Kind, OutOfMemory, Piece, Position, Square};
 
 // Writes `PI` with the missing pieces of the even board, or else the ranks and the hands that are not empty.

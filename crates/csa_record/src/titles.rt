@@ -1,7 +1,6 @@
 ghost use Rattle.std.specs.Prelude.{◌≡◌, ◌≢◌, ◌⊎◌, ◌↔◌, ℕ, ◌+◌, ◌<◌, ◌≤◌, ◌∷◌, ◌++◌, is_some, List, [], true, IsTrue, None, Some, length, map, IfSome, IfNone, IfOk, IfErr, OnOk, OnErr, MatchOption};
 ghost use Rattle.std.specs.List.{flat_map};
 ghost use Rattle.shogi_board.specs.declared.color.Color.TheVariants.{Black, White};
-ghost use Rattle.csa_text.specs.Codes.{sign};
 ghost use Rattle.csa_text.specs.Fields.{HasNone};
 ghost use Rattle.csa_text.specs.MomentParts.{moment_of};
 ghost use Rattle.csa_text.specs.Moment.{CalendarMoment, SpellsMoment, moment_text};
@@ -12,8 +11,9 @@ ghost use Rattle.record_game.specs.Limits.{IsName, IsOneLine, IsMomentKey, IsEnt
 ghost use Rattle.record_game.specs.Says.{IsValue};
 ghost use Rattle.record_game.specs.Titles.{untitled, name_of, under, name_fault, header_fault, with_name, with_entry, IsWithHeader, IsTitled};
 ghost use Rattle.csa_record.specs.TitleBytes.{text_of, entry_of, entries_of, shown};
+ghost use Rattle.csa_text.specs.Cut.{longest_statement};
 
-use csa_text::{Moment, read_moment};
+use csa_text::{Moment, read_moment, sign_of};
 use record_game::{OrderFault, Why};
 use shogi_board::{Color, OutOfMemory};
 use std::alloc::Global;
@@ -78,7 +78,7 @@ impl Titles {
     // Takes that side's name. An empty name is none.
     pub(crate) fn set_name(&mut self, color: Color, text: &[u8]) -> Result<(), Why>
         requires one_line { IsOneLine text.now }
-        requires fits { 2 + length text.now ≤ 4096 }
+        requires fits { 2 + length text.now ≤ longest_statement }
         ensures answer { IsAnswer (name_fault self.old color text.now) result }
         ensures changed { OnOk result (self.new ≡ with_name self.old color text.now) }
         ensures unchanged { OnErr result (self.new ≡ self.old) }
@@ -116,7 +116,7 @@ impl Titles {
         requires key_line { IsOneLine key.now }
         requires text_line { IsOneLine text.now }
         requires no_colon { HasNone 58 key.now }
-        requires fits { 2 + length key.now + length text.now ≤ 4096 }
+        requires fits { 2 + length key.now + length text.now ≤ longest_statement }
         ensures answer { IsAnswer (header_fault self.old key.now text.now) result }
         ensures changed { OnOk result (IsWithHeader self.old key.now text.now self.new) }
         ensures unchanged { OnErr result (self.new ≡ self.old) }
@@ -257,16 +257,6 @@ fn is_moment_key(key: &[u8]) -> bool
     ensures { IsTrue result ↔ IsMomentKey key.now }
 {
     key == b"START_TIME".as_slice() || key == b"END_TIME".as_slice()
-}
-
-// The sign of a side.
-pub(crate) fn sign_of(color: Color) -> u8
-    ensures { result ≡ sign color }
-{
-    match color {
-        Color::Black => b'+',
-        Color::White => b'-',
-    }
 }
 
 fn write_entries(out: &mut Vec<u8>, headers: &Headers) -> Result<(), OutOfMemory>

@@ -71,6 +71,10 @@ abbrev pub before_kept : ℕ → List ℕ → List ℕ
 before_kept b [] = if is_blank b then [] else b ∷ []
 before_kept b (c ∷ cs) = b ∷ c ∷ cs
 
+-- how many bytes a statement's unit has at most
+abbrev pub longest_statement : ℕ
+longest_statement = 4096
+
 -- the bytes less the spaces and tabs at their end
 abbrev pub without_last_blanks : List ℕ → List ℕ
 without_last_blanks [] = []

@@ -1,6 +1,6 @@
 -- A cutter on its way through a source.
 use Rattle.std.specs.Prelude.{◌≡◌, ℕ, ◌+◌, ◌<◌, ◌≤◌, List, ◌∷◌, length, drop, slice_range, Option, Result, IfOk, IfSome}
-use Rattle.csa_text.specs.Cut.{TextUnit, Statements, statement_bytes}
+use Rattle.csa_text.specs.Cut.{TextUnit, Statements, statement_bytes, longest_statement}
 use Rattle.csa_text.specs.declared.cutter.Statement.{Statement}
 use Rattle.csa_text.specs.declared.cutter.CutFault.{CutFault}
 
@@ -35,7 +35,7 @@ pub record IsHandedOut (old new : Cutting) (number offset : ℕ) (bytes : List �
   pub number_is : number ≡ old.number + 1
   pub counted : new.number ≡ number
   pub slice : bytes ≡ statement_bytes (slice_range old.source offset new.at)
-  pub short : new.at ≤ offset + 4096
+  pub short : new.at ≤ offset + longest_statement
 
 -- the first statement that is still to come is too long
 pub record IsTooLong (c : Cutting) (number offset : ℕ) : Type 0 where
@@ -44,4 +44,4 @@ pub record IsTooLong (c : Cutting) (number offset : ℕ) : Type 0 where
   pub first : ToCome c (unit ∷ others)
   pub number_is : number ≡ c.number + 1
   pub place : offset ≡ unit.offset
-  pub long : 4096 < length unit.bytes
+  pub long : longest_statement < length unit.bytes

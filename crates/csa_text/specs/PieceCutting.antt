@@ -1,6 +1,6 @@
 -- A cutter of pieces on its way.
 use Rattle.std.specs.Prelude.{◌≡◌, ℕ, ◌+◌, ◌-◌, ◌≤◌, ◌||◌, ◌⊎◌, Bool, true, false, List, [], ◌∷◌, ◌++◌, length, drop, filter, nat_lt, Option, None, if◌then◌else◌}
-use Rattle.csa_text.specs.Cut.{TextUnit, IsUnit, Statements, IsCut, mark_length, begins_with}
+use Rattle.csa_text.specs.Cut.{TextUnit, IsUnit, Statements, IsCut, mark_length, begins_with, longest_statement}
 
 -- how many bytes it took; how many statements it handed out; whether these bytes are the beginning of
 -- a byte order mark, or none; what is unfinished: the bytes of that mark, the bytes of a unit, of a
@@ -15,7 +15,7 @@ pub record PieceCutting : Type 0 where
 
 -- no more than 4,096 bytes are held, and none of a comment
 abbrev pub HoldsLittle : PieceCutting → Type 0
-HoldsLittle p = (length p.held ≤ 4096) × (begins_with 39 p.unfinished ≡ true → p.held ≡ [])
+HoldsLittle p = (length p.held ≤ longest_statement) × (begins_with 39 p.unfinished ≡ true → p.held ≡ [])
 
 -- nothing is unfinished, or a comment, of which its first byte stands here, or a statement's unit: so nothing of a gap
 abbrev pub IsOpen : List ℕ → Type 0
@@ -45,7 +45,7 @@ ToComeWith p text statements = Follows p.begins p.fed p.unfinished text statemen
 
 -- in a text of so many bytes, a unit that is followed by the byte that ends it, or has more than 4,096
 abbrev pub is_closed : ℕ → TextUnit → Bool
-is_closed end u = nat_lt (u.offset + length u.bytes) end || nat_lt 4096 (length u.bytes)
+is_closed end u = nat_lt (u.offset + length u.bytes) end || nat_lt longest_statement (length u.bytes)
 
 -- the closed statements of a record's bytes
 abbrev pub Closed : List ℕ → List TextUnit → Type 0

@@ -1,6 +1,6 @@
 -- What a cutter of pieces answers.
 use Rattle.std.specs.Prelude.{◌≡◌, ℕ, ◌+◌, ◌-◌, ◌<◌, ◌≤◌, false, List, [], ◌∷◌, length, take, Option, None, Some, MatchOption, Result, Ok, Err}
-use Rattle.csa_text.specs.Cut.{TextUnit, statement_bytes}
+use Rattle.csa_text.specs.Cut.{TextUnit, statement_bytes, longest_statement}
 use Rattle.csa_text.specs.PieceCutting.{PieceCutting, ToComeWith, Closes, Leads, held_of}
 use Rattle.csa_text.specs.declared.cutter.Statement.{Statement}
 use Rattle.csa_text.specs.declared.cutter.CutFault.{CutFault}
@@ -11,7 +11,7 @@ pub record IsNumbered (count : ℕ) (unit : TextUnit) (s : Statement) : Type 0 w
   pub number_is : s.number ≡ count + 1
   pub place : s.offset ≡ unit.offset
   pub slice : s.bytes.now ≡ statement_bytes unit.bytes
-  pub short : length unit.bytes ≤ 4096
+  pub short : length unit.bytes ≤ longest_statement
 
 -- of the piece at this address, before which so many bytes were fed: a statement that begins in it lies in it
 abbrev pub IsLentFrom : ℕ × ℕ → ℕ → Statement → Type 0
@@ -39,7 +39,7 @@ HoldsAfter old (Some s) new = (old.fed ≤ s.offset → new.held ≡ []) × (s.o
 abbrev pub IsTooLongAt : Option ℕ → PieceCutting → List ℕ → ℕ → Type 0
 IsTooLongAt (Some before) old piece offset = offset ≡ before
 IsTooLongAt None old piece offset =
-    (unit : TextUnit) × (others : List TextUnit) × Closes old piece (unit ∷ others) × (4096 < length unit.bytes) × (offset ≡ unit.offset)
+    (unit : TextUnit) × (others : List TextUnit) × Closes old piece (unit ∷ others) × (longest_statement < length unit.bytes) × (offset ≡ unit.offset)
 
 abbrev pub Stepped : PieceCutting → List ℕ → Result Cut CutFault → PieceCutting → Type 0
 Stepped old piece (Ok cut) new =

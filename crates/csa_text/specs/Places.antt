@@ -1,7 +1,7 @@
 -- Where a cutter of pieces stands, and what it holds.
 -- These are definitions for private helpers, and for how the private fields of `PieceCutter` make its view; a reader of the contracts may skip them.
 use Rattle.std.specs.Prelude.{◌≡◌, ℕ, ◌+◌, ◌-◌, ◌^◌, not, ◌<◌, ◌≤◌, ◌==◌, ◌⊎◌, if◌then◌else◌, Bool, true, false, List, [], ◌∷◌, ◌++◌, length, take, drop, slice_range, slice_index}
-use Rattle.csa_text.specs.Cut.{TextUnit, Statements, IsUnit, byte_order_mark, begins_with}
+use Rattle.csa_text.specs.Cut.{TextUnit, Statements, IsUnit, byte_order_mark, begins_with, longest_statement}
 use Rattle.csa_text.specs.PieceCutting.{Follows}
 use Rattle.csa_text.specs.declared.piece.Found.{Found}
 use Rattle.csa_text.specs.declared.piece.Found.TheVariants as found
@@ -30,7 +30,7 @@ IsHeld Comment held = held ≡ []
 
 -- the same, with how many bytes have come and how many statements were handed out
 abbrev pub IsKept : Place → List ℕ → ℕ → ℕ → Type 0
-IsKept place held fed number = (number + length (open_of place held) ≤ fed) × (length held ≤ 4096) × IsHeld place held × (begins place ≡ true → fed ≡ length held) × (fed ≤ 2 ^ 63)
+IsKept place held fed number = (number + length (open_of place held) ≤ fed) × (length held ≤ longest_statement) × IsHeld place held × (begins place ≡ true → fed ≡ length held) × (fed ≤ 2 ^ 63)
 
 -- from one place of the piece to another there are gaps and whole comments: what comes from there comes
 -- from here

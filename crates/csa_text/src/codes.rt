@@ -3,6 +3,16 @@ ghost use Rattle.csa_text.specs.Codes.{sign, square_text, kind_code};
 
 use shogi_board::{Color, Kind, Square};
 
+/// The sign of a side: `+` for black, `-` for white.
+pub fn sign_of(color: Color) -> u8
+    ensures { result ≡ sign color }
+{
+    match color {
+        Color::Black => b'+',
+        Color::White => b'-',
+    }
+}
+
 // The side of this sign.
 pub(crate) fn read_sign(byte: u8) -> Option<Color>
     ensures { MatchOption result ((color : Color) → byte ≡ sign color → ⊥) (λ color. byte ≡ sign color) }

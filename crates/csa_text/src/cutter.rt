@@ -1,6 +1,6 @@
 ghost use Rattle.std.specs.Prelude.{◌≡◌, ℕ, false, ◌<◌, ◌≤◌, ◌==◌, ◌||◌, ◌&&◌, ◌+◌, [], length, drop, slice_range, not, IfOk, IfErr, IfNone, MatchOption};
 ghost use Rattle.std.specs.List.{position_or_len, prefix_len};
-ghost use Rattle.csa_text.specs.Cut.{Statements, IsNext, IsGap, is_separator, is_blank, takes_line, is_end, mark_length, statement_bytes, without_last_blanks};
+ghost use Rattle.csa_text.specs.Cut.{Statements, IsNext, IsGap, is_separator, is_blank, takes_line, is_end, mark_length, statement_bytes, without_last_blanks, longest_statement};
 ghost use Rattle.csa_text.specs.Cutting.{Cutting, ToCome, IfHandedOut, IsTooLong, IsFirstStatement, unit_between};
 
 use crate::line::line_length;
@@ -8,7 +8,7 @@ use std::marker::Model;
 use thiserror::Error;
 
 /// The most bytes that a statement may have, blanks at its end counted.
-pub(crate) const LIMIT: usize = 4096;
+pub const LONGEST_STATEMENT: usize = 4096;
 
 /// The first byte of a comment.
 pub(crate) const COMMENT: u8 = b'\'';
@@ -92,7 +92,7 @@ impl<'a> Cutter<'a> {
         ensures counted { IfHandedOut result (λ s. self.new.number ≡ s.number) }
         ensures bytes { IfHandedOut result (λ s. s.bytes.now ≡ statement_bytes (slice_range self.old.source s.offset self.new.at)) }
         ensures lent { IfHandedOut result (λ s. s.bytes.ref_ptr ≡ (self.old.address.0, self.old.address.1 + s.offset)) }
-        ensures limit { IfHandedOut result (λ s. self.new.at ≤ s.offset + 4096) }
+        ensures limit { IfHandedOut result (λ s. self.new.at ≤ s.offset + longest_statement) }
         ensures end { IfOk result (λ found. IfNone found (ToCome self.old [] × (self.new ≡ self.old))) }
         ensures fault { IfErr result (λ f. IsTooLong self.old f.number f.offset × (self.new ≡ self.old)) }
     {
@@ -102,7 +102,7 @@ impl<'a> Cutter<'a> {
         let number = self.number + 1;
         let offset = start as u64;
         let unit = &self.source[start..end];
-        if unit.len() > LIMIT {
+        if unit.len() > LONGEST_STATEMENT {
             return Err(CutFault { number, offset });
         }
         self.at = end;

@@ -21,8 +21,8 @@ mod rank;
 mod time;
 
 pub use calendar::Moment;
-pub use codes::kind_text;
-pub use cutter::{CutFault, Cutter, Statement};
+pub use codes::{kind_text, sign_of};
+pub use cutter::{CutFault, Cutter, LONGEST_STATEMENT, Statement};
 pub use ending::Ending;
 pub use fault::TextFault;
 pub use item::{Item, read_item};

@@ -9,7 +9,8 @@ ghost use Rattle.csa_text.specs.PieceSteps.{Stepped, Finished, IsUsed, IsLentFro
 ghost use Rattle.csa_text.specs.Places.{IsKept, IsFoundIn, IsFirstIn, IsCommon, IsHeld, place_found, is_in_mark, kept_of, has_unit};
 
 use crate::cutter::{
-    BYTE_ORDER_MARK, COMMENT, CutFault, LIMIT, Statement, handed_out, next_unit, unit_length,
+    BYTE_ORDER_MARK, COMMENT, CutFault, LONGEST_STATEMENT, Statement, handed_out, next_unit,
+    unit_length,
 };
 use arrayvec::ArrayVec;
 use std::marker::Model;
@@ -54,7 +55,7 @@ enum Found {
 /// that is unfinished at most 4,096 bytes are held, and none of a comment. No memory is taken.
 #[derive(Drop)]
 pub struct PieceCutter {
-    held: ArrayVec<u8, 4096>,
+    held: ArrayVec<u8, LONGEST_STATEMENT>,
     place: Place,
     fed: u64,
     number: u64,
@@ -137,7 +138,7 @@ impl PieceCutter {
         let part = &piece[start..end];
         let kept = kept_length(goes_on, self.held.len());
         let offset = self.fed + start as u64 - kept as u64;
-        if LIMIT - kept < part.len() {
+        if LONGEST_STATEMENT - kept < part.len() {
             self.refused = Some(offset);
             return Err(CutFault { number, offset });
         }
@@ -247,7 +248,7 @@ fn kept_length(goes_on: bool, length: usize) -> usize
 }
 
 // Keeps what is held where the unit goes on, and else nothing.
-fn keep_held(held: &mut ArrayVec<u8, 4096>, goes_on: bool)
+fn keep_held(held: &mut ArrayVec<u8, LONGEST_STATEMENT>, goes_on: bool)
     ensures { held.new.items ≡ kept_of goes_on held.old.items }
 {
     if !goes_on {
@@ -256,7 +257,7 @@ fn keep_held(held: &mut ArrayVec<u8, 4096>, goes_on: bool)
 }
 
 // Holds what has come of a byte order mark, and nothing of a gap or a comment.
-fn hold_mark(held: &mut ArrayVec<u8, 4096>, found: Found, piece: &[u8])
+fn hold_mark(held: &mut ArrayVec<u8, LONGEST_STATEMENT>, found: Found, piece: &[u8])
     requires { is_in_mark found ≡ true → array_vec_len held.old + length piece.now ≤ 4096 }
     ensures { held.new.items ≡ (if is_in_mark found then held.old.items ++ piece.now else []) }
 {
@@ -266,7 +267,7 @@ fn hold_mark(held: &mut ArrayVec<u8, 4096>, found: Found, piece: &[u8])
     }
 }
 
-fn hold(held: &mut ArrayVec<u8, 4096>, part: &[u8])
+fn hold(held: &mut ArrayVec<u8, LONGEST_STATEMENT>, part: &[u8])
     requires { array_vec_len held.old + length part.now ≤ 4096 }
     ensures { held.new.items ≡ held.old.items ++ part.now }
 {

@@ -1,4 +1,4 @@
-use csa_text::{Ending, Item, Pair, TextFault, csa_move, kind_text, laws, read_item};
+use csa_text::{Ending, Item, Pair, TextFault, csa_move, kind_text, laws, read_item, sign_of};
 use shogi_board::{Color, Kind, Square};
 use shogi_rules::Move;
 use std::test::Fail;
@@ -131,4 +131,6 @@ fn letters_of_the_kinds(rt: HostRuntime) {
     for (kind, letters) in table {
         assert!(rt; kind_text(kind) == letters, "{letters}");
     }
+    assert!(rt; sign_of(Color::Black) == b'+');
+    assert!(rt; sign_of(Color::White) == b'-');
 }

@@ -8,7 +8,7 @@ use Rattle.std.proofs.lemmas.List.{length-map}
 use Rattle.shogi_board.specs.declared.color.Color.{Color}
 use Rattle.shogi_board.specs.declared.color.Color.TheVariants.{Black, White}
 use Rattle.shogi_board.specs.declared.kind.Piece.{Piece}
-use Rattle.shogi_board.specs.Setup.{position_of}
+use Rattle.shogi_board.specs.Setup.{position_of, first_fault}
 use Rattle.shogi_rules.specs.declared.moves.Move.{Move}
 use Rattle.shogi_board.specs.Placed.{Placed}
 use Rattle.shogi_rules.specs.declared.line.PlayFault.{PlayFault}
@@ -31,7 +31,7 @@ use Rattle.record_game.specs.Items.{names, headers, is_even, ranks, positions, s
 use Rattle.record_game.specs.Keeping.{laying, playing, Kept, Keeps, KeepsStage, TakenOrRefused}
 use Rattle.record_game.specs.Laying.{Laid, Lays, LaidOrRefused}
 use Rattle.record_game.specs.Order as ordered
-use Rattle.record_game.specs.Order.{stands, first_fault, order_fault, order_faults, endings}
+use Rattle.record_game.specs.Order.{stands, order_fault, order_faults, endings}
 use Rattle.record_game.specs.Outcome.{late}
 use Rattle.record_game.specs.Refused.{Answers, AnswersAfter, AnswersInOrder, Finishes, IsLineOf, IsJudged}
 use Rattle.record_game.specs.Titles.{Titled, name_of, name_fault, header_fault, with_name, IsWithHeader, under}
@@ -54,14 +54,14 @@ taken_by before s (Some fault) h = cc
 pub taken_in_order : (before : List Saying) (s : Saying) → Answers before s None → order_fault before s ≡ None
 taken_in_order before s h = taken_by before s (order_fault before s) h
 
-none_first : (b : Bool) (fault : OrderFault) (rest : List (Bool × OrderFault)) → first_fault ((b, fault) ∷ rest) ≡ None → (b ≡ false) × (first_fault rest ≡ None)
+none_first : (b : Bool) (fault : OrderFault) (rest : List (OrderFault × Bool)) → first_fault ((fault, b) ∷ rest) ≡ None → (b ≡ false) × (first_fault rest ≡ None)
 none_first true fault rest h = cc
 none_first false fault rest h = (refl, h)
 
 -- no test of these holds
-none_hold : (fs : List (Bool × OrderFault)) → first_fault fs ≡ None → AllByRecursion (λ (f : Bool × OrderFault). f.0 ≡ false) fs
+none_hold : (fs : List (OrderFault × Bool)) → first_fault fs ≡ None → AllByRecursion (λ (f : OrderFault × Bool). f.1 ≡ false) fs
 none_hold [] h = tt
-none_hold (f ∷ fs) h = let both = none_first f.0 f.1 fs h in (both.0, none_hold fs both.1)
+none_hold (f ∷ fs) h = let both = none_first f.1 f.0 fs h in (both.0, none_hold fs both.1)
 
 refused : (before : List Saying) (s : Saying) (fault : OrderFault) (new : Kept) → order_fault before s ≡ Some fault → TakenOrRefused before s (Err (Order fault)) new
 refused before s fault new is = (Some (Order fault), out_of_order before s fault is, refl, tt)
@@ -85,7 +85,7 @@ has_name before k Black h = names_stand (names Black before) k.titles.black h.bl
 has_name before k White h = names_stand (names White before) k.titles.white h.white
 
 -- one test
-by_one : (b c : Bool) (fault : OrderFault) (before : List Saying) (s : Saying) → order_fault before s ≡ first_fault ((b, fault) ∷ []) → b ≡ c → AnswersInOrder before s None → Answers before s (if c then Some (Order fault) else None)
+by_one : (b c : Bool) (fault : OrderFault) (before : List Saying) (s : Saying) → order_fault before s ≡ first_fault ((fault, b) ∷ []) → b ≡ c → AnswersInOrder before s None → Answers before s (if c then Some (Order fault) else None)
 by_one true true fault before s is same h = out_of_order before s fault is
 by_one true false fault before s is same h = cc
 by_one false true fault before s is same h = cc
@@ -123,7 +123,7 @@ name_step before k new color (b ∷ bs) (Err why) h answer is = (
 )
 
 -- headers
-by_two : (a b c d : Bool) (f g : OrderFault) (before : List Saying) (s : Saying) → order_fault before s ≡ first_fault ((a, f) ∷ (b, g) ∷ []) → a ≡ c → b ≡ d → AnswersInOrder before s None
+by_two : (a b c d : Bool) (f g : OrderFault) (before : List Saying) (s : Saying) → order_fault before s ≡ first_fault ((f, a) ∷ (g, b) ∷ []) → a ≡ c → b ≡ d → AnswersInOrder before s None
     → Answers before s (if c then Some (Order f) else if d then Some (Order g) else None)
 by_two true b true d f g before s is same other h = out_of_order before s f is
 by_two true b false d f g before s is same other h = cc
@@ -194,14 +194,14 @@ first_late (Some e) a b fault rest p q = rw p refl
 side_stands : (before : List Saying) (k : Kept) (c : Course) → Keeps before k → k.stage ≡ playing c → stands (sides before) ≡ true
 side_stands before k c h is = ap stands (is_playing before k c h is).sides
 
-is_late : (before : List Saying) (k : Kept) (c : Course) (fault : OrderFault) (rest : List (Bool × OrderFault)) → Keeps before k → k.stage ≡ playing c → first_fault ((stands (endings before), AfterEnding) ∷ (stands (sides before), fault) ∷ rest) ≡ Some (late c.ending fault)
+is_late : (before : List Saying) (k : Kept) (c : Course) (fault : OrderFault) (rest : List (OrderFault × Bool)) → Keeps before k → k.stage ≡ playing c → first_fault ((AfterEnding, stands (endings before)) ∷ (fault, stands (sides before)) ∷ rest) ≡ Some (late c.ending fault)
 is_late before k c fault rest h is = first_late c.ending (stands (endings before)) (stands (sides before)) fault (first_fault rest) (is_playing before k c h is).endings (side_stands before k c h is)
 
 pub even_late : (before : List Saying) (k new : Kept) (c : Course) (pairs : List Pair) → Keeps before k → k.stage ≡ playing c → TakenOrRefused before (even pairs) (Err (Order (late c.ending PositionLate))) new
-even_late before k new c pairs h is = refused before (even pairs) _ new (is_late before k c PositionLate ((stands (positions before), MixedStart) ∷ []) h is)
+even_late before k new c pairs h is = refused before (even pairs) _ new (is_late before k c PositionLate ((MixedStart, stands (positions before)) ∷ []) h is)
 
 pub rank_late : (before : List Saying) (k new : Kept) (c : Course) (number : ℕ) (cells : List (Option Piece)) → Keeps before k → k.stage ≡ playing c → TakenOrRefused before (rank number cells) (Err (Order (late c.ending PositionLate))) new
-rank_late before k new c number cells h is = refused before (rank number cells) _ new (is_late before k c PositionLate ((stands (filter is_even before), MixedStart) ∷ (stands (filter (λ n. n == number) (ranks before)), MixedStart) ∷ []) h is)
+rank_late before k new c number cells h is = refused before (rank number cells) _ new (is_late before k c PositionLate ((MixedStart, stands (filter is_even before)) ∷ (MixedStart, stands (filter (λ n. n == number) (ranks before))) ∷ []) h is)
 
 pub pieces_late : (before : List Saying) (k new : Kept) (c : Course) (color : Color) (pairs : List Pair) → Keeps before k → k.stage ≡ playing c → TakenOrRefused before (pieces color pairs) (Err (Order (late c.ending PositionLate))) new
 pieces_late before k new c color pairs h is = refused before (pieces color pairs) _ new (is_late before k c PositionLate [] h is)
@@ -311,7 +311,7 @@ play_of (Some fault) c color m h = cc
 play_of None c color m (played, answers, judged) = (refl, mover_by c color m played answers judged)
 
 no_ending : (c : Course) → play_fault c ≡ None → c.ending ≡ None
-no_ending c h = unended c.ending (none_hold ((is_some c.ending, AfterEnding) ∷ (nat_le 10000 (length c.moves), TooManyMoves) ∷ []) h).0
+no_ending c h = unended c.ending (none_hold ((AfterEnding, is_some c.ending) ∷ (TooManyMoves, nat_le 10000 (length c.moves)) ∷ []) h).0
 
 pub move_step : (before : List Saying) (k new : Kept) (c : Course) (color : Color) (m : Move) (answer : Option Why) (result : Result (Unit {0}) Why) → Keeps before k → k.stage ≡ playing c → PlayAnswers c color m answer → IsAnswer answer result
     → OnOk result (new ≡ record k { begun = true; stage = playing (record c { moves = c.moves ++ record { move = m; time = None } ∷ [] }) }) → TakenOrRefused before (walked color m) result new

@@ -10,7 +10,7 @@ use Rattle.shogi_board.specs.declared.setup.SetupFault.{SetupFault}
 use Rattle.shogi_board.specs.declared.setup.SetupFault.TheVariants.{OpponentInCheck}
 use Rattle.shogi_board.specs.Layout.{Layout}
 use Rattle.shogi_board.specs.Pieces.{opponent}
-use Rattle.shogi_board.specs.Setup.{position_of}
+use Rattle.shogi_board.specs.Setup.{position_of, first_fault}
 use Rattle.shogi_board.proofs.Decided.{decide-in_check}
 use Rattle.shogi_rules.specs.declared.line.PlayFault.{PlayFault}
 use Rattle.shogi_rules.specs.declared.line.PlayFault.TheVariants as faults
@@ -35,7 +35,7 @@ use Rattle.record_game.specs.Items.{is_even, is_position, sides}
 use Rattle.record_game.specs.Keeping.{Stage, laying, playing, Kept, Keeps, TakenOrRefused}
 use Rattle.record_game.specs.Laying.{Laid, Lays}
 use Rattle.record_game.specs.Limits.{IsOneLine}
-use Rattle.record_game.specs.Order.{stands, endings, first_fault, order_fault}
+use Rattle.record_game.specs.Order.{stands, endings, order_fault}
 use Rattle.shogi_board.specs.Placing.{place_all}
 use Rattle.record_game.specs.Placings.{placings_of}
 use Rattle.record_game.specs.Refused.{Answers}
@@ -280,7 +280,7 @@ course_more c color m h (few, none) =
       last_time = h.last_time;
     }
 
-free_ones : (a b : Bool) → first_fault ((a, AfterEnding) ∷ (b, TooManyMoves) ∷ []) ≡ None → (a ≡ false) × (b ≡ false)
+free_ones : (a b : Bool) → first_fault ((AfterEnding, a) ∷ (TooManyMoves, b) ∷ []) ≡ None → (a ≡ false) × (b ≡ false)
 free_ones true b h = cc
 free_ones false true h = cc
 free_ones false false h = (refl, refl)

@@ -7,7 +7,9 @@ use Rattle.shogi_board.specs.Sound.{IsSound}
 use Rattle.shogi_rules.specs.declared.line.PlayFault.{PlayFault}
 use Rattle.shogi_rules.specs.declared.moves.Move.{Move}
 use Rattle.shogi_rules.specs.Play as plays
+use Rattle.shogi_board.specs.Setup.{first_fault}
 use Rattle.shogi_rules.specs.Positions as rules
+use Rattle.shogi_rules.specs.Positions.{max_moves}
 use Rattle.csa_text.specs.declared.ending.Ending.{Ending}
 use Rattle.record_game.specs.declared.fault.OrderFault.{OrderFault}
 use Rattle.record_game.specs.declared.fault.OrderFault.TheVariants.{AfterEnding, LooseTime, TooManyMoves}
@@ -15,7 +17,6 @@ use Rattle.record_game.specs.declared.fault.Why.{Why}
 use Rattle.record_game.specs.declared.fault.Why.TheVariants.{Order}
 use Rattle.record_game.specs.Game.{Timed, Ended, move_of}
 use Rattle.record_game.specs.Limits.{IsTimed, EndsInTime}
-use Rattle.record_game.specs.Order.{first_fault}
 use Rattle.record_game.specs.Refused.{IsJudged}
 
 pub record Course : Type 0 where
@@ -33,7 +34,7 @@ untimed m = record { move = m; time = None }
 
 -- with an ending nothing more is played; 10,000 moves are the most
 abbrev pub play_fault : Course → Option OrderFault
-play_fault c = first_fault ((is_some c.ending, AfterEnding) ∷ (nat_le 10000 (length c.moves), TooManyMoves) ∷ [])
+play_fault c = first_fault ((AfterEnding, is_some c.ending) ∷ (TooManyMoves, nat_le max_moves (length c.moves)) ∷ [])
 
 abbrev pub PlayAnswersAfter : Option OrderFault → Course → Color → Move → Option Why → Type 0
 PlayAnswersAfter (Some fault) c color m answer = answer ≡ Some (Order fault)
@@ -87,7 +88,7 @@ with_ending c e = record c { ending = Some (record { ending = e; time = None }) 
 pub record IsCourse (c : Course) : Type 0 where
   pub sound : IsSound c.start
   pub line : rules.IsGame c.start (map move_of c.moves)
-  pub few_moves : length c.moves ≤ 10000
+  pub few_moves : length c.moves ≤ max_moves
   pub times : AllByRecursion (λ (t : Timed). IsTimed t.time) c.moves
   pub last_time : EndsInTime c.ending
 

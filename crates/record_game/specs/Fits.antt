@@ -1,6 +1,6 @@
 -- What the bytes of a statement may spell.
 use Rattle.std.specs.Prelude.{◌≡◌, ◌≢◌, ℕ, ◌+◌, ◌≤◌, List, [], length}
-use Rattle.csa_text.specs.Cut.{IsUnit, statement_bytes}
+use Rattle.csa_text.specs.Cut.{IsUnit, statement_bytes, longest_statement}
 use Rattle.csa_text.specs.Fields.{HasNone}
 use Rattle.csa_text.specs.Spelling.{Saying, version, name, header, even, rank, pieces, turn, walked, time, ending}
 use Rattle.record_game.specs.Limits.{IsOneLine}
@@ -10,7 +10,7 @@ pub record IsOfStatement (bytes : List ℕ) : Type 0 where
   pub unit : List ℕ
   pub behind : List ℕ
   pub is_unit : IsUnit unit behind
-  pub short : length unit ≤ 4096
+  pub short : length unit ≤ longest_statement
   pub whole : bytes ≡ statement_bytes unit
 
 -- a key, which is not empty and has no colon, and a text, on one line of at most 4,096 bytes
@@ -19,12 +19,12 @@ pub record IsHeaderLine (key text : List ℕ) : Type 0 where
   pub key_line : IsOneLine key
   pub text_line : IsOneLine text
   pub no_colon : HasNone 58 key
-  pub fits : 2 + length key + length text ≤ 4096
+  pub fits : 2 + length key + length text ≤ longest_statement
 
 -- texts on one line and numbers within their limits
 abbrev pub Fits : Saying → Type 0
 Fits version = Unit {0}
-Fits (name color text) = IsOneLine text × (2 + length text ≤ 4096)
+Fits (name color text) = IsOneLine text × (2 + length text ≤ longest_statement)
 Fits (header key text) = IsHeaderLine key text
 Fits (even pairs) = Unit {0}
 Fits (rank number cells) = (1 ≤ number) × (number ≤ 9)

@@ -7,6 +7,8 @@ use Rattle.shogi_rules.specs.Positions as rules
 use Rattle.csa_text.specs.Fields.{HasNone}
 use Rattle.csa_text.specs.Moment.{CalendarMoment, TimeOfDay, SpellsMoment}
 use Rattle.record_game.specs.Game.{Game, Timed, Ended, HeaderText, moment, plain, Entry, move_of}
+use Rattle.csa_text.specs.Cut.{longest_statement}
+use Rattle.shogi_rules.specs.Positions.{max_moves}
 
 -- a text that stands on one line
 abbrev pub IsOneLine : List ℕ → Type 0
@@ -16,7 +18,7 @@ IsOneLine text = AllByRecursion (λ b. (b ≢ 13) × (b ≢ 10)) text
 pub record IsName (text : List ℕ) : Type 0 where
   pub some : text ≢ []
   pub one_line : IsOneLine text
-  pub fits : 2 + length text ≤ 4096
+  pub fits : 2 + length text ≤ longest_statement
 
 -- the keys under which a moment may stand
 abbrev pub IsMomentKey : List ℕ → Type 0
@@ -36,7 +38,7 @@ pub record IsMoment (m : CalendarMoment) : Type 0 where
 pub record IsPlain (key text : List ℕ) : Type 0 where
   pub some : text ≢ []
   pub one_line : IsOneLine text
-  pub fits : 2 + length key + length text ≤ 4096
+  pub fits : 2 + length key + length text ≤ longest_statement
   pub no_moment : IsMomentKey key → (m : CalendarMoment) → SpellsMoment text m → ⊥
 
 abbrev pub MayStandUnder : List ℕ → HeaderText → Type 0
@@ -81,6 +83,6 @@ pub record IsGame (g : Game) : Type 0 where
   pub few_headers : length g.headers ≤ 64
   pub sound : IsSound g.start
   pub line : rules.IsGame g.start (map move_of g.moves)
-  pub few_moves : length g.moves ≤ 10000
+  pub few_moves : length g.moves ≤ max_moves
   pub times : AllByRecursion (λ (t : Timed). IsTimed t.time) g.moves
   pub last_time : EndsInTime g.ending

@@ -1,6 +1,8 @@
 -- Why the next item does not fit behind the items before it.
-use Rattle.std.specs.Prelude.{ℕ, ◌==◌, nat_le, nat_eq, not, Bool, true, false, List, [], ◌∷◌, length, filter, Option, Some, None, if◌then◌else◌}
+use Rattle.std.specs.Prelude.{ℕ, ◌==◌, nat_le, nat_eq, not, Bool, true, false, List, [], ◌∷◌, length, filter, Option}
 use Rattle.std.specs.Cmp.Lexicographic.{pointwise}
+use Rattle.shogi_board.specs.Setup.{first_fault}
+use Rattle.shogi_rules.specs.Positions.{max_moves}
 use Rattle.csa_text.specs.Spelling.{Saying, version, name, header, even, rank, pieces, turn, walked, time, ending}
 use Rattle.record_game.specs.Items.{names, headers, is_even, ranks, positions, sides, moves, is_ending, body}
 use Rattle.record_game.specs.declared.fault.OrderFault.{OrderFault}
@@ -10,11 +12,6 @@ use Rattle.record_game.specs.declared.fault.OrderFault.TheVariants.{VersionOutOf
 abbrev pub stands : {X : Type 0} → List X → Bool
 stands [] = false
 stands (x ∷ xs) = true
-
--- the first fault whose test holds
-abbrev pub first_fault : List (Bool × OrderFault) → Option OrderFault
-first_fault [] = None
-first_fault (f ∷ fs) = if f.0 then Some f.1 else first_fault fs
 
 -- the headers of this key
 abbrev pub under : List ℕ → List Saying → List (List ℕ × List ℕ)
@@ -43,26 +40,26 @@ awaits_time (s ∷ []) = may_have_time s
 awaits_time (s ∷ t ∷ ss) = awaits_time (t ∷ ss)
 
 -- the order faults of the next item, in the order in which they are looked for; an empty name or an empty text has none
-abbrev pub order_faults : List Saying → Saying → List (Bool × OrderFault)
-order_faults before version = (stands before, VersionOutOfPlace) ∷ []
+abbrev pub order_faults : List Saying → Saying → List (OrderFault × Bool)
+order_faults before version = (VersionOutOfPlace, stands before) ∷ []
 order_faults before (name color []) = []
-order_faults before (name color (b ∷ bs)) = (stands (names color before), RepeatedName) ∷ []
+order_faults before (name color (b ∷ bs)) = (RepeatedName, stands (names color before)) ∷ []
 order_faults before (header key []) = []
 order_faults before (header key (b ∷ bs)) =
-    (stands (under key before), RepeatedHeader) ∷ (nat_le 64 (length (headers before)), TooManyHeaders) ∷ []
+    (RepeatedHeader, stands (under key before)) ∷ (TooManyHeaders, nat_le 64 (length (headers before))) ∷ []
 order_faults before (even pairs) =
-    (stands (endings before), AfterEnding) ∷ (stands (sides before), PositionLate) ∷ (stands (positions before), MixedStart) ∷ []
+    (AfterEnding, stands (endings before)) ∷ (PositionLate, stands (sides before)) ∷ (MixedStart, stands (positions before)) ∷ []
 order_faults before (rank number cells) =
-    (stands (endings before), AfterEnding) ∷ (stands (sides before), PositionLate)
-    ∷ (stands (filter is_even before), MixedStart) ∷ (stands (filter (λ n. n == number) (ranks before)), MixedStart) ∷ []
+    (AfterEnding, stands (endings before)) ∷ (PositionLate, stands (sides before))
+    ∷ (MixedStart, stands (filter is_even before)) ∷ (MixedStart, stands (filter (λ n. n == number) (ranks before))) ∷ []
 order_faults before (pieces color pairs) =
-    (stands (endings before), AfterEnding) ∷ (stands (sides before), PositionLate) ∷ []
-order_faults before (turn color) = (stands (endings before), AfterEnding) ∷ (stands (sides before), RepeatedTurn) ∷ []
+    (AfterEnding, stands (endings before)) ∷ (PositionLate, stands (sides before)) ∷ []
+order_faults before (turn color) = (AfterEnding, stands (endings before)) ∷ (RepeatedTurn, stands (sides before)) ∷ []
 order_faults before (walked color m) =
-    (stands (endings before), AfterEnding) ∷ (not (stands (sides before)), MoveBeforeTurn)
-    ∷ (nat_le 10000 (length (moves before)), TooManyMoves) ∷ []
-order_faults before (time t) = (not (awaits_time (body before)), LooseTime) ∷ []
-order_faults before (ending e) = (stands (endings before), AfterEnding) ∷ (not (stands (sides before)), MoveBeforeTurn) ∷ []
+    (AfterEnding, stands (endings before)) ∷ (MoveBeforeTurn, not (stands (sides before)))
+    ∷ (TooManyMoves, nat_le max_moves (length (moves before))) ∷ []
+order_faults before (time t) = (LooseTime, not (awaits_time (body before))) ∷ []
+order_faults before (ending e) = (AfterEnding, stands (endings before)) ∷ (MoveBeforeTurn, not (stands (sides before))) ∷ []
 
 abbrev pub order_fault : List Saying → Saying → Option OrderFault
 order_fault before saying = first_fault (order_faults before saying)

@@ -11,7 +11,7 @@ use Rattle.shogi_rules.specs.declared.line.PlayFault.{PlayFault}
 use Rattle.shogi_rules.specs.declared.line.PlayFault.TheVariants as playing
 use Rattle.shogi_rules.specs.Play as plays
 use Rattle.shogi_rules.specs.Positions.{Played}
-use Rattle.csa_text.specs.Cut.{TextUnit, IsCut, statement_bytes}
+use Rattle.csa_text.specs.Cut.{TextUnit, IsCut, statement_bytes, longest_statement}
 use Rattle.csa_text.specs.Spelling.{Saying, version, name, header, even, rank, pieces, turn, walked, time, ending, Spells, fault_of_row}
 use Rattle.csa_text.specs.declared.fault.TextFault.TheVariants.{StatementTooLong}
 use Rattle.record_game.specs.declared.fault.OrderFault.{OrderFault}
@@ -73,12 +73,12 @@ abbrev pub Answers : List Saying → Saying → Option Why → Type 0
 Answers before saying answer = AnswersAfter (order_fault before saying) before saying answer
 
 abbrev pub IsTooLong : TextUnit → Why → Type 0
-IsTooLong unit why = (4096 < length unit.bytes) × (why ≡ Text StatementTooLong)
+IsTooLong unit why = (longest_statement < length unit.bytes) × (why ≡ Text StatementTooLong)
 
 -- it spells no item, and has the fault of its row
 abbrev pub IsUnspelt : TextUnit → Why → Type 0
 IsUnspelt unit why =
-    (length unit.bytes ≤ 4096) × ((saying : Saying) → Spells (statement_bytes unit.bytes) saying → ⊥)
+    (length unit.bytes ≤ longest_statement) × ((saying : Saying) → Spells (statement_bytes unit.bytes) saying → ⊥)
     × (why ≡ Text (fault_of_row (statement_bytes unit.bytes)))
 
 abbrev pub IsRefusedItem : List Saying → TextUnit → Why → Type 0

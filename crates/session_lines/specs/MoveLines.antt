@@ -2,7 +2,7 @@
 use Rattle.std.specs.Prelude.{ℕ, ◌≤◌, ◌||◌, Bool, List, [], ◌∷◌, length}
 use Rattle.shogi_board.specs.declared.color.Color.{Color}
 use Rattle.shogi_rules.specs.declared.moves.Move.{Move}
-use Rattle.csa_text.specs.Cut.{TextUnit, IsCut, begins_with, statement_bytes}
+use Rattle.csa_text.specs.Cut.{TextUnit, IsCut, begins_with, statement_bytes, longest_statement}
 use Rattle.csa_text.specs.Spelling.{Spells, walked}
 
 -- a line from `+` or `-`: its first byte
@@ -11,7 +11,7 @@ is_move_line line = begins_with 43 line || begins_with 45 line
 
 -- the line has one statement, which is not too long; a comment is none
 abbrev pub IsAlone : List ℕ → TextUnit → Type 0
-IsAlone line unit = IsCut line (unit ∷ []) × (length unit.bytes ≤ 4096)
+IsAlone line unit = IsCut line (unit ∷ []) × (length unit.bytes ≤ longest_statement)
 
 -- and that statement is this move of that side
 abbrev pub TellsMove : List ℕ → Color → Move → Type 0

@@ -3,7 +3,7 @@ use Rattle.std.specs.Prelude.{◌≡◌, ℕ, ◌<◌, ◌≤◌, ◌&&◌, nat_
 use Rattle.std.specs.List.{AllZip, starts_with, ends_with}
 use Rattle.shogi_board.specs.declared.color.Color.{Color}
 use Rattle.shogi_rules.specs.declared.moves.Move.{Move}
-use Rattle.csa_text.specs.Cut.{TextUnit, IsCut, statement_bytes, begins_with}
+use Rattle.csa_text.specs.Cut.{TextUnit, IsCut, statement_bytes, begins_with, longest_statement}
 use Rattle.csa_text.specs.Spelling.{Saying, walked, time, Spells, fault_of_row}
 use Rattle.csa_text.specs.declared.fault.TextFault.{TextFault}
 use Rattle.csa_text.specs.declared.fault.TextFault.TheVariants.{StatementTooLong, Unknown}
@@ -51,17 +51,17 @@ IsTime s = (t : ℕ) × (s ≡ time t)
 
 -- the statement is too long, spells nothing, or spells another item than is wanted in its place
 pub data UnitFault (Wanted : Saying → Type 0) (u : TextUnit) (fault : TextFault) : Type 0 where
-  too_long : 4096 < length u.bytes → fault ≡ StatementTooLong → UnitFault Wanted u fault
+  too_long : longest_statement < length u.bytes → fault ≡ StatementTooLong → UnitFault Wanted u fault
   unread :
-      length u.bytes ≤ 4096 → ((s : Saying) → Spells (statement_bytes u.bytes) s → ⊥)
+      length u.bytes ≤ longest_statement → ((s : Saying) → Spells (statement_bytes u.bytes) s → ⊥)
       → fault ≡ fault_of_row (statement_bytes u.bytes)
       → UnitFault Wanted u fault
   another : (s : Saying) → IsSpelt u s → (Wanted s → ⊥) → fault ≡ Unknown → UnitFault Wanted u fault
 
 -- the statement stands behind the move and the time
 pub data ExtraFault (u : TextUnit) (fault : TextFault) : Type 0 where
-  too_long : 4096 < length u.bytes → fault ≡ StatementTooLong → ExtraFault u fault
-  extra : length u.bytes ≤ 4096 → fault ≡ Unknown → ExtraFault u fault
+  too_long : longest_statement < length u.bytes → fault ≡ StatementTooLong → ExtraFault u fault
+  extra : length u.bytes ≤ longest_statement → fault ≡ Unknown → ExtraFault u fault
 
 -- of the first statement, where the move is wanted; of the second, where the time is; or of the third
 pub data FirstTextFault (line : List ℕ) (fault : TextFault) : Type 0 where

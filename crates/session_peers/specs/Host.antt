@@ -9,7 +9,7 @@ use Rattle.shogi_rules.specs.declared.line.Verdict.TheVariants as verdict
 use Rattle.shogi_rules.specs.declared.moves.Move.{Move}
 use Rattle.shogi_rules.specs.Order.{IsFirstLegal}
 use Rattle.shogi_rules.specs.Play.{Answers}
-use Rattle.shogi_rules.specs.Positions.{Played, now_of, all_of}
+use Rattle.shogi_rules.specs.Positions.{Played, now_of, all_of, max_moves}
 use Rattle.shogi_rules.specs.Repetition.{Over}
 use Rattle.shogi_rules.specs.Verdicts.{NoLegalMove, Stands}
 use Rattle.csa_text.specs.Codes.{sign, move_text}
@@ -42,7 +42,7 @@ pub record IsLoginWord (word : List ℕ) : Type 0 where
 -- what callers keep of a host's game
 pub record IsHostConfig (c : HostConfig) : Type 0 where
   pub some_moves : 1 ≤ c.max_moves
-  pub few_moves : c.max_moves ≤ 10000
+  pub few_moves : c.max_moves ≤ max_moves
   pub id : IsLoginWord c.id.bytes
   pub name : IsLoginWord c.name.bytes
 

@@ -4,6 +4,7 @@ ghost use Rattle.session_peers.specs.declared.config.HostConfig.{HostConfig};
 ghost use Rattle.session_peers.specs.Hosting.{Begins, RowText, StepRow, state_of};
 ghost use Rattle.session_lines.specs.LineTexts as texts;
 ghost use Rattle.session_lines.specs.Texts.{text_of};
+ghost use Rattle.shogi_rules.specs.Positions.{max_moves};
 
 use crate::config::HostConfig;
 use crate::login::{is_login, push_summary, read_login};
@@ -38,7 +39,7 @@ impl Model for Host {
 
     ghost view = { λ h. record { config = h.config; state = state_of h.stage } };
 
-    ghost invariant = { λ h. h.config.max_moves ≤ 10000 };
+    ghost invariant = { λ h. h.config.max_moves ≤ max_moves };
 }
 
 /// What a host answers to a line.
@@ -124,7 +125,7 @@ fn answer(
     line: &[u8],
     seconds: u32,
 ) -> Result<Reply, OutOfMemory>
-    requires { config.now.max_moves ≤ 10000 }
+    requires { config.now.max_moves ≤ max_moves }
     ensures row { IfOk result (λ r. RowText config.now (state_of stage) line.now seconds r.lines (state_of r.stage)) }
     ensures over { state_of stage ≡ ended → IsOk result }
 {
@@ -208,7 +209,7 @@ fn agree(
     name: ArrayVec<u8, 32>,
     line: &[u8],
 ) -> Result<Reply, OutOfMemory>
-    requires few { config.now.max_moves ≤ 10000 }
+    requires few { config.now.max_moves ≤ max_moves }
     requires stays { line.now ≡ texts.logout → ⊥ }
     ensures { (seconds : ℕ) → IfOk result (λ r. RowText config.now (offered name.items) line.now seconds r.lines (state_of r.stage)) }
 {
@@ -241,7 +242,7 @@ fn reject(alloc: Global, config: &HostConfig, name: &[u8]) -> Result<Reply, OutO
 
 // Begins the game, with the host's move where black is its side.
 fn begin(alloc: Global, config: &HostConfig) -> Result<Reply, OutOfMemory>
-    requires { config.now.max_moves ≤ 10000 }
+    requires { config.now.max_moves ≤ max_moves }
     ensures { IfOk result (λ r. Begins config.now r.lines (state_of r.stage)) }
 {
     let mut lines = Lines::new(alloc);

@@ -1,7 +1,7 @@
 ghost use Rattle.std.specs.Prelude.{◌≡◌, ◌++◌, ◌<◌, ◌≤◌, ◌∷◌, [], length, true, ◌↔◌, IsTrue, IfOk, OnOk};
 ghost use Rattle.shogi_rules.specs.Legal.{Legal};
 ghost use Rattle.shogi_rules.specs.Order.{IsFirstLegal};
-ghost use Rattle.shogi_rules.specs.Positions.{now_of, all_of};
+ghost use Rattle.shogi_rules.specs.Positions.{now_of, all_of, max_moves};
 ghost use Rattle.shogi_rules.specs.Repetition.{Over};
 ghost use Rattle.csa_text.specs.Codes.{move_text};
 ghost use Rattle.session_peers.specs.Host.{playing, decided, outcome_lines, with_move};
@@ -28,7 +28,7 @@ pub(crate) fn answer_in_play(
     line: &[u8],
     seconds: u32,
 ) -> Result<Reply, OutOfMemory>
-    requires few { config.now.max_moves ≤ 10000 }
+    requires few { config.now.max_moves ≤ max_moves }
     requires stays { line.now ≡ texts.logout → ⊥ }
     ensures { IfOk result (λ r. RowText config.now (playing game) line.now seconds r.lines (state_of r.stage)) }
 {
@@ -74,7 +74,7 @@ fn take_move(
     line: &[u8],
     seconds: u32,
 ) -> Result<Reply, OutOfMemory>
-    requires few { config.now.max_moves ≤ 10000 }
+    requires few { config.now.max_moves ≤ max_moves }
     requires from_a_sign { is_move_line line.now ≡ true }
     ensures { IfOk result (λ r. RowText config.now (playing game) line.now seconds r.lines (state_of r.stage)) }
 {
@@ -93,7 +93,7 @@ fn try_move(
     mv: Move,
     seconds: u32,
 ) -> Result<Reply, OutOfMemory>
-    requires few { config.now.max_moves ≤ 10000 }
+    requires few { config.now.max_moves ≤ max_moves }
     ensures { IfOk result (λ r. Tries config.now game color mv seconds r.lines (state_of r.stage)) }
 {
     let mut game = game;
@@ -124,7 +124,7 @@ fn follow(
     mv: Move,
     seconds: u32,
 ) -> Result<Reply, OutOfMemory>
-    requires few { config.now.max_moves ≤ 10000 }
+    requires few { config.now.max_moves ≤ max_moves }
     ensures { IfOk result (λ r. Follows config.now game (with_time (move_text color mv) seconds) r.lines (state_of r.stage)) }
 {
     let mut lines = Lines::new(alloc);
@@ -167,8 +167,8 @@ fn push_move(lines: &mut Lines, color: Color, mv: &Move, seconds: u32) -> Result
 
 // Plays the host's move behind the lines so far, or resigns.
 pub(crate) fn move_host(config: &HostConfig, game: Line, lines: Lines) -> Result<Reply, OutOfMemory>
-    requires few { config.now.max_moves ≤ 10000 }
-    requires room { length game.moves < 10000 }
+    requires few { config.now.max_moves ≤ max_moves }
+    requires room { length game.moves < max_moves }
     requires goes_on { Over (all_of game) (now_of game) → ⊥ }
     ensures { IfOk result (λ r. MovesBehind config.now game lines r.lines (state_of r.stage)) }
 {
@@ -193,8 +193,8 @@ fn resign(lines: Lines) -> Result<Reply, OutOfMemory>
 
 // Plays that move of the host.
 fn play_host(config: &HostConfig, game: Line, mv: Move, lines: Lines) -> Result<Reply, OutOfMemory>
-    requires few { config.now.max_moves ≤ 10000 }
-    requires room { length game.moves < 10000 }
+    requires few { config.now.max_moves ≤ max_moves }
+    requires room { length game.moves < max_moves }
     requires goes_on { Over (all_of game) (now_of game) → ⊥ }
     requires first { IsFirstLegal (now_of game) mv }
     ensures { IfOk result (λ r. MovesBehind config.now game lines r.lines (state_of r.stage)) }
@@ -209,7 +209,7 @@ fn play_host(config: &HostConfig, game: Line, mv: Move, lines: Lines) -> Result<
 
 // The game with that move, which is legal.
 fn play_legal(game: Line, mv: Move) -> Result<Line, OutOfMemory>
-    requires room { length game.moves < 10000 }
+    requires room { length game.moves < max_moves }
     requires goes_on { Over (all_of game) (now_of game) → ⊥ }
     requires legal { Legal (now_of game) mv }
     ensures { IfOk result (λ played. played ≡ with_move game mv) }

@@ -3,7 +3,7 @@ use Rattle.std.specs.Prelude.{◌≡◌, ℕ, ◌+◌, ◌-◌, ◌<◌, ◌++�
 use Rattle.shogi_board.specs.declared.color.Color.{Color}
 use Rattle.shogi_board.specs.declared.color.Color.TheVariants.{Black, White}
 use Rattle.shogi_board.specs.Pieces.{opponent, same_color}
-use Rattle.shogi_rules.specs.Positions.{all_of}
+use Rattle.shogi_rules.specs.Positions.{all_of, max_moves}
 use Rattle.shogi_rules.specs.Repetition.{Over}
 use Rattle.usi_text.specs.LineText.{LineText}
 use Rattle.csa_record.specs.Game.{Timed, move_of}
@@ -17,7 +17,7 @@ use Rattle.session_table.specs.State.{Match, line_of, position_now}
 pub record MayAsk (g : Match) : Type 0 where
   pub to_move : (position_now g).side ≡ g.client
   pub not_over : Over (all_of (line_of g)) (position_now g) → ⊥
-  pub few : length g.game.moves < 10000
+  pub few : length g.game.moves < max_moves
 
 abbrev pub thousandths : Option ℕ → ℕ
 thousandths None = 0

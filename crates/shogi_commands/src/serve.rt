@@ -2,6 +2,7 @@
 
 ghost use Rattle.std.specs.Prelude.{◌≡◌, ◌≢◌, ◌≤◌, true, false, Ok, Err, IfErr, IfOk, IsOk, IsErrOf, codes};
 ghost use Rattle.shogi_session.specs.Host.{waiting};
+ghost use Rattle.shogi_rules.specs.Positions.{max_moves};
 
 use arrayvec::ArrayString;
 use session_loops::wire::Exchange;
@@ -24,7 +25,7 @@ pub fn run<R: Net<Listener = TcpListener, Stream = TcpStream> + Print + AllocGlo
     client: Color,
     max_moves: u32,
 ) -> Result<(), Fault>
-    requires { (1 ≤ max_moves) × (max_moves ≤ 10000) }
+    requires { (1 ≤ max_moves) × (max_moves ≤ max_moves) }
     ensures faults { IfErr result (λ fault. (fault ≢ Fault.WordsNotText) × (fault ≢ Fault.UnknownCommand)) }
 {
     let stream = accept(rt, port)?;
@@ -73,7 +74,7 @@ fn accept<R: Net<Listener = TcpListener, Stream = TcpStream> + Print + AllocGlob
 
 // A host to which nothing has come.
 fn host_of(alloc: Global, client: Color, max_moves: u32) -> Result<Host, Fault>
-    requires { (1 ≤ max_moves) × (max_moves ≤ 10000) }
+    requires { (1 ≤ max_moves) × (max_moves ≤ max_moves) }
     ensures names { IfOk result (λ host. (host.config.id.bytes ≡ codes "local") × (host.config.name.bytes ≡ codes "host")) }
     ensures client { IfOk result (λ host. host.config.client ≡ client) }
     ensures moves { IfOk result (λ host. host.config.max_moves ≡ max_moves) }

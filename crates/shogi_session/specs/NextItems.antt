@@ -1,6 +1,6 @@
 -- What the private helpers promise that go through a line statement by statement.
 use Rattle.std.specs.Prelude.{◌≡◌, ◌<◌, ◌≤◌, ℕ, List, [], ◌∷◌, length, Option, Some, None, Result, Ok, Err, ◌⊎◌}
-use Rattle.csa_text.specs.Cut.{TextUnit, statement_bytes}
+use Rattle.csa_text.specs.Cut.{TextUnit, statement_bytes, longest_statement}
 use Rattle.csa_text.specs.Cutting.{Cutting, ToCome}
 use Rattle.csa_text.specs.Saying.{saying_of}
 use Rattle.csa_text.specs.Spelling.{Saying, time, ending, Spells, fault_of_row}
@@ -17,9 +17,9 @@ Leads old u new = (others : List TextUnit) → ToCome new others → ToCome old 
 
 -- the statement is too long, or spells nothing
 pub data IsUnread (u : TextUnit) (fault : TextFault) : Type 0 where
-  too_long : 4096 < length u.bytes → fault ≡ StatementTooLong → IsUnread u fault
+  too_long : longest_statement < length u.bytes → fault ≡ StatementTooLong → IsUnread u fault
   unread :
-      length u.bytes ≤ 4096 → ((s : Saying) → Spells (statement_bytes u.bytes) s → ⊥)
+      length u.bytes ≤ longest_statement → ((s : Saying) → Spells (statement_bytes u.bytes) s → ⊥)
       → fault ≡ fault_of_row (statement_bytes u.bytes)
       → IsUnread u fault
 

@@ -5,6 +5,7 @@ ghost use Rattle.csa_record.specs.Titles.{with_name};
 ghost use Rattle.csa_text.specs.Codes.{sign};
 ghost use Rattle.shogi_board.specs.declared.color.Color.{Color};
 ghost use Rattle.shogi_session.specs.Offers.{IsNamed, IsOfferRead, offer_of};
+ghost use Rattle.csa_text.specs.Cut.{longest_statement};
 
 use crate::position_text::read_position;
 use csa_record::Record;
@@ -85,7 +86,7 @@ fn name_both(game: Record, black: &[u8], white: &[u8]) -> Result<Record, OutOfMe
 // Names a side of the game that has no name; only want of memory can refuse that.
 fn name_side(game: &mut Record, color: Color, name: &[u8]) -> Result<(), OutOfMemory>
     requires one_line { IsOneLine name.now }
-    requires fits { 2 + length name.now ≤ 4096 }
+    requires fits { 2 + length name.now ≤ longest_statement }
     ensures { OnOk result (game.new ≡ with_titled game.old (with_name (titled_of game.old) color name.now)) }
 {
     match game.set_name(color, name) {

@@ -3,8 +3,8 @@ use Rattle.csa_text.specs.Cutting.{unit_between}
 use Rattle.csa_text.proofs.Runs.{found}
 use Rattle.csa_text.proofs.cutter.Cutter.next_statement.Goals as goal
 
-pub returns-then-unit-gt-LIMIT-clause-fault : goal.returns-then-unit-gt-LIMIT-clause-fault
-returns-then-unit-gt-LIMIT-clause-fault c =
+pub returns-then-unit-gt-LONGEST_STATEMENT-clause-fault : goal.returns-then-unit-gt-LONGEST_STATEMENT-clause-fault
+returns-then-unit-gt-LONGEST_STATEMENT-clause-fault c =
     let source = c.self.inside.source.now in
     let first = c.in-Some.ensures in
     let others = found c.in-Some.end (drop c.in-Some.end source) in (
@@ -14,7 +14,7 @@ returns-then-unit-gt-LIMIT-clause-fault c =
         first = first.first others.0 others.1;
         number_is = refl;
         place = refl;
-        long = omega (arith, c.if-unit-gt-LIMIT.true);
+        long = omega (arith, c.if-unit-gt-LONGEST_STATEMENT.true);
       }),
       refl,
     )
