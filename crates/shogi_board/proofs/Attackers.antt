@@ -1,5 +1,6 @@
 -- Who attacks a square is seen from it: in one of eight directions, or a knight's jump away.
-use Rattle.std.proofs.Common.{◌≡◌, ℕ, ◌+◌, ◌-◌, ◌*◌, ◌<◌, ◌≤◌, ◌⊎◌, inl, inr, List, [], ◌∷◌, ◌++◌, Any, get_or, length, None, Option, true, is_some, arith, ap, subst, ◌∙◌}
+use Rattle.std.proofs.Common.{◌≡◌, ℕ, ◌+◌, ◌-◌, ◌*◌, ◌<◌, ◌≤◌, ◌⊎◌, inl, inr, List, [], ◌∷◌, ◌++◌, Any, get_or, length, None, Some, Option, Bool, true, is_some, ◌↔◌, IsTrue, arith, ap, subst, ◌∙◌}
+use Rattle.std.specs.Prelude.{MatchOption}
 use Rattle.std.proofs.lemmas.Bool.{cases_lt}
 use Rattle.std.proofs.lemmas.List.{get_or_default}
 use Rattle.shogi_board.specs.Attackers.{IsAttackedByJump, IsAttackedInLine}
@@ -205,3 +206,13 @@ edge-there cells color s a d n ray off clear sight attack =
       | inl lt ↦ let none = clear sight.distance a sight.some lt sight.away in let stands = attack.reach.stands in cc
       | inr ge ↦ off-edge s a d n sight.distance ray (omega arith) off sight.away
     ]
+
+-- 5. Answers
+-- an answer to one question is one to another that implies it
+pub weaker : (found : Option Square) (P Q : Type 0) (R S : Square → Type 0) → (P → Q) → ((a : Square) → S a → R a) → MatchOption found (Q → ⊥) S → MatchOption found (P → ⊥) R
+weaker None P Q R S f g h = λ x. h (f x)
+weaker (Some a) P Q R S f g h = g a h
+
+pub some-attacker : (cells : Cells) (color : Color) (s : Square) (found : Option Square) (b : Bool) → b ≡ is_some found → MatchOption found (Attacked cells color s → ⊥) (λ a. Attack cells color a s) → IsTrue b ↔ Attacked cells color s
+some-attacker cells color s None b e h = (λ t. cc, λ x. absurd (h x))
+some-attacker cells color s (Some a) b e h = (λ t. (a, h), λ x. e)

@@ -1,4 +1,5 @@
 pub mod Attackers
+pub mod Between
 pub mod Check
 pub mod Count
 pub mod Decided

@@ -1,4 +1,5 @@
 pub mod Attackers
+pub mod Between
 pub mod Cells
 pub mod Kings
 pub mod Layout

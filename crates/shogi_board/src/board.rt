@@ -163,57 +163,88 @@ impl Board {
     pub(crate) fn attacked(&self, color: Color, square: Square) -> bool
         ensures { IsTrue result ↔ Attacked self.now color square }
     {
-        self.attacked_in_line(color, square) || self.attacked_by_jump(color, square)
+        self.attacker(color, square).is_some()
     }
 
-    // Whether the first piece in one of the eight directions from the square attacks it.
-    fn attacked_in_line(&self, color: Color, square: Square) -> bool
-        ensures { IsTrue result ↔ IsAttackedInLine self.now color square }
+    // The square of an enemy piece of that colour that reaches the square: the first one found in line, else across.
+    pub(crate) fn attacker(&self, color: Color, square: Square) -> Option<Square>
+        ensures { MatchOption result (Attacked self.now color square → ⊥) (λ a. Attack self.now color a square) }
+    {
+        match self.attacker_in_line(color, square) {
+            Some(from) => Some(from),
+            None => self.attacker_by_jump(color, square),
+        }
+    }
+
+    // The first piece in one of the eight directions from the square that attacks it.
+    fn attacker_in_line(&self, color: Color, square: Square) -> Option<Square>
+        ensures { MatchOption result
+            (IsAttackedInLine self.now color square → ⊥)
+            (λ a. Attack self.now color a square) }
     {
         for direction in Kind::King.steps() {
-            if self.attacked_from(color, square, direction.turned_for(color)) {
-                return true;
+            if let Some(from) = self.attacker_from(color, square, direction.turned_for(color)) {
+                return Some(from);
             }
         }
-        false
+        None
     }
 
-    // Whether a piece a knight's jump away from the square attacks it.
-    fn attacked_by_jump(&self, color: Color, square: Square) -> bool
-        ensures { IsTrue result ↔ IsAttackedByJump self.now color square }
+    // The piece a knight's jump away from the square that attacks it.
+    fn attacker_by_jump(&self, color: Color, square: Square) -> Option<Square>
+        ensures { MatchOption result
+            (IsAttackedByJump self.now color square → ⊥)
+            (λ a. Attack self.now color a square) }
     {
         for direction in Kind::Knight.steps() {
-            if self.attacked_across(color, square, direction.turned_for(color)) {
-                return true;
+            if let Some(from) = self.attacker_across(color, square, direction.turned_for(color)) {
+                return Some(from);
             }
         }
-        false
+        None
     }
 
-    // Whether the first piece in that direction from the square is an enemy of that colour that reaches it.
-    fn attacked_from(&self, color: Color, square: Square, direction: Direction) -> bool
+    // The first piece in that direction from the square, if it is an enemy of that colour that reaches it.
+    fn attacker_from(&self, color: Color, square: Square, direction: Direction) -> Option<Square>
         requires { IsRay direction }
-        ensures { IsTrue result ↔ AttackInSight self.now color square direction }
+        ensures { MatchOption result
+            (AttackInSight self.now color square direction → ⊥)
+            (λ a. Attack self.now color a square) }
     {
         for n in 1..9u8 {
             let Some(from) = square.away(direction, n) else {
-                return false;
+                return None;
             };
             if self.at(from).is_some() {
-                return self.attacks(color, from, square);
+                return self.attacker_at(color, from, square);
             }
         }
-        false
+        None
     }
 
-    // Whether an enemy of that colour stands one step of that direction away from the square and reaches it.
-    fn attacked_across(&self, color: Color, square: Square, direction: Direction) -> bool
+    // The square one step of that direction away, if an enemy of that colour stands there and reaches the square.
+    fn attacker_across(&self, color: Color, square: Square, direction: Direction) -> Option<Square>
         requires { IsNear direction }
-        ensures { IsTrue result ↔ AttackAcross self.now color square direction }
+        ensures { MatchOption result
+            (AttackAcross self.now color square direction → ⊥)
+            (λ a. Attack self.now color a square) }
     {
         match square.away(direction, 1) {
-            Some(from) => self.attacks(color, from, square),
-            None => false,
+            Some(from) => self.attacker_at(color, from, square),
+            None => None,
+        }
+    }
+
+    // The one square, if an enemy piece of that colour stands there and reaches the other.
+    fn attacker_at(&self, color: Color, from: Square, to: Square) -> Option<Square>
+        ensures { MatchOption result
+            (Attack self.now color from to → ⊥)
+            (λ a. (a ≡ from) × Attack self.now color a to) }
+    {
+        if self.attacks(color, from, to) {
+            Some(from)
+        } else {
+            None
         }
     }
 

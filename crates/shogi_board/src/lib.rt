@@ -17,6 +17,6 @@ pub use color::Color;
 pub use hand::Hand;
 pub use kind::{Kind, Piece};
 pub use memory::OutOfMemory;
-pub use position::{Position, attacked, reaches};
+pub use position::{Position, attacked, attacker, reaches};
 pub use setup::{Setup, SetupFault};
 pub use square::Square;

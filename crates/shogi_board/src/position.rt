@@ -1,7 +1,7 @@
 ghost use Rattle.std.specs.Prelude.{◌≡◌, ◌↔◌, IsTrue, MatchOption, length};
 ghost use Rattle.shogi_board.specs.Cells.{at, piece, HasPawnOnFile};
 ghost use Rattle.shogi_board.specs.Placed.{bag_of, even_start};
-ghost use Rattle.shogi_board.specs.Reach.{Reach, Attacked};
+ghost use Rattle.shogi_board.specs.Reach.{Reach, Attack, Attacked};
 ghost use Rattle.shogi_board.specs.Setup.{layout_of};
 ghost use Rattle.shogi_board.specs.Sound.{IsSound};
 ghost use Rattle.shogi_board.specs.declared.kind.Kind.TheVariants.{King};
@@ -130,4 +130,15 @@ pub fn attacked(position: &Position, color: Color, square: Square) -> bool
     ensures { IsTrue result ↔ Attacked position.now.board color square }
 {
     position.board.attacked(color, square)
+}
+
+/// The square of an enemy piece of `color` that reaches the square, or None where none does.
+///
+/// Of several it is the first that is seen from the square along its file, rank and diagonals, else one a knight's jump away.
+pub fn attacker(position: &Position, color: Color, square: Square) -> Option<Square>
+    ensures { MatchOption result
+        (Attacked position.now.board color square → ⊥)
+        (λ a. Attack position.now.board color a square) }
+{
+    position.board.attacker(color, square)
 }

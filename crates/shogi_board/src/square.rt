@@ -13,6 +13,7 @@ pub struct Square {
 }
 
 impl Square {
+    ghost use Rattle.shogi_board.specs.Between.{Between, IsDirection, IsDistance};
     ghost use Rattle.shogi_board.specs.Squares.{file_of, rank_of, place, IsAway};
 
     /// The square on that file and rank, or None where either lies outside 1 to 9.
@@ -93,6 +94,57 @@ impl Square {
             return None;
         }
         Square::new(file - 2 * times, rank - 2 * times)
+    }
+
+    /// Whether it lies strictly between the two squares, on a rank, file or diagonal.
+    pub fn lies_between(self, a: Square, b: Square) -> bool
+        ensures { IsTrue result ↔ Between a b self }
+    {
+        let direction = a.direction_to(self);
+        let near = a.distance(self);
+        let far = a.distance(b);
+        if near == 0 || far <= near {
+            return false;
+        }
+        a.is_away(direction, near, self) && a.is_away(direction, far, b)
+    }
+
+    // The direction in which the other square lies, if that is on its rank, file or diagonal.
+    fn direction_to(self, other: Square) -> Direction
+        ensures bounds { (1 ≤ result.files) × (result.files ≤ 3) × (1 ≤ result.ranks) × (result.ranks ≤ 3) }
+        ensures still { result.files ≡ 2 → result.ranks ≡ 2 → (file_of self ≡ file_of other) × (rank_of self ≡ rank_of other) }
+        ensures only { IsDirection self other result }
+    {
+        Direction {
+            files: step(self.file, other.file),
+            ranks: step(self.rank, other.rank),
+        }
+    }
+
+    // How many files or ranks lie from the one square to the other, whichever are more.
+    fn distance(self, other: Square) -> u8
+        ensures bound { result ≤ 8 }
+        ensures same { file_of self ≡ file_of other → rank_of self ≡ rank_of other → result ≡ 0 }
+        ensures only { IsDistance self other result }
+    {
+        let files = self.file.abs_diff(other.file);
+        let ranks = self.rank.abs_diff(other.rank);
+        if files < ranks { ranks } else { files }
+    }
+}
+
+// The step that leads from the one number towards the other.
+fn step(from: u8, to: u8) -> u8
+    ensures bounds { (1 ≤ result) × (result ≤ 3) }
+    ensures still { result ≡ 2 → from ≡ to }
+    ensures only { (times step : ℕ) → 1 ≤ step → step ≤ 3 → 1 ≤ times → to + times * 2 ≡ from + times * step → result ≡ step }
+{
+    if to < from {
+        1
+    } else if to == from {
+        2
+    } else {
+        3
     }
 }
 

@@ -3,7 +3,7 @@ use Rattle.shogi_board.specs.Attackers.{AttackInSight}
 use Rattle.shogi_board.specs.Moves.{steps, turned_for}
 use Rattle.shogi_board.specs.declared.direction.Direction.{Direction}
 use Rattle.shogi_board.specs.declared.kind.Kind.TheVariants.{King}
-use Rattle.shogi_board.proofs.board.Board.attacked_in_line.Given as goal
+use Rattle.shogi_board.proofs.board.Board.attacker_in_line.Given as goal
 
 abbrev pub invariant-loop-direction : goal.invariant-loop-direction
 invariant-loop-direction l =

@@ -1,20 +1,10 @@
-use Rattle.std.proofs.Common.{◌≡◌, ◌<◌, get_or, length, arith, refl, subst, inl, inr, ap, ◌∙◌}
+use Rattle.std.proofs.Common.{◌≡◌, ◌<◌, get_or, length, arith, inl, inr, ap, ◌∙◌}
 use Rattle.std.proofs.lemmas.Bool.{cases_lt}
 use Rattle.std.proofs.lemmas.List.{get_or_default}
 use Rattle.shogi_board.specs.Attackers.{AttackAcross}
 use Rattle.shogi_board.specs.Moves.{steps, turned_for}
 use Rattle.shogi_board.specs.declared.kind.Kind.TheVariants.{Knight}
-use Rattle.shogi_board.proofs.Attackers.{at-index}
-use Rattle.shogi_board.proofs.board.Board.attacked_by_jump.Goals as goal
-
-pub returns-then-attacked_across : goal.returns-then-attacked_across
-returns-then-attacked_across c =
-    let within : c.loop-direction.direction-index < length (steps Knight) = rw c.steps-direction-items.ensures at c.loop-direction-test.true in
-    let turned = rw c.steps-direction-items.ensures at c.turned_for.ensures in (
-      λ _. at-index (λ d. AttackAcross c.args.self.now c.args.color c.args.square (turned_for c.args.color d)) (steps Knight) c.loop-direction.direction-index _ within
-          (subst (λ e. AttackAcross c.args.self.now c.args.color c.args.square e) turned (c.if-attacked_across.ensures.0 refl)),
-      λ _. refl,
-    )
+use Rattle.shogi_board.proofs.board.Board.attacker_by_jump.Goals as goal
 
 pub loop-direction-preserved : goal.loop-direction-preserved
 loop-direction-preserved c k d below e attack =
@@ -30,6 +20,5 @@ loop-direction-preserved c k d below e attack =
           let same : c.turned_for.result ≡ turned_for c.args.color d =
           turned ∙ ap (turned_for c.args.color) (get_or_default xs n _ d within ∙ here) in
           let there : AttackAcross c.args.self.now c.args.color c.args.square c.turned_for.result = rw same attack in
-          let no = c.if-attacked_across.ensures.1 there in
-          cc
+          c.in_default.ensures there
     ]
