@@ -17,3 +17,4 @@ pub mod Decided
 pub mod Standing
 pub mod MovedKings
 pub mod StampAfter
+pub mod Checks

@@ -1,4 +1,5 @@
 pub mod After
+pub mod Evasions
 pub mod Kinds
 pub mod Legal
 pub mod LineKings

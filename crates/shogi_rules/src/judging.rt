@@ -5,10 +5,11 @@ ghost use Rattle.shogi_rules.specs.After.{after};
 ghost use Rattle.shogi_rules.specs.Legal.{Legal};
 ghost use Rattle.shogi_rules.specs.Rules.{Kept, KeptAlone, move_rules, all_rules, IsFirstBroken};
 
+use crate::evasions::is_mated;
 use crate::moves::Move;
 use crate::playing::{make_if_kept, own_king};
 use crate::rule::Rule;
-use crate::search::{is_mated, is_pawn_drop};
+use crate::search::is_pawn_drop;
 use shogi_board::{Color, Position, Square};
 
 // Makes `next` the position after the move, or says which of the rules 3 to 11 the side to move breaks first by it.

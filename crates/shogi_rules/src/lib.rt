@@ -2,6 +2,7 @@
 #![tactic(auto)]
 
 mod board_rules;
+mod evasions;
 mod judging;
 mod kinds;
 pub mod laws;

@@ -133,11 +133,13 @@ pub(crate) fn own_king(position: &Position) -> Option<Square>
     position.king(position.side())
 }
 
-// Whether the side to move keeps the rules 3 to 10 by the move.
-pub(crate) fn keeps(position: &Position, mv: &Move) -> bool
+// Whether the side to move, whose king stands there, keeps the rules 3 to 10 by the move.
+pub(crate) fn keeps(position: &Position, king: Option<Square>, mv: &Move) -> bool
+    requires { IsKingOf position.now.board position.now.side king }
     ensures { IsTrue result ↔ Keeps position.now mv.now }
 {
-    after_if_kept(position, mv).is_ok()
+    let mut next = *position;
+    make_if_kept(position, king, mv, &mut next).is_none()
 }
 
 /// Whether the side to move is in check: it has a king, and an enemy piece reaches it.

@@ -4,6 +4,7 @@ ghost use Rattle.shogi_board.specs.declared.color.Color.{Color};
 ghost use Rattle.shogi_rules.specs.Repetition.{times, Over, IsNth, PressedAt, Pressed};
 ghost use Rattle.shogi_rules.specs.Verdicts.{PressedAlone, StandsByMoves, StandsByStretch};
 
+use crate::evasions::is_mated;
 use crate::line::Verdict;
 use crate::playing::in_check;
 use crate::search::first_legal;
@@ -86,6 +87,9 @@ pub(crate) fn verdict_of_stretch(positions: &[Position], p: &Position) -> Verdic
 pub(crate) fn verdict_by_moves(p: &Position) -> Verdict
     ensures { StandsByMoves p.now result }
 {
+    if is_mated(p) {
+        return Verdict::Mate;
+    }
     match first_legal(p) {
         Some(_) => Verdict::Ongoing,
         None => {

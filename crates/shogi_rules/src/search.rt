@@ -1,17 +1,18 @@
-ghost use Rattle.std.specs.Prelude.{◌≡◌, ◌<◌, ◌+◌, ◌*◌, ◌↔◌, IsTrue, MatchOption, IfSome, Some, true};
+ghost use Rattle.std.specs.Prelude.{◌≡◌, ◌<◌, ◌+◌, ◌↔◌, IsTrue, MatchOption, IfSome, Some, true};
 ghost use Rattle.shogi_board.specs.Pieces.{is_hand_kind, place_of};
 ghost use Rattle.shogi_board.specs.Placed.{Placed};
 ghost use Rattle.shogi_board.specs.Squares.{place};
 ghost use Rattle.shogi_board.specs.declared.kind.Kind.{Kind};
 ghost use Rattle.shogi_board.specs.declared.kind.Kind.TheVariants.{Pawn};
-ghost use Rattle.shogi_rules.specs.Legal.{FitsBoard, Keeps, Mated, Legal, IsPawnDrop};
+ghost use Rattle.shogi_rules.specs.Legal.{FitsBoard, Legal, IsPawnDrop};
 ghost use Rattle.shogi_rules.specs.Order.{turn_of, form_of, IsFirstLegal};
 ghost use Rattle.shogi_rules.specs.Verdicts.{NoLegalMove};
 ghost use Rattle.shogi_rules.specs.declared.moves.Move.{Move};
 
 use crate::board_rules::own_kind_at;
+use crate::evasions::is_mated;
 use crate::moves::Move;
-use crate::playing::{after_if_kept, in_check, keeps};
+use crate::playing::after_if_kept;
 use shogi_board::{Kind, Position, Square};
 
 // The walks from each square to each, promoted or not, and the drops of each kind to each square.
@@ -20,7 +21,7 @@ const WALKS: usize = 13122;
 const MOVES: usize = 13689;
 
 // The square at a place in the order 11, 12, .. 19, 21, .. 99.
-fn square_at(n: usize) -> Square
+pub(crate) fn square_at(n: usize) -> Square
     requires { n < 81 }
     ensures { place result ≡ n }
 {
@@ -28,7 +29,7 @@ fn square_at(n: usize) -> Square
 }
 
 // The kinds that a hand holds, in order.
-fn hand_kind(n: usize) -> Kind
+pub(crate) fn hand_kind(n: usize) -> Kind
     requires { n < 7 }
     ensures kind { (kind : Kind) → is_hand_kind kind ≡ true → place_of kind ≡ n → result ≡ kind }
     ensures place { place_of result ≡ n }
@@ -93,34 +94,6 @@ fn move_at(position: &Position, n: usize) -> Option<Move>
     } else {
         Some(drop_at(n - WALKS))
     }
-}
-
-fn keeps_at(position: &Position, n: usize) -> bool
-    requires { n < 13689 }
-    ensures { IsTrue result ↔ ((m : Move) × (turn_of m ≡ n) × Keeps position.now m) }
-{
-    match move_at(position, n) {
-        Some(mv) => keeps(position, &mv),
-        None => false,
-    }
-}
-
-fn has_kept_move(position: &Position) -> bool
-    ensures { IsTrue result ↔ ((m : Move) × Keeps position.now m) }
-{
-    for n in 0..MOVES {
-        if keeps_at(position, n) {
-            return true;
-        }
-    }
-    false
-}
-
-// Whether the side to move is in check and no move of it keeps the rules 3 to 10.
-pub(crate) fn is_mated(position: &Position) -> bool
-    ensures { IsTrue result ↔ Mated position.now }
-{
-    in_check(position) && !has_kept_move(position)
 }
 
 pub(crate) fn is_pawn_drop(mv: &Move) -> bool

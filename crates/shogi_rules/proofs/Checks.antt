@@ -1,0 +1,170 @@
+-- A move that neither moves the king nor stops the check leaves the king in check.
+use Rattle.std.proofs.Common.{◌≡◌, ◌≢◌, ℕ, ◌↔◌, IsTrue, Bool, true, false, not, Option, Some, None, ◌⊎◌, inl, inr, set, get_or, refl, ap, sym, ◌∙◌, subst, get_or-set_same, get_or-set_other}
+use Rattle.std.proofs.lemmas.Bool.{cases_eq}
+use Rattle.shogi_board.specs.Between.{Between}
+use Rattle.shogi_board.specs.Cells.{Cells, at, piece}
+use Rattle.shogi_board.specs.Moves.{turned_for}
+use Rattle.shogi_board.specs.Pieces.{opponent}
+use Rattle.shogi_board.specs.Placed.{Placed}
+use Rattle.shogi_board.specs.Reach.{Attack, InCheck, InSight, Reach, Slides, Steps}
+use Rattle.shogi_board.specs.Sound.{IsSound}
+use Rattle.shogi_board.specs.Squares.{place}
+use Rattle.shogi_board.specs.declared.color.Color.{Color}
+use Rattle.shogi_board.specs.declared.color.Color.TheVariants.{Black, White}
+use Rattle.shogi_board.specs.declared.kind.Kind.{Kind}
+use Rattle.shogi_board.specs.declared.kind.Kind.TheVariants.{King}
+use Rattle.shogi_board.specs.declared.kind.Piece.{Piece}
+use Rattle.shogi_board.specs.declared.square.Square.{Square}
+use Rattle.shogi_board.proofs.Moves.{ray-at}
+use Rattle.shogi_board.proofs.Squares.{place-same}
+use Rattle.shogi_rules.specs.After.{after, board_after}
+use Rattle.shogi_rules.specs.Evasions.{MovesFrom, StopsCheck}
+use Rattle.shogi_rules.specs.Kinds.{promoted}
+use Rattle.shogi_rules.specs.Legal.{FitsBoard, Keeps, Mated, target}
+use Rattle.shogi_rules.specs.declared.moves.Move.{Move}
+use Rattle.shogi_rules.specs.declared.moves.Move.TheVariants.{Walk, Put}
+use Rattle.shogi_rules.proofs.Forms.{piece-kind}
+use Rattle.shogi_rules.proofs.Walks.{on-board}
+
+some-same : (p q : Piece) → Some p ≡ Some q → p ≡ q
+some-same p q e = cc
+
+not-opponent : (c : Color) → c ≡ opponent c → ⊥
+not-opponent Black e = cc
+not-opponent White e = cc
+
+not-none : (a : Option Piece) (x : Piece) → a ≡ None → a ≡ Some x → ⊥
+not-none a x e h = cc
+
+-- what stands on one place stands on no other
+at-place : (cells : Cells) (s t : Square) → place s ≡ place t → at cells s ≡ at cells t
+at-place cells s t e = ap (λ (n : ℕ). get_or cells n None) e
+
+-- 1. What the other squares hold after a move
+-- an empty square that is not the target stays empty
+stays-empty : (p : Placed) (m : Move) (s : Square) → IsSound p → place s ≢ place (target m) → at p.board s ≡ None → at (board_after p m) s ≡ None
+stays-empty p (Walk from to k) s sound other empty =
+    let lifted = set p.board (place from) None in
+    let kept : at (board_after p (Walk from to k)) s ≡ at lifted s = get_or-set_other lifted (place to) (place s) (piece p.side k) None other in
+    elim (cases_eq (place s) (place from)) [
+      | inl e ↦ kept ∙ (ap (λ (n : ℕ). get_or lifted n None) e ∙ get_or-set_same p.board (place from) None None (on-board p from sound))
+      | inr ne ↦ kept ∙ (get_or-set_other p.board (place from) (place s) None None ne ∙ empty)
+    ]
+stays-empty p (Put to k) s sound other empty = get_or-set_other p.board (place to) (place s) (piece p.side k) None other ∙ empty
+
+-- a piece that neither moves nor is captured stays
+stays : (p : Placed) (m : Move) (s : Square) (x : Piece) → FitsBoard p m → (MovesFrom s m → ⊥) → (target m ≡ s → ⊥) → at p.board s ≡ Some x → at (board_after p m) s ≡ Some x
+stays p (Walk from to k) s x fits still free there =
+    elim (cases_eq (place s) (place to)) [
+      | inl e ↦ absurd (free (place-same to s (sym e)))
+      | inr ne ↦ elim (cases_eq (place s) (place from)) [
+        | inl e ↦ absurd (still (place-same from s (sym e)))
+        | inr apart ↦
+            get_or-set_other (set p.board (place from) None) (place to) (place s) (piece p.side k) None ne
+            ∙ (get_or-set_other p.board (place from) (place s) None None apart ∙ there)
+      ]
+    ]
+stays p (Put to k) s x fits still free there =
+    elim (cases_eq (place s) (place to)) [
+      | inl e ↦ absurd (free (place-same to s (sym e)))
+      | inr ne ↦ get_or-set_other p.board (place to) (place s) (piece p.side k) None ne ∙ there
+    ]
+
+-- an enemy piece is not the one that moves
+enemy-stays : (p : Placed) (m : Move) (s : Square) (x : Piece) → FitsBoard p m → at p.board s ≡ Some x → x.color ≡ opponent p.side → MovesFrom s m → ⊥
+enemy-stays p (Walk from to k) s x fits there enemy e =
+    let own : at p.board from ≡ piece p.side fits.kind_fits.0 = fits.kind_fits.1 in
+    let here : at p.board from ≡ Some x = ap (at p.board) e ∙ there in
+    let same : record { color = p.side; kind = fits.kind_fits.0 } ≡ x = some-same _ x (sym own ∙ here) in
+    not-opponent p.side (ap (λ (y : Piece). y.color) same ∙ enemy)
+enemy-stays p (Put to k) s x fits there enemy e = e
+
+-- a move lands on no own piece
+own-free : (p : Placed) (m : Move) (s : Square) (k : Kind) → FitsBoard p m → at p.board s ≡ piece p.side k → target m ≡ s → ⊥
+own-free p (Walk from to l) s k fits there e = fits.target_free k (ap (at p.board) e ∙ there)
+own-free p (Put to l) s k fits there e = not-none (at p.board to) _ fits.target_free (ap (at p.board) e ∙ there)
+
+-- 2. The check
+still-in-sight : (p : Placed) (m : Move) (a s : Square) (x : Piece) → IsSound p → (Between a s (target m) → ⊥) → Slides p.board x a s → Slides (board_after p m) x a s
+still-in-sight p m a s x sound past slide =
+    let d = turned_for x.color slide.1 in
+    let sight : InSight p.board a d s = slide.4 in
+    let seen : InSight (board_after p m) a d s = record {
+      distance = sight.distance;
+      some = sight.some;
+      away = sight.away;
+      clear = λ k t low high there.
+          elim (cases_eq (place t) (place (target m))) [
+            | inl e ↦ absurd (past (record {
+              direction = d;
+              ray = ray-at x.color x.kind slide.0 slide.1 slide.2 slide.3;
+              near = k;
+              far = sight.distance;
+              some = low;
+              nearer = high;
+              on = rw (place-same (target m) t (sym e)) there;
+              ends = sight.away;
+            }))
+            | inr ne ↦ stays-empty p m t sound ne (sight.clear k t low high there)
+          ];
+    } in
+    (slide.0, slide.1, slide.2, slide.3, seen)
+
+still-moves : (p : Placed) (m : Move) (a s : Square) (x : Piece) → IsSound p → (Between a s (target m) → ⊥) → Steps x a s ⊎ Slides p.board x a s → Steps x a s ⊎ Slides (board_after p m) x a s
+still-moves p m a s x sound past (inl step) = inl step
+still-moves p m a s x sound past (inr slide) = inr (still-in-sight p m a s x sound past slide)
+
+-- after any other move the checking piece still reaches the king
+pub still-in-check : (p : Placed) (m : Move) (a s : Square) → IsSound p → FitsBoard p m → at p.board s ≡ piece p.side King → Attack p.board p.side a s → (MovesFrom s m → ⊥) → (StopsCheck a s (target m) → ⊥) → InCheck (after p m).board p.side
+still-in-check p m a s sound fits king attack still past =
+    let x = attack.reach.mover in
+    let stands : at (board_after p m) a ≡ Some x = stays p m a x fits (enemy-stays p m a x fits attack.reach.stands attack.enemy) (λ e. past (inl e)) attack.reach.stands in
+    let there : at (board_after p m) s ≡ piece p.side King = stays p m s (record { color = p.side; kind = King }) fits still (own-free p m s King fits king) king in
+    let reach : Reach (board_after p m) a s = record { mover = x; stands = stands; moves = still-moves p m a s x sound (λ b. past (inr b)) attack.reach.moves } in
+    (s, there, (a, record { reach = reach; enemy = attack.enemy }))
+
+-- 3. The search
+-- a move that keeps the rules 3 to 10 moves the king or stops the check
+pub no-other-evasion : (p : Placed) (m : Move) (a s : Square) → IsSound p → Keeps p m → at p.board s ≡ piece p.side King → Attack p.board p.side a s → (MovesFrom s m → ⊥) → (StopsCheck a s (target m) → ⊥) → ⊥
+no-other-evasion p m a s sound kept king attack still past = kept.king_safe (still-in-check p m a s sound kept.fits king attack still past)
+
+-- the walk is of the kind that stands there, or of its promoted kind
+pub walk-form : (p : Placed) (from to : Square) (was k : Kind) → at p.board from ≡ piece p.side was → FitsBoard p (Walk from to k) → (k ≡ was) ⊎ (promoted was ≡ Some k)
+walk-form p from to was k stands fits =
+    let same : fits.kind_fits.0 ≡ was = piece-kind p.side _ _ (sym fits.kind_fits.1 ∙ stands) in
+    subst (λ (l : Kind). (k ≡ l) ⊎ (promoted l ≡ Some k)) same fits.kind_fits.2
+
+-- some walk between the squares that keeps the rules
+abbrev pub KeptWalk : Placed → Square → Square → Type 0
+KeptWalk p from to = (k : Kind) × Keeps p (Walk from to k)
+
+pub moves-from-walk : (p : Placed) (s : Square) (m : Move) → MovesFrom s m → Keeps p m → (to : Square) × (k : Kind) × Keeps p (Walk s to k)
+moves-from-walk p s (Walk from to k) e kept = (to, k, subst (λ (f : Square). Keeps p (Walk f to k)) e kept)
+moves-from-walk p s (Put to k) e kept = absurd e
+
+pub by-target : (p : Placed) (to : Square) (m : Move) → target m ≡ to → Keeps p m → ((from : Square) × (k : Kind) × Keeps p (Walk from to k)) ⊎ ((k : Kind) × Keeps p (Put to k))
+by-target p to (Walk from t k) e kept = inl (from, k, subst (λ (u : Square). Keeps p (Walk from u k)) e kept)
+by-target p to (Put t k) e kept = inr (k, subst (λ (u : Square). Keeps p (Put u k)) e kept)
+
+-- a move to a square that stops the check
+pub stops-by : (a s to : Square) (m : Move) → target m ≡ to → StopsCheck a s to → StopsCheck a s (target m)
+stops-by a s to m e h = subst (λ (t : Square). StopsCheck a s t) (sym e) h
+
+pub stops-at : (a s to : Square) (m : Move) → target m ≡ to → StopsCheck a s (target m) → StopsCheck a s to
+stops-at a s to m e h = subst (λ (t : Square). StopsCheck a s t) e h
+
+-- where no walk of the king keeps the rules, and some move does, one stops the check
+pub some-stop : (p : Placed) (a s : Square) (escapes stops : Bool) → IsSound p → at p.board s ≡ piece p.side King → Attack p.board p.side a s
+    → (IsTrue escapes ↔ ((to : Square) × (k : Kind) × Keeps p (Walk s to k))) → (IsTrue stops ↔ ((m : Move) × StopsCheck a s (target m) × Keeps p m))
+    → escapes ≡ false → ((m : Move) × Keeps p m) → IsTrue stops
+some-stop p a s escapes true sound king attack e d none some = refl
+some-stop p a s true stops sound king attack e d none some = absurd (let bad : true ≡ false = none in cc)
+some-stop p a s false false sound king attack e d none some =
+    absurd (no-other-evasion p some.0 a s sound some.1 king attack
+    (λ from. let yes = e.1 (moves-from-walk p s some.0 from some.1) in cc)
+    (λ stop. let yes = d.1 (some.0, stop, some.1) in cc))
+
+pub mated-then : (p : Placed) (b : Bool) → InCheck p.board p.side → (IsTrue b ↔ ((m : Move) × Keeps p m)) → IsTrue (not b) ↔ Mated p
+mated-then p true check d = (λ h. cc, λ mated. let s = d.0 refl in absurd (mated.no_move s.0 s.1))
+mated-then p false check d =
+    (λ _. record { in_check = check; no_move = λ m k. let f = d.1 (m, k) in cc }, λ _. refl)
