@@ -34,6 +34,7 @@ pub struct Host {
 impl Model for Host {
     ghost use Rattle.std.specs.Prelude.{◌≤◌};
     ghost use Rattle.session_peers.specs.Hosting.{HostSession, state_of};
+    ghost use Rattle.shogi_rules.specs.Positions.{max_moves};
 
     ghost Value = { HostSession };
 
