@@ -3,7 +3,6 @@ pub mod Layouts
 pub mod Walks
 pub mod Drops
 pub mod Broken
-pub mod Turns
 pub mod Alone
 pub mod Places
 pub mod Games
@@ -18,3 +17,4 @@ pub mod Standing
 pub mod MovedKings
 pub mod StampAfter
 pub mod Checks
+pub mod Firsts

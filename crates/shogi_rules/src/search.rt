@@ -1,24 +1,18 @@
-ghost use Rattle.std.specs.Prelude.{◌≡◌, ◌<◌, ◌+◌, ◌↔◌, IsTrue, MatchOption, IfSome, Some, true};
+ghost use Rattle.std.specs.Prelude.{◌≡◌, ◌<◌, ◌↔◌, IsTrue, MatchOption, true};
 ghost use Rattle.shogi_board.specs.Pieces.{is_hand_kind, place_of};
-ghost use Rattle.shogi_board.specs.Placed.{Placed};
 ghost use Rattle.shogi_board.specs.Squares.{place};
 ghost use Rattle.shogi_board.specs.declared.kind.Kind.{Kind};
 ghost use Rattle.shogi_board.specs.declared.kind.Kind.TheVariants.{Pawn};
-ghost use Rattle.shogi_rules.specs.Legal.{FitsBoard, Legal, IsPawnDrop};
-ghost use Rattle.shogi_rules.specs.Order.{turn_of, form_of, IsFirstLegal};
+ghost use Rattle.shogi_rules.specs.Evasions.{MovesFrom};
+ghost use Rattle.shogi_rules.specs.Legal.{Legal, IsPawnDrop};
+ghost use Rattle.shogi_rules.specs.Order.{IsFirstLegal, IsFirstOf, NoneOf, IsWalk, IsDrop, IsDropOf, Leads};
 ghost use Rattle.shogi_rules.specs.Verdicts.{NoLegalMove};
-ghost use Rattle.shogi_rules.specs.declared.moves.Move.{Move};
 
 use crate::board_rules::own_kind_at;
 use crate::evasions::is_mated;
 use crate::moves::Move;
 use crate::playing::after_if_kept;
-use shogi_board::{Kind, Position, Square};
-
-// The walks from each square to each, promoted or not, and the drops of each kind to each square.
-const WALKS: usize = 13122;
-
-const MOVES: usize = 13689;
+use shogi_board::{Kind, Position, Square, reaches};
 
 // The square at a place in the order 11, 12, .. 19, 21, .. 99.
 pub(crate) fn square_at(n: usize) -> Square
@@ -45,57 +39,6 @@ pub(crate) fn hand_kind(n: usize) -> Kind
     }
 }
 
-// The kind of a piece after a walk, promoted or not, if there is one.
-fn form_of(was: Kind, promotes: bool) -> Option<Kind>
-    ensures { result ≡ form_of was promotes }
-{
-    if was.is_promoted() == promotes {
-        Some(was)
-    } else if promotes {
-        was.promoted()
-    } else {
-        None
-    }
-}
-
-// The walk at that place in the order of moves, if an own piece on the square left may be of its kind.
-fn walk_at(position: &Position, n: usize) -> Option<Move>
-    requires { n < 13122 }
-    ensures turn { IfSome result (λ m. turn_of m ≡ n) }
-    ensures all { (m : Move) → turn_of m ≡ n → FitsBoard position.now m → result ≡ Some m }
-{
-    let from = square_at(n / 162);
-    let to = square_at(n / 2 % 81);
-    let was = own_kind_at(position, from)?;
-    let kind = form_of(was, n % 2 == 1)?;
-    Some(Move::Walk { from, to, kind })
-}
-
-// The drop at that place in the order of moves.
-fn drop_at(n: usize) -> Move
-    requires { n < 567 }
-    ensures turn { turn_of result ≡ 13122 + n }
-    ensures all { (p : Placed) (m : Move) → turn_of m ≡ 13122 + n → FitsBoard p m → result ≡ m }
-{
-    Move::Put {
-        to: square_at(n % 81),
-        kind: hand_kind(n / 81),
-    }
-}
-
-// The move at that place in the order of moves, if a piece may be of its kind.
-fn move_at(position: &Position, n: usize) -> Option<Move>
-    requires { n < 13689 }
-    ensures turn { IfSome result (λ m. turn_of m ≡ n) }
-    ensures all { (m : Move) → turn_of m ≡ n → FitsBoard position.now m → result ≡ Some m }
-{
-    if n < WALKS {
-        walk_at(position, n)
-    } else {
-        Some(drop_at(n - WALKS))
-    }
-}
-
 pub(crate) fn is_pawn_drop(mv: &Move) -> bool
     ensures { IsTrue result ↔ IsPawnDrop mv.now }
 {
@@ -115,18 +58,97 @@ fn is_legal(position: &Position, mv: &Move) -> bool
     }
 }
 
-fn legal_at(position: &Position, n: usize) -> Option<Move>
-    requires { n < 13689 }
-    ensures { MatchOption result
-        ((m : Move) → turn_of m ≡ n → Legal position.now m → ⊥)
-        (λ m. (turn_of m ≡ n) × Legal position.now m) }
+// The move, if it is legal.
+fn if_legal(position: &Position, mv: Move) -> Option<Move>
+    ensures { MatchOption result (Legal position.now mv → ⊥) (λ m. (m ≡ mv) × Legal position.now m) }
 {
-    let mv = move_at(position, n)?;
     if is_legal(position, &mv) {
         Some(mv)
     } else {
         None
     }
+}
+
+// The first legal walk from the one square to the other, if the piece reaches it.
+fn first_form(position: &Position, from: Square, to: Square) -> Option<Move>
+    ensures { MatchOption result
+        (NoneOf position.now (Leads from to))
+        (λ m. IsFirstOf position.now (Leads from to) m) }
+{
+    let Some(was) = own_kind_at(position, from) else {
+        return None;
+    };
+    if !reaches(position, from, to) {
+        return None;
+    }
+    if let Some(mv) = if_legal(
+        position,
+        Move::Walk {
+            from,
+            to,
+            kind: was,
+        },
+    ) {
+        return Some(mv);
+    }
+    match was.promoted() {
+        Some(kind) => if_legal(position, Move::Walk { from, to, kind }),
+        None => None,
+    }
+}
+
+// The first legal walk from the square.
+fn first_walk_from(position: &Position, from: Square) -> Option<Move>
+    ensures { MatchOption result
+        (NoneOf position.now (MovesFrom from))
+        (λ m. IsFirstOf position.now (MovesFrom from) m) }
+{
+    if own_kind_at(position, from).is_none() {
+        return None;
+    }
+    for n in 0..81usize {
+        if let Some(mv) = first_form(position, from, square_at(n)) {
+            return Some(mv);
+        }
+    }
+    None
+}
+
+fn first_walk(position: &Position) -> Option<Move>
+    ensures { MatchOption result (NoneOf position.now IsWalk) (λ m. IsFirstOf position.now IsWalk m) }
+{
+    for n in 0..81usize {
+        if let Some(mv) = first_walk_from(position, square_at(n)) {
+            return Some(mv);
+        }
+    }
+    None
+}
+
+// The first legal drop of that kind.
+fn first_drop_of(position: &Position, kind: Kind) -> Option<Move>
+    ensures { MatchOption result
+        (NoneOf position.now (IsDropOf kind))
+        (λ m. IsFirstOf position.now (IsDropOf kind) m) }
+{
+    for n in 0..81usize {
+        let to = square_at(n);
+        if let Some(mv) = if_legal(position, Move::Put { to, kind }) {
+            return Some(mv);
+        }
+    }
+    None
+}
+
+fn first_drop(position: &Position) -> Option<Move>
+    ensures { MatchOption result (NoneOf position.now IsDrop) (λ m. IsFirstOf position.now IsDrop m) }
+{
+    for n in 0..7usize {
+        if let Some(mv) = first_drop_of(position, hand_kind(n)) {
+            return Some(mv);
+        }
+    }
+    None
 }
 
 /// The first legal move of the side to move, or None where it has none.
@@ -136,10 +158,8 @@ fn legal_at(position: &Position, n: usize) -> Option<Move>
 pub fn first_legal(position: &Position) -> Option<Move>
     ensures { MatchOption result (NoLegalMove position.now) (λ m. IsFirstLegal position.now m) }
 {
-    for n in 0..MOVES {
-        if let Some(mv) = legal_at(position, n) {
-            return Some(mv);
-        }
+    match first_walk(position) {
+        Some(mv) => Some(mv),
+        None => first_drop(position),
     }
-    None
 }
