@@ -15,7 +15,7 @@ use Rattle.csa_text.specs.declared.line.LineFault.TheVariants as faulty
 use Rattle.session_loops.specs.declared.fault.Fault.{Fault}
 use Rattle.session_loops.specs.declared.incoming.Heard.{Heard}
 use Rattle.session_loops.specs.declared.incoming.Heard.TheVariants.{Long}
-use Rattle.session_loops.specs.Incoming.{IsHearing, GivesLine, ended, last, GivesNoLine, GivesLongLine}
+use Rattle.session_loops.specs.Incoming.{IsHearing, GivesEnd, GivesLine, ended, last, GivesNoLine, GivesLongLine}
 
 pub rest_run : (bytes : List ℕ) (lines : List (List ℕ)) (rest : List ℕ) → Lines bytes lines rest → HasNoLineEnd rest
 rest_run bytes [] rest (ends, whole, skipped, run) = run
@@ -56,6 +56,10 @@ none_then_line a b c line (front, taken, cut) (ended more after next) =
     ended (front ++ more) (Consumes-trans a b c front more taken after) (lines_joined front more [] (line ∷ []) [] [] cut next)
 none_then_line a b c line (front, taken, cut) (last more after over next some) =
     last (front ++ more) (Consumes-trans a b c front more taken after) (all_behind a b front more taken over) (lines_joined front more [] [] [] line cut next) some
+
+pub none_then_end : (a b c : Option (List ℕ)) → GivesNoLine a b → GivesEnd b c → GivesEnd a c
+none_then_end a b c (front, taken, cut) (more, after, next, over) =
+    (front ++ more, Consumes-trans a b c front more taken after, lines_joined front more [] [] [] [] cut next, all_behind a b front more taken over)
 
 begins_behind : (a b : Option (List ℕ)) (front : List ℕ) → Consumes a b front → Lines front [] [] → IfSome b (BeginsTooLong 65536) → IfSome a (BeginsTooLong 65536)
 begins_behind None b front taken cut long = tt
@@ -137,6 +141,12 @@ pub end_line : (old new : Option (List ℕ)) (held : List ℕ) → IfSome old (�
     → GivesLine (prepend_known held old) (prepend_known [] new) held
 end_line old new held over kept run some =
     last held (held_taken old new [] held held [] (Consumes-kept old old new [] (Consumes-nil old) kept) refl) (all_held old held over) ([], refl, tt, run) some
+
+-- nothing is unfinished at the end
+pub end_alone : (old new : Option (List ℕ)) (held kept : List ℕ) → IfSome old (λ xs. xs ≡ []) → Keeps old new → held ≡ [] → kept ≡ []
+    → GivesEnd (prepend_known held old) (prepend_known kept new)
+end_alone old new held kept over keeps none still =
+    rw (none, still) ([], Consumes-kept (prepend_known [] old) (prepend_known [] old) (prepend_known [] new) [] (Consumes-nil (prepend_known [] old)) (held_kept old new [] keeps), no_bytes, all_held old [] over)
 
 -- ---- what is told of a piece
 

@@ -18,6 +18,10 @@ pub data GivesLine (old new : Option (List ℕ)) (line : List ℕ) : Type 0 wher
 abbrev pub GivesNoLine : Option (List ℕ) → Option (List ℕ) → Type 0
 GivesNoLine old new = (front : List ℕ) × Consumes old new front × Lines front [] []
 
+-- no line, but line ends at most, and then the end, where the bytes are known
+abbrev pub GivesEnd : Option (List ℕ) → Option (List ℕ) → Type 0
+GivesEnd old new = (front : List ℕ) × Consumes old new front × Lines front [] [] × IfSome old (λ bytes. bytes ≡ front)
+
 -- a line of more than 65,536 bytes comes next, and is not taken
 abbrev pub GivesLongLine : Option (List ℕ) → Option (List ℕ) → Type 0
 GivesLongLine old new = GivesNoLine old new × IfSome old (BeginsTooLong 65536)

@@ -3,3 +3,4 @@ pub mod Incoming
 pub mod Plays
 pub mod Showing
 pub mod Talks
+pub mod Wanting

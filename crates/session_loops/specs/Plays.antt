@@ -9,7 +9,7 @@ use Rattle.shogi_session.specs.Promises.{Session, Steps}
 use Rattle.shogi_session.specs.State.{waits_for}
 use Rattle.session_loops.specs.Incoming.{GivesLine, GivesLongLine, GivesNoLine}
 use Rattle.session_loops.specs.declared.incoming.Heard.{Heard}
-use Rattle.session_loops.specs.declared.incoming.Heard.TheVariants.{Line, End, Long}
+use Rattle.session_loops.specs.declared.incoming.Heard.TheVariants.{Line, End, Long, Failed}
 use Rattle.session_loops.specs.declared.bridging.Seat.{Seat}
 use Rattle.session_loops.specs.declared.bridging.Seat.TheVariants.{Engine, Server}
 
@@ -21,14 +21,20 @@ Hears E = E → Seat → Event → E → Type 0
 abbrev pub Tells : Type 0 → Type 1
 Tells E = E → Seat → List ℕ → E → Type 0
 
+-- and so did want of memory for what came of a seat
+abbrev pub Misses : Type 0 → Type 1
+Misses E = E → Seat → E → Type 0
+
 -- what was heard of a seat, as an event of the bridge
 abbrev pub event_from : Seat → Heard → List ℕ → Event
 event_from Engine Line line = engine_line line
 event_from Engine End line = engine_end
 event_from Engine Long line = engine_long
+event_from Engine Failed line = engine_end
 event_from Server Line line = server_line line
 event_from Server End line = server_end
 event_from Server Long line = server_long
+event_from Server Failed line = server_end
 
 -- a line of at most 65,536 bytes came
 abbrev pub ComesLine : Option (List ℕ) → Option (List ℕ) → List ℕ → Type 0

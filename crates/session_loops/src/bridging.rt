@@ -3,6 +3,7 @@
 ghost use Rattle.std.specs.Prelude.{◌≡◌, ◌⊎◌, ◌↔◌, [], true, false, IsErrOf, IsTrue, IfErr, IfOk, OnOk, OnErr};
 ghost use Rattle.csa_text.specs.Lines.{HasNoLineEnd};
 ghost use Rattle.session_loops.specs.Plays.{Delivers, HearsNext, IsEndless, Played, Sends, end_of, event_from, seat_for};
+ghost use Rattle.session_loops.specs.Wanting.{GoneWants, HearWants, PlayWants, SendWants};
 ghost use Rattle.shogi_session.specs.Promises.{HoldsLine, event_of};
 ghost use Rattle.shogi_session.specs.State.{waits_for};
 ghost use Rattle.session_table.specs.declared.event.Status.TheVariants.{Done, Failed};
@@ -35,6 +36,9 @@ pub trait Ends {
     // The event came of that seat.
     ghost heard: { Self → Seat → Taken → Self → Type 0 };
 
+    // Memory was refused for what came of that seat.
+    ghost missed: { Self → Seat → Self → Type 0 };
+
     // The seat took these lines.
     ghost told: { Self → Seat → List ℕ → Self → Type 0 };
 
@@ -47,6 +51,7 @@ pub trait Ends {
     fn hear(&mut self, seat: Seat) -> Result<Heard, Fault>
         ensures heard { IfOk result (λ what. heard self.old seat (event_from seat what (last_line self.new seat)) self.new) }
         ensures line { IfOk result (λ what. what ≡ Heard.Line → HasNoLineEnd (last_line self.new seat)) }
+        ensures missed { OnErr result (missed self.old seat self.new) }
         ensures faults { IfErr result (λ fault. fault ≡ Fault.OutOfMemory) };
 
     /// The line of that seat that was heard last, without its line end.
@@ -90,6 +95,10 @@ impl<ER: Read + Drop, EW: Write + Drop, SR: Read + Drop, SW: Write + Drop> Ends
         (Comes s.engine.lines.now.bytes t.engine.lines.now.bytes event × (t.engine.writer ≡ s.engine.writer) × (t.server ≡ s.server))
         (Comes s.server.lines.now.bytes t.server.lines.now.bytes event × (t.server.writer ≡ s.server.writer) × (t.engine ≡ s.engine)) };
 
+    ghost missed = { λ s seat t. OfSeat seat
+        ((t.engine.writer ≡ s.engine.writer) × (t.server ≡ s.server))
+        ((t.server.writer ≡ s.server.writer) × (t.engine ≡ s.engine)) };
+
     ghost told = { λ s seat lines t. OfSeat seat
         (Appends (EW.contents s.engine.writer) (EW.contents t.engine.writer) lines × (t.engine.lines ≡ s.engine.lines) × (t.server ≡ s.server))
         (Appends (SW.contents s.server.writer) (SW.contents t.server.writer) lines × (t.server.lines ≡ s.server.lines) × (t.engine ≡ s.engine)) };
@@ -123,7 +132,8 @@ impl<ER: Read + Drop, EW: Write + Drop, SR: Read + Drop, SW: Write + Drop> Ends
 /// Hands the bridge each line of the side that it waits for, and sends the lines that it answers before the next one is
 /// read, those to the engine first, until its session is over. A side whose read or write fails is gone.
 ///
-/// `Fault::Session` where the session fails, and `Fault::Read` where it goes on for 2^64 - 1 rounds.
+/// `Fault::Session` where the session fails, `Fault::OutOfMemory` where memory was refused, and `Fault::Read` where the session goes on for
+/// 2^64 - 1 rounds.
 pub fn play<R: Eprint + AllocGlobal, E: Ends>(
     rt: &R,
     bridge: &mut Bridge,
@@ -132,6 +142,7 @@ pub fn play<R: Eprint + AllocGlobal, E: Ends>(
 ) -> Result<(), Fault>
     ensures done { OnOk result (Played E.heard E.told E.gone ends.old bridge.old ends.new bridge.new Done) }
     ensures failed { (fault : SessionFault) → IsErrOf result (Fault.Session fault) → Played E.heard E.told E.gone ends.old bridge.old ends.new bridge.new (Failed fault) }
+    ensures wanting { IsErrOf result Fault.OutOfMemory → PlayWants E.heard E.missed E.told E.gone ends.old bridge.old ends.new bridge.new }
     ensures endless { IsErrOf result Fault.Read → IsEndless E.heard E.told E.gone ends.old bridge.old }
     ensures faults { IfErr result (λ fault. ((f : SessionFault) × (fault ≡ Fault.Session f)) ⊎ (fault ≡ Fault.OutOfMemory) ⊎ (fault ≡ Fault.Read)) }
 {
@@ -151,6 +162,7 @@ pub fn play<R: Eprint + AllocGlobal, E: Ends>(
 // Sends what a step answered: how the bridge stands then.
 fn send<E: Ends>(bridge: &mut Bridge, ends: &mut E, out: &Out) -> Result<Status, Fault>
     ensures sent { IfOk result (λ status. Sends E.told E.gone out.now.to_engine out.now.to_server ends.old bridge.old out.now.status ends.new bridge.new status) }
+    ensures wanting { OnErr result (SendWants E.told E.gone out.now.to_engine out.now.to_server ends.old bridge.old out.now.status ends.new bridge.new) }
     ensures faults { IfErr result (λ fault. fault ≡ Fault.OutOfMemory) }
 {
     let status = deliver(
@@ -172,6 +184,7 @@ fn deliver<E: Ends>(
     status: Status,
 ) -> Result<Status, Fault>
     ensures delivered { IfOk result (λ after. Delivers E.told E.gone seat lines.now ends.old bridge.old status ends.new bridge.new after) }
+    ensures wanting { OnErr result (GoneWants E.gone seat lines.now ends.old bridge.old ends.new bridge.new) }
     ensures faults { IfErr result (λ fault. fault ≡ Fault.OutOfMemory) }
 {
     if is_empty(lines) {
@@ -206,6 +219,7 @@ fn hear_next<R: Eprint + AllocGlobal, E: Ends>(
     progress: &mut Progress,
 ) -> Result<Out, Fault>
     ensures heard { IfOk result (λ out. HearsNext E.heard ends.old bridge.old out.to_engine out.to_server out.status ends.new bridge.new) }
+    ensures wanting { OnErr result (HearWants E.heard E.missed ends.old bridge.old ends.new bridge.new) }
     ensures faults { IfErr result (λ fault. fault ≡ Fault.OutOfMemory) }
 {
     let seat = seat_of(bridge.waits_for());
@@ -236,10 +250,10 @@ fn event(seat: Seat, heard: Heard, line: &[u8]) -> Event<'_>
 {
     match (seat, heard) {
         (Seat::Engine, Heard::Line) => Event::EngineLine(line),
-        (Seat::Engine, Heard::End) => Event::EngineEnd,
+        (Seat::Engine, Heard::End | Heard::Failed) => Event::EngineEnd,
         (Seat::Engine, Heard::Long) => Event::EngineLong,
         (Seat::Server, Heard::Line) => Event::ServerLine(line),
-        (Seat::Server, Heard::End) => Event::ServerEnd,
+        (Seat::Server, Heard::End | Heard::Failed) => Event::ServerEnd,
         (Seat::Server, Heard::Long) => Event::ServerLong,
     }
 }

@@ -2,7 +2,7 @@
 
 ghost use Rattle.std.specs.Prelude.{◌≡◌, ◌≢◌};
 ghost use Rattle.std.specs.IoError.{error_kind};
-ghost use Rattle.session_loops.specs.Faults.{line_of, fault_of, IsLineFaultOf, line_fault_of};
+ghost use Rattle.session_loops.specs.Faults.{line_of, fault_of, IsLineFaultOf, line_fault_of, status_of};
 ghost use Rattle.session_loops.specs.declared.fault.Fault.TheVariants.{OutOfMemory};
 
 use csa_record::{FlowFault, Refusal};
@@ -22,10 +22,6 @@ pub enum Fault {
     Usi(UsiFault),
     /// A line has more than 65,536 bytes.
     LongLine,
-    /// A word of the command line is not UTF-8.
-    WordsNotText,
-    /// The command line named a command that is not there.
-    UnknownCommand,
     /// A file or standard input could not be read.
     Read,
     /// A file or standard output did not take all that was to be written.
@@ -40,27 +36,13 @@ pub enum Fault {
     OutOfMemory,
 }
 
-/// The status of a usage fault.
-pub const USAGE: u8 = 2;
-
 impl Fault {
     /// The status that the program ends with.
     pub fn status(&self) -> u8
-        ensures refused { (r : Refusal) → self.now ≡ Fault.Refused r → result ≡ 1 }
-        ensures line { (f : UsiFault) → self.now ≡ Fault.Usi f → result ≡ 1 }
-        ensures long { self.now ≡ Fault.LongLine → result ≡ 1 }
-        ensures words { self.now ≡ Fault.WordsNotText → result ≡ 2 }
-        ensures unknown { self.now ≡ Fault.UnknownCommand → result ≡ 2 }
-        ensures read { self.now ≡ Fault.Read → result ≡ 3 }
-        ensures write { self.now ≡ Fault.Write → result ≡ 3 }
-        ensures gone { self.now ≡ Fault.ClientGone → result ≡ 4 }
-        ensures client_long { self.now ≡ Fault.ClientLineTooLong → result ≡ 4 }
-        ensures session { (f : SessionFault) → self.now ≡ Fault.Session f → result ≡ 4 }
-        ensures memory { self.now ≡ Fault.OutOfMemory → result ≡ 5 }
+        ensures { result ≡ status_of self.now }
     {
         match self {
             Fault::Refused(_) | Fault::Usi(_) | Fault::LongLine => 1,
-            Fault::WordsNotText | Fault::UnknownCommand => USAGE,
             Fault::Read | Fault::Write => 3,
             Fault::ClientGone | Fault::ClientLineTooLong | Fault::Session(_) => 4,
             Fault::OutOfMemory => 5,
@@ -73,14 +55,6 @@ impl Fault {
         ensures read { error_kind error.now ≢ ErrorKind.OutOfMemory → result ≡ Fault.Read }
     {
         memory_or(error.kind(), Fault::Read)
-    }
-
-    /// The fault of a command line that could not be taken.
-    pub fn of_words(error: &io::Error) -> Fault
-        ensures memory { error_kind error.now ≡ ErrorKind.OutOfMemory → result ≡ Fault.OutOfMemory }
-        ensures words { error_kind error.now ≢ ErrorKind.OutOfMemory → result ≡ Fault.WordsNotText }
-    {
-        memory_or(error.kind(), Fault::WordsNotText)
     }
 }
 
@@ -112,8 +86,6 @@ impl fmt::Display for Fault {
             ),
             Fault::Usi(fault) => write!(f, "refused: {fault}"),
             Fault::LongLine => f.write_str("refused: line too long"),
-            Fault::WordsNotText => f.write_str("error: a word of the command line is not UTF-8"),
-            Fault::UnknownCommand => f.write_str("error: there is no such command"),
             Fault::Read => f.write_str("read fault"),
             Fault::Write => f.write_str("write fault"),
             Fault::ClientGone => f.write_str("fault: client gone"),

@@ -3,7 +3,7 @@
 ghost use Rattle.std.specs.Prelude.{◌≡◌, ◌↔◌, ◌⊎◌, ◌<◌, ◌≤◌, ◌++◌, [], ◌∷◌, length, take, None, Some, Ok, Err, IfOk, IfErr, IsErrOf, true, false};
 ghost use Rattle.csa_text.specs.Lines.{Lines};
 ghost use Rattle.csa_text.specs.LineCutting.{BeginsTooLong};
-ghost use Rattle.session_loops.specs.Incoming.{GivesLine, GivesLongLine, GivesNoLine, IsHearing};
+ghost use Rattle.session_loops.specs.Incoming.{GivesEnd, GivesLine, GivesLongLine, GivesNoLine, IsHearing};
 
 use crate::fault::Fault;
 use crate::streams;
@@ -17,10 +17,12 @@ use std::marker::Model;
 pub enum Heard {
     /// A line, which `line` lends.
     Line,
-    /// The end, or a read that failed.
+    /// The end.
     End,
     /// A line of more than 65,536 bytes.
     Long,
+    /// Nothing: a read failed, or what came before was no end.
+    Failed,
 }
 
 /// A reader, cut into lines as it comes.
@@ -65,11 +67,12 @@ impl<R: Read + Drop> Incoming<R> {
     }
 
     /// Reads up to the next line end. What stands at the end without one is a line. A read that is interrupted is made
-    /// again. Behind a line that is too long, and behind a fault, no line is heard.
+    /// again. Behind a line that is too long, a read that failed and a fault, `Failed` is heard each time.
     pub fn hear(&mut self) -> Result<Heard, Fault>
         ensures line { IfOk result (λ heard. heard ≡ Heard.Line → GivesLine self.old.bytes self.new.bytes self.new.line) }
         ensures short { IfOk result (λ heard. heard ≡ Heard.Line → length self.new.line ≤ 65536) }
-        ensures end { IfOk result (λ heard. heard ≡ Heard.End → GivesNoLine self.old.bytes self.new.bytes) }
+        ensures end { IfOk result (λ heard. heard ≡ Heard.End → GivesEnd self.old.bytes self.new.bytes) }
+        ensures failed { IfOk result (λ heard. heard ≡ Heard.Failed → GivesNoLine self.old.bytes self.new.bytes) }
         ensures long { IfOk result (λ heard. heard ≡ Heard.Long → GivesLongLine self.old.bytes self.new.bytes) }
         ensures faults { IfErr result (λ fault. fault ≡ Fault.OutOfMemory) }
     {
@@ -78,7 +81,7 @@ impl<R: Read + Drop> Incoming<R> {
                 return Ok(heard);
             }
         }
-        Ok(Heard::End)
+        Ok(Heard::Failed)
     }
 
     /// The line that was heard last.
@@ -92,24 +95,31 @@ impl<R: Read + Drop> Incoming<R> {
     fn take_piece(&mut self) -> Result<Option<Heard>, Fault>
         ensures line { IfOk result (λ heard. heard ≡ Some Heard.Line → GivesLine self.old.bytes self.new.bytes self.new.line) }
         ensures short { IfOk result (λ heard. heard ≡ Some Heard.Line → length self.new.line ≤ 65536) }
-        ensures end { IfOk result (λ heard. heard ≡ Some Heard.End → GivesNoLine self.old.bytes self.new.bytes) }
+        ensures end { IfOk result (λ heard. heard ≡ Some Heard.End → GivesEnd self.old.bytes self.new.bytes) }
+        ensures failed { IfOk result (λ heard. heard ≡ Some Heard.Failed → GivesNoLine self.old.bytes self.new.bytes) }
         ensures long { IfOk result (λ heard. heard ≡ Some Heard.Long → GivesLongLine self.old.bytes self.new.bytes) }
         ensures none { IfOk result (λ heard. heard ≡ None → GivesNoLine self.old.bytes self.new.bytes) }
         ensures faults { IfErr result (λ fault. fault ≡ Fault.OutOfMemory) }
     {
         if self.is_over {
-            return Ok(Some(Heard::End));
+            return Ok(Some(Heard::Failed));
         }
         let piece = match self.reader.fill_buf() {
             Ok(piece) => piece,
             Err(error) if error.kind() == ErrorKind::Interrupted => return Ok(None),
-            Err(_) => return Ok(Some(Heard::End)),
+            Err(_) => {
+                self.is_over = true;
+                return Ok(Some(Heard::Failed));
+            }
         };
         if piece.is_empty() {
-            self.is_over = true;
             match keep_last(self.alloc, &mut self.cutter, &mut self.line) {
-                Ok(is_line) => return Ok(is_line.then_some(Heard::Line)),
-                Err(fault) => return heard_of(fault),
+                Ok(true) => return Ok(Some(Heard::Line)),
+                Ok(false) => return Ok(Some(Heard::End)),
+                Err(fault) => {
+                    self.is_over = true;
+                    return heard_of(fault);
+                }
             }
         }
         match cut(self.alloc, &mut self.cutter, &mut self.line, piece) {
@@ -162,6 +172,7 @@ fn keep_last(alloc: Global, cutter: &mut LineCutter, kept: &mut Vec<u8>) -> Resu
     ensures line { IfOk result (λ is_line. is_line ≡ true → (kept.new.items ≡ cutter.old.held) × (0 < length cutter.old.held)) }
     ensures none { IfOk result (λ is_line. is_line ≡ false → cutter.old.held ≡ []) }
     ensures empty { IfOk result (λ is_line. cutter.new.held ≡ []) }
+    ensures keeps { IfOk result (λ is_line. IsHearing cutter.old → IsHearing cutter.new) }
     ensures long { IsErrOf result LineFault.TooLong → cutter.old.failed ≡ true }
 {
     let Some(line) = cutter.finish()? else {

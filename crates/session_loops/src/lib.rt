@@ -10,5 +10,5 @@ pub mod streams;
 pub mod talk;
 pub mod wire;
 
-pub use fault::{Fault, USAGE, memory_or};
+pub use fault::{Fault, memory_or};
 pub use progress::Progress;

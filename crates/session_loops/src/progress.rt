@@ -1,7 +1,8 @@
 //! A line on standard error for each move of a game that runs.
 
-ghost use Rattle.std.specs.Prelude.{◌≡◌, ◌⊎◌, ◌↔◌, ◌+◌, ◌<◌, ◌^◌, ℕ, true, None, Some, IsTrue};
-ghost use Rattle.session_loops.specs.Showing.{IsSigned};
+ghost use Rattle.std.specs.Prelude.{◌≡◌, ◌⊎◌, ◌↔◌, ◌+◌, ◌<◌, ◌≤◌, ◌^◌, ℕ, length, true, None, Some, IfSome, IsTrue};
+ghost use Rattle.std.specs.List.{position_or_len};
+ghost use Rattle.session_loops.specs.Showing.{HasMoves, IsSigned, is_quote, without_comment};
 ghost use Rattle.shogi_session.specs.State.{client_state};
 
 use csa_record::read;
@@ -50,6 +51,7 @@ impl Progress {
     pub fn show<R: Eprint + AllocGlobal>(&mut self, rt: &R, bridge: &Bridge, line: &[u8])
         ensures on { self.new.is_on ≡ self.old.is_on }
         ensures counted { (n : ℕ) → IsSigned line.now → self.old.moves ≡ Some n → n + 1 < 2 ^ 64 → self.new.moves ≡ Some (n + 1) }
+        ensures first { IsSigned line.now → self.old.moves ≡ None → IfSome self.new.moves (λ n. (n ≡ 0) ⊎ HasMoves bridge.now.state.client n) }
         ensures other { (IsSigned line.now → ⊥) → self.new ≡ self.old }
     {
         if !is_signed(line) {
@@ -57,7 +59,7 @@ impl Progress {
         }
         let number = match self.moves {
             Some(moves) => moves.saturating_add(1),
-            None => moves_of(rt.alloc(), bridge),
+            None => moves_of(rt.alloc(), bridge).unwrap_or(0),
         };
         self.moves = Some(number);
         if let Ok(text) = str::from_utf8(without_comment(line)) {
@@ -86,18 +88,41 @@ fn is_signed(line: &[u8]) -> bool
 }
 
 // The line up to its comment, and without the comma before it.
-fn without_comment(line: &[u8]) -> &[u8] {
-    let told = line.split(|b| *b == b'\'').next().unwrap_or(line);
+fn without_comment(line: &[u8]) -> &[u8]
+    ensures { result.now ≡ without_comment line.now }
+{
+    let told = &line[..comment_start(line)];
     told.strip_suffix(b",".as_slice()).unwrap_or(told)
 }
 
-// How many moves the bridge's game has; none where memory is refused.
-fn moves_of(alloc: Global, bridge: &Bridge) -> u64 {
+// Where the comment of the line begins, or the line's length.
+fn comment_start(line: &[u8]) -> usize
+    ensures value { result ≡ position_or_len is_quote line.now }
+    ensures within { result ≤ length line.now }
+{
+    for (i, b) in line.iter().enumerate() {
+        if is_quote(*b) {
+            return i;
+        }
+    }
+    line.len()
+}
+
+fn is_quote(b: u8) -> bool
+    ensures { result ≡ is_quote b }
+{
+    b == b'\''
+}
+
+// How many moves the bridge's game has, or None where there is no game or memory is refused.
+fn moves_of(alloc: Global, bridge: &Bridge) -> Option<u64>
+    ensures { IfSome result (HasMoves bridge.now.state.client) }
+{
     let Ok(Some(text)) = bridge.game_text() else {
-        return 0;
+        return None;
     };
     match read(alloc, text.as_slice()) {
-        Ok(record) => record.line().moves().len() as u64,
-        Err(_) => 0,
+        Ok(record) => Some(record.line().moves().len() as u64),
+        Err(_) => None,
     }
 }

@@ -1,6 +1,7 @@
 //! Lines that come, and a machine that answers each of them before more is received.
 
-ghost use Rattle.std.specs.Prelude.{◌≡◌, ◌≢◌, ◌<◌, ◌≤◌, ◌↔◌, ℕ, Bool, List, length, IfOk, IfErr, IsTrue};
+ghost use Rattle.std.specs.Prelude.{◌≡◌, ◌<◌, ◌≤◌, ◌↔◌, ℕ, Bool, List, length, IfOk, IfErr, IsTrue};
+ghost use Rattle.session_loops.specs.Faults.{IsTalkFault};
 ghost use Rattle.session_loops.specs.Talks.{HasAnswered, BreaksOff, IsReply, IsUnsent, TakesNext, TakesPiece, EndsTalk};
 
 use crate::fault::Fault;
@@ -70,7 +71,7 @@ pub fn answer_all<M: Machine, X: Wire>(
 ) -> Result<bool, Fault>
     ensures answered { IfOk result (λ ended. HasAnswered X.came X.ends X.went M.answers wire.old machine.old ended wire.new machine.new) }
     ensures breaks_off { IfErr result (λ fault. BreaksOff X.came X.ends X.went X.silent X.blocked M.answers wire.old machine.old fault wire.new) }
-    ensures faults { IfErr result (λ fault. (fault ≢ Fault.WordsNotText) × (fault ≢ Fault.UnknownCommand)) }
+    ensures faults { IfErr result IsTalkFault }
 {
     let mut cutter = LineCutter::new(alloc, streams::LONGEST_LINE);
     let mut buffer = [0u8; streams::PIECE];
@@ -98,7 +99,7 @@ fn answer_last<M: Machine, X: Wire>(
     wire: &mut X,
 ) -> Result<bool, Fault>
     ensures talk { EndsTalk X.came X.ends X.went X.silent X.blocked M.answers cutter.old wire.old machine.old result wire.new machine.new }
-    ensures faults { IfErr result (λ fault. (fault ≢ Fault.WordsNotText) × (fault ≢ Fault.UnknownCommand)) }
+    ensures faults { IfErr result IsTalkFault }
 {
     let last = match cutter.finish() {
         Ok(last) => last,
@@ -118,7 +119,7 @@ fn answer_piece<M: Machine, X: Wire>(
     piece: &[u8],
 ) -> Result<bool, Fault>
     ensures talk { TakesPiece X.came X.ends X.went X.silent X.blocked M.answers cutter.old piece.now wire.old machine.old result cutter.new wire.new machine.new }
-    ensures faults { IfErr result (λ fault. (fault ≢ Fault.WordsNotText) × (fault ≢ Fault.UnknownCommand)) }
+    ensures faults { IfErr result IsTalkFault }
 {
     let mut used = 0;
     while used < piece.len() {
@@ -142,7 +143,7 @@ fn answer_next<M: Machine, X: Wire>(
     requires { 0 < length piece.now }
     ensures used { IfOk result (λ r. (0 < r.0) × (r.0 ≤ length piece.now)) }
     ensures next { TakesNext X.came X.ends X.went X.silent X.blocked M.answers cutter.old piece.now wire.old machine.old result cutter.new wire.new machine.new }
-    ensures faults { IfErr result (λ fault. (fault ≢ Fault.WordsNotText) × (fault ≢ Fault.UnknownCommand)) }
+    ensures faults { IfErr result IsTalkFault }
 {
     let (used, line) = match cutter.step(piece) {
         Ok(step) => step,
@@ -161,7 +162,7 @@ fn answer_next<M: Machine, X: Wire>(
 fn answer<M: Machine, X: Wire>(machine: &mut M, wire: &mut X, line: &[u8]) -> Result<bool, Fault>
     ensures replied { IfOk result (λ ended. IsReply X.went M.answers wire.old machine.old line.now ended wire.new machine.new) }
     ensures unsent { IfErr result (λ fault. IsUnsent X.blocked M.answers wire.old machine.old line.now wire.new fault) }
-    ensures faults { IfErr result (λ fault. (fault ≢ Fault.WordsNotText) × (fault ≢ Fault.UnknownCommand)) }
+    ensures faults { IfErr result IsTalkFault }
 {
     let Ok(reply) = machine.answer(line) else {
         return Err(Fault::OutOfMemory);

@@ -1,7 +1,8 @@
 //! What lines come from, and what their answers go to.
 
-ghost use Rattle.std.specs.Prelude.{◌≡◌, ◌⊎◌, ℕ, ◌<◌, ◌≤◌, List, [], length, take, IfOk, IfErr, OnOk, OnErr};
+ghost use Rattle.std.specs.Prelude.{◌≡◌, ℕ, ◌<◌, ◌≤◌, List, [], length, take, IfOk, IfErr, OnOk, OnErr};
 ghost use Rattle.std.specs.Io.KnownBytes.{Appends, Consumes, IsAtEnd, Keeps};
+ghost use Rattle.session_loops.specs.Faults.{IsReadFault};
 
 use crate::fault::Fault;
 use crate::streams;
@@ -34,7 +35,7 @@ pub trait Wire {
         ensures came { IfOk result (λ taken. 0 < taken → came self.old (take taken buffer.new) self.new) }
         ensures ends { IfOk result (λ taken. taken ≡ 0 → ends self.old self.new) }
         ensures silent { OnErr result (silent self.old self.new) }
-        ensures faults { IfErr result (λ fault. (fault ≡ Fault.Read) ⊎ (fault ≡ Fault.OutOfMemory)) };
+        ensures faults { IfErr result IsReadFault };
 
     /// Sends all of the bytes. `Fault::Write` where they do not go.
     fn send(&mut self, bytes: &[u8]) -> Result<(), Fault>

@@ -2,8 +2,10 @@
 #![tactic(auto)]
 
 mod requests;
+mod stop;
 mod usage;
 
+use crate::stop::Stop;
 use shogi_commands::Fault;
 use std::io::IsTerminal;
 use std::net::{Net, TcpListener, TcpStream};
@@ -15,10 +17,10 @@ fn main(rt: HostRuntime) -> ExitCode {
     let is_terminal = rt.stderr().is_terminal();
     match run(&rt, is_terminal) {
         Ok(status) => status,
-        Err(fault) => {
+        Err(stop) => {
             // The status says what happened, also where nobody can be told.
-            let _ = rt.eprintln(&fault);
-            ExitCode::from(fault.status())
+            let _ = rt.eprintln(&stop);
+            ExitCode::from(stop.status())
         }
     }
 }
@@ -34,13 +36,16 @@ fn run<
         + Print
         + Eprint
         + AllocGlobal,
->(rt: &R, is_terminal: bool) -> Result<ExitCode, Fault> {
+>(rt: &R, is_terminal: bool) -> Result<ExitCode, Stop> {
     let words = usage::words(rt)?;
-    match shogi_words::all(rt.alloc())?.try_get_matches_from(words.as_slice()) {
+    let Ok(commands) = shogi_words::all(rt.alloc()) else {
+        return Err(Stop::Failed(Fault::OutOfMemory));
+    };
+    match commands.try_get_matches_from(words.as_slice()) {
         Ok(matches) => {
             requests::meet(rt, &requests::requested(&matches)?, is_terminal)?;
             Ok(ExitCode::SUCCESS)
         }
-        Err(error) => usage::answer(rt, &error),
+        Err(error) => Ok(usage::answer(rt, &error)?),
     }
 }

@@ -1,9 +1,11 @@
 //! What the words of the command line ask for, and how it is done.
 
-ghost use Rattle.std.specs.Prelude.{◌≡◌, ◌≢◌, ◌≤◌, ◌↔◌, IfErr, IfOk, IsTrue, Some, false};
+ghost use Rattle.std.specs.Prelude.{◌≡◌, ◌≤◌, ◌↔◌, IfErr, IfOk, IsTrue, Some, false};
 ghost use Rattle.clap.specs.Words.{subcommand_name_of};
+ghost use Rattle.shogi.specs.Asking.{IsFaultOf};
 ghost use Rattle.shogi_words.specs.Words.{IsNoCommand, word_of};
 
+use crate::stop::Stop;
 use clap::ArgMatches;
 use shogi_commands::play::Plan;
 use shogi_commands::{Fault, check, csa, engine, normal, play, serve, usi};
@@ -16,13 +18,13 @@ use std::time::Clock;
 
 /// What the words ask for.
 ///
-/// `Fault::UnknownCommand` where they name no command.
-pub fn requested<'a>(matches: &ArgMatches<'a>) -> Result<Request<'a>, Fault>
+/// `Stop::UnknownCommand` where they name no command.
+pub fn requested<'a>(matches: &ArgMatches<'a>) -> Result<Request<'a>, Stop>
     ensures named { IfOk result (λ r. subcommand_name_of matches.now ≡ Some (word_of r)) }
     ensures within { IfOk result (λ r. (s : Service) → r ≡ Request.Serve s → (1 ≤ s.max_moves) × (s.max_moves ≤ 10000)) }
-    ensures unknown { IfErr result (λ fault. (fault ≡ Fault.UnknownCommand) × IsNoCommand (subcommand_name_of matches.now)) }
+    ensures unknown { IfErr result (λ stop. (stop ≡ Stop.UnknownCommand) × IsNoCommand (subcommand_name_of matches.now)) }
 {
-    request_of(matches).ok_or(Fault::UnknownCommand)
+    request_of(matches).ok_or(Stop::UnknownCommand)
 }
 
 /// Does what is asked for; `is_terminal` says whether standard error is a terminal.
@@ -37,7 +39,7 @@ pub fn meet<
         + AllocGlobal,
 >(rt: &R, request: &Request<'_>, is_terminal: bool) -> Result<(), Fault>
     requires { (s : Service) → request.now ≡ Request.Serve s → (1 ≤ s.max_moves) × (s.max_moves ≤ 10000) }
-    ensures faults { IfErr result (λ fault. (fault ≢ Fault.WordsNotText) × (fault ≢ Fault.UnknownCommand)) }
+    ensures faults { IfErr result (IsFaultOf request.now) }
 {
     match *request {
         Request::Check(file) => check::run(rt, file),

@@ -5,22 +5,27 @@ ghost use Rattle.std.specs.Prelude.{◌≡◌, ◌≢◌, ◌⊎◌, IfOk, IfErr
 ghost use Rattle.std.specs.Process.{exit_status};
 ghost use Rattle.clap.specs.Values.{kind_of};
 
+use crate::stop::{Stop, USAGE};
 use clap::Error;
 use clap::error::ErrorKind;
-use shogi_commands::{Fault, USAGE};
+use shogi_commands::Fault;
 use std::env;
 use std::process::ExitCode;
 use std::rt::Env;
 
 /// The words that the program was started with, its own name first.
 ///
-/// `Fault::WordsNotText` where one of them is not UTF-8.
-pub fn words<R: Env + AllocGlobal>(rt: &R) -> Result<Vec<String>, Fault>
-    ensures faults { IfErr result (λ fault. (fault ≡ Fault.WordsNotText) ⊎ (fault ≡ Fault.OutOfMemory)) }
+/// `Stop::WordsNotText` where one of them is not UTF-8.
+pub fn words<R: Env + AllocGlobal>(rt: &R) -> Result<Vec<String>, Stop>
+    ensures stops { IfErr result (λ stop. (stop ≡ Stop.WordsNotText) ⊎ (stop ≡ Stop.Failed Fault.OutOfMemory)) }
 {
-    match env::args(rt) {
-        Ok(words) => Ok(words.collect(rt.alloc())?),
-        Err(error) => Err(Fault::of_words(&error)),
+    let words = match env::args(rt) {
+        Ok(words) => words,
+        Err(error) => return Err(Stop::of_words(&error)),
+    };
+    match words.collect(rt.alloc()) {
+        Ok(words) => Ok(words),
+        Err(_) => Err(Stop::Failed(Fault::OutOfMemory)),
     }
 }
 

@@ -1,6 +1,7 @@
 //! Whether a record is accepted, how many moves it has, and how it stands.
 
-ghost use Rattle.std.specs.Prelude.{◌≡◌, ◌≢◌, IfErr};
+ghost use Rattle.std.specs.Prelude.{◌≡◌, IfErr};
+ghost use Rattle.shogi_commands.specs.Faults.{IsRecordCommandFault};
 ghost use Rattle.shogi_commands.specs.Words.{word_of};
 
 use session_loops::{Fault, streams};
@@ -15,7 +16,7 @@ use std::rt::Files;
 /// `Fault::Refused` where the record is refused, `Fault::Read` where it cannot be read, and `Fault::Write` where standard
 /// output does not take the line.
 pub fn run<R: Files + Input + Print + AllocGlobal>(rt: &R, file: Option<&str>) -> Result<(), Fault>
-    ensures faults { IfErr result (λ fault. (fault ≢ Fault.WordsNotText) × (fault ≢ Fault.UnknownCommand)) }
+    ensures faults { IfErr result IsRecordCommandFault }
 {
     let record = streams::record(rt, file)?;
     let moves = record.line().moves().len();

@@ -1,6 +1,7 @@
 //! The canonical text of a USI position line.
 
-ghost use Rattle.std.specs.Prelude.{◌≡◌, ◌≢◌, ◌<◌, ◌≤◌, length, None, Some, IfOk, IfErr, IsErrOf, IsSome, OnOk, option_map};
+ghost use Rattle.std.specs.Prelude.{◌≡◌, ◌⊎◌, ◌<◌, ◌≤◌, length, None, Some, IfOk, IfErr, IsErrOf, IsSome, OnOk, option_map};
+ghost use Rattle.shogi_commands.specs.Faults.{IsLineCommandFault, IsOneLineFault};
 ghost use Rattle.usi_text.specs.declared.fault.UsiFault.{UsiFault};
 
 use csa_record::Record;
@@ -18,7 +19,7 @@ use usi_text::UsiFault;
 /// A line of more than 65,536 bytes is `Fault::LongLine` as soon as that is known; no line, or a second one that is not
 /// empty, is U5 BadLine.
 pub fn run<R: Files + Input + Print + AllocGlobal>(rt: &R, file: Option<&str>) -> Result<(), Fault>
-    ensures faults { IfErr result (λ fault. (fault ≢ Fault.WordsNotText) × (fault ≢ Fault.UnknownCommand)) }
+    ensures faults { IfErr result IsLineCommandFault }
 {
     let text = match file {
         None | Some("-") => one_line(rt.alloc(), &mut rt.reader())?,
@@ -34,7 +35,7 @@ pub fn run<R: Files + Input + Print + AllocGlobal>(rt: &R, file: Option<&str>) -
 
 // The one line that the reader gives.
 fn one_line<R: Read>(alloc: Global, reader: &mut R) -> Result<Vec<u8>, Fault>
-    ensures faults { IfErr result (λ fault. (fault ≢ Fault.WordsNotText) × (fault ≢ Fault.UnknownCommand)) }
+    ensures faults { IfErr result IsOneLineFault }
 {
     let mut cutter = LineCutter::new(alloc, streams::LONGEST_LINE);
     let mut first = None;
@@ -62,7 +63,7 @@ fn keep_lines(
     first: &mut Option<Vec<u8>>,
     piece: &[u8],
 ) -> Result<(), Fault>
-    ensures faults { IfErr result (λ fault. (fault ≢ Fault.WordsNotText) × (fault ≢ Fault.UnknownCommand)) }
+    ensures faults { IfErr result IsOneLineFault }
 {
     let mut used = 0;
     while used < piece.len() {
@@ -83,7 +84,7 @@ fn keep_next(
 ) -> Result<usize, Fault>
     requires { 0 < length piece.now }
     ensures used { IfOk result (λ used. (0 < used) × (used ≤ length piece.now)) }
-    ensures faults { IfErr result (λ fault. (fault ≢ Fault.WordsNotText) × (fault ≢ Fault.UnknownCommand)) }
+    ensures faults { IfErr result IsOneLineFault }
 {
     let (used, line) = match cutter.step(piece) {
         Ok(step) => step,
@@ -102,7 +103,7 @@ fn keep_next(
 fn keep_line(alloc: Global, first: &mut Option<Vec<u8>>, line: &[u8]) -> Result<(), Fault>
     ensures first { OnOk result ((first.old ≡ None) × (option_map (λ text. text.items) first.new ≡ Some line.now)) }
     ensures second { IsSome first.old → IsErrOf result (Fault.Usi UsiFault.BadLine) }
-    ensures faults { IfErr result (λ fault. (fault ≢ Fault.WordsNotText) × (fault ≢ Fault.UnknownCommand)) }
+    ensures faults { IfErr result (λ fault. (fault ≡ Fault.Usi UsiFault.BadLine) ⊎ (fault ≡ Fault.OutOfMemory)) }
 {
     if first.is_some() {
         return Err(Fault::Usi(UsiFault::BadLine));

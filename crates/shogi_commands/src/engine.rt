@@ -1,6 +1,7 @@
 //! A USI engine on standard input and output, which plays the first legal move.
 
-ghost use Rattle.std.specs.Prelude.{◌≡◌, ◌≢◌, IfErr};
+ghost use Rattle.std.specs.Prelude.{◌≡◌, IfErr};
+ghost use Rattle.session_loops.specs.Faults.{IsTalkFault};
 
 use session_loops::wire::Exchange;
 use session_loops::{Fault, talk};
@@ -11,7 +12,7 @@ use std::io;
 ///
 /// A line of more than 65,536 bytes is `Fault::LongLine` as soon as that is known.
 pub fn run<R: Input + Print + AllocGlobal>(rt: &R) -> Result<(), Fault>
-    ensures faults { IfErr result (λ fault. (fault ≢ Fault.WordsNotText) × (fault ≢ Fault.UnknownCommand)) }
+    ensures faults { IfErr result IsTalkFault }
 {
     let mut engine = Sample::new(rt.alloc());
     let mut wire = Exchange::new(rt.reader(), io::writer(rt));

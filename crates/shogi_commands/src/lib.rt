@@ -12,4 +12,4 @@ pub mod play;
 pub mod serve;
 pub mod usi;
 
-pub use session_loops::{Fault, USAGE};
+pub use session_loops::Fault;

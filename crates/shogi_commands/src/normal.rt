@@ -1,6 +1,7 @@
 //! The canonical text of a record.
 
-ghost use Rattle.std.specs.Prelude.{◌≡◌, ◌≢◌, IfErr};
+ghost use Rattle.std.specs.Prelude.{◌≡◌, IfErr};
+ghost use Rattle.shogi_commands.specs.Faults.{IsRecordCommandFault};
 
 use csa_record::{Reading, Writing};
 use session_loops::{Fault, streams};
@@ -13,7 +14,7 @@ use std::rt::Files;
 /// `Fault::Refused` where the record is refused, `Fault::Read` where it cannot be read, and `Fault::Write` where standard
 /// output does not take the text.
 pub fn run<R: Files + Input + Print + AllocGlobal>(rt: &R, file: Option<&str>) -> Result<(), Fault>
-    ensures faults { IfErr result (λ fault. (fault ≢ Fault.WordsNotText) × (fault ≢ Fault.UnknownCommand)) }
+    ensures faults { IfErr result IsRecordCommandFault }
 {
     let mut sink = Writing::new(io::writer(rt));
     match file {

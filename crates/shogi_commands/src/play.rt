@@ -1,12 +1,18 @@
 //! An engine plays one game on a server, and the game's record is kept.
 
-ghost use Rattle.std.specs.Prelude.{◌≡◌, ◌≢◌, IfErr, IfOk, codes};
+ghost use Rattle.std.specs.Prelude.{◌≡◌, ◌⊎◌, ℕ, length, IfErr, IfOk, IsErrOf, MatchOption, codes, decimal};
+ghost use Rattle.record_game.specs.Game.{Game};
+ghost use Rattle.record_game.specs.Refused.{FaultlessTo, Refused};
+ghost use Rattle.record_game.specs.Tells.{Tells};
+ghost use Rattle.shogi_commands.specs.Faults.{IsPlayFault};
+ghost use Rattle.shogi_commands.specs.Ports.{IsPort, IsPortLine};
 ghost use Rattle.shogi_session.specs.State.{first_state};
 
 use crate::children::{ENGINE_GONE, SERVER_GONE};
 use crate::{children, out_file};
 use arrayvec::ArrayString;
-use csa_record::{Why, read};
+use csa_record::{Refusal, Why, read};
+use itoa::Buffer;
 use session_loops::bridging::{Side, Sides, play};
 use session_loops::incoming::{Heard, Incoming};
 use session_loops::{Fault, Progress, streams};
@@ -53,7 +59,7 @@ pub fn run<
         + Eprint
         + AllocGlobal,
 >(rt: &R, plan: &Plan<'_>) -> Result<(), Fault>
-    ensures faults { IfErr result (λ fault. (fault ≢ Fault.WordsNotText) × (fault ≢ Fault.UnknownCommand)) }
+    ensures faults { IfErr result IsPlayFault }
 {
     let mut server = children::start_server(rt, plan.server, plan.max_moves)?;
     let mut told = children::lines_of(rt.alloc(), &mut server, SERVER_GONE);
@@ -77,7 +83,7 @@ fn play_on<
         + AllocGlobal,
     T: Read + Drop,
 >(rt: &R, plan: &Plan<'_>, told: &mut Incoming<T>, is_over: &mut bool) -> Result<usize, Fault>
-    ensures faults { IfErr result (λ fault. (fault ≢ Fault.WordsNotText) × (fault ≢ Fault.UnknownCommand)) }
+    ensures faults { IfErr result IsPlayFault }
 {
     let Some(port) = listening_port(told)? else {
         return Err(SERVER_GONE);
@@ -106,16 +112,34 @@ fn listening_port<T: Read + Drop>(told: &mut Incoming<T>) -> Result<Option<u16>,
     Ok(port_of(told.line()))
 }
 
-// The port of `listening` and a number of at most 65535.
-fn port_of(line: &[u8]) -> Option<u16> {
-    let digits = line.strip_prefix(b"listening ".as_slice())?;
-    if !digits.iter().all(|b| b.is_ascii_digit()) {
+// The port of a line that is `listening ` and a number from 1 to 65,535 in decimal.
+fn port_of(line: &[u8]) -> Option<u16>
+    ensures { MatchOption result ((port : ℕ) → IsPortLine line.now port → ⊥) (IsPortLine line.now) }
+{
+    match line.strip_prefix(b"listening ".as_slice()) {
+        Some(digits) => port_in(digits),
+        None => None,
+    }
+}
+
+// The port whose digits these are, as it is written.
+fn port_in(digits: &[u8]) -> Option<u16>
+    ensures { MatchOption result ((port : ℕ) → IsPort port → digits.now ≡ decimal port → ⊥) (λ port. IsPort port × (digits.now ≡ decimal port)) }
+{
+    let Ok(text) = str::from_utf8(digits) else {
+        return None;
+    };
+    let Ok(port) = text.parse::<u16>() else {
+        return None;
+    };
+    if port == 0 {
         return None;
     }
-    match str::from_utf8(digits) {
-        Ok(digits) => digits.parse().ok(),
-        Err(_) => None,
+    let mut written = Buffer::new();
+    if written.format(port) != text {
+        return None;
     }
+    Some(port)
 }
 
 // Plays between the engine and the server, and writes the record: how many moves the game has. `is_over` is set where the
@@ -127,7 +151,7 @@ fn play_with<R: Files + Eprint + AllocGlobal, T: Read + Drop, W: Write + Drop>(
     engine: (&mut Incoming<T>, W),
     is_over: &mut bool,
 ) -> Result<usize, Fault>
-    ensures faults { IfErr result (λ fault. (fault ≢ Fault.WordsNotText) × (fault ≢ Fault.UnknownCommand)) }
+    ensures faults { IfErr result IsPlayFault }
 {
     let (lines, input) = engine;
     let mut told = Incoming::new(rt.alloc(), stream)?;
@@ -175,7 +199,10 @@ fn bridge_of(alloc: Global) -> Result<Bridge, Fault>
 
 // How many moves a game text has.
 fn moves_in(alloc: Global, text: &[u8]) -> Result<usize, Fault>
-    ensures faults { IfErr result (λ fault. (fault ≢ Fault.WordsNotText) × (fault ≢ Fault.UnknownCommand)) }
+    ensures told { IfOk result (λ n. (g : Game) × Tells text.now g × (n ≡ length g.moves)) }
+    ensures refused { (r : Refusal) → IsErrOf result (Fault.Refused r) → Refused text.now r.number r.offset r.why }
+    ensures memory { IsErrOf result Fault.OutOfMemory → (number offset : ℕ) × FaultlessTo text.now number offset }
+    ensures faults { IfErr result (λ fault. ((r : Refusal) × (fault ≡ Fault.Refused r)) ⊎ (fault ≡ Fault.OutOfMemory)) }
 {
     match read(alloc, text) {
         Ok(record) => Ok(record.line().moves().len()),

@@ -1,6 +1,8 @@
 //! A server on localhost, which plays one game with one client.
 
-ghost use Rattle.std.specs.Prelude.{◌≡◌, ◌≢◌, ◌≤◌, true, false, Ok, Err, IfErr, IfOk, IsOk, IsErrOf, codes};
+ghost use Rattle.std.specs.Prelude.{◌≡◌, ◌≢◌, ◌⊎◌, ◌≤◌, true, false, Ok, Err, IfErr, IfOk, IsOk, IsErrOf, codes};
+ghost use Rattle.session_loops.specs.Faults.{IsReadFault, IsTalkFault};
+ghost use Rattle.shogi_commands.specs.Faults.{IsServeFault};
 ghost use Rattle.shogi_session.specs.Host.{waiting};
 ghost use Rattle.shogi_rules.specs.Positions.{max_moves};
 
@@ -26,7 +28,7 @@ pub fn run<R: Net<Listener = TcpListener, Stream = TcpStream> + Print + AllocGlo
     max_moves: u32,
 ) -> Result<(), Fault>
     requires { (1 ≤ max_moves) × (max_moves ≤ max_moves) }
-    ensures faults { IfErr result (λ fault. (fault ≢ Fault.WordsNotText) × (fault ≢ Fault.UnknownCommand)) }
+    ensures faults { IfErr result IsServeFault }
 {
     let stream = accept(rt, port)?;
     let mut host = host_of(rt.alloc(), client, max_moves)?;
@@ -36,12 +38,12 @@ pub fn run<R: Net<Listener = TcpListener, Stream = TcpStream> + Print + AllocGlo
 
 // What has become of a client whose lines were answered so: a session that is over, or not.
 fn served(answered: Result<bool, Fault>) -> Result<(), Fault>
-    requires { IfErr answered (λ fault. (fault ≢ Fault.WordsNotText) × (fault ≢ Fault.UnknownCommand)) }
+    requires { IfErr answered IsTalkFault }
     ensures over { answered ≡ Ok true → IsOk result }
     ensures gone { answered ≡ Ok false → IsErrOf result Fault.ClientGone }
     ensures long { answered ≡ Err Fault.LongLine → IsErrOf result Fault.ClientLineTooLong }
     ensures other { (fault : Fault) → answered ≡ Err fault → fault ≢ Fault.LongLine → IsErrOf result fault }
-    ensures faults { IfErr result (λ fault. (fault ≢ Fault.WordsNotText) × (fault ≢ Fault.UnknownCommand)) }
+    ensures faults { IfErr result IsServeFault }
 {
     match answered {
         Ok(true) => Ok(()),
@@ -56,7 +58,7 @@ fn accept<R: Net<Listener = TcpListener, Stream = TcpStream> + Print + AllocGlob
     rt: &R,
     port: u16,
 ) -> Result<TcpStream, Fault>
-    ensures faults { IfErr result (λ fault. (fault ≢ Fault.WordsNotText) × (fault ≢ Fault.UnknownCommand)) }
+    ensures faults { IfErr result (λ fault. (fault ≡ Fault.Write) ⊎ IsReadFault fault) }
 {
     let Ok(listener) = TcpListener::bind(rt, ("127.0.0.1", port)) else {
         return Err(Fault::Read);

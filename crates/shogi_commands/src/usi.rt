@@ -1,6 +1,7 @@
 //! The position line of a record.
 
-ghost use Rattle.std.specs.Prelude.{◌≡◌, ◌≢◌, ◌++◌, ◌∷◌, [], ℕ, List, map, IfErr, IfOk};
+ghost use Rattle.std.specs.Prelude.{◌≡◌, ◌++◌, ◌∷◌, [], ℕ, List, map, IfErr, IfOk};
+ghost use Rattle.shogi_commands.specs.Faults.{IsRecordCommandFault};
 ghost use Rattle.csa_record.specs.Game.{move_of};
 ghost use Rattle.usi_text.specs.LineText.{LineText};
 
@@ -17,7 +18,7 @@ use std::rt::Files;
 /// `Fault::Refused` where the record is refused, `Fault::Read` where it cannot be read, and `Fault::Write` where standard
 /// output does not take the line.
 pub fn run<R: Files + Input + Print + AllocGlobal>(rt: &R, file: Option<&str>) -> Result<(), Fault>
-    ensures faults { IfErr result (λ fault. (fault ≢ Fault.WordsNotText) × (fault ≢ Fault.UnknownCommand)) }
+    ensures faults { IfErr result IsRecordCommandFault }
 {
     let record = streams::record(rt, file)?;
     let text = position_text(rt.alloc(), &record)?;

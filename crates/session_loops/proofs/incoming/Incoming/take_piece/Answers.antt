@@ -2,29 +2,40 @@ use Rattle.std.proofs.Common.{arith, Some, Err, length, ap, subst, ◌≡◌}
 use Rattle.std.specs.Io.Buffered.{reader_buffer, reader_remaining}
 use Rattle.std.specs.Io.BufRead.{FillKeeps}
 use Rattle.session_loops.specs.declared.incoming.Heard.TheVariants.{Line}
-use Rattle.session_loops.proofs.Hearing.{begins_long, end_line, long_heard, none_is, none_over, piece_line, piece_long, piece_none, some_is}
+use Rattle.session_loops.proofs.Hearing.{begins_long, end_alone, end_line, long_heard, none_is, none_over, piece_line, piece_long, piece_none, some_is}
 use Rattle.session_loops.proofs.incoming.Incoming.take_piece.Goals as goal
 
-pub returns-in-Ok-keep_last-clause-line : goal.returns-in-Ok-keep_last-clause-line
-returns-in-Ok-keep_last-clause-line g c = λ is.
+pub returns-in-Ok-true-clause-line : goal.returns-in-Ok-true-clause-line
+returns-in-Ok-true-clause-line g c = λ is.
     let remaining = reader_remaining g.R.Read.remaining in
     let cutter = c.self.inside.cutter in
     let old = remaining c.self.inside.reader in
     let lender = c.fill_buf.follows.lender-at-none in
     let kept = subst (λ r. FillKeeps old (remaining lender) (Some (length (reader_buffer lender))) r) c.in-Ok.is c.fill_buf.follows.holds-at-none in
     let none : length c.in-Ok.piece.now ≡ 0 = grind (arith, c.if-is_empty.ensures) in
-    let line = c.in-Ok-keep_last.ensures.line (some_is c.in-Ok-keep_last.is_line Line c.then_some.result c.then_some.ensures is) in
+    let line = c.in-Ok-true.ensures.line c.in-Ok-true.field-0-test in
     let gives = end_line (remaining c.self.inside.reader) (remaining c.fill_buf.follows.lender-at-none) cutter.held (none_over old c.in-Ok.piece.now c.in-Ok.ensures.end none) kept.0 (c.self.invariant c.if-self.false).run line.1 in
-    rw (← c.self.view_is, c.in-Ok-keep_last.ensures.empty, line.0) gives
+    rw (← c.self.view_is, c.in-Ok-true.ensures.empty, line.0) gives
 
-pub returns-in-Ok-keep_last-clause-short : goal.returns-in-Ok-keep_last-clause-short
-returns-in-Ok-keep_last-clause-short g c = λ is.
-    let line = c.in-Ok-keep_last.ensures.line (some_is c.in-Ok-keep_last.is_line Line c.then_some.result c.then_some.ensures is) in
+pub returns-in-Ok-true-clause-short : goal.returns-in-Ok-true-clause-short
+returns-in-Ok-true-clause-short g c = λ is.
+    let line = c.in-Ok-true.ensures.line c.in-Ok-true.field-0-test in
     rw line.0 (c.self.invariant c.if-self.false).short
+
+pub returns-in-Ok-false-clause-end : goal.returns-in-Ok-false-clause-end
+returns-in-Ok-false-clause-end g c = λ is.
+    let remaining = reader_remaining g.R.Read.remaining in
+    let cutter = c.self.inside.cutter in
+    let old = remaining c.self.inside.reader in
+    let lender = c.fill_buf.follows.lender-at-none in
+    let kept = subst (λ r. FillKeeps old (remaining lender) (Some (length (reader_buffer lender))) r) c.in-Ok.is c.fill_buf.follows.holds-at-none in
+    let none : length c.in-Ok.piece.now ≡ 0 = grind (arith, c.if-is_empty.ensures) in
+    let gives = end_alone (remaining c.self.inside.reader) (remaining c.fill_buf.follows.lender-at-none) cutter.held c.keep_last.new.cutter.held (none_over old c.in-Ok.piece.now c.in-Ok.ensures.end none) kept.0 (c.in-Ok-false.ensures.none c.in-Ok-false.field-0-test) c.in-Ok-false.ensures.empty in
+    rw (← c.self.view_is) gives
 
 pub returns-in-Ok-cut-clause-short : goal.returns-in-Ok-cut-clause-short
 returns-in-Ok-cut-clause-short g c = λ is.
-    c.in-Ok-cut.ensures.short (some_is c.in-Ok-cut.is_line Line c.then_some-in-Ok-cut.result c.then_some-in-Ok-cut.ensures is) (c.self.invariant c.if-self.false)
+    c.in-Ok-cut.ensures.short (some_is c.in-Ok-cut.is_line Line c.then_some.result c.then_some.ensures is) (c.self.invariant c.if-self.false)
 
 pub returns-in-Ok-cut-clause-line : goal.returns-in-Ok-cut-clause-line
 returns-in-Ok-cut-clause-line g c = λ is.
@@ -32,7 +43,7 @@ returns-in-Ok-cut-clause-line g c = λ is.
     let old = remaining c.self.inside.reader in
     let lender = c.fill_buf.follows.lender-at-none in
     let kept = subst (λ r. FillKeeps old (remaining lender) (Some (length (reader_buffer lender))) r) c.in-Ok.is c.fill_buf.follows.holds-at-none in
-    let line = c.in-Ok-cut.ensures.line (some_is c.in-Ok-cut.is_line Line c.then_some-in-Ok-cut.result c.then_some-in-Ok-cut.ensures is) in
+    let line = c.in-Ok-cut.ensures.line (some_is c.in-Ok-cut.is_line Line c.then_some.result c.then_some.ensures is) in
     let gives = piece_line old (remaining lender) (remaining c.consume.new.self) c.in-Ok.piece.now c.self.inside.cutter.held c.cut.new.kept.items c.in-Ok-cut.used (length (reader_buffer lender))
     c.in-Ok.ensures.front kept.0 kept.1 c.consume.ensures.bytes c.in-Ok-cut.ensures.used line.1 in
     rw (← c.self.view_is, line.0) gives
@@ -43,7 +54,7 @@ returns-in-Ok-cut-clause-none g c = λ is.
     let old = remaining c.self.inside.reader in
     let lender = c.fill_buf.follows.lender-at-none in
     let kept = subst (λ r. FillKeeps old (remaining lender) (Some (length (reader_buffer lender))) r) c.in-Ok.is c.fill_buf.follows.holds-at-none in
-    let none = c.in-Ok-cut.ensures.none (none_is c.in-Ok-cut.is_line Line c.then_some-in-Ok-cut.result c.then_some-in-Ok-cut.ensures is) in
+    let none = c.in-Ok-cut.ensures.none (none_is c.in-Ok-cut.is_line Line c.then_some.result c.then_some.ensures is) in
     let gives = piece_none old (remaining lender) (remaining c.consume.new.self) c.in-Ok.piece.now c.self.inside.cutter.held c.cut.new.cutter.held c.in-Ok-cut.used (length (reader_buffer lender))
     c.in-Ok.ensures.front kept.0 kept.1 c.consume.ensures.bytes none.0 none.1 in
     rw (← c.self.view_is) gives

@@ -1,0 +1,10 @@
+-- The line by which a server tells its port.
+use Rattle.std.specs.Prelude.{◌≡◌, ◌≤◌, ◌++◌, ℕ, List, codes, decimal}
+
+-- a client can connect to it
+abbrev pub IsPort : ℕ → Type 0
+IsPort port = (1 ≤ port) × (port ≤ 65535)
+
+-- `listening `, and then a port in decimal
+abbrev pub IsPortLine : List ℕ → ℕ → Type 0
+IsPortLine line port = (line ≡ codes "listening " ++ decimal port) × IsPort port
