@@ -6,6 +6,7 @@ pub mod Decided
 pub mod Facts
 pub mod Moves
 pub mod OneOf
+pub mod Packing
 pub mod Pieces
 pub mod Same
 pub mod Sight

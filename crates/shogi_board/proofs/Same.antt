@@ -62,7 +62,7 @@ cell-eq (Some x) (Some y) = (λ h. ap Some ((piece-eq x y).0 h), λ h. (piece-eq
 cells-eq : (a b : List (Option Piece)) → Decides (pointwise (option_eq eq-value.it) a b) (a ≡ b)
 cells-eq a b = slice_eq-Decides cell-eq a b _ refl
 
-counts-eq : (a b : List ℕ) → Decides (pointwise nat_eq a b) (a ≡ b)
+pub counts-eq : (a b : List ℕ) → Decides (pointwise nat_eq a b) (a ≡ b)
 counts-eq a b = slice_eq-Decides Decides-eqb a b _ refl
 
 abbrev parts : List (Option Piece) → List ℕ → List ℕ → Color → Placed

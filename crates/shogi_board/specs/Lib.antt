@@ -5,6 +5,7 @@ pub mod Kings
 pub mod Layout
 pub mod Moves
 pub mod Neighbours
+pub mod Packing
 pub mod Pieces
 pub mod Placed
 pub mod Placing

@@ -48,6 +48,12 @@ impl Board {
         }
     }
 
+    pub(crate) fn of(cells: [Option<Piece>; 81]) -> Board
+        ensures { result ≡ cells }
+    {
+        Board { cells }
+    }
+
     pub(crate) fn cells(&self) -> &[Option<Piece>]
         ensures { result.now ≡ self.now }
     {

@@ -22,6 +22,9 @@ macro_rules! white {
     };
 }
 
+pub(crate) use black;
+pub(crate) use white;
+
 // The even board, a file in each row of nine.
 #[rattlefmt::skip]
 static EVEN: [Option<Piece>; 81] = [

@@ -47,6 +47,12 @@ impl Hand {
         Hand { counts }
     }
 
+    pub(crate) fn counts(self) -> [u8; 7]
+        ensures { result ≡ self }
+    {
+        self.counts
+    }
+
     // How many pieces it holds whose place is that of the kind: none for the king.
     pub(crate) fn at_place_of(&self, kind: Kind) -> u8
         ensures { result ≡ slice_index self.now (place_of kind) }
