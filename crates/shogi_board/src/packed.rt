@@ -99,7 +99,13 @@ impl Packed {
     /// The position behind this one, which differs on the board at most in these two squares.
     ///
     /// This one is `last`, packed; the piece on `from`, if a square is named, has left it in `next`.
-    pub fn followed(&self, last: &Position, next: &Position, from: Option<Square>, to: Square) -> Packed
+    pub fn followed(
+        &self,
+        last: &Position,
+        next: &Position,
+        from: Option<Square>,
+        to: Square,
+    ) -> Packed
         requires last { self.now ≡ last.now }
         requires apart { (s : Square) → from ≡ Some s → place s ≢ place to }
         requires board { next.now.board ≡ slice_set (emptied last.now.board from) (place to) (at next.now.board to) }
@@ -152,11 +158,7 @@ fn file_numbers(cells: &[Option<Piece>]) -> [u64; 9]
 fn cell_of_digit(digit: usize) -> Option<Piece>
     ensures { result ≡ cell_of_digit digit }
 {
-    if digit < 29 {
-        DIGIT_CELLS[digit]
-    } else {
-        None
-    }
+    if digit < 29 { DIGIT_CELLS[digit] } else { None }
 }
 
 fn kind_digit(kind: Kind) -> u64

@@ -39,7 +39,7 @@ is-false : (b : Bool) → (b ≡ true → ⊥) → b ≡ false
 is-false true h = absurd (h refl)
 is-false false h = refl
 
-apart : (p q : Placed) → (p ≡ q → ⊥) → same_position p q ≡ false
+pub apart : (p q : Placed) → (p ≡ q → ⊥) → same_position p q ≡ false
 apart p q h = is-false (same_position p q) (λ e. h ((position-same p q).0 e))
 
 times-whole : (ps : List Placed) (n : ℕ) (q : Placed) → length ps ≤ n → times (take n ps) q ≡ times ps q

@@ -1,5 +1,5 @@
 -- One move more.
-use Rattle.std.proofs.Common.{◌≡◌, ◌↔◌, IsTrue, Bool, false, ℕ, ◌≤◌, inl, inr, ◌<◌, ◌+◌, ◌++◌, List, [], ◌∷◌, Option, None, length, length-append, arith, refl, ap, sym}
+use Rattle.std.proofs.Common.{◌≡◌, ◌↔◌, IsTrue, Bool, false, ℕ, ◌≤◌, get_or, inl, inr, ◌<◌, ◌+◌, ◌++◌, List, [], ◌∷◌, Option, None, length, length-append, arith, refl, ap, sym}
 use Rattle.std.proofs.lemmas.Bool.{cases_lt}
 use Rattle.shogi_board.specs.Placed.{Placed}
 use Rattle.shogi_board.specs.declared.color.Color.{Color}
@@ -7,7 +7,11 @@ use Rattle.shogi_rules.specs.After.{after}
 use Rattle.shogi_rules.specs.Legal.{Legal}
 use Rattle.shogi_rules.specs.Positions.{position_after, positions_of, played, IsLine}
 use Rattle.shogi_rules.specs.Rules.{Kept, move_rules, all_rules, IsFirstBroken}
+use Rattle.shogi_rules.specs.declared.line.PlayFault.{PlayFault}
+use Rattle.shogi_rules.specs.declared.line.PlayFault.TheVariants.{OutOfMemory}
 use Rattle.shogi_rules.specs.declared.moves.Move.{Move}
+use Rattle.std.specs.Prelude.{Result, Ok, Err, IsErr, MatchResult, ◌⊎◌}
+use Rattle.std.specs.Result.{IsErrAnd}
 use Rattle.shogi_rules.specs.declared.rule.Rule.{Rule}
 use Rattle.shogi_rules.proofs.Broken.{AllKept}
 
@@ -97,3 +101,13 @@ denied b says off holds = let yes = says.1 holds in cc
 -- what a test of a limit says is below it
 pub below : (b : Bool) (n m : ℕ) → IsTrue b ↔ (m ≤ n) → b ≡ false → n < m
 below b n m says off = elim (cases_lt n m) [ inl low ↦ low | inr full ↦ absurd (denied b says off full) ]
+
+-- the last of a line's positions
+pub last-stands : (p : Placed) (ms : List Move) (d : Placed) → get_or (positions_of p ms) (length ms) d ≡ position_after p ms
+last-stands p [] d = refl
+last-stands p (m ∷ ms) d = last-stands (after p m) ms d
+
+-- an answer of want of memory, where nothing else stands against the move
+pub for-memory : {A : Type 0} (X : A → Type 0) (Y : Type 0) (Z : PlayFault → Type 0) (r : Result A PlayFault) → IsErr r × IsErrAnd r (λ e. e ≡ OutOfMemory) → Y → MatchResult r X (λ fault. ((fault ≡ OutOfMemory) × Y) ⊎ Z fault)
+for-memory X Y Z (Ok a) h y = let no = h.0 in cc
+for-memory X Y Z (Err e) h y = inl (h.1, y)

@@ -1,3 +1,4 @@
+pub mod Followed
 pub mod Forms
 pub mod Layouts
 pub mod Walks

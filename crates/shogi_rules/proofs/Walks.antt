@@ -43,7 +43,7 @@ pub on-board : (p : Placed) (s : Square) → IsSound p → place s < length p.bo
 on-board p s sound = let b = place-bound s in let w = sound.within.squares in omega arith
 
 -- the two squares differ
-apart : (p : Placed) (from to : Square) (its_kind : Kind) → Start p from to its_kind → place to ≢ place from
+pub apart : (p : Placed) (from to : Square) (its_kind : Kind) → Start p from to its_kind → place to ≢ place from
 apart p from to its_kind s e =
     let there : at p.board to ≡ piece p.side s.was = ap (λ (n : ℕ). get_or p.board n None) e ∙ s.stands in
     s.fits.target_free s.was there

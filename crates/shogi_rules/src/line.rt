@@ -1,5 +1,6 @@
 ghost use Rattle.std.specs.Prelude.{◌≡◌, ◌≤◌, ◌++◌, [], ◌∷◌, IfOk, OnOk, OnErr, MatchResult, length, ◌⊎◌, ◌↔◌, IsTrue, None, Some};
 ghost use Rattle.shogi_rules.specs.After.{after};
+ghost use Rattle.shogi_rules.specs.Legal.{FitsBoard};
 ghost use Rattle.shogi_rules.specs.Positions.{max_moves, now_of, all_of, IsGame};
 ghost use Rattle.shogi_rules.specs.Play.{Answers};
 ghost use Rattle.shogi_rules.specs.Repetition.{Over};
@@ -12,8 +13,8 @@ use crate::moves::Move;
 use crate::playing::king_after;
 use crate::repetition::{verdict_by_moves, verdict_of_stretch};
 use crate::rule::Rule;
-use crate::seen::{Seen, stamp, stamp_after};
-use shogi_board::{Color, Position, Square};
+use crate::seen::{Seen, packed_after, stamp, stamp_after};
+use shogi_board::{Color, Packed, Position, Square};
 use std::alloc::{AllocFailed, Global};
 use std::marker::Model;
 use thiserror::Error;
@@ -100,7 +101,7 @@ impl Line {
         let side = start.side();
         let mut seen = Seen::new(alloc)?;
         let stamp = stamp(&start);
-        let repeats = seen.push(&start, stamp)?;
+        let repeats = seen.push(Packed::of(&start), stamp)?;
         Ok(Line {
             start,
             last: start,
@@ -186,6 +187,16 @@ impl Line {
         }
     }
 
+    // The position after a move that fits the board, packed.
+    fn packed_next(&self, mv: &Move, next: &Position) -> Packed
+        requires fits { FitsBoard (now_of self.now) mv.now }
+        requires next { next.now ≡ after (now_of self.now) mv.now }
+        ensures { result ≡ next.now }
+    {
+        let packed = &self.seen.positions()[self.moves.len()];
+        packed_after(packed, &self.last, mv, next)
+    }
+
     /// What `play` would refuse, memory aside, or None.
     pub fn fault(&self, mover: Color, mv: &Move) -> Option<PlayFault>
         ensures { Answers self.now mover mv.now result }
@@ -209,9 +220,10 @@ impl Line {
         // a clause of `side` says that the last position is sound
         let _side = self.last.side();
         self.answer(mover, &mv, &mut next)?;
+        let packed = self.packed_next(&mv, &next);
         self.moves.push(mv)?;
         let stamp = stamp_after(self.stamp, &self.last, &mv);
-        match self.seen.push(&next, stamp) {
+        match self.seen.push(packed, stamp) {
             Ok(repeats) => {
                 self.stamp = stamp;
                 let king = king_after(self.own_king, &mv);
@@ -233,7 +245,7 @@ impl Line {
         ensures { Stands (all_of self.now) (now_of self.now) result }
     {
         if self.is_over() {
-            verdict_of_stretch(self.seen.positions(), &self.last)
+            verdict_of_stretch(self.seen.positions(), &Packed::of(&self.last))
         } else {
             verdict_by_moves(&self.last)
         }

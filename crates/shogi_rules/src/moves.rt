@@ -1,5 +1,5 @@
 ghost use Rattle.std.specs.Prelude.{◌≡◌};
-ghost use Rattle.shogi_rules.specs.Legal.{target, kind_after};
+ghost use Rattle.shogi_rules.specs.Legal.{target, kind_after, source};
 
 use shogi_board::{Kind, Square};
 
@@ -26,6 +26,16 @@ impl Move {
     {
         match self {
             Move::Walk { to, .. } | Move::Put { to, .. } => to,
+        }
+    }
+
+    // The square that the piece leaves, if it stood on one.
+    pub(crate) fn source(self) -> Option<Square>
+        ensures { result ≡ source self }
+    {
+        match self {
+            Move::Walk { from, .. } => Some(from),
+            Move::Put { .. } => None,
         }
     }
 

@@ -8,17 +8,17 @@ use crate::evasions::is_mated;
 use crate::line::Verdict;
 use crate::playing::in_check;
 use crate::search::first_legal;
-use shogi_board::{Color, Position};
+use shogi_board::{Color, Packed, Position};
 
 // Whether the two are the same position.
-fn is_same(a: &Position, b: &Position) -> bool
+fn is_same(a: &Packed, b: &Packed) -> bool
     ensures { result ≡ same_position a.now b.now }
 {
-    *a == *b
+    a.is_same(b)
 }
 
 // The place where the position stands with that many places before.
-fn nth_place(positions: &[Position], p: &Position, before: usize) -> Option<usize>
+fn nth_place(positions: &[Packed], p: &Packed, before: usize) -> Option<usize>
     ensures { MatchOption result (times positions.now p.now ≤ before) (λ i. (i < length positions.now) × IsNth positions.now p.now (before + 1) i) }
 {
     let mut seen = 0;
@@ -34,15 +34,19 @@ fn nth_place(positions: &[Position], p: &Position, before: usize) -> Option<usiz
 }
 
 // Whether the move from the place gave check, if it is one of that side.
-fn gave_check(positions: &[Position], place: usize, color: Color) -> bool
+fn gave_check(positions: &[Packed], place: usize, color: Color) -> bool
     requires { place + 1 < length positions.now }
     ensures { IsTrue result ↔ PressedAt positions.now color place }
 {
-    positions[place].side() != color || in_check(&positions[place + 1])
+    let before = positions[place].unpacked();
+    if before.side() != color {
+        return true;
+    }
+    in_check(&positions[place + 1].unpacked())
 }
 
 // Whether each move of that side between the two places gave check.
-fn pressed(positions: &[Position], first: usize, fourth: usize, color: Color) -> bool
+fn pressed(positions: &[Packed], first: usize, fourth: usize, color: Color) -> bool
     requires { fourth < length positions.now }
     ensures { IsTrue result ↔ Pressed positions.now first fourth color }
 {
@@ -55,7 +59,7 @@ fn pressed(positions: &[Position], first: usize, fourth: usize, color: Color) ->
 }
 
 // Who pressed alone between the two places.
-fn presser(positions: &[Position], first: usize, fourth: usize) -> Option<Color>
+fn presser(positions: &[Packed], first: usize, fourth: usize) -> Option<Color>
     requires { fourth < length positions.now }
     ensures { MatchOption result
         ((color : Color) → PressedAlone positions.now first fourth color → ⊥)
@@ -71,7 +75,7 @@ fn presser(positions: &[Position], first: usize, fourth: usize) -> Option<Color>
 }
 
 // How a line stands whose last position stands for the fourth time.
-pub(crate) fn verdict_of_stretch(positions: &[Position], p: &Position) -> Verdict
+pub(crate) fn verdict_of_stretch(positions: &[Packed], p: &Packed) -> Verdict
     requires { Over positions.now p.now }
     ensures { StandsByStretch positions.now p.now result }
 {

@@ -7,10 +7,9 @@ ghost use Rattle.shogi_rules.specs.Repetition.{times};
 ghost use Rattle.shogi_rules.specs.Stamps.{color_mark, mark, stamp_of, chain_of, Leads};
 
 use crate::moves::Move;
-use shogi_board::{Color, Piece, Position, Square};
+use shogi_board::{Color, Packed, Piece, Position};
 use std::alloc::{AllocError, Global};
 use std::marker::Model;
-use std::slice;
 
 // How many chains there are.
 const CHAINS: usize = 4096;
@@ -63,6 +62,18 @@ pub(crate) fn stamp_after(stamp: u64, position: &Position, mv: &Move) -> u64
     }
 }
 
+// The packed position after a move that fits the board of the one before it, which is packed as well; `next` is that position.
+pub(crate) fn packed_after(packed: &Packed, last: &Position, mv: &Move, next: &Position) -> Packed
+    requires fits { FitsBoard last.now mv.now }
+    requires packed { packed.now ≡ last.now }
+    requires next { next.now ≡ after last.now mv.now }
+    ensures { result ≡ next.now }
+{
+    // a clause of `side` says that the position is sound
+    let _side = last.side();
+    packed.followed(last, next, mv.source(), mv.target())
+}
+
 fn color_mark(color: Color) -> u64
     ensures value { result ≡ color_mark color }
     ensures low { result ≤ 2 }
@@ -91,7 +102,7 @@ struct Link {
 // Positions in order, and how often each of them stands.
 #[derive(Drop)]
 pub(crate) struct Seen {
-    positions: Vec<Position>,
+    positions: Vec<Packed>,
     // one for each position
     links: Vec<Link>,
     // how many positions stand up to the last of each chain
@@ -121,7 +132,7 @@ impl Seen {
         })
     }
 
-    pub(crate) fn positions(&self) -> &[Position]
+    pub(crate) fn positions(&self) -> &[Packed]
         ensures { result.now ≡ self.now }
     {
         self.positions.as_slice()
@@ -136,14 +147,14 @@ impl Seen {
     }
 
     // How often the position stands, by the positions of its chain from the latest back.
-    fn count(&self, latest: usize, position: &Position) -> u32
+    fn count(&self, latest: usize, position: &Packed) -> u32
         requires { Leads self.now (length self.now) position.now latest }
         ensures { result ≡ times self.now position.now }
     {
         let mut n = latest;
         while n > 0 {
             let link = self.links[n - 1];
-            if self.positions[n - 1] == *position {
+            if self.positions[n - 1].is_same(position) {
                 return link.count;
             }
             n = link.earlier;
@@ -152,18 +163,19 @@ impl Seen {
     }
 
     // Adds the position, which has that stamp, and says how often it stands now. A refused growth changes nothing.
-    pub(crate) fn push(&mut self, position: &Position, stamp: u64) -> Result<u32, AllocError>
+    pub(crate) fn push(&mut self, position: Packed, stamp: u64) -> Result<u32, AllocError>
         requires room { length self.old < 10001 }
-        requires stamp { stamp ≡ stamp_of position.now }
-        ensures value { IfOk result (λ n. n ≡ times self.new position.now) }
-        ensures ok { OnOk result (self.new ≡ self.old ++ position.now ∷ []) }
+        requires stamp { stamp ≡ stamp_of position }
+        ensures value { IfOk result (λ n. n ≡ times self.new position) }
+        ensures ok { OnOk result (self.new ≡ self.old ++ position ∷ []) }
         ensures err { OnErr result (self.new ≡ self.old) }
     {
         let chain = chain_of(stamp);
         let earlier = self.latest(chain);
-        let count = self.count(earlier, position) + 1;
+        let count = self.count(earlier, &position) + 1;
         self.links.reserve(1)?;
-        self.positions.extend_from_slice(slice::from_ref(position))?;
+        self.positions.reserve(1)?;
+        self.positions.push(position).unwrap();
         self.links.push(Link { count, earlier }).unwrap();
         self.heads[chain] = self.positions.len() as u16;
         Ok(count)

@@ -2,7 +2,10 @@ use Rattle.std.proofs.Common.{◌≡◌, arith}
 use Rattle.shogi_rules.proofs.Places.{pressed-at}
 use Rattle.shogi_rules.proofs.repetition.gave_check.Goals as goal
 
-pub returns-else-ne : goal.returns-else-ne
-returns-else-ne c =
-    let side : c.index-positions-place.result.side ≡ c.args.color = grind arith in
-    pressed-at c.args.positions.now c.args.place c.args.color c.index-positions-place.result c.index-positions-place-else-ne.result c.in_check.result c.index-positions-place.is c.index-positions-place-else-ne.is c.requires side c.in_check.ensures
+pub returns : goal.returns
+returns c =
+    let x = c.index-positions-place.result in
+    let y = c.index-positions-place-2.result in
+    let stands : c.unpacked-before.result.side ≡ c.args.color = grind arith in
+    let side : x.side ≡ c.args.color = rw c.unpacked-before.ensures at stands in
+    pressed-at c.args.positions.now c.args.place c.args.color x y c.in_check.result c.index-positions-place.is c.index-positions-place-2.is c.requires side (rw c.unpacked.ensures at c.in_check.ensures)

@@ -8,11 +8,11 @@ pub invariant_of-result : goal.invariant_of-result
 invariant_of-result c = (
   record {
     leads = rw c.new-2.ensures.items refl;
-    all = rw (c.in_ok-repeats.ensures.ok, c.in_ok-seen.ensures, c.new-2.ensures.items) refl;
+    all = rw (c.in_ok-repeats.ensures.ok, c.of.ensures, c.in_ok-seen.ensures, c.new-2.ensures.items) refl;
     game = rw c.new-2.ensures.items begun;
     few = rw c.new-2.ensures.items (omega arith);
   },
-  c.in_ok-repeats.ensures.value,
+  rw c.of.ensures at c.in_ok-repeats.ensures.value,
   (
     king-found c.args.start.board c.args.start.side c.king.result (rw c.side-side.ensures.value at c.king.ensures),
     king-found c.args.start.board (opponent c.args.start.side) c.king-2.result (rw (c.opponent.ensures, c.side-side.ensures.value) at c.king-2.ensures),

@@ -3,7 +3,7 @@ use Rattle.shogi_rules.specs.After.{after}
 use Rattle.shogi_rules.specs.Positions.{now_of, all_of, position_after, Played}
 use Rattle.shogi_rules.specs.Rules.{Kept, all_rules, IsFirstBroken}
 use Rattle.shogi_rules.specs.Stamps.{stamp_of}
-use Rattle.shogi_rules.proofs.Games.{line-more, line-room}
+use Rattle.shogi_rules.proofs.Games.{line-more, line-room, for-memory}
 use Rattle.shogi_rules.proofs.MovedKings.{fits-played, kings-played}
 use Rattle.shogi_rules.proofs.line.Line.play.Goals as goal
 
@@ -17,8 +17,8 @@ invariant_of-self-in-Ok c =
     let next : c.answer.new.next ≡ after (position_after i.start i.moves.items) c.args.mv =
     c.in_ok-answer.ensures.1 ∙ ap (λ p. after p c.args.mv) (sym (ap now_of c.self.view_is)) in
     let last : i.last ≡ position_after i.start i.moves.items = c.self.invariant.0.leads in (
-      rw (c.in-Ok.ensures.ok, c.in_ok-push.ensures.items, next) (line-more i.start i.last i.moves.items i.seen c.args.mover c.args.mv c.self.invariant.0 few none),
-      c.in-Ok.ensures.value,
+      rw (c.in-Ok.ensures.ok, c.in_ok-push.ensures.items, c.packed_next-packed.ensures, next) (line-more i.start i.last i.moves.items i.seen c.args.mover c.args.mv c.self.invariant.0 few none),
+      rw c.packed_next-packed.ensures at c.in-Ok.ensures.value,
       kings-played (all_of v) i.last (now_of v) c.args.mover c.args.mv i.own_king i.other_king c.king_after-king.result c.answer.new.next last next c.side-side.ensures.sound none c.self.invariant.2 c.king_after-king.ensures.moved c.king_after-king.ensures.stays,
       c.stamp_after-stamp.ensures ∙ sym (ap stamp_of (next ∙ ap (λ p. after p c.args.mv) (sym last))),
     )
@@ -36,7 +36,7 @@ push-requires-2-clause-stamp c =
     let i = c.self.inside in
     let next : c.answer.new.next ≡ after (position_after i.start i.moves.items) c.args.mv =
     c.in_ok-answer.ensures.1 ∙ ap (λ p. after p c.args.mv) (sym (ap now_of c.self.view_is)) in
-    c.stamp_after-stamp.ensures ∙ sym (ap stamp_of (next ∙ ap (λ p. after p c.args.mv) (sym c.self.invariant.0.leads)))
+    c.stamp_after-stamp.ensures ∙ sym (ap stamp_of (c.packed_next-packed.ensures ∙ (next ∙ ap (λ p. after p c.args.mv) (sym c.self.invariant.0.leads))))
 
 pub push-requires-2-clause-room : goal.push-requires-2-clause-room
 push-requires-2-clause-room c =
@@ -46,3 +46,6 @@ push-requires-2-clause-room c =
 
 pub returns-in-Err-clause-answer : goal.returns-in-Err-clause-answer
 returns-in-Err-clause-answer c = inl (refl, c.in_ok-answer.ensures.0)
+
+pub returns-in_err-push-clause-answer : goal.returns-in_err-push-clause-answer
+returns-in_err-push-clause-answer c = for-memory _ _ _ c.from_residual-in_err-push.result c.from_residual-in_err-push.ensures c.in_ok-answer.ensures.0
