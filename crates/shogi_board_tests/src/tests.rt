@@ -1,5 +1,6 @@
 use shogi_board::{
-    Color, Hand, Kind, Piece, Position, Setup, SetupFault, Square, attacked, laws, reaches,
+    Color, Hand, Kind, Packed, Piece, Position, Setup, SetupFault, Square, attacked, attacker,
+    laws, reaches,
 };
 use std::collections::BTreeMap;
 use std::test::Fail;
@@ -303,9 +304,43 @@ fn parts_of_a_bare_position(rt: HostRuntime) -> Result<(), Fail> {
     Ok(())
 }
 
+// Positions that differ in one cell, in one hand and in the side to move; what is packed is the same position when unpacked.
+#[test]
+fn packs_positions(rt: HostRuntime) -> Result<(), Fail> {
+    let even = Position::even();
+    let mut setup = position("+99RY,-11UM,+88OU,-22OU,-55NG,+47TO")?.setup();
+    let bare = setup.finish(Color::White)?;
+    setup.add_hand(Color::White, Kind::Pawn)?;
+    let held = setup.finish(Color::White)?;
+    let turned = setup.finish(Color::Black)?;
+    for one in [even, bare, held, turned] {
+        let packed = Packed::of(&one);
+        assert!(rt; packed.unpacked() == one);
+        for other in [even, bare, held, turned] {
+            assert!(rt; packed.is_same(&Packed::of(&other)) == (one == other));
+        }
+    }
+    Ok(())
+}
+
+// A rook from afar before a knight, the knight where the rook is shut off, and nobody.
+#[test]
+fn names_an_attacker(rt: HostRuntime) -> Result<(), Fail> {
+    let checked = position("+59OU,-55HI,-51KY,-47KE")?;
+    assert!(rt; attacker(&checked, Color::Black, on(59)?) == Some(on(55)?));
+    assert!(rt; attacker(&checked, Color::Black, on(49)?).is_none());
+    let across = position("+59OU,-55HI,+57FU,-47KE")?;
+    assert!(rt; attacker(&across, Color::Black, on(59)?) == Some(on(47)?));
+    assert!(rt; on(57)?.lies_between(on(59)?, on(55)?) && !on(55)?.lies_between(on(59)?, on(55)?));
+    assert!(rt; on(25)?.place() == 13 && Square::at_place(13) == on(25)?);
+    Ok(())
+}
+
 #[test]
 fn kinds_and_their_forms(rt: HostRuntime) {
-    assert!(rt; Kind::Rook.is_hand_kind() && !Kind::King.is_hand_kind() && !Kind::Horse.is_hand_kind());
+    assert!(rt;
+        Kind::Rook.is_hand_kind() && !Kind::King.is_hand_kind() && !Kind::Horse.is_hand_kind()
+    );
     assert!(rt; Kind::Pawn.promoted() == Some(Kind::ProPawn) && Kind::Gold.promoted().is_none());
     assert!(rt; Kind::Horse.is_promoted() && !Kind::Bishop.is_promoted());
     assert!(rt; Kind::Horse.unpromoted() == Kind::Bishop);
