@@ -10,6 +10,7 @@ mod LogGames
 pub mod Onward
 pub mod PositionFits
 pub mod RowOnce
+mod Silent
 mod SentRight
 mod Testing
 pub mod Tied

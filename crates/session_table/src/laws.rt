@@ -6,6 +6,7 @@ ghost use Rattle.csa_record.specs.Game.{Game};
 ghost use Rattle.csa_record.specs.Items.{AtMostOne};
 ghost use Rattle.session_table.specs.declared.config.Config.{Config};
 ghost use Rattle.session_table.specs.declared.event.Status.{Status};
+ghost use Rattle.session_table.specs.declared.event.Status.TheVariants.{Going};
 ghost use Rattle.session_table.specs.declared.state.EngineState.TheVariants.{Thinking};
 ghost use Rattle.session_table.specs.Asking.{AskLines, MayAsk};
 ghost use Rattle.session_table.specs.declared.fault.MoveCause.TheVariants.{Refused, Unsent};
@@ -48,6 +49,18 @@ pub fn step_whole()
         → ((out : Out) → StepRow old e out new → to_engine ≡ text_of out.to_engine)
         → ((out : Out) → StepRow old e out new → to_server ≡ text_of out.to_server)
         → status ≡ new.state.status → new.config ≡ old.config → Steps old e to_engine to_server status new }
+{}
+
+/// A step that faults gives no line and leaves all but the status. A step of a session that is over,
+/// done or failed, gives no line and changes nothing; so in every log, behind a step with which the
+/// session was over, no step gives a line, and each has that status.
+pub fn silent_when_over()
+    ensures fault { (c : Config) (s t : State) (e : Event) (out : Out) → Row c s e out t → is_sound t.status ≡ false
+        → (out ≡ no_lines) × (t ≡ record s { status = t.status }) }
+    ensures over { (c : Config) (s t : State) (e : Event) (out : Out) → Row c s e out t → (s.status ≡ Going → ⊥)
+        → (out ≡ no_lines) × (t ≡ s) }
+    ensures ever { (c : Config) (before behind : List Step) (step : Step) (t : State) → Leads c (before ++ step ∷ behind) t
+        → (step.status ≡ Going → ⊥) → AllByRecursion (λ later. (later.out ≡ no_lines) × (later.status ≡ step.status)) behind }
 {}
 
 /// In every log an engine that thinks while the client plays is one that may be asked: the client is

@@ -1,4 +1,7 @@
 mod BothEnds
+mod Walks
+pub mod BlockLines
+pub mod BlockReads
 pub mod Asked
 mod GameEnds
 mod MoveSame

@@ -1,51 +1,59 @@
 -- What a whole summary offers, by what counts of its lines.
-use Rattle.std.proofs.Common.{◌≡◌, ℕ, List, Option, Some, None, Result, Ok, Err, subst}
-use Rattle.std.specs.Prelude.{IfOk}
-use Rattle.shogi_session.specs.Offers.{TellsParts, IsOfferRead, IsToldBy, offer_of}
-use Rattle.session_table.specs.Summary.{Heard, one, Offer, TellsPosition, TellsOffer}
+use Rattle.std.proofs.Common.{◌≡◌, ℕ, List, Some, None, ap, sym, subst, ◌∙◌}
+use Rattle.csa_record.specs.Game.{Game}
+use Rattle.csa_record.specs.Says.{Says}
+use Rattle.shogi_board.specs.declared.color.Color.{Color}
+use Rattle.session_table.specs.Summary.{Heard, one, Offer, TellsPosition, TellsOffer, nameless}
+use Rattle.shogi_session.specs.HearingStage.{IsGameIn, ended_blocks}
+use Rattle.shogi_session.specs.Offers.{IsClientTold, IsNamed, offer_in}
 use Rattle.shogi_session.specs.declared.offer.GameOffer.{GameOffer}
+use Rattle.shogi_session.specs.declared.summary_reader.Positions.{Positions}
+use Rattle.shogi_session.specs.declared.summary_reader.Positions.TheVariants.{Missing, One, Several}
 
-same_text : (h : Heard) (a b : List ℕ) → h.positions ≡ one a → h.positions ≡ one b → b ≡ a
-same_text h a b p q = cc
+position_named : (text black white : List ℕ) (g named : Game) → TellsPosition text g → IsNamed g black white named → TellsPosition text named
+position_named text black white g named p e = record {
+  statements = p.statements;
+  sayings = p.sayings;
+  cut = p.cut;
+  spelt = p.spelt;
+  no_others = p.no_others;
+  says = subst (Says p.sayings) (sym (ap nameless e)) p.says;
+}
 
-parts_of : (h : Heard) (text : List ℕ) (o : Offer) → h.positions ≡ one text → TellsOffer h o → TellsParts h.black h.white h.turn text o
-parts_of h text o only t =
-    record {
-      black_fits = t.black_fits;
-      white_fits = t.white_fits;
-      black_is = t.black;
-      white_is = t.white;
-      client = t.client;
-      position = subst (λ x. TellsPosition x o.game) (same_text h text t.text only t.one_position) t.position;
-    }
+-- a game of the only position block, whose names are those that were heard
+pub offer_told : (h : Heard) (positions : Positions) (g : Game) (o : GameOffer) → h.begun ≡ None → h.positions ≡ ended_blocks positions
+    → IsClientTold h.black h.white h.turn o.client → IsGameIn positions (Some g) → IsNamed g h.black h.white o.game → TellsOffer h (offer_in o)
+offer_told h Missing g o whole blocks told game named = absurd game
+offer_told h (One text) g o whole blocks told game named = record {
+  no_block = whole;
+  black_fits = told.black_fits;
+  white_fits = told.white_fits;
+  black = ap (λ (x : Game). x.black) named;
+  white = ap (λ (x : Game). x.white) named;
+  client = told.sign_is;
+  text = text;
+  one_position = blocks;
+  position = position_named text h.black h.white g o.game game.0 named;
+}
+offer_told h Several g o whole blocks told game named = absurd game
 
-told_by : (h : Heard) (text : List ℕ) (found : Option Offer) → h.begun ≡ None → h.positions ≡ one text
-    → IsOfferRead h.black h.white h.turn text found → IsToldBy h found
-told_by h text None whole only read = λ o t. read o (parts_of h text o only t)
-told_by h text (Some o) whole only read =
-    record {
-      no_block = whole;
-      black_fits = read.black_fits;
-      white_fits = read.white_fits;
-      black = read.black_is;
-      white = read.white_is;
-      client = read.client;
-      text = text;
-      one_position = only;
-      position = read.position;
-    }
+same_text : (a b : List ℕ) → one a ≡ one b → b ≡ a
+same_text a b p = cc
 
-told_result : {E : Type 0} (h : Heard) (text : List ℕ) (result : Result (Option GameOffer) E) → h.begun ≡ None → h.positions ≡ one text
-    → IfOk result (λ found. IsOfferRead h.black h.white h.turn text (offer_of found)) → IfOk result (λ found. IsToldBy h (offer_of found))
-told_result h text (Ok found) whole only read = told_by h text (offer_of found) whole only read
-told_result h text (Err fault) whole only read = tt
+pub none_told : (h : Heard) (positions : Positions) → h.positions ≡ ended_blocks positions → IsGameIn positions None → (o : Offer) → TellsOffer h o → ⊥
+none_told h Missing blocks game o told = let same = sym blocks ∙ told.one_position in absurd cc
+none_told h (One text) blocks game o told =
+    game o.game (subst (λ x. TellsPosition x o.game) (same_text text told.text (sym blocks ∙ told.one_position)) told.position)
+none_told h Several blocks game o told = let same = sym blocks ∙ told.one_position in absurd cc
 
 -- the same of slices of these texts
-pub told_slices : {E : Type 0} (h : Heard) (black white turn text : List ℕ) (result : Result (Option GameOffer) E) → black ≡ h.black → white ≡ h.white
-    → turn ≡ h.turn → h.begun ≡ None → h.positions ≡ one text
-    → IfOk result (λ found. IsOfferRead black white turn text (offer_of found)) → IfOk result (λ found. IsToldBy h (offer_of found))
-told_slices h black white turn text result b w t whole only read =
-    told_result h text result whole only
-    (subst (λ x. IfOk result (λ found. IsOfferRead x h.white h.turn text (offer_of found))) b
-    (subst (λ x. IfOk result (λ found. IsOfferRead black x h.turn text (offer_of found))) w
-    (subst (λ x. IfOk result (λ found. IsOfferRead black white x text (offer_of found))) t read)))
+pub client_sliced : (black white turn b w t : List ℕ) (client color : Color) → b ≡ black → w ≡ white → t ≡ turn → color ≡ client
+    → IsClientTold b w t client → IsClientTold black white turn color
+client_sliced black white turn b w t client color same-b same-w same-t same told =
+    subst (λ x. IsClientTold x white turn color) same-b
+    (subst (λ x. IsClientTold b x turn color) same-w
+    (subst (λ x. IsClientTold b w x color) same-t (subst (IsClientTold b w t) (sym same) told)))
+
+pub named_sliced : (g named : Game) (black white b w : List ℕ) → b ≡ black → w ≡ white → IsNamed g b w named → IsNamed g black white named
+named_sliced g named black white b w same-b same-w told =
+    subst (λ x. IsNamed g x white named) same-b (subst (λ x. IsNamed g b x named) same-w told)

@@ -1,6 +1,6 @@
 -- How the answers to lines of the server before a game are rows of the table.
 use Rattle.std.proofs.Common.{◌≡◌, ℕ, ◌++◌, ◌⊎◌, inl, inr, Result, Ok, Err, true, false, List, [], ◌∷◌, Option, Some, None, codes, refl, sym, ap, subst, ◌∙◌}
-use Rattle.std.specs.Prelude.{IfOk, MatchResult}
+use Rattle.std.specs.Prelude.{IfOk, OnOk, OnErr, MatchResult}
 use Rattle.csa_record.specs.Game.{Game, Ended}
 use Rattle.session_table.specs.declared.config.Config.{Config}
 use Rattle.session_table.specs.declared.event.Out.{Out as Answered}
@@ -197,13 +197,33 @@ phase_not_over (phases.Agreeing o) h = (λ e. cc, λ e. cc)
 phase_not_over (phases.InGame p) h = absurd (h p refl)
 
 -- 7. summaries
-pub ended_or : {E : Type 0} (r : Result Answered E) (c : Config) (engine : EngineState) (client known client_after : Client) (line : List ℕ) → client ≡ known
+pub agreed_phase : {E : Type 0} (r : Result Answered E) (after : Phase) (o : GameOffer) → IsOpen o.game → OnOk r (after ≡ phases.Agreeing o)
+    → OnErr r (after ≡ phases.BeforeSummary) → IsPhase after
+agreed_phase (Ok a) after o open-game p q = subst IsPhase (sym p) open-game
+agreed_phase (Err f) after o open-game p q = subst IsPhase (sym q) tt
+
+pub summary_agreed : {E : Type 0} (r : Result Answered E) (c : Config) (engine : EngineState) (client : Client) (h : Heard) (o : GameOffer) (after : Phase)
+    → client ≡ summary h → TellsOffer h (offer_in o) → OnOk r (after ≡ phases.Agreeing o) → IfOk r (λ out. out.to_engine ≡ [])
+    → IfOk r (λ out. out.to_server ≡ ended_line (codes "AGREE")) → IfOk r (λ out. out.status ≡ Going)
+    → IfOk r (λ out. Reacts c engine client (server_line (codes "END Game_Summary")) out engine (client_of after))
+summary_agreed (Ok out) c engine client h o after at tells p q s z =
+    subst (λ x. Reacts c engine client (server_line (codes "END Game_Summary")) out engine (client_of x)) (sym p)
+    (summary_told c engine client h o out at tells q s z)
+summary_agreed (Err f) c engine client h o after at tells p q s z = tt
+
+pub ended_or : {E : Type 0} (r : Result Answered E) (c : Config) (engine : EngineState) (client client_after : Client) (h : Heard) (line : List ℕ) → client ≡ summary h
     → line ≡ codes "END Game_Summary"
-    → MatchResult r (λ o. Reacts c engine known (server_line (codes "END Game_Summary")) o engine client_after) (λ f. client_after ≡ known)
+    → IfOk r (λ o. Reacts c engine (summary h) (server_line (codes "END Game_Summary")) o engine client_after) → OnErr r (client_after ≡ before_summary)
     → MatchResult r (λ o. Reacts c engine client (server_line line) o engine client_after) (λ f. Stays c engine client (server_line line) engine client_after)
-ended_or (Ok o) c engine client known client_after line here at h =
-    subst (λ x. Reacts c engine x (server_line line) o engine client_after) (sym here) (subst (λ x. Reacts c engine known (server_line x) o engine client_after) (sym at) h)
-ended_or (Err f) c engine client known client_after line here at h = stays c engine engine client client_after (server_line line) (refl, h ∙ sym here)
+ended_or (Ok o) c engine client client_after h line here at k lost =
+    subst (λ x. Reacts c engine x (server_line line) o engine client_after) (sym here)
+    (subst (λ x. Reacts c engine (summary h) (server_line x) o engine client_after) (sym at) k)
+ended_or (Err f) c engine client client_after h line here at k lost = record {
+  engine_stays = refl;
+  client_stays = ap client_state lost ∙ sym (ap client_state here);
+  slip_stays = ap slip_of lost ∙ sym (ap slip_of here);
+  game = before (ap game_of lost ∙ sym (ap game_of here));
+}
 
 pub heard_or : {E : Type 0} (r : Result Answered E) (c : Config) (engine : EngineState) (client : Client) (h new : Heard) (line : List ℕ) → client ≡ summary h
     → IfOk r (λ o. (d : Config) (x : EngineState) → Reacts d x (summary h) (server_line line) o x (summary new))

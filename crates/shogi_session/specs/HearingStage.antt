@@ -1,7 +1,10 @@
 -- What the summary reader's own positions are, and where a line stands.
 use Rattle.std.specs.Prelude.{◌≡◌, ℕ, true, false, List, Option, Some, None, nat_eq, bytes_eq}
-use Rattle.std.specs.Global.{Vec}
 use Rattle.std.specs.List.{starts_with}
+use Rattle.csa_record.specs.Game.{Game}
+use Rattle.shogi_session.specs.PositionTexts.{IsPositionRead}
+use Rattle.shogi_session.specs.declared.summary_reader.Begun.{Begun}
+use Rattle.shogi_session.specs.declared.summary_reader.Begun.TheVariants.{Nothing, Position, Another, Other}
 use Rattle.shogi_session.specs.declared.summary_reader.Place.{Place}
 use Rattle.shogi_session.specs.declared.summary_reader.Place.TheVariants.{Begins, Outside, Ends, InPosition, Skipped}
 use Rattle.shogi_session.specs.declared.summary_reader.Positions.{Positions}
@@ -9,14 +12,45 @@ use Rattle.shogi_session.specs.declared.summary_reader.Positions.TheVariants.{Mi
 use Rattle.session_lines.specs.LineTexts as texts
 use Rattle.session_table.specs.Summary.{PositionBlocks, none, one, several, end_line, is_position}
 
-abbrev pub blocks_of : Positions → PositionBlocks
-blocks_of Missing = none
-blocks_of (One text) = one text.items
-blocks_of Several = several
+-- the position blocks that have ended
+abbrev pub ended_blocks : Positions → PositionBlocks
+ended_blocks Missing = none
+ended_blocks (One text) = one text
+ended_blocks Several = several
 
-abbrev pub title_items : Option (Vec ℕ) → Option (List ℕ)
-title_items None = None
-title_items (Some title) = Some title.items
+-- with the text of the block that is the first
+abbrev pub first_block : Positions → List ℕ → PositionBlocks
+first_block Missing text = one text
+first_block (One other) text = several
+first_block Several text = several
+
+-- with the block that has not ended
+abbrev pub blocks_of : Positions → Begun → PositionBlocks
+blocks_of positions Nothing = ended_blocks positions
+blocks_of positions (Position text) = first_block positions text
+blocks_of positions Another = several
+blocks_of positions (Other title) = ended_blocks positions
+
+abbrev pub title_of : Begun → Option (List ℕ)
+title_of Nothing = None
+title_of (Position text) = Some texts.position_title
+title_of Another = Some texts.position_title
+title_of (Other title) = Some title.items
+
+-- another block is no position block
+abbrev pub IsFitting : Begun → Type 0
+IsFitting Nothing = Unit {0}
+IsFitting (Position text) = Unit {0}
+IsFitting Another = Unit {0}
+IsFitting (Other title) = is_position title.items ≡ false
+
+-- the game of the only position block, or that there is none
+abbrev pub IsGameIn : Positions → Option Game → Type 0
+IsGameIn Missing None = Unit {0}
+IsGameIn Missing (Some g) = ⊥
+IsGameIn (One text) found = IsPositionRead text found
+IsGameIn Several None = Unit {0}
+IsGameIn Several (Some g) = ⊥
 
 -- where a line stands, by the title of the block that has not ended
 abbrev pub IsPlace : Option (List ℕ) → List ℕ → Place → Type 0

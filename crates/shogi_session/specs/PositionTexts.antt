@@ -1,10 +1,13 @@
 -- The text of a position block, apart from what it tells.
-use Rattle.std.specs.Prelude.{◌≡◌, ℕ, true, List, Option, Some, None}
+use Rattle.std.specs.Prelude.{◌≡◌, ◌⊎◌, ◌++◌, ℕ, Bool, true, false, List, [], ◌∷◌, Option, Some, None}
 use Rattle.std.specs.List.{AllByRecursion, AllZip}
 use Rattle.csa_text.specs.Cut.{TextUnit, IsCut}
 use Rattle.csa_text.specs.Spelling.{Saying, Spells}
 use Rattle.csa_record.specs.Game.{Game}
-use Rattle.csa_record.specs.Tells.{IsSpelt}
+use Rattle.csa_record.specs.Reading.{Reading, HasRead}
+use Rattle.csa_record.specs.Tells.{IsSpelt, Tells}
+use Rattle.shogi_session.specs.declared.position_reader.Progress.{Progress}
+use Rattle.shogi_session.specs.declared.position_reader.Progress.TheVariants.{Reading as going, Failed}
 use Rattle.session_table.specs.Summary.{in_position, TellsPosition}
 
 -- the bytes spell a position, side, move or time statement
@@ -23,3 +26,30 @@ pub record IsPositionText (text : List ℕ) : Type 0 where
 abbrev pub IsPositionRead : List ℕ → Option Game → Type 0
 IsPositionRead text None = (g : Game) → TellsPosition text g → ⊥
 IsPositionRead text (Some g) = TellsPosition text g × (g.black ≡ None) × (g.white ≡ None)
+
+-- whatever comes behind it, the text tells no game
+abbrev pub TellsNone : List ℕ → Type 0
+TellsNone text = (more : List ℕ) (g : Game) → TellsPosition (text ++ more) g → ⊥
+
+-- no line, or the last byte is the end of one
+abbrev pub IsWhole : List ℕ → Type 0
+IsWhole text = (text ≡ []) ⊎ ((front : List ℕ) × (text ≡ front ++ 10 ∷ []))
+
+-- the reader was fed this text, whole lines; where it goes on to tell a record, it is statements of these kinds alone
+pub record IsFed (text : List ℕ) (reader : Reading) : Type 0 where
+  pub read : HasRead text reader
+  pub whole : IsWhole text
+  pub fits : (more : List ℕ) (g : Game) → Tells (text ++ more) g → IsPositionText text
+
+-- the reader was fed this text, or that tells no game
+abbrev pub IsFedOn : List ℕ → Bool → Reading → Type 0
+IsFedOn text true reader = HasRead text reader
+IsFedOn text false reader = TellsNone text
+
+abbrev pub IsTaken : List ℕ → Bool → Reading → Type 0
+IsTaken text true reader = IsFed text reader
+IsTaken text false reader = TellsNone text
+
+abbrev pub HasCome : List ℕ → Progress → Type 0
+HasCome text (going reader) = IsFed text reader
+HasCome text Failed = TellsNone text

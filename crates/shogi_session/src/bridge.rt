@@ -1,5 +1,6 @@
-ghost use Rattle.std.specs.Prelude.{◌≡◌, ◌↔◌, Some, None, IsOk, IsTrue, IfOk, OnErr, MatchOption, MatchResult};
+ghost use Rattle.std.specs.Prelude.{◌≡◌, ◌↔◌, Some, None, IsOk, IsTrue, IfOk, IfSome, OnErr, MatchOption, MatchResult};
 ghost use Rattle.csa_record.specs.Game.{Game};
+ghost use Rattle.csa_record.specs.Tells.{Tells};
 ghost use Rattle.session_table.specs.declared.config.Config.{Config};
 ghost use Rattle.session_table.specs.declared.event.Status.TheVariants.{Going, Lost};
 ghost use Rattle.session_table.specs.declared.state.EngineState.{EngineState};
@@ -159,11 +160,12 @@ impl Bridge {
 
     /// The canonical text of the game so far: the names, the start and the confirmed moves, with the
     /// ending that the server told, or the one that follows from the reason and the result. None before
-    /// a summary was accepted.
+    /// a summary was accepted. It is a whole record, also where the session has failed or is lost.
     ///
     /// Refuses OutOfMemory.
     pub fn game_text(&self) -> Result<Option<Vec<u8>>, OutOfMemory>
-        ensures { IfOk result (λ found. MatchOption found (IsGameText self.now.state None) (λ text. IsGameText self.now.state (Some text.items))) }
+        ensures game { IfOk result (λ found. MatchOption found (IsGameText self.now.state None) (λ text. IsGameText self.now.state (Some text.items))) }
+        ensures whole { IfOk result (λ found. IfSome found (λ text. (g : Game) × Tells text.items g)) }
     {
         match &self.phase {
             Phase::Agreeing(offer) => Ok(Some(write(self.alloc, &offer.game)?)),

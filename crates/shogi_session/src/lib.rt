@@ -8,6 +8,7 @@
 
 mod answers;
 mod asking;
+mod block_text;
 mod bridge;
 mod engine_answer;
 mod engine_side;
@@ -17,6 +18,7 @@ pub mod laws;
 mod line_items;
 mod offer;
 mod phase;
+mod position_reader;
 mod position_text;
 mod server_lines;
 mod server_side;

@@ -4,14 +4,11 @@ ghost use Rattle.csa_record.specs.Limits.{IsOneLine};
 ghost use Rattle.csa_record.specs.Titles.{with_name};
 ghost use Rattle.csa_text.specs.Codes.{sign};
 ghost use Rattle.shogi_board.specs.declared.color.Color.{Color};
-ghost use Rattle.shogi_session.specs.Offers.{IsNamed, IsOfferRead, offer_of};
-ghost use Rattle.csa_text.specs.Cut.{longest_statement};
+ghost use Rattle.shogi_session.specs.Offers.{IsClientTold, IsNamed};
 
-use crate::position_text::read_position;
 use csa_record::Record;
 use session_lines::texts;
 use shogi_board::{Color, OutOfMemory};
-use std::alloc::Global;
 
 // What a whole summary offers: the client's side, and a game, some of whose moves may have been played.
 #[derive(Drop)]
@@ -20,32 +17,35 @@ pub(crate) struct GameOffer {
     pub(crate) game: Record,
 }
 
-// The offer of a summary with these names and this turn, whose one position block has this text; or None.
-pub(crate) fn read_offer(
-    alloc: Global,
-    black: &[u8],
-    white: &[u8],
-    turn: &[u8],
-    text: &[u8],
-) -> Result<Option<GameOffer>, OutOfMemory>
-    requires black_line { IsOneLine black.now }
-    requires white_line { IsOneLine white.now }
-    ensures { IfOk result (λ found. IsOfferRead black.now white.now turn.now text.now (offer_of found)) }
+// The client's side in a summary with these names and this turn; or None where it can offer no game.
+pub(crate) fn read_client(black: &[u8], white: &[u8], turn: &[u8]) -> Option<Color>
+    ensures { MatchOption result
+        ((color : Color) → IsClientTold black.now white.now turn.now color → ⊥)
+        (IsClientTold black.now white.now turn.now) }
 {
     if black.len() > 4094 || white.len() > 4094 {
-        return Ok(None);
+        return None;
     }
-    let Some(client) = color_of(turn) else {
-        return Ok(None);
-    };
-    match read_position(alloc, text) {
-        Ok(Some(game)) => match name_both(game, black, white) {
-            Ok(game) => Ok(Some(GameOffer { client, game })),
-            Err(fault) => Err(fault),
-        },
-        Ok(None) => Ok(None),
-        Err(fault) => Err(fault),
-    }
+    color_of(turn)
+}
+
+// The offer of that game, which has no names, with these names.
+pub(crate) fn name_offer(
+    client: Color,
+    game: Record,
+    black: &[u8],
+    white: &[u8],
+) -> Result<GameOffer, OutOfMemory>
+    requires black_line { IsOneLine black.now }
+    requires white_line { IsOneLine white.now }
+    requires black_fits { length black.now ≤ 4094 }
+    requires white_fits { length white.now ≤ 4094 }
+    requires no_black { game.black ≡ None }
+    requires no_white { game.white ≡ None }
+    ensures { IfOk result (λ offer. (offer.client ≡ client) × IsNamed game black.now white.now offer.game) }
+{
+    let game = name_both(game, black, white)?;
+    Ok(GameOffer { client, game })
 }
 
 // The side of which this is the sign.

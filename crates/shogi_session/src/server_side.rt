@@ -1,12 +1,12 @@
-ghost use Rattle.std.specs.Prelude.{◌≡◌, ℕ, List, false, None, IfOk, OnErr, MatchResult};
+ghost use Rattle.std.specs.Prelude.{◌≡◌, ℕ, List, [], false, None, IfOk, OnErr, OnOk, MatchResult};
 ghost use Rattle.csa_record.specs.Limits.{IsOneLine};
 ghost use Rattle.session_table.specs.declared.config.Config.{Config};
 ghost use Rattle.shogi_session.specs.declared.offer.GameOffer.{GameOffer};
 ghost use Rattle.shogi_session.specs.declared.phase.Phase.TheVariants.{Agreeing, BeforeSummary, InGame, LoggingIn};
 ghost use Rattle.session_table.specs.declared.state.EngineState.{EngineState};
+ghost use Rattle.session_table.specs.declared.event.Status.TheVariants.{Going};
 ghost use Rattle.session_table.specs.Events.{server_line};
 ghost use Rattle.session_lines.specs.LineTexts as texts;
-ghost use Rattle.shogi_session.specs.Offers.{IsToldBy, offer_of};
 ghost use Rattle.shogi_session.specs.Phases.{GoesOn, IsPhase, IsPlay, Reacts, Stays, begun, client_of, play_client};
 ghost use Rattle.session_table.specs.State as state;
 ghost use Rattle.session_lines.specs.ServerLines.{is_start_line};
@@ -47,8 +47,7 @@ pub(crate) fn hear_server(
         Phase::BeforeSummary => Ok(hear_begin(alloc, phase, line)),
         Phase::Summary(reader) => {
             if is_same(line, texts::END_SUMMARY) {
-                let found = reader.finish()?;
-                end_summary(alloc, phase, found)
+                end_summary(alloc, phase)
             } else {
                 hear_summary(alloc, reader, line)
             }
@@ -111,26 +110,45 @@ fn hear_summary(alloc: Global, reader: &mut SummaryReader, line: &[u8]) -> Resul
     }
 }
 
-// Agrees to the game that a whole summary offers.
-fn end_summary(
-    alloc: Global,
-    phase: &mut Phase,
-    found: Option<GameOffer>,
-) -> Result<Out, OutOfMemory>
+// Takes the last line of a summary. Where memory is refused, the lines before it are given up.
+fn end_summary(alloc: Global, phase: &mut Phase) -> Result<Out, OutOfMemory>
     requires phase { IsPhase phase.old }
-    requires told { (h : Heard) × (client_of phase.old ≡ state.summary h) × IsToldBy h (offer_of found) }
+    requires summary { (h : Heard) × (client_of phase.old ≡ state.summary h) }
     ensures keeps { IsPhase phase.new }
-    ensures answer { (c : Config) (engine : EngineState) → MatchResult result
-        (λ out. Reacts c engine (client_of phase.old) (server_line texts.end_summary) out engine (client_of phase.new))
-        (λ fault. client_of phase.new ≡ client_of phase.old) }
+    ensures answer { (c : Config) (engine : EngineState) → IfOk result
+        (λ out. Reacts c engine (client_of phase.old) (server_line texts.end_summary) out engine (client_of phase.new)) }
+    ensures given_up { OnErr result (client_of phase.new ≡ state.before_summary) }
 {
-    match found {
-        Some(offer) => {
-            let out = tell_server(alloc, texts::AGREE)?;
+    let Phase::Summary(reader) = phase else {
+        return Ok(no_lines(alloc));
+    };
+    match reader.finish() {
+        Ok(Some(offer)) => agree(alloc, phase, offer),
+        Ok(None) => Ok(failed(alloc, SessionFault::BadSummary)),
+        Err(fault) => {
+            *phase = Phase::BeforeSummary;
+            Err(fault)
+        }
+    }
+}
+
+// Agrees to the game that was offered.
+fn agree(alloc: Global, phase: &mut Phase, offer: GameOffer) -> Result<Out, OutOfMemory>
+    ensures phase { OnOk result (phase.new ≡ Agreeing offer) }
+    ensures engine { IfOk result (λ out. out.to_engine ≡ []) }
+    ensures server { IfOk result (λ out. out.to_server ≡ ended_line texts.agree) }
+    ensures status { IfOk result (λ out. out.status ≡ Going) }
+    ensures given_up { OnErr result (phase.new ≡ BeforeSummary) }
+{
+    match tell_server(alloc, texts::AGREE) {
+        Ok(out) => {
             *phase = Phase::Agreeing(offer);
             Ok(out)
         }
-        None => Ok(failed(alloc, SessionFault::BadSummary)),
+        Err(fault) => {
+            *phase = Phase::BeforeSummary;
+            Err(fault)
+        }
     }
 }
 

@@ -1,22 +1,39 @@
 ghost use Rattle.std.specs.Prelude.{◌≡◌, None, Some, IfOk, OnOk, bytes_eq};
 ghost use Rattle.csa_record.specs.Limits.{IsOneLine};
-ghost use Rattle.shogi_session.specs.HearingStage.{blocks_of, title_items, IsPlace};
+ghost use Rattle.shogi_session.specs.HearingStage.{IsFitting, IsGameIn, IsPlace, blocks_of, ended_blocks, first_block, title_of};
+ghost use Rattle.session_lines.specs.LineTexts as texts;
 ghost use Rattle.session_table.specs.Hearing.{extended, heard_after, one_more, opened, outside, value_or};
 ghost use Rattle.shogi_session.specs.Offers.{IsToldBy, offer_of};
 ghost use Rattle.session_table.specs.Summary.{end_line, is_position, nothing_heard};
 
-use crate::offer::{GameOffer, read_offer};
+use crate::offer::{GameOffer, name_offer, read_client};
+use crate::position_reader::{EndedPosition, PositionReader};
+use csa_record::Record;
 use session_lines::texts;
 use shogi_board::OutOfMemory;
 use std::alloc::Global;
 use std::marker::Model;
+use std::mem;
 
-// The position blocks of a summary: none, the text of the only one, or several.
+// The position blocks of a summary that have ended: none, the only one, or several.
 #[derive(Drop)]
 enum Positions {
     Missing,
-    One(Vec<u8>),
+    One(EndedPosition),
     Several,
+}
+
+// The block of a summary that has not ended.
+#[derive(Drop)]
+enum Begun {
+    // There is none.
+    Nothing,
+    // The first position block.
+    Position(PositionReader),
+    // A further one, of which nothing counts.
+    Another,
+    // Another block, which has this title.
+    Other(Vec<u8>),
 }
 
 // Where a line of a summary stands.
@@ -42,19 +59,19 @@ pub(crate) struct SummaryReader {
     white: Vec<u8>,
     turn: Vec<u8>,
     positions: Positions,
-    begun: Option<Vec<u8>>,
+    begun: Begun,
 }
 
 impl Model for SummaryReader {
     ghost use Rattle.csa_record.specs.Limits.{IsOneLine};
-    ghost use Rattle.shogi_session.specs.HearingStage.{blocks_of, title_items};
+    ghost use Rattle.shogi_session.specs.HearingStage.{IsFitting, blocks_of, title_of};
     ghost use Rattle.session_table.specs.Summary.{Heard};
 
     ghost Value = { Heard };
 
-    ghost view = { λ s. record { black = s.black.items; white = s.white.items; turn = s.turn.items; positions = blocks_of s.positions; begun = title_items s.begun } };
+    ghost view = { λ s. record { black = s.black.items; white = s.white.items; turn = s.turn.items; positions = blocks_of s.positions s.begun; begun = title_of s.begun } };
 
-    ghost invariant = { λ s. IsOneLine s.black.items × IsOneLine s.white.items };
+    ghost invariant = { λ s. IsOneLine s.black.items × IsOneLine s.white.items × IsFitting s.begun };
 }
 
 impl SummaryReader {
@@ -68,7 +85,7 @@ impl SummaryReader {
             white: Vec::new(alloc),
             turn: Vec::new(alloc),
             positions: Positions::Missing,
-            begun: None,
+            begun: Begun::Nothing,
         }
     }
 
@@ -80,44 +97,70 @@ impl SummaryReader {
         match place_of(&self.begun, line) {
             Place::Begins => self.begin(&line[texts::BEGIN.len()..]),
             Place::Outside => self.take_values(line),
-            Place::Ends => {
-                self.begun = None;
-                Ok(())
-            }
-            Place::InPosition => lengthen(&mut self.positions, line),
+            Place::Ends => self.end(),
+            Place::InPosition => self.take_position(line),
             Place::Skipped => Ok(()),
         }
     }
 
-    // What the lines tell as a whole summary, or None where they tell none.
-    pub(crate) fn finish(&self) -> Result<Option<GameOffer>, OutOfMemory>
-        ensures { IfOk result (λ found. IsToldBy self.now (offer_of found)) }
+    // What the lines tell as a whole summary; or None where they tell none, and nothing changes.
+    pub(crate) fn finish(&mut self) -> Result<Option<GameOffer>, OutOfMemory>
+        ensures told { IfOk result (λ found. IsToldBy self.old (offer_of found)) }
+        ensures untold { IfOk result (λ found. found ≡ None → self.new ≡ self.old) }
     {
-        let Positions::One(text) = &self.positions else {
+        let Begun::Nothing = &self.begun else {
             return Ok(None);
         };
-        match &self.begun {
-            None => read_offer(
-                self.alloc,
-                self.black.as_slice(),
-                self.white.as_slice(),
-                self.turn.as_slice(),
-                text.as_slice(),
-            ),
-            Some(_) => Ok(None),
+        let black = self.black.as_slice();
+        let white = self.white.as_slice();
+        let Some(client) = read_client(black, white, self.turn.as_slice()) else {
+            return Ok(None);
+        };
+        match take_game(&mut self.positions) {
+            Some(game) => Ok(Some(name_offer(client, game, black, white)?)),
+            None => Ok(None),
         }
     }
 
-    // Begins a block of that title.
+    // Begins a block of that title, outside all.
     fn begin(&mut self, title: &[u8]) -> Result<(), OutOfMemory>
+        requires { self.old.begun ≡ None }
         ensures { OnOk result (self.new ≡ opened self.old title.now) }
     {
-        let mut held = Vec::new(self.alloc);
-        held.extend_from_slice(title)?;
-        if is_position(title) {
-            count_one(&mut self.positions, self.alloc);
+        self.begun = if is_position(title) {
+            begun_position(&self.positions, self.alloc)
+        } else {
+            let mut held = Vec::new(self.alloc);
+            held.extend_from_slice(title)?;
+            Begun::Other(held)
+        };
+        Ok(())
+    }
+
+    // Ends the block that has not ended.
+    fn end(&mut self) -> Result<(), OutOfMemory>
+        ensures { OnOk result (self.new ≡ record self.old { begun = None }) }
+    {
+        match mem::replace(&mut self.begun, Begun::Nothing) {
+            Begun::Position(reader) => {
+                let ended = reader.finish()?;
+                count_one(&mut self.positions, ended);
+            }
+            Begun::Another => self.positions = Positions::Several,
+            Begun::Nothing | Begun::Other(_) => {}
         }
-        self.begun = Some(held);
+        Ok(())
+    }
+
+    // Takes a line of a position block.
+    fn take_position(&mut self, line: &[u8]) -> Result<(), OutOfMemory>
+        requires { self.old.begun ≡ Some texts.position_title }
+        ensures { OnOk result (self.new ≡ record self.old { positions = extended self.old.positions line.now }) }
+    {
+        self.begun = match mem::replace(&mut self.begun, Begun::Nothing) {
+            Begun::Position(reader) => Begun::Position(reader.take(line)?),
+            other => other,
+        };
         Ok(())
     }
 
@@ -133,12 +176,13 @@ impl SummaryReader {
 }
 
 // Where the line stands, by the title of the block that has not ended.
-fn place_of(begun: &Option<Vec<u8>>, line: &[u8]) -> Place
-    ensures { IsPlace (title_items begun.now) line.now result }
+fn place_of(begun: &Begun, line: &[u8]) -> Place
+    ensures { IsPlace (title_of begun.now) line.now result }
 {
     match begun {
-        None => place_outside(line),
-        Some(title) => place_within(title.as_slice(), line),
+        Begun::Nothing => place_outside(line),
+        Begun::Position(_) | Begun::Another => place_within(texts::POSITION_TITLE, line),
+        Begun::Other(title) => place_within(title.as_slice(), line),
     }
 }
 
@@ -189,29 +233,44 @@ fn take_value(kept: &mut Vec<u8>, key: &[u8], line: &[u8]) -> Result<(), OutOfMe
     Ok(())
 }
 
-// Counts one position block more, which has no line yet.
-fn count_one(positions: &mut Positions, alloc: Global)
-    ensures { blocks_of positions.new ≡ one_more (blocks_of positions.old) }
-{
-    let counted = match positions {
-        Positions::Missing => Positions::One(Vec::new(alloc)),
-        Positions::One(_) => Positions::Several,
-        Positions::Several => Positions::Several,
-    };
-    *positions = counted;
-}
-
-// Adds a line to the text of the only position block.
-fn lengthen(positions: &mut Positions, line: &[u8]) -> Result<(), OutOfMemory>
-    ensures { OnOk result (blocks_of positions.new ≡ extended (blocks_of positions.old) line.now) }
+// The next position block, which has no line yet.
+fn begun_position(positions: &Positions, alloc: Global) -> Begun
+    ensures fits { IsFitting result }
+    ensures title { title_of result ≡ Some texts.position_title }
+    ensures blocks { blocks_of positions.now result ≡ one_more (ended_blocks positions.now) }
 {
     match positions {
-        Positions::One(text) => {
-            text.extend_from_slice(line)?;
-            text.push(b'\n')?;
-            Ok(())
+        Positions::Missing => Begun::Position(PositionReader::new(alloc)),
+        Positions::One(_) | Positions::Several => Begun::Another,
+    }
+}
+
+// Counts the first position block, which has ended.
+fn count_one(positions: &mut Positions, ended: EndedPosition)
+    ensures { ended_blocks positions.new ≡ first_block positions.old ended }
+{
+    *positions = match positions {
+        Positions::Missing => Positions::One(ended),
+        Positions::One(_) | Positions::Several => Positions::Several,
+    };
+}
+
+// The game that the only position block tells; or None where none does, and nothing changes.
+fn take_game(positions: &mut Positions) -> Option<Record>
+    ensures game { IsGameIn positions.old result }
+    ensures kept { result ≡ None → positions.new ≡ positions.old }
+{
+    match mem::replace(positions, Positions::Missing) {
+        Positions::One(ended) => match ended.into_game() {
+            Ok(game) => Some(game),
+            Err(ended) => {
+                *positions = Positions::One(ended);
+                None
+            }
+        },
+        other => {
+            *positions = other;
+            None
         }
-        Positions::Missing => Ok(()),
-        Positions::Several => Ok(()),
     }
 }

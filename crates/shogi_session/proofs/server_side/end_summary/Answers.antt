@@ -1,18 +1,24 @@
-use Rattle.std.proofs.Common.{refl, subst}
+use Rattle.std.proofs.Common.{ap, subst, sym, ◌∙◌}
 use Rattle.shogi_session.specs.Offers.{IsToldBy, offer_of}
-use Rattle.shogi_session.proofs.ServerRows.{offered, summary_failed, summary_told}
+use Rattle.shogi_session.specs.Phases.{client_of}
+use Rattle.session_table.specs.State.{summary}
+use Rattle.shogi_session.proofs.ServerRows.{agreed_phase, offered, summary_agreed, summary_failed}
 use Rattle.shogi_session.proofs.server_side.end_summary.Goals as goal
 
-pub returns-in_ok-out-in-Some-clause-keeps : goal.returns-in_ok-out-in-Some-clause-keeps
-returns-in_ok-out-in-Some-clause-keeps c =
-    offered c.requires.told.0 _ (subst (λ x. IsToldBy c.requires.told.0 (offer_of x)) c.in-Some.is c.requires.told.2)
+pub returns-in-Ok-Some-clause-keeps : goal.returns-in-Ok-Some-clause-keeps
+returns-in-Ok-Some-clause-keeps c =
+    let tells = subst (λ found. IsToldBy c.in-Summary.reader (offer_of found)) c.in-Ok-Some.field-0-is c.in-Ok-Some.ensures.told in
+    agreed_phase c.agree.result c.agree.new.phase c.in-Ok-Some.offer (offered c.in-Summary.reader c.in-Ok-Some.offer tells) c.agree.ensures.phase c.agree.ensures.given_up
 
-pub returns-in_ok-out-in-Some-clause-answer : goal.returns-in_ok-out-in-Some-clause-answer
-returns-in_ok-out-in-Some-clause-answer c = λ d engine.
-    summary_told d engine _ c.requires.told.0 _ c.in_ok-out-in-Some.out c.requires.told.1 (subst (λ x. IsToldBy c.requires.told.0 (offer_of x)) c.in-Some.is c.requires.told.2)
-    c.in_ok-out-in-Some.ensures.engine c.in_ok-out-in-Some.ensures.server c.in_ok-out-in-Some.ensures.status
+pub returns-in-Ok-Some-clause-answer : goal.returns-in-Ok-Some-clause-answer
+returns-in-Ok-Some-clause-answer c = λ d engine.
+    let tells = subst (λ found. IsToldBy c.in-Summary.reader (offer_of found)) c.in-Ok-Some.field-0-is c.in-Ok-Some.ensures.told in
+    summary_agreed c.agree.result d engine _ c.in-Summary.reader c.in-Ok-Some.offer c.agree.new.phase (ap client_of c.in-Summary.is) tells c.agree.ensures.phase
+    c.agree.ensures.engine c.agree.ensures.server c.agree.ensures.status
 
-pub returns-in-None-clause-answer : goal.returns-in-None-clause-answer
-returns-in-None-clause-answer c = λ d engine.
-    summary_failed d engine _ _ c.requires.told.0 c.failed.result c.requires.told.1 (subst (λ x. IsToldBy c.requires.told.0 (offer_of x)) c.in-None.is c.requires.told.2) refl
+pub returns-in-Ok-None-clause-answer : goal.returns-in-Ok-None-clause-answer
+returns-in-Ok-None-clause-answer c = λ d engine.
+    summary_failed d engine _ _ c.in-Summary.reader c.failed.result (ap client_of c.in-Summary.is)
+    (subst (λ found. IsToldBy c.in-Summary.reader (offer_of found)) c.in-Ok-None.field-0-is c.in-Ok-None.ensures.told)
+    (ap summary (c.in-Ok-None.ensures.untold c.in-Ok-None.field-0-is) ∙ sym (ap client_of c.in-Summary.is))
     (c.failed.ensures.engine, c.failed.ensures.server, c.failed.ensures.status)

@@ -12,9 +12,10 @@ returns-in-Idle-clause-answer c =
     quiet _ _ _ _ _ _ c.no_lines.result (idle_line _ _ c.args.line.now) (ap client_of c.in-Idle.is) refl
     (c.no_lines.ensures.engine, c.no_lines.ensures.server, c.no_lines.ensures.status)
 
-pub returns-in_ok-found-in-Summary-clause-answer : goal.returns-in_ok-found-in-Summary-clause-answer
-returns-in_ok-found-in-Summary-clause-answer c =
-    ended_or c.end_summary.result _ _ _ _ _ c.args.line.now (ap client_of c.in-Summary.is) (c.is_same.ensures.0 c.if-is_same.true) (c.end_summary.ensures.answer _ _)
+pub returns-then-is_same-clause-answer : goal.returns-then-is_same-clause-answer
+returns-then-is_same-clause-answer c =
+    ended_or c.end_summary.result _ _ _ _ c.in-Summary.reader c.args.line.now (ap client_of c.in-Summary.is) (c.is_same.ensures.0 c.if-is_same.true)
+    (c.end_summary.ensures.answer _ _) c.end_summary.ensures.given_up
 
 pub returns-else-is_same-clause-answer : goal.returns-else-is_same-clause-answer
 returns-else-is_same-clause-answer c =

@@ -3,15 +3,15 @@ use Rattle.session_table.specs.Promises.{Session}
 use Rattle.shogi_session.proofs.BridgeRows.{text_none, text_offered, text_told}
 use Rattle.shogi_session.proofs.bridge.Bridge.game_text.Goals as goal
 
-pub returns-in_ok-write-in-Agreeing : goal.returns-in_ok-write-in-Agreeing
-returns-in_ok-write-in-Agreeing c =
+pub returns-in_ok-write-in-Agreeing-clause-game : goal.returns-in_ok-write-in-Agreeing-clause-game
+returns-in_ok-write-in-Agreeing-clause-game c =
     text_offered _ c.self.inside.phase c.in-Agreeing.offer _ (ap (λ (x : Session). x.state.client) (sym c.self.view_is)) c.in-Agreeing.is
     c.in_ok-write-in-Agreeing.ensures.text
 
-pub returns-in_ok-write-in-InGame : goal.returns-in_ok-write-in-InGame
-returns-in_ok-write-in-InGame c =
+pub returns-in_ok-write-in-InGame-clause-game : goal.returns-in_ok-write-in-InGame-clause-game
+returns-in_ok-write-in-InGame-clause-game c =
     text_told _ c.self.inside.phase c.in-InGame.play _ (ap (λ (x : Session). x.state.client) (sym c.self.view_is)) c.in-InGame.is c.self.invariant
     c.in_ok-write-in-InGame.ensures.text
 
-pub returns-in_default : goal.returns-in_default
-returns-in_default c = text_none _ c.self.inside.phase (ap (λ (x : Session). x.state.client) (sym c.self.view_is)) c.in_default.not-Agreeing c.in_default.not-InGame
+pub returns-in_default-clause-game : goal.returns-in_default-clause-game
+returns-in_default-clause-game c = text_none _ c.self.inside.phase (ap (λ (x : Session). x.state.client) (sym c.self.view_is)) c.in_default.not-Agreeing c.in_default.not-InGame

@@ -1,0 +1,11 @@
+use Rattle.std.proofs.Common.{subst, sym}
+use Rattle.session_table.specs.Summary.{TellsPosition}
+use Rattle.shogi_session.specs.PositionTexts.{IsPositionRead}
+use Rattle.shogi_session.proofs.position_reader.EndedPosition.into_game.Goals as goal
+
+pub returns-in-None : goal.returns-in-None
+returns-in-None c = (
+  c.self.view_is,
+  λ g p.
+      (subst (IsPositionRead c.self.inside.text.bytes) c.in-None.is c.self.invariant) g (subst (λ text. TellsPosition text g) (sym c.self.view_is) p),
+)

@@ -1,0 +1,18 @@
+use Rattle.std.proofs.Common.{◌++◌, subst}
+use Rattle.session_lines.specs.Texts.{ended_line}
+use Rattle.shogi_session.specs.PositionTexts.{HasCome, IsTaken}
+use Rattle.shogi_session.proofs.BlockReads.{none_more}
+use Rattle.shogi_session.proofs.position_reader.go_on.Goals as goal
+
+pub returns-in_default : goal.returns-in_default
+returns-in_default c = λ text come. none_more text (ended_line c.args.line.now) (subst (HasCome text) c.in_default.is come)
+
+pub returns-in-Ok-true : goal.returns-in-Ok-true
+returns-in-Ok-true c = λ text come.
+    subst (λ b. IsTaken (text ++ ended_line c.args.line.now) b c.take_line.new.reader) c.in-Ok-true.field-0-test
+    (c.in-Ok-true.ensures text (subst (HasCome text) c.in-Reading.is come))
+
+pub returns-in-Ok-false : goal.returns-in-Ok-false
+returns-in-Ok-false c = λ text come.
+    subst (λ b. IsTaken (text ++ ended_line c.args.line.now) b c.take_line.new.reader) c.in-Ok-false.field-0-test
+    (c.in-Ok-false.ensures text (subst (HasCome text) c.in-Reading.is come))

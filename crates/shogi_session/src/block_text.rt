@@ -1,0 +1,32 @@
+// The text of a position block, which exists only in proofs: it takes no memory.
+ghost use Rattle.std.specs.Prelude.{◌≡◌, ℕ, List, [], ◌++◌};
+ghost use Rattle.std.specs.Borrow.{ftrue};
+ghost use Rattle.session_lines.specs.Texts.{ended_line};
+
+use std::marker::Model;
+
+// The lines of a block, LF behind each.
+#[derive(Drop)]
+pub(crate) struct BlockText {
+    ghost bytes: { List ℕ },
+}
+
+impl Model for BlockText {
+    ghost also_owns = { λ _. ftrue };
+}
+
+impl BlockText {
+    // Of no lines.
+    pub(crate) fn new() -> BlockText
+        ensures { result.bytes ≡ [] }
+    {
+        BlockText {}
+    }
+
+    // With one line more.
+    pub(crate) fn with(&self, _line: &[u8]) -> BlockText
+        ensures { result.bytes ≡ self.now.bytes ++ ended_line _line.now }
+    {
+        BlockText {}
+    }
+}

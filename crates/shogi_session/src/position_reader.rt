@@ -1,0 +1,193 @@
+ghost use Rattle.std.specs.Prelude.{◌≡◌, ◌↔◌, ℕ, ◌+◌, ◌^◌, ◌≤◌, ◌++◌, List, [], length, Some, None, IsTrue, IfOk, MatchResult};
+ghost use Rattle.csa_record.specs.Reading.{HasRead, fed_of};
+ghost use Rattle.session_lines.specs.Texts.{ended_line};
+ghost use Rattle.shogi_session.specs.PositionTexts.{HasCome, IsFed, IsFedOn, IsPositionRead, IsTaken};
+
+use crate::block_text::BlockText;
+use crate::position_text::is_position_text;
+use csa_record::{Record, RecordReader, Why};
+use shogi_board::OutOfMemory;
+use std::alloc::Global;
+use std::marker::Model;
+
+// The most bytes that a record reader takes.
+const MOST_BYTES: u64 = 9_223_372_036_854_775_808;
+
+const LINE_END: &[u8] = b"\n";
+
+// What the lines of a position block have come to.
+#[derive(Drop)]
+enum Progress {
+    // They may go on to tell a game.
+    Reading(RecordReader),
+    // Whatever comes behind them, they tell none.
+    Failed,
+}
+
+// Reads a position block line by line, and keeps none of its text.
+#[derive(Drop)]
+pub(crate) struct PositionReader {
+    text: BlockText,
+    progress: Progress,
+}
+
+impl Model for PositionReader {
+    ghost use Rattle.std.specs.Prelude.{ℕ, List};
+    ghost use Rattle.shogi_session.specs.PositionTexts.{HasCome};
+
+    ghost Value = { List ℕ };
+
+    ghost view = { λ r. r.text.bytes };
+
+    ghost invariant = { λ r. HasCome r.text.bytes r.progress };
+}
+
+// A position block that has ended: the game that it tells, without names, or that it tells none.
+#[derive(Drop)]
+pub(crate) struct EndedPosition {
+    text: BlockText,
+    game: Option<Record>,
+}
+
+impl Model for EndedPosition {
+    ghost use Rattle.std.specs.Prelude.{ℕ, List};
+    ghost use Rattle.shogi_session.specs.PositionTexts.{IsPositionRead};
+
+    ghost Value = { List ℕ };
+
+    ghost view = { λ e. e.text.bytes };
+
+    ghost invariant = { λ e. IsPositionRead e.text.bytes e.game };
+}
+
+impl PositionReader {
+    // A reader of a block that has no line yet.
+    pub(crate) fn new(alloc: Global) -> PositionReader
+        ensures { result ≡ [] }
+    {
+        PositionReader {
+            text: BlockText::new(),
+            progress: Progress::Reading(RecordReader::new(alloc)),
+        }
+    }
+
+    // Takes the next line.
+    pub(crate) fn take(self, line: &[u8]) -> Result<PositionReader, OutOfMemory>
+        ensures { IfOk result (λ taken. taken ≡ self ++ ended_line line.now) }
+    {
+        let PositionReader { text, progress } = self;
+        match go_on(progress, line) {
+            Ok(progress) => Ok(PositionReader {
+                text: text.with(line),
+                progress,
+            }),
+            Err(fault) => Err(fault),
+        }
+    }
+
+    // Ends the block.
+    pub(crate) fn finish(self) -> Result<EndedPosition, OutOfMemory>
+        ensures { IfOk result (λ ended. ended ≡ self) }
+    {
+        let PositionReader { text, progress } = self;
+        match game_of(progress) {
+            Ok(game) => Ok(EndedPosition { text, game }),
+            Err(fault) => Err(fault),
+        }
+    }
+}
+
+impl EndedPosition {
+    // The game that it tells; or the block again, which tells none.
+    pub(crate) fn into_game(self) -> Result<Record, EndedPosition>
+        ensures { MatchResult result
+            (λ game. IsPositionRead self (Some game))
+            (λ ended. (ended ≡ self) × IsPositionRead self None) }
+    {
+        let EndedPosition { text, game } = self;
+        match game {
+            Some(game) => Ok(game),
+            None => Err(EndedPosition { text, game: None }),
+        }
+    }
+}
+
+// What the lines have come to with one more.
+fn go_on(progress: Progress, line: &[u8]) -> Result<Progress, OutOfMemory>
+    ensures { (text : List ℕ) → HasCome text progress → IfOk result (HasCome (text ++ ended_line line.now)) }
+{
+    let Progress::Reading(mut reader) = progress else {
+        return Ok(Progress::Failed);
+    };
+    match take_line(&mut reader, line) {
+        Ok(true) => Ok(Progress::Reading(reader)),
+        Ok(false) => Ok(Progress::Failed),
+        Err(fault) => Err(fault),
+    }
+}
+
+// The game that the lines tell, or None.
+fn game_of(progress: Progress) -> Result<Option<Record>, OutOfMemory>
+    ensures { (text : List ℕ) → HasCome text progress → IfOk result (IsPositionRead text) }
+{
+    let Progress::Reading(reader) = progress else {
+        return Ok(None);
+    };
+    match reader.finish() {
+        Ok(game) => Ok(Some(game)),
+        Err(refusal) => {
+            if wants_memory(refusal.why) {
+                Err(OutOfMemory)
+            } else {
+                Ok(None)
+            }
+        }
+    }
+}
+
+// Feeds the reader the next line, and answers whether the lines may go on to tell a game.
+fn take_line(reader: &mut RecordReader, line: &[u8]) -> Result<bool, OutOfMemory>
+    ensures { (text : List ℕ) → IsFed text reader.old → IfOk result (λ may. IsTaken (text ++ ended_line line.now) may reader.new) }
+{
+    if !is_position_text(line) {
+        return Ok(false);
+    }
+    match feed(reader, line) {
+        Ok(true) => feed(reader, LINE_END),
+        Ok(false) => Ok(false),
+        Err(fault) => Err(fault),
+    }
+}
+
+// Feeds the reader these bytes, and answers whether it has refused none.
+fn feed(reader: &mut RecordReader, bytes: &[u8]) -> Result<bool, OutOfMemory>
+    ensures { (text : List ℕ) → HasRead text reader.old → IfOk result (λ going. IsFedOn (text ++ bytes.now) going reader.new) }
+{
+    if !has_room(reader, bytes) {
+        return Err(OutOfMemory);
+    }
+    match reader.feed(bytes) {
+        Ok(()) => Ok(true),
+        Err(refusal) => {
+            if wants_memory(refusal.why) {
+                Err(OutOfMemory)
+            } else {
+                Ok(false)
+            }
+        }
+    }
+}
+
+// Whether a reader takes so many bytes more; there is memory for no more.
+fn has_room(reader: &RecordReader, bytes: &[u8]) -> bool
+    ensures { IsTrue result → fed_of reader.now + length bytes.now ≤ 2 ^ 63 }
+{
+    let fed = reader.fed();
+    fed <= MOST_BYTES && bytes.len() as u64 <= MOST_BYTES - fed
+}
+
+fn wants_memory(why: Why) -> bool
+    ensures { IsTrue result ↔ (why ≡ Why.OutOfMemory) }
+{
+    why == Why::OutOfMemory
+}
