@@ -106,11 +106,11 @@ leads-last ps p q same =
       chain = λ i x e at. ap chain_of (sym (last-place ps p x i (omega (arith, e)) at)) ∙ same;
     }
 
-chain-low : (p : Placed) → chain_of p < 4096
+chain-low : (p : Placed) → chain_of p < 1024
 chain-low p = omega arith
 
 -- the head of its chain leads to the new one too, and those of the others lead as before
-found-more : (ps : List Placed) (heads : List ℕ) (p q : Placed) → length heads ≡ 4096 → Leads ps (length ps) q (get_or heads (chain_of q) 0) → Leads (ps ++ p ∷ []) (length (ps ++ p ∷ [])) q (get_or (set heads (chain_of p) (length ps + 1)) (chain_of q) 0)
+found-more : (ps : List Placed) (heads : List ℕ) (p q : Placed) → length heads ≡ 1024 → Leads ps (length ps) q (get_or heads (chain_of q) 0) → Leads (ps ++ p ∷ []) (length (ps ++ p ∷ [])) q (get_or (set heads (chain_of p) (length ps + 1)) (chain_of q) 0)
 found-more ps heads p q wide led =
     let low : chain_of p < length heads = rw wide (chain-low p) in
     let apart : (chain_of q ≢ chain_of p) → Leads (ps ++ p ∷ []) (length (ps ++ p ∷ [])) q (get_or (set heads (chain_of p) (length ps + 1)) (chain_of q) 0) = λ other.
@@ -201,7 +201,7 @@ linked-more ps links heads p key n count earlier old same long counted leads =
     (λ q e. leads q (e ∙ sym same)))
 
 -- with no position each chain is empty
-pub none-linked : (heads : List ℕ) (n : ℕ) → n ≡ 4096 → heads ≡ replicate n 0 → AreLinked [] [] heads
+pub none-linked : (heads : List ℕ) (n : ℕ) → n ≡ 1024 → heads ≡ replicate n 0 → AreLinked [] [] heads
 none-linked heads n wide all = record {
   long = refl;
   wide = rw all (length-replicate n 0) ∙ wide;

@@ -26,9 +26,13 @@ stamp_before cells (suc n) = stamp_before cells n + mark n (slice_index_or cells
 abbrev pub stamp_of : Placed → ℕ
 stamp_of p = stamp_before p.board 81 + color_mark p.side
 
+-- how many chains there are
+abbrev pub chains : ℕ
+chains = 1024
+
 -- which of the chains the position stands in
 abbrev pub chain_of : Placed → ℕ
-chain_of p = stamp_of p % 4096
+chain_of p = stamp_of p % chains
 
 -- the first m positions have that one as often as the first n, and the m-th stands in its chain
 pub record Leads (ps : List Placed) (n : ℕ) (q : Placed) (m : ℕ) : Type 0 where
@@ -44,6 +48,6 @@ pub record IsLink (ps : List Placed) (i : ℕ) (p : Placed) (link : Link) : Type
 -- a link stands beside each position, and the head of its chain leads to each position
 pub record AreLinked (ps : List Placed) (links : List Link) (heads : List ℕ) : Type 0 where
   pub long : length links ≡ length ps
-  pub wide : length heads ≡ 4096
+  pub wide : length heads ≡ chains
   pub each : (i : ℕ) (p : Placed) (link : Link) → slice_get ps i ≡ Some p → slice_get links i ≡ Some link → IsLink ps i p link
   pub found : (q : Placed) → Leads ps (length ps) q (slice_index_or heads (chain_of q) 0)

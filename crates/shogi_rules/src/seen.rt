@@ -4,7 +4,7 @@ ghost use Rattle.shogi_board.specs.Squares.{place};
 ghost use Rattle.shogi_rules.specs.After.{after};
 ghost use Rattle.shogi_rules.specs.Legal.{FitsBoard};
 ghost use Rattle.shogi_rules.specs.Repetition.{times};
-ghost use Rattle.shogi_rules.specs.Stamps.{color_mark, mark, stamp_of, chain_of, Leads};
+ghost use Rattle.shogi_rules.specs.Stamps.{color_mark, mark, stamp_of, chain_of, chains, Leads};
 
 use crate::moves::Move;
 use shogi_board::{Color, Packed, Piece, Position};
@@ -12,7 +12,7 @@ use std::alloc::{AllocError, Global};
 use std::marker::Model;
 
 // How many chains there are.
-const CHAINS: usize = 4096;
+const CHAINS: usize = 1024;
 
 // A number that equal positions share: who holds each square, and who is to move.
 pub(crate) fn stamp(position: &Position) -> u64
@@ -86,8 +86,8 @@ fn color_mark(color: Color) -> u64
 
 // Which chain a position with that stamp stands in.
 fn chain_of(stamp: u64) -> usize
-    ensures value { result ≡ stamp % 4096 }
-    ensures bound { result < 4096 }
+    ensures value { result ≡ stamp % chains }
+    ensures bound { result < chains }
 {
     stamp as usize % CHAINS
 }
@@ -140,7 +140,7 @@ impl Seen {
 
     // How many positions stand up to the last of the chain, or 0.
     fn latest(&self, chain: usize) -> usize
-        requires { chain < 4096 }
+        requires { chain < chains }
         ensures { (q : Placed) → chain_of q ≡ chain → Leads self.now (length self.now) q result }
     {
         self.heads[chain] as usize
