@@ -14,6 +14,9 @@ use std::marker::Model;
 // How many chains there are.
 const CHAINS: usize = 1024;
 
+// How many positions there is room for from the start: most games have fewer moves.
+const FIRST_ROOM: usize = 256;
+
 // A number that equal positions share: who holds each square, and who is to move.
 pub(crate) fn stamp(position: &Position) -> u64
     ensures { result ≡ stamp_of position.now }
@@ -126,8 +129,8 @@ impl Seen {
         ensures { IfOk result (λ s. s ≡ []) }
     {
         Ok(Seen {
-            positions: Vec::new(alloc),
-            links: Vec::new(alloc),
+            positions: Vec::with_capacity(alloc, FIRST_ROOM)?,
+            links: Vec::with_capacity(alloc, FIRST_ROOM)?,
             heads: vec![in alloc; 0u16; CHAINS]?,
         })
     }
