@@ -1,4 +1,3 @@
-use Rattle.shogi_board.specs.Packing.{count_number}
 use Rattle.shogi_board.proofs.Packing.{bag-low, bag-long, counts-back, hand-of-counts}
 use Rattle.shogi_board.proofs.packed.hand_number.Goals as goal
 

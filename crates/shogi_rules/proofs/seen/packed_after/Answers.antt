@@ -1,5 +1,3 @@
-use Rattle.std.proofs.Common.{◌≡◌, ap, ◌∙◌}
-use Rattle.shogi_board.specs.Placed.{Placed}
 use Rattle.shogi_rules.proofs.Followed.{left-apart, board-followed}
 use Rattle.shogi_rules.proofs.seen.packed_after.Goals as goal
 

@@ -1,6 +1,4 @@
-use Rattle.std.proofs.Common.{◌≡◌, ◌/◌, ◌%◌, ◌∙◌, sym, ap, refl, arith, List, Option, length, length-set, set}
-use Rattle.shogi_board.specs.declared.kind.Piece.{Piece}
-use Rattle.shogi_board.specs.Packing.{board_of}
+use Rattle.std.proofs.Common.{◌∙◌, sym, arith, length-set}
 use Rattle.shogi_board.proofs.Packing.{cells-more, cells-all}
 use Rattle.shogi_board.proofs.packed.Packed.cells.Goals as goal
 

@@ -1,5 +1,4 @@
-use Rattle.std.proofs.Common.{◌≡◌, sym, ap, ◌∙◌, None}
-use Rattle.shogi_board.specs.declared.kind.Piece.{Piece}
+use Rattle.std.proofs.Common.{◌≡◌, sym, ap, ◌∙◌}
 use Rattle.shogi_board.specs.Cells.{Cells, at}
 use Rattle.shogi_board.specs.Packing.{board_of}
 use Rattle.shogi_board.specs.Placed.{Placed}

@@ -1,5 +1,4 @@
-use Rattle.std.proofs.Common.{◌≡◌, List, ℕ, Bool, true, false, nat_eq, sym, ap, ◌∙◌}
-use Rattle.std.specs.Cmp.Lexicographic.{pointwise}
+use Rattle.std.proofs.Common.{sym, ◌∙◌}
 use Rattle.shogi_board.proofs.Packing.{packed-same, differ-not}
 use Rattle.shogi_board.proofs.packed.Packed.is_same.Goals as goal
 

@@ -1,4 +1,4 @@
-use Rattle.std.proofs.Common.{◌≡◌, ◌∙◌, arith, get_or, length, sym}
+use Rattle.std.proofs.Common.{◌≡◌, ◌∙◌, arith, length, sym}
 use Rattle.std.proofs.lemmas.Grind.{common_steps}
 use Rattle.shogi_rules.proofs.Games.{positions-long, last-stands}
 use Rattle.shogi_rules.proofs.line.Line.packed_next.Goals as goal

@@ -1,4 +1,4 @@
-use Rattle.std.proofs.Common.{◌-◌, ◌<◌, arith, refl, sym, ◌∙◌, length}
+use Rattle.std.proofs.Common.{◌-◌, ◌<◌, arith, refl, sym, length}
 use Rattle.std.proofs.lemmas.Option.{slice_get_read}
 use Rattle.shogi_board.proofs.Same.{position-same}
 use Rattle.shogi_rules.specs.Stamps.{Leads}
