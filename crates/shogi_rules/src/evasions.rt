@@ -11,7 +11,7 @@ ghost use Rattle.shogi_rules.specs.declared.moves.Move.{Move};
 use crate::board_rules::own_kind_at;
 use crate::moves::Move;
 use crate::playing::keeps;
-use crate::search::{hand_kind, square_at};
+use crate::search::hand_kind;
 use shogi_board::{Position, Square, attacker};
 
 // Whether the side to move is in check and no move of it keeps the rules 3 to 10.
@@ -45,7 +45,7 @@ fn king_escapes(position: &Position, king: Square) -> bool
     ensures { IsTrue result ↔ ((to : Square) × (kind : Kind) × Keeps position.now (Move.Walk king to kind)) }
 {
     for n in 0..81usize {
-        if keeps_walk(position, king, king, square_at(n)) {
+        if keeps_walk(position, king, king, Square::at_place(n)) {
             return true;
         }
     }
@@ -58,7 +58,7 @@ fn can_stop_check(position: &Position, king: Square, checker: Square) -> bool
     ensures { IsTrue result ↔ ((m : Move) × StopsCheck checker king (target m) × Keeps position.now m) }
 {
     for n in 0..81usize {
-        if can_stop_on(position, king, checker, square_at(n)) {
+        if can_stop_on(position, king, checker, Square::at_place(n)) {
             return true;
         }
     }
@@ -91,7 +91,7 @@ fn has_kept_walk_to(position: &Position, king: Square, to: Square) -> bool
     ensures { IsTrue result ↔ ((from : Square) × (kind : Kind) × Keeps position.now (Move.Walk from to kind)) }
 {
     for n in 0..81usize {
-        if keeps_walk(position, king, square_at(n), to) {
+        if keeps_walk(position, king, Square::at_place(n), to) {
             return true;
         }
     }

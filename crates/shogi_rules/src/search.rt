@@ -14,14 +14,6 @@ use crate::moves::Move;
 use crate::playing::after_if_kept;
 use shogi_board::{Kind, Position, Square, reaches};
 
-// The square at a place in the order 11, 12, .. 19, 21, .. 99.
-pub(crate) fn square_at(n: usize) -> Square
-    requires { n < 81 }
-    ensures { place result ≡ n }
-{
-    Square::new((n / 9) as u8 + 1, (n % 9) as u8 + 1).unwrap()
-}
-
 // The kinds that a hand holds, in order.
 pub(crate) fn hand_kind(n: usize) -> Kind
     requires { n < 7 }
@@ -107,7 +99,7 @@ fn first_walk_from(position: &Position, from: Square) -> Option<Move>
         return None;
     }
     for n in 0..81usize {
-        if let Some(mv) = first_form(position, from, square_at(n)) {
+        if let Some(mv) = first_form(position, from, Square::at_place(n)) {
             return Some(mv);
         }
     }
@@ -118,7 +110,7 @@ fn first_walk(position: &Position) -> Option<Move>
     ensures { MatchOption result (NoneOf position.now IsWalk) (λ m. IsFirstOf position.now IsWalk m) }
 {
     for n in 0..81usize {
-        if let Some(mv) = first_walk_from(position, square_at(n)) {
+        if let Some(mv) = first_walk_from(position, Square::at_place(n)) {
             return Some(mv);
         }
     }
@@ -132,7 +124,7 @@ fn first_drop_of(position: &Position, kind: Kind) -> Option<Move>
         (λ m. IsFirstOf position.now (IsDropOf kind) m) }
 {
     for n in 0..81usize {
-        let to = square_at(n);
+        let to = Square::at_place(n);
         if let Some(mv) = if_legal(position, Move::Put { to, kind }) {
             return Some(mv);
         }

@@ -9,7 +9,7 @@ use Rattle.shogi_rules.proofs.evasions.can_stop_check.Goals as goal
 pub returns-then-can_stop_on : goal.returns-then-can_stop_on
 returns-then-can_stop_on c =
     let s = c.if-can_stop_on.ensures.0 refl in
-    (λ _. (s.0, stops-by c.args.checker c.args.king c.square_at.result s.0 s.1 s.2, s.3), λ _. refl)
+    (λ _. (s.0, stops-by c.args.checker c.args.king c.at_place.result s.0 s.1 s.2, s.3), λ _. refl)
 
 pub loop-n-preserved : goal.loop-n-preserved
 loop-n-preserved c = λ m below stops kept.
@@ -17,8 +17,8 @@ loop-n-preserved c = λ m below stops kept.
       | inl lt ↦ c.loop-n.invariant m lt stops kept
       | inr ge ↦
           let there : place (target m) ≡ c.loop-n.n = omega arith in
-          let same : target m ≡ c.square_at.result = place-same _ _ (there ∙ sym c.square_at.ensures) in
-          let yes = c.can_stop_on.ensures.1 (m, same, stops-at c.args.checker c.args.king c.square_at.result m same stops, kept) in
+          let same : target m ≡ c.at_place.result = place-same _ _ (there ∙ sym c.at_place.ensures) in
+          let yes = c.can_stop_on.ensures.1 (m, same, stops-at c.args.checker c.args.king c.at_place.result m same stops, kept) in
           let no = c.if-can_stop_on.false in
           cc
     ]

@@ -7,7 +7,7 @@ use Rattle.shogi_rules.proofs.Checks.{KeptWalk}
 use Rattle.shogi_rules.proofs.evasions.has_kept_walk_to.Goals as goal
 
 pub returns-then-keeps_walk : goal.returns-then-keeps_walk
-returns-then-keeps_walk c = let s = c.if-keeps_walk.ensures.0 refl in (λ _. (c.square_at.result, s.0, s.1), λ _. refl)
+returns-then-keeps_walk c = let s = c.if-keeps_walk.ensures.0 refl in (λ _. (c.at_place.result, s.0, s.1), λ _. refl)
 
 pub loop-n-preserved : goal.loop-n-preserved
 loop-n-preserved c = λ from k below kept.
@@ -15,7 +15,7 @@ loop-n-preserved c = λ from k below kept.
       | inl lt ↦ c.loop-n.invariant from k lt kept
       | inr ge ↦
           let there : place from ≡ c.loop-n.n = omega arith in
-          let same : from ≡ c.square_at.result = place-same _ _ (there ∙ sym c.square_at.ensures) in
+          let same : from ≡ c.at_place.result = place-same _ _ (there ∙ sym c.at_place.ensures) in
           let yes = c.keeps_walk.ensures.1 (subst (λ (x : Square). KeptWalk c.args.position.now x c.args.to) same (k, kept)) in
           let no = c.if-keeps_walk.false in
           cc

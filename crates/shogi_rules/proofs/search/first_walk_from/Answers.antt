@@ -10,8 +10,8 @@ use Rattle.shogi_rules.proofs.search.first_walk_from.Goals as goal
 pub returns-in-Some : goal.returns-in-Some
 returns-in-Some c =
     let p = c.args.position.now in
-    let s = c.square_at.result in
-    let below : (t : Square) → place t < place s → NoneOf p (Leads c.args.from t) = λ t lt. c.loop-n.invariant t (subst (λ i. place t < i) c.square_at.ensures lt) in
+    let s = c.at_place.result in
+    let below : (t : Square) → place t < place s → NoneOf p (Leads c.args.from t) = λ t lt. c.loop-n.invariant t (subst (λ i. place t < i) c.at_place.ensures lt) in
     walk-from-first p c.args.from s c.in-Some.mv below c.in-Some.ensures
 
 pub loop-n-preserved : goal.loop-n-preserved
@@ -21,7 +21,7 @@ loop-n-preserved c = λ t below.
       | inr ge ↦
           let p = c.args.position.now in
           let there : place t ≡ c.loop-n.n = omega arith in
-          let same : c.square_at.result ≡ t = place-same _ _ (c.square_at.ensures ∙ sym there) in
+          let same : c.at_place.result ≡ t = place-same _ _ (c.at_place.ensures ∙ sym there) in
           subst (λ (x : Square). NoneOf p (Leads c.args.from x)) same c.in_default.ensures
     ]
 
