@@ -69,7 +69,11 @@ pub(crate) fn held_kind(byte: u8) -> Option<Kind>
         (λ kind. (is_hand_kind kind ≡ true) × (letter kind ≡ byte)) }
 {
     let kind = kind_of_letter(byte)?;
-    if kind.is_hand_kind() { Some(kind) } else { None }
+    if kind.is_hand_kind() {
+        Some(kind)
+    } else {
+        None
+    }
 }
 
 // The unpromoted piece that has this letter: a capital for black, a small one for white.
