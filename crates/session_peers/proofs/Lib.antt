@@ -4,6 +4,8 @@ mod HostLines
 mod HostOnce
 mod HostRows
 mod HostSteps
+mod HostTurn
+mod HostWhole
 pub mod OneStart
 mod SampleOnce
 mod SampleSteps

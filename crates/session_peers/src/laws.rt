@@ -1,13 +1,16 @@
 //! Laws of the definitions that the contracts of this crate cite. They take and give nothing.
 
-ghost use Rattle.std.specs.Prelude.{◌≡◌, ℕ, List};
+ghost use Rattle.std.specs.Prelude.{◌≡◌, ℕ, List, []};
+ghost use Rattle.std.specs.List.{AllByRecursion};
+ghost use Rattle.csa_text.specs.Lines.{Lines};
 ghost use Rattle.session_peers.specs.declared.config.HostConfig.{HostConfig};
-ghost use Rattle.session_peers.specs.Host.{HostRow, HostState, IsHostConfig};
-ghost use Rattle.session_peers.specs.HostLogs.{HostLeads, HostStep, IsTimedGame, Timed, written_moves};
+ghost use Rattle.session_peers.specs.Host.{HostRow, HostState, IsHostConfig, playing};
+ghost use Rattle.session_peers.specs.HostLogs.{HostLeads, HostStep, IsTimedGame, Timed, written, written_moves};
 ghost use Rattle.session_peers.specs.Hosting.{HostSession, RowText as HostText, StepRow as HostStepRow};
 ghost use Rattle.session_peers.specs.Requests.{RowText as SampleText};
 ghost use Rattle.session_peers.specs.Sample.{SampleState, SampleRow};
 ghost use Rattle.session_lines.specs.Texts.{text_of, without_last_spaces};
+ghost use Rattle.shogi_rules.specs.Positions.{Played, now_of};
 
 /// One line leads the sample engine to one answer and one state.
 pub fn sample_row_once()
@@ -44,4 +47,18 @@ pub fn host_step_whole()
 pub fn host_game()
     ensures { (c : HostConfig) (log : List HostStep) (s : HostState) → IsHostConfig c → HostLeads c log s
         → (ms : List Timed) × IsTimedGame c.max_moves (written_moves log) ms }
+{}
+
+/// In every log of a host whose game is on, its client is to move.
+pub fn host_waits_for_its_client()
+    ensures { (c : HostConfig) (log : List HostStep) (g : Played) → HostLeads c log (playing g) → (now_of g).side ≡ c.client }
+{}
+
+/// In every log of a host, the bytes of its lines are cut back into just these lines, none of which has
+/// a space at its end.
+pub fn host_lines_whole()
+    ensures cut { (c : HostConfig) (log : List HostStep) (s : HostState) → IsHostConfig c → HostLeads c log s
+        → Lines (text_of (written log)) (written log) [] }
+    ensures unspaced { (c : HostConfig) (log : List HostStep) (s : HostState) → IsHostConfig c → HostLeads c log s
+        → AllByRecursion (λ line. without_last_spaces line ≡ line) (written log) }
 {}

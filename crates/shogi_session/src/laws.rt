@@ -12,7 +12,8 @@ ghost use Rattle.session_table.specs.Sending.{IsPrefix};
 ghost use Rattle.session_table.specs.State.{State};
 
 pub use session_peers::laws::{
-    host_game, host_row_once, host_step_whole, sample_row_once, sample_step_whole,
+    host_game, host_lines_whole, host_row_once, host_step_whole, host_waits_for_its_client,
+    sample_row_once, sample_step_whole,
 };
 pub use session_table::laws::{
     asked_right, asking_has_a_position, confirmed_once, game_told, log_instanced, moves_instanced,
