@@ -12,6 +12,7 @@ pub mod PositionFits
 pub mod RowOnce
 mod Silent
 mod SentRight
+mod Silent
 mod Testing
 pub mod Tied
 mod WholeLog

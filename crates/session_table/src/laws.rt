@@ -14,7 +14,7 @@ ghost use Rattle.session_table.specs.declared.fault.SessionFault.TheVariants.{Ba
 ghost use Rattle.record_game.specs.declared.fault.Why.TheVariants.{Rule};
 ghost use Rattle.shogi_rules.specs.declared.rule.Rule.TheVariants.{WrongSide};
 ghost use Rattle.shogi_board.specs.declared.square.Square.{Square};
-ghost use Rattle.session_table.specs.Events.{Event, Out, engine_line, no_lines, server, server_line};
+ghost use Rattle.session_table.specs.Events.{Event, Out, engine_end, engine_line, no_lines, server, server_end, server_line};
 ghost use Rattle.session_table.specs.Examples.{pawn_events, pawn_match, pawn_step, ready, thinking};
 ghost use Rattle.session_table.specs.GameTold.{game_of};
 ghost use Rattle.session_table.specs.Hearing.{heard_after};
@@ -39,6 +39,16 @@ pub fn summary_line_once()
 pub fn row_once()
     ensures { (c : Config) (s t u : State) (e : Event) (out other : Out)
         → Row c s e out t → Row c s e other u → (out ≡ other) × (t ≡ u) }
+{}
+
+/// A step that faults gives no line and leaves both states; once the session is over a step gives no
+/// line and changes nothing. Where a side is gone, no line is given.
+pub fn fault_is_silent()
+    ensures lines { (c : Config) (s t : State) (e : Event) (out : Out) → Row c s e out t → is_sound t.status ≡ false → out ≡ no_lines }
+    ensures states { (c : Config) (s t : State) (e : Event) (out : Out) → Row c s e out t → is_sound t.status ≡ false
+        → (t.engine ≡ s.engine) × (t.client ≡ s.client) }
+    ensures over { (c : Config) (s t : State) (e : Event) (out : Out) → Row c s e out t → (s.status ≡ Going → ⊥) → (out ≡ no_lines) × (t ≡ s) }
+    ensures ends { (c : Config) (s t : State) (e : Event) (out : Out) → Row c s e out t → (e ≡ engine_end) ⊎ (e ≡ server_end) → out ≡ no_lines }
 {}
 
 /// A step that is a row, gives the bytes of that row's lines and its status, and keeps what it was
