@@ -3,6 +3,7 @@ mod ConfirmedOnce
 pub mod Counting
 pub mod Courses
 mod EndTold
+mod Ends
 mod Existing
 mod Fitting
 mod Instances
@@ -12,7 +13,6 @@ pub mod PositionFits
 pub mod RowOnce
 mod Silent
 mod SentRight
-mod Silent
 mod Testing
 pub mod Tied
 mod WholeLog

@@ -1,136 +1,129 @@
--- Faults, the ends of both sides, and what happens once the session is over: no line is given.
-use Rattle.std.proofs.Common.{◌≡◌, ◌⊎◌, inl, inr, Bool, true, false, refl, ap, ◌∙◌}
+-- A step that faults gives no line, and a session that is over gives none any more.
+use Rattle.std.proofs.Common.{◌≡◌, ◌⊎◌, inl, inr, ◌++◌, Bool, true, false, List, [], ◌∷◌, refl, sym, ap, subst, ◌∙◌}
+use Rattle.std.specs.List.{AllByRecursion}
 use Rattle.session_table.specs.declared.config.Config.{Config}
+use Rattle.session_table.specs.declared.event.Status.{Status}
 use Rattle.session_table.specs.declared.event.Status.TheVariants.{Going}
 use Rattle.session_table.specs.declared.fault.SessionFault.{SessionFault}
-use Rattle.session_table.specs.Events.{Event, begin, engine_line, server_line, engine_end, server_end, engine_long, server_long, Out, no_lines}
-use Rattle.session_table.specs.Logs.{is_sound}
-use Rattle.session_table.specs.Row.{TableRow, Row, in_table, unnamed, failed}
+use Rattle.session_table.specs.Events.{Event, Out, no_lines}
+use Rattle.session_table.specs.Logs.{Leads, Step, is_sound, new, next}
+use Rattle.session_table.specs.Row.{TableRow, Row, failed, in_table, unnamed}
 use Rattle.session_table.specs.Row as row
 use Rattle.session_table.specs.State.{State}
 
--- 1. A fault
-record Quiet (s : State) (out : Out) (t : State) : Type 0 where
-  lines : out ≡ no_lines
-  engine : t.engine ≡ s.engine
-  client : t.client ≡ s.client
+-- 1. One step
+abbrev pub IsSilent : State → Out → State → Type 0
+IsSilent s out t = (out ≡ no_lines) × (t ≡ record s { status = t.status })
 
-on : (s t : State) (out : Out) → s.status ≡ Going → t.status ≡ s.status → is_sound t.status ≡ false → Quiet s out t
-on s t out going same bad = let good : is_sound t.status ≡ true = ap is_sound (same ∙ going) in absurd cc
+abbrev GoesOr : State → Out → State → Type 0
+GoesOr s out t = (is_sound t.status ≡ true) ⊎ IsSilent s out t
 
-at_fault : (s t : State) (out : Out) (fault : SessionFault) → out ≡ no_lines → t ≡ failed s fault → Quiet s out t
-at_fault s t out fault o e = record { lines = o; engine = ap (λ (x : State). x.engine) e; client = ap (λ (x : State). x.client) e }
+goes : (s u t : State) (out : Out) → t ≡ u → is_sound u.status ≡ true → GoesOr s out t
+goes s u t out e sound = inl (ap (λ (x : State). is_sound x.status) e ∙ sound)
 
-at_end : (s t u : State) (out : Out) → t ≡ u → is_sound u.status ≡ true → is_sound t.status ≡ false → Quiet s out t
-at_end s t u out e good bad = let sound : is_sound t.status ≡ true = ap (λ (x : State). is_sound x.status) e ∙ good in absurd cc
+fails : (s t : State) (out : Out) (fault : SessionFault) → out ≡ no_lines → t ≡ failed s fault → GoesOr s out t
+fails s t out fault o e = inr (o, e ∙ ap (λ (z : Status). record s { status = z }) (sym (ap (λ (x : State). x.status) e)))
 
-faulty : (c : Config) (s : State) (e : Event) (out : Out) (t : State) → s.status ≡ Going → is_sound t.status ≡ false
-    → TableRow c s e out t → Quiet s out t
-faulty c s e out t going bad r =
-    let goes = λ (same : t.status ≡ s.status). on s t out going same bad in
-    let status = λ (x : State). x.status in
-    elim r [
-      | row.begins a b o z ↦ goes (ap status z)
-      | row.greeted l a b d o z ↦ goes (ap status z)
-      | row.readied l a b d o z ↦ goes (ap status z)
-      | row.login_taken l a b d o z ↦ goes (ap status z)
-      | row.login_refused a b o z ↦ at_fault s t out _ o z
-      | row.summary_begins a b o z ↦ goes (ap status z)
-      | row.summary_line ls l h new a b d f g o z ↦ goes (ap status z)
-      | row.summary_ends h offer a b d o z ↦ goes (ap status z)
-      | row.summary_fails h a b d o z ↦ at_fault s t out _ o z
-      | row.started offer l asked now a b d f o z ↦ goes (ap status z)
-      | row.rejected offer l a b d o z ↦ at_fault s t out _ o z
-      | row.engine_moves g l word m a b d f h o z ↦ goes (ap status z)
-      | row.engine_resigns g l a b d f o z ↦ goes (ap status z)
-      | row.engine_wins g l a b d f o z ↦ goes (ap status z)
-      | row.engine_slips g l word a b d f h o z ↦ goes (ap status z)
-      | row.engine_late l word a b d f o z ↦ goes (ap status z)
-      | row.move_refused p l cause a b d f o z ↦ at_fault s t out _ o z
-      | row.move_unsent p l color m a b d f h o z ↦ at_fault s t out _ o z
-      | row.move_confirmed p l color m asked now a b d f h k o z ↦ goes (ap status z)
-      | row.ending_told p l kept a b d f o z ↦ goes (ap status z)
-      | row.reason_told g finish l a b d f o z ↦ goes (ap status z)
-      | row.result_told g finish l result a b d o z ↦ goes (ap status z)
-      | row.closes g finish result a b o z ↦ at_end s t _ out z refl bad
-      | row.engine_gone a b o z ↦ at_fault s t out _ o z
-      | row.server_gone a b d o z ↦ at_fault s t out _ o z
-      | row.line_too_long a o z ↦ at_fault s t out _ o z
-    ]
+row_goes : (c : Config) (s : State) (e : Event) (out : Out) (t : State) → s.status ≡ Going → TableRow c s e out t → GoesOr s out t
+row_goes c s e out t going (row.begins a b o q) = goes s _ t out q (ap is_sound going)
+row_goes c s e out t going (row.greeted line a b d o q) = goes s _ t out q (ap is_sound going)
+row_goes c s e out t going (row.readied line a b d o q) = goes s _ t out q (ap is_sound going)
+row_goes c s e out t going (row.login_taken line a b d o q) = goes s _ t out q (ap is_sound going)
+row_goes c s e out t going (row.login_refused a b o q) = fails s t out _ o q
+row_goes c s e out t going (row.summary_begins a b o q) = goes s _ t out q (ap is_sound going)
+row_goes c s e out t going (row.summary_line lines line h h-after a b d f g o q) = goes s _ t out q (ap is_sound going)
+row_goes c s e out t going (row.summary_ends h offer a b d o q) = goes s _ t out q (ap is_sound going)
+row_goes c s e out t going (row.summary_fails h a b d o q) = fails s t out _ o q
+row_goes c s e out t going (row.started offer line asked now a b d f o q) = goes s _ t out q (ap is_sound going)
+row_goes c s e out t going (row.rejected offer line a b d o q) = fails s t out _ o q
+row_goes c s e out t going (row.engine_moves g line word m a b d f i o q) = goes s _ t out q (ap is_sound going)
+row_goes c s e out t going (row.engine_resigns g line a b d f o q) = goes s _ t out q (ap is_sound going)
+row_goes c s e out t going (row.engine_wins g line a b d f o q) = goes s _ t out q (ap is_sound going)
+row_goes c s e out t going (row.engine_slips g line word a b d f i o q) = goes s _ t out q (ap is_sound going)
+row_goes c s e out t going (row.engine_late line word a b d f o q) = goes s _ t out q (ap is_sound going)
+row_goes c s e out t going (row.move_refused p line cause a b d f o q) = fails s t out _ o q
+row_goes c s e out t going (row.move_unsent p line color m a b d f i o q) = fails s t out _ o q
+row_goes c s e out t going (row.move_confirmed p line color m asked now a b d f i j o q) = goes s _ t out q (ap is_sound going)
+row_goes c s e out t going (row.ending_told p line kept a b d f o q) = goes s _ t out q (ap is_sound going)
+row_goes c s e out t going (row.reason_told g f line a b d i o q) = goes s _ t out q (ap is_sound going)
+row_goes c s e out t going (row.result_told g f line outcome a b d o q) = goes s _ t out q (ap is_sound going)
+row_goes c s e out t going (row.closes g f outcome a b o q) = goes s _ t out q refl
+row_goes c s e out t going (row.engine_gone a b o q) = fails s t out _ o q
+row_goes c s e out t going (row.server_gone a b d o q) = fails s t out _ o q
+row_goes c s e out t going (row.line_too_long a o q) = fails s t out _ o q
 
-quiet : (c : Config) (s : State) (e : Event) (out : Out) (t : State) → Row c s e out t → is_sound t.status ≡ false → Quiet s out t
-quiet c s e out t r bad =
-    elim r [
-      | in_table b ↦ faulty c s e out t b.0 bad b.1
-      | unnamed none o z ↦ record { lines = o; engine = ap (λ (x : State). x.engine) z; client = ap (λ (x : State). x.client) z }
-    ]
+not_sound : (b : Bool) → b ≡ true → b ≡ false → ⊥
+not_sound b e f = cc
 
-pub fault_lines : (c : Config) (s t : State) (e : Event) (out : Out) → Row c s e out t → is_sound t.status ≡ false → out ≡ no_lines
-fault_lines c s t e out r bad = (quiet c s e out t r bad).lines
+of_goes : (s : State) (out : Out) (t : State) → is_sound t.status ≡ false → GoesOr s out t → IsSilent s out t
+of_goes s out t fault (inl sound) = absurd (not_sound (is_sound t.status) sound fault)
+of_goes s out t fault (inr silent) = silent
 
-pub fault_states : (c : Config) (s t : State) (e : Event) (out : Out) → Row c s e out t → is_sound t.status ≡ false
-    → (t.engine ≡ s.engine) × (t.client ≡ s.client)
-fault_states c s t e out r bad = let q = quiet c s e out t r bad in (q.engine, q.client)
+pub fault_silent : (c : Config) (s t : State) (e : Event) (out : Out) → Row c s e out t → is_sound t.status ≡ false → IsSilent s out t
+fault_silent c s t e out (in_table h) fault = of_goes s out t fault (row_goes c s e out t h.0 h.1)
+fault_silent c s t e out (unnamed u o q) fault = (o, q ∙ ap (λ (z : Status). record s { status = z }) (sym (ap (λ (x : State). x.status) q)))
 
--- 2. Once the session is over
 pub over_silent : (c : Config) (s t : State) (e : Event) (out : Out) → Row c s e out t → (s.status ≡ Going → ⊥) → (out ≡ no_lines) × (t ≡ s)
-over_silent c s t e out r over =
-    elim r [
-      | in_table b ↦ absurd (over b.0)
-      | unnamed none o z ↦ (o, z)
+over_silent c s t e out (in_table h) over = absurd (over h.0)
+over_silent c s t e out (unnamed u o q) over = (o, q)
+
+-- 2. A log
+abbrev Steps : Type 0
+Steps = List Step
+
+-- a log with one step more is that step alone behind the front, or what stands behind has that step too
+abbrev Splits : Steps → Steps → Steps → Step → Step → Type 0
+Splits log before behind x y =
+    ((behind ≡ []) × (x ≡ y)) ⊎ ((rest : Steps) × (behind ≡ rest ++ x ∷ []) × (log ≡ before ++ y ∷ rest))
+
+none_behind : (bs after : Steps) (y : Step) → [] ≡ bs ++ y ∷ after → ⊥
+none_behind [] after y e = absurd cc
+none_behind (b ∷ bs) after y e = absurd cc
+
+splits : (log before behind : Steps) (x y : Step) → log ++ x ∷ [] ≡ before ++ y ∷ behind → Splits log before behind x y
+splits [] [] behind x y e = let same : x ≡ y = cc in let none : behind ≡ [] = cc in inl (none, same)
+splits [] (b ∷ bs) behind x y e = let none : [] ≡ bs ++ y ∷ behind = cc in absurd (none_behind bs behind y none)
+splits (z ∷ zs) [] behind x y e =
+    let first : z ≡ y = cc in
+    let rest : zs ++ x ∷ [] ≡ behind = cc in
+    inr (zs, sym rest, ap (λ w. w ∷ zs) first)
+splits (z ∷ zs) (b ∷ bs) behind x y e =
+    let first : z ≡ b = cc in
+    let rest : zs ++ x ∷ [] ≡ bs ++ y ∷ behind = cc in
+    elim (splits zs bs behind x y rest) [
+      | inl h ↦ inl h
+      | inr h ↦ inr (h.0, h.1, ap (λ w. w ∷ zs) first ∙ ap (λ ws. b ∷ ws) h.2)
     ]
 
--- 3. The end of a side
-abbrev is_end : Event → Bool
-is_end begin = false
-is_end (engine_line line) = false
-is_end (server_line line) = false
-is_end engine_end = true
-is_end server_end = true
-is_end engine_long = false
-is_end server_long = false
+abbrev pub AreSilent : Status → Steps → Type 0
+AreSilent status steps = AllByRecursion (λ later. (later.out ≡ no_lines) × (later.status ≡ status)) steps
 
-other : (e u : Event) (out : Out) → is_end e ≡ true → e ≡ u → is_end u ≡ false → out ≡ no_lines
-other e u out end same none = let no : is_end e ≡ false = ap is_end same ∙ none in absurd cc
+silent_more : (status : Status) (steps : Steps) (x : Step) → AreSilent status steps → (x.out ≡ no_lines) × (x.status ≡ status) → AreSilent status (steps ++ x ∷ [])
+silent_more status [] x all one = (one, tt)
+silent_more status (y ∷ ys) x all one = (all.0, silent_more status ys x all.1 one)
 
-at_ends : (c : Config) (s : State) (e : Event) (out : Out) (t : State) → is_end e ≡ true → TableRow c s e out t → out ≡ no_lines
-at_ends c s e out t end r =
-    elim r [
-      | row.begins a b o z ↦ other e _ out end b refl
-      | row.greeted l a b d o z ↦ other e _ out end b refl
-      | row.readied l a b d o z ↦ other e _ out end b refl
-      | row.login_taken l a b d o z ↦ o
-      | row.login_refused a b o z ↦ o
-      | row.summary_begins a b o z ↦ o
-      | row.summary_line ls l h new a b d f g o z ↦ o
-      | row.summary_ends h offer a b d o z ↦ other e _ out end b refl
-      | row.summary_fails h a b d o z ↦ o
-      | row.started offer l asked now a b d f o z ↦ other e _ out end b refl
-      | row.rejected offer l a b d o z ↦ o
-      | row.engine_moves g l word m a b d f h o z ↦ other e _ out end d refl
-      | row.engine_resigns g l a b d f o z ↦ other e _ out end d refl
-      | row.engine_wins g l a b d f o z ↦ other e _ out end d refl
-      | row.engine_slips g l word a b d f h o z ↦ other e _ out end d refl
-      | row.engine_late l word a b d f o z ↦ o
-      | row.move_refused p l cause a b d f o z ↦ o
-      | row.move_unsent p l color m a b d f h o z ↦ o
-      | row.move_confirmed p l color m asked now a b d f h k o z ↦ other e _ out end b refl
-      | row.ending_told p l kept a b d f o z ↦ o
-      | row.reason_told g finish l a b d f o z ↦ o
-      | row.result_told g finish l result a b d o z ↦ other e _ out end b refl
-      | row.closes g finish result a b o z ↦ o
-      | row.engine_gone a b o z ↦ o
-      | row.server_gone a b d o z ↦ o
-      | row.line_too_long a o z ↦ o
+abbrev Stays : Status → Steps → State → Type 0
+Stays status behind t = AreSilent status behind × (t.status ≡ status)
+
+first_over : (y : Step) (u : State) (behind : Steps) → behind ≡ [] → u.status ≡ y.status → Stays y.status behind u
+first_over y u behind none same = (subst (AreSilent y.status) (sym none) tt, same)
+
+later_over : (y x : Step) (u : State) (behind rest : Steps) → behind ≡ rest ++ x ∷ [] → AreSilent y.status (rest ++ x ∷ []) → u.status ≡ y.status
+    → Stays y.status behind u
+later_over y x u behind rest e all same = (subst (AreSilent y.status) (sym e) all, same)
+
+ever : (c : Config) (log : Steps) (t : State) → Leads c log t → (before behind : Steps) (y : Step) → log ≡ before ++ y ∷ behind → (y.status ≡ Going → ⊥)
+    → Stays y.status behind t
+ever c log t new before behind y e over = absurd (none_behind before behind y e)
+ever c log t (next front s event out u leads step) before behind y e over =
+    elim (splits front before behind (record { event = event; out = out; status = u.status }) y e) [
+      | inl h ↦ first_over y u behind h.0 (ap (λ (w : Step). w.status) h.1)
+      | inr h ↦ (
+          let kept = ever c front s leads before h.0 y h.2 over in
+          let still = over_silent c s u event out step (λ going. over (sym kept.1 ∙ going)) in
+          let status = ap (λ (w : State). w.status) still.1 ∙ kept.1 in
+          later_over y (record { event = event; out = out; status = u.status }) u behind h.0 h.1 (silent_more y.status h.0 _ kept.0 (still.0, status)) status)
     ]
 
-ends_told : (e : Event) → (e ≡ engine_end) ⊎ (e ≡ server_end) → is_end e ≡ true
-ends_told e (inl h) = ap is_end h
-ends_told e (inr h) = ap is_end h
-
-pub end_lines : (c : Config) (s t : State) (e : Event) (out : Out) → Row c s e out t → (e ≡ engine_end) ⊎ (e ≡ server_end) → out ≡ no_lines
-end_lines c s t e out r h =
-    elim r [
-      | in_table b ↦ at_ends c s e out t (ends_told e h) b.1
-      | unnamed none o z ↦ o
-    ]
+pub silent_ever : (c : Config) (before behind : Steps) (y : Step) (t : State) → Leads c (before ++ y ∷ behind) t → (y.status ≡ Going → ⊥) → AreSilent y.status behind
+silent_ever c before behind y t leads over = (ever c (before ++ y ∷ behind) t leads before behind y refl over).0

@@ -41,14 +41,9 @@ pub fn row_once()
         → Row c s e out t → Row c s e other u → (out ≡ other) × (t ≡ u) }
 {}
 
-/// A step that faults gives no line and leaves both states; once the session is over a step gives no
-/// line and changes nothing. Where a side is gone, no line is given.
-pub fn fault_is_silent()
-    ensures lines { (c : Config) (s t : State) (e : Event) (out : Out) → Row c s e out t → is_sound t.status ≡ false → out ≡ no_lines }
-    ensures states { (c : Config) (s t : State) (e : Event) (out : Out) → Row c s e out t → is_sound t.status ≡ false
-        → (t.engine ≡ s.engine) × (t.client ≡ s.client) }
-    ensures over { (c : Config) (s t : State) (e : Event) (out : Out) → Row c s e out t → (s.status ≡ Going → ⊥) → (out ≡ no_lines) × (t ≡ s) }
-    ensures ends { (c : Config) (s t : State) (e : Event) (out : Out) → Row c s e out t → (e ≡ engine_end) ⊎ (e ≡ server_end) → out ≡ no_lines }
+/// The end of a side is answered with no line.
+pub fn ends_are_silent()
+    ensures { (c : Config) (s t : State) (e : Event) (out : Out) → Row c s e out t → (e ≡ engine_end) ⊎ (e ≡ server_end) → out ≡ no_lines }
 {}
 
 /// A step that is a row, gives the bytes of that row's lines and its status, and keeps what it was

@@ -16,9 +16,9 @@ pub use session_peers::laws::{
     sample_row_once, sample_step_whole,
 };
 pub use session_table::laws::{
-    asked_right, asking_has_a_position, confirmed_once, fault_is_silent, game_told, log_instanced,
-    moves_instanced, row_once, sent_legal, sent_once, step_whole, summary_line_once,
-    thinking_may_ask,
+    asked_right, asking_has_a_position, confirmed_once, ends_are_silent, game_told, log_instanced,
+    moves_instanced, row_once, sent_legal, sent_once, silent_when_over, step_whole,
+    summary_line_once, thinking_may_ask,
 };
 
 /// Where the lines that a bridge heard from its server, less the spaces at their end, are the first

@@ -1,0 +1,5 @@
+use Rattle.session_table.proofs.Ends.{end_lines}
+use Rattle.session_table.proofs.laws.ends_are_silent.Goals as goal
+
+pub returns : goal.returns
+returns c = end_lines
