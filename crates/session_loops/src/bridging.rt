@@ -132,8 +132,8 @@ impl<ER: Read + Drop, EW: Write + Drop, SR: Read + Drop, SW: Write + Drop> Ends
 /// Hands the bridge each line of the side that it waits for, and sends the lines that it answers before the next one is
 /// read, those to the engine first, until its session is over. A side whose read or write fails is gone.
 ///
-/// `Fault::Session` where the session fails, `Fault::OutOfMemory` where memory was refused, and `Fault::Read` where the session goes on for
-/// 2^64 - 1 rounds.
+/// `Fault::Session` where the session fails, `Fault::OutOfMemory` where memory was refused, and `Fault::Read` where the
+/// session goes on for 2^64 - 1 rounds.
 pub fn play<R: Eprint + AllocGlobal, E: Ends>(
     rt: &R,
     bridge: &mut Bridge,
