@@ -4,7 +4,7 @@ ghost use Rattle.std.specs.Prelude.{◌≡◌, ◌≢◌, ◌⊎◌, ◌≤◌, 
 ghost use Rattle.session_loops.specs.Faults.{IsReadFault, IsTalkFault};
 ghost use Rattle.shogi_commands.specs.Faults.{IsServeFault};
 ghost use Rattle.shogi_session.specs.Host.{waiting};
-ghost use Rattle.shogi_rules.specs.Positions.{max_moves};
+ghost use Rattle.shogi_rules.specs.Positions as positions;
 
 use arrayvec::ArrayString;
 use session_loops::wire::Exchange;
@@ -27,7 +27,7 @@ pub fn run<R: Net<Listener = TcpListener, Stream = TcpStream> + Print + AllocGlo
     client: Color,
     max_moves: u32,
 ) -> Result<(), Fault>
-    requires { (1 ≤ max_moves) × (max_moves ≤ max_moves) }
+    requires { (1 ≤ max_moves) × (max_moves ≤ positions.max_moves) }
     ensures faults { IfErr result IsServeFault }
 {
     let stream = accept(rt, port)?;
@@ -76,7 +76,7 @@ fn accept<R: Net<Listener = TcpListener, Stream = TcpStream> + Print + AllocGlob
 
 // A host to which nothing has come.
 fn host_of(alloc: Global, client: Color, max_moves: u32) -> Result<Host, Fault>
-    requires { (1 ≤ max_moves) × (max_moves ≤ max_moves) }
+    requires { (1 ≤ max_moves) × (max_moves ≤ positions.max_moves) }
     ensures names { IfOk result (λ host. (host.config.id.bytes ≡ codes "local") × (host.config.name.bytes ≡ codes "host")) }
     ensures client { IfOk result (λ host. host.config.client ≡ client) }
     ensures moves { IfOk result (λ host. host.config.max_moves ≡ max_moves) }
