@@ -169,6 +169,19 @@ fn play_with<R: Files + Eprint + AllocGlobal, T: Read + Drop, W: Write + Drop>(
     let mut progress = Progress::new(plan.is_shown);
     let played = play(rt, &mut bridge, &mut sides, &mut progress);
     *is_over = played.is_ok();
+    write_game(rt, plan.out, &bridge, played)
+}
+
+// Writes the record of the bridge's game, if it has one, whether it was played well or not: how many moves the game has.
+fn write_game<R: Files + AllocGlobal>(
+    rt: &R,
+    out: &str,
+    bridge: &Bridge,
+    played: Result<(), Fault>,
+) -> Result<usize, Fault>
+    requires { IfErr played IsPlayFault }
+    ensures faults { IfErr result IsPlayFault }
+{
     let text = bridge.game_text()?;
     let Some(text) = text else {
         return match played {
@@ -176,7 +189,7 @@ fn play_with<R: Files + Eprint + AllocGlobal, T: Read + Drop, W: Write + Drop>(
             Err(fault) => Err(fault),
         };
     };
-    out_file::replace(rt, plan.out, text.as_slice())?;
+    out_file::replace(rt, out, text.as_slice())?;
     played?;
     moves_in(rt.alloc(), text.as_slice())
 }
