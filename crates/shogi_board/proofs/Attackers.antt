@@ -1,10 +1,12 @@
 -- Who attacks a square is seen from it: in one of eight directions, or a knight's jump away.
-use Rattle.std.proofs.Common.{◌≡◌, ℕ, ◌+◌, ◌-◌, ◌*◌, ◌<◌, ◌≤◌, ◌⊎◌, inl, inr, List, [], ◌∷◌, ◌++◌, Any, get_or, length, None, Some, Option, Bool, true, is_some, ◌↔◌, IsTrue, arith, ap, subst, ◌∙◌}
+use Rattle.std.proofs.Common.{◌≡◌, ℕ, ◌+◌, ◌-◌, ◌*◌, ◌<◌, ◌≤◌, ◌⊎◌, inl, inr, List, [], ◌∷◌, ◌++◌, Any, get_or, length, None, Some, Option, Bool, true, false, is_some, sym, ◌↔◌, IsTrue, arith, ap, subst, ◌∙◌}
 use Rattle.std.specs.Prelude.{MatchOption}
 use Rattle.std.proofs.lemmas.Bool.{cases_lt}
 use Rattle.std.proofs.lemmas.List.{get_or_default}
-use Rattle.shogi_board.specs.Attackers.{IsAttackedByJump, IsAttackedInLine}
+use Rattle.shogi_board.specs.Attackers.{AttackInSight, IsAttackedByJump, IsAttackedInLine}
+use Rattle.shogi_board.specs.Between.{IsDirection, IsNowhere}
 use Rattle.shogi_board.specs.Cells.{Cells, at}
+use Rattle.shogi_board.specs.Danger.{SeenTowards}
 use Rattle.shogi_board.specs.Moves.{IsNear, IsRay, diagonals, orthogonals, rays, steps, turned_for}
 use Rattle.shogi_board.specs.Pieces.{opponent}
 use Rattle.shogi_board.specs.Reach.{Attack, Attacked, InSight, IsClear}
@@ -64,6 +66,31 @@ sight-back cells a s color d near sight = record {
       let whole : IsAway a (turned_for (opponent color) d) ((sight.distance - k) + k) s = subst (λ n. IsAway a (turned_for (opponent color) d) n s) parts sight.away in
       sight.clear (sight.distance - k) t (omega arith) (omega arith) (between a s t color d (sight.distance - k) k near whole there);
 }
+
+ahead-part : (x y z m k f g : ℕ) → f + g ≡ 4 → y + (m + k) * 2 ≡ x + (m + k) * f → z + k * 2 ≡ x + k * f → z + m * 2 ≡ y + m * g
+ahead-part x y z m k f g s h j = let e : m * (f + g) ≡ m * 4 = ap (λ i. m * i) s in omega (arith, e)
+
+-- from the square that is seen, a square on the way lies in the direction of who sees it
+ahead : (a s t : Square) (color : Color) (d : Direction) (m k : ℕ) → IsNear d → IsAway a (turned_for (opponent color) d) (m + k) s → IsAway a (turned_for (opponent color) d) k t
+    → IsAway s (turned_for color d) m t
+ahead a s t color d m k near away on =
+    let ways = both-ways color d near in (
+      ahead-part a.file s.file t.file m k (turned_for (opponent color) d).files (turned_for color d).files ways.0 away.0 on.0,
+      ahead-part a.rank s.rank t.rank m k (turned_for (opponent color) d).ranks (turned_for color d).ranks ways.1 away.1 on.1,
+    )
+
+pub seen-towards : (cells : Cells) (a s t : Square) (color : Color) (d : Direction) (k : ℕ) → IsNear d → IsRay (turned_for color d) → (sight : InSight cells a (turned_for (opponent color) d) s)
+    → k < sight.distance → IsAway a (turned_for (opponent color) d) k t → SeenTowards cells s t a
+seen-towards cells a s t color d k near ray sight less on =
+    let parts : sight.distance ≡ (sight.distance - k) + k = omega (arith, less) in
+    record {
+      direction = turned_for color d;
+      ray = ray;
+      sight = sight-back cells a s color d near sight;
+      distance = sight.distance - k;
+      some = omega (arith, less);
+      lies = ahead a s t color d (sight.distance - k) k near (subst (λ n. IsAway a (turned_for (opponent color) d) n s) parts sight.away) on;
+    }
 
 -- 2. The directions of a piece
 in-front : (P : Direction → Type 0) (xs ys : List Direction) → OneOf P xs → OneOf P (xs ++ ys)
@@ -216,3 +243,21 @@ weaker (Some a) P Q R S f g h = g a h
 pub some-attacker : (cells : Cells) (color : Color) (s : Square) (found : Option Square) (b : Bool) → b ≡ is_some found → MatchOption found (Attacked cells color s → ⊥) (λ a. Attack cells color a s) → IsTrue b ↔ Attacked cells color s
 some-attacker cells color s None b e h = (λ t. cc, λ x. absurd (h x))
 some-attacker cells color s (Some a) b e h = (λ t. (a, h), λ x. e)
+
+-- where attackers are in sight towards another square, the one in that direction is sought
+pub some-towards : (cells : Cells) (color : Color) (s t : Square) (d : Direction) (found : Option Square) (b : Bool) → b ≡ is_some found → ((a : Square) → Attack cells color a s → SeenTowards cells s t a)
+    → IsDirection s t d → MatchOption found (AttackInSight cells color s d → ⊥) (λ a. Attack cells color a s) → IsTrue b ↔ Attacked cells color s
+some-towards cells color s t d found b e from only answer =
+    some-attacker cells color s found b e (weaker found (Attacked cells color s) (AttackInSight cells color s d) (λ a. Attack cells color a s) (λ a. Attack cells color a s)
+    (λ attacked.
+      let seen = from attacked.0 attacked.1 in
+      let same : d ≡ seen.direction = only seen.direction seen.distance seen.ray seen.some seen.lies in
+      (attacked.0, subst (λ e. InSight cells s e attacked.0) (sym same) seen.sight, attacked.1))
+    (λ a h. h)
+    answer)
+
+pub none-towards : (cells : Cells) (color : Color) (s t : Square) → ((a : Square) → Attack cells color a s → SeenTowards cells s t a) → IsNowhere s t → IsTrue false ↔ Attacked cells color s
+none-towards cells color s t from nowhere = (
+  λ no. cc,
+  λ attacked. let seen = from attacked.0 attacked.1 in absurd (nowhere seen.direction seen.distance seen.ray seen.some seen.lies),
+)

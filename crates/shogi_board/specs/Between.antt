@@ -20,6 +20,10 @@ pub record Between (a b c : Square) : Type 0 where
 abbrev pub IsDirection : Square → Square → Direction → Type 0
 IsDirection a b d = (e : Direction) (n : ℕ) → IsRay e → 1 ≤ n → IsAway a e n b → d ≡ e
 
+-- b lies in no direction from a
+abbrev pub IsNowhere : Square → Square → Type 0
+IsNowhere a b = (e : Direction) (n : ℕ) → IsRay e → 1 ≤ n → IsAway a e n b → ⊥
+
 -- if b lies on a rank, file or diagonal of a, then that far away
 abbrev pub IsDistance : Square → Square → ℕ → Type 0
 IsDistance a b distance = (e : Direction) (n : ℕ) → IsRay e → IsAway a e n b → distance ≡ n

@@ -1,6 +1,7 @@
 pub mod Attackers
 pub mod Between
 pub mod Cells
+pub mod Danger
 pub mod Kings
 pub mod Layout
 pub mod Moves

@@ -1,5 +1,6 @@
 ghost use Rattle.std.specs.Prelude.{◌≡◌, ◌≤◌, ◌<◌, ◌↔◌, IsTrue, MatchOption, count_by, slice_set, length};
 ghost use Rattle.shogi_board.specs.Cells.{at, piece, even_cells, no_cells, HasPawnOnFile};
+ghost use Rattle.shogi_board.specs.Danger.{ComesFrom, SeenTowards};
 ghost use Rattle.shogi_board.specs.Attackers.{AttackAcross, AttackInSight, IsAttackedByJump, IsAttackedInLine};
 ghost use Rattle.shogi_board.specs.Moves.{IsNear, IsRay};
 ghost use Rattle.shogi_board.specs.Reach.{Reach, Attack, Attacked, InCheck, InSight, Slides, Steps};
@@ -7,8 +8,10 @@ ghost use Rattle.shogi_board.specs.Setup.{holds};
 ghost use Rattle.shogi_board.specs.Squares.{place};
 ghost use Rattle.shogi_board.specs.Totals.{is_of, kings_of, is_king_of};
 ghost use Rattle.shogi_board.specs.declared.kind.Kind.TheVariants.{King, Pawn};
+ghost use Rattle.shogi_board.specs.declared.square.Square.{Square};
 
 use crate::color::Color;
+use crate::danger::Danger;
 use crate::direction::Direction;
 use crate::even::even_cells;
 use crate::kind::{Kind, Piece};
@@ -170,6 +173,29 @@ impl Board {
         ensures { IsTrue result ↔ Attacked self.now color square }
     {
         self.attacker(color, square).is_some()
+    }
+
+    // Whether an enemy piece of that colour reaches the square, where it is known where such a piece may be.
+    pub(crate) fn attacked_from(&self, color: Color, square: Square, danger: Danger) -> bool
+        requires { ComesFrom self.now color square danger }
+        ensures { IsTrue result ↔ Attacked self.now color square }
+    {
+        match danger {
+            Danger::Anywhere => self.attacked(color, square),
+            Danger::Towards(other) => self.attacked_towards(color, square, other),
+            Danger::Nowhere => false,
+        }
+    }
+
+    // The same, where such a piece is in sight in the direction in which the other square lies.
+    fn attacked_towards(&self, color: Color, square: Square, other: Square) -> bool
+        requires { (a : Square) → Attack self.now color a square → SeenTowards self.now square other a }
+        ensures { IsTrue result ↔ Attacked self.now color square }
+    {
+        match square.towards(other) {
+            Some(direction) => self.attacker_from(color, square, direction).is_some(),
+            None => false,
+        }
     }
 
     // The square of an enemy piece of that colour that reaches the square: the first one found in line, else across.

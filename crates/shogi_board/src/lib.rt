@@ -3,6 +3,7 @@
 
 mod board;
 mod color;
+mod danger;
 mod direction;
 mod even;
 mod hand;
@@ -15,10 +16,11 @@ mod setup;
 mod square;
 
 pub use color::Color;
+pub use danger::Danger;
 pub use hand::Hand;
 pub use kind::{Kind, Piece};
 pub use memory::OutOfMemory;
 pub use packed::Packed;
-pub use position::{Position, attacked, attacker, reaches};
+pub use position::{Position, attacked, attacked_from, attacker, reaches};
 pub use setup::{Setup, SetupFault};
 pub use square::Square;

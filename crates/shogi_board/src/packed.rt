@@ -54,7 +54,12 @@ impl Packed {
     pub fn of(position: &Position) -> Packed
         ensures { result ≡ position.now }
     {
-        with_files(file_numbers(position.cells()), position)
+        // a clause of `side` says that the position is sound
+        let _side = position.side();
+        let files = file_numbers(position.cells());
+        let black = hand_number(position, Color::Black);
+        let white = hand_number(position, Color::White);
+        with_numbers(files, black, white, position)
     }
 
     /// Whether both are the same position.
@@ -116,22 +121,28 @@ impl Packed {
             put(&mut files, square, last.piece_at(square), None);
         }
         put(&mut files, to, last.piece_at(to), next.piece_at(to));
-        with_files(files, next)
+        // a clause of `side` says that the position is sound
+        let _side = next.side();
+        let black = hand_number_after(self.black, last, next, Color::Black);
+        let white = hand_number_after(self.white, last, next, Color::White);
+        with_numbers(files, black, white, next)
     }
 }
 
-// The position of these files, packed.
-fn with_files(files: [u64; 9], position: &Position) -> Packed
+// The position of these numbers, packed.
+fn with_numbers(files: [u64; 9], black: u64, white: u64, position: &Position) -> Packed
     requires each { AllByRecursion IsFile files }
     requires board { board_of files ≡ position.now.board }
+    requires black { IsHand black × (counts_of 7 black ≡ position.now.black) }
+    requires white { IsHand white × (counts_of 7 white ≡ position.now.white) }
     ensures { result ≡ position.now }
 {
     // a clause of `side` says that the position is sound
     let side = position.side();
     Packed {
         files,
-        black: hand_number(position, Color::Black),
-        white: hand_number(position, Color::White),
+        black,
+        white,
         side,
     }
 }
@@ -255,6 +266,21 @@ fn hand_number(position: &Position, color: Color) -> u64
     ensures counts { counts_of 7 result ≡ bag_of position.now color }
 {
     number_of_counts(position.hand(color).counts())
+}
+
+// The same of the next position, where the number of that side's hand in the last one is known. Most moves leave it as it is.
+fn hand_number_after(number: u64, last: &Position, next: &Position, color: Color) -> u64
+    requires sound { IsSound next.now }
+    requires whole { IsHand number }
+    requires counts { counts_of 7 number ≡ bag_of last.now color }
+    ensures whole { IsHand result }
+    ensures counts { counts_of 7 result ≡ bag_of next.now color }
+{
+    if last.hand(color) == next.hand(color) {
+        number
+    } else {
+        hand_number(next, color)
+    }
 }
 
 fn number_of_counts(counts: [u8; 7]) -> u64

@@ -1,5 +1,6 @@
 ghost use Rattle.std.specs.Prelude.{◌≡◌, ◌↔◌, IsTrue, MatchOption, length};
 ghost use Rattle.shogi_board.specs.Cells.{at, piece, HasPawnOnFile};
+ghost use Rattle.shogi_board.specs.Danger.{ComesFrom};
 ghost use Rattle.shogi_board.specs.Placed.{bag_of, even_start};
 ghost use Rattle.shogi_board.specs.Reach.{Reach, Attack, Attacked};
 ghost use Rattle.shogi_board.specs.Setup.{layout_of};
@@ -8,6 +9,7 @@ ghost use Rattle.shogi_board.specs.declared.kind.Kind.TheVariants.{King};
 
 use crate::board::Board;
 use crate::color::Color;
+use crate::danger::Danger;
 use crate::hand::Hand;
 use crate::kind::Piece;
 use crate::setup::Setup;
@@ -141,4 +143,12 @@ pub fn attacker(position: &Position, color: Color, square: Square) -> Option<Squ
         (λ a. Attack position.now.board color a square) }
 {
     position.board.attacker(color, square)
+}
+
+/// Whether some enemy piece of `color` reaches the square, where it is known where such a piece may be.
+pub fn attacked_from(position: &Position, color: Color, square: Square, danger: Danger) -> bool
+    requires { ComesFrom position.now.board color square danger }
+    ensures { IsTrue result ↔ Attacked position.now.board color square }
+{
+    position.board.attacked_from(color, square, danger)
 }

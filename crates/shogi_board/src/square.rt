@@ -13,7 +13,8 @@ pub struct Square {
 }
 
 impl Square {
-    ghost use Rattle.shogi_board.specs.Between.{Between, IsDirection, IsDistance};
+    ghost use Rattle.shogi_board.specs.Between.{Between, IsDirection, IsDistance, IsNowhere};
+    ghost use Rattle.shogi_board.specs.Moves.{IsRay};
     ghost use Rattle.shogi_board.specs.Squares.{file_of, rank_of, place, IsAway};
 
     /// The square on that file and rank, or None where either lies outside 1 to 9.
@@ -119,6 +120,18 @@ impl Square {
             files: step(self.file, other.file),
             ranks: step(self.rank, other.rank),
         }
+    }
+
+    // The direction in which the other square lies, if it is another one, on the rank, file or diagonal.
+    pub(crate) fn towards(self, other: Square) -> Option<Direction>
+        ensures { MatchOption result (IsNowhere self other) (λ d. IsRay d × IsDirection self other d) }
+    {
+        let direction = self.direction_to(other);
+        let distance = self.distance(other);
+        if distance == 0 || !self.is_away(direction, distance, other) {
+            return None;
+        }
+        Some(direction)
     }
 
     // How many files or ranks lie from the one square to the other, whichever are more.

@@ -1,5 +1,5 @@
 use shogi_board::{
-    Color, Hand, Kind, Packed, Piece, Position, Setup, SetupFault, Square, attacked, attacker,
+    Color, Danger, Hand, Kind, Packed, Piece, Position, Setup, SetupFault, Square, attacked, attacked_from, attacker,
     laws, reaches,
 };
 use std::collections::BTreeMap;
@@ -424,7 +424,7 @@ fn calls_without_questions_change_the_same(rt: HostRuntime) -> Result<(), Fail> 
 fn settles_as_finished(position: &Position, side: Color) -> bool {
     let setup = position.setup();
     let mut made = *position;
-    let settled = setup.settle(side, position.king(side.opponent()), &mut made);
+    let settled = setup.settle(side, position.king(side.opponent()), Danger::Anywhere, &mut made);
     match setup.finish(side) {
         Ok(finished) => settled && made == finished && made.side() == side,
         Err(_) => !settled && made == *position,

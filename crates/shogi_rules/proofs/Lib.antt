@@ -18,4 +18,5 @@ pub mod Standing
 pub mod MovedKings
 pub mod StampAfter
 pub mod Checks
+pub mod Opened
 pub mod Firsts

@@ -47,16 +47,16 @@ decide : (b : Bool) → (b ≡ true) ⊎ (b ≡ false)
 decide true = inl refl
 decide false = inr refl
 
-some-same : (p q : Piece) → Some p ≡ Some q → p ≡ q
+pub some-same : (p q : Piece) → Some p ≡ Some q → p ≡ q
 some-same p q e = cc
 
-kinds-same : (c d : Color) (k l : Kind) → piece c k ≡ piece d l → k ≡ l
+pub kinds-same : (c d : Color) (k l : Kind) → piece c k ≡ piece d l → k ≡ l
 kinds-same c d k l e = ap (λ (p : Piece). p.kind) (some-same (record { color = c; kind = k }) (record { color = d; kind = l }) e)
 
-colors-same : (c d : Color) (k l : Kind) → piece c k ≡ piece d l → c ≡ d
+pub colors-same : (c d : Color) (k l : Kind) → piece c k ≡ piece d l → c ≡ d
 colors-same c d k l e = ap (λ (p : Piece). p.color) (some-same (record { color = c; kind = k }) (record { color = d; kind = l }) e)
 
-not-opponent : (c : Color) → c ≡ opponent c → ⊥
+pub not-opponent : (c : Color) → c ≡ opponent c → ⊥
 not-opponent Black e = cc
 not-opponent White e = cc
 
@@ -65,14 +65,14 @@ at-target : (p : Placed) (m : Move) → IsSound p → at (board_after p m) (targ
 at-target p (Walk from to k) sound = get_or-set_same (set p.board (place from) None) (place to) (piece p.side k) None (longer p.board (place from) (place to) (on-board p to sound))
 at-target p (Put to k) sound = get_or-set_same p.board (place to) (piece p.side k) None (on-board p to sound)
 
-on-target : (p : Placed) (m : Move) (s : Square) → IsSound p → place s ≡ place (target m) → at (board_after p m) s ≡ piece p.side (kind_after m)
+pub on-target : (p : Placed) (m : Move) (s : Square) → IsSound p → place s ≡ place (target m) → at (board_after p m) s ≡ piece p.side (kind_after m)
 on-target p m s sound e = ap (λ (n : ℕ). get_or (board_after p m) n None) e ∙ at-target p m sound
 
-not-none : (a : Option Piece) (x : Piece) → a ≡ None → a ≡ Some x → ⊥
+pub not-none : (a : Option Piece) (x : Piece) → a ≡ None → a ≡ Some x → ⊥
 not-none a x e h = cc
 
 -- what another square holds, it held before
-held-before : (p : Placed) (m : Move) (s : Square) (x : Piece) → IsSound p → place s ≢ place (target m) → at (board_after p m) s ≡ Some x → at p.board s ≡ Some x
+pub held-before : (p : Placed) (m : Move) (s : Square) (x : Piece) → IsSound p → place s ≢ place (target m) → at (board_after p m) s ≡ Some x → at p.board s ≡ Some x
 held-before p (Walk from to k) s x sound other there =
     let lifted = set p.board (place from) None in
     let kept : at (board_after p (Walk from to k)) s ≡ at lifted s = get_or-set_other lifted (place to) (place s) (piece p.side k) None other in
@@ -85,7 +85,7 @@ held-before p (Walk from to k) s x sound other there =
     ]
 held-before p (Put to k) s x sound other there = sym (get_or-set_other p.board (place to) (place s) (piece p.side k) None other) ∙ there
 
-walk-keeps : (p : Placed) (from to : Square) (k : Kind) (s : Square) → place s ≢ place to → place s ≢ place from → at (board_after p (Walk from to k)) s ≡ at p.board s
+pub walk-keeps : (p : Placed) (from to : Square) (k : Kind) (s : Square) → place s ≢ place to → place s ≢ place from → at (board_after p (Walk from to k)) s ≡ at p.board s
 walk-keeps p from to k s other apart =
     get_or-set_other (set p.board (place from) None) (place to) (place s) (piece p.side k) None other
     ∙ get_or-set_other p.board (place from) (place s) None None apart
@@ -182,6 +182,14 @@ kings-played ps last p color m own other king next e made sound none kings moved
     let fits : FitsBoard last m = subst (λ q. FitsBoard q m) (sym e) legal.keeps.fits in
     let after_last : next ≡ after last m = made ∙ ap (λ q. after q m) (sym e) in
     subst (λ q. AreKings q other king) (sym after_last) (kings-after last m own other king sound fits kings moved stays)
+
+-- the king of the side that is to move then
+pub other-played : (ps : List Placed) (last p : Placed) (color : Color) (m : Move) (own other : Option Square) (next : Placed) → last ≡ p → next ≡ after p m → IsSound last → IsFirstBroken (Kept ps p color m) all_rules None → AreKings last own other → IsKingOf next.board next.side other
+other-played ps last p color m own other next e made sound none kings =
+    let legal = legal-of-none ps p color m none in
+    let fits : FitsBoard last m = subst (λ q. FitsBoard q m) (sym e) legal.keeps.fits in
+    let after_last : next ≡ after last m = made ∙ ap (λ q. after q m) (sym e) in
+    subst (λ q. IsKingOf q.board q.side other) (sym after_last) (other-stays last m other sound fits kings.1)
 
 -- as a search for it answers
 pub king-found : (cells : Cells) (color : Color) (king : Option Square) → MatchOption king ((s : Square) → at cells s ≡ piece color King → ⊥) (λ s. at cells s ≡ piece color King) → IsKingOf cells color king

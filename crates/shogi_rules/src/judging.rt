@@ -1,29 +1,29 @@
 ghost use Rattle.std.specs.Prelude.{◌≡◌, ◌↔◌, [], ◌∷◌, None, Some};
-ghost use Rattle.shogi_board.specs.Kings.{IsKingOf};
 ghost use Rattle.shogi_rules.specs.declared.rule.Rule.TheVariants.{RepetitionOver};
 ghost use Rattle.shogi_rules.specs.After.{after};
 ghost use Rattle.shogi_rules.specs.Legal.{Legal};
+ghost use Rattle.shogi_rules.specs.LineKings.{IsOwnKing};
 ghost use Rattle.shogi_rules.specs.Rules.{Kept, KeptAlone, move_rules, all_rules, IsFirstBroken};
 
 use crate::evasions::is_mated;
 use crate::moves::Move;
-use crate::playing::{make_if_kept, own_king};
+use crate::playing::{OwnKing, make_if_kept, own_king};
 use crate::rule::Rule;
 use crate::search::is_pawn_drop;
-use shogi_board::{Color, Position, Square};
+use shogi_board::{Color, Position};
 
 // Makes `next` the position after the move, or says which of the rules 3 to 11 the side to move breaks first by it.
 pub(crate) fn make_by_side(
     position: &Position,
-    king: Option<Square>,
+    own: OwnKing,
     mv: &Move,
     next: &mut Position,
 ) -> Option<Rule>
-    requires { IsKingOf position.now.board position.now.side king }
+    requires { IsOwnKing position.now own }
     ensures broken { IsFirstBroken (KeptAlone position.now mv.now) move_rules result }
     ensures value { result ≡ None → next.new ≡ after position.now mv.now }
 {
-    match make_if_kept(position, king, mv, next) {
+    match make_if_kept(position, own, mv, next) {
         Some(rule) => Some(rule),
         None => {
             if is_pawn_drop(mv) && is_mated(next) {

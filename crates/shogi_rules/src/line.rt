@@ -10,7 +10,7 @@ ghost use Rattle.shogi_rules.specs.declared.line.PlayFault.TheVariants.{OutOfMem
 
 use crate::judging::make_by_side;
 use crate::moves::Move;
-use crate::playing::king_after;
+use crate::playing::{OwnKing, gives_check, in_check, king_after};
 use crate::repetition::{verdict_by_moves, verdict_of_stretch};
 use crate::rule::Rule;
 use crate::seen::{Seen, packed_after, stamp, stamp_after};
@@ -75,10 +75,13 @@ pub struct Line {
     // where the kings of the last position stand: that of the side to move, and the other
     own_king: Option<Square>,
     other_king: Option<Square>,
+    // whether the side to move is in check in the last position
+    in_check: bool,
 }
 
 impl Model for Line {
-    ghost use Rattle.std.specs.Prelude.{◌≡◌};
+    ghost use Rattle.std.specs.Prelude.{◌≡◌, ◌↔◌, IsTrue};
+    ghost use Rattle.shogi_board.specs.Reach.{InCheck};
     ghost use Rattle.shogi_rules.specs.Positions.{Played, IsLine};
     ghost use Rattle.shogi_rules.specs.Repetition.{times};
     ghost use Rattle.shogi_rules.specs.LineKings.{AreKings};
@@ -88,7 +91,7 @@ impl Model for Line {
 
     ghost view = { λ l. record { start = l.start; moves = l.moves.items } };
 
-    ghost invariant = { (λ l. IsLine l.start l.last l.moves.items l.seen × (l.repeats ≡ times l.seen l.last) × AreKings l.last l.own_king l.other_king × (l.stamp ≡ stamp_of l.last)) };
+    ghost invariant = { (λ l. IsLine l.start l.last l.moves.items l.seen × (l.repeats ≡ times l.seen l.last) × AreKings l.last l.own_king l.other_king × (l.stamp ≡ stamp_of l.last) × (IsTrue l.in_check ↔ InCheck l.last.board l.last.side)) };
 }
 
 impl Line {
@@ -111,6 +114,7 @@ impl Line {
             stamp,
             own_king: start.king(side),
             other_king: start.king(side.opponent()),
+            in_check: in_check(&start),
         })
     }
 
@@ -163,7 +167,11 @@ impl Line {
         ensures broken { IsFirstBroken (Kept (all_of self.now) (now_of self.now) (now_of self.now).side mv.now) move_rules result }
         ensures value { result ≡ None → next.new ≡ after (now_of self.now) mv.now }
     {
-        make_by_side(&self.last, self.own_king, mv, next)
+        let own = OwnKing {
+            square: self.own_king,
+            safe: !self.in_check,
+        };
+        make_by_side(&self.last, own, mv, next)
     }
 
     // Makes `next` the position after the move, or says what `play` refuses, memory aside.
@@ -223,6 +231,7 @@ impl Line {
         let packed = self.packed_next(&mv, &next);
         self.moves.push(mv)?;
         let stamp = stamp_after(self.stamp, &self.last, &mv);
+        let in_check = gives_check(&self.last, &next, &mv, self.other_king);
         match self.seen.push(packed, stamp) {
             Ok(repeats) => {
                 self.stamp = stamp;
@@ -230,6 +239,7 @@ impl Line {
                 self.own_king = self.other_king;
                 self.other_king = king;
                 self.last = next;
+                self.in_check = in_check;
                 self.repeats = repeats;
                 Ok(())
             }

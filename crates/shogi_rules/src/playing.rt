@@ -1,16 +1,27 @@
 ghost use Rattle.std.specs.Prelude.{◌≡◌, ◌↔◌, IsTrue, true, MatchOption, MatchResult, [], ◌∷◌, None, Some};
+ghost use Rattle.shogi_board.specs.Cells.{at, piece};
+ghost use Rattle.shogi_board.specs.Danger.{ComesFrom};
 ghost use Rattle.shogi_board.specs.Kings.{IsKingOf};
 ghost use Rattle.shogi_board.specs.Reach.{InCheck};
 ghost use Rattle.shogi_board.specs.Setup.{layout_of};
-ghost use Rattle.shogi_rules.specs.After.{after};
 ghost use Rattle.shogi_board.specs.declared.kind.Kind.TheVariants.{King};
+ghost use Rattle.shogi_board.specs.declared.square.Square.{Square};
+ghost use Rattle.shogi_rules.specs.After.{after, board_after};
+ghost use Rattle.shogi_rules.specs.LineKings.{IsOwnKing};
 ghost use Rattle.shogi_rules.specs.Legal.{FitsBoard, KingSafe, Keeps, kind_after, target};
 ghost use Rattle.shogi_rules.specs.Rules.{KeptAlone, keeping_rules, IsFirstBroken};
 
 use crate::board_rules::broken_on_board;
 use crate::moves::Move;
 use crate::rule::Rule;
-use shogi_board::{Kind, Position, Setup, Square, attacked};
+use shogi_board::{Danger, Kind, Position, Setup, Square, attacked, attacked_from, reaches};
+
+// Where the king of the side to move stands, if it has one, and whether it is known not to be attacked.
+#[derive(Clone, Copy)]
+pub(crate) struct OwnKing {
+    pub square: Option<Square>,
+    pub safe: bool,
+}
 
 // Makes of the position's setup what stands after a walk that fits the board.
 fn walk(setup: &mut Setup, position: &Position, from: Square, to: Square, kind: Kind)
@@ -65,17 +76,37 @@ pub(crate) fn king_after(king: Option<Square>, mv: &Move) -> Option<Square>
     }
 }
 
-// Makes `next` the position after a move that fits the board, where it leaves the mover's king safe, and says whether it does.
-fn make_if_safe(position: &Position, king: Option<Square>, mv: &Move, next: &mut Position) -> bool
+// Where the mover's king may be attacked from after the move. If it was not attacked, then only in the direction of the
+// square that the move leaves, unless it moves itself.
+fn danger_after(position: &Position, own: OwnKing, mv: &Move) -> Danger
     requires fits { FitsBoard position.now mv.now }
-    requires king { IsKingOf position.now.board position.now.side king }
+    requires king { IsOwnKing position.now own }
+    ensures { (s : Square) → at (board_after position.now mv.now) s ≡ piece position.now.side King → ComesFrom (board_after position.now mv.now) position.now.side s result }
+{
+    // a clause of `side` says that the position is sound
+    let _side = position.side();
+    if !own.safe || mv.kind() == Kind::King {
+        return Danger::Anywhere;
+    }
+    match mv.source() {
+        Some(from) => Danger::Towards(from),
+        None => Danger::Nowhere,
+    }
+}
+
+// Makes `next` the position after a move that fits the board, where it leaves the mover's king safe, and says whether it does.
+fn make_if_safe(position: &Position, own: OwnKing, mv: &Move, next: &mut Position) -> bool
+    requires fits { FitsBoard position.now mv.now }
+    requires king { IsOwnKing position.now own }
     ensures safe { IsTrue result ↔ KingSafe position.now mv.now }
     ensures value { result ≡ true → next.new ≡ after position.now mv.now }
 {
     let other = position.side().opponent();
+    let king = king_after(own.square, mv);
+    let danger = danger_after(position, own, mv);
     let mut setup = position.setup();
     make(&mut setup, position, mv);
-    setup.settle(other, king_after(king, mv), next)
+    setup.settle(other, king, danger, next)
 }
 
 /// The position after the move of the side to move.
@@ -91,11 +122,11 @@ pub fn after(position: &Position, mv: &Move) -> Position
 // Makes `next` the position after the move, or says which of the rules 3 to 10 the side to move breaks first by it.
 pub(crate) fn make_if_kept(
     position: &Position,
-    king: Option<Square>,
+    own: OwnKing,
     mv: &Move,
     next: &mut Position,
 ) -> Option<Rule>
-    requires { IsKingOf position.now.board position.now.side king }
+    requires { IsOwnKing position.now own }
     ensures kept { MatchOption result
         (Keeps position.now mv.now)
         (λ rule. (Keeps position.now mv.now → ⊥) × IsFirstBroken (KeptAlone position.now mv.now) keeping_rules (Some rule)) }
@@ -104,7 +135,7 @@ pub(crate) fn make_if_kept(
     match broken_on_board(position, mv) {
         Some(rule) => Some(rule),
         None => {
-            if make_if_safe(position, king, mv, next) {
+            if make_if_safe(position, own, mv, next) {
                 None
             } else {
                 Some(Rule::LeavesKing)
@@ -126,11 +157,14 @@ pub(crate) fn after_if_kept(position: &Position, mv: &Move) -> Result<Position, 
     }
 }
 
-// The square of the king of the side to move, if it has one.
-pub(crate) fn own_king(position: &Position) -> Option<Square>
-    ensures { IsKingOf position.now.board position.now.side result }
+// The king of the side to move, of which it is not known whether it is attacked.
+pub(crate) fn own_king(position: &Position) -> OwnKing
+    ensures { IsOwnKing position.now result }
 {
-    position.king(position.side())
+    OwnKing {
+        square: position.king(position.side()),
+        safe: false,
+    }
 }
 
 // Whether the side to move, whose king stands there, keeps the rules 3 to 10 by the move.
@@ -138,8 +172,12 @@ pub(crate) fn keeps(position: &Position, king: Option<Square>, mv: &Move) -> boo
     requires { IsKingOf position.now.board position.now.side king }
     ensures { IsTrue result ↔ Keeps position.now mv.now }
 {
+    let own = OwnKing {
+        square: king,
+        safe: false,
+    };
     let mut next = *position;
-    make_if_kept(position, king, mv, &mut next).is_none()
+    make_if_kept(position, own, mv, &mut next).is_none()
 }
 
 /// Whether the side to move is in check: it has a king, and an enemy piece reaches it.
@@ -149,6 +187,29 @@ pub fn in_check(position: &Position) -> bool
     let side = position.side();
     match position.king(side) {
         Some(king) => attacked(position, side, king),
+        None => false,
+    }
+}
+
+// Whether the side to move is in check in the position after a move that fits the board of the one before. Its king is
+// attacked by the piece that moved, or in the direction of the square which that left.
+pub(crate) fn gives_check(last: &Position, next: &Position, mv: &Move, king: Option<Square>) -> bool
+    requires fits { FitsBoard last.now mv.now }
+    requires next { next.now ≡ after last.now mv.now }
+    requires king { IsKingOf next.now.board next.now.side king }
+    ensures { IsTrue result ↔ InCheck next.now.board next.now.side }
+{
+    // clauses of `side` say that both positions are sound
+    let _side = last.side();
+    let side = next.side();
+    let Some(king) = king else {
+        return false;
+    };
+    if reaches(next, mv.target(), king) {
+        return true;
+    }
+    match mv.source() {
+        Some(from) => attacked_from(next, side, king, Danger::Towards(from)),
         None => false,
     }
 }

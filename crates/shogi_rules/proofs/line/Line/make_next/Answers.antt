@@ -3,10 +3,11 @@ use Rattle.shogi_board.specs.Placed.{Placed}
 use Rattle.shogi_rules.specs.After.{after}
 use Rattle.shogi_rules.specs.Positions.{now_of}
 use Rattle.shogi_rules.specs.Rules.{Kept, move_rules, IsFirstBroken}
+use Rattle.shogi_rules.proofs.Opened.{safe-king}
 use Rattle.shogi_rules.proofs.line.Line.make_next.Goals as goal
 
 pub make_by_side-requires : goal.make_by_side-requires
-make_by_side-requires c = c.self.invariant.2.0
+make_by_side-requires c = record { stands = c.self.invariant.2.0; unattacked = safe-king c.self.inside.in_check c.self.invariant.4 }
 
 pub returns-clause-broken : goal.returns-clause-broken
 returns-clause-broken c =

@@ -18,4 +18,5 @@ invariant_of-result c = (
     king-found c.args.start.board (opponent c.args.start.side) c.king-2.result (rw (c.opponent.ensures, c.side-side.ensures.value) at c.king-2.ensures),
   ),
   c.stamp-stamp.ensures,
+  c.in_check.ensures,
 )

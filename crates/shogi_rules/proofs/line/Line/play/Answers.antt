@@ -4,7 +4,7 @@ use Rattle.shogi_rules.specs.Positions.{now_of, all_of, position_after, Played}
 use Rattle.shogi_rules.specs.Rules.{Kept, all_rules, IsFirstBroken}
 use Rattle.shogi_rules.specs.Stamps.{stamp_of}
 use Rattle.shogi_rules.proofs.Games.{line-more, line-room, for-memory}
-use Rattle.shogi_rules.proofs.MovedKings.{fits-played, kings-played}
+use Rattle.shogi_rules.proofs.MovedKings.{fits-played, kings-played, other-played}
 use Rattle.shogi_rules.proofs.line.Line.play.Goals as goal
 
 pub invariant_of-self-in-Ok : goal.invariant_of-self-in-Ok
@@ -21,6 +21,7 @@ invariant_of-self-in-Ok c =
       rw c.packed_next-packed.ensures at c.in-Ok.ensures.value,
       kings-played (all_of v) i.last (now_of v) c.args.mover c.args.mv i.own_king i.other_king c.king_after-king.result c.answer.new.next last next c.side-side.ensures.sound none c.self.invariant.2 c.king_after-king.ensures.moved c.king_after-king.ensures.stays,
       c.stamp_after-stamp.ensures ∙ sym (ap stamp_of (next ∙ ap (λ p. after p c.args.mv) (sym last))),
+      c.gives_check-in_check.ensures,
     )
 
 pub stamp_after-stamp-requires-clause-fits : goal.stamp_after-stamp-requires-clause-fits
@@ -30,6 +31,28 @@ stamp_after-stamp-requires-clause-fits c =
     let P : Played → Type 0 = λ s. IsFirstBroken (Kept (all_of s) (now_of s) c.args.mover c.args.mv) all_rules None in
     let none : IsFirstBroken (Kept (all_of v) (now_of v) c.args.mover c.args.mv) all_rules None = subst P (sym c.self.view_is) c.in_ok-answer.ensures.0.1 in
     fits-played (all_of v) i.last (now_of v) c.args.mover c.args.mv c.self.invariant.0.leads none
+
+pub gives_check-in_check-requires-clause-fits : goal.gives_check-in_check-requires-clause-fits
+gives_check-in_check-requires-clause-fits c =
+    let i = c.self.inside in
+    let v : Played = record { start = i.start; moves = i.moves.items } in
+    let P : Played → Type 0 = λ s. IsFirstBroken (Kept (all_of s) (now_of s) c.args.mover c.args.mv) all_rules None in
+    let none : IsFirstBroken (Kept (all_of v) (now_of v) c.args.mover c.args.mv) all_rules None = subst P (sym c.self.view_is) c.in_ok-answer.ensures.0.1 in
+    fits-played (all_of v) i.last (now_of v) c.args.mover c.args.mv c.self.invariant.0.leads none
+
+pub gives_check-in_check-requires-clause-next : goal.gives_check-in_check-requires-clause-next
+gives_check-in_check-requires-clause-next c =
+    c.in_ok-answer.ensures.1 ∙ ap (λ p. after p c.args.mv) (sym (c.self.invariant.0.leads ∙ ap now_of c.self.view_is))
+
+pub gives_check-in_check-requires-clause-king : goal.gives_check-in_check-requires-clause-king
+gives_check-in_check-requires-clause-king c =
+    let i = c.self.inside in
+    let v : Played = record { start = i.start; moves = i.moves.items } in
+    let P : Played → Type 0 = λ s. IsFirstBroken (Kept (all_of s) (now_of s) c.args.mover c.args.mv) all_rules None in
+    let none : IsFirstBroken (Kept (all_of v) (now_of v) c.args.mover c.args.mv) all_rules None = subst P (sym c.self.view_is) c.in_ok-answer.ensures.0.1 in
+    let next : c.answer.new.next ≡ after (position_after i.start i.moves.items) c.args.mv =
+    c.in_ok-answer.ensures.1 ∙ ap (λ p. after p c.args.mv) (sym (ap now_of c.self.view_is)) in
+    other-played (all_of v) i.last (now_of v) c.args.mover c.args.mv i.own_king i.other_king c.answer.new.next c.self.invariant.0.leads next c.side-side.ensures.sound none c.self.invariant.2
 
 pub push-requires-2-clause-stamp : goal.push-requires-2-clause-stamp
 push-requires-2-clause-stamp c =
