@@ -1,6 +1,6 @@
 use shogi_board::{
-    Color, Danger, Hand, Kind, Packed, Piece, Position, Setup, SetupFault, Square, attacked, attacked_from, attacker,
-    laws, reaches,
+    Color, Danger, Hand, Kind, Packed, Piece, Position, Setup, SetupFault, Square, attacked,
+    attacked_from, attacker, laws, reaches,
 };
 use std::collections::BTreeMap;
 use std::test::Fail;
@@ -323,12 +323,23 @@ fn packs_positions(rt: HostRuntime) -> Result<(), Fail> {
     Ok(())
 }
 
+// Whether no enemy of that colour reaches the square, asked again once that is known.
+fn is_free(position: &Position, color: Color, square: Square) -> bool {
+    if attacked(position, color, square) {
+        return !attacked_from(position, color, square, Danger::Anywhere);
+    }
+    !attacked_from(position, color, square, Danger::Nowhere)
+}
+
 // A rook from afar before a knight, the knight where the rook is shut off, and nobody.
 #[test]
 fn names_an_attacker(rt: HostRuntime) -> Result<(), Fail> {
     let checked = position("+59OU,-55HI,-51KY,-47KE")?;
     assert!(rt; attacker(&checked, Color::Black, on(59)?) == Some(on(55)?));
     assert!(rt; attacker(&checked, Color::Black, on(49)?).is_none());
+    assert!(rt;
+        !is_free(&checked, Color::Black, on(59)?) && is_free(&checked, Color::Black, on(49)?)
+    );
     let across = position("+59OU,-55HI,+57FU,-47KE")?;
     assert!(rt; attacker(&across, Color::Black, on(59)?) == Some(on(47)?));
     assert!(rt; on(57)?.lies_between(on(59)?, on(55)?) && !on(55)?.lies_between(on(59)?, on(55)?));
@@ -424,7 +435,12 @@ fn calls_without_questions_change_the_same(rt: HostRuntime) -> Result<(), Fail> 
 fn settles_as_finished(position: &Position, side: Color) -> bool {
     let setup = position.setup();
     let mut made = *position;
-    let settled = setup.settle(side, position.king(side.opponent()), Danger::Anywhere, &mut made);
+    let settled = setup.settle(
+        side,
+        position.king(side.opponent()),
+        Danger::Anywhere,
+        &mut made,
+    );
     match setup.finish(side) {
         Ok(finished) => settled && made == finished && made.side() == side,
         Err(_) => !settled && made == *position,
