@@ -250,9 +250,9 @@ pub some-towards : (cells : Cells) (color : Color) (s t : Square) (d : Direction
 some-towards cells color s t d found b e from only answer =
     some-attacker cells color s found b e (weaker found (Attacked cells color s) (AttackInSight cells color s d) (λ a. Attack cells color a s) (λ a. Attack cells color a s)
     (λ attacked.
-      let seen = from attacked.0 attacked.1 in
-      let same : d ≡ seen.direction = only seen.direction seen.distance seen.ray seen.some seen.lies in
-      (attacked.0, subst (λ e. InSight cells s e attacked.0) (sym same) seen.sight, attacked.1))
+    let seen = from attacked.0 attacked.1 in
+    let same : d ≡ seen.direction = only seen.direction seen.distance seen.ray seen.some seen.lies in
+    (attacked.0, subst (λ e. InSight cells s e attacked.0) (sym same) seen.sight, attacked.1))
     (λ a h. h)
     answer)
 

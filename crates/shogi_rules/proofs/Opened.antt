@@ -1,5 +1,5 @@
 -- A king that was not attacked is attacked after a move by the piece that moved, or across the square which that left.
-use Rattle.std.proofs.Common.{◌≡◌, ◌≢◌, ℕ, zero, suc, ◌+◌, ◌*◌, ◌-◌, ◌<◌, ◌≤◌, ◌↔◌, IsTrue, Bool, true, false, not, Option, Some, None, ◌⊎◌, inl, inr, Any, arith, ap, sym, ◌∙◌, subst, refl, get_or-set_other}
+use Rattle.std.proofs.Common.{◌≡◌, ◌≢◌, ℕ, zero, suc, ◌+◌, ◌*◌, ◌<◌, ◌≤◌, ◌↔◌, IsTrue, Bool, true, false, not, Option, Some, None, ◌⊎◌, inl, inr, Any, arith, ap, sym, ◌∙◌, subst, refl, get_or-set_other}
 use Rattle.std.proofs.lemmas.Bool.{cases_eq, cases_lt}
 use Rattle.shogi_board.specs.Cells.{at, piece}
 use Rattle.shogi_board.specs.Danger.{ComesFrom, SeenTowards}
@@ -23,7 +23,7 @@ use Rattle.shogi_board.proofs.Attackers.{seen-towards}
 use Rattle.shogi_board.proofs.Moves.{near-ray, ray-at}
 use Rattle.shogi_board.proofs.Squares.{place-same}
 use Rattle.shogi_rules.specs.After.{after, board_after}
-use Rattle.shogi_rules.specs.Legal.{FitsBoard, kind_after, source, target}
+use Rattle.shogi_rules.specs.Legal.{kind_after, source, target}
 use Rattle.shogi_rules.specs.declared.moves.Move.{Move}
 use Rattle.shogi_rules.specs.declared.moves.Move.TheVariants.{Walk, Put}
 use Rattle.shogi_rules.proofs.Forms.{opponent-twice}
@@ -75,8 +75,8 @@ empty-before p (Walk from to k) a d n sound some empty =
     ]
 empty-before p (Put to k) a d n sound some empty =
     inr (λ t there.
-      let clear = empty t there in
-      sym (put-keeps p to k t (not-target p (Put to k) t sound clear)) ∙ clear)
+    let clear = empty t there in
+    sym (put-keeps p to k t (not-target p (Put to k) t sound clear)) ∙ clear)
 
 -- clear squares after the move were clear before, or the one that was left is among them
 clear-before : (p : Placed) (m : Move) (a : Square) (d : Direction) (n : ℕ) → IsSound p → IsClear (board_after p m) a d n → LeftOnWay m a d n ⊎ IsClear p.board a d n

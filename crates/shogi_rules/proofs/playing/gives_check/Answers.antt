@@ -1,8 +1,6 @@
-use Rattle.std.proofs.Common.{◌≡◌, IsTrue, ◌↔◌, sym, ◌∙◌, subst}
-use Rattle.shogi_board.specs.Cells.{at, piece}
+use Rattle.std.proofs.Common.{IsTrue, ◌↔◌, sym, ◌∙◌, subst}
 use Rattle.shogi_board.specs.Reach.{Attack, Attacked, Reach}
 use Rattle.shogi_board.specs.declared.color.Color.{Color}
-use Rattle.shogi_board.specs.declared.kind.Kind.TheVariants.{King}
 use Rattle.shogi_board.specs.declared.square.Square.{Square}
 use Rattle.shogi_rules.specs.Legal.{target}
 use Rattle.shogi_rules.proofs.Opened.{check-is, other-free, other-reached, other-towards, unreached}
