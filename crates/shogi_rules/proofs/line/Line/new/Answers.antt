@@ -1,6 +1,5 @@
 use Rattle.std.proofs.Common.{arith, refl}
 use Rattle.shogi_rules.specs.Positions.{begun}
-use Rattle.shogi_board.specs.Pieces.{opponent}
 use Rattle.shogi_rules.proofs.MovedKings.{king-found}
 use Rattle.shogi_rules.proofs.line.Line.new.Goals as goal
 
@@ -14,8 +13,8 @@ invariant_of-result c = (
   },
   rw c.of.ensures at c.in_ok-repeats.ensures.value,
   (
-    king-found c.args.start.board c.args.start.side c.king.result (rw c.side-side.ensures.value at c.king.ensures),
-    king-found c.args.start.board (opponent c.args.start.side) c.king-2.result (rw (c.opponent.ensures, c.side-side.ensures.value) at c.king-2.ensures),
+    king-found _ _ c.king.result (rw c.side-side.ensures.value at c.king.ensures),
+    king-found _ _ c.king-2.result (rw (c.opponent.ensures, c.side-side.ensures.value) at c.king-2.ensures),
   ),
   c.stamp-stamp.ensures,
   c.in_check.ensures,
