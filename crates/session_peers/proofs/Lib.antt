@@ -9,3 +9,4 @@ mod HostWhole
 pub mod OneStart
 mod SampleOnce
 mod SampleSteps
+pub mod WholeLines
