@@ -1,7 +1,9 @@
 -- What stands always: an asking of a game, what an offer has no place for, and a line without its last spaces on one line.
-use Rattle.std.proofs.Common.{◌≡◌, ℕ, ◌≢◌, ◌==◌, inl, inr, Bool, true, false, List, [], ◌∷◌, ◌++◌, length, Option, Some, None, map, refl, subst}
-use Rattle.std.specs.Prelude.{if◌then◌else◌}
-use Rattle.std.specs.List.{AllByRecursion, filter}
+use Rattle.std.proofs.Common.{◌≡◌, ℕ, ◌≢◌, ◌==◌, inl, inr, Bool, true, false, List, [], ◌∷◌, ◌++◌, length, take, codes, Option, Some, None, map, refl, subst}
+use Rattle.std.specs.Prelude.{if◌then◌else◌, nat_eq}
+use Rattle.std.specs.List.{AllByRecursion, filter, list_any, starts_with}
+use Rattle.std.proofs.lemmas.Bool.Decides.{Decides-eqb}
+use Rattle.std.proofs.lemmas.Slice.Eq.{slice_eq-Decides}
 use Rattle.shogi_board.proofs.Decided.{Decision, decide-as, decide-both, decide-not, decide-color}
 use Rattle.shogi_rules.proofs.Decided.{decide-lt, decide-over}
 use Rattle.shogi_rules.specs.Positions.{IsGame, all_of}
@@ -15,7 +17,8 @@ use Rattle.csa_record.specs.Says.{AreEntries, move_items, ending_items, played_i
 use Rattle.session_table.specs.declared.config.Config.{Config}
 use Rattle.session_table.specs.declared.state.EngineState.{EngineState}
 use Rattle.session_table.specs.declared.state.EngineState.TheVariants.{Thinking}
-use Rattle.session_table.specs.Asking.{MayAsk, Asks, asked, not_asked, go_line}
+use Rattle.session_table.specs.Asking.{MayAsk, Asks, AskLines, asked, not_asked, go_line}
+use Rattle.session_table.specs.Sending.{is_position_line}
 use Rattle.session_table.specs.State.{Match, line_of, position_now}
 use Rattle.session_table.specs.Summary.{TellsPosition}
 use Rattle.session_lines.specs.Texts.{before_kept, without_last_spaces}
@@ -43,6 +46,16 @@ asks_by c g old game (inr never) = ([], old, not_asked never refl refl)
 -- a game is asked about, or not
 pub some_ask : (c : Config) (g : Match) (old : EngineState) → IsGame g.game.start (map move_of g.game.moves) → (lines : List (List ℕ)) × (new : EngineState) × Asks c g old lines new
 some_ask c g old game = asks_by c g old game (may_ask g)
+
+begins : (x : List ℕ) → starts_with nat_eq (codes "position " ++ x) (codes "position ") ≡ true
+begins x = (slice_eq-Decides Decides-eqb (codes "position ") (take 9 (codes "position " ++ x)) _ refl).1 refl
+
+-- an asking has a position line
+pub asks_by_position : (c : Config) (g : Match) (lines : List (List ℕ)) → AskLines c g lines → list_any is_position_line lines ≡ true
+asks_by_position c g lines q =
+    let text = q.of_game in
+    let e : q.position ≡ codes "position " ++ (text.0 ++ text.1) = text.2 in
+    rw (q.whole, e, begins (text.0 ++ text.1)) refl
 
 -- 2. offers
 no_headers : (ss : List Saying) → AllByRecursion FitsIn ss → headers ss ≡ []

@@ -1,8 +1,9 @@
 -- A whole log, from New to the engine's first move.
-use Rattle.std.proofs.Common.{◌≡◌, ◌≢◌, ℕ, ◌<◌, ◌+◌, ◌≤◌, inl, inr, false, List, [], ◌∷◌, ◌++◌, Option, Some, None, codes, refl, sym, ap, subst, ◌∙◌, lit≤, get_or}
+use Rattle.std.proofs.Common.{◌≡◌, ◌≢◌, ℕ, ◌<◌, ◌+◌, ◌≤◌, inl, inr, true, false, List, [], ◌∷◌, ◌++◌, Option, Some, None, codes, refl, sym, ap, subst, ◌∙◌, lit≤, get_or}
 use Rattle.std.proofs.lemmas.Bool.{cases_eq, ne_eqb}
 use Rattle.std.proofs.lemmas.List.{append-nil, get_or-set_other, get_or-replicate}
 use Rattle.std.specs.Prelude.{map, slice_set}
+use Rattle.std.specs.List.{list_any}
 use Rattle.std.specs.Option.{option_to_list}
 use Rattle.shogi_board.specs.declared.color.Color.{Color}
 use Rattle.shogi_board.specs.declared.color.Color.TheVariants.{Black, White}
@@ -35,6 +36,8 @@ use Rattle.session_table.specs.Row as row
 use Rattle.session_table.specs.State.{Client, State, first_state, idle, logging_in, before_summary, summary, agreeing, playing, sent, move}
 use Rattle.session_table.specs.Summary.{Heard, PositionBlocks, CountsAs, Block, IsBlock, Offer, TellsOffer, TellsPosition, line, block, none, one, nothing_heard, end_line}
 use Rattle.session_lines.specs.Texts.{text_of}
+use Rattle.session_table.specs.Sending.{is_position_line}
+use Rattle.session_table.proofs.AlwaysAsks.{asks_by_position}
 use Rattle.session_table.proofs.Existing.{some_line}
 use Rattle.session_table.proofs.Instances.{from, to, opening, start_safe, answers as answers_row}
 
@@ -336,3 +339,22 @@ log_for c a b p q r s =
     let first : a ≡ from = same_square a from (ap (λ n. 48 + n) p) (ap (λ n. 96 + n) q) in
     let last : b ≡ to = same_square b to (ap (λ n. 48 + n) r) (ap (λ n. 96 + n) s) in
     subst (λ x. HasLog c x b) (sym first) (subst (λ x. HasLog c from x) (sym last) (has_log c))
+
+-- 4. a step that asks the engine by a position line
+abbrev HasAsked : Config → Type 0
+HasAsked c =
+    (log : List Step) × (s : State) × (t : State) × (e : Event) × (out : Out)
+    × Leads c log s × Row c s e out t × (list_any is_position_line out.to_engine ≡ true)
+
+pub asked_for : (c : Config) → HasAsked c
+asked_for c =
+    let position = some_line pawn_start [] begun in (
+      logged_in c ++ summary_steps,
+      ready (agreeing offered),
+      thinking (playing pawn_match),
+      server_line (codes "START:x"),
+      engine (texts.new_game ∷ asking c position.0),
+      agrees c,
+      starts c position.0 position.1,
+      asks_by_position c pawn_match (asking c position.0) (record { position = position.0; of_game = position.1; whole = refl }),
+    )

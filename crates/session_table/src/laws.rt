@@ -146,9 +146,12 @@ pub fn moves_instanced()
 {}
 
 /// There is a log with an answer: a bridge that is offered that game as black, is asked and hears
-/// `bestmove 7g7f` has sent `+7776FU` and no other answer.
+/// `bestmove 7g7f` has sent `+7776FU` and no other answer. There is a log, and a step behind it that
+/// sends the engine a `position` line.
 pub fn log_instanced()
-    ensures { (c : Config) (from to : Square) → from.file ≡ 7 → from.rank ≡ 7 → to.file ≡ 7 → to.rank ≡ 6
+    ensures answered { (c : Config) (from to : Square) → from.file ≡ 7 → from.rank ≡ 7 → to.file ≡ 7 → to.rank ≡ 6
         → (log : List Step) × (map event_in log ≡ pawn_events) × (answers log ≡ codes "+7776FU" ∷ [])
         × Leads c log (ready (sent pawn_match (move (pawn_step from to).move))) }
+    ensures asked { (c : Config) → (log : List Step) × (s : State) × (t : State) × (e : Event) × (out : Out)
+        × Leads c log s × Row c s e out t × (list_any is_position_line out.to_engine ≡ true) }
 {}

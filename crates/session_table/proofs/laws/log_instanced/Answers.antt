@@ -1,5 +1,8 @@
-use Rattle.session_table.proofs.WholeLog.{log_for}
+use Rattle.session_table.proofs.WholeLog.{asked_for, log_for}
 use Rattle.session_table.proofs.laws.log_instanced.Goals as goal
 
-pub returns : goal.returns
-returns c = log_for
+pub returns-clause-answered : goal.returns-clause-answered
+returns-clause-answered c = log_for
+
+pub returns-clause-asked : goal.returns-clause-asked
+returns-clause-asked c = asked_for
