@@ -1,4 +1,5 @@
 mod BothEnds
+mod BridgeWhole
 mod Walks
 pub mod BlockLines
 pub mod BlockReads

@@ -1,15 +1,21 @@
 //! The laws of the machines: those of the host, of the sample engine and of the table of a bridge, and
 //! that of a bridge with a host. They take and give nothing.
 
-ghost use Rattle.std.specs.Prelude.{ℕ, List, filter};
+ghost use Rattle.std.specs.Prelude.{◌≡◌, ◌++◌, ℕ, List, [], filter};
+ghost use Rattle.std.specs.List.{AllByRecursion};
+ghost use Rattle.csa_text.specs.Lines.{Lines};
 ghost use Rattle.session_table.specs.declared.config.Config.{Config};
 ghost use Rattle.session_peers.specs.declared.config.HostConfig.{HostConfig};
 ghost use Rattle.session_peers.specs.Host.{HostState};
 ghost use Rattle.session_peers.specs.HostLogs.{HostLeads, HostStep, written, written_moves};
+ghost use Rattle.session_table.specs.Events.{Event, Out};
 ghost use Rattle.session_table.specs.Logs.{Leads, Step, Taken, server_lines};
 ghost use Rattle.session_lines.specs.MoveLines.{is_move_line};
+ghost use Rattle.session_table.specs.Row.{Row};
 ghost use Rattle.session_table.specs.Sending.{IsPrefix};
 ghost use Rattle.session_table.specs.State.{State};
+ghost use Rattle.session_lines.specs.Texts.{text_of, without_last_spaces};
+ghost use Rattle.shogi_session.specs.Configs.{IsConfig};
 
 pub use session_peers::laws::{
     host_game, host_lines_whole, host_row_once, host_step_whole, host_waits_for_its_client,
@@ -28,4 +34,15 @@ pub fn both_ends()
     ensures { (c : Config) (log : List Step) (s : State) (host : HostConfig) (wrote : List HostStep) (t : HostState)
         → Leads c log s → HostLeads host wrote t → IsPrefix (server_lines log) (written wrote)
         → (taken rest : List (List ℕ)) → Taken log taken rest → IsPrefix (filter is_move_line taken) (written_moves wrote) }
+{}
+
+/// The bytes of the lines that a step of a bridge gives its engine, and of those that it gives its
+/// server, are cut back into just these lines, none of which has a space at its end.
+pub fn bridge_lines_whole()
+    ensures engine { (c : Config) (s t : State) (e : Event) (out : Out) → IsConfig c → Row c s e out t
+        → Lines (text_of out.to_engine) out.to_engine [] }
+    ensures server { (c : Config) (s t : State) (e : Event) (out : Out) → IsConfig c → Row c s e out t
+        → Lines (text_of out.to_server) out.to_server [] }
+    ensures unspaced { (c : Config) (s t : State) (e : Event) (out : Out) → IsConfig c → Row c s e out t
+        → AllByRecursion (λ line. without_last_spaces line ≡ line) (out.to_engine ++ out.to_server) }
 {}
