@@ -201,9 +201,22 @@ pub(crate) fn handed_out(unit: &[u8]) -> &[u8]
     ensures value { result.now ≡ statement_bytes unit.now }
     ensures place { result.ref_ptr ≡ unit.entry.ref_ptr }
 {
+    if !ends_blank(unit) {
+        return unit;
+    }
     match unit.first() {
         Some(b'N') | Some(b'$') => unit,
         _ => without_last_blanks(unit),
+    }
+}
+
+// Whether a space or a tab is the last of the bytes.
+fn ends_blank(bytes: &[u8]) -> bool
+    ensures { result ≡ false → without_last_blanks bytes.now ≡ bytes.now }
+{
+    match bytes.last() {
+        Some(last) => is_blank(*last),
+        None => false,
     }
 }
 

@@ -10,9 +10,10 @@ pub(crate) fn read_time(text: &[u8]) -> Option<u64>
         ((thousandths : ℕ) → IsTime text.now thousandths → ⊥)
         (λ thousandths. IsTime text.now thousandths) }
 {
-    let Some((digits, behind)) = split_at_byte(text, b'.') else {
-        return Some(read_seconds(text)? as u64 * 1000);
-    };
+    if let Some(seconds) = read_seconds(text) {
+        return Some(seconds as u64 * 1000);
+    }
+    let (digits, behind) = split_at_byte(text, b'.')?;
     let seconds = read_seconds(digits)?;
     let fraction = read_fraction(behind)?;
     Some(seconds as u64 * 1000 + fraction as u64)
