@@ -2,7 +2,8 @@ ghost use Rattle.std.specs.Prelude.{◌≡◌, ◌≤◌, ◌<◌, ◌++◌, ◌
 ghost use Rattle.std.specs.List.{flat_map};
 ghost use Rattle.shogi_rules.specs.Play.{Answers};
 ghost use Rattle.shogi_rules.specs.Positions.{IsGame, max_moves};
-ghost use Rattle.csa_text.specs.Spelling.{time};
+ghost use Rattle.csa_text.specs.Codes.{kind_code, square_text};
+ghost use Rattle.csa_text.specs.Spelling.{time, walked};
 ghost use Rattle.record_game.specs.declared.fault.Why.{Why};
 ghost use Rattle.record_game.specs.Answer.{IsAnswer};
 ghost use Rattle.record_game.specs.Canon.{ended_line, fraction_text};
@@ -10,10 +11,10 @@ ghost use Rattle.record_game.specs.Course.{IsCourse, PlayAnswers, line_of, untim
 ghost use Rattle.csa_record.specs.Coursing.{timed, ended, lacks_last, with_last, played_why, NotPlayed};
 ghost use Rattle.record_game.specs.Says.{move_items, time_items, ending_items};
 
-use csa_text::{Ending, csa_move};
+use csa_text::{Ending, kind_text, sign_of};
 use itoa::Buffer;
 use record_game::{OrderFault, Why};
-use shogi_board::{Color, OutOfMemory, Position};
+use shogi_board::{Color, Kind, OutOfMemory, Position, Square};
 use shogi_rules::{Line, MAX_MOVES, Move, PlayFault};
 use std::alloc::Global;
 use std::marker::Model;
@@ -279,11 +280,43 @@ fn write_each(
 {
     let mut color = side;
     for i in 0..moves.len() {
-        write_line(out, csa_move(color, &moves[i]).as_str().as_bytes())?;
+        write_move(out, color, &moves[i])?;
         write_time(out, times[i])?;
         color = color.opponent();
     }
     Ok(())
+}
+
+// Adds the line of a move of that side: the text of `csa_move`, as bytes.
+fn write_move(out: &mut Vec<u8>, color: Color, mv: &Move) -> Result<(), OutOfMemory>
+    ensures { OnOk result (out.new.items ≡ out.old.items ++ ended_line (walked color mv.now)) }
+{
+    let sign = sign_of(color);
+    match *mv {
+        Move::Walk { from, to, kind } => {
+            let [file, rank] = digits_of(from);
+            let [to_file, to_rank] = digits_of(to);
+            write_squares(out, &[sign, file, rank, to_file, to_rank], kind)
+        }
+        Move::Put { to, kind } => {
+            let [to_file, to_rank] = digits_of(to);
+            write_squares(out, &[sign, b'0', b'0', to_file, to_rank], kind)
+        }
+    }
+}
+
+fn digits_of(square: Square) -> [u8; 2]
+    ensures { result ≡ square_text square }
+{
+    [b'0' + square.file(), b'0' + square.rank()]
+}
+
+// Adds the sign and the squares of a move, its kind, and the end of the line.
+fn write_squares(out: &mut Vec<u8>, squares: &[u8; 5], kind: Kind) -> Result<(), OutOfMemory>
+    ensures { OnOk result (out.new.items ≡ out.old.items ++ (squares.now ++ (kind_code kind ++ 10 ∷ []))) }
+{
+    out.extend_from_slice(squares)?;
+    write_line(out, kind_text(kind).as_bytes())
 }
 
 fn write_ending(out: &mut Vec<u8>, ending: Option<Ended>) -> Result<(), OutOfMemory>

@@ -81,6 +81,7 @@ impl Progress {
     }
 
     // Takes the bytes of the next statement, or says why they are refused.
+    #[inline(always)]
     pub(crate) fn take_bytes(&mut self, bytes: &[u8]) -> Result<(), Why>
         requires { IsOfStatement bytes.now }
         ensures { (before : List Saying) → Keeps before self.old → Outcome before bytes.now result self.new }
@@ -90,6 +91,7 @@ impl Progress {
     }
 
     // Takes the next item, or says why it does not fit. Only here it is marked that something was said.
+    #[inline(always)]
     fn take(&mut self, item: Item<'_>) -> Result<(), Why>
         requires { Fits (saying_of item) }
         ensures { (before : List Saying) → Keeps before self.old → TakenOrRefused before (saying_of item.entry) result self.new }

@@ -220,6 +220,7 @@ fn take_last(cutter: &mut PieceCutter, progress: &mut Progress) -> Result<(), Re
 }
 
 // Takes the next statement, or says why it is refused.
+#[inline(always)]
 fn take_statement(progress: &mut Progress, statement: Statement<'_>) -> Result<(), Refusal>
     requires { IsOfStatement statement.bytes.now }
     ensures taken { (before : List Saying) → Keeps before progress.old → OnOk result (Outcome before statement.entry.bytes.now (Ok tt) progress.new) }

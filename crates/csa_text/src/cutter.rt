@@ -148,6 +148,7 @@ fn gap_length(text: &[u8]) -> usize
 }
 
 // How many bytes of the text come before what ends a unit with this first byte.
+#[inline(always)]
 pub(crate) fn unit_length(first: u8, text: &[u8]) -> usize
     ensures value { result ≡ position_or_len (is_end first) text.now }
     ensures within { result ≤ length text.now }

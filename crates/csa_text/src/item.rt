@@ -44,6 +44,7 @@ pub enum Item<'a> {
 /// `BadHeader` for `$`, `BadPosition` for `PI`, `P+`, `P-` and `P1` to `P9`, `BadMove` for `+` and
 /// `-`, `BadTime` for `T`, `UnknownEnding` for `%`, and `Unknown` for all else. `StatementTooLong`
 /// is the cutter's and is never answered.
+#[inline(always)]
 pub fn read_item(bytes: &[u8]) -> Result<Item<'_>, TextFault>
     ensures item { IfOk result (λ item. Spells bytes.now (saying_of item)) }
     ensures none { IfErr result (λ fault. (saying : Saying) → Spells bytes.now saying → ⊥) }

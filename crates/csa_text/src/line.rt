@@ -142,6 +142,7 @@ fn line_ends_length(text: &[u8]) -> usize
 }
 
 // How many bytes of the text come before a CR or LF.
+#[inline(never)]
 pub(crate) fn line_length(text: &[u8]) -> usize
     ensures value { result ≡ position_or_len is_line_end text.now }
     ensures within { result ≤ length text.now }

@@ -10,6 +10,7 @@ use shogi_rules::Move;
 
 /// The seven bytes of a move: the sign of its side, the square left or `00` for a drop, the target,
 /// and the kind after the move. `read_item` reads them as that move again.
+#[inline(always)]
 pub fn csa_move(color: Color, m: &Move) -> ArrayString<7>
     ensures spells { Spells result.bytes (walked color m.now) }
 {
