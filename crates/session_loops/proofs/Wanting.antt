@@ -7,6 +7,7 @@ use Rattle.shogi_session.specs.Events.{Event, trimmed}
 use Rattle.shogi_session.specs.Promises.{KeepsGame, SameStates, Session}
 use Rattle.shogi_session.specs.State.{slip_of, waits_for}
 use Rattle.session_loops.specs.declared.bridging.Seat.{Seat}
+use Rattle.session_loops.specs.declared.fault.Fault.{Fault}
 use Rattle.session_loops.specs.declared.bridging.Seat.TheVariants.{Engine, Server}
 use Rattle.session_loops.specs.Plays.{Delivers, Hears, Misses, Tells, seat_for}
 use Rattle.session_loops.specs.Wanting.{GoneWants, HearWants, not_heard, not_stepped, PlayWants, SendWants, server_gone, StepWants, first_unsent, later_unsent, no_next}
@@ -16,10 +17,6 @@ use Rattle.session_loops.proofs.Playing.{Answered, Rounds, first, later}
 pub at_err : {T E : Type 0} (G : Type 0) (r : Result T E) → G → OnErr r G
 at_err G (Ok x) holds = tt
 at_err G (Err e) holds = holds
-
-pub err_so : {T E : Type 0} (F G : Type 0) (r : Result T E) → OnErr r F → (F → G) → OnErr r G
-err_so F G (Ok x) holds so = tt
-err_so F G (Err e) holds so = so holds
 
 -- the clauses of a step that is refused its memory, together
 pub step_wants : (old : Session) (e f : Event) (new : Session) → e ≡ f
@@ -42,11 +39,12 @@ seat_not_stepped heard missed e s seat waits event f t is_seat is_waits came wan
     not_stepped event (subst (λ x. heard e x event f) (is_seat ∙ ap seat_for is_waits) came) wants
 
 -- the engine's lines were delivered, and the server did not take its own
-pub server_wants : {E : Type 0} (told gone : Tells E) (to_engine to_server engine_lines server_lines : List ℕ) (e : E) (s : Session) (status : Status) (g : E) (u : Session) (after : Status) (f : E) (t : Session)
+pub server_wants : {E : Type 0} (told gone : Tells E) (to_engine to_server engine_lines server_lines : List ℕ) (e : E) (s : Session) (status : Status) (g : E) (u : Session) (after : Status) (f : E) (t : Session) (answer : Result Status Fault)
     → engine_lines ≡ to_engine → server_lines ≡ to_server
-    → Delivers told gone Engine engine_lines e s status g u after → GoneWants gone Server server_lines g u f t
-    → SendWants told gone to_engine to_server e s status f t
-server_wants told gone to_engine to_server engine_lines server_lines e s status g u after f t is_engine is_server delivered wants =
+    → Delivers told gone Engine engine_lines e s status g u after → OnErr answer (GoneWants gone Server server_lines g u f t)
+    → OnErr answer (SendWants told gone to_engine to_server e s status f t)
+server_wants told gone to_engine to_server engine_lines server_lines e s status g u after f t (Ok x) is_engine is_server delivered wants = tt
+server_wants told gone to_engine to_server engine_lines server_lines e s status g u after f t (Err x) is_engine is_server delivered wants =
     server_gone g u after (subst (λ x. Delivers told gone Engine x e s status g u after) is_engine delivered) (subst (λ x. GoneWants gone Server x g u f t) is_server wants)
 
 -- the lines of a step were not all sent

@@ -1,13 +1,15 @@
 -- The lines that a reader gives.
-use Rattle.std.specs.Prelude.{◌≡◌, ℕ, ◌<◌, ◌≤◌, false, List, [], ◌∷◌, length, Option, IfSome}
+use Rattle.std.specs.Prelude.{◌≡◌, ℕ, ◌<◌, ◌≤◌, Bool, false, List, [], ◌∷◌, length, Option, IfSome}
 use Rattle.std.specs.Io.KnownBytes.{Consumes}
 use Rattle.csa_text.specs.Lines.{Lines, HasNoLineEnd}
 use Rattle.csa_text.specs.LineCutting.{LineCutting, BeginsTooLong}
 
--- the bytes that still come, those of an unfinished line first, where they are known; and the line that was heard last
+-- the bytes that still come, those of an unfinished line first, where they are known; the line that was heard last; and
+-- whether nothing is heard any more
 pub record Coming : Type 0 where
   pub bytes : Option (List ℕ)
   pub line : List ℕ
+  pub is_over : Bool
 
 -- the next line: behind it a line end, or the end
 pub data GivesLine (old new : Option (List ℕ)) (line : List ℕ) : Type 0 where

@@ -1,5 +1,5 @@
 -- A bridge that plays between its engine and its server.
-use Rattle.std.specs.Prelude.{◌≡◌, ◌≤◌, ◌+◌, ◌-◌, ◌^◌, ℕ, List, [], length, Option}
+use Rattle.std.specs.Prelude.{◌≡◌, ◌⊎◌, ◌≤◌, ◌+◌, ◌-◌, ◌^◌, ℕ, true, List, [], length}
 use Rattle.session_table.specs.declared.event.Status.{Status}
 use Rattle.session_table.specs.declared.event.Status.TheVariants.{Going}
 use Rattle.session_table.specs.declared.state.Waits.{Waits}
@@ -7,7 +7,7 @@ use Rattle.session_table.specs.declared.state.Waits.TheVariants as waits
 use Rattle.shogi_session.specs.Events.{Event, begin, engine_line, server_line, engine_end, server_end, engine_long, server_long}
 use Rattle.shogi_session.specs.Promises.{Session, Steps}
 use Rattle.shogi_session.specs.State.{waits_for}
-use Rattle.session_loops.specs.Incoming.{GivesLine, GivesLongLine, GivesNoLine}
+use Rattle.session_loops.specs.Incoming.{Coming, GivesEnd, GivesLine, GivesLongLine, GivesNoLine}
 use Rattle.session_loops.specs.declared.incoming.Heard.{Heard}
 use Rattle.session_loops.specs.declared.incoming.Heard.TheVariants.{Line, End, Long, Failed}
 use Rattle.session_loops.specs.declared.bridging.Seat.{Seat}
@@ -37,18 +37,22 @@ event_from Server Long line = server_long
 event_from Server Failed line = server_end
 
 -- a line of at most 65,536 bytes came
-abbrev pub ComesLine : Option (List ℕ) → Option (List ℕ) → List ℕ → Type 0
-ComesLine old new line = GivesLine old new line × (length line ≤ 65536)
+abbrev pub ComesLine : Coming → Coming → List ℕ → Type 0
+ComesLine old new line = GivesLine old.bytes new.bytes line × (length line ≤ 65536)
 
--- what came of the bytes that a seat still gave, as an event of the bridge
-abbrev pub Comes : Option (List ℕ) → Option (List ℕ) → Event → Type 0
+-- the end came; or no line, and nothing is heard any more
+abbrev pub ComesEnd : Coming → Coming → Type 0
+ComesEnd old new = GivesEnd old.bytes new.bytes ⊎ (GivesNoLine old.bytes new.bytes × (new.is_over ≡ true))
+
+-- what came of a seat, as an event of the bridge
+abbrev pub Comes : Coming → Coming → Event → Type 0
 Comes old new begin = ⊥
 Comes old new (engine_line line) = ComesLine old new line
 Comes old new (server_line line) = ComesLine old new line
-Comes old new engine_end = GivesNoLine old new
-Comes old new server_end = GivesNoLine old new
-Comes old new engine_long = GivesLongLine old new
-Comes old new server_long = GivesLongLine old new
+Comes old new engine_end = ComesEnd old new
+Comes old new server_end = ComesEnd old new
+Comes old new engine_long = GivesLongLine old.bytes new.bytes
+Comes old new server_long = GivesLongLine old.bytes new.bytes
 
 -- of a statement on each, that on the seat
 abbrev pub OfSeat : Seat → Type 0 → Type 0 → Type 0

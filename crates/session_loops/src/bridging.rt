@@ -92,8 +92,8 @@ impl<ER: Read + Drop, EW: Write + Drop, SR: Read + Drop, SW: Write + Drop> Ends
     ghost last_line = { λ s seat. line_by_seat seat s.engine.lines.now.line s.server.lines.now.line };
 
     ghost heard = { λ s seat event t. OfSeat seat
-        (Comes s.engine.lines.now.bytes t.engine.lines.now.bytes event × (t.engine.writer ≡ s.engine.writer) × (t.server ≡ s.server))
-        (Comes s.server.lines.now.bytes t.server.lines.now.bytes event × (t.server.writer ≡ s.server.writer) × (t.engine ≡ s.engine)) };
+        (Comes s.engine.lines.now t.engine.lines.now event × (t.engine.writer ≡ s.engine.writer) × (t.server ≡ s.server))
+        (Comes s.server.lines.now t.server.lines.now event × (t.server.writer ≡ s.server.writer) × (t.engine ≡ s.engine)) };
 
     ghost missed = { λ s seat t. OfSeat seat
         ((t.engine.writer ≡ s.engine.writer) × (t.server ≡ s.server))
@@ -160,6 +160,7 @@ pub fn play<R: Eprint + AllocGlobal, E: Ends>(
 }
 
 // Sends what a step answered: how the bridge stands then.
+#[tactic(auto, using(crate::proofs::Wanting::server_wants))]
 fn send<E: Ends>(bridge: &mut Bridge, ends: &mut E, out: &Out) -> Result<Status, Fault>
     ensures sent { IfOk result (λ status. Sends E.told E.gone out.now.to_engine out.now.to_server ends.old bridge.old out.now.status ends.new bridge.new status) }
     ensures wanting { OnErr result (SendWants E.told E.gone out.now.to_engine out.now.to_server ends.old bridge.old out.now.status ends.new bridge.new) }

@@ -1,6 +1,6 @@
 //! The lines that a reader gives, one at a time.
 
-ghost use Rattle.std.specs.Prelude.{◌≡◌, ◌↔◌, ◌⊎◌, ◌<◌, ◌≤◌, ◌++◌, [], ◌∷◌, length, take, None, Some, Ok, Err, IfOk, IfErr, IsErrOf, true, false};
+ghost use Rattle.std.specs.Prelude.{◌≡◌, ◌↔◌, ◌⊎◌, ◌<◌, ◌≤◌, ◌++◌, [], ◌∷◌, length, take, None, Some, Ok, Err, IfOk, IfErr, IsErrOf, OnErr, true, false};
 ghost use Rattle.csa_text.specs.Lines.{Lines};
 ghost use Rattle.csa_text.specs.LineCutting.{BeginsTooLong};
 ghost use Rattle.session_loops.specs.Incoming.{GivesEnd, GivesLine, GivesLongLine, GivesNoLine, IsHearing};
@@ -43,7 +43,7 @@ impl<R: Read + Drop> Model for Incoming<R> {
 
     ghost Value = { Coming };
 
-    ghost view = { λ i. record { bytes = prepend_known i.cutter.held (reader_remaining R.remaining i.reader); line = i.line.items } };
+    ghost view = { λ i. record { bytes = prepend_known i.cutter.held (reader_remaining R.remaining i.reader); line = i.line.items; is_over = i.is_over } };
 
     ghost invariant = { λ i. i.is_over ≡ false → IsHearing i.cutter };
 }
@@ -52,6 +52,7 @@ impl<R: Read + Drop> Incoming<R> {
     /// Nothing is read yet.
     pub fn new(alloc: Global, reader: R) -> Result<Incoming<R>, Fault>
         ensures bytes { IfOk result (λ i. i.bytes ≡ R.remaining reader) }
+        ensures open { IfOk result (λ i. i.is_over ≡ false) }
         ensures faults { IfErr result (λ fault. fault ≡ Fault.OutOfMemory) }
     {
         let Ok(reader) = BufReader::with_capacity(alloc, streams::PIECE, reader) else {
@@ -74,6 +75,9 @@ impl<R: Read + Drop> Incoming<R> {
         ensures end { IfOk result (λ heard. heard ≡ Heard.End → GivesEnd self.old.bytes self.new.bytes) }
         ensures failed { IfOk result (λ heard. heard ≡ Heard.Failed → GivesNoLine self.old.bytes self.new.bytes) }
         ensures long { IfOk result (λ heard. heard ≡ Heard.Long → GivesLongLine self.old.bytes self.new.bytes) }
+        ensures over { IfOk result (λ heard. (heard ≡ Heard.Long) ⊎ (heard ≡ Heard.Failed) → self.new.is_over ≡ true) }
+        ensures lost { OnErr result (self.new.is_over ≡ true) }
+        ensures stays { self.old.is_over ≡ true → (result ≡ Ok Heard.Failed) × (self.new ≡ self.old) }
         ensures faults { IfErr result (λ fault. fault ≡ Fault.OutOfMemory) }
     {
         for _ in 0..u64::MAX {
@@ -81,6 +85,7 @@ impl<R: Read + Drop> Incoming<R> {
                 return Ok(heard);
             }
         }
+        self.is_over = true;
         Ok(Heard::Failed)
     }
 
@@ -99,6 +104,9 @@ impl<R: Read + Drop> Incoming<R> {
         ensures failed { IfOk result (λ heard. heard ≡ Some Heard.Failed → GivesNoLine self.old.bytes self.new.bytes) }
         ensures long { IfOk result (λ heard. heard ≡ Some Heard.Long → GivesLongLine self.old.bytes self.new.bytes) }
         ensures none { IfOk result (λ heard. heard ≡ None → GivesNoLine self.old.bytes self.new.bytes) }
+        ensures over { IfOk result (λ heard. (heard ≡ Some Heard.Long) ⊎ (heard ≡ Some Heard.Failed) → self.new.is_over ≡ true) }
+        ensures lost { OnErr result (self.new.is_over ≡ true) }
+        ensures stays { self.old.is_over ≡ true → (result ≡ Ok (Some Heard.Failed)) × (self.new ≡ self.old) }
         ensures faults { IfErr result (λ fault. fault ≡ Fault.OutOfMemory) }
     {
         if self.is_over {
