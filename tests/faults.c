@@ -1,7 +1,8 @@
 /* Loaded in front of the C library: reads of standard input and writes of standard output take at most PIECE bytes each;
    the read that FAILED_READ numbers, counted from 1, and the write that FAILED_WRITE numbers fail; with INTERRUPTED each
-   read is interrupted once before it is made, and with EMPTY_WRITES a write takes no byte. With PLAYING it is the reads of
-   `play` alone, of pipes and sockets. With FAILED_SYNC no file reaches its device. */
+   read is interrupted once before it is made, and with EMPTY_WRITES a write takes no byte. With FAILED_SYNC no file reaches
+   its device, and the write to a socket that FAILED_SEND numbers fails. With PLAYING all this is of `play` alone, and the
+   reads are those of pipes and sockets. */
 typedef unsigned long size;
 typedef long ssize;
 
@@ -9,9 +10,10 @@ extern char *getenv(const char *);
 extern long syscall(long, ...);
 extern int *__errno_location(void);
 
-enum { READ = 0, WRITE = 1, RECEIVE = 45, SYNC = 74, INTERRUPT = 4, BROKEN = 5 };
+enum { READ = 0, WRITE = 1, SEND = 44, RECEIVE = 45, SYNC = 74, INTERRUPT = 4, BROKEN = 5 };
 
-static unsigned long reads, writes, piece, failed_read, failed_write, interrupted, empty_writes, playing, failed_sync, again;
+static unsigned long reads, writes, sends, piece, failed_read, failed_write, interrupted, empty_writes, playing, failed_sync, failed_send,
+    again;
 
 static unsigned long number(const char *name) {
     const char *digit = getenv(name);
@@ -35,6 +37,7 @@ __attribute__((constructor)) static void read_numbers(int count, char **words) {
     interrupted = number("INTERRUPTED");
     empty_writes = number("EMPTY_WRITES");
     failed_sync = number("FAILED_SYNC");
+    failed_send = number("FAILED_SEND");
 }
 
 static ssize fails(int why) {
@@ -72,6 +75,10 @@ ssize write(int file, const void *buffer, size bytes) {
     if (++writes == failed_write)
         return fails(BROKEN);
     return empty_writes ? 0 : syscall(WRITE, file, buffer, within(bytes));
+}
+
+ssize send(int file, const void *buffer, size bytes, int flags) {
+    return ++sends == failed_send ? fails(BROKEN) : syscall(SEND, file, buffer, bytes, flags, 0, 0);
 }
 
 int fsync(int file) {
