@@ -6,5 +6,8 @@ abbrev pub IsPort : ℕ → Type 0
 IsPort port = (1 ≤ port) × (port ≤ 65535)
 
 -- `listening `, and then a port in decimal
+abbrev pub port_line : ℕ → List ℕ
+port_line port = codes "listening " ++ decimal port
+
 abbrev pub IsPortLine : List ℕ → ℕ → Type 0
-IsPortLine line port = (line ≡ codes "listening " ++ decimal port) × IsPort port
+IsPortLine line port = (line ≡ port_line port) × IsPort port

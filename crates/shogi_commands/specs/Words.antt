@@ -1,6 +1,9 @@
 -- The words that the commands print.
-use Rattle.std.specs.Prelude.{ℕ, List, codes}
+use Rattle.std.specs.Prelude.{◌≡◌, ℕ, List, [], ◌∷◌, ◌++◌, length, map, codes, decimal}
+use Rattle.record_game.specs.Game.{Game, move_of}
 use Rattle.shogi_board.specs.declared.color.Color.TheVariants.{Black, White}
+use Rattle.shogi_rules.specs.Positions.{Played, all_of, now_of}
+use Rattle.shogi_rules.specs.Verdicts.{Stands}
 use Rattle.shogi_rules.specs.declared.line.Verdict.{Verdict}
 use Rattle.shogi_rules.specs.declared.line.Verdict.TheVariants.{Ongoing, Mate, NoMove, Repetition, Perpetual}
 
@@ -12,3 +15,20 @@ word_of NoMove = codes "no-move"
 word_of Repetition = codes "repetition"
 word_of (Perpetual Black) = codes "perpetual+"
 word_of (Perpetual White) = codes "perpetual-"
+
+-- the start of a game, and its moves
+abbrev pub line_of : Game → Played
+line_of g = record { start = g.start; moves = map move_of g.moves }
+
+-- the line of `check`: so many moves, a space, and how they stand
+abbrev pub accepted_line : ℕ → Verdict → List ℕ
+accepted_line moves verdict = codes "accepted " ++ decimal moves ++ (32 ∷ (word_of verdict ++ (10 ∷ [])))
+
+-- it is that of the game: of all its moves, and of how they stand
+abbrev pub IsAcceptedLine : Game → List ℕ → Type 0
+IsAcceptedLine g line =
+    (verdict : Verdict) × Stands (all_of (line_of g)) (now_of (line_of g)) verdict × (line ≡ accepted_line (length g.moves) verdict)
+
+-- the line of `play`: so many moves
+abbrev pub played_line : ℕ → List ℕ
+played_line moves = codes "played " ++ decimal moves ++ 10 ∷ []

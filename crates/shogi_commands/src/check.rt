@@ -1,12 +1,14 @@
 //! Whether a record is accepted, how many moves it has, and how it stands.
 
-ghost use Rattle.std.specs.Prelude.{◌≡◌, IfErr};
+ghost use Rattle.std.specs.Prelude.{◌≡◌, string_bytes, IfErr, IfOk};
 ghost use Rattle.shogi_commands.specs.Faults.{IsRecordCommandFault};
-ghost use Rattle.shogi_commands.specs.Words.{word_of};
+ghost use Rattle.shogi_commands.specs.Words.{IsAcceptedLine, accepted_line, word_of};
 
+use csa_record::Record;
 use session_loops::{Fault, streams};
 use shogi_board::Color;
 use shogi_rules::Verdict;
+use std::alloc::{AllocError, Global};
 use std::io;
 use std::rt::Files;
 
@@ -19,10 +21,23 @@ pub fn run<R: Files + Input + Print + AllocGlobal>(rt: &R, file: Option<&str>) -
     ensures faults { IfErr result IsRecordCommandFault }
 {
     let record = streams::record(rt, file)?;
-    let moves = record.line().moves().len();
-    let verdict = word(record.line().verdict());
-    let line = format!(in rt.alloc(); "accepted {moves} {verdict}\n")?;
+    let line = accepted(rt.alloc(), &record)?;
     streams::write_all(&mut io::writer(rt), line.as_bytes())
+}
+
+// The line of an accepted record, and LF.
+fn accepted(alloc: Global, game: &Record) -> Result<String, AllocError>
+    ensures { IfOk result (λ text. IsAcceptedLine game.now (string_bytes text)) }
+{
+    let line = game.line();
+    accepted_line(alloc, line.moves().len(), line.verdict())
+}
+
+fn accepted_line(alloc: Global, moves: usize, verdict: Verdict) -> Result<String, AllocError>
+    ensures { IfOk result (λ text. string_bytes text ≡ accepted_line moves verdict) }
+{
+    let word = word(verdict);
+    format!(in alloc; "accepted {moves} {word}\n")
 }
 
 // How a line stands, in a word; of a perpetual check the sign of the side that lost.

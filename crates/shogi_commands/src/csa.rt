@@ -1,11 +1,12 @@
 //! The canonical text of a USI position line.
 
-ghost use Rattle.std.specs.Prelude.{◌≡◌, ◌⊎◌, ◌<◌, ◌≤◌, length, None, Some, IfOk, IfErr, IsErrOf, IsSome, OnOk, option_map};
+ghost use Rattle.std.specs.Prelude.{◌≡◌, ◌⊎◌, IfOk, IfErr, IsErrOf};
 ghost use Rattle.shogi_commands.specs.Faults.{IsLineCommandFault, IsOneLineFault};
+ghost use Rattle.shogi_commands.specs.OneLine.{HasLongLine, HasNoLine, HasTwoLines, IsOneLine};
 ghost use Rattle.usi_text.specs.declared.fault.UsiFault.{UsiFault};
 
 use csa_record::Record;
-use csa_text::LineCutter;
+use session_loops::incoming::{Heard, Incoming};
 use session_loops::{Fault, streams};
 use std::alloc::Global;
 use std::io;
@@ -22,8 +23,8 @@ pub fn run<R: Files + Input + Print + AllocGlobal>(rt: &R, file: Option<&str>) -
     ensures faults { IfErr result IsLineCommandFault }
 {
     let text = match file {
-        None | Some("-") => one_line(rt.alloc(), &mut rt.reader())?,
-        Some(path) => one_line(rt.alloc(), &mut streams::open(rt, path)?)?,
+        None | Some("-") => one_line(rt.alloc(), rt.reader())?,
+        Some(path) => one_line(rt.alloc(), streams::open(rt, path)?)?,
     };
     let line = usi_text::read_position_line(rt.alloc(), text.as_slice())?;
     let Ok(record) = Record::from_line(rt.alloc(), line) else {
@@ -34,80 +35,24 @@ pub fn run<R: Files + Input + Print + AllocGlobal>(rt: &R, file: Option<&str>) -
 }
 
 // The one line that the reader gives.
-fn one_line<R: Read>(alloc: Global, reader: &mut R) -> Result<Vec<u8>, Fault>
+fn one_line<R: Read + Drop>(alloc: Global, reader: R) -> Result<Vec<u8>, Fault>
+    ensures told { IfOk result (λ text. IsOneLine (R.remaining reader) text.items) }
+    ensures bad { IsErrOf result (Fault.Usi UsiFault.BadLine) → HasNoLine (R.remaining reader) ⊎ HasTwoLines (R.remaining reader) }
+    ensures long { IsErrOf result Fault.LongLine → HasLongLine (R.remaining reader) }
     ensures faults { IfErr result IsOneLineFault }
 {
-    let mut cutter = LineCutter::new(alloc, streams::LONGEST_LINE);
-    let mut first = None;
-    let mut buffer = [0u8; streams::PIECE];
-    for _ in 0..u64::MAX {
-        let taken = streams::read(reader, &mut buffer)?;
-        if taken == 0 {
-            break;
-        }
-        keep_lines(alloc, &mut cutter, &mut first, &buffer[..taken])?;
+    let mut lines = Incoming::new(alloc, reader)?;
+    match lines.hear()? {
+        Heard::Line => {}
+        Heard::End => return Err(Fault::Usi(UsiFault::BadLine)),
+        Heard::Long => return Err(Fault::LongLine),
+        Heard::Failed => return Err(Fault::Read),
     }
-    if let Some(line) = cutter.finish()? {
-        keep_line(alloc, &mut first, line)?;
+    let line = Vec::from_slice(alloc, lines.line())?;
+    match lines.hear()? {
+        Heard::End => Ok(line),
+        Heard::Line => Err(Fault::Usi(UsiFault::BadLine)),
+        Heard::Long => Err(Fault::LongLine),
+        Heard::Failed => Err(Fault::Read),
     }
-    match first {
-        Some(line) => Ok(line),
-        None => Err(Fault::Usi(UsiFault::BadLine)),
-    }
-}
-
-// Keeps the lines that end in the piece.
-fn keep_lines(
-    alloc: Global,
-    cutter: &mut LineCutter,
-    first: &mut Option<Vec<u8>>,
-    piece: &[u8],
-) -> Result<(), Fault>
-    ensures faults { IfErr result IsOneLineFault }
-{
-    let mut used = 0;
-    while used < piece.len() {
-        match keep_next(alloc, cutter, first, &piece[used..]) {
-            Ok(more) => used += more,
-            Err(fault) => return Err(fault),
-        }
-    }
-    Ok(())
-}
-
-// Keeps the line that ends in the piece, if one does: how many bytes of the piece were used.
-fn keep_next(
-    alloc: Global,
-    cutter: &mut LineCutter,
-    first: &mut Option<Vec<u8>>,
-    piece: &[u8],
-) -> Result<usize, Fault>
-    requires { 0 < length piece.now }
-    ensures used { IfOk result (λ used. (0 < used) × (used ≤ length piece.now)) }
-    ensures faults { IfErr result IsOneLineFault }
-{
-    let (used, line) = match cutter.step(piece) {
-        Ok(step) => step,
-        Err(fault) => return Err(Fault::from(fault)),
-    };
-    let Some(line) = line else {
-        return Ok(used);
-    };
-    match keep_line(alloc, first, line) {
-        Ok(()) => Ok(used),
-        Err(fault) => Err(fault),
-    }
-}
-
-// Keeps the first line; a second one is refused.
-fn keep_line(alloc: Global, first: &mut Option<Vec<u8>>, line: &[u8]) -> Result<(), Fault>
-    ensures first { OnOk result ((first.old ≡ None) × (option_map (λ text. text.items) first.new ≡ Some line.now)) }
-    ensures second { IsSome first.old → IsErrOf result (Fault.Usi UsiFault.BadLine) }
-    ensures faults { IfErr result (λ fault. (fault ≡ Fault.Usi UsiFault.BadLine) ⊎ (fault ≡ Fault.OutOfMemory)) }
-{
-    if first.is_some() {
-        return Err(Fault::Usi(UsiFault::BadLine));
-    }
-    *first = Some(Vec::from_slice(alloc, line)?);
-    Ok(())
 }

@@ -1,6 +1,6 @@
 //! A file that is written whole or not at all.
 
-ghost use Rattle.std.specs.Prelude.{◌≡◌, ◌⊎◌, IfErr};
+ghost use Rattle.std.specs.Prelude.{◌≡◌, ◌⊎◌, IfErr, OnErr, OnOk};
 
 use session_loops::{Fault, memory_or, streams};
 use std::fs;
@@ -11,11 +11,55 @@ use std::rt::Files;
 // How many names are tried for the file that is written first.
 const NAMES: u32 = 100;
 
+/// Where a text is put in place of what stands there.
+pub trait Place {
+    ghost use Rattle.std.specs.Prelude.{ℕ, List};
+
+    // The place took this text.
+    ghost took: { Self → List ℕ → Self → Type 0 };
+
+    // It did not.
+    ghost refused: { Self → List ℕ → Self → Type 0 };
+
+    /// Puts the text there. `Fault::Write` where it is not taken.
+    fn replace(&mut self, text: &[u8]) -> Result<(), Fault>
+        ensures took { OnOk result (took self.old text.now self.new) }
+        ensures refused { OnErr result (refused self.old text.now self.new) }
+        ensures faults { IfErr result (λ fault. (fault ≡ Fault.Write) ⊎ (fault ≡ Fault.OutOfMemory)) };
+}
+
+/// A file that may not be there yet, by its path.
+#[derive(Drop)]
+pub struct Named<'a, R> {
+    rt: &'a R,
+    path: &'a str,
+}
+
+impl<'a, R: Files + AllocGlobal> Named<'a, R> {
+    /// The file of that path.
+    pub fn new(rt: &'a R, path: &'a str) -> Named<'a, R> {
+        Named { rt, path }
+    }
+}
+
+// What files hold no contract sees.
+impl<R: Files + AllocGlobal> Place for Named<'_, R> {
+    ghost use Rattle.std.specs.Prelude.{⊤};
+
+    ghost took = { λ p text q. ⊤ };
+
+    ghost refused = { λ p text q. ⊤ };
+
+    fn replace(&mut self, text: &[u8]) -> Result<(), Fault> {
+        replace(self.rt, self.path, text)
+    }
+}
+
 /// Writes the text in place of what stands in the file. It is written beside it and then renamed, so that what stood
 /// there is lost only for the whole text; a link is followed, and a device or a pipe is written to.
 ///
 /// `Fault::Write` where that cannot be.
-pub fn replace<R: Files + AllocGlobal>(rt: &R, path: &str, text: &[u8]) -> Result<(), Fault>
+fn replace<R: Files + AllocGlobal>(rt: &R, path: &str, text: &[u8]) -> Result<(), Fault>
     ensures faults { IfErr result (λ fault. (fault ≡ Fault.Write) ⊎ (fault ≡ Fault.OutOfMemory)) }
 {
     match fs::metadata(rt, path) {

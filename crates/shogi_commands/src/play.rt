@@ -1,15 +1,20 @@
 //! An engine plays one game on a server, and the game's record is kept.
 
-ghost use Rattle.std.specs.Prelude.{◌≡◌, ◌⊎◌, ℕ, length, IfErr, IfOk, IsErrOf, MatchOption, codes, decimal};
+ghost use Rattle.std.specs.Prelude.{◌≡◌, ◌⊎◌, ℕ, List, length, IfErr, IfOk, IfSome, IsErrOf, MatchOption, codes, decimal, string_bytes};
 ghost use Rattle.record_game.specs.Game.{Game};
 ghost use Rattle.record_game.specs.Refused.{FaultlessTo, Refused};
 ghost use Rattle.record_game.specs.Tells.{Tells};
+ghost use Rattle.session_loops.specs.Incoming.{GivesLine};
 ghost use Rattle.shogi_commands.specs.Faults.{IsPlayFault};
+ghost use Rattle.shogi_commands.specs.Kept.{Keeps, told_of};
 ghost use Rattle.shogi_commands.specs.Ports.{IsPort, IsPortLine};
+ghost use Rattle.shogi_commands.specs.Words.{played_line};
+ghost use Rattle.shogi_session.specs.GameTold.{game_of};
 ghost use Rattle.shogi_session.specs.State.{first_state};
 
+use crate::children;
 use crate::children::{ENGINE_GONE, SERVER_GONE};
-use crate::{children, out_file};
+use crate::out_file::{Named, Place};
 use arrayvec::ArrayString;
 use csa_record::{Refusal, Why, read};
 use itoa::Buffer;
@@ -17,7 +22,7 @@ use session_loops::bridging::{Side, Sides, play};
 use session_loops::incoming::{Heard, Incoming};
 use session_loops::{Fault, Progress, streams};
 use shogi_session::{Bridge, Config};
-use std::alloc::Global;
+use std::alloc::{AllocError, Global};
 use std::io::{Eprint, Read, Write};
 use std::net::{Net, TcpListener, TcpStream};
 use std::process::Processes;
@@ -69,8 +74,15 @@ pub fn run<
         Err(fault) => Err(*fault),
     };
     let _ = children::end(rt, &mut server, is_over);
-    let line = format!(in rt.alloc(); "played {}\n", moves?)?;
+    let line = played_line(rt.alloc(), moves?)?;
     streams::write_all(&mut io::writer(rt), line.as_bytes())
+}
+
+// The line that tells how many moves the game has, and LF.
+fn played_line(alloc: Global, moves: usize) -> Result<String, AllocError>
+    ensures { IfOk result (λ text. string_bytes text ≡ played_line moves) }
+{
+    format!(in alloc; "played {moves}\n")
 }
 
 // Plays on the server that tells its port: how many moves the game has. `is_over` is set where the session ended well.
@@ -104,12 +116,13 @@ fn play_on<
 
 // The port that the server's first line names, or none where that is another line.
 fn listening_port<T: Read + Drop>(told: &mut Incoming<T>) -> Result<Option<u16>, Fault>
+    ensures first { IfOk result (λ found. IfSome found (λ port. (line : List ℕ) × GivesLine told.old.bytes told.new.bytes line × IsPortLine line port)) }
     ensures faults { IfErr result (λ fault. fault ≡ Fault.OutOfMemory) }
 {
-    if told.hear()? != Heard::Line {
-        return Ok(None);
+    match told.hear()? {
+        Heard::Line => Ok(port_of(told.line())),
+        Heard::End | Heard::Long | Heard::Failed => Ok(None),
     }
-    Ok(port_of(told.line()))
 }
 
 // The port of a line that is `listening ` and a number from 1 to 65,535 in decimal.
@@ -169,29 +182,46 @@ fn play_with<R: Files + Eprint + AllocGlobal, T: Read + Drop, W: Write + Drop>(
     let mut progress = Progress::new(plan.is_shown);
     let played = play(rt, &mut bridge, &mut sides, &mut progress);
     *is_over = played.is_ok();
-    write_game(rt, plan.out, &bridge, played)
+    keep_game(rt.alloc(), &mut Named::new(rt, plan.out), &bridge, played)
 }
 
-// Writes the record of the bridge's game, if it has one, whether it was played well or not: how many moves the game has.
-fn write_game<R: Files + AllocGlobal>(
-    rt: &R,
-    out: &str,
+// Puts the record of the bridge's game in its place, if it has one, whether it was played well or not: how many moves the
+// game has.
+fn keep_game<P: Place>(
+    alloc: Global,
+    place: &mut P,
     bridge: &Bridge,
     played: Result<(), Fault>,
 ) -> Result<usize, Fault>
     requires { IfErr played IsPlayFault }
+    ensures kept { Keeps P.took P.refused (game_of bridge.now.state.client) played place.old place.new result }
     ensures faults { IfErr result IsPlayFault }
 {
-    let text = bridge.game_text()?;
-    let Some(text) = text else {
-        return match played {
-            Ok(()) => Ok(0),
-            Err(fault) => Err(fault),
-        };
+    let found = match bridge.game_text() {
+        Ok(found) => found,
+        Err(_) => return Err(Fault::OutOfMemory),
     };
-    out_file::replace(rt, out, text.as_slice())?;
-    played?;
-    moves_in(rt.alloc(), text.as_slice())
+    let Some(text) = found else {
+        return told_of(played, 0);
+    };
+    match place.replace(text.as_slice()) {
+        Ok(()) => {}
+        Err(fault) => return Err(fault),
+    }
+    match played {
+        Ok(()) => moves_in(alloc, text.as_slice()),
+        Err(fault) => Err(fault),
+    }
+}
+
+// The fault of the session, or else so many moves.
+fn told_of(played: Result<(), Fault>, moves: usize) -> Result<usize, Fault>
+    ensures { result ≡ told_of played moves }
+{
+    match played {
+        Ok(()) => Ok(moves),
+        Err(fault) => Err(fault),
+    }
 }
 
 // A bridge to which nothing has happened.

@@ -1,17 +1,21 @@
 //! A server on localhost, which plays one game with one client.
 
-ghost use Rattle.std.specs.Prelude.{◌≡◌, ◌≢◌, ◌⊎◌, ◌≤◌, true, false, Ok, Err, IfErr, IfOk, IsOk, IsErrOf, codes};
+ghost use Rattle.std.specs.Prelude.{◌≡◌, ◌≢◌, ◌⊎◌, ◌≤◌, ◌++◌, ◌∷◌, [], true, false, Ok, Err, IfErr, IfOk, IsOk, IsErrOf, OnOk, string_bytes};
 ghost use Rattle.session_loops.specs.Faults.{IsReadFault, IsTalkFault};
+ghost use Rattle.session_loops.specs.Talks.{BreaksOff, HasAnswered};
 ghost use Rattle.shogi_commands.specs.Faults.{IsServeFault};
-ghost use Rattle.shogi_session.specs.Host.{waiting};
+ghost use Rattle.shogi_commands.specs.Offered.{IsOffered};
+ghost use Rattle.shogi_commands.specs.Ports.{port_line};
+ghost use Rattle.shogi_session.specs.Hosting.{HostSession};
 ghost use Rattle.shogi_rules.specs.Positions as positions;
 
 use arrayvec::ArrayString;
-use session_loops::wire::Exchange;
+use session_loops::talk::Machine;
+use session_loops::wire::{Exchange, Wire};
 use session_loops::{Fault, streams, talk};
 use shogi_board::Color;
 use shogi_session::{Host, HostConfig};
-use std::alloc::Global;
+use std::alloc::{AllocError, Global};
 use std::io;
 use std::net::{Net, TcpListener, TcpStream};
 
@@ -31,9 +35,23 @@ pub fn run<R: Net<Listener = TcpListener, Stream = TcpStream> + Print + AllocGlo
     ensures faults { IfErr result IsServeFault }
 {
     let stream = accept(rt, port)?;
-    let mut host = host_of(rt.alloc(), client, max_moves)?;
     let mut wire = Exchange::new(&stream, &stream);
-    served(talk::answer_all(rt.alloc(), &mut host, &mut wire))
+    play(rt.alloc(), client, max_moves, &mut wire)
+}
+
+// Plays a game with the client on the wire, until the session is over.
+fn play<X: Wire>(alloc: Global, client: Color, max_moves: u32, wire: &mut X) -> Result<(), Fault>
+    requires { (1 ≤ max_moves) × (max_moves ≤ positions.max_moves) }
+    ensures over { OnOk result ((old new : HostSession) × IsOffered client max_moves old
+        × HasAnswered X.came X.ends X.went ⟦<Host as Machine>⟧.answers wire.old old true wire.new new) }
+    ensures gone { IsErrOf result Fault.ClientGone → (old new : HostSession) × IsOffered client max_moves old
+        × HasAnswered X.came X.ends X.went ⟦<Host as Machine>⟧.answers wire.old old false wire.new new }
+    ensures long { IsErrOf result Fault.ClientLineTooLong → (old : HostSession) × IsOffered client max_moves old
+        × BreaksOff X.came X.ends X.went X.silent X.blocked ⟦<Host as Machine>⟧.answers wire.old old Fault.LongLine wire.new }
+    ensures faults { IfErr result IsServeFault }
+{
+    let mut host = host_of(alloc, client, max_moves)?;
+    served(talk::answer_all(alloc, &mut host, wire))
 }
 
 // What has become of a client whose lines were answered so: a session that is over, or not.
@@ -66,7 +84,7 @@ fn accept<R: Net<Listener = TcpListener, Stream = TcpStream> + Print + AllocGlob
     let Ok(address) = listener.local_addr() else {
         return Err(Fault::Read);
     };
-    let line = format!(in rt.alloc(); "listening {}\n", address.port())?;
+    let line = listening(rt.alloc(), address.port())?;
     streams::write_all(&mut io::writer(rt), line.as_bytes())?;
     match listener.accept() {
         Ok((client, _)) => Ok(client),
@@ -74,13 +92,17 @@ fn accept<R: Net<Listener = TcpListener, Stream = TcpStream> + Print + AllocGlob
     }
 }
 
+// The line that tells the port, and LF.
+fn listening(alloc: Global, port: u16) -> Result<String, AllocError>
+    ensures { IfOk result (λ text. string_bytes text ≡ port_line port ++ 10 ∷ []) }
+{
+    format!(in alloc; "listening {port}\n")
+}
+
 // A host to which nothing has come.
 fn host_of(alloc: Global, client: Color, max_moves: u32) -> Result<Host, Fault>
     requires { (1 ≤ max_moves) × (max_moves ≤ positions.max_moves) }
-    ensures names { IfOk result (λ host. (host.config.id.bytes ≡ codes "local") × (host.config.name.bytes ≡ codes "host")) }
-    ensures client { IfOk result (λ host. host.config.client ≡ client) }
-    ensures moves { IfOk result (λ host. host.config.max_moves ≡ max_moves) }
-    ensures state { IfOk result (λ host. host.state ≡ waiting) }
+    ensures host { IfOk result (IsOffered client max_moves) }
     ensures faults { IfErr result (λ fault. fault ≡ Fault.OutOfMemory) }
 {
     let config = HostConfig {

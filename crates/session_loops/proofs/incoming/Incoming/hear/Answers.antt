@@ -26,7 +26,7 @@ pub loop-preserved : goal.loop-preserved
 loop-preserved g c = record {
   none = none_then_none _ _ _ c.loop.invariant.none (c.in_ok-heard.ensures.none c.in_default.is);
   stays = λ over.
-    let same = c.loop.invariant.stays over in
-    let failed = c.in_ok-heard.ensures.stays (ap (λ (x : Coming). x.is_over) same ∙ over) in
-    absurd cc;
+      let same = c.loop.invariant.stays over in
+      let failed = c.in_ok-heard.ensures.stays (ap (λ (x : Coming). x.is_over) same ∙ over) in
+      absurd cc;
 }
