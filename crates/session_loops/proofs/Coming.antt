@@ -1,5 +1,5 @@
 -- What a side's reader gave, as an event of the bridge.
-use Rattle.std.proofs.Common.{◌≡◌, ◌⊎◌, inl, inr, ◌≤◌, ℕ, true, List, length, Option, Result, Ok, Err, IfOk, refl}
+use Rattle.std.proofs.Common.{◌≡◌, ◌⊎◌, inl, inr, ◌≤◌, true, length, Result, Ok, Err, IfOk, refl}
 use Rattle.session_loops.specs.declared.bridging.Seat.{Seat}
 use Rattle.session_loops.specs.declared.bridging.Seat.TheVariants.{Engine, Server}
 use Rattle.session_loops.specs.declared.fault.Fault.{Fault}
