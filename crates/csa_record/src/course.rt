@@ -19,6 +19,9 @@ use shogi_rules::{Line, MAX_MOVES, Move, PlayFault};
 use std::alloc::Global;
 use std::marker::Model;
 
+// How many times there is room for from the start, as `Line` has it for moves.
+const FIRST_ROOM: usize = 256;
+
 // An ending, and its time in thousandths of a second.
 #[derive(Clone, Copy)]
 struct Ended {
@@ -55,7 +58,7 @@ impl Course {
         let _side = start.side();
         Ok(Course {
             line: Line::new(alloc, start)?,
-            times: Vec::new(alloc),
+            times: Vec::with_capacity(alloc, FIRST_ROOM)?,
             ending: None,
         })
     }
@@ -288,6 +291,7 @@ fn write_each(
 }
 
 // Adds the line of a move of that side: the text of `csa_move`, as bytes.
+#[inline(always)]
 fn write_move(out: &mut Vec<u8>, color: Color, mv: &Move) -> Result<(), OutOfMemory>
     ensures { OnOk result (out.new.items ≡ out.old.items ++ ended_line (walked color mv.now)) }
 {
@@ -312,11 +316,22 @@ fn digits_of(square: Square) -> [u8; 2]
 }
 
 // Adds the sign and the squares of a move, its kind, and the end of the line.
+#[inline(always)]
 fn write_squares(out: &mut Vec<u8>, squares: &[u8; 5], kind: Kind) -> Result<(), OutOfMemory>
     ensures { OnOk result (out.new.items ≡ out.old.items ++ (squares.now ++ (kind_code kind ++ 10 ∷ []))) }
 {
-    out.extend_from_slice(squares)?;
-    write_line(out, kind_text(kind).as_bytes())
+    let [sign, file, rank, to_file, to_rank] = *squares;
+    let [first, second] = letters_of(kind);
+    out.extend_from_slice(&[sign, file, rank, to_file, to_rank, first, second, b'\n'])?;
+    Ok(())
+}
+
+// The two letters of `kind_text`.
+fn letters_of(kind: Kind) -> [u8; 2]
+    ensures { result ≡ kind_code kind }
+{
+    let letters = kind_text(kind).as_bytes();
+    [letters[0], letters[1]]
 }
 
 fn write_ending(out: &mut Vec<u8>, ending: Option<Ended>) -> Result<(), OutOfMemory>
@@ -330,6 +345,7 @@ fn write_ending(out: &mut Vec<u8>, ending: Option<Ended>) -> Result<(), OutOfMem
     write_time(out, ended.time)
 }
 
+#[inline(always)]
 fn write_time(out: &mut Vec<u8>, time: Option<u64>) -> Result<(), OutOfMemory>
     ensures { OnOk result (out.new.items ≡ out.old.items ++ flat_map ended_line (time_items time)) }
 {

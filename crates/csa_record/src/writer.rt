@@ -10,6 +10,12 @@ use crate::start_writer::write_start;
 use shogi_board::{Color, OutOfMemory};
 use std::alloc::Global;
 
+// How many bytes there is room for from the start: for what stands before the moves, and for each move with its time. Most
+// records take no more.
+const FRONT_ROOM: usize = 1024;
+
+const MOVE_ROOM: usize = 16;
+
 /// The canonical text of the record's game, LF after each line.
 ///
 /// Two records have the same canonical text exactly if their games are the same, and the text tells
@@ -18,7 +24,8 @@ pub fn write(alloc: Global, game: &Record) -> Result<Vec<u8>, OutOfMemory>
     ensures text { IfOk result (λ text. text.items ≡ canon game.now) }
     ensures read_back { IfOk result (λ text. Tells text.items game.now) }
 {
-    let mut text = Vec::new(alloc);
+    let room = FRONT_ROOM + game.line().moves().len() * MOVE_ROOM;
+    let mut text = Vec::with_capacity(alloc, room)?;
     write_lines(&mut text, game)?;
     // a clause of `ending` says that it is a game
     let _ending = game.ending();

@@ -37,6 +37,7 @@ pub(crate) fn read_square(bytes: &[u8]) -> Option<Square>
 }
 
 // The kind of this code.
+#[inline(always)]
 pub(crate) fn read_kind(code: &[u8]) -> Option<Kind>
     ensures { MatchOption result
         ((k : Kind) → code.now ≡ kind_code k → ⊥)

@@ -148,6 +148,7 @@ fn read_signed(color: Color, squares: &[u8]) -> Result<Item<'_>, TextFault>
 }
 
 // Behind `T`.
+#[inline(always)]
 fn read_spent(text: &[u8]) -> Result<Item<'_>, TextFault>
     ensures { IsRead (84 ∷ text.now) result }
 {
