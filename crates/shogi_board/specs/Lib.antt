@@ -4,6 +4,7 @@ pub mod Cells
 pub mod Danger
 pub mod Kings
 pub mod Layout
+pub mod Moved
 pub mod Moves
 pub mod Neighbours
 pub mod Packing

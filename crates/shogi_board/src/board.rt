@@ -1,7 +1,8 @@
-ghost use Rattle.std.specs.Prelude.{◌≡◌, ◌≤◌, ◌<◌, ◌↔◌, IsTrue, MatchOption, count_by, slice_set, length};
+ghost use Rattle.std.specs.Prelude.{◌≡◌, ◌≤◌, ◌<◌, ◌↔◌, IsTrue, MatchOption, Some, count_by, slice_set, length};
 ghost use Rattle.shogi_board.specs.Cells.{at, piece, even_cells, no_cells, HasPawnOnFile};
 ghost use Rattle.shogi_board.specs.Danger.{ComesFrom, SeenTowards};
 ghost use Rattle.shogi_board.specs.Attackers.{AttackAcross, AttackInSight, IsAttackedByJump, IsAttackedInLine};
+ghost use Rattle.shogi_board.specs.Kings.{IsKingOf};
 ghost use Rattle.shogi_board.specs.Moves.{IsNear, IsRay};
 ghost use Rattle.shogi_board.specs.Reach.{Reach, Attack, Attacked, InCheck, InSight, Slides, Steps};
 ghost use Rattle.shogi_board.specs.Setup.{holds};
@@ -176,6 +177,7 @@ impl Board {
     }
 
     // Whether an enemy piece of that colour reaches the square, where it is known where such a piece may be.
+    #[inline(always)]
     pub(crate) fn attacked_from(&self, color: Color, square: Square, danger: Danger) -> bool
         requires { ComesFrom self.now color square danger }
         ensures { IsTrue result ↔ Attacked self.now color square }
@@ -188,6 +190,7 @@ impl Board {
     }
 
     // The same, where such a piece is in sight in the direction in which the other square lies.
+    #[inline(always)]
     fn attacked_towards(&self, color: Color, square: Square, other: Square) -> bool
         requires { (a : Square) → Attack self.now color a square → SeenTowards self.now square other a }
         ensures { IsTrue result ↔ Attacked self.now color square }
@@ -288,6 +291,26 @@ impl Board {
     {
         match self.king(color) {
             Some(king) => self.attacked(color, king),
+            None => false,
+        }
+    }
+
+    // Whether that side's king, which stands there if it has one, is attacked.
+    #[inline(always)]
+    pub(crate) fn king_is_attacked(
+        &self,
+        color: Color,
+        king: Option<Square>,
+        danger: Danger,
+    ) -> bool
+        requires squares { length self.now ≡ 81 }
+        requires one_king { kings_of self.now color ≤ 1 }
+        requires king { IsKingOf self.now color king }
+        requires danger { (s : Square) → king ≡ Some s → ComesFrom self.now color s danger }
+        ensures { IsTrue result ↔ InCheck self.now color }
+    {
+        match king {
+            Some(king) => self.attacked_from(color, king, danger),
             None => false,
         }
     }

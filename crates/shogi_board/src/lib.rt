@@ -10,6 +10,7 @@ mod hand;
 mod kind;
 pub mod laws;
 mod memory;
+mod moving;
 mod packed;
 mod position;
 mod setup;

@@ -1,17 +1,13 @@
-ghost use Rattle.std.specs.Prelude.{◌≡◌, ◌≤◌, true, false, None, Some, MatchResult, OnOk, OnErr, IfOk, ◌↔◌, IsTrue};
-ghost use Rattle.shogi_board.specs.Danger.{ComesFrom};
+ghost use Rattle.std.specs.Prelude.{◌≡◌, ◌≤◌, false, None, Some, MatchResult, OnOk, OnErr, IfOk, ◌↔◌, IsTrue};
 ghost use Rattle.shogi_board.specs.Pieces.{opponent};
 ghost use Rattle.shogi_board.specs.Sound.{IsSound};
 ghost use Rattle.shogi_board.specs.Totals.{total, limit, IsWithinTotals};
 ghost use Rattle.shogi_board.specs.Reach.{InCheck};
-ghost use Rattle.shogi_board.specs.Kings.{IsKingOf};
 ghost use Rattle.shogi_board.specs.Setup.{empty_layout, even_layout, position_of, is_full, place_fault, placed, add_fault, take_off_fault, taken_off, take_hand_fault, rest_fault, with_rest, count_with_rest, with_hand, hand_of, rest_to, one_more, one_less};
 ghost use Rattle.shogi_board.specs.declared.setup.SetupFault.TheVariants.{OpponentInCheck};
-ghost use Rattle.shogi_board.specs.declared.square.Square.{Square};
 
 use crate::board::Board;
 use crate::color::Color;
-use crate::danger::Danger;
 use crate::hand::Hand;
 use crate::kind::{Kind, Piece};
 use crate::position::Position;
@@ -268,47 +264,6 @@ impl Setup {
             white: self.white,
             side,
         })
-    }
-
-    /// Makes the position the one that `finish` answers, where it does not refuse, and says whether it did. Else the
-    /// position stays as it was.
-    ///
-    /// The king is the square of the other side's king, or None where that side has none, and the danger says where that
-    /// king may be attacked from.
-    pub fn settle(
-        &self,
-        side: Color,
-        king: Option<Square>,
-        danger: Danger,
-        position: &mut Position,
-    ) -> bool
-        requires king { IsKingOf self.now.board (opponent side) king }
-        requires danger { (s : Square) → king ≡ Some s → ComesFrom self.now.board (opponent side) s danger }
-        ensures answer { IsTrue result ↔ (InCheck self.now.board (opponent side) → ⊥) }
-        ensures value { result ≡ true → position.new ≡ position_of self.now side }
-        ensures unchanged { result ≡ false → position.new ≡ position.old }
-    {
-        if self.attacks_king(side.opponent(), king, danger) {
-            return false;
-        }
-        position.board = self.board;
-        position.black = self.black;
-        position.white = self.white;
-        position.side = side;
-        true
-    }
-
-    // Whether that king is attacked.
-    fn attacks_king(&self, color: Color, king: Option<Square>, danger: Danger) -> bool
-        requires king { IsKingOf self.now.board color king }
-        requires danger { (s : Square) → king ≡ Some s → ComesFrom self.now.board color s danger }
-        ensures value { IsTrue result ↔ InCheck self.now.board color }
-        ensures within { IsWithinTotals self.now.board self.now.black self.now.white }
-    {
-        match king {
-            Some(king) => self.board.attacked_from(color, king, danger),
-            None => false,
-        }
     }
 
     // Whether the king of the other side stands and is attacked, with that side to move.

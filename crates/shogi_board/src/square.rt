@@ -16,6 +16,7 @@ impl Square {
     ghost use Rattle.shogi_board.specs.Between.{Between, IsDirection, IsDistance, IsNowhere};
     ghost use Rattle.shogi_board.specs.Moves.{IsRay};
     ghost use Rattle.shogi_board.specs.Squares.{file_of, rank_of, place, IsAway};
+    ghost use Rattle.shogi_board.specs.declared.direction.Direction.{Direction};
 
     /// The square on that file and rank, or None where either lies outside 1 to 9.
     pub fn new(file: u8, rank: u8) -> Option<Square>
@@ -126,12 +127,27 @@ impl Square {
     pub(crate) fn towards(self, other: Square) -> Option<Direction>
         ensures { MatchOption result (IsNowhere self other) (λ d. IsRay d × IsDirection self other d) }
     {
+        if !self.lines_up(other) {
+            return None;
+        }
         let direction = self.direction_to(other);
         let distance = self.distance(other);
         if distance == 0 || !self.is_away(direction, distance, other) {
             return None;
         }
         Some(direction)
+    }
+
+    // Whether the other square lies on the file, the rank or a diagonal.
+    fn lines_up(self, other: Square) -> bool
+        ensures { (d : Direction) (n : ℕ) → IsRay d → IsAway self d n other → result ≡ true }
+    {
+        let files = self.file.abs_diff(other.file);
+        let ranks = self.rank.abs_diff(other.rank);
+        if files == 0 || ranks == 0 {
+            return true;
+        }
+        files == ranks
     }
 
     // How many files or ranks lie from the one square to the other, whichever are more.

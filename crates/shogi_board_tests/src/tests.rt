@@ -431,31 +431,12 @@ fn calls_without_questions_change_the_same(rt: HostRuntime) -> Result<(), Fail> 
     Ok(())
 }
 
-// Whether `settle` answers for that side to move as `finish` does, and makes the same position.
-fn settles_as_finished(position: &Position, side: Color) -> bool {
-    let setup = position.setup();
-    let mut made = *position;
-    let settled = setup.settle(
-        side,
-        position.king(side.opponent()),
-        Danger::Anywhere,
-        &mut made,
-    );
-    match setup.finish(side) {
-        Ok(finished) => settled && made == finished && made.side() == side,
-        Err(_) => !settled && made == *position,
-    }
-}
-
 // White's lance on 51 attacks black's king, so white may not be to move.
 #[test]
-fn settles_where_finish_answers(rt: HostRuntime) -> Result<(), Fail> {
+fn finishes_where_the_other_king_is_safe(rt: HostRuntime) -> Result<(), Fail> {
     let checked = position("-51KY,+57OU")?;
     assert!(rt; checked.setup().finish(Color::White) == Err(SetupFault::OpponentInCheck));
-    for position in [checked, Position::even(), position("+33TO,-55FU")?] {
-        assert!(rt; settles_as_finished(&position, Color::White));
-        assert!(rt; settles_as_finished(&position, Color::Black));
-    }
+    assert!(rt; checked.setup().finish(Color::Black) == Ok(checked));
     Ok(())
 }
 

@@ -1,17 +1,11 @@
 -- The first broken rule of a list and of a longer one.
-use Rattle.std.proofs.Common.{◌≡◌, inl, inr, List, [], ◌∷◌, ◌++◌, Option, Some, ap, ◌∙◌, refl}
-use Rattle.shogi_board.specs.Layout.{Layout}
-use Rattle.shogi_board.specs.Pieces.{opponent}
+use Rattle.std.proofs.Common.{inl, inr, List, [], ◌∷◌, ◌++◌, Option, Some}
 use Rattle.shogi_board.specs.Placed.{Placed}
-use Rattle.shogi_board.specs.Reach.{InCheck}
-use Rattle.shogi_board.specs.Setup.{layout_of, position_of}
 use Rattle.shogi_board.specs.declared.color.Color.{Color}
-use Rattle.shogi_rules.specs.After.{after}
-use Rattle.shogi_rules.specs.Legal.{FitsBoard, KingSafe, Keeps}
+use Rattle.shogi_rules.specs.Legal.{FitsBoard, Keeps}
 use Rattle.shogi_rules.specs.Rules.{Kept, board_rules, keeping_rules, IsFirstBroken}
 use Rattle.shogi_rules.specs.declared.moves.Move.{Move}
 use Rattle.shogi_rules.specs.declared.rule.Rule.{Rule}
-use Rattle.shogi_rules.proofs.Forms.{opponent-twice}
 
 abbrev pub AllKept : (Rule → Type 0) → List Rule → Type 0
 AllKept kept [] = Unit {0}
@@ -40,18 +34,3 @@ pub all-kept : (ps : List Placed) (p : Placed) (c : Color) (m : Move) → Keeps 
 all-kept ps p c m k =
     let f = k.fits in
     (f.has_piece, (f.kind_fits, (f.target_free, (f.reaches, (f.may_promote, (f.further_move, (f.lone_pawn, (k.king_safe, tt))))))))
-
--- what `finish` looks at is the mover's king after the move
-pub settled-safe : (p : Placed) (m : Move) (s : Layout) (other : Color) → s ≡ layout_of (after p m) → other ≡ opponent p.side → (InCheck s.board (opponent other) → ⊥) → KingSafe p m
-settled-safe p m s other e d safe check =
-    let back : opponent other ≡ p.side = ap opponent d ∙ opponent-twice p.side in
-    safe (rw (e, back) check)
-
-pub settled-unsafe : (p : Placed) (m : Move) (s : Layout) (other : Color) → s ≡ layout_of (after p m) → other ≡ opponent p.side → KingSafe p m → InCheck s.board (opponent other) → ⊥
-settled-unsafe p m s other e d safe check =
-    let back : opponent other ≡ p.side = ap opponent d ∙ opponent-twice p.side in
-    let there : InCheck (after p m).board p.side = rw (e, back) at check in
-    safe there
-
-pub settled-is : (p : Placed) (m : Move) (s : Layout) (other : Color) → s ≡ layout_of (after p m) → other ≡ opponent p.side → position_of s other ≡ after p m
-settled-is p m s other e d = rw (e, d) refl

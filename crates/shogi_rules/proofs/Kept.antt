@@ -156,20 +156,24 @@ bag-whole : (p : Placed) (m : Move) → length (bag_of p p.side) ≡ 7 → lengt
 bag-whole p (Walk from to its_kind) seven = captured-length (bag_of p p.side) (at p.board to) seven
 bag-whole p (Put to its_kind) seven = length-set _ _ _ ∙ seven
 
-pub leads-to-sound : (p : Placed) (m : Move) → IsSound p → Keeps p m → IsSound (after p m)
-leads-to-sound p m sound kept =
+-- the totals hold after a move
+pub after-within : (p : Placed) (m : Move) → IsSound p → FitsBoard p m → IsWithinTotals (after p m).board (after p m).black (after p m).white
+after-within p m sound fits =
     let w = sound.within in
     let seven = bag-whole p m (own-seven p p.side w) in
     record {
-      within = record {
-        squares = board-whole p m w.squares;
-        black_kinds = black-seven p p.side (bag_after p m) w.black_kinds seven;
-        white_kinds = white-seven p p.side (bag_after p m) w.white_kinds seven;
-        totals = λ k. let e = pieces-stay p m k sound kept.fits in omega (arith, e, w.totals k);
-        kings = λ c. kings-stay p m c sound kept.fits;
-      };
-      safe = λ check. kept.king_safe (rw (opponent-twice p.side) at check);
+      squares = board-whole p m w.squares;
+      black_kinds = black-seven p p.side (bag_after p m) w.black_kinds seven;
+      white_kinds = white-seven p p.side (bag_after p m) w.white_kinds seven;
+      totals = λ k. let e = pieces-stay p m k sound fits in omega (arith, e, w.totals k);
+      kings = λ c. kings-stay p m c sound fits;
     }
+
+pub leads-to-sound : (p : Placed) (m : Move) → IsSound p → Keeps p m → IsSound (after p m)
+leads-to-sound p m sound kept = record {
+  within = after-within p m sound kept.fits;
+  safe = λ check. kept.king_safe (rw (opponent-twice p.side) at check);
+}
 
 pub game-sound : (start : Placed) (moves : List Move) → IsSound start → IsGame start moves → IsSound (position_after start moves)
 game-sound start _ sound begun = sound

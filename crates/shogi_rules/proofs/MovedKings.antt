@@ -4,11 +4,9 @@ use Rattle.std.specs.Prelude.{MatchOption}
 use Rattle.std.proofs.lemmas.Bool.{cases_eq}
 use Rattle.shogi_board.specs.Cells.{Cells, at, piece}
 use Rattle.shogi_board.specs.Kings.{IsKingOf}
-use Rattle.shogi_board.specs.Layout.{Layout}
 use Rattle.shogi_board.specs.Pieces.{is_king, opponent}
 use Rattle.shogi_board.specs.Placed.{Placed}
 use Rattle.shogi_board.specs.Sound.{IsSound}
-use Rattle.shogi_board.specs.Setup.{layout_of}
 use Rattle.shogi_board.specs.Squares.{place}
 use Rattle.shogi_board.specs.declared.color.Color.{Color}
 use Rattle.shogi_board.specs.declared.color.Color.TheVariants.{Black, White}
@@ -168,13 +166,6 @@ kings-after p m own other next sound fits kings moved stays = (
   other-stays p m other sound fits kings.1,
   subst (λ (c : Color). IsKingOf (board_after p m) c next) (sym (opponent-twice p.side)) (own-moved p m own next sound fits kings.0 moved stays),
 )
-
--- for the setup after the move, with the other side to move
-pub settled-king : (p : Placed) (m : Move) (s : Layout) (color : Color) (king next : Option Square) → s ≡ layout_of (after p m) → color ≡ opponent p.side → IsSound p → FitsBoard p m → IsKingOf p.board p.side king → (kind_after m ≡ King → next ≡ Some (target m)) → ((kind_after m ≡ King → ⊥) → next ≡ king) → IsKingOf s.board (opponent color) next
-settled-king p m s color king next made e sound fits was moved stays =
-    let back : opponent color ≡ p.side = ap opponent e ∙ opponent-twice p.side in
-    let board : s.board ≡ board_after p m = ap (λ (l : Layout). l.board) made in
-    rw (board, back) (own-moved p m king next sound fits was moved stays)
 
 pub kings-played : (ps : List Placed) (last p : Placed) (color : Color) (m : Move) (own other king : Option Square) (next : Placed) → last ≡ p → next ≡ after p m → IsSound last → IsFirstBroken (Kept ps p color m) all_rules None → AreKings last own other → (kind_after m ≡ King → king ≡ Some (target m)) → ((kind_after m ≡ King → ⊥) → king ≡ own) → AreKings next other king
 kings-played ps last p color m own other king next e made sound none kings moved stays =

@@ -1,12 +1,8 @@
 -- A king that was not attacked is attacked after a move by the piece that moved, or across the square which that left.
-use Rattle.std.proofs.Common.{◌≡◌, ◌≢◌, ℕ, zero, suc, ◌+◌, ◌*◌, ◌<◌, ◌≤◌, ◌↔◌, IsTrue, Bool, true, false, not, Option, Some, None, ◌⊎◌, inl, inr, Any, arith, ap, sym, ◌∙◌, subst, refl, get_or-set_other}
+use Rattle.std.proofs.Common.{◌≡◌, ◌≢◌, ℕ, zero, suc, ◌+◌, ◌*◌, ◌<◌, ◌≤◌, ◌↔◌, IsTrue, Bool, true, false, not, Some, None, ◌⊎◌, inl, inr, Any, arith, ap, sym, ◌∙◌, subst, refl, get_or-set_other}
 use Rattle.std.proofs.lemmas.Bool.{cases_eq, cases_lt}
 use Rattle.shogi_board.specs.Cells.{at, piece}
-use Rattle.shogi_board.specs.Danger.{ComesFrom, SeenTowards}
-use Rattle.shogi_board.specs.Kings.{IsKingOf}
-use Rattle.shogi_board.specs.Layout.{Layout}
-use Rattle.shogi_board.specs.Setup.{layout_of}
-use Rattle.shogi_board.specs.declared.danger.Danger.{Danger}
+use Rattle.shogi_board.specs.Danger.{SeenTowards}
 use Rattle.shogi_board.specs.Moves.{rays, turned_for}
 use Rattle.shogi_board.specs.Pieces.{opponent}
 use Rattle.shogi_board.specs.Placed.{Placed}
@@ -227,16 +223,6 @@ other-reached p next m s sound made reach =
 pub unreached : (next : Placed) (m : Move) (s to : Square) (b : Bool) → to ≡ target m → b ≡ false → (IsTrue b ↔ Reach next.board to s) → Reach next.board (target m) s → ⊥
 unreached next m s to b e none d reach =
     let yes = d.1 (subst (λ (t : Square). Reach next.board t s) (sym e) reach) in cc
-
--- for the setup after the move, with the other side to move
-pub settled-danger : (p : Placed) (m : Move) (l : Layout) (color : Color) (king : Option Square) (danger : Danger) (s : Square) → l ≡ layout_of (after p m) → color ≡ opponent p.side → king ≡ Some s
-    → IsKingOf l.board (opponent color) king → ((t : Square) → at (board_after p m) t ≡ piece p.side King → ComesFrom (board_after p m) p.side t danger) → ComesFrom l.board (opponent color) s danger
-settled-danger p m l color king danger s made e is stands comes =
-    let back : opponent color ≡ p.side = ap opponent e ∙ opponent-twice p.side in
-    let board : l.board ≡ board_after p m = ap (λ (x : Layout). x.board) made in
-    let there : IsKingOf l.board (opponent color) (Some s) = subst (λ (k : Option Square). IsKingOf l.board (opponent color) k) is stands in
-    let here : at (board_after p m) s ≡ piece p.side King = rw (board, back) at there in
-    rw (board, back) (comes s here)
 
 pub safe-king : {P : Type 0} (b : Bool) → (IsTrue b ↔ P) → not b ≡ true → P → ⊥
 safe-king b d e h = let yes = d.1 h in cc

@@ -1,16 +1,13 @@
 -- The position after a move of the side to move.
-use Rattle.std.specs.Prelude.{ℕ, List, Option, Some, None, slice_set}
-use Rattle.shogi_board.specs.declared.color.Color.{Color}
-use Rattle.shogi_board.specs.declared.color.Color.TheVariants.{Black, White}
-use Rattle.shogi_board.specs.declared.kind.Piece.{Piece}
+use Rattle.std.specs.Prelude.{ℕ, List, None, slice_set}
 use Rattle.shogi_board.specs.Cells.{Cells, at, piece}
 use Rattle.shogi_board.specs.Pieces.{opponent}
 use Rattle.shogi_board.specs.Placed.{Placed, bag_of}
-use Rattle.shogi_board.specs.Setup.{one_more, one_less}
+use Rattle.shogi_board.specs.Setup.{one_less}
 use Rattle.shogi_board.specs.Squares.{place}
 use Rattle.shogi_rules.specs.declared.moves.Move.{Move}
 use Rattle.shogi_rules.specs.declared.moves.Move.TheVariants.{Walk, Put}
-use Rattle.shogi_rules.specs.Kinds.{unpromoted}
+pub use Rattle.shogi_board.specs.Moved.{with_bag, with_captured}
 
 -- the piece leaves its square and stands on the other, of the kind that the move names
 abbrev pub board_after : Placed → Move → Cells
@@ -18,19 +15,10 @@ board_after p (Walk from to kind) =
     slice_set (slice_set p.board (place from) None) (place to) (piece p.side kind)
 board_after p (Put to kind) = slice_set p.board (place to) (piece p.side kind)
 
--- a bag with what stood on a square, unpromoted
-abbrev pub with_captured : List ℕ → Option Piece → List ℕ
-with_captured bag None = bag
-with_captured bag (Some captured) = one_more bag (unpromoted captured.kind)
-
 -- the mover's bag
 abbrev pub bag_after : Placed → Move → List ℕ
 bag_after p (Walk from to _) = with_captured (bag_of p p.side) (at p.board to)
 bag_after p (Put to kind) = one_less (bag_of p p.side) kind
-
-abbrev pub with_bag : Placed → Color → List ℕ → Placed
-with_bag p Black bag = record p { black = bag }
-with_bag p White bag = record p { white = bag }
 
 -- the other side is to move
 abbrev pub after : Placed → Move → Placed

@@ -12,21 +12,17 @@ use crate::rule::Rule;
 use crate::search::is_pawn_drop;
 use shogi_board::{Color, Position};
 
-// Makes `next` the position after the move, or says which of the rules 3 to 11 the side to move breaks first by it.
-pub(crate) fn make_by_side(
-    position: &Position,
-    own: OwnKing,
-    mv: &Move,
-    next: &mut Position,
-) -> Option<Rule>
-    requires { IsOwnKing position.now own }
-    ensures broken { IsFirstBroken (KeptAlone position.now mv.now) move_rules result }
-    ensures value { result ≡ None → next.new ≡ after position.now mv.now }
+// Makes the position the one after the move, or says which of the rules 3 to 11 the side to move breaks first by it.
+#[inline(always)]
+pub(crate) fn make_by_side(position: &mut Position, own: OwnKing, mv: &Move) -> Option<Rule>
+    requires { IsOwnKing position.old own }
+    ensures broken { IsFirstBroken (KeptAlone position.old mv.now) move_rules result }
+    ensures value { result ≡ None → position.new ≡ after position.old mv.now }
 {
-    match make_if_kept(position, own, mv, next) {
+    match make_if_kept(position, own, mv) {
         Some(rule) => Some(rule),
         None => {
-            if is_pawn_drop(mv) && is_mated(next) {
+            if is_pawn_drop(mv) && is_mated(position) {
                 return Some(Rule::PawnDropMate);
             }
             None
@@ -39,7 +35,7 @@ fn broken_by_side(position: &Position, mv: &Move) -> Option<Rule>
     ensures { IsFirstBroken (KeptAlone position.now mv.now) move_rules result }
 {
     let mut next = *position;
-    make_by_side(position, own_king(position), mv, &mut next)
+    make_by_side(&mut next, own_king(position), mv)
 }
 
 /// The first rule that the move of that side breaks, in the order of their numbers, or None exactly where it is legal.

@@ -13,7 +13,7 @@ use crate::moves::Move;
 use crate::playing::{OwnKing, gives_check, in_check, king_after};
 use crate::repetition::{verdict_by_moves, verdict_of_stretch};
 use crate::rule::Rule;
-use crate::seen::{Seen, packed_after, stamp, stamp_after};
+use crate::seen::{FIRST_ROOM, Seen, packed_after, stamp, stamp_after};
 use shogi_board::{Color, Packed, Position, Square};
 use std::alloc::{AllocFailed, Global};
 use std::marker::Model;
@@ -109,7 +109,7 @@ impl Line {
             start,
             last: start,
             repeats,
-            moves: Vec::new(alloc),
+            moves: Vec::with_capacity(alloc, FIRST_ROOM)?,
             seen,
             stamp,
             own_king: start.king(side),
@@ -162,8 +162,10 @@ impl Line {
         self.last.side()
     }
 
-    // Makes `next` the position after the move, or says which of the rules 3 to 11 the side to move breaks first by it.
+    // Makes the last position the one after the move, or says which of the rules 3 to 11 the side to move breaks first by it.
+    #[inline(always)]
     fn make_next(&self, mv: &Move, next: &mut Position) -> Option<Rule>
+        requires { next.old ≡ now_of self.now }
         ensures broken { IsFirstBroken (Kept (all_of self.now) (now_of self.now) (now_of self.now).side mv.now) move_rules result }
         ensures value { result ≡ None → next.new ≡ after (now_of self.now) mv.now }
     {
@@ -171,11 +173,13 @@ impl Line {
             square: self.own_king,
             safe: !self.in_check,
         };
-        make_by_side(&self.last, own, mv, next)
+        make_by_side(next, own, mv)
     }
 
-    // Makes `next` the position after the move, or says what `play` refuses, memory aside.
+    // Makes the last position the one after the move, or says what `play` refuses, memory aside.
+    #[inline(always)]
     fn answer(&self, mover: Color, mv: &Move, next: &mut Position) -> Result<(), PlayFault>
+        requires { next.old ≡ now_of self.now }
         ensures { MatchResult result
             (λ _. Answers self.now mover mv.now None × (next.new ≡ after (now_of self.now) mv.now))
             (λ fault. Answers self.now mover mv.now (Some fault)) }

@@ -1,9 +1,8 @@
-ghost use Rattle.std.specs.Prelude.{◌≡◌, ◌↔◌, IsTrue, true, MatchOption, MatchResult, [], ◌∷◌, None, Some};
+ghost use Rattle.std.specs.Prelude.{◌≡◌, ◌↔◌, IsTrue, true, false, IfSome, MatchOption, MatchResult, [], ◌∷◌, None, Some};
 ghost use Rattle.shogi_board.specs.Cells.{at, piece};
 ghost use Rattle.shogi_board.specs.Danger.{ComesFrom};
 ghost use Rattle.shogi_board.specs.Kings.{IsKingOf};
 ghost use Rattle.shogi_board.specs.Reach.{InCheck};
-ghost use Rattle.shogi_board.specs.Setup.{layout_of};
 ghost use Rattle.shogi_board.specs.declared.kind.Kind.TheVariants.{King};
 ghost use Rattle.shogi_board.specs.declared.square.Square.{Square};
 ghost use Rattle.shogi_rules.specs.After.{after, board_after};
@@ -14,54 +13,13 @@ ghost use Rattle.shogi_rules.specs.Rules.{KeptAlone, keeping_rules, IsFirstBroke
 use crate::board_rules::broken_on_board;
 use crate::moves::Move;
 use crate::rule::Rule;
-use shogi_board::{Danger, Kind, Position, Setup, Square, attacked, attacked_from, reaches};
+use shogi_board::{Danger, Kind, Position, Square, attacked, attacked_from, reaches};
 
 // Where the king of the side to move stands, if it has one, and whether it is known not to be attacked.
 #[derive(Clone, Copy)]
 pub(crate) struct OwnKing {
     pub square: Option<Square>,
     pub safe: bool,
-}
-
-// Makes of the position's setup what stands after a walk that fits the board.
-fn walk(setup: &mut Setup, position: &Position, from: Square, to: Square, kind: Kind)
-    requires fits { FitsBoard position.now (Move.Walk from to kind) }
-    requires start { setup.old ≡ layout_of position.now }
-    ensures { setup.new ≡ layout_of (after position.now (Move.Walk from to kind)) }
-{
-    let side = position.side();
-    setup.clear(from);
-    match position.piece_at(to) {
-        None => setup.put(side, to, kind),
-        Some(captured) => {
-            setup.clear(to);
-            setup.put(side, to, kind);
-            setup.put_in_hand(side, captured.kind.unpromoted());
-        }
-    }
-}
-
-// Makes of the position's setup what stands after a drop that fits the board.
-fn drop_piece(setup: &mut Setup, position: &Position, to: Square, kind: Kind)
-    requires fits { FitsBoard position.now (Move.Put to kind) }
-    requires start { setup.old ≡ layout_of position.now }
-    ensures { setup.new ≡ layout_of (after position.now (Move.Put to kind)) }
-{
-    let side = position.side();
-    setup.take_from_hand(side, kind);
-    setup.put(side, to, kind);
-}
-
-// Makes of the position's setup what stands after a move that fits the board.
-fn make(setup: &mut Setup, position: &Position, mv: &Move)
-    requires fits { FitsBoard position.now mv.now }
-    requires start { setup.old ≡ layout_of position.now }
-    ensures { setup.new ≡ layout_of (after position.now mv.now) }
-{
-    match *mv {
-        Move::Walk { from, to, kind } => walk(setup, position, from, to, kind),
-        Move::Put { to, kind } => drop_piece(setup, position, to, kind),
-    }
 }
 
 // Where the mover's king stands after the move.
@@ -94,19 +52,24 @@ fn danger_after(position: &Position, own: OwnKing, mv: &Move) -> Danger
     }
 }
 
-// Makes `next` the position after a move that fits the board, where it leaves the mover's king safe, and says whether it does.
-fn make_if_safe(position: &Position, own: OwnKing, mv: &Move, next: &mut Position) -> bool
-    requires fits { FitsBoard position.now mv.now }
-    requires king { IsOwnKing position.now own }
-    ensures safe { IsTrue result ↔ KingSafe position.now mv.now }
-    ensures value { result ≡ true → next.new ≡ after position.now mv.now }
+// Makes the position the one after a move that fits the board, where it leaves the mover's king safe, and says whether it
+// does; else the position stays as it was.
+#[inline(always)]
+fn make_if_safe(position: &mut Position, own: OwnKing, mv: &Move) -> bool
+    requires fits { FitsBoard position.old mv.now }
+    requires king { IsOwnKing position.old own }
+    ensures safe { IsTrue result ↔ KingSafe position.old mv.now }
+    ensures value { result ≡ true → position.new ≡ after position.old mv.now }
+    ensures unchanged { result ≡ false → position.new ≡ position.old }
 {
-    let other = position.side().opponent();
+    // a clause of `side` says that the position is sound
+    let _side = position.side();
     let king = king_after(own.square, mv);
     let danger = danger_after(position, own, mv);
-    let mut setup = position.setup();
-    make(&mut setup, position, mv);
-    setup.settle(other, king, danger, next)
+    match *mv {
+        Move::Walk { from, to, kind } => position.walk(from, to, kind, king, danger),
+        Move::Put { to, kind } => position.drop_piece(to, kind, king, danger),
+    }
 }
 
 /// The position after the move of the side to move.
@@ -119,23 +82,21 @@ pub fn after(position: &Position, mv: &Move) -> Position
     after_if_kept(position, mv).unwrap()
 }
 
-// Makes `next` the position after the move, or says which of the rules 3 to 10 the side to move breaks first by it.
-pub(crate) fn make_if_kept(
-    position: &Position,
-    own: OwnKing,
-    mv: &Move,
-    next: &mut Position,
-) -> Option<Rule>
-    requires { IsOwnKing position.now own }
+// Makes the position the one after the move, or says which of the rules 3 to 10 the side to move breaks first by it; then
+// the position stays as it was.
+#[inline(always)]
+pub(crate) fn make_if_kept(position: &mut Position, own: OwnKing, mv: &Move) -> Option<Rule>
+    requires { IsOwnKing position.old own }
     ensures kept { MatchOption result
-        (Keeps position.now mv.now)
-        (λ rule. (Keeps position.now mv.now → ⊥) × IsFirstBroken (KeptAlone position.now mv.now) keeping_rules (Some rule)) }
-    ensures value { result ≡ None → next.new ≡ after position.now mv.now }
+        (Keeps position.old mv.now)
+        (λ rule. (Keeps position.old mv.now → ⊥) × IsFirstBroken (KeptAlone position.old mv.now) keeping_rules (Some rule)) }
+    ensures value { result ≡ None → position.new ≡ after position.old mv.now }
+    ensures unchanged { IfSome result (λ _. position.new ≡ position.old) }
 {
     match broken_on_board(position, mv) {
         Some(rule) => Some(rule),
         None => {
-            if make_if_safe(position, own, mv, next) {
+            if make_if_safe(position, own, mv) {
                 None
             } else {
                 Some(Rule::LeavesKing)
@@ -151,7 +112,7 @@ pub(crate) fn after_if_kept(position: &Position, mv: &Move) -> Result<Position, 
         (λ rule. (Keeps position.now mv.now → ⊥) × IsFirstBroken (KeptAlone position.now mv.now) keeping_rules (Some rule)) }
 {
     let mut next = *position;
-    match make_if_kept(position, own_king(position), mv, &mut next) {
+    match make_if_kept(&mut next, own_king(position), mv) {
         None => Ok(next),
         Some(rule) => Err(rule),
     }
@@ -177,7 +138,7 @@ pub(crate) fn keeps(position: &Position, king: Option<Square>, mv: &Move) -> boo
         safe: false,
     };
     let mut next = *position;
-    make_if_kept(position, own, mv, &mut next).is_none()
+    make_if_kept(&mut next, own, mv).is_none()
 }
 
 /// Whether the side to move is in check: it has a king, and an enemy piece reaches it.
@@ -193,6 +154,7 @@ pub fn in_check(position: &Position) -> bool
 
 // Whether the side to move is in check in the position after a move that fits the board of the one before. Its king is
 // attacked by the piece that moved, or in the direction of the square which that left.
+#[inline(always)]
 pub(crate) fn gives_check(last: &Position, next: &Position, mv: &Move, king: Option<Square>) -> bool
     requires fits { FitsBoard last.now mv.now }
     requires next { next.now ≡ after last.now mv.now }

@@ -14,8 +14,8 @@ use std::marker::Model;
 // How many chains there are.
 const CHAINS: usize = 1024;
 
-// How many positions there is room for from the start: most games have fewer moves.
-const FIRST_ROOM: usize = 256;
+// How many positions and moves there is room for from the start: most games have fewer moves.
+pub(crate) const FIRST_ROOM: usize = 256;
 
 // A number that equal positions share: who holds each square, and who is to move.
 pub(crate) fn stamp(position: &Position) -> u64
@@ -166,6 +166,7 @@ impl Seen {
     }
 
     // Adds the position, which has that stamp, and says how often it stands now. A refused growth changes nothing.
+    #[inline(always)]
     pub(crate) fn push(&mut self, position: Packed, stamp: u64) -> Result<u32, AllocError>
         requires room { length self.old < 10001 }
         requires stamp { stamp ≡ stamp_of position }

@@ -6,10 +6,10 @@ use Rattle.shogi_rules.proofs.line.Line.new.Goals as goal
 pub invariant_of-result : goal.invariant_of-result
 invariant_of-result c = (
   record {
-    leads = rw c.new-2.ensures.items refl;
-    all = rw (c.in_ok-repeats.ensures.ok, c.of.ensures, c.in_ok-seen.ensures, c.new-2.ensures.items) refl;
-    game = rw c.new-2.ensures.items begun;
-    few = rw c.new-2.ensures.items (omega arith);
+    leads = rw c.in_ok-with_capacity.ensures.items refl;
+    all = rw (c.in_ok-repeats.ensures.ok, c.of.ensures, c.in_ok-seen.ensures, c.in_ok-with_capacity.ensures.items) refl;
+    game = rw c.in_ok-with_capacity.ensures.items begun;
+    few = rw c.in_ok-with_capacity.ensures.items (omega arith);
   },
   rw c.of.ensures at c.in_ok-repeats.ensures.value,
   (

@@ -1,0 +1,119 @@
+ghost use Rattle.std.specs.Prelude.{◌≡◌, ◌≢◌, ◌<◌, ◌≤◌, ◌↔◌, IsTrue, true, false, Some, None};
+ghost use Rattle.shogi_board.specs.Cells.{at};
+ghost use Rattle.shogi_board.specs.Danger.{ComesFrom};
+ghost use Rattle.shogi_board.specs.Kings.{IsKingOf};
+ghost use Rattle.shogi_board.specs.Moved.{walked, dropped, with_captured, HoldsTotals};
+ghost use Rattle.shogi_board.specs.Pieces.{is_hand_kind, unpromoted};
+ghost use Rattle.shogi_board.specs.Placed.{bag_of};
+ghost use Rattle.shogi_board.specs.Reach.{InCheck};
+ghost use Rattle.shogi_board.specs.Setup.{one_less};
+ghost use Rattle.shogi_board.specs.Squares.{place};
+ghost use Rattle.shogi_board.specs.Totals.{count_in};
+ghost use Rattle.shogi_board.specs.declared.kind.Piece.{Piece};
+ghost use Rattle.shogi_board.specs.declared.square.Square.{Square};
+
+use crate::color::Color;
+use crate::danger::Danger;
+use crate::hand::Hand;
+use crate::kind::{Kind, Piece};
+use crate::position::Position;
+use crate::square::Square;
+
+impl Position {
+    /// Has what stands on `from` go to `to`, where it is the mover's and of that kind, and has the other side to move.
+    /// What stood on `to` goes to the mover's hand, unpromoted. Says whether the mover's king is not attacked then; where
+    /// it is, the position stays as it was.
+    ///
+    /// The king is the square of the mover's king after the walk, or None where the mover has none, and the danger says
+    /// where that king may be attacked from. To be called where no king is captured, and the number of pieces of a game
+    /// is not passed.
+    pub fn walk(
+        &mut self,
+        from: Square,
+        to: Square,
+        kind: Kind,
+        king: Option<Square>,
+        danger: Danger,
+    ) -> bool
+        requires apart { place from ≢ place to }
+        requires totals { HoldsTotals (walked self.old from to kind) }
+        requires captured { (x : Piece) → at self.old.board to ≡ Some x → is_hand_kind (unpromoted x.kind) ≡ true }
+        requires king { IsKingOf (walked self.old from to kind).board self.old.side king }
+        requires danger { (s : Square) → king ≡ Some s → ComesFrom (walked self.old from to kind).board self.old.side s danger }
+        ensures answer { IsTrue result ↔ (InCheck (walked self.old from to kind).board self.old.side → ⊥) }
+        ensures value { result ≡ true → self.new ≡ walked self.old from to kind }
+        ensures unchanged { result ≡ false → self.new ≡ self.old }
+    {
+        let side = self.side;
+        let was = self.board.at(from);
+        let captured = self.board.at(to);
+        self.board.put(from, None);
+        self.board.put(to, Some(Piece { color: side, kind }));
+        if self.board.king_is_attacked(side, king, danger) {
+            self.board.put(to, captured);
+            self.board.put(from, was);
+            return false;
+        }
+        match side {
+            Color::Black => add_captured(&mut self.black, captured),
+            Color::White => add_captured(&mut self.white, captured),
+        }
+        self.side = side.opponent();
+        true
+    }
+
+    /// Has the side to move put a piece of that kind from its hand on the square, and has the other side to move. Says
+    /// whether the mover's king is not attacked then; where it is, the position stays as it was.
+    ///
+    /// The king and the danger are as in `walk`. To be called where the hand holds such a piece and the square is empty.
+    pub fn drop_piece(
+        &mut self,
+        to: Square,
+        kind: Kind,
+        king: Option<Square>,
+        danger: Danger,
+    ) -> bool
+        requires held { 0 < count_in (bag_of self.old self.old.side) kind }
+        requires empty { at self.old.board to ≡ None }
+        requires totals { HoldsTotals (dropped self.old to kind) }
+        requires king { IsKingOf (dropped self.old to kind).board self.old.side king }
+        requires danger { (s : Square) → king ≡ Some s → ComesFrom (dropped self.old to kind).board self.old.side s danger }
+        ensures answer { IsTrue result ↔ (InCheck (dropped self.old to kind).board self.old.side → ⊥) }
+        ensures value { result ≡ true → self.new ≡ dropped self.old to kind }
+        ensures unchanged { result ≡ false → self.new ≡ self.old }
+    {
+        let side = self.side;
+        self.board.put(to, Some(Piece { color: side, kind }));
+        if self.board.king_is_attacked(side, king, danger) {
+            self.board.put(to, None);
+            return false;
+        }
+        match side {
+            Color::Black => take_one(&mut self.black, kind),
+            Color::White => take_one(&mut self.white, kind),
+        }
+        self.side = side.opponent();
+        true
+    }
+}
+
+// Adds what was captured to the hand, unpromoted.
+fn add_captured(hand: &mut Hand, captured: Option<Piece>)
+    requires kind { (x : Piece) → captured ≡ Some x → is_hand_kind (unpromoted x.kind) ≡ true }
+    requires room { (x : Piece) → captured ≡ Some x → count_in hand.old (unpromoted x.kind) < 255 }
+    ensures { hand.new ≡ with_captured hand.old captured }
+{
+    if let Some(piece) = captured {
+        let kind = piece.kind.unpromoted();
+        hand.set(kind, hand.count(kind) + 1);
+    }
+}
+
+// Takes a piece of that kind out of the hand.
+fn take_one(hand: &mut Hand, kind: Kind)
+    requires held { 0 < count_in hand.old kind }
+    requires kind { is_hand_kind kind ≡ true }
+    ensures { hand.new ≡ one_less hand.old kind }
+{
+    hand.set(kind, hand.count(kind) - 1);
+}
