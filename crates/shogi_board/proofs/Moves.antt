@@ -1,11 +1,16 @@
 -- Every step and every ray is near, and a ray goes one square at a time.
-use Rattle.std.proofs.Common.{◌≡◌, ℕ, zero, suc, ◌<◌, ◌≤◌, List, [], ◌∷◌, length, get_or, arith, lit≤}
+use Rattle.std.proofs.Common.{◌≡◌, Bool, true, false, ℕ, zero, suc, ◌<◌, ◌≤◌, List, [], ◌∷◌, length, get_or, arith, lit≤}
+use Rattle.shogi_board.specs.Cells.{Cells}
 use Rattle.shogi_board.specs.Moves.{steps, rays, turned_for, IsNear, IsRay, to, forward, back, left, right, forward_left, forward_right, back_left, back_right, orthogonals, diagonals, gold}
 use Rattle.shogi_board.specs.declared.color.Color.{Color}
 use Rattle.shogi_board.specs.declared.color.Color.TheVariants.{Black, White}
 use Rattle.shogi_board.specs.declared.direction.Direction.{Direction}
 use Rattle.shogi_board.specs.declared.kind.Kind.{Kind}
 use Rattle.shogi_board.specs.declared.kind.Kind.TheVariants.{Pawn, Lance, Knight, Silver, Gold, Bishop, Rook, King, ProPawn, ProLance, ProKnight, ProSilver, Horse, Dragon}
+use Rattle.shogi_board.specs.declared.kind.Piece.{Piece}
+use Rattle.shogi_board.specs.declared.square.Square.{Square}
+use Rattle.shogi_board.specs.Reach.{InSight, Slides, Steps}
+use Rattle.shogi_board.specs.Squares.{IsAway}
 
 abbrev pub Every : (Direction → Type 0) → List Direction → Type 0
 Every P [] = Unit {0}
@@ -112,6 +117,16 @@ turned-near White d h = (omega arith, omega arith)
 -- a step of a piece goes at most two squares along files and ranks
 pub step-near : (c : Color) (kind : Kind) (k : ℕ) (d : Direction) → k < length (steps kind) → get_or (steps kind) k d ≡ d → IsNear (turned_for c d)
 step-near c kind k d lt e = turned-near c d (every-at IsNear (steps kind) k d (every-near kind) lt e)
+
+-- no step leads to a square that is not near, and no ray to one that is on no line
+pub no-step : (p : Piece) (a b : Square) (near : Bool) → ((d : Direction) → IsNear d → IsAway a d 1 b → near ≡ true) → near ≡ false → Steps p a b → ⊥
+no-step p a b near says off any =
+    let yes = says (turned_for p.color any.1) (step-near p.color p.kind any.0 any.1 any.2 any.3) any.4 in cc
+
+pub no-slide : (cells : Cells) (p : Piece) (a b : Square) (lines : Bool) → ((d : Direction) (n : ℕ) → IsRay d → IsAway a d n b → lines ≡ true) → lines ≡ false → Slides cells p a b → ⊥
+no-slide cells p a b lines says off any =
+    let sight : InSight cells a (turned_for p.color any.1) b = any.4 in
+    let yes = says (turned_for p.color any.1) sight.distance (ray-at p.color p.kind any.0 any.1 any.2 any.3) sight.away in cc
 
 pub near-step : (kind : Kind) (k : ℕ) (d : Direction) → k < length (steps kind) → get_or (steps kind) k d ≡ d → IsNear d
 near-step kind k d lt e = every-at IsNear (steps kind) k d (every-near kind) lt e

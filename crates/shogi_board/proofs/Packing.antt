@@ -1,5 +1,5 @@
 -- The cells of numbers, and the numbers of cells.
-use Rattle.std.proofs.Common.{◌≡◌, ◌≢◌, true, not, nat_eq, ℕ, zero, suc, ◌+◌, ◌-◌, ◌*◌, ◌/◌, ◌%◌, ◌<◌, ◌≤◌, List, [], ◌∷◌, ◌++◌, length, drop, Option, Some, None, get_or, set, arith, refl, sym, ap, ◌∙◌, subst, inl, inr, get_or-set_same, get_or-set_other}
+use Rattle.std.proofs.Common.{◌≡◌, ◌≢◌, Bool, true, not, is_some, IsSome, nat_eq, ℕ, zero, suc, ◌+◌, ◌-◌, ◌*◌, ◌/◌, ◌%◌, ◌<◌, ◌≤◌, List, [], ◌∷◌, ◌++◌, length, drop, Option, Some, None, get_or, set, arith, refl, sym, ap, ◌∙◌, subst, inl, inr, get_or-set_same, get_or-set_other}
 use Rattle.std.proofs.lemmas.Bool.{cases_lt}
 use Rattle.std.specs.List.{AllByRecursion, slice_range}
 use Rattle.std.proofs.Math.ListN.{get_or-append, length-set}
@@ -16,7 +16,7 @@ use Rattle.shogi_board.specs.Squares.{place}
 use Rattle.shogi_board.specs.declared.square.Square.{Square}
 use Rattle.shogi_board.proofs.Same.{counts-eq}
 use Rattle.std.specs.Cmp.Lexicographic.{pointwise}
-use Rattle.shogi_board.specs.Packing.{digit_of, kind_digit, color_digit, cell_of_digit, number_of, cells_of, board_of, shifted, counts_of, count_number, IsFile, IsHand, ArePacked}
+use Rattle.shogi_board.specs.Packing.{digit_of, kind_digit, color_digit, cell_of_digit, number_of, cells_of, board_of, shifted, counts_of, count_number, file_numbers, IsFile, IsHand, ArePacked}
 use Rattle.shogi_board.specs.Pieces.{place_of}
 use Rattle.shogi_board.specs.Placed.{Placed, bag_of}
 use Rattle.shogi_board.specs.Sound.{IsSound}
@@ -380,3 +380,21 @@ differ-not xs ys e h = let same = (counts-eq xs ys).1 e in cc
 -- what stands on the one square once the other is emptied
 pub stands-still : (cells : Cells) (s to : Square) → place s ≢ place to → at (set cells (place s) None) to ≡ at cells to
 stands-still cells s to other = get_or-set_other cells (place s) (place to) None None (λ e. other (sym e))
+
+-- a piece goes to an empty square
+pub goes-to-empty : {A B : Type 0} (from : Option A) (there : Option B) (walks empty : Bool) → walks ≡ is_some from → walks ≡ true → is_some there ≡ not empty → empty ≡ true → IsSome from × (there ≡ None)
+goes-to-empty (Some s) None walks empty a b e f = (refl, refl)
+goes-to-empty None there walks empty a b e f = cc
+goes-to-empty (Some s) (Some p) walks empty a b e f = cc
+
+-- the numbers of a board's files are those that it was made of
+pub numbers-back : (files : List ℕ) → AllByRecursion IsFile files → file_numbers (length files) (board_of files) ≡ files
+unfolding file_numbers
+numbers-back [] all = refl
+numbers-back (f ∷ fs) all =
+    let here : number_of (cells_of 9 f) ≡ f = all.0 in
+    ap (λ (n : ℕ). n ∷ file_numbers (length fs) (board_of fs)) here ∙ ap (λ (ns : List ℕ). f ∷ ns) (numbers-back fs all.1)
+
+pub files-low : (files : List ℕ) → AllByRecursion IsFile files → AllByRecursion (λ n. n < 35184372088832) files
+files-low [] all = tt
+files-low (f ∷ fs) all = (file-low (f ∷ fs) 0 (omega arith) all, files-low fs all.1)

@@ -1,6 +1,7 @@
 pub mod Attackers
 pub mod Between
 pub mod Cells
+pub mod Changes
 pub mod Danger
 pub mod Kings
 pub mod Layout

@@ -1,5 +1,5 @@
 -- A position in a few numbers: the digits of a file's number are its nine cells, those of a hand's its seven counts.
-use Rattle.std.specs.Prelude.{◌≡◌, ℕ, zero, suc, ◌+◌, ◌*◌, ◌/◌, ◌%◌, List, [], ◌∷◌, ◌++◌, length, Option, Some, None, slice_index_or, slice_set}
+use Rattle.std.specs.Prelude.{◌≡◌, ℕ, zero, suc, ◌+◌, ◌*◌, ◌/◌, ◌%◌, List, [], ◌∷◌, ◌++◌, length, take, drop, Option, Some, None, slice_index_or, slice_set}
 use Rattle.std.specs.List.{AllByRecursion}
 use Rattle.shogi_board.specs.declared.color.Color.{Color}
 use Rattle.shogi_board.specs.declared.color.Color.TheVariants.{Black, White}
@@ -8,6 +8,7 @@ use Rattle.shogi_board.specs.declared.kind.Kind.TheVariants.{Pawn, Lance, Knight
 use Rattle.shogi_board.specs.declared.kind.Piece.{Piece}
 use Rattle.shogi_board.specs.declared.square.Square.{Square}
 use Rattle.shogi_board.specs.Cells.{Cells, piece}
+use Rattle.shogi_board.specs.Placed.{Placed}
 use Rattle.shogi_board.specs.Squares.{place}
 
 -- the cells of one side that a digit may stand for
@@ -62,6 +63,20 @@ cells_of (suc n) number = cell_of_digit (number % 32) ∷ cells_of n (number / 3
 abbrev pub board_of : List ℕ → Cells
 board_of [] = []
 board_of (file ∷ files) = cells_of 9 file ++ board_of files
+
+-- the numbers of so many files
+unfoldable pub file_numbers : ℕ → Cells → List ℕ
+file_numbers zero cells = []
+file_numbers (suc n) cells = number_of (take 9 cells) ∷ file_numbers n (drop 9 cells)
+
+-- numbers in one: each counts three times as much as the one before it
+abbrev pub key_number : List ℕ → ℕ
+key_number [] = 0
+key_number (n ∷ ns) = n + 3 * key_number ns
+
+-- a number that positions with the same board share
+abbrev pub key_of : Placed → ℕ
+key_of p = key_number (file_numbers 9 p.board)
 
 -- the number of counts
 abbrev pub count_number : List ℕ → ℕ

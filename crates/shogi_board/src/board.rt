@@ -141,6 +141,9 @@ impl Board {
     fn slides_to(&self, piece: Piece, from: Square, to: Square) -> bool
         ensures { IsTrue result ↔ Slides self.now piece from to }
     {
+        if !from.lines_up(to) {
+            return false;
+        }
         for direction in piece.kind.rays() {
             if self.sees(from, direction.turned_for(piece.color), to) {
                 return true;
@@ -330,6 +333,9 @@ impl Board {
 fn steps_to(piece: Piece, from: Square, to: Square) -> bool
     ensures { IsTrue result ↔ Steps piece from to }
 {
+    if !from.is_near(to) {
+        return false;
+    }
     piece
         .kind
         .steps()

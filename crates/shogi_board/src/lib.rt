@@ -2,6 +2,7 @@
 #![tactic(auto)]
 
 mod board;
+mod change;
 mod color;
 mod danger;
 mod direction;
@@ -16,6 +17,7 @@ mod position;
 mod setup;
 mod square;
 
+pub use change::Change;
 pub use color::Color;
 pub use danger::Danger;
 pub use hand::Hand;

@@ -1,13 +1,16 @@
-ghost use Rattle.std.specs.Prelude.{◌≡◌, ◌≢◌, ◌<◌, ◌≤◌, ◌∷◌, [], ◌↔◌, IsTrue, Option, Some, None, length, slice_set, slice_index_or, slice_range};
+ghost use Rattle.std.specs.Prelude.{◌≡◌, ◌≢◌, ◌<◌, ◌≤◌, ◌∷◌, [], ◌↔◌, IsTrue, IsSome, true, Option, Some, None, length, slice_set, slice_index_or, slice_range};
 ghost use Rattle.std.specs.List.{AllByRecursion};
 ghost use Rattle.shogi_board.specs.Cells.{at};
-ghost use Rattle.shogi_board.specs.Packing.{digit_cells, cell_of_digit, digit_of, kind_digit, color_digit, number_of, cells_of, board_of, count_number, counts_of, shifted, emptied, IsFile, IsHand};
+ghost use Rattle.shogi_board.specs.Changes.{IsChange};
+ghost use Rattle.shogi_board.specs.Packing.{digit_cells, cell_of_digit, digit_of, kind_digit, color_digit, number_of, cells_of, board_of, count_number, counts_of, shifted, emptied, key_number, key_of, IsFile, IsHand};
 ghost use Rattle.shogi_board.specs.Placed.{bag_of};
 ghost use Rattle.shogi_board.specs.Sound.{IsSound};
 ghost use Rattle.shogi_board.specs.Squares.{place};
+ghost use Rattle.shogi_board.specs.declared.color.Color.{Color};
 ghost use Rattle.shogi_board.specs.declared.square.Square.{Square};
 
 use crate::board::Board;
+use crate::change::Change;
 use crate::color::Color;
 use crate::even::{black, white};
 use crate::hand::Hand;
@@ -101,30 +104,48 @@ impl Packed {
         cells
     }
 
-    /// The position behind this one, which differs on the board at most in these two squares.
+    /// The side to move.
+    pub fn side(&self) -> Color
+        ensures value { result ≡ self.now.side }
+        ensures sound { IsSound self.now }
+    {
+        self.side
+    }
+
+    /// A number that positions with the same board share.
+    pub fn key(&self) -> u64
+        ensures { result ≡ key_of self.now }
+    {
+        key_number(self.files)
+    }
+
+    /// The position behind this one, which differs on the board at most in the two squares of the change.
     ///
-    /// This one is `last`, packed; the piece on `from`, if a square is named, has left it in `next`.
-    pub fn followed(
-        &self,
-        last: &Position,
-        next: &Position,
-        from: Option<Square>,
-        to: Square,
-    ) -> Packed
-        requires last { self.now ≡ last.now }
-        requires apart { (s : Square) → from ≡ Some s → place s ≢ place to }
-        requires board { next.now.board ≡ slice_set (emptied last.now.board from) (place to) (at next.now.board to) }
+    /// The square that is left, if one is, is empty in `next`. Where a piece goes to an empty square, both hands are as they
+    /// were.
+    #[inline(always)]
+    pub fn followed(&self, next: &Position, change: &Change) -> Packed
+        requires before { IsChange self.now.board change.now }
+        requires apart { (s : Square) → change.now.from ≡ Some s → place s ≢ place change.now.to }
+        requires board { next.now.board ≡ slice_set (emptied self.now.board change.now.from) (place change.now.to) (at next.now.board change.now.to) }
+        requires hands { IsSome change.now.from → change.now.there ≡ None → (c : Color) → bag_of next.now c ≡ bag_of self.now c }
         ensures { result ≡ next.now }
     {
         let mut files = self.files;
-        if let Some(square) = from {
-            put(&mut files, square, last.piece_at(square), None);
+        if let Some(square) = change.from {
+            put(&mut files, square, change.left, None);
         }
-        put(&mut files, to, last.piece_at(to), next.piece_at(to));
+        put(
+            &mut files,
+            change.to,
+            change.there,
+            next.piece_at(change.to),
+        );
         // a clause of `side` says that the position is sound
         let _side = next.side();
-        let black = hand_number_after(self.black, last, next, Color::Black);
-        let white = hand_number_after(self.white, last, next, Color::White);
+        let kept = change.from.is_some() && change.there.is_none();
+        let black = hand_number_after(self.black, next, Color::Black, kept);
+        let white = hand_number_after(self.white, next, Color::White, kept);
         with_numbers(files, black, white, next)
     }
 }
@@ -145,6 +166,17 @@ fn with_numbers(files: [u64; 9], black: u64, white: u64, position: &Position) ->
         white,
         side,
     }
+}
+
+// The numbers of files in one.
+fn key_number(files: [u64; 9]) -> u64
+    requires { AllByRecursion (λ n. n < 35184372088832) files }
+    ensures { result ≡ key_number files }
+{
+    let [a, b, c, d, e, f, g, h, i] = files;
+    let back = g + 3 * (h + 3 * i);
+    let middle = d + 3 * (e + 3 * (f + 3 * back));
+    a + 3 * (b + 3 * (c + 3 * middle))
 }
 
 // The numbers of the nine files.
@@ -268,15 +300,16 @@ fn hand_number(position: &Position, color: Color) -> u64
     number_of_counts(position.hand(color).counts())
 }
 
-// The same of the next position, where the number of that side's hand in the last one is known. Most moves leave it as it is.
-fn hand_number_after(number: u64, last: &Position, next: &Position, color: Color) -> u64
+// The same, where the number of that side's hand in the position before is known, and whether it is kept. Most moves keep it.
+#[inline(always)]
+fn hand_number_after(number: u64, next: &Position, color: Color, kept: bool) -> u64
     requires sound { IsSound next.now }
     requires whole { IsHand number }
-    requires counts { counts_of 7 number ≡ bag_of last.now color }
+    requires counts { kept ≡ true → counts_of 7 number ≡ bag_of next.now color }
     ensures whole { IsHand result }
     ensures counts { counts_of 7 result ≡ bag_of next.now color }
 {
-    if last.hand(color) == next.hand(color) {
+    if kept {
         number
     } else {
         hand_number(next, color)
@@ -314,6 +347,7 @@ fn hand_of(number: u64) -> Hand
 }
 
 // Makes the cell of a square another one in the number of its file.
+#[inline(always)]
 fn put(files: &mut [u64; 9], square: Square, old: Option<Piece>, new: Option<Piece>)
     requires nine { length files.old ≡ 9 }
     requires each { AllByRecursion IsFile files.old }

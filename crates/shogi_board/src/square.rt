@@ -14,7 +14,7 @@ pub struct Square {
 
 impl Square {
     ghost use Rattle.shogi_board.specs.Between.{Between, IsDirection, IsDistance, IsNowhere};
-    ghost use Rattle.shogi_board.specs.Moves.{IsRay};
+    ghost use Rattle.shogi_board.specs.Moves.{IsNear, IsRay};
     ghost use Rattle.shogi_board.specs.Squares.{file_of, rank_of, place, IsAway};
     ghost use Rattle.shogi_board.specs.declared.direction.Direction.{Direction};
 
@@ -138,8 +138,17 @@ impl Square {
         Some(direction)
     }
 
+    // Whether the other square lies at most two files and two ranks away.
+    pub(crate) fn is_near(self, other: Square) -> bool
+        ensures { (d : Direction) → IsNear d → IsAway self d 1 other → result ≡ true }
+    {
+        let files = self.file.abs_diff(other.file);
+        let ranks = self.rank.abs_diff(other.rank);
+        files <= 2 && ranks <= 2
+    }
+
     // Whether the other square lies on the file, the rank or a diagonal.
-    fn lines_up(self, other: Square) -> bool
+    pub(crate) fn lines_up(self, other: Square) -> bool
         ensures { (d : Direction) (n : ℕ) → IsRay d → IsAway self d n other → result ≡ true }
     {
         let files = self.file.abs_diff(other.file);

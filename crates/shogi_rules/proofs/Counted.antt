@@ -1,15 +1,14 @@
 -- One position more among those that are counted and linked.
-use Rattle.std.proofs.Common.{◌≡◌, ◌≢◌, ℕ, set, get_or-set_same, get_or-set_other, suc, ◌+◌, ◌<◌, ◌≤◌, List, [], ◌∷◌, ◌++◌, Bool, true, false, cond, Some, None, get_or, take, slice_get, arith, refl, sym, ap, ◌∙◌, length, length-set, replicate, inl, inr, subst, zero}
+use Rattle.std.proofs.Common.{◌≡◌, ◌≢◌, ℕ, set, get_or-set_same, get_or-set_other, suc, ◌+◌, ◌<◌, ◌≤◌, List, [], ◌∷◌, ◌++◌, Bool, true, false, cond, Some, get_or, take, slice_get, arith, refl, sym, ap, ◌∙◌, length, length-set, replicate, inl, inr, subst, zero}
 use Rattle.std.proofs.lemmas.Bool.{cases_lt}
 use Rattle.std.proofs.lemmas.List.{take-append-le, take_all, length-append, length-replicate, get_or-replicate}
 use Rattle.std.proofs.lemmas.List.Sums.{count_by_more_no}
 use Rattle.std.proofs.lemmas.Option.{get_or_from_slice_get, slice_get_within}
-use Rattle.shogi_board.specs.Cells.{Cells}
 use Rattle.shogi_board.specs.Placed.{Placed}
 use Rattle.shogi_board.specs.Same.{same_position}
 use Rattle.shogi_board.proofs.Same.{position-same}
 use Rattle.shogi_rules.specs.Repetition.{times}
-use Rattle.shogi_rules.specs.Stamps.{Leads, IsLink, AreLinked, chain_of, stamp_before, mark}
+use Rattle.shogi_rules.specs.Chains.{Leads, IsLink, AreLinked, chain_of}
 use Rattle.shogi_rules.specs.declared.seen.Link.{Link}
 use Rattle.shogi_rules.proofs.Counts.{first}
 
@@ -106,11 +105,11 @@ leads-last ps p q same =
       chain = λ i x e at. ap chain_of (sym (last-place ps p x i (omega (arith, e)) at)) ∙ same;
     }
 
-chain-low : (p : Placed) → chain_of p < 1024
+chain-low : (p : Placed) → chain_of p < 1019
 chain-low p = omega arith
 
 -- the head of its chain leads to the new one too, and those of the others lead as before
-found-more : (ps : List Placed) (heads : List ℕ) (p q : Placed) → length heads ≡ 1024 → Leads ps (length ps) q (get_or heads (chain_of q) 0) → Leads (ps ++ p ∷ []) (length (ps ++ p ∷ [])) q (get_or (set heads (chain_of p) (length ps + 1)) (chain_of q) 0)
+found-more : (ps : List Placed) (heads : List ℕ) (p q : Placed) → length heads ≡ 1019 → Leads ps (length ps) q (get_or heads (chain_of q) 0) → Leads (ps ++ p ∷ []) (length (ps ++ p ∷ [])) q (get_or (set heads (chain_of p) (length ps + 1)) (chain_of q) 0)
 found-more ps heads p q wide led =
     let low : chain_of p < length heads = rw wide (chain-low p) in
     let apart : (chain_of q ≢ chain_of p) → Leads (ps ++ p ∷ []) (length (ps ++ p ∷ [])) q (get_or (set heads (chain_of p) (length ps + 1)) (chain_of q) 0) = λ other.
@@ -201,7 +200,7 @@ linked-more ps links heads p key n count earlier old same long counted leads =
     (λ q e. leads q (e ∙ sym same)))
 
 -- with no position each chain is empty
-pub none-linked : (heads : List ℕ) (n : ℕ) → n ≡ 1024 → heads ≡ replicate n 0 → AreLinked [] [] heads
+pub none-linked : (heads : List ℕ) (n : ℕ) → n ≡ 1019 → heads ≡ replicate n 0 → AreLinked [] [] heads
 none-linked heads n wide all = record {
   long = refl;
   wide = rw all (length-replicate n 0) ∙ wide;
@@ -210,13 +209,3 @@ none-linked heads n wide all = record {
       let none : get_or heads (chain_of q) 0 ≡ 0 = rw all (get_or-replicate n (chain_of q) 0 0 (rw wide (chain-low q))) in
       record { low = omega (arith, none); all = rw none refl; chain = λ i p e at. cc };
 }
-
-pub stamp-none : (cells : Cells) → 0 ≡ stamp_before cells 0
-unfolding stamp_before
-stamp-none cells = refl
-
-pub stamp-more : (cells : Cells) (n total new : ℕ) → total ≡ stamp_before cells n → new ≡ mark n (get_or cells n None) → total + new ≡ stamp_before cells (n + 1)
-unfolding stamp_before
-stamp-more cells n total new e f =
-    let next : n + 1 ≡ suc n = omega arith in
-    rw (next, e, f) refl

@@ -1,17 +1,14 @@
 -- One move more.
-use Rattle.std.proofs.Common.{◌≡◌, ◌↔◌, IsTrue, Bool, false, ℕ, ◌≤◌, get_or, inl, inr, ◌<◌, ◌+◌, ◌++◌, List, [], ◌∷◌, Option, None, length, length-append, arith, refl, ap, sym}
+use Rattle.std.proofs.Common.{◌≡◌, ◌↔◌, IsTrue, Bool, false, ℕ, ◌≤◌, get_or, inl, inr, ◌<◌, ◌+◌, ◌++◌, List, [], ◌∷◌, Option, None, length, length-append, arith, refl, ap, sym, ◌∙◌, subst}
 use Rattle.std.proofs.lemmas.Bool.{cases_lt}
 use Rattle.shogi_board.specs.Placed.{Placed}
 use Rattle.shogi_board.specs.declared.color.Color.{Color}
 use Rattle.shogi_rules.specs.After.{after}
 use Rattle.shogi_rules.specs.Legal.{Legal}
-use Rattle.shogi_rules.specs.Positions.{position_after, positions_of, played, IsLine}
-use Rattle.shogi_rules.specs.Rules.{Kept, move_rules, all_rules, IsFirstBroken}
-use Rattle.shogi_rules.specs.declared.line.PlayFault.{PlayFault}
-use Rattle.shogi_rules.specs.declared.line.PlayFault.TheVariants.{OutOfMemory}
+use Rattle.shogi_rules.specs.Play.{Breaks, IsOpen}
+use Rattle.shogi_rules.specs.Positions.{Played, now_of, position_after, positions_of, played, IsLine}
+use Rattle.shogi_rules.specs.Rules.{Kept, KeptAlone, move_rules, all_rules, IsFirstBroken}
 use Rattle.shogi_rules.specs.declared.moves.Move.{Move}
-use Rattle.std.specs.Prelude.{Result, Ok, Err, IsErr, MatchResult, ◌⊎◌}
-use Rattle.std.specs.Result.{IsErrAnd}
 use Rattle.shogi_rules.specs.declared.rule.Rule.{Rule}
 use Rattle.shogi_rules.proofs.Broken.{AllKept}
 
@@ -107,7 +104,17 @@ pub last-stands : (p : Placed) (ms : List Move) (d : Placed) → get_or (positio
 last-stands p [] d = refl
 last-stands p (m ∷ ms) d = last-stands (after p m) ms d
 
--- an answer of want of memory, where nothing else stands against the move
-pub for-memory : {A : Type 0} (X : A → Type 0) (Y : Type 0) (Z : PlayFault → Type 0) (r : Result A PlayFault) → IsErr r × IsErrAnd r (λ e. e ≡ OutOfMemory) → Y → MatchResult r X (λ fault. ((fault ≡ OutOfMemory) × Y) ⊎ Z fault)
-for-memory X Y Z (Ok a) h y = let no = h.0 in cc
-for-memory X Y Z (Err e) h y = inl (h.1, y)
+-- the position behind the moves, by its index
+pub within-line : (start last : Placed) (moves : List Move) (positions : List Placed) (n : ℕ) → IsLine start last moves positions → n ≡ length moves → n < length positions
+within-line start last moves positions n line e = rw line.all (let h = positions-long start moves in omega (arith, h, e))
+
+pub stands-last : (start last : Placed) (moves : List Move) (positions : List Placed) (n : ℕ) (p : Placed) → IsLine start last moves positions → n ≡ length moves → ((d : Placed) → p ≡ get_or positions n d) → p ≡ last
+stands-last start last moves positions n p line e at =
+    let there : get_or positions n last ≡ position_after start moves = rw (line.all, e) (last-stands start moves last) in
+    at last ∙ (there ∙ sym line.leads)
+
+-- the first broken rule of all, where the side may play
+pub breaks-of : (line : Played) (last : Placed) (color : Color) (m : Move) (answer : Option Rule) → last ≡ now_of line → IsOpen line color → IsFirstBroken (KeptAlone last m) move_rules answer → Breaks line color m answer
+breaks-of line last color m answer e may broken =
+    let moved : IsFirstBroken (KeptAlone (now_of line) m) move_rules answer = subst (λ (p : Placed). IsFirstBroken (KeptAlone p m) move_rules answer) e broken in
+    inr (may.turn, inr (may.not_over, moved))

@@ -16,7 +16,6 @@ pub mod MovedKings
 pub mod Once
 pub mod Opened
 pub mod Places
-pub mod StampAfter
 pub mod Standing
 pub mod Stretches
 pub mod Walks

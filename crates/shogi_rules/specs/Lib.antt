@@ -1,4 +1,6 @@
 pub mod After
+pub mod Chains
+pub mod Changes
 pub mod Evasions
 pub mod Kinds
 pub mod Legal
@@ -8,5 +10,4 @@ pub mod Play
 pub mod Positions
 pub mod Repetition
 pub mod Rules
-pub mod Stamps
 pub mod Verdicts

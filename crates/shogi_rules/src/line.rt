@@ -1,10 +1,8 @@
-ghost use Rattle.std.specs.Prelude.{◌≡◌, ◌≤◌, ◌++◌, [], ◌∷◌, IfOk, OnOk, OnErr, MatchResult, length, ◌⊎◌, ◌↔◌, IsTrue, None, Some};
-ghost use Rattle.shogi_rules.specs.After.{after};
-ghost use Rattle.shogi_rules.specs.Legal.{FitsBoard};
+ghost use Rattle.std.specs.Prelude.{◌≡◌, ◌≤◌, ◌++◌, [], ◌∷◌, IfOk, OnOk, OnErr, MatchOption, MatchResult, length, ◌⊎◌, ◌↔◌, IsTrue, None, Some};
+ghost use Rattle.shogi_rules.specs.LineKings.{IsOwnKing};
 ghost use Rattle.shogi_rules.specs.Positions.{max_moves, now_of, all_of, IsGame};
-ghost use Rattle.shogi_rules.specs.Play.{Answers};
+ghost use Rattle.shogi_rules.specs.Play.{Answers, IsOpen};
 ghost use Rattle.shogi_rules.specs.Repetition.{Over};
-ghost use Rattle.shogi_rules.specs.Rules.{Kept, move_rules, IsFirstBroken};
 ghost use Rattle.shogi_rules.specs.Verdicts.{Stands};
 ghost use Rattle.shogi_rules.specs.declared.line.PlayFault.TheVariants.{OutOfMemory};
 
@@ -13,9 +11,9 @@ use crate::moves::Move;
 use crate::playing::{OwnKing, gives_check, in_check, king_after};
 use crate::repetition::{verdict_by_moves, verdict_of_stretch};
 use crate::rule::Rule;
-use crate::seen::{FIRST_ROOM, Seen, packed_after, stamp, stamp_after};
+use crate::seen::{FIRST_ROOM, Seen, packed_after};
 use shogi_board::{Color, Packed, Position, Square};
-use std::alloc::{AllocFailed, Global};
+use std::alloc::Global;
 use std::marker::Model;
 use thiserror::Error;
 
@@ -31,14 +29,6 @@ pub enum PlayFault {
     /// A growth of memory was refused.
     #[error("out of memory")]
     OutOfMemory,
-}
-
-impl<T: Drop> From<AllocFailed<T>> for PlayFault {
-    ghost from_gives = { λ _ e. e ≡ OutOfMemory };
-
-    fn from(_e: AllocFailed<T>) -> PlayFault {
-        PlayFault::OutOfMemory
-    }
 }
 
 /// How a line stands.
@@ -70,8 +60,6 @@ pub struct Line {
     moves: Vec<Move>,
     // all positions, the start and the last too
     seen: Seen,
-    // of the last position
-    stamp: u64,
     // where the kings of the last position stand: that of the side to move, and the other
     own_king: Option<Square>,
     other_king: Option<Square>,
@@ -85,13 +73,12 @@ impl Model for Line {
     ghost use Rattle.shogi_rules.specs.Positions.{Played, IsLine};
     ghost use Rattle.shogi_rules.specs.Repetition.{times};
     ghost use Rattle.shogi_rules.specs.LineKings.{AreKings};
-    ghost use Rattle.shogi_rules.specs.Stamps.{stamp_of};
 
     ghost Value = { Played };
 
     ghost view = { λ l. record { start = l.start; moves = l.moves.items } };
 
-    ghost invariant = { (λ l. IsLine l.start l.last l.moves.items l.seen × (l.repeats ≡ times l.seen l.last) × AreKings l.last l.own_king l.other_king × (l.stamp ≡ stamp_of l.last) × (IsTrue l.in_check ↔ InCheck l.last.board l.last.side)) };
+    ghost invariant = { (λ l. IsLine l.start l.last l.moves.items l.seen × (l.repeats ≡ times l.seen l.last) × AreKings l.last l.own_king l.other_king × (IsTrue l.in_check ↔ InCheck l.last.board l.last.side)) };
 }
 
 impl Line {
@@ -103,15 +90,13 @@ impl Line {
     {
         let side = start.side();
         let mut seen = Seen::new(alloc)?;
-        let stamp = stamp(&start);
-        let repeats = seen.push(Packed::of(&start), stamp)?;
+        let repeats = seen.push(Packed::of(&start))?;
         Ok(Line {
             start,
             last: start,
             repeats,
             moves: Vec::with_capacity(alloc, FIRST_ROOM)?,
             seen,
-            stamp,
             own_king: start.king(side),
             other_king: start.king(side.opponent()),
             in_check: in_check(&start),
@@ -162,59 +147,56 @@ impl Line {
         self.last.side()
     }
 
-    // Makes the last position the one after the move, or says which of the rules 3 to 11 the side to move breaks first by it.
-    #[inline(always)]
-    fn make_next(&self, mv: &Move, next: &mut Position) -> Option<Rule>
-        requires { next.old ≡ now_of self.now }
-        ensures broken { IsFirstBroken (Kept (all_of self.now) (now_of self.now) (now_of self.now).side mv.now) move_rules result }
-        ensures value { result ≡ None → next.new ≡ after (now_of self.now) mv.now }
+    // Its king.
+    fn own(&self) -> OwnKing
+        ensures { IsOwnKing (now_of self.now) result }
     {
-        let own = OwnKing {
+        OwnKing {
             square: self.own_king,
             safe: !self.in_check,
-        };
-        make_by_side(next, own, mv)
+        }
     }
 
-    // Makes the last position the one after the move, or says what `play` refuses, memory aside.
-    #[inline(always)]
-    fn answer(&self, mover: Color, mv: &Move, next: &mut Position) -> Result<(), PlayFault>
-        requires { next.old ≡ now_of self.now }
-        ensures { MatchResult result
-            (λ _. Answers self.now mover mv.now None × (next.new ≡ after (now_of self.now) mv.now))
-            (λ fault. Answers self.now mover mv.now (Some fault)) }
+    // What `play` refuses whatever that side's move is, or None.
+    fn closed(&self, mover: Color) -> Option<PlayFault>
+        ensures { MatchOption result
+            (IsOpen self.now mover)
+            (λ fault. (mv : Move) → Answers self.now mover mv (Some fault)) }
     {
         if self.is_full() {
-            return Err(PlayFault::TooManyMoves);
+            return Some(PlayFault::TooManyMoves);
         }
         if mover != self.side() {
-            return Err(PlayFault::Broken(Rule::WrongSide));
+            return Some(PlayFault::Broken(Rule::WrongSide));
         }
         if self.is_over() {
-            return Err(PlayFault::Broken(Rule::RepetitionOver));
+            return Some(PlayFault::Broken(Rule::RepetitionOver));
         }
-        match self.make_next(mv, next) {
-            None => Ok(()),
-            Some(rule) => Err(PlayFault::Broken(rule)),
-        }
-    }
-
-    // The position after a move that fits the board, packed.
-    fn packed_next(&self, mv: &Move, next: &Position) -> Packed
-        requires fits { FitsBoard (now_of self.now) mv.now }
-        requires next { next.now ≡ after (now_of self.now) mv.now }
-        ensures { result ≡ next.now }
-    {
-        let packed = &self.seen.positions()[self.moves.len()];
-        packed_after(packed, &self.last, mv, next)
+        None
     }
 
     /// What `play` would refuse, memory aside, or None.
     pub fn fault(&self, mover: Color, mv: &Move) -> Option<PlayFault>
         ensures { Answers self.now mover mv.now result }
     {
+        if let Some(fault) = self.closed(mover) {
+            return Some(fault);
+        }
         let mut next = self.last;
-        self.answer(mover, mv, &mut next).err()
+        match make_by_side(&mut next, self.own(), mv) {
+            Some(rule) => Some(PlayFault::Broken(rule)),
+            None => None,
+        }
+    }
+
+    // What `play` refuses where there is no room for the move.
+    fn fault_without_room(&self, mover: Color, mv: &Move) -> PlayFault
+        ensures { ((result ≡ OutOfMemory) × Answers self.now mover mv.now None) ⊎ Answers self.now mover mv.now (Some result) }
+    {
+        match self.fault(mover, mv) {
+            Some(fault) => fault,
+            None => PlayFault::OutOfMemory,
+        }
     }
 
     /// Plays the move of that side.
@@ -228,27 +210,36 @@ impl Line {
         ensures played { OnOk result (self.new ≡ record self.old { moves = self.old.moves ++ mv ∷ [] }) }
         ensures unchanged { OnErr result (self.new ≡ self.old) }
     {
-        let mut next = self.last;
+        if let Some(fault) = self.closed(mover) {
+            return Err(fault);
+        }
         // a clause of `side` says that the last position is sound
         let _side = self.last.side();
-        self.answer(mover, &mv, &mut next)?;
-        let packed = self.packed_next(&mv, &next);
-        self.moves.push(mv)?;
-        let stamp = stamp_after(self.stamp, &self.last, &mv);
-        let in_check = gives_check(&self.last, &next, &mv, self.other_king);
-        match self.seen.push(packed, stamp) {
+        let own = self.own();
+        let count = self.moves.len();
+        if self.moves.reserve(1).is_err() {
+            return Err(self.fault_without_room(mover, &mv));
+        }
+        let change = mv.change(&self.last);
+        if let Some(rule) = make_by_side(&mut self.last, own, &mv) {
+            restore(&mut self.last, self.seen.position(count));
+            return Err(PlayFault::Broken(rule));
+        }
+        let before = self.seen.position(count);
+        let packed = packed_after(before, &mv, &change, &self.last);
+        let in_check = gives_check(before, &self.last, &mv, self.other_king);
+        match self.seen.push(packed) {
             Ok(repeats) => {
-                self.stamp = stamp;
+                self.moves.push(mv).unwrap();
                 let king = king_after(self.own_king, &mv);
                 self.own_king = self.other_king;
                 self.other_king = king;
-                self.last = next;
                 self.in_check = in_check;
                 self.repeats = repeats;
                 Ok(())
             }
             Err(_) => {
-                self.moves.pop();
+                restore(&mut self.last, self.seen.position(count));
                 Err(PlayFault::OutOfMemory)
             }
         }
@@ -264,4 +255,12 @@ impl Line {
             verdict_by_moves(&self.last)
         }
     }
+}
+
+// Makes the last position again what it was before a move that is refused.
+#[inline(never)]
+fn restore(last: &mut Position, before: &Packed)
+    ensures { last.new ≡ before.now }
+{
+    *last = before.unpacked();
 }

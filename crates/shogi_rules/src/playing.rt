@@ -13,7 +13,7 @@ ghost use Rattle.shogi_rules.specs.Rules.{KeptAlone, keeping_rules, IsFirstBroke
 use crate::board_rules::broken_on_board;
 use crate::moves::Move;
 use crate::rule::Rule;
-use shogi_board::{Danger, Kind, Position, Square, attacked, attacked_from, reaches};
+use shogi_board::{Danger, Kind, Packed, Position, Square, attacked, attacked_from, reaches};
 
 // Where the king of the side to move stands, if it has one, and whether it is known not to be attacked.
 #[derive(Clone, Copy)]
@@ -155,7 +155,7 @@ pub fn in_check(position: &Position) -> bool
 // Whether the side to move is in check in the position after a move that fits the board of the one before. Its king is
 // attacked by the piece that moved, or in the direction of the square which that left.
 #[inline(always)]
-pub(crate) fn gives_check(last: &Position, next: &Position, mv: &Move, king: Option<Square>) -> bool
+pub(crate) fn gives_check(last: &Packed, next: &Position, mv: &Move, king: Option<Square>) -> bool
     requires fits { FitsBoard last.now mv.now }
     requires next { next.now ≡ after last.now mv.now }
     requires king { IsKingOf next.now.board next.now.side king }

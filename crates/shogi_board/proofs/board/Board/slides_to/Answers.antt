@@ -3,6 +3,7 @@ use Rattle.std.proofs.lemmas.Bool.{cases_lt}
 use Rattle.std.proofs.lemmas.List.{get_or_default}
 use Rattle.shogi_board.specs.Moves.{rays, turned_for}
 use Rattle.shogi_board.specs.Reach.{InSight}
+use Rattle.shogi_board.proofs.Moves.{no-slide}
 use Rattle.shogi_board.proofs.board.Board.slides_to.Goals as goal
 
 pub loop-direction-preserved : goal.loop-direction-preserved
@@ -22,3 +23,7 @@ loop-direction-preserved c k d below e sight =
           let no = c.if-sees.ensures.1 there in
           cc
     ]
+
+pub returns-then-not-lines_up : goal.returns-then-not-lines_up
+returns-then-not-lines_up c =
+    let none = no-slide c.args.self.now c.args.piece c.args.from c.args.to c.lines_up.result c.lines_up.ensures c.if-not-lines_up.true in (λ h. cc, λ h. absurd (none h))

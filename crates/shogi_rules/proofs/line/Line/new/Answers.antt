@@ -16,6 +16,5 @@ invariant_of-result c = (
     king-found _ _ c.king.result (rw c.side-side.ensures.value at c.king.ensures),
     king-found _ _ c.king-2.result (rw (c.opponent.ensures, c.side-side.ensures.value) at c.king-2.ensures),
   ),
-  c.stamp-stamp.ensures,
   c.in_check.ensures,
 )

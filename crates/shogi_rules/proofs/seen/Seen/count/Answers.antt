@@ -1,7 +1,7 @@
 use Rattle.std.proofs.Common.{◌-◌, ◌<◌, arith, refl, sym, length}
 use Rattle.std.proofs.lemmas.Option.{slice_get_read}
 use Rattle.shogi_board.proofs.Same.{position-same}
-use Rattle.shogi_rules.specs.Stamps.{Leads}
+use Rattle.shogi_rules.specs.Chains.{Leads}
 use Rattle.shogi_rules.proofs.Counted.{walk-on, walk-less, walk-ends, apart}
 use Rattle.shogi_rules.proofs.seen.Seen.count.Goals as goal
 

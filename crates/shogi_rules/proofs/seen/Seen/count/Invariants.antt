@@ -1,5 +1,5 @@
 use Rattle.std.proofs.Common.{length}
-use Rattle.shogi_rules.specs.Stamps.{Leads}
+use Rattle.shogi_rules.specs.Chains.{Leads}
 use Rattle.shogi_rules.proofs.seen.Seen.count.Given as goal
 
 abbrev pub invariant-loop-n : goal.invariant-loop-n

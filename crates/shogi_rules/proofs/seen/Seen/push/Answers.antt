@@ -2,7 +2,7 @@ use Rattle.std.proofs.Common.{◌≡◌, ◌+◌, List, [], ◌∷◌, ◌++◌,
 use Rattle.std.proofs.lemmas.Grind.{common_steps}
 use Rattle.shogi_board.specs.Placed.{Placed}
 use Rattle.shogi_rules.specs.Repetition.{times}
-use Rattle.shogi_rules.specs.Stamps.{Leads, chain_of}
+use Rattle.shogi_rules.specs.Chains.{Leads, chain_of}
 use Rattle.shogi_rules.specs.declared.seen.Link.{Link}
 use Rattle.shogi_rules.proofs.Counted.{linked-more, times-last}
 use Rattle.shogi_rules.proofs.seen.Seen.push.Goals as goal
@@ -20,7 +20,7 @@ invariant_of-self-2 c =
     let counted : count ≡ times ps p = rw (sym c.self.view_is) at c.count-count.ensures in
     let leads : (q : Placed) → chain_of q ≡ c.chain_of-chain.result → Leads ps (length ps) q earlier = rw (sym c.self.view_is) at c.latest-earlier.ensures in
     let long : c.len.result ≡ length ps + 1 = grind (arith, common_steps) in
-    let same : c.chain_of-chain.result ≡ chain_of p = rw c.requires.stamp at c.chain_of-chain.ensures.value in
+    let same : c.chain_of-chain.result ≡ chain_of p = c.chain_of-chain.ensures.value in
     rw (pushed, beside)
     (linked-more ps i.links.items i.heads.items p c.chain_of-chain.result c.len.result count earlier c.self.invariant same long counted leads)
 
