@@ -1,4 +1,5 @@
 ghost use Rattle.std.specs.Prelude.{◌≡◌, ◌≤◌, ◌<◌, ◌++◌, ◌∷◌, ◌+◌, ◌↔◌, [], IsOk, IfOk, IfErr, OnOk, OnErr, Option, None, length, map};
+ghost use Rattle.std.specs.Fmt.{decimal};
 ghost use Rattle.std.specs.List.{flat_map};
 ghost use Rattle.shogi_rules.specs.Play.{Answers};
 ghost use Rattle.shogi_rules.specs.Positions.{IsGame, max_moves};
@@ -358,11 +359,35 @@ fn write_time(out: &mut Vec<u8>, time: Option<u64>) -> Result<(), OutOfMemory>
 fn write_thousandths(out: &mut Vec<u8>, thousandths: u64) -> Result<(), OutOfMemory>
     ensures { OnOk result (out.new.items ≡ out.old.items ++ ended_line (time thousandths)) }
 {
-    let mut buffer = Buffer::new();
-    out.push(b'T')?;
-    out.extend_from_slice(buffer.format(thousandths / 1000).as_bytes())?;
+    write_seconds(out, thousandths / 1000)?;
     write_fraction(out, thousandths % 1000)?;
     out.push(b'\n')?;
+    Ok(())
+}
+
+// `T` and whole seconds. Most moves take fewer than a hundred.
+fn write_seconds(out: &mut Vec<u8>, seconds: u64) -> Result<(), OutOfMemory>
+    ensures { OnOk result (out.new.items ≡ out.old.items ++ (84 ∷ decimal seconds)) }
+{
+    if seconds < 10 {
+        out.extend_from_slice(&[b'T', digit(seconds)])?;
+        Ok(())
+    } else if seconds < 100 {
+        out.extend_from_slice(&[b'T', digit(seconds / 10), digit(seconds % 10)])?;
+        Ok(())
+    } else {
+        write_many_seconds(out, seconds)
+    }
+}
+
+// The same for any number of seconds.
+#[inline(never)]
+fn write_many_seconds(out: &mut Vec<u8>, seconds: u64) -> Result<(), OutOfMemory>
+    ensures { OnOk result (out.new.items ≡ out.old.items ++ (84 ∷ decimal seconds)) }
+{
+    let mut buffer = Buffer::new();
+    out.push(b'T')?;
+    out.extend_from_slice(buffer.format(seconds).as_bytes())?;
     Ok(())
 }
 

@@ -29,6 +29,19 @@ static DIGIT_CELLS: [Option<Piece>; 29] = [
     white!(ProPawn), white!(ProLance), white!(ProKnight), white!(ProSilver), white!(Horse), white!(Dragon),
 ];
 
+// What a digit of each rank counts in the number of a file.
+static WEIGHTS: [u64; 9] = [
+    1,
+    32,
+    1024,
+    32768,
+    1048576,
+    33554432,
+    1073741824,
+    34359738368,
+    1099511627776,
+];
+
 /// A position in a few numbers.
 ///
 /// It takes half the room of a `Position`, and two are compared as fast as the numbers are.
@@ -78,7 +91,7 @@ impl Packed {
         if self.white != other.white {
             return false;
         }
-        self.side == other.side
+        other.side == self.side
     }
 
     /// The position.
@@ -253,17 +266,7 @@ fn shifted(rank: u8, digit: u64) -> u64
     ensures value { result ≡ shifted rank digit }
     ensures bound { result ≤ 34084860461056 }
 {
-    match rank {
-        0 => digit,
-        1 => digit * 32,
-        2 => digit * 1024,
-        3 => digit * 32768,
-        4 => digit * 1048576,
-        5 => digit * 33554432,
-        6 => digit * 1073741824,
-        7 => digit * 34359738368,
-        _ => digit * 1099511627776,
-    }
+    digit * WEIGHTS[rank as usize]
 }
 
 // The number of a file's cells.

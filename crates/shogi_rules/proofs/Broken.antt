@@ -1,11 +1,13 @@
 -- The first broken rule of a list and of a longer one.
-use Rattle.std.proofs.Common.{inl, inr, List, [], ◌∷◌, ◌++◌, Option, Some}
+use Rattle.std.proofs.Common.{◌≡◌, Bool, false, inl, inr, List, [], ◌∷◌, ◌++◌, Option, None, Some, refl, sym, subst, ◌↔◌, IsTrue}
 use Rattle.shogi_board.specs.Placed.{Placed}
 use Rattle.shogi_board.specs.declared.color.Color.{Color}
-use Rattle.shogi_rules.specs.Legal.{FitsBoard, Keeps}
-use Rattle.shogi_rules.specs.Rules.{Kept, board_rules, keeping_rules, IsFirstBroken}
+use Rattle.shogi_rules.specs.After.{after}
+use Rattle.shogi_rules.specs.Legal.{FitsBoard, IsPawnDrop, Keeps, Mated, NoDropMate}
+use Rattle.shogi_rules.specs.Rules.{Kept, KeptAlone, board_rules, keeping_rules, move_rules, IsFirstBroken}
 use Rattle.shogi_rules.specs.declared.moves.Move.{Move}
 use Rattle.shogi_rules.specs.declared.rule.Rule.{Rule}
+use Rattle.shogi_rules.specs.declared.rule.Rule.TheVariants.{PawnDropMate}
 
 abbrev pub AllKept : (Rule → Type 0) → List Rule → Type 0
 AllKept kept [] = Unit {0}
@@ -34,3 +36,20 @@ pub all-kept : (ps : List Placed) (p : Placed) (c : Color) (m : Move) → Keeps 
 all-kept ps p c m k =
     let f = k.fits in
     (f.has_piece, (f.kind_fits, (f.target_free, (f.reaches, (f.may_promote, (f.further_move, (f.lone_pawn, (k.king_safe, tt))))))))
+
+-- who keeps the rules 3 to 10 breaks at most the last
+pub none-by-side : (p : Placed) (m : Move) → Keeps p m → NoDropMate p m → IsFirstBroken (KeptAlone p m) move_rules None
+none-by-side p m keeps free =
+    none-broken (KeptAlone p m) keeping_rules (PawnDropMate ∷ []) None (all-kept (p ∷ []) p p.side m keeps) (inr (free, refl))
+
+pub mate-by-side : (p : Placed) (m : Move) → Keeps p m → IsPawnDrop m → Mated (after p m) → IsFirstBroken (KeptAlone p m) move_rules (Some PawnDropMate)
+mate-by-side p m keeps drop mated =
+    none-broken (KeptAlone p m) keeping_rules (PawnDropMate ∷ []) (Some PawnDropMate) (all-kept (p ∷ []) p p.side m keeps) (inl ((λ free. free drop mated), refl))
+
+-- the first of the rules 3 to 10 that is broken is the first of all
+pub unkept-by-side : (p : Placed) (m : Move) (r : Rule) → IsFirstBroken (KeptAlone p m) keeping_rules (Some r) → IsFirstBroken (KeptAlone p m) move_rules (Some r)
+unkept-by-side p m r h = broken-longer (KeptAlone p m) keeping_rules (PawnDropMate ∷ []) r h
+
+-- what a test of the position after the move says
+pub no-mate : (p next : Placed) (m : Move) (b : Bool) → next ≡ after p m → b ≡ false → IsTrue b ↔ (IsPawnDrop m × Mated next) → NoDropMate p m
+no-mate p next m b made off says = λ drop mated. let yes = says.1 (drop, subst (λ (q : Placed). Mated q) (sym made) mated) in cc

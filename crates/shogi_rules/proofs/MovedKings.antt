@@ -18,11 +18,9 @@ use Rattle.shogi_rules.specs.After.{after, board_after}
 use Rattle.shogi_rules.specs.Kinds.{promoted}
 use Rattle.shogi_rules.specs.Legal.{FitsBoard, kind_after, target}
 use Rattle.shogi_rules.specs.LineKings.{AreKings}
-use Rattle.shogi_rules.specs.Rules.{Kept, all_rules, IsFirstBroken}
 use Rattle.shogi_rules.specs.declared.moves.Move.{Move}
 use Rattle.shogi_rules.specs.declared.moves.Move.TheVariants.{Walk, Put}
 use Rattle.shogi_rules.proofs.Forms.{opponent-twice}
-use Rattle.shogi_rules.proofs.Games.{legal-of-none}
 use Rattle.shogi_rules.proofs.Walks.{start-of, on-board, longer, no-king-taken}
 
 king-is : (k : Kind) → is_king k ≡ true → k ≡ King
@@ -167,26 +165,16 @@ kings-after p m own other next sound fits kings moved stays = (
   subst (λ (c : Color). IsKingOf (board_after p m) c next) (sym (opponent-twice p.side)) (own-moved p m own next sound fits kings.0 moved stays),
 )
 
-pub kings-played : (ps : List Placed) (last p : Placed) (color : Color) (m : Move) (own other king : Option Square) (next : Placed) → last ≡ p → next ≡ after p m → IsSound last → IsFirstBroken (Kept ps p color m) all_rules None → AreKings last own other → (kind_after m ≡ King → king ≡ Some (target m)) → ((kind_after m ≡ King → ⊥) → king ≡ own) → AreKings next other king
-kings-played ps last p color m own other king next e made sound none kings moved stays =
-    let legal = legal-of-none ps p color m none in
-    let fits : FitsBoard last m = subst (λ q. FitsBoard q m) (sym e) legal.keeps.fits in
-    let after_last : next ≡ after last m = made ∙ ap (λ q. after q m) (sym e) in
-    subst (λ q. AreKings q other king) (sym after_last) (kings-after last m own other king sound fits kings moved stays)
+pub kings-played : (last next : Placed) (m : Move) (own other king : Option Square) → next ≡ after last m → IsSound last → FitsBoard last m → AreKings last own other → (kind_after m ≡ King → king ≡ Some (target m)) → ((kind_after m ≡ King → ⊥) → king ≡ own) → AreKings next other king
+kings-played last next m own other king made sound fits kings moved stays =
+    subst (λ q. AreKings q other king) (sym made) (kings-after last m own other king sound fits kings moved stays)
 
 -- the king of the side that is to move then
-pub other-played : (ps : List Placed) (last p : Placed) (color : Color) (m : Move) (own other : Option Square) (next : Placed) → last ≡ p → next ≡ after p m → IsSound last → IsFirstBroken (Kept ps p color m) all_rules None → AreKings last own other → IsKingOf next.board next.side other
-other-played ps last p color m own other next e made sound none kings =
-    let legal = legal-of-none ps p color m none in
-    let fits : FitsBoard last m = subst (λ q. FitsBoard q m) (sym e) legal.keeps.fits in
-    let after_last : next ≡ after last m = made ∙ ap (λ q. after q m) (sym e) in
-    subst (λ q. IsKingOf q.board q.side other) (sym after_last) (other-stays last m other sound fits kings.1)
+pub other-played : (last next : Placed) (m : Move) (own other : Option Square) → next ≡ after last m → IsSound last → FitsBoard last m → AreKings last own other → IsKingOf next.board next.side other
+other-played last next m own other made sound fits kings =
+    subst (λ q. IsKingOf q.board q.side other) (sym made) (other-stays last m other sound fits kings.1)
 
 -- as a search for it answers
 pub king-found : (cells : Cells) (color : Color) (king : Option Square) → MatchOption king ((s : Square) → at cells s ≡ piece color King → ⊥) (λ s. at cells s ≡ piece color King) → IsKingOf cells color king
 king-found cells color None h = h
 king-found cells color (Some s) h = h
-
-pub fits-played : (ps : List Placed) (last p : Placed) (color : Color) (m : Move) → last ≡ p → IsFirstBroken (Kept ps p color m) all_rules None → FitsBoard last m
-fits-played ps last p color m e none =
-    let legal = legal-of-none ps p color m none in subst (λ q. FitsBoard q m) (sym e) legal.keeps.fits

@@ -1,7 +1,8 @@
-ghost use Rattle.std.specs.Prelude.{◌≡◌, ◌↔◌, [], ◌∷◌, None, Some};
+ghost use Rattle.std.specs.Prelude.{◌≡◌, ◌↔◌, IsTrue, [], ◌∷◌, None, Some};
+ghost use Rattle.shogi_board.specs.Reach.{InCheck};
 ghost use Rattle.shogi_rules.specs.declared.rule.Rule.TheVariants.{RepetitionOver};
 ghost use Rattle.shogi_rules.specs.After.{after};
-ghost use Rattle.shogi_rules.specs.Legal.{Legal};
+ghost use Rattle.shogi_rules.specs.Legal.{IsPawnDrop, Legal, Mated};
 ghost use Rattle.shogi_rules.specs.LineKings.{IsOwnKing};
 ghost use Rattle.shogi_rules.specs.Rules.{Kept, KeptAlone, move_rules, all_rules, IsFirstBroken};
 
@@ -13,7 +14,6 @@ use crate::search::is_pawn_drop;
 use shogi_board::{Color, Position};
 
 // Makes the position the one after the move, or says which of the rules 3 to 11 the side to move breaks first by it.
-#[inline(always)]
 pub(crate) fn make_by_side(position: &mut Position, own: OwnKing, mv: &Move) -> Option<Rule>
     requires { IsOwnKing position.old own }
     ensures broken { IsFirstBroken (KeptAlone position.old mv.now) move_rules result }
@@ -28,6 +28,16 @@ pub(crate) fn make_by_side(position: &mut Position, own: OwnKing, mv: &Move) -> 
             None
         }
     }
+}
+
+// Whether the move that led to the position is a pawn put down that mates, where it is known whether the side to move is in
+// check.
+#[inline(always)]
+pub(crate) fn mates_by_pawn_drop(position: &Position, mv: &Move, in_check: bool) -> bool
+    requires { IsTrue in_check ↔ InCheck position.now.board position.now.side }
+    ensures { IsTrue result ↔ (IsPawnDrop mv.now × Mated position.now) }
+{
+    in_check && is_pawn_drop(mv) && is_mated(position)
 }
 
 // The first of the rules 3 to 11 that the side to move breaks by the move.

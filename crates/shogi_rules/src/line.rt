@@ -6,9 +6,9 @@ ghost use Rattle.shogi_rules.specs.Repetition.{Over};
 ghost use Rattle.shogi_rules.specs.Verdicts.{Stands};
 ghost use Rattle.shogi_rules.specs.declared.line.PlayFault.TheVariants.{OutOfMemory};
 
-use crate::judging::make_by_side;
+use crate::judging::{make_by_side, mates_by_pawn_drop};
 use crate::moves::Move;
-use crate::playing::{OwnKing, gives_check, in_check, king_after};
+use crate::playing::{OwnKing, gives_check, in_check, king_after, make_if_kept};
 use crate::repetition::{verdict_by_moves, verdict_of_stretch};
 use crate::rule::Rule;
 use crate::seen::{FIRST_ROOM, Seen, packed_after};
@@ -221,13 +221,16 @@ impl Line {
             return Err(self.fault_without_room(mover, &mv));
         }
         let change = mv.change(&self.last);
-        if let Some(rule) = make_by_side(&mut self.last, own, &mv) {
-            restore(&mut self.last, self.seen.position(count));
+        if let Some(rule) = make_if_kept(&mut self.last, own, &mv) {
             return Err(PlayFault::Broken(rule));
         }
         let before = self.seen.position(count);
-        let packed = packed_after(before, &mv, &change, &self.last);
         let in_check = gives_check(before, &self.last, &mv, self.other_king);
+        if mates_by_pawn_drop(&self.last, &mv, in_check) {
+            restore(&mut self.last, before);
+            return Err(PlayFault::Broken(Rule::PawnDropMate));
+        }
+        let packed = packed_after(before, &mv, &change, &self.last);
         match self.seen.push(packed) {
             Ok(repeats) => {
                 self.moves.push(mv).unwrap();
