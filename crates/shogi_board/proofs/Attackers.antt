@@ -1,25 +1,27 @@
 -- Who attacks a square is seen from it: in one of eight directions, or a knight's jump away.
-use Rattle.std.proofs.Common.{◌≡◌, ℕ, ◌+◌, ◌-◌, ◌*◌, ◌<◌, ◌≤◌, ◌⊎◌, inl, inr, List, [], ◌∷◌, ◌++◌, Any, get_or, length, None, Some, Option, Bool, true, false, is_some, sym, ◌↔◌, IsTrue, arith, ap, subst, ◌∙◌}
+use Rattle.std.proofs.Common.{◌≡◌, ℕ, ◌+◌, ◌-◌, ◌*◌, ◌<◌, ◌≤◌, ◌⊎◌, inl, inr, List, [], ◌∷◌, ◌++◌, Any, None, Some, Option, Bool, false, is_some, sym, ◌↔◌, IsTrue, arith, ap, subst, ◌∙◌}
 use Rattle.std.specs.Prelude.{MatchOption}
 use Rattle.std.proofs.lemmas.Bool.{cases_lt}
-use Rattle.std.proofs.lemmas.List.{get_or_default}
 use Rattle.shogi_board.specs.Attackers.{AttackInSight, IsAttackedByJump, IsAttackedInLine}
-use Rattle.shogi_board.specs.Between.{IsDirection, IsNowhere}
+use Rattle.shogi_board.specs.Between.{IsNowhere, Lies}
 use Rattle.shogi_board.specs.Cells.{Cells, at}
 use Rattle.shogi_board.specs.Danger.{SeenTowards}
-use Rattle.shogi_board.specs.Moves.{IsNear, IsRay, diagonals, orthogonals, rays, steps, turned_for}
+use Rattle.shogi_board.specs.Moves.{IsNear, IsRay, Goes, diagonals, orthogonals, rays, steps, turned_for}
 use Rattle.shogi_board.specs.Pieces.{opponent}
-use Rattle.shogi_board.specs.Reach.{Attack, Attacked, InSight, IsClear}
+use Rattle.shogi_board.specs.Reach.{Attack, Attacked, InSight, IsClear, Slides, Steps}
 use Rattle.shogi_board.specs.Squares.{IsAway}
 use Rattle.shogi_board.specs.declared.color.Color.{Color}
 use Rattle.shogi_board.specs.declared.color.Color.TheVariants.{Black, White}
 use Rattle.shogi_board.specs.declared.direction.Direction.{Direction}
 use Rattle.shogi_board.specs.declared.kind.Kind.{Kind}
 use Rattle.shogi_board.specs.declared.kind.Kind.TheVariants.{Pawn, Lance, Knight, Silver, Gold, Bishop, Rook, King, ProPawn, ProLance, ProKnight, ProSilver, Horse, Dragon}
+use Rattle.shogi_board.specs.declared.kind.Piece.{Piece}
 use Rattle.shogi_board.specs.declared.square.Square.{Square}
-use Rattle.shogi_board.proofs.Moves.{near-ray, near-step}
+use Rattle.shogi_board.proofs.Between.{lies-once}
+use Rattle.shogi_board.proofs.Goes.{goes-moves, moves-goes, ray-near, turned-twice}
+use Rattle.shogi_board.proofs.Moves.{near-ray, near-step, turned-ray}
 use Rattle.shogi_board.proofs.OneOf.{OneOf, any-of, one-of}
-use Rattle.shogi_board.proofs.Sight.{too-far, off-edge}
+use Rattle.shogi_board.proofs.Pieces.{mover-is}
 use Rattle.shogi_board.proofs.Squares.{away-same}
 
 -- 1. The way back
@@ -56,15 +58,18 @@ between a s t color d m k near away there =
       back-part a.rank s.rank t.rank m k (turned_for (opponent color) d).ranks (turned_for color d).ranks ways.1 away.1 there.1,
     )
 
+back-clear : (cells : Cells) (a s : Square) (color : Color) (d : Direction) (n : ℕ) → IsNear d → IsAway a (turned_for (opponent color) d) n s → IsClear cells a (turned_for (opponent color) d) n → IsClear cells s (turned_for color d) n
+back-clear cells a s color d n near away clear k t low high there =
+    let parts : n ≡ (n - k) + k = omega (arith, high) in
+    let whole : IsAway a (turned_for (opponent color) d) ((n - k) + k) s = subst (λ n. IsAway a (turned_for (opponent color) d) n s) parts away in
+    clear (n - k) t (omega (arith, high)) (omega (arith, low, high)) (between a s t color d (n - k) k near whole there)
+
 sight-back : (cells : Cells) (a s : Square) (color : Color) (d : Direction) → IsNear d → InSight cells a (turned_for (opponent color) d) s → InSight cells s (turned_for color d) a
 sight-back cells a s color d near sight = record {
   distance = sight.distance;
   some = sight.some;
   away = back a s color d sight.distance near sight.away;
-  clear = λ k t low high there.
-      let parts : sight.distance ≡ (sight.distance - k) + k = omega arith in
-      let whole : IsAway a (turned_for (opponent color) d) ((sight.distance - k) + k) s = subst (λ n. IsAway a (turned_for (opponent color) d) n s) parts sight.away in
-      sight.clear (sight.distance - k) t (omega arith) (omega arith) (between a s t color d (sight.distance - k) k near whole there);
+  clear = back-clear cells a s color d sight.distance near sight.away sight.clear;
 }
 
 ahead-part : (x y z m k f g : ℕ) → f + g ≡ 4 → y + (m + k) * 2 ≡ x + (m + k) * f → z + k * 2 ≡ x + k * f → z + m * 2 ≡ y + m * g
@@ -184,19 +189,7 @@ attackers cells color s attacked =
       | inr slide ↦ inl (slid cells color a s attack mover.kind (subst (λ x. Any (λ d. InSight cells a (turned_for x d) s) (rays mover.kind)) attack.enemy slide))
     ]
 
-pub in-line : (cells : Cells) (color : Color) (s : Square) → IsAttackedInLine cells color s → Attacked cells color s
-in-line cells color s h = (h.4.0, h.4.2)
-
-pub by-jump : (cells : Cells) (color : Color) (s : Square) → IsAttackedByJump cells color s → Attacked cells color s
-by-jump cells color s h = (h.4.0, h.4.2)
-
 -- 4. Loops
-pub taken-there : {A : Type 0} (found cell : Option A) → found ≡ cell → true ≡ is_some found → cell ≡ None → ⊥
-taken-there {A = A} found cell same some none = let no : true ≡ is_some {T = A} None = some ∙ ap is_some (same ∙ none) in cc
-
-pub at-index : (P : Direction → Type 0) (xs : List Direction) (n : ℕ) (e : Direction) → n < length xs → P (get_or xs n e) → Any P xs
-at-index P xs n e lt h = (n, get_or xs n e, lt, get_or_default xs n (get_or xs n e) e lt, h)
-
 pub clear-more : (cells : Cells) (a : Square) (d : Direction) (n : ℕ) → IsClear cells a d n → ((s : Square) → IsAway a d n s → at cells s ≡ None) → IsClear cells a d (n + 1)
 clear-more cells a d n clear empty k s low high away =
     elim (cases_lt k n) [
@@ -219,20 +212,55 @@ first-one cells color s a b d n some clear here taken sight attack =
       ]
     ]
 
--- where all squares are clear none is in sight
-pub none-there : (cells : Cells) (color : Color) (s a : Square) (d : Direction) (n : ℕ) → IsRay d → 9 ≤ n → IsClear cells s d n → InSight cells s d a → Attack cells color a s → ⊥
-none-there cells color s a d n ray far clear sight attack =
-    elim (cases_lt sight.distance n) [
-      | inl lt ↦ let none = clear sight.distance a sight.some lt sight.away in let stands = attack.reach.stands in cc
-      | inr ge ↦ too-far s a d sight.distance ray (omega arith) sight.away
-    ]
+-- where the squares are clear none is in sight
+pub none-within : (cells : Cells) (color : Color) (s a : Square) (d : Direction) (n : ℕ) → IsClear cells s d n → (sight : InSight cells s d a) → Attack cells color a s → sight.distance < n → ⊥
+none-within cells color s a d n clear sight attack low =
+    let none = clear sight.distance a sight.some low sight.away in let stands = attack.reach.stands in cc
 
-pub edge-there : (cells : Cells) (color : Color) (s a : Square) (d : Direction) (n : ℕ) → IsRay d → ((t : Square) → IsAway s d n t → ⊥) → IsClear cells s d n → InSight cells s d a → Attack cells color a s → ⊥
-edge-there cells color s a d n ray off clear sight attack =
-    elim (cases_lt sight.distance n) [
-      | inl lt ↦ let none = clear sight.distance a sight.some lt sight.away in let stands = attack.reach.stands in cc
-      | inr ge ↦ off-edge s a d n sight.distance ray (omega arith) off sight.away
-    ]
+-- the way to a square, turned back by the side that does not see it so
+turned-back : (cells : Cells) (s a : Square) (color : Color) (d : Direction) (n : ℕ) → IsNear d → IsAway s d n a → IsClear cells s d n
+    → IsAway a (turned_for (opponent color) (turned_for color d)) n s × IsClear cells a (turned_for (opponent color) (turned_for color d)) n
+turned-back cells s a Black d n near away clear = (back s a White d n near away, back-clear cells s a White d n near away clear)
+turned-back cells s a White d n near away clear =
+    let files : d.files ≤ 4 = near.0 in
+    let ranks : d.ranks ≤ 4 = near.1 in
+    let e = turned_for White d in
+    let twice : d ≡ turned_for White e = sym (turned-twice White d near) in
+    let away2 : IsAway s (turned_for White e) n a = subst (λ x. IsAway s x n a) twice away in
+    let clear2 : IsClear cells s (turned_for White e) n = subst (λ x. IsClear cells s x n) twice clear in
+    (back s a Black e n (omega arith, omega arith) away2, back-clear cells s a Black e n (omega arith, omega arith) away2 clear2)
+
+lies-back : (cells : Cells) (s a : Square) (color : Color) (d : Direction) (n : ℕ) → IsRay d → 1 ≤ n → IsAway s d n a → IsClear cells s d n
+    → Lies a s (turned_for (opponent color) (turned_for color d)) n × IsClear cells a (turned_for (opponent color) (turned_for color d)) n
+lies-back cells s a color d n ray some away clear =
+    let w = turned-back cells s a color d n (ray-near d ray) away clear in
+    ((turned-ray (opponent color) (turned_for color d) (turned-ray color d ray), some, w.0), w.1)
+
+-- the attacker sees the direction turned for the one that it attacks
+seen-as : (color side : Color) (d : Direction) → IsRay d → side ≡ opponent color → turned_for side (turned_for (opponent color) (turned_for color d)) ≡ turned_for color d
+seen-as color side d ray e =
+    ap (λ (c : Color). turned_for c (turned_for (opponent color) (turned_for color d))) e
+    ∙ turned-twice (opponent color) (turned_for color d) (ray-near (turned_for color d) (turned-ray color d ray))
+
+-- what is in sight attacks where it is an enemy whose kind goes so far
+pub goes-attacks : (cells : Cells) (color : Color) (s a : Square) (d : Direction) (n : ℕ) (p : Piece) → IsRay d → 1 ≤ n → IsAway s d n a → IsClear cells s d n → at cells a ≡ Some p
+    → p.color ≡ opponent color → Goes p.kind (turned_for color d) n → Attack cells color a s
+goes-attacks cells color s a d n p ray some away clear stands enemy goes =
+    let w = lies-back cells s a color d n ray some away clear in
+    let e = turned_for (opponent color) (turned_for color d) in
+    let own : Goes p.kind (turned_for p.color e) n = subst (λ x. Goes p.kind x n) (sym (seen-as color p.color d ray enemy)) goes in
+    record { reach = record { mover = p; stands = stands; moves = goes-moves cells p a s e n w.0 w.1 own }; enemy = enemy }
+
+pub attacks-goes : (cells : Cells) (color : Color) (s a : Square) (d : Direction) (n : ℕ) (p : Piece) → IsRay d → 1 ≤ n → IsAway s d n a → IsClear cells s d n → at cells a ≡ Some p
+    → Attack cells color a s → (p.color ≡ opponent color) × Goes p.kind (turned_for color d) n
+attacks-goes cells color s a d n p ray some away clear stands attack =
+    let w = lies-back cells s a color d n ray some away clear in
+    let e = turned_for (opponent color) (turned_for color d) in
+    let same : attack.reach.mover ≡ p = mover-is cells a s p stands attack.reach in
+    let enemy : p.color ≡ opponent color = subst (λ (q : Piece). q.color ≡ opponent color) same attack.enemy in
+    let moves : Steps p a s ⊎ Slides cells p a s = subst (λ q. Steps q a s ⊎ Slides cells q a s) same attack.reach.moves in
+    let own = moves-goes cells p a s e n w.0 moves in
+    (enemy, subst (λ x. Goes p.kind x n) (seen-as color p.color d ray enemy) own.0)
 
 -- 5. Answers
 -- an answer to one question is one to another that implies it
@@ -245,14 +273,14 @@ some-attacker cells color s None b e h = (λ t. cc, λ x. absurd (h x))
 some-attacker cells color s (Some a) b e h = (λ t. (a, h), λ x. e)
 
 -- where attackers are in sight towards another square, the one in that direction is sought
-pub some-towards : (cells : Cells) (color : Color) (s t : Square) (d : Direction) (found : Option Square) (b : Bool) → b ≡ is_some found → ((a : Square) → Attack cells color a s → SeenTowards cells s t a)
-    → IsDirection s t d → MatchOption found (AttackInSight cells color s d → ⊥) (λ a. Attack cells color a s) → IsTrue b ↔ Attacked cells color s
-some-towards cells color s t d found b e from only answer =
+pub some-towards : (cells : Cells) (color : Color) (s t : Square) (d : Direction) (n : ℕ) (found : Option Square) (b : Bool) → b ≡ is_some found → ((a : Square) → Attack cells color a s → SeenTowards cells s t a)
+    → Lies s t d n → MatchOption found (AttackInSight cells color s d → ⊥) (λ a. Attack cells color a s) → IsTrue b ↔ Attacked cells color s
+some-towards cells color s t d n found b e from lies answer =
     some-attacker cells color s found b e (weaker found (Attacked cells color s) (AttackInSight cells color s d) (λ a. Attack cells color a s) (λ a. Attack cells color a s)
     (λ attacked.
     let seen = from attacked.0 attacked.1 in
-    let same : d ≡ seen.direction = only seen.direction seen.distance seen.ray seen.some seen.lies in
-    (attacked.0, subst (λ e. InSight cells s e attacked.0) (sym same) seen.sight, attacked.1))
+    let same = lies-once s t seen.direction d seen.distance n seen.ray lies.0 seen.some lies.1 seen.lies lies.2 in
+    (attacked.0, subst (λ e. InSight cells s e attacked.0) same.0 seen.sight, attacked.1))
     (λ a h. h)
     answer)
 

@@ -4,6 +4,7 @@ pub mod Check
 pub mod Count
 pub mod Decided
 pub mod Facts
+pub mod Goes
 pub mod Moved
 pub mod Moves
 pub mod OneOf

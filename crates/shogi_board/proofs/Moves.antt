@@ -1,16 +1,13 @@
 -- Every step and every ray is near, and a ray goes one square at a time.
-use Rattle.std.proofs.Common.{◌≡◌, Bool, true, false, ℕ, zero, suc, ◌<◌, ◌≤◌, List, [], ◌∷◌, length, get_or, arith, lit≤}
-use Rattle.shogi_board.specs.Cells.{Cells}
+use Rattle.std.proofs.Common.{◌≡◌, ◌↔◌, ◌&&◌, ◌||◌, IsTrue, Bool, true, false, ℕ, zero, suc, ◌<◌, ◌≤◌, List, [], ◌∷◌, length, get_or, arith, lit≤, refl, sym, ap, subst, ◌∙◌, nat_eq, Contains, ◌⊎◌, inl, inr}
+use Rattle.std.proofs.lemmas.Bool.{and_from, and_parts, cases_lt, eq-eqb, eqb-true, or_cases, or_left, or_right}
+use Rattle.shogi_board.proofs.Between.{direction-same}
 use Rattle.shogi_board.specs.Moves.{steps, rays, turned_for, IsNear, IsRay, to, forward, back, left, right, forward_left, forward_right, back_left, back_right, orthogonals, diagonals, gold}
 use Rattle.shogi_board.specs.declared.color.Color.{Color}
 use Rattle.shogi_board.specs.declared.color.Color.TheVariants.{Black, White}
 use Rattle.shogi_board.specs.declared.direction.Direction.{Direction}
 use Rattle.shogi_board.specs.declared.kind.Kind.{Kind}
 use Rattle.shogi_board.specs.declared.kind.Kind.TheVariants.{Pawn, Lance, Knight, Silver, Gold, Bishop, Rook, King, ProPawn, ProLance, ProKnight, ProSilver, Horse, Dragon}
-use Rattle.shogi_board.specs.declared.kind.Piece.{Piece}
-use Rattle.shogi_board.specs.declared.square.Square.{Square}
-use Rattle.shogi_board.specs.Reach.{InSight, Slides, Steps}
-use Rattle.shogi_board.specs.Squares.{IsAway}
 
 abbrev pub Every : (Direction → Type 0) → List Direction → Type 0
 Every P [] = Unit {0}
@@ -63,6 +60,81 @@ every-ray ProPawn = tt
 every-ray ProLance = tt
 every-ray ProKnight = tt
 every-ray ProSilver = tt
+
+every-gold : Every IsRay gold
+every-gold =
+    let o = every-orthogonal in
+    let d = every-diagonal in
+    (o.0, (o.1.0, (o.1.1.0, (o.1.1.1.0, (d.0, (d.1.0, tt))))))
+
+-- each step of a piece but the knight's goes one square in one of the eight directions
+pub every-step : (k : Kind) → Every IsRay (steps k) ⊎ (k ≡ Knight)
+every-step Pawn = inl (every-orthogonal.0, tt)
+every-step Lance = inl tt
+every-step Knight = inr refl
+every-step Silver = inl (every-orthogonal.0, every-diagonal)
+every-step Gold = inl every-gold
+every-step Bishop = inl tt
+every-step Rook = inl tt
+every-step King =
+    let o = every-orthogonal in
+    inl (o.0, (o.1.0, (o.1.1.0, (o.1.1.1.0, every-diagonal))))
+every-step ProPawn = inl every-gold
+every-step ProLance = inl every-gold
+every-step ProKnight = inl every-gold
+every-step ProSilver = inl every-gold
+every-step Horse = inl every-orthogonal
+every-step Dragon = inl every-diagonal
+
+three : (P : ℕ → Type 0) → P 1 → P 2 → P 3 → (n : ℕ) → 1 ≤ n → n ≤ 3 → P n
+three P a b c n low high =
+    elim (cases_lt n 2) [
+      | inl lt ↦ let e : 1 ≡ n = omega arith in subst P e a
+      | inr ge ↦ elim (cases_lt 2 n) [
+        | inl lt ↦ let e : 3 ≡ n = omega arith in subst P e c
+        | inr le ↦ let e : 2 ≡ n = omega arith in subst P e b
+      ]
+    ]
+
+-- whether one of the directions has these files and ranks
+abbrev pub has : List Direction → ℕ → ℕ → Bool
+has [] f r = false
+has (d ∷ ds) f r = (nat_eq d.files f && nat_eq d.ranks r) || has ds f r
+
+contains-has : (ds : List Direction) (d : Direction) (k : ℕ) → k < length ds → get_or ds k d ≡ d → has ds d.files d.ranks ≡ true
+contains-has [] d k lt e = absurd (omega arith)
+contains-has (x ∷ xs) d zero lt e =
+    or_left _ _ (and_from _ _ (eq-eqb _ _ (ap (λ (y : Direction). y.files) e)) (eq-eqb _ _ (ap (λ (y : Direction). y.ranks) e)))
+contains-has (x ∷ xs) d (suc k) lt e = or_right _ _ (contains-has xs d k (omega arith) e)
+
+has-contains : (ds : List Direction) (d : Direction) → has ds d.files d.ranks ≡ true → Contains ds d
+has-contains [] d h = cc
+has-contains (x ∷ xs) d h =
+    elim (or_cases _ _ h) [
+      | inl e ↦
+          let p = and_parts _ _ e in
+          (0, omega arith, direction-same x d (eqb-true _ _ p.0) (eqb-true _ _ p.1))
+      | inr e ↦ let c = has-contains xs d e in (suc c.0, omega (arith, c.1), c.2)
+    ]
+
+-- the tests say the same of each of the eight directions
+abbrev pub Agree : (ℕ → ℕ → Bool) → (ℕ → ℕ → Bool) → Type 0
+Agree p q =
+    (p 1 1 ≡ q 1 1) × (p 1 2 ≡ q 1 2) × (p 1 3 ≡ q 1 3) × (p 2 1 ≡ q 2 1) × (p 2 3 ≡ q 2 3) × (p 3 1 ≡ q 3 1) × (p 3 2 ≡ q 3 2) × (p 3 3 ≡ q 3 3)
+
+agree : (p q : ℕ → ℕ → Bool) → Agree p q → (f r : ℕ) → 1 ≤ f → f ≤ 3 → 1 ≤ r → r ≤ 3 → (f ≡ 2 → r ≡ 2 → ⊥) → p f r ≡ q f r
+agree p q a f r f1 f3 r1 r3 moves =
+    three (λ f. (f ≡ 2 → r ≡ 2 → ⊥) → p f r ≡ q f r)
+    (λ _. three (λ r. p 1 r ≡ q 1 r) a.0 a.1 a.2 r r1 r3)
+    (λ still. three (λ r. (r ≡ 2 → ⊥) → p 2 r ≡ q 2 r) (λ _. a.3) (λ h. absurd (h refl)) (λ _. a.4) r r1 r3 (still refl))
+    (λ _. three (λ r. p 3 r ≡ q 3 r) a.5 a.6 a.7 r r1 r3)
+    f f1 f3 moves
+
+-- a test that agrees with a list on the eight directions says whether the list contains one of them
+pub member : (test : ℕ → ℕ → Bool) (ds : List Direction) (d : Direction) (b : Bool) → Agree test (has ds) → IsRay d → b ≡ test d.files d.ranks → IsTrue b ↔ Contains ds d
+member test ds d b a ray is =
+    let same = is ∙ agree test (has ds) a d.files d.ranks ray.0 ray.1 ray.2 ray.3 ray.4 in
+    (λ yes. has-contains ds d (sym same ∙ yes), λ c. same ∙ contains-has ds d c.0 c.1 c.2)
 
 pub turned-ray : (c : Color) (d : Direction) → IsRay d → IsRay (turned_for c d)
 turned-ray Black d h = h
@@ -117,16 +189,6 @@ turned-near White d h = (omega arith, omega arith)
 -- a step of a piece goes at most two squares along files and ranks
 pub step-near : (c : Color) (kind : Kind) (k : ℕ) (d : Direction) → k < length (steps kind) → get_or (steps kind) k d ≡ d → IsNear (turned_for c d)
 step-near c kind k d lt e = turned-near c d (every-at IsNear (steps kind) k d (every-near kind) lt e)
-
--- no step leads to a square that is not near, and no ray to one that is on no line
-pub no-step : (p : Piece) (a b : Square) (near : Bool) → ((d : Direction) → IsNear d → IsAway a d 1 b → near ≡ true) → near ≡ false → Steps p a b → ⊥
-no-step p a b near says off any =
-    let yes = says (turned_for p.color any.1) (step-near p.color p.kind any.0 any.1 any.2 any.3) any.4 in cc
-
-pub no-slide : (cells : Cells) (p : Piece) (a b : Square) (lines : Bool) → ((d : Direction) (n : ℕ) → IsRay d → IsAway a d n b → lines ≡ true) → lines ≡ false → Slides cells p a b → ⊥
-no-slide cells p a b lines says off any =
-    let sight : InSight cells a (turned_for p.color any.1) b = any.4 in
-    let yes = says (turned_for p.color any.1) sight.distance (ray-at p.color p.kind any.0 any.1 any.2 any.3) sight.away in cc
 
 pub near-step : (kind : Kind) (k : ℕ) (d : Direction) → k < length (steps kind) → get_or (steps kind) k d ≡ d → IsNear d
 near-step kind k d lt e = every-at IsNear (steps kind) k d (every-near kind) lt e

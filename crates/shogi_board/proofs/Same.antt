@@ -27,7 +27,7 @@ use Rattle.shogi_board.specs.contracts.position.PositionOrd.TheImpl.Laws as laws
 pub color-eq : (a b : Color) → Decides (sameb color.the_type a b) (a ≡ b)
 color-eq a b = (λ h. same_true color.the_type (search rules) a b h, true_same color.the_type a b)
 
-kind-eq : (a b : Kind) → Decides (sameb kind.the_type a b) (a ≡ b)
+pub kind-eq : (a b : Kind) → Decides (sameb kind.the_type a b) (a ≡ b)
 kind-eq a b = (λ h. same_true kind.the_type (search rules) a b h, true_same kind.the_type a b)
 
 and-left : (a b : Bool) → (a && b) ≡ true → a ≡ true

@@ -1,32 +1,10 @@
--- What a look along a direction has passed.
-use Rattle.std.proofs.Common.{◌≡◌, ℕ, ◌+◌, ◌-◌, ◌*◌, ◌<◌, ◌≤◌, None, arith, inl, inr}
+-- A look along a direction: how far the board goes on, and the places of the squares there.
+use Rattle.std.proofs.Common.{◌≡◌, ℕ, ◌+◌, ◌-◌, ◌*◌, ◌<◌, ◌≤◌, arith, inl, inr, refl}
 use Rattle.std.proofs.lemmas.Bool.{cases_lt}
-use Rattle.shogi_board.specs.Cells.{Cells, at}
 use Rattle.shogi_board.specs.Moves.{IsRay}
-use Rattle.shogi_board.specs.Reach.{InSight}
-use Rattle.shogi_board.specs.Squares.{IsAway}
+use Rattle.shogi_board.specs.Squares.{place, IsAway}
 use Rattle.shogi_board.specs.declared.direction.Direction.{Direction}
 use Rattle.shogi_board.specs.declared.square.Square.{Square}
-
--- each square passed is empty, and none of them is b
-pub record Passed (cells : Cells) (a : Square) (d : Direction) (b : Square) (n : ℕ) : Type 0 where
-  pub empty : (k : ℕ) (s : Square) → 1 ≤ k → k < n → IsAway a d k s → at cells s ≡ None
-  pub other : (k : ℕ) → 1 ≤ k → k < n → IsAway a d k b → ⊥
-
--- one square farther
-pub passed-more : (cells : Cells) (a : Square) (d : Direction) (b : Square) (n : ℕ) → Passed cells a d b n → ((s : Square) → IsAway a d n s → at cells s ≡ None) → (IsAway a d n b → ⊥) → Passed cells a d b (n + 1)
-passed-more cells a d b n p empty other = record {
-  empty = λ k s low high away.
-      elim (cases_lt k n) [
-        | inl lt ↦ p.empty k s low lt away
-        | inr ge ↦ let e : k ≡ n = omega arith in let there : IsAway a d n s = rw e at away in empty s there
-      ];
-  other = λ k low high away.
-      elim (cases_lt k n) [
-        | inl lt ↦ p.other k low lt away
-        | inr ge ↦ let e : k ≡ n = omega arith in let there : IsAway a d n b = rw e at away in other there
-      ];
-}
 
 back-far : (x y m f : ℕ) → f ≡ 1 → x + m * 2 ≡ y + m * f → y ≤ 9 → 1 ≤ x → 9 ≤ m → ⊥
 back-far x y m f e h top low far = let g : x + m * 2 ≡ y + m * 1 = rw e at h in omega arith
@@ -59,14 +37,6 @@ too-far a b d m ray far away =
       ]
     ]
 
--- what was passed eight times is not in sight
-pub out-of-sight : (cells : Cells) (a : Square) (d : Direction) (b : Square) (n : ℕ) → IsRay d → 9 ≤ n → Passed cells a d b n → InSight cells a d b → ⊥
-out-of-sight cells a d b n ray end p sight =
-    elim (cases_lt sight.distance n) [
-      | inl lt ↦ p.other sight.distance sight.some lt sight.away
-      | inr ge ↦ too-far a b d sight.distance ray (omega arith) sight.away
-    ]
-
 -- a number on the way from one number to another
 way-back : (x y m n f : ℕ) → f ≡ 1 → n ≤ m → y + m * 2 ≡ x + m * f → 1 ≤ y → x ≤ 9 → (z : ℕ) × (z + n * 2 ≡ x + n * f) × (1 ≤ z) × (z ≤ 9)
 way-back x y m n f e near h low high =
@@ -95,16 +65,83 @@ way x y m n f low high near h x1 x9 y1 y9 =
       ]
     ]
 
--- where no square lies so far away, none lies farther
-pub off-edge : (a b : Square) (d : Direction) (n m : ℕ) → IsRay d → n ≤ m → ((s : Square) → IsAway a d n s → ⊥) → IsAway a d m b → ⊥
-off-edge a b d n m ray near off away =
+-- each square up to one in that direction is on the board
+pub on-the-way : (a b : Square) (d : Direction) (n m : ℕ) → IsRay d → n ≤ m → IsAway a d m b → (s : Square) × IsAway a d n s
+on-the-way a b d n m ray near away =
     let i = a.on_board in
     let j = b.on_board in
-    let f1 : 1 ≤ d.files = ray.0 in
-    let f3 : d.files ≤ 3 = ray.1 in
-    let r1 : 1 ≤ d.ranks = ray.2 in
-    let r3 : d.ranks ≤ 3 = ray.3 in
-    let x = way a.file b.file m n d.files f1 f3 near away.0 i.0 i.1 j.0 j.1 in
-    let y = way a.rank b.rank m n d.ranks r1 r3 near away.1 i.2 i.3 j.2 j.3 in
-    let between : Square = record { file = x.0; rank = y.0; on_board = (x.2, x.3, y.2, y.3) } in
-    off between (x.1, y.1)
+    let x = way a.file b.file m n d.files ray.0 ray.1 near away.0 i.0 i.1 j.0 j.1 in
+    let y = way a.rank b.rank m n d.ranks ray.2 ray.3 near away.1 i.2 i.3 j.2 j.3 in
+    (record { file = x.0; rank = y.0; on_board = (x.2, x.3, y.2, y.3) }, (x.1, y.1))
+
+-- so many steps lead from the number to 1 or 9, or they stay
+pub record Room (x f room : ℕ) : Type 0 where
+  pub back : f ≡ 1 → room + 1 ≡ x
+  pub still : f ≡ 2 → room ≡ 8
+  pub on : f ≡ 3 → x + room ≡ 9
+
+last : (x f r : ℕ) → 1 ≤ f → f ≤ 3 → 1 ≤ x → x ≤ 9 → Room x f r → (y : ℕ) × (y + r * 2 ≡ x + r * f) × (1 ≤ y) × (y ≤ 9)
+last x f r low high x1 x9 room =
+    elim (cases_lt f 2) [
+      | inl lt ↦
+          let e : f ≡ 1 = omega (arith, low, lt) in
+          let k = room.back e in
+          let g : 1 + r * 2 ≡ x + r * 1 = omega (arith, k) in
+          (1, rw e g, omega arith, omega arith)
+      | inr ge ↦ elim (cases_lt 2 f) [
+        | inl lt ↦
+            let e : f ≡ 3 = omega (arith, lt, high) in
+            let k = room.on e in
+            let g : 9 + r * 2 ≡ x + r * 3 = omega (arith, k) in
+            (9, rw e g, omega arith, omega arith)
+        | inr le ↦
+            let e : f ≡ 2 = omega (arith, ge, le) in
+            let g : x + r * 2 ≡ x + r * 2 = omega arith in
+            (x, rw e g, x1, x9)
+      ]
+    ]
+
+within : (x f r n : ℕ) → 1 ≤ f → f ≤ 3 → 1 ≤ x → x ≤ 9 → Room x f r → n ≤ r → (z : ℕ) × (z + n * 2 ≡ x + n * f) × (1 ≤ z) × (z ≤ 9)
+within x f r n low high x1 x9 room near =
+    let y = last x f r low high x1 x9 room in
+    way x y.0 r n f low high near y.1 x1 x9 y.2 y.3
+
+-- as far as there is room by file and by rank squares lie
+pub in-room : (a : Square) (d : Direction) (f r n : ℕ) → IsRay d → Room a.file d.files f → Room a.rank d.ranks r → n ≤ f → n ≤ r → (s : Square) × IsAway a d n s
+in-room a d f r n ray files ranks low high =
+    let i = a.on_board in
+    let x = within a.file d.files f n ray.0 ray.1 i.0 i.1 files low in
+    let y = within a.rank d.ranks r n ray.2 ray.3 i.2 i.3 ranks high in
+    (record { file = x.0; rank = y.0; on_board = (x.2, x.3, y.2, y.3) }, (x.1, y.1))
+
+-- a square so far away in that direction stands at that place
+abbrev pub AtPlace : Square → Direction → ℕ → ℕ → Type 0
+AtPlace a d n p = (s : Square) × IsAway a d n s × (place s ≡ p)
+
+pub at-first : (a : Square) (d : Direction) → AtPlace a d 0 (place a)
+at-first a d = (a, (omega arith, omega arith), refl)
+
+one-more : (y z x m n f : ℕ) → n ≡ m + 1 → y + m * 2 ≡ x + m * f → z + n * 2 ≡ x + n * f → z + 2 ≡ y + f
+one-more y z x m n f e h k = let g : z + (m + 1) * 2 ≡ x + (m + 1) * f = rw (← e) k in omega (arith, h, g)
+
+-- with each step the place grows by as much
+pub place-next : (a t : Square) (d : Direction) (n p : ℕ) → 1 ≤ n → IsAway a d n t → AtPlace a d (n - 1) p → place t + 20 ≡ p + (d.files * 9 + d.ranks)
+place-next a t d n p some away seat =
+    let s = seat.0 in
+    let i = s.on_board in
+    let j = t.on_board in
+    let e : n ≡ (n - 1) + 1 = omega (arith, some) in
+    let files = one-more s.file t.file a.file (n - 1) n d.files e seat.1.0 away.0 in
+    let ranks = one-more s.rank t.rank a.rank (n - 1) n d.ranks e seat.1.1 away.1 in
+    let here = seat.2 in
+    omega (arith, files, ranks, here)
+
+-- the next square of those up to one, and its place
+pub next : (a b : Square) (d : Direction) (n m p : ℕ) → IsRay d → 1 ≤ n → n < m → IsAway a d m b → AtPlace a d (n - 1) p → (t : Square) × IsAway a d n t × (place t + 20 ≡ p + (d.files * 9 + d.ranks))
+next a b d n m p ray some less away seat =
+    let t = on-the-way a b d n m ray (omega (arith, less)) away in
+    (t.0, t.1, place-next a t.0 d n p some t.1 seat)
+
+-- where the place of a square is known, it is the place one step on
+pub seat-on : (a t : Square) (d : Direction) (n p : ℕ) → IsAway a d n t → place t ≡ p → AtPlace a d (n + 1 - 1) p
+seat-on a t d n p away e = let same : n + 1 - 1 ≡ n = omega arith in rw same (t, away, e)

@@ -20,6 +20,14 @@ pub record Between (a b c : Square) : Type 0 where
 abbrev pub IsDirection : Square → Square → Direction → Type 0
 IsDirection a b d = (e : Direction) (n : ℕ) → IsRay e → 1 ≤ n → IsAway a e n b → d ≡ e
 
+-- b lies n squares away from a in that direction
+abbrev pub Lies : Square → Square → Direction → ℕ → Type 0
+Lies a b d n = IsRay d × (1 ≤ n) × IsAway a d n b
+
+-- b lies on the rank, file or diagonal of a, or is a
+abbrev pub IsInLine : Square → Square → Type 0
+IsInLine a b = (d : Direction) × (n : ℕ) × IsRay d × IsAway a d n b
+
 -- b lies in no direction from a
 abbrev pub IsNowhere : Square → Square → Type 0
 IsNowhere a b = (e : Direction) (n : ℕ) → IsRay e → 1 ≤ n → IsAway a e n b → ⊥

@@ -1,5 +1,5 @@
 -- How the pieces move: the steps and rays of each kind, as black sees them.
-use Rattle.std.specs.Prelude.{ℕ, ◌≡◌, ◌-◌, ◌≤◌, List, [], ◌∷◌, ◌++◌}
+use Rattle.std.specs.Prelude.{ℕ, ◌≡◌, ◌-◌, ◌≤◌, ◌==◌, ◌&&◌, ◌⊎◌, Bool, not, List, [], ◌∷◌, ◌++◌, Contains}
 use Rattle.shogi_board.specs.declared.color.Color.{Color}
 use Rattle.shogi_board.specs.declared.color.Color.TheVariants.{Black, White}
 use Rattle.shogi_board.specs.declared.direction.Direction.{Direction}
@@ -33,6 +33,13 @@ back_left = to 3 3
 
 abbrev pub back_right : Direction
 back_right = to 1 3
+
+abbrev pub is_forward : Direction → Bool
+is_forward d = d.files == 2 && d.ranks == 1
+
+-- neither along a file nor along a rank
+abbrev pub is_diagonal : Direction → Bool
+is_diagonal d = not (d.files == 2) && not (d.ranks == 2)
 
 abbrev pub orthogonals : List Direction
 orthogonals = forward ∷ back ∷ left ∷ right ∷ []
@@ -70,6 +77,10 @@ rays Rook = orthogonals
 rays Horse = diagonals
 rays Dragon = orthogonals
 rays _ = []
+
+-- a piece of that kind goes n squares in that direction, as its side sees it, where nothing stands between
+abbrev pub Goes : Kind → Direction → ℕ → Type 0
+Goes kind d n = ((n ≡ 1) × Contains (steps kind) d) ⊎ Contains (rays kind) d
 
 -- white sees the board turned round
 abbrev pub turned_for : Color → Direction → Direction

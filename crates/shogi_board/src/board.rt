@@ -1,19 +1,20 @@
-ghost use Rattle.std.specs.Prelude.{◌≡◌, ◌≤◌, ◌<◌, ◌↔◌, IsTrue, MatchOption, Some, count_by, slice_set, length};
+ghost use Rattle.std.specs.Prelude.{◌≡◌, ◌≤◌, ◌<◌, ◌↔◌, ◌⊎◌, Any, IsTrue, MatchOption, Some, count_by, slice_set, length};
 ghost use Rattle.shogi_board.specs.Cells.{at, piece, even_cells, no_cells, HasPawnOnFile};
 ghost use Rattle.shogi_board.specs.Danger.{ComesFrom, SeenTowards};
 ghost use Rattle.shogi_board.specs.Attackers.{AttackAcross, AttackInSight, IsAttackedByJump, IsAttackedInLine};
 ghost use Rattle.shogi_board.specs.Kings.{IsKingOf};
-ghost use Rattle.shogi_board.specs.Moves.{IsNear, IsRay};
-ghost use Rattle.shogi_board.specs.Reach.{Reach, Attack, Attacked, InCheck, InSight, Slides, Steps};
+ghost use Rattle.shogi_board.specs.Moves.{steps, turned_for, Goes, IsNear, IsRay};
+ghost use Rattle.shogi_board.specs.Pieces.{opponent};
+ghost use Rattle.shogi_board.specs.Reach.{Reach, Attack, Attacked, InCheck, IsClear, Slides, Steps};
 ghost use Rattle.shogi_board.specs.Setup.{holds};
-ghost use Rattle.shogi_board.specs.Squares.{place};
+ghost use Rattle.shogi_board.specs.Squares.{place, IsAway};
 ghost use Rattle.shogi_board.specs.Totals.{is_of, kings_of, is_king_of};
-ghost use Rattle.shogi_board.specs.declared.kind.Kind.TheVariants.{King, Pawn};
+ghost use Rattle.shogi_board.specs.declared.kind.Kind.TheVariants.{King, Knight, Pawn};
 ghost use Rattle.shogi_board.specs.declared.square.Square.{Square};
 
 use crate::color::Color;
 use crate::danger::Danger;
-use crate::direction::Direction;
+use crate::direction::{Direction, jumps, neighbours};
 use crate::even::even_cells;
 use crate::kind::{Kind, Piece};
 use crate::square::Square;
@@ -131,46 +132,41 @@ impl Board {
     pub(crate) fn reaches(&self, from: Square, to: Square) -> bool
         ensures { IsTrue result ↔ Reach self.now from to }
     {
-        let Some(piece) = self.at(from) else {
+        match self.at(from) {
+            Some(piece) => self.leads(piece, from, to),
+            None => false,
+        }
+    }
+
+    // Whether a step or a ray of the piece leads from one square to the other, by a ray with nothing between.
+    fn leads(&self, piece: Piece, from: Square, to: Square) -> bool
+        ensures { IsTrue result ↔ (Steps piece from to ⊎ Slides self.now piece from to) }
+    {
+        if piece.kind == Kind::Knight {
+            return jumps_to(piece.color, from, to);
+        }
+        let Some((direction, distance)) = from.towards(to) else {
             return false;
         };
-        steps_to(piece, from, to) || self.slides_to(piece, from, to)
+        piece.kind.goes(direction.turned_for(piece.color), distance)
+            && self.is_clear(from, direction, distance)
     }
 
-    // Whether one of the piece's rays leads from one square to the other with nothing between.
-    fn slides_to(&self, piece: Piece, from: Square, to: Square) -> bool
-        ensures { IsTrue result ↔ Slides self.now piece from to }
+    // Whether the squares in that direction are empty up to that distance.
+    fn is_clear(&self, from: Square, direction: Direction, distance: u8) -> bool
+        requires ray { IsRay direction }
+        requires there { (s : Square) × IsAway from direction distance s }
+        ensures { IsTrue result ↔ IsClear self.now from direction distance }
     {
-        if !from.lines_up(to) {
-            return false;
-        }
-        for direction in piece.kind.rays() {
-            if self.sees(from, direction.turned_for(piece.color), to) {
-                return true;
+        let stride = direction.stride();
+        let mut place = from.place();
+        for _n in 1..distance {
+            place = place + stride - 20;
+            if self.cells[place].is_some() {
+                return false;
             }
         }
-        false
-    }
-
-    // Whether the one square lies in that direction from the other with nothing between.
-    fn sees(&self, from: Square, direction: Direction, to: Square) -> bool
-        requires { IsRay direction }
-        ensures { IsTrue result ↔ InSight self.now from direction to }
-    {
-        if !from.is_before(direction, to) {
-            return false;
-        }
-        for n in 1..9u8 {
-            if let Some(square) = from.away(direction, n) {
-                if square == to {
-                    return true;
-                }
-                if self.at(square).is_some() {
-                    return false;
-                }
-            }
-        }
-        false
+        true
     }
 
     pub(crate) fn attacked(&self, color: Color, square: Square) -> bool
@@ -199,7 +195,7 @@ impl Board {
         ensures { IsTrue result ↔ Attacked self.now color square }
     {
         match square.towards(other) {
-            Some(direction) => self.attacker_from(color, square, direction).is_some(),
+            Some((direction, _)) => self.attacker_from(color, square, direction).is_some(),
             None => false,
         }
     }
@@ -220,7 +216,7 @@ impl Board {
             (IsAttackedInLine self.now color square → ⊥)
             (λ a. Attack self.now color a square) }
     {
-        for direction in Kind::King.steps() {
+        for direction in neighbours() {
             if let Some(from) = self.attacker_from(color, square, direction.turned_for(color)) {
                 return Some(from);
             }
@@ -234,7 +230,7 @@ impl Board {
             (IsAttackedByJump self.now color square → ⊥)
             (λ a. Attack self.now color a square) }
     {
-        for direction in Kind::Knight.steps() {
+        for direction in jumps() {
             if let Some(from) = self.attacker_across(color, square, direction.turned_for(color)) {
                 return Some(from);
             }
@@ -249,12 +245,16 @@ impl Board {
             (AttackInSight self.now color square direction → ⊥)
             (λ a. Attack self.now color a square) }
     {
-        for n in 1..9u8 {
-            let Some(from) = square.away(direction, n) else {
-                return None;
-            };
-            if self.at(from).is_some() {
-                return self.attacker_at(color, from, square);
+        let stride = direction.stride();
+        let mut place = square.place();
+        for n in 1..square.room(direction) + 1 {
+            place = place + stride - 20;
+            if let Some(piece) = self.cells[place] {
+                return if is_attacker(piece, color, direction, n) {
+                    Some(Square::at_place(place))
+                } else {
+                    None
+                };
             }
         }
         None
@@ -329,18 +329,21 @@ impl Board {
     }
 }
 
-// Whether one of the piece's steps leads from one square to the other.
-fn steps_to(piece: Piece, from: Square, to: Square) -> bool
-    ensures { IsTrue result ↔ Steps piece from to }
+// Whether a knight of that colour jumps from one square to the other.
+fn jumps_to(color: Color, from: Square, to: Square) -> bool
+    ensures { IsTrue result ↔ Any (λ d. IsAway from (turned_for color d) 1 to) (steps Knight) }
 {
-    if !from.is_near(to) {
-        return false;
-    }
-    piece
-        .kind
-        .steps()
+    jumps()
         .iter()
-        .any(|d| from.is_away(d.turned_for(piece.color), 1, to))
+        .any(|d| from.is_away(d.turned_for(color), 1, to))
+}
+
+// Whether the piece, seen so far away in that direction, is an enemy of that colour that reaches back.
+fn is_attacker(piece: Piece, color: Color, direction: Direction, distance: u8) -> bool
+    requires { IsRay direction }
+    ensures { IsTrue result ↔ ((piece.color ≡ opponent color) × Goes piece.kind (turned_for color direction) distance) }
+{
+    piece.color == color.opponent() && piece.kind.goes(direction.turned_for(color), distance)
 }
 
 fn is_of(cell: Option<Piece>, kind: Kind) -> bool

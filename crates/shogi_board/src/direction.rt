@@ -1,5 +1,6 @@
-ghost use Rattle.std.specs.Prelude.{◌≡◌, ◌≤◌, ◌-◌};
-ghost use Rattle.shogi_board.specs.Moves.{steps, rays, turned_for};
+ghost use Rattle.std.specs.Prelude.{◌≡◌, ◌≤◌, ◌-◌, ◌+◌, ◌*◌, ◌↔◌, IsTrue, Contains};
+ghost use Rattle.shogi_board.specs.Moves.{steps, rays, turned_for, is_forward, is_diagonal, Goes, IsRay};
+ghost use Rattle.shogi_board.specs.declared.kind.Kind.TheVariants.{Knight, King};
 
 use crate::color::Color;
 use crate::kind::Kind;
@@ -31,17 +32,7 @@ const JUMP_LEFT: Direction = Direction { files: 3, ranks: 0 };
 
 const JUMP_RIGHT: Direction = Direction { files: 1, ranks: 0 };
 
-static ONE_FORWARD: [Direction; 1] = [FORWARD];
-
 static JUMPS: [Direction; 2] = [JUMP_LEFT, JUMP_RIGHT];
-
-static SILVER: [Direction; 5] = [FORWARD, FORWARD_LEFT, FORWARD_RIGHT, BACK_LEFT, BACK_RIGHT];
-
-static GOLD: [Direction; 6] = [FORWARD, BACK, LEFT, RIGHT, FORWARD_LEFT, FORWARD_RIGHT];
-
-static ORTHOGONALS: [Direction; 4] = [FORWARD, BACK, LEFT, RIGHT];
-
-static DIAGONALS: [Direction; 4] = [FORWARD_LEFT, FORWARD_RIGHT, BACK_LEFT, BACK_RIGHT];
 
 static NEIGHBOURS: [Direction; 8] = [
     FORWARD,
@@ -54,38 +45,81 @@ static NEIGHBOURS: [Direction; 8] = [
     BACK_RIGHT,
 ];
 
+// The eight directions, as a king steps.
+pub(crate) fn neighbours() -> &'static [Direction]
+    ensures { result.now ≡ steps King }
+{
+    &NEIGHBOURS
+}
+
+// The steps of a knight, as black sees them.
+pub(crate) fn jumps() -> &'static [Direction]
+    ensures { result.now ≡ steps Knight }
+{
+    &JUMPS
+}
+
 impl Kind {
-    // Its steps as black sees them.
-    pub(crate) fn steps(self) -> &'static [Direction]
-        ensures { result.now ≡ steps self }
+    // Whether a piece of this kind goes so far in that direction, as its side sees it, where nothing stands between.
+    pub(crate) fn goes(self, direction: Direction, distance: u8) -> bool
+        requires { IsRay direction }
+        ensures { IsTrue result ↔ Goes self direction distance }
+    {
+        distance == 1 && self.has_step(direction) || self.has_ray(direction)
+    }
+
+    // Whether it steps in that direction, one of the eight, as black sees it.
+    fn has_step(self, direction: Direction) -> bool
+        requires { IsRay direction }
+        ensures { IsTrue result ↔ Contains (steps self) direction }
     {
         match self {
-            Kind::Pawn => &ONE_FORWARD,
-            Kind::Knight => &JUMPS,
-            Kind::Silver => &SILVER,
+            Kind::Pawn => direction.is_forward(),
+            Kind::Silver => direction.ranks == 1 || direction.is_diagonal(),
             Kind::Gold | Kind::ProPawn | Kind::ProLance | Kind::ProKnight | Kind::ProSilver =>
-                &GOLD,
-            Kind::King => &NEIGHBOURS,
-            Kind::Horse => &ORTHOGONALS,
-            Kind::Dragon => &DIAGONALS,
-            Kind::Lance | Kind::Bishop | Kind::Rook => &[],
+                direction.ranks == 1 || !direction.is_diagonal(),
+            Kind::King => true,
+            Kind::Horse => !direction.is_diagonal(),
+            Kind::Dragon => direction.is_diagonal(),
+            Kind::Lance | Kind::Knight | Kind::Bishop | Kind::Rook => false,
         }
     }
 
-    // Its rays as black sees them.
-    pub(crate) fn rays(self) -> &'static [Direction]
-        ensures { result.now ≡ rays self }
+    // Whether it slides in that direction, one of the eight, as black sees it.
+    fn has_ray(self, direction: Direction) -> bool
+        requires { IsRay direction }
+        ensures { IsTrue result ↔ Contains (rays self) direction }
     {
         match self {
-            Kind::Lance => &ONE_FORWARD,
-            Kind::Bishop | Kind::Horse => &DIAGONALS,
-            Kind::Rook | Kind::Dragon => &ORTHOGONALS,
-            _ => &[],
+            Kind::Lance => direction.is_forward(),
+            Kind::Bishop | Kind::Horse => direction.is_diagonal(),
+            Kind::Rook | Kind::Dragon => !direction.is_diagonal(),
+            _ => false,
         }
     }
 }
 
 impl Direction {
+    fn is_forward(self) -> bool
+        ensures { result ≡ is_forward self }
+    {
+        self.files == 2 && self.ranks == 1
+    }
+
+    fn is_diagonal(self) -> bool
+        ensures { result ≡ is_diagonal self }
+    {
+        self.files != 2 && self.ranks != 2
+    }
+
+    // By how much a square's place grows with each step, counted from 20.
+    pub(crate) fn stride(self) -> usize
+        requires { (self.files ≤ 4) × (self.ranks ≤ 4) }
+        ensures { result ≡ self.files * 9 + self.ranks }
+    {
+        self.files as usize * 9 + self.ranks as usize
+    }
+
     // The direction as that side sees it: for white it is turned round.
     pub(crate) fn turned_for(self, color: Color) -> Direction
         requires { (self.files ≤ 4) × (self.ranks ≤ 4) }

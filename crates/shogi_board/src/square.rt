@@ -13,8 +13,8 @@ pub struct Square {
 }
 
 impl Square {
-    ghost use Rattle.shogi_board.specs.Between.{Between, IsDirection, IsDistance, IsNowhere};
-    ghost use Rattle.shogi_board.specs.Moves.{IsNear, IsRay};
+    ghost use Rattle.shogi_board.specs.Between.{Between, IsDirection, IsDistance, IsInLine, IsNowhere, Lies};
+    ghost use Rattle.shogi_board.specs.Moves.{IsRay};
     ghost use Rattle.shogi_board.specs.Squares.{file_of, rank_of, place, IsAway};
     ghost use Rattle.shogi_board.specs.declared.direction.Direction.{Direction};
 
@@ -75,14 +75,6 @@ impl Square {
             && other.rank + times * 2 == self.rank + times * direction.ranks
     }
 
-    // Whether file and rank of the other square differ as the direction says. Where not, it lies nowhere in that direction.
-    pub(crate) fn is_before(self, direction: Direction, other: Square) -> bool
-        ensures { (times : ℕ) → 1 ≤ times → IsAway self direction times other → result ≡ true }
-    {
-        differs(direction.files, self.file, other.file)
-            && differs(direction.ranks, self.rank, other.rank)
-    }
-
     // The square that lies `times` the direction away, if that is on the board.
     pub(crate) fn away(self, direction: Direction, times: u8) -> Option<Square>
         requires small { (direction.files ≤ 4) × (direction.ranks ≤ 4) × (times ≤ 9) }
@@ -123,33 +115,32 @@ impl Square {
         }
     }
 
-    // The direction in which the other square lies, if it is another one, on the rank, file or diagonal.
-    pub(crate) fn towards(self, other: Square) -> Option<Direction>
-        ensures { MatchOption result (IsNowhere self other) (λ d. IsRay d × IsDirection self other d) }
+    // The direction in which the other square lies and how far, if it is another one, on the rank, file or diagonal.
+    pub(crate) fn towards(self, other: Square) -> Option<(Direction, u8)>
+        ensures { MatchOption result (IsNowhere self other) (λ way. Lies self other way.0 way.1) }
     {
-        if !self.lines_up(other) {
-            return None;
-        }
-        let direction = self.direction_to(other);
         let distance = self.distance(other);
-        if distance == 0 || !self.is_away(direction, distance, other) {
+        if distance == 0 || !self.lines_up(other) {
             return None;
         }
-        Some(direction)
+        Some((self.direction_to(other), distance))
     }
 
-    // Whether the other square lies at most two files and two ranks away.
-    pub(crate) fn is_near(self, other: Square) -> bool
-        ensures { (d : Direction) → IsNear d → IsAway self d 1 other → result ≡ true }
+    // How many squares lie in that direction, up to the edge.
+    pub(crate) fn room(self, direction: Direction) -> u8
+        requires { IsRay direction }
+        ensures bound { result ≤ 8 }
+        ensures there { (n : ℕ) → n ≤ result → (s : Square) × IsAway self direction n s }
+        ensures only { (n : ℕ) (s : Square) → IsAway self direction n s → n ≤ result }
     {
-        let files = self.file.abs_diff(other.file);
-        let ranks = self.rank.abs_diff(other.rank);
-        files <= 2 && ranks <= 2
+        let files = room(self.file, direction.files);
+        let ranks = room(self.rank, direction.ranks);
+        if files < ranks { files } else { ranks }
     }
 
-    // Whether the other square lies on the file, the rank or a diagonal.
-    pub(crate) fn lines_up(self, other: Square) -> bool
-        ensures { (d : Direction) (n : ℕ) → IsRay d → IsAway self d n other → result ≡ true }
+    // Whether the other square lies on the rank, the file or a diagonal, or is the same.
+    fn lines_up(self, other: Square) -> bool
+        ensures { IsTrue result ↔ IsInLine self other }
     {
         let files = self.file.abs_diff(other.file);
         let ranks = self.rank.abs_diff(other.rank);
@@ -186,15 +177,19 @@ fn step(from: u8, to: u8) -> u8
     }
 }
 
-// Whether the one number is less than the other where a step is less than 2, the same at 2, and greater above.
-fn differs(step: u8, from: u8, to: u8) -> bool
-    ensures { (times : ℕ) → 1 ≤ times → to + times * 2 ≡ from + times * step → result ≡ true }
+// How many steps lead from the number to 1 or 9; 8 where the step stays.
+fn room(from: u8, step: u8) -> u8
+    requires number { (1 ≤ from) × (from ≤ 9) }
+    requires step { (1 ≤ step) × (step ≤ 3) }
+    ensures back { step ≡ 1 → result + 1 ≡ from }
+    ensures still { step ≡ 2 → result ≡ 8 }
+    ensures on { step ≡ 3 → from + result ≡ 9 }
 {
     if step < 2 {
-        to < from
+        from - 1
     } else if step == 2 {
-        to == from
+        8
     } else {
-        from < to
+        9 - from
     }
 }

@@ -1,5 +1,10 @@
+use Rattle.std.proofs.Common.{◌-◌}
 use Rattle.shogi_board.specs.Reach.{IsClear}
+use Rattle.shogi_board.proofs.Sight.{AtPlace}
 use Rattle.shogi_board.proofs.board.Board.attacker_from.Given as goal
 
 abbrev pub invariant-loop-n : goal.invariant-loop-n
-invariant-loop-n l = IsClear l.self l.square l.direction l.n
+invariant-loop-n l = record {
+  seat : AtPlace l.fn.square l.fn.direction (l.n - 1) l.place;
+  clear : IsClear l.self l.fn.square l.fn.direction l.n;
+}

@@ -14,9 +14,9 @@ loop-direction-preserved c k d below e attack =
           let n = c.loop-direction.direction-index in
           let last : k ≡ n = omega arith in
           let xs = steps King in
-          let within : n < length xs = rw c.steps-direction-items.ensures at c.loop-direction-test.true in
+          let within : n < length xs = rw c.neighbours-direction-items.ensures at c.loop-direction-test.true in
           let here : get_or xs n d ≡ d = rw last at e in
-          let turned = rw c.steps-direction-items.ensures at c.turned_for.ensures in
+          let turned = rw c.neighbours-direction-items.ensures at c.turned_for.ensures in
           let same : c.turned_for.result ≡ turned_for c.args.color d =
           turned ∙ ap (turned_for c.args.color) (get_or_default xs n _ d within ∙ here) in
           let there : AttackInSight c.args.self.now c.args.color c.args.square c.turned_for.result = rw same attack in

@@ -1,0 +1,50 @@
+use Rattle.std.proofs.Common.{◌≡◌, ◌⊎◌, inl, inr, ◌==◌, ◌||◌, true, false, not, nat_eq, refl, ap}
+use Rattle.std.proofs.lemmas.Bool.{ne_eqb}
+use Rattle.shogi_board.specs.Moves.{diagonals, orthogonals, gold, steps, is_diagonal, to}
+use Rattle.shogi_board.specs.declared.kind.Kind.{Kind}
+use Rattle.shogi_board.specs.declared.kind.Kind.TheVariants.{Silver, Gold, King, ProPawn, ProLance, ProKnight, ProSilver}
+use Rattle.shogi_board.proofs.Moves.{member}
+use Rattle.shogi_board.proofs.kind.Kind.has_step.Goals as goal
+
+like-gold : (k : Kind) → (k ≡ Gold) ⊎ ((k ≡ ProPawn) ⊎ ((k ≡ ProLance) ⊎ ((k ≡ ProKnight) ⊎ (k ≡ ProSilver)))) → steps k ≡ gold
+like-gold k (inl e) = rw e refl
+like-gold k (inr (inl e)) = rw e refl
+like-gold k (inr (inr (inl e))) = rw e refl
+like-gold k (inr (inr (inr (inl e)))) = rw e refl
+like-gold k (inr (inr (inr (inr e)))) = rw e refl
+
+pub returns-then-direction-eq1 : goal.returns-then-direction-eq1
+returns-then-direction-eq1 c =
+    let ranks : c.args.direction.ranks ≡ 1 = c.if-direction-eq1.true in
+    let is : nat_eq c.args.direction.ranks 1 ≡ (c.args.direction.ranks == 1 || is_diagonal c.args.direction) = rw ranks refl in
+    rw c.in-Silver.is (member (λ f r. r == 1 || is_diagonal (to f r)) (steps Silver) c.args.direction _ (refl, refl, refl, refl, refl, refl, refl, refl) c.requires is)
+
+pub returns-else-direction-eq1 : goal.returns-else-direction-eq1
+returns-else-direction-eq1 c =
+    let ranks : (c.args.direction.ranks == 1) ≡ false = ne_eqb _ _ c.if-direction-eq1.false in
+    let is : c.is_diagonal.result ≡ (c.args.direction.ranks == 1 || is_diagonal c.args.direction) = rw ranks c.is_diagonal.ensures in
+    rw c.in-Silver.is (member (λ f r. r == 1 || is_diagonal (to f r)) (steps Silver) c.args.direction _ (refl, refl, refl, refl, refl, refl, refl, refl) c.requires is)
+
+pub returns-then-direction-eq1-2 : goal.returns-then-direction-eq1-2
+returns-then-direction-eq1-2 c =
+    let ranks : c.args.direction.ranks ≡ 1 = c.if-direction-eq1-2.true in
+    let is : nat_eq c.args.direction.ranks 1 ≡ (c.args.direction.ranks == 1 || not (is_diagonal c.args.direction)) = rw ranks refl in
+    rw (like-gold c.args.self c.in-Gold.is) (member (λ f r. r == 1 || not (is_diagonal (to f r))) gold c.args.direction _ (refl, refl, refl, refl, refl, refl, refl, refl) c.requires is)
+
+pub returns-else-direction-eq1-2 : goal.returns-else-direction-eq1-2
+returns-else-direction-eq1-2 c =
+    let ranks : (c.args.direction.ranks == 1) ≡ false = ne_eqb _ _ c.if-direction-eq1-2.false in
+    let is : not c.is_diagonal-else-direction-eq1-2.result ≡ (c.args.direction.ranks == 1 || not (is_diagonal c.args.direction)) = rw ranks (ap not c.is_diagonal-else-direction-eq1-2.ensures) in
+    rw (like-gold c.args.self c.in-Gold.is) (member (λ f r. r == 1 || not (is_diagonal (to f r))) gold c.args.direction _ (refl, refl, refl, refl, refl, refl, refl, refl) c.requires is)
+
+pub returns-in-Dragon : goal.returns-in-Dragon
+returns-in-Dragon c =
+    rw c.in-Dragon.is (member (λ f r. is_diagonal (to f r)) diagonals c.args.direction _ (refl, refl, refl, refl, refl, refl, refl, refl) c.requires c.is_diagonal-in-Dragon.ensures)
+
+pub returns-in-Horse : goal.returns-in-Horse
+returns-in-Horse c =
+    rw c.in-Horse.is (member (λ f r. not (is_diagonal (to f r))) orthogonals c.args.direction _ (refl, refl, refl, refl, refl, refl, refl, refl) c.requires (ap not c.is_diagonal-in-Horse.ensures))
+
+pub returns-in-King : goal.returns-in-King
+returns-in-King c =
+    rw c.in-King.is (member (λ f r. true) (steps King) c.args.direction true (refl, refl, refl, refl, refl, refl, refl, refl) c.requires refl)
