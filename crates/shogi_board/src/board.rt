@@ -323,7 +323,7 @@ impl Board {
         ensures { IsTrue result ↔ Attack self.now color from to }
     {
         match self.at(from) {
-            Some(piece) => piece.color == color.opponent() && self.reaches(from, to),
+            Some(piece) => piece.color == color.opponent() && self.leads(piece, from, to),
             None => false,
         }
     }
