@@ -139,6 +139,7 @@ impl Board {
     }
 
     // Whether a step or a ray of the piece leads from one square to the other, by a ray with nothing between.
+    #[inline(always)]
     fn leads(&self, piece: Piece, from: Square, to: Square) -> bool
         ensures { IsTrue result ↔ (Steps piece from to ⊎ Slides self.now piece from to) }
     {
