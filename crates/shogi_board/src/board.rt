@@ -139,6 +139,7 @@ impl Board {
     }
 
     // Whether a step or a ray of the piece leads from one square to the other, by a ray with nothing between.
+    #[inline(always)]
     fn leads(&self, piece: Piece, from: Square, to: Square) -> bool
         ensures { IsTrue result ↔ (Steps piece from to ⊎ Slides self.now piece from to) }
     {
@@ -323,7 +324,7 @@ impl Board {
         ensures { IsTrue result ↔ Attack self.now color from to }
     {
         match self.at(from) {
-            Some(piece) => piece.color == color.opponent() && self.reaches(from, to),
+            Some(piece) => piece.color == color.opponent() && self.leads(piece, from, to),
             None => false,
         }
     }
