@@ -134,6 +134,7 @@ impl Course {
     }
 
     // Plays the move of that side, or says why it is refused; then nothing changes.
+    #[inline(always)]
     pub(crate) fn play(&mut self, color: Color, mv: Move) -> Result<(), Why>
         ensures answer { (answer : Option Why) × PlayAnswers self.old color mv answer × IsAnswer answer result }
         ensures changed { OnOk result (self.new ≡ record self.old { moves = self.old.moves ++ untimed mv ∷ [] }) }
@@ -147,7 +148,7 @@ impl Course {
         }
         match play_on(&mut self.line, color, mv) {
             Ok(()) => {
-                self.times.push(None).unwrap();
+                self.times.push_reserved(None);
                 Ok(())
             }
             Err(why) => Err(why),
@@ -217,6 +218,7 @@ impl Course {
 }
 
 // Plays the move; the line is a game then.
+#[inline(always)]
 fn play_on(line: &mut Line, color: Color, mv: Move) -> Result<(), Why>
     ensures ok { OnOk result (Answers line.old color mv None × (line.new ≡ record line.old { moves = line.old.moves ++ mv ∷ [] })) }
     ensures game { OnOk result (IsGame line.new.start line.new.moves × (length line.new.moves ≤ max_moves)) }

@@ -181,6 +181,7 @@ impl Progress {
         }
     }
 
+    #[inline(always)]
     fn take_move(&mut self, color: Color, mv: Move) -> Result<(), Why>
         ensures { (before : List Saying) → Keeps before self.old → TakenOrRefused before (walked color mv) result (record self.new { begun = true }) }
     {
@@ -190,6 +191,7 @@ impl Progress {
         }
     }
 
+    #[inline(always)]
     fn take_time(&mut self, thousandths: u64) -> Result<(), Why>
         requires { thousandths ≤ 4294967295999 }
         ensures { (before : List Saying) → Keeps before self.old → TakenOrRefused before (time thousandths) result (record self.new { begun = true }) }

@@ -25,6 +25,7 @@ pub(crate) fn read_sign(byte: u8) -> Option<Color>
 }
 
 // The square of this file and rank, two digits.
+#[inline(always)]
 pub(crate) fn read_square(bytes: &[u8]) -> Option<Square>
     ensures { MatchOption result
         ((square : Square) → bytes.now ≡ square_text square → ⊥)

@@ -165,6 +165,7 @@ pub(crate) fn unit_length(first: u8, text: &[u8]) -> usize
 }
 
 // The next unit at or after `from`, a comment too: where it starts, and where it ends.
+#[inline(always)]
 pub(crate) fn next_unit(source: &[u8], from: usize) -> Option<(usize, usize)>
     requires { from ≤ length source.now }
     ensures { MatchOption result

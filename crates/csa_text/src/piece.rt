@@ -111,6 +111,7 @@ impl PieceCutter {
     /// ends. Hand in what is left of the piece next. A statement that begins in this piece is lent
     /// from it. One of more than 4,096 bytes is a `CutFault` as soon as that is known, and at each
     /// later call; all else of the cutter is then as before. At most 2^63 bytes may be fed in all.
+    #[inline(always)]
     pub fn step<'b>(&'b mut self, piece: &'b [u8]) -> Result<Cut<'b>, CutFault>
         requires { self.old.fed + length piece.now ≤ 2 ^ 63 }
         ensures used { IfOk result (IsUsed piece.now) }
@@ -333,6 +334,7 @@ fn common_length(a: &[u8], b: &[u8]) -> usize
 }
 
 // The first statement's unit in the piece from here on, behind gaps and comments.
+#[inline(always)]
 fn first_in(piece: &[u8], from: usize) -> Found
     requires { from ≤ length piece.now }
     ensures { IsFirstIn piece.now from result }

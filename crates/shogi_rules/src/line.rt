@@ -233,7 +233,7 @@ impl Line {
         let packed = packed_after(before, &mv, &change, &self.last);
         match self.seen.push(packed) {
             Ok(repeats) => {
-                self.moves.push(mv).unwrap();
+                self.moves.push_reserved(mv);
                 let king = king_after(self.own_king, &mv);
                 self.own_king = self.other_king;
                 self.other_king = king;

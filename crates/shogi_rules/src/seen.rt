@@ -130,8 +130,8 @@ impl Seen {
         let count = self.count(earlier, &position) + 1;
         self.links.reserve(1)?;
         self.positions.reserve(1)?;
-        self.positions.push(position).unwrap();
-        self.links.push(Link { count, earlier }).unwrap();
+        self.positions.push_reserved(position);
+        self.links.push_reserved(Link { count, earlier });
         self.heads[chain] = self.positions.len() as u16;
         Ok(count)
     }

@@ -16,8 +16,8 @@ returns-then-is_err-clause-answer c =
 
 pub invariant_of-self-in-Ok : goal.invariant_of-self-in-Ok
 invariant_of-self-in-Ok c =
-    let pushed : c.push.new.self.items ≡ c.self.inside.times.items ++ None ∷ [] = grind (arith, common_steps) in
-    kept_more c.self.inside.line c.play_on.new.line c.self.inside.times.items c.push.new.self.items c.self.inside.ending c.args.mv
+    let pushed : c.push_reserved.new.self.items ≡ c.self.inside.times.items ++ None ∷ [] = grind (arith, common_steps) in
+    kept_more c.self.inside.line c.play_on.new.line c.self.inside.times.items c.push_reserved.new.self.items c.self.inside.ending c.args.mv
     c.self.invariant c.in-Ok.ensures.ok.1 pushed c.in-Ok.ensures.game.0 c.in-Ok.ensures.game.1
 
 pub returns-in-Ok-clause-answer : goal.returns-in-Ok-clause-answer
@@ -27,8 +27,8 @@ returns-in-Ok-clause-answer c =
 
 pub returns-in-Ok-clause-changed : goal.returns-in-Ok-clause-changed
 returns-in-Ok-clause-changed c =
-    let pushed : c.push.new.self.items ≡ c.self.inside.times.items ++ None ∷ [] = grind (arith, common_steps) in
-    course_more c.self.inside.line c.play_on.new.line c.self.inside.times.items c.push.new.self.items c.self.inside.ending c.args.mv c.args.self.now
+    let pushed : c.push_reserved.new.self.items ≡ c.self.inside.times.items ++ None ∷ [] = grind (arith, common_steps) in
+    course_more c.self.inside.line c.play_on.new.line c.self.inside.times.items c.push_reserved.new.self.items c.self.inside.ending c.args.mv c.args.self.now
     c.self.invariant.long c.self.view_is c.in-Ok.ensures.ok.1 pushed
 
 pub returns-in-Err-clause-answer : goal.returns-in-Err-clause-answer

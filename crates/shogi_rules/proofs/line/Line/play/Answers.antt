@@ -138,7 +138,7 @@ invariant_of-self-in-Ok c =
     let free : NoDropMate i.last c.args.mv = no-mate i.last _ c.args.mv _ made c.if-mates_by_pawn_drop.false c.mates_by_pawn_drop.ensures in
     let none : Breaks v c.args.mover c.args.mv None = breaks-of v i.last c.args.mover c.args.mv None last may (none-by-side i.last c.args.mv keeps free) in
     let next : c.make_if_kept.new.position ≡ after (position_after i.start i.moves.items) c.args.mv = made ∙ ap (λ (p : Placed). after p c.args.mv) last in
-    let pushed : c.push-in-Ok.new.self.items ≡ i.moves.items ++ c.args.mv ∷ [] = grind (arith, common_steps) in (
+    let pushed : c.push_reserved.new.self.items ≡ i.moves.items ++ c.args.mv ∷ [] = grind (arith, common_steps) in (
       rw (c.in-Ok.ensures.ok, pushed, c.packed_after-packed.ensures, next) (line-more i.start i.last i.moves.items i.seen c.args.mover c.args.mv c.self.invariant.0 may.few none),
       rw c.packed_after-packed.ensures at c.in-Ok.ensures.value,
       kings-played i.last _ c.args.mv i.own_king i.other_king c.king_after-king.result made c.side-side.ensures.sound keeps.fits c.self.invariant.2 c.king_after-king.ensures.moved c.king_after-king.ensures.stays,

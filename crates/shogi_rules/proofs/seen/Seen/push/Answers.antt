@@ -15,8 +15,8 @@ invariant_of-self-2 c =
     let count = c.count-count.result in
     let earlier = c.latest-earlier.result in
     let link : Link = record { count = count + 1; earlier = earlier } in
-    let pushed : c.push.new.self.items ≡ ps ++ p ∷ [] = grind (arith, common_steps) in
-    let beside : c.push-2.new.self.items ≡ i.links.items ++ link ∷ [] = grind (arith, common_steps) in
+    let pushed : c.push_reserved.new.self.items ≡ ps ++ p ∷ [] = grind (arith, common_steps) in
+    let beside : c.push_reserved-2.new.self.items ≡ i.links.items ++ link ∷ [] = grind (arith, common_steps) in
     let counted : count ≡ times ps p = rw (sym c.self.view_is) at c.count-count.ensures in
     let leads : (q : Placed) → chain_of q ≡ c.chain_of-chain.result → Leads ps (length ps) q earlier = rw (sym c.self.view_is) at c.latest-earlier.ensures in
     let long : c.len.result ≡ length ps + 1 = grind (arith, common_steps) in
@@ -28,6 +28,6 @@ pub returns-clause-value : goal.returns-clause-value
 returns-clause-value c =
     let p = c.args.position in
     let ps : List Placed = c.self.inside.positions.items in
-    let pushed : c.push.new.self.items ≡ ps ++ p ∷ [] = grind (arith, common_steps) in
+    let pushed : c.push_reserved.new.self.items ≡ ps ++ p ∷ [] = grind (arith, common_steps) in
     let counted : c.count-count.result ≡ times ps p = rw (sym c.self.view_is) at c.count-count.ensures in
     rw (pushed, counted) (sym (times-last ps p))
