@@ -18,4 +18,5 @@ pub mod Opened
 pub mod Places
 pub mod Standing
 pub mod Stretches
+pub mod Tests
 pub mod Walks

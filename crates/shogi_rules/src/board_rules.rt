@@ -1,14 +1,16 @@
-ghost use Rattle.std.specs.Prelude.{◌≡◌, ◌↔◌, IsTrue, MatchOption, IfNone, [], ◌∷◌, ◌⊎◌};
-ghost use Rattle.shogi_board.specs.Cells.{at, piece};
+ghost use Rattle.std.specs.Prelude.{◌≡◌, ◌≤◌, ◌↔◌, IsTrue, MatchOption, IfNone, Some, ◌⊎◌};
+ghost use Rattle.shogi_board.specs.Cells.{at, piece, HasPawnOnFile};
 ghost use Rattle.shogi_board.specs.declared.kind.Kind.{Kind};
-ghost use Rattle.shogi_rules.specs.Kinds.{promoted};
-ghost use Rattle.shogi_rules.specs.Legal.{target, HasPiece, KindFits, TargetFree, ReachesTarget, MayPromote, HasFurtherMove, LonePawn, FitsBoard};
+ghost use Rattle.shogi_board.specs.declared.kind.Kind.TheVariants.{Pawn};
+ghost use Rattle.shogi_rules.specs.Kinds.{promoted, InZone, rank_for, last_rank};
+ghost use Rattle.shogi_rules.specs.Legal.{FitsBoard};
 ghost use Rattle.shogi_rules.specs.Rules.{KeptAlone, board_rules, IsFirstBroken};
+ghost use Rattle.shogi_rules.specs.declared.moves.Move.{Move};
 
 use crate::kinds::{in_zone, last_rank, rank_for};
 use crate::moves::Move;
 use crate::rule::Rule;
-use shogi_board::{Kind, Position, Square, reaches};
+use shogi_board::{Color, Kind, Position, Square, reaches};
 
 // The kind of the piece on the square, if it is one of the side to move.
 pub(crate) fn own_kind_at(position: &Position, square: Square) -> Option<Kind>
@@ -24,18 +26,6 @@ pub(crate) fn own_kind_at(position: &Position, square: Square) -> Option<Kind>
     }
 }
 
-fn has_piece(position: &Position, mv: &Move) -> bool
-    ensures { IsTrue result ↔ HasPiece position.now mv.now }
-{
-    match *mv {
-        Move::Walk { from, .. } => match own_kind_at(position, from) {
-            Some(_) => true,
-            None => false,
-        },
-        Move::Put { kind, .. } => position.hand(position.side()).count(kind) > 0,
-    }
-}
-
 // Whether a piece of the one kind may be of the other after a walk.
 fn becomes(was: Kind, kind: Kind) -> bool
     ensures { IsTrue result ↔ ((kind ≡ was) ⊎ (promoted was ≡ Some kind)) }
@@ -43,73 +33,25 @@ fn becomes(was: Kind, kind: Kind) -> bool
     kind == was || was.promoted() == Some(kind)
 }
 
-fn kind_fits(position: &Position, mv: &Move) -> bool
-    ensures { IsTrue result ↔ KindFits position.now mv.now }
+// Whether the move leaves the piece where its kind still has a move.
+fn has_further_move(color: Color, to: Square, kind: Kind) -> bool
+    ensures { IsTrue result ↔ (last_rank kind ≤ rank_for color to) }
 {
-    match *mv {
-        Move::Walk { from, kind, .. } => match own_kind_at(position, from) {
-            Some(was) => becomes(was, kind),
-            None => false,
-        },
-        Move::Put { .. } => true,
-    }
+    last_rank(kind) <= rank_for(color, to)
 }
 
-fn target_free(position: &Position, mv: &Move) -> bool
-    ensures { IsTrue result ↔ TargetFree position.now mv.now }
+// Whether the kind stays, or the walk leaves or enters the last three ranks.
+fn may_promote(color: Color, was: Kind, from: Square, to: Square, kind: Kind) -> bool
+    ensures { IsTrue result ↔ ((kind ≡ was) ⊎ InZone color from ⊎ InZone color to) }
 {
-    match *mv {
-        Move::Walk { to, .. } => own_kind_at(position, to).is_none(),
-        Move::Put { to, .. } => position.piece_at(to).is_none(),
-    }
+    kind == was || in_zone(color, from) || in_zone(color, to)
 }
 
-fn reaches_target(position: &Position, mv: &Move) -> bool
-    ensures { IsTrue result ↔ ReachesTarget position.now mv.now }
+// Whether another unpromoted pawn of the side to move stands on the file.
+fn doubles_pawn(position: &Position, to: Square, kind: Kind) -> bool
+    ensures { IsTrue result ↔ ((kind ≡ Pawn) × HasPawnOnFile position.now.board position.now.side to) }
 {
-    match *mv {
-        Move::Walk { from, to, .. } => reaches(position, from, to),
-        Move::Put { .. } => true,
-    }
-}
-
-fn keeps_kind(position: &Position, from: Square, kind: Kind) -> bool
-    ensures { IsTrue result ↔ (at position.now.board from ≡ piece position.now.side kind) }
-{
-    own_kind_at(position, from) == Some(kind)
-}
-
-fn may_promote(position: &Position, mv: &Move) -> bool
-    ensures { IsTrue result ↔ MayPromote position.now mv.now }
-{
-    match *mv {
-        Move::Walk { from, to, kind } => {
-            let side = position.side();
-            keeps_kind(position, from, kind) || in_zone(side, from) || in_zone(side, to)
-        }
-        Move::Put { .. } => true,
-    }
-}
-
-fn has_further_move(position: &Position, mv: &Move) -> bool
-    ensures { IsTrue result ↔ HasFurtherMove position.now mv.now }
-{
-    last_rank(mv.kind()) <= rank_for(position.side(), mv.target())
-}
-
-fn is_lone_pawn(position: &Position, mv: &Move) -> bool
-    ensures { IsTrue result ↔ LonePawn position.now mv.now }
-{
-    match *mv {
-        Move::Walk { .. } => true,
-        Move::Put { to, kind } => {
-            if kind == Kind::Pawn {
-                !position.pawn_on_file(position.side(), to)
-            } else {
-                true
-            }
-        }
-    }
+    kind == Kind::Pawn && position.pawn_on_file(position.side(), to)
 }
 
 // The first of the rules 3 to 9 that the side to move breaks by the move.
@@ -117,19 +59,49 @@ pub(crate) fn broken_on_board(position: &Position, mv: &Move) -> Option<Rule>
     ensures first { IsFirstBroken (KeptAlone position.now mv.now) board_rules result }
     ensures fits { IfNone result (FitsBoard position.now mv.now) }
 {
-    if !has_piece(position, mv) {
-        Some(Rule::NoPiece)
-    } else if !kind_fits(position, mv) {
+    match *mv {
+        Move::Walk { from, to, kind } => broken_by_walk(position, from, to, kind),
+        Move::Put { to, kind } => broken_by_drop(position, to, kind),
+    }
+}
+
+// The same of a walk.
+fn broken_by_walk(position: &Position, from: Square, to: Square, kind: Kind) -> Option<Rule>
+    ensures first { IsFirstBroken (KeptAlone position.now (Move.Walk from to kind)) board_rules result }
+    ensures fits { IfNone result (FitsBoard position.now (Move.Walk from to kind)) }
+{
+    let side = position.side();
+    let Some(was) = own_kind_at(position, from) else {
+        return Some(Rule::NoPiece);
+    };
+    if !becomes(was, kind) {
         Some(Rule::WrongKind)
-    } else if !target_free(position, mv) {
+    } else if own_kind_at(position, to).is_some() {
         Some(Rule::Occupied)
-    } else if !reaches_target(position, mv) {
+    } else if !reaches(position, from, to) {
         Some(Rule::CannotReach)
-    } else if !may_promote(position, mv) {
+    } else if !may_promote(side, was, from, to, kind) {
         Some(Rule::BadPromotion)
-    } else if !has_further_move(position, mv) {
+    } else if !has_further_move(side, to, kind) {
         Some(Rule::MustPromote)
-    } else if !is_lone_pawn(position, mv) {
+    } else {
+        None
+    }
+}
+
+// The same of a drop.
+fn broken_by_drop(position: &Position, to: Square, kind: Kind) -> Option<Rule>
+    ensures first { IsFirstBroken (KeptAlone position.now (Move.Put to kind)) board_rules result }
+    ensures fits { IfNone result (FitsBoard position.now (Move.Put to kind)) }
+{
+    let side = position.side();
+    if position.hand(side).count(kind) == 0 {
+        Some(Rule::NoPiece)
+    } else if position.piece_at(to).is_some() {
+        Some(Rule::Occupied)
+    } else if !has_further_move(side, to, kind) {
+        Some(Rule::MustPromote)
+    } else if doubles_pawn(position, to, kind) {
         Some(Rule::DoubledPawn)
     } else {
         None
