@@ -1,5 +1,4 @@
 ghost use Rattle.std.specs.Prelude.{◌≡◌, ◌≤◌, ◌<◌, ◌++◌, ◌∷◌, ◌+◌, ◌↔◌, [], IsOk, IfOk, IfErr, OnOk, OnErr, Option, None, length, map};
-ghost use Rattle.std.specs.Fmt.{decimal};
 ghost use Rattle.std.specs.List.{flat_map};
 ghost use Rattle.shogi_rules.specs.Play.{Answers};
 ghost use Rattle.shogi_rules.specs.Positions.{IsGame, max_moves};
@@ -358,38 +357,33 @@ fn write_time(out: &mut Vec<u8>, time: Option<u64>) -> Result<(), OutOfMemory>
     }
 }
 
+#[inline(always)]
 fn write_thousandths(out: &mut Vec<u8>, thousandths: u64) -> Result<(), OutOfMemory>
     ensures { OnOk result (out.new.items ≡ out.old.items ++ ended_line (time thousandths)) }
 {
-    write_seconds(out, thousandths / 1000)?;
-    write_fraction(out, thousandths % 1000)?;
-    out.push(b'\n')?;
+    let seconds = thousandths / 1000;
+    if seconds >= 100 || thousandths % 1000 > 0 {
+        return write_any_time(out, thousandths);
+    }
+    // most moves take whole seconds, and fewer than a hundred
+    if seconds < 10 {
+        out.extend_from_slice(&[b'T', digit(seconds), b'\n'])?;
+    } else {
+        out.extend_from_slice(&[b'T', digit(seconds / 10), digit(seconds % 10), b'\n'])?;
+    }
     Ok(())
 }
 
-// `T` and whole seconds. Most moves take fewer than a hundred.
-fn write_seconds(out: &mut Vec<u8>, seconds: u64) -> Result<(), OutOfMemory>
-    ensures { OnOk result (out.new.items ≡ out.old.items ++ (84 ∷ decimal seconds)) }
-{
-    if seconds < 10 {
-        out.extend_from_slice(&[b'T', digit(seconds)])?;
-        Ok(())
-    } else if seconds < 100 {
-        out.extend_from_slice(&[b'T', digit(seconds / 10), digit(seconds % 10)])?;
-        Ok(())
-    } else {
-        write_many_seconds(out, seconds)
-    }
-}
-
-// The same for any number of seconds.
+// The same for any time.
 #[inline(never)]
-fn write_many_seconds(out: &mut Vec<u8>, seconds: u64) -> Result<(), OutOfMemory>
-    ensures { OnOk result (out.new.items ≡ out.old.items ++ (84 ∷ decimal seconds)) }
+fn write_any_time(out: &mut Vec<u8>, thousandths: u64) -> Result<(), OutOfMemory>
+    ensures { OnOk result (out.new.items ≡ out.old.items ++ ended_line (time thousandths)) }
 {
     let mut buffer = Buffer::new();
     out.push(b'T')?;
-    out.extend_from_slice(buffer.format(seconds).as_bytes())?;
+    out.extend_from_slice(buffer.format(thousandths / 1000).as_bytes())?;
+    write_fraction(out, thousandths % 1000)?;
+    out.push(b'\n')?;
     Ok(())
 }
 

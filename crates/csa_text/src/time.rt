@@ -5,6 +5,7 @@ use crate::fields::{read_number, split_at_byte};
 
 // The time that the text behind `T` spells, in thousandths of a second: whole seconds up to
 // 4,294,967,295, and optionally a point and one to three digits.
+#[inline(always)]
 pub(crate) fn read_time(text: &[u8]) -> Option<u64>
     ensures { MatchOption result
         ((thousandths : ℕ) → IsTime text.now thousandths → ⊥)

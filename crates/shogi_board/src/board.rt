@@ -129,6 +129,7 @@ impl Board {
         false
     }
 
+    #[inline(always)]
     pub(crate) fn reaches(&self, from: Square, to: Square) -> bool
         ensures { IsTrue result ↔ Reach self.now from to }
     {
@@ -201,7 +202,7 @@ impl Board {
         }
     }
 
-    // The square of an enemy piece of that colour that reaches the square: the first one found in line, else across.
+    // The square of an enemy piece of that colour that reaches the square.
     pub(crate) fn attacker(&self, color: Color, square: Square) -> Option<Square>
         ensures { MatchOption result (Attacked self.now color square → ⊥) (λ a. Attack self.now color a square) }
     {
@@ -211,7 +212,7 @@ impl Board {
         }
     }
 
-    // The first piece in one of the eight directions from the square that attacks it.
+    // A piece that attacks the square and is seen from it in one of the eight directions, if there is one.
     fn attacker_in_line(&self, color: Color, square: Square) -> Option<Square>
         ensures { MatchOption result
             (IsAttackedInLine self.now color square → ⊥)
@@ -225,7 +226,7 @@ impl Board {
         None
     }
 
-    // The piece a knight's jump away from the square that attacks it.
+    // A knight that attacks the square, if there is one.
     fn attacker_by_jump(&self, color: Color, square: Square) -> Option<Square>
         ensures { MatchOption result
             (IsAttackedByJump self.now color square → ⊥)
@@ -239,7 +240,7 @@ impl Board {
         None
     }
 
-    // The first piece in that direction from the square, if it is an enemy of that colour that reaches it.
+    // The square of the first piece in that direction, if it is an enemy of that colour that reaches the square.
     fn attacker_from(&self, color: Color, square: Square, direction: Direction) -> Option<Square>
         requires { IsRay direction }
         ensures { MatchOption result
@@ -339,7 +340,8 @@ fn jumps_to(color: Color, from: Square, to: Square) -> bool
         .any(|d| from.is_away(d.turned_for(color), 1, to))
 }
 
-// Whether the piece, seen so far away in that direction, is an enemy of that colour that reaches back.
+// Whether the piece, seen so far away in that direction, is an enemy of that colour that reaches back. Its own way leads the
+// other way round, which its side sees as the attacked side sees this one.
 fn is_attacker(piece: Piece, color: Color, direction: Direction, distance: u8) -> bool
     requires { IsRay direction }
     ensures { IsTrue result ↔ ((piece.color ≡ opponent color) × Goes piece.kind (turned_for color direction) distance) }

@@ -68,7 +68,7 @@ impl Kind {
         distance == 1 && self.has_step(direction) || self.has_ray(direction)
     }
 
-    // Whether it steps in that direction, one of the eight, as black sees it.
+    // Whether it steps in that direction, one of the eight, as its side sees it.
     fn has_step(self, direction: Direction) -> bool
         requires { IsRay direction }
         ensures { IsTrue result ↔ Contains (steps self) direction }
@@ -85,7 +85,7 @@ impl Kind {
         }
     }
 
-    // Whether it slides in that direction, one of the eight, as black sees it.
+    // Whether it slides in that direction, one of the eight, as its side sees it.
     fn has_ray(self, direction: Direction) -> bool
         requires { IsRay direction }
         ensures { IsTrue result ↔ Contains (rays self) direction }

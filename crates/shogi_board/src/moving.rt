@@ -20,13 +20,13 @@ use crate::position::Position;
 use crate::square::Square;
 
 impl Position {
-    /// Has what stands on `from` go to `to`, where it is the mover's and of that kind, and has the other side to move.
-    /// What stood on `to` goes to the mover's hand, unpromoted. Says whether the mover's king is not attacked then; where
-    /// it is, the position stays as it was.
+    /// Empties `from`, has a piece of the mover and of that kind stand on `to`, and has the other side to move. What stood
+    /// on `to` goes to the mover's hand, unpromoted. Says whether the mover's king is not attacked then; where it is, the
+    /// position stays as it was.
     ///
     /// The king is the square of the mover's king after the walk, or None where the mover has none, and the danger says
-    /// where that king may be attacked from. To be called where no king is captured, and the number of pieces of a game
-    /// is not passed.
+    /// where that king may be attacked from. To be called with two squares, where no king is captured and no more pieces
+    /// stand then than a game has.
     pub fn walk(
         &mut self,
         from: Square,
@@ -65,7 +65,8 @@ impl Position {
     /// Has the side to move put a piece of that kind from its hand on the square, and has the other side to move. Says
     /// whether the mover's king is not attacked then; where it is, the position stays as it was.
     ///
-    /// The king and the danger are as in `walk`. To be called where the hand holds such a piece and the square is empty.
+    /// The king and the danger are as in `walk`. To be called where the hand holds such a piece, the square is empty, and no
+    /// more pieces stand then than a game has.
     pub fn drop_piece(
         &mut self,
         to: Square,

@@ -132,10 +132,11 @@ impl Packed {
         key_number(self.files)
     }
 
-    /// The position behind this one, which differs on the board at most in the two squares of the change.
+    /// The position `next`, packed, where this one is the position before it.
     ///
-    /// The square that is left, if one is, is empty in `next`. Where a piece goes to an empty square, both hands are as they
-    /// were.
+    /// To be called where the boards differ at most in the squares of the change, which names what stood there before: the
+    /// square that is left, if one is, is another one and empty in `next`. Where a piece walks to an empty square, both hands
+    /// are as they were.
     #[inline(always)]
     pub fn followed(&self, next: &Position, change: &Change) -> Packed
         requires before { IsChange self.now.board change.now }
@@ -181,7 +182,7 @@ fn with_numbers(files: [u64; 9], black: u64, white: u64, position: &Position) ->
     }
 }
 
-// The numbers of files in one.
+// The numbers of files in one, that of each file counted three times that of the one before.
 fn key_number(files: [u64; 9]) -> u64
     requires { AllByRecursion (λ n. n < 35184372088832) files }
     ensures { result ≡ key_number files }

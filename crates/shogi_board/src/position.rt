@@ -121,6 +121,7 @@ impl Position {
 }
 
 /// Whether the piece on `from` reaches `to`, whatever stands on `to`; false where `from` is empty.
+#[inline(always)]
 pub fn reaches(position: &Position, from: Square, to: Square) -> bool
     ensures { IsTrue result ↔ Reach position.now.board from to }
 {
@@ -134,9 +135,8 @@ pub fn attacked(position: &Position, color: Color, square: Square) -> bool
     position.board.attacked(color, square)
 }
 
-/// The square of an enemy piece of `color` that reaches the square, or None where none does.
-///
-/// Of several it is the first that is seen from the square along its file, rank and diagonals, else one a knight's jump away.
+/// The square of an enemy piece of `color` that reaches the square, or None where none does. Where several do, it is one of
+/// them.
 pub fn attacker(position: &Position, color: Color, square: Square) -> Option<Square>
     ensures { MatchOption result
         (Attacked position.now.board color square → ⊥)
@@ -146,6 +146,7 @@ pub fn attacker(position: &Position, color: Color, square: Square) -> Option<Squ
 }
 
 /// Whether some enemy piece of `color` reaches the square, where it is known where such a piece may be.
+#[inline(always)]
 pub fn attacked_from(position: &Position, color: Color, square: Square, danger: Danger) -> bool
     requires { ComesFrom position.now.board color square danger }
     ensures { IsTrue result ↔ Attacked position.now.board color square }

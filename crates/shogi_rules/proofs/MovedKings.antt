@@ -1,5 +1,5 @@
 -- Where the kings stand after a move.
-use Rattle.std.proofs.Common.{◌≡◌, ◌≢◌, ℕ, Bool, true, false, List, Option, Some, None, ◌⊎◌, inl, inr, set, get_or, refl, ap, sym, ◌∙◌, subst, get_or-set_same, get_or-set_other}
+use Rattle.std.proofs.Common.{◌≡◌, ◌≢◌, ℕ, Bool, true, false, Option, Some, None, ◌⊎◌, inl, inr, set, get_or, refl, ap, sym, ◌∙◌, subst, get_or-set_same, get_or-set_other}
 use Rattle.std.specs.Prelude.{MatchOption}
 use Rattle.std.proofs.lemmas.Bool.{cases_eq}
 use Rattle.shogi_board.specs.Cells.{Cells, at, piece}

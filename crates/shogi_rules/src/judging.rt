@@ -13,7 +13,8 @@ use crate::rule::Rule;
 use crate::search::is_pawn_drop;
 use shogi_board::{Color, Position};
 
-// Makes the position the one after the move, or says which of the rules 3 to 11 the side to move breaks first by it.
+// Makes the position the one after the move, or says which of the rules 3 to 11 the side to move breaks first by it; then the
+// position may be either.
 pub(crate) fn make_by_side(position: &mut Position, own: OwnKing, mv: &Move) -> Option<Rule>
     requires { IsOwnKing position.old own }
     ensures broken { IsFirstBroken (KeptAlone position.old mv.now) move_rules result }

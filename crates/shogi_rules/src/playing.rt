@@ -133,12 +133,21 @@ pub(crate) fn keeps(position: &Position, king: Option<Square>, mv: &Move) -> boo
     requires { IsKingOf position.now.board position.now.side king }
     ensures { IsTrue result ↔ Keeps position.now mv.now }
 {
+    broken_on_board(position, mv).is_none() && leaves_king_safe(position, king, mv)
+}
+
+// Whether the king of the side to move, which stands there, is not attacked after a move that fits the board.
+fn leaves_king_safe(position: &Position, king: Option<Square>, mv: &Move) -> bool
+    requires fits { FitsBoard position.now mv.now }
+    requires king { IsKingOf position.now.board position.now.side king }
+    ensures { IsTrue result ↔ KingSafe position.now mv.now }
+{
     let own = OwnKing {
         square: king,
         safe: false,
     };
     let mut next = *position;
-    make_if_kept(&mut next, own, mv).is_none()
+    make_if_safe(&mut next, own, mv)
 }
 
 /// Whether the side to move is in check: it has a king, and an enemy piece reaches it.
@@ -152,8 +161,8 @@ pub fn in_check(position: &Position) -> bool
     }
 }
 
-// Whether the side to move is in check in the position after a move that fits the board of the one before. Its king is
-// attacked by the piece that moved, or in the direction of the square which that left.
+// Whether the side to move is in check in the position after a move that fits the board of the one before. If its king is
+// attacked, then by the piece that moved, or in the direction of the square that was left.
 #[inline(always)]
 pub(crate) fn gives_check(last: &Packed, next: &Position, mv: &Move, king: Option<Square>) -> bool
     requires fits { FitsBoard last.now mv.now }

@@ -11,8 +11,8 @@ use shogi_board::{Change, Packed, Position};
 use std::alloc::{AllocError, Global};
 use std::marker::Model;
 
-// How many chains there are. Modulo this number the weights of the 81 squares in `Packed::key` all differ, so that boards
-// that differ in a square or two seldom share a chain.
+// How many chains there are. Modulo this number what a piece adds to `Packed::key` differs from square to square, so that
+// boards that differ in a square or two seldom share a chain.
 const CHAINS: usize = 1019;
 
 // How many positions and moves there is room for from the start: most games have fewer moves.

@@ -185,17 +185,22 @@ fn tells_the_parts_of_moves(rt: HostRuntime) -> Result<(), Fail> {
     }
     // a law does nothing when it runs
     laws::king_never_taken();
+    laws::last_ranks();
     laws::legal_move_keeps_soundness();
     laws::game_keeps_soundness();
     laws::pieces_stay();
     laws::mover_not_in_check();
     laws::other_side_moves();
     laws::one_first_broken_rule();
+    laws::some_first_broken_rule();
     laws::one_answer();
+    laws::some_answer();
     laws::one_first_legal();
     laws::times_counts_equal_positions();
     laws::nth_place_once();
     laws::one_verdict();
+    laws::some_verdict();
+    laws::now_stands_last();
     Ok(())
 }
 

@@ -1,0 +1,28 @@
+use Rattle.std.proofs.Common.{◌≡◌, ◌∷◌, ◌+◌, ◌/◌, ◌%◌, [], arith, refl}
+use Rattle.std.specs.Fmt.{decimal}
+use Rattle.std.proofs.lemmas.Fmt.{decimal_digit}
+use Rattle.itoa.proofs.Decimal.{decimal_two}
+use Rattle.csa_text.specs.Spelling.{time}
+use Rattle.record_game.specs.Canon.{ended_line}
+use Rattle.csa_record.proofs.course.write_thousandths.Goals as goal
+
+pub returns-in_ok-extend_from_slice : goal.returns-in_ok-extend_from_slice
+returns-in_ok-extend_from_slice c =
+    let t = c.args.thousandths in
+    let whole : t % 1000 ≡ 0 = grind arith in
+    let text : decimal (t / 1000) ≡ (48 + t / 1000) ∷ [] = decimal_digit (t / 1000) (grind arith) in
+    let line : ended_line (time t) ≡ 84 ∷ (48 + t / 1000) ∷ 10 ∷ [] = rw (whole, text) refl in
+    let digit = c.digit.ensures in
+    let items = c.in_ok-extend_from_slice.ensures.items in
+    cc
+
+pub returns-in_ok-extend_from_slice-2 : goal.returns-in_ok-extend_from_slice-2
+returns-in_ok-extend_from_slice-2 c =
+    let t = c.args.thousandths in
+    let whole : t % 1000 ≡ 0 = grind arith in
+    let text : decimal (t / 1000) ≡ (48 + t / 1000 / 10) ∷ (48 + t / 1000 % 10) ∷ [] = decimal_two (t / 1000) (grind arith) (grind arith) in
+    let line : ended_line (time t) ≡ 84 ∷ (48 + t / 1000 / 10) ∷ (48 + t / 1000 % 10) ∷ 10 ∷ [] = rw (whole, text) refl in
+    let first = c.digit-else-seconds-lt10.ensures in
+    let second = c.digit-else-seconds-lt10-2.ensures in
+    let items = c.in_ok-extend_from_slice-2.ensures.items in
+    cc
