@@ -29,7 +29,7 @@ use Rattle.record_game.specs.Keeping.{Kept, Keeps}
 use Rattle.record_game.specs.Outcome.{Outcome, IsWritten}
 use Rattle.record_game.specs.Order.{order_fault}
 use Rattle.record_game.specs.LaidOut.{laid_out}
-use Rattle.csa_record.specs.Reading.{HasTaken, HasAll, IsRefusedBy}
+use Rattle.csa_record.specs.Reading.{Failing, HasRead, HasTaken, HasAll, IsRefusedBy}
 use Rattle.record_game.specs.Refused.{start_why, Finishes, IsJudged, Answers, AnswersAfter, AnswersInOrder, Fault, Faultless, Refused}
 use Rattle.record_game.specs.Tells.{IsSpelt}
 use Rattle.record_game.proofs.Units.{IsSomeUnit, kept_units, statements_are}
@@ -82,8 +82,8 @@ statement_given p q text u s n leads =
 
 pub last_given : (p q : PieceCutting) (s : Statement) → Finished p (Ok (Some s)) q → IsOfStatement s.bytes.now
 last_given p q s f =
-    let units : AllByRecursion IsSomeUnit (f.1.0 ∷ []) = statements_are _ _ (f.1.0 ∷ []) f.1.2 in
-    of_unit p.number f.1.0 s units.0 f.1.1
+    let units : AllByRecursion IsSomeUnit (f.last.0 ∷ []) = statements_are _ _ (f.last.0 ∷ []) f.last.2 in
+    of_unit p.number f.last.0 s units.0 f.last.1
 
 -- memory is no fault of an item
 judged_never : (played : Option PlayFault) → IsJudged played (Some OutOfMemory) → ⊥
@@ -220,7 +220,7 @@ long_refused source piece more p q k fault r h stepped is =
     let rest = to_come p (piece ++ more) in
     let cut : IsCut ((source ++ piece) ++ more) (h.closed ++ rest.0) = subst (λ bs. IsCut bs (h.closed ++ rest.0)) (sym (append_assoc source piece more)) (pieces_whole source (piece ++ more) h.closed rest.0 p h.cut.0 rest.1) in
     let same : f.before ++ (f.unit ∷ f.others) ≡ h.closed ++ rest.0 = statements_once _ _ _ _ f.cut cut in
-    let count : length f.before ≡ length h.closed = omega (arith, f.number_is, stepped.0, count_of source h.closed p h.cut.0) in
+    let count : length f.before ≡ length h.closed = omega (arith, f.number_is, stepped.number_is, count_of source h.closed p h.cut.0) in
     let front = same_front f.before h.closed (f.unit ∷ f.others) rest.0 same count in
     subst (IsRefusedBy ((source ++ piece) ++ more)) (sym is)
     (inl (
@@ -246,10 +246,10 @@ pub nothing_last : (source : List ℕ) (p q : PieceCutting) (k : Kept) → HasTa
 nothing_last source p q k h f = record {
   statements = h.closed;
   sayings = h.sayings;
-  cut = subst (IsCut source) (append-nil h.closed) (ends source h.closed [] p h.cut.0 f.1.0);
+  cut = subst (IsCut source) (append-nil h.closed) (ends source h.closed [] p h.cut.0 f.last);
   faultless = h.faultless;
   keeps = h.keeps;
-  counted = f.1.1 ∙ count_of source h.closed p h.cut.0;
+  counted = ap (λ (v : PieceCutting). v.number) f.after ∙ count_of source h.closed p h.cut.0;
 }
 
 last_next : (source : List ℕ) (p : PieceCutting) (k : Kept) (unit : TextUnit) (s : Statement) (h : HasTaken source p k) → IsNumbered p.number unit s → ToComeWith p [] (unit ∷ []) → IsNext source h.closed unit h.sayings s.number
@@ -266,28 +266,28 @@ more_by_one us u = length-append us (u ∷ []) ∙ omega arith
 
 pub last_taken : (source : List ℕ) (p q : PieceCutting) (k new : Kept) (s : Statement) (h : HasTaken source p k) → Finished p (Ok (Some s)) q → Outcome h.sayings s.bytes.now (Ok tt) new → HasAll source q new
 last_taken source p q k new s h f (saying, (spells, fine), keeps) =
-    let unit = f.1.0 in
-    let numbered = f.1.1 in
+    let unit = f.last.0 in
+    let numbered = f.last.1 in
     let spelt : Spells (statement_bytes unit.bytes) saying = subst (λ bs. Spells bs saying) numbered.slice spells in
     record {
       statements = h.closed ++ unit ∷ [];
       sayings = h.sayings ++ saying ∷ [];
-      cut = ends source h.closed (unit ∷ []) p h.cut.0 f.1.2;
+      cut = ends source h.closed (unit ∷ []) p h.cut.0 f.last.2;
       faultless = faultless_more [] h.closed h.sayings unit saying h.faultless (numbered.short, spelt) fine;
       keeps = keeps;
-      counted = f.1.3 ∙ (numbered.number_is ∙ (ap (λ c. c + 1) (count_of source h.closed p h.cut.0) ∙ sym (more_by_one h.closed unit)));
+      counted = ap (λ (v : PieceCutting). v.number) f.after ∙ (numbered.number_is ∙ (ap (λ c. c + 1) (count_of source h.closed p h.cut.0) ∙ sym (more_by_one h.closed unit)));
     }
 
 pub last_refused : (source : List ℕ) (p q : PieceCutting) (k new : Kept) (s : Statement) (r : Refusal) (h : HasTaken source p k) → Finished p (Ok (Some s)) q → r.number ≡ s.number → r.offset ≡ s.offset → Outcome h.sayings s.bytes.now (Err r.why) new → IsRefusedBy source r
 last_refused source p q k new s r h f number_is place outcome =
-    let unit = f.1.0 in
-    let numbered = f.1.1 in
+    let unit = f.last.0 in
+    let numbered = f.last.1 in
     refused_next source h.closed unit h.sayings new r
-    (subst (IsNext source h.closed unit h.sayings) (sym number_is) (last_next source p k unit s h numbered f.1.2)) (place ∙ numbered.place)
+    (subst (IsNext source h.closed unit h.sayings) (sym number_is) (last_next source p k unit s h numbered f.last.2)) (place ∙ numbered.place)
     (subst (λ bs. Outcome h.sayings bs (Err r.why) new) numbered.slice outcome)
 
 pub never_long_last : (source : List ℕ) (p q : PieceCutting) (k : Kept) (fault : CutFault) → HasTaken source p k → Finished p (Err fault) q → ⊥
-never_long_last source p q k fault h f = let e : None ≡ Some fault.offset = sym h.cut.0.going ∙ f.0 in cc
+never_long_last source p q k fault h f = let e : None ≡ Some fault.offset = sym h.cut.0.going ∙ f.place in cc
 
 -- statements without a fault are spelt
 pub all_spelt : (before : List Saying) (us : List TextUnit) (ss : List Saying) → Faultless before us ss → AllZip IsSpelt us ss
@@ -309,3 +309,7 @@ fed_length source p k h = h.cut.0.took ∙ omega arith
 -- nothing yet
 pub nothing_taken : (k : Kept) → Keeps [] k → HasTaken [] fresh k
 nothing_taken k h = record { closed = []; sayings = []; cut = nothing_fed; faultless = tt; keeps = h }
+
+-- a reader of no bytes
+pub new_reader : (p : PieceCutting) (k : Kept) (f : Option Failing) → f ≡ None → p ≡ fresh → Keeps [] k → HasRead [] (record { cutter = p; kept = k; failing = f })
+new_reader p k f going start keeps = record { going = going; taken = subst (λ q. HasTaken [] q k) (sym start) (nothing_taken k keeps) }

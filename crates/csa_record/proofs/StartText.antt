@@ -10,17 +10,24 @@ use Rattle.shogi_board.specs.declared.kind.Kind.{Kind}
 use Rattle.shogi_board.specs.declared.kind.Kind.TheVariants.{Pawn, Lance, Knight, Silver, Gold, Bishop, Rook}
 use Rattle.shogi_board.specs.Cells.{Cells, even_cells}
 use Rattle.shogi_board.specs.Placed.{Placed}
+use Rattle.shogi_board.specs.Squares.{place}
+use Rattle.shogi_board.specs.declared.square.Square.{Square}
 use Rattle.shogi_board.specs.Totals.{count_in}
-use Rattle.csa_text.specs.Codes.{sign, kind_code, cell_text}
+use Rattle.csa_text.specs.Codes.{sign, kind_code, square_text, cell_text}
 use Rattle.csa_text.specs.PairTexts.{pair_text, pairs_text}
 use Rattle.csa_text.specs.Spelling.{rank, pieces}
 use Rattle.csa_text.specs.declared.pair.Pair.{Pair}
 use Rattle.csa_text.specs.declared.pair.Pair.TheVariants.{InHand}
 use Rattle.record_game.specs.Canon.{ended_line, start_items, is_from_even, missing, rank_cells, rank_items, hand_pairs, hand_items, pairs_items}
+use Rattle.record_game.specs.Squares.{square_at}
 
 -- the text so far, and what is still to be written, are the whole
 abbrev pub MissingLeft : List ℕ → List ℕ → Cells → ℕ → Type 0
 MissingLeft old now board n = now ++ pairs_text (missing n (drop n even_cells) (drop n board)) ≡ old ++ pairs_text (missing 0 even_cells board)
+
+-- the square at a place is written as that place's
+pub text_at : (s : Square) (n : ℕ) → place s ≡ n → square_text s ≡ square_text (square_at n)
+text_at s n h = grind arith
 
 -- the ranks from this one on, so many
 abbrev pub rows : Cells → ℕ → ℕ → List ℕ

@@ -5,7 +5,7 @@ use Rattle.std.specs.List.{AllByRecursion}
 use Rattle.std.proofs.Math.Seq.{take-add, take-length}
 use Rattle.std.proofs.lemmas.List.{length-take-le, take-append-drop}
 use Rattle.csa_text.specs.PieceCutting.{PieceCutting}
-use Rattle.csa_text.specs.PieceSteps.{Stepped, Finished}
+use Rattle.csa_text.specs.PieceSteps.{Stepped, Used, Finished}
 use Rattle.csa_text.specs.Spelling.{Saying}
 use Rattle.csa_text.specs.declared.cutter.CutFault.{CutFault}
 use Rattle.csa_text.specs.declared.cutter.Statement.{Statement}
@@ -35,7 +35,7 @@ last_of source p q k new s (Ok u) h f taken refused = last_taken source p q k ne
 last_of source p q k new s (Err r) h f taken refused = last_refused source p q k new s r h f refused.0 refused.1 refused.2
 
 pub given : (p q : PieceCutting) (piece : List ℕ) (used : ℕ) (s : Statement) → Stepped p piece (Ok (record { used = used; statement = Some s })) q → IsOfStatement s.bytes.now
-given p q piece used s f = let u = f.1 in statement_given p q (take used piece) u.0 s u.1 u.5
+given p q piece used s f = let u = f.after.led in statement_given p q (take used piece) u.0 s u.1 u.5
 
 -- a reader by its parts
 abbrev pub reading : PieceCutting → Kept → Option Failing → Reading
@@ -44,17 +44,17 @@ reading p k f = record { cutter = p; kept = k; failing = f }
 pub next_taken : (source piece : List ℕ) (used : ℕ) (p q : PieceCutting) (k new : Kept) (f : Option Failing) (s : Statement) (h : HasRead source (reading p k f)) → Stepped p piece (Ok (record { used = used; statement = Some s })) q
     → Outcome h.taken.sayings s.bytes.now (Ok tt) new → HasRead (source ++ take used piece) (reading q new f)
 next_taken source piece used p q k new f s h step taken =
-    let u = step.1 in
+    let u = step.after.led in
     record { going = h.going; taken = statement_taken source piece used p q k new u.0 s h.taken u.1 u.5 taken }
 
 pub next_refused : (source piece : List ℕ) (used : ℕ) (p q : PieceCutting) (k new : Kept) (f : Option Failing) (s : Statement) (r : Refusal) (h : HasRead source (reading p k f)) → Stepped p piece (Ok (record { used = used; statement = Some s })) q
     → RefusalOf s h.taken.sayings new r → (more : List ℕ) → IsRefusedBy ((source ++ piece) ++ more) r
 next_refused source piece used p q k new f s r h step refused more =
-    let u = step.1 in
+    let u = step.after.led in
     statement_refused source piece more used p q k new u.0 s r h.taken u.1 u.5 refused.0 refused.1 refused.2
 
 pub none_next : (source piece : List ℕ) (used : ℕ) (p q : PieceCutting) (k : Kept) (f : Option Failing) → HasRead source (reading p k f) → Stepped p piece (Ok (record { used = used; statement = None })) q → HasRead (source ++ take used piece) (reading q k f)
-none_next source piece used p q k f h step = let u = step.1 in record { going = h.going; taken = nothing_given source piece used p q k h.taken u.0 u.1 }
+none_next source piece used p q k f h step = let u = step.after.led in record { going = h.going; taken = nothing_given source piece used p q k h.taken u.0 u.1 }
 
 pub long_next : (source piece : List ℕ) (p q : PieceCutting) (k : Kept) (f : Option Failing) (fault : CutFault) (r : Refusal) → HasRead source (reading p k f) → Stepped p piece (Err fault) q → r ≡ record { number = fault.number; offset = fault.offset; why = Text StatementTooLong }
     → (more : List ℕ) → IsRefusedBy ((source ++ piece) ++ more) r
@@ -62,11 +62,11 @@ long_next source piece p q k f fault r h step is more = long_refused source piec
 
 -- how far the cutter went
 pub went : (p q : PieceCutting) (piece : List ℕ) (cut : Cut) → 0 < length piece → Stepped p piece (Ok cut) q → (0 < cut.used) × (cut.used ≤ length piece) × (q.fed ≡ p.fed + cut.used)
-went p q piece cut some f = by_statement cut.used cut.statement f
+went p q piece cut some f = by_statement cut.used cut.statement f.after.led
   where
-    by_statement : (used : ℕ) (o : Option Statement) → Stepped p piece (Ok (record { used = used; statement = o })) q → (0 < used) × (used ≤ length piece) × (q.fed ≡ p.fed + used)
-    by_statement used None g = let u = g.1 in (omega (arith, u.0, some), omega (arith, u.0), u.1.took ∙ ap (λ n. p.fed + n) (sym u.0))
-    by_statement used (Some s) g = let u = g.1 in (u.2, u.3, u.5.took ∙ ap (λ n. p.fed + n) (length-take-le used piece u.3))
+    by_statement : (used : ℕ) (o : Option Statement) → Used p piece used o q → (0 < used) × (used ≤ length piece) × (q.fed ≡ p.fed + used)
+    by_statement used None u = (omega (arith, u.0, some), omega (arith, u.0), u.1.took ∙ ap (λ n. p.fed + n) (sym u.0))
+    by_statement used (Some s) u = (u.2, u.3, u.5.took ∙ ap (λ n. p.fed + n) (length-take-le used piece u.3))
 
 -- a piece in two parts
 pub piece_more : (source piece : List ℕ) (used more : ℕ) (r : Reading) → HasRead ((source ++ take used piece) ++ take more (drop used piece)) r → HasRead (source ++ take (used + more) piece) r

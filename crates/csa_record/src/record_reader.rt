@@ -58,6 +58,7 @@ impl Model for RecordReader {
 
 impl RecordReader {
     /// A reader that has seen nothing. It takes no memory.
+    #[tactic(auto, using(crate::proofs::Onward::new_reader))]
     pub fn new(alloc: Global) -> RecordReader
         ensures start { HasRead [] result }
     {

@@ -1,13 +1,11 @@
-ghost use Rattle.std.specs.Prelude.{◌≡◌, ◌+◌, ◌*◌, ◌-◌, ◌<◌, ◌≤◌, ◌∷◌, ◌++◌, [], length, map, replicate, OnOk};
+ghost use Rattle.std.specs.Prelude.{◌≡◌, ◌≤◌, ◌++◌, length, replicate, OnOk};
 ghost use Rattle.std.specs.List.{flat_map};
 ghost use Rattle.shogi_board.specs.Cells.{even_cells};
-ghost use Rattle.shogi_board.specs.Squares.{place};
-ghost use Rattle.csa_text.specs.Codes.{sign, kind_code, square_text, cell_text};
+ghost use Rattle.csa_text.specs.Codes.{sign, kind_code, cell_text};
 ghost use Rattle.csa_text.specs.PairTexts.{pairs_text};
 ghost use Rattle.csa_text.specs.Spelling.{even, rank};
 ghost use Rattle.csa_text.specs.declared.pair.Pair.TheVariants.{InHand};
 ghost use Rattle.record_game.specs.Canon.{ended_line, start_items, is_from_even, is_part_of, stands_in, missing, rank_cells, rank_items, hand_pairs, hand_items};
-ghost use Rattle.record_game.specs.Squares.{square_at};
 ghost use Rattle.csa_record.specs.Starting.{gone};
 
 use csa_text::{kind_text, sign_of};
@@ -55,8 +53,8 @@ fn is_part_of_even(start: &Position) -> bool
     ensures { result ≡ is_part_of start.now.board even_cells }
 {
     let even = Position::even();
-    for n in 0..81u8 {
-        let square = square_at(n);
+    for n in 0..81usize {
+        let square = Square::at_place(n);
         if !stands_in(start.piece_at(square), even.piece_at(square)) {
             return false;
         }
@@ -76,15 +74,6 @@ fn stands_in(cell: Option<Piece>, other: Option<Piece>) -> bool
     piece.color == held.color && piece.kind == held.kind
 }
 
-// The square of this place.
-fn square_at(n: u8) -> Square
-    requires { n < 81 }
-    ensures place { place result ≡ n }
-    ensures text { square_text result ≡ square_text (square_at n) }
-{
-    Square::new(n / 9 + 1, n % 9 + 1).unwrap()
-}
-
 fn write_even(out: &mut Vec<u8>, start: &Position) -> Result<(), OutOfMemory>
     requires { length start.now.board ≡ 81 }
     ensures { OnOk result (out.new.items ≡ out.old.items ++ ended_line (even (missing 0 even_cells start.now.board))) }
@@ -96,13 +85,14 @@ fn write_even(out: &mut Vec<u8>, start: &Position) -> Result<(), OutOfMemory>
 }
 
 // The pieces of the even board that are missing.
+#[tactic(auto, using(crate::proofs::StartText::text_at))]
 fn write_missing(out: &mut Vec<u8>, start: &Position) -> Result<(), OutOfMemory>
     requires { length start.now.board ≡ 81 }
     ensures { OnOk result (out.new.items ≡ out.old.items ++ pairs_text (missing 0 even_cells start.now.board)) }
 {
     let even = Position::even();
-    for n in 0..81u8 {
-        let square = square_at(n);
+    for n in 0..81usize {
+        let square = Square::at_place(n);
         write_gone(out, square, even.piece_at(square), start.piece_at(square))?;
     }
     Ok(())
@@ -154,8 +144,8 @@ fn write_cells(out: &mut Vec<u8>, start: &Position, number: u8) -> Result<(), Ou
     requires high { number ≤ 9 }
     ensures { OnOk result (out.new.items ≡ out.old.items ++ flat_map cell_text (rank_cells start.now.board number)) }
 {
-    for i in 0..9u8 {
-        let square = square_at((8 - i) * 9 + number - 1);
+    for i in 0..9usize {
+        let square = Square::at_place((8 - i) * 9 + number as usize - 1);
         write_cell(out, start.piece_at(square))?;
     }
     Ok(())

@@ -1,5 +1,5 @@
 -- What a piece holds next, by where the cutter stands.
-use Rattle.std.proofs.Common.{◌≡◌, ℕ, zero, suc, ◌+◌, ◌-◌, ◌<◌, ◌≤◌, ◌==◌, Bool, true, false, not, List, [], ◌∷◌, ◌++◌, length, take, drop, get_or, slice_range, length-drop, append_assoc, arith, refl, sym, ap, ◌∙◌, subst, inl, inr}
+use Rattle.std.proofs.Common.{◌≡◌, ℕ, zero, suc, ◌+◌, ◌-◌, ◌<◌, ◌≤◌, ◌==◌, Bool, true, false, not, List, [], ◌∷◌, ◌++◌, length, take, drop, get_or, slice_range, length-drop, append_assoc, Ok, Err, arith, refl, sym, ap, ◌∙◌, subst, inl, inr}
 use Rattle.std.proofs.lemmas.Bool.{cases_lt, eqb-true}
 use Rattle.std.proofs.lemmas.Bool.Decides.{nat_tests}
 use Rattle.std.proofs.lemmas.List.{length-take-le, take-append-drop, append_cancel_left, get_or-take, get_or-drop}
@@ -8,9 +8,7 @@ use Rattle.std.proofs.Math.Seq.{drop-cons, drop-length, take-length, take-add}
 use Rattle.std.specs.List.{AllByRecursion, position_or_len}
 use Rattle.csa_text.specs.Cut.{TextUnit, IsUnit, EndsBefore, Statements, is_end, begins_with, byte_order_mark, mark_length}
 use Rattle.csa_text.specs.PieceCutting.{Follows}
-use Rattle.csa_text.specs.Places.{IsPart, IsUnitIn, IsFoundIn, IsFirstIn, IsCommon}
-use Rattle.csa_text.specs.declared.piece.Found.{Found}
-use Rattle.csa_text.specs.declared.piece.Found.TheVariants as found
+use Rattle.csa_text.specs.Places.{Found, IsPart, IsUnitIn, IsFoundIn, IsFirstIn, IsCommon}
 use Rattle.csa_text.specs.declared.piece.Place.TheVariants.{Mark, Gap, Unit as InUnit, Comment}
 use Rattle.csa_text.proofs.Fronts.{passes, weaker, turned_true, turned_false, ends_before, unit_front}
 use Rattle.csa_text.proofs.LineCutting.{all_joined}
@@ -40,11 +38,12 @@ unit_from_gap piece held false start end e u = record {
 
 -- the piece from a gap on
 pub found_from_gap : (piece : List ℕ) (held : List ℕ) (f : Found) → IsFirstIn piece 0 f → IsFoundIn Gap held piece f
-found_from_gap piece held found.Mark h = absurd h
-found_from_gap piece held found.Gap h = λ fed more others few s. follows_plain fed (fed + 0) [] (piece ++ more) others (omega arith) (h fed more others s)
-found_from_gap piece held found.Comment h =
+found_from_gap piece held (Err Mark) h = absurd h
+found_from_gap piece held (Err InUnit) h = absurd h
+found_from_gap piece held (Err Gap) h = λ fed more others few s. follows_plain fed (fed + 0) [] (piece ++ more) others (omega arith) (h fed more others s)
+found_from_gap piece held (Err Comment) h =
     (inr h.0, λ fed more others few s. follows_plain fed (fed + 0) [] (piece ++ more) others (omega arith) (h.1 fed more others s))
-found_from_gap piece held (found.Unit goes_on start end) h = unit_from_gap piece held goes_on start end h.0 h.1
+found_from_gap piece held (Ok part) h = unit_from_gap piece held part.goes_on part.start part.end h.0 h.1
 
 -- the rest of a unit whose first byte is held
 pub rest_unit : (held piece : List ℕ) (first n : ℕ) → IsUnit held [] → begins_with first held ≡ true → n ≡ position_or_len (is_end first) piece → IsUnit (held ++ take n piece) (drop n piece)
@@ -90,7 +89,7 @@ comment_line : (piece : List ℕ) (n : ℕ) → n ≡ position_or_len (is_end 39
 comment_line piece n e = rest_unit (39 ∷ []) piece 39 n (refl, tt, tt) refl e
 
 -- the whole piece in a comment
-in_comment : (piece : List ℕ) (n : ℕ) → n ≡ position_or_len (is_end 39) piece → n ≡ length piece → IsFoundIn Comment [] piece found.Comment
+in_comment : (piece : List ℕ) (n : ℕ) → n ≡ position_or_len (is_end 39) piece → n ≡ length piece → IsFoundIn Comment [] piece (Err Comment)
 in_comment piece n e all =
     let whole : take n piece ≡ piece = rw all (take-length piece) in
     let none : drop n piece ≡ [] = rw all (drop-length piece) in
@@ -135,14 +134,15 @@ unit_behind_comment piece n false start end e f u = record {
 }
 
 behind_comment_in : (piece : List ℕ) (n : ℕ) (f : Found) → n ≡ position_or_len (is_end 39) piece → n < length piece → IsFirstIn piece n f → IsFoundIn Comment [] piece f
-behind_comment_in piece n found.Mark e some h = absurd h
-behind_comment_in piece n found.Gap e some h = λ fed more others few s. over_comment_whole piece n fed more others e some few (h fed more others s)
-behind_comment_in piece n found.Comment e some h =
+behind_comment_in piece n (Err Mark) e some h = absurd h
+behind_comment_in piece n (Err InUnit) e some h = absurd h
+behind_comment_in piece n (Err Gap) e some h = λ fed more others few s. over_comment_whole piece n fed more others e some few (h fed more others s)
+behind_comment_in piece n (Err Comment) e some h =
     (inl refl, λ fed more others few s. over_comment_whole piece n fed more others e some few (h.1 fed more others s))
-behind_comment_in piece n (found.Unit goes_on start end) e some h = unit_behind_comment piece n goes_on start end e h.0 h.1
+behind_comment_in piece n (Ok part) e some h = unit_behind_comment piece n part.goes_on part.start part.end e h.0 h.1
 
 -- in a comment nothing is held
-pub found_in_comment : (held piece : List ℕ) (n : ℕ) → held ≡ [] → n ≡ position_or_len (is_end 39) piece → n ≡ length piece → IsFoundIn Comment held piece found.Comment
+pub found_in_comment : (held piece : List ℕ) (n : ℕ) → held ≡ [] → n ≡ position_or_len (is_end 39) piece → n ≡ length piece → IsFoundIn Comment held piece (Err Comment)
 found_in_comment held piece n none e all = rw none (in_comment piece n e all)
 
 pub found_behind_comment : (held piece : List ℕ) (n : ℕ) (f : Found) → held ≡ [] → n ≡ position_or_len (is_end 39) piece → n < length piece → IsFirstIn piece n f → IsFoundIn Comment held piece f
@@ -211,11 +211,12 @@ unit_behind_mark held piece n false start end w e u = record {
 }
 
 pub found_behind_mark : (held piece : List ℕ) (n : ℕ) (f : Found) → WholeMark held piece n → IsFirstIn piece n f → IsFoundIn Mark held piece f
-found_behind_mark held piece n found.Mark w h = absurd h
-found_behind_mark held piece n found.Gap w h = λ fed more others few s. follows_mark_whole held piece n fed more others w few (h fed more others s)
-found_behind_mark held piece n found.Comment w h =
+found_behind_mark held piece n (Err Mark) w h = absurd h
+found_behind_mark held piece n (Err InUnit) w h = absurd h
+found_behind_mark held piece n (Err Gap) w h = λ fed more others few s. follows_mark_whole held piece n fed more others w few (h fed more others s)
+found_behind_mark held piece n (Err Comment) w h =
     (inr h.0, λ fed more others few s. follows_mark_whole held piece n fed more others w few (h.1 fed more others s))
-found_behind_mark held piece n (found.Unit goes_on start end) w h = unit_behind_mark held piece n goes_on start end w h.0 h.1
+found_behind_mark held piece n (Ok part) w h = unit_behind_mark held piece n part.goes_on part.start part.end w h.0 h.1
 
 -- the byte behind n bytes of the piece is none of the mark
 pub record NoMark (held piece : List ℕ) (n : ℕ) : Type 0 where
@@ -259,10 +260,11 @@ follows_no_mark_whole piece fed more others w s =
     (follows_no_mark [] piece 0 (length piece) fed (fed + 0) more others w w.within (omega arith) (omega arith) (statements_of (fed + 0) _ _ others (sym whole) s))
 
 pub found_no_mark : (piece : List ℕ) (f : Found) → NoMark [] piece 0 → IsFirstIn piece 0 f → IsFoundIn Mark [] piece f
-found_no_mark piece found.Mark w h = absurd h
-found_no_mark piece found.Gap w h = λ fed more others few s. follows_no_mark_whole piece fed more others w (h fed more others s)
-found_no_mark piece found.Comment w h = (inr h.0, λ fed more others few s. follows_no_mark_whole piece fed more others w (h.1 fed more others s))
-found_no_mark piece (found.Unit goes_on start end) w h = unit_no_mark piece goes_on start end w h.0 h.1
+found_no_mark piece (Err Mark) w h = absurd h
+found_no_mark piece (Err InUnit) w h = absurd h
+found_no_mark piece (Err Gap) w h = λ fed more others few s. follows_no_mark_whole piece fed more others w (h fed more others s)
+found_no_mark piece (Err Comment) w h = (inr h.0, λ fed more others few s. follows_no_mark_whole piece fed more others w (h.1 fed more others s))
+found_no_mark piece (Ok part) w h = unit_no_mark piece part.goes_on part.start part.end w h.0 h.1
 
 mark_has_no_end : (m : ℕ) → m < 3 → is_end 0xEF (get_or byte_order_mark m 0) ≡ false
 mark_has_no_end zero less = refl

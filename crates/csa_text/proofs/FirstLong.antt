@@ -76,9 +76,9 @@ first_long source all handed unit number offset cut longer short long numbered p
 
 pub too_long_whole : (source piece more : List ℕ) (handed : List TextUnit) (p new : PieceCutting) (fault : CutFault) → HasCutOf source p handed → Stepped p piece (Err fault) new → FirstTooLong ((source ++ piece) ++ more) fault.number fault.offset
 too_long_whole source piece more handed p new fault h s =
-    let met : IsTooLongAt None p piece fault.offset = rw h.0.going at s.1 in
+    let met : IsTooLongAt None p piece fault.offset = rw h.0.going at s.place in
     let stays = long_stays source piece more handed met.1 p met.0 h.0 met.2 met.3 in
-    first_long ((source ++ piece) ++ more) stays.0 handed met.0 fault.number fault.offset stays.1 stays.2 h.1 met.3 (omega (arith, s.0, h.0.counted)) met.4
+    first_long ((source ++ piece) ++ more) stays.0 handed met.0 fault.number fault.offset stays.1 stays.2 h.1 met.3 (omega (arith, s.number_is, h.0.counted)) met.4
 
 pub not_short : (xs others : List TextUnit) (u : TextUnit) → AreShort (xs ++ (u ∷ others)) → length u.bytes ≤ 4096
 not_short [] others u h = h.0
@@ -134,7 +134,7 @@ nothing_fed = (
 )
 
 pub goes_on_in_pieces : (source piece : List ℕ) (handed : List TextUnit) (old new : PieceCutting) (cut : CutOff) → HasCutOf source old handed → Stepped old piece (Ok cut) new → (more : List TextUnit) × HasCutOf (source ++ take cut.used piece) new (handed ++ more)
-goes_on_in_pieces source piece handed old new cut h s = used_joined source piece handed old new cut.used cut.statement h s.1
+goes_on_in_pieces source piece handed old new cut h s = used_joined source piece handed old new cut.used cut.statement h s.after.led
 
 pub nothing_cut : (c : Cutting) → c.at ≡ mark_length c.source → c.number ≡ 0 → HasCut c []
 nothing_cut c at number = record { onward = λ others s. rw at at s; counted = number; short = tt }

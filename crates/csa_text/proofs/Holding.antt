@@ -1,15 +1,14 @@
 -- What a cutter of pieces holds after a step.
-use Rattle.std.proofs.Common.{◌≡◌, ℕ, zero, suc, ◌<◌, ◌≤◌, Bool, false, List, [], ◌++◌, length, take, Option, Some, None, MatchOption, IfSome, if◌then◌else◌, arith, refl, sym, ap, ◌∙◌, ◌+◌, IsSome}
+use Rattle.std.proofs.Common.{◌≡◌, ℕ, zero, suc, ◌<◌, ◌≤◌, false, List, [], ◌++◌, length, take, Option, Some, None, MatchOption, IfSome, if◌then◌else◌, Err, arith, refl, ap, ◌∙◌, ◌+◌, IsSome}
 use Rattle.std.proofs.lemmas.Bool.{false≢true}
 use Rattle.csa_text.specs.Cut.{begins_with, byte_order_mark, statement_bytes}
 use Rattle.csa_text.specs.PieceCutting.{PieceCutting, held_of}
-use Rattle.csa_text.specs.Places.{IsFoundIn, open_of, place_found, is_in_mark}
+use Rattle.csa_text.specs.Places.{IsFoundIn, begins, open_of}
 use Rattle.csa_text.specs.PieceSteps.{HoldsAfter, IsUsed}
 use Rattle.csa_text.specs.declared.piece.Cut.{Cut}
 use Rattle.csa_text.specs.declared.cutter.Statement.{Statement}
-use Rattle.csa_text.specs.declared.piece.Found.{Found}
-use Rattle.csa_text.specs.declared.piece.Found.TheVariants as found
 use Rattle.csa_text.specs.declared.piece.Place.{Place}
+use Rattle.csa_text.specs.declared.piece.Place.TheVariants.{Mark, Gap, Unit as InUnit, Comment}
 
 mark_quiet : (k : ℕ) → begins_with 39 (take k byte_order_mark) ≡ false
 mark_quiet zero = refl
@@ -22,16 +21,13 @@ used_by P Q (Some s) some q = q
 pub held_whole : (unfinished : List ℕ) → begins_with 39 unfinished ≡ false → unfinished ≡ held_of unfinished
 held_whole unfinished quiet = rw quiet refl
 
-found_held : (place : Place) (held other piece : List ℕ) (f : Found) → other ≡ (if is_in_mark f then held ++ piece else []) → ((x : Bool) (y z : ℕ) → f ≡ found.Unit x y z → ⊥) → IsFoundIn place held piece f → other ≡ held_of (open_of (place_found f) other)
-found_held place held other piece found.Mark o never h =
+pub held_found : (place after : Place) (held other piece : List ℕ) → other ≡ (if begins after then held ++ piece else []) → IsFoundIn place held piece (Err after) → other ≡ held_of (open_of after other)
+held_found place Mark held other piece o h =
     let whole : other ≡ take (length held + length piece) byte_order_mark = o ∙ h.2 in
     held_whole other (ap (begins_with 39) whole ∙ mark_quiet (length held + length piece))
-found_held place held other piece found.Gap o never h = o
-found_held place held other piece found.Comment o never h = o
-found_held place held other piece (found.Unit x y z) o never h = absurd (never x y z refl)
-
-pub held_found : (place after : Place) (held other piece : List ℕ) (f : Found) → after ≡ place_found f → other ≡ (if is_in_mark f then held ++ piece else []) → ((x : Bool) (y z : ℕ) → f ≡ found.Unit x y z → ⊥) → IsFoundIn place held piece f → other ≡ held_of (open_of after other)
-held_found place after held other piece f leads o never h = found_held place held other piece f o never h ∙ ap (λ t. held_of (open_of t other)) (sym leads)
+held_found place Gap held other piece o h = o
+held_found place InUnit held other piece o h = absurd h
+held_found place Comment held other piece o h = o
 
 pub holds_here : (old new : PieceCutting) (statement : Option Statement) (n offset : ℕ) → new.held ≡ [] → old.fed ≤ offset → IfSome statement (λ s. (s.number ≡ n) × (s.offset ≡ offset)) → IsSome statement → HoldsAfter old statement new
 holds_here old new None n offset none order told some = absurd (false≢true some)

@@ -1,16 +1,14 @@
 -- What a step of a cutter of pieces leads to.
-use Rattle.std.proofs.Common.{◌≡◌, ℕ, zero, suc, ◌+◌, ◌-◌, ◌<◌, ◌≤◌, ◌==◌, ◌||◌, ◌&&◌, ◌⊎◌, Bool, true, false, not, nat_lt, List, [], ◌∷◌, ◌++◌, filter, length, take, drop, get_or, slice_range, length-append, append_assoc, append-nil, Option, Some, None, IsSome, IfSome, if◌then◌else◌, arith, refl, sym, ap, ◌∙◌, subst, inl, inr}
+use Rattle.std.proofs.Common.{◌≡◌, ℕ, zero, suc, ◌+◌, ◌-◌, ◌<◌, ◌≤◌, ◌==◌, ◌||◌, ◌&&◌, ◌⊎◌, Bool, true, false, not, nat_lt, List, [], ◌∷◌, ◌++◌, filter, length, take, drop, get_or, slice_range, length-append, append_assoc, append-nil, Option, Some, None, IsSome, IfSome, if◌then◌else◌, Err, arith, refl, sym, ap, ◌∙◌, subst, inl, inr}
 use Rattle.std.proofs.lemmas.Bool.{cases_lt, false≢true}
 use Rattle.std.proofs.lemmas.Bool.Decides.{nat_tests}
 use Rattle.std.proofs.lemmas.List.{length-take-le}
 use Rattle.std.proofs.Math.Seq.{drop-cons, drop-length, take-length}
 use Rattle.csa_text.specs.Cut.{TextUnit, IsGap, IsUnit, EndsBefore, Statements, is_separator, is_end, takes_line, byte_order_mark, statement_bytes}
 use Rattle.csa_text.specs.PieceCutting.{PieceCutting, Follows, Closes, Leads, is_closed, mark_of}
-use Rattle.csa_text.specs.Places.{IsPart, IsFoundIn, begins, open_of, kept_of, place_found, is_in_mark}
+use Rattle.csa_text.specs.Places.{IsPart, IsFoundIn, begins, open_of, kept_of}
 use Rattle.csa_text.specs.PieceSteps.{Used, IsTooLongAt}
 use Rattle.csa_text.specs.declared.cutter.Statement.{Statement}
-use Rattle.csa_text.specs.declared.piece.Found.{Found}
-use Rattle.csa_text.specs.declared.piece.Found.TheVariants as found
 use Rattle.csa_text.specs.declared.piece.Place.{Place}
 use Rattle.csa_text.specs.declared.piece.Place.TheVariants.{Mark, Gap, Unit as InUnit, Comment}
 use Rattle.csa_text.proofs.Runs.{no_statements, statement_first, found}
@@ -27,7 +25,7 @@ nothing_left o = no_statements o [] tt
 to_whole : (b : Bool) (fed : ℕ) (held text : List ℕ) (others : List TextUnit) → Follows b fed held (text ++ []) others → Follows b fed held text others
 to_whole b fed held text others s = subst (λ t. Follows b fed held t others) (append-nil text) s
 
-pub leads_to_gap : (place : Place) (held other piece : List ℕ) (fed number : ℕ) → IsFoundIn place held piece found.Gap → length (open_of place held) ≤ fed → Leads (seen place held fed number None) piece [] (seen Gap other (fed + length piece) number None)
+pub leads_to_gap : (place : Place) (held other piece : List ℕ) (fed number : ℕ) → IsFoundIn place held piece (Err Gap) → length (open_of place held) ≤ fed → Leads (seen place held fed number None) piece [] (seen Gap other (fed + length piece) number None)
 leads_to_gap place held other piece fed number h few = record {
   took = refl;
   counted = omega arith;
@@ -36,7 +34,7 @@ leads_to_gap place held other piece fed number h few = record {
   going = refl;
 }
 
-pub leads_to_comment : (place : Place) (held piece : List ℕ) (fed number : ℕ) → IsFoundIn place held piece found.Comment → length (open_of place held) ≤ fed → Leads (seen place held fed number None) piece [] (seen Comment [] (fed + length piece) number None)
+pub leads_to_comment : (place : Place) (held piece : List ℕ) (fed number : ℕ) → IsFoundIn place held piece (Err Comment) → length (open_of place held) ≤ fed → Leads (seen place held fed number None) piece [] (seen Comment [] (fed + length piece) number None)
 leads_to_comment place held piece fed number h few =
     let o = fed + length piece - 1 in
     let quote : ℕ = 39 in
@@ -227,16 +225,15 @@ mark_lead place held other piece fed number is_mark o less same all =
     let count : fed ≡ length held = all begun in
     rw (is_mark, o, count) (leads_to_mark held piece number less same)
 
-default_lead : (place : Place) (held other piece : List ℕ) (f : Found) (fed number : ℕ) → other ≡ (if is_in_mark f then held ++ piece else []) → ((x : Bool) (y z : ℕ) → f ≡ found.Unit x y z → ⊥) → IsFoundIn place held piece f → length (open_of place held) ≤ fed → (begins place ≡ true → fed ≡ length held) → Leads (seen place held fed number None) piece [] (seen (place_found f) other (fed + length piece) number None)
-default_lead place held other piece found.Mark fed number o never h few same =
-    mark_lead place held other piece fed number h.0 o h.1 h.2 same
-default_lead place held other piece found.Gap fed number o never h few same = leads_to_gap place held other piece fed number h few
-default_lead place held other piece found.Comment fed number o never h few same = rw o (leads_to_comment place held piece fed number h few)
-default_lead place held other piece (found.Unit x y z) fed number o never h few same = absurd (never x y z refl)
+default_lead : (place after : Place) (held other piece : List ℕ) (fed number : ℕ) → other ≡ (if begins after then held ++ piece else []) → IsFoundIn place held piece (Err after) → length (open_of place held) ≤ fed → (begins place ≡ true → fed ≡ length held) → Leads (seen place held fed number None) piece [] (seen after other (fed + length piece) number None)
+default_lead place Mark held other piece fed number o h few same = mark_lead place held other piece fed number h.0 o h.1 h.2 same
+default_lead place Gap held other piece fed number o h few same = leads_to_gap place held other piece fed number h few
+default_lead place InUnit held other piece fed number o h few same = absurd h
+default_lead place Comment held other piece fed number o h few same = rw o (leads_to_comment place held piece fed number h few)
 
-pub default_step : (now : PieceCutting) (place after : Place) (held other piece : List ℕ) (f : Found) (fed number : ℕ) (refused : Option ℕ) → seen place held fed number refused ≡ now → refused ≡ None → after ≡ place_found f → other ≡ (if is_in_mark f then held ++ piece else []) → ((x : Bool) (y z : ℕ) → f ≡ found.Unit x y z → ⊥) → IsFoundIn place held piece f → length (open_of place held) ≤ fed → (begins place ≡ true → fed ≡ length held) → (now.refused ≡ None) × Leads now piece [] (seen after other (fed + length piece) number refused)
-default_step now place after held other piece f fed number refused view none leads o never h few same =
-    rw (← view, none, leads) (refl, default_lead place held other piece f fed number o never h few same)
+pub default_step : (now : PieceCutting) (place after : Place) (held other piece : List ℕ) (fed number : ℕ) (refused : Option ℕ) → seen place held fed number refused ≡ now → refused ≡ None → other ≡ (if begins after then held ++ piece else []) → IsFoundIn place held piece (Err after) → length (open_of place held) ≤ fed → (begins place ≡ true → fed ≡ length held) → (now.refused ≡ None) × Leads now piece [] (seen after other (fed + length piece) number refused)
+default_step now place after held other piece fed number refused view none o h few same =
+    rw (← view, none) (refl, default_lead place after held other piece fed number o h few same)
 
 pub unit_step : (now : PieceCutting) (place : Place) (held other piece : List ℕ) (goes_on : Bool) (start end fed number : ℕ) (refused : Option ℕ) → seen place held fed number refused ≡ now → refused ≡ None → IsPart place held piece goes_on start end → length (open_of place held) ≤ fed → end ≡ length piece → other ≡ kept_of goes_on held ++ slice_range piece start end → length (kept_of goes_on held) + (end - start) ≤ 4096 → (now.refused ≡ None) × Leads now piece [] (seen InUnit other (fed + end) number refused)
 unit_step now place held other piece goes_on start end fed number refused view none p few all o short =
@@ -275,11 +272,11 @@ pub kept_most : (goes_on : Bool) (held : List ℕ) → length (kept_of goes_on h
 kept_most true held = omega arith
 kept_most false held = omega arith
 
-pub mark_room : (place : Place) (held piece : List ℕ) (f : Found) → IsFoundIn place held piece f → is_in_mark f ≡ true → length held + length piece ≤ 4096
-mark_room place held piece found.Mark h t = omega (arith, h.1)
-mark_room place held piece found.Gap h t = absurd (false≢true t)
-mark_room place held piece found.Comment h t = absurd (false≢true t)
-mark_room place held piece (found.Unit x y z) h t = absurd (false≢true t)
+pub mark_room : (place after : Place) (held piece : List ℕ) → IsFoundIn place held piece (Err after) → begins after ≡ true → length held + length piece ≤ 4096
+mark_room place Mark held piece h t = omega (arith, h.1)
+mark_room place Gap held piece h t = absurd (false≢true t)
+mark_room place InUnit held piece h t = absurd h
+mark_room place Comment held piece h t = absurd (false≢true t)
 
 pub all_in_piece : (goes_on : Bool) (held left part : List ℕ) → left ≡ kept_of goes_on held → (length left == 0) ≡ true → part ≡ kept_of goes_on held ++ part
 all_in_piece goes_on held left part same none =

@@ -17,6 +17,7 @@ mod LinesFound
 pub mod LongLines
 pub mod Moments
 pub mod Passing
+pub mod Spoken
 pub mod Finding
 pub mod Leading
 pub mod Unfinished

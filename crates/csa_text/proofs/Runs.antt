@@ -1,12 +1,11 @@
 -- The statements of a text: from one unit to the next, and that each text has them.
-use Rattle.std.proofs.Common.{eq-eqb, not, ◌≢◌, ◌≡◌, ℕ, zero, suc, ◌+◌, ◌<◌, ◌≤◌, true, false, List, [], ◌∷◌, filter, length, take, drop, get_or, slice_range, length-drop, arith, refl, ap, ◌∙◌, subst, inl, inr, ◌⊎◌}
-use Rattle.std.proofs.lemmas.Bool.{cases_lt, cases_Bool, ne_eqb}
+use Rattle.std.proofs.Common.{◌≡◌, ℕ, zero, suc, ◌+◌, ◌<◌, ◌≤◌, true, false, List, [], ◌∷◌, filter, length, take, drop, get_or, slice_range, length-drop, arith, refl, ap, ◌∙◌, subst, inl, inr, ◌⊎◌}
+use Rattle.std.proofs.lemmas.Bool.{cases_lt, cases_Bool}
 use Rattle.std.proofs.lemmas.List.Sums.{prefix_len-le-length}
 use Rattle.std.proofs.Math.Seq.{take-length}
 use Rattle.std.specs.List.{prefix_len, position_or_len}
 use Rattle.csa_text.specs.Cut.{TextUnit, IsNext, IsGap, Statements, is_statement, is_separator, is_end}
-use Rattle.csa_text.specs.Cutting.{unit_between}
-use Rattle.csa_text.proofs.Fronts.{gap_front, next_place, first_between, length_between}
+use Rattle.csa_text.proofs.Fronts.{gap_front, next_place}
 
 kept_first : (u : TextUnit) (others units : List TextUnit) → is_statement u ≡ true → others ≡ filter is_statement units → u ∷ others ≡ filter is_statement (u ∷ units)
 kept_first u others units says same = rw says (ap (λ us. u ∷ us) same)
@@ -69,18 +68,3 @@ found_within (suc n) offset text few =
 -- each text has its statements
 pub found : (offset : ℕ) (text : List ℕ) → (statements : List TextUnit) × Statements offset text statements
 found offset text = found_within (length text) offset text (omega arith)
-
--- a unit between two places of a source is the next statement, or a comment, by its first byte
-pub statement_between : (source : List ℕ) (from start end : ℕ) → start < end → end ≤ length source → IsNext from (drop from source) (unit_between source start end) (drop end source) → get_or source start 0 ≢ 39 → (others : List TextUnit) → Statements end (drop end source) others → Statements from (drop from source) (unit_between source start end ∷ others)
-statement_between source from start end order within next says others rest =
-    let spoken : is_statement (unit_between source start end) ≡ true =
-    ap not (first_between source start end 39 order within ∙ ne_eqb (get_or source start 0) 39 says) in
-    let place : start + length (slice_range source start end) ≡ end = length_between source start end (omega arith) within in
-    statement_first from (drop from source) (unit_between source start end) (drop end source) others next spoken (rw place rest)
-
-pub comment_between : (source : List ℕ) (from start end : ℕ) → start < end → end ≤ length source → IsNext from (drop from source) (unit_between source start end) (drop end source) → get_or source start 0 ≡ 39 → (others : List TextUnit) → Statements end (drop end source) others → Statements from (drop from source) others
-comment_between source from start end order within next silent others rest =
-    let unspoken : is_statement (unit_between source start end) ≡ false =
-    ap not (first_between source start end 39 order within ∙ eq-eqb (get_or source start 0) 39 silent) in
-    let place : start + length (slice_range source start end) ≡ end = length_between source start end (omega arith) within in
-    comment_first from (drop from source) (unit_between source start end) (drop end source) others next unspoken (rw place rest)

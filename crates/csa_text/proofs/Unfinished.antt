@@ -48,14 +48,14 @@ unit_to_come Gap held fed h is_held = absurd (false≢true h)
 unit_to_come InUnit held fed h is_held = follows_plain fed (fed - length held) held [] _ refl (alone held fed is_held.0 is_held.1)
 unit_to_come Comment held fed h is_held = absurd (false≢true h)
 
-pub none_left : (now : PieceCutting) (place : Place) (held : List ℕ) (fed number : ℕ) (refused : Option ℕ) → seen place held fed number refused ≡ now → refused ≡ None → has_unit place held ≡ false → IsHeld place held → (now.refused ≡ None) × (ToComeWith now [] [] × (number ≡ now.number)) × (seen Gap held fed number refused ≡ record now { number = number; begins = false; unfinished = [] })
+pub none_left : (now : PieceCutting) (place : Place) (held : List ℕ) (fed number : ℕ) (refused : Option ℕ) → seen place held fed number refused ≡ now → refused ≡ None → has_unit place held ≡ false → IsHeld place held → (now.refused ≡ None) × ToComeWith now [] [] × (seen Gap held fed number refused ≡ record now { begins = false; unfinished = [] })
 none_left now place held fed number refused view none h is_held =
-    rw (← view, none) (refl, (nothing_to_come place held fed h is_held, refl), refl)
+    rw (← view, none) (refl, nothing_to_come place held fed h is_held, refl)
 
-pub one_left : (now : PieceCutting) (place : Place) (held : List ℕ) (fed number : ℕ) (refused : Option ℕ) (s : Statement) → seen place held fed number refused ≡ now → refused ≡ None → has_unit place held ≡ true → IsHeld place held → length held ≤ 4096 → s.number ≡ number + 1 → s.offset ≡ fed - length held → s.bytes.now ≡ statement_bytes held → (now.refused ≡ None) × Last now (Some s) (number + 1) × (seen Gap held fed (number + 1) refused ≡ record now { number = number + 1; begins = false; unfinished = [] })
+pub one_left : (now : PieceCutting) (place : Place) (held : List ℕ) (fed number : ℕ) (refused : Option ℕ) (s : Statement) → seen place held fed number refused ≡ now → refused ≡ None → has_unit place held ≡ true → IsHeld place held → length held ≤ 4096 → s.number ≡ number + 1 → s.offset ≡ fed - length held → s.bytes.now ≡ statement_bytes held → (now.refused ≡ None) × Last now (Some s) × (seen Gap held fed (number + 1) refused ≡ record now { number = s.number; begins = false; unfinished = [] })
 one_left now place held fed number refused s view none h is_held short numbered place_is bytes =
-    rw (← view, none)
-    (refl, (last_of held fed, record { number_is = numbered; place = place_is; slice = bytes; short = short }, unit_to_come place held fed h is_held, sym numbered), refl)
+    rw (← view, none, numbered)
+    (refl, (last_of held fed, record { number_is = refl; place = place_is; slice = bytes; short = short }, unit_to_come place held fed h is_held), refl)
 
 mark_begins : (k : ℕ) → begins_with 39 (take k byte_order_mark) ≡ true → ⊥
 mark_begins zero h = false≢true h

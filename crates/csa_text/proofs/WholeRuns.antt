@@ -42,17 +42,17 @@ all_told [] source handed gave p q h k r =
     let here : HasCutOf (source ++ []) q handed = subst (λ t. HasCutOf t q handed) (sym (append-nil source)) (subst (λ v. HasCutOf source v handed) r h) in
     (handed, here, subst (λ t. AreNumbered 0 handed t) (sym (append-nil gave)) k)
 all_told (s ∷ steps) source handed gave p q h k (next, stepped, r) =
-    let one = one_more source s.0 handed gave p next s.1.used s.1.statement h k stepped.1 in
+    let one = one_more source s.0 handed gave p next s.1.used s.1.statement h k stepped.after.led in
     let all = all_told steps (source ++ take s.1.used s.0) one.0 (gave ++ given s.1.statement) next q one.1 one.2 r in (
       all.0,
       subst (λ t. HasCutOf t q all.0) (append_assoc source (take s.1.used s.0) (all_used steps)) all.1,
       subst (λ t. AreNumbered 0 all.0 t) (append_assoc gave (given s.1.statement) (all_given steps)) all.2,
     )
 
-last_told : (source : List ℕ) (handed : List TextUnit) (gave : List Statement) (p : PieceCutting) (last : Option Statement) (number : ℕ) → HasCutOf source p handed → AreNumbered 0 handed gave → Last p last number → AreStatementsOf source (gave ++ given last)
-last_told source handed gave p None number h k l =
-    (handed ++ [], subst (λ t. IsCut t (handed ++ [])) (append-nil source) (pieces_whole source [] handed [] p h.0 l.0), numbered_joined 0 handed [] gave [] k tt)
-last_told source handed gave p (Some s) number h k l =
+last_told : (source : List ℕ) (handed : List TextUnit) (gave : List Statement) (p : PieceCutting) (last : Option Statement) → HasCutOf source p handed → AreNumbered 0 handed gave → Last p last → AreStatementsOf source (gave ++ given last)
+last_told source handed gave p None h k l =
+    (handed ++ [], subst (λ t. IsCut t (handed ++ [])) (append-nil source) (pieces_whole source [] handed [] p h.0 l), numbered_joined 0 handed [] gave [] k tt)
+last_told source handed gave p (Some s) h k l =
     let count : p.number ≡ 0 + length handed = h.0.counted in
     let here : IsNumbered (0 + length handed) l.0 s = subst (λ n. IsNumbered n l.0 s) count l.1 in
     (handed ++ (l.0 ∷ []), subst (λ t. IsCut t (handed ++ (l.0 ∷ []))) (append-nil source) (pieces_whole source [] handed (l.0 ∷ []) p h.0 l.2), numbered_joined 0 handed (l.0 ∷ []) gave (s ∷ []) k (here, tt))
@@ -65,7 +65,7 @@ closed_run steps p r =
 pub whole_run : (steps : List (List ℕ × Step)) (last : Option Statement) (p q : PieceCutting) → Answered fresh steps p → Finished p (Ok last) q → AreStatementsOf (all_used steps) (all_given steps ++ given last)
 whole_run steps last p q r f =
     let all = all_told steps [] [] [] fresh p nothing_fed tt r in
-    last_told (all_used steps) all.0 (all_given steps) p last q.number all.1 all.2 f.1
+    last_told (all_used steps) all.0 (all_given steps) p last all.1 all.2 f.last
 
 pub run_refused : (steps : List (List ℕ × Step)) (piece more : List ℕ) (fault : CutFault) (p q : PieceCutting) → Answered fresh steps p → Stepped p piece (Err fault) q → FirstTooLong ((all_used steps ++ piece) ++ more) fault.number fault.offset
 run_refused steps piece more fault p q r s =

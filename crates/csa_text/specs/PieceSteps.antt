@@ -1,5 +1,5 @@
 -- What a cutter of pieces answers.
-use Rattle.std.specs.Prelude.{◌≡◌, ℕ, ◌+◌, ◌-◌, ◌<◌, ◌≤◌, false, List, [], ◌∷◌, length, take, Option, None, Some, MatchOption, Result, Ok, Err}
+use Rattle.std.specs.Prelude.{◌≡◌, ℕ, ◌+◌, ◌-◌, ◌<◌, ◌≤◌, false, List, [], ◌∷◌, length, take, Option, None, Some, MatchOption, Result, Ok, Err, IfOk, IfErr}
 use Rattle.csa_text.specs.Cut.{TextUnit, statement_bytes, longest_statement}
 use Rattle.csa_text.specs.PieceCutting.{PieceCutting, ToComeWith, Closes, Leads, held_of}
 use Rattle.csa_text.specs.declared.cutter.Statement.{Statement}
@@ -41,18 +41,38 @@ IsTooLongAt (Some before) old piece offset = offset ≡ before
 IsTooLongAt None old piece offset =
     (unit : TextUnit) × (others : List TextUnit) × Closes old piece (unit ∷ others) × (longest_statement < length unit.bytes) × (offset ≡ unit.offset)
 
-abbrev pub Stepped : PieceCutting → List ℕ → Result Cut CutFault → PieceCutting → Type 0
-Stepped old piece (Ok cut) new =
-    (old.refused ≡ None) × Used old piece cut.used cut.statement new × HoldsAfter old cut.statement new
-Stepped old piece (Err fault) new =
-    (fault.number ≡ old.number + 1) × IsTooLongAt old.refused old piece fault.offset × (new ≡ record old { refused = Some fault.offset })
+-- the view after a step; a refusal is kept, and all else stays as it was
+pub record AfterStep (old : PieceCutting) (piece : List ℕ) (result : Result Cut CutFault) (new : PieceCutting) : Type 0 where
+  pub led : IfOk result (λ cut. Used old piece cut.used cut.statement new)
+  pub held : IfOk result (λ cut. HoldsAfter old cut.statement new)
+  pub refused : IfErr result (λ fault. new ≡ record old { refused = Some fault.offset })
+
+-- what `step` ensures of its answer and of the view afterwards
+pub record Stepped (old : PieceCutting) (piece : List ℕ) (result : Result Cut CutFault) (new : PieceCutting) : Type 0 where
+  pub going : IfOk result (λ _. old.refused ≡ None)
+  pub number_is : IfErr result (λ fault. fault.number ≡ old.number + 1)
+  pub place : IfErr result (λ fault. IsTooLongAt old.refused old piece fault.offset)
+  pub after : AfterStep old piece result new
 
 -- the statement that is unfinished, if one is
-abbrev pub Last : PieceCutting → Option Statement → ℕ → Type 0
-Last old None number = ToComeWith old [] [] × (number ≡ old.number)
-Last old (Some s) number = (unit : TextUnit) × IsNumbered old.number unit s × ToComeWith old [] (unit ∷ []) × (number ≡ s.number)
+abbrev pub Last : PieceCutting → Option Statement → Type 0
+Last old None = ToComeWith old [] []
+Last old (Some s) = (unit : TextUnit) × IsNumbered old.number unit s × ToComeWith old [] (unit ∷ [])
 
-abbrev pub Finished : PieceCutting → Result (Option Statement) CutFault → PieceCutting → Type 0
-Finished old (Ok last) new =
-    (old.refused ≡ None) × Last old last new.number × (new ≡ record old { number = new.number; begins = false; unfinished = [] })
-Finished old (Err fault) new = (old.refused ≡ Some fault.offset) × (fault.number ≡ old.number + 1) × (new ≡ old)
+-- how many statements were handed out, after so many and the last one, if there is one
+abbrev pub counted : ℕ → Option Statement → ℕ
+counted count None = count
+counted count (Some s) = s.number
+
+-- the view after the end; a refusal changes nothing
+abbrev pub AfterEnd : PieceCutting → Result (Option Statement) CutFault → PieceCutting → Type 0
+AfterEnd old (Ok last) new = new ≡ record old { number = counted old.number last; begins = false; unfinished = [] }
+AfterEnd old (Err fault) new = new ≡ old
+
+-- what `finish` ensures of its answer and of the view afterwards
+pub record Finished (old : PieceCutting) (result : Result (Option Statement) CutFault) (new : PieceCutting) : Type 0 where
+  pub going : IfOk result (λ _. old.refused ≡ None)
+  pub last : IfOk result (λ last. Last old last)
+  pub number_is : IfErr result (λ fault. fault.number ≡ old.number + 1)
+  pub place : IfErr result (λ fault. old.refused ≡ Some fault.offset)
+  pub after : AfterEnd old result new

@@ -1,10 +1,9 @@
 -- Where a cutter of pieces stands, and what it holds.
 -- These are definitions for private helpers, and for how the private fields of `PieceCutter` make its view; a reader of the contracts may skip them.
-use Rattle.std.specs.Prelude.{◌≡◌, ℕ, ◌+◌, ◌-◌, ◌^◌, not, ◌<◌, ◌≤◌, ◌==◌, ◌⊎◌, if◌then◌else◌, Bool, true, false, List, [], ◌∷◌, ◌++◌, length, take, drop, slice_range, slice_index}
+use Rattle.std.specs.Prelude.{◌≡◌, ℕ, ◌+◌, ◌-◌, ◌^◌, not, ◌<◌, ◌≤◌, ◌==◌, ◌⊎◌, if◌then◌else◌, Bool, true, false, List, [], ◌∷◌, ◌++◌, length, take, drop, slice_range, slice_index, Result, Ok, Err}
 use Rattle.csa_text.specs.Cut.{TextUnit, Statements, IsUnit, byte_order_mark, begins_with, longest_statement}
 use Rattle.csa_text.specs.PieceCutting.{Follows}
-use Rattle.csa_text.specs.declared.piece.Found.{Found}
-use Rattle.csa_text.specs.declared.piece.Found.TheVariants as found
+use Rattle.csa_text.specs.declared.piece.Part.{Part}
 use Rattle.csa_text.specs.declared.piece.Place.{Place}
 use Rattle.csa_text.specs.declared.piece.Place.TheVariants.{Mark, Gap, Unit as InUnit, Comment}
 
@@ -48,14 +47,19 @@ pub record IsUnitIn (piece : List ℕ) (from start end : ℕ) : Type 0 where
   pub passed : (offset k : ℕ) (more : List ℕ) (others : List TextUnit) → end ≤ k → k ≤ length piece
       → Statements (offset + start) (slice_range piece start k ++ more) others → Statements (offset + from) (slice_range piece from k ++ more) others
 
+-- the statement's unit that a piece holds, or where it leads to where it holds none
+abbrev pub Found : Type 0
+Found = Result Part Place
+
 -- what the piece holds from this place on
 abbrev pub IsFirstIn : List ℕ → ℕ → Found → Type 0
-IsFirstIn piece from found.Mark = ⊥
-IsFirstIn piece from found.Gap = (offset : ℕ) (more : List ℕ) (others : List TextUnit)
+IsFirstIn piece from (Err Mark) = ⊥
+IsFirstIn piece from (Err InUnit) = ⊥
+IsFirstIn piece from (Err Gap) = (offset : ℕ) (more : List ℕ) (others : List TextUnit)
     → Statements (offset + length piece) more others → Statements (offset + from) (drop from piece ++ more) others
-IsFirstIn piece from found.Comment = (0 < length piece) × ((offset : ℕ) (more : List ℕ) (others : List TextUnit)
+IsFirstIn piece from (Err Comment) = (0 < length piece) × ((offset : ℕ) (more : List ℕ) (others : List TextUnit)
     → Statements (offset + length piece - 1) (39 ∷ more) others → Statements (offset + from) (drop from piece ++ more) others)
-IsFirstIn piece from (found.Unit goes_on start end) = (goes_on ≡ false) × IsUnitIn piece from start end
+IsFirstIn piece from (Ok part) = (part.goes_on ≡ false) × IsUnitIn piece from part.start part.end
 
 -- what is held of a unit
 abbrev pub kept_of : Bool → List ℕ → List ℕ
@@ -74,13 +78,14 @@ pub record IsPart (place : Place) (held piece : List ℕ) (goes_on : Bool) (star
 
 -- what the piece holds next
 abbrev pub IsFoundIn : Place → List ℕ → List ℕ → Found → Type 0
-IsFoundIn place held piece found.Mark =
+IsFoundIn place held piece (Err InUnit) = ⊥
+IsFoundIn place held piece (Err Mark) =
     (place ≡ Mark) × (length held + length piece < 3) × (held ++ piece ≡ take (length held + length piece) byte_order_mark)
-IsFoundIn place held piece found.Gap = (fed : ℕ) (more : List ℕ) (others : List TextUnit) → length (open_of place held) ≤ fed
+IsFoundIn place held piece (Err Gap) = (fed : ℕ) (more : List ℕ) (others : List TextUnit) → length (open_of place held) ≤ fed
     → Statements (fed + length piece) more others → Follows (begins place) fed (open_of place held) (piece ++ more) others
-IsFoundIn place held piece found.Comment = ((place ≡ Comment) ⊎ (0 < length piece)) × ((fed : ℕ) (more : List ℕ) (others : List TextUnit) → length (open_of place held) ≤ fed
+IsFoundIn place held piece (Err Comment) = ((place ≡ Comment) ⊎ (0 < length piece)) × ((fed : ℕ) (more : List ℕ) (others : List TextUnit) → length (open_of place held) ≤ fed
     → Statements (fed + length piece - 1) (39 ∷ more) others → Follows (begins place) fed (open_of place held) (piece ++ more) others)
-IsFoundIn place held piece (found.Unit goes_on start end) = IsPart place held piece goes_on start end
+IsFoundIn place held piece (Ok part) = IsPart place held piece part.goes_on part.start part.end
 
 -- what one holds is held of the other, up to the first byte that differs
 pub record IsCommon (a b : List ℕ) (n : ℕ) : Type 0 where
@@ -88,19 +93,6 @@ pub record IsCommon (a b : List ℕ) (n : ℕ) : Type 0 where
   pub in_b : n ≤ length b
   pub same : take n a ≡ take n b
   pub differs : n < length a → n < length b → (slice_index a n == slice_index b n) ≡ false
-
--- where the piece leads to
-abbrev pub place_found : Found → Place
-place_found found.Mark = Mark
-place_found found.Gap = Gap
-place_found found.Comment = Comment
-place_found (found.Unit goes_on start end) = InUnit
-
-abbrev pub is_in_mark : Found → Bool
-is_in_mark found.Mark = true
-is_in_mark found.Gap = false
-is_in_mark found.Comment = false
-is_in_mark (found.Unit goes_on start end) = false
 
 -- a statement's unit, or what may become one, is unfinished
 abbrev pub has_unit : Place → List ℕ → Bool

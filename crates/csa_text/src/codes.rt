@@ -5,7 +5,7 @@ use shogi_board::{Color, Kind, Square};
 
 /// The sign of a side: `+` for black, `-` for white.
 pub fn sign_of(color: Color) -> u8
-    ensures { result ≡ sign color }
+    ensures sign { result ≡ sign color }
 {
     match color {
         Color::Black => b'+',
@@ -65,7 +65,7 @@ pub(crate) fn read_kind(code: &[u8]) -> Option<Kind>
 
 /// The two letters of a kind in CSA V2.2: `FU` of a pawn, `RY` of a dragon. `read_item` reads them as that kind again.
 pub fn kind_text(kind: Kind) -> &'static str
-    ensures { result.now ≡ kind_code kind }
+    ensures code { result.now ≡ kind_code kind }
 {
     match kind {
         Kind::Pawn => "FU",

@@ -4,6 +4,7 @@ ghost use Rattle.csa_text.specs.Cut.{Statements, IsNext, IsGap, is_separator, is
 ghost use Rattle.csa_text.specs.Cutting.{Cutting, ToCome, IfHandedOut, IsTooLong, IsFirstStatement, unit_between};
 
 use crate::line::line_length;
+use crate::piece::first_in;
 use std::marker::Model;
 use thiserror::Error;
 
@@ -188,14 +189,10 @@ fn next_spoken(source: &[u8], from: usize) -> Option<(usize, usize)>
         (Statements from (drop from source.now) [])
         (λ r. IsFirstStatement source.now from r.0 r.1) }
 {
-    let mut at = from;
-    while let Some((start, end)) = next_unit(source, at) {
-        if source[start] != COMMENT {
-            return Some((start, end));
-        }
-        at = end;
+    match first_in(source, from) {
+        Ok(unit) => Some((unit.start, unit.end)),
+        Err(_) => None,
     }
-    None
 }
 
 // The bytes of a statement, of its unit's.

@@ -5,12 +5,8 @@ ghost use Rattle.csa_text.specs.Fields.{IsNumber, HasNone, IsSplit};
 pub(crate) fn split_at_byte(bytes: &[u8], mark: u8) -> Option<(&[u8], &[u8])>
     ensures { MatchOption result (HasNone mark bytes.now) (λ r. IsSplit mark bytes.now r.0.now r.1.now) }
 {
-    for (i, b) in bytes.iter().enumerate() {
-        if *b == mark {
-            return Some((&bytes[..i], &bytes[i + 1..]));
-        }
-    }
-    None
+    let at = bytes.iter().position(|b| *b == mark)?;
+    Some((&bytes[..at], &bytes[at + 1..]))
 }
 
 // The number that the bytes spell in at least and at most so many digits.

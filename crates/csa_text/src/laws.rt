@@ -31,35 +31,35 @@ pub fn cut_once()
 
 /// The bytes of a statement spell one thing at most.
 pub fn spelt_once()
-    ensures { (bytes : List ℕ) (a b : Saying) → Spells bytes a → Spells bytes b → a ≡ b }
+    ensures saying { (bytes : List ℕ) (a b : Saying) → Spells bytes a → Spells bytes b → a ≡ b }
 {}
 
 /// Bytes have one list of lines and one unfinished rest, and no other.
 pub fn lines_once()
-    ensures { (bytes : List ℕ) → (lines : List (List ℕ)) × (rest : List ℕ) × Lines bytes lines rest
+    ensures lines { (bytes : List ℕ) → (lines : List (List ℕ)) × (rest : List ℕ) × Lines bytes lines rest
         × ((others : List (List ℕ)) (other : List ℕ) → Lines bytes others other → (others ≡ lines) × (other ≡ rest)) }
 {}
 
 /// Bytes spell one moment at most.
 pub fn moment_once()
-    ensures { (bytes : List ℕ) (a b : CalendarMoment) → SpellsMoment bytes a → SpellsMoment bytes b → a ≡ b }
+    ensures moment { (bytes : List ℕ) (a b : CalendarMoment) → SpellsMoment bytes a → SpellsMoment bytes b → a ≡ b }
 {}
 
 /// Two moments are equal exactly where their calendar moments are: so however a moment is spelt, it
 /// is one.
 pub fn equal_moments()
-    ensures { (p q : Moment) → (⟦<Moment as PartialEq>⟧.eq p q ≡ true) ↔ (moment_of p ≡ moment_of q) }
+    ensures equal { (p q : Moment) → (⟦<Moment as PartialEq>⟧.eq p q ≡ true) ↔ (moment_of p ≡ moment_of q) }
 {}
 
 /// The closed statements of a source are one list, and no other.
 pub fn closed_once()
-    ensures { (source : List ℕ) → (closed : List TextUnit) × Closed source closed
+    ensures closed { (source : List ℕ) → (closed : List TextUnit) × Closed source closed
         × ((others : List TextUnit) → Closed source others → others ≡ closed) }
 {}
 
 /// A source has one first statement that is too long, or none.
 pub fn too_long_once()
-    ensures { (source : List ℕ) (m n i j : ℕ) → FirstTooLong source m i → FirstTooLong source n j → (m ≡ n) × (i ≡ j) }
+    ensures first { (source : List ℕ) (m n i j : ℕ) → FirstTooLong source m i → FirstTooLong source n j → (m ≡ n) × (i ≡ j) }
 {}
 
 /// Over a whole run of steps, in whatever pieces, what a new `PieceCutter` hands out are the closed
@@ -86,14 +86,14 @@ pub fn cutter_run()
 
 /// A source whose statements are all handed out has none that is too long.
 pub fn never_both()
-    ensures { (source : List ℕ) (gave : List Statement) (number offset : ℕ)
+    ensures never { (source : List ℕ) (gave : List Statement) (number offset : ℕ)
         → AreStatementsOf source gave → FirstTooLong source number offset → ⊥ }
 {}
 
 /// The statements of a source, as either cutter hands them out, have the same numbers, offsets and
 /// bytes.
 pub fn statements_alike()
-    ensures { (source : List ℕ) (a b : List Statement) → AreStatementsOf source a → AreStatementsOf source b → all_told a ≡ all_told b }
+    ensures alike { (source : List ℕ) (a b : List Statement) → AreStatementsOf source a → AreStatementsOf source b → all_told a ≡ all_told b }
 {}
 
 /// Over a whole run of steps, in whatever pieces, what a new `LineCutter` hands out are the lines of

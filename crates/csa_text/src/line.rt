@@ -133,12 +133,10 @@ fn line_ends_length(text: &[u8]) -> usize
     ensures value { result ≡ prefix_len is_line_end text.now }
     ensures within { result ≤ length text.now }
 {
-    for (i, b) in text.iter().enumerate() {
-        if !is_line_end(*b) {
-            return i;
-        }
+    match text.iter().position(|b| !is_line_end(*b)) {
+        Some(start) => start,
+        None => text.len(),
     }
-    text.len()
 }
 
 // How many bytes of the text come before a CR or LF.

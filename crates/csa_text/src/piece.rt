@@ -1,12 +1,12 @@
-ghost use Rattle.std.specs.Prelude.{◌≡◌, ◌+◌, ◌-◌, ◌^◌, ◌<◌, ◌≤◌, ◌++◌, [], length, true, None, IsSome, IfSome, IfOk, IfErr, if◌then◌else◌};
+ghost use Rattle.std.specs.Prelude.{◌≡◌, ◌+◌, ◌-◌, ◌^◌, ◌<◌, ◌≤◌, ◌++◌, [], length, true, None, Some, IsSome, IfSome, IfOk, IfErr, if◌then◌else◌};
 ghost use Rattle.std.specs.Borrow.{sem};
 ghost use Rattle.std.specs.Io.BufRead.{Rests};
 ghost use Rattle.arrayvec.specs.ArrayVec.{array_vec_len};
 ghost use Rattle.csa_text.specs.contracts.piece.PieceCutter.{the_row};
 ghost use Rattle.csa_text.specs.Cut.{statement_bytes};
 ghost use Rattle.csa_text.specs.PieceCutting.{fresh, HoldsLittle, IsOpen};
-ghost use Rattle.csa_text.specs.PieceSteps.{Stepped, Finished, IsUsed, IsLentFrom};
-ghost use Rattle.csa_text.specs.Places.{IsKept, IsFoundIn, IsFirstIn, IsCommon, IsHeld, place_found, is_in_mark, kept_of, has_unit};
+ghost use Rattle.csa_text.specs.PieceSteps.{AfterStep, AfterEnd, Last, IsTooLongAt, IsUsed, IsLentFrom};
+ghost use Rattle.csa_text.specs.Places.{IsKept, IsFoundIn, IsFirstIn, IsCommon, IsHeld, begins, kept_of, has_unit};
 
 use crate::cutter::{
     BYTE_ORDER_MARK, COMMENT, CutFault, LONGEST_STATEMENT, Statement, handed_out, next_unit,
@@ -26,7 +26,7 @@ pub struct Cut<'b> {
 
 // Where the bytes so far have led to.
 #[derive(Clone, Copy, Debug, PartialEq, Eq)]
-enum Place {
+pub(crate) enum Place {
     // at the start, or in the byte order mark
     Mark,
     Gap,
@@ -34,19 +34,13 @@ enum Place {
     Comment,
 }
 
-// What the piece holds first: up to its end only the mark, a gap or a comment; or a statement's
-// unit, or a part of one.
+// A statement's unit in the piece, from start to before end, behind what is held of it where it goes
+// on.
 #[derive(Clone, Copy, Debug, PartialEq, Eq)]
-enum Found {
-    Mark,
-    Gap,
-    Comment,
-    // from start to before end, behind what is held of it where it goes on
-    Unit {
-        goes_on: bool,
-        start: usize,
-        end: usize,
-    },
+pub(crate) struct Part {
+    pub goes_on: bool,
+    pub start: usize,
+    pub end: usize,
 }
 
 /// Cuts a record's bytes that come in pieces into statements, as `Cutter` cuts the whole.
@@ -116,34 +110,34 @@ impl PieceCutter {
         requires { self.old.fed + length piece.now ≤ 2 ^ 63 }
         ensures used { IfOk result (IsUsed piece.now) }
         ensures number { IfOk result (λ cut. IfSome cut.statement (λ s. s.number ≡ self.old.number + 1)) }
-        ensures fault { IfErr result (λ f. f.number ≡ self.old.number + 1) }
         ensures lent { IfOk result (λ cut. IfSome cut.statement (IsLentFrom piece.entry.ref_ptr self.old.fed)) }
-        ensures* stepped { sem 𝓛 (Rests the_row self.entry (λ new. Stepped self.old piece.now result new)) }
+        ensures going { IfOk result (λ _. self.old.refused ≡ None) }
+        ensures fault { IfErr result (λ f. f.number ≡ self.old.number + 1) }
+        ensures place { IfErr result (λ f. IsTooLongAt self.old.refused self.old piece.now f.offset) }
+        ensures* after { sem 𝓛 (Rests the_row self.entry (λ new. AfterStep self.old piece.now result new)) }
     {
         let number = self.number + 1;
         if let Some(offset) = self.refused {
             return Err(CutFault { number, offset });
         }
-        let found = found_in(self.place, self.held.as_slice(), piece);
-        let Found::Unit {
-            goes_on,
-            start,
-            end,
-        } = found
-        else {
-            self.place = place_of(found);
-            hold_mark(&mut self.held, found, piece);
-            self.fed += piece.len() as u64;
-            return Ok(none_ended(piece.len()));
+        let found = match found_in(self.place, self.held.as_slice(), piece) {
+            Ok(found) => found,
+            Err(place) => {
+                self.place = place;
+                hold_mark(&mut self.held, place, piece);
+                self.fed += piece.len() as u64;
+                return Ok(none_ended(piece.len()));
+            }
         };
-        let part = &piece[start..end];
-        let kept = kept_length(goes_on, self.held.len());
-        let offset = self.fed + start as u64 - kept as u64;
+        let end = found.end;
+        let part = &piece[found.start..end];
+        let kept = kept_length(found.goes_on, self.held.len());
+        let offset = self.fed + found.start as u64 - kept as u64;
         if LONGEST_STATEMENT - kept < part.len() {
             self.refused = Some(offset);
             return Err(CutFault { number, offset });
         }
-        keep_held(&mut self.held, goes_on);
+        keep_held(&mut self.held, found.goes_on);
         if end == piece.len() {
             hold(&mut self.held, part);
             self.place = Place::Unit;
@@ -166,8 +160,11 @@ impl PieceCutter {
     /// where `step` answered it.
     pub fn finish(&mut self) -> Result<Option<Statement<'_>>, CutFault>
         ensures number { IfOk result (λ last. IfSome last (λ s. s.number ≡ self.old.number + 1)) }
+        ensures going { IfOk result (λ _. self.old.refused ≡ None) }
+        ensures last { IfOk result (λ last. Last self.old last) }
         ensures fault { IfErr result (λ f. f.number ≡ self.old.number + 1) }
-        ensures* finished { sem 𝓛 (Rests the_row self.entry (λ new. Finished self.old result new)) }
+        ensures place { IfErr result (λ f. self.old.refused ≡ Some f.offset) }
+        ensures* after { sem 𝓛 (Rests the_row self.entry (λ new. AfterEnd self.old result new)) }
     {
         let number = self.number + 1;
         if let Some(offset) = self.refused {
@@ -229,18 +226,6 @@ fn is_unfinished(place: Place, held: &[u8]) -> bool
     }
 }
 
-// Where the piece leads to where it holds no statement's unit.
-fn place_of(found: Found) -> Place
-    ensures { result ≡ place_found found }
-{
-    match found {
-        Found::Mark => Place::Mark,
-        Found::Gap => Place::Gap,
-        Found::Comment => Place::Comment,
-        Found::Unit { .. } => Place::Unit,
-    }
-}
-
 // How many of the bytes that are held are the unit's.
 fn kept_length(goes_on: bool, length: usize) -> usize
     ensures { result ≡ (if goes_on then length else 0) }
@@ -258,12 +243,12 @@ fn keep_held(held: &mut ArrayVec<u8, LONGEST_STATEMENT>, goes_on: bool)
 }
 
 // Holds what has come of a byte order mark, and nothing of a gap or a comment.
-fn hold_mark(held: &mut ArrayVec<u8, LONGEST_STATEMENT>, found: Found, piece: &[u8])
-    requires { is_in_mark found ≡ true → array_vec_len held.old + length piece.now ≤ 4096 }
-    ensures { held.new.items ≡ (if is_in_mark found then held.old.items ++ piece.now else []) }
+fn hold_mark(held: &mut ArrayVec<u8, LONGEST_STATEMENT>, place: Place, piece: &[u8])
+    requires { begins place ≡ true → array_vec_len held.old + length piece.now ≤ 4096 }
+    ensures { held.new.items ≡ (if begins place then held.old.items ++ piece.now else []) }
 {
-    match found {
-        Found::Mark => hold(held, piece),
+    match place {
+        Place::Mark => hold(held, piece),
         _ => held.clear(),
     }
 }
@@ -275,23 +260,23 @@ fn hold(held: &mut ArrayVec<u8, LONGEST_STATEMENT>, part: &[u8])
     held.try_extend_from_slice(part).unwrap();
 }
 
-// What the piece holds next.
-fn found_in(place: Place, held: &[u8], piece: &[u8]) -> Found
+// The statement's unit that the piece holds next, or where it leads to where it holds none.
+fn found_in(place: Place, held: &[u8], piece: &[u8]) -> Result<Part, Place>
     requires { IsHeld place held.now }
     ensures { IsFoundIn place held.now piece.now result }
 {
     match place {
         Place::Mark => found_in_mark(held, piece),
         Place::Gap => first_in(piece, 0),
-        Place::Unit => Found::Unit {
+        Place::Unit => Ok(Part {
             goes_on: true,
             start: 0,
             end: unit_length(held[0], piece),
-        },
+        }),
         Place::Comment => {
             let end = unit_length(COMMENT, piece);
             if end == piece.len() {
-                Found::Comment
+                Err(Place::Comment)
             } else {
                 first_in(piece, end)
             }
@@ -300,7 +285,7 @@ fn found_in(place: Place, held: &[u8], piece: &[u8]) -> Found
 }
 
 // The same where the bytes so far are of the byte order mark.
-fn found_in_mark(held: &[u8], piece: &[u8]) -> Found
+fn found_in_mark(held: &[u8], piece: &[u8]) -> Result<Part, Place>
     requires { IsHeld Place.Mark held.now }
     ensures { IsFoundIn Place.Mark held.now piece.now result }
 {
@@ -309,15 +294,15 @@ fn found_in_mark(held: &[u8], piece: &[u8]) -> Found
     if common == missing.len() {
         first_in(piece, common)
     } else if common == piece.len() {
-        Found::Mark
+        Err(Place::Mark)
     } else if held.len() + common == 0 {
         first_in(piece, 0)
     } else {
-        Found::Unit {
+        Ok(Part {
             goes_on: true,
             start: 0,
             end: unit_length(0xEF, piece),
-        }
+        })
     }
 }
 
@@ -333,25 +318,26 @@ fn common_length(a: &[u8], b: &[u8]) -> usize
     a.len()
 }
 
-// The first statement's unit in the piece from here on, behind gaps and comments.
+// The first statement's unit in the piece from here on, behind gaps and comments, or where it leads
+// to where it holds none.
 #[inline(always)]
-fn first_in(piece: &[u8], from: usize) -> Found
+pub(crate) fn first_in(piece: &[u8], from: usize) -> Result<Part, Place>
     requires { from ≤ length piece.now }
     ensures { IsFirstIn piece.now from result }
 {
     let mut at = from;
     while let Some((start, end)) = next_unit(piece, at) {
         if piece[start] != COMMENT {
-            return Found::Unit {
+            return Ok(Part {
                 goes_on: false,
                 start,
                 end,
-            };
+            });
         }
         if end == piece.len() {
-            return Found::Comment;
+            return Err(Place::Comment);
         }
         at = end;
     }
-    Found::Gap
+    Err(Place::Gap)
 }

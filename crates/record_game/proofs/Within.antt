@@ -22,7 +22,7 @@ use Rattle.shogi_board.specs.Setup.{is_full, holds, one_more, rest_to, with_rest
 use Rattle.shogi_board.specs.Squares.{place}
 use Rattle.shogi_board.specs.Totals.{total, limit, kings_of, no_pieces, count_in, IsWithinTotals}
 use Rattle.shogi_board.proofs.Start.{even-within}
-use Rattle.shogi_board.proofs.Totals.{limit-same, total-same, placed-within, removed-within, black-rest, white-rest}
+use Rattle.shogi_board.proofs.Totals.{limit-same, total-same, placed-within, removed-within, rest-within}
 use Rattle.shogi_rules.proofs.Forms.{held-low}
 use Rattle.csa_text.specs.declared.pair.Pair.{Pair}
 use Rattle.csa_text.specs.declared.pair.Pair.TheVariants.{On, InHand, Rest}
@@ -118,8 +118,7 @@ within_hand s White k held room w = record {
 }
 
 within_rest : (s : Layout) (c : Color) → Within s → Within (rest_to s c)
-within_rest s Black w = black-rest s w
-within_rest s White w = white-rest s w
+within_rest s c w = rest-within s c w
 
 within_placed : (s : Layout) (p : Placing) → IsOnBoard p → placing_fault s p ≡ None → Within s → Within (placed s p)
 within_placed s (on n p) low fine w = within_on s n p low fine w

@@ -8,6 +8,7 @@ ghost use Rattle.session_lines.specs.Texts.{text_of};
 use crate::config::HostConfig;
 use crate::words::next_word;
 use arrayvec::ArrayVec;
+use csa_text::sign_of;
 use itoa::Buffer;
 use session_lines::{Lines, texts};
 use shogi_board::{Color, OutOfMemory};
@@ -79,21 +80,12 @@ fn push_turn(lines: &mut Lines, config: &HostConfig) -> Result<(), OutOfMemory>
         ∷ texts.black_to_move ∷ (texts.most_moves ++ decimal config.now.max_moves) ∷ [])) }
 {
     let mut buffer = Buffer::new();
-    lines.push_joined(texts::YOUR_TURN, sign_of(config.client))?;
+    lines.push_joined(texts::YOUR_TURN, &[sign_of(config.client)])?;
     lines.push(texts::BLACK_TO_MOVE)?;
     lines.push_joined(
         texts::MOST_MOVES,
         buffer.format(config.max_moves).as_bytes(),
     )
-}
-
-fn sign_of(color: Color) -> &'static [u8]
-    ensures { result.now ≡ sign color ∷ [] }
-{
-    match color {
-        Color::Black => texts::BLACK,
-        Color::White => texts::WHITE,
-    }
 }
 
 // Adds the even start with black to move.

@@ -5,6 +5,7 @@ pub mod Count
 pub mod Decided
 pub mod Facts
 pub mod Goes
+pub mod Marks
 pub mod Moved
 pub mod Moves
 pub mod OneOf
@@ -14,5 +15,6 @@ pub mod Same
 pub mod Sight
 pub mod Squares
 pub mod Start
+pub mod Tells
 pub mod Totals
 pub mod Turned

@@ -1,5 +1,5 @@
 -- Values compare as equal where they are equal.
-use Rattle.std.proofs.Common.{rules, ◌≡◌, ℕ, true, false, ◌↔◌, Bool, nat_eq, Option, Some, None, ◌&&◌, refl, ap, sym, List, [], ◌∷◌, ◌∙◌, get_or}
+use Rattle.std.proofs.Common.{rules, ◌≡◌, ℕ, true, false, ◌↔◌, Bool, nat_eq, Option, Some, None, ◌&&◌, refl, ap, sym, List, ◌∙◌}
 use Rattle.std.specs.Option.{option_eq}
 use Rattle.std.specs.Cmp.Lexicographic.{pointwise}
 use Rattle.std.specs.Ordering.{is_eq}
@@ -10,14 +10,12 @@ use Rattle.std.proofs.lemmas.Slice.Eq.{slice_eq-Decides}
 use Rattle.std.proofs.lemmas.Bool.Decides.{Decides-eqb}
 use denote.Enum.Bare.{sameb, same_true, true_same}
 use Rattle.shogi_board.specs.Layout.{Layout}
-use Rattle.shogi_board.specs.Pieces.{same_color, same_kind, same, place_of, is_promoted}
 use Rattle.shogi_board.specs.Placed.{Placed}
 use Rattle.shogi_board.specs.Same.{same_cell, same_position}
 use Rattle.shogi_board.specs.declared.color.Color.{Color}
-use Rattle.shogi_board.specs.declared.color.Color.TheVariants.{Black, White}
 use Rattle.shogi_board.specs.declared.kind.Kind.{Kind}
-use Rattle.shogi_board.specs.declared.kind.Kind.TheVariants.{Pawn, Lance, Knight, Silver, Gold, Bishop, Rook, King, ProPawn, ProLance, ProKnight, ProSilver, Horse, Dragon}
 use Rattle.shogi_board.specs.declared.kind.Piece.{Piece}
+use Rattle.shogi_board.proofs.Tells.{and-left, and-right, and-both, color-same, cell-same, piece-same}
 use Rattle.shogi_board.specs.contracts.color.Color as color
 use Rattle.shogi_board.specs.contracts.kind.Kind as kind
 use Rattle.shogi_board.specs.contracts.kind.PiecePartialEq.TheImpl.{eq-value}
@@ -29,23 +27,6 @@ color-eq a b = (λ h. same_true color.the_type (search rules) a b h, true_same c
 
 pub kind-eq : (a b : Kind) → Decides (sameb kind.the_type a b) (a ≡ b)
 kind-eq a b = (λ h. same_true kind.the_type (search rules) a b h, true_same kind.the_type a b)
-
-and-left : (a b : Bool) → (a && b) ≡ true → a ≡ true
-and-left true b h = refl
-and-left false b h = h
-
-and-right : (a b : Bool) → (a && b) ≡ true → b ≡ true
-and-right true b h = h
-and-right false true h = refl
-and-right false false h = h
-
-and-both : (a b : Bool) → a ≡ true → b ≡ true → (a && b) ≡ true
-and-both a b h k = rw (h, k) refl
-
-piece-same : (a b : Piece) → a.color ≡ b.color → a.kind ≡ b.kind → a ≡ b
-piece-same a b h k =
-    let first : a ≡ record { color = b.color; kind = a.kind } = ap (λ (c : Color). record a { color = c }) h in
-    first ∙ ap (λ (l : Kind). record b { kind = l }) k
 
 piece-eq : (a b : Piece) → Decides (eq-value.it a b) (a ≡ b)
 piece-eq a b = (
@@ -101,62 +82,6 @@ exact-positions a b =
 
 pub total-positions : IsTotalOrder cmp-value.it
 total-positions = laws.total-law
-
-color-same : (a b : Color) → Decides (same_color a b) (a ≡ b)
-color-same Black Black = (λ _. refl, λ _. refl)
-color-same White White = (λ _. refl, λ _. refl)
-color-same Black White = (λ h. cc, λ h. cc)
-color-same White Black = (λ h. cc, λ h. cc)
-
-same-bool : (a b : Bool) → Decides (same a b) (a ≡ b)
-same-bool true true = (λ _. refl, λ _. refl)
-same-bool true false = (λ h. cc, λ h. cc)
-same-bool false true = (λ h. cc, λ h. cc)
-same-bool false false = (λ _. refl, λ _. refl)
-
--- the kind of a place, promoted or not
-abbrev kind-at : ℕ → Bool → Kind
-kind-at n true = get_or (ProPawn ∷ ProLance ∷ ProKnight ∷ ProSilver ∷ Gold ∷ Horse ∷ Dragon ∷ []) n Pawn
-kind-at n false = get_or (Pawn ∷ Lance ∷ Knight ∷ Silver ∷ Gold ∷ Bishop ∷ Rook ∷ King ∷ []) n Pawn
-
-kind-there : (k : Kind) → kind-at (place_of k) (is_promoted k) ≡ k
-kind-there Pawn = refl
-kind-there Lance = refl
-kind-there Knight = refl
-kind-there Silver = refl
-kind-there Gold = refl
-kind-there Bishop = refl
-kind-there Rook = refl
-kind-there King = refl
-kind-there ProPawn = refl
-kind-there ProLance = refl
-kind-there ProKnight = refl
-kind-there ProSilver = refl
-kind-there Horse = refl
-kind-there Dragon = refl
-
-kind-same : (a b : Kind) → Decides (same_kind a b) (a ≡ b)
-kind-same a b = (
-  λ h.
-      let places : place_of a ≡ place_of b = (Decides-eqb (place_of a) (place_of b)).0 (and-left _ _ h) in
-      let forms : is_promoted a ≡ is_promoted b = (same-bool (is_promoted a) (is_promoted b)).0 (and-right _ _ h) in
-      sym (kind-there a) ∙ (ap (λ (n : ℕ). kind-at n (is_promoted a)) places ∙ (ap (kind-at (place_of b)) forms ∙ kind-there b)),
-  λ h. and-both _ _ ((Decides-eqb (place_of a) (place_of b)).1 (ap place_of h)) ((same-bool (is_promoted a) (is_promoted b)).1 (ap is_promoted h)),
-)
-
-some-piece : (x y : Piece) → Some x ≡ Some y → x ≡ y
-some-piece x y h = cc
-
-cell-same : (a b : Option Piece) → Decides (same_cell a b) (a ≡ b)
-cell-same None None = (λ h. refl, λ h. refl)
-cell-same None (Some y) = (λ h. cc, λ h. cc)
-cell-same (Some x) None = (λ h. cc, λ h. cc)
-cell-same (Some x) (Some y) = (
-  λ h. ap Some (piece-same x y ((color-same x.color y.color).0 (and-left _ _ h)) ((kind-same x.kind y.kind).0 (and-right _ _ h))),
-  λ h.
-      let e : x ≡ y = some-piece x y h in
-      and-both _ _ ((color-same x.color y.color).1 (ap (λ (p : Piece). p.color) e)) ((kind-same x.kind y.kind).1 (ap (λ (p : Piece). p.kind) e)),
-)
 
 cells-same : (a b : List (Option Piece)) → Decides (pointwise same_cell a b) (a ≡ b)
 cells-same a b = slice_eq-Decides cell-same a b _ refl

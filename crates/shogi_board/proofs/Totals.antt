@@ -1,18 +1,19 @@
 -- The totals hold after each change of a setup.
-use Rattle.std.proofs.Common.{◌≡◌, ℕ, ◌+◌, ◌<◌, ◌≤◌, ◌==◌, ◌&&◌, Bool, true, false, cond, List, [], ◌∷◌, Option, Some, None, nat_le, nat_lt, set, get_or, count_by, slice_index, arith, refl, ap, sym, ◌∙◌, length-set}
+use Rattle.std.proofs.Common.{◌≡◌, ℕ, zero, suc, ◌+◌, ◌-◌, ◌<◌, ◌≤◌, ◌==◌, ◌&&◌, ◌⊎◌, inl, inr, not, length, Bool, true, false, cond, List, [], ◌∷◌, Option, Some, None, nat_le, nat_lt, set, get_or, count_by, slice_index, arith, refl, ap, sym, ◌∙◌, length-set, get_or-set_same, get_or-set_other}
 use Rattle.std.proofs.lemmas.List.Sums.{sum_by-set}
+use Rattle.std.proofs.lemmas.Bool.{cases_eq}
 use Rattle.std.proofs.lemmas.Bool.Decides.{Decides-eqb, nat_tests}
 use Rattle.shogi_board.specs.Cells.{Cells, piece}
 use Rattle.shogi_board.specs.Layout.{Layout}
-use Rattle.shogi_board.specs.Pieces.{place_of, same_color, is_king}
-use Rattle.shogi_board.specs.Setup.{with_rest, first_fault, place_fault}
-use Rattle.shogi_board.specs.Totals.{total, limit, is_of, is_king_of, kings_of, IsWithinTotals}
+use Rattle.shogi_board.specs.Pieces.{place_of, same_color, is_king, is_hand_kind}
+use Rattle.shogi_board.specs.Setup.{with_rest, with_hand, hand_of, first_fault, place_fault, add_fault, one_more, one_less, HoldsLimits}
+use Rattle.shogi_board.specs.Totals.{total, limit, count_in, is_of, is_king_of, kings_of, IsWithinTotals}
 use Rattle.shogi_board.specs.declared.color.Color.{Color}
 use Rattle.shogi_board.specs.declared.color.Color.TheVariants.{Black, White}
 use Rattle.shogi_board.specs.declared.kind.Kind.{Kind}
 use Rattle.shogi_board.specs.declared.kind.Kind.TheVariants.{Pawn, Lance, Knight, Silver, Gold, Bishop, Rook, King, ProPawn, ProLance, ProKnight, ProSilver, Horse, Dragon}
 use Rattle.shogi_board.specs.declared.kind.Piece.{Piece}
-use Rattle.shogi_board.specs.declared.setup.SetupFault.TheVariants.{SquareTaken, TooMany, SecondKing, AfterRest}
+use Rattle.shogi_board.specs.declared.setup.SetupFault.TheVariants.{SquareTaken, TooMany, SecondKing, NotForHand, AfterRest}
 use Rattle.shogi_board.specs.declared.square.Square.{Square}
 
 abbrev limits : List ℕ
@@ -136,7 +137,7 @@ black-total s w Horse = omega (arith, w.totals Horse, total-same s.board s.black
 black-total s w Dragon = omega (arith, w.totals Dragon, total-same s.board s.black s.white Rook Dragon refl)
 
 -- all that remains, in black's hand
-pub black-rest : (s : Layout) → IsWithinTotals s.board s.black s.white → IsWithinTotals s.board (with_rest s s.black) s.white
+black-rest : (s : Layout) → IsWithinTotals s.board s.black s.white → IsWithinTotals s.board (with_rest s s.black) s.white
 black-rest s w = record {
   squares = w.squares;
   black_kinds = refl;
@@ -162,7 +163,7 @@ white-total s w Horse = omega (arith, w.totals Horse, total-same s.board s.black
 white-total s w Dragon = omega (arith, w.totals Dragon, total-same s.board s.black s.white Rook Dragon refl)
 
 -- all that remains, in white's hand
-pub white-rest : (s : Layout) → IsWithinTotals s.board s.black s.white → IsWithinTotals s.board s.black (with_rest s s.white)
+white-rest : (s : Layout) → IsWithinTotals s.board s.black s.white → IsWithinTotals s.board s.black (with_rest s s.white)
 white-rest s w = record {
   squares = w.squares;
   black_kinds = w.black_kinds;
@@ -170,3 +171,119 @@ white-rest s w = record {
   totals = white-total s w;
   kings = w.kings;
 }
+
+no-add-fault : (late other full : Bool) → first_fault ((AfterRest, late) ∷ (NotForHand, other) ∷ (TooMany, full) ∷ []) ≡ None → (other ≡ false) × (full ≡ false)
+no-add-fault true other full h = absurd (cc)
+no-add-fault false true full h = absurd (cc)
+no-add-fault false false true h = absurd (cc)
+no-add-fault false false false h = (refl, refl)
+
+not-false : (b : Bool) → not b ≡ false → b ≡ true
+not-false true h = refl
+not-false false h = cc
+
+-- where a piece may be added to a hand it is of a kind for hands, and there is room for it
+hand-room : (s : Layout) (kind : Kind) → add_fault s kind ≡ None → (is_hand_kind kind ≡ true) × (total s.board s.black s.white kind < limit kind)
+hand-room s kind h = let e = no-add-fault _ _ _ h in (not-false _ e.0, room-test _ _ e.1)
+
+hand-place : (k : Kind) → is_hand_kind k ≡ true → place_of k < 7
+hand-place Pawn h = omega arith
+hand-place Lance h = omega arith
+hand-place Knight h = omega arith
+hand-place Silver h = omega arith
+hand-place Gold h = omega arith
+hand-place Bishop h = omega arith
+hand-place Rook h = omega arith
+hand-place King h = absurd (cc)
+hand-place ProPawn h = absurd (cc)
+hand-place ProLance h = absurd (cc)
+hand-place ProKnight h = absurd (cc)
+hand-place ProSilver h = absurd (cc)
+hand-place Horse h = absurd (cc)
+hand-place Dragon h = absurd (cc)
+
+bag-more : (bag : List ℕ) (i j n : ℕ) → i < length bag → n ≡ get_or bag i 0 + 1 → (get_or (set bag i n) j 0 ≡ get_or bag j 0) ⊎ ((j ≡ i) × (get_or (set bag i n) j 0 ≡ get_or bag j 0 + 1))
+bag-more bag i j n low e =
+    elim (cases_eq j i) [
+      | inl same ↦ inr (same, rw (same, get_or-set_same bag i n 0 low) e)
+      | inr differ ↦ inl (get_or-set_other bag i j n 0 differ)
+    ]
+
+-- one more of a kind in black's hand, or in white's
+black-more : (cells : Cells) (black white : List ℕ) (kind : Kind) → IsWithinTotals cells black white → is_hand_kind kind ≡ true → total cells black white kind < limit kind → IsWithinTotals cells (one_more black kind) white
+black-more cells black white kind w hand room =
+    let low = hand-place kind hand in
+    let long : place_of kind < length black = omega (arith, low, w.black_kinds) in
+    let n : ℕ = count_in black kind + 1 in
+    let one : n ≡ get_or black (place_of kind) 0 + 1 = rw hand refl in
+    record {
+      squares = w.squares;
+      black_kinds = rw length-set w.black_kinds;
+      white_kinds = w.white_kinds;
+      totals = λ k.
+          elim (bag-more black (place_of kind) (place_of k) n long one) [
+            | inl same ↦ omega (arith, same, w.totals k)
+            | inr (place, more) ↦ omega (arith, more, total-same cells black white k kind place, limit-same k kind place, room)
+          ];
+      kings = w.kings;
+    }
+
+white-more : (cells : Cells) (black white : List ℕ) (kind : Kind) → IsWithinTotals cells black white → is_hand_kind kind ≡ true → total cells black white kind < limit kind → IsWithinTotals cells black (one_more white kind)
+white-more cells black white kind w hand room =
+    let low = hand-place kind hand in
+    let long : place_of kind < length white = omega (arith, low, w.white_kinds) in
+    let n : ℕ = count_in white kind + 1 in
+    let one : n ≡ get_or white (place_of kind) 0 + 1 = rw hand refl in
+    record {
+      squares = w.squares;
+      black_kinds = w.black_kinds;
+      white_kinds = rw length-set w.white_kinds;
+      totals = λ k.
+          elim (bag-more white (place_of kind) (place_of k) n long one) [
+            | inl same ↦ omega (arith, same, w.totals k)
+            | inr (place, more) ↦ omega (arith, more, total-same cells black white k kind place, limit-same k kind place, room)
+          ];
+      kings = w.kings;
+    }
+
+-- one more of a kind in a hand
+pub more-within : (s : Layout) (color : Color) (kind : Kind) → HoldsLimits s → add_fault s kind ≡ None → HoldsLimits (with_hand s color (one_more (hand_of s color) kind))
+more-within s Black kind w h = let room = hand-room s kind h in black-more s.board s.black s.white kind w room.0 room.1
+more-within s White kind w h = let room = hand-room s kind h in white-more s.board s.black s.white kind w room.0 room.1
+
+bag-less : (bag : List ℕ) (i j n : ℕ) → n ≤ get_or bag i 0 → get_or (set bag i n) j 0 ≤ get_or bag j 0
+bag-less [] i j n h = omega arith
+bag-less (x ∷ bag) zero zero n h = h
+bag-less (x ∷ bag) zero (suc j) n h = omega arith
+bag-less (x ∷ bag) (suc i) zero n h = omega arith
+bag-less (x ∷ bag) (suc i) (suc j) n h = bag-less bag i j n h
+
+count-low : (bag : List ℕ) (kind : Kind) (b : Bool) → is_hand_kind kind ≡ b → count_in bag kind - 1 ≤ get_or bag (place_of kind) 0
+count-low bag kind true e = rw e (omega arith)
+count-low bag kind false e = rw e (omega arith)
+
+-- one less
+pub less-within : (s : Layout) (color : Color) (kind : Kind) → HoldsLimits s → HoldsLimits (with_hand s color (one_less (hand_of s color) kind))
+less-within s Black kind w = record {
+  squares = w.squares;
+  black_kinds = rw length-set w.black_kinds;
+  white_kinds = w.white_kinds;
+  totals = λ k.
+      let less = bag-less s.black (place_of kind) (place_of k) (count_in s.black kind - 1) (count-low s.black kind (is_hand_kind kind) refl) in
+      omega (arith, less, w.totals k);
+  kings = w.kings;
+}
+less-within s White kind w = record {
+  squares = w.squares;
+  black_kinds = w.black_kinds;
+  white_kinds = rw length-set w.white_kinds;
+  totals = λ k.
+      let less = bag-less s.white (place_of kind) (place_of k) (count_in s.white kind - 1) (count-low s.white kind (is_hand_kind kind) refl) in
+      omega (arith, less, w.totals k);
+  kings = w.kings;
+}
+
+-- all that remains
+pub rest-within : (s : Layout) (color : Color) → HoldsLimits s → HoldsLimits (with_hand s color (with_rest s (hand_of s color)))
+rest-within s Black w = black-rest s w
+rest-within s White w = white-rest s w

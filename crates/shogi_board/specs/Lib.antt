@@ -4,6 +4,7 @@ pub mod Cells
 pub mod Changes
 pub mod Danger
 pub mod Kings
+pub mod Landmarks
 pub mod Layout
 pub mod Moved
 pub mod Moves

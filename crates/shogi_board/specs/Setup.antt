@@ -12,7 +12,7 @@ use Rattle.shogi_board.specs.Layout.{Layout}
 use Rattle.shogi_board.specs.Pieces.{is_hand_kind, is_king, same_kind, place_of}
 use Rattle.shogi_board.specs.Placed.{Placed}
 use Rattle.shogi_board.specs.Squares.{place}
-use Rattle.shogi_board.specs.Totals.{total, limit, kings_of, count_in, hand_kinds, no_pieces}
+use Rattle.shogi_board.specs.Totals.{total, limit, kings_of, count_in, hand_kinds, no_pieces, IsWithinTotals}
 
 abbrev pub empty_layout : Layout
 empty_layout = record { board = no_cells; black = no_pieces; white = no_pieces; rest_given = false }
@@ -49,6 +49,10 @@ hand_of s White = s.white
 abbrev pub with_hand : Layout → Color → List ℕ → Layout
 with_hand s Black bag = record s { black = bag }
 with_hand s White bag = record s { white = bag }
+
+-- the totals hold
+abbrev pub HoldsLimits : Layout → Type 0
+HoldsLimits s = IsWithinTotals s.board s.black s.white
 
 -- why a piece may not be placed
 abbrev pub place_fault : Layout → Color → Square → Kind → Option SetupFault

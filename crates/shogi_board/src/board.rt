@@ -1,8 +1,9 @@
-ghost use Rattle.std.specs.Prelude.{◌≡◌, ◌≤◌, ◌<◌, ◌↔◌, ◌⊎◌, Any, IsTrue, MatchOption, Some, count_by, slice_set, length};
+ghost use Rattle.std.specs.Prelude.{◌≡◌, ◌≤◌, ◌<◌, ◌↔◌, ◌⊎◌, Any, IsTrue, MatchOption, None, Some, count_by, slice_set, length};
 ghost use Rattle.shogi_board.specs.Cells.{at, piece, even_cells, no_cells, HasPawnOnFile};
 ghost use Rattle.shogi_board.specs.Danger.{ComesFrom, SeenTowards};
 ghost use Rattle.shogi_board.specs.Attackers.{AttackAcross, AttackInSight, IsAttackedByJump, IsAttackedInLine};
 ghost use Rattle.shogi_board.specs.Kings.{IsKingOf};
+ghost use Rattle.shogi_board.specs.Landmarks.{AreLandmarks};
 ghost use Rattle.shogi_board.specs.Moves.{steps, turned_for, Goes, IsNear, IsRay};
 ghost use Rattle.shogi_board.specs.Pieces.{opponent};
 ghost use Rattle.shogi_board.specs.Reach.{Reach, Attack, Attacked, InCheck, IsClear, Slides, Steps};
@@ -17,46 +18,78 @@ use crate::danger::Danger;
 use crate::direction::{Direction, jumps, neighbours};
 use crate::even::even_cells;
 use crate::kind::{Kind, Piece};
+use crate::landmarks::{Landmarks, is_king_of};
 use crate::square::Square;
 use std::marker::Model;
 
-// What stands on the squares.
-#[derive(Clone, Copy, Debug, PartialEq, Eq, PartialOrd, Ord)]
+// What stands on the squares, and the landmarks of both sides.
+//
+// Each side has one king at most.
+#[derive(Clone, Copy, Debug)]
+#[derive_where(PartialEq, Eq, PartialOrd, Ord)]
 pub struct Board {
     // in the order of the squares
     cells: [Option<Piece>; 81],
+    #[derive_where(skip(EqHashOrd))]
+    black: Landmarks,
+    #[derive_where(skip(EqHashOrd))]
+    white: Landmarks,
 }
 
 impl Model for Board {
     ghost use Rattle.std.specs.Prelude.{List, Option};
+    ghost use Rattle.shogi_board.specs.Landmarks.{landmarks_of, HasLandmarks};
+    ghost use Rattle.shogi_board.specs.declared.color.Color.TheVariants.{Black, White};
     ghost use Rattle.shogi_board.specs.declared.kind.Piece.{Piece};
 
     ghost Value = { List (Option Piece) };
 
     ghost view = { λ b. b.cells };
 
-    ghost inverse = { λ d. record { cells = d } };
+    ghost invariant = { λ b. HasLandmarks b.cells b.black b.white };
+
+    ghost inverse = { λ d. record { cells = d; black = landmarks_of d Black; white = landmarks_of d White } };
+
+    ghost inverse_ok = { λ b h i. record { cells = b.cells; black = h.black_marks i; white = h.white_marks i } };
 }
 
 impl Board {
     pub(crate) fn empty() -> Board
         ensures { result ≡ no_cells }
     {
-        Board { cells: [None; 81] }
+        Board::of([None; 81])
     }
 
     pub(crate) fn even() -> Board
         ensures { result ≡ even_cells }
     {
-        Board {
-            cells: even_cells(),
-        }
+        Board::of(even_cells())
     }
 
     pub(crate) fn of(cells: [Option<Piece>; 81]) -> Board
+        requires { (color : Color) → kings_of cells color ≤ 1 }
         ensures { result ≡ cells }
     {
-        Board { cells }
+        let black = Landmarks::of(&cells, Color::Black);
+        let white = Landmarks::of(&cells, Color::White);
+        Board {
+            cells,
+            black,
+            white,
+        }
+    }
+
+    // The landmarks of that side, which has at most one king.
+    #[inline(always)]
+    fn landmarks(&self, color: Color) -> Landmarks
+        ensures marks { AreLandmarks self.now color result }
+        ensures one { kings_of self.now color ≤ 1 }
+        ensures whole { length self.now ≡ 81 }
+    {
+        match color {
+            Color::Black => self.black,
+            Color::White => self.white,
+        }
     }
 
     pub(crate) fn cells(&self) -> &[Option<Piece>]
@@ -71,10 +104,45 @@ impl Board {
         self.cells[square.place()]
     }
 
+    // Has another cell stand on the square.
+    #[inline(always)]
     pub(crate) fn put(&mut self, square: Square, cell: Option<Piece>)
+        requires { (color : Color) → kings_of (slice_set self.old (place square) cell) color ≤ 1 }
         ensures { self.new ≡ slice_set self.old (place square) cell }
     {
-        self.cells[square.place()] = cell;
+        self.clear(square);
+        if let Some(piece) = cell {
+            self.stand(square, piece);
+        }
+    }
+
+    // Empties the square.
+    #[inline(always)]
+    fn clear(&mut self, square: Square)
+        ensures { self.new ≡ slice_set self.old (place square) None }
+    {
+        let Some(piece) = self.cells[square.place()] else {
+            return;
+        };
+        self.cells[square.place()] = None;
+        match piece.color {
+            Color::Black => self.black.lose(piece.kind, square),
+            Color::White => self.white.lose(piece.kind, square),
+        }
+    }
+
+    // Has the piece stand on the square, which is empty.
+    #[inline(always)]
+    fn stand(&mut self, square: Square, piece: Piece)
+        requires empty { at self.old square ≡ None }
+        requires one_king { (color : Color) → kings_of (slice_set self.old (place square) (Some piece)) color ≤ 1 }
+        ensures { self.new ≡ slice_set self.old (place square) (Some piece) }
+    {
+        self.cells[square.place()] = Some(piece);
+        match piece.color {
+            Color::Black => self.black.gain(piece.kind, square),
+            Color::White => self.white.gain(piece.kind, square),
+        }
     }
 
     // How many pieces of that kind stand, promoted ones counted with their unpromoted kind.
@@ -103,30 +171,20 @@ impl Board {
         }
     }
 
-    // The square of the king of that side, the first in order.
+    // The square of the king of that side, if it has one. It has at most one.
+    #[inline(always)]
     pub(crate) fn king(&self, color: Color) -> Option<Square>
-        ensures { MatchOption result
-            ((s : Square) → at self.now s ≡ piece color King → ⊥)
-            (λ s. at self.now s ≡ piece color King) }
+        ensures king { IsKingOf self.now color result }
+        ensures one { kings_of self.now color ≤ 1 }
+        ensures whole { length self.now ≡ 81 }
     {
-        for n in 0..81usize {
-            if is_king_of(self.cells[n], color) {
-                return Some(Square::at_place(n));
-            }
-        }
-        None
+        self.landmarks(color).king
     }
 
     pub(crate) fn has_pawn_on_file(&self, color: Color, square: Square) -> bool
         ensures { IsTrue result ↔ HasPawnOnFile self.now color square }
     {
-        let first = (square.file() as usize - 1) * 9;
-        for rank in 0..9usize {
-            if is_pawn_of(self.cells[first + rank], color) {
-                return true;
-            }
-        }
-        false
+        self.landmarks(color).has_pawn_on_file(square)
     }
 
     #[inline(always)]
@@ -288,33 +346,20 @@ impl Board {
         }
     }
 
-    // Whether that side has a king and it is attacked. It has at most one.
+    // Whether that side has a king and it is attacked.
     pub(crate) fn in_check(&self, color: Color) -> bool
-        requires squares { length self.now ≡ 81 }
-        requires one_king { kings_of self.now color ≤ 1 }
+        ensures { IsTrue result ↔ InCheck self.now color }
+    {
+        self.king_is_attacked(color, Danger::Anywhere)
+    }
+
+    // The same, where it is known where such an attack may come from.
+    #[inline(always)]
+    pub(crate) fn king_is_attacked(&self, color: Color, danger: Danger) -> bool
+        requires { (s : Square) → at self.now s ≡ piece color King → ComesFrom self.now color s danger }
         ensures { IsTrue result ↔ InCheck self.now color }
     {
         match self.king(color) {
-            Some(king) => self.attacked(color, king),
-            None => false,
-        }
-    }
-
-    // Whether that side's king, which stands there if it has one, is attacked.
-    #[inline(always)]
-    pub(crate) fn king_is_attacked(
-        &self,
-        color: Color,
-        king: Option<Square>,
-        danger: Danger,
-    ) -> bool
-        requires squares { length self.now ≡ 81 }
-        requires one_king { kings_of self.now color ≤ 1 }
-        requires king { IsKingOf self.now color king }
-        requires danger { (s : Square) → king ≡ Some s → ComesFrom self.now color s danger }
-        ensures { IsTrue result ↔ InCheck self.now color }
-    {
-        match king {
             Some(king) => self.attacked_from(color, king, danger),
             None => false,
         }
@@ -354,24 +399,6 @@ fn is_of(cell: Option<Piece>, kind: Kind) -> bool
 {
     match cell {
         Some(piece) => piece.kind.place() == kind.place(),
-        None => false,
-    }
-}
-
-fn is_king_of(cell: Option<Piece>, color: Color) -> bool
-    ensures { result ≡ is_king_of color cell }
-{
-    match cell {
-        Some(piece) => piece.color == color && piece.kind == Kind::King,
-        None => false,
-    }
-}
-
-fn is_pawn_of(cell: Option<Piece>, color: Color) -> bool
-    ensures { IsTrue result ↔ (cell ≡ piece color Pawn) }
-{
-    match cell {
-        Some(piece) => piece.color == color && piece.kind == Kind::Pawn,
         None => false,
     }
 }

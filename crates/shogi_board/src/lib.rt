@@ -9,6 +9,7 @@ mod direction;
 mod even;
 mod hand;
 mod kind;
+mod landmarks;
 pub mod laws;
 mod memory;
 mod moving;

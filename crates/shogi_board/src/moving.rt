@@ -1,7 +1,6 @@
 ghost use Rattle.std.specs.Prelude.{◌≡◌, ◌≢◌, ◌<◌, ◌≤◌, ◌↔◌, IsTrue, true, false, Some, None};
-ghost use Rattle.shogi_board.specs.Cells.{at};
+ghost use Rattle.shogi_board.specs.Cells.{at, piece};
 ghost use Rattle.shogi_board.specs.Danger.{ComesFrom};
-ghost use Rattle.shogi_board.specs.Kings.{IsKingOf};
 ghost use Rattle.shogi_board.specs.Moved.{walked, dropped, with_captured, HoldsTotals};
 ghost use Rattle.shogi_board.specs.Pieces.{is_hand_kind, unpromoted};
 ghost use Rattle.shogi_board.specs.Placed.{bag_of};
@@ -9,6 +8,7 @@ ghost use Rattle.shogi_board.specs.Reach.{InCheck};
 ghost use Rattle.shogi_board.specs.Setup.{one_less};
 ghost use Rattle.shogi_board.specs.Squares.{place};
 ghost use Rattle.shogi_board.specs.Totals.{count_in};
+ghost use Rattle.shogi_board.specs.declared.kind.Kind.TheVariants.{King};
 ghost use Rattle.shogi_board.specs.declared.kind.Piece.{Piece};
 ghost use Rattle.shogi_board.specs.declared.square.Square.{Square};
 
@@ -24,22 +24,13 @@ impl Position {
     /// on `to` goes to the mover's hand, unpromoted. Says whether the mover's king is not attacked then; where it is, the
     /// position stays as it was.
     ///
-    /// The king is the square of the mover's king after the walk, or None where the mover has none, and the danger says
-    /// where that king may be attacked from. To be called with two squares, where no king is captured and no more pieces
-    /// stand then than a game has.
-    pub fn walk(
-        &mut self,
-        from: Square,
-        to: Square,
-        kind: Kind,
-        king: Option<Square>,
-        danger: Danger,
-    ) -> bool
+    /// The danger says where the mover's king may be attacked from after the walk. To be called with two squares, where no
+    /// king is captured and no more pieces stand then than a game has.
+    pub fn walk(&mut self, from: Square, to: Square, kind: Kind, danger: Danger) -> bool
         requires apart { place from ≢ place to }
         requires totals { HoldsTotals (walked self.old from to kind) }
         requires captured { (x : Piece) → at self.old.board to ≡ Some x → is_hand_kind (unpromoted x.kind) ≡ true }
-        requires king { IsKingOf (walked self.old from to kind).board self.old.side king }
-        requires danger { (s : Square) → king ≡ Some s → ComesFrom (walked self.old from to kind).board self.old.side s danger }
+        requires danger { (s : Square) → at (walked self.old from to kind).board s ≡ piece self.old.side King → ComesFrom (walked self.old from to kind).board self.old.side s danger }
         ensures answer { IsTrue result ↔ (InCheck (walked self.old from to kind).board self.old.side → ⊥) }
         ensures value { result ≡ true → self.new ≡ walked self.old from to kind }
         ensures unchanged { result ≡ false → self.new ≡ self.old }
@@ -49,7 +40,7 @@ impl Position {
         let captured = self.board.at(to);
         self.board.put(from, None);
         self.board.put(to, Some(Piece { color: side, kind }));
-        if self.board.king_is_attacked(side, king, danger) {
+        if self.board.king_is_attacked(side, danger) {
             self.board.put(to, captured);
             self.board.put(from, was);
             return false;
@@ -65,27 +56,20 @@ impl Position {
     /// Has the side to move put a piece of that kind from its hand on the square, and has the other side to move. Says
     /// whether the mover's king is not attacked then; where it is, the position stays as it was.
     ///
-    /// The king and the danger are as in `walk`. To be called where the hand holds such a piece, the square is empty, and no
-    /// more pieces stand then than a game has.
-    pub fn drop_piece(
-        &mut self,
-        to: Square,
-        kind: Kind,
-        king: Option<Square>,
-        danger: Danger,
-    ) -> bool
+    /// The danger is as in `walk`. To be called where the hand holds such a piece, the square is empty, and no more pieces
+    /// stand then than a game has.
+    pub fn drop_piece(&mut self, to: Square, kind: Kind, danger: Danger) -> bool
         requires held { 0 < count_in (bag_of self.old self.old.side) kind }
         requires empty { at self.old.board to ≡ None }
         requires totals { HoldsTotals (dropped self.old to kind) }
-        requires king { IsKingOf (dropped self.old to kind).board self.old.side king }
-        requires danger { (s : Square) → king ≡ Some s → ComesFrom (dropped self.old to kind).board self.old.side s danger }
+        requires danger { (s : Square) → at (dropped self.old to kind).board s ≡ piece self.old.side King → ComesFrom (dropped self.old to kind).board self.old.side s danger }
         ensures answer { IsTrue result ↔ (InCheck (dropped self.old to kind).board self.old.side → ⊥) }
         ensures value { result ≡ true → self.new ≡ dropped self.old to kind }
         ensures unchanged { result ≡ false → self.new ≡ self.old }
     {
         let side = self.side;
         self.board.put(to, Some(Piece { color: side, kind }));
-        if self.board.king_is_attacked(side, king, danger) {
+        if self.board.king_is_attacked(side, danger) {
             self.board.put(to, None);
             return false;
         }

@@ -98,6 +98,8 @@ impl Packed {
     pub fn unpacked(&self) -> Position
         ensures { result ≡ self.now }
     {
+        // a clause of `side` says that the position is sound
+        let _side = self.side();
         Position {
             board: Board::of(self.cells()),
             black: hand_of(self.black),

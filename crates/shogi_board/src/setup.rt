@@ -3,7 +3,7 @@ ghost use Rattle.shogi_board.specs.Pieces.{opponent};
 ghost use Rattle.shogi_board.specs.Sound.{IsSound};
 ghost use Rattle.shogi_board.specs.Totals.{total, limit, IsWithinTotals};
 ghost use Rattle.shogi_board.specs.Reach.{InCheck};
-ghost use Rattle.shogi_board.specs.Setup.{empty_layout, even_layout, position_of, is_full, place_fault, placed, add_fault, take_off_fault, taken_off, take_hand_fault, rest_fault, with_rest, count_with_rest, with_hand, hand_of, rest_to, one_more, one_less};
+ghost use Rattle.shogi_board.specs.Setup.{empty_layout, even_layout, position_of, is_full, place_fault, placed, add_fault, take_off_fault, taken_off, take_hand_fault, rest_fault, with_rest, count_with_rest, with_hand, hand_of, rest_to, one_more, one_less, HoldsLimits};
 ghost use Rattle.shogi_board.specs.declared.setup.SetupFault.TheVariants.{OpponentInCheck};
 
 use crate::board::Board;
@@ -153,11 +153,9 @@ impl Setup {
         requires { add_fault self.old kind ≡ None }
         ensures { self.new ≡ with_hand self.old color (one_more (hand_of self.old color) kind) }
     {
-        let count = self.hand(color).count(kind);
-        match color {
-            Color::Black => self.black.set(kind, count + 1),
-            Color::White => self.white.set(kind, count + 1),
-        }
+        let mut hand = self.hand(color);
+        hand.set(kind, hand.count(kind) + 1);
+        self.set_hand(color, hand);
     }
 
     /// Takes the piece of that kind, of either side, off the square.
@@ -215,11 +213,9 @@ impl Setup {
         requires { take_hand_fault self.old color kind ≡ None }
         ensures { self.new ≡ with_hand self.old color (one_less (hand_of self.old color) kind) }
     {
-        let count = self.hand(color).count(kind);
-        match color {
-            Color::Black => self.black.set(kind, count - 1),
-            Color::White => self.white.set(kind, count - 1),
-        }
+        let mut hand = self.hand(color);
+        hand.set(kind, hand.count(kind) - 1);
+        self.set_hand(color, hand);
     }
 
     /// Gives all pieces that are neither placed nor in a hand to the hand of that side, kings not.
@@ -236,10 +232,7 @@ impl Setup {
             return Err(SetupFault::AfterRest);
         }
         let hand = self.hand_with_rest(color);
-        match color {
-            Color::Black => self.black = hand,
-            Color::White => self.white = hand,
-        }
+        self.set_hand(color, hand);
         self.rest_given = true;
         Ok(())
     }
@@ -275,11 +268,22 @@ impl Setup {
     }
 
     fn hand(&self, color: Color) -> Hand
-        ensures { result ≡ hand_of self.now color }
+        ensures value { result ≡ hand_of self.now color }
+        ensures within { HoldsLimits self.now }
     {
         match color {
             Color::Black => self.black,
             Color::White => self.white,
+        }
+    }
+
+    fn set_hand(&mut self, color: Color, hand: Hand)
+        requires { HoldsLimits (with_hand self.old color hand) }
+        ensures { self.new ≡ with_hand self.old color hand }
+    {
+        match color {
+            Color::Black => self.black = hand,
+            Color::White => self.white = hand,
         }
     }
 

@@ -1,10 +1,11 @@
 -- One position more among those that are counted and linked.
-use Rattle.std.proofs.Common.{◌≡◌, ◌≢◌, ℕ, set, get_or-set_same, get_or-set_other, suc, ◌+◌, ◌<◌, ◌≤◌, List, [], ◌∷◌, ◌++◌, Bool, true, false, cond, Some, get_or, take, slice_get, arith, refl, sym, ap, ◌∙◌, length, length-set, replicate, inl, inr, subst, zero}
+use Rattle.std.proofs.Common.{◌≡◌, ◌≢◌, ◌↔◌, IsTrue, ℕ, set, get_or-set_same, get_or-set_other, suc, ◌+◌, ◌<◌, ◌≤◌, List, [], ◌∷◌, ◌++◌, Bool, true, false, cond, Some, get_or, take, slice_get, arith, refl, sym, ap, ◌∙◌, length, length-set, replicate, inl, inr, subst, zero}
 use Rattle.std.proofs.lemmas.Bool.{cases_lt}
 use Rattle.std.proofs.lemmas.List.{take-append-le, take_all, length-append, length-replicate, get_or-replicate}
 use Rattle.std.proofs.lemmas.List.Sums.{count_by_more_no}
 use Rattle.std.proofs.lemmas.Option.{get_or_from_slice_get, slice_get_within}
 use Rattle.shogi_board.specs.Placed.{Placed}
+use Rattle.shogi_board.specs.Reach.{InCheck}
 use Rattle.shogi_board.specs.Same.{same_position}
 use Rattle.shogi_board.proofs.Same.{position-same}
 use Rattle.shogi_rules.specs.Repetition.{times}
@@ -132,14 +133,16 @@ some-link k l e = cc
 link-kept : (ps : List Placed) (x : Placed) (i : ℕ) (p : Placed) (link : Link) → i < length ps → IsLink ps i p link → IsLink (ps ++ x ∷ []) i p link
 link-kept ps x i p link h is = record {
   count = is.count ∙ sym (times-kept ps x (i + 1) p (omega (arith, h)));
+  check = is.check;
   earlier = λ q same. leads-kept ps x i q link.earlier (omega (arith, h)) (is.earlier q same);
 }
 
-link-last : (ps : List Placed) (p : Placed) (link : Link) → link.count ≡ times ps p + 1 → ((q : Placed) → chain_of q ≡ chain_of p → Leads ps (length ps) q link.earlier) → IsLink (ps ++ p ∷ []) (length ps) p link
-link-last ps p link counted leads = record {
+link-last : (ps : List Placed) (p : Placed) (link : Link) → link.count ≡ times ps p + 1 → (IsTrue link.in_check ↔ InCheck p.board p.side) → ((q : Placed) → chain_of q ≡ chain_of p → Leads ps (length ps) q link.earlier) → IsLink (ps ++ p ∷ []) (length ps) p link
+link-last ps p link counted checked leads = record {
   count =
       let long = long-more ps p in
       counted ∙ (sym (times-last ps p) ∙ sym (times-whole (ps ++ p ∷ []) (length ps + 1) p (omega (arith, long))));
+  check = checked;
   earlier = λ q same. leads-kept ps p (length ps) q link.earlier (omega arith) (leads q same);
 }
 
@@ -149,8 +152,8 @@ link-at-last ps links p q link x i long e is at beside =
     let two : link ≡ x = some-link link x (sym (get-behind links link i (omega (arith, e, long))) ∙ beside) in
     subst (λ (n : ℕ). IsLink (ps ++ p ∷ []) n q x) (sym e) (subst (λ (l : Link). IsLink (ps ++ p ∷ []) (length ps) q l) two (subst (λ (r : Placed). IsLink (ps ++ p ∷ []) (length ps) r link) one is))
 
-linked-pushed : (ps : List Placed) (links : List Link) (heads : List ℕ) (p : Placed) (link : Link) → AreLinked ps links heads → link.count ≡ times ps p + 1 → ((q : Placed) → chain_of q ≡ chain_of p → Leads ps (length ps) q link.earlier) → AreLinked (ps ++ p ∷ []) (links ++ link ∷ []) (set heads (chain_of p) (length ps + 1))
-linked-pushed ps links heads p link old counted leads = record {
+linked-pushed : (ps : List Placed) (links : List Link) (heads : List ℕ) (p : Placed) (link : Link) → AreLinked ps links heads → link.count ≡ times ps p + 1 → (IsTrue link.in_check ↔ InCheck p.board p.side) → ((q : Placed) → chain_of q ≡ chain_of p → Leads ps (length ps) q link.earlier) → AreLinked (ps ++ p ∷ []) (links ++ link ∷ []) (set heads (chain_of p) (length ps + 1))
+linked-pushed ps links heads p link old counted checked leads = record {
   long =
       let a = length-append links (link ∷ []) in
       let b = long-more ps p in
@@ -165,7 +168,7 @@ linked-pushed ps links heads p link old counted leads = record {
         | inr le ↦
             let within = slice_get_within (ps ++ p ∷ []) i q at in
             let long = long-more ps p in
-            link-at-last ps links p q link x i old.long (omega (arith, le, within, long)) (link-last ps p link counted leads) at beside
+            link-at-last ps links p q link x i old.long (omega (arith, le, within, long)) (link-last ps p link counted checked leads) at beside
       ];
   found = λ q. found-more ps heads p q old.wide (old.found q);
 }
@@ -193,10 +196,10 @@ walk-ends ps links m q p link n i old led e at beside same =
     (old.each i p link at beside).count ∙ (ap (λ (x : Placed). times (take (i + 1) ps) x) one ∙ (all ∙ times-whole ps (length ps) q (omega arith)))
 
 -- the same by what the code has found
-pub linked-more : (ps : List Placed) (links : List Link) (heads : List ℕ) (p : Placed) (key n count earlier : ℕ) → AreLinked ps links heads → key ≡ chain_of p → n ≡ length ps + 1 → count ≡ times ps p → ((q : Placed) → chain_of q ≡ key → Leads ps (length ps) q earlier) → AreLinked (ps ++ p ∷ []) (links ++ record { count = count + 1; earlier = earlier } ∷ []) (set heads key n)
-linked-more ps links heads p key n count earlier old same long counted leads =
+pub linked-more : (ps : List Placed) (links : List Link) (heads : List ℕ) (p : Placed) (key n count earlier : ℕ) (b : Bool) → AreLinked ps links heads → key ≡ chain_of p → n ≡ length ps + 1 → count ≡ times ps p → (IsTrue b ↔ InCheck p.board p.side) → ((q : Placed) → chain_of q ≡ key → Leads ps (length ps) q earlier) → AreLinked (ps ++ p ∷ []) (links ++ record { count = count + 1; in_check = b; earlier = earlier } ∷ []) (set heads key n)
+linked-more ps links heads p key n count earlier b old same long counted checked leads =
     rw (same, long)
-    (linked-pushed ps links heads p (record { count = count + 1; earlier = earlier }) old (ap (λ (k : ℕ). k + 1) counted)
+    (linked-pushed ps links heads p (record { count = count + 1; in_check = b; earlier = earlier }) old (ap (λ (k : ℕ). k + 1) counted) checked
     (λ q e. leads q (e ∙ sym same)))
 
 -- with no position each chain is empty
@@ -209,3 +212,7 @@ none-linked heads n wide all = record {
       let none : get_or heads (chain_of q) 0 ≡ 0 = rw all (get_or-replicate n (chain_of q) 0 0 (rw wide (chain-low q))) in
       record { low = omega (arith, none); all = rw none refl; chain = λ i p e at. cc };
 }
+
+-- what the link of a position says of check
+pub check-linked : (ps : List Placed) (links : List Link) (heads : List ℕ) (i : ℕ) (p : Placed) (link : Link) → AreLinked ps links heads → slice_get ps i ≡ Some p → slice_get links i ≡ Some link → IsTrue link.in_check ↔ InCheck p.board p.side
+check-linked ps links heads i p link old at beside = (old.each i p link at beside).check

@@ -1,3 +1,4 @@
+pub mod AfterMove
 pub mod Alone
 pub mod Broken
 pub mod Checks
@@ -12,7 +13,6 @@ pub mod Games
 pub mod Kept
 pub mod LastRanks
 pub mod Layouts
-pub mod MovedKings
 pub mod Once
 pub mod Opened
 pub mod Places

@@ -23,10 +23,8 @@ use Rattle.shogi_rules.specs.Legal.{kind_after, source, target}
 use Rattle.shogi_rules.specs.declared.moves.Move.{Move}
 use Rattle.shogi_rules.specs.declared.moves.Move.TheVariants.{Walk, Put}
 use Rattle.shogi_rules.proofs.Forms.{opponent-twice}
-use Rattle.shogi_rules.specs.LineKings.{IsOwnKing}
-use Rattle.shogi_rules.specs.declared.playing.OwnKing.{OwnKing}
 use Rattle.shogi_board.proofs.Check.{king_check}
-use Rattle.shogi_rules.proofs.MovedKings.{colors-same, held-before, kinds-same, not-none, not-opponent, on-target, some-same, walk-keeps}
+use Rattle.shogi_rules.proofs.AfterMove.{colors-same, held-before, kinds-same, not-none, not-opponent, on-target, some-same, walk-keeps}
 
 put-keeps : (p : Placed) (to : Square) (k : Kind) (s : Square) → place s ≢ place to → at (board_after p (Put to k)) s ≡ at p.board s
 put-keeps p to k s other = get_or-set_other p.board (place to) (place s) (piece p.side k) None other
@@ -153,19 +151,15 @@ pub nothing-left : (p : Placed) (m : Move) (a s : Square) → source m ≡ None 
 nothing-left p m a s none opened = let left = opened.1 in cc
 
 -- 3. Where an attack on the mover's king comes from
-said-safe : (b : Bool) → not b ≡ false → b ≡ true
-said-safe true e = refl
-said-safe false e = cc
-
-pub towards-danger : (p : Placed) (own : OwnKing) (m : Move) (from : Square) → IsSound p → IsOwnKing p own → not own.safe ≡ false → (kind_after m ≡ King → ⊥) → source m ≡ Some from
+pub towards-danger : (p : Placed) (safe : Bool) (m : Move) (from : Square) → IsSound p → (safe ≡ true → InCheck p.board p.side → ⊥) → safe ≡ true → (kind_after m ≡ King → ⊥) → source m ≡ Some from
     → (s : Square) → at (board_after p m) s ≡ piece p.side King → (a : Square) → Attack (board_after p m) p.side a s → SeenTowards (board_after p m) s from a
-towards-danger p own m from sound king safe still left s there a attack =
-    towards-left p m from a s left (own-opened p m a s sound (king.unattacked (said-safe own.safe safe)) still there attack)
+towards-danger p safe m from sound free said still left s there a attack =
+    towards-left p m from a s left (own-opened p m a s sound (free said) still there attack)
 
-pub no-danger : (p : Placed) (own : OwnKing) (m : Move) → IsSound p → IsOwnKing p own → not own.safe ≡ false → (kind_after m ≡ King → ⊥) → source m ≡ None
+pub no-danger : (p : Placed) (safe : Bool) (m : Move) → IsSound p → (safe ≡ true → InCheck p.board p.side → ⊥) → safe ≡ true → (kind_after m ≡ King → ⊥) → source m ≡ None
     → (s : Square) → at (board_after p m) s ≡ piece p.side King → Attacked (board_after p m) p.side s → ⊥
-no-danger p own m sound king safe still none s there attacked =
-    nothing-left p m attacked.0 s none (own-opened p m attacked.0 s sound (king.unattacked (said-safe own.safe safe)) still there attacked.1)
+no-danger p safe m sound free said still none s there attacked =
+    nothing-left p m attacked.0 s none (own-opened p m attacked.0 s sound (free said) still there attacked.1)
 
 -- 4. The other king
 -- it was not attacked before the move, for the position was sound

@@ -1,5 +1,6 @@
 -- What stands at a place of a list of positions, and who pressed.
 use Rattle.std.proofs.Common.{◌≡◌, ◌↔◌, ℕ, ◌+◌, ◌<◌, IsTrue, Bool, List, [], ◌∷◌, Some, length, get_or, slice_get, arith, ap, sym, ◌∙◌, zero, suc}
+use Rattle.std.proofs.lemmas.Option.{slice_get-get_or}
 use Rattle.shogi_board.specs.Placed.{Placed}
 use Rattle.shogi_board.specs.Reach.{InCheck}
 use Rattle.shogi_board.specs.declared.color.Color.{Color}
@@ -17,15 +18,14 @@ gets [] i x low e = absurd (omega arith)
 gets (y ∷ ys) zero x low e = ap Some (sym e)
 gets (y ∷ ys) (suc i) x low e = gets ys i x (omega arith) e
 
-pub pressed-at : (ps : List Placed) (place : ℕ) (color : Color) (x y : Placed) (b : Bool) → x ≡ get_or ps place x → y ≡ get_or ps (place + 1) y → place + 1 < length ps → x.side ≡ color → (IsTrue b ↔ InCheck y.board y.side) → IsTrue b ↔ PressedAt ps color place
-pressed-at ps place color x y b ex ey low side d = (
-  λ h p q hp hq s.
-      let e : y ≡ q = ey ∙ got ps (place + 1) y q hq in
-      let k : InCheck y.board y.side = d.0 h in
-      let r : InCheck q.board q.side = rw e at k in
-      r,
-  λ all. d.1 (all x y (gets ps place x (omega arith) ex) (gets ps (place + 1) y low ey) side),
-)
+-- whether the side moved from the place gave check, by what is known of the position behind it
+pub pressed-at : (ps : List Placed) (place : ℕ) (color : Color) (x : Placed) (b : Bool) → ((d : Placed) → x ≡ get_or ps place d) → place + 1 < length ps → x.side ≡ color
+    → ((q : Placed) → slice_get ps (place + 1) ≡ Some q → IsTrue b ↔ InCheck q.board q.side) → IsTrue b ↔ PressedAt ps color place
+pressed-at ps place color x b here low side d =
+    let behind = slice_get-get_or ps (place + 1) x low in (
+      λ h p q hp hq s. (d q hq).0 h,
+      λ all. (d (get_or ps (place + 1) x) behind).1 (all x (get_or ps (place + 1) x) (gets ps place x (omega arith) (here x)) behind side),
+    )
 
 -- where both pressed, or neither did, nobody pressed alone
 pub nobody-alone : (ps : List Placed) (first fourth : ℕ) (b w : Bool) → (IsTrue b ↔ Pressed ps first fourth Black) → (IsTrue w ↔ Pressed ps first fourth White) → b ≡ w → (color : Color) → PressedAlone ps first fourth color → ⊥

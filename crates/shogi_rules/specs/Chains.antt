@@ -1,7 +1,8 @@
 -- Positions and how often they stand, found fast by a number that equal positions share.
-use Rattle.std.specs.Prelude.{◌≡◌, ℕ, ◌+◌, ◌%◌, ◌≤◌, List, Some, length, take, slice_get, slice_index_or}
+use Rattle.std.specs.Prelude.{◌≡◌, ◌↔◌, IsTrue, ℕ, ◌+◌, ◌%◌, ◌≤◌, List, Some, length, take, slice_get, slice_index_or}
 use Rattle.shogi_board.specs.Packing.{key_of}
 use Rattle.shogi_board.specs.Placed.{Placed}
+use Rattle.shogi_board.specs.Reach.{InCheck}
 use Rattle.shogi_rules.specs.Repetition.{times}
 use Rattle.shogi_rules.specs.declared.seen.Link.{Link}
 
@@ -19,9 +20,11 @@ pub record Leads (ps : List Placed) (n : ℕ) (q : Placed) (m : ℕ) : Type 0 wh
   pub all : times (take m ps) q ≡ times (take n ps) q
   pub chain : (i : ℕ) (p : Placed) → m ≡ i + 1 → slice_get ps i ≡ Some p → chain_of p ≡ chain_of q
 
--- the link has how often the position at that place stands up to there, and leads to those before it
+-- the link has how often the position at that place stands up to there and whether its side to move is in check, and leads
+-- to those before it
 pub record IsLink (ps : List Placed) (i : ℕ) (p : Placed) (link : Link) : Type 0 where
   pub count : link.count ≡ times (take (i + 1) ps) p
+  pub check : IsTrue link.in_check ↔ InCheck p.board p.side
   pub earlier : (q : Placed) → chain_of q ≡ chain_of p → Leads ps i q link.earlier
 
 -- a link stands beside each position, and the head of its chain leads to each position

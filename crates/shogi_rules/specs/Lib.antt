@@ -4,7 +4,6 @@ pub mod Changes
 pub mod Evasions
 pub mod Kinds
 pub mod Legal
-pub mod LineKings
 pub mod Order
 pub mod Play
 pub mod Positions

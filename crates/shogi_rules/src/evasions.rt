@@ -41,11 +41,10 @@ fn has_evasion(position: &Position, king: Square, checker: Square) -> bool
 
 // Whether a walk of the king keeps the rules 3 to 10.
 fn king_escapes(position: &Position, king: Square) -> bool
-    requires { at position.now.board king ≡ piece position.now.side King }
     ensures { IsTrue result ↔ ((to : Square) × (kind : Kind) × Keeps position.now (Move.Walk king to kind)) }
 {
     for n in 0..81usize {
-        if keeps_walk(position, king, king, Square::at_place(n)) {
+        if keeps_walk(position, king, Square::at_place(n)) {
             return true;
         }
     }
@@ -54,7 +53,6 @@ fn king_escapes(position: &Position, king: Square) -> bool
 
 // Whether a move that captures the checking piece, or puts a piece between, keeps the rules 3 to 10.
 fn can_stop_check(position: &Position, king: Square, checker: Square) -> bool
-    requires { at position.now.board king ≡ piece position.now.side King }
     ensures { IsTrue result ↔ ((m : Move) × StopsCheck checker king (target m) × Keeps position.now m) }
 {
     for n in 0..81usize {
@@ -67,10 +65,9 @@ fn can_stop_check(position: &Position, king: Square, checker: Square) -> bool
 
 // The same of the moves to one square.
 fn can_stop_on(position: &Position, king: Square, checker: Square, to: Square) -> bool
-    requires { at position.now.board king ≡ piece position.now.side King }
     ensures { IsTrue result ↔ ((m : Move) × (target m ≡ to) × StopsCheck checker king to × Keeps position.now m) }
 {
-    stops_check(checker, king, to) && has_kept_move_to(position, king, to)
+    stops_check(checker, king, to) && has_kept_move_to(position, to)
 }
 
 fn stops_check(checker: Square, king: Square, to: Square) -> bool
@@ -79,32 +76,29 @@ fn stops_check(checker: Square, king: Square, to: Square) -> bool
     to == checker || to.lies_between(checker, king)
 }
 
-fn has_kept_move_to(position: &Position, king: Square, to: Square) -> bool
-    requires { at position.now.board king ≡ piece position.now.side King }
+fn has_kept_move_to(position: &Position, to: Square) -> bool
     ensures { IsTrue result ↔ ((m : Move) × (target m ≡ to) × Keeps position.now m) }
 {
-    has_kept_walk_to(position, king, to) || has_kept_drop_on(position, king, to)
+    has_kept_walk_to(position, to) || has_kept_drop_on(position, to)
 }
 
-fn has_kept_walk_to(position: &Position, king: Square, to: Square) -> bool
-    requires { at position.now.board king ≡ piece position.now.side King }
+fn has_kept_walk_to(position: &Position, to: Square) -> bool
     ensures { IsTrue result ↔ ((from : Square) × (kind : Kind) × Keeps position.now (Move.Walk from to kind)) }
 {
     for n in 0..81usize {
-        if keeps_walk(position, king, Square::at_place(n), to) {
+        if keeps_walk(position, Square::at_place(n), to) {
             return true;
         }
     }
     false
 }
 
-fn has_kept_drop_on(position: &Position, king: Square, to: Square) -> bool
-    requires { at position.now.board king ≡ piece position.now.side King }
+fn has_kept_drop_on(position: &Position, to: Square) -> bool
     ensures { IsTrue result ↔ ((kind : Kind) × Keeps position.now (Move.Put to kind)) }
 {
     for n in 0..7usize {
         let kind = hand_kind(n);
-        if keeps(position, Some(king), &Move::Put { to, kind }) {
+        if keeps(position, &Move::Put { to, kind }) {
             return true;
         }
     }
@@ -112,8 +106,7 @@ fn has_kept_drop_on(position: &Position, king: Square, to: Square) -> bool
 }
 
 // Whether a walk from the one square to the other keeps the rules 3 to 10, promoted or not.
-fn keeps_walk(position: &Position, king: Square, from: Square, to: Square) -> bool
-    requires { at position.now.board king ≡ piece position.now.side King }
+fn keeps_walk(position: &Position, from: Square, to: Square) -> bool
     ensures { IsTrue result ↔ ((kind : Kind) × Keeps position.now (Move.Walk from to kind)) }
 {
     let Some(was) = own_kind_at(position, from) else {
@@ -121,7 +114,6 @@ fn keeps_walk(position: &Position, king: Square, from: Square, to: Square) -> bo
     };
     if keeps(
         position,
-        Some(king),
         &Move::Walk {
             from,
             to,
@@ -131,7 +123,7 @@ fn keeps_walk(position: &Position, king: Square, from: Square, to: Square) -> bo
         return true;
     }
     match was.promoted() {
-        Some(kind) => keeps(position, Some(king), &Move::Walk { from, to, kind }),
+        Some(kind) => keeps(position, &Move::Walk { from, to, kind }),
         None => false,
     }
 }

@@ -1,26 +1,25 @@
-ghost use Rattle.std.specs.Prelude.{◌≡◌, ◌↔◌, IsTrue, [], ◌∷◌, None, Some};
+ghost use Rattle.std.specs.Prelude.{◌≡◌, ◌↔◌, IsTrue, true, [], ◌∷◌, None, Some};
 ghost use Rattle.shogi_board.specs.Reach.{InCheck};
 ghost use Rattle.shogi_rules.specs.declared.rule.Rule.TheVariants.{RepetitionOver};
 ghost use Rattle.shogi_rules.specs.After.{after};
 ghost use Rattle.shogi_rules.specs.Legal.{IsPawnDrop, Legal, Mated};
-ghost use Rattle.shogi_rules.specs.LineKings.{IsOwnKing};
 ghost use Rattle.shogi_rules.specs.Rules.{Kept, KeptAlone, move_rules, all_rules, IsFirstBroken};
 
 use crate::evasions::is_mated;
 use crate::moves::Move;
-use crate::playing::{OwnKing, make_if_kept, own_king};
+use crate::playing::make_if_kept;
 use crate::rule::Rule;
 use crate::search::is_pawn_drop;
 use shogi_board::{Color, Position};
 
 // Makes the position the one after the move, or says which of the rules 3 to 11 the side to move breaks first by it; then the
 // position may be either.
-pub(crate) fn make_by_side(position: &mut Position, own: OwnKing, mv: &Move) -> Option<Rule>
-    requires { IsOwnKing position.old own }
+pub(crate) fn make_by_side(position: &mut Position, safe: bool, mv: &Move) -> Option<Rule>
+    requires { safe ≡ true → InCheck position.old.board position.old.side → ⊥ }
     ensures broken { IsFirstBroken (KeptAlone position.old mv.now) move_rules result }
     ensures value { result ≡ None → position.new ≡ after position.old mv.now }
 {
-    match make_if_kept(position, own, mv) {
+    match make_if_kept(position, safe, mv) {
         Some(rule) => Some(rule),
         None => {
             if is_pawn_drop(mv) && is_mated(position) {
@@ -46,7 +45,7 @@ fn broken_by_side(position: &Position, mv: &Move) -> Option<Rule>
     ensures { IsFirstBroken (KeptAlone position.now mv.now) move_rules result }
 {
     let mut next = *position;
-    make_by_side(&mut next, own_king(position), mv)
+    make_by_side(&mut next, false, mv)
 }
 
 /// The first rule that the move of that side breaks, in the order of their numbers, or None exactly where it is legal.

@@ -1,5 +1,5 @@
-ghost use Rattle.std.specs.Prelude.{◌≡◌, ◌≤◌, ◌++◌, [], ◌∷◌, IfOk, OnOk, OnErr, MatchOption, MatchResult, length, ◌⊎◌, ◌↔◌, IsTrue, None, Some};
-ghost use Rattle.shogi_rules.specs.LineKings.{IsOwnKing};
+ghost use Rattle.std.specs.Prelude.{◌≡◌, ◌≤◌, ◌++◌, [], ◌∷◌, IfOk, OnOk, OnErr, MatchOption, MatchResult, length, ◌⊎◌, ◌↔◌, IsTrue, true, None, Some};
+ghost use Rattle.shogi_board.specs.Reach.{InCheck};
 ghost use Rattle.shogi_rules.specs.Positions.{max_moves, now_of, all_of, IsGame};
 ghost use Rattle.shogi_rules.specs.Play.{Answers, IsOpen};
 ghost use Rattle.shogi_rules.specs.Repetition.{Over};
@@ -8,11 +8,11 @@ ghost use Rattle.shogi_rules.specs.declared.line.PlayFault.TheVariants.{OutOfMem
 
 use crate::judging::{make_by_side, mates_by_pawn_drop};
 use crate::moves::Move;
-use crate::playing::{OwnKing, gives_check, in_check, king_after, make_if_kept};
+use crate::playing::{gives_check, in_check, make_if_kept};
 use crate::repetition::{verdict_by_moves, verdict_of_stretch};
 use crate::rule::Rule;
 use crate::seen::{FIRST_ROOM, Seen, packed_after};
-use shogi_board::{Color, Packed, Position, Square};
+use shogi_board::{Color, Packed, Position};
 use std::alloc::Global;
 use std::marker::Model;
 use thiserror::Error;
@@ -60,9 +60,6 @@ pub struct Line {
     moves: Vec<Move>,
     // all positions, the start and the last too
     seen: Seen,
-    // where the kings of the last position stand: that of the side to move, and the other
-    own_king: Option<Square>,
-    other_king: Option<Square>,
     // whether the side to move is in check in the last position
     in_check: bool,
 }
@@ -72,13 +69,12 @@ impl Model for Line {
     ghost use Rattle.shogi_board.specs.Reach.{InCheck};
     ghost use Rattle.shogi_rules.specs.Positions.{Played, IsLine};
     ghost use Rattle.shogi_rules.specs.Repetition.{times};
-    ghost use Rattle.shogi_rules.specs.LineKings.{AreKings};
 
     ghost Value = { Played };
 
     ghost view = { λ l. record { start = l.start; moves = l.moves.items } };
 
-    ghost invariant = { (λ l. IsLine l.start l.last l.moves.items l.seen × (l.repeats ≡ times l.seen l.last) × AreKings l.last l.own_king l.other_king × (IsTrue l.in_check ↔ InCheck l.last.board l.last.side)) };
+    ghost invariant = { (λ l. IsLine l.start l.last l.moves.items l.seen × (l.repeats ≡ times l.seen l.last) × (IsTrue l.in_check ↔ InCheck l.last.board l.last.side)) };
 }
 
 impl Line {
@@ -88,18 +84,16 @@ impl Line {
     pub fn new(alloc: Global, start: Position) -> Result<Line, shogi_board::OutOfMemory>
         ensures { IfOk result (λ l. l ≡ record { start = start; moves = [] }) }
     {
-        let side = start.side();
+        let in_check = in_check(&start);
         let mut seen = Seen::new(alloc)?;
-        let repeats = seen.push(Packed::of(&start))?;
+        let repeats = seen.push(Packed::of(&start), in_check)?;
         Ok(Line {
             start,
             last: start,
             repeats,
             moves: Vec::with_capacity(alloc, FIRST_ROOM)?,
             seen,
-            own_king: start.king(side),
-            other_king: start.king(side.opponent()),
-            in_check: in_check(&start),
+            in_check,
         })
     }
 
@@ -147,14 +141,11 @@ impl Line {
         self.last.side()
     }
 
-    // Its king.
-    fn own(&self) -> OwnKing
-        ensures { IsOwnKing (now_of self.now) result }
+    // Whether the side to move is not in check.
+    fn is_safe(&self) -> bool
+        ensures { result ≡ true → InCheck (now_of self.now).board (now_of self.now).side → ⊥ }
     {
-        OwnKing {
-            square: self.own_king,
-            safe: !self.in_check,
-        }
+        !self.in_check
     }
 
     // What `play` refuses whatever that side's move is, or None.
@@ -183,7 +174,7 @@ impl Line {
             return Some(fault);
         }
         let mut next = self.last;
-        match make_by_side(&mut next, self.own(), mv) {
+        match make_by_side(&mut next, self.is_safe(), mv) {
             Some(rule) => Some(PlayFault::Broken(rule)),
             None => None,
         }
@@ -215,28 +206,25 @@ impl Line {
         }
         // a clause of `side` says that the last position is sound
         let _side = self.last.side();
-        let own = self.own();
+        let safe = self.is_safe();
         let count = self.moves.len();
         if self.moves.reserve(1).is_err() {
             return Err(self.fault_without_room(mover, &mv));
         }
         let change = mv.change(&self.last);
-        if let Some(rule) = make_if_kept(&mut self.last, own, &mv) {
+        if let Some(rule) = make_if_kept(&mut self.last, safe, &mv) {
             return Err(PlayFault::Broken(rule));
         }
         let before = self.seen.position(count);
-        let in_check = gives_check(before, &self.last, &mv, self.other_king);
+        let in_check = gives_check(before, &self.last, &mv);
         if mates_by_pawn_drop(&self.last, &mv, in_check) {
             restore(&mut self.last, before);
             return Err(PlayFault::Broken(Rule::PawnDropMate));
         }
         let packed = packed_after(before, &mv, &change, &self.last);
-        match self.seen.push(packed) {
+        match self.seen.push(packed, in_check) {
             Ok(repeats) => {
                 self.moves.push_reserved(mv);
-                let king = king_after(self.own_king, &mv);
-                self.own_king = self.other_king;
-                self.other_king = king;
                 self.in_check = in_check;
                 self.repeats = repeats;
                 Ok(())
@@ -253,7 +241,7 @@ impl Line {
         ensures { Stands (all_of self.now) (now_of self.now) result }
     {
         if self.is_over() {
-            verdict_of_stretch(self.seen.positions(), &Packed::of(&self.last))
+            verdict_of_stretch(&self.seen, &Packed::of(&self.last))
         } else {
             verdict_by_moves(&self.last)
         }

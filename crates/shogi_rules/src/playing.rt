@@ -1,12 +1,10 @@
 ghost use Rattle.std.specs.Prelude.{◌≡◌, ◌↔◌, IsTrue, true, false, IfSome, MatchOption, MatchResult, [], ◌∷◌, None, Some};
 ghost use Rattle.shogi_board.specs.Cells.{at, piece};
 ghost use Rattle.shogi_board.specs.Danger.{ComesFrom};
-ghost use Rattle.shogi_board.specs.Kings.{IsKingOf};
 ghost use Rattle.shogi_board.specs.Reach.{InCheck};
 ghost use Rattle.shogi_board.specs.declared.kind.Kind.TheVariants.{King};
 ghost use Rattle.shogi_board.specs.declared.square.Square.{Square};
 ghost use Rattle.shogi_rules.specs.After.{after, board_after};
-ghost use Rattle.shogi_rules.specs.LineKings.{IsOwnKing};
 ghost use Rattle.shogi_rules.specs.Legal.{FitsBoard, KingSafe, Keeps, kind_after, target};
 ghost use Rattle.shogi_rules.specs.Rules.{KeptAlone, keeping_rules, IsFirstBroken};
 
@@ -15,35 +13,16 @@ use crate::moves::Move;
 use crate::rule::Rule;
 use shogi_board::{Danger, Kind, Packed, Position, Square, attacked, attacked_from, reaches};
 
-// Where the king of the side to move stands, if it has one, and whether it is known not to be attacked.
-#[derive(Clone, Copy)]
-pub(crate) struct OwnKing {
-    pub square: Option<Square>,
-    pub safe: bool,
-}
-
-// Where the mover's king stands after the move.
-pub(crate) fn king_after(king: Option<Square>, mv: &Move) -> Option<Square>
-    ensures moved { kind_after mv.now ≡ King → result ≡ Some (target mv.now) }
-    ensures stays { (kind_after mv.now ≡ King → ⊥) → result ≡ king }
-{
-    if mv.kind() == Kind::King {
-        Some(mv.target())
-    } else {
-        king
-    }
-}
-
-// Where the mover's king may be attacked from after the move. If it was not attacked, then only in the direction of the
-// square that the move leaves, unless it moves itself.
-fn danger_after(position: &Position, own: OwnKing, mv: &Move) -> Danger
+// Where the mover's king may be attacked from after the move, where `safe` says that it is known not to be attacked before. If
+// it was not, then only in the direction of the square that the move leaves, unless it moves itself.
+fn danger_after(position: &Position, safe: bool, mv: &Move) -> Danger
     requires fits { FitsBoard position.now mv.now }
-    requires king { IsOwnKing position.now own }
+    requires safe { safe ≡ true → InCheck position.now.board position.now.side → ⊥ }
     ensures { (s : Square) → at (board_after position.now mv.now) s ≡ piece position.now.side King → ComesFrom (board_after position.now mv.now) position.now.side s result }
 {
     // a clause of `side` says that the position is sound
     let _side = position.side();
-    if !own.safe || mv.kind() == Kind::King {
+    if !safe || mv.kind() == Kind::King {
         return Danger::Anywhere;
     }
     match mv.source() {
@@ -55,20 +34,19 @@ fn danger_after(position: &Position, own: OwnKing, mv: &Move) -> Danger
 // Makes the position the one after a move that fits the board, where it leaves the mover's king safe, and says whether it
 // does; else the position stays as it was.
 #[inline(always)]
-fn make_if_safe(position: &mut Position, own: OwnKing, mv: &Move) -> bool
+fn make_if_safe(position: &mut Position, safe: bool, mv: &Move) -> bool
     requires fits { FitsBoard position.old mv.now }
-    requires king { IsOwnKing position.old own }
+    requires safe { safe ≡ true → InCheck position.old.board position.old.side → ⊥ }
     ensures safe { IsTrue result ↔ KingSafe position.old mv.now }
     ensures value { result ≡ true → position.new ≡ after position.old mv.now }
     ensures unchanged { result ≡ false → position.new ≡ position.old }
 {
     // a clause of `side` says that the position is sound
     let _side = position.side();
-    let king = king_after(own.square, mv);
-    let danger = danger_after(position, own, mv);
+    let danger = danger_after(position, safe, mv);
     match *mv {
-        Move::Walk { from, to, kind } => position.walk(from, to, kind, king, danger),
-        Move::Put { to, kind } => position.drop_piece(to, kind, king, danger),
+        Move::Walk { from, to, kind } => position.walk(from, to, kind, danger),
+        Move::Put { to, kind } => position.drop_piece(to, kind, danger),
     }
 }
 
@@ -83,10 +61,10 @@ pub fn after(position: &Position, mv: &Move) -> Position
 }
 
 // Makes the position the one after the move, or says which of the rules 3 to 10 the side to move breaks first by it; then
-// the position stays as it was.
+// the position stays as it was. The king of that side may be known to be safe before the move.
 #[inline(always)]
-pub(crate) fn make_if_kept(position: &mut Position, own: OwnKing, mv: &Move) -> Option<Rule>
-    requires { IsOwnKing position.old own }
+pub(crate) fn make_if_kept(position: &mut Position, safe: bool, mv: &Move) -> Option<Rule>
+    requires { safe ≡ true → InCheck position.old.board position.old.side → ⊥ }
     ensures kept { MatchOption result
         (Keeps position.old mv.now)
         (λ rule. (Keeps position.old mv.now → ⊥) × IsFirstBroken (KeptAlone position.old mv.now) keeping_rules (Some rule)) }
@@ -96,7 +74,7 @@ pub(crate) fn make_if_kept(position: &mut Position, own: OwnKing, mv: &Move) -> 
     match broken_on_board(position, mv) {
         Some(rule) => Some(rule),
         None => {
-            if make_if_safe(position, own, mv) {
+            if make_if_safe(position, safe, mv) {
                 None
             } else {
                 Some(Rule::LeavesKing)
@@ -112,42 +90,26 @@ pub(crate) fn after_if_kept(position: &Position, mv: &Move) -> Result<Position, 
         (λ rule. (Keeps position.now mv.now → ⊥) × IsFirstBroken (KeptAlone position.now mv.now) keeping_rules (Some rule)) }
 {
     let mut next = *position;
-    match make_if_kept(&mut next, own_king(position), mv) {
+    match make_if_kept(&mut next, false, mv) {
         None => Ok(next),
         Some(rule) => Err(rule),
     }
 }
 
-// The king of the side to move, of which it is not known whether it is attacked.
-pub(crate) fn own_king(position: &Position) -> OwnKing
-    ensures { IsOwnKing position.now result }
-{
-    OwnKing {
-        square: position.king(position.side()),
-        safe: false,
-    }
-}
-
-// Whether the side to move, whose king stands there, keeps the rules 3 to 10 by the move.
-pub(crate) fn keeps(position: &Position, king: Option<Square>, mv: &Move) -> bool
-    requires { IsKingOf position.now.board position.now.side king }
+// Whether the side to move keeps the rules 3 to 10 by the move.
+pub(crate) fn keeps(position: &Position, mv: &Move) -> bool
     ensures { IsTrue result ↔ Keeps position.now mv.now }
 {
-    broken_on_board(position, mv).is_none() && leaves_king_safe(position, king, mv)
+    broken_on_board(position, mv).is_none() && leaves_king_safe(position, mv)
 }
 
-// Whether the king of the side to move, which stands there, is not attacked after a move that fits the board.
-fn leaves_king_safe(position: &Position, king: Option<Square>, mv: &Move) -> bool
-    requires fits { FitsBoard position.now mv.now }
-    requires king { IsKingOf position.now.board position.now.side king }
+// Whether the king of the side to move is not attacked after a move that fits the board.
+fn leaves_king_safe(position: &Position, mv: &Move) -> bool
+    requires { FitsBoard position.now mv.now }
     ensures { IsTrue result ↔ KingSafe position.now mv.now }
 {
-    let own = OwnKing {
-        square: king,
-        safe: false,
-    };
     let mut next = *position;
-    make_if_safe(&mut next, own, mv)
+    make_if_safe(&mut next, false, mv)
 }
 
 /// Whether the side to move is in check: it has a king, and an enemy piece reaches it.
@@ -164,16 +126,15 @@ pub fn in_check(position: &Position) -> bool
 // Whether the side to move is in check in the position after a move that fits the board of the one before. If its king is
 // attacked, then by the piece that moved, or in the direction of the square that was left.
 #[inline(always)]
-pub(crate) fn gives_check(last: &Packed, next: &Position, mv: &Move, king: Option<Square>) -> bool
+pub(crate) fn gives_check(last: &Packed, next: &Position, mv: &Move) -> bool
     requires fits { FitsBoard last.now mv.now }
     requires next { next.now ≡ after last.now mv.now }
-    requires king { IsKingOf next.now.board next.now.side king }
     ensures { IsTrue result ↔ InCheck next.now.board next.now.side }
 {
     // clauses of `side` say that both positions are sound
     let _side = last.side();
     let side = next.side();
-    let Some(king) = king else {
+    let Some(king) = next.king(side) else {
         return false;
     };
     if reaches(next, mv.target(), king) {

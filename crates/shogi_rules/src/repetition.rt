@@ -8,6 +8,7 @@ use crate::evasions::is_mated;
 use crate::line::Verdict;
 use crate::playing::in_check;
 use crate::search::first_legal;
+use crate::seen::Seen;
 use shogi_board::{Color, Packed, Position};
 
 // Whether the two are the same position.
@@ -34,24 +35,23 @@ fn nth_place(positions: &[Packed], p: &Packed, before: usize) -> Option<usize>
 }
 
 // Whether the move from the place gave check, if it is one of that side.
-fn gave_check(positions: &[Packed], place: usize, color: Color) -> bool
-    requires { place + 1 < length positions.now }
-    ensures { IsTrue result ↔ PressedAt positions.now color place }
+fn gave_check(seen: &Seen, place: usize, color: Color) -> bool
+    requires { place + 1 < length seen.now }
+    ensures { IsTrue result ↔ PressedAt seen.now color place }
 {
-    let before = positions[place].unpacked();
-    if before.side() != color {
+    if seen.position(place).side() != color {
         return true;
     }
-    in_check(&positions[place + 1].unpacked())
+    seen.in_check_after(place)
 }
 
 // Whether each move of that side between the two places gave check.
-fn pressed(positions: &[Packed], first: usize, fourth: usize, color: Color) -> bool
-    requires { fourth < length positions.now }
-    ensures { IsTrue result ↔ Pressed positions.now first fourth color }
+fn pressed(seen: &Seen, first: usize, fourth: usize, color: Color) -> bool
+    requires { fourth < length seen.now }
+    ensures { IsTrue result ↔ Pressed seen.now first fourth color }
 {
     for place in first..fourth {
-        if !gave_check(positions, place, color) {
+        if !gave_check(seen, place, color) {
             return false;
         }
     }
@@ -59,14 +59,14 @@ fn pressed(positions: &[Packed], first: usize, fourth: usize, color: Color) -> b
 }
 
 // Who pressed alone between the two places.
-fn presser(positions: &[Packed], first: usize, fourth: usize) -> Option<Color>
-    requires { fourth < length positions.now }
+fn presser(seen: &Seen, first: usize, fourth: usize) -> Option<Color>
+    requires { fourth < length seen.now }
     ensures { MatchOption result
-        ((color : Color) → PressedAlone positions.now first fourth color → ⊥)
-        (λ color. PressedAlone positions.now first fourth color) }
+        ((color : Color) → PressedAlone seen.now first fourth color → ⊥)
+        (λ color. PressedAlone seen.now first fourth color) }
 {
-    let black = pressed(positions, first, fourth, Color::Black);
-    let white = pressed(positions, first, fourth, Color::White);
+    let black = pressed(seen, first, fourth, Color::Black);
+    let white = pressed(seen, first, fourth, Color::White);
     match (black, white) {
         (true, false) => Some(Color::Black),
         (false, true) => Some(Color::White),
@@ -75,13 +75,13 @@ fn presser(positions: &[Packed], first: usize, fourth: usize) -> Option<Color>
 }
 
 // How a line stands whose last position stands for the fourth time.
-pub(crate) fn verdict_of_stretch(positions: &[Packed], p: &Packed) -> Verdict
-    requires { Over positions.now p.now }
-    ensures { StandsByStretch positions.now p.now result }
+pub(crate) fn verdict_of_stretch(seen: &Seen, p: &Packed) -> Verdict
+    requires { Over seen.now p.now }
+    ensures { StandsByStretch seen.now p.now result }
 {
-    let first = nth_place(positions, p, 0).unwrap();
-    let fourth = nth_place(positions, p, 3).unwrap();
-    match presser(positions, first, fourth) {
+    let first = nth_place(seen.positions(), p, 0).unwrap();
+    let fourth = nth_place(seen.positions(), p, 3).unwrap();
+    match presser(seen, first, fourth) {
         Some(color) => Verdict::Perpetual(color),
         None => Verdict::Repetition,
     }

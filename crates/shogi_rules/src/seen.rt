@@ -1,5 +1,6 @@
-ghost use Rattle.std.specs.Prelude.{◌≡◌, ◌++◌, ◌%◌, ◌<◌, ◌≤◌, [], ◌∷◌, OnOk, OnErr, IfOk, length, slice_index_or};
+ghost use Rattle.std.specs.Prelude.{◌≡◌, ◌+◌, ◌++◌, ◌%◌, ◌<◌, ◌≤◌, [], ◌∷◌, ◌↔◌, IsTrue, Some, OnOk, OnErr, IfOk, length, slice_get, slice_index_or};
 ghost use Rattle.shogi_board.specs.Placed.{Placed};
+ghost use Rattle.shogi_board.specs.Reach.{InCheck};
 ghost use Rattle.shogi_rules.specs.After.{after};
 ghost use Rattle.shogi_rules.specs.Changes.{IsChangeBy};
 ghost use Rattle.shogi_rules.specs.Legal.{FitsBoard};
@@ -39,10 +40,12 @@ fn chain_of(position: &Packed) -> usize
     position.key() as usize % CHAINS
 }
 
-// How often a position stands up to its own place, and how many stand up to the one before it in its chain, or 0.
+// How often a position stands up to its own place, whether its side to move is in check, and how many positions stand up to
+// the one before it in its chain, or 0.
 #[derive(Clone, Copy)]
 struct Link {
     count: u32,
+    in_check: bool,
     earlier: usize,
 }
 
@@ -85,6 +88,14 @@ impl Seen {
         self.positions.as_slice()
     }
 
+    // Whether the side to move is in check in the position behind the one with that index.
+    pub(crate) fn in_check_after(&self, n: usize) -> bool
+        requires { n + 1 < length self.now }
+        ensures { (p : Placed) → slice_get self.now (n + 1) ≡ Some p → IsTrue result ↔ InCheck p.board p.side }
+    {
+        self.links[n + 1].in_check
+    }
+
     // The position with that index.
     pub(crate) fn position(&self, n: usize) -> &Packed
         requires { n < length self.now }
@@ -117,10 +128,12 @@ impl Seen {
         0
     }
 
-    // Adds the position, and says how often it stands now. A refused growth changes nothing.
+    // Adds the position, of which it is known whether its side to move is in check, and says how often it stands now. A
+    // refused growth changes nothing.
     #[inline(always)]
-    pub(crate) fn push(&mut self, position: Packed) -> Result<u32, AllocError>
-        requires { length self.old < 10001 }
+    pub(crate) fn push(&mut self, position: Packed, in_check: bool) -> Result<u32, AllocError>
+        requires room { length self.old < 10001 }
+        requires check { IsTrue in_check ↔ InCheck position.board position.side }
         ensures value { IfOk result (λ n. n ≡ times self.new position) }
         ensures ok { OnOk result (self.new ≡ self.old ++ position ∷ []) }
         ensures err { OnErr result (self.new ≡ self.old) }
@@ -131,7 +144,11 @@ impl Seen {
         self.links.reserve(1)?;
         self.positions.reserve(1)?;
         self.positions.push_reserved(position);
-        self.links.push_reserved(Link { count, earlier });
+        self.links.push_reserved(Link {
+            count,
+            in_check,
+            earlier,
+        });
         self.heads[chain] = self.positions.len() as u16;
         Ok(count)
     }

@@ -212,7 +212,7 @@ fn place_within(title: &[u8], line: &[u8]) -> Place
 fn is_end_of(title: &[u8], line: &[u8]) -> bool
     ensures { result ≡ bytes_eq line.now (end_line title.now) }
 {
-    line.starts_with(texts::END) && &line[texts::END.len()..] == title
+    line.strip_prefix(texts::END) == Some(title)
 }
 
 fn is_position(title: &[u8]) -> bool
@@ -226,9 +226,9 @@ fn take_value(kept: &mut Vec<u8>, key: &[u8], line: &[u8]) -> Result<(), OutOfMe
     ensures value { OnOk result (kept.new.items ≡ value_or key.now kept.old.items line.now) }
     ensures one_line { IsOneLine kept.old.items → IsOneLine line.now → IsOneLine kept.new.items }
 {
-    if line.starts_with(key) {
+    if let Some(value) = line.strip_prefix(key) {
         kept.clear();
-        kept.extend_from_slice(&line[key.len()..])?;
+        kept.extend_from_slice(value)?;
     }
     Ok(())
 }

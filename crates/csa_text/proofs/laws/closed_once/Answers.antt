@@ -6,8 +6,10 @@ use Rattle.csa_text.proofs.Once.{cut_found}
 use Rattle.csa_text.proofs.laws.closed_once.Goals as goal
 
 pub returns : goal.returns
-returns c = λ source.
-    let all = cut_found source in
-    let closed : List TextUnit = filter (is_closed (length source)) all.0 in
-    let here : Closed source closed = (all.0, all.1, refl) in
-    (closed, here, λ others other. closed_once source others closed other here)
+returns c = record {
+  closed = λ source.
+      let all = cut_found source in
+      let closed : List TextUnit = filter (is_closed (length source)) all.0 in
+      let here : Closed source closed = (all.0, all.1, refl) in
+      (closed, here, λ others other. closed_once source others closed other here);
+}

@@ -2,4 +2,4 @@ use Rattle.csa_text.proofs.Moments.{moment_once}
 use Rattle.csa_text.proofs.laws.moment_once.Goals as goal
 
 pub returns : goal.returns
-returns c = moment_once
+returns c = record { moment = moment_once }

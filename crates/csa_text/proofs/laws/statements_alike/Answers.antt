@@ -2,4 +2,4 @@ use Rattle.csa_text.proofs.LineRuns.{told_alike}
 use Rattle.csa_text.proofs.laws.statements_alike.Goals as goal
 
 pub returns : goal.returns
-returns c = told_alike
+returns c = record { alike = told_alike }

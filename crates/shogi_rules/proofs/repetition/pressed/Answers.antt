@@ -14,12 +14,12 @@ returns-then-not-gave_check c = (
 
 pub loop-place-preserved : goal.loop-place-preserved
 loop-place-preserved c = λ k low high.
-    elim (cases_lt k c.loop-place.place) as (λ _. PressedAt c.args.positions.now c.args.color k) [
+    elim (cases_lt k c.loop-place.place) as (λ _. PressedAt c.args.seen.now c.args.color k) [
       | inl lt ↦ c.loop-place.invariant k low lt
       | inr ge ↦
           let e : c.loop-place.place ≡ k = omega arith in
           let yes : c.gave_check.result ≡ true = grind arith in
-          let here : PressedAt c.args.positions.now c.args.color c.loop-place.place = c.gave_check.ensures.0 yes in
+          let here : PressedAt c.args.seen.now c.args.color c.loop-place.place = c.gave_check.ensures.0 yes in
           rw e at here
     ]
 

@@ -12,8 +12,8 @@ returns-in-false-true c =
 
 pub returns-in_default : goal.returns-in_default
 returns-in_default c =
-    nobody-alone c.args.positions.now c.args.first c.args.fourth _ _ c.in_default.ensures c.in_default.ensures' refl
+    nobody-alone c.args.seen.now c.args.first c.args.fourth _ _ c.in_default.ensures c.in_default.ensures' refl
 
 pub returns-in_default-2 : goal.returns-in_default-2
 returns-in_default-2 c =
-    nobody-alone c.args.positions.now c.args.first c.args.fourth _ _ c.in_default.ensures c.in_default.ensures' refl
+    nobody-alone c.args.seen.now c.args.first c.args.fourth _ _ c.in_default.ensures c.in_default.ensures' refl

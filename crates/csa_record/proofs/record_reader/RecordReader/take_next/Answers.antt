@@ -10,21 +10,21 @@ pub returns-in-Err-clause-next : goal.returns-in-Err-clause-next
 returns-in-Err-clause-next c = λ source h.
     long_next source c.args.piece.now c.self.inside.cutter c.step.follows.lender-at-none c.self.inside.progress (failing_of c.self.inside.failing) c.in-Err.fault c.from.result
     (subst (HasRead source) (sym c.self.view_is) h)
-    (subst (λ r. Stepped c.self.inside.cutter c.args.piece.now r c.step.follows.lender-at-none) c.in-Err.is c.step.follows.holds-at-none) c.from.ensures
+    (subst (λ r. Stepped c.self.inside.cutter c.args.piece.now r c.step.follows.lender-at-none) c.in-Err.is (record { going = c.step.ensures.going; number_is = c.step.ensures.fault; place = c.step.ensures.place; after = c.step.follows.holds-at-none })) c.from.ensures
 
 pub take_statement-requires : goal.take_statement-requires
 take_statement-requires c = given c.self.inside.cutter c.step.follows.lender-at-none c.args.piece.now c.in-Ok.cut.used c.in-Some.statement
-    (subst (λ r. Stepped c.self.inside.cutter c.args.piece.now r c.step.follows.lender-at-none) (c.in-Ok.is ∙ ap (λ o. Ok (record { used = c.in-Ok.cut.used; statement = o })) c.in-Some.is) c.step.follows.holds-at-none)
+    (subst (λ r. Stepped c.self.inside.cutter c.args.piece.now r c.step.follows.lender-at-none) (c.in-Ok.is ∙ ap (λ o. Ok (record { used = c.in-Ok.cut.used; statement = o })) c.in-Some.is) (record { going = c.step.ensures.going; number_is = c.step.ensures.fault; place = c.step.ensures.place; after = c.step.follows.holds-at-none }))
 
 pub returns-in_default-clause-next : goal.returns-in_default-clause-next
 returns-in_default-clause-next c = λ source h.
     none_next source c.args.piece.now c.in-Ok.cut.used c.self.inside.cutter c.step.follows.lender-at-none c.self.inside.progress (failing_of c.self.inside.failing) (subst (HasRead source) (sym c.self.view_is) h)
-    (subst (λ r. Stepped c.self.inside.cutter c.args.piece.now r c.step.follows.lender-at-none) (c.in-Ok.is ∙ ap (λ o. Ok (record { used = c.in-Ok.cut.used; statement = o })) c.in_default.is) c.step.follows.holds-at-none)
+    (subst (λ r. Stepped c.self.inside.cutter c.args.piece.now r c.step.follows.lender-at-none) (c.in-Ok.is ∙ ap (λ o. Ok (record { used = c.in-Ok.cut.used; statement = o })) c.in_default.is) (record { going = c.step.ensures.going; number_is = c.step.ensures.fault; place = c.step.ensures.place; after = c.step.follows.holds-at-none }))
 
 pub returns-clause-next : goal.returns-clause-next
 returns-clause-next c = λ source h.
     let before = (subst (HasRead source) (sym c.self.view_is) h) in
-    let stepped = (subst (λ r. Stepped c.self.inside.cutter c.args.piece.now r c.step.follows.lender-at-none) (c.in-Ok.is ∙ ap (λ o. Ok (record { used = c.in-Ok.cut.used; statement = o })) c.in-Some.is) c.step.follows.holds-at-none) in
+    let stepped = (subst (λ r. Stepped c.self.inside.cutter c.args.piece.now r c.step.follows.lender-at-none) (c.in-Ok.is ∙ ap (λ o. Ok (record { used = c.in-Ok.cut.used; statement = o })) c.in-Some.is) (record { going = c.step.ensures.going; number_is = c.step.ensures.fault; place = c.step.ensures.place; after = c.step.follows.holds-at-none })) in
     elim c.match-take_statement.branch [
       | in-Ok-take_statement w ↦ rw (w.result-is, w.self-inside-is)
           (next_taken source c.args.piece.now c.in-Ok.cut.used c.self.inside.cutter c.step.follows.lender-at-none c.self.inside.progress c.take_statement.new.progress (failing_of c.self.inside.failing)

@@ -1,4 +1,4 @@
-use Rattle.std.proofs.Common.{◌≡◌, false, [], ◌+◌, ◌-◌, ◌<◌, ◌≤◌, ◌++◌, length, slice_range, arith, refl, sym, ap, ◌∙◌}
+use Rattle.std.proofs.Common.{◌≡◌, false, Err, [], ◌+◌, ◌-◌, ◌<◌, ◌≤◌, ◌++◌, length, slice_range, arith, refl, sym, ap, subst, ◌∙◌}
 use Rattle.csa_text.specs.Cut.{begins_with}
 use Rattle.csa_text.specs.declared.piece.Place.TheVariants.{Gap}
 use Rattle.csa_text.specs.Places.{IsPart, IsFoundIn, kept_of}
@@ -12,42 +12,42 @@ use Rattle.csa_text.proofs.piece.PieceCutter.step.Goals as goal
 pub hold_mark-requires : goal.hold_mark-requires
 hold_mark-requires c =
     let s = c.self.inside in
-    let h : IsFoundIn s.place s.held.items c.args.piece.now c.found_in-found.result = rw c.as_slice.ensures.value at c.found_in-found.ensures in
-    λ t. mark_room s.place s.held.items c.args.piece.now c.found_in-found.result h t
+    let h : IsFoundIn s.place s.held.items c.args.piece.now (Err c.in-Err.place) = subst (λ xs. IsFoundIn s.place xs c.args.piece.now (Err c.in-Err.place)) c.as_slice.ensures.value c.in-Err.ensures in
+    λ t. mark_room s.place c.in-Err.place s.held.items c.args.piece.now h t
 
-pub returns-in_default-found : goal.returns-in_default-found
-returns-in_default-found c =
+pub returns-in-Err : goal.returns-in-Err
+returns-in-Err c =
     let s = c.self.inside in
     let i = c.self.invariant in
-    let h : IsFoundIn s.place s.held.items c.args.piece.now c.found_in-found.result = rw c.as_slice.ensures.value at c.found_in-found.ensures in
-    let done = default_step c.args.self.now s.place c.place_of-self-inside.result s.held.items c.hold_mark.new.held.items c.args.piece.now c.found_in-found.result s.fed s.number s.refused
-    c.self.view_is c.in_default.is c.place_of-self-inside.ensures c.hold_mark.ensures c.in_default-found.not-Unit h (omega (arith, i.0)) i.3 in
-    let held = held_found s.place c.place_of-self-inside.result s.held.items c.hold_mark.new.held.items c.args.piece.now c.found_in-found.result c.place_of-self-inside.ensures c.hold_mark.ensures c.in_default-found.not-Unit h in
+    let h : IsFoundIn s.place s.held.items c.args.piece.now (Err c.in-Err.place) = subst (λ xs. IsFoundIn s.place xs c.args.piece.now (Err c.in-Err.place)) c.as_slice.ensures.value c.in-Err.ensures in
+    let done = default_step c.args.self.now s.place c.in-Err.place s.held.items c.hold_mark.new.held.items c.args.piece.now s.fed s.number s.refused
+    c.self.view_is c.in_default.is c.hold_mark.ensures h (omega (arith, i.0)) i.3 in
+    let held = held_found s.place c.in-Err.place s.held.items c.hold_mark.new.held.items c.args.piece.now c.hold_mark.ensures h in
     let none = c.none_ended.ensures.statement in
-    ((refl, λ _. tt, (done.0, rw none (c.none_ended.ensures.used, done.1), rw none held)), record { used = rw none c.none_ended.ensures.used; number = rw none tt; fault = tt; lent = rw none tt; stepped = tt })
+    ((refl, λ _. tt, record { led = rw none (c.none_ended.ensures.used, done.1); held = rw none held; refused = tt }), record { used = rw none c.none_ended.ensures.used; number = rw none tt; lent = rw none tt; going = done.0; fault = tt; place = tt; after = tt })
 
 pub returns-then-kept-part : goal.returns-then-kept-part
 returns-then-kept-part c =
     let s = c.self.inside in
     let i = c.self.invariant in
-    let p : IsPart s.place s.held.items c.args.piece.now c.in-Unit.goes_on c.in-Unit.start c.in-Unit.end = rw c.as_slice.ensures.value at c.in-Unit.ensures in
-    let kept = kept_size c.in-Unit.goes_on s.held.items c.len.result c.kept_length-kept.result c.len.ensures.value c.kept_length-kept.ensures in
-    let size = length_range c.args.piece.now c.in-Unit.start c.in-Unit.end p.within in
-    let place : s.fed + c.in-Unit.start - c.kept_length-kept.result ≡ s.fed + c.in-Unit.start - length (kept_of c.in-Unit.goes_on s.held.items) = ap (λ n. s.fed + c.in-Unit.start - n) kept in
-    let done = long_step c.args.self.now s.place s.held.items c.args.piece.now c.in-Unit.goes_on c.in-Unit.start c.in-Unit.end s.fed s.number _ s.refused
+    let p : IsPart s.place s.held.items c.args.piece.now c.in-Ok.found.goes_on c.in-Ok.found.start c.in-Ok.found.end = rw c.as_slice.ensures.value at c.in-Ok.ensures in
+    let kept = kept_size c.in-Ok.found.goes_on s.held.items c.len.result c.kept_length-kept.result c.len.ensures.value c.kept_length-kept.ensures in
+    let size = length_range c.args.piece.now c.in-Ok.found.start c.in-Ok.found.end p.within in
+    let place : s.fed + c.in-Ok.found.start - c.kept_length-kept.result ≡ s.fed + c.in-Ok.found.start - length (kept_of c.in-Ok.found.goes_on s.held.items) = ap (λ n. s.fed + c.in-Ok.found.start - n) kept in
+    let done = long_step c.args.self.now s.place s.held.items c.args.piece.now c.in-Ok.found.goes_on c.in-Ok.found.start c.in-Ok.found.end s.fed s.number _ s.refused
     c.self.view_is c.in_default.is p (omega (arith, i.0)) place (omega (arith, kept, size, c.if-kept-part.true)) in
     let numbered : s.number + 1 ≡ c.args.self.now.number + 1 = done.0 in
-    ((refl, λ _. tt, (done.0, done.1, done.2)), record { used = tt; number = tt; fault = numbered; lent = tt; stepped = tt })
+    ((refl, λ _. tt, record { led = tt; held = tt; refused = done.2 }), record { used = tt; number = tt; lent = tt; going = tt; fault = numbered; place = done.1; after = tt })
 
 pub returns-then-end-piece : goal.returns-then-end-piece
 returns-then-end-piece c =
     let s = c.self.inside in
     let i = c.self.invariant in
     let piece = c.args.piece.now in
-    let goes_on = c.in-Unit.goes_on in
-    let start = c.in-Unit.start in
-    let end = c.in-Unit.end in
-    let p : IsPart s.place s.held.items piece goes_on start end = rw c.as_slice.ensures.value at c.in-Unit.ensures in
+    let goes_on = c.in-Ok.found.goes_on in
+    let start = c.in-Ok.found.start in
+    let end = c.in-Ok.found.end in
+    let p : IsPart s.place s.held.items piece goes_on start end = rw c.as_slice.ensures.value at c.in-Ok.ensures in
     let kept = kept_size goes_on s.held.items c.len.result c.kept_length-kept.result c.len.ensures.value c.kept_length-kept.ensures in
     let size = length_range piece start end p.within in
     let most = kept_most goes_on s.held.items in
@@ -60,17 +60,17 @@ returns-then-end-piece c =
     let quiet : begins_with 39 c.hold.new.held.items ≡ false = ap (begins_with 39) all ∙ p.spoken in
     let held = held_whole c.hold.new.held.items quiet in
     let none = c.none_ended-then-end-piece.ensures.statement in
-    ((refl, λ _. tt, (done.0, rw none (c.none_ended-then-end-piece.ensures.used ∙ c.if-end-piece.true, done.1), rw none held)), record { used = rw none (c.none_ended-then-end-piece.ensures.used ∙ c.if-end-piece.true); number = rw none tt; fault = tt; lent = rw none tt; stepped = tt })
+    ((refl, λ _. tt, record { led = rw none (c.none_ended-then-end-piece.ensures.used ∙ c.if-end-piece.true, done.1); held = rw none held; refused = tt }), record { used = rw none (c.none_ended-then-end-piece.ensures.used ∙ c.if-end-piece.true); number = rw none tt; lent = rw none tt; going = done.0; fault = tt; place = tt; after = tt })
 
 pub returns-then-is_empty : goal.returns-then-is_empty
 returns-then-is_empty c =
     let s = c.self.inside in
     let i = c.self.invariant in
     let piece = c.args.piece.now in
-    let goes_on = c.in-Unit.goes_on in
-    let start = c.in-Unit.start in
-    let end = c.in-Unit.end in
-    let p : IsPart s.place s.held.items piece goes_on start end = rw c.as_slice.ensures.value at c.in-Unit.ensures in
+    let goes_on = c.in-Ok.found.goes_on in
+    let start = c.in-Ok.found.start in
+    let end = c.in-Ok.found.end in
+    let p : IsPart s.place s.held.items piece goes_on start end = rw c.as_slice.ensures.value at c.in-Ok.ensures in
     let kept = kept_size goes_on s.held.items c.len.result c.kept_length-kept.result c.len.ensures.value c.kept_length-kept.ensures in
     let size = length_range piece start end p.within in
     let most = kept_most goes_on s.held.items in
@@ -91,17 +91,17 @@ returns-then-is_empty c =
     let held = holds_here c.args.self.now (seen Gap c.keep_held.new.held.items (s.fed + (end + 1)) (s.number + 1) s.refused) c.ended.result.statement _ (s.fed + start - c.kept_length-kept.result) empty (omega (arith, from)) c.ended.ensures.place c.ended.ensures.some in
     let used = some_used piece c.ended.result c.ended.ensures.some (omega (arith, c.ended.ensures.used)) (omega (arith, c.ended.ensures.used, behind)) in
     let numbered = number_of c.ended.result.statement _ _ _ c.ended.ensures.place (ap (λ (v : PieceCutting). v.number + 1) c.self.view_is) in
-    ((refl, λ _. tt, (done.0, done.1, held)), record { used = used; number = numbered; fault = tt; lent = lent; stepped = tt })
+    ((refl, λ _. tt, record { led = done.1; held = held; refused = tt }), record { used = used; number = numbered; lent = lent; going = done.0; fault = tt; place = tt; after = tt })
 
 pub returns : goal.returns
 returns c =
     let s = c.self.inside in
     let i = c.self.invariant in
     let piece = c.args.piece.now in
-    let goes_on = c.in-Unit.goes_on in
-    let start = c.in-Unit.start in
-    let end = c.in-Unit.end in
-    let p : IsPart s.place s.held.items piece goes_on start end = rw c.as_slice.ensures.value at c.in-Unit.ensures in
+    let goes_on = c.in-Ok.found.goes_on in
+    let start = c.in-Ok.found.start in
+    let end = c.in-Ok.found.end in
+    let p : IsPart s.place s.held.items piece goes_on start end = rw c.as_slice.ensures.value at c.in-Ok.ensures in
     let kept = kept_size goes_on s.held.items c.len.result c.kept_length-kept.result c.len.ensures.value c.kept_length-kept.ensures in
     let size = length_range piece start end p.within in
     let most = kept_most goes_on s.held.items in
@@ -124,4 +124,4 @@ returns c =
     let held = holds_before c.args.self.now (seen Gap c.hold-2.new.held.items (s.fed + (end + 1)) (s.number + 1) s.refused) c.ended-2.result.statement _ (s.fed + start - c.kept_length-kept.result) c.as_slice-2.result.now same before c.ended-2.ensures.place c.ended-2.ensures.bytes c.ended-2.ensures.some in
     let used = some_used piece c.ended-2.result c.ended-2.ensures.some (omega (arith, c.ended-2.ensures.used)) (omega (arith, c.ended-2.ensures.used, behind)) in
     let numbered = number_of c.ended-2.result.statement _ _ _ c.ended-2.ensures.place (ap (λ (v : PieceCutting). v.number + 1) c.self.view_is) in
-    ((refl, λ _. tt, (done.0, done.1, held)), record { used = used; number = numbered; fault = tt; lent = lent; stepped = tt })
+    ((refl, λ _. tt, record { led = done.1; held = held; refused = tt }), record { used = used; number = numbered; lent = lent; going = done.0; fault = tt; place = tt; after = tt })

@@ -8,9 +8,14 @@ use Rattle.shogi_board.proofs.Moved.{made, put-back, black-dropped, white-droppe
 use Rattle.shogi_board.proofs.position.Position.drop_piece.Goals as goal
 use Rattle.shogi_board.proofs.position.Position.drop_piece.Goals.{in-Black, in-White}
 
-pub king_is_attacked-requires-clause-one_king : goal.king_is_attacked-requires-clause-one_king
-king_is_attacked-requires-clause-one_king c =
-    let totals = rw (← c.self.view_is) at c.requires.totals in rw c.put.ensures (totals.kings c.self.inside.side)
+pub put-requires : goal.put-requires
+put-requires c = let totals = rw (← c.self.view_is) at c.requires.totals in totals.kings
+
+pub put-requires-then-king_is_attacked : goal.put-requires-then-king_is_attacked
+put-requires-then-king_is_attacked c = λ color.
+    let i = c.self.inside in
+    let empty : at i.board c.args.to ≡ None = rw (← c.self.view_is) at c.requires.empty in
+    rw (c.put.ensures, put-back i.board (place c.args.to) (piece i.side c.args.kind) None empty) (c.self.invariant.within.kings color)
 
 pub invariant_of-self : goal.invariant_of-self
 invariant_of-self c =

@@ -1,16 +1,32 @@
-use Rattle.std.proofs.Common.{◌≡◌, None, set, refl, subst, sym}
+use Rattle.std.proofs.Common.{◌≡◌, ◌∙◌, None, set, get_or, get_or-set_other, refl, subst, sym}
 use Rattle.shogi_board.specs.Cells.{piece}
 use Rattle.shogi_board.specs.Moved.{walked, HoldsTotals}
 use Rattle.shogi_board.specs.Placed.{Placed}
 use Rattle.shogi_board.specs.Reach.{InCheck}
 use Rattle.shogi_board.specs.Squares.{place}
-use Rattle.shogi_board.proofs.Moved.{made, walk-back, black-walked, white-walked}
+use Rattle.shogi_board.proofs.Marks.{fewer-kings}
+use Rattle.shogi_board.proofs.Moved.{made, put-back, walk-back, black-walked, white-walked}
 use Rattle.shogi_board.proofs.position.Position.walk.Goals as goal
 use Rattle.shogi_board.proofs.position.Position.walk.Goals.{in-Black, in-White}
 
-pub king_is_attacked-requires-clause-one_king : goal.king_is_attacked-requires-clause-one_king
-king_is_attacked-requires-clause-one_king c =
-    let totals = rw (← c.self.view_is) at c.requires.totals in rw (c.put-2.ensures, c.put.ensures) (totals.kings c.self.inside.side)
+pub put-requires : goal.put-requires
+put-requires c = fewer-kings c.self.inside.board c.args.from c.self.invariant.within.squares c.self.invariant.within.kings
+
+pub put-requires-2 : goal.put-requires-2
+put-requires-2 c = let totals = rw (← c.self.view_is) at c.requires.totals in rw c.put.ensures totals.kings
+
+pub put-requires-then-king_is_attacked : goal.put-requires-then-king_is_attacked
+put-requires-then-king_is_attacked c = λ color.
+    let i = c.self.inside in
+    let there : get_or (set i.board (place c.args.from) None) (place c.args.to) None ≡ c.at-captured.result = get_or-set_other i.board (place c.args.from) (place c.args.to) None None (λ e. c.requires.apart (sym e)) ∙ sym c.at-captured.ensures in
+    rw (c.put-2.ensures, c.put.ensures, put-back (set i.board (place c.args.from) None) (place c.args.to) (piece i.side c.args.kind) c.at-captured.result there)
+    (fewer-kings i.board c.args.from c.self.invariant.within.squares c.self.invariant.within.kings color)
+
+pub put-requires-then-king_is_attacked-2 : goal.put-requires-then-king_is_attacked-2
+put-requires-then-king_is_attacked-2 c = λ color.
+    let i = c.self.inside in
+    rw (c.put-then-king_is_attacked.ensures, c.put-2.ensures, c.put.ensures, walk-back i.board (place c.args.from) (place c.args.to) (piece i.side c.args.kind) c.at-was.result c.at-captured.result c.requires.apart (sym c.at-was.ensures) (sym c.at-captured.ensures))
+    (c.self.invariant.within.kings color)
 
 pub invariant_of-self : goal.invariant_of-self
 invariant_of-self c =

@@ -1,4 +1,6 @@
-use Rattle.std.proofs.Common.{◌≡◌, ap, ◌∙◌}
+use Rattle.std.proofs.Common.{◌≡◌, true, ap, ◌∙◌, subst, sym}
+use Rattle.shogi_board.specs.Placed.{Placed}
+use Rattle.shogi_board.specs.Reach.{InCheck}
 use Rattle.shogi_rules.specs.Positions.{now_of}
 use Rattle.shogi_rules.proofs.Games.{breaks-of}
 use Rattle.shogi_rules.proofs.line.Line.fault.Goals as goal
@@ -12,3 +14,8 @@ pub returns-in-None : goal.returns-in-None
 returns-in-None c =
     let e : c.self.inside.last ≡ now_of c.args.self.now = c.self.invariant.0.leads ∙ ap now_of c.self.view_is in
     (c.in_default.ensures.few, breaks-of c.args.self.now c.self.inside.last c.args.mover c.args.mv.now _ e c.in_default.ensures (rw c.in-None.is at c.make_by_side.ensures.broken))
+
+pub make_by_side-requires : goal.make_by_side-requires
+make_by_side-requires c =
+    let e : now_of c.args.self.now ≡ c.self.inside.last = sym (c.self.invariant.0.leads ∙ ap now_of c.self.view_is) in
+    subst (λ (p : Placed). c.is_safe.result ≡ true → InCheck p.board p.side → ⊥) e c.is_safe.ensures

@@ -1,6 +1,5 @@
 use Rattle.std.proofs.Common.{arith, refl}
 use Rattle.shogi_rules.specs.Positions.{begun}
-use Rattle.shogi_rules.proofs.MovedKings.{king-found}
 use Rattle.shogi_rules.proofs.line.Line.new.Goals as goal
 
 pub invariant_of-result : goal.invariant_of-result
@@ -12,9 +11,8 @@ invariant_of-result c = (
     few = rw c.in_ok-with_capacity.ensures.items (omega arith);
   },
   rw c.of.ensures at c.in_ok-repeats.ensures.value,
-  (
-    king-found _ _ c.king.result (rw c.side-side.ensures.value at c.king.ensures),
-    king-found _ _ c.king-2.result (rw (c.opponent.ensures, c.side-side.ensures.value) at c.king-2.ensures),
-  ),
-  c.in_check.ensures,
+  c.in_check-in_check.ensures,
 )
+
+pub push-requires-clause-check : goal.push-requires-clause-check
+push-requires-clause-check c = rw c.of.ensures c.in_check-in_check.ensures

@@ -1,18 +1,17 @@
-use Rattle.std.proofs.Common.{◌≡◌, ◌<◌, ◌++◌, List, [], ◌∷◌, None, length, ap, ◌∙◌, sym, subst, inl, inr, refl, arith}
+use Rattle.std.proofs.Common.{◌≡◌, ◌<◌, ◌++◌, true, List, [], ◌∷◌, None, length, ap, ◌∙◌, sym, subst, inl, inr, refl, arith}
 use Rattle.std.proofs.lemmas.Grind.{common_steps}
 use Rattle.std.specs.Prelude.{◌⊎◌, Some}
 use Rattle.shogi_board.specs.Placed.{Placed}
+use Rattle.shogi_board.specs.Reach.{InCheck}
 use Rattle.shogi_rules.specs.After.{after}
 use Rattle.shogi_rules.specs.Changes.{IsChangeBy}
 use Rattle.shogi_rules.specs.Legal.{FitsBoard, IsPawnDrop, Keeps, Mated, NoDropMate}
-use Rattle.shogi_rules.specs.LineKings.{IsOwnKing}
 use Rattle.shogi_rules.specs.Play.{Answers, Breaks, IsOpen}
 use Rattle.shogi_rules.specs.Positions.{now_of, position_after, Played}
 use Rattle.shogi_rules.specs.declared.line.PlayFault.TheVariants.{OutOfMemory}
 use Rattle.shogi_rules.specs.declared.moves.Move.{Move}
 use Rattle.shogi_rules.proofs.Broken.{mate-by-side, no-mate, none-by-side, unkept-by-side}
 use Rattle.shogi_rules.proofs.Games.{breaks-of, line-more, line-room, stands-last, within-line}
-use Rattle.shogi_rules.proofs.MovedKings.{kings-played, other-played}
 use Rattle.shogi_rules.proofs.line.Line.play.Goals as goal
 
 pub returns-in-Some-clause-answer : goal.returns-in-Some-clause-answer
@@ -30,7 +29,7 @@ returns-then-is_err-clause-answer c =
 pub make_if_kept-requires : goal.make_if_kept-requires
 make_if_kept-requires c =
     let e : now_of c.args.self.now ≡ c.self.inside.last = sym (c.self.invariant.0.leads ∙ ap now_of c.self.view_is) in
-    subst (λ (p : Placed). IsOwnKing p c.own-own.result) e c.own-own.ensures
+    subst (λ (p : Placed). c.is_safe-safe.result ≡ true → InCheck p.board p.side → ⊥) e c.is_safe-safe.ensures
 
 pub invariant_of-self-in-Some-make_if_kept : goal.invariant_of-self-in-Some-make_if_kept
 invariant_of-self-in-Some-make_if_kept c =
@@ -65,13 +64,6 @@ gives_check-in_check-requires-clause-next c =
     let before : c.position-before.result.now ≡ i.last = stands-last i.start i.last i.moves.items i.seen _ _ c.self.invariant.0 len c.position-before.ensures in
     let made : c.make_if_kept.new.position ≡ after i.last c.args.mv = c.make_if_kept.ensures.value c.in_default-make_if_kept.is in
     made ∙ ap (λ (p : Placed). after p c.args.mv) (sym before)
-
-pub gives_check-in_check-requires-clause-king : goal.gives_check-in_check-requires-clause-king
-gives_check-in_check-requires-clause-king c =
-    let i = c.self.inside in
-    let keeps : Keeps i.last c.args.mv = c.in_default-make_if_kept.ensures.kept in
-    let made : c.make_if_kept.new.position ≡ after i.last c.args.mv = c.make_if_kept.ensures.value c.in_default-make_if_kept.is in
-    other-played i.last _ c.args.mv i.own_king i.other_king made c.side-side.ensures.sound keeps.fits c.self.invariant.2
 
 pub invariant_of-self-then-mates_by_pawn_drop : goal.invariant_of-self-then-mates_by_pawn_drop
 invariant_of-self-then-mates_by_pawn_drop c =
@@ -114,11 +106,14 @@ packed_after-packed-requires-clause-next c =
     let made : c.make_if_kept.new.position ≡ after i.last c.args.mv = c.make_if_kept.ensures.value c.in_default-make_if_kept.is in
     made ∙ ap (λ (p : Placed). after p c.args.mv) (sym before)
 
-pub push-requires : goal.push-requires
-push-requires c =
+pub push-requires-clause-room : goal.push-requires-clause-room
+push-requires-clause-room c =
     let i = c.self.inside in
     let few : length i.moves.items < 10000 = rw (← c.self.view_is) at c.in_default.ensures.few in
     line-room i.start i.last i.moves.items i.seen c.self.invariant.0 few
+
+pub push-requires-clause-check : goal.push-requires-clause-check
+push-requires-clause-check c = rw c.packed_after-packed.ensures c.gives_check-in_check.ensures
 
 pub position-requires : goal.position-requires
 position-requires c =
@@ -141,7 +136,6 @@ invariant_of-self-in-Ok c =
     let pushed : c.push_reserved.new.self.items ≡ i.moves.items ++ c.args.mv ∷ [] = grind (arith, common_steps) in (
       rw (c.in-Ok.ensures.ok, pushed, c.packed_after-packed.ensures, next) (line-more i.start i.last i.moves.items i.seen c.args.mover c.args.mv c.self.invariant.0 may.few none),
       rw c.packed_after-packed.ensures at c.in-Ok.ensures.value,
-      kings-played i.last _ c.args.mv i.own_king i.other_king c.king_after-king.result made c.side-side.ensures.sound keeps.fits c.self.invariant.2 c.king_after-king.ensures.moved c.king_after-king.ensures.stays,
       c.gives_check-in_check.ensures,
     )
 

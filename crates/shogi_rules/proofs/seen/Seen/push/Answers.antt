@@ -14,7 +14,7 @@ invariant_of-self-2 c =
     let ps : List Placed = i.positions.items in
     let count = c.count-count.result in
     let earlier = c.latest-earlier.result in
-    let link : Link = record { count = count + 1; earlier = earlier } in
+    let link : Link = record { count = count + 1; in_check = c.args.in_check; earlier = earlier } in
     let pushed : c.push_reserved.new.self.items ≡ ps ++ p ∷ [] = grind (arith, common_steps) in
     let beside : c.push_reserved-2.new.self.items ≡ i.links.items ++ link ∷ [] = grind (arith, common_steps) in
     let counted : count ≡ times ps p = rw (sym c.self.view_is) at c.count-count.ensures in
@@ -22,7 +22,7 @@ invariant_of-self-2 c =
     let long : c.len.result ≡ length ps + 1 = grind (arith, common_steps) in
     let same : c.chain_of-chain.result ≡ chain_of p = c.chain_of-chain.ensures.value in
     rw (pushed, beside)
-    (linked-more ps i.links.items i.heads.items p c.chain_of-chain.result c.len.result count earlier c.self.invariant same long counted leads)
+    (linked-more ps i.links.items i.heads.items p c.chain_of-chain.result c.len.result count earlier c.args.in_check c.self.invariant same long counted c.requires.check leads)
 
 pub returns-clause-value : goal.returns-clause-value
 returns-clause-value c =
