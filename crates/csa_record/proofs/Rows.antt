@@ -6,6 +6,7 @@ use Rattle.shogi_board.specs.declared.color.Color.TheVariants.{White}
 use Rattle.shogi_board.specs.declared.kind.Kind.TheVariants.{Pawn}
 use Rattle.shogi_board.specs.Cells.{even_cells}
 use Rattle.shogi_board.specs.Placed.{Placed, even_start}
+use Rattle.shogi_board.specs.Totals.{bare_board}
 use Rattle.shogi_rules.specs.declared.moves.Move.TheVariants.{Walk}
 use Rattle.csa_text.specs.declared.ending.Ending.TheVariants.{Toryo}
 use Rattle.record_game.specs.Canon.{canon, time_text}
@@ -19,7 +20,7 @@ even_row : canon (started even_start [] None) ≡ codes "V2.2" ++ 10 ∷ (codes 
 even_row = refl
 
 -- without white's bishop and rook, white to move
-handicap_row : canon (started (record even_start { board = set (set even_cells 10 None) 64 None; side = White }) [] None) ≡ codes "V2.2" ++ 10 ∷ (codes "PI22KA82HI" ++ 10 ∷ 45 ∷ 10 ∷ [])
+handicap_row : canon (started (record { material = bare_board (set (set even_cells 10 None) 64 None); side = White }) [] None) ≡ codes "V2.2" ++ 10 ∷ (codes "PI22KA82HI" ++ 10 ∷ 45 ∷ 10 ∷ [])
 handicap_row = refl
 
 played_row : canon (started even_start (record { move = Walk (square_at 60) (square_at 59) Pawn; time = Some 12000 } ∷ record { move = Walk (square_at 20) (square_at 21) Pawn; time = Some 6500 } ∷ []) (Some (record { ending = Toryo; time = None })))

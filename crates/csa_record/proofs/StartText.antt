@@ -75,16 +75,16 @@ hand_text bag =
     let b = flat_map-append pair_text (held bag Bishop) (held bag Gold ++ (held bag Silver ++ (held bag Knight ++ (held bag Lance ++ (held bag Pawn ++ []))))) ∙ ap (λ t. pairs_text (held bag Bishop) ++ t) g in
     flat_map-append pair_text (held bag Rook) (held bag Bishop ++ (held bag Gold ++ (held bag Silver ++ (held bag Knight ++ (held bag Lance ++ (held bag Pawn ++ [])))))) ∙ ap (λ t. pairs_text (held bag Rook) ++ t) b
 
-pub other_items : (p : Placed) → is_from_even p ≡ false → flat_map ended_line (start_items p) ≡ flat_map ended_line (rank_items p.board) ++ (flat_map ended_line (hand_items Black p.black) ++ flat_map ended_line (hand_items White p.white))
+pub other_items : (p : Placed) → is_from_even p ≡ false → flat_map ended_line (start_items p) ≡ flat_map ended_line (rank_items p.material.board) ++ (flat_map ended_line (hand_items Black p.material.black) ++ flat_map ended_line (hand_items White p.material.white))
 other_items p h =
-    rw h (flat_map-append ended_line (rank_items p.board) (hand_items Black p.black ++ hand_items White p.white)
-    ∙ ap (λ t. flat_map ended_line (rank_items p.board) ++ t) (flat_map-append ended_line (hand_items Black p.black) (hand_items White p.white)))
+    rw h (flat_map-append ended_line (rank_items p.material.board) (hand_items Black p.material.black ++ hand_items White p.material.white)
+    ∙ ap (λ t. flat_map ended_line (rank_items p.material.board) ++ t) (flat_map-append ended_line (hand_items Black p.material.black) (hand_items White p.material.white)))
 
-pub start_written : (p : Placed) (old a b c : List ℕ) → is_from_even p ≡ false → a ≡ old ++ flat_map ended_line (rank_items p.board) → b ≡ a ++ flat_map ended_line (hand_items Black p.black) → c ≡ b ++ flat_map ended_line (hand_items White p.white) → c ≡ old ++ flat_map ended_line (start_items p)
+pub start_written : (p : Placed) (old a b c : List ℕ) → is_from_even p ≡ false → a ≡ old ++ flat_map ended_line (rank_items p.material.board) → b ≡ a ++ flat_map ended_line (hand_items Black p.material.black) → c ≡ b ++ flat_map ended_line (hand_items White p.material.white) → c ≡ old ++ flat_map ended_line (start_items p)
 start_written p old a b c other e f g =
-    let ranks = flat_map ended_line (rank_items p.board) in
-    let black = flat_map ended_line (hand_items Black p.black) in
-    let white = flat_map ended_line (hand_items White p.white) in
+    let ranks = flat_map ended_line (rank_items p.material.board) in
+    let black = flat_map ended_line (hand_items Black p.material.black) in
+    let white = flat_map ended_line (hand_items White p.material.white) in
     g ∙ (ap (λ t. t ++ white) (f ∙ ap (λ t. t ++ black) e)
     ∙ (append_assoc (old ++ ranks) black white ∙ (append_assoc old ranks (black ++ white) ∙ ap (λ t. old ++ t) (sym (other_items p other)))))
 

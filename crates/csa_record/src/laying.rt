@@ -113,10 +113,10 @@ impl Laying {
     // The start, with that side to move.
     pub(crate) fn finish(&self, side: Color) -> Result<Position, Why>
         ensures answer { MatchResult result
-            (λ p. (InCheck self.now.layout.board (opponent side) → ⊥) × (p ≡ position_of self.now.layout side))
-            (λ why. InCheck self.now.layout.board (opponent side) × (why ≡ Why.Start OpponentInCheck)) }
+            (λ p. (InCheck self.now.layout.material.board (opponent side) → ⊥) × (p ≡ position_of self.now.layout side))
+            (λ why. InCheck self.now.layout.material.board (opponent side) × (why ≡ Why.Start OpponentInCheck)) }
         ensures sound { IfOk result (λ p. IsSound p) }
-        ensures within { IsWithinTotals self.now.layout.board self.now.layout.black self.now.layout.white }
+        ensures within { IsWithinTotals self.now.layout.material }
     {
         match self.setup.finish(side) {
             Ok(position) => Ok(position),

@@ -44,7 +44,7 @@ impl Record {
     ///
     /// Refuses OutOfMemory.
     pub fn new(alloc: Global, start: Position) -> Result<Record, OutOfMemory>
-        ensures { IfOk result (λ r. r ≡ game_along (record { start = start; moves = [] })) }
+        ensures game { IfOk result (λ r. r ≡ game_along (record { start = start; moves = [] })) }
     {
         let course = Course::new(alloc, start)?;
         Ok(Record::from_parts(Titles::new(alloc), course))
@@ -127,7 +127,7 @@ impl Record {
 
     /// What stands under this key, if something does.
     pub fn header(&self, key: &[u8]) -> Option<HeaderValue<'_>>
-        ensures { MatchOption result
+        ensures value { MatchOption result
             (under key.now self.now.headers ≡ [])
             (λ value. under key.now self.now.headers ≡ record { key = key.now; text = shown value } ∷ []) }
     {
@@ -136,7 +136,7 @@ impl Record {
 
     /// The start and the moves.
     pub fn line(&self) -> &Line
-        ensures { result.now ≡ record { start = self.now.start; moves = map move_of self.now.moves } }
+        ensures value { result.now ≡ record { start = self.now.start; moves = map move_of self.now.moves } }
     {
         self.course.line()
     }
@@ -176,7 +176,7 @@ impl Record {
     /// The time that the move with this index took, counted from 0, in thousandths of a second; None
     /// where it has none, and past the last move.
     pub fn time(&self, i: usize) -> Option<u64>
-        ensures { result ≡ time_at self.now.moves i }
+        ensures value { result ≡ time_at self.now.moves i }
     {
         self.course.time(i)
     }
@@ -207,7 +207,7 @@ impl Record {
 
     /// The time that the ending took, in thousandths of a second, if it has one.
     pub fn ending_time(&self) -> Option<u64>
-        ensures { result ≡ ending_time_of self.now.ending }
+        ensures value { result ≡ ending_time_of self.now.ending }
     {
         self.course.ending_time()
     }

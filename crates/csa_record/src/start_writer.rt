@@ -27,7 +27,7 @@ pub(crate) fn write_start(out: &mut Vec<u8>, start: &Position) -> Result<(), Out
 }
 
 fn is_from_even(start: &Position) -> bool
-    requires { length start.now.board ≡ 81 }
+    requires { length start.now.material.board ≡ 81 }
     ensures { result ≡ is_from_even start.now }
 {
     count_held(start.hand(Color::Black)) == 0
@@ -49,8 +49,8 @@ fn count_held(hand: Hand) -> u32
 
 // Whether each piece stands where the even board has it.
 fn is_part_of_even(start: &Position) -> bool
-    requires { length start.now.board ≡ 81 }
-    ensures { result ≡ is_part_of start.now.board even_cells }
+    requires { length start.now.material.board ≡ 81 }
+    ensures { result ≡ is_part_of start.now.material.board even_cells }
 {
     let even = Position::even();
     for n in 0..81usize {
@@ -75,8 +75,8 @@ fn stands_in(cell: Option<Piece>, other: Option<Piece>) -> bool
 }
 
 fn write_even(out: &mut Vec<u8>, start: &Position) -> Result<(), OutOfMemory>
-    requires { length start.now.board ≡ 81 }
-    ensures { OnOk result (out.new.items ≡ out.old.items ++ ended_line (even (missing 0 even_cells start.now.board))) }
+    requires { length start.now.material.board ≡ 81 }
+    ensures { OnOk result (out.new.items ≡ out.old.items ++ ended_line (even (missing 0 even_cells start.now.material.board))) }
 {
     out.extend_from_slice(b"PI")?;
     write_missing(out, start)?;
@@ -87,8 +87,8 @@ fn write_even(out: &mut Vec<u8>, start: &Position) -> Result<(), OutOfMemory>
 // The pieces of the even board that are missing.
 #[tactic(auto, using(crate::proofs::StartText::text_at))]
 fn write_missing(out: &mut Vec<u8>, start: &Position) -> Result<(), OutOfMemory>
-    requires { length start.now.board ≡ 81 }
-    ensures { OnOk result (out.new.items ≡ out.old.items ++ pairs_text (missing 0 even_cells start.now.board)) }
+    requires { length start.now.material.board ≡ 81 }
+    ensures { OnOk result (out.new.items ≡ out.old.items ++ pairs_text (missing 0 even_cells start.now.material.board)) }
 {
     let even = Position::even();
     for n in 0..81usize {
@@ -118,7 +118,7 @@ fn write_gone(
 }
 
 fn write_ranks(out: &mut Vec<u8>, start: &Position) -> Result<(), OutOfMemory>
-    ensures { OnOk result (out.new.items ≡ out.old.items ++ flat_map ended_line (rank_items start.now.board)) }
+    ensures { OnOk result (out.new.items ≡ out.old.items ++ flat_map ended_line (rank_items start.now.material.board)) }
 {
     for number in 1..10u8 {
         write_rank(out, start, number)?;
@@ -129,7 +129,7 @@ fn write_ranks(out: &mut Vec<u8>, start: &Position) -> Result<(), OutOfMemory>
 fn write_rank(out: &mut Vec<u8>, start: &Position, number: u8) -> Result<(), OutOfMemory>
     requires low { 1 ≤ number }
     requires high { number ≤ 9 }
-    ensures { OnOk result (out.new.items ≡ out.old.items ++ ended_line (rank number (rank_cells start.now.board number))) }
+    ensures { OnOk result (out.new.items ≡ out.old.items ++ ended_line (rank number (rank_cells start.now.material.board number))) }
 {
     out.push(b'P')?;
     out.push(b'0' + number)?;
@@ -142,7 +142,7 @@ fn write_rank(out: &mut Vec<u8>, start: &Position, number: u8) -> Result<(), Out
 fn write_cells(out: &mut Vec<u8>, start: &Position, number: u8) -> Result<(), OutOfMemory>
     requires low { 1 ≤ number }
     requires high { number ≤ 9 }
-    ensures { OnOk result (out.new.items ≡ out.old.items ++ flat_map cell_text (rank_cells start.now.board number)) }
+    ensures { OnOk result (out.new.items ≡ out.old.items ++ flat_map cell_text (rank_cells start.now.material.board number)) }
 {
     for i in 0..9usize {
         let square = Square::at_place((8 - i) * 9 + number as usize - 1);

@@ -13,7 +13,7 @@ use Rattle.jiff_core.specs.declared.civil.date.Date.{Date}
 use Rattle.jiff_core.specs.declared.civil.time.Time.{Time}
 use Rattle.csa_text.proofs.LineCutting.{all_joined}
 use Rattle.csa_text.specs.Fields.{IsNumber, HasNone, IsSplit}
-use Rattle.csa_text.specs.Moment.{TimeOfDay, CalendarMoment, DateDigits, TimeDigits, SpellsDate, SpellsTime, SpellsDateAnd, SpellsMoment, two_digits, four_digits, date_text, time_text, behind_date}
+use Rattle.csa_text.specs.Moment.{TimeOfDay, CalendarMoment, AreNumbers, DateDigits, TimeDigits, SpellsDate, SpellsTime, SpellsDateAnd, SpellsMoment, two_digits, four_digits, date_text, time_text, behind_date}
 use Rattle.csa_text.specs.MomentParts.{time_of}
 use Rattle.csa_text.proofs.Once.{same_front}
 
@@ -60,59 +60,51 @@ has_one mark (b ∷ x) y h = has_one mark x y h.1
 pub no_split : (mark : ℕ) (bytes x y : List ℕ) → HasNone mark bytes → bytes ≡ x ++ mark ∷ y → ⊥
 no_split mark bytes x y none whole = has_one mark x y (subst (HasNone mark) whole none)
 
-slash : digit_value 47 < 10 → ⊥
+pub slash : digit_value 47 < 10 → ⊥
 slash h = omega arith
 
-colon : digit_value 58 < 10 → ⊥
+pub colon : digit_value 58 < 10 → ⊥
 colon h = omega arith
 
 space : digit_value 32 < 10 → ⊥
 space h = omega arith
 
 abbrev pub TwoParts : ℕ → ℕ → List ℕ → ℕ → ℕ → Type 0
-TwoParts mark fewest rest m d = (ms ds : List ℕ) × (rest ≡ ms ++ mark ∷ ds) × IsNumber fewest 2 ms m × IsNumber fewest 2 ds d
+TwoParts mark others rest m d = (ms ds : List ℕ) × (rest ≡ ms ++ mark ∷ ds) × IsNumber others 2 ms m × IsNumber others 2 ds d
 
-pub date_year : (bytes a b : List ℕ) (y m d : ℕ) → IsSplit 47 bytes a b → DateDigits bytes y m d → IsNumber 4 4 a y × TwoParts 47 1 b m d
-date_year bytes a b y m d s n =
-    let same = split_same 47 bytes a b n.years (n.months ++ 47 ∷ n.days) s n.whole (none_of 47 slash n.years n.year_is.digits_only) in
-    (rw same.0 n.year_is, (n.months, n.days, same.1, n.month_is, n.day_is))
-
-pub time_hour : (bytes a b : List ℕ) (h m s : ℕ) → IsSplit 58 bytes a b → TimeDigits bytes h m s → IsNumber 1 2 a h × TwoParts 58 2 b m s
-time_hour bytes a b h m s split n =
-    let same = split_same 58 bytes a b n.hours (n.minutes ++ 58 ∷ n.seconds) split n.whole (none_of 58 colon n.hours n.hour_is.digits_only) in
-    (rw same.0 n.hour_is, (n.minutes, n.seconds, same.1, n.minute_is, n.second_is))
+pub first_number : (mark few most others : ℕ) (bytes a b : List ℕ) (y m d : ℕ) → (digit_value mark < 10 → ⊥) → IsSplit mark bytes a b
+    → AreNumbers mark few most others bytes y m d → IsNumber few most a y × TwoParts mark others b m d
+first_number mark few most others bytes a b y m d none s n =
+    let same = split_same mark bytes a b n.front (n.middle ++ mark ∷ n.back) s n.whole (none_of mark none n.front n.first_is.digits_only) in
+    (rw same.0 n.first_is, (n.middle, n.back, same.1, n.second_is, n.third_is))
 
 pub two_parts : (mark : ℕ) (fewest : ℕ) (rest p q : List ℕ) (m d : ℕ) → (digit_value mark < 10 → ⊥) → IsSplit mark rest p q → TwoParts mark fewest rest m d → IsNumber fewest 2 p m × IsNumber fewest 2 q d
 two_parts mark fewest rest p q m d none s (ms, ds, whole, month, day) =
     let same = split_same mark rest p q ms ds s whole (none_of mark none ms month.digits_only) in
     (rw same.0 month, rw same.1 day)
 
-pub date_rest : (bytes a b p q : List ℕ) (y m d : ℕ) → IsSplit 47 bytes a b → IsSplit 47 b p q → DateDigits bytes y m d → IsNumber 4 4 a y × IsNumber 1 2 p m × IsNumber 1 2 q d
-date_rest bytes a b p q y m d s t n =
-    let first = date_year bytes a b y m d s n in
-    let rest = two_parts 47 1 b p q m d slash t first.1 in
-    (first.0, rest.0, rest.1)
-
-pub time_rest : (bytes a b p q : List ℕ) (h m s : ℕ) → IsSplit 58 bytes a b → IsSplit 58 b p q → TimeDigits bytes h m s → IsNumber 1 2 a h × IsNumber 2 2 p m × IsNumber 2 2 q s
-time_rest bytes a b p q h m s split t n =
-    let first = time_hour bytes a b h m s split n in
-    let rest = two_parts 58 2 b p q m s colon t first.1 in
+pub three_parts : (mark few most others : ℕ) (bytes a b p q : List ℕ) (y m d : ℕ) → (digit_value mark < 10 → ⊥) → IsSplit mark bytes a b → IsSplit mark b p q
+    → AreNumbers mark few most others bytes y m d → IsNumber few most a y × IsNumber others 2 p m × IsNumber others 2 q d
+three_parts mark few most others bytes a b p q y m d none s t n =
+    let first = first_number mark few most others bytes a b y m d none s n in
+    let rest = two_parts mark others b p q m d none t first.1 in
     (first.0, rest.0, rest.1)
 
 same_number : (fewest most : ℕ) (digits : List ℕ) (a b : ℕ) → IsNumber fewest most digits a → IsNumber fewest most digits b → a ≡ b
 same_number fewest most digits a b p q = p.value_is ∙ sym q.value_is
 
+pub numbers_once : (mark few most others : ℕ) (bytes : List ℕ) (y m d a b c : ℕ) → (digit_value mark < 10 → ⊥)
+    → AreNumbers mark few most others bytes y m d → AreNumbers mark few most others bytes a b c → (y ≡ a) × (m ≡ b) × (d ≡ c)
+numbers_once mark few most others bytes y m d a b c none n o =
+    let parts = three_parts mark few most others bytes n.front (n.middle ++ mark ∷ n.back) n.middle n.back a b c none
+    (n.whole, none_of mark none n.front n.first_is.digits_only) (refl, none_of mark none n.middle n.second_is.digits_only) o in
+    (same_number few most n.front y a n.first_is parts.0, same_number others 2 n.middle m b n.second_is parts.1, same_number others 2 n.back d c n.third_is parts.2)
+
 pub date_once : (bytes : List ℕ) (y m d a b c : ℕ) → DateDigits bytes y m d → DateDigits bytes a b c → (y ≡ a) × (m ≡ b) × (d ≡ c)
-date_once bytes y m d a b c n o =
-    let parts = date_rest bytes n.years (n.months ++ 47 ∷ n.days) n.months n.days a b c
-    (n.whole, none_of 47 slash n.years n.year_is.digits_only) (refl, none_of 47 slash n.months n.month_is.digits_only) o in
-    (same_number 4 4 n.years y a n.year_is parts.0, same_number 1 2 n.months m b n.month_is parts.1, same_number 1 2 n.days d c n.day_is parts.2)
+date_once bytes y m d a b c n o = numbers_once 47 4 4 1 bytes y m d a b c slash n o
 
 pub time_once : (bytes : List ℕ) (h m s a b c : ℕ) → TimeDigits bytes h m s → TimeDigits bytes a b c → (h ≡ a) × (m ≡ b) × (s ≡ c)
-time_once bytes h m s a b c n o =
-    let parts = time_rest bytes n.hours (n.minutes ++ 58 ∷ n.seconds) n.minutes n.seconds a b c
-    (n.whole, none_of 58 colon n.hours n.hour_is.digits_only) (refl, none_of 58 colon n.minutes n.minute_is.digits_only) o in
-    (same_number 1 2 n.hours h a n.hour_is parts.0, same_number 2 2 n.minutes m b n.minute_is parts.1, same_number 2 2 n.seconds s c n.second_is parts.2)
+time_once bytes h m s a b c n o = numbers_once 58 1 2 2 bytes h m s a b c colon n o
 
 pub day_found : (bytes : List ℕ) (y m d : ℕ) (o : Option Date) → DateDigits bytes y m d → IsSome o ↔ IsCivilDate (pos y) m d → IfSome o (λ date. (date.year ≡ pos y) × (date.month ≡ m) × (date.day ≡ d)) → MatchOption o ((a b c : ℕ) → SpellsDate bytes a b c → ⊥) (λ date. SpellsDate bytes (unsigned_abs date.year) date.month date.day)
 day_found bytes y m d None n exists value = λ a b c s.
@@ -140,8 +132,8 @@ none_joined mark xs ys h k = all_joined (λ b. (b == mark) ≡ false) xs ys h k
 date_has_no_space : (bytes : List ℕ) (y m d : ℕ) → DateDigits bytes y m d → HasNone 32 bytes
 date_has_no_space bytes y m d n =
     rw n.whole
-    (none_joined 32 n.years (47 ∷ (n.months ++ 47 ∷ n.days)) (none_of 32 space n.years n.year_is.digits_only)
-    (refl, none_joined 32 n.months (47 ∷ n.days) (none_of 32 space n.months n.month_is.digits_only) (refl, none_of 32 space n.days n.day_is.digits_only)))
+    (none_joined 32 n.front (47 ∷ (n.middle ++ 47 ∷ n.back)) (none_of 32 space n.front n.first_is.digits_only)
+    (refl, none_joined 32 n.middle (47 ∷ n.back) (none_of 32 space n.middle n.second_is.digits_only) (refl, none_of 32 space n.back n.third_is.digits_only)))
 
 pub no_date_alone : (bytes : List ℕ) (t : Option TimeOfDay) (y m d : ℕ) → HasNone 32 bytes → ((a b c : ℕ) → SpellsDate bytes a b c → ⊥) → SpellsDateAnd t bytes y m d → ⊥
 no_date_alone bytes None y m d none never s = never y m d s
@@ -199,13 +191,13 @@ date_spelled : (y m d : ℕ) → y < 10000 → IsCivilDate (pos y) m d → Spell
 date_spelled y m d few exists =
     let days = few_days (pos y) m in (
       record {
-        years = four_digits y;
-        months = two_digits m;
-        days = two_digits d;
+        front = four_digits y;
+        middle = two_digits m;
+        back = two_digits d;
         whole = refl;
-        year_is = four_number y few;
-        month_is = two_number 1 m (omega arith) (omega (arith, exists.1));
-        day_is = two_number 1 d (omega arith) (omega (arith, exists.2, days));
+        first_is = four_number y few;
+        second_is = two_number 1 m (omega arith) (omega (arith, exists.1));
+        third_is = two_number 1 d (omega arith) (omega (arith, exists.2, days));
       },
       exists,
     )
@@ -217,13 +209,13 @@ InDay (Some t) = (t.hour ≤ 23) × (t.minute ≤ 59) × (t.second ≤ 59)
 time_spelled : (t : TimeOfDay) → (t.hour ≤ 23) × (t.minute ≤ 59) × (t.second ≤ 59) → SpellsTime (time_text t.hour t.minute t.second) t.hour t.minute t.second
 time_spelled t h = (
   record {
-    hours = two_digits t.hour;
-    minutes = two_digits t.minute;
-    seconds = two_digits t.second;
+    front = two_digits t.hour;
+    middle = two_digits t.minute;
+    back = two_digits t.second;
     whole = refl;
-    hour_is = two_number 1 t.hour (omega arith) (omega (arith, h.0));
-    minute_is = two_number 2 t.minute (omega arith) (omega (arith, h.1));
-    second_is = two_number 2 t.second (omega arith) (omega (arith, h.2));
+    first_is = two_number 1 t.hour (omega arith) (omega (arith, h.0));
+    second_is = two_number 2 t.minute (omega arith) (omega (arith, h.1));
+    third_is = two_number 2 t.second (omega arith) (omega (arith, h.2));
   },
   h.0,
   h.1,

@@ -14,25 +14,23 @@ pub record CalendarMoment : Type 0 where
   pub day : ℕ
   pub time : Option TimeOfDay
 
+-- three numbers with this mark between: the first of at least and at most so many digits, the others of at least so many and at most two
+pub record AreNumbers (mark fewest most others : ℕ) (bytes : List ℕ) (first second third : ℕ) : Type 0 where
+  pub front : List ℕ
+  pub middle : List ℕ
+  pub back : List ℕ
+  pub whole : bytes ≡ front ++ mark ∷ (middle ++ mark ∷ back)
+  pub first_is : IsNumber fewest most front first
+  pub second_is : IsNumber others 2 middle second
+  pub third_is : IsNumber others 2 back third
+
 -- four digits, `/`, one or two digits, `/`, one or two digits
-pub record DateDigits (bytes : List ℕ) (year month day : ℕ) : Type 0 where
-  pub years : List ℕ
-  pub months : List ℕ
-  pub days : List ℕ
-  pub whole : bytes ≡ years ++ 47 ∷ (months ++ 47 ∷ days)
-  pub year_is : IsNumber 4 4 years year
-  pub month_is : IsNumber 1 2 months month
-  pub day_is : IsNumber 1 2 days day
+abbrev pub DateDigits : List ℕ → ℕ → ℕ → ℕ → Type 0
+DateDigits bytes year month day = AreNumbers 47 4 4 1 bytes year month day
 
 -- one or two digits, `:`, two digits, `:`, two digits
-pub record TimeDigits (bytes : List ℕ) (hour minute second : ℕ) : Type 0 where
-  pub hours : List ℕ
-  pub minutes : List ℕ
-  pub seconds : List ℕ
-  pub whole : bytes ≡ hours ++ 58 ∷ (minutes ++ 58 ∷ seconds)
-  pub hour_is : IsNumber 1 2 hours hour
-  pub minute_is : IsNumber 2 2 minutes minute
-  pub second_is : IsNumber 2 2 seconds second
+abbrev pub TimeDigits : List ℕ → ℕ → ℕ → ℕ → Type 0
+TimeDigits bytes hour minute second = AreNumbers 58 1 2 2 bytes hour minute second
 
 -- a day that the calendar has
 abbrev pub SpellsDate : List ℕ → ℕ → ℕ → ℕ → Type 0

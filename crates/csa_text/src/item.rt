@@ -54,11 +54,11 @@ pub fn read_item(bytes: &[u8]) -> Result<Item<'_>, TextFault>
         [b'V', number @ ..] => read_version(number),
         [b'N', name @ ..] => read_name(name),
         [b'$', line @ ..] => read_header(line),
-        [b'P', start @ ..] => read_start(start),
+        [b'P', start @ ..] => read_position(start),
         [b'+', squares @ ..] => read_signed(Color::Black, squares),
         [b'-', squares @ ..] => read_signed(Color::White, squares),
-        [b'T', text @ ..] => read_spent(text),
-        [b'%', name @ ..] => read_end(name),
+        [b'T', text @ ..] => read_time_item(text),
+        [b'%', name @ ..] => read_ending_item(name),
         _ => Err(TextFault::Unknown),
     }
 }
@@ -98,7 +98,7 @@ fn read_header(line: &[u8]) -> Result<Item<'_>, TextFault>
 }
 
 // Behind `P`.
-fn read_start(start: &[u8]) -> Result<Item<'_>, TextFault>
+fn read_position(start: &[u8]) -> Result<Item<'_>, TextFault>
     ensures { IsRead (80 ∷ start.now) result }
 {
     match start {
@@ -149,7 +149,7 @@ fn read_signed(color: Color, squares: &[u8]) -> Result<Item<'_>, TextFault>
 
 // Behind `T`.
 #[inline(always)]
-fn read_spent(text: &[u8]) -> Result<Item<'_>, TextFault>
+fn read_time_item(text: &[u8]) -> Result<Item<'_>, TextFault>
     ensures { IsRead (84 ∷ text.now) result }
 {
     match read_time(text) {
@@ -159,7 +159,7 @@ fn read_spent(text: &[u8]) -> Result<Item<'_>, TextFault>
 }
 
 // Behind `%`.
-fn read_end(name: &[u8]) -> Result<Item<'_>, TextFault>
+fn read_ending_item(name: &[u8]) -> Result<Item<'_>, TextFault>
     ensures { IsRead (37 ∷ name.now) result }
 {
     let ending = read_ending(name).ok_or(TextFault::UnknownEnding)?;

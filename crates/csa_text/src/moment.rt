@@ -1,7 +1,8 @@
-ghost use Rattle.std.specs.Prelude.{◌≡◌, ℕ, ◌+◌, ◌<◌, ◌≤◌, ◌++◌, ◌↔◌, pos, ◌≤ℤ◌, unsigned_abs, MatchOption, IfSome, IfNone, IsSome};
+ghost use Rattle.std.specs.Char.{digit_value};
+ghost use Rattle.std.specs.Prelude.{◌≡◌, ℕ, ◌+◌, ◌^◌, ◌<◌, ◌≤◌, ◌++◌, ◌↔◌, pos, ◌≤ℤ◌, unsigned_abs, MatchOption, IfSome, IfNone, IsSome};
 ghost use Rattle.jiff_core.specs.Calendar.{IsCivilDate};
 ghost use Rattle.arrayvec.specs.ArrayString.{array_string_len};
-ghost use Rattle.csa_text.specs.Moment.{CalendarMoment, SpellsDate, SpellsTime, SpellsMoment, DateDigits, TimeDigits, date_text, time_text, moment_text, two_digits};
+ghost use Rattle.csa_text.specs.Moment.{CalendarMoment, SpellsDate, SpellsTime, SpellsMoment, AreNumbers, date_text, time_text, moment_text, two_digits};
 ghost use Rattle.csa_text.specs.MomentParts.{moment_of};
 
 use crate::calendar::Moment;
@@ -52,7 +53,7 @@ fn read_date(bytes: &[u8]) -> Option<Date>
         (λ date. SpellsDate bytes.now (unsigned_abs date.year) date.month date.day) }
     ensures bounds { IfSome result (λ date. (pos 0 ≤ℤ date.year) × (date.year ≤ℤ pos 9999)) }
 {
-    let (year, month, day) = date_digits(bytes)?;
+    let (year, month, day) = three_numbers(bytes, b'/', (4, 4), 1)?;
     date_of(year, month, day)
 }
 
@@ -62,7 +63,7 @@ fn read_time(bytes: &[u8]) -> Option<Time>
         (λ time. SpellsTime bytes.now time.hour time.minute time.second) }
     ensures whole_seconds { IfSome result (λ time. time.subsec_nanosecond ≡ 0) }
 {
-    let (hour, minute, second) = time_digits(bytes)?;
+    let (hour, minute, second) = three_numbers(bytes, b':', (1, 2), 2)?;
     time_of(hour, minute, second)
 }
 
@@ -84,35 +85,28 @@ fn time_of(hour: u16, minute: u16, second: u16) -> Option<Time>
     Time::new(hour as i8, minute as i8, second as i8, 0).ok()
 }
 
-// The numbers of a date, whether there is such a day or not.
-fn date_digits(bytes: &[u8]) -> Option<(u16, u16, u16)>
+// Three numbers with the mark between them: the first of at least and at most so many digits, the
+// others of at least so many and at most two.
+fn three_numbers(
+    bytes: &[u8],
+    mark: u8,
+    first: (usize, usize),
+    others: usize,
+) -> Option<(u16, u16, u16)>
+    requires few { first.1 ≤ 4 }
+    requires mark { digit_value mark < 10 → ⊥ }
     ensures value { MatchOption result
-        ((year month day : ℕ) → DateDigits bytes.now year month day → ⊥)
-        (λ n. DateDigits bytes.now n.0 n.1 n.2) }
-    ensures bounds { IfSome result (λ n. (n.0 < 10000) × (n.1 < 100) × (n.2 < 100)) }
+        ((a b c : ℕ) → AreNumbers mark first.0 first.1 others bytes.now a b c → ⊥)
+        (λ n. AreNumbers mark first.0 first.1 others bytes.now n.0 n.1 n.2) }
+    ensures bounds { IfSome result (λ n. (n.0 < 10 ^ first.1) × (n.1 < 100) × (n.2 < 100)) }
 {
-    let (year, rest) = split_at_byte(bytes, b'/')?;
-    let (month, day) = split_at_byte(rest, b'/')?;
+    let (front, rest) = split_at_byte(bytes, mark)?;
+    let (middle, back) = split_at_byte(rest, mark)?;
+    let (fewest, most) = first;
     Some((
-        read_number(year, 4, 4)?,
-        read_number(month, 1, 2)?,
-        read_number(day, 1, 2)?,
-    ))
-}
-
-// The numbers of a time, whether there is such a time or not.
-fn time_digits(bytes: &[u8]) -> Option<(u16, u16, u16)>
-    ensures value { MatchOption result
-        ((hour minute second : ℕ) → TimeDigits bytes.now hour minute second → ⊥)
-        (λ n. TimeDigits bytes.now n.0 n.1 n.2) }
-    ensures bounds { IfSome result (λ n. (n.0 < 100) × (n.1 < 100) × (n.2 < 100)) }
-{
-    let (hour, rest) = split_at_byte(bytes, b':')?;
-    let (minute, second) = split_at_byte(rest, b':')?;
-    Some((
-        read_number(hour, 1, 2)?,
-        read_number(minute, 2, 2)?,
-        read_number(second, 2, 2)?,
+        read_number(front, fewest, most)?,
+        read_number(middle, others, 2)?,
+        read_number(back, others, 2)?,
     ))
 }
 

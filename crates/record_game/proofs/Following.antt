@@ -169,7 +169,7 @@ whole_laid ss g written says =
     let s = says.start in
     let u = s.union in
     let given = filter_map rest_given (placings (positions ss)) in
-    let full : Within (with_rest_given given s.layout) = subst (λ (p : Placed). IsWithinTotals p.board p.black p.white) s.start_is says.game.sound.within in
+    let full : Within (with_rest_given given s.layout) = subst (λ (p : Placed). IsWithinTotals p.material) s.start_is says.game.sound.within in
     let within = before_rest s.layout given (ap length u.black) (ap length u.white) full in
     record {
       layout = with_rest_given given s.layout;
@@ -483,10 +483,10 @@ turn_follows fs bs color k g (laying l) is h written says =
     let split : positions (fs ++ turn color ∷ bs) ≡ positions fs = filter-append is_position fs (turn color ∷ bs) ∙ (ap (λ xs. positions fs ++ xs) bare ∙ append-nil (positions fs)) in
     let both : Ok l.layout ≡ Ok whole.layout = sym lays.laid ∙ (ap (λ ps. place_all (board_alone (first_board ps)) (placings ps)) (sym split) ∙ whole.laid) in
     let layouts : l.layout ≡ whole.layout = cc in
-    let boards : l.layout.board ≡ g.start.board = ap (λ (x : Layout). x.board) layouts ∙ ap (λ (p : Placed). p.board) (sym whole.start) in
+    let boards : l.layout.material.board ≡ g.start.material.board = ap (λ (x : Layout). x.material.board) layouts ∙ ap (λ (p : Placed). p.material.board) (sym whole.start) in
     in_order fs (turn color) (rw (none.endings, none.sides) refl)
     (subst (λ r. Finishes r color None) (sym lays.laid)
-    (λ check. says.game.sound.safe (subst (λ (d : Color). InCheck g.start.board (opponent d)) side (subst (λ cells. InCheck cells (opponent color)) boards check))))
+    (λ check. says.game.sound.safe (subst (λ (d : Color). InCheck g.start.material.board (opponent d)) side (subst (λ cells. InCheck cells (opponent color)) boards check))))
 
 -- moves
 line_now : (fs : List Saying) (k : Kept) (c : Course) → Keeps fs k → k.stage ≡ playing c → IsLineOf fs (line_of c)

@@ -1,5 +1,5 @@
 -- `PI` with the missing pieces gives a start from the even board.
-use Rattle.std.proofs.Common.{◌≡◌, ℕ, zero, suc, ◌+◌, ◌<◌, ◌≤◌, true, false, List, [], ◌∷◌, ◌++◌, length, filter, map, get_or, Option, Some, None, refl, sym, ap, ◌∙◌, arith}
+use Rattle.std.proofs.Common.{◌≡◌, ℕ, zero, suc, ◌+◌, ◌<◌, ◌≤◌, true, List, [], ◌∷◌, ◌++◌, length, filter, map, get_or, Option, Some, None, refl, sym, ap, ◌∙◌, arith}
 use Rattle.std.specs.Prelude.{replicate}
 use Rattle.std.specs.List.{AllByRecursion, filter_map, flat_map}
 use Rattle.std.specs.Option.{option_to_list}
@@ -12,6 +12,7 @@ use Rattle.shogi_board.specs.declared.kind.Piece.{Piece}
 use Rattle.shogi_board.specs.Cells.{Cells, even_cells}
 use Rattle.shogi_board.specs.Placed.{Placed}
 use Rattle.shogi_board.specs.Squares.{place}
+use Rattle.shogi_board.specs.Setup.{layout_of}
 use Rattle.shogi_board.specs.Totals.{hand_kinds}
 use Rattle.shogi_rules.proofs.Forms.{eq-self}
 use Rattle.csa_text.specs.PairTexts.{AllOnBoard}
@@ -160,35 +161,35 @@ may_take None b = tt
 may_take (Some q) None = kind_itself q.kind
 may_take (Some q) (Some p) = tt
 
-even_union : (p : Placed) → length p.board ≡ 81 → is_part_of p.board even_cells ≡ true → p.black ≡ 0 ∷ 0 ∷ 0 ∷ 0 ∷ 0 ∷ 0 ∷ 0 ∷ [] → p.white ≡ 0 ∷ 0 ∷ 0 ∷ 0 ∷ 0 ∷ 0 ∷ 0 ∷ [] → IsUnion even_cells (offs 0 even_cells p.board) (record { board = p.board; black = p.black; white = p.white; rest_given = false })
+even_union : (p : Placed) → length p.material.board ≡ 81 → is_part_of p.material.board even_cells ≡ true → p.material.black ≡ 0 ∷ 0 ∷ 0 ∷ 0 ∷ 0 ∷ 0 ∷ 0 ∷ [] → p.material.white ≡ 0 ∷ 0 ∷ 0 ∷ 0 ∷ 0 ∷ 0 ∷ 0 ∷ [] → IsUnion even_cells (offs 0 even_cells p.material.board) (layout_of p)
 even_union p squares part black white =
-    let only = only_off 0 even_cells p.board in
-    let same : length even_cells ≡ length p.board = sym squares in
-    let here : (n : ℕ) → filter_map (off_at n) (offs 0 even_cells p.board) ≡ gone (get_or even_cells n None) (get_or p.board n None)
-    = λ n. taken_here n n 0 even_cells p.board (omega arith) (omega arith) same in
+    let only = only_off 0 even_cells p.material.board in
+    let same : length even_cells ≡ length p.material.board = sym squares in
+    let here : (n : ℕ) → filter_map (off_at n) (offs 0 even_cells p.material.board) ≡ gone (get_or even_cells n None) (get_or p.material.board n None)
+    = λ n. taken_here n n 0 even_cells p.material.board (omega arith) (omega arith) same in
     record {
       squares = squares;
       cells = λ n less.
-          rw (here n, none_put n (offs 0 even_cells p.board) only)
-          (left_is (get_or even_cells n None) (get_or p.board n None) (part_at p.board even_cells n part));
-      taken = λ n. rw (here n) (may_take (get_or even_cells n None) (get_or p.board n None));
-      held = may_be_held (offs 0 even_cells p.board) only;
-      black = black ∙ sym (bag_of_none Black (offs 0 even_cells p.board) only);
-      white = white ∙ sym (bag_of_none White (offs 0 even_cells p.board) only);
+          rw (here n, none_put n (offs 0 even_cells p.material.board) only)
+          (left_is (get_or even_cells n None) (get_or p.material.board n None) (part_at p.material.board even_cells n part));
+      taken = λ n. rw (here n) (may_take (get_or even_cells n None) (get_or p.material.board n None));
+      held = may_be_held (offs 0 even_cells p.material.board) only;
+      black = black ∙ sym (bag_of_none Black (offs 0 even_cells p.material.board) only);
+      white = white ∙ sym (bag_of_none White (offs 0 even_cells p.material.board) only);
       no_rest = refl;
-      rest_last = rest_last (offs 0 even_cells p.board) only;
+      rest_last = rest_last (offs 0 even_cells p.material.board) only;
     }
 
-pub even_gives : (p : Placed) → length p.board ≡ 81 → is_part_of p.board even_cells ≡ true → p.black ≡ 0 ∷ 0 ∷ 0 ∷ 0 ∷ 0 ∷ 0 ∷ 0 ∷ [] → p.white ≡ 0 ∷ 0 ∷ 0 ∷ 0 ∷ 0 ∷ 0 ∷ 0 ∷ [] → GiveStart (even (missing 0 even_cells p.board) ∷ []) p
+pub even_gives : (p : Placed) → length p.material.board ≡ 81 → is_part_of p.material.board even_cells ≡ true → p.material.black ≡ 0 ∷ 0 ∷ 0 ∷ 0 ∷ 0 ∷ 0 ∷ 0 ∷ [] → p.material.white ≡ 0 ∷ 0 ∷ 0 ∷ 0 ∷ 0 ∷ 0 ∷ 0 ∷ [] → GiveStart (even (missing 0 even_cells p.material.board) ∷ []) p
 even_gives p squares part black white =
-    let whole : placings (even (missing 0 even_cells p.board) ∷ []) ≡ offs 0 even_cells p.board = append-nil (offs 0 even_cells p.board) in
+    let whole : placings (even (missing 0 even_cells p.material.board) ∷ []) ≡ offs 0 even_cells p.material.board = append-nil (offs 0 even_cells p.material.board) in
     record {
-      layout = record { board = p.board; black = p.black; white = p.white; rest_given = false };
+      layout = layout_of p;
       union = rw whole (even_union p squares part black white);
-      start_is = rw (whole, none_given (offs 0 even_cells p.board) (only_off 0 even_cells p.board)) refl;
+      start_is = rw (whole, none_given (offs 0 even_cells p.material.board) (only_off 0 even_cells p.material.board)) refl;
     }
 
-pub even_item : (p : Placed) → IsItemLine (even (missing 0 even_cells p.board))
+pub even_item : (p : Placed) → IsItemLine (even (missing 0 even_cells p.material.board))
 even_item p =
-    let few : length (missing 0 even_cells p.board) ≤ 81 = missing_few 0 even_cells p.board in
-    even_line (missing 0 even_cells p.board) (missing_on_board 0 even_cells p.board) (omega (arith, few))
+    let few : length (missing 0 even_cells p.material.board) ≤ 81 = missing_few 0 even_cells p.material.board in
+    even_line (missing 0 even_cells p.material.board) (missing_on_board 0 even_cells p.material.board) (omega (arith, few))

@@ -14,6 +14,7 @@ use Rattle.shogi_board.specs.Cells.{Cells, no_cells}
 use Rattle.shogi_board.specs.Placed.{Placed}
 use Rattle.shogi_board.specs.Pieces as kinds
 use Rattle.shogi_board.specs.Pieces.{same_color, same_kind}
+use Rattle.shogi_board.specs.Setup.{layout_of}
 use Rattle.shogi_board.specs.Totals.{count_in, hand_kinds}
 use Rattle.csa_text.specs.declared.pair.Pair.{Pair}
 use Rattle.csa_text.specs.declared.pair.Pair.TheVariants.{InHand}
@@ -181,62 +182,62 @@ bag_counts (a ∷ b ∷ c ∷ d ∷ e ∷ f ∷ g ∷ x ∷ xs) h = absurd (omeg
 
 -- the ranks, and what both hands hold
 abbrev all_placed : Placed → List Placing
-all_placed p = placings (rank_items p.board) ++ (held_pairs Black p.black hand_order ++ held_pairs White p.white hand_order)
+all_placed p = placings (rank_items p.material.board) ++ (held_pairs Black p.material.black hand_order ++ held_pairs White p.material.white hand_order)
 
 placings_joined : (xs ys : List Saying) → placings (xs ++ ys) ≡ placings xs ++ placings ys
 placings_joined xs ys = flat_joined placings_of xs ys
 
-all_is : (p : Placed) → placings (rank_items p.board ++ (hand_items Black p.black ++ hand_items White p.white)) ≡ all_placed p
+all_is : (p : Placed) → placings (rank_items p.material.board ++ (hand_items Black p.material.black ++ hand_items White p.material.white)) ≡ all_placed p
 all_is p =
-    placings_joined (rank_items p.board) (hand_items Black p.black ++ hand_items White p.white)
-    ∙ ap (λ ps. placings (rank_items p.board) ++ ps)
-    (placings_joined (hand_items Black p.black) (hand_items White p.white)
-    ∙ (ap (λ ps. ps ++ placings (hand_items White p.white)) (hand_placed Black p.black) ∙ ap (λ ps. held_pairs Black p.black hand_order ++ ps) (hand_placed White p.white)))
+    placings_joined (rank_items p.material.board) (hand_items Black p.material.black ++ hand_items White p.material.white)
+    ∙ ap (λ ps. placings (rank_items p.material.board) ++ ps)
+    (placings_joined (hand_items Black p.material.black) (hand_items White p.material.white)
+    ∙ (ap (λ ps. ps ++ placings (hand_items White p.material.white)) (hand_placed Black p.material.black) ∙ ap (λ ps. held_pairs Black p.material.black hand_order ++ ps) (hand_placed White p.material.white)))
 
 order_held : AllByRecursion (λ k. kinds.is_hand_kind k ≡ true) hand_order
 order_held = (refl, (refl, (refl, (refl, (refl, (refl, (refl, tt)))))))
 
 all_plain : (p : Placed) → AllByRecursion IsPlain (all_placed p)
 all_plain p =
-    all_joined IsPlain (placings (rank_items p.board)) (held_pairs Black p.black hand_order ++ held_pairs White p.white hand_order)
-    (on_plain (placings (rank_items p.board)) (ranks_on p.board (1 ∷ 2 ∷ 3 ∷ 4 ∷ 5 ∷ 6 ∷ 7 ∷ 8 ∷ 9 ∷ [])))
-    (all_joined IsPlain (held_pairs Black p.black hand_order) (held_pairs White p.white hand_order)
-    (held_plain Black p.black hand_order order_held) (held_plain White p.white hand_order order_held))
+    all_joined IsPlain (placings (rank_items p.material.board)) (held_pairs Black p.material.black hand_order ++ held_pairs White p.material.white hand_order)
+    (on_plain (placings (rank_items p.material.board)) (ranks_on p.material.board (1 ∷ 2 ∷ 3 ∷ 4 ∷ 5 ∷ 6 ∷ 7 ∷ 8 ∷ 9 ∷ [])))
+    (all_joined IsPlain (held_pairs Black p.material.black hand_order) (held_pairs White p.material.white hand_order)
+    (held_plain Black p.material.black hand_order order_held) (held_plain White p.material.white hand_order order_held))
 
-all_put : (p : Placed) (n : ℕ) → n < 81 → filter_map (put_on n) (all_placed p) ≡ option_to_list (get_or p.board n None)
+all_put : (p : Placed) (n : ℕ) → n < 81 → filter_map (put_on n) (all_placed p) ≡ option_to_list (get_or p.material.board n None)
 all_put p n less =
-    filter_map-append (put_on n) (placings (rank_items p.board)) (held_pairs Black p.black hand_order ++ held_pairs White p.white hand_order)
-    ∙ (ap (λ ps. filter_map (put_on n) (placings (rank_items p.board)) ++ ps)
-    (filter_map-append (put_on n) (held_pairs Black p.black hand_order) (held_pairs White p.white hand_order)
-    ∙ (ap (λ ps. ps ++ filter_map (put_on n) (held_pairs White p.white hand_order)) (held_not_put n Black p.black hand_order) ∙ held_not_put n White p.white hand_order))
-    ∙ (append-nil (filter_map (put_on n) (placings (rank_items p.board))) ∙ ranks_cell p.board n less))
+    filter_map-append (put_on n) (placings (rank_items p.material.board)) (held_pairs Black p.material.black hand_order ++ held_pairs White p.material.white hand_order)
+    ∙ (ap (λ ps. filter_map (put_on n) (placings (rank_items p.material.board)) ++ ps)
+    (filter_map-append (put_on n) (held_pairs Black p.material.black hand_order) (held_pairs White p.material.white hand_order)
+    ∙ (ap (λ ps. ps ++ filter_map (put_on n) (held_pairs White p.material.white hand_order)) (held_not_put n Black p.material.black hand_order) ∙ held_not_put n White p.material.white hand_order))
+    ∙ (append-nil (filter_map (put_on n) (placings (rank_items p.material.board))) ∙ ranks_cell p.material.board n less))
 
 -- how many of a kind there are for a side
-held_of_all : (p : Placed) (c : Color) (k : Kind) → length (filter (is_held c k) (all_placed p)) ≡ tally Black c k p.black hand_order + tally White c k p.white hand_order
+held_of_all : (p : Placed) (c : Color) (k : Kind) → length (filter (is_held c k) (all_placed p)) ≡ tally Black c k p.material.black hand_order + tally White c k p.material.white hand_order
 held_of_all p c k =
-    let first = filter-append (is_held c k) (placings (rank_items p.board)) (held_pairs Black p.black hand_order ++ held_pairs White p.white hand_order) in
-    let none = on_not_held c k (placings (rank_items p.board)) (ranks_on p.board (1 ∷ 2 ∷ 3 ∷ 4 ∷ 5 ∷ 6 ∷ 7 ∷ 8 ∷ 9 ∷ [])) in
-    let second = filter-append (is_held c k) (held_pairs Black p.black hand_order) (held_pairs White p.white hand_order) in
-    ap length (first ∙ (ap (λ ps. ps ++ filter (is_held c k) (held_pairs Black p.black hand_order ++ held_pairs White p.white hand_order)) none ∙ second))
-    ∙ (length-append (filter (is_held c k) (held_pairs Black p.black hand_order)) (filter (is_held c k) (held_pairs White p.white hand_order))
-    ∙ (ap (λ n. n + length (filter (is_held c k) (held_pairs White p.white hand_order))) (tallied Black c k p.black hand_order)
-    ∙ ap (λ n. tally Black c k p.black hand_order + n) (tallied White c k p.white hand_order)))
+    let first = filter-append (is_held c k) (placings (rank_items p.material.board)) (held_pairs Black p.material.black hand_order ++ held_pairs White p.material.white hand_order) in
+    let none = on_not_held c k (placings (rank_items p.material.board)) (ranks_on p.material.board (1 ∷ 2 ∷ 3 ∷ 4 ∷ 5 ∷ 6 ∷ 7 ∷ 8 ∷ 9 ∷ [])) in
+    let second = filter-append (is_held c k) (held_pairs Black p.material.black hand_order) (held_pairs White p.material.white hand_order) in
+    ap length (first ∙ (ap (λ ps. ps ++ filter (is_held c k) (held_pairs Black p.material.black hand_order ++ held_pairs White p.material.white hand_order)) none ∙ second))
+    ∙ (length-append (filter (is_held c k) (held_pairs Black p.material.black hand_order)) (filter (is_held c k) (held_pairs White p.material.white hand_order))
+    ∙ (ap (λ n. n + length (filter (is_held c k) (held_pairs White p.material.white hand_order))) (tallied Black c k p.material.black hand_order)
+    ∙ ap (λ n. tally Black c k p.material.black hand_order + n) (tallied White c k p.material.white hand_order)))
 
-black_all : (p : Placed) (ks : List Kind) → AllByRecursion (λ k. tally Black Black k p.black hand_order ≡ count_in p.black k) ks → AllByRecursion (λ k. length (filter (is_held Black k) (all_placed p)) ≡ count_in p.black k) ks
+black_all : (p : Placed) (ks : List Kind) → AllByRecursion (λ k. tally Black Black k p.material.black hand_order ≡ count_in p.material.black k) ks → AllByRecursion (λ k. length (filter (is_held Black k) (all_placed p)) ≡ count_in p.material.black k) ks
 black_all p [] h = tt
-black_all p (k ∷ ks) h = (omega (arith, held_of_all p Black k, h.0, other_tally White Black k p.white hand_order refl), black_all p ks h.1)
+black_all p (k ∷ ks) h = (omega (arith, held_of_all p Black k, h.0, other_tally White Black k p.material.white hand_order refl), black_all p ks h.1)
 
-white_all : (p : Placed) (ks : List Kind) → AllByRecursion (λ k. tally White White k p.white hand_order ≡ count_in p.white k) ks → AllByRecursion (λ k. length (filter (is_held White k) (all_placed p)) ≡ count_in p.white k) ks
+white_all : (p : Placed) (ks : List Kind) → AllByRecursion (λ k. tally White White k p.material.white hand_order ≡ count_in p.material.white k) ks → AllByRecursion (λ k. length (filter (is_held White k) (all_placed p)) ≡ count_in p.material.white k) ks
 white_all p [] h = tt
-white_all p (k ∷ ks) h = (omega (arith, held_of_all p White k, h.0, other_tally Black White k p.black hand_order refl), white_all p ks h.1)
+white_all p (k ∷ ks) h = (omega (arith, held_of_all p White k, h.0, other_tally Black White k p.material.black hand_order refl), white_all p ks h.1)
 
-black_bag : (p : Placed) → length p.black ≡ 7 → p.black ≡ bag_given Black (all_placed p)
+black_bag : (p : Placed) → length p.material.black ≡ 7 → p.material.black ≡ bag_given Black (all_placed p)
 black_bag p seven =
-    sym (counts_same (λ k. length (filter (is_held Black k) (all_placed p))) (count_in p.black) hand_kinds (black_all p hand_kinds (own_tally Black p.black)) ∙ bag_counts p.black seven)
+    sym (counts_same (λ k. length (filter (is_held Black k) (all_placed p))) (count_in p.material.black) hand_kinds (black_all p hand_kinds (own_tally Black p.material.black)) ∙ bag_counts p.material.black seven)
 
-white_bag : (p : Placed) → length p.white ≡ 7 → p.white ≡ bag_given White (all_placed p)
+white_bag : (p : Placed) → length p.material.white ≡ 7 → p.material.white ≡ bag_given White (all_placed p)
 white_bag p seven =
-    sym (counts_same (λ k. length (filter (is_held White k) (all_placed p))) (count_in p.white) hand_kinds (white_all p hand_kinds (own_tally White p.white)) ∙ bag_counts p.white seven)
+    sym (counts_same (λ k. length (filter (is_held White k) (all_placed p))) (count_in p.material.white) hand_kinds (white_all p hand_kinds (own_tally White p.material.white)) ∙ bag_counts p.material.white seven)
 
 abbrev nothing : Option Piece
 nothing = None
@@ -246,7 +247,7 @@ no_cell n zero = refl
 no_cell zero (suc k) = refl
 no_cell (suc n) (suc k) = no_cell n k
 
-ranks_union : (p : Placed) → length p.board ≡ 81 → length p.black ≡ 7 → length p.white ≡ 7 → IsUnion no_cells (all_placed p) (record { board = p.board; black = p.black; white = p.white; rest_given = false })
+ranks_union : (p : Placed) → length p.material.board ≡ 81 → length p.material.black ≡ 7 → length p.material.white ≡ 7 → IsUnion no_cells (all_placed p) (layout_of p)
 ranks_union p squares black white = record {
   squares = squares;
   cells = λ n less. rw (none_off n (all_placed p) (all_plain p), all_put p n less, no_cell n 81) refl;
@@ -258,9 +259,9 @@ ranks_union p squares black white = record {
   rest_last = rest_last (all_placed p) (all_plain p);
 }
 
-pub ranks_give : (p : Placed) → length p.board ≡ 81 → length p.black ≡ 7 → length p.white ≡ 7 → GiveStart (rank_items p.board ++ (hand_items Black p.black ++ hand_items White p.white)) p
+pub ranks_give : (p : Placed) → length p.material.board ≡ 81 → length p.material.black ≡ 7 → length p.material.white ≡ 7 → GiveStart (rank_items p.material.board ++ (hand_items Black p.material.black ++ hand_items White p.material.white)) p
 ranks_give p squares black white = record {
-  layout = record { board = p.board; black = p.black; white = p.white; rest_given = false };
+  layout = layout_of p;
   union = rw (all_is p) (ranks_union p squares black white);
   start_is = rw (all_is p, none_given (all_placed p) (all_plain p)) refl;
 }

@@ -243,7 +243,7 @@ pieces_laying before k l color pairs is h titled w =
 -- the side to move
 turn_laying : (before : List Saying) (k : Kept) (l : Laid) (color : Color) → k.stage ≡ laying l → Keeps before k → IsTitled k.titles → IsWellStage (laying l) → Next before (turn color)
 turn_laying before k l color is h titled w =
-    elim (decide-in_check l.layout.board (opponent color)) [
+    elim (decide-in_check l.layout.material.board (opponent color)) [
       | inl check ↦ refused_so before (turn color) (Start OpponentInCheck) k
           (refuse_turn before k k l color (Start OpponentInCheck) h is (Some (Start OpponentInCheck), (check, refl), refl)) (λ p. cc)
       | inr safe ↦

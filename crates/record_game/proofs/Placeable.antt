@@ -12,6 +12,6 @@ use Rattle.record_game.proofs.LaidOut.{IsWritten, statements_in_turn, kept, boar
 use Rattle.record_game.proofs.PlacedUnion.{begins}
 use Rattle.record_game.proofs.UnionPlaced.{union_is_placed}
 
-pub union_laid_out : (ss : List Saying) (u : Layout) → AllByRecursion IsWritten ss → filter is_even (drop 1 (positions ss)) ≡ [] → IsUnion (first_board (positions ss)) (placings (positions ss)) u → IsWithinTotals u.board u.black u.white → laid_out ss ≡ Ok (with_rest_given (filter_map rest_given (placings (positions ss))) u)
+pub union_laid_out : (ss : List Saying) (u : Layout) → AllByRecursion IsWritten ss → filter is_even (drop 1 (positions ss)) ≡ [] → IsUnion (first_board (positions ss)) (placings (positions ss)) u → IsWithinTotals u.material → laid_out ss ≡ Ok (with_rest_given (filter_map rest_given (placings (positions ss))) u)
 union_laid_out ss u w h union within =
     union_is_placed (first_board (positions ss)) (placings (positions ss)) _ u (begins (first_board (positions ss)) (board_squares (positions ss))) (statements_in_turn (positions ss) (kept ss w) h) union within

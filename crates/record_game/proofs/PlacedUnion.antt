@@ -85,16 +85,16 @@ there n m p h = rw h refl
 joined_empty : (xs ys : List Piece) (p : Piece) → xs ++ ys ≡ [] → xs ++ (ys ++ p ∷ []) ≡ p ∷ []
 joined_empty xs ys p h = sym (append_assoc xs ys (p ∷ [])) ∙ ap (λ zs. zs ++ p ∷ []) h
 
-pub step_on : (first : Cells) (done : List Placing) (s : Layout) (n : ℕ) (p : Piece) → IsUnion first done s → filter_map rest_given done ≡ [] → n < 81 → get_or s.board n None ≡ None → IsUnion first (done ++ on n p ∷ []) (placed s (on n p))
+pub step_on : (first : Cells) (done : List Placing) (s : Layout) (n : ℕ) (p : Piece) → IsUnion first done s → filter_map rest_given done ≡ [] → n < 81 → get_or s.material.board n None ≡ None → IsUnion first (done ++ on n p ∷ []) (placed s (on n p))
 step_on first done s n p u none low empty =
     record {
-      squares = length-set s.board n (Some p) ∙ u.squares;
+      squares = length-set s.material.board n (Some p) ∙ u.squares;
       cells = λ m less. elim (cases_Bool (n == m)) [
         | inl hit ↦
             let same : n ≡ m = eqb-true n m hit in
-            let here : get_or s.board m None ≡ None = ap (λ i. get_or s.board i None) (sym same) ∙ empty in
+            let here : get_or s.material.board m None ≡ None = ap (λ i. get_or s.material.board i None) (sym same) ∙ empty in
             let before : on_square first done m ≡ [] = u.cells m less ∙ ap option_to_list here in
-            let set_here : get_or (slice_set s.board n (Some p)) m None ≡ Some p = ap (λ i. get_or (slice_set s.board n (Some p)) i None) (sym same) ∙ get_or-set_same s.board n (Some p) None (omega (arith, low, u.squares)) in
+            let set_here : get_or (slice_set s.material.board n (Some p)) m None ≡ Some p = ap (λ i. get_or (slice_set s.material.board n (Some p)) i None) (sym same) ∙ get_or-set_same s.material.board n (Some p) None (omega (arith, low, u.squares)) in
             ap (λ ks. left_on (get_or first m None) ks ++ filter_map (put_on m) (done ++ on n p ∷ [])) (offs_more m done (on n p) refl)
             ∙ (ap (λ ps. left_on (get_or first m None) (filter_map (off_at m) done) ++ ps) (on_here n m p done same)
             ∙ (joined_empty (left_on (get_or first m None) (filter_map (off_at m) done)) (filter_map (put_on m) done) p before ∙ ap option_to_list (sym set_here)))
@@ -102,7 +102,7 @@ step_on first done s n p u none low empty =
             let other : m ≢ n = λ e. eqb-false n m miss (sym e) in
             ap (λ ks. left_on (get_or first m None) ks ++ filter_map (put_on m) (done ++ on n p ∷ [])) (offs_more m done (on n p) refl)
             ∙ (ap (λ ps. left_on (get_or first m None) (filter_map (off_at m) done) ++ ps) (puts_more m done (on n p) (there n m p miss))
-            ∙ (u.cells m less ∙ ap option_to_list (sym (get_or-set_other s.board n m (Some p) None other))))
+            ∙ (u.cells m less ∙ ap option_to_list (sym (get_or-set_other s.material.board n m (Some p) None other))))
       ];
       taken = λ m. rw (offs_more m done (on n p) refl) (u.taken m);
       held = all_joined MayBeHeld done (on n p ∷ []) u.held (tt, tt);
@@ -144,25 +144,25 @@ was_left (Some p) (Some q) [] k e h = let same : p ≡ q = cc in (refl, ap Some 
 was_left cell None (l ∷ ls) k e h = cc
 was_left cell (Some q) (l ∷ ls) k e h = cc
 
-pub step_off : (first : Cells) (done : List Placing) (s : Layout) (n : ℕ) (k : Kind) → IsUnion first done s → AllByRecursion OnlyOff done → filter_map rest_given done ≡ [] → n < 81 → holds k (get_or s.board n None) ≡ true → IsUnion first (done ++ off n k ∷ []) (placed s (off n k))
+pub step_off : (first : Cells) (done : List Placing) (s : Layout) (n : ℕ) (k : Kind) → IsUnion first done s → AllByRecursion OnlyOff done → filter_map rest_given done ≡ [] → n < 81 → holds k (get_or s.material.board n None) ≡ true → IsUnion first (done ++ off n k ∷ []) (placed s (off n k))
 step_off first done s n k u only none low held =
-    let old : left_on (get_or first n None) (filter_map (off_at n) done) ++ [] ≡ option_to_list (get_or s.board n None)
+    let old : left_on (get_or first n None) (filter_map (off_at n) done) ++ [] ≡ option_to_list (get_or s.material.board n None)
     = ap (λ ps. left_on (get_or first n None) (filter_map (off_at n) done) ++ ps) (sym (none_put n done only)) ∙ u.cells n low in
-    let was = was_left (get_or first n None) (get_or s.board n None) (filter_map (off_at n) done) k old held in
+    let was = was_left (get_or first n None) (get_or s.material.board n None) (filter_map (off_at n) done) k old held in
     let now : filter_map (off_at n) (done ++ off n k ∷ []) ≡ k ∷ [] = off_here n n k done (itself n) ∙ ap (λ ks. ks ++ k ∷ []) was.0 in
     record {
-      squares = length-set s.board n None ∙ u.squares;
+      squares = length-set s.material.board n None ∙ u.squares;
       cells = λ m less. elim (cases_Bool (n == m)) [
         | inl hit ↦
             let same : m ≡ n = sym (eqb-true n m hit) in
-            subst (λ i. on_square first (done ++ off n k ∷ []) i ≡ option_to_list (get_or (slice_set s.board n None) i None)) (sym same)
+            subst (λ i. on_square first (done ++ off n k ∷ []) i ≡ option_to_list (get_or (slice_set s.material.board n None) i None)) (sym same)
             (ap (λ ks. left_on (get_or first n None) ks ++ filter_map (put_on n) (done ++ off n k ∷ [])) now
-            ∙ (puts_more n done (off n k) refl ∙ (none_put n done only ∙ ap option_to_list (sym (get_or-set_same s.board n None None (omega (arith, low, u.squares)))))))
+            ∙ (puts_more n done (off n k) refl ∙ (none_put n done only ∙ ap option_to_list (sym (get_or-set_same s.material.board n None None (omega (arith, low, u.squares)))))))
         | inr miss ↦
             let other : m ≢ n = λ e. eqb-false n m miss (sym e) in
             ap (λ ks. left_on (get_or first m None) ks ++ filter_map (put_on m) (done ++ off n k ∷ [])) (offs_more m done (off n k) (off_there n m k miss))
             ∙ (ap (λ ps. left_on (get_or first m None) (filter_map (off_at m) done) ++ ps) (puts_more m done (off n k) refl)
-            ∙ (u.cells m less ∙ ap option_to_list (sym (get_or-set_other s.board n m None None other))))
+            ∙ (u.cells m less ∙ ap option_to_list (sym (get_or-set_other s.material.board n m None None other))))
       ];
       taken = λ m. elim (cases_Bool (n == m)) [
         | inl hit ↦
@@ -225,7 +225,7 @@ not_other c d k done h = bag_more c done (in_hand d k) (λ j. none j)
     none : (j : Kind) → filter (is_held c j) (in_hand d k ∷ []) ≡ []
     none j = rw h refl
 
-hand_cells : (first : Cells) (done : List Placing) (s : Layout) (c : Color) (k : Kind) → IsUnion first done s → (m : ℕ) → m < 81 → on_square first (done ++ in_hand c k ∷ []) m ≡ option_to_list (get_or s.board m None)
+hand_cells : (first : Cells) (done : List Placing) (s : Layout) (c : Color) (k : Kind) → IsUnion first done s → (m : ℕ) → m < 81 → on_square first (done ++ in_hand c k ∷ []) m ≡ option_to_list (get_or s.material.board m None)
 hand_cells first done s c k u m less =
     ap (λ ks. left_on (get_or first m None) ks ++ filter_map (put_on m) (done ++ in_hand c k ∷ [])) (offs_more m done (in_hand c k) refl)
     ∙ (ap (λ ps. left_on (get_or first m None) (filter_map (off_at m) done) ++ ps) (puts_more m done (in_hand c k) refl) ∙ u.cells m less)
@@ -297,16 +297,16 @@ none_after s c (rest d ∷ ps) t h = let clash : Err AfterRest ≡ Ok t = h in c
 moved : (first : Cells) (done : List Placing) (p : Placing) (ps : List Placing) (t : Layout) → IsPlacedUnion first ((done ++ p ∷ []) ++ ps) t → IsPlacedUnion first (done ++ p ∷ ps) t
 moved first done p ps t h = subst (λ all. IsPlacedUnion first all t) (append_assoc done (p ∷ []) ps) h
 
-empty_if : (s : Layout) (n : ℕ) (p : Piece) → placing_fault s (on n p) ≡ None → get_or s.board n None ≡ None
+empty_if : (s : Layout) (n : ℕ) (p : Piece) → placing_fault s (on n p) ≡ None → get_or s.material.board n None ≡ None
 empty_if s n p fine =
-    let later : List (SetupFault × Bool) = (SecondKing, is_king p.kind && nat_lt 0 (kings_of s.board p.color)) ∷ (TooMany, is_full s p.kind) ∷ [] in
-    let taken : List (SetupFault × Bool) = (SquareTaken, is_some (get_or s.board n None)) ∷ later in
-    empty_cell (get_or s.board n None) (not_first SquareTaken (is_some (get_or s.board n None)) later (not_first AfterRest s.rest_given taken fine).1).0
+    let later : List (SetupFault × Bool) = (SecondKing, is_king p.kind && nat_lt 0 (kings_of s.material.board p.color)) ∷ (TooMany, is_full s p.kind) ∷ [] in
+    let taken : List (SetupFault × Bool) = (SquareTaken, is_some (get_or s.material.board n None)) ∷ later in
+    empty_cell (get_or s.material.board n None) (not_first SquareTaken (is_some (get_or s.material.board n None)) later (not_first AfterRest s.rest_given taken fine).1).0
 
-held_if : (s : Layout) (n : ℕ) (k : Kind) → placing_fault s (off n k) ≡ None → holds k (get_or s.board n None) ≡ true
+held_if : (s : Layout) (n : ℕ) (k : Kind) → placing_fault s (off n k) ≡ None → holds k (get_or s.material.board n None) ≡ true
 held_if s n k fine =
-    let test = not (holds k (get_or s.board n None)) in
-    untrue (holds k (get_or s.board n None)) (not_first NotThere test [] (not_first AfterRest s.rest_given ((NotThere, test) ∷ []) fine).1).0
+    let test = not (holds k (get_or s.material.board n None)) in
+    untrue (holds k (get_or s.material.board n None)) (not_first NotThere test [] (not_first AfterRest s.rest_given ((NotThere, test) ∷ []) fine).1).0
 
 fits_if : (s : Layout) (c : Color) (k : Kind) → placing_fault s (in_hand c k) ≡ None → kinds.is_hand_kind k ≡ true
 fits_if s c k fine =

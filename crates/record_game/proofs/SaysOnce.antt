@@ -43,18 +43,18 @@ cells_same (c ∷ cs) (d ∷ ds) h e =
     ap (λ x. x ∷ cs) first ∙ ap (λ xs. d ∷ xs) (cells_same cs ds (omega (arith, h)) (λ n less. e (suc n) (omega (arith, less))))
 
 abbrev layout : List (Option Piece) → List ℕ → List ℕ → Bool → Layout
-layout x y z b = record { board = x; black = y; white = z; rest_given = b }
+layout x y z b = record { material = record { board = x; black = y; white = z }; rest_given = b }
 
-layouts_same : (s t : Layout) → s.board ≡ t.board → s.black ≡ t.black → s.white ≡ t.white → s.rest_given ≡ t.rest_given → s ≡ t
+layouts_same : (s t : Layout) → s.material.board ≡ t.material.board → s.material.black ≡ t.material.black → s.material.white ≡ t.material.white → s.rest_given ≡ t.rest_given → s ≡ t
 layouts_same s t p q r u =
-    ap (λ x. layout x s.black s.white s.rest_given) p ∙ (ap (λ x. layout t.board x s.white s.rest_given) q
-    ∙ (ap (λ x. layout t.board t.black x s.rest_given) r ∙ ap (λ x. layout t.board t.black t.white x) u))
+    ap (λ x. layout x s.material.black s.material.white s.rest_given) p ∙ (ap (λ x. layout t.material.board x s.material.white s.rest_given) q
+    ∙ (ap (λ x. layout t.material.board t.material.black x s.rest_given) r ∙ ap (λ x. layout t.material.board t.material.black t.material.white x) u))
 
 pub union_once : (first : List (Option Piece)) (ps : List Placing) (s t : Layout) → IsUnion first ps s → IsUnion first ps t → s ≡ t
 union_once first ps s t p q =
     layouts_same s t
-    (cells_same s.board t.board (p.squares ∙ sym q.squares)
-    (λ n less. let low : n < 81 = omega (arith, less, p.squares) in same_option (get_or s.board n None) (get_or t.board n None) (sym (p.cells n low) ∙ q.cells n low)))
+    (cells_same s.material.board t.material.board (p.squares ∙ sym q.squares)
+    (λ n less. let low : n < 81 = omega (arith, less, p.squares) in same_option (get_or s.material.board n None) (get_or t.material.board n None) (sym (p.cells n low) ∙ q.cells n low)))
     (p.black ∙ sym q.black) (p.white ∙ sym q.white) (p.no_rest ∙ sym q.no_rest)
 
 pub start_once : (ss : List Saying) (p q : Placed) → p.side ≡ q.side → GiveStart ss p → GiveStart ss q → p ≡ q

@@ -72,11 +72,11 @@ empty_bag (a ∷ b ∷ c ∷ d ∷ k ∷ f ∷ g ∷ []) h e =
     rw (rooks.0, bishops.0, golds.0, silvers.0, knights.0, lances.0, pawns.0) refl
 empty_bag (a ∷ b ∷ c ∷ d ∷ k ∷ f ∷ g ∷ x ∷ xs) h e = absurd (omega (arith, h))
 
-from_even : (p : Placed) → IsWithinTotals p.board p.black p.white → is_from_even p ≡ true → IsStart (even (missing 0 even_cells p.board) ∷ []) p
+from_even : (p : Placed) → IsWithinTotals p.material → is_from_even p ≡ true → IsStart (even (missing 0 even_cells p.material.board) ∷ []) p
 from_even p within h =
-    let hands : no_items (hand_items Black p.black ++ hand_items White p.white) ≡ true = and_left _ _ h in
-    let black = empty_bag p.black within.black_kinds (empty_pairs Black (hand_pairs p.black) (no_first (hand_items Black p.black) (hand_items White p.white) hands)) in
-    let white = empty_bag p.white within.white_kinds (empty_pairs White (hand_pairs p.white) (no_second (hand_items Black p.black) (hand_items White p.white) hands)) in
+    let hands : no_items (hand_items Black p.material.black ++ hand_items White p.material.white) ≡ true = and_left _ _ h in
+    let black = empty_bag p.material.black within.black_kinds (empty_pairs Black (hand_pairs p.material.black) (no_first (hand_items Black p.material.black) (hand_items White p.material.white) hands)) in
+    let white = empty_bag p.material.white within.white_kinds (empty_pairs White (hand_pairs p.material.white) (no_second (hand_items Black p.material.black) (hand_items White p.material.white) hands)) in
     record {
       positions = (refl, tt);
       lines = (even_item p, tt);
@@ -123,7 +123,7 @@ few_pairs bag h =
     let g = pairs_more bag Rook (Bishop ∷ Gold ∷ Silver ∷ Knight ∷ Lance ∷ Pawn ∷ []) 18 108 h.0 f in
     omega (arith, g)
 
-black_few : (p : Placed) → IsWithinTotals p.board p.black p.white → AllByRecursion (λ k. count_in p.black k ≤ 18) hand_order
+black_few : (p : Placed) → IsWithinTotals p.material → AllByRecursion (λ k. count_in p.material.black k ≤ 18) hand_order
 black_few p w = (
   omega (arith, w.totals Rook),
   (
@@ -138,7 +138,7 @@ black_few p w = (
   ),
 )
 
-white_few : (p : Placed) → IsWithinTotals p.board p.black p.white → AllByRecursion (λ k. count_in p.white k ≤ 18) hand_order
+white_few : (p : Placed) → IsWithinTotals p.material → AllByRecursion (λ k. count_in p.material.white k ≤ 18) hand_order
 white_few p w = (
   omega (arith, w.totals Rook),
   (
@@ -172,17 +172,17 @@ at_most n m (suc k) =
       | inr miss ↦ rw miss (at_most n (m + 1) k)
     ]
 
-ranks_listed : (p : Placed) → ranks (rank_items p.board ++ (hand_items Black p.black ++ hand_items White p.white)) ≡ 1 ∷ 2 ∷ 3 ∷ 4 ∷ 5 ∷ 6 ∷ 7 ∷ 8 ∷ 9 ∷ []
+ranks_listed : (p : Placed) → ranks (rank_items p.material.board ++ (hand_items Black p.material.black ++ hand_items White p.material.white)) ≡ 1 ∷ 2 ∷ 3 ∷ 4 ∷ 5 ∷ 6 ∷ 7 ∷ 8 ∷ 9 ∷ []
 ranks_listed p =
-    filter_map-append rank_given (rank_items p.board) (hand_items Black p.black ++ hand_items White p.white)
+    filter_map-append rank_given (rank_items p.material.board) (hand_items Black p.material.black ++ hand_items White p.material.white)
     ∙ ap (λ ns. 1 ∷ 2 ∷ 3 ∷ 4 ∷ 5 ∷ 6 ∷ 7 ∷ 8 ∷ 9 ∷ ns)
-    (filter_map-append rank_given (hand_items Black p.black) (hand_items White p.white)
-    ∙ (ap (λ ns. ns ++ ranks (hand_items White p.white)) (hand_no_rank Black (hand_pairs p.black)) ∙ hand_no_rank White (hand_pairs p.white)))
+    (filter_map-append rank_given (hand_items Black p.material.black) (hand_items White p.material.white)
+    ∙ (ap (λ ns. ns ++ ranks (hand_items White p.material.white)) (hand_no_rank Black (hand_pairs p.material.black)) ∙ hand_no_rank White (hand_pairs p.material.white)))
 
-rank_item : (p : Placed) (n : ℕ) → 1 ≤ n → n ≤ 9 → IsItemLine (rank n (rank_cells p.board n))
-rank_item p n low high = rank_line n (rank_cells p.board n) low high refl
+rank_item : (p : Placed) (n : ℕ) → 1 ≤ n → n ≤ 9 → IsItemLine (rank n (rank_cells p.material.board n))
+rank_item p n low high = rank_line n (rank_cells p.material.board n) low high refl
 
-rank_lines : (p : Placed) → AllByRecursion IsItemLine (rank_items p.board)
+rank_lines : (p : Placed) → AllByRecursion IsItemLine (rank_items p.material.board)
 rank_lines p = (
   rank_item p 1 (omega arith) (omega arith),
   (
@@ -203,25 +203,25 @@ rank_lines p = (
   ),
 )
 
-none_even : (p : Placed) → AllByRecursion (λ s. is_even s ≡ false) (hand_items Black p.black ++ hand_items White p.white)
+none_even : (p : Placed) → AllByRecursion (λ s. is_even s ≡ false) (hand_items Black p.material.black ++ hand_items White p.material.white)
 none_even p =
-    all_joined (λ s. is_even s ≡ false) (hand_items Black p.black) (hand_items White p.white) (hand_not_even Black (hand_pairs p.black)) (hand_not_even White (hand_pairs p.white))
+    all_joined (λ s. is_even s ≡ false) (hand_items Black p.material.black) (hand_items White p.material.white) (hand_not_even Black (hand_pairs p.material.black)) (hand_not_even White (hand_pairs p.material.white))
 
-by_ranks : (p : Placed) → IsWithinTotals p.board p.black p.white → IsStart (rank_items p.board ++ (hand_items Black p.black ++ hand_items White p.white)) p
+by_ranks : (p : Placed) → IsWithinTotals p.material → IsStart (rank_items p.material.board ++ (hand_items Black p.material.black ++ hand_items White p.material.white)) p
 by_ranks p within = record {
-  positions = all_joined (λ s. is_position s ≡ true) (rank_items p.board) (hand_items Black p.black ++ hand_items White p.white)
+  positions = all_joined (λ s. is_position s ≡ true) (rank_items p.material.board) (hand_items Black p.material.black ++ hand_items White p.material.white)
       (refl, (refl, (refl, (refl, (refl, (refl, (refl, (refl, (refl, tt)))))))))
-      (all_joined (λ s. is_position s ≡ true) (hand_items Black p.black) (hand_items White p.white) (hand_positions Black (hand_pairs p.black)) (hand_positions White (hand_pairs p.white)));
-  lines = all_joined IsItemLine (rank_items p.board) (hand_items Black p.black ++ hand_items White p.white) (rank_lines p)
-      (all_joined IsItemLine (hand_items Black p.black) (hand_items White p.white)
-      (hand_lines Black (hand_pairs p.black) (few_pairs p.black (black_few p within))) (hand_lines White (hand_pairs p.white) (few_pairs p.white (white_few p within))));
-  even_first = none_of is_even (hand_items Black p.black ++ hand_items White p.white) (none_even p);
-  even_or_ranks = inl (none_of is_even (hand_items Black p.black ++ hand_items White p.white) (none_even p));
+      (all_joined (λ s. is_position s ≡ true) (hand_items Black p.material.black) (hand_items White p.material.white) (hand_positions Black (hand_pairs p.material.black)) (hand_positions White (hand_pairs p.material.white)));
+  lines = all_joined IsItemLine (rank_items p.material.board) (hand_items Black p.material.black ++ hand_items White p.material.white) (rank_lines p)
+      (all_joined IsItemLine (hand_items Black p.material.black) (hand_items White p.material.white)
+      (hand_lines Black (hand_pairs p.material.black) (few_pairs p.material.black (black_few p within))) (hand_lines White (hand_pairs p.material.white) (few_pairs p.material.white (white_few p within))));
+  even_first = none_of is_even (hand_items Black p.material.black ++ hand_items White p.material.white) (none_even p);
+  even_or_ranks = inl (none_of is_even (hand_items Black p.material.black ++ hand_items White p.material.white) (none_even p));
   ranks_once = λ number. subst (λ (ns : List ℕ). AtMostOne (filter (λ n. n == number) ns)) (sym (ranks_listed p)) (at_most number 1 9);
   gives = ranks_give p within.squares within.black_kinds within.white_kinds;
 }
 
-pub start_is : (p : Placed) → IsWithinTotals p.board p.black p.white → IsStart (start_items p) p
+pub start_is : (p : Placed) → IsWithinTotals p.material → IsStart (start_items p) p
 start_is p within =
     elim (cases_Bool (is_from_even p)) [
       | inl even_one ↦ rw even_one (from_even p within even_one)

@@ -83,15 +83,15 @@ puts_mid n p done ps =
     here : (n == n) ≡ true → filter_map (put_on n) (on n p ∷ ps) ≡ p ∷ filter_map (put_on n) ps
     here h = rw h refl
 
-empty_before : (first : Cells) (done ps : List Placing) (s u : Layout) (n : ℕ) (p : Piece) → IsUnion first done s → IsUnion first (done ++ on n p ∷ ps) u → n < 81 → AllByRecursion NoOff ps → get_or s.board n None ≡ None
+empty_before : (first : Cells) (done ps : List Placing) (s u : Layout) (n : ℕ) (p : Piece) → IsUnion first done s → IsUnion first (done ++ on n p ∷ ps) u → n < 81 → AllByRecursion NoOff ps → get_or s.material.board n None ≡ None
 empty_before first done ps s u n p a b low none =
     let offs : filter_map (off_at n) (done ++ on n p ∷ ps) ≡ filter_map (off_at n) done
     = filter_map-append (off_at n) done (on n p ∷ ps) ∙ (ap (λ ks. filter_map (off_at n) done ++ ks) (none_off n ps none) ∙ append-nil (filter_map (off_at n) done)) in
-    let all : left_on (get_or first n None) (filter_map (off_at n) done) ++ (filter_map (put_on n) done ++ p ∷ filter_map (put_on n) ps) ≡ option_to_list (get_or u.board n None)
+    let all : left_on (get_or first n None) (filter_map (off_at n) done) ++ (filter_map (put_on n) done ++ p ∷ filter_map (put_on n) ps) ≡ option_to_list (get_or u.material.board n None)
     = sym (ap (λ ks. left_on (get_or first n None) ks ++ filter_map (put_on n) (done ++ on n p ∷ ps)) offs
     ∙ ap (λ xs. left_on (get_or first n None) (filter_map (off_at n) done) ++ xs) (puts_mid n p done ps)) ∙ b.cells n low in
-    no_list (get_or s.board n None)
-    (sym (a.cells n low) ∙ alone (left_on (get_or first n None) (filter_map (off_at n) done)) (filter_map (put_on n) done) p (filter_map (put_on n) ps) (get_or u.board n None) all)
+    no_list (get_or s.material.board n None)
+    (sym (a.cells n low) ∙ alone (left_on (get_or first n None) (filter_map (off_at n) done)) (filter_map (put_on n) done) p (filter_map (put_on n) ps) (get_or u.material.board n None) all)
 
 -- a kind that may be taken off stands there still
 only_one : (cell : Option Piece) (xs : List Kind) (k : Kind) (ys : List Kind) → MayTakeOff cell (xs ++ k ∷ ys) → (xs ≡ []) × (holds k cell ≡ true)
@@ -113,15 +113,15 @@ same_option None (Some y) e = cc
 same_option (Some x) None e = cc
 same_option (Some x) (Some y) e = let same : x ≡ y = cc in ap Some same
 
-held_before : (first : Cells) (done ps : List Placing) (s u : Layout) (n : ℕ) (k : Kind) → IsUnion first done s → IsUnion first (done ++ off n k ∷ ps) u → n < 81 → AllByRecursion OnlyOff done → holds k (get_or s.board n None) ≡ true
+held_before : (first : Cells) (done ps : List Placing) (s u : Layout) (n : ℕ) (k : Kind) → IsUnion first done s → IsUnion first (done ++ off n k ∷ ps) u → n < 81 → AllByRecursion OnlyOff done → holds k (get_or s.material.board n None) ≡ true
 held_before first done ps s u n k a b low only =
     let taken : MayTakeOff (get_or first n None) (filter_map (off_at n) done ++ k ∷ filter_map (off_at n) ps)
     = subst (λ ks. MayTakeOff (get_or first n None) ks) (offs_mid n k done ps) (b.taken n) in
     let one = only_one (get_or first n None) (filter_map (off_at n) done) k (filter_map (off_at n) ps) taken in
-    let cell : option_to_list (get_or first n None) ++ [] ≡ option_to_list (get_or s.board n None)
+    let cell : option_to_list (get_or first n None) ++ [] ≡ option_to_list (get_or s.material.board n None)
     = sym (ap (λ ks. left_on (get_or first n None) ks ++ filter_map (put_on n) done) one.0
     ∙ ap (λ xs. option_to_list (get_or first n None) ++ xs) (none_put n done only)) ∙ a.cells n low in
-    ap (holds k) (sym (same_option (get_or first n None) (get_or s.board n None) cell)) ∙ one.1
+    ap (holds k) (sym (same_option (get_or first n None) (get_or s.material.board n None) cell)) ∙ one.1
 
 -- a part of a list in which all hold
 mid_held : (done : List Placing) (p : Placing) (ps : List Placing) → AllByRecursion MayBeHeld (done ++ p ∷ ps) → MayBeHeld p
@@ -137,11 +137,11 @@ nothing_behind (rest d ∷ done) c ps none h = cc
 
 -- totals grow
 abbrev total_of : Layout → Kind → ℕ
-total_of s k = total s.board s.black s.white k
+total_of s k = total s.material k
 
 record Grows (s t : Layout) : Type 0 where
   totals : (k : Kind) → total_of s k ≤ total_of t k
-  kings : (c : Color) → kings_of s.board c ≤ kings_of t.board c
+  kings : (c : Color) → kings_of s.material.board c ≤ kings_of t.material.board c
 
 put_kings : (cells : Cells) (i : ℕ) (p : Piece) (c : Color) → i < length cells → get_or cells i None ≡ None → kings_of (set cells i (Some p)) c ≡ kings_of cells c + cond (same_color p.color c && is_king p.kind) 1 0
 put_kings cells i p c low empty =
@@ -173,39 +173,39 @@ king_test : (b : Bool) (n : ℕ) → (b ≡ true → n ≡ 0) → (b && nat_lt 0
 king_test true n h = rw (h refl) refl
 king_test false n h = refl
 
-fine_on : (s u : Layout) (n : ℕ) (p : Piece) → s.rest_given ≡ false → n < length s.board → get_or s.board n None ≡ None → Grows (placed s (on n p)) u → IsWithinTotals u.board u.black u.white → placing_fault s (on n p) ≡ None
+fine_on : (s u : Layout) (n : ℕ) (p : Piece) → s.rest_given ≡ false → n < length s.material.board → get_or s.material.board n None ≡ None → Grows (placed s (on n p)) u → IsWithinTotals u.material → placing_fault s (on n p) ≡ None
 fine_on s u n p free low empty grows within =
-    let gained = put-total s.board s.black s.white n p.color p.kind p.kind low empty in
+    let gained = put-total s.material n p.color p.kind p.kind low empty in
     let itself : ◌≡◌ {A = ℕ} (cond (place_of p.kind == place_of p.kind) 1 0) 1 = rw (eq-self (place_of p.kind) (place_of p.kind) refl) refl in
     let room : total_of s p.kind < limit p.kind = omega (arith, gained, itself, grows.totals p.kind, within.totals p.kind) in
     let full : nat_le (limit p.kind) (total_of s p.kind) ≡ false = lt-leb _ _ room in
-    let lone : is_king p.kind ≡ true → kings_of s.board p.color ≡ 0 = λ h.
-    let more = put_kings s.board n p p.color low empty in
+    let lone : is_king p.kind ≡ true → kings_of s.material.board p.color ≡ 0 = λ h.
+    let more = put_kings s.material.board n p p.color low empty in
     let one : ◌≡◌ {A = ℕ} (cond (same_color p.color p.color && is_king p.kind) 1 0) 1 = rw (same_color-self p.color, h) refl in
     omega (arith, more, one, grows.kings p.color, within.kings p.color) in
-    rw (free, empty, king_test (is_king p.kind) (kings_of s.board p.color) lone, full) refl
+    rw (free, empty, king_test (is_king p.kind) (kings_of s.material.board p.color) lone, full) refl
 
-less_on : (s u : Layout) (n : ℕ) (p : Piece) → n < length s.board → get_or s.board n None ≡ None → Grows (placed s (on n p)) u → Grows s u
+less_on : (s u : Layout) (n : ℕ) (p : Piece) → n < length s.material.board → get_or s.material.board n None ≡ None → Grows (placed s (on n p)) u → Grows s u
 less_on s u n p low empty grows = record {
-  totals = λ k. omega (arith, put-total s.board s.black s.white n p.color p.kind k low empty, grows.totals k);
-  kings = λ c. omega (arith, put_kings s.board n p c low empty, grows.kings c);
+  totals = λ k. omega (arith, put-total s.material n p.color p.kind k low empty, grows.totals k);
+  kings = λ c. omega (arith, put_kings s.material.board n p c low empty, grows.kings c);
 }
 
-less_hand : (s u : Layout) (c : Color) (k : Kind) → length s.black ≡ 7 → length s.white ≡ 7 → kinds.is_hand_kind k ≡ true → Grows (placed s (in_hand c k)) u → Grows s u
+less_hand : (s u : Layout) (c : Color) (k : Kind) → length s.material.black ≡ 7 → length s.material.white ≡ 7 → kinds.is_hand_kind k ≡ true → Grows (placed s (in_hand c k)) u → Grows s u
 less_hand s u Black k b w held grows = record {
-  totals = λ j. omega (arith, bag_grows s.black k (place_of j) b held, grows.totals j);
+  totals = λ j. omega (arith, bag_grows s.material.black k (place_of j) b held, grows.totals j);
   kings = grows.kings;
 }
 less_hand s u White k b w held grows = record {
-  totals = λ j. omega (arith, bag_grows s.white k (place_of j) w held, grows.totals j);
+  totals = λ j. omega (arith, bag_grows s.material.white k (place_of j) w held, grows.totals j);
   kings = grows.kings;
 }
 
-gain_hand : (s : Layout) (c : Color) (k : Kind) → length s.black ≡ 7 → length s.white ≡ 7 → kinds.is_hand_kind k ≡ true → total_of (placed s (in_hand c k)) k ≡ total_of s k + 1
-gain_hand s Black k b w held = omega (arith, bag_gains s.black k b held)
-gain_hand s White k b w held = omega (arith, bag_gains s.white k w held)
+gain_hand : (s : Layout) (c : Color) (k : Kind) → length s.material.black ≡ 7 → length s.material.white ≡ 7 → kinds.is_hand_kind k ≡ true → total_of (placed s (in_hand c k)) k ≡ total_of s k + 1
+gain_hand s Black k b w held = omega (arith, bag_gains s.material.black k b held)
+gain_hand s White k b w held = omega (arith, bag_gains s.material.white k w held)
 
-fine_hand : (s u : Layout) (c : Color) (k : Kind) → s.rest_given ≡ false → length s.black ≡ 7 → length s.white ≡ 7 → kinds.is_hand_kind k ≡ true → Grows (placed s (in_hand c k)) u → IsWithinTotals u.board u.black u.white → placing_fault s (in_hand c k) ≡ None
+fine_hand : (s u : Layout) (c : Color) (k : Kind) → s.rest_given ≡ false → length s.material.black ≡ 7 → length s.material.white ≡ 7 → kinds.is_hand_kind k ≡ true → Grows (placed s (in_hand c k)) u → IsWithinTotals u.material → placing_fault s (in_hand c k) ≡ None
 fine_hand s u c k free b w held grows within =
     let room : total_of s k < limit k = omega (arith, gain_hand s c k b w held, grows.totals k, within.totals k) in
     let full : nat_le (limit k) (total_of s k) ≡ false = lt-leb _ _ room in
@@ -217,16 +217,16 @@ record Placeable (s u : Layout) (ps : List Placing) : Type 0 where
   grows : AllByRecursion NoOff ps → Grows s u
 
 same_grows : (s u : Layout) → s ≡ u → Grows s u
-same_grows s u e = record { totals = λ k. subst (λ t. total_of s k ≤ total_of t k) e (omega arith); kings = λ c. subst (λ t. kings_of s.board c ≤ kings_of t.board c) e (omega arith) }
+same_grows s u e = record { totals = λ k. subst (λ t. total_of s k ≤ total_of t k) e (omega arith); kings = λ c. subst (λ t. kings_of s.material.board c ≤ kings_of t.material.board c) e (omega arith) }
 
-union_placed : (first : Cells) (done ps : List Placing) (s u : Layout) → IsUnion first done s → filter_map rest_given done ≡ [] → InTurn done ps → IsUnion first (done ++ ps) u → IsWithinTotals u.board u.black u.white → Placeable s u ps
+union_placed : (first : Cells) (done ps : List Placing) (s u : Layout) → IsUnion first done s → filter_map rest_given done ≡ [] → InTurn done ps → IsUnion first (done ++ ps) u → IsWithinTotals u.material → Placeable s u ps
 union_placed first done [] s u a none turn b within =
     let same : s ≡ u = union_once first done s u a (subst (λ all. IsUnion first all u) (append-nil done) b) in
     record { all = ap Ok same; grows = λ h. same_grows s u same }
 union_placed first done (on n p ∷ ps) s u a none turn b within =
     let no_off = no_more_off (done ++ on n p ∷ []) ps turn.1 (mixed done (on n p) (λ h. h)) in
     let empty = empty_before first done ps s u n p a b turn.0 no_off in
-    let low : n < length s.board = omega (arith, turn.0, a.squares) in
+    let low : n < length s.material.board = omega (arith, turn.0, a.squares) in
     let next = union_placed first (done ++ on n p ∷ []) ps (placed s (on n p)) u (step_on first done s n p a none turn.0 empty) (rests_more done (on n p) none refl) turn.1
     (subst (λ all. IsUnion first all u) (sym (append_assoc done (on n p ∷ []) ps)) b) within in
     let grows = next.grows no_off in
@@ -246,8 +246,8 @@ union_placed first done (off n k ∷ ps) s u a none turn b within =
 union_placed first done (in_hand c k ∷ ps) s u a none turn b within =
     let no_off = no_more_off (done ++ in_hand c k ∷ []) ps turn (mixed done (in_hand c k) (λ h. h)) in
     let held : kinds.is_hand_kind k ≡ true = mid_held done (in_hand c k) ps b.held in
-    let black : length s.black ≡ 7 = ap length a.black in
-    let white : length s.white ≡ 7 = ap length a.white in
+    let black : length s.material.black ≡ 7 = ap length a.black in
+    let white : length s.material.white ≡ 7 = ap length a.white in
     let next = union_placed first (done ++ in_hand c k ∷ []) ps (placed s (in_hand c k)) u (step_hand first done s c k a none held) (rests_more done (in_hand c k) none refl) turn
     (subst (λ all. IsUnion first all u) (sym (append_assoc done (in_hand c k ∷ []) ps)) b) within in
     let grows = next.grows no_off in
@@ -263,5 +263,5 @@ union_placed first done (rest c ∷ ps) s u a none turn b within =
     subst (λ qs. Placeable s u (rest c ∷ qs)) (sym end)
     (record { all = ap (λ f. unless f (Ok (rest_to s c))) fine ∙ ap (λ t. Ok (rest_to t c)) same; grows = λ h. same_grows s u same })
 
-pub union_is_placed : (first : Cells) (ps : List Placing) (s u : Layout) → IsUnion first [] s → InTurn [] ps → IsUnion first ps u → IsWithinTotals u.board u.black u.white → place_all s ps ≡ Ok (with_rest_given (filter_map rest_given ps) u)
+pub union_is_placed : (first : Cells) (ps : List Placing) (s u : Layout) → IsUnion first [] s → InTurn [] ps → IsUnion first ps u → IsWithinTotals u.material → place_all s ps ≡ Ok (with_rest_given (filter_map rest_given ps) u)
 union_is_placed first ps s u a turn b within = (union_placed first [] ps s u a refl turn b within).all

@@ -7,9 +7,9 @@ use Rattle.std.proofs.lemmas.Bool.{cases_lt}
 use Rattle.std.proofs.lemmas.Int.{ints}
 use Rattle.jiff_core.specs.Calendar.{IsCivilDate, days_in_month}
 use Rattle.csa_text.specs.Fields.{IsNumber}
-use Rattle.csa_text.specs.Moment.{CalendarMoment, TimeOfDay, DateDigits, TimeDigits, SpellsDate, SpellsTime, SpellsDateAnd, SpellsMoment}
+use Rattle.csa_text.specs.Moment.{CalendarMoment, TimeOfDay, AreNumbers, DateDigits, SpellsDate, SpellsTime, SpellsDateAnd, SpellsMoment}
 use Rattle.csa_text.proofs.Decided.{Decided, same_or_not, split_or_not}
-use Rattle.csa_text.proofs.Moments.{below_power, no_split, date_year, date_rest, time_hour, time_rest, date_once, time_once, no_date_alone, no_date_before, no_time_behind}
+use Rattle.csa_text.proofs.Moments.{below_power, no_split, slash, colon, first_number, three_parts, date_once, time_once, no_date_alone, no_date_before, no_time_behind}
 use Rattle.record_game.specs.Fits.{IsHeaderLine}
 use Rattle.record_game.specs.Game.{HeaderText, moment, plain}
 use Rattle.record_game.specs.Limits.{IsMomentKey, IsInDay, IsPlain, IsEntry}
@@ -40,88 +40,54 @@ number_or_not fewest most bytes =
       ]
     ]
 
--- the digits of a date
-record SomeDate (bytes : List ℕ) : Type 0 where
-  year : ℕ
-  month : ℕ
-  day : ℕ
-  digits : DateDigits bytes year month day
-
-date_digits_or_not : (bytes : List ℕ) → SomeDate bytes ⊎ ((y m d : ℕ) → DateDigits bytes y m d → ⊥)
-date_digits_or_not bytes =
-    elim (split_or_not 47 bytes) [
-      | inr none ↦ inr (λ y m d n. no_split 47 bytes n.years (n.months ++ 47 ∷ n.days) none n.whole)
-      | inl s ↦ elim (split_or_not 47 s.1) [
-        | inr none ↦ inr (λ y m d n. let two = (date_year bytes s.0 s.1 y m d s.2 n).1 in no_split 47 s.1 two.0 two.1 none two.2)
-        | inl t ↦ elim (number_or_not 4 4 s.0) [
-          | inr never ↦ inr (λ y m d n. never (y, (date_rest bytes s.0 s.1 t.0 t.1 y m d s.2 t.2 n).0))
-          | inl year ↦ elim (number_or_not 1 2 t.0) [
-            | inr never ↦ inr (λ y m d n. never (m, (date_rest bytes s.0 s.1 t.0 t.1 y m d s.2 t.2 n).1))
-            | inl month ↦ elim (number_or_not 1 2 t.1) [
-              | inr never ↦ inr (λ y m d n. never (d, (date_rest bytes s.0 s.1 t.0 t.1 y m d s.2 t.2 n).2))
-              | inl day ↦ inl (record {
-                year = year.0;
-                month = month.0;
-                day = day.0;
-                digits = record {
-                  years = s.0;
-                  months = t.0;
-                  days = t.1;
-                  whole = s.2.0 ∙ ap (λ xs. s.0 ++ 47 ∷ xs) t.2.0;
-                  year_is = year.1;
-                  month_is = month.1;
-                  day_is = day.1;
-                };
-              })
-            ]
-          ]
-        ]
-      ]
-    ]
-
--- the digits of a time
-record SomeTime (bytes : List ℕ) : Type 0 where
-  hour : ℕ
-  minute : ℕ
+-- the three numbers of a date or of a time
+record SomeNumbers (mark few most others : ℕ) (bytes : List ℕ) : Type 0 where
+  first : ℕ
   second : ℕ
-  digits : TimeDigits bytes hour minute second
+  third : ℕ
+  digits : AreNumbers mark few most others bytes first second third
 
-time_digits_or_not : (bytes : List ℕ) → SomeTime bytes ⊎ ((h m s : ℕ) → TimeDigits bytes h m s → ⊥)
-time_digits_or_not bytes =
-    elim (split_or_not 58 bytes) [
-      | inr none ↦ inr (λ h m s n. no_split 58 bytes n.hours (n.minutes ++ 58 ∷ n.seconds) none n.whole)
-      | inl a ↦ elim (split_or_not 58 a.1) [
-        | inr none ↦ inr (λ h m s n. let two = (time_hour bytes a.0 a.1 h m s a.2 n).1 in no_split 58 a.1 two.0 two.1 none two.2)
-        | inl b ↦ elim (number_or_not 1 2 a.0) [
-          | inr never ↦ inr (λ h m s n. never (h, (time_rest bytes a.0 a.1 b.0 b.1 h m s a.2 b.2 n).0))
-          | inl hour ↦ elim (number_or_not 2 2 b.0) [
-            | inr never ↦ inr (λ h m s n. never (m, (time_rest bytes a.0 a.1 b.0 b.1 h m s a.2 b.2 n).1))
-            | inl minute ↦ elim (number_or_not 2 2 b.1) [
-              | inr never ↦ inr (λ h m s n. never (s, (time_rest bytes a.0 a.1 b.0 b.1 h m s a.2 b.2 n).2))
-              | inl second ↦ inl (record {
-                hour = hour.0;
-                minute = minute.0;
-                second = second.0;
-                digits = record {
-                  hours = a.0;
-                  minutes = b.0;
-                  seconds = b.1;
-                  whole = a.2.0 ∙ ap (λ xs. a.0 ++ 58 ∷ xs) b.2.0;
-                  hour_is = hour.1;
-                  minute_is = minute.1;
-                  second_is = second.1;
-                };
-              })
+numbers_or_not : (mark few most others : ℕ) (bytes : List ℕ) → (digit_value mark < 10 → ⊥)
+    → SomeNumbers mark few most others bytes ⊎ ((x y z : ℕ) → AreNumbers mark few most others bytes x y z → ⊥)
+numbers_or_not mark few most others bytes apart =
+    elim (split_or_not mark bytes) [
+      | inr none ↦ inr (λ x y z n. no_split mark bytes n.front (n.middle ++ mark ∷ n.back) none n.whole)
+      | inl s ↦ elim (split_or_not mark s.1) [
+        | inr none ↦ inr (λ x y z n.
+            let two = (first_number mark few most others bytes s.0 s.1 x y z apart s.2 n).1 in no_split mark s.1 two.0 two.1 none two.2)
+        | inl t ↦
+            let parts : (x y z : ℕ) → AreNumbers mark few most others bytes x y z → IsNumber few most s.0 x × IsNumber others 2 t.0 y × IsNumber others 2 t.1 z =
+            λ x y z n. three_parts mark few most others bytes s.0 s.1 t.0 t.1 x y z apart s.2 t.2 n in
+            elim (number_or_not few most s.0) [
+              | inr never ↦ inr (λ x y z n. never (x, (parts x y z n).0))
+              | inl first ↦ elim (number_or_not others 2 t.0) [
+                | inr never ↦ inr (λ x y z n. never (y, (parts x y z n).1))
+                | inl second ↦ elim (number_or_not others 2 t.1) [
+                  | inr never ↦ inr (λ x y z n. never (z, (parts x y z n).2))
+                  | inl third ↦ inl (record {
+                    first = first.0;
+                    second = second.0;
+                    third = third.0;
+                    digits = record {
+                      front = s.0;
+                      middle = t.0;
+                      back = t.1;
+                      whole = s.2.0 ∙ ap (λ xs. s.0 ++ mark ∷ xs) t.2.0;
+                      first_is = first.1;
+                      second_is = second.1;
+                      third_is = third.1;
+                    };
+                  })
+                ]
+              ]
             ]
-          ]
-        ]
       ]
     ]
 
 year_small : (bytes : List ℕ) (y m d : ℕ) → DateDigits bytes y m d → y ≤ 9999
 year_small bytes y m d n =
-    let year = n.year_is in
-    let low : digits_value 10 n.years < 10000 = below_power n.years 4 year.digits_only year.many in
+    let year = n.first_is in
+    let low : digits_value 10 n.front < 10000 = below_power n.front 4 year.digits_only year.many in
     let value = year.value_is in
     omega (arith, low, value)
 
@@ -150,12 +116,12 @@ record SpelltDate (bytes : List ℕ) : Type 0 where
 
 date_or_not : (bytes : List ℕ) → SpelltDate bytes ⊎ ((y m d : ℕ) → SpellsDate bytes y m d → ⊥)
 date_or_not bytes =
-    elim (date_digits_or_not bytes) [
+    elim (numbers_or_not 47 4 4 1 bytes slash) [
       | inr never ↦ inr (λ y m d s. never y m d s.0)
-      | inl n ↦ elim (day_or_not n.year n.month n.day (year_small bytes n.year n.month n.day n.digits)) [
-        | inl day ↦ inl (record { year = n.year; month = n.month; day = n.day; spells = (n.digits, day) })
+      | inl n ↦ elim (day_or_not n.first n.second n.third (year_small bytes n.first n.second n.third n.digits)) [
+        | inl day ↦ inl (record { year = n.first; month = n.second; day = n.third; spells = (n.digits, day) })
         | inr none ↦ inr (λ y m d s.
-            let same = date_once bytes y m d n.year n.month n.day s.0 n.digits in
+            let same = date_once bytes y m d n.first n.second n.third s.0 n.digits in
             none (rw (← same.0, ← same.1, ← same.2) s.1))
       ]
     ]
@@ -168,15 +134,15 @@ record SpelltTime (bytes : List ℕ) : Type 0 where
 
 time_or_not : (bytes : List ℕ) → SpelltTime bytes ⊎ ((h m s : ℕ) → SpellsTime bytes h m s → ⊥)
 time_or_not bytes =
-    elim (time_digits_or_not bytes) [
+    elim (numbers_or_not 58 1 2 2 bytes colon) [
       | inr never ↦ inr (λ h m s t. never h m s t.0)
-      | inl n ↦ elim (cases_lt 23 n.hour) [
-        | inl late ↦ inr (λ h m s t. let same = time_once bytes h m s n.hour n.minute n.second t.0 n.digits in let high = t.1 in omega (arith, late, same.0, high))
-        | inr hours ↦ elim (cases_lt 59 n.minute) [
-          | inl late ↦ inr (λ h m s t. let same = time_once bytes h m s n.hour n.minute n.second t.0 n.digits in let high = t.2 in omega (arith, late, same.1, high))
-          | inr minutes ↦ elim (cases_lt 59 n.second) [
-            | inl late ↦ inr (λ h m s t. let same = time_once bytes h m s n.hour n.minute n.second t.0 n.digits in let high = t.3 in omega (arith, late, same.2, high))
-            | inr seconds ↦ inl (record { hour = n.hour; minute = n.minute; second = n.second; spells = (n.digits, hours, minutes, seconds) })
+      | inl n ↦ elim (cases_lt 23 n.first) [
+        | inl late ↦ inr (λ h m s t. let same = time_once bytes h m s n.first n.second n.third t.0 n.digits in let high = t.1 in omega (arith, late, same.0, high))
+        | inr hours ↦ elim (cases_lt 59 n.second) [
+          | inl late ↦ inr (λ h m s t. let same = time_once bytes h m s n.first n.second n.third t.0 n.digits in let high = t.2 in omega (arith, late, same.1, high))
+          | inr minutes ↦ elim (cases_lt 59 n.third) [
+            | inl late ↦ inr (λ h m s t. let same = time_once bytes h m s n.first n.second n.third t.0 n.digits in let high = t.3 in omega (arith, late, same.2, high))
+            | inr seconds ↦ inl (record { hour = n.first; minute = n.second; second = n.third; spells = (n.digits, hours, minutes, seconds) })
           ]
         ]
       ]

@@ -20,7 +20,7 @@ use Rattle.shogi_board.specs.Pieces.{is_king, place_of}
 use Rattle.shogi_board.specs.Setup as setup
 use Rattle.shogi_board.specs.Setup.{is_full, holds, one_more, rest_to, with_rest}
 use Rattle.shogi_board.specs.Squares.{place}
-use Rattle.shogi_board.specs.Totals.{total, limit, kings_of, no_pieces, count_in, IsWithinTotals}
+use Rattle.shogi_board.specs.Totals.{total, limit, kings_of, bare_board, count_in, IsWithinTotals}
 use Rattle.shogi_board.proofs.Start.{even-within}
 use Rattle.shogi_board.proofs.Totals.{limit-same, total-same, placed-within, removed-within, rest-within}
 use Rattle.shogi_rules.proofs.Forms.{held-low}
@@ -33,7 +33,7 @@ use Rattle.record_game.specs.Placings.{taken_off, pair_placing, cells_placings, 
 use Rattle.record_game.specs.Union.{with_rest_given}
 
 abbrev pub Within : Layout → Type 0
-Within s = IsWithinTotals s.board s.black s.white
+Within s = IsWithinTotals s.material
 
 -- on one of the 81 squares
 abbrev pub IsOnBoard : Placing → Type 0
@@ -51,8 +51,8 @@ untrue : (b : Bool) → not b ≡ false → b ≡ true
 untrue true h = refl
 untrue false h = cc
 
-room_in : (s : Layout) (k : Kind) → is_full s k ≡ false → total s.board s.black s.white k < limit k
-room_in s k h = leb-false (limit k) (total s.board s.black s.white k) h
+room_in : (s : Layout) (k : Kind) → is_full s k ≡ false → total s.material k < limit k
+room_in s k h = leb-false (limit k) (total s.material k) h
 
 no_king : (b : Bool) (n : ℕ) → b && nat_lt 0 n ≡ false → b ≡ true → n ≡ 0
 no_king true zero h k = refl
@@ -62,13 +62,13 @@ no_king false n h k = cc
 within_on : (s : Layout) (n : ℕ) (p : Piece) → n < 81 → placing_fault s (on n p) ≡ None → Within s → Within (placed s (on n p))
 within_on s n p low fine w =
     let full : List (SetupFault × Bool) = (TooMany, is_full s p.kind) ∷ [] in
-    let king : List (SetupFault × Bool) = (SecondKing, is_king p.kind && nat_lt 0 (kings_of s.board p.color)) ∷ full in
-    let taken : List (SetupFault × Bool) = (SquareTaken, is_some (get_or s.board n None)) ∷ king in
+    let king : List (SetupFault × Bool) = (SecondKing, is_king p.kind && nat_lt 0 (kings_of s.material.board p.color)) ∷ full in
+    let taken : List (SetupFault × Bool) = (SquareTaken, is_some (get_or s.material.board n None)) ∷ king in
     let first = not_first AfterRest s.rest_given taken fine in
-    let second = not_first SquareTaken (is_some (get_or s.board n None)) king first.1 in
-    let third = not_first SecondKing (is_king p.kind && nat_lt 0 (kings_of s.board p.color)) full second.1 in
+    let second = not_first SquareTaken (is_some (get_or s.material.board n None)) king first.1 in
+    let third = not_first SecondKing (is_king p.kind && nat_lt 0 (kings_of s.material.board p.color)) full second.1 in
     let fourth = not_first TooMany (is_full s p.kind) [] third.1 in
-    placed-within s.board s.black s.white p.color p.kind n w low (room_in s p.kind fourth.0) (λ h. no_king (is_king p.kind) (kings_of s.board p.color) third.0 h)
+    placed-within s.material p.color p.kind n w low (room_in s p.kind fourth.0) (λ h. no_king (is_king p.kind) (kings_of s.material.board p.color) third.0 h)
 
 -- one more in a bag
 bag_more : (bag : List ℕ) (k j : Kind) → length bag ≡ 7 → kinds.is_hand_kind k ≡ true → slice_index (one_more bag k) (place_of j) ≡ slice_index bag (place_of j) + cond (place_of k == place_of j) 1 0
@@ -95,25 +95,25 @@ more false new old many e low h = omega (arith, e, low)
 eq_place : (m n : ℕ) → (m == n) ≡ true → m ≡ n
 eq_place m n h = grind (arith, nat_tests, h)
 
-within_hand : (s : Layout) (c : Color) (k : Kind) → kinds.is_hand_kind k ≡ true → total s.board s.black s.white k < limit k → Within s → Within (placed s (in_hand c k))
+within_hand : (s : Layout) (c : Color) (k : Kind) → kinds.is_hand_kind k ≡ true → total s.material k < limit k → Within s → Within (placed s (in_hand c k))
 within_hand s Black k held room w = record {
   squares = w.squares;
-  black_kinds = length-set s.black _ _ ∙ w.black_kinds;
+  black_kinds = length-set s.material.black _ _ ∙ w.black_kinds;
   white_kinds = w.white_kinds;
   totals = λ j.
-      let step = bag_more s.black k j w.black_kinds held in
-      more (place_of k == place_of j) _ (total s.board s.black s.white j) _ (omega (arith, step)) (w.totals j)
-      (λ h. let p = eq_place (place_of k) (place_of j) h in omega (arith, total-same s.board s.black s.white k j p, limit-same k j p, room));
+      let step = bag_more s.material.black k j w.black_kinds held in
+      more (place_of k == place_of j) _ (total s.material j) _ (omega (arith, step)) (w.totals j)
+      (λ h. let p = eq_place (place_of k) (place_of j) h in omega (arith, total-same s.material k j p, limit-same k j p, room));
   kings = w.kings;
 }
 within_hand s White k held room w = record {
   squares = w.squares;
   black_kinds = w.black_kinds;
-  white_kinds = length-set s.white _ _ ∙ w.white_kinds;
+  white_kinds = length-set s.material.white _ _ ∙ w.white_kinds;
   totals = λ j.
-      let step = bag_more s.white k j w.white_kinds held in
-      more (place_of k == place_of j) _ (total s.board s.black s.white j) _ (omega (arith, step)) (w.totals j)
-      (λ h. let p = eq_place (place_of k) (place_of j) h in omega (arith, total-same s.board s.black s.white k j p, limit-same k j p, room));
+      let step = bag_more s.material.white k j w.white_kinds held in
+      more (place_of k == place_of j) _ (total s.material j) _ (omega (arith, step)) (w.totals j)
+      (λ h. let p = eq_place (place_of k) (place_of j) h in omega (arith, total-same s.material k j p, limit-same k j p, room));
   kings = w.kings;
 }
 
@@ -122,7 +122,7 @@ within_rest s c w = rest-within s c w
 
 within_placed : (s : Layout) (p : Placing) → IsOnBoard p → placing_fault s p ≡ None → Within s → Within (placed s p)
 within_placed s (on n p) low fine w = within_on s n p low fine w
-within_placed s (off n k) low fine w = removed-within s.board s.black s.white n w low
+within_placed s (off n k) low fine w = removed-within s.material n w low
 within_placed s (in_hand c k) low fine w =
     let full : List (SetupFault × Bool) = (TooMany, is_full s k) ∷ [] in
     let seven_kinds : List (SetupFault × Bool) = (NotForHand, not (kinds.is_hand_kind k)) ∷ full in
@@ -177,7 +177,7 @@ item_on_board (time t) h = tt
 item_on_board (ending e) h = tt
 
 -- the boards to begin with
-none_totals : (k : Kind) → total no_cells no_pieces no_pieces k ≤ limit k
+none_totals : (k : Kind) → total (bare_board no_cells) k ≤ limit k
 none_totals Pawn = lit≤ tt
 none_totals Lance = lit≤ tt
 none_totals Knight = lit≤ tt
@@ -231,19 +231,19 @@ rest_adds s bag ProSilver h = omega arith
 rest_adds s bag Horse h = omega arith
 rest_adds s bag Dragon h = omega arith
 
-pub before_rest : (s : Layout) (colors : List Color) → length s.black ≡ 7 → length s.white ≡ 7 → Within (with_rest_given colors s) → Within s
+pub before_rest : (s : Layout) (colors : List Color) → length s.material.black ≡ 7 → length s.material.white ≡ 7 → Within (with_rest_given colors s) → Within s
 before_rest s [] b w h = h
 before_rest s (Black ∷ colors) b w h = record {
   squares = h.squares;
   black_kinds = b;
   white_kinds = w;
-  totals = λ k. omega (arith, rest_adds s s.black k b, h.totals k);
+  totals = λ k. omega (arith, rest_adds s s.material.black k b, h.totals k);
   kings = h.kings;
 }
 before_rest s (White ∷ colors) b w h = record {
   squares = h.squares;
   black_kinds = b;
   white_kinds = w;
-  totals = λ k. omega (arith, rest_adds s s.white k w, h.totals k);
+  totals = λ k. omega (arith, rest_adds s s.material.white k w, h.totals k);
   kings = h.kings;
 }

@@ -101,13 +101,13 @@ no_items (s ∷ ss) = false
 
 -- both hands are empty, and every piece of the board stands where the even board has that same piece
 abbrev pub is_from_even : Placed → Bool
-is_from_even p = no_items (hand_items Black p.black ++ hand_items White p.white) && is_part_of p.board even_cells
+is_from_even p = no_items (hand_items Black p.material.black ++ hand_items White p.material.white) && is_part_of p.material.board even_cells
 
 -- `PI` with the missing pieces of the even board, or else the ranks and the hands that are not empty
 abbrev pub start_items : Placed → List Saying
 start_items p =
-    if is_from_even p then even (missing 0 even_cells p.board) ∷ []
-    else rank_items p.board ++ (hand_items Black p.black ++ hand_items White p.white)
+    if is_from_even p then even (missing 0 even_cells p.material.board) ∷ []
+    else rank_items p.material.board ++ (hand_items Black p.material.black ++ hand_items White p.material.white)
 
 -- the version, the names, the headers, the start, the side to move, the moves with their times, and the ending
 abbrev pub canon_items : Game → List Saying

@@ -31,8 +31,8 @@ start_why (Err fault) = Some (Start fault)
 -- the side to move finishes the start: the king of the other side may not be attacked
 abbrev pub Finishes : Result Layout SetupFault → Color → Option Why → Type 0
 Finishes (Err fault) color answer = ⊥
-Finishes (Ok s) color None = InCheck s.board (opponent color) → ⊥
-Finishes (Ok s) color (Some why) = InCheck s.board (opponent color) × (why ≡ Start OpponentInCheck)
+Finishes (Ok s) color None = InCheck s.material.board (opponent color) → ⊥
+Finishes (Ok s) color (Some why) = InCheck s.material.board (opponent color) × (why ≡ Start OpponentInCheck)
 
 -- the line of the start that the items before have laid out, and of their moves
 pub record IsLineOf (before : List Saying) (line : Played) : Type 0 where

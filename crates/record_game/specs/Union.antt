@@ -82,12 +82,12 @@ bag_given color ps = map (λ k. length (filter (is_held color k) ps)) hand_kinds
 
 -- what is placed on the first board makes this board and these hands; no two hold the same square
 pub record IsUnion (first : Cells) (ps : List Placing) (s : Layout) : Type 0 where
-  pub squares : length s.board ≡ 81
-  pub cells : (n : ℕ) → n < 81 → on_square first ps n ≡ option_to_list (slice_index_or s.board n None)
+  pub squares : length s.material.board ≡ 81
+  pub cells : (n : ℕ) → n < 81 → on_square first ps n ≡ option_to_list (slice_index_or s.material.board n None)
   pub taken : (n : ℕ) → MayTakeOff (slice_index_or first n None) (filter_map (off_at n) ps)
   pub held : AllByRecursion MayBeHeld ps
-  pub black : s.black ≡ bag_given Black ps
-  pub white : s.white ≡ bag_given White ps
+  pub black : s.material.black ≡ bag_given Black ps
+  pub white : s.material.white ≡ bag_given White ps
   pub no_rest : s.rest_given ≡ false
   pub rest_last : RestIsLast ps
 

@@ -21,22 +21,22 @@ ghost use Rattle.record_game.specs.declared.fault.Why.{Why};
 
 /// All bytes tell exactly one game, or are refused in exactly one way, and never both.
 pub fn told_once()
-    ensures { (source : List ℕ) → ToldAlone source ⊎ RefusedAlone source }
+    ensures once { (source : List ℕ) → ToldAlone source ⊎ RefusedAlone source }
 {}
 
 /// The canonical text of a game tells that game.
 pub fn canon_tells()
-    ensures { (g : Game) → IsGame g → Tells (canon g) g }
+    ensures tells { (g : Game) → IsGame g → Tells (canon g) g }
 {}
 
 /// Two games have equal canonical texts exactly if they are equal.
 pub fn canon_equal()
-    ensures { (g h : Game) → IsGame g → IsGame h → ((canon g ≡ canon h) ↔ (g ≡ h)) }
+    ensures equal { (g h : Game) → IsGame g → IsGame h → ((canon g ≡ canon h) ↔ (g ≡ h)) }
 {}
 
 /// Bytes tell one game at most.
 pub fn one_game()
-    ensures { (source : List ℕ) (g h : Game) → Tells source g → Tells source h → g ≡ h }
+    ensures once { (source : List ℕ) (g h : Game) → Tells source g → Tells source h → g ≡ h }
 {}
 
 /// Records whose items differ only in a version, in where names and headers stand, and in the order of the headers, tell
@@ -50,14 +50,14 @@ pub fn headers_anywhere()
 
 /// Bytes are refused in one way at most: at one statement, at one offset, for one reason.
 pub fn one_refusal()
-    ensures { (source : List ℕ) (n m offset other : ℕ) (v w : Why) → Refused source n offset v → Refused source m other w
+    ensures once { (source : List ℕ) (n m offset other : ℕ) (v w : Why) → Refused source n offset v → Refused source m other w
         → (m ≡ n) × (other ≡ offset) × (w ≡ v) }
 {}
 
 /// What position statements that bytes spell place one after another, with `PI` first where it stands, is the union of
 /// what they place, which does not speak of their order but for `PI` first and the rest last.
 pub fn laid_out()
-    ensures { (sayings : List Saying) (laid : Layout) (side : Color) → AllByRecursion (λ s. (bytes : List ℕ) × Spells bytes s) sayings
+    ensures places { (sayings : List Saying) (laid : Layout) (side : Color) → AllByRecursion (λ s. (bytes : List ℕ) × Spells bytes s) sayings
         → filter is_even (drop 1 (positions sayings)) ≡ [] → starts.laid_out sayings ≡ Ok laid
         → GiveStart (positions sayings) (position_of laid side) }
 {}
@@ -65,9 +65,9 @@ pub fn laid_out()
 /// The union of what position statements that bytes spell place, with `PI` first where it stands, can be placed one after
 /// another, where no total is passed before the rest is given.
 pub fn union_placed()
-    ensures { (sayings : List Saying) (placed : Layout) → AllByRecursion (λ s. (bytes : List ℕ) × Spells bytes s) sayings
+    ensures laid { (sayings : List Saying) (placed : Layout) → AllByRecursion (λ s. (bytes : List ℕ) × Spells bytes s) sayings
         → filter is_even (drop 1 (positions sayings)) ≡ []
         → IsUnion (first_board (positions sayings)) (placings (positions sayings)) placed
-        → IsWithinTotals placed.board placed.black placed.white
+        → IsWithinTotals placed.material
         → starts.laid_out sayings ≡ Ok (with_rest_given (filter_map rest_given (placings (positions sayings))) placed) }
 {}

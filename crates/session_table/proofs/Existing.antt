@@ -7,7 +7,8 @@ use Rattle.shogi_board.proofs.Same.{position-same}
 use Rattle.shogi_board.specs.declared.color.Color.{Color}
 use Rattle.shogi_board.specs.declared.kind.Kind.{Kind}
 use Rattle.shogi_board.specs.declared.square.Square.{Square}
-use Rattle.shogi_board.specs.Placed.{Placed, even_start, bag_of}
+use Rattle.shogi_board.specs.Material.{bag_of}
+use Rattle.shogi_board.specs.Placed.{Placed, even_start}
 use Rattle.shogi_board.specs.Same.{same_position}
 use Rattle.shogi_rules.proofs.Drops.{held-of}
 use Rattle.shogi_rules.specs.declared.moves.Move.{Move}
@@ -38,7 +39,7 @@ walk_word p from to k (was, there, inl e) = (square_text from ++ square_text to,
 walk_word p from to k (was, there, inr e) = (square_text from ++ square_text to ++ codes "+", (record { color = p.side; kind = was }, there, inr (refl, e)))
 
 drop_word : (p : Placed) (to : Square) (k : Kind) → HasPiece p (Put to k) → (word : List ℕ) × UsiMove p word (Put to k)
-drop_word p to k h = (letter k ∷ (codes "*" ++ square_text to), ((held-of (bag_of p p.side) k h).0, refl))
+drop_word p to k h = (letter k ∷ (codes "*" ++ square_text to), ((held-of (bag_of p.material p.side) k h).0, refl))
 
 legal_word : (p : Placed) (m : Move) → Legal p m → (word : List ℕ) × UsiMove p word m
 legal_word p (Walk from to k) h = walk_word p from to k h.keeps.fits.kind_fits

@@ -95,16 +95,16 @@ no_check cells color h check =
     let b : no_king (at cells check.0) ≡ false = ap no_king check.1 in
     cc
 
-pub start_safe : (color : Color) → InCheck pawn_start.board color → ⊥
+pub start_safe : (color : Color) → InCheck pawn_start.material.board color → ⊥
 unfolding no_king
-start_safe color = no_check pawn_start.board color refl
+start_safe color = no_check pawn_start.material.board color refl
 
 reaches : ReachesTarget pawn_start opening.move
 reaches = record { mover = record { color = Black; kind = Pawn }; stands = refl; moves = inl (0, _, omega arith, refl, (refl, refl)) }
 
 safe : KingSafe pawn_start opening.move
 unfolding no_king
-safe = no_check (after pawn_start opening.move).board Black refl
+safe = no_check (after pawn_start opening.move).material.board Black refl
 
 pub legal : Answers (line_of pawn_match) Black opening.move None
 legal = (omega arith, inr (refl, inr (not-over-alone pawn_start, inr ((Pawn, refl), inr ((Pawn, refl, inl refl), inr ((λ own e. absurd (let f = e in cc)), inr (reaches, inr (inl refl, inr (omega arith, inr (tt, inr (safe, inr ((λ d. absurd d), refl))))))))))))

@@ -1,5 +1,5 @@
 -- A whole log, from New to the engine's first move.
-use Rattle.std.proofs.Common.{◌≡◌, ◌≢◌, ℕ, ◌<◌, ◌+◌, ◌≤◌, inl, inr, true, false, List, [], ◌∷◌, ◌++◌, Option, Some, None, codes, refl, sym, ap, subst, ◌∙◌, lit≤, get_or}
+use Rattle.std.proofs.Common.{◌≡◌, ◌≢◌, ℕ, ◌<◌, ◌+◌, ◌≤◌, inl, inr, true, List, [], ◌∷◌, ◌++◌, Option, Some, None, codes, refl, sym, ap, subst, ◌∙◌, lit≤, get_or}
 use Rattle.std.proofs.lemmas.Bool.{cases_eq, ne_eqb}
 use Rattle.std.proofs.lemmas.List.{append-nil, get_or-set_other, get_or-replicate}
 use Rattle.std.specs.Prelude.{map, slice_set}
@@ -12,8 +12,9 @@ use Rattle.shogi_board.specs.declared.kind.Kind.TheVariants.{Pawn, Lance, Knight
 use Rattle.shogi_board.specs.declared.square.Square.{Square}
 use Rattle.shogi_board.specs.Cells.{no_cells, piece}
 use Rattle.shogi_board.specs.Placing.{Placing, on}
+use Rattle.shogi_board.specs.Setup.{layout_of}
 use Rattle.shogi_board.specs.Sound.{IsSound}
-use Rattle.shogi_board.specs.Totals.{no_pieces, total, limit, kings_of}
+use Rattle.shogi_board.specs.Totals.{total, limit, kings_of}
 use Rattle.shogi_rules.proofs.Alone.{not-over-alone}
 use Rattle.shogi_rules.specs.Positions.{begun}
 use Rattle.csa_text.specs.Spelling.{pieces, turn}
@@ -57,7 +58,7 @@ cell_of n h = elim (cases_eq n 60) [
   | inr other ↦ rw (ne_eqb 60 n (λ e. other (sym e)), empty_at n h, others_empty n h other) refl
 ]
 
-few : (kind : Kind) → total pawn_start.board pawn_start.black pawn_start.white kind ≤ limit kind
+few : (kind : Kind) → total pawn_start.material kind ≤ limit kind
 few Pawn = lit≤ tt
 few Lance = lit≤ tt
 few Knight = lit≤ tt
@@ -73,7 +74,7 @@ few ProSilver = lit≤ tt
 few Horse = lit≤ tt
 few Dragon = lit≤ tt
 
-few_kings : (color : Color) → kings_of pawn_start.board color ≤ 1
+few_kings : (color : Color) → kings_of pawn_start.material.board color ≤ 1
 few_kings Black = lit≤ tt
 few_kings White = lit≤ tt
 
@@ -99,7 +100,7 @@ game = record {
 
 given : GiveStart (pieces Black (On from Pawn ∷ []) ∷ []) pawn_start
 given = record {
-  layout = record { board = pawn_start.board; black = no_pieces; white = no_pieces; rest_given = false };
+  layout = layout_of pawn_start;
   union = record {
     squares = refl;
     cells = cell_of;

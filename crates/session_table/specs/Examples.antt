@@ -5,7 +5,7 @@ use Rattle.shogi_board.specs.declared.kind.Kind.TheVariants.{Pawn}
 use Rattle.shogi_board.specs.declared.square.Square.{Square}
 use Rattle.shogi_board.specs.Cells.{no_cells, piece}
 use Rattle.shogi_board.specs.Placed.{Placed}
-use Rattle.shogi_board.specs.Totals.{no_pieces}
+use Rattle.shogi_board.specs.Totals.{bare_board}
 use Rattle.shogi_rules.specs.declared.moves.Move.TheVariants.{Walk}
 use Rattle.csa_record.specs.Game.{Game, Timed}
 use Rattle.session_table.specs.declared.event.Status.TheVariants.{Going}
@@ -15,7 +15,7 @@ use Rattle.session_table.specs.State.{Match, Client, State}
 
 -- a black pawn on 77, black to move
 abbrev pub pawn_start : Placed
-pawn_start = record { board = slice_set no_cells 60 (piece Black Pawn); black = no_pieces; white = no_pieces; side = Black }
+pawn_start = record { material = bare_board (slice_set no_cells 60 (piece Black Pawn)); side = Black }
 
 abbrev pub pawn_game : Game
 pawn_game = record { black = None; white = None; headers = []; start = pawn_start; moves = []; ending = None }

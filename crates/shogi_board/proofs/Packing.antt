@@ -18,7 +18,8 @@ use Rattle.shogi_board.proofs.Same.{counts-eq}
 use Rattle.std.specs.Cmp.Lexicographic.{pointwise}
 use Rattle.shogi_board.specs.Packing.{digit_of, kind_digit, color_digit, cell_of_digit, number_of, cells_of, board_of, shifted, counts_of, count_number, file_numbers, IsFile, IsHand, ArePacked}
 use Rattle.shogi_board.specs.Pieces.{place_of}
-use Rattle.shogi_board.specs.Placed.{Placed, bag_of}
+use Rattle.shogi_board.specs.Material.{bag_of}
+use Rattle.shogi_board.specs.Placed.{Placed}
 use Rattle.shogi_board.specs.Sound.{IsSound}
 use Rattle.shogi_board.specs.Totals.{limit}
 use Rattle.std.specs.Prelude.{slice_index}
@@ -309,16 +310,16 @@ few-held bag long h (suc (suc (suc (suc (suc zero))))) low = kind-count bag Bish
 few-held bag long h (suc (suc (suc (suc (suc (suc zero)))))) low = kind-count bag Rook (h Rook) (omega arith)
 few-held bag long h (suc (suc (suc (suc (suc (suc (suc i))))))) low = absurd (omega (arith, long, low))
 
-pub bag-low : (p : Placed) (c : Color) → IsSound p → AllByRecursion (λ n. n < 32) (bag_of p c)
-bag-low p Black sound = all-low p.black (few-held p.black sound.within.black_kinds (λ k. let t = sound.within.totals k in omega (arith, t)))
-bag-low p White sound = all-low p.white (few-held p.white sound.within.white_kinds (λ k. let t = sound.within.totals k in omega (arith, t)))
+pub bag-low : (p : Placed) (c : Color) → IsSound p → AllByRecursion (λ n. n < 32) (bag_of p.material c)
+bag-low p Black sound = all-low p.material.black (few-held p.material.black sound.within.black_kinds (λ k. let t = sound.within.totals k in omega (arith, t)))
+bag-low p White sound = all-low p.material.white (few-held p.material.white sound.within.white_kinds (λ k. let t = sound.within.totals k in omega (arith, t)))
 
-pub bag-long : (p : Placed) (c : Color) → IsSound p → length (bag_of p c) ≡ 7
+pub bag-long : (p : Placed) (c : Color) → IsSound p → length (bag_of p.material c) ≡ 7
 bag-long p Black sound = sound.within.black_kinds
 bag-long p White sound = sound.within.white_kinds
 
 -- a position of the same parts
-pub placed-same : (p : Placed) (board : Cells) (black white : List ℕ) (side : Color) → board ≡ p.board → black ≡ p.black → white ≡ p.white → side ≡ p.side → record { board = board; black = black; white = white; side = side } ≡ p
+pub placed-same : (p : Placed) (board : Cells) (black white : List ℕ) (side : Color) → board ≡ p.material.board → black ≡ p.material.black → white ≡ p.material.white → side ≡ p.side → record { material = record { board = board; black = black; white = white }; side = side } ≡ p
 placed-same p board black white side a b c d = rw (a, b, c, d) refl
 
 -- the nine files of a board
@@ -342,14 +343,14 @@ pub range-nine : (cells : Cells) (from to : ℕ) → to ≡ from + 9 → to ≤ 
 range-nine cells from to e within = grind (arith, common_steps)
 
 abbrev pub the-view : List ℕ → ℕ → ℕ → Color → Placed
-the-view files black white side = record { board = board_of files; black = counts_of 7 black; white = counts_of 7 white; side = side }
+the-view files black white side = record { material = record { board = board_of files; black = counts_of 7 black; white = counts_of 7 white }; side = side }
 
 -- what two packed positions have in common where they are the same
 pub packed-same : (fs gs : List ℕ) (x y z w : ℕ) (s t : Color) → ArePacked fs x y → ArePacked gs z w → (the-view fs x y s ≡ the-view gs z w t) → (fs ≡ gs) × ((x ≡ z) × ((y ≡ w) × (s ≡ t)))
 packed-same fs gs x y z w s t a b e =
-    let files = files-same fs gs (a.nine ∙ sym b.nine) a.each b.each (ap (λ (p : Placed). p.board) e) in
-    let black = hands-same x z a.black_is b.black_is (ap (λ (p : Placed). p.black) e) in
-    let white = hands-same y w a.white_is b.white_is (ap (λ (p : Placed). p.white) e) in
+    let files = files-same fs gs (a.nine ∙ sym b.nine) a.each b.each (ap (λ (p : Placed). p.material.board) e) in
+    let black = hands-same x z a.black_is b.black_is (ap (λ (p : Placed). p.material.black) e) in
+    let white = hands-same y w a.white_is b.white_is (ap (λ (p : Placed). p.material.white) e) in
     (files, (black, (white, ap (λ (p : Placed). p.side) e)))
 
 pub file-is : (cells : Cells) (from to number : ℕ) → to ≡ from + 9 → to ≤ length cells → number ≡ number_of (slice_range cells from to) → IsFile number

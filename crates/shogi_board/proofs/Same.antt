@@ -47,29 +47,29 @@ pub counts-eq : (a b : List ℕ) → Decides (pointwise nat_eq a b) (a ≡ b)
 counts-eq a b = slice_eq-Decides Decides-eqb a b _ refl
 
 abbrev parts : List (Option Piece) → List ℕ → List ℕ → Color → Placed
-parts x y z c = record { board = x; black = y; white = z; side = c }
+parts x y z c = record { material = record { board = x; black = y; white = z }; side = c }
 
-placed-same : (a b : Placed) → a.board ≡ b.board → a.black ≡ b.black → a.white ≡ b.white → a.side ≡ b.side → a ≡ b
+placed-same : (a b : Placed) → a.material.board ≡ b.material.board → a.material.black ≡ b.material.black → a.material.white ≡ b.material.white → a.side ≡ b.side → a ≡ b
 placed-same a b p q r s =
-    ap (λ x. parts x a.black a.white a.side) p
-    ∙ (ap (λ x. parts b.board x a.white a.side) q
-    ∙ (ap (λ x. parts b.board b.black x a.side) r ∙ ap (λ x. parts b.board b.black b.white x) s))
+    ap (λ x. parts x a.material.black a.material.white a.side) p
+    ∙ (ap (λ x. parts b.material.board x a.material.white a.side) q
+    ∙ (ap (λ x. parts b.material.board b.material.black x a.side) r ∙ ap (λ x. parts b.material.board b.material.black b.material.white x) s))
 
 abbrev pub placed_eq : Placed → Placed → Bool
 placed_eq a b =
-    pointwise (option_eq eq-value.it) a.board b.board
-    && (pointwise nat_eq a.black b.black && (pointwise nat_eq a.white b.white && sameb color.the_type a.side b.side))
+    pointwise (option_eq eq-value.it) a.material.board b.material.board
+    && (pointwise nat_eq a.material.black b.material.black && (pointwise nat_eq a.material.white b.material.white && sameb color.the_type a.side b.side))
 
 pub placed-eq : (a b : Placed) → Decides (placed_eq a b) (a ≡ b)
 placed-eq a b = (
   λ h.
       let h1 = and-right _ _ h in
       let h2 = and-right _ _ h1 in
-      placed-same a b ((cells-eq a.board b.board).0 (and-left _ _ h)) ((counts-eq a.black b.black).0 (and-left _ _ h1))
-      ((counts-eq a.white b.white).0 (and-left _ _ h2)) ((color-eq a.side b.side).0 (and-right _ _ h2)),
-  λ h. and-both _ _ ((cells-eq a.board b.board).1 (ap (λ (p : Placed). p.board) h))
-      (and-both _ _ ((counts-eq a.black b.black).1 (ap (λ (p : Placed). p.black) h))
-      (and-both _ _ ((counts-eq a.white b.white).1 (ap (λ (p : Placed). p.white) h)) ((color-eq a.side b.side).1 (ap (λ (p : Placed). p.side) h)))),
+      placed-same a b ((cells-eq a.material.board b.material.board).0 (and-left _ _ h)) ((counts-eq a.material.black b.material.black).0 (and-left _ _ h1))
+      ((counts-eq a.material.white b.material.white).0 (and-left _ _ h2)) ((color-eq a.side b.side).0 (and-right _ _ h2)),
+  λ h. and-both _ _ ((cells-eq a.material.board b.material.board).1 (ap (λ (p : Placed). p.material.board) h))
+      (and-both _ _ ((counts-eq a.material.black b.material.black).1 (ap (λ (p : Placed). p.material.black) h))
+      (and-both _ _ ((counts-eq a.material.white b.material.white).1 (ap (λ (p : Placed). p.material.white) h)) ((color-eq a.side b.side).1 (ap (λ (p : Placed). p.side) h)))),
 )
 
 -- positions that compare as equal are one, and one position is equal to itself
@@ -92,11 +92,11 @@ position-same a b = (
   λ h.
       let h1 = and-right _ _ h in
       let h2 = and-right _ _ h1 in
-      placed-same a b ((cells-same a.board b.board).0 (and-left _ _ h)) ((counts-eq a.black b.black).0 (and-left _ _ h1))
-      ((counts-eq a.white b.white).0 (and-left _ _ h2)) ((color-same a.side b.side).0 (and-right _ _ h2)),
-  λ h. and-both _ _ ((cells-same a.board b.board).1 (ap (λ (p : Placed). p.board) h))
-      (and-both _ _ ((counts-eq a.black b.black).1 (ap (λ (p : Placed). p.black) h))
-      (and-both _ _ ((counts-eq a.white b.white).1 (ap (λ (p : Placed). p.white) h)) ((color-same a.side b.side).1 (ap (λ (p : Placed). p.side) h)))),
+      placed-same a b ((cells-same a.material.board b.material.board).0 (and-left _ _ h)) ((counts-eq a.material.black b.material.black).0 (and-left _ _ h1))
+      ((counts-eq a.material.white b.material.white).0 (and-left _ _ h2)) ((color-same a.side b.side).0 (and-right _ _ h2)),
+  λ h. and-both _ _ ((cells-same a.material.board b.material.board).1 (ap (λ (p : Placed). p.material.board) h))
+      (and-both _ _ ((counts-eq a.material.black b.material.black).1 (ap (λ (p : Placed). p.material.black) h))
+      (and-both _ _ ((counts-eq a.material.white b.material.white).1 (ap (λ (p : Placed). p.material.white) h)) ((color-same a.side b.side).1 (ap (λ (p : Placed). p.side) h)))),
 )
 
 one-test : (a b : Bool) (P : Type 0) → Decides a P → Decides b P → a ≡ b
@@ -110,23 +110,23 @@ pub eq-same : (a b : Placed) → placed_eq a b ≡ same_position a b
 eq-same a b = one-test (placed_eq a b) (same_position a b) (a ≡ b) (placed-eq a b) (position-same a b)
 
 abbrev laid : List (Option Piece) → List ℕ → List ℕ → Bool → Layout
-laid x y z r = record { board = x; black = y; white = z; rest_given = r }
+laid x y z r = record { material = record { board = x; black = y; white = z }; rest_given = r }
 
-layout-same : (a b : Layout) → a.board ≡ b.board → a.black ≡ b.black → a.white ≡ b.white → a.rest_given ≡ b.rest_given → a ≡ b
+layout-same : (a b : Layout) → a.material.board ≡ b.material.board → a.material.black ≡ b.material.black → a.material.white ≡ b.material.white → a.rest_given ≡ b.rest_given → a ≡ b
 layout-same a b p q r s =
-    ap (λ x. laid x a.black a.white a.rest_given) p
-    ∙ (ap (λ x. laid b.board x a.white a.rest_given) q
-    ∙ (ap (λ x. laid b.board b.black x a.rest_given) r ∙ ap (λ x. laid b.board b.black b.white x) s))
+    ap (λ x. laid x a.material.black a.material.white a.rest_given) p
+    ∙ (ap (λ x. laid b.material.board x a.material.white a.rest_given) q
+    ∙ (ap (λ x. laid b.material.board b.material.black x a.rest_given) r ∙ ap (λ x. laid b.material.board b.material.black b.material.white x) s))
 
 -- setups compare as equal where they are equal
-pub layout-eq : (a b : Layout) → Decides (pointwise (option_eq eq-value.it) a.board b.board && (pointwise nat_eq a.black b.black && (pointwise nat_eq a.white b.white && beq a.rest_given b.rest_given))) (a ≡ b)
+pub layout-eq : (a b : Layout) → Decides (pointwise (option_eq eq-value.it) a.material.board b.material.board && (pointwise nat_eq a.material.black b.material.black && (pointwise nat_eq a.material.white b.material.white && beq a.rest_given b.rest_given))) (a ≡ b)
 layout-eq a b = (
   λ h.
       let h1 = and-right _ _ h in
       let h2 = and-right _ _ h1 in
-      layout-same a b ((cells-eq a.board b.board).0 (and-left _ _ h)) ((counts-eq a.black b.black).0 (and-left _ _ h1))
-      ((counts-eq a.white b.white).0 (and-left _ _ h2)) ((booleans_Decides a.rest_given b.rest_given).0 (and-right _ _ h2)),
-  λ h. and-both _ _ ((cells-eq a.board b.board).1 (ap (λ (p : Layout). p.board) h))
-      (and-both _ _ ((counts-eq a.black b.black).1 (ap (λ (p : Layout). p.black) h))
-      (and-both _ _ ((counts-eq a.white b.white).1 (ap (λ (p : Layout). p.white) h)) ((booleans_Decides a.rest_given b.rest_given).1 (ap (λ (p : Layout). p.rest_given) h)))),
+      layout-same a b ((cells-eq a.material.board b.material.board).0 (and-left _ _ h)) ((counts-eq a.material.black b.material.black).0 (and-left _ _ h1))
+      ((counts-eq a.material.white b.material.white).0 (and-left _ _ h2)) ((booleans_Decides a.rest_given b.rest_given).0 (and-right _ _ h2)),
+  λ h. and-both _ _ ((cells-eq a.material.board b.material.board).1 (ap (λ (p : Layout). p.material.board) h))
+      (and-both _ _ ((counts-eq a.material.black b.material.black).1 (ap (λ (p : Layout). p.material.black) h))
+      (and-both _ _ ((counts-eq a.material.white b.material.white).1 (ap (λ (p : Layout). p.material.white) h)) ((booleans_Decides a.rest_given b.rest_given).1 (ap (λ (p : Layout). p.rest_given) h)))),
 )

@@ -8,7 +8,7 @@ use Rattle.shogi_board.specs.Placed.{even_start}
 use Rattle.shogi_board.specs.Sound.{IsSound}
 use Rattle.shogi_board.specs.Reach.{Attacked, InCheck, IsClear, InSight}
 use Rattle.shogi_board.specs.Squares.{IsAway}
-use Rattle.shogi_board.specs.Totals.{IsWithinTotals, total, limit, kings_of, no_pieces}
+use Rattle.shogi_board.specs.Totals.{IsWithinTotals, total, limit, kings_of, bare_board}
 use Rattle.shogi_board.specs.declared.color.Color.{Color}
 use Rattle.shogi_board.specs.declared.color.Color.TheVariants.{Black, White}
 use Rattle.shogi_board.specs.declared.direction.Direction.{Direction}
@@ -19,7 +19,7 @@ use Rattle.shogi_board.specs.declared.square.Square.{Square}
 use Rattle.shogi_board.proofs.Check.{king-safe}
 use Rattle.shogi_board.proofs.Moves.{ray-at, step-near}
 
-even-totals : (k : Kind) → total even_cells no_pieces no_pieces k ≤ limit k
+even-totals : (k : Kind) → total (bare_board even_cells) k ≤ limit k
 even-totals Pawn = lit≤ tt
 even-totals Lance = lit≤ tt
 even-totals Knight = lit≤ tt
@@ -39,7 +39,7 @@ even-kings : (c : Color) → kings_of even_cells c ≤ 1
 even-kings Black = lit≤ tt
 even-kings White = lit≤ tt
 
-pub even-within : IsWithinTotals even_cells no_pieces no_pieces
+pub even-within : IsWithinTotals (bare_board even_cells)
 even-within = record { squares = refl; black_kinds = refl; white_kinds = refl; totals = even-totals; kings = even-kings }
 
 all_below : (ℕ → Bool) → ℕ → Bool

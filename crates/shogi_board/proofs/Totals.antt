@@ -5,8 +5,9 @@ use Rattle.std.proofs.lemmas.Bool.{cases_eq}
 use Rattle.std.proofs.lemmas.Bool.Decides.{Decides-eqb, nat_tests}
 use Rattle.shogi_board.specs.Cells.{Cells, piece}
 use Rattle.shogi_board.specs.Layout.{Layout}
+use Rattle.shogi_board.specs.Material.{Material, bag_of, with_bag}
 use Rattle.shogi_board.specs.Pieces.{place_of, same_color, is_king, is_hand_kind}
-use Rattle.shogi_board.specs.Setup.{with_rest, with_hand, hand_of, first_fault, place_fault, add_fault, one_more, one_less, HoldsLimits}
+use Rattle.shogi_board.specs.Setup.{with_rest, first_fault, place_fault, add_fault, one_more, added, taken}
 use Rattle.shogi_board.specs.Totals.{total, limit, count_in, is_of, is_king_of, kings_of, IsWithinTotals}
 use Rattle.shogi_board.specs.declared.color.Color.{Color}
 use Rattle.shogi_board.specs.declared.color.Color.TheVariants.{Black, White}
@@ -43,15 +44,15 @@ abbrev is_at : ℕ → Option Piece → Bool
 is_at n None = false
 is_at n (Some p) = place_of p.kind == n
 
-total-place : (cells : Cells) (black white : List ℕ) (k : Kind) → total cells black white k ≡ count_by (is_at (place_of k)) cells + slice_index black (place_of k) + slice_index white (place_of k)
-total-place cells black white k = refl
+total-place : (m : Material) (k : Kind) → total m k ≡ count_by (is_at (place_of k)) m.board + slice_index m.black (place_of k) + slice_index m.white (place_of k)
+total-place m k = refl
 
 -- and one total
-pub total-same : (cells : Cells) (black white : List ℕ) (a b : Kind) → place_of a ≡ place_of b → total cells black white a ≡ total cells black white b
-total-same cells black white a b e =
-    total-place cells black white a
-    ∙ ap (λ n. count_by (is_at n) cells + slice_index black n + slice_index white n) e
-    ∙ sym (total-place cells black white b)
+pub total-same : (m : Material) (a b : Kind) → place_of a ≡ place_of b → total m a ≡ total m b
+total-same m a b e =
+    total-place m a
+    ∙ ap (λ n. count_by (is_at n) m.board + slice_index m.black n + slice_index m.white n) e
+    ∙ sym (total-place m b)
 
 -- one more piece of a kind of which there may be more, in the place of others
 more : (b : Bool) (new old many gone : ℕ) → new + gone ≡ old + cond b 1 0 → old ≤ many → (b ≡ true → old < many) → new ≤ many
@@ -68,20 +69,20 @@ kings-more cells White Black moved h e = cc
 kings-more cells White White moved h e = let k = h e in omega arith
 
 -- a piece on a square, in the place of what stood there
-pub placed-within : (cells : Cells) (black white : List ℕ) (color : Color) (kind : Kind) (i : ℕ) → IsWithinTotals cells black white → i < 81 → total cells black white kind < limit kind → (is_king kind ≡ true → kings_of cells color ≡ 0) → IsWithinTotals (set cells i (piece color kind)) black white
-placed-within cells black white color kind i w low room none = record {
+pub placed-within : (m : Material) (color : Color) (kind : Kind) (i : ℕ) → IsWithinTotals m → i < 81 → total m kind < limit kind → (is_king kind ≡ true → kings_of m.board color ≡ 0) → IsWithinTotals (record m { board = set m.board i (piece color kind) })
+placed-within m color kind i w low room none = record {
   squares = rw length-set w.squares;
   black_kinds = w.black_kinds;
   white_kinds = w.white_kinds;
   totals = λ k.
       let whole = w.squares in
-      let step = sum_by-set (λ x. cond (is_of k x) 1 0) cells i (piece color kind) None (omega arith) in
-      more (place_of kind == place_of k) _ (total cells black white k) _ (cond (is_of k (get_or cells i None)) 1 0) (omega (arith, step)) (w.totals k)
-      (λ h. let p : place_of kind ≡ place_of k = eq-place _ _ h in omega (arith, total-same cells black white kind k p, limit-same kind k p, room));
+      let step = sum_by-set (λ x. cond (is_of k x) 1 0) m.board i (piece color kind) None (omega arith) in
+      more (place_of kind == place_of k) _ (total m k) _ (cond (is_of k (get_or m.board i None)) 1 0) (omega (arith, step)) (w.totals k)
+      (λ h. let p : place_of kind ≡ place_of k = eq-place _ _ h in omega (arith, total-same m kind k p, limit-same kind k p, room));
   kings = λ c.
       let whole = w.squares in
-      let step = sum_by-set (λ x. cond (is_king_of c x) 1 0) cells i (piece color kind) None (omega arith) in
-      more (same_color color c && is_king kind) _ (kings_of cells c) _ (cond (is_king_of c (get_or cells i None)) 1 0) (omega (arith, step)) (w.kings c) (kings-more cells color c kind none);
+      let step = sum_by-set (λ x. cond (is_king_of c x) 1 0) m.board i (piece color kind) None (omega arith) in
+      more (same_color color c && is_king kind) _ (kings_of m.board c) _ (cond (is_king_of c (get_or m.board i None)) 1 0) (omega (arith, step)) (w.kings c) (kings-more m.board color c kind none);
 }
 
 no-fault : (late taken king full : Bool) → first_fault ((AfterRest, late) ∷ (SquareTaken, taken) ∷ (SecondKing, king) ∷ (TooMany, full) ∷ []) ≡ None → (king ≡ false) × (full ≡ false)
@@ -99,28 +100,28 @@ room-test : (n m : ℕ) → nat_le m n ≡ false → n < m
 room-test n m h = grind (arith, nat_tests)
 
 -- where a piece may be placed there is room for it, and its side has no king if it is one
-pub place-room : (s : Layout) (color : Color) (square : Square) (kind : Kind) → place_fault s color square kind ≡ None → (total s.board s.black s.white kind < limit kind) × (is_king kind ≡ true → kings_of s.board color ≡ 0)
+pub place-room : (s : Layout) (color : Color) (square : Square) (kind : Kind) → place_fault s color square kind ≡ None → (total s.material kind < limit kind) × (is_king kind ≡ true → kings_of s.material.board color ≡ 0)
 place-room s color square kind h =
     let e = no-fault _ _ _ _ h in
     (room-test _ _ e.1, no-king-test (is_king kind) _ e.0)
 
 -- a square made empty
-pub removed-within : (cells : Cells) (black white : List ℕ) (i : ℕ) → IsWithinTotals cells black white → i < 81 → IsWithinTotals (set cells i None) black white
-removed-within cells black white i w low = record {
+pub removed-within : (m : Material) (i : ℕ) → IsWithinTotals m → i < 81 → IsWithinTotals (record m { board = set m.board i None })
+removed-within m i w low = record {
   squares = rw length-set w.squares;
   black_kinds = w.black_kinds;
   white_kinds = w.white_kinds;
   totals = λ k.
       let whole = w.squares in
-      let step = sum_by-set (λ x. cond (is_of k x) 1 0) cells i None None (omega arith) in
+      let step = sum_by-set (λ x. cond (is_of k x) 1 0) m.board i None None (omega arith) in
       omega (arith, step, w.totals k);
   kings = λ c.
       let whole = w.squares in
-      let step = sum_by-set (λ x. cond (is_king_of c x) 1 0) cells i None None (omega arith) in
+      let step = sum_by-set (λ x. cond (is_king_of c x) 1 0) m.board i None None (omega arith) in
       omega (arith, step, w.kings c);
 }
 
-black-total : (s : Layout) → IsWithinTotals s.board s.black s.white → (k : Kind) → total s.board (with_rest s s.black) s.white k ≤ limit k
+black-total : (s : Layout) → IsWithinTotals s.material → (k : Kind) → total (record s.material { black = with_rest s s.material.black }) k ≤ limit k
 black-total s w Pawn = omega (arith, w.totals Pawn)
 black-total s w Lance = omega (arith, w.totals Lance)
 black-total s w Knight = omega (arith, w.totals Knight)
@@ -129,15 +130,15 @@ black-total s w Gold = omega (arith, w.totals Gold)
 black-total s w Bishop = omega (arith, w.totals Bishop)
 black-total s w Rook = omega (arith, w.totals Rook)
 black-total s w King = omega (arith, w.totals King)
-black-total s w ProPawn = omega (arith, w.totals ProPawn, total-same s.board s.black s.white Pawn ProPawn refl)
-black-total s w ProLance = omega (arith, w.totals ProLance, total-same s.board s.black s.white Lance ProLance refl)
-black-total s w ProKnight = omega (arith, w.totals ProKnight, total-same s.board s.black s.white Knight ProKnight refl)
-black-total s w ProSilver = omega (arith, w.totals ProSilver, total-same s.board s.black s.white Silver ProSilver refl)
-black-total s w Horse = omega (arith, w.totals Horse, total-same s.board s.black s.white Bishop Horse refl)
-black-total s w Dragon = omega (arith, w.totals Dragon, total-same s.board s.black s.white Rook Dragon refl)
+black-total s w ProPawn = omega (arith, w.totals ProPawn, total-same s.material Pawn ProPawn refl)
+black-total s w ProLance = omega (arith, w.totals ProLance, total-same s.material Lance ProLance refl)
+black-total s w ProKnight = omega (arith, w.totals ProKnight, total-same s.material Knight ProKnight refl)
+black-total s w ProSilver = omega (arith, w.totals ProSilver, total-same s.material Silver ProSilver refl)
+black-total s w Horse = omega (arith, w.totals Horse, total-same s.material Bishop Horse refl)
+black-total s w Dragon = omega (arith, w.totals Dragon, total-same s.material Rook Dragon refl)
 
 -- all that remains, in black's hand
-black-rest : (s : Layout) → IsWithinTotals s.board s.black s.white → IsWithinTotals s.board (with_rest s s.black) s.white
+black-rest : (s : Layout) → IsWithinTotals s.material → IsWithinTotals (record s.material { black = with_rest s s.material.black })
 black-rest s w = record {
   squares = w.squares;
   black_kinds = refl;
@@ -146,7 +147,7 @@ black-rest s w = record {
   kings = w.kings;
 }
 
-white-total : (s : Layout) → IsWithinTotals s.board s.black s.white → (k : Kind) → total s.board s.black (with_rest s s.white) k ≤ limit k
+white-total : (s : Layout) → IsWithinTotals s.material → (k : Kind) → total (record s.material { white = with_rest s s.material.white }) k ≤ limit k
 white-total s w Pawn = omega (arith, w.totals Pawn)
 white-total s w Lance = omega (arith, w.totals Lance)
 white-total s w Knight = omega (arith, w.totals Knight)
@@ -155,15 +156,15 @@ white-total s w Gold = omega (arith, w.totals Gold)
 white-total s w Bishop = omega (arith, w.totals Bishop)
 white-total s w Rook = omega (arith, w.totals Rook)
 white-total s w King = omega (arith, w.totals King)
-white-total s w ProPawn = omega (arith, w.totals ProPawn, total-same s.board s.black s.white Pawn ProPawn refl)
-white-total s w ProLance = omega (arith, w.totals ProLance, total-same s.board s.black s.white Lance ProLance refl)
-white-total s w ProKnight = omega (arith, w.totals ProKnight, total-same s.board s.black s.white Knight ProKnight refl)
-white-total s w ProSilver = omega (arith, w.totals ProSilver, total-same s.board s.black s.white Silver ProSilver refl)
-white-total s w Horse = omega (arith, w.totals Horse, total-same s.board s.black s.white Bishop Horse refl)
-white-total s w Dragon = omega (arith, w.totals Dragon, total-same s.board s.black s.white Rook Dragon refl)
+white-total s w ProPawn = omega (arith, w.totals ProPawn, total-same s.material Pawn ProPawn refl)
+white-total s w ProLance = omega (arith, w.totals ProLance, total-same s.material Lance ProLance refl)
+white-total s w ProKnight = omega (arith, w.totals ProKnight, total-same s.material Knight ProKnight refl)
+white-total s w ProSilver = omega (arith, w.totals ProSilver, total-same s.material Silver ProSilver refl)
+white-total s w Horse = omega (arith, w.totals Horse, total-same s.material Bishop Horse refl)
+white-total s w Dragon = omega (arith, w.totals Dragon, total-same s.material Rook Dragon refl)
 
 -- all that remains, in white's hand
-white-rest : (s : Layout) → IsWithinTotals s.board s.black s.white → IsWithinTotals s.board s.black (with_rest s s.white)
+white-rest : (s : Layout) → IsWithinTotals s.material → IsWithinTotals (record s.material { white = with_rest s s.material.white })
 white-rest s w = record {
   squares = w.squares;
   black_kinds = w.black_kinds;
@@ -183,7 +184,7 @@ not-false true h = refl
 not-false false h = cc
 
 -- where a piece may be added to a hand it is of a kind for hands, and there is room for it
-hand-room : (s : Layout) (kind : Kind) → add_fault s kind ≡ None → (is_hand_kind kind ≡ true) × (total s.board s.black s.white kind < limit kind)
+hand-room : (s : Layout) (kind : Kind) → add_fault s kind ≡ None → (is_hand_kind kind ≡ true) × (total s.material kind < limit kind)
 hand-room s kind h = let e = no-add-fault _ _ _ h in (not-false _ e.0, room-test _ _ e.1)
 
 hand-place : (k : Kind) → is_hand_kind k ≡ true → place_of k < 7
@@ -210,46 +211,46 @@ bag-more bag i j n low e =
     ]
 
 -- one more of a kind in black's hand, or in white's
-black-more : (cells : Cells) (black white : List ℕ) (kind : Kind) → IsWithinTotals cells black white → is_hand_kind kind ≡ true → total cells black white kind < limit kind → IsWithinTotals cells (one_more black kind) white
-black-more cells black white kind w hand room =
+black-more : (m : Material) (kind : Kind) → IsWithinTotals m → is_hand_kind kind ≡ true → total m kind < limit kind → IsWithinTotals (record m { black = one_more m.black kind })
+black-more m kind w hand room =
     let low = hand-place kind hand in
-    let long : place_of kind < length black = omega (arith, low, w.black_kinds) in
-    let n : ℕ = count_in black kind + 1 in
-    let one : n ≡ get_or black (place_of kind) 0 + 1 = rw hand refl in
+    let long : place_of kind < length m.black = omega (arith, low, w.black_kinds) in
+    let n : ℕ = count_in m.black kind + 1 in
+    let one : n ≡ get_or m.black (place_of kind) 0 + 1 = rw hand refl in
     record {
       squares = w.squares;
       black_kinds = rw length-set w.black_kinds;
       white_kinds = w.white_kinds;
       totals = λ k.
-          elim (bag-more black (place_of kind) (place_of k) n long one) [
+          elim (bag-more m.black (place_of kind) (place_of k) n long one) [
             | inl same ↦ omega (arith, same, w.totals k)
-            | inr (place, more) ↦ omega (arith, more, total-same cells black white k kind place, limit-same k kind place, room)
+            | inr (place, more) ↦ omega (arith, more, total-same m k kind place, limit-same k kind place, room)
           ];
       kings = w.kings;
     }
 
-white-more : (cells : Cells) (black white : List ℕ) (kind : Kind) → IsWithinTotals cells black white → is_hand_kind kind ≡ true → total cells black white kind < limit kind → IsWithinTotals cells black (one_more white kind)
-white-more cells black white kind w hand room =
+white-more : (m : Material) (kind : Kind) → IsWithinTotals m → is_hand_kind kind ≡ true → total m kind < limit kind → IsWithinTotals (record m { white = one_more m.white kind })
+white-more m kind w hand room =
     let low = hand-place kind hand in
-    let long : place_of kind < length white = omega (arith, low, w.white_kinds) in
-    let n : ℕ = count_in white kind + 1 in
-    let one : n ≡ get_or white (place_of kind) 0 + 1 = rw hand refl in
+    let long : place_of kind < length m.white = omega (arith, low, w.white_kinds) in
+    let n : ℕ = count_in m.white kind + 1 in
+    let one : n ≡ get_or m.white (place_of kind) 0 + 1 = rw hand refl in
     record {
       squares = w.squares;
       black_kinds = w.black_kinds;
       white_kinds = rw length-set w.white_kinds;
       totals = λ k.
-          elim (bag-more white (place_of kind) (place_of k) n long one) [
+          elim (bag-more m.white (place_of kind) (place_of k) n long one) [
             | inl same ↦ omega (arith, same, w.totals k)
-            | inr (place, more) ↦ omega (arith, more, total-same cells black white k kind place, limit-same k kind place, room)
+            | inr (place, more) ↦ omega (arith, more, total-same m k kind place, limit-same k kind place, room)
           ];
       kings = w.kings;
     }
 
 -- one more of a kind in a hand
-pub more-within : (s : Layout) (color : Color) (kind : Kind) → HoldsLimits s → add_fault s kind ≡ None → HoldsLimits (with_hand s color (one_more (hand_of s color) kind))
-more-within s Black kind w h = let room = hand-room s kind h in black-more s.board s.black s.white kind w room.0 room.1
-more-within s White kind w h = let room = hand-room s kind h in white-more s.board s.black s.white kind w room.0 room.1
+pub more-within : (s : Layout) (color : Color) (kind : Kind) → IsWithinTotals s.material → add_fault s kind ≡ None → IsWithinTotals (added s color kind).material
+more-within s Black kind w h = let room = hand-room s kind h in black-more s.material kind w room.0 room.1
+more-within s White kind w h = let room = hand-room s kind h in white-more s.material kind w room.0 room.1
 
 bag-less : (bag : List ℕ) (i j n : ℕ) → n ≤ get_or bag i 0 → get_or (set bag i n) j 0 ≤ get_or bag j 0
 bag-less [] i j n h = omega arith
@@ -263,13 +264,13 @@ count-low bag kind true e = rw e (omega arith)
 count-low bag kind false e = rw e (omega arith)
 
 -- one less
-pub less-within : (s : Layout) (color : Color) (kind : Kind) → HoldsLimits s → HoldsLimits (with_hand s color (one_less (hand_of s color) kind))
+pub less-within : (s : Layout) (color : Color) (kind : Kind) → IsWithinTotals s.material → IsWithinTotals (taken s color kind).material
 less-within s Black kind w = record {
   squares = w.squares;
   black_kinds = rw length-set w.black_kinds;
   white_kinds = w.white_kinds;
   totals = λ k.
-      let less = bag-less s.black (place_of kind) (place_of k) (count_in s.black kind - 1) (count-low s.black kind (is_hand_kind kind) refl) in
+      let less = bag-less s.material.black (place_of kind) (place_of k) (count_in s.material.black kind - 1) (count-low s.material.black kind (is_hand_kind kind) refl) in
       omega (arith, less, w.totals k);
   kings = w.kings;
 }
@@ -278,12 +279,12 @@ less-within s White kind w = record {
   black_kinds = w.black_kinds;
   white_kinds = rw length-set w.white_kinds;
   totals = λ k.
-      let less = bag-less s.white (place_of kind) (place_of k) (count_in s.white kind - 1) (count-low s.white kind (is_hand_kind kind) refl) in
+      let less = bag-less s.material.white (place_of kind) (place_of k) (count_in s.material.white kind - 1) (count-low s.material.white kind (is_hand_kind kind) refl) in
       omega (arith, less, w.totals k);
   kings = w.kings;
 }
 
 -- all that remains
-pub rest-within : (s : Layout) (color : Color) → HoldsLimits s → HoldsLimits (with_hand s color (with_rest s (hand_of s color)))
+pub rest-within : (s : Layout) (color : Color) → IsWithinTotals s.material → IsWithinTotals (with_bag s.material color (with_rest s (bag_of s.material color)))
 rest-within s Black w = black-rest s w
 rest-within s White w = white-rest s w

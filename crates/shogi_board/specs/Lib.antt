@@ -6,6 +6,7 @@ pub mod Danger
 pub mod Kings
 pub mod Landmarks
 pub mod Layout
+pub mod Material
 pub mod Moved
 pub mod Moves
 pub mod Neighbours

@@ -76,7 +76,7 @@ key_number (n ∷ ns) = n + 3 * key_number ns
 
 -- a number that positions with the same board share
 abbrev pub key_of : Placed → ℕ
-key_of p = key_number (file_numbers 9 p.board)
+key_of p = key_number (file_numbers 9 p.material.board)
 
 -- the number of counts
 abbrev pub count_number : List ℕ → ℕ

@@ -14,5 +14,6 @@ same_cell (Some p) None = false
 
 abbrev pub same_position : Placed → Placed → Bool
 same_position p q =
-    pointwise same_cell p.board q.board
-    && (pointwise nat_eq p.black q.black && (pointwise nat_eq p.white q.white && same_color p.side q.side))
+    pointwise same_cell p.material.board q.material.board
+    && (pointwise nat_eq p.material.black q.material.black
+    && (pointwise nat_eq p.material.white q.material.white && same_color p.side q.side))

@@ -1,7 +1,6 @@
 -- A position that is being set up, and when a call on it is refused.
 use Rattle.std.specs.Prelude.{ℕ, ◌+◌, ◌-◌, ◌&&◌, Bool, true, false, not, nat_le, nat_lt, nat_eq, List, [], ◌∷◌, Option, Some, None, is_some, map, slice_set, if◌then◌else◌}
 use Rattle.shogi_board.specs.declared.color.Color.{Color}
-use Rattle.shogi_board.specs.declared.color.Color.TheVariants.{Black, White}
 use Rattle.shogi_board.specs.declared.kind.Kind.{Kind}
 use Rattle.shogi_board.specs.declared.kind.Piece.{Piece}
 use Rattle.shogi_board.specs.declared.setup.SetupFault.{SetupFault}
@@ -9,24 +8,25 @@ use Rattle.shogi_board.specs.declared.setup.SetupFault.TheVariants.{SquareTaken,
 use Rattle.shogi_board.specs.declared.square.Square.{Square}
 use Rattle.shogi_board.specs.Cells.{at, piece, even_cells, no_cells}
 use Rattle.shogi_board.specs.Layout.{Layout}
+use Rattle.shogi_board.specs.Material.{bag_of, with_bag}
 use Rattle.shogi_board.specs.Pieces.{is_hand_kind, is_king, same_kind, place_of}
 use Rattle.shogi_board.specs.Placed.{Placed}
 use Rattle.shogi_board.specs.Squares.{place}
-use Rattle.shogi_board.specs.Totals.{total, limit, kings_of, count_in, hand_kinds, no_pieces, IsWithinTotals}
+use Rattle.shogi_board.specs.Totals.{total, limit, kings_of, count_in, hand_kinds, bare_board}
 
 abbrev pub empty_layout : Layout
-empty_layout = record { board = no_cells; black = no_pieces; white = no_pieces; rest_given = false }
+empty_layout = record { material = bare_board no_cells; rest_given = false }
 
 abbrev pub even_layout : Layout
-even_layout = record { board = even_cells; black = no_pieces; white = no_pieces; rest_given = false }
+even_layout = record { material = bare_board even_cells; rest_given = false }
 
--- the pieces of a position, the rest not given
+-- the board and both hands of a position, the rest not given
 abbrev pub layout_of : Placed → Layout
-layout_of p = record { board = p.board; black = p.black; white = p.white; rest_given = false }
+layout_of p = record { material = p.material; rest_given = false }
 
 -- with a side to move
 abbrev pub position_of : Layout → Color → Placed
-position_of s side = record { board = s.board; black = s.black; white = s.white; side = side }
+position_of s side = record { material = s.material; side = side }
 
 -- the first fault of a list whose condition holds
 abbrev pub first_fault : {Fault : Type 0} → List (Fault × Bool) → Option Fault
@@ -35,37 +35,25 @@ first_fault (f ∷ fs) = if f.1 then Some f.0 else first_fault fs
 
 -- no more of that kind may be added
 abbrev pub is_full : Layout → Kind → Bool
-is_full s kind = nat_le (limit kind) (total s.board s.black s.white kind)
+is_full s kind = nat_le (limit kind) (total s.material kind)
 
 -- the cell holds a piece of that kind
 abbrev pub holds : Kind → Option Piece → Bool
 holds wanted None = false
 holds wanted (Some p) = same_kind p.kind wanted
 
-abbrev pub hand_of : Layout → Color → List ℕ
-hand_of s Black = s.black
-hand_of s White = s.white
-
-abbrev pub with_hand : Layout → Color → List ℕ → Layout
-with_hand s Black bag = record s { black = bag }
-with_hand s White bag = record s { white = bag }
-
--- the totals hold
-abbrev pub HoldsLimits : Layout → Type 0
-HoldsLimits s = IsWithinTotals s.board s.black s.white
-
 -- why a piece may not be placed
 abbrev pub place_fault : Layout → Color → Square → Kind → Option SetupFault
 place_fault s color square kind =
     first_fault (
     (AfterRest, s.rest_given)
-    ∷ (SquareTaken, is_some (at s.board square))
-    ∷ (SecondKing, is_king kind && nat_lt 0 (kings_of s.board color))
+    ∷ (SquareTaken, is_some (at s.material.board square))
+    ∷ (SecondKing, is_king kind && nat_lt 0 (kings_of s.material.board color))
     ∷ (TooMany, is_full s kind)
     ∷ [])
 
 abbrev pub placed : Layout → Color → Square → Kind → Layout
-placed s color square kind = record s { board = slice_set s.board (place square) (piece color kind) }
+placed s color square kind = record s { material = record s.material { board = slice_set s.material.board (place square) (piece color kind) } }
 
 -- why a piece may not be added to a hand
 abbrev pub add_fault : Layout → Kind → Option SetupFault
@@ -79,29 +67,37 @@ one_more bag kind = slice_set bag (place_of kind) (count_in bag kind + 1)
 abbrev pub one_less : List ℕ → Kind → List ℕ
 one_less bag kind = slice_set bag (place_of kind) (count_in bag kind - 1)
 
+-- with one more of a kind in a hand
+abbrev pub added : Layout → Color → Kind → Layout
+added s color kind = record s { material = with_bag s.material color (one_more (bag_of s.material color) kind) }
+
 -- why a piece may not be taken off the board
 abbrev pub take_off_fault : Layout → Square → Kind → Option SetupFault
 take_off_fault s square kind =
-    first_fault ((AfterRest, s.rest_given) ∷ (NotThere, not (holds kind (at s.board square))) ∷ [])
+    first_fault ((AfterRest, s.rest_given) ∷ (NotThere, not (holds kind (at s.material.board square))) ∷ [])
 
 abbrev pub taken_off : Layout → Square → Layout
-taken_off s square = record s { board = slice_set s.board (place square) None }
+taken_off s square = record s { material = record s.material { board = slice_set s.material.board (place square) None } }
 
 -- why a piece may not be taken out of a hand
 abbrev pub take_hand_fault : Layout → Color → Kind → Option SetupFault
 take_hand_fault s color kind =
-    first_fault ((AfterRest, s.rest_given) ∷ (NotThere, nat_eq (count_in (hand_of s color) kind) 0) ∷ [])
+    first_fault ((AfterRest, s.rest_given) ∷ (NotThere, nat_eq (count_in (bag_of s.material color) kind) 0) ∷ [])
+
+-- with one less of a kind in a hand
+abbrev pub taken : Layout → Color → Kind → Layout
+taken s color kind = record s { material = with_bag s.material color (one_less (bag_of s.material color) kind) }
 
 abbrev pub rest_fault : Layout → Option SetupFault
 rest_fault s = first_fault ((AfterRest, s.rest_given) ∷ [])
 
 -- how many of a kind a bag has with all that remain of the total
 abbrev pub count_with_rest : Layout → List ℕ → Kind → ℕ
-count_with_rest s bag kind = count_in bag kind + (limit kind - total s.board s.black s.white kind)
+count_with_rest s bag kind = count_in bag kind + (limit kind - total s.material kind)
 
 abbrev pub with_rest : Layout → List ℕ → List ℕ
 with_rest s bag = map (count_with_rest s bag) hand_kinds
 
 -- that side's hand has all that remains of the totals, kings not
 abbrev pub rest_to : Layout → Color → Layout
-rest_to s color = record (with_hand s color (with_rest s (hand_of s color))) { rest_given = true }
+rest_to s color = record { material = with_bag s.material color (with_rest s (bag_of s.material color)); rest_given = true }

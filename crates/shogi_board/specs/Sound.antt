@@ -6,5 +6,5 @@ use Rattle.shogi_board.specs.Totals.{IsWithinTotals}
 
 -- the totals hold, and the king of the side not to move is not attacked
 pub record IsSound (p : Placed) : Type 0 where
-  pub within : IsWithinTotals p.board p.black p.white
-  pub safe : InCheck p.board (opponent p.side) → ⊥
+  pub within : IsWithinTotals p.material
+  pub safe : InCheck p.material.board (opponent p.side) → ⊥

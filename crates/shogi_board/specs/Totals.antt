@@ -5,6 +5,7 @@ use Rattle.shogi_board.specs.declared.kind.Kind.{Kind}
 use Rattle.shogi_board.specs.declared.kind.Kind.TheVariants.{Pawn, Lance, Knight, Silver, Gold, Bishop, Rook, King, ProPawn, ProLance, ProKnight, ProSilver, Horse, Dragon}
 use Rattle.shogi_board.specs.declared.kind.Piece.{Piece}
 use Rattle.shogi_board.specs.Cells.{Cells}
+use Rattle.shogi_board.specs.Material.{Material}
 use Rattle.shogi_board.specs.Pieces.{place_of, is_hand_kind, same_color, is_king}
 
 -- a bag: how many of each kind a hand holds, in the order of these kinds
@@ -13,6 +14,10 @@ hand_kinds = Pawn ∷ Lance ∷ Knight ∷ Silver ∷ Gold ∷ Bishop ∷ Rook �
 
 abbrev pub no_pieces : List ℕ
 no_pieces = 0 ∷ 0 ∷ 0 ∷ 0 ∷ 0 ∷ 0 ∷ 0 ∷ []
+
+-- a board with empty hands
+abbrev pub bare_board : Cells → Material
+bare_board cells = record { board = cells; black = no_pieces; white = no_pieces }
 
 -- how many of that kind a hand holds; kings and promoted pieces never
 abbrev pub count_in : List ℕ → Kind → ℕ
@@ -25,9 +30,9 @@ is_of wanted (Some p) = place_of p.kind == place_of wanted
 
 -- how many pieces there are of that kind, promoted or not, on the board and in both hands;
 -- a king's place lies behind the end of a bag, where none is counted
-abbrev pub total : Cells → List ℕ → List ℕ → Kind → ℕ
-total cells black white kind =
-    count_by (is_of kind) cells + slice_index black (place_of kind) + slice_index white (place_of kind)
+abbrev pub total : Material → Kind → ℕ
+total m kind =
+    count_by (is_of kind) m.board + slice_index m.black (place_of kind) + slice_index m.white (place_of kind)
 
 -- how many there may be; of kings one a side
 abbrev pub limit : Kind → ℕ
@@ -54,10 +59,10 @@ is_king_of color (Some p) = same_color p.color color && is_king p.kind
 abbrev pub kings_of : Cells → Color → ℕ
 kings_of cells color = count_by (is_king_of color) cells
 
--- a board and two bags, no total passed, and at most one king a side
-pub record IsWithinTotals (cells : Cells) (black white : List ℕ) : Type 0 where
-  pub squares : length cells ≡ 81
-  pub black_kinds : length black ≡ 7
-  pub white_kinds : length white ≡ 7
-  pub totals : (kind : Kind) → total cells black white kind ≤ limit kind
-  pub kings : (color : Color) → kings_of cells color ≤ 1
+-- a whole board and two bags, no total passed, and at most one king a side
+pub record IsWithinTotals (m : Material) : Type 0 where
+  pub squares : length m.board ≡ 81
+  pub black_kinds : length m.black ≡ 7
+  pub white_kinds : length m.white ≡ 7
+  pub totals : (kind : Kind) → total m kind ≤ limit kind
+  pub kings : (color : Color) → kings_of m.board color ≤ 1

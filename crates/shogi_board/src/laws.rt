@@ -73,7 +73,7 @@ pub fn equal_setups()
 pub fn ordered_positions()
     ensures total { IsTotalOrder ⟦<Position as Ord>⟧.cmp }
     ensures exact { (p q : Placed) → (⟦<Position as Ord>⟧.cmp p q ≡ Equal) ↔ (p ≡ q) }
-    ensures by_parts { (p q : Placed) → ⟦<Position as Ord>⟧.cmp p q ≡ ordering_then (slice_cmp (option_cmp ⟦<Piece as Ord>⟧.cmp) p.board q.board) (ordering_then (slice_cmp nat_cmp p.black q.black) (ordering_then (slice_cmp nat_cmp p.white q.white) (⟦<Color as Ord>⟧.cmp p.side q.side))) }
+    ensures by_parts { (p q : Placed) → ⟦<Position as Ord>⟧.cmp p q ≡ ordering_then (slice_cmp (option_cmp ⟦<Piece as Ord>⟧.cmp) p.material.board q.material.board) (ordering_then (slice_cmp nat_cmp p.material.black q.material.black) (ordering_then (slice_cmp nat_cmp p.material.white q.material.white) (⟦<Color as Ord>⟧.cmp p.side q.side))) }
 {}
 
 /// Squares are in a total order, that of their files and then of their ranks.

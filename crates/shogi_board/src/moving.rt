@@ -1,13 +1,13 @@
 ghost use Rattle.std.specs.Prelude.{◌≡◌, ◌≢◌, ◌<◌, ◌≤◌, ◌↔◌, IsTrue, true, false, Some, None};
 ghost use Rattle.shogi_board.specs.Cells.{at, piece};
 ghost use Rattle.shogi_board.specs.Danger.{ComesFrom};
-ghost use Rattle.shogi_board.specs.Moved.{walked, dropped, with_captured, HoldsTotals};
+ghost use Rattle.shogi_board.specs.Material.{bag_of};
+ghost use Rattle.shogi_board.specs.Moved.{walked, dropped, with_captured};
 ghost use Rattle.shogi_board.specs.Pieces.{is_hand_kind, unpromoted};
-ghost use Rattle.shogi_board.specs.Placed.{bag_of};
 ghost use Rattle.shogi_board.specs.Reach.{InCheck};
 ghost use Rattle.shogi_board.specs.Setup.{one_less};
 ghost use Rattle.shogi_board.specs.Squares.{place};
-ghost use Rattle.shogi_board.specs.Totals.{count_in};
+ghost use Rattle.shogi_board.specs.Totals.{count_in, IsWithinTotals};
 ghost use Rattle.shogi_board.specs.declared.kind.Kind.TheVariants.{King};
 ghost use Rattle.shogi_board.specs.declared.kind.Piece.{Piece};
 ghost use Rattle.shogi_board.specs.declared.square.Square.{Square};
@@ -28,10 +28,10 @@ impl Position {
     /// king is captured and no more pieces stand then than a game has.
     pub fn walk(&mut self, from: Square, to: Square, kind: Kind, danger: Danger) -> bool
         requires apart { place from ≢ place to }
-        requires totals { HoldsTotals (walked self.old from to kind) }
-        requires captured { (x : Piece) → at self.old.board to ≡ Some x → is_hand_kind (unpromoted x.kind) ≡ true }
-        requires danger { (s : Square) → at (walked self.old from to kind).board s ≡ piece self.old.side King → ComesFrom (walked self.old from to kind).board self.old.side s danger }
-        ensures answer { IsTrue result ↔ (InCheck (walked self.old from to kind).board self.old.side → ⊥) }
+        requires totals { IsWithinTotals (walked self.old from to kind).material }
+        requires captured { (x : Piece) → at self.old.material.board to ≡ Some x → is_hand_kind (unpromoted x.kind) ≡ true }
+        requires danger { (s : Square) → at (walked self.old from to kind).material.board s ≡ piece self.old.side King → ComesFrom (walked self.old from to kind).material.board self.old.side s danger }
+        ensures answer { IsTrue result ↔ (InCheck (walked self.old from to kind).material.board self.old.side → ⊥) }
         ensures value { result ≡ true → self.new ≡ walked self.old from to kind }
         ensures unchanged { result ≡ false → self.new ≡ self.old }
     {
@@ -59,11 +59,11 @@ impl Position {
     /// The danger is as in `walk`. To be called where the hand holds such a piece, the square is empty, and no more pieces
     /// stand then than a game has.
     pub fn drop_piece(&mut self, to: Square, kind: Kind, danger: Danger) -> bool
-        requires held { 0 < count_in (bag_of self.old self.old.side) kind }
-        requires empty { at self.old.board to ≡ None }
-        requires totals { HoldsTotals (dropped self.old to kind) }
-        requires danger { (s : Square) → at (dropped self.old to kind).board s ≡ piece self.old.side King → ComesFrom (dropped self.old to kind).board self.old.side s danger }
-        ensures answer { IsTrue result ↔ (InCheck (dropped self.old to kind).board self.old.side → ⊥) }
+        requires held { 0 < count_in (bag_of self.old.material self.old.side) kind }
+        requires empty { at self.old.material.board to ≡ None }
+        requires totals { IsWithinTotals (dropped self.old to kind).material }
+        requires danger { (s : Square) → at (dropped self.old to kind).material.board s ≡ piece self.old.side King → ComesFrom (dropped self.old to kind).material.board self.old.side s danger }
+        ensures answer { IsTrue result ↔ (InCheck (dropped self.old to kind).material.board self.old.side → ⊥) }
         ensures value { result ≡ true → self.new ≡ dropped self.old to kind }
         ensures unchanged { result ≡ false → self.new ≡ self.old }
     {

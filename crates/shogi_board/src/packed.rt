@@ -2,8 +2,8 @@ ghost use Rattle.std.specs.Prelude.{◌≡◌, ◌≢◌, ◌<◌, ◌≤◌, �
 ghost use Rattle.std.specs.List.{AllByRecursion};
 ghost use Rattle.shogi_board.specs.Cells.{at};
 ghost use Rattle.shogi_board.specs.Changes.{IsChange};
+ghost use Rattle.shogi_board.specs.Material.{bag_of};
 ghost use Rattle.shogi_board.specs.Packing.{digit_cells, cell_of_digit, digit_of, kind_digit, color_digit, number_of, cells_of, board_of, count_number, counts_of, shifted, emptied, key_number, key_of, IsFile, IsHand};
-ghost use Rattle.shogi_board.specs.Placed.{bag_of};
 ghost use Rattle.shogi_board.specs.Sound.{IsSound};
 ghost use Rattle.shogi_board.specs.Squares.{place};
 ghost use Rattle.shogi_board.specs.declared.color.Color.{Color};
@@ -60,9 +60,9 @@ impl Model for Packed {
 
     ghost Value = { Placed };
 
-    ghost view = { λ p. record { board = board_of p.files; black = counts_of 7 p.black; white = counts_of 7 p.white; side = p.side } };
+    ghost view = { λ p. record { material = record { board = board_of p.files; black = counts_of 7 p.black; white = counts_of 7 p.white }; side = p.side } };
 
-    ghost invariant = { λ p. ArePacked p.files p.black p.white × IsSound (record { board = board_of p.files; black = counts_of 7 p.black; white = counts_of 7 p.white; side = p.side }) };
+    ghost invariant = { λ p. ArePacked p.files p.black p.white × IsSound (record { material = record { board = board_of p.files; black = counts_of 7 p.black; white = counts_of 7 p.white }; side = p.side }) };
 }
 
 impl Packed {
@@ -110,7 +110,7 @@ impl Packed {
 
     // What stands on the squares.
     fn cells(&self) -> [Option<Piece>; 81]
-        ensures { result ≡ self.now.board }
+        ensures { result ≡ self.now.material.board }
     {
         let mut cells = [None; 81];
         for n in 0..81usize {
@@ -141,10 +141,10 @@ impl Packed {
     /// are as they were.
     #[inline(always)]
     pub fn followed(&self, next: &Position, change: &Change) -> Packed
-        requires before { IsChange self.now.board change.now }
+        requires before { IsChange self.now.material.board change.now }
         requires apart { (s : Square) → change.now.from ≡ Some s → place s ≢ place change.now.to }
-        requires board { next.now.board ≡ slice_set (emptied self.now.board change.now.from) (place change.now.to) (at next.now.board change.now.to) }
-        requires hands { IsSome change.now.from → change.now.there ≡ None → (c : Color) → bag_of next.now c ≡ bag_of self.now c }
+        requires board { next.now.material.board ≡ slice_set (emptied self.now.material.board change.now.from) (place change.now.to) (at next.now.material.board change.now.to) }
+        requires hands { IsSome change.now.from → change.now.there ≡ None → (c : Color) → bag_of next.now.material c ≡ bag_of self.now.material c }
         ensures { result ≡ next.now }
     {
         let mut files = self.files;
@@ -169,9 +169,9 @@ impl Packed {
 // The position of these numbers, packed.
 fn with_numbers(files: [u64; 9], black: u64, white: u64, position: &Position) -> Packed
     requires each { AllByRecursion IsFile files }
-    requires board { board_of files ≡ position.now.board }
-    requires black { IsHand black × (counts_of 7 black ≡ position.now.black) }
-    requires white { IsHand white × (counts_of 7 white ≡ position.now.white) }
+    requires board { board_of files ≡ position.now.material.board }
+    requires black { IsHand black × (counts_of 7 black ≡ position.now.material.black) }
+    requires white { IsHand white × (counts_of 7 white ≡ position.now.material.white) }
     ensures { result ≡ position.now }
 {
     // a clause of `side` says that the position is sound
@@ -301,7 +301,7 @@ fn cell(number: u64, rank: usize) -> Option<Piece>
 fn hand_number(position: &Position, color: Color) -> u64
     requires { IsSound position.now }
     ensures whole { IsHand result }
-    ensures counts { counts_of 7 result ≡ bag_of position.now color }
+    ensures counts { counts_of 7 result ≡ bag_of position.now.material color }
 {
     number_of_counts(position.hand(color).counts())
 }
@@ -311,9 +311,9 @@ fn hand_number(position: &Position, color: Color) -> u64
 fn hand_number_after(number: u64, next: &Position, color: Color, kept: bool) -> u64
     requires sound { IsSound next.now }
     requires whole { IsHand number }
-    requires counts { kept ≡ true → counts_of 7 number ≡ bag_of next.now color }
+    requires counts { kept ≡ true → counts_of 7 number ≡ bag_of next.now.material color }
     ensures whole { IsHand result }
-    ensures counts { counts_of 7 result ≡ bag_of next.now color }
+    ensures counts { counts_of 7 result ≡ bag_of next.now.material color }
 {
     if kept {
         number

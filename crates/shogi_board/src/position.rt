@@ -1,7 +1,8 @@
 ghost use Rattle.std.specs.Prelude.{◌≡◌, ◌↔◌, IsTrue, MatchOption, length};
 ghost use Rattle.shogi_board.specs.Cells.{at, piece, HasPawnOnFile};
 ghost use Rattle.shogi_board.specs.Danger.{ComesFrom};
-ghost use Rattle.shogi_board.specs.Placed.{bag_of, even_start};
+ghost use Rattle.shogi_board.specs.Material.{bag_of};
+ghost use Rattle.shogi_board.specs.Placed.{even_start};
 ghost use Rattle.shogi_board.specs.Reach.{Reach, Attack, Attacked};
 ghost use Rattle.shogi_board.specs.Setup.{layout_of};
 ghost use Rattle.shogi_board.specs.Sound.{IsSound};
@@ -37,11 +38,11 @@ impl Model for Position {
 
     ghost Value = { Placed };
 
-    ghost view = { λ p. record { board = p.board; black = p.black; white = p.white; side = p.side } };
+    ghost view = { λ p. record { material = record { board = p.board; black = p.black; white = p.white }; side = p.side } };
 
-    ghost invariant = { λ p. IsSound (record { board = p.board; black = p.black; white = p.white; side = p.side }) };
+    ghost invariant = { λ p. IsSound (record { material = record { board = p.board; black = p.black; white = p.white }; side = p.side }) };
 
-    ghost inverse = { λ d. record { board = d.board; black = d.black; white = d.white; side = d.side } };
+    ghost inverse = { λ d. record { board = d.material.board; black = d.material.black; white = d.material.white; side = d.side } };
 }
 
 impl Position {
@@ -59,14 +60,14 @@ impl Position {
 
     /// What stands on the square.
     pub fn piece_at(&self, square: Square) -> Option<Piece>
-        ensures { result ≡ at self.now.board square }
+        ensures { result ≡ at self.now.material.board square }
     {
         self.board.at(square)
     }
 
     /// What stands on each of the 81 squares, in their order.
     pub fn cells(&self) -> &[Option<Piece>]
-        ensures value { result.now ≡ self.now.board }
+        ensures value { result.now ≡ self.now.material.board }
         ensures all { length result.now ≡ 81 }
     {
         self.board.cells()
@@ -74,7 +75,7 @@ impl Position {
 
     /// The hand of that side.
     pub fn hand(&self, color: Color) -> Hand
-        ensures { result ≡ bag_of self.now color }
+        ensures { result ≡ bag_of self.now.material color }
     {
         match color {
             Color::Black => self.black,
@@ -93,15 +94,15 @@ impl Position {
     /// The square of that side's king, or None where it has none.
     pub fn king(&self, color: Color) -> Option<Square>
         ensures { MatchOption result
-            ((s : Square) → at self.now.board s ≡ piece color King → ⊥)
-            (λ s. at self.now.board s ≡ piece color King) }
+            ((s : Square) → at self.now.material.board s ≡ piece color King → ⊥)
+            (λ s. at self.now.material.board s ≡ piece color King) }
     {
         self.board.king(color)
     }
 
     /// Whether an unpromoted pawn of that side stands on the file of the square.
     pub fn pawn_on_file(&self, color: Color, square: Square) -> bool
-        ensures { IsTrue result ↔ HasPawnOnFile self.now.board color square }
+        ensures { IsTrue result ↔ HasPawnOnFile self.now.material.board color square }
     {
         self.board.has_pawn_on_file(color, square)
     }
@@ -123,14 +124,14 @@ impl Position {
 /// Whether the piece on `from` reaches `to`, whatever stands on `to`; false where `from` is empty.
 #[inline(always)]
 pub fn reaches(position: &Position, from: Square, to: Square) -> bool
-    ensures { IsTrue result ↔ Reach position.now.board from to }
+    ensures { IsTrue result ↔ Reach position.now.material.board from to }
 {
     position.board.reaches(from, to)
 }
 
 /// Whether some enemy piece of `color` reaches the square.
 pub fn attacked(position: &Position, color: Color, square: Square) -> bool
-    ensures { IsTrue result ↔ Attacked position.now.board color square }
+    ensures { IsTrue result ↔ Attacked position.now.material.board color square }
 {
     position.board.attacked(color, square)
 }
@@ -139,8 +140,8 @@ pub fn attacked(position: &Position, color: Color, square: Square) -> bool
 /// them.
 pub fn attacker(position: &Position, color: Color, square: Square) -> Option<Square>
     ensures { MatchOption result
-        (Attacked position.now.board color square → ⊥)
-        (λ a. Attack position.now.board color a square) }
+        (Attacked position.now.material.board color square → ⊥)
+        (λ a. Attack position.now.material.board color a square) }
 {
     position.board.attacker(color, square)
 }
@@ -148,8 +149,8 @@ pub fn attacker(position: &Position, color: Color, square: Square) -> Option<Squ
 /// Whether some enemy piece of `color` reaches the square, where it is known where such a piece may be.
 #[inline(always)]
 pub fn attacked_from(position: &Position, color: Color, square: Square, danger: Danger) -> bool
-    requires { ComesFrom position.now.board color square danger }
-    ensures { IsTrue result ↔ Attacked position.now.board color square }
+    requires { ComesFrom position.now.material.board color square danger }
+    ensures { IsTrue result ↔ Attacked position.now.material.board color square }
 {
     position.board.attacked_from(color, square, danger)
 }

@@ -1,9 +1,10 @@
 ghost use Rattle.std.specs.Prelude.{◌≡◌, ◌≤◌, false, None, Some, MatchResult, OnOk, OnErr, IfOk, ◌↔◌, IsTrue};
+ghost use Rattle.shogi_board.specs.Material.{bag_of, with_bag};
 ghost use Rattle.shogi_board.specs.Pieces.{opponent};
 ghost use Rattle.shogi_board.specs.Sound.{IsSound};
 ghost use Rattle.shogi_board.specs.Totals.{total, limit, IsWithinTotals};
 ghost use Rattle.shogi_board.specs.Reach.{InCheck};
-ghost use Rattle.shogi_board.specs.Setup.{empty_layout, even_layout, position_of, is_full, place_fault, placed, add_fault, take_off_fault, taken_off, take_hand_fault, rest_fault, with_rest, count_with_rest, with_hand, hand_of, rest_to, one_more, one_less, HoldsLimits};
+ghost use Rattle.shogi_board.specs.Setup.{empty_layout, even_layout, position_of, is_full, place_fault, placed, add_fault, take_off_fault, taken_off, take_hand_fault, rest_fault, with_rest, count_with_rest, rest_to, added, taken};
 ghost use Rattle.shogi_board.specs.declared.setup.SetupFault.TheVariants.{OpponentInCheck};
 
 use crate::board::Board;
@@ -56,11 +57,11 @@ impl Model for Setup {
 
     ghost Value = { Layout };
 
-    ghost view = { λ s. record { board = s.board; black = s.black; white = s.white; rest_given = s.rest_given } };
+    ghost view = { λ s. record { material = record { board = s.board; black = s.black; white = s.white }; rest_given = s.rest_given } };
 
-    ghost invariant = { λ s. IsWithinTotals s.board s.black s.white };
+    ghost invariant = { λ s. IsWithinTotals (record { board = s.board; black = s.black; white = s.white }) };
 
-    ghost inverse = { λ d. record { board = d.board; black = d.black; white = d.white; rest_given = d.rest_given } };
+    ghost inverse = { λ d. record { board = d.material.board; black = d.material.black; white = d.material.white; rest_given = d.rest_given } };
 }
 
 impl Setup {
@@ -132,7 +133,7 @@ impl Setup {
         ensures answer { MatchResult result
             (λ _. add_fault self.old kind ≡ None)
             (λ fault. add_fault self.old kind ≡ Some fault) }
-        ensures changed { OnOk result (self.new ≡ with_hand self.old color (one_more (hand_of self.old color) kind)) }
+        ensures changed { OnOk result (self.new ≡ added self.old color kind) }
         ensures unchanged { OnErr result (self.new ≡ self.old) }
     {
         if self.rest_given {
@@ -151,7 +152,7 @@ impl Setup {
     /// Adds a piece to the hand as `add_hand` does, where it is known that `add_hand` would not refuse.
     pub fn put_in_hand(&mut self, color: Color, kind: Kind)
         requires { add_fault self.old kind ≡ None }
-        ensures { self.new ≡ with_hand self.old color (one_more (hand_of self.old color) kind) }
+        ensures { self.new ≡ added self.old color kind }
     {
         let mut hand = self.hand(color);
         hand.set(kind, hand.count(kind) + 1);
@@ -195,7 +196,7 @@ impl Setup {
         ensures answer { MatchResult result
             (λ _. take_hand_fault self.old color kind ≡ None)
             (λ fault. take_hand_fault self.old color kind ≡ Some fault) }
-        ensures changed { OnOk result (self.new ≡ with_hand self.old color (one_less (hand_of self.old color) kind)) }
+        ensures changed { OnOk result (self.new ≡ taken self.old color kind) }
         ensures unchanged { OnErr result (self.new ≡ self.old) }
     {
         if self.rest_given {
@@ -211,7 +212,7 @@ impl Setup {
     /// Takes a piece out of the hand as `take_hand` does, where it is known that `take_hand` would not refuse.
     pub fn take_from_hand(&mut self, color: Color, kind: Kind)
         requires { take_hand_fault self.old color kind ≡ None }
-        ensures { self.new ≡ with_hand self.old color (one_less (hand_of self.old color) kind) }
+        ensures { self.new ≡ taken self.old color kind }
     {
         let mut hand = self.hand(color);
         hand.set(kind, hand.count(kind) - 1);
@@ -242,11 +243,11 @@ impl Setup {
     /// Refuses OpponentInCheck where the king of the other side stands and is attacked, and nothing else.
     pub fn finish(&self, side: Color) -> Result<Position, SetupFault>
         ensures answer { MatchResult result
-            (λ p. InCheck self.now.board (opponent side) → ⊥)
-            (λ fault. InCheck self.now.board (opponent side) × (fault ≡ OpponentInCheck)) }
+            (λ p. InCheck self.now.material.board (opponent side) → ⊥)
+            (λ fault. InCheck self.now.material.board (opponent side) × (fault ≡ OpponentInCheck)) }
         ensures value { IfOk result (λ p. p ≡ position_of self.now side) }
         ensures sound { IfOk result (λ p. IsSound p) }
-        ensures within { IsWithinTotals self.now.board self.now.black self.now.white }
+        ensures within { IsWithinTotals self.now.material }
     {
         if self.leaves_check(side) {
             return Err(SetupFault::OpponentInCheck);
@@ -261,15 +262,15 @@ impl Setup {
 
     // Whether the king of the other side stands and is attacked, with that side to move.
     fn leaves_check(&self, side: Color) -> bool
-        ensures value { IsTrue result ↔ InCheck self.now.board (opponent side) }
-        ensures within { IsWithinTotals self.now.board self.now.black self.now.white }
+        ensures value { IsTrue result ↔ InCheck self.now.material.board (opponent side) }
+        ensures within { IsWithinTotals self.now.material }
     {
         self.board.in_check(side.opponent())
     }
 
     fn hand(&self, color: Color) -> Hand
-        ensures value { result ≡ hand_of self.now color }
-        ensures within { HoldsLimits self.now }
+        ensures value { result ≡ bag_of self.now.material color }
+        ensures within { IsWithinTotals self.now.material }
     {
         match color {
             Color::Black => self.black,
@@ -278,8 +279,8 @@ impl Setup {
     }
 
     fn set_hand(&mut self, color: Color, hand: Hand)
-        requires { HoldsLimits (with_hand self.old color hand) }
-        ensures { self.new ≡ with_hand self.old color hand }
+        requires { IsWithinTotals (with_bag self.old.material color hand) }
+        ensures { self.new ≡ record self.old { material = with_bag self.old.material color hand } }
     {
         match color {
             Color::Black => self.black = hand,
@@ -289,7 +290,7 @@ impl Setup {
 
     // How many pieces of that kind there are on the board and in the hands.
     fn total(&self, kind: Kind) -> usize
-        ensures value { result ≡ total self.now.board self.now.black self.now.white kind }
+        ensures value { result ≡ total self.now.material kind }
         ensures bound { result ≤ limit kind }
     {
         self.board.count(kind)
@@ -305,7 +306,7 @@ impl Setup {
 
     // How many pieces of that kind the hand of that side has with the rest.
     fn count_with_rest(&self, color: Color, kind: Kind) -> u8
-        ensures { result ≡ count_with_rest self.now (hand_of self.now color) kind }
+        ensures { result ≡ count_with_rest self.now (bag_of self.now.material color) kind }
     {
         let rest = kind.limit() - self.total(kind);
         self.hand(color).count(kind) + rest as u8
@@ -313,7 +314,7 @@ impl Setup {
 
     // The hand of that side with all pieces that are not placed yet.
     fn hand_with_rest(&self, color: Color) -> Hand
-        ensures { result ≡ with_rest self.now (hand_of self.now color) }
+        ensures { result ≡ with_rest self.now (bag_of self.now.material color) }
     {
         Hand::of([
             self.count_with_rest(color, Kind::Pawn),

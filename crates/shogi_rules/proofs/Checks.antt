@@ -42,53 +42,53 @@ at-place cells s t e = ap (λ (n : ℕ). get_or cells n None) e
 
 -- 1. What the other squares hold after a move
 -- an empty square that is not the target stays empty
-stays-empty : (p : Placed) (m : Move) (s : Square) → IsSound p → place s ≢ place (target m) → at p.board s ≡ None → at (board_after p m) s ≡ None
+stays-empty : (p : Placed) (m : Move) (s : Square) → IsSound p → place s ≢ place (target m) → at p.material.board s ≡ None → at (board_after p m) s ≡ None
 stays-empty p (Walk from to k) s sound other empty =
-    let lifted = set p.board (place from) None in
+    let lifted = set p.material.board (place from) None in
     let kept : at (board_after p (Walk from to k)) s ≡ at lifted s = get_or-set_other lifted (place to) (place s) (piece p.side k) None other in
     elim (cases_eq (place s) (place from)) [
-      | inl e ↦ kept ∙ (ap (λ (n : ℕ). get_or lifted n None) e ∙ get_or-set_same p.board (place from) None None (on-board p from sound))
-      | inr ne ↦ kept ∙ (get_or-set_other p.board (place from) (place s) None None ne ∙ empty)
+      | inl e ↦ kept ∙ (ap (λ (n : ℕ). get_or lifted n None) e ∙ get_or-set_same p.material.board (place from) None None (on-board p from sound))
+      | inr ne ↦ kept ∙ (get_or-set_other p.material.board (place from) (place s) None None ne ∙ empty)
     ]
-stays-empty p (Put to k) s sound other empty = get_or-set_other p.board (place to) (place s) (piece p.side k) None other ∙ empty
+stays-empty p (Put to k) s sound other empty = get_or-set_other p.material.board (place to) (place s) (piece p.side k) None other ∙ empty
 
 -- a piece that neither moves nor is captured stays
-stays : (p : Placed) (m : Move) (s : Square) (x : Piece) → FitsBoard p m → (MovesFrom s m → ⊥) → (target m ≡ s → ⊥) → at p.board s ≡ Some x → at (board_after p m) s ≡ Some x
+stays : (p : Placed) (m : Move) (s : Square) (x : Piece) → FitsBoard p m → (MovesFrom s m → ⊥) → (target m ≡ s → ⊥) → at p.material.board s ≡ Some x → at (board_after p m) s ≡ Some x
 stays p (Walk from to k) s x fits still free there =
     elim (cases_eq (place s) (place to)) [
       | inl e ↦ absurd (free (place-same to s (sym e)))
       | inr ne ↦ elim (cases_eq (place s) (place from)) [
         | inl e ↦ absurd (still (place-same from s (sym e)))
         | inr apart ↦
-            get_or-set_other (set p.board (place from) None) (place to) (place s) (piece p.side k) None ne
-            ∙ (get_or-set_other p.board (place from) (place s) None None apart ∙ there)
+            get_or-set_other (set p.material.board (place from) None) (place to) (place s) (piece p.side k) None ne
+            ∙ (get_or-set_other p.material.board (place from) (place s) None None apart ∙ there)
       ]
     ]
 stays p (Put to k) s x fits still free there =
     elim (cases_eq (place s) (place to)) [
       | inl e ↦ absurd (free (place-same to s (sym e)))
-      | inr ne ↦ get_or-set_other p.board (place to) (place s) (piece p.side k) None ne ∙ there
+      | inr ne ↦ get_or-set_other p.material.board (place to) (place s) (piece p.side k) None ne ∙ there
     ]
 
 -- an enemy piece is not the one that moves
-enemy-stays : (p : Placed) (m : Move) (s : Square) (x : Piece) → FitsBoard p m → at p.board s ≡ Some x → x.color ≡ opponent p.side → MovesFrom s m → ⊥
+enemy-stays : (p : Placed) (m : Move) (s : Square) (x : Piece) → FitsBoard p m → at p.material.board s ≡ Some x → x.color ≡ opponent p.side → MovesFrom s m → ⊥
 enemy-stays p (Walk from to k) s x fits there enemy e =
-    let own : at p.board from ≡ piece p.side fits.kind_fits.0 = fits.kind_fits.1 in
-    let here : at p.board from ≡ Some x = ap (at p.board) e ∙ there in
+    let own : at p.material.board from ≡ piece p.side fits.kind_fits.0 = fits.kind_fits.1 in
+    let here : at p.material.board from ≡ Some x = ap (at p.material.board) e ∙ there in
     let same : record { color = p.side; kind = fits.kind_fits.0 } ≡ x = some-same _ x (sym own ∙ here) in
     not-opponent p.side (ap (λ (y : Piece). y.color) same ∙ enemy)
 enemy-stays p (Put to k) s x fits there enemy e = e
 
 -- a move lands on no own piece
-own-free : (p : Placed) (m : Move) (s : Square) (k : Kind) → FitsBoard p m → at p.board s ≡ piece p.side k → target m ≡ s → ⊥
-own-free p (Walk from to l) s k fits there e = fits.target_free k (ap (at p.board) e ∙ there)
-own-free p (Put to l) s k fits there e = not-none (at p.board to) _ fits.target_free (ap (at p.board) e ∙ there)
+own-free : (p : Placed) (m : Move) (s : Square) (k : Kind) → FitsBoard p m → at p.material.board s ≡ piece p.side k → target m ≡ s → ⊥
+own-free p (Walk from to l) s k fits there e = fits.target_free k (ap (at p.material.board) e ∙ there)
+own-free p (Put to l) s k fits there e = not-none (at p.material.board to) _ fits.target_free (ap (at p.material.board) e ∙ there)
 
 -- 2. The check
-still-in-sight : (p : Placed) (m : Move) (a s : Square) (x : Piece) → IsSound p → (Between a s (target m) → ⊥) → Slides p.board x a s → Slides (board_after p m) x a s
+still-in-sight : (p : Placed) (m : Move) (a s : Square) (x : Piece) → IsSound p → (Between a s (target m) → ⊥) → Slides p.material.board x a s → Slides (board_after p m) x a s
 still-in-sight p m a s x sound past slide =
     let d = turned_for x.color slide.1 in
-    let sight : InSight p.board a d s = slide.4 in
+    let sight : InSight p.material.board a d s = slide.4 in
     let seen : InSight (board_after p m) a d s = record {
       distance = sight.distance;
       some = sight.some;
@@ -110,12 +110,12 @@ still-in-sight p m a s x sound past slide =
     } in
     (slide.0, slide.1, slide.2, slide.3, seen)
 
-still-moves : (p : Placed) (m : Move) (a s : Square) (x : Piece) → IsSound p → (Between a s (target m) → ⊥) → Steps x a s ⊎ Slides p.board x a s → Steps x a s ⊎ Slides (board_after p m) x a s
+still-moves : (p : Placed) (m : Move) (a s : Square) (x : Piece) → IsSound p → (Between a s (target m) → ⊥) → Steps x a s ⊎ Slides p.material.board x a s → Steps x a s ⊎ Slides (board_after p m) x a s
 still-moves p m a s x sound past (inl step) = inl step
 still-moves p m a s x sound past (inr slide) = inr (still-in-sight p m a s x sound past slide)
 
 -- after any other move the checking piece still reaches the king
-pub still-in-check : (p : Placed) (m : Move) (a s : Square) → IsSound p → FitsBoard p m → at p.board s ≡ piece p.side King → Attack p.board p.side a s → (MovesFrom s m → ⊥) → (StopsCheck a s (target m) → ⊥) → InCheck (after p m).board p.side
+pub still-in-check : (p : Placed) (m : Move) (a s : Square) → IsSound p → FitsBoard p m → at p.material.board s ≡ piece p.side King → Attack p.material.board p.side a s → (MovesFrom s m → ⊥) → (StopsCheck a s (target m) → ⊥) → InCheck (after p m).material.board p.side
 still-in-check p m a s sound fits king attack still past =
     let x = attack.reach.mover in
     let stands : at (board_after p m) a ≡ Some x = stays p m a x fits (enemy-stays p m a x fits attack.reach.stands attack.enemy) (λ e. past (inl e)) attack.reach.stands in
@@ -125,11 +125,11 @@ still-in-check p m a s sound fits king attack still past =
 
 -- 3. The search
 -- a move that keeps the rules 3 to 10 moves the king or stops the check
-pub no-other-evasion : (p : Placed) (m : Move) (a s : Square) → IsSound p → Keeps p m → at p.board s ≡ piece p.side King → Attack p.board p.side a s → (MovesFrom s m → ⊥) → (StopsCheck a s (target m) → ⊥) → ⊥
+pub no-other-evasion : (p : Placed) (m : Move) (a s : Square) → IsSound p → Keeps p m → at p.material.board s ≡ piece p.side King → Attack p.material.board p.side a s → (MovesFrom s m → ⊥) → (StopsCheck a s (target m) → ⊥) → ⊥
 no-other-evasion p m a s sound kept king attack still past = kept.king_safe (still-in-check p m a s sound kept.fits king attack still past)
 
 -- the walk is of the kind that stands there, or of its promoted kind
-pub walk-form : (p : Placed) (from to : Square) (was k : Kind) → at p.board from ≡ piece p.side was → FitsBoard p (Walk from to k) → (k ≡ was) ⊎ (promoted was ≡ Some k)
+pub walk-form : (p : Placed) (from to : Square) (was k : Kind) → at p.material.board from ≡ piece p.side was → FitsBoard p (Walk from to k) → (k ≡ was) ⊎ (promoted was ≡ Some k)
 walk-form p from to was k stands fits =
     let same : fits.kind_fits.0 ≡ was = piece-kind p.side _ _ (sym fits.kind_fits.1 ∙ stands) in
     subst (λ (l : Kind). (k ≡ l) ⊎ (promoted l ≡ Some k)) same fits.kind_fits.2
@@ -154,7 +154,7 @@ pub stops-at : (a s to : Square) (m : Move) → target m ≡ to → StopsCheck a
 stops-at a s to m e h = subst (λ (t : Square). StopsCheck a s t) e h
 
 -- where no walk of the king keeps the rules, and some move does, one stops the check
-pub some-stop : (p : Placed) (a s : Square) (escapes stops : Bool) → IsSound p → at p.board s ≡ piece p.side King → Attack p.board p.side a s
+pub some-stop : (p : Placed) (a s : Square) (escapes stops : Bool) → IsSound p → at p.material.board s ≡ piece p.side King → Attack p.material.board p.side a s
     → (IsTrue escapes ↔ ((to : Square) × (k : Kind) × Keeps p (Walk s to k))) → (IsTrue stops ↔ ((m : Move) × StopsCheck a s (target m) × Keeps p m))
     → escapes ≡ false → ((m : Move) × Keeps p m) → IsTrue stops
 some-stop p a s escapes true sound king attack e d none some = refl
@@ -164,7 +164,7 @@ some-stop p a s false false sound king attack e d none some =
     (λ from. let yes = e.1 (moves-from-walk p s some.0 from some.1) in cc)
     (λ stop. let yes = d.1 (some.0, stop, some.1) in cc))
 
-pub mated-then : (p : Placed) (b : Bool) → InCheck p.board p.side → (IsTrue b ↔ ((m : Move) × Keeps p m)) → IsTrue (not b) ↔ Mated p
+pub mated-then : (p : Placed) (b : Bool) → InCheck p.material.board p.side → (IsTrue b ↔ ((m : Move) × Keeps p m)) → IsTrue (not b) ↔ Mated p
 mated-then p true check d = (λ h. cc, λ mated. let s = d.0 refl in absurd (mated.no_move s.0 s.1))
 mated-then p false check d =
     (λ _. record { in_check = check; no_move = λ m k. let f = d.1 (m, k) in cc }, λ _. refl)

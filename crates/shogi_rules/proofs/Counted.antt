@@ -137,7 +137,7 @@ link-kept ps x i p link h is = record {
   earlier = λ q same. leads-kept ps x i q link.earlier (omega (arith, h)) (is.earlier q same);
 }
 
-link-last : (ps : List Placed) (p : Placed) (link : Link) → link.count ≡ times ps p + 1 → (IsTrue link.in_check ↔ InCheck p.board p.side) → ((q : Placed) → chain_of q ≡ chain_of p → Leads ps (length ps) q link.earlier) → IsLink (ps ++ p ∷ []) (length ps) p link
+link-last : (ps : List Placed) (p : Placed) (link : Link) → link.count ≡ times ps p + 1 → (IsTrue link.in_check ↔ InCheck p.material.board p.side) → ((q : Placed) → chain_of q ≡ chain_of p → Leads ps (length ps) q link.earlier) → IsLink (ps ++ p ∷ []) (length ps) p link
 link-last ps p link counted checked leads = record {
   count =
       let long = long-more ps p in
@@ -152,7 +152,7 @@ link-at-last ps links p q link x i long e is at beside =
     let two : link ≡ x = some-link link x (sym (get-behind links link i (omega (arith, e, long))) ∙ beside) in
     subst (λ (n : ℕ). IsLink (ps ++ p ∷ []) n q x) (sym e) (subst (λ (l : Link). IsLink (ps ++ p ∷ []) (length ps) q l) two (subst (λ (r : Placed). IsLink (ps ++ p ∷ []) (length ps) r link) one is))
 
-linked-pushed : (ps : List Placed) (links : List Link) (heads : List ℕ) (p : Placed) (link : Link) → AreLinked ps links heads → link.count ≡ times ps p + 1 → (IsTrue link.in_check ↔ InCheck p.board p.side) → ((q : Placed) → chain_of q ≡ chain_of p → Leads ps (length ps) q link.earlier) → AreLinked (ps ++ p ∷ []) (links ++ link ∷ []) (set heads (chain_of p) (length ps + 1))
+linked-pushed : (ps : List Placed) (links : List Link) (heads : List ℕ) (p : Placed) (link : Link) → AreLinked ps links heads → link.count ≡ times ps p + 1 → (IsTrue link.in_check ↔ InCheck p.material.board p.side) → ((q : Placed) → chain_of q ≡ chain_of p → Leads ps (length ps) q link.earlier) → AreLinked (ps ++ p ∷ []) (links ++ link ∷ []) (set heads (chain_of p) (length ps + 1))
 linked-pushed ps links heads p link old counted checked leads = record {
   long =
       let a = length-append links (link ∷ []) in
@@ -196,7 +196,7 @@ walk-ends ps links m q p link n i old led e at beside same =
     (old.each i p link at beside).count ∙ (ap (λ (x : Placed). times (take (i + 1) ps) x) one ∙ (all ∙ times-whole ps (length ps) q (omega arith)))
 
 -- the same by what the code has found
-pub linked-more : (ps : List Placed) (links : List Link) (heads : List ℕ) (p : Placed) (key n count earlier : ℕ) (b : Bool) → AreLinked ps links heads → key ≡ chain_of p → n ≡ length ps + 1 → count ≡ times ps p → (IsTrue b ↔ InCheck p.board p.side) → ((q : Placed) → chain_of q ≡ key → Leads ps (length ps) q earlier) → AreLinked (ps ++ p ∷ []) (links ++ record { count = count + 1; in_check = b; earlier = earlier } ∷ []) (set heads key n)
+pub linked-more : (ps : List Placed) (links : List Link) (heads : List ℕ) (p : Placed) (key n count earlier : ℕ) (b : Bool) → AreLinked ps links heads → key ≡ chain_of p → n ≡ length ps + 1 → count ≡ times ps p → (IsTrue b ↔ InCheck p.material.board p.side) → ((q : Placed) → chain_of q ≡ key → Leads ps (length ps) q earlier) → AreLinked (ps ++ p ∷ []) (links ++ record { count = count + 1; in_check = b; earlier = earlier } ∷ []) (set heads key n)
 linked-more ps links heads p key n count earlier b old same long counted checked leads =
     rw (same, long)
     (linked-pushed ps links heads p (record { count = count + 1; in_check = b; earlier = earlier }) old (ap (λ (k : ℕ). k + 1) counted) checked
@@ -214,5 +214,5 @@ none-linked heads n wide all = record {
 }
 
 -- what the link of a position says of check
-pub check-linked : (ps : List Placed) (links : List Link) (heads : List ℕ) (i : ℕ) (p : Placed) (link : Link) → AreLinked ps links heads → slice_get ps i ≡ Some p → slice_get links i ≡ Some link → IsTrue link.in_check ↔ InCheck p.board p.side
+pub check-linked : (ps : List Placed) (links : List Link) (heads : List ℕ) (i : ℕ) (p : Placed) (link : Link) → AreLinked ps links heads → slice_get ps i ≡ Some p → slice_get links i ≡ Some link → IsTrue link.in_check ↔ InCheck p.material.board p.side
 check-linked ps links heads i p link old at beside = (old.each i p link at beside).check

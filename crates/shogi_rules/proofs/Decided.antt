@@ -2,7 +2,8 @@
 use Rattle.std.proofs.Common.{◌≡◌, ℕ, ◌<◌, ◌≤◌, ◌⊎◌, inl, inr, List, [], ◌∷◌, Option, Some, None, arith, refl, ap}
 use Rattle.std.proofs.lemmas.Bool.{cases_lt}
 use Rattle.shogi_board.specs.Cells.{at, piece}
-use Rattle.shogi_board.specs.Placed.{Placed, bag_of}
+use Rattle.shogi_board.specs.Material.{bag_of}
+use Rattle.shogi_board.specs.Placed.{Placed}
 use Rattle.shogi_board.specs.Reach.{InCheck}
 use Rattle.shogi_board.specs.Totals.{count_in}
 use Rattle.shogi_board.specs.declared.color.Color.{Color}
@@ -45,33 +46,33 @@ decide-same : (a b : Kind) → Decision (a ≡ b)
 decide-same a b = decide-as (Some a ≡ Some b) (a ≡ b) (λ h. cc) (λ h. cc) (decide-option (Some a) b)
 
 decide-has_piece : (p : Placed) (m : Move) → Decision (HasPiece p m)
-decide-has_piece p (Walk from to k) = decide-kind (λ was. at p.board from ≡ piece p.side was) (λ was. decide-cell (at p.board from) (piece p.side was))
-decide-has_piece p (Put to k) = decide-lt 0 (count_in (bag_of p p.side) k)
+decide-has_piece p (Walk from to k) = decide-kind (λ was. at p.material.board from ≡ piece p.side was) (λ was. decide-cell (at p.material.board from) (piece p.side was))
+decide-has_piece p (Put to k) = decide-lt 0 (count_in (bag_of p.material p.side) k)
 
 decide-kind_fits : (p : Placed) (m : Move) → Decision (KindFits p m)
 decide-kind_fits p (Walk from to k) =
-    let P : Kind → Type 0 = λ was. (at p.board from ≡ piece p.side was) × ((k ≡ was) ⊎ (promoted was ≡ Some k)) in
+    let P : Kind → Type 0 = λ was. (at p.material.board from ≡ piece p.side was) × ((k ≡ was) ⊎ (promoted was ≡ Some k)) in
     decide-as ((was : Kind) × P was) (KindFits p (Walk from to k))
     (λ h. (h.0, h.1.0, h.1.1))
     (λ h. (h.0, (h.1, h.2)))
-    (decide-kind P (λ was. decide-both _ _ (decide-cell (at p.board from) (piece p.side was)) (decide-either _ _ (decide-same k was) (decide-option (promoted was) k))))
+    (decide-kind P (λ was. decide-both _ _ (decide-cell (at p.material.board from) (piece p.side was)) (decide-either _ _ (decide-same k was) (decide-option (promoted was) k))))
 decide-kind_fits p (Put to k) = inl tt
 
 decide-target_free : (p : Placed) (m : Move) → Decision (TargetFree p m)
 decide-target_free p (Walk from to k) =
-    decide-as (((own : Kind) × (at p.board to ≡ piece p.side own)) → ⊥) (TargetFree p (Walk from to k))
+    decide-as (((own : Kind) × (at p.material.board to ≡ piece p.side own)) → ⊥) (TargetFree p (Walk from to k))
     (λ h own there. h (own, there))
     (λ h there. h there.0 there.1)
-    (decide-not _ (decide-kind (λ own. at p.board to ≡ piece p.side own) (λ own. decide-cell (at p.board to) (piece p.side own))))
-decide-target_free p (Put to k) = decide-cell (at p.board to) None
+    (decide-not _ (decide-kind (λ own. at p.material.board to ≡ piece p.side own) (λ own. decide-cell (at p.material.board to) (piece p.side own))))
+decide-target_free p (Put to k) = decide-cell (at p.material.board to) None
 
 decide-reaches : (p : Placed) (m : Move) → Decision (ReachesTarget p m)
-decide-reaches p (Walk from to k) = decide-reach p.board from to
+decide-reaches p (Walk from to k) = decide-reach p.material.board from to
 decide-reaches p (Put to k) = inl tt
 
 decide-may_promote : (p : Placed) (m : Move) → Decision (MayPromote p m)
 decide-may_promote p (Walk from to k) =
-    decide-either _ _ (decide-cell (at p.board from) (piece p.side k)) (decide-either _ _ (decide-le (rank_for p.side from) 3) (decide-le (rank_for p.side to) 3))
+    decide-either _ _ (decide-cell (at p.material.board from) (piece p.side k)) (decide-either _ _ (decide-le (rank_for p.side from) 3) (decide-le (rank_for p.side to) 3))
 decide-may_promote p (Put to k) = inl tt
 
 decide-further_move : (p : Placed) (m : Move) → Decision (HasFurtherMove p m)
@@ -79,10 +80,10 @@ decide-further_move p m = decide-le (last_rank (kind_after m)) (rank_for p.side 
 
 decide-lone_pawn : (p : Placed) (m : Move) → Decision (LonePawn p m)
 decide-lone_pawn p (Walk from to k) = inl tt
-decide-lone_pawn p (Put to k) = decide-implies _ _ (decide-same k Pawn) (decide-not _ (decide-pawn_on_file p.board p.side to))
+decide-lone_pawn p (Put to k) = decide-implies _ _ (decide-same k Pawn) (decide-not _ (decide-pawn_on_file p.material.board p.side to))
 
 decide-king_safe : (p : Placed) (m : Move) → Decision (KingSafe p m)
-decide-king_safe p m = decide-not _ (decide-in_check (after p m).board p.side)
+decide-king_safe p m = decide-not _ (decide-in_check (after p m).material.board p.side)
 
 pub decide-fits : (p : Placed) (m : Move) → Decision (FitsBoard p m)
 decide-fits p m =
@@ -137,10 +138,10 @@ decide-move P each =
 -- whether the side to move is in check and no move keeps the rules 3 to 10
 pub decide-mated : (p : Placed) → Decision (Mated p)
 decide-mated p =
-    decide-as (InCheck p.board p.side × (((m : Move) × Keeps p m) → ⊥)) (Mated p)
+    decide-as (InCheck p.material.board p.side × (((m : Move) × Keeps p m) → ⊥)) (Mated p)
     (λ h. record { in_check = h.0; no_move = λ m k. h.1 (m, k) })
     (λ h. (h.in_check, λ s. h.no_move s.0 s.1))
-    (decide-both _ _ (decide-in_check p.board p.side) (decide-not _ (decide-move (Keeps p) (decide-keeps p))))
+    (decide-both _ _ (decide-in_check p.material.board p.side) (decide-not _ (decide-move (Keeps p) (decide-keeps p))))
 
 decide-pawn_drop : (m : Move) → Decision (IsPawnDrop m)
 decide-pawn_drop (Walk from to k) = inr (λ h. h)

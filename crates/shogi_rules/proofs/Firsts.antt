@@ -4,7 +4,8 @@ use Rattle.std.specs.Prelude.{MatchOption}
 use Rattle.std.proofs.lemmas.Bool.{cases_order}
 use Rattle.shogi_board.specs.Cells.{at, piece}
 use Rattle.shogi_board.specs.Pieces.{is_hand_kind, is_promoted, place_of}
-use Rattle.shogi_board.specs.Placed.{Placed, bag_of}
+use Rattle.shogi_board.specs.Material.{bag_of}
+use Rattle.shogi_board.specs.Placed.{Placed}
 use Rattle.shogi_board.specs.Reach.{Reach}
 use Rattle.shogi_board.specs.Squares.{place}
 use Rattle.shogi_board.specs.Totals.{hand_kinds}
@@ -53,7 +54,7 @@ place-less : (s t : Square) → s ≡ t → place s < place t → ⊥
 place-less s t e lt = let f : place s ≡ place t = ap place e in omega (arith, f, lt)
 
 -- a legal walk between the squares is of one of two kinds
-form-of : (p : Placed) (from to : Square) (was : Kind) (m : Move) → at p.board from ≡ piece p.side was → Leads from to m → Legal p m
+form-of : (p : Placed) (from to : Square) (was : Kind) (m : Move) → at p.material.board from ≡ piece p.side was → Leads from to m → Legal p m
     → (k : Kind) × (m ≡ Walk from to k) × ((k ≡ was) ⊎ (promoted was ≡ Some k))
 form-of p from to was (Walk g u k) stands leads legal =
     let same : Walk g u k ≡ Walk from to k = rw (leads.0, leads.1) refl in
@@ -66,7 +67,7 @@ before-form : (from to : Square) (k l : Kind) → IsBefore (Walk from to k) (Wal
 before-form from to k l (inl lt) = absurd (place-less from from refl lt)
 before-form from to k l (inr h) = elim h.1 [ inl lt ↦ absurd (place-less to to refl lt) | inr b ↦ (b.1, b.2) ]
 
-pub own-first : (p : Placed) (from to : Square) (was : Kind) (m : Move) → at p.board from ≡ piece p.side was → m ≡ Walk from to was → Legal p m → IsFirstOf p (Leads from to) m
+pub own-first : (p : Placed) (from to : Square) (was : Kind) (m : Move) → at p.material.board from ≡ piece p.side was → m ≡ Walk from to was → Legal p m → IsFirstOf p (Leads from to) m
 own-first p from to was m stands is legal = record {
   among = subst (Leads from to) (sym is) (refl, refl);
   legal = legal;
@@ -80,7 +81,7 @@ own-first p from to was m stands is legal = record {
       absurd (cc);
 }
 
-pub promoted-first : (p : Placed) (from to : Square) (was k : Kind) (m : Move) → at p.board from ≡ piece p.side was → (Legal p (Walk from to was) → ⊥) → promoted was ≡ Some k → m ≡ Walk from to k → Legal p m → IsFirstOf p (Leads from to) m
+pub promoted-first : (p : Placed) (from to : Square) (was k : Kind) (m : Move) → at p.material.board from ≡ piece p.side was → (Legal p (Walk from to was) → ⊥) → promoted was ≡ Some k → m ≡ Walk from to k → Legal p m → IsFirstOf p (Leads from to) m
 promoted-first p from to was k m stands bare promotion is legal = record {
   among = subst (Leads from to) (sym is) (refl, refl);
   legal = legal;
@@ -93,7 +94,7 @@ promoted-first p from to was k m stands bare promotion is legal = record {
       bare (subst (Legal p) (f.1 ∙ ap (λ (x : Kind). Walk from to x) same) other);
 }
 
-pub no-form : (p : Placed) (from to : Square) (was : Kind) → at p.board from ≡ piece p.side was → (Legal p (Walk from to was) → ⊥) → ((k : Kind) → promoted was ≡ Some k → Legal p (Walk from to k) → ⊥) → NoneOf p (Leads from to)
+pub no-form : (p : Placed) (from to : Square) (was : Kind) → at p.material.board from ≡ piece p.side was → (Legal p (Walk from to was) → ⊥) → ((k : Kind) → promoted was ≡ Some k → Legal p (Walk from to k) → ⊥) → NoneOf p (Leads from to)
 no-form p from to was stands bare promoting = λ m leads legal.
     let f = form-of p from to was m stands leads legal in
     elim f.2 [
@@ -101,10 +102,10 @@ no-form p from to was stands bare promoting = λ m leads legal.
       | inr e ↦ promoting f.0 e (subst (Legal p) f.1 legal)
     ]
 
-pub none-stands : (p : Placed) (from : Square) → ((k : Kind) → at p.board from ≡ piece p.side k → ⊥) → NoneOf p (MovesFrom from)
+pub none-stands : (p : Placed) (from : Square) → ((k : Kind) → at p.material.board from ≡ piece p.side k → ⊥) → NoneOf p (MovesFrom from)
 none-stands p from empty (Walk g u k) from-there legal =
     let fits = legal.keeps.fits in
-    empty fits.kind_fits.0 (subst (λ (s : Square). at p.board s ≡ piece p.side fits.kind_fits.0) from-there fits.kind_fits.1)
+    empty fits.kind_fits.0 (subst (λ (s : Square). at p.material.board s ≡ piece p.side fits.kind_fits.0) from-there fits.kind_fits.1)
 none-stands p from empty (Put t k) from-there legal = from-there
 
 pub leads-from : (from to : Square) (m : Move) → Leads from to m → MovesFrom from m
@@ -114,14 +115,14 @@ leads-from from to (Put t k) h = h
 pub none-leads : (p : Placed) (from to : Square) → NoneOf p (MovesFrom from) → NoneOf p (Leads from to)
 none-leads p from to none = λ m leads legal. none m (leads-from from to m leads) legal
 
-pub not-reached : (p : Placed) (from to : Square) → (Reach p.board from to → ⊥) → NoneOf p (Leads from to)
+pub not-reached : (p : Placed) (from to : Square) → (Reach p.material.board from to → ⊥) → NoneOf p (Leads from to)
 not-reached p from to far (Walk g u k) leads legal =
     let there : Legal p (Walk from to k) = subst (Legal p) (let same : Walk g u k ≡ Walk from to k = rw (leads.0, leads.1) refl in same) legal in
     far there.keeps.fits.reaches
 not-reached p from to far (Put t k) leads legal = leads
 
 -- an answer for the promoted form is one for both
-pub promoted-answer : (p : Placed) (from to : Square) (was k : Kind) (found : Option Move) → at p.board from ≡ piece p.side was → (Legal p (Walk from to was) → ⊥) → promoted was ≡ Some k
+pub promoted-answer : (p : Placed) (from to : Square) (was k : Kind) (found : Option Move) → at p.material.board from ≡ piece p.side was → (Legal p (Walk from to was) → ⊥) → promoted was ≡ Some k
     → MatchOption found (Legal p (Walk from to k) → ⊥) (λ m. (m ≡ Walk from to k) × Legal p m) → MatchOption found (NoneOf p (Leads from to)) (λ m. IsFirstOf p (Leads from to) m)
 promoted-answer p from to was k None stands bare promotion h =
     no-form p from to was stands bare (λ l e legal. let both : Some k ≡ Some l = sym promotion ∙ e in let same : l ≡ k = cc in h (subst (λ (x : Kind). Legal p (Walk from to x)) same legal))
@@ -211,14 +212,14 @@ drop-first p its_kind m below h = record {
 pub no-drop : (p : Placed) (n : ℕ) → 7 ≤ n → ((l : Kind) → place_of l < n → NoneOf p (IsDropOf l)) → NoneOf p IsDrop
 no-drop p n all none (Walk g u k) drop legal = drop
 no-drop p n all none (Put t k) drop legal =
-    let low = held-low k (held-of (bag_of p p.side) k legal.keeps.fits.has_piece).0 in
+    let low = held-low k (held-of (bag_of p.material p.side) k legal.keeps.fits.has_piece).0 in
     none k (omega (arith, all, low)) (Put t k) refl legal
 
 -- only a kind that a hand holds can be dropped
 pub kind-none : (p : Placed) (its_kind l : Kind) (n : ℕ) → ((k : Kind) → is_hand_kind k ≡ true → place_of k ≡ n → its_kind ≡ k) → place_of l ≡ n → NoneOf p (IsDropOf its_kind) → NoneOf p (IsDropOf l)
 kind-none p its_kind l n only e none (Walk g u k) drop legal = drop
 kind-none p its_kind l n only e none (Put t k) drop legal =
-    let held = (held-of (bag_of p p.side) k legal.keeps.fits.has_piece).0 in
+    let held = (held-of (bag_of p.material p.side) k legal.keeps.fits.has_piece).0 in
     let there : place_of k ≡ n = ap place_of drop ∙ e in
     none (Put t k) (sym (only k held there)) legal
 
@@ -274,8 +275,8 @@ held-at Dragon h = cc
 
 drop-kind : (p : Placed) (t u : Square) (k l : Kind) → FitsBoard p (Put t k) → FitsBoard p (Put u l) → place_of k ≡ place_of l → k ≡ l
 drop-kind p t u k l a b e =
-    let mine = held-at k (held-of (bag_of p p.side) k a.has_piece).0 in
-    let yours = held-at l (held-of (bag_of p p.side) l b.has_piece).0 in
+    let mine = held-at k (held-of (bag_of p.material p.side) k a.has_piece).0 in
+    let yours = held-at l (held-of (bag_of p.material p.side) l b.has_piece).0 in
     sym mine ∙ (ap (λ (i : ℕ). get_or hand_kinds i Pawn) e ∙ yours)
 
 pub ordered : (p : Placed) (m n : Move) → FitsBoard p m → FitsBoard p n → Ordered m n

@@ -26,8 +26,8 @@ use Rattle.shogi_rules.proofs.Forms.{opponent-twice}
 use Rattle.shogi_board.proofs.Check.{king_check}
 use Rattle.shogi_rules.proofs.AfterMove.{colors-same, held-before, kinds-same, not-none, not-opponent, on-target, some-same, walk-keeps}
 
-put-keeps : (p : Placed) (to : Square) (k : Kind) (s : Square) → place s ≢ place to → at (board_after p (Put to k)) s ≡ at p.board s
-put-keeps p to k s other = get_or-set_other p.board (place to) (place s) (piece p.side k) None other
+put-keeps : (p : Placed) (to : Square) (k : Kind) (s : Square) → place s ≢ place to → at (board_after p (Put to k)) s ≡ at p.material.board s
+put-keeps p to k s other = get_or-set_other p.material.board (place to) (place s) (piece p.side k) None other
 
 square-of : (s t : Square) → Some s ≡ Some t → s ≡ t
 square-of s t e = cc
@@ -58,7 +58,7 @@ not-target p m t sound empty e = not-none (at (board_after p m) t) (record { col
 
 -- a square that is empty after the move was empty before, but for the one that was left
 empty-before : (p : Placed) (m : Move) (a : Square) (d : Direction) (n : ℕ) → IsSound p → 1 ≤ n → ((t : Square) → IsAway a d n t → at (board_after p m) t ≡ None)
-    → LeftOnWay m a d (suc n) ⊎ ((t : Square) → IsAway a d n t → at p.board t ≡ None)
+    → LeftOnWay m a d (suc n) ⊎ ((t : Square) → IsAway a d n t → at p.material.board t ≡ None)
 empty-before p (Walk from to k) a d n sound some empty =
     elim (lies-or-not a from d n) [
       | inl on ↦ inl (record { from = from; left = refl; steps = n; some = some; nearer = omega arith; on = on })
@@ -73,7 +73,7 @@ empty-before p (Put to k) a d n sound some empty =
     sym (put-keeps p to k t (not-target p (Put to k) t sound clear)) ∙ clear)
 
 -- clear squares after the move were clear before, or the one that was left is among them
-clear-before : (p : Placed) (m : Move) (a : Square) (d : Direction) (n : ℕ) → IsSound p → IsClear (board_after p m) a d n → LeftOnWay m a d n ⊎ IsClear p.board a d n
+clear-before : (p : Placed) (m : Move) (a : Square) (d : Direction) (n : ℕ) → IsSound p → IsClear (board_after p m) a d n → LeftOnWay m a d n ⊎ IsClear p.material.board a d n
 clear-before p m a d zero sound clear = inr (λ k t low high there. absurd (omega (arith, low, high)))
 clear-before p m a d (suc n) sound clear =
     elim (clear-before p m a d n sound (λ k t low high there. clear k t low (omega (arith, high)) there)) [
@@ -96,7 +96,7 @@ abbrev pub IsOpened : Placed → Move → Square → Square → Type 0
 IsOpened p m s a = (from : Square) × (source m ≡ Some from) × SeenTowards (board_after p m) s from a
 
 slid-across : (p : Placed) (m : Move) (color : Color) (a s : Square) (kind : Kind) → IsSound p → Any (λ d. InSight (board_after p m) a (turned_for (opponent color) d) s) (rays kind)
-    → IsOpened p m s a ⊎ Any (λ d. InSight p.board a (turned_for (opponent color) d) s) (rays kind)
+    → IsOpened p m s a ⊎ Any (λ d. InSight p.material.board a (turned_for (opponent color) d) s) (rays kind)
 slid-across p m color a s kind sound slide =
     let e : Direction = slide.1 in
     let sight : InSight (board_after p m) a (turned_for (opponent color) e) s = slide.4 in
@@ -109,24 +109,24 @@ slid-across p m color a s kind sound slide =
     ]
 
 -- an attacker that is not the piece that moved is seen towards the square which that left
-pub seen-across : (p : Placed) (m : Move) (color : Color) (a s : Square) → IsSound p → place a ≢ place (target m) → (Attacked p.board color s → ⊥) → Attack (board_after p m) color a s → IsOpened p m s a
+pub seen-across : (p : Placed) (m : Move) (color : Color) (a s : Square) → IsSound p → place a ≢ place (target m) → (Attacked p.material.board color s → ⊥) → Attack (board_after p m) color a s → IsOpened p m s a
 seen-across p m color a s sound apart safe attack =
     let x = attack.reach.mover in
-    let stands : at p.board a ≡ Some x = held-before p m a x sound apart attack.reach.stands in
+    let stands : at p.material.board a ≡ Some x = held-before p m a x sound apart attack.reach.stands in
     elim attack.reach.moves [
       | inl step ↦ absurd (safe (a, record { reach = record { mover = x; stands = stands; moves = inl step }; enemy = attack.enemy }))
       | inr slide ↦
           elim (slid-across p m color a s x.kind sound (subst (λ (c : Color). Any (λ d. InSight (board_after p m) a (turned_for c d) s) (rays x.kind)) attack.enemy slide)) [
             | inl opened ↦ opened
             | inr before ↦
-                let slides = subst (λ (c : Color). Any (λ d. InSight p.board a (turned_for c d) s) (rays x.kind)) (sym attack.enemy) before in
+                let slides = subst (λ (c : Color). Any (λ d. InSight p.material.board a (turned_for c d) s) (rays x.kind)) (sym attack.enemy) before in
                 absurd (safe (a, record { reach = record { mover = x; stands = stands; moves = inr slides }; enemy = attack.enemy }))
           ]
     ]
 
 -- 2. The mover's king
 -- it stood where it stands, if it did not move
-king-before : (p : Placed) (m : Move) (s : Square) → IsSound p → (kind_after m ≡ King → ⊥) → at (board_after p m) s ≡ piece p.side King → at p.board s ≡ piece p.side King
+king-before : (p : Placed) (m : Move) (s : Square) → IsSound p → (kind_after m ≡ King → ⊥) → at (board_after p m) s ≡ piece p.side King → at p.material.board s ≡ piece p.side King
 king-before p m s sound not there =
     held-before p m s (record { color = p.side; kind = King }) sound (λ e. not (kinds-same p.side p.side (kind_after m) King (sym (on-target p m s sound e) ∙ there))) there
 
@@ -137,7 +137,7 @@ not-on-target p m a s sound attack e =
     let same : Some x ≡ piece p.side (kind_after m) = sym attack.reach.stands ∙ on-target p m a sound e in
     not-opponent p.side (sym (ap (λ (q : Piece). q.color) (some-same x _ same)) ∙ attack.enemy)
 
-pub own-opened : (p : Placed) (m : Move) (a s : Square) → IsSound p → (InCheck p.board p.side → ⊥) → (kind_after m ≡ King → ⊥) → at (board_after p m) s ≡ piece p.side King
+pub own-opened : (p : Placed) (m : Move) (a s : Square) → IsSound p → (InCheck p.material.board p.side → ⊥) → (kind_after m ≡ King → ⊥) → at (board_after p m) s ≡ piece p.side King
     → Attack (board_after p m) p.side a s → IsOpened p m s a
 own-opened p m a s sound safe not there attack =
     seen-across p m p.side a s sound (not-on-target p m a s sound attack) (λ attacked. safe (s, king-before p m s sound not there, attacked)) attack
@@ -151,19 +151,19 @@ pub nothing-left : (p : Placed) (m : Move) (a s : Square) → source m ≡ None 
 nothing-left p m a s none opened = let left = opened.1 in cc
 
 -- 3. Where an attack on the mover's king comes from
-pub towards-danger : (p : Placed) (safe : Bool) (m : Move) (from : Square) → IsSound p → (safe ≡ true → InCheck p.board p.side → ⊥) → safe ≡ true → (kind_after m ≡ King → ⊥) → source m ≡ Some from
+pub towards-danger : (p : Placed) (safe : Bool) (m : Move) (from : Square) → IsSound p → (safe ≡ true → InCheck p.material.board p.side → ⊥) → safe ≡ true → (kind_after m ≡ King → ⊥) → source m ≡ Some from
     → (s : Square) → at (board_after p m) s ≡ piece p.side King → (a : Square) → Attack (board_after p m) p.side a s → SeenTowards (board_after p m) s from a
 towards-danger p safe m from sound free said still left s there a attack =
     towards-left p m from a s left (own-opened p m a s sound (free said) still there attack)
 
-pub no-danger : (p : Placed) (safe : Bool) (m : Move) → IsSound p → (safe ≡ true → InCheck p.board p.side → ⊥) → safe ≡ true → (kind_after m ≡ King → ⊥) → source m ≡ None
+pub no-danger : (p : Placed) (safe : Bool) (m : Move) → IsSound p → (safe ≡ true → InCheck p.material.board p.side → ⊥) → safe ≡ true → (kind_after m ≡ King → ⊥) → source m ≡ None
     → (s : Square) → at (board_after p m) s ≡ piece p.side King → Attacked (board_after p m) p.side s → ⊥
 no-danger p safe m sound free said still none s there attacked =
     nothing-left p m attacked.0 s none (own-opened p m attacked.0 s sound (free said) still there attacked.1)
 
 -- 4. The other king
 -- it was not attacked before the move, for the position was sound
-pub other-opened : (p : Placed) (m : Move) (a s : Square) → IsSound p → at p.board s ≡ piece (opponent p.side) King → (Reach (board_after p m) (target m) s → ⊥)
+pub other-opened : (p : Placed) (m : Move) (a s : Square) → IsSound p → at p.material.board s ≡ piece (opponent p.side) King → (Reach (board_after p m) (target m) s → ⊥)
     → Attack (board_after p m) (opponent p.side) a s → IsOpened p m s a
 other-opened p m a s sound there free attack =
     seen-across p m (opponent p.side) a s sound
@@ -179,26 +179,26 @@ target-attacks p m s sound reach =
     record { reach = reach; enemy = own ∙ sym (opponent-twice p.side) }
 
 -- who stands there is in check exactly where its king is attacked
-pub check-is : (next : Placed) (s : Square) (b : Bool) → IsSound next → at next.board s ≡ piece next.side King → (IsTrue b ↔ Attacked next.board next.side s) → IsTrue b ↔ InCheck next.board next.side
+pub check-is : (next : Placed) (s : Square) (b : Bool) → IsSound next → at next.material.board s ≡ piece next.side King → (IsTrue b ↔ Attacked next.material.board next.side s) → IsTrue b ↔ InCheck next.material.board next.side
 check-is next s b sound there d =
-    king_check next.board next.side s b sound.within.squares (sound.within.kings next.side) there d
+    king_check next.material.board next.side s b sound.within.squares (sound.within.kings next.side) there d
 
 -- the other side's king before the move, as it is told after it
-king-of-other : (p : Placed) (m : Move) (s : Square) → IsSound p → at (board_after p m) s ≡ piece (opponent p.side) King → at p.board s ≡ piece (opponent p.side) King
+king-of-other : (p : Placed) (m : Move) (s : Square) → IsSound p → at (board_after p m) s ≡ piece (opponent p.side) King → at p.material.board s ≡ piece (opponent p.side) King
 king-of-other p m s sound there =
     held-before p m s (record { color = opponent p.side; kind = King }) sound
     (λ e. not-opponent p.side (colors-same p.side (opponent p.side) (kind_after m) King (sym (on-target p m s sound e) ∙ there))) there
 
-pub other-towards : (p next : Placed) (m : Move) (from s : Square) → IsSound p → next ≡ after p m → at next.board s ≡ piece next.side King → (Reach next.board (target m) s → ⊥) → source m ≡ Some from
-    → (a : Square) → Attack next.board next.side a s → SeenTowards next.board s from a
+pub other-towards : (p next : Placed) (m : Move) (from s : Square) → IsSound p → next ≡ after p m → at next.material.board s ≡ piece next.side King → (Reach next.material.board (target m) s → ⊥) → source m ≡ Some from
+    → (a : Square) → Attack next.material.board next.side a s → SeenTowards next.material.board s from a
 other-towards p next m from s sound made there free left a attack =
     let king : at (board_after p m) s ≡ piece (opponent p.side) King = rw made at there in
     let shut : Reach (board_after p m) (target m) s → ⊥ = rw made at free in
     let here : Attack (board_after p m) (opponent p.side) a s = rw made at attack in
     rw made (towards-left p m from a s left (other-opened p m a s sound (king-of-other p m s sound king) shut here))
 
-pub other-free : (p next : Placed) (m : Move) (s : Square) → IsSound p → next ≡ after p m → at next.board s ≡ piece next.side King → (Reach next.board (target m) s → ⊥) → source m ≡ None
-    → IsTrue false ↔ Attacked next.board next.side s
+pub other-free : (p next : Placed) (m : Move) (s : Square) → IsSound p → next ≡ after p m → at next.material.board s ≡ piece next.side King → (Reach next.material.board (target m) s → ⊥) → source m ≡ None
+    → IsTrue false ↔ Attacked next.material.board next.side s
 other-free p next m s sound made there free none = (
   λ yes. cc,
   λ attacked.
@@ -208,15 +208,15 @@ other-free p next m s sound made there free none = (
       absurd (nothing-left p m attacked.0 s none (other-opened p m attacked.0 s sound (king-of-other p m s sound king) shut here)),
 )
 
-pub other-reached : (p next : Placed) (m : Move) (s : Square) → IsSound p → next ≡ after p m → Reach next.board (target m) s → IsTrue true ↔ Attacked next.board next.side s
+pub other-reached : (p next : Placed) (m : Move) (s : Square) → IsSound p → next ≡ after p m → Reach next.material.board (target m) s → IsTrue true ↔ Attacked next.material.board next.side s
 other-reached p next m s sound made reach =
     let here : Reach (board_after p m) (target m) s = rw made at reach in
-    let attack : Attack next.board next.side (target m) s = rw made (target-attacks p m s sound here) in
+    let attack : Attack next.material.board next.side (target m) s = rw made (target-attacks p m s sound here) in
     (λ yes. (target m, attack), λ attacked. refl)
 
-pub unreached : (next : Placed) (m : Move) (s to : Square) (b : Bool) → to ≡ target m → b ≡ false → (IsTrue b ↔ Reach next.board to s) → Reach next.board (target m) s → ⊥
+pub unreached : (next : Placed) (m : Move) (s to : Square) (b : Bool) → to ≡ target m → b ≡ false → (IsTrue b ↔ Reach next.material.board to s) → Reach next.material.board (target m) s → ⊥
 unreached next m s to b e none d reach =
-    let yes = d.1 (subst (λ (t : Square). Reach next.board t s) (sym e) reach) in cc
+    let yes = d.1 (subst (λ (t : Square). Reach next.material.board t s) (sym e) reach) in cc
 
 pub safe-king : {P : Type 0} (b : Bool) → (IsTrue b ↔ P) → not b ≡ true → P → ⊥
 safe-king b d e h = let yes = d.1 h in cc

@@ -20,7 +20,7 @@ gets (y ∷ ys) (suc i) x low e = gets ys i x (omega arith) e
 
 -- whether the side moved from the place gave check, by what is known of the position behind it
 pub pressed-at : (ps : List Placed) (place : ℕ) (color : Color) (x : Placed) (b : Bool) → ((d : Placed) → x ≡ get_or ps place d) → place + 1 < length ps → x.side ≡ color
-    → ((q : Placed) → slice_get ps (place + 1) ≡ Some q → IsTrue b ↔ InCheck q.board q.side) → IsTrue b ↔ PressedAt ps color place
+    → ((q : Placed) → slice_get ps (place + 1) ≡ Some q → IsTrue b ↔ InCheck q.material.board q.side) → IsTrue b ↔ PressedAt ps color place
 pressed-at ps place color x b here low side d =
     let behind = slice_get-get_or ps (place + 1) x low in (
       λ h p q hp hq s. (d q hq).0 h,

@@ -63,16 +63,16 @@ pressed-at : (ps : List Placed) (color : Color) (place : ℕ) (a b : Option Plac
 pressed-at ps color place None b e f = inl (λ p q hp hq side. let g : None ≡ Some p = sym e ∙ hp in cc)
 pressed-at ps color place (Some x) None e f = inl (λ p q hp hq side. let g : None ≡ Some q = sym f ∙ hq in cc)
 pressed-at ps color place (Some x) (Some y) e f =
-    decide-as (x.side ≡ color → InCheck y.board y.side) (PressedAt ps color place)
+    decide-as (x.side ≡ color → InCheck y.material.board y.side) (PressedAt ps color place)
     (λ h p q hp hq side.
     let same : x ≡ p = some-placed x p (sym e ∙ hp) in
     let next : y ≡ q = some-placed y q (sym f ∙ hq) in
     let own : x.side ≡ color = rw same side in
-    let check : InCheck y.board y.side = h own in
-    let there : InCheck q.board q.side = rw next at check in
+    let check : InCheck y.material.board y.side = h own in
+    let there : InCheck q.material.board q.side = rw next at check in
     there)
     (λ h. h x y e f)
-    (decide-implies _ _ (decide-color x.side color) (decide-in_check y.board y.side))
+    (decide-implies _ _ (decide-color x.side color) (decide-in_check y.material.board y.side))
 
 decide-pressed_at : (ps : List Placed) (color : Color) (place : ℕ) → Decision (PressedAt ps color place)
 decide-pressed_at ps color place = pressed-at ps color place (slice_get ps place) (slice_get ps (place + 1)) refl refl
@@ -109,7 +109,7 @@ stretch-of ps p over =
     let b = some-place ps p 3 (omega (arith, over)) in
     by-stretch ps p a.0 b.0 (record { begins = a.1; ends = b.1 }) (decide-alone ps a.0 b.0 Black) (decide-alone ps a.0 b.0 White)
 
-by-moves : (p : Placed) → Decision ((m : Move) × Legal p m) → Decision (InCheck p.board p.side) → (verdict : Verdict) × StandsByMoves p verdict
+by-moves : (p : Placed) → Decision ((m : Move) × Legal p m) → Decision (InCheck p.material.board p.side) → (verdict : Verdict) × StandsByMoves p verdict
 by-moves p (inl some) d = (Ongoing, some)
 by-moves p (inr none) (inl check) = (Mate, (check, λ m legal. none (m, legal)))
 by-moves p (inr none) (inr safe) = (NoMove, (safe, λ m legal. none (m, legal)))
@@ -117,7 +117,7 @@ by-moves p (inr none) (inr safe) = (NoMove, (safe, λ m legal. none (m, legal)))
 verdict-of : (ps : List Placed) (p : Placed) → Decision (Over ps p) → (verdict : Verdict) × Stands ps p verdict
 verdict-of ps p (inl over) = let v = stretch-of ps p over in (v.0, inl (over, v.1))
 verdict-of ps p (inr not_over) =
-    let v = by-moves p (decide-move (Legal p) (decide-legal p)) (decide-in_check p.board p.side) in
+    let v = by-moves p (decide-move (Legal p) (decide-legal p)) (decide-in_check p.material.board p.side) in
     (v.0, inr (not_over, v.1))
 
 pub some-verdict : (ps : List Placed) (p : Placed) → (verdict : Verdict) × Stands ps p verdict

@@ -24,7 +24,7 @@ pub record Leads (ps : List Placed) (n : ℕ) (q : Placed) (m : ℕ) : Type 0 wh
 -- to those before it
 pub record IsLink (ps : List Placed) (i : ℕ) (p : Placed) (link : Link) : Type 0 where
   pub count : link.count ≡ times (take (i + 1) ps) p
-  pub check : IsTrue link.in_check ↔ InCheck p.board p.side
+  pub check : IsTrue link.in_check ↔ InCheck p.material.board p.side
   pub earlier : (q : Placed) → chain_of q ≡ chain_of p → Leads ps i q link.earlier
 
 -- a link stands beside each position, and the head of its chain leads to each position

@@ -10,4 +10,4 @@ use Rattle.shogi_rules.specs.Legal.{source, target}
 pub record IsChangeBy (p : Placed) (m : Move) (change : Change) : Type 0 where
   pub from : change.from ≡ source m
   pub to : change.to ≡ target m
-  pub before : IsChange p.board change
+  pub before : IsChange p.material.board change

@@ -4,7 +4,8 @@ use Rattle.shogi_board.specs.declared.kind.Kind.{Kind}
 use Rattle.shogi_board.specs.declared.kind.Kind.TheVariants.{Pawn}
 use Rattle.shogi_board.specs.declared.square.Square.{Square}
 use Rattle.shogi_board.specs.Cells.{at, piece, HasPawnOnFile}
-use Rattle.shogi_board.specs.Placed.{Placed, bag_of}
+use Rattle.shogi_board.specs.Material.{bag_of}
+use Rattle.shogi_board.specs.Placed.{Placed}
 use Rattle.shogi_board.specs.Reach.{Reach, InCheck}
 use Rattle.shogi_board.specs.Totals.{count_in}
 use Rattle.shogi_rules.specs.declared.moves.Move.{Move}
@@ -28,28 +29,28 @@ source (Put _ _) = None
 
 -- an own piece stands on the square left, or the hand has one of the kind
 abbrev pub HasPiece : Placed → Move → Type 0
-HasPiece p (Walk from to _) = (was : Kind) × (at p.board from ≡ piece p.side was)
-HasPiece p (Put to kind) = 0 < count_in (bag_of p p.side) kind
+HasPiece p (Walk from to _) = (was : Kind) × (at p.material.board from ≡ piece p.side was)
+HasPiece p (Put to kind) = 0 < count_in (bag_of p.material p.side) kind
 
 -- the own piece on the square left is of that kind, or promotes to it
 abbrev pub KindFits : Placed → Move → Type 0
 KindFits p (Walk from to kind) =
-    (was : Kind) × (at p.board from ≡ piece p.side was) × ((kind ≡ was) ⊎ (promoted was ≡ Some kind))
+    (was : Kind) × (at p.material.board from ≡ piece p.side was) × ((kind ≡ was) ⊎ (promoted was ≡ Some kind))
 KindFits p (Put to _) = Unit {0}
 
 -- no own piece stands on the target; for a drop, no piece
 abbrev pub TargetFree : Placed → Move → Type 0
-TargetFree p (Walk from to _) = (own : Kind) → at p.board to ≡ piece p.side own → ⊥
-TargetFree p (Put to _) = at p.board to ≡ None
+TargetFree p (Walk from to _) = (own : Kind) → at p.material.board to ≡ piece p.side own → ⊥
+TargetFree p (Put to _) = at p.material.board to ≡ None
 
 -- the walking piece reaches the target
 abbrev pub ReachesTarget : Placed → Move → Type 0
-ReachesTarget p (Walk from to _) = Reach p.board from to
+ReachesTarget p (Walk from to _) = Reach p.material.board from to
 ReachesTarget p (Put to _) = Unit {0}
 
 -- a walk keeps the kind, or leaves or enters the last three ranks
 abbrev pub MayPromote : Placed → Move → Type 0
-MayPromote p (Walk from to kind) = (at p.board from ≡ piece p.side kind) ⊎ InZone p.side from ⊎ InZone p.side to
+MayPromote p (Walk from to kind) = (at p.material.board from ≡ piece p.side kind) ⊎ InZone p.side from ⊎ InZone p.side to
 MayPromote p (Put to _) = Unit {0}
 
 -- the piece stands where its kind still has a move
@@ -59,11 +60,11 @@ HasFurtherMove p m = last_rank (kind_after m) ≤ rank_for p.side (target m)
 -- a pawn is put on no file that holds an own unpromoted pawn
 abbrev pub LonePawn : Placed → Move → Type 0
 LonePawn p (Walk from to _) = Unit {0}
-LonePawn p (Put to kind) = kind ≡ Pawn → HasPawnOnFile p.board p.side to → ⊥
+LonePawn p (Put to kind) = kind ≡ Pawn → HasPawnOnFile p.material.board p.side to → ⊥
 
 -- the mover's king is not attacked afterwards
 abbrev pub KingSafe : Placed → Move → Type 0
-KingSafe p m = InCheck (after p m).board p.side → ⊥
+KingSafe p m = InCheck (after p m).material.board p.side → ⊥
 
 -- the rules 3 to 9, which the board before the move decides, are kept
 pub record FitsBoard (p : Placed) (m : Move) : Type 0 where
@@ -82,7 +83,7 @@ pub record Keeps (p : Placed) (m : Move) : Type 0 where
 
 -- the side to move is in check, and no move keeps the rules 3 to 10
 pub record Mated (p : Placed) : Type 0 where
-  pub in_check : InCheck p.board p.side
+  pub in_check : InCheck p.material.board p.side
   pub no_move : (m : Move) → Keeps p m → ⊥
 
 abbrev pub IsPawnDrop : Move → Type 0

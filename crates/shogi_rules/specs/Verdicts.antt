@@ -34,8 +34,8 @@ pub record IsRepetition (ps : List Placed) (p : Placed) : Type 0 where
 -- by check and the legal moves of the side to move
 abbrev pub StandsByMoves : Placed → Verdict → Type 0
 StandsByMoves p Ongoing = (m : Move) × Legal p m
-StandsByMoves p Mate = InCheck p.board p.side × NoLegalMove p
-StandsByMoves p NoMove = (InCheck p.board p.side → ⊥) × NoLegalMove p
+StandsByMoves p Mate = InCheck p.material.board p.side × NoLegalMove p
+StandsByMoves p NoMove = (InCheck p.material.board p.side → ⊥) × NoLegalMove p
 StandsByMoves p Repetition = ⊥
 StandsByMoves p (Perpetual color) = ⊥
 

@@ -15,8 +15,8 @@ use shogi_board::{Color, Kind, Position, Square, reaches};
 // The kind of the piece on the square, if it is one of the side to move.
 pub(crate) fn own_kind_at(position: &Position, square: Square) -> Option<Kind>
     ensures { MatchOption result
-        ((kind : Kind) → at position.now.board square ≡ piece position.now.side kind → ⊥)
-        (λ kind. at position.now.board square ≡ piece position.now.side kind) }
+        ((kind : Kind) → at position.now.material.board square ≡ piece position.now.side kind → ⊥)
+        (λ kind. at position.now.material.board square ≡ piece position.now.side kind) }
 {
     let piece = position.piece_at(square)?;
     if piece.color == position.side() {
@@ -49,7 +49,7 @@ fn may_promote(color: Color, was: Kind, from: Square, to: Square, kind: Kind) ->
 
 // Whether another unpromoted pawn of the side to move stands on the file.
 fn doubles_pawn(position: &Position, to: Square, kind: Kind) -> bool
-    ensures { IsTrue result ↔ ((kind ≡ Pawn) × HasPawnOnFile position.now.board position.now.side to) }
+    ensures { IsTrue result ↔ ((kind ≡ Pawn) × HasPawnOnFile position.now.material.board position.now.side to) }
 {
     kind == Kind::Pawn && position.pawn_on_file(position.side(), to)
 }

@@ -30,8 +30,8 @@ pub(crate) fn is_mated(position: &Position) -> bool
 
 // Whether a move keeps the rules 3 to 10, where the king of the side to move is attacked from the other square.
 fn has_evasion(position: &Position, king: Square, checker: Square) -> bool
-    requires king { at position.now.board king ≡ piece position.now.side King }
-    requires check { Attack position.now.board position.now.side checker king }
+    requires king { at position.now.material.board king ≡ piece position.now.side King }
+    requires check { Attack position.now.material.board position.now.side checker king }
     ensures { IsTrue result ↔ ((m : Move) × Keeps position.now m) }
 {
     // a clause of `side` says that the position is sound

@@ -15,7 +15,7 @@ use shogi_board::{Color, Position};
 // Makes the position the one after the move, or says which of the rules 3 to 11 the side to move breaks first by it; then the
 // position may be either.
 pub(crate) fn make_by_side(position: &mut Position, safe: bool, mv: &Move) -> Option<Rule>
-    requires { safe ≡ true → InCheck position.old.board position.old.side → ⊥ }
+    requires { safe ≡ true → InCheck position.old.material.board position.old.side → ⊥ }
     ensures broken { IsFirstBroken (KeptAlone position.old mv.now) move_rules result }
     ensures value { result ≡ None → position.new ≡ after position.old mv.now }
 {
@@ -34,7 +34,7 @@ pub(crate) fn make_by_side(position: &mut Position, safe: bool, mv: &Move) -> Op
 // check.
 #[inline(always)]
 pub(crate) fn mates_by_pawn_drop(position: &Position, mv: &Move, in_check: bool) -> bool
-    requires { IsTrue in_check ↔ InCheck position.now.board position.now.side }
+    requires { IsTrue in_check ↔ InCheck position.now.material.board position.now.side }
     ensures { IsTrue result ↔ (IsPawnDrop mv.now × Mated position.now) }
 {
     in_check && is_pawn_drop(mv) && is_mated(position)

@@ -29,7 +29,7 @@ ghost use Rattle.shogi_rules.specs.declared.rule.Rule.{Rule};
 
 /// In a sound position no walk of an own piece that reaches its target lands on the enemy king.
 pub fn king_never_taken()
-    ensures { (p : Placed) (from to : Square) (kind : Kind) → IsSound p → HasPiece p (Move.Walk from to kind) → ReachesTarget p (Move.Walk from to kind) → at p.board to ≡ piece (opponent p.side) King → ⊥ }
+    ensures never { (p : Placed) (from to : Square) (kind : Kind) → IsSound p → HasPiece p (Move.Walk from to kind) → ReachesTarget p (Move.Walk from to kind) → at p.material.board to ≡ piece (opponent p.side) King → ⊥ }
 {}
 
 /// A pawn, a lance and a knight reach no square exactly where they stand beyond the last rank of their kind, whatever else stands.
@@ -41,33 +41,33 @@ pub fn last_ranks()
 
 /// A legal move leads from a sound position to a sound one.
 pub fn legal_move_keeps_soundness()
-    ensures { (p : Placed) (m : Move) → IsSound p → Legal p m → IsSound (after p m) }
+    ensures sound { (p : Placed) (m : Move) → IsSound p → Legal p m → IsSound (after p m) }
 {}
 
 /// So does a game.
 pub fn game_keeps_soundness()
-    ensures { (start : Placed) (moves : List Move) → IsSound start → IsGame start moves → IsSound (position_after start moves) }
+    ensures sound { (start : Placed) (moves : List Move) → IsSound start → IsGame start moves → IsSound (position_after start moves) }
 {}
 
 /// A legal move adds no piece and takes none: of each kind, promoted pieces counted with their unpromoted kind, as many stand on
 /// the board and in both hands as before.
 pub fn pieces_stay()
-    ensures { (p : Placed) (m : Move) (kind : Kind) → IsSound p → Legal p m → total (after p m).board (after p m).black (after p m).white kind ≡ total p.board p.black p.white kind }
+    ensures totals { (p : Placed) (m : Move) (kind : Kind) → IsSound p → Legal p m → total (after p m).material kind ≡ total p.material kind }
 {}
 
 /// A legal move leaves its mover's king safe.
 pub fn mover_not_in_check()
-    ensures { (p : Placed) (m : Move) → Legal p m → InCheck (after p m).board p.side → ⊥ }
+    ensures safe { (p : Placed) (m : Move) → Legal p m → InCheck (after p m).material.board p.side → ⊥ }
 {}
 
 /// After a move the other side is to move.
 pub fn other_side_moves()
-    ensures { (p : Placed) (m : Move) → (after p m).side ≡ opponent p.side }
+    ensures turn { (p : Placed) (m : Move) → (after p m).side ≡ opponent p.side }
 {}
 
 /// One rule, or none, is the first that a move breaks.
 pub fn one_first_broken_rule()
-    ensures { (ps : List Placed) (p : Placed) (color : Color) (m : Move) (a b : Option Rule) → IsFirstBroken (Kept ps p color m) all_rules a → IsFirstBroken (Kept ps p color m) all_rules b → a ≡ b }
+    ensures once { (ps : List Placed) (p : Placed) (color : Color) (m : Move) (a b : Option Rule) → IsFirstBroken (Kept ps p color m) all_rules a → IsFirstBroken (Kept ps p color m) all_rules b → a ≡ b }
 {}
 
 /// Each move of a side has an answer: some rule, or none, is the first that it breaks.
@@ -77,7 +77,7 @@ pub fn some_first_broken_rule()
 
 /// Memory aside, one answer to a move that is to be played holds.
 pub fn one_answer()
-    ensures { (line : Played) (color : Color) (m : Move) (a b : Option PlayFault) → Answers line color m a → Answers line color m b → a ≡ b }
+    ensures once { (line : Played) (color : Color) (m : Move) (a b : Option PlayFault) → Answers line color m a → Answers line color m b → a ≡ b }
 {}
 
 /// Memory aside, each move that is to be played has an answer.
@@ -87,7 +87,7 @@ pub fn some_answer()
 
 /// One move is the first legal one.
 pub fn one_first_legal()
-    ensures { (p : Placed) (m n : Move) → IsFirstLegal p m → IsFirstLegal p n → m ≡ n }
+    ensures once { (p : Placed) (m n : Move) → IsFirstLegal p m → IsFirstLegal p n → m ≡ n }
 {}
 
 /// A position counts in a list exactly where it is equal: one in front adds one there, and else nothing.
@@ -99,12 +99,12 @@ pub fn times_counts_equal_positions()
 
 /// A position stands for the n-th time at one place of a list.
 pub fn nth_place_once()
-    ensures { (ps : List Placed) (p : Placed) (n i j : ℕ) → IsNth ps p n i → IsNth ps p n j → i ≡ j }
+    ensures once { (ps : List Placed) (p : Placed) (n i j : ℕ) → IsNth ps p n i → IsNth ps p n j → i ≡ j }
 {}
 
 /// No two verdicts hold together.
 pub fn one_verdict()
-    ensures { (ps : List Placed) (p : Placed) (u v : Verdict) → Stands ps p u → Stands ps p v → u ≡ v }
+    ensures once { (ps : List Placed) (p : Placed) (u v : Verdict) → Stands ps p u → Stands ps p v → u ≡ v }
 {}
 
 /// Each position has a verdict, whatever positions it is looked for in.

@@ -74,7 +74,7 @@ impl Model for Line {
 
     ghost view = { λ l. record { start = l.start; moves = l.moves.items } };
 
-    ghost invariant = { (λ l. IsLine l.start l.last l.moves.items l.seen × (l.repeats ≡ times l.seen l.last) × (IsTrue l.in_check ↔ InCheck l.last.board l.last.side)) };
+    ghost invariant = { (λ l. IsLine l.start l.last l.moves.items l.seen × (l.repeats ≡ times l.seen l.last) × (IsTrue l.in_check ↔ InCheck l.last.material.board l.last.side)) };
 }
 
 impl Line {
@@ -82,7 +82,7 @@ impl Line {
     ///
     /// Refuses OutOfMemory.
     pub fn new(alloc: Global, start: Position) -> Result<Line, shogi_board::OutOfMemory>
-        ensures { IfOk result (λ l. l ≡ record { start = start; moves = [] }) }
+        ensures line { IfOk result (λ l. l ≡ record { start = start; moves = [] }) }
     {
         let in_check = in_check(&start);
         let mut seen = Seen::new(alloc)?;
@@ -99,7 +99,7 @@ impl Line {
 
     /// The position that it starts from.
     pub fn start(&self) -> Position
-        ensures { result ≡ self.now.start }
+        ensures value { result ≡ self.now.start }
     {
         self.start
     }
@@ -115,7 +115,7 @@ impl Line {
 
     /// The position that its moves lead to.
     pub fn now(&self) -> Position
-        ensures { result ≡ now_of self.now }
+        ensures value { result ≡ now_of self.now }
     {
         self.last
     }
@@ -143,7 +143,7 @@ impl Line {
 
     // Whether the side to move is not in check.
     fn is_safe(&self) -> bool
-        ensures { result ≡ true → InCheck (now_of self.now).board (now_of self.now).side → ⊥ }
+        ensures { result ≡ true → InCheck (now_of self.now).material.board (now_of self.now).side → ⊥ }
     {
         !self.in_check
     }
@@ -168,7 +168,7 @@ impl Line {
 
     /// What `play` would refuse, memory aside, or None.
     pub fn fault(&self, mover: Color, mv: &Move) -> Option<PlayFault>
-        ensures { Answers self.now mover mv.now result }
+        ensures answer { Answers self.now mover mv.now result }
     {
         if let Some(fault) = self.closed(mover) {
             return Some(fault);
@@ -238,7 +238,7 @@ impl Line {
 
     /// How it stands: at a fourth occurrence Repetition or Perpetual, else by check and legal moves.
     pub fn verdict(&self) -> Verdict
-        ensures { Stands (all_of self.now) (now_of self.now) result }
+        ensures stands { Stands (all_of self.now) (now_of self.now) result }
     {
         if self.is_over() {
             verdict_of_stretch(&self.seen, &Packed::of(&self.last))

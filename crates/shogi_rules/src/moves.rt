@@ -23,7 +23,7 @@ pub enum Move {
 impl Move {
     /// The square that the piece goes to.
     pub fn target(self) -> Square
-        ensures { result ≡ target self }
+        ensures value { result ≡ target self }
     {
         match self {
             Move::Walk { to, .. } | Move::Put { to, .. } => to,
@@ -59,7 +59,7 @@ impl Move {
 
     /// The kind of the piece after the move.
     pub fn kind(self) -> Kind
-        ensures { result ≡ kind_after self }
+        ensures value { result ≡ kind_after self }
     {
         match self {
             Move::Walk { kind, .. } | Move::Put { kind, .. } => kind,

@@ -17,7 +17,7 @@ use shogi_board::{Danger, Kind, Packed, Position, Square, attacked, attacked_fro
 // it was not, then only in the direction of the square that the move leaves, unless it moves itself.
 fn danger_after(position: &Position, safe: bool, mv: &Move) -> Danger
     requires fits { FitsBoard position.now mv.now }
-    requires safe { safe ≡ true → InCheck position.now.board position.now.side → ⊥ }
+    requires safe { safe ≡ true → InCheck position.now.material.board position.now.side → ⊥ }
     ensures { (s : Square) → at (board_after position.now mv.now) s ≡ piece position.now.side King → ComesFrom (board_after position.now mv.now) position.now.side s result }
 {
     // a clause of `side` says that the position is sound
@@ -36,7 +36,7 @@ fn danger_after(position: &Position, safe: bool, mv: &Move) -> Danger
 #[inline(always)]
 fn make_if_safe(position: &mut Position, safe: bool, mv: &Move) -> bool
     requires fits { FitsBoard position.old mv.now }
-    requires safe { safe ≡ true → InCheck position.old.board position.old.side → ⊥ }
+    requires safe { safe ≡ true → InCheck position.old.material.board position.old.side → ⊥ }
     ensures safe { IsTrue result ↔ KingSafe position.old mv.now }
     ensures value { result ≡ true → position.new ≡ after position.old mv.now }
     ensures unchanged { result ≡ false → position.new ≡ position.old }
@@ -55,7 +55,7 @@ fn make_if_safe(position: &mut Position, safe: bool, mv: &Move) -> bool
 /// The move keeps the rules 3 to 10, as each does for which `judge` answers None to the side to move.
 pub fn after(position: &Position, mv: &Move) -> Position
     requires { Keeps position.now mv.now }
-    ensures { result ≡ after position.now mv.now }
+    ensures value { result ≡ after position.now mv.now }
 {
     after_if_kept(position, mv).unwrap()
 }
@@ -64,7 +64,7 @@ pub fn after(position: &Position, mv: &Move) -> Position
 // the position stays as it was. The king of that side may be known to be safe before the move.
 #[inline(always)]
 pub(crate) fn make_if_kept(position: &mut Position, safe: bool, mv: &Move) -> Option<Rule>
-    requires { safe ≡ true → InCheck position.old.board position.old.side → ⊥ }
+    requires { safe ≡ true → InCheck position.old.material.board position.old.side → ⊥ }
     ensures kept { MatchOption result
         (Keeps position.old mv.now)
         (λ rule. (Keeps position.old mv.now → ⊥) × IsFirstBroken (KeptAlone position.old mv.now) keeping_rules (Some rule)) }
@@ -114,7 +114,7 @@ fn leaves_king_safe(position: &Position, mv: &Move) -> bool
 
 /// Whether the side to move is in check: it has a king, and an enemy piece reaches it.
 pub fn in_check(position: &Position) -> bool
-    ensures { IsTrue result ↔ InCheck position.now.board position.now.side }
+    ensures check { IsTrue result ↔ InCheck position.now.material.board position.now.side }
 {
     let side = position.side();
     match position.king(side) {
@@ -129,7 +129,7 @@ pub fn in_check(position: &Position) -> bool
 pub(crate) fn gives_check(last: &Packed, next: &Position, mv: &Move) -> bool
     requires fits { FitsBoard last.now mv.now }
     requires next { next.now ≡ after last.now mv.now }
-    ensures { IsTrue result ↔ InCheck next.now.board next.now.side }
+    ensures { IsTrue result ↔ InCheck next.now.material.board next.now.side }
 {
     // clauses of `side` say that both positions are sound
     let _side = last.side();

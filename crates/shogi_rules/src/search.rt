@@ -148,7 +148,7 @@ fn first_drop(position: &Position) -> Option<Move>
 /// Walks come before drops. Walks go by the square left, then by the target, in the order 11, 12, .. 19, 21, .. 99, and
 /// the unpromoted form comes first. Drops go by kind, pawn, lance, knight, silver, gold, bishop, rook, then by target.
 pub fn first_legal(position: &Position) -> Option<Move>
-    ensures { MatchOption result (NoLegalMove position.now) (λ m. IsFirstLegal position.now m) }
+    ensures first { MatchOption result (NoLegalMove position.now) (λ m. IsFirstLegal position.now m) }
 {
     match first_walk(position) {
         Some(mv) => Some(mv),

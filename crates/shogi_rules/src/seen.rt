@@ -91,7 +91,7 @@ impl Seen {
     // Whether the side to move is in check in the position behind the one with that index.
     pub(crate) fn in_check_after(&self, n: usize) -> bool
         requires { n + 1 < length self.now }
-        ensures { (p : Placed) → slice_get self.now (n + 1) ≡ Some p → IsTrue result ↔ InCheck p.board p.side }
+        ensures { (p : Placed) → slice_get self.now (n + 1) ≡ Some p → IsTrue result ↔ InCheck p.material.board p.side }
     {
         self.links[n + 1].in_check
     }
@@ -133,7 +133,7 @@ impl Seen {
     #[inline(always)]
     pub(crate) fn push(&mut self, position: Packed, in_check: bool) -> Result<u32, AllocError>
         requires room { length self.old < 10001 }
-        requires check { IsTrue in_check ↔ InCheck position.board position.side }
+        requires check { IsTrue in_check ↔ InCheck position.material.board position.side }
         ensures value { IfOk result (λ n. n ≡ times self.new position) }
         ensures ok { OnOk result (self.new ≡ self.old ++ position ∷ []) }
         ensures err { OnErr result (self.new ≡ self.old) }

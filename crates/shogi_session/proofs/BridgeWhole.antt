@@ -73,7 +73,7 @@ sfen_whole p =
     let numbered = behind hands (codes " 1") (visible_run hands (hands_visible (both_piles p))) (text (codes " 1") refl refl (omega arith)) in
     let with_hands = behind (codes " ") (hands ++ codes " 1") space numbered in
     let with_side = behind (side_text p.side) _ (visible_run (side_text p.side) (side_word p.side)) with_hands in
-    behind (board_text p.board) _ (visible_run (board_text p.board) (board_bytes p.board)) (behind (codes " ") _ space with_side)
+    behind (board_text p.material.board) _ (visible_run (board_text p.material.board) (board_bytes p.material.board)) (behind (codes " ") _ space with_side)
 
 start_whole : (p : Placed) (front : List ℕ) → StartText p front → IsWhole front
 start_whole p front (inl even) = subst IsWhole (sym even.1) (text (codes "startpos") refl refl (omega arith))

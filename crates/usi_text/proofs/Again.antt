@@ -30,7 +30,7 @@ abbrev Cells : Type 0
 Cells = List (Option Piece)
 
 abbrev lay : Cells → List ℕ → List ℕ → Layout
-lay b black white = record { board = b; black = black; white = white; rest_given = false }
+lay b black white = record { material = record { board = b; black = black; white = white }; rest_given = false }
 
 abbrev made : Color → Kind → Piece
 made c k = record { color = c; kind = k }
@@ -174,9 +174,9 @@ count_less false n h = lit≤ tt
 pub both_fit : (p : Placed) → IsSound p → AllByRecursion IsPile (both_piles p)
 both_fit p s =
     let t = s.within.totals in
-    all_joined (hand_piles Black p.black) (hand_piles White p.white)
-    (hand_fits Black p.black order (λ k. count_less (is_hand_kind k) (slice_index p.black (place_of k)) (let f = t k in let l = limit_few k in omega arith)) order_held)
-    (hand_fits White p.white order (λ k. count_less (is_hand_kind k) (slice_index p.white (place_of k)) (let f = t k in let l = limit_few k in omega arith)) order_held)
+    all_joined (hand_piles Black p.material.black) (hand_piles White p.material.white)
+    (hand_fits Black p.material.black order (λ k. count_less (is_hand_kind k) (slice_index p.material.black (place_of k)) (let f = t k in let l = limit_few k in omega arith)) order_held)
+    (hand_fits White p.material.white order (λ k. count_less (is_hand_kind k) (slice_index p.material.white (place_of k)) (let f = t k in let l = limit_few k in omega arith)) order_held)
 
 pub hands_spelt : (ps : List Pile) → AllByRecursion IsPile ps → SpellsHands (hands_text ps) ps
 hands_spelt [] h = refl
@@ -191,23 +191,23 @@ side_some Black = lit≤ tt
 side_some White = lit≤ tt
 
 -- the words of what is written
-pub sfen_words : (p : Placed) → IsSound p → words (sfen_text p) ≡ board_text p.board ∷ side_text p.side ∷ hands_text (both_piles p) ∷ (49 ∷ []) ∷ []
+pub sfen_words : (p : Placed) → IsSound p → words (sfen_text p) ≡ board_text p.material.board ∷ side_text p.side ∷ hands_text (both_piles p) ∷ (49 ∷ []) ∷ []
 sfen_words p s =
-    let board = board_text p.board in
+    let board = board_text p.material.board in
     let side = side_text p.side in
     let hands = hands_text (both_piles p) in
     let fit = both_fit p s in
     let last : List ℕ = 49 ∷ [] in
-    words_front board (side ++ (32 ∷ (hands ++ (32 ∷ last)))) (no_space board (board_bytes p.board)) (board_some p.board)
+    words_front board (side ++ (32 ∷ (hands ++ (32 ∷ last)))) (no_space board (board_bytes p.material.board)) (board_some p.material.board)
     ∙ (ap (λ t. board ∷ t) (words_front side (hands ++ (32 ∷ last)) (no_space side (side_word p.side)) (side_some p.side))
     ∙ (ap (λ t. board ∷ side ∷ t) (words_front hands last (no_space hands (hands_word (both_piles p) fit)) (hands_some hands (both_piles p) (hands_spelt (both_piles p) fit)))
     ∙ ap (λ t. board ∷ side ∷ hands ∷ t) (words_alone last (no_space last (lit≤ tt, tt)) (lit≤ tt))))
 
-same_layout : (s : Layout) (b : Cells) (black white : List ℕ) → s.board ≡ b → s.black ≡ black → s.white ≡ white → s.rest_given ≡ false → s ≡ lay b black white
+same_layout : (s : Layout) (b : Cells) (black white : List ℕ) → s.material.board ≡ b → s.material.black ≡ black → s.material.white ≡ white → s.rest_given ≡ false → s ≡ lay b black white
 same_layout s b black white p q r f =
-    ap (λ x. record s { board = x }) p
-    ∙ (ap (λ x. record s { board = b; black = x }) q
-    ∙ (ap (λ x. record s { board = b; black = black; white = x }) r ∙ ap (λ x. record s { board = b; black = black; white = white; rest_given = x }) f))
+    ap (λ x. record s { material = record s.material { board = x } }) p
+    ∙ (ap (λ x. record s { material = record s.material { board = b; black = x } }) q
+    ∙ (ap (λ x. record s { material = record { board = b; black = black; white = x } }) r ∙ ap (λ x. record (lay b black white) { rest_given = x }) f))
 
 one_digit : EachIndex {X = ℕ} (49 ∷ []) (λ k. IsDigit (slice_index (49 ∷ []) k))
 one_digit zero h = (lit≤ tt, lit≤ tt)
@@ -219,31 +219,31 @@ nothing = None
 from_zero : (k : ℕ) → k ≡ 0 + k
 from_zero k = omega arith
 
-cells_put : (p : Placed) → IsSound p → put_cells empty_layout 0 (board_cells p.board 1 9) ≡ Ok (lay p.board no_pieces no_pieces)
+cells_put : (p : Placed) → IsSound p → put_cells empty_layout 0 (board_cells p.material.board 1 9) ≡ Ok (lay p.material.board no_pieces no_pieces)
 cells_put p s =
     let w = s.within in
-    let r = fill p.board (board_cells p.board 1 9) empty_layout 0 w.squares (λ k. let t = w.totals k in omega arith) w.kings (start_filled p.board) (board_cells-length p.board 1 9) (λ k h. board_cells-place p.board k (let l = board_cells-length p.board 1 9 in omega arith) ∙ ap (λ m. get_or p.board (board_place m) nothing) (from_zero k)) in
+    let r = fill p.material.board (board_cells p.material.board 1 9) empty_layout 0 w.squares (λ k. let t = w.totals k in omega arith) w.kings (start_filled p.material.board) (board_cells-length p.material.board 1 9) (λ k h. board_cells-place p.material.board k (let l = board_cells-length p.material.board 1 9 in omega arith) ∙ ap (λ m. get_or p.material.board (board_place m) nothing) (from_zero k)) in
     let f = r.filled in
-    let b = filled_board p.board r.last w.squares f in
-    r.put_all ∙ ap Ok (same_layout r.last p.board no_pieces no_pieces b f.black f.white f.free)
+    let b = filled_board p.material.board r.last w.squares f in
+    r.put_all ∙ ap Ok (same_layout r.last p.material.board no_pieces no_pieces b f.black f.white f.free)
 
 -- what is written for a sound position is its SFEN
 pub again : (p : Placed) → IsSound p → Sfen (words (sfen_text p)) p
 again p s =
     let e = sfen_words p s in
     let fit = both_fit p s in
-    let ws : List (List ℕ) = board_text p.board ∷ side_text p.side ∷ hands_text (both_piles p) ∷ (49 ∷ []) ∷ [] in
-    let shape : Shape ws (board_cells p.board 1 9) p.side (both_piles p) = record {
-      board = board_spelt p.board;
+    let ws : List (List ℕ) = board_text p.material.board ∷ side_text p.side ∷ hands_text (both_piles p) ∷ (49 ∷ []) ∷ [] in
+    let shape : Shape ws (board_cells p.material.board 1 9) p.side (both_piles p) = record {
+      board = board_spelt p.material.board;
       turn = refl;
       hands = hands_spelt (both_piles p) fit;
       number = (one_digit, refl);
     } in
-    let up : set_up (board_cells p.board 1 9) (both_piles p) ≡ Ok (lay p.board p.black p.white) =
-    set_up_is (board_cells p.board 1 9) (both_piles p) (board_cells-length p.board 1 9)
-    ∙ (ap (λ r. hold_after r (flat_map pile_pieces (both_piles p))) (cells_put p s) ∙ bags_held p.board p.black p.white s.within.black_kinds s.within.white_kinds s.within.totals) in
+    let up : set_up (board_cells p.material.board 1 9) (both_piles p) ≡ Ok (lay p.material.board p.material.black p.material.white) =
+    set_up_is (board_cells p.material.board 1 9) (both_piles p) (board_cells-length p.material.board 1 9)
+    ∙ (ap (λ r. hold_after r (flat_map pile_pieces (both_piles p))) (cells_put p s) ∙ bags_held p.material.board p.material.black p.material.white s.within.black_kinds s.within.white_kinds s.within.totals) in
     let whole : Sfen ws p = record {
-      cells = board_cells p.board 1 9;
+      cells = board_cells p.material.board 1 9;
       piles = both_piles p;
       shape = shape;
       stands = rw up (s.safe, refl);

@@ -11,9 +11,10 @@ use Rattle.shogi_board.specs.declared.kind.Kind.TheVariants.{Pawn, Lance, Knight
 use Rattle.shogi_board.specs.declared.kind.Piece.{Piece}
 use Rattle.shogi_board.specs.declared.setup.SetupFault.{SetupFault}
 use Rattle.shogi_board.specs.Layout.{Layout}
+use Rattle.shogi_board.specs.Material.{bag_of}
 use Rattle.shogi_board.specs.Pieces.{is_hand_kind, place_of, same_color}
 use Rattle.shogi_board.specs.Placed.{Placed}
-use Rattle.shogi_board.specs.Setup.{empty_layout, add_fault, with_hand, hand_of, one_more, position_of}
+use Rattle.shogi_board.specs.Setup.{empty_layout, add_fault, one_more, added, position_of}
 use Rattle.shogi_board.specs.Totals.{count_in, no_pieces}
 use Rattle.usi_text.specs.declared.hands.Pile.{Pile}
 use Rattle.usi_text.specs.Hands.{SpellsHands, pile_pieces, pile_total}
@@ -68,25 +69,25 @@ one_counted bag k kind size h j =
 nothing_more : (n : ℕ) → n ≡ n + 0
 nothing_more n = omega arith
 
-held_counted : (s : Layout) (c color : Color) (k kind : Kind) → length (hand_of s c) ≡ 7 → is_hand_kind k ≡ true → is_hand_kind kind ≡ true → count_in (hand_of (with_hand s c (one_more (hand_of s c) k)) color) kind ≡ count_in (hand_of s color) kind + cond (same_color c color && (place_of k == place_of kind)) 1 0
-held_counted s Black Black k kind size h j = one_counted s.black k kind size h j
-held_counted s Black White k kind size h j = nothing_more (count_in s.white kind)
-held_counted s White Black k kind size h j = nothing_more (count_in s.black kind)
-held_counted s White White k kind size h j = one_counted s.white k kind size h j
+held_counted : (s : Layout) (c color : Color) (k kind : Kind) → length (bag_of s.material c) ≡ 7 → is_hand_kind k ≡ true → is_hand_kind kind ≡ true → count_in (bag_of (added s c k).material color) kind ≡ count_in (bag_of s.material color) kind + cond (same_color c color && (place_of k == place_of kind)) 1 0
+held_counted s Black Black k kind size h j = one_counted s.material.black k kind size h j
+held_counted s Black White k kind size h j = nothing_more (count_in s.material.white kind)
+held_counted s White Black k kind size h j = nothing_more (count_in s.material.black kind)
+held_counted s White White k kind size h j = one_counted s.material.white k kind size h j
 
-held_size : (s : Layout) (c color : Color) (k : Kind) → length (hand_of s color) ≡ 7 → length (hand_of (with_hand s c (one_more (hand_of s c) k)) color) ≡ 7
-held_size s Black Black k h = length-set s.black (place_of k) (count_in s.black k + 1) ∙ h
+held_size : (s : Layout) (c color : Color) (k : Kind) → length (bag_of s.material color) ≡ 7 → length (bag_of (added s c k).material color) ≡ 7
+held_size s Black Black k h = length-set s.material.black (place_of k) (count_in s.material.black k + 1) ∙ h
 held_size s Black White k h = h
 held_size s White Black k h = h
-held_size s White White k h = length-set s.white (place_of k) (count_in s.white k + 1) ∙ h
+held_size s White White k h = length-set s.material.white (place_of k) (count_in s.material.white k + 1) ∙ h
 
 adds : (a b c d e : ℕ) → a ≡ b + c → b ≡ d + e → a ≡ d + (e + c)
 adds a b c d e h j = omega (arith, h, j)
 
-pieces_counted : (ps : List Piece) (s t : Layout) (color : Color) (kind : Kind) → ((c : Color) → length (hand_of s c) ≡ 7) → AllByRecursion InHand ps → is_hand_kind kind ≡ true → hold_pieces s ps ≡ Ok t → count_in (hand_of t color) kind ≡ count_in (hand_of s color) kind + pieces_total color kind ps
+pieces_counted : (ps : List Piece) (s t : Layout) (color : Color) (kind : Kind) → ((c : Color) → length (bag_of s.material c) ≡ 7) → AllByRecursion InHand ps → is_hand_kind kind ≡ true → hold_pieces s ps ≡ Ok t → count_in (bag_of t.material color) kind ≡ count_in (bag_of s.material color) kind + pieces_total color kind ps
 pieces_counted [] s t color kind size all j h =
     let e : t ≡ s = cc in
-    ap (λ (l : Layout). count_in (hand_of l color) kind) e ∙ nothing_more (count_in (hand_of s color) kind)
+    ap (λ (l : Layout). count_in (bag_of l.material color) kind) e ∙ nothing_more (count_in (bag_of s.material color) kind)
 pieces_counted (p ∷ ps) s t color kind size all j h =
     let on = goes_on (add_fault s p.kind) _ t h in
     adds _ _ _ _ _
@@ -112,13 +113,13 @@ piles_counted (pile ∷ piles) color wanted =
     let n = unwrap_or pile.count 1 in
     pile_counted n pile.piece (flat_map pile_pieces piles) color wanted ∙ ap (λ x. cond (is_one color wanted pile.piece) n 0 + x) (piles_counted piles color wanted)
 
-put_hands : (cells : List (Option Piece)) (s t : Layout) (n : ℕ) (color : Color) → put_cells s n cells ≡ Ok t → hand_of t color ≡ hand_of s color
-put_hands [] s t n color h = let e : t ≡ s = cc in ap (λ (l : Layout). hand_of l color) e
+put_hands : (cells : List (Option Piece)) (s t : Layout) (n : ℕ) (color : Color) → put_cells s n cells ≡ Ok t → bag_of t.material color ≡ bag_of s.material color
+put_hands [] s t n color h = let e : t ≡ s = cc in ap (λ (l : Layout). bag_of l.material color) e
 put_hands (None ∷ cells) s t n color h = put_hands cells s t (n + 1) color h
 put_hands (Some p ∷ cells) s t n Black h = put_hands cells (put s n p) t (n + 1) Black (goes_on (more_fault s p) _ t h)
 put_hands (Some p ∷ cells) s t n White h = put_hands cells (put s n p) t (n + 1) White (goes_on (more_fault s p) _ t h)
 
-bare_size : (s : Layout) → ((c : Color) → hand_of s c ≡ hand_of empty_layout c) → (c : Color) → length (hand_of s c) ≡ 7
+bare_size : (s : Layout) → ((c : Color) → bag_of s.material c ≡ bag_of empty_layout.material c) → (c : Color) → length (bag_of s.material c) ≡ 7
 bare_size s h Black = ap length (h Black)
 bare_size s h White = ap length (h White)
 
@@ -138,7 +139,7 @@ none_held ProSilver = refl
 none_held Horse = refl
 none_held Dragon = refl
 
-bare_count : (c : Color) (k : Kind) → count_in (hand_of empty_layout c) k ≡ 0
+bare_count : (c : Color) (k : Kind) → count_in (bag_of empty_layout.material c) k ≡ 0
 bare_count Black k = none_held k
 bare_count White k = none_held k
 
@@ -154,7 +155,7 @@ from_none : (a b c : ℕ) → a ≡ b + c → b ≡ 0 → a ≡ c
 from_none a b c h j = omega (arith, h, j)
 
 -- what the pieces are added to holds none
-all_counted : (cells : List (Option Piece)) (piles : List Pile) (t : Layout) (text : List ℕ) (color : Color) (kind : Kind) → length cells ≡ 81 → SpellsHands text piles → is_hand_kind kind ≡ true → set_up cells piles ≡ Ok t → count_in (hand_of t color) kind ≡ pile_total color kind piles
+all_counted : (cells : List (Option Piece)) (piles : List Pile) (t : Layout) (text : List ℕ) (color : Color) (kind : Kind) → length cells ≡ 81 → SpellsHands text piles → is_hand_kind kind ≡ true → set_up cells piles ≡ Ok t → count_in (bag_of t.material color) kind ≡ pile_total color kind piles
 all_counted cells piles t text color kind size spelt j h =
     let ps = flat_map pile_pieces piles in
     let g = held_behind (put_cells empty_layout 0 cells) ps t (sym (set_up_is cells piles size) ∙ h) in
@@ -162,14 +163,14 @@ all_counted cells piles t text color kind size spelt j h =
     let count = pieces_counted ps g.0 t color kind (bare_size g.0 bare) (hands_held text piles spelt) j g.2 in
     from_none _ _ _ count (ap (λ b. count_in b kind) (bare color) ∙ bare_count color kind) ∙ piles_counted piles color kind
 
-pub black_counted : (ws : List (List ℕ)) (p : Placed) (piles : List Pile) (kind : Kind) → Sfen ws p → SpellsHands (nth_word ws 2) piles → is_hand_kind kind ≡ true → count_in p.black kind ≡ pile_total Black kind piles
+pub black_counted : (ws : List (List ℕ)) (p : Placed) (piles : List Pile) (kind : Kind) → Sfen ws p → SpellsHands (nth_word ws 2) piles → is_hand_kind kind ≡ true → count_in p.material.black kind ≡ pile_total Black kind piles
 black_counted ws p piles kind s h j =
     let f = finished (set_up s.cells s.piles) p.side p s.stands in
-    ap (λ (q : Placed). count_in q.black kind) f.2
+    ap (λ (q : Placed). count_in q.material.black kind) f.2
     ∙ (all_counted s.cells s.piles f.0 (nth_word ws 2) Black kind (board_size (nth_word ws 0) s.cells s.shape.board) s.shape.hands j f.1 ∙ ap (λ ps. pile_total Black kind ps) (hands_once (nth_word ws 2) s.piles piles s.shape.hands h))
 
-pub white_counted : (ws : List (List ℕ)) (p : Placed) (piles : List Pile) (kind : Kind) → Sfen ws p → SpellsHands (nth_word ws 2) piles → is_hand_kind kind ≡ true → count_in p.white kind ≡ pile_total White kind piles
+pub white_counted : (ws : List (List ℕ)) (p : Placed) (piles : List Pile) (kind : Kind) → Sfen ws p → SpellsHands (nth_word ws 2) piles → is_hand_kind kind ≡ true → count_in p.material.white kind ≡ pile_total White kind piles
 white_counted ws p piles kind s h j =
     let f = finished (set_up s.cells s.piles) p.side p s.stands in
-    ap (λ (q : Placed). count_in q.white kind) f.2
+    ap (λ (q : Placed). count_in q.material.white kind) f.2
     ∙ (all_counted s.cells s.piles f.0 (nth_word ws 2) White kind (board_size (nth_word ws 0) s.cells s.shape.board) s.shape.hands j f.1 ∙ ap (λ ps. pile_total White kind ps) (hands_once (nth_word ws 2) s.piles piles s.shape.hands h))

@@ -13,7 +13,7 @@ use Rattle.shogi_board.specs.Layout.{Layout}
 use Rattle.shogi_board.specs.Pieces.{place_of, is_king, is_hand_kind, same_color}
 use Rattle.shogi_board.specs.Placing.{unless}
 use Rattle.shogi_board.specs.Setup.{empty_layout, add_fault}
-use Rattle.shogi_board.specs.Totals.{total, limit, count_in, is_of, is_king_of, kings_of, no_pieces}
+use Rattle.shogi_board.specs.Totals.{total, limit, count_in, is_of, is_king_of, kings_of, no_pieces, bare_board}
 use Rattle.shogi_rules.proofs.Forms.{same_color-self, eq-self, held-low}
 use Rattle.shogi_rules.proofs.Layouts.{add-fits, put-total}
 use Rattle.usi_text.specs.SfenText.{cell, cells_from}
@@ -73,23 +73,23 @@ text_place-bound i h = omega arith
 -- the first n squares of the text stand as on the board, the others are empty
 pub record Filled (board : Cells) (s : Layout) (n : ℕ) : Type 0 where
   pub free : s.rest_given ≡ false
-  pub black : s.black ≡ no_pieces
-  pub white : s.white ≡ no_pieces
-  pub size : length s.board ≡ 81
-  pub done : (m : ℕ) → m < n → m < 81 → get_or s.board (board_place m) nothing ≡ get_or board (board_place m) nothing
-  pub todo : (m : ℕ) → n ≤ m → m < 81 → get_or s.board (board_place m) nothing ≡ nothing
+  pub black : s.material.black ≡ no_pieces
+  pub white : s.material.white ≡ no_pieces
+  pub size : length s.material.board ≡ 81
+  pub done : (m : ℕ) → m < n → m < 81 → get_or s.material.board (board_place m) nothing ≡ get_or board (board_place m) nothing
+  pub todo : (m : ℕ) → n ≤ m → m < 81 → get_or s.material.board (board_place m) nothing ≡ nothing
 
 abbrev So : Cells → Cells → ℕ → Type 0
 So xs ys i = (get_or xs i nothing ≡ nothing) ⊎ (get_or xs i nothing ≡ get_or ys i nothing)
 
-so_far : (board : Cells) (s : Layout) (n m : ℕ) → Filled board s n → m < 81 → So s.board board (board_place m)
+so_far : (board : Cells) (s : Layout) (n m : ℕ) → Filled board s n → m < 81 → So s.material.board board (board_place m)
 so_far board s n m f h =
     elim (cases_lt m n) [ inl low ↦ inr (f.done m low h) | inr high ↦ inl (f.todo m high h) ]
 
-filled_part : (board : Cells) (s : Layout) (n : ℕ) → length board ≡ 81 → Filled board s n → Part s.board board
+filled_part : (board : Cells) (s : Layout) (n : ℕ) → length board ≡ 81 → Filled board s n → Part s.material.board board
 filled_part board s n size f = λ i h.
     let low : i < 81 = omega arith in
-    subst (So s.board board) (text_place-is i low) (so_far board s n (text_place i) f (text_place-bound i low))
+    subst (So s.material.board board) (text_place-is i low) (so_far board s n (text_place i) f (text_place-bound i low))
 
 no_pieces_at : (k : Kind) → slice_index no_pieces (place_of k) ≡ 0
 no_pieces_at Pawn = refl
@@ -113,14 +113,14 @@ put-kings cells i p c low empty =
     let e : kings_of (set cells i (Some p)) c + 0 ≡ kings_of cells c + cond (same_color p.color c && is_king p.kind) 1 0 = rw empty at step in
     omega (arith, e)
 
-put_done : (board : Cells) (s : Layout) (n : ℕ) (p : Piece) (m : ℕ) → Filled board s n → n < 81 → get_or board (board_place n) nothing ≡ Some p → m < 81 → m < n + 1 → (m ≡ n) ⊎ (m ≢ n) → get_or (set s.board (board_place n) (Some p)) (board_place m) nothing ≡ get_or board (board_place m) nothing
+put_done : (board : Cells) (s : Layout) (n : ℕ) (p : Piece) (m : ℕ) → Filled board s n → n < 81 → get_or board (board_place n) nothing ≡ Some p → m < 81 → m < n + 1 → (m ≡ n) ⊎ (m ≢ n) → get_or (set s.material.board (board_place n) (Some p)) (board_place m) nothing ≡ get_or board (board_place m) nothing
 put_done board s n p m f low here k h (inl e) =
-    let at : board_place n < length s.board = let b = place_bound n low in let z = f.size in omega arith in
-    ap (λ i. get_or (set s.board (board_place n) (Some p)) (board_place i) nothing) e
-    ∙ (get_or-set_same s.board (board_place n) (Some p) nothing at ∙ (sym here ∙ ap (λ i. get_or board (board_place i) nothing) (sym e)))
+    let at : board_place n < length s.material.board = let b = place_bound n low in let z = f.size in omega arith in
+    ap (λ i. get_or (set s.material.board (board_place n) (Some p)) (board_place i) nothing) e
+    ∙ (get_or-set_same s.material.board (board_place n) (Some p) nothing at ∙ (sym here ∙ ap (λ i. get_or board (board_place i) nothing) (sym e)))
 put_done board s n p m f low here k h (inr differ) =
     let apart = places_apart m n k low (λ e. differ (sym e)) in
-    get_or-set_other s.board (board_place n) (board_place m) (Some p) nothing apart ∙ f.done m (omega arith) k
+    get_or-set_other s.material.board (board_place n) (board_place m) (Some p) nothing apart ∙ f.done m (omega arith) k
 
 king-test : (b : Bool) (n : ℕ) → (b ≡ true → n ≡ 0) → (b && nat_lt 0 n) ≡ false
 king-test true n h = rw (h refl) refl
@@ -131,34 +131,34 @@ next_filled board s n p f low here = record {
   free = f.free;
   black = f.black;
   white = f.white;
-  size = length-set s.board (board_place n) (Some p) ∙ f.size;
+  size = length-set s.material.board (board_place n) (Some p) ∙ f.size;
   done = λ m h k. put_done board s n p m f low here k h (cases_eq m n);
   todo = λ m h k.
       let apart = places_apart m n k low (omega arith) in
-      get_or-set_other s.board (board_place n) (board_place m) (Some p) nothing apart ∙ f.todo m (omega arith) k;
+      get_or-set_other s.material.board (board_place n) (board_place m) (Some p) nothing apart ∙ f.todo m (omega arith) k;
 }
 
 more_fits : (board : Cells) (s : Layout) (n : ℕ) (p : Piece) → length board ≡ 81 → ((k : Kind) → count_by (is_of k) board ≤ limit k) → ((c : Color) → kings_of board c ≤ 1) → Filled board s n → n < 81 → get_or board (board_place n) nothing ≡ Some p → more_fault s p ≡ None
 more_fits board s n p size totals kings f low here =
     let next = next_filled board s n p f low here in
     let part = filled_part board (put s n p) (n + 1) size next in
-    let same : length (put s n p).board ≡ length board = next.size ∙ sym size in
-    let at : board_place n < length s.board = let b = place_bound n low in let z = f.size in omega arith in
+    let same : length (put s n p).material.board ≡ length board = next.size ∙ sym size in
+    let at : board_place n < length s.material.board = let b = place_bound n low in let z = f.size in omega arith in
     let empty = f.todo n (omega arith) low in
-    let less = part_less (is_of p.kind) (put s n p).board board refl same part in
-    let fewer = part_less (is_king_of p.color) (put s n p).board board refl same part in
-    let t = put-total s.board no_pieces no_pieces (board_place n) p.color p.kind p.kind at empty in
+    let less = part_less (is_of p.kind) (put s n p).material.board board refl same part in
+    let fewer = part_less (is_king_of p.color) (put s n p).material.board board refl same part in
+    let t = put-total (bare_board s.material.board) (board_place n) p.color p.kind p.kind at empty in
     let one : (place_of p.kind == place_of p.kind) ≡ true = eq-self _ _ refl in
     let t1 = rw one at t in
-    let k = put-kings s.board (board_place n) p p.color at empty in
+    let k = put-kings s.material.board (board_place n) p p.color at empty in
     let own : same_color p.color p.color ≡ true = same_color-self p.color in
     let k1 = rw own at k in
     let none = no_pieces_at p.kind in
-    let room : total s.board s.black s.white p.kind < limit p.kind =
+    let room : total s.material p.kind < limit p.kind =
     rw (f.black, f.white) (omega (arith, totals p.kind, less, t1, none)) in
-    let alone : (is_king p.kind && nat_lt 0 (kings_of s.board p.color)) ≡ false =
-    king-test (is_king p.kind) (kings_of s.board p.color) (λ h. let k2 = rw h at k1 in omega (arith, kings p.color, fewer, k2)) in
-    let full : nat_le (limit p.kind) (total s.board s.black s.white p.kind) ≡ false = lt-leb _ _ room in
+    let alone : (is_king p.kind && nat_lt 0 (kings_of s.material.board p.color)) ≡ false =
+    king-test (is_king p.kind) (kings_of s.material.board p.color) (λ h. let k2 = rw h at k1 in omega (arith, kings p.color, fewer, k2)) in
+    let full : nat_le (limit p.kind) (total s.material p.kind) ≡ false = lt-leb _ _ room in
     rw (alone, full) refl
 
 pub start_filled : (board : Cells) → Filled board empty_layout 0
@@ -216,11 +216,11 @@ fill board (Some p ∷ cells) s n size totals kings f whole same =
     }
 
 -- then every square stands as on the board
-pub filled_board : (board : Cells) (s : Layout) → length board ≡ 81 → Filled board s 81 → s.board ≡ board
+pub filled_board : (board : Cells) (s : Layout) → length board ≡ 81 → Filled board s 81 → s.material.board ≡ board
 filled_board board s size f =
-    ext_get_or nothing s.board board (f.size ∙ sym size) (λ i h.
+    ext_get_or nothing s.material.board board (f.size ∙ sym size) (λ i h.
     let low : i < 81 = let z = f.size in omega arith in
-    subst (λ j. get_or s.board j nothing ≡ get_or board j nothing) (text_place-is i low) (f.done (text_place i) (text_place-bound i low) (text_place-bound i low)))
+    subst (λ j. get_or s.material.board j nothing ≡ get_or board j nothing) (text_place-is i low) (f.done (text_place i) (text_place-bound i low) (text_place-bound i low)))
 
 cells_from-length : (board : Cells) (r n : ℕ) → length (cells_from board r n) ≡ n
 cells_from-length board r zero = refl
@@ -262,7 +262,7 @@ board_cells-place board k h =
 
 -- the pieces of a hand
 abbrev lay : Cells → List ℕ → List ℕ → Layout
-lay b black white = record { board = b; black = black; white = white; rest_given = false }
+lay b black white = record { material = record { board = b; black = black; white = white }; rest_given = false }
 
 abbrev made : Color → Kind → Piece
 made c k = record { color = c; kind = k }

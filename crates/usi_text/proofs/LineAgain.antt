@@ -207,7 +207,7 @@ sfen_no_moves p s =
     let e = sfen_words p s in
     rw e (
       (
-        board_no_moves (board_text p.board) (board_spelt p.board).0,
+        board_no_moves (board_text p.material.board) (board_spelt p.material.board).0,
         (
           side_no_moves p.side,
           (

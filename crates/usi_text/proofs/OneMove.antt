@@ -69,9 +69,9 @@ same_walk p from to other goal k l a b c =
     ap (λ s. Walk s to k) a ∙ (ap (λ s. Walk other s k) b ∙ ap (λ x. Walk other goal x) c)
 
 -- the piece on the square left is one
-same_mover : (p : Placed) (s t : Square) (x y : Piece) → s ≡ t → at p.board s ≡ Some x → at p.board t ≡ Some y → x.kind ≡ y.kind
+same_mover : (p : Placed) (s t : Square) (x y : Piece) → s ≡ t → at p.material.board s ≡ Some x → at p.material.board t ≡ Some y → x.kind ≡ y.kind
 same_mover p s t x y e h k =
-    let f : at p.board s ≡ at p.board t = ap (λ q. at p.board q) e in
+    let f : at p.material.board s ≡ at p.material.board t = ap (λ q. at p.material.board q) e in
     let g : Some x ≡ Some y = sym h ∙ (f ∙ k) in
     let z : x ≡ y = cc in
     ap (λ (q : Piece). q.kind) z

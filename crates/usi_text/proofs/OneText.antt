@@ -30,7 +30,7 @@ never_itself ProSilver h = cc
 never_itself Horse h = cc
 never_itself Dragon h = cc
 
-same_kind : (p : Placed) (s : Square) (x y : Piece) → at p.board s ≡ Some x → at p.board s ≡ Some y → x.kind ≡ y.kind
+same_kind : (p : Placed) (s : Square) (x y : Piece) → at p.material.board s ≡ Some x → at p.material.board s ≡ Some y → x.kind ≡ y.kind
 same_kind p s x y h k =
     let g : Some x ≡ Some y = sym h ∙ k in
     let z : x ≡ y = cc in

@@ -37,7 +37,7 @@ putting_none cells s n p low here = record {
 pub putting_some : (cells : Cells) (s next : Layout) (n : ℕ) (x : Piece) (square : Square) → Putting cells s n → n < length cells → get_or cells n None ≡ Some x → place square ≡ board_place n → place_fault s x.color square x.kind ≡ None → next ≡ placed s x.color square x.kind → Putting cells next (n + 1)
 putting_some cells s next n x square p low here there fits e =
     let free : placing_fault s (on (board_place n) x) ≡ None = sym (same_fault s square (board_place n) x there) ∙ fits in
-    let same : next ≡ placing.placed s (on (board_place n) x) = e ∙ ap (λ i. record s { board = set s.board i (Some x) }) there in
+    let same : next ≡ placing.placed s (on (board_place n) x) = e ∙ ap (λ i. record s { material = record s.material { board = set s.material.board i (Some x) } }) there in
     record {
       whole = λ others.
           let rest = cell_placings (n + 1) (drop (n + 1) cells) ++ others in

@@ -22,10 +22,10 @@ Cells = List (Option Piece)
 -- why one more piece may not stand on an empty square
 abbrev pub more_fault : Layout → Piece → Option SetupFault
 more_fault s p =
-    first_fault ((SecondKing, is_king p.kind && nat_lt 0 (kings_of s.board p.color)) ∷ (TooMany, is_full s p.kind) ∷ [])
+    first_fault ((SecondKing, is_king p.kind && nat_lt 0 (kings_of s.material.board p.color)) ∷ (TooMany, is_full s p.kind) ∷ [])
 
 abbrev pub put : Layout → ℕ → Piece → Layout
-put s n p = record s { board = slice_set s.board (board_place n) (Some p) }
+put s n p = record s { material = record s.material { board = slice_set s.material.board (board_place n) (Some p) } }
 
 -- the pieces of the cells, from the nth square of the text on, on empty squares
 abbrev pub put_cells : Layout → ℕ → Cells → Result Layout SetupFault
@@ -62,7 +62,7 @@ none_there (suc n) zero = refl
 none_there (suc n) (suc i) = none_there n i
 
 -- on an empty square only two refusals are left
-place_more : (s : Layout) (n : ℕ) (p : Piece) → s.rest_given ≡ false → get_or s.board n nothing ≡ nothing → placing_fault s (on n p) ≡ more_fault s p
+place_more : (s : Layout) (n : ℕ) (p : Piece) → s.rest_given ≡ false → get_or s.material.board n nothing ≡ nothing → placing_fault s (on n p) ≡ more_fault s p
 place_more s n p free empty = rw (free, empty) refl
 
 unless_after : (here : Option SetupFault) (r : Result Layout SetupFault) (ps : List Placing) → unless here (placed_after r ps) ≡ placed_after (unless here r) ps
@@ -70,13 +70,13 @@ unless_after None r ps = refl
 unless_after (Some fault) r ps = refl
 
 -- the squares of a text are apart, so that each of its pieces comes to an empty one
-cells_placed : (cells : Cells) (s : Layout) (n : ℕ) (ps : List Placing) → s.rest_given ≡ false → ((m : ℕ) → n ≤ m → m < 81 → get_or s.board (board_place m) nothing ≡ nothing) → n + length cells ≤ 81 → place_all s (cell_placings n cells ++ ps) ≡ placed_after (put_cells s n cells) ps
+cells_placed : (cells : Cells) (s : Layout) (n : ℕ) (ps : List Placing) → s.rest_given ≡ false → ((m : ℕ) → n ≤ m → m < 81 → get_or s.material.board (board_place m) nothing ≡ nothing) → n + length cells ≤ 81 → place_all s (cell_placings n cells ++ ps) ≡ placed_after (put_cells s n cells) ps
 cells_placed [] s n ps free empty few = refl
 cells_placed (None ∷ cells) s n ps free empty few = cells_placed cells s (n + 1) ps free (λ m low high. empty m (omega arith) high) (omega arith)
 cells_placed (Some p ∷ cells) s n ps free empty few =
     let bare = empty n (omega arith) (omega arith) in
-    let still : (m : ℕ) → n + 1 ≤ m → m < 81 → get_or (put s n p).board (board_place m) nothing ≡ nothing = λ m low high.
-    get_or-set_other s.board (board_place n) (board_place m) (Some p) None (places_apart m n high (omega arith) (omega arith)) ∙ empty m (omega arith) high in
+    let still : (m : ℕ) → n + 1 ≤ m → m < 81 → get_or (put s n p).material.board (board_place m) nothing ≡ nothing = λ m low high.
+    get_or-set_other s.material.board (board_place n) (board_place m) (Some p) None (places_apart m n high (omega arith) (omega arith)) ∙ empty m (omega arith) high in
     ap (λ f. unless f (place_all (put s n p) (cell_placings (n + 1) cells ++ ps))) (place_more s (board_place n) p free bare)
     ∙ (ap (unless (more_fault s p)) (cells_placed cells (put s n p) (n + 1) ps free still (omega arith))
     ∙ unless_after (more_fault s p) (put_cells (put s n p) (n + 1) cells) ps)

@@ -2,14 +2,13 @@
 use Rattle.std.proofs.Common.{◌≡◌, ℕ, zero, suc, ◌+◌, ◌⊎◌, inl, inr, Bool, true, false, not, List, [], ◌∷◌, ◌++◌, Option, Some, None, Result, Ok, Err, replicate, unwrap_or, refl, sym, ap, ◌∙◌, subst}
 use Rattle.std.specs.List.{AllByRecursion, flat_map}
 use Rattle.shogi_board.specs.declared.color.Color.{Color}
-use Rattle.shogi_board.specs.declared.color.Color.TheVariants.{Black, White}
 use Rattle.shogi_board.specs.declared.kind.Piece.{Piece}
 use Rattle.shogi_board.specs.declared.setup.SetupFault.{SetupFault}
 use Rattle.shogi_board.specs.declared.setup.SetupFault.TheVariants.{TooMany, SecondKing, OpponentInCheck, AfterRest, NotForHand}
 use Rattle.shogi_board.specs.Layout.{Layout}
 use Rattle.shogi_board.specs.Pieces.{is_hand_kind}
 use Rattle.shogi_board.specs.Placing.{unless}
-use Rattle.shogi_board.specs.Setup.{empty_layout, first_fault, add_fault, with_hand, hand_of, one_more}
+use Rattle.shogi_board.specs.Setup.{empty_layout, first_fault, add_fault}
 use Rattle.usi_text.specs.declared.fault.SfenFault.TheVariants.{Start}
 use Rattle.usi_text.specs.declared.hands.Pile.{Pile}
 use Rattle.usi_text.specs.Hands.{IsPile, SpellsHands, pile_pieces}
@@ -49,10 +48,6 @@ put_free [] s t n free h = let e : s ≡ t = cc in sym (ap (λ (l : Layout). l.r
 put_free (None ∷ cells) s t n free h = put_free cells s t (n + 1) free h
 put_free (Some p ∷ cells) s t n free h = put_free cells (put s n p) t (n + 1) free (goes_on (more_fault s p) _ t h)
 
-hand_free : (s : Layout) (c : Color) (bag : List ℕ) → s.rest_given ≡ false → (with_hand s c bag).rest_given ≡ false
-hand_free s Black bag free = free
-hand_free s White bag free = free
-
 abbrev pub InHand : Piece → Type 0
 InHand p = is_hand_kind p.kind ≡ true
 
@@ -65,7 +60,7 @@ hold_fault [] s f free all h = cc
 hold_fault (p ∷ ps) s f free all h =
     elim (told_or_on (add_fault s p.kind) (hold_pieces (held s p) ps) f h) [
       | inl told ↦ full_alone _ _ _ f free all.0 told
-      | inr on ↦ hold_fault ps (held s p) f (hand_free s p.color (one_more (hand_of s p.color) p.kind) free) all.1 on
+      | inr on ↦ hold_fault ps (held s p) f free all.1 on
     ]
 
 pile_held : (n : ℕ) (p : Piece) (ps : List Piece) → InHand p → AllByRecursion InHand ps → AllByRecursion InHand (replicate n p ++ ps)

@@ -1,5 +1,6 @@
 -- How squares and kinds are spelt.
 use Rattle.std.specs.Prelude.{ℕ, ◌+◌, List, [], ◌∷◌, ◌++◌, codes, if◌then◌else◌}
+use Prim.Native.Char.{code}
 use Rattle.shogi_board.specs.declared.color.Color.{Color}
 use Rattle.shogi_board.specs.declared.color.Color.TheVariants.{Black, White}
 use Rattle.shogi_board.specs.declared.kind.Kind.{Kind}
@@ -13,22 +14,22 @@ use Rattle.shogi_board.specs.Squares.{file_of, rank_of}
 abbrev pub square_text : Square → List ℕ
 square_text s = (48 + file_of s) ∷ (96 + rank_of s) ∷ []
 
--- the capital letters P L N S G B R K; a promoted kind has that of its unpromoted one
+-- the capital letter's code; a promoted kind has that of its unpromoted one
 abbrev pub letter : Kind → ℕ
-letter Pawn = 80
-letter Lance = 76
-letter Knight = 78
-letter Silver = 83
-letter Gold = 71
-letter Bishop = 66
-letter Rook = 82
-letter King = 75
-letter ProPawn = 80
-letter ProLance = 76
-letter ProKnight = 78
-letter ProSilver = 83
-letter Horse = 66
-letter Dragon = 82
+letter Pawn = code "P"
+letter Lance = code "L"
+letter Knight = code "N"
+letter Silver = code "S"
+letter Gold = code "G"
+letter Bishop = code "B"
+letter Rook = code "R"
+letter King = code "K"
+letter ProPawn = code "P"
+letter ProLance = code "L"
+letter ProKnight = code "N"
+letter ProSilver = code "S"
+letter Horse = code "B"
+letter Dragon = code "R"
 
 -- a capital letter for black, a small one for white
 abbrev pub color_letter : Color → Kind → ℕ

@@ -14,7 +14,7 @@ use Rattle.usi_text.specs.Letters.{square_text, letter}
 -- A drop: the letter of the kind, *, and the square.
 abbrev pub UsiMove : Placed → List ℕ → Move → Type 0
 UsiMove p text (Walk from to kind) =
-    (mover : Piece) × (at p.board from ≡ Some mover)
+    (mover : Piece) × (at p.material.board from ≡ Some mover)
     × (((text ≡ square_text from ++ square_text to) × (kind ≡ mover.kind))
     ⊎ ((text ≡ square_text from ++ square_text to ++ codes "+") × (promoted mover.kind ≡ Some kind)))
 UsiMove p text (Put to kind) = (is_hand_kind kind ≡ true) × (text ≡ letter kind ∷ (codes "*" ++ square_text to))

@@ -37,5 +37,5 @@ set_up cells piles = place_all empty_layout (cell_placings 0 cells ++ hand_placi
 -- at last the side to move: the king of the other side may not be attacked
 abbrev pub Finishes : Result Layout SetupFault → Color → Result Placed SetupFault → Type 0
 Finishes (Err fault) side answer = answer ≡ Err fault
-Finishes (Ok s) side (Ok p) = (InCheck s.board (opponent side) → ⊥) × (p ≡ position_of s side)
-Finishes (Ok s) side (Err fault) = InCheck s.board (opponent side) × (fault ≡ OpponentInCheck)
+Finishes (Ok s) side (Ok p) = (InCheck s.material.board (opponent side) → ⊥) × (p ≡ position_of s side)
+Finishes (Ok s) side (Err fault) = InCheck s.material.board (opponent side) × (fault ≡ OpponentInCheck)

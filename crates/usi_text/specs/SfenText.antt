@@ -67,7 +67,7 @@ hand_piles color bag = flat_map (piles_of color bag) hand_order
 
 -- black's hand first
 abbrev pub both_piles : Placed → List Pile
-both_piles p = hand_piles Black p.black ++ hand_piles White p.white
+both_piles p = hand_piles Black p.material.black ++ hand_piles White p.material.white
 
 abbrev pub hands_text : List Pile → List ℕ
 hands_text [] = codes "-"
@@ -76,4 +76,4 @@ hands_text (pile ∷ piles) = flat_map pile_text (pile ∷ piles)
 -- board, side, hands and the number 1, with spaces between
 abbrev pub sfen_text : Placed → List ℕ
 sfen_text p =
-    board_text p.board ++ (codes " " ++ (side_text p.side ++ (codes " " ++ (hands_text (both_piles p) ++ codes " 1"))))
+    board_text p.material.board ++ (codes " " ++ (side_text p.side ++ (codes " " ++ (hands_text (both_piles p) ++ codes " 1"))))

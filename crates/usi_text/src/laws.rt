@@ -44,17 +44,17 @@ pub fn start_faults()
 pub fn board_stands()
     ensures squares { (ws : List (List ℕ)) (p : Placed) (cells : List (Option Piece)) (n : ℕ)
         → Sfen ws p → SpellsBoard (nth_word ws 0) cells → n < 81
-        → slice_index_or p.board (board_place n) None ≡ slice_index_or cells n None }
+        → slice_index_or p.material.board (board_place n) None ≡ slice_index_or cells n None }
 {}
 
 /// In the position of an SFEN each hand has the pieces of that side's piles, and no other.
 pub fn hands_held()
     ensures black { (ws : List (List ℕ)) (p : Placed) (piles : List Pile) (kind : Kind)
         → Sfen ws p → SpellsHands (nth_word ws 2) piles → is_hand_kind kind ≡ true
-        → count_in p.black kind ≡ pile_total Black kind piles }
+        → count_in p.material.black kind ≡ pile_total Black kind piles }
     ensures white { (ws : List (List ℕ)) (p : Placed) (piles : List Pile) (kind : Kind)
         → Sfen ws p → SpellsHands (nth_word ws 2) piles → is_hand_kind kind ≡ true
-        → count_in p.white kind ≡ pile_total White kind piles }
+        → count_in p.material.white kind ≡ pile_total White kind piles }
 {}
 
 /// The SFEN that is written for a sound position is the SFEN of that position.

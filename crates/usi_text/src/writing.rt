@@ -49,7 +49,7 @@ fn side_byte(side: Color) -> u8
 }
 
 fn push_board(text: &mut Vec<u8>, position: &Position) -> Result<(), OutOfMemory>
-    ensures { OnOk result (text.new.items ≡ text.old.items ++ board_text position.now.board) }
+    ensures { OnOk result (text.new.items ≡ text.old.items ++ board_text position.now.material.board) }
 {
     push_rank(text, position, 1)?;
     for rank in 2..10u8 {
@@ -62,7 +62,7 @@ fn push_board(text: &mut Vec<u8>, position: &Position) -> Result<(), OutOfMemory
 // A rank, from file 9 to file 1.
 fn push_rank(text: &mut Vec<u8>, position: &Position, rank: u8) -> Result<(), OutOfMemory>
     requires { (1 ≤ rank) × (rank ≤ 9) }
-    ensures { OnOk result (text.new.items ≡ text.old.items ++ rank_text position.now.board rank) }
+    ensures { OnOk result (text.new.items ≡ text.old.items ++ rank_text position.now.material.board rank) }
 {
     let mut empty = 0;
     for right in 0..9u8 {
@@ -81,7 +81,7 @@ fn push_rank(text: &mut Vec<u8>, position: &Position, rank: u8) -> Result<(), Ou
 // What stands on a file and rank.
 fn cell(position: &Position, file: u8, rank: u8) -> Option<Piece>
     requires { (1 ≤ file) × (file ≤ 9) × (1 ≤ rank) × (rank ≤ 9) }
-    ensures { result ≡ cell position.now.board file rank }
+    ensures { result ≡ cell position.now.material.board file rank }
 {
     position.piece_at(Square::new(file, rank).unwrap())
 }

@@ -2,4 +2,6 @@ use Rattle.record_game.proofs.LaidOut.{laid_out_gives}
 use Rattle.record_game.proofs.laws.laid_out.Goals as goal
 
 pub returns : goal.returns
-returns c = laid_out_gives
+returns c = record {
+  places = laid_out_gives;
+}

@@ -2,4 +2,6 @@ use Rattle.record_game.proofs.SaysOnce.{tells_once}
 use Rattle.record_game.proofs.laws.one_game.Goals as goal
 
 pub returns : goal.returns
-returns c = tells_once
+returns c = record {
+  once = tells_once;
+}

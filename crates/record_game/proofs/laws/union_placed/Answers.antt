@@ -2,4 +2,6 @@ use Rattle.record_game.proofs.Placeable.{union_laid_out}
 use Rattle.record_game.proofs.laws.union_placed.Goals as goal
 
 pub returns : goal.returns
-returns c = union_laid_out
+returns c = record {
+  laid = union_laid_out;
+}

@@ -4,5 +4,5 @@ use Rattle.session_peers.proofs.playing.play_host.Goals as goal
 
 pub returns-in-Ok : goal.returns-in-Ok
 returns-in-Ok c =
-    if_ok c.rest.result _ _ c.rest.ensures (λ r h. host_moved _ _ _ c.now.result c.side.result _ _ _ _ _ c.now.ensures c.side.ensures.value
+    if_ok c.rest.result _ _ c.rest.ensures (λ r h. host_moved _ _ _ c.now.result c.side.result _ _ _ _ _ c.now.ensures.value c.side.ensures.value
     c.requires.first c.in-Ok.ensures c.in_ok-push_move.ensures h)

@@ -8,5 +8,5 @@ pub returns-in-Ok-clause-told : goal.returns-in-Ok-clause-told
 returns-in-Ok-clause-told c = (
   c.in-Ok.record,
   c.in-Ok.ensures.told,
-  ap length (c.moves.ensures.value ∙ ap (λ (l : Played). l.moves) c.line.ensures) ∙ length-map _ move_of,
+  ap length (c.moves.ensures.value ∙ ap (λ (l : Played). l.moves) c.line.ensures.value) ∙ length-map _ move_of,
 )

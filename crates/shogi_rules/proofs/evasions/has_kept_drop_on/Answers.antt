@@ -1,7 +1,7 @@
 use Rattle.std.proofs.Common.{◌≡◌, arith, inl, inr, refl, subst, sym}
 use Rattle.std.proofs.lemmas.Bool.{cases_lt}
 use Rattle.shogi_board.specs.Pieces.{place_of}
-use Rattle.shogi_board.specs.Placed.{bag_of}
+use Rattle.shogi_board.specs.Material.{bag_of}
 use Rattle.shogi_board.specs.declared.kind.Kind.{Kind}
 use Rattle.shogi_rules.specs.Legal.{Keeps}
 use Rattle.shogi_rules.specs.declared.moves.Move.TheVariants.{Put}
@@ -19,7 +19,7 @@ loop-n-preserved c = λ k below kept.
       | inr ge ↦
           let p = c.args.position.now in
           let there : place_of k ≡ c.loop-n.n = omega arith in
-          let same = c.hand_kind-kind.ensures.kind k (held-of (bag_of p p.side) k kept.fits.has_piece).0 there in
+          let same = c.hand_kind-kind.ensures.kind k (held-of (bag_of p.material p.side) k kept.fits.has_piece).0 there in
           let yes = c.keeps.ensures.1 (subst (λ (x : Kind). Keeps p (Put c.args.to x)) (sym same) kept) in
           let no = c.if-keeps.false in
           cc
@@ -30,6 +30,6 @@ returns c = (
   λ h. cc,
   λ s.
       let p = c.args.position.now in
-      let low = held-low s.0 (held-of (bag_of p p.side) s.0 s.1.fits.has_piece).0 in
+      let low = held-low s.0 (held-of (bag_of p.material p.side) s.0 s.1.fits.has_piece).0 in
       absurd (c.loop-n.invariant s.0 (omega (arith, low)) s.1),
 )

@@ -14,4 +14,4 @@ returns-in-None c =
     let king = rw c.side-side.ensures.value at c.in-Some.ensures in
     let safe = rw c.side-side.ensures.value at c.in-None.ensures in
     let within = c.side-side.ensures.sound.within in
-    (λ h. cc, λ mated. absurd (king-safe p.board p.side c.in-Some.king within.squares (within.kings p.side) king safe mated.in_check))
+    (λ h. cc, λ mated. absurd (king-safe p.material.board p.side c.in-Some.king within.squares (within.kings p.side) king safe mated.in_check))

@@ -2,4 +2,6 @@ use Rattle.shogi_rules.proofs.Kept.{game-sound}
 use Rattle.shogi_rules.proofs.laws.game_keeps_soundness.Goals as goal
 
 pub returns : goal.returns
-returns c = game-sound
+returns c = record {
+  sound = game-sound;
+}

@@ -2,4 +2,6 @@ use Rattle.shogi_rules.proofs.Kept.{leads-to-sound}
 use Rattle.shogi_rules.proofs.laws.legal_move_keeps_soundness.Goals as goal
 
 pub returns : goal.returns
-returns c = λ p m sound legal. leads-to-sound p m sound legal.keeps
+returns c = record {
+  sound = λ p m sound legal. leads-to-sound p m sound legal.keeps;
+}

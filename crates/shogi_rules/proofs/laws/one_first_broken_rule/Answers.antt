@@ -3,4 +3,6 @@ use Rattle.shogi_rules.proofs.Once.{one-broken}
 use Rattle.shogi_rules.proofs.laws.one_first_broken_rule.Goals as goal
 
 pub returns : goal.returns
-returns c = λ ps p color m a b h k. one-broken (Kept ps p color m) all_rules a b h k
+returns c = record {
+  once = λ ps p color m a b h k. one-broken (Kept ps p color m) all_rules a b h k;
+}

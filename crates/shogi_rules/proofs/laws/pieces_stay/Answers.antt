@@ -2,4 +2,6 @@ use Rattle.shogi_rules.proofs.Kept.{pieces-stay}
 use Rattle.shogi_rules.proofs.laws.pieces_stay.Goals as goal
 
 pub returns : goal.returns
-returns c = λ p m kind sound legal. pieces-stay p m kind sound legal.keeps.fits
+returns c = record {
+  totals = λ p m kind sound legal. pieces-stay p m kind sound legal.keeps.fits;
+}

@@ -17,5 +17,5 @@ followed-requires-clause-hands c = λ some empty color.
     let p = c.args.last.now in
     let m = c.args.mv.now in
     let walks : IsSome (source m) = rw c.requires.change.from at some in
-    let free : at p.board (target m) ≡ None = sym (there-stands p m c.args.change.now c.requires.change) ∙ empty in
+    let free : at p.material.board (target m) ≡ None = sym (there-stands p m c.args.change.now c.requires.change) ∙ empty in
     rw c.requires.next (hands-kept p m walks free color)

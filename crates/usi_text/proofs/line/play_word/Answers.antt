@@ -12,7 +12,7 @@ pub returns-in-Ok : goal.returns-in-Ok
 returns-in-Ok c =
     let line = c.args.line.now in
     let m = c.in-Some.mv in
-    let now = c.now-now.ensures in
+    let now = c.now-now.ensures.value in
     let side = c.side.ensures.value ∙ ap (λ (p : Placed). p.side) now in (
       m,
       (subst (λ (p : Placed). UsiMove p c.args.word.now m) now c.in-Some.ensures.told, subst (λ (s : Color). Answers line s m None) side c.in-Ok.ensures.answer),
@@ -23,7 +23,7 @@ pub returns-in-Err-Broken : goal.returns-in-Err-Broken
 returns-in-Err-Broken c =
     let line = c.args.line.now in
     let m = c.in-Some.mv in
-    let now = c.now-now.ensures in
+    let now = c.now-now.ensures.value in
     let side = c.side.ensures.value ∙ ap (λ (p : Placed). p.side) now in
     let a = rw c.in-Err-Broken.field-0-is at c.in-Err-Broken.ensures.answer in
     let n = ap (λ (ms : List Move). length ms + 1) c.moves-n.ensures.value in
@@ -33,7 +33,7 @@ pub returns-in-Err-OutOfMemory : goal.returns-in-Err-OutOfMemory
 returns-in-Err-OutOfMemory c =
     let line = c.args.line.now in
     let m = c.in-Some.mv in
-    let now = c.now-now.ensures in
+    let now = c.now-now.ensures.value in
     let side = c.side.ensures.value ∙ ap (λ (p : Placed). p.side) now in
     let a = rw c.in-Err-OutOfMemory.field-0-is at c.in-Err-OutOfMemory.ensures.answer in
     (m, (subst (λ (p : Placed). UsiMove p c.args.word.now m) now c.in-Some.ensures.told, subst (λ (s : Color). Answers line s m None) side (memory_told line c.side.result m a)))

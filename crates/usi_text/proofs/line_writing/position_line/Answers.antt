@@ -12,7 +12,7 @@ told c =
     let f = c.in_ok-push_start.ensures.text in
     let r = c.in_ok-push_moves.ensures {u = tt} in
     line_text line.start c.start-start.result line.moves c.moves.result.now c.in_ok-text.text.items c.push_start.new.text.items c.push_moves.new.text.items f.0 r.0
-    c.start-start.ensures c.moves.ensures.value c.in_ok-text.ensures.items f.2 r.2 f.1 r.1
+    c.start-start.ensures.value c.moves.ensures.value c.in_ok-text.ensures.items f.2 r.2 f.1 r.1
 
 pub returns-clause-text : goal.returns-clause-text
 returns-clause-text c = told c
@@ -20,4 +20,4 @@ returns-clause-text c = told c
 pub returns-clause-again : goal.returns-clause-again
 returns-clause-again c =
     let line = c.args.line.now in
-    line_again line.start line.moves c.push_moves.new.text.items (subst (λ (p : Placed). IsSound p) c.start-start.ensures c.in_ok-push_start.ensures.sound) c.moves.ensures.game c.moves.ensures.few (told c)
+    line_again line.start line.moves c.push_moves.new.text.items (subst (λ (p : Placed). IsSound p) c.start-start.ensures.value c.in_ok-push_start.ensures.sound) c.moves.ensures.game c.moves.ensures.few (told c)

@@ -13,7 +13,7 @@ after-now-requires c =
 
 pub loop-mv-preserved : goal.loop-mv-preserved
 loop-mv-preserved c = record {
-  now = now_more c.args.start c.loop-mv.now c.after-now.result c.args.moves.now c.loop-mv.mv-index c.mv-item.result c.loop-mv.invariant.now c.loop-mv-test.true c.mv-item.is c.after-now.ensures;
+  now = now_more c.args.start c.loop-mv.now c.after-now.result c.args.moves.now c.loop-mv.mv-index c.mv-item.result c.loop-mv.invariant.now c.loop-mv-test.true c.mv-item.is c.after-now.ensures.value;
   told = told_more c.args.start c.loop-mv.now c.args.moves.now c.loop-mv.mv-index c.mv-item.result c.args.text.now.items c.loop-mv.text.items c.push.new.self.items c.extend_from_slice.new.self.items c.move_text.result.bytes c.loop-mv.invariant.now c.loop-mv-test.true c.mv-item.is c.loop-mv.invariant.told c.move_text.ensures.again c.in_ok-push.ensures.items
       (c.in_ok-extend_from_slice.ensures.items ∙ ap (λ x. c.push.new.self.items ++ x) (c.as_bytes.ensures.value ∙ c.as_str.ensures.value));
 }

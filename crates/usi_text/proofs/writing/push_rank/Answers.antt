@@ -8,7 +8,7 @@ use Rattle.usi_text.proofs.writing.push_rank.Goals.{in-None, in-Some+in_ok-push_
 
 pub loop-right-init : goal.loop-right-init
 loop-right-init c = record {
-  text = ap (λ t. c.args.text.now.items ++ t) (after_is 0 (cells_from c.args.position.now.board c.args.rank 9));
+  text = ap (λ t. c.args.text.now.items ++ t) (after_is 0 (cells_from c.args.position.now.material.board c.args.rank 9));
   few = omega arith;
 }
 
@@ -16,7 +16,7 @@ pub loop-right-preserved : goal.loop-right-preserved
 loop-right-preserved c =
     let r = c.loop-right.right in
     let one : 9 - r ≡ suc (9 - (r + 1)) = omega arith in
-    let board = c.args.position.now.board in
+    let board = c.args.position.now.material.board in
     let w = c.args.text.now.items ++ rank_text board c.args.rank in
     elim c.match-cell.branch [
       | in-None w ↦ record {

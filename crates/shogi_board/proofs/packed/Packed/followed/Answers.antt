@@ -10,7 +10,7 @@ use Rattle.shogi_board.proofs.packed.Packed.followed.Goals.{in-Some, in_default,
 pub put-requires-2-clause-stands : goal.put-requires-2-clause-stands
 put-requires-2-clause-stands c =
     let a = c.self.inside in
-    let board : board_of a.files ≡ c.args.self.now.board = ap (λ (p : Placed). p.board) (c.self.view_is) in
+    let board : board_of a.files ≡ c.args.self.now.material.board = ap (λ (p : Placed). p.material.board) (c.self.view_is) in
     let stands : at (board_of a.files) c.args.change.now.to ≡ c.args.change.now.there = ap (λ (cells : Cells). at cells c.args.change.now.to) board ∙ c.requires.before.there in
     elim c.match-change.branch [
       | in-Some w ↦
@@ -24,7 +24,7 @@ hand_number_after-black-requires-clause-counts c =
     elim c.if-is_some.branch [
       | then-is_some w ↦ λ e.
           let goes = goes-to-empty c.args.change.now.from c.args.change.now.there c.is_some.result w.is_none-kept.result c.is_some.ensures w.if-is_some.true w.is_none-kept.ensures (sym w.kept-is ∙ e) in
-          ap (λ (p : Placed). p.black) c.self.view_is ∙ sym (c.requires.hands goes.0 goes.1 Black)
+          ap (λ (p : Placed). p.material.black) c.self.view_is ∙ sym (c.requires.hands goes.0 goes.1 Black)
       | else-is_some w ↦ λ e. let no = sym w.kept-is ∙ e in cc
     ]
 
@@ -33,6 +33,6 @@ hand_number_after-white-requires-clause-counts c =
     elim c.if-is_some.branch [
       | then-is_some w ↦ λ e.
           let goes = goes-to-empty c.args.change.now.from c.args.change.now.there c.is_some.result w.is_none-kept.result c.is_some.ensures w.if-is_some.true w.is_none-kept.ensures (sym w.kept-is ∙ e) in
-          ap (λ (p : Placed). p.white) c.self.view_is ∙ sym (c.requires.hands goes.0 goes.1 White)
+          ap (λ (p : Placed). p.material.white) c.self.view_is ∙ sym (c.requires.hands goes.0 goes.1 White)
       | else-is_some w ↦ λ e. let no = sym w.kept-is ∙ e in cc
     ]

@@ -5,9 +5,11 @@ use Rattle.shogi_board.proofs.setup.Setup.clear.Goals as goal
 
 pub put-requires : goal.put-requires
 put-requires c =
-    let within = removed-within c.self.inside.board c.self.inside.black c.self.inside.white (place c.args.square) c.self.invariant (place-bound c.args.square) in
+    let i = c.self.inside in
+    let within = removed-within (record { board = i.board; black = i.black; white = i.white }) (place c.args.square) c.self.invariant (place-bound c.args.square) in
     within.kings
 
 pub invariant_of-self : goal.invariant_of-self
 invariant_of-self c =
-    rw c.put.ensures (removed-within c.self.inside.board c.self.inside.black c.self.inside.white (place c.args.square) c.self.invariant (place-bound c.args.square))
+    let i = c.self.inside in
+    rw c.put.ensures (removed-within (record { board = i.board; black = i.black; white = i.white }) (place c.args.square) c.self.invariant (place-bound c.args.square))

@@ -10,7 +10,7 @@ pub invariant_of-result : goal.invariant_of-result
 invariant_of-result c = record {
   within = c.self.invariant;
   safe = λ check.
-      let there : InCheck c.args.self.now.board (opponent c.args.side) = rw (← c.self.view_is) check in
+      let there : InCheck c.args.self.now.material.board (opponent c.args.side) = rw (← c.self.view_is) check in
       let yes = c.leaves_check.ensures.value.1 there in
       let no : c.leaves_check.result ≡ false = c.if-leaves_check.false in
       cc;

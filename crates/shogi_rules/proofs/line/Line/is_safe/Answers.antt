@@ -8,4 +8,4 @@ use Rattle.shogi_rules.proofs.line.Line.is_safe.Goals as goal
 pub returns : goal.returns
 returns c =
     let e : c.self.inside.last ≡ now_of c.args.self.now = c.self.invariant.0.leads ∙ ap now_of c.self.view_is in
-    subst (λ (p : Placed). not c.self.inside.in_check ≡ true → InCheck p.board p.side → ⊥) e (safe-king c.self.inside.in_check c.self.invariant.2)
+    subst (λ (p : Placed). not c.self.inside.in_check ≡ true → InCheck p.material.board p.side → ⊥) e (safe-king c.self.inside.in_check c.self.invariant.2)

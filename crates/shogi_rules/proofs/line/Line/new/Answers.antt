@@ -11,8 +11,8 @@ invariant_of-result c = (
     few = rw c.in_ok-with_capacity.ensures.items (omega arith);
   },
   rw c.of.ensures at c.in_ok-repeats.ensures.value,
-  c.in_check-in_check.ensures,
+  c.in_check-in_check.ensures.check,
 )
 
 pub push-requires-clause-check : goal.push-requires-clause-check
-push-requires-clause-check c = rw c.of.ensures c.in_check-in_check.ensures
+push-requires-clause-check c = rw c.of.ensures c.in_check-in_check.ensures.check

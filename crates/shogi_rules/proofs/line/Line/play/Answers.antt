@@ -29,7 +29,7 @@ returns-then-is_err-clause-answer c =
 pub make_if_kept-requires : goal.make_if_kept-requires
 make_if_kept-requires c =
     let e : now_of c.args.self.now ≡ c.self.inside.last = sym (c.self.invariant.0.leads ∙ ap now_of c.self.view_is) in
-    subst (λ (p : Placed). c.is_safe-safe.result ≡ true → InCheck p.board p.side → ⊥) e c.is_safe-safe.ensures
+    subst (λ (p : Placed). c.is_safe-safe.result ≡ true → InCheck p.material.board p.side → ⊥) e c.is_safe-safe.ensures
 
 pub invariant_of-self-in-Some-make_if_kept : goal.invariant_of-self-in-Some-make_if_kept
 invariant_of-self-in-Some-make_if_kept c =
