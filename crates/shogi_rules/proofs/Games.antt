@@ -1,16 +1,21 @@
 -- One move more.
-use Rattle.std.proofs.Common.{◌≡◌, ◌↔◌, IsTrue, Bool, false, ℕ, ◌≤◌, get_or, inl, inr, ◌<◌, ◌+◌, ◌++◌, List, [], ◌∷◌, Option, None, length, length-append, arith, refl, ap, sym, ◌∙◌, subst}
+use Rattle.std.proofs.Common.{◌≡◌, ◌↔◌, IsTrue, Bool, true, false, ℕ, ◌≤◌, inl, inr, ◌<◌, ◌+◌, ◌++◌, List, [], ◌∷◌, Option, None, length, length-append, arith, refl, ap, sym, subst}
 use Rattle.std.proofs.lemmas.Bool.{cases_lt}
 use Rattle.shogi_board.specs.Placed.{Placed}
 use Rattle.shogi_board.specs.declared.color.Color.{Color}
 use Rattle.shogi_rules.specs.After.{after}
 use Rattle.shogi_rules.specs.Legal.{Legal}
 use Rattle.shogi_rules.specs.Play.{Breaks, IsOpen}
-use Rattle.shogi_rules.specs.Positions.{Played, now_of, position_after, positions_of, played, IsLine}
+use Rattle.shogi_rules.specs.Positions.{Played, now_of, position_after, positions_of, played, begun, IsGame, IsLine}
+use Rattle.shogi_rules.specs.Repetition.{times, Over, IsNth}
 use Rattle.shogi_rules.specs.Rules.{Kept, KeptAlone, move_rules, all_rules, IsFirstBroken}
 use Rattle.shogi_rules.specs.declared.moves.Move.{Move}
 use Rattle.shogi_rules.specs.declared.rule.Rule.{Rule}
 use Rattle.shogi_rules.proofs.Broken.{AllKept}
+use Rattle.shogi_rules.proofs.Counted.{times-low, times-last, times-kept, times-whole, get-behind}
+use Rattle.shogi_rules.proofs.Counting.{times-apart}
+use Rattle.shogi_board.specs.Same.{same_position}
+use Rattle.shogi_board.proofs.Same.{position-same}
 
 pub all-of-none : (kept : Rule → Type 0) (xs : List Rule) → IsFirstBroken kept xs None → AllKept kept xs
 all-of-none kept [] h = tt
@@ -68,7 +73,7 @@ pub position-more : (s : Placed) (ms : List Move) (m : Move) → position_after 
 position-more s [] m = refl
 position-more s (x ∷ xs) m = position-more (after s x) xs m
 
-positions-more : (s : Placed) (ms : List Move) (m : Move) → positions_of s (ms ++ m ∷ []) ≡ positions_of s ms ++ after (position_after s ms) m ∷ []
+pub positions-more : (s : Placed) (ms : List Move) (m : Move) → positions_of s (ms ++ m ∷ []) ≡ positions_of s ms ++ after (position_after s ms) m ∷ []
 positions-more s [] m = refl
 positions-more s (x ∷ xs) m = ap (λ ps. s ∷ ps) (positions-more (after s x) xs m)
 
@@ -91,6 +96,10 @@ line-more start last moves positions c m line few none = record {
   few = omega (arith, length-append moves (m ∷ []));
 }
 
+-- the same with the positions of the moves
+pub line-next : (start last : Placed) (moves : List Move) (c : Color) (m : Move) → IsLine start last moves (positions_of start moves) → length moves < 10000 → IsFirstBroken (Kept (positions_of start moves) (position_after start moves) c m) all_rules None → IsLine start (after (position_after start moves) m) (moves ++ m ∷ []) (positions_of start (moves ++ m ∷ []))
+line-next start last moves c m line few none = rw (positions-more start moves m) (line-more start last moves (positions_of start moves) c m line few none)
+
 -- what a test says is not so
 pub denied : {A : Type 0} (b : Bool) → IsTrue b ↔ A → b ≡ false → A → ⊥
 denied b says off holds = let yes = says.1 holds in cc
@@ -99,19 +108,41 @@ denied b says off holds = let yes = says.1 holds in cc
 pub below : (b : Bool) (n m : ℕ) → IsTrue b ↔ (m ≤ n) → b ≡ false → n < m
 below b n m says off = elim (cases_lt n m) [ inl low ↦ low | inr full ↦ absurd (denied b says off full) ]
 
--- the last of a line's positions
-pub last-stands : (p : Placed) (ms : List Move) (d : Placed) → get_or (positions_of p ms) (length ms) d ≡ position_after p ms
-last-stands p [] d = refl
-last-stands p (m ∷ ms) d = last-stands (after p m) ms d
+few-by : (ps : List Placed) (p q : Placed) (b : Bool) → same_position p q ≡ b → times ps q ≤ 3 → (Over (ps ++ p ∷ []) p → ⊥) → times (ps ++ p ∷ []) q ≤ 3
+few-by ps p q false e low going = let same = times-apart ps p q (λ is. let yes = (position-same p q).1 is in cc) in omega (arith, same, low)
+few-by ps p q true e low going =
+    let is : p ≡ q = (position-same p q).0 e in
+    let last : times (ps ++ p ∷ []) p ≤ 3 = elim (cases_lt (times (ps ++ p ∷ []) p) 4) [ inl few ↦ omega (arith, few) | inr over ↦ absurd (going over) ] in
+    subst (λ (x : Placed). times (ps ++ p ∷ []) x ≤ 3) is last
 
--- the position behind the moves, by its index
-pub within-line : (start last : Placed) (moves : List Move) (positions : List Placed) (n : ℕ) → IsLine start last moves positions → n ≡ length moves → n < length positions
-within-line start last moves positions n line e = rw line.all (let h = positions-long start moves in omega (arith, h, e))
+-- while a game goes on no position stands for the fourth time
+game-few : (start : Placed) (ms : List Move) → IsGame start ms → (Over (positions_of start ms) (position_after start ms) → ⊥) → (q : Placed) → times (positions_of start ms) q ≤ 3
+game-few start _ begun going q = let low = times-low (start ∷ []) q in omega (arith, low)
+game-few start _ (played before m game may) going q =
+    let ps = positions_of start before in
+    let p = after (position_after start before) m in
+    let all = positions-more start before m in
+    let last = position-more start before m in
+    let still : Over (ps ++ p ∷ []) p → ⊥ = rw (all, last) at going in
+    rw all (few-by ps p q (same_position p q) refl (game-few start before game may.not_over q) still)
 
-pub stands-last : (start last : Placed) (moves : List Move) (positions : List Placed) (n : ℕ) (p : Placed) → IsLine start last moves positions → n ≡ length moves → ((d : Placed) → p ≡ get_or positions n d) → p ≡ last
-stands-last start last moves positions n p line e at =
-    let there : get_or positions n last ≡ position_after start moves = rw (line.all, e) (last-stands start moves last) in
-    at last ∙ (there ∙ sym line.leads)
+-- a position that stands for the fourth time stands so at the last place
+pub game-fourth : (start : Placed) (ms : List Move) → IsGame start ms → Over (positions_of start ms) (position_after start ms) → IsNth (positions_of start ms) (position_after start ms) 4 (length ms)
+game-fourth start _ begun over = let low = times-low (start ∷ []) start in absurd (omega (arith, low, over))
+game-fourth start _ (played before m game may) over =
+    let ps = positions_of start before in
+    let p = after (position_after start before) m in
+    let all = positions-more start before m in
+    let last = position-more start before m in
+    let stands : Over (ps ++ p ∷ []) p = rw (all, last) at over in
+    let few = game-few start before game may.not_over p in
+    let more = times-last ps p in
+    let long = positions-long start before in
+    let count = length-append before (m ∷ []) in
+    let place : length (before ++ m ∷ []) ≡ length ps = omega (arith, long, count) in
+    let kept = times-kept ps p (length ps) p (omega arith) in
+    let whole = times-whole ps (length ps) p (omega arith) in
+    rw (all, last, place) (record { stands = get-behind ps p (length ps) refl; before = omega (arith, kept, whole, more, few, stands) })
 
 -- the first broken rule of all, where the side may play
 pub breaks-of : (line : Played) (last : Placed) (color : Color) (m : Move) (answer : Option Rule) → last ≡ now_of line → IsOpen line color → IsFirstBroken (KeptAlone last m) move_rules answer → Breaks line color m answer

@@ -3,6 +3,7 @@ pub mod Alone
 pub mod Broken
 pub mod Checks
 pub mod Counted
+pub mod Counting
 pub mod Counts
 pub mod Decided
 pub mod Drops

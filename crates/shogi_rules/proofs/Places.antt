@@ -1,31 +1,33 @@
 -- What stands at a place of a list of positions, and who pressed.
-use Rattle.std.proofs.Common.{◌≡◌, ◌↔◌, ℕ, ◌+◌, ◌<◌, IsTrue, Bool, List, [], ◌∷◌, Some, length, get_or, slice_get, arith, ap, sym, ◌∙◌, zero, suc}
-use Rattle.std.proofs.lemmas.Option.{slice_get-get_or}
+use Rattle.std.proofs.Common.{◌≡◌, ◌↔◌, ℕ, ◌+◌, ◌<◌, IsTrue, Bool, List, [], ◌∷◌, Some, length, slice_get, arith, sym, ◌∙◌, zero, suc, refl}
+use Rattle.std.proofs.lemmas.Option.{slice_get_within}
 use Rattle.shogi_board.specs.Placed.{Placed}
-use Rattle.shogi_board.specs.Reach.{InCheck}
 use Rattle.shogi_board.specs.declared.color.Color.{Color}
 use Rattle.shogi_board.specs.declared.color.Color.TheVariants.{Black, White}
+use Rattle.shogi_rules.specs.Counting.{AreTurns}
 use Rattle.shogi_rules.specs.Repetition.{Pressed, PressedAt}
 use Rattle.shogi_rules.specs.Verdicts.{PressedAlone}
+use Rattle.shogi_rules.specs.declared.seen.Turn.{Turn}
 
-pub got : (xs : List Placed) (i : ℕ) (x q : Placed) → slice_get xs i ≡ Some q → get_or xs i x ≡ q
-got [] i x q h = cc
-got (y ∷ ys) zero x q h = cc
-got (y ∷ ys) (suc i) x q h = got ys i x q h
+some-at : (ps : List Placed) (i : ℕ) → i < length ps → (p : Placed) × (slice_get ps i ≡ Some p)
+some-at [] i low = absurd (omega (arith, low))
+some-at (p ∷ ps) zero low = (p, refl)
+some-at (p ∷ ps) (suc i) low = some-at ps i (omega (arith, low))
 
-pub gets : (xs : List Placed) (i : ℕ) (x : Placed) → i < length xs → x ≡ get_or xs i x → slice_get xs i ≡ Some x
-gets [] i x low e = absurd (omega arith)
-gets (y ∷ ys) zero x low e = ap Some (sym e)
-gets (y ∷ ys) (suc i) x low e = gets ys i x (omega arith) e
-
--- whether the side moved from the place gave check, by what is known of the position behind it
-pub pressed-at : (ps : List Placed) (place : ℕ) (color : Color) (x : Placed) (b : Bool) → ((d : Placed) → x ≡ get_or ps place d) → place + 1 < length ps → x.side ≡ color
-    → ((q : Placed) → slice_get ps (place + 1) ≡ Some q → IsTrue b ↔ InCheck q.material.board q.side) → IsTrue b ↔ PressedAt ps color place
-pressed-at ps place color x b here low side d =
-    let behind = slice_get-get_or ps (place + 1) x low in (
-      λ h p q hp hq s. (d q hq).0 h,
-      λ all. (d (get_or ps (place + 1) x) behind).1 (all x (get_or ps (place + 1) x) (gets ps place x (omega arith) (here x)) behind side),
+-- whether the side moved from the place gave check, by the turn behind it
+pub pressed-at : (ps : List Placed) (turns : List Turn) (place : ℕ) (color : Color) (s t : Turn) → AreTurns ps turns → slice_get turns place ≡ Some s → slice_get turns (place + 1) ≡ Some t → s.side ≡ color → IsTrue t.in_check ↔ PressedAt ps color place
+pressed-at ps turns place color s t are here next side =
+    let within = slice_get_within turns (place + 1) t next in
+    let long = are.long in
+    let a = some-at ps place (omega (arith, within, long)) in
+    let b = some-at ps (place + 1) (omega (arith, within, long)) in (
+      λ h p q hp hq own. (are.each (place + 1) q t hq next).1.0 h,
+      λ all. (are.each (place + 1) b.0 t b.1 next).1.1 (all a.0 b.0 a.1 b.1 (sym (are.each place a.0 s a.1 here).0 ∙ side)),
     )
+
+-- a move of the other side is none that had to give check
+pub not-of-it : (ps : List Placed) (turns : List Turn) (place : ℕ) (color : Color) (s : Turn) → AreTurns ps turns → slice_get turns place ≡ Some s → (s.side ≡ color → ⊥) → PressedAt ps color place
+not-of-it ps turns place color s are here other = λ p q hp hq own. absurd (other ((are.each place p s hp here).0 ∙ own))
 
 -- where both pressed, or neither did, nobody pressed alone
 pub nobody-alone : (ps : List Placed) (first fourth : ℕ) (b w : Bool) → (IsTrue b ↔ Pressed ps first fourth Black) → (IsTrue w ↔ Pressed ps first fourth White) → b ≡ w → (color : Color) → PressedAlone ps first fourth color → ⊥

@@ -1,6 +1,7 @@
 pub mod After
 pub mod Chains
 pub mod Changes
+pub mod Counting
 pub mod Evasions
 pub mod Kinds
 pub mod Legal

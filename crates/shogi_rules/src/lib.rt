@@ -8,6 +8,7 @@ mod kinds;
 pub mod laws;
 mod line;
 mod moves;
+mod occurrences;
 mod playing;
 mod repetition;
 mod rule;

@@ -2,16 +2,17 @@ ghost use Rattle.std.specs.Prelude.{◌≡◌, ◌≤◌, ◌++◌, [], ◌∷�
 ghost use Rattle.shogi_board.specs.Reach.{InCheck};
 ghost use Rattle.shogi_rules.specs.Positions.{max_moves, now_of, all_of, IsGame};
 ghost use Rattle.shogi_rules.specs.Play.{Answers, IsOpen};
-ghost use Rattle.shogi_rules.specs.Repetition.{Over};
+ghost use Rattle.shogi_rules.specs.Repetition.{times, Over};
 ghost use Rattle.shogi_rules.specs.Verdicts.{Stands};
 ghost use Rattle.shogi_rules.specs.declared.line.PlayFault.TheVariants.{OutOfMemory};
 
 use crate::judging::{make_by_side, mates_by_pawn_drop};
 use crate::moves::Move;
+use crate::occurrences::FIRST_ROOM;
 use crate::playing::{gives_check, in_check, make_if_kept};
 use crate::repetition::{verdict_by_moves, verdict_of_stretch};
 use crate::rule::Rule;
-use crate::seen::{FIRST_ROOM, Seen, packed_after};
+use crate::seen::{Seen, packed_after};
 use shogi_board::{Color, Packed, Position};
 use std::alloc::Global;
 use std::marker::Model;
@@ -55,10 +56,8 @@ pub const MAX_MOVES: usize = 10_000;
 pub struct Line {
     start: Position,
     last: Position,
-    // how often the last position stands
-    repeats: u32,
     moves: Vec<Move>,
-    // all positions, the start and the last too
+    // of all positions, the start and the last too
     seen: Seen,
     // whether the side to move is in check in the last position
     in_check: bool,
@@ -67,14 +66,14 @@ pub struct Line {
 impl Model for Line {
     ghost use Rattle.std.specs.Prelude.{◌≡◌, ◌↔◌, IsTrue};
     ghost use Rattle.shogi_board.specs.Reach.{InCheck};
-    ghost use Rattle.shogi_rules.specs.Positions.{Played, IsLine};
-    ghost use Rattle.shogi_rules.specs.Repetition.{times};
+    ghost use Rattle.shogi_rules.specs.Counting.{IsSeen};
+    ghost use Rattle.shogi_rules.specs.Positions.{Played, IsLine, positions_of};
 
     ghost Value = { Played };
 
     ghost view = { λ l. record { start = l.start; moves = l.moves.items } };
 
-    ghost invariant = { (λ l. IsLine l.start l.last l.moves.items l.seen × (l.repeats ≡ times l.seen l.last) × (IsTrue l.in_check ↔ InCheck l.last.material.board l.last.side)) };
+    ghost invariant = { (λ l. IsLine l.start l.last l.moves.items (positions_of l.start l.moves.items) × IsSeen (positions_of l.start l.moves.items) l.last l.seen × (IsTrue l.in_check ↔ InCheck l.last.material.board l.last.side)) };
 }
 
 impl Line {
@@ -85,14 +84,11 @@ impl Line {
         ensures line { IfOk result (λ l. l ≡ record { start = start; moves = [] }) }
     {
         let in_check = in_check(&start);
-        let mut seen = Seen::new(alloc)?;
-        let repeats = seen.push(Packed::of(&start), in_check)?;
         Ok(Line {
             start,
             last: start,
-            repeats,
             moves: Vec::with_capacity(alloc, FIRST_ROOM)?,
-            seen,
+            seen: Seen::new(alloc, &start, in_check)?,
             in_check,
         })
     }
@@ -127,11 +123,18 @@ impl Line {
         self.moves.len() >= MAX_MOVES
     }
 
+    // How often the last position stands.
+    fn repeats(&self) -> u32
+        ensures { result ≡ times (all_of self.now) (now_of self.now) }
+    {
+        self.seen.repeats()
+    }
+
     // Whether the position stands for the fourth time.
     fn is_over(&self) -> bool
         ensures { IsTrue result ↔ Over (all_of self.now) (now_of self.now) }
     {
-        self.repeats >= 4
+        self.repeats() >= 4
     }
 
     // The side to move.
@@ -207,7 +210,6 @@ impl Line {
         // a clause of `side` says that the last position is sound
         let _side = self.last.side();
         let safe = self.is_safe();
-        let count = self.moves.len();
         if self.moves.reserve(1).is_err() {
             return Err(self.fault_without_room(mover, &mv));
         }
@@ -215,7 +217,7 @@ impl Line {
         if let Some(rule) = make_if_kept(&mut self.last, safe, &mv) {
             return Err(PlayFault::Broken(rule));
         }
-        let before = self.seen.position(count);
+        let before = self.seen.last();
         let in_check = gives_check(before, &self.last, &mv);
         if mates_by_pawn_drop(&self.last, &mv, in_check) {
             restore(&mut self.last, before);
@@ -223,14 +225,13 @@ impl Line {
         }
         let packed = packed_after(before, &mv, &change, &self.last);
         match self.seen.push(packed, in_check) {
-            Ok(repeats) => {
+            Ok(()) => {
                 self.moves.push_reserved(mv);
                 self.in_check = in_check;
-                self.repeats = repeats;
                 Ok(())
             }
             Err(_) => {
-                restore(&mut self.last, self.seen.position(count));
+                restore(&mut self.last, self.seen.last());
                 Err(PlayFault::OutOfMemory)
             }
         }
@@ -241,7 +242,7 @@ impl Line {
         ensures stands { Stands (all_of self.now) (now_of self.now) result }
     {
         if self.is_over() {
-            verdict_of_stretch(&self.seen, &Packed::of(&self.last))
+            verdict_of_stretch(&self.seen)
         } else {
             verdict_by_moves(&self.last)
         }

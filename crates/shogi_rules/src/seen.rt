@@ -1,23 +1,17 @@
-ghost use Rattle.std.specs.Prelude.{◌≡◌, ◌+◌, ◌++◌, ◌%◌, ◌<◌, ◌≤◌, [], ◌∷◌, ◌↔◌, IsTrue, Some, OnOk, OnErr, IfOk, length, slice_get, slice_index_or};
+ghost use Rattle.std.specs.Prelude.{◌≡◌, ◌+◌, ◌++◌, ◌<◌, ◌≤◌, [], ◌∷◌, ◌↔◌, IsTrue, List, Some, OnOk, OnErr, IfOk, length, slice_get};
 ghost use Rattle.shogi_board.specs.Placed.{Placed};
 ghost use Rattle.shogi_board.specs.Reach.{InCheck};
 ghost use Rattle.shogi_rules.specs.After.{after};
 ghost use Rattle.shogi_rules.specs.Changes.{IsChangeBy};
+ghost use Rattle.shogi_rules.specs.Counting.{IsSeen};
 ghost use Rattle.shogi_rules.specs.Legal.{FitsBoard};
-ghost use Rattle.shogi_rules.specs.Repetition.{times};
-ghost use Rattle.shogi_rules.specs.Chains.{chain_of, chains, Leads};
+ghost use Rattle.shogi_rules.specs.Repetition.{times, IsNth};
 
 use crate::moves::Move;
-use shogi_board::{Change, Packed, Position};
+use crate::occurrences::{FIRST_ROOM, Occurrences};
+use shogi_board::{Change, Color, Packed, Position};
 use std::alloc::{AllocError, Global};
 use std::marker::Model;
-
-// How many chains there are. Modulo this number what a piece adds to `Packed::key` differs from square to square, so that
-// boards that differ in a square or two seldom share a chain.
-const CHAINS: usize = 1019;
-
-// How many positions and moves there is room for from the start: most games have fewer moves.
-pub(crate) const FIRST_ROOM: usize = 256;
 
 // The packed position after a move that fits the board of the packed one; `next` is that position.
 #[inline(always)]
@@ -32,124 +26,94 @@ pub(crate) fn packed_after(last: &Packed, mv: &Move, change: &Change, next: &Pos
     last.followed(next, change)
 }
 
-// Which chain the position stands in.
-fn chain_of(position: &Packed) -> usize
-    ensures value { result ≡ chain_of position.now }
-    ensures bound { result < chains }
-{
-    position.key() as usize % CHAINS
-}
-
-// How often a position stands up to its own place, whether its side to move is in check, and how many positions stand up to
-// the one before it in its chain, or 0.
+// Whose turn it is in a position, and whether that side is in check.
 #[derive(Clone, Copy)]
-struct Link {
-    count: u32,
-    in_check: bool,
-    earlier: usize,
+pub(crate) struct Turn {
+    pub side: Color,
+    pub in_check: bool,
 }
 
-// Positions in order, and how often each of them stands.
+// The positions of a line: each that stands there with how often and where first, which of them is the last one, and the turn
+// of each place.
 #[derive(Drop)]
 pub(crate) struct Seen {
-    positions: Vec<Packed>,
-    // one for each position
-    links: Vec<Link>,
-    // how many positions stand up to the last of each chain
-    heads: Vec<u16>,
+    counts: Occurrences,
+    here: usize,
+    turns: Vec<Turn>,
 }
 
 impl Model for Seen {
-    ghost use Rattle.std.specs.Prelude.{List};
-    ghost use Rattle.shogi_board.specs.Placed.{Placed};
-    ghost use Rattle.shogi_rules.specs.Chains.{AreLinked};
+    ghost use Rattle.std.specs.Prelude.{◌<◌, length};
+    ghost use Rattle.shogi_rules.specs.Counting.{Seeing};
 
-    ghost Value = { List Placed };
+    ghost Value = { Seeing };
 
-    ghost view = { λ s. s.positions.items };
+    ghost view = { λ s. record { counts = s.counts; here = s.here; turns = s.turns.items } };
 
-    ghost invariant = { λ s. AreLinked s.positions.items s.links.items s.heads.items };
+    ghost invariant = { λ s. s.here < length s.counts };
 }
 
 impl Seen {
-    pub(crate) fn new(alloc: Global) -> Result<Seen, AllocError>
-        ensures { IfOk result (λ s. s ≡ []) }
+    // Of the start alone, of which it is known whether its side to move is in check.
+    pub(crate) fn new(alloc: Global, start: &Position, in_check: bool) -> Result<Seen, AllocError>
+        requires { IsTrue in_check ↔ InCheck start.now.material.board start.now.side }
+        ensures { IfOk result (λ s. IsSeen (start.now ∷ []) start.now s) }
     {
+        let mut counts = Occurrences::new(alloc)?;
+        let here = counts.add(Packed::of(start), 0)?;
+        let mut turns = Vec::with_capacity(alloc, FIRST_ROOM)?;
+        turns.push(Turn {
+            side: start.side(),
+            in_check,
+        })?;
         Ok(Seen {
-            positions: Vec::with_capacity(alloc, FIRST_ROOM)?,
-            links: Vec::with_capacity(alloc, FIRST_ROOM)?,
-            heads: vec![in alloc; 0u16; CHAINS]?,
+            counts,
+            here,
+            turns,
         })
     }
 
-    pub(crate) fn positions(&self) -> &[Packed]
-        ensures { result.now ≡ self.now }
+    // The last position.
+    pub(crate) fn last(&self) -> &Packed
+        ensures { (ps : List Placed) (p : Placed) → IsSeen ps p self.now → result.now ≡ p }
     {
-        self.positions.as_slice()
+        &self.counts.entry(self.here).position
     }
 
-    // Whether the side to move is in check in the position behind the one with that index.
-    pub(crate) fn in_check_after(&self, n: usize) -> bool
-        requires { n + 1 < length self.now }
-        ensures { (p : Placed) → slice_get self.now (n + 1) ≡ Some p → IsTrue result ↔ InCheck p.material.board p.side }
+    // How often the last position stands.
+    pub(crate) fn repeats(&self) -> u32
+        ensures { (ps : List Placed) (p : Placed) → IsSeen ps p self.now → result ≡ times ps p }
     {
-        self.links[n + 1].in_check
+        self.counts.entry(self.here).count
     }
 
-    // The position with that index.
-    pub(crate) fn position(&self, n: usize) -> &Packed
-        requires { n < length self.now }
-        ensures { (d : Placed) → result.now ≡ slice_index_or self.now n d }
+    // How many positions stand before the first place of the last one.
+    pub(crate) fn first(&self) -> usize
+        ensures { (ps : List Placed) (p : Placed) → IsSeen ps p self.now → IsNth ps p 1 result }
     {
-        &self.positions[n]
+        self.counts.entry(self.here).first as usize
     }
 
-    // How many positions stand up to the last of the chain, or 0.
-    fn latest(&self, chain: usize) -> usize
-        requires { chain < chains }
-        ensures { (q : Placed) → chain_of q ≡ chain → Leads self.now (length self.now) q result }
+    // The turns of all places in order.
+    pub(crate) fn turns(&self) -> &[Turn]
+        ensures { result.now ≡ self.now.turns }
     {
-        self.heads[chain] as usize
+        self.turns.as_slice()
     }
 
-    // How often the position stands, by the positions of its chain from the latest back.
-    fn count(&self, latest: usize, position: &Packed) -> u32
-        requires { Leads self.now (length self.now) position.now latest }
-        ensures { result ≡ times self.now position.now }
-    {
-        let mut n = latest;
-        while n > 0 {
-            let link = self.links[n - 1];
-            if self.positions[n - 1].is_same(position) {
-                return link.count;
-            }
-            n = link.earlier;
-        }
-        0
-    }
-
-    // Adds the position, of which it is known whether its side to move is in check, and says how often it stands now. A
-    // refused growth changes nothing.
+    // Adds the position, of which it is known whether its side to move is in check. A refused growth changes nothing.
     #[inline(always)]
-    pub(crate) fn push(&mut self, position: Packed, in_check: bool) -> Result<u32, AllocError>
-        requires room { length self.old < 10001 }
+    pub(crate) fn push(&mut self, position: Packed, in_check: bool) -> Result<(), AllocError>
+        requires seen { (ps : List Placed) × (p : Placed) × (length ps < 10001) × IsSeen ps p self.old }
         requires check { IsTrue in_check ↔ InCheck position.material.board position.side }
-        ensures value { IfOk result (λ n. n ≡ times self.new position) }
-        ensures ok { OnOk result (self.new ≡ self.old ++ position ∷ []) }
+        ensures ok { OnOk result ((ps : List Placed) (p : Placed) → IsSeen ps p self.old → IsSeen (ps ++ position ∷ []) position self.new) }
         ensures err { OnErr result (self.new ≡ self.old) }
     {
-        let chain = chain_of(&position);
-        let earlier = self.latest(chain);
-        let count = self.count(earlier, &position) + 1;
-        self.links.reserve(1)?;
-        self.positions.reserve(1)?;
-        self.positions.push_reserved(position);
-        self.links.push_reserved(Link {
-            count,
-            in_check,
-            earlier,
-        });
-        self.heads[chain] = self.positions.len() as u16;
-        Ok(count)
+        let side = position.side();
+        let before = self.turns.len();
+        self.turns.reserve(1)?;
+        self.here = self.counts.add(position, before)?;
+        self.turns.push_reserved(Turn { side, in_check });
+        Ok(())
     }
 }

@@ -1,8 +1,15 @@
-use Rattle.std.proofs.Common.{refl}
-use Rattle.shogi_rules.proofs.Counted.{none-linked}
+use Rattle.std.proofs.Common.{◌≡◌, [], ◌∷◌, arith, refl}
+use Rattle.std.proofs.lemmas.Grind.{common_steps}
+use Rattle.shogi_rules.specs.declared.seen.Turn.{Turn}
+use Rattle.shogi_rules.proofs.Counting.{none-counted, no-turns, turns-more}
 use Rattle.shogi_rules.proofs.seen.Seen.new.Goals as goal
 
-pub invariant_of-result : goal.invariant_of-result
-invariant_of-result c =
-    rw (c.in_ok-with_capacity.ensures.items, c.in_ok-with_capacity-2.ensures.items)
-    (none-linked c.in_ok-vec.field-0.items 1019 refl (c.in_ok-vec.ensures.items_if_clones_equal (λ y e. e)))
+pub returns : goal.returns
+returns c =
+    let turn : Turn = record { side = c.side.result; in_check = c.args.in_check } in
+    let one : c.push.new.self.items ≡ turn ∷ [] = grind (arith, common_steps) in
+    record {
+      counts = rw c.of.ensures at (c.in_ok-here.ensures.ok [] refl (none-counted _ c.in_ok-counts.ensures));
+      here = rw c.of.ensures at c.in_ok-here.ensures.place.1;
+      turns = rw one (turns-more [] [] c.args.start.now turn no-turns c.side.ensures.value c.requires);
+    }

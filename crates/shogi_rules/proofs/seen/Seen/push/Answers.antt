@@ -1,33 +1,20 @@
-use Rattle.std.proofs.Common.{◌≡◌, ◌+◌, List, [], ◌∷◌, ◌++◌, arith, sym, length}
+use Rattle.std.proofs.Common.{◌≡◌, ◌++◌, [], ◌∷◌, arith, sym, ◌∙◌, length}
 use Rattle.std.proofs.lemmas.Grind.{common_steps}
-use Rattle.shogi_board.specs.Placed.{Placed}
-use Rattle.shogi_rules.specs.Repetition.{times}
-use Rattle.shogi_rules.specs.Chains.{Leads, chain_of}
-use Rattle.shogi_rules.specs.declared.seen.Link.{Link}
-use Rattle.shogi_rules.proofs.Counted.{linked-more, times-last}
+use Rattle.shogi_rules.specs.Counting.{IsSeen, Seeing}
+use Rattle.shogi_rules.specs.declared.seen.Turn.{Turn}
+use Rattle.shogi_rules.proofs.Counting.{turns-more}
 use Rattle.shogi_rules.proofs.seen.Seen.push.Goals as goal
 
-pub invariant_of-self-2 : goal.invariant_of-self-2
-invariant_of-self-2 c =
+pub returns-clause-ok : goal.returns-clause-ok
+returns-clause-ok c = λ ps p seen.
     let i = c.self.inside in
-    let p = c.args.position in
-    let ps : List Placed = i.positions.items in
-    let count = c.count-count.result in
-    let earlier = c.latest-earlier.result in
-    let link : Link = record { count = count + 1; in_check = c.args.in_check; earlier = earlier } in
-    let pushed : c.push_reserved.new.self.items ≡ ps ++ p ∷ [] = grind (arith, common_steps) in
-    let beside : c.push_reserved-2.new.self.items ≡ i.links.items ++ link ∷ [] = grind (arith, common_steps) in
-    let counted : count ≡ times ps p = rw (sym c.self.view_is) at c.count-count.ensures in
-    let leads : (q : Placed) → chain_of q ≡ c.chain_of-chain.result → Leads ps (length ps) q earlier = rw (sym c.self.view_is) at c.latest-earlier.ensures in
-    let long : c.len.result ≡ length ps + 1 = grind (arith, common_steps) in
-    let same : c.chain_of-chain.result ≡ chain_of p = c.chain_of-chain.ensures.value in
-    rw (pushed, beside)
-    (linked-more ps i.links.items i.heads.items p c.chain_of-chain.result c.len.result count earlier c.args.in_check c.self.invariant same long counted c.requires.check leads)
-
-pub returns-clause-value : goal.returns-clause-value
-returns-clause-value c =
-    let p = c.args.position in
-    let ps : List Placed = c.self.inside.positions.items in
-    let pushed : c.push_reserved.new.self.items ≡ ps ++ p ∷ [] = grind (arith, common_steps) in
-    let counted : c.count-count.result ≡ times ps p = rw (sym c.self.view_is) at c.count-count.ensures in
-    rw (pushed, counted) (sym (times-last ps p))
+    let old : Seeing = record { counts = i.counts; here = i.here; turns = i.turns.items } in
+    let kept : IsSeen ps p old = rw (sym c.self.view_is) at seen in
+    let turn : Turn = record { side = c.side-side.result; in_check = c.args.in_check } in
+    let more : c.push_reserved.new.self.items ≡ i.turns.items ++ turn ∷ [] = grind (arith, common_steps) in
+    let before : c.len-before.result ≡ length i.turns.items = grind (arith, common_steps) in
+    record {
+      counts = c.in_ok-self-inside.ensures.ok ps (sym (before ∙ kept.turns.long)) kept.counts;
+      here = c.in_ok-self-inside.ensures.place.1;
+      turns = rw more (turns-more ps i.turns.items c.args.position turn kept.turns c.side-side.ensures.value c.requires.check);
+    }
