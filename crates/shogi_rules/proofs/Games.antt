@@ -144,6 +144,19 @@ game-fourth start _ (played before m game may) over =
     let whole = times-whole ps (length ps) p (omega arith) in
     rw (all, last, place) (record { stands = get-behind ps p (length ps) refl; before = omega (arith, kept, whole, more, few, stands) })
 
+last-by : (ps : List Placed) (p q : Placed) (b : Bool) → same_position p q ≡ b → times ps q ≤ 3 → Over (ps ++ p ∷ []) q → q ≡ p
+last-by ps p q true e low over = sym ((position-same p q).0 e)
+last-by ps p q false e low over = let same = times-apart ps p q (λ is. let yes = (position-same p q).1 is in cc) in absurd (omega (arith, same, low, over))
+
+-- and it is the last one
+pub game-last : (start : Placed) (ms : List Move) → IsGame start ms → (q : Placed) → Over (positions_of start ms) q → q ≡ position_after start ms
+game-last start _ begun q over = let low = times-low (start ∷ []) q in absurd (omega (arith, low, over))
+game-last start _ (played before m game may) q over =
+    let ps = positions_of start before in
+    let p = after (position_after start before) m in
+    let stands : Over (ps ++ p ∷ []) q = rw (positions-more start before m) at over in
+    last-by ps p q (same_position p q) refl (game-few start before game may.not_over q) stands ∙ sym (position-more start before m)
+
 -- the first broken rule of all, where the side may play
 pub breaks-of : (line : Played) (last : Placed) (color : Color) (m : Move) (answer : Option Rule) → last ≡ now_of line → IsOpen line color → IsFirstBroken (KeptAlone last m) move_rules answer → Breaks line color m answer
 breaks-of line last color m answer e may broken =

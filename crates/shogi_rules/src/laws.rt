@@ -19,7 +19,7 @@ ghost use Rattle.shogi_rules.specs.Legal.{HasPiece, ReachesTarget, Legal};
 ghost use Rattle.shogi_rules.specs.Order.{IsFirstLegal};
 ghost use Rattle.shogi_rules.specs.Play.{Answers};
 ghost use Rattle.shogi_rules.specs.Positions.{Played, position_after, IsGame, now_of, all_of};
-ghost use Rattle.shogi_rules.specs.Repetition.{times, IsNth};
+ghost use Rattle.shogi_rules.specs.Repetition.{times, IsNth, Over};
 ghost use Rattle.shogi_rules.specs.Rules.{Kept, all_rules, IsFirstBroken};
 ghost use Rattle.shogi_rules.specs.Verdicts.{Stands};
 ghost use Rattle.shogi_rules.specs.declared.line.PlayFault.{PlayFault};
@@ -116,4 +116,10 @@ pub fn some_verdict()
 pub fn now_stands_last()
     ensures last { (line : Played) → slice_get (all_of line) (length line.moves) ≡ Some (now_of line) }
     ensures all { (line : Played) → length (all_of line) ≡ length line.moves + 1 }
+{}
+
+/// Of a game's positions only the last can stand for the fourth time, and it does so at the last place.
+pub fn fourth_stands_last()
+    ensures last { (line : Played) (p : Placed) → IsGame line.start line.moves → Over (all_of line) p → p ≡ now_of line }
+    ensures place { (line : Played) → IsGame line.start line.moves → Over (all_of line) (now_of line) → IsNth (all_of line) (now_of line) 4 (length line.moves) }
 {}

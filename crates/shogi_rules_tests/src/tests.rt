@@ -201,6 +201,7 @@ fn tells_the_parts_of_moves(rt: HostRuntime) -> Result<(), Fail> {
     laws::one_verdict();
     laws::some_verdict();
     laws::now_stands_last();
+    laws::fourth_stands_last();
     Ok(())
 }
 
