@@ -31,22 +31,22 @@ use crate::square::Square;
 
 /// A piece reaches a square exactly where, all turned round, the other side's piece reaches the square turned round.
 pub fn reach_turned()
-    ensures { (cells : Cells) (a b c d : Square) → length cells ≡ 81 → IsTurned a c → IsTurned b d → Reach cells a b ↔ Reach (turned cells) c d }
+    ensures same { (cells : Cells) (a b c d : Square) → length cells ≡ 81 → IsTurned a c → IsTurned b d → Reach cells a b ↔ Reach (turned cells) c d }
 {}
 
 /// A gold of black reaches its six squares and no other.
 pub fn gold_reaches_six()
-    ensures { (cells : Cells) (a b : Square) → at cells a ≡ piece Black Gold → Reach cells a b ↔ IsAmong (gold_squares a) b }
+    ensures six { (cells : Cells) (a b : Square) → at cells a ≡ piece Black Gold → Reach cells a b ↔ IsAmong (gold_squares a) b }
 {}
 
 /// A horse reaches what a bishop in its place reaches, and the four squares beside it.
 pub fn horse_reaches()
-    ensures { (cells : Cells) (color : Color) (a b : Square) → length cells ≡ 81 → Reach (with_cell cells a (piece color Horse)) a b ↔ (Reach (with_cell cells a (piece color Bishop)) a b ⊎ IsAmong (beside a) b) }
+    ensures reach { (cells : Cells) (color : Color) (a b : Square) → length cells ≡ 81 → Reach (with_cell cells a (piece color Horse)) a b ↔ (Reach (with_cell cells a (piece color Bishop)) a b ⊎ IsAmong (beside a) b) }
 {}
 
 /// A knight of black on one of the two ranks farthest from black reaches nothing, whatever else stands.
 pub fn knight_without_move()
-    ensures { (cells : Cells) (a b : Square) → at cells a ≡ piece Black Knight → rank_of a ≤ 2 → Reach cells a b → ⊥ }
+    ensures none { (cells : Cells) (a b : Square) → at cells a ≡ piece Black Knight → rank_of a ≤ 2 → Reach cells a b → ⊥ }
 {}
 
 /// The even position is sound, no king in it is attacked, and the even setup finishes as it.

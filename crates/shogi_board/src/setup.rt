@@ -79,7 +79,7 @@ impl Setup {
 
     /// The even board and empty hands, the rest not given.
     pub fn even() -> Setup
-        ensures { result ≡ even_layout }
+        ensures value { result ≡ even_layout }
     {
         Setup {
             board: Board::even(),
@@ -119,8 +119,8 @@ impl Setup {
 
     /// Places a piece as `place` does, where it is known that `place` would not refuse, and so without its questions.
     pub fn put(&mut self, color: Color, square: Square, kind: Kind)
-        requires { place_fault self.old color square kind ≡ None }
-        ensures { self.new ≡ placed self.old color square kind }
+        requires fits { place_fault self.old color square kind ≡ None }
+        ensures changed { self.new ≡ placed self.old color square kind }
     {
         self.board.put(square, Some(Piece { color, kind }));
     }
@@ -151,8 +151,8 @@ impl Setup {
 
     /// Adds a piece to the hand as `add_hand` does, where it is known that `add_hand` would not refuse.
     pub fn put_in_hand(&mut self, color: Color, kind: Kind)
-        requires { add_fault self.old kind ≡ None }
-        ensures { self.new ≡ added self.old color kind }
+        requires fits { add_fault self.old kind ≡ None }
+        ensures changed { self.new ≡ added self.old color kind }
     {
         let mut hand = self.hand(color);
         hand.set(kind, hand.count(kind) + 1);
@@ -182,8 +182,8 @@ impl Setup {
 
     /// Takes off what stands on the square, of whatever kind, where the rest was not given. An empty square stays empty.
     pub fn clear(&mut self, square: Square)
-        requires { self.old.rest_given ≡ false }
-        ensures { self.new ≡ taken_off self.old square }
+        requires not_given { self.old.rest_given ≡ false }
+        ensures changed { self.new ≡ taken_off self.old square }
     {
         self.board.put(square, None);
     }
@@ -211,8 +211,8 @@ impl Setup {
 
     /// Takes a piece out of the hand as `take_hand` does, where it is known that `take_hand` would not refuse.
     pub fn take_from_hand(&mut self, color: Color, kind: Kind)
-        requires { take_hand_fault self.old color kind ≡ None }
-        ensures { self.new ≡ taken self.old color kind }
+        requires fits { take_hand_fault self.old color kind ≡ None }
+        ensures changed { self.new ≡ taken self.old color kind }
     {
         let mut hand = self.hand(color);
         hand.set(kind, hand.count(kind) - 1);
