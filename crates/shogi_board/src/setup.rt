@@ -1,10 +1,11 @@
 ghost use Rattle.std.specs.Prelude.{◌≡◌, ◌≤◌, false, None, Some, MatchResult, OnOk, OnErr, IfOk, ◌↔◌, IsTrue};
+ghost use Rattle.shogi_board.specs.Cells.{even_cells};
 ghost use Rattle.shogi_board.specs.Material.{bag_of, with_bag};
 ghost use Rattle.shogi_board.specs.Pieces.{opponent};
 ghost use Rattle.shogi_board.specs.Sound.{IsSound};
 ghost use Rattle.shogi_board.specs.Totals.{total, limit, IsWithinTotals};
 ghost use Rattle.shogi_board.specs.Reach.{InCheck};
-ghost use Rattle.shogi_board.specs.Setup.{empty_layout, even_layout, position_of, is_full, place_fault, placed, add_fault, take_off_fault, taken_off, take_hand_fault, rest_fault, with_rest, count_with_rest, rest_to, added, taken};
+ghost use Rattle.shogi_board.specs.Setup.{board_alone, empty_layout, position_of, is_full, place_fault, placed, add_fault, take_off_fault, taken_off, take_hand_fault, rest_fault, with_rest, count_with_rest, rest_to, added, taken};
 ghost use Rattle.shogi_board.specs.declared.setup.SetupFault.TheVariants.{OpponentInCheck};
 
 use crate::board::Board;
@@ -79,7 +80,7 @@ impl Setup {
 
     /// The even board and empty hands, the rest not given.
     pub fn even() -> Setup
-        ensures value { result ≡ even_layout }
+        ensures value { result ≡ board_alone even_cells }
     {
         Setup {
             board: Board::even(),
@@ -107,7 +108,7 @@ impl Setup {
         if self.board.at(square).is_some() {
             return Err(SetupFault::SquareTaken);
         }
-        if kind.is_king() && self.board.kings(color) > 0 {
+        if kind.is_king() && self.board.has_king(color) {
             return Err(SetupFault::SecondKing);
         }
         if self.is_full(kind) {
