@@ -1,7 +1,7 @@
 -- The landmarks of a board, and what becomes of them where a piece goes or comes.
-use Rattle.std.proofs.Common.{◌≡◌, ◌↔◌, ◌&&◌, Bool, true, false, cond, ℕ, zero, suc, ◌+◌, ◌-◌, ◌*◌, ◌<◌, ◌≤◌, List, [], ◌∷◌, length, take, drop, Option, Some, None, set, get_or, count_by, arith, refl, ap, sym, subst, ◌∙◌, inl, inr, get_or-set_same, get_or-set_other, length-take, drop-drop}
+use Rattle.std.proofs.Common.{◌≡◌, ◌↔◌, ◌&&◌, Bool, true, false, cond, nat_lt, is_some, ℕ, zero, suc, ◌+◌, ◌-◌, ◌*◌, ◌<◌, ◌≤◌, List, [], ◌∷◌, length, take, drop, Option, Some, None, set, get_or, count_by, arith, refl, ap, sym, subst, ◌∙◌, inl, inr, get_or-set_same, get_or-set_other, length-take, drop-drop}
 use Rattle.std.specs.List.{slice_range}
-use Rattle.std.proofs.lemmas.Bool.{cases_eq}
+use Rattle.std.proofs.lemmas.Bool.{cases_eq, lt-ltb}
 use Rattle.std.proofs.lemmas.List.{get_or-take, get_or-drop, drop-set-lt, drop-set-add, take-set-le, length-drop}
 use Rattle.std.proofs.Math.Seq.{take-set-lt}
 use Rattle.std.proofs.lemmas.List.Sums.{sum_by-set, sum_by-cons, get_or-le-sum_by, count_by-le-length}
@@ -311,6 +311,22 @@ king-is c (Some p) h = piece-is-king c p h
 
 place-at : (n : ℕ) → n < 81 → place (square_at n) ≡ n
 place-at n h = omega (arith, h)
+
+counted-none : (n : ℕ) → (0 < n → ⊥) → false ≡ nat_lt 0 n
+counted-none zero h = refl
+counted-none (suc n) h = absurd (h (omega arith))
+
+-- kings are counted where the king's square is known
+pub king-counted : (c : Color) (cells : Cells) (k : Option Square) → length cells ≡ 81 → IsKingOf cells c k → is_some k ≡ nat_lt 0 (kings_of cells c)
+king-counted c cells None whole none = counted-none (kings_of cells c) (λ some.
+    let found = counted (is_king_of c) cells some in
+    none (square_at found.0) (ap (λ n. get_or cells n None) (place-at found.0 (omega (arith, found.1, whole))) ∙ king-is c _ found.2))
+king-counted c cells (Some s) whole h =
+    let low = place-bound s in
+    let yes = is_king_of-king c (at cells s) h in
+    let least = get_or-le-sum_by (λ x. cond (is_king_of c x) 1 0) cells (place s) None (omega (arith, low, whole)) in
+    let counts : 1 ≤ kings_of cells c = rw yes at least in
+    sym (lt-ltb 0 (kings_of cells c) (omega (arith, counts)))
 
 king-same : (c : Color) (cells : Cells) (k o : Option Square) → length cells ≡ 81 → kings_of cells c ≤ 1 → IsKingOf cells c k → Found c 0 cells o → o ≡ k
 king-same c cells None None whole few h f = refl

@@ -1,7 +1,8 @@
 -- Values compare as equal where they are equal.
-use Rattle.std.proofs.Common.{rules, ◌≡◌, ℕ, true, false, ◌↔◌, Bool, nat_eq, Option, Some, None, ◌&&◌, refl, ap, sym, List, ◌∙◌}
+use Rattle.std.proofs.Common.{rules, ◌≡◌, ℕ, true, false, ◌↔◌, Bool, nat_eq, Option, Some, None, ◌&&◌, refl, ap, sym, List, [], ◌∷◌, ◌++◌, ◌∙◌}
 use Rattle.std.specs.Option.{option_eq}
 use Rattle.std.specs.Cmp.Lexicographic.{pointwise}
+use Rattle.std.specs.List.Sorted.{IsStrictlySortedBy}
 use Rattle.std.specs.Ordering.{is_eq}
 use Rattle.std.specs.declared.cmp.Ordering.TheVariants.{Equal}
 use Rattle.std.specs.Bool.{Decides, beq}
@@ -12,13 +13,18 @@ use denote.Enum.Bare.{sameb, same_true, true_same}
 use Rattle.shogi_board.specs.Layout.{Layout}
 use Rattle.shogi_board.specs.Placed.{Placed}
 use Rattle.shogi_board.specs.Same.{same_cell, same_position}
+use Rattle.shogi_board.specs.Totals.{hand_kinds}
 use Rattle.shogi_board.specs.declared.color.Color.{Color}
 use Rattle.shogi_board.specs.declared.kind.Kind.{Kind}
+use Rattle.shogi_board.specs.declared.kind.Kind.TheVariants.{King, ProPawn, ProLance, ProKnight, ProSilver, Horse, Dragon}
 use Rattle.shogi_board.specs.declared.kind.Piece.{Piece}
 use Rattle.shogi_board.proofs.Tells.{and-left, and-right, and-both, color-same, cell-same, piece-same}
 use Rattle.shogi_board.specs.contracts.color.Color as color
 use Rattle.shogi_board.specs.contracts.kind.Kind as kind
 use Rattle.shogi_board.specs.contracts.kind.PiecePartialEq.TheImpl.{eq-value}
+use Rattle.shogi_board.specs.contracts.kind.KindOrd.TheImpl as kinds
+use Rattle.shogi_board.specs.contracts.kind.PieceOrd.TheImpl as pieces
+use Rattle.shogi_board.specs.contracts.kind.PieceOrd.TheImpl.Laws as piece-laws
 use Rattle.shogi_board.specs.contracts.position.PositionOrd.TheImpl.{cmp-value}
 use Rattle.shogi_board.specs.contracts.position.PositionOrd.TheImpl.Laws as laws
 
@@ -82,6 +88,13 @@ exact-positions a b =
 
 pub total-positions : IsTotalOrder cmp-value.it
 total-positions = laws.total-law
+
+pub total-pieces : IsTotalOrder pieces.cmp-value.it
+total-pieces = piece-laws.total-law
+
+pub kinds-sorted : IsStrictlySortedBy kinds.cmp-value.it (hand_kinds ++ King ∷ ProPawn ∷ ProLance ∷ ProKnight ∷ ProSilver ∷ Horse ∷ Dragon ∷ [])
+unfolding IsStrictlySortedBy
+kinds-sorted = search rules
 
 cells-same : (a b : List (Option Piece)) → Decides (pointwise same_cell a b) (a ≡ b)
 cells-same a b = slice_eq-Decides cell-same a b _ refl

@@ -1,4 +1,4 @@
-ghost use Rattle.std.specs.Prelude.{◌≡◌, ◌≤◌, ◌<◌, ◌↔◌, ◌⊎◌, Any, IsTrue, MatchOption, None, Some, count_by, slice_set, length};
+ghost use Rattle.std.specs.Prelude.{◌≡◌, ◌≤◌, ◌<◌, ◌↔◌, ◌⊎◌, Any, IsTrue, MatchOption, None, Some, count_by, nat_lt, slice_set, length};
 ghost use Rattle.shogi_board.specs.Cells.{at, piece, even_cells, no_cells, HasPawnOnFile};
 ghost use Rattle.shogi_board.specs.Danger.{ComesFrom, SeenTowards};
 ghost use Rattle.shogi_board.specs.Attackers.{AttackAcross, AttackInSight, IsAttackedByJump, IsAttackedInLine};
@@ -9,7 +9,7 @@ ghost use Rattle.shogi_board.specs.Pieces.{opponent};
 ghost use Rattle.shogi_board.specs.Reach.{Reach, Attack, Attacked, InCheck, IsClear, Slides, Steps};
 ghost use Rattle.shogi_board.specs.Setup.{holds};
 ghost use Rattle.shogi_board.specs.Squares.{place, IsAway};
-ghost use Rattle.shogi_board.specs.Totals.{is_of, kings_of, is_king_of};
+ghost use Rattle.shogi_board.specs.Totals.{is_of, kings_of};
 ghost use Rattle.shogi_board.specs.declared.kind.Kind.TheVariants.{King, Knight, Pawn};
 ghost use Rattle.shogi_board.specs.declared.square.Square.{Square};
 
@@ -18,7 +18,7 @@ use crate::danger::Danger;
 use crate::direction::{Direction, jumps, neighbours};
 use crate::even::even_cells;
 use crate::kind::{Kind, Piece};
-use crate::landmarks::{Landmarks, is_king_of};
+use crate::landmarks::Landmarks;
 use crate::square::Square;
 use std::marker::Model;
 
@@ -153,13 +153,10 @@ impl Board {
         self.cells.iter().filter(|cell| is_of(**cell, kind)).count()
     }
 
-    pub(crate) fn kings(&self, color: Color) -> usize
-        ensures { result ≡ kings_of self.now color }
+    pub(crate) fn has_king(&self, color: Color) -> bool
+        ensures { result ≡ nat_lt 0 (kings_of self.now color) }
     {
-        self.cells
-            .iter()
-            .filter(|cell| is_king_of(**cell, color))
-            .count()
+        self.king(color).is_some()
     }
 
     pub(crate) fn holds(&self, square: Square, kind: Kind) -> bool

@@ -26,7 +26,7 @@ pub enum Kind {
 impl Kind {
     /// Whether a hand may hold it: each unpromoted kind but the king.
     pub fn is_hand_kind(self) -> bool
-        ensures { result ≡ is_hand_kind self }
+        ensures value { result ≡ is_hand_kind self }
     {
         matches!(
             self,
@@ -42,7 +42,7 @@ impl Kind {
 
     /// Whether it is one of the six promoted kinds.
     pub fn is_promoted(self) -> bool
-        ensures { result ≡ is_promoted self }
+        ensures value { result ≡ is_promoted self }
     {
         matches!(
             self,
@@ -57,7 +57,7 @@ impl Kind {
 
     /// The kind that a piece of this kind promotes to, or None for the gold, the king and the promoted kinds.
     pub fn promoted(self) -> Option<Kind>
-        ensures { result ≡ promoted self }
+        ensures value { result ≡ promoted self }
     {
         match self {
             Kind::Pawn => Some(Kind::ProPawn),
@@ -72,7 +72,7 @@ impl Kind {
 
     /// The kind that a promoted piece has in a hand; each other kind is its own.
     pub fn unpromoted(self) -> Kind
-        ensures { result ≡ unpromoted self }
+        ensures value { result ≡ unpromoted self }
     {
         match self {
             Kind::ProPawn => Kind::Pawn,

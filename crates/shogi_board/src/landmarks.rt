@@ -20,7 +20,7 @@ pub(crate) struct Landmarks {
 }
 
 impl Landmarks {
-    // Those of that side on a board, on which it has one king at most.
+    // Those of that side on a board. Of several kings it would be the first in the order of the squares.
     pub(crate) fn of(cells: &[Option<Piece>], color: Color) -> Landmarks
         requires { length cells.now ≡ 81 }
         ensures { AreLandmarks cells.now color result }
@@ -39,7 +39,7 @@ impl Landmarks {
         self.pawns[square.file() as usize - 1] > 0
     }
 
-    // A piece of that kind goes from the square.
+    // A piece of that kind goes from the square of a board, on which its side has one king at most.
     pub(crate) fn lose(&mut self, kind: Kind, square: Square)
         requires nine { length self.old.pawns ≡ 9 }
         requires some { kind ≡ Pawn → 0 < slice_index self.old.pawns (file_of square - 1) }
@@ -66,7 +66,7 @@ impl Landmarks {
     }
 }
 
-// The square of the king of that side, the first in order.
+// The square of the first king of that side in the order of the squares, if it has one.
 fn king_on(cells: &[Option<Piece>], color: Color) -> Option<Square>
     requires { length cells.now ≡ 81 }
     ensures { IsKingOf cells.now color result }
@@ -104,7 +104,7 @@ fn pawn_count(file: &[Option<Piece>], color: Color) -> u8
     file.iter().filter(|cell| is_pawn_of(**cell, color)).count() as u8
 }
 
-pub(crate) fn is_king_of(cell: Option<Piece>, color: Color) -> bool
+fn is_king_of(cell: Option<Piece>, color: Color) -> bool
     ensures { result ≡ is_king_of color cell }
 {
     match cell {

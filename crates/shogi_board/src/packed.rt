@@ -96,7 +96,7 @@ impl Packed {
 
     /// The position.
     pub fn unpacked(&self) -> Position
-        ensures { result ≡ self.now }
+        ensures value { result ≡ self.now }
     {
         // a clause of `side` says that the position is sound
         let _side = self.side();
@@ -129,7 +129,7 @@ impl Packed {
 
     /// A number that positions with the same board share.
     pub fn key(&self) -> u64
-        ensures { result ≡ key_of self.now }
+        ensures value { result ≡ key_of self.now }
     {
         key_number(self.files)
     }
@@ -145,7 +145,7 @@ impl Packed {
         requires apart { (s : Square) → change.now.from ≡ Some s → place s ≢ place change.now.to }
         requires board { next.now.material.board ≡ slice_set (emptied self.now.material.board change.now.from) (place change.now.to) (at next.now.material.board change.now.to) }
         requires hands { IsSome change.now.from → change.now.there ≡ None → (c : Color) → bag_of next.now.material c ≡ bag_of self.now.material c }
-        ensures { result ≡ next.now }
+        ensures value { result ≡ next.now }
     {
         let mut files = self.files;
         if let Some(square) = change.from {

@@ -1,10 +1,11 @@
 ghost use Rattle.std.specs.Prelude.{◌≡◌, ◌≤◌, false, None, Some, MatchResult, OnOk, OnErr, IfOk, ◌↔◌, IsTrue};
+ghost use Rattle.shogi_board.specs.Cells.{even_cells};
 ghost use Rattle.shogi_board.specs.Material.{bag_of, with_bag};
 ghost use Rattle.shogi_board.specs.Pieces.{opponent};
 ghost use Rattle.shogi_board.specs.Sound.{IsSound};
 ghost use Rattle.shogi_board.specs.Totals.{total, limit, IsWithinTotals};
 ghost use Rattle.shogi_board.specs.Reach.{InCheck};
-ghost use Rattle.shogi_board.specs.Setup.{empty_layout, even_layout, position_of, is_full, place_fault, placed, add_fault, take_off_fault, taken_off, take_hand_fault, rest_fault, with_rest, count_with_rest, rest_to, added, taken};
+ghost use Rattle.shogi_board.specs.Setup.{board_alone, empty_layout, position_of, is_full, place_fault, placed, add_fault, take_off_fault, taken_off, take_hand_fault, rest_fault, with_rest, count_with_rest, rest_to, added, taken};
 ghost use Rattle.shogi_board.specs.declared.setup.SetupFault.TheVariants.{OpponentInCheck};
 
 use crate::board::Board;
@@ -79,7 +80,7 @@ impl Setup {
 
     /// The even board and empty hands, the rest not given.
     pub fn even() -> Setup
-        ensures { result ≡ even_layout }
+        ensures value { result ≡ board_alone even_cells }
     {
         Setup {
             board: Board::even(),
@@ -107,7 +108,7 @@ impl Setup {
         if self.board.at(square).is_some() {
             return Err(SetupFault::SquareTaken);
         }
-        if kind.is_king() && self.board.kings(color) > 0 {
+        if kind.is_king() && self.board.has_king(color) {
             return Err(SetupFault::SecondKing);
         }
         if self.is_full(kind) {
@@ -119,8 +120,8 @@ impl Setup {
 
     /// Places a piece as `place` does, where it is known that `place` would not refuse, and so without its questions.
     pub fn put(&mut self, color: Color, square: Square, kind: Kind)
-        requires { place_fault self.old color square kind ≡ None }
-        ensures { self.new ≡ placed self.old color square kind }
+        requires fits { place_fault self.old color square kind ≡ None }
+        ensures changed { self.new ≡ placed self.old color square kind }
     {
         self.board.put(square, Some(Piece { color, kind }));
     }
@@ -151,8 +152,8 @@ impl Setup {
 
     /// Adds a piece to the hand as `add_hand` does, where it is known that `add_hand` would not refuse.
     pub fn put_in_hand(&mut self, color: Color, kind: Kind)
-        requires { add_fault self.old kind ≡ None }
-        ensures { self.new ≡ added self.old color kind }
+        requires fits { add_fault self.old kind ≡ None }
+        ensures changed { self.new ≡ added self.old color kind }
     {
         let mut hand = self.hand(color);
         hand.set(kind, hand.count(kind) + 1);
@@ -182,8 +183,8 @@ impl Setup {
 
     /// Takes off what stands on the square, of whatever kind, where the rest was not given. An empty square stays empty.
     pub fn clear(&mut self, square: Square)
-        requires { self.old.rest_given ≡ false }
-        ensures { self.new ≡ taken_off self.old square }
+        requires not_given { self.old.rest_given ≡ false }
+        ensures changed { self.new ≡ taken_off self.old square }
     {
         self.board.put(square, None);
     }
@@ -211,8 +212,8 @@ impl Setup {
 
     /// Takes a piece out of the hand as `take_hand` does, where it is known that `take_hand` would not refuse.
     pub fn take_from_hand(&mut self, color: Color, kind: Kind)
-        requires { take_hand_fault self.old color kind ≡ None }
-        ensures { self.new ≡ taken self.old color kind }
+        requires fits { take_hand_fault self.old color kind ≡ None }
+        ensures changed { self.new ≡ taken self.old color kind }
     {
         let mut hand = self.hand(color);
         hand.set(kind, hand.count(kind) - 1);

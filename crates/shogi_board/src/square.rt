@@ -20,7 +20,7 @@ impl Square {
 
     /// The square on that file and rank, or None where either lies outside 1 to 9.
     pub fn new(file: u8, rank: u8) -> Option<Square>
-        ensures { MatchOption result
+        ensures answer { MatchOption result
             ((file < 1) ⊎ (9 < file) ⊎ (rank < 1) ⊎ (9 < rank))
             (λ s. (file_of s ≡ file) × (rank_of s ≡ rank)) }
     {
@@ -92,7 +92,7 @@ impl Square {
 
     /// Whether it lies strictly between the two squares, on a rank, file or diagonal.
     pub fn lies_between(self, a: Square, b: Square) -> bool
-        ensures { IsTrue result ↔ Between a b self }
+        ensures between { IsTrue result ↔ Between a b self }
     {
         let direction = a.direction_to(self);
         let near = a.distance(self);

@@ -2,4 +2,4 @@ use Rattle.shogi_board.proofs.Facts.{gold-reach}
 use Rattle.shogi_board.proofs.laws.gold_reaches_six.Goals as goal
 
 pub returns : goal.returns
-returns c = gold-reach
+returns c = record { six = gold-reach }

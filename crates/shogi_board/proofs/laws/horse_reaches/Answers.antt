@@ -2,4 +2,4 @@ use Rattle.shogi_board.proofs.Facts.{horse-reach}
 use Rattle.shogi_board.proofs.laws.horse_reaches.Goals as goal
 
 pub returns : goal.returns
-returns c = horse-reach
+returns c = record { reach = horse-reach }

@@ -2,4 +2,4 @@ use Rattle.shogi_board.proofs.Turned.{turned-reach}
 use Rattle.shogi_board.proofs.laws.reach_turned.Goals as goal
 
 pub returns : goal.returns
-returns c = turned-reach
+returns c = record { same = turned-reach }

@@ -13,4 +13,4 @@ returns c =
     let files = c.self.inside.files in
     let board : board_of files ≡ c.args.self.now.material.board = ap (λ (p : Placed). p.material.board) c.self.view_is in
     let back : file_numbers 9 (board_of files) ≡ files = ap (λ (n : ℕ). file_numbers n (board_of files)) (sym c.self.invariant.0.nine) ∙ numbers-back files c.self.invariant.0.each in
-    c.key_number.ensures ∙ ap key_number (sym back ∙ ap (λ (cells : Cells). file_numbers 9 cells) board)
+    record { value = c.key_number.ensures ∙ ap key_number (sym back ∙ ap (λ (cells : Cells). file_numbers 9 cells) board) }
