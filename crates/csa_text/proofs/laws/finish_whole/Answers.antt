@@ -1,4 +1,3 @@
-use Rattle.csa_text.specs.PieceSteps.{Finished}
 use Rattle.csa_text.proofs.laws.finish_whole.Goals as goal
 
 pub returns : goal.returns

@@ -1,4 +1,3 @@
-use Rattle.csa_text.specs.PieceSteps.{Stepped}
 use Rattle.csa_text.proofs.laws.step_whole.Goals as goal
 
 pub returns : goal.returns
