@@ -3,8 +3,8 @@ use Rattle.std.proofs.Common.{◌≡◌, ℕ, ◌+◌, List, [], ◌∷◌, ◌+
 use Rattle.std.specs.Borrow.{Bor}
 use Rattle.std.proofs.Math.Seq.{take-length}
 use Rattle.csa_text.specs.Cut.{TextUnit}
-use Rattle.csa_text.specs.Lines.{Lines}
-use Rattle.csa_text.specs.LineCutting.{LineCutting, BeginsTooLong, HasLongLine, LineStep, LinesAfter}
+use Rattle.csa_text.specs.Lines.{Lines, HasNoLineEnd}
+use Rattle.csa_text.specs.LineCutting.{LineCutting, BeginsTooLong, HasLongLine, LineStep, LinesAfter, LastLine}
 use Rattle.csa_text.specs.PieceSteps.{IsNumbered}
 use Rattle.csa_text.specs.WholeRun.{AreNumbered, AreStatementsOf, told, all_told, LineAnswers, all_taken, line_given, all_lines}
 use Rattle.csa_text.specs.declared.cutter.Statement.{Statement}
@@ -55,6 +55,22 @@ pub line_run_long : (steps : List (List ℕ × (ℕ × Option (Bor (List ℕ))))
 line_run_long steps old new piece empty r h =
     let limit = same_limit steps old new r in
     long_found old.limit (all_taken steps) piece (all_lines steps) new.held (line_run steps old new empty r).0 (subst (λ m. BeginsTooLong m (new.held ++ piece)) limit h)
+
+rest_solid : (bytes : List ℕ) (lines : List (List ℕ)) (rest : List ℕ) → Lines bytes lines rest → HasNoLineEnd rest
+rest_solid bytes [] rest p = p.3
+rest_solid bytes (line ∷ lines) rest p = rest_solid p.0 lines rest p.2
+
+-- LF ends what is unfinished
+last_ended : (held : List ℕ) (last : Option (Bor (List ℕ))) → HasNoLineEnd held → LastLine held last → Lines (held ++ 10 ∷ []) (line_given last) []
+last_ended held None solid empty = rw empty (10 ∷ [], refl, (refl, tt), tt)
+last_ended held (Some line) solid (same, some) =
+    rw same (10 ∷ [], record { ends = []; whole = refl; skipped = tt; some = some; run = solid; closed = refl }, (10 ∷ [], refl, (refl, tt), tt))
+
+pub line_run_finished : (steps : List (List ℕ × (ℕ × Option (Bor (List ℕ))))) (old new : LineCutting) (last : Option (Bor (List ℕ))) → old.held ≡ [] → LineAnswers old steps new → LastLine new.held last → Lines (all_taken steps ++ 10 ∷ []) (all_lines steps ++ line_given last) []
+line_run_finished steps old new last empty r l =
+    let so_far = (line_run steps old new empty r).0 in
+    let solid = rest_solid (all_taken steps) (all_lines steps) new.held so_far in
+    lines_joined (all_taken steps) (10 ∷ []) (all_lines steps) (line_given last) new.held [] so_far (last_ended new.held last solid l)
 
 same_three : (a b c d : ℕ) (x y : List ℕ) → a ≡ b → c ≡ d → x ≡ y → (let u : ℕ × ℕ × List ℕ = (a, c, x) in let v : ℕ × ℕ × List ℕ = (b, d, y) in u ≡ v)
 same_three a b c d x y p q r = rw (p, q, r) refl

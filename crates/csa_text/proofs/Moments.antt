@@ -22,13 +22,6 @@ digit_below [] i h less = absurd (omega arith)
 digit_below (c ∷ cs) zero h less = h.0
 digit_below (c ∷ cs) (suc i) h less = digit_below cs i h.1 (omega arith)
 
-pub below_thousand : (ds : List ℕ) → AllDigits 10 ds → length ds ≤ 3 → digits_value 10 ds < 1000
-below_thousand [] h few = omega arith
-below_thousand (a ∷ []) h few = omega (arith, h.0)
-below_thousand (a ∷ b ∷ []) h few = omega (arith, h.0, h.1.0)
-below_thousand (a ∷ b ∷ c ∷ []) h few = omega (arith, h.0, h.1.0, h.1.1.0)
-below_thousand (a ∷ b ∷ c ∷ d ∷ ds) h few = absurd (omega arith)
-
 pub below_power : (ds : List ℕ) (most : ℕ) → AllDigits 10 ds → length ds ≤ most → digits_value 10 ds < 10 ^ most
 below_power ds most h few = omega (arith, digits_value-lt 10 ds h, pow-le-pow_right {n = 10} (omega arith) {i = length ds} {j = most} few)
 

@@ -9,11 +9,8 @@ use Rattle.csa_text.specs.TimeTexts.{IsSeconds, IsFraction, HasFraction, IsTime}
 use Rattle.csa_text.proofs.Moments.{none_of, no_split, split_same}
 
 -- the digits so far and the next one are no more than all of them
-so_far : (bytes : List ℕ) (i : ℕ) → i < length bytes → digits_value 10 (take i bytes) * 10 + digit_value (get_or bytes i 0) ≤ digits_value 10 bytes
+pub so_far : (bytes : List ℕ) (i : ℕ) → i < length bytes → digits_value 10 (take i bytes) * 10 + digit_value (get_or bytes i 0) ≤ digits_value 10 bytes
 so_far bytes i less = omega (arith, digits_value_more 10 bytes i less, digits_value-take-le 10 bytes (i + 1) (omega arith))
-
-pub passes_limit : (bytes : List ℕ) (i seconds digit value : ℕ) → i < length bytes → seconds ≡ digits_value 10 (take i bytes) → digit ≡ digit_value (get_or bytes i 0) → 4294967295 < seconds * 10 + digit → IsSeconds bytes value → ⊥
-passes_limit bytes i seconds digit value less is digit_is passes n = omega (arith, so_far bytes i less, is, digit_is, passes, n.value_is, n.limit)
 
 point : digit_value 46 < 10 → ⊥
 point h = omega arith

@@ -1,8 +1,9 @@
 -- A whole run of a cutter of pieces, by its steps.
-use Rattle.std.proofs.Common.{◌≡◌, ℕ, ◌+◌, ◌≤◌, List, [], ◌∷◌, ◌++◌, length, length-append, take, drop, append_assoc, append-nil, Option, Some, None, Ok, Err, arith, refl, sym, ap, ◌∙◌, subst}
+use Rattle.std.proofs.Common.{◌≡◌, ℕ, ◌+◌, ◌≤◌, List, [], ◌∷◌, ◌++◌, length, length-append, take, drop, append_assoc, append-nil, Option, Some, None, Ok, Err, ◌↔◌, arith, refl, sym, ap, ◌∙◌, subst}
+use Rattle.std.specs.Prelude.{Result, slice_range}
 use Rattle.std.proofs.Math.Seq.{take-length}
-use Rattle.csa_text.specs.Cut.{TextUnit, IsCut, Statements, mark_length}
-use Rattle.csa_text.specs.Cutting.{Cutting, IsTooLong, ToCome, unit_between}
+use Rattle.csa_text.specs.Cut.{TextUnit, IsCut, Statements, mark_length, statement_bytes, longest_statement}
+use Rattle.csa_text.specs.Cutting.{Cutting, IfHandedOut, IsFirstStatement, IsHandedOut, IsTooLong, ToCome, unit_between}
 use Rattle.csa_text.specs.PieceCutting.{PieceCutting, Closed, Leads, fresh}
 use Rattle.csa_text.specs.PieceSteps.{IsNumbered, Stepped, Used, Last, Finished}
 use Rattle.csa_text.specs.TooLong.{AreShort, HasCut, HasCutOf, FirstTooLong}
@@ -113,3 +114,8 @@ all_short source gave number offset (us, cut, h) f =
     let same : us ≡ f.before ++ (f.unit ∷ f.others) = statements_once _ _ us _ cut f.cut in
     let short = not_short f.before f.others f.unit (subst AreShort same (numbered_short 0 us gave h)) in
     absurd (omega (arith, short, f.long))
+
+pub next_whole : (old new : Cutting) (result : Result (Option Statement) CutFault) → (IfHandedOut result (λ s. IsFirstStatement old.source old.at s.offset new.at) × IfHandedOut result (λ s. s.number ≡ old.number + 1) × IfHandedOut result (λ s. new.number ≡ s.number) × IfHandedOut result (λ s. s.bytes.now ≡ statement_bytes (slice_range old.source s.offset new.at)) × IfHandedOut result (λ s. new.at ≤ s.offset + longest_statement)) ↔ IfHandedOut result (λ s. IsHandedOut old new s.number s.offset s.bytes.now)
+next_whole old new (Ok (Some s)) = (λ h. record { first = h.0; number_is = h.1; counted = h.2; slice = h.3; short = h.4 }, λ o. (o.first, o.number_is, o.counted, o.slice, o.short))
+next_whole old new (Ok None) = (λ h. tt, λ o. (tt, tt, tt, tt, tt))
+next_whole old new (Err fault) = (λ h. tt, λ o. (tt, tt, tt, tt, tt))

@@ -1,4 +1,4 @@
-ghost use Rattle.std.specs.Prelude.{ℕ, ◌<◌, ◌≤◌, ◌^◌, MatchOption, IfSome};
+ghost use Rattle.std.specs.Prelude.{◌≡◌, ℕ, ◌+◌, ◌*◌, ◌<◌, ◌≤◌, ◌^◌, length, MatchOption, IfSome};
 ghost use Rattle.csa_text.specs.Fields.{IsNumber, HasNone, IsSplit};
 
 // What stands before the first byte of this value, and what stands behind it.
@@ -20,10 +20,27 @@ pub(crate) fn read_number(bytes: &[u8], fewest: usize, most: usize) -> Option<u1
     if bytes.len() < fewest || most < bytes.len() {
         return None;
     }
-    let mut value = 0u16;
+    Some(read_digits(bytes)? as u16)
+}
+
+// The number that the bytes spell in decimal digits, 0 where there are none, unless it passes
+// 4,294,967,295.
+pub(crate) fn read_digits(bytes: &[u8]) -> Option<u32>
+    ensures { MatchOption result
+        ((value : ℕ) → IsNumber 0 (length bytes.now) bytes.now value → 4294967295 < value)
+        (λ value. IsNumber 0 (length bytes.now) bytes.now value × (value ≤ 4294967295)) }
+{
+    let mut value = 0u32;
     for b in bytes {
         let digit = (*b as char).to_digit(10)?;
-        value = value * 10 + digit as u16;
+        value = with_digit(value, digit)?;
     }
     Some(value)
+}
+
+// The number with one digit more behind it, unless it passes 4,294,967,295.
+fn with_digit(number: u32, digit: u32) -> Option<u32>
+    ensures { MatchOption result (4294967295 < number * 10 + digit) (λ n. (n ≡ number * 10 + digit) × (n ≤ 4294967295)) }
+{
+    number.checked_mul(10)?.checked_add(digit)
 }

@@ -7,7 +7,7 @@ ghost use Rattle.csa_text.specs.declared.line.LineFault.TheVariants.{OutOfMemory
 ghost use Rattle.csa_text.specs.Lines.{is_line_end};
 ghost use Rattle.csa_text.specs.LineCutting.{BeginsTooLong, IsRun, LineStep, LinesAfter, LastLine, LinesFinished};
 
-use memchr::memchr2;
+use memchr::memchr2_iter;
 use std::alloc::{AllocError, Global};
 use std::marker::Model;
 use thiserror::Error;
@@ -145,7 +145,8 @@ pub(crate) fn line_length(text: &[u8]) -> usize
     ensures value { result ≡ position_or_len is_line_end text.now }
     ensures within { result ≤ length text.now }
 {
-    match memchr2(b'\r', b'\n', text) {
+    // Most lines are short: the iterator looks at the first bytes alone first.
+    match memchr2_iter(b'\r', b'\n', text).next() {
         Some(end) => end,
         None => text.len(),
     }

@@ -1,7 +1,7 @@
-ghost use Rattle.std.specs.Prelude.{◌≡◌, ℕ, ◌+◌, ◌*◌, ◌<◌, ◌≤◌, MatchOption, IfSome};
+ghost use Rattle.std.specs.Prelude.{ℕ, ◌<◌, MatchOption, IfSome};
 ghost use Rattle.csa_text.specs.TimeTexts.{IsSeconds, IsFraction, IsTime};
 
-use crate::fields::{read_number, split_at_byte};
+use crate::fields::{read_digits, read_number, split_at_byte};
 
 // The time that the text behind `T` spells, in thousandths of a second: whole seconds up to
 // 4,294,967,295, and optionally a point and one to three digits.
@@ -29,19 +29,7 @@ fn read_seconds(digits: &[u8]) -> Option<u32>
     if digits.is_empty() {
         return None;
     }
-    let mut seconds = 0u32;
-    for b in digits {
-        let digit = (*b as char).to_digit(10)?;
-        seconds = with_digit(seconds, digit)?;
-    }
-    Some(seconds)
-}
-
-// The number with one digit more behind it, unless it passes 4,294,967,295.
-fn with_digit(number: u32, digit: u32) -> Option<u32>
-    ensures { MatchOption result (4294967295 < number * 10 + digit) (λ n. (n ≡ number * 10 + digit) × (n ≤ 4294967295)) }
-{
-    number.checked_mul(10)?.checked_add(digit)
+    read_digits(digits)
 }
 
 // The thousandths that one to three digits behind the point spell.

@@ -21,6 +21,9 @@ fn reads_items(rt: HostRuntime) {
     laws::equal_moments();
     laws::closed_once();
     laws::too_long_once();
+    laws::step_whole();
+    laws::finish_whole();
+    laws::next_whole();
     laws::pieces_run();
     laws::cutter_run();
     laws::never_both();

@@ -1,4 +1,4 @@
-use Rattle.csa_text.proofs.LineRuns.{line_run, line_run_long}
+use Rattle.csa_text.proofs.LineRuns.{line_run, line_run_long, line_run_finished}
 use Rattle.csa_text.proofs.laws.lines_run.Goals as goal
 
 pub returns-clause-lines : goal.returns-clause-lines
@@ -9,3 +9,6 @@ returns-clause-short c = λ steps old new empty r. (line_run steps old new empty
 
 pub returns-clause-long : goal.returns-clause-long
 returns-clause-long c = line_run_long
+
+pub returns-clause-finished : goal.returns-clause-finished
+returns-clause-finished c = line_run_finished
