@@ -1,5 +1,5 @@
 -- What a setup holds where a walk or a drop is laid on it.
-use Rattle.std.proofs.Common.{◌≡◌, ◌∙◌, ◌<◌, ℕ, List, Bool, true, false, Option, Some, None, is_some, set, sym, subst, arith}
+use Rattle.std.proofs.Common.{◌≡◌, ℕ, List, Bool, false, Option, Some, None, is_some, set, subst}
 use Rattle.shogi_board.specs.Cells.{Cells, at}
 use Rattle.shogi_board.specs.Layout.{Layout}
 use Rattle.shogi_board.specs.Material.{Material, bag_of, with_bag}

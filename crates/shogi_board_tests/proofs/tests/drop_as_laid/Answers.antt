@@ -1,6 +1,6 @@
-use Rattle.std.proofs.Common.{◌≡◌, ◌∙◌, sym, arith}
+use Rattle.std.proofs.Common.{◌≡◌, arith}
 use Rattle.shogi_board.specs.Setup.{layout_of, placed, taken}
-use Rattle.shogi_board_tests.proofs.Laid.{nothing, drop-fits}
+use Rattle.shogi_board_tests.proofs.Laid.{drop-fits}
 use Rattle.shogi_board_tests.proofs.tests.drop_as_laid.Goals as goal
 
 pub drop_piece-requires-clause-totals : goal.drop_piece-requires-clause-totals
