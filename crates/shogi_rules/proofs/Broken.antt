@@ -3,8 +3,8 @@ use Rattle.std.proofs.Common.{◌≡◌, Bool, false, inl, inr, List, [], ◌∷
 use Rattle.shogi_board.specs.Placed.{Placed}
 use Rattle.shogi_board.specs.declared.color.Color.{Color}
 use Rattle.shogi_rules.specs.After.{after}
-use Rattle.shogi_rules.specs.Legal.{FitsBoard, IsPawnDrop, Keeps, Mated, NoDropMate}
-use Rattle.shogi_rules.specs.Rules.{Kept, KeptAlone, board_rules, keeping_rules, move_rules, IsFirstBroken}
+use Rattle.shogi_rules.specs.Legal.{IsPawnDrop, Keeps, Mated, NoDropMate}
+use Rattle.shogi_rules.specs.Rules.{Kept, KeptAlone, keeping_rules, move_rules, IsFirstBroken}
 use Rattle.shogi_rules.specs.declared.moves.Move.{Move}
 use Rattle.shogi_rules.specs.declared.rule.Rule.{Rule}
 use Rattle.shogi_rules.specs.declared.rule.Rule.TheVariants.{PawnDropMate}
@@ -28,9 +28,6 @@ pub broken-not-kept : (kept : Rule → Type 0) (xs : List Rule) (r : Rule) → I
 broken-not-kept kept [] r h all = cc
 broken-not-kept kept (x ∷ xs) r (inl h) all = h.0 all.0
 broken-not-kept kept (x ∷ xs) r (inr h) all = broken-not-kept kept xs r h.1 all.1
-
-pub board-kept : (ps : List Placed) (p : Placed) (c : Color) (m : Move) → FitsBoard p m → AllKept (Kept ps p c m) board_rules
-board-kept ps p c m f = (f.has_piece, (f.kind_fits, (f.target_free, (f.reaches, (f.may_promote, (f.further_move, (f.lone_pawn, tt)))))))
 
 pub all-kept : (ps : List Placed) (p : Placed) (c : Color) (m : Move) → Keeps p m → AllKept (Kept ps p c m) keeping_rules
 all-kept ps p c m k =

@@ -3,7 +3,7 @@ use Rattle.std.proofs.Common.{◌≡◌, ◌≢◌, ℕ, set, get_or-set_same, g
 use Rattle.std.proofs.lemmas.Bool.{cases_lt}
 use Rattle.std.proofs.lemmas.List.{take-append-le, take_all, length-append, length-replicate, get_or-replicate}
 use Rattle.std.proofs.lemmas.List.Sums.{count_by_more_no}
-use Rattle.std.proofs.lemmas.Option.{get_or_from_slice_get, slice_get_within}
+use Rattle.std.proofs.lemmas.Option.{same_Some, get_or_from_slice_get, slice_get_within}
 use Rattle.shogi_board.specs.Placed.{Placed}
 use Rattle.shogi_board.specs.Same.{same_position}
 use Rattle.shogi_board.proofs.Same.{position-same}
@@ -90,11 +90,8 @@ leads-other ps p q m other led =
       chain = kept.chain;
     }
 
-pub some-placed : (p q : Placed) → Some p ≡ Some q → p ≡ q
-some-placed p q e = cc
-
 pub last-place : (ps : List Placed) (p q : Placed) (i : ℕ) → i ≡ length ps → slice_get (ps ++ p ∷ []) i ≡ Some q → p ≡ q
-last-place ps p q i e at = some-placed p q (sym (get-behind ps p i e) ∙ at)
+last-place ps p q i e at = same_Some p q (sym (get-behind ps p i e) ∙ at)
 
 leads-last : (ps : List Placed) (p q : Placed) → chain_of p ≡ chain_of q → Leads (ps ++ p ∷ []) (length (ps ++ p ∷ [])) q (length ps + 1)
 leads-last ps p q same =
@@ -134,22 +131,19 @@ pub keys-more : (es : List Entry) (e : Entry) → keys (es ++ e ∷ []) ≡ keys
 keys-more [] e = refl
 keys-more (x ∷ es) e = ap (λ (ps : List Placed). x.position ∷ ps) (keys-more es e)
 
-some-entry : (d e : Entry) → Some d ≡ Some e → d ≡ e
-some-entry d e h = cc
-
 pub key-at : (es : List Entry) (i : ℕ) (e : Entry) → slice_get es i ≡ Some e → slice_get (keys es) i ≡ Some e.position
 key-at [] i e at = cc
-key-at (x ∷ es) zero e at = ap (λ (d : Entry). Some d.position) (some-entry x e at)
+key-at (x ∷ es) zero e at = ap (λ (d : Entry). Some d.position) (same_Some x e at)
 key-at (x ∷ es) (suc i) e at = key-at es i e at
 
 pub last-entry : (es : List Entry) (d e : Entry) (i : ℕ) → i ≡ length es → slice_get (es ++ d ∷ []) i ≡ Some e → d ≡ e
-last-entry es d e i same at = some-entry d e (sym (get-behind es d i same) ∙ at)
+last-entry es d e i same at = same_Some d e (sym (get-behind es d i same) ∙ at)
 
 -- an entry that is counted on keeps its position, and so do all
 pub keys-kept : (es : List Entry) (i : ℕ) (d e : Entry) → slice_get es i ≡ Some d → e.position ≡ d.position → keys (set es i e) ≡ keys es
 keys-kept [] i d e at same = cc
 keys-kept (x ∷ es) zero d e at same =
-    let one : x ≡ d = some-entry x d at in
+    let one : x ≡ d = same_Some x d at in
     ap (λ (p : Placed). p ∷ keys es) (same ∙ ap (λ (y : Entry). y.position) (sym one))
 keys-kept (x ∷ es) (suc i) d e at same = ap (λ (ps : List Placed). x.position ∷ ps) (keys-kept es i d e at same)
 
@@ -189,11 +183,11 @@ chained-more es heads d old leads =
 kept-at : (es : List Entry) (i : ℕ) (d e : Entry) → e.position ≡ d.position → e.earlier ≡ d.earlier → slice_get es i ≡ Some d → (k : ℕ) (x : Entry) → slice_get (set es i e) k ≡ Some x → (y : Entry) × (slice_get es k ≡ Some y) × (y.position ≡ x.position) × (y.earlier ≡ x.earlier)
 kept-at [] i d e same lead at k x there = cc
 kept-at (z ∷ es) zero d e same lead at zero x there =
-    let one : z ≡ d = some-entry z d at in
-    let two : e ≡ x = some-entry e x there in
+    let one : z ≡ d = same_Some z d at in
+    let two : e ≡ x = same_Some e x there in
     (z, refl, ap (λ (y : Entry). y.position) one ∙ (sym same ∙ ap (λ (y : Entry). y.position) two), ap (λ (y : Entry). y.earlier) one ∙ (sym lead ∙ ap (λ (y : Entry). y.earlier) two))
 kept-at (z ∷ es) zero d e same lead at (suc k) x there = (x, there, refl, refl)
-kept-at (z ∷ es) (suc i) d e same lead at zero x there = (z, refl, ap (λ (y : Entry). y.position) (some-entry z x there), ap (λ (y : Entry). y.earlier) (some-entry z x there))
+kept-at (z ∷ es) (suc i) d e same lead at zero x there = (z, refl, ap (λ (y : Entry). y.position) (same_Some z x there), ap (λ (y : Entry). y.earlier) (same_Some z x there))
 kept-at (z ∷ es) (suc i) d e same lead at (suc k) x there = kept-at es i d e same lead at k x there
 
 pub chained-kept : (es : List Entry) (heads : List ℕ) (i : ℕ) (d e : Entry) → AreChained es heads → slice_get es i ≡ Some d → e.position ≡ d.position → e.earlier ≡ d.earlier → AreChained (set es i e) heads

@@ -2,7 +2,7 @@
 use Rattle.std.proofs.Common.{◌≡◌, ◌↔◌, ◌⊎◌, IsTrue, ℕ, set, suc, ◌+◌, ◌<◌, ◌≤◌, List, [], ◌∷◌, ◌++◌, Some, slice_get, arith, refl, sym, ap, ◌∙◌, length, length-set, inl, inr, subst, zero}
 use Rattle.std.proofs.lemmas.Bool.{cases_lt}
 use Rattle.std.proofs.lemmas.List.{length-append}
-use Rattle.std.proofs.lemmas.Option.{slice_get_within}
+use Rattle.std.proofs.lemmas.Option.{same_Some, slice_get_within}
 use Rattle.shogi_board.specs.Placed.{Placed}
 use Rattle.shogi_board.specs.Reach.{InCheck}
 use Rattle.shogi_board.specs.Same.{same_position}
@@ -103,12 +103,9 @@ counts-more ps es d old none one here =
           omega (arith, a, b, low);
     }
 
-some-entry : (d e : Entry) → Some d ≡ Some e → d ≡ e
-some-entry d e h = cc
-
 get-set : (es : List Entry) (n : ℕ) (d e x : Entry) → slice_get es n ≡ Some d → slice_get (set es n e) n ≡ Some x → e ≡ x
 get-set [] n d e x at there = cc
-get-set (y ∷ es) zero d e x at there = some-entry e x there
+get-set (y ∷ es) zero d e x at there = same_Some e x there
 get-set (y ∷ es) (suc n) d e x at there = get-set es n d e x at there
 
 get-other : (es : List Entry) (n i : ℕ) (e : Entry) → (i ≡ n → ⊥) → slice_get (set es n e) i ≡ slice_get es i
@@ -175,12 +172,6 @@ counts-again ps es n d e p old at stands same count begins =
           omega (arith, a, b, low);
     }
 
-some-turn : (t u : Turn) → Some t ≡ Some u → t ≡ u
-some-turn t u h = cc
-
-some-placed : (p q : Placed) → Some p ≡ Some q → p ≡ q
-some-placed p q h = cc
-
 -- one turn more
 pub turns-more : (ps : List Placed) (turns : List Turn) (p : Placed) (turn : Turn) → AreTurns ps turns → turn.side ≡ p.side → (IsTrue turn.in_check ↔ InCheck p.material.board p.side) → AreTurns (ps ++ p ∷ []) (turns ++ turn ∷ [])
 turns-more ps turns p turn old side check =
@@ -194,8 +185,8 @@ turns-more ps turns p turn old side check =
         | inr le ↦
             let within = slice_get_within (ps ++ p ∷ []) i q at in
             let here : i ≡ length ps = omega (arith, within, a, le) in
-            let one : p ≡ q = some-placed p q (sym (get-behind ps p i here) ∙ at) in
-            let two : turn ≡ t = some-turn turn t (sym (get-behind turns turn i (here ∙ sym long)) ∙ by) in
+            let one : p ≡ q = same_Some p q (sym (get-behind ps p i here) ∙ at) in
+            let two : turn ≡ t = same_Some turn t (sym (get-behind turns turn i (here ∙ sym long)) ∙ by) in
             subst (λ (x : Placed). (t.side ≡ x.side) × (IsTrue t.in_check ↔ InCheck x.material.board x.side)) one
             (subst (λ (x : Turn). (x.side ≡ p.side) × (IsTrue x.in_check ↔ InCheck p.material.board p.side)) two (side, check))
       ];

@@ -67,20 +67,6 @@ before-form : (from to : Square) (k l : Kind) → IsBefore (Walk from to k) (Wal
 before-form from to k l (inl lt) = absurd (place-less from from refl lt)
 before-form from to k l (inr h) = elim h.1 [ inl lt ↦ absurd (place-less to to refl lt) | inr b ↦ (b.1, b.2) ]
 
-pub own-first : (p : Placed) (from to : Square) (was : Kind) (m : Move) → at p.material.board from ≡ piece p.side was → m ≡ Walk from to was → Legal p m → IsFirstOf p (Leads from to) m
-own-first p from to was m stands is legal = record {
-  among = subst (Leads from to) (sym is) (refl, refl);
-  legal = legal;
-  first = λ n leads before other.
-      let f = form-of p from to was n stands leads other in
-      let k = f.0 in
-      let ordered : IsBefore (Walk from to k) (Walk from to was) = subst (λ (x : Move). IsBefore x (Walk from to was)) f.1 (subst (IsBefore n) is before) in
-      let b = before-form from to k was ordered in
-      let same = form-kept was k b.0 f.2 in
-      let bad : true ≡ false = sym b.1 ∙ (ap is_promoted (sym same) ∙ b.0) in
-      absurd (cc);
-}
-
 pub promoted-first : (p : Placed) (from to : Square) (was k : Kind) (m : Move) → at p.material.board from ≡ piece p.side was → (Legal p (Walk from to was) → ⊥) → promoted was ≡ Some k → m ≡ Walk from to k → Legal p m → IsFirstOf p (Leads from to) m
 promoted-first p from to was k m stands bare promotion is legal = record {
   among = subst (Leads from to) (sym is) (refl, refl);
@@ -111,9 +97,6 @@ none-stands p from empty (Put t k) from-there legal = from-there
 pub leads-from : (from to : Square) (m : Move) → Leads from to m → MovesFrom from m
 leads-from from to (Walk g u k) h = h.0
 leads-from from to (Put t k) h = h
-
-pub none-leads : (p : Placed) (from to : Square) → NoneOf p (MovesFrom from) → NoneOf p (Leads from to)
-none-leads p from to none = λ m leads legal. none m (leads-from from to m leads) legal
 
 pub not-reached : (p : Placed) (from to : Square) → (Reach p.material.board from to → ⊥) → NoneOf p (Leads from to)
 not-reached p from to far (Walk g u k) leads legal =

@@ -52,6 +52,3 @@ hands-kept p (Put to k) some empty c = cc
 -- what a change says stands on the squares of the move
 pub there-stands : (p : Placed) (m : Move) (change : Change) → IsChangeBy p m change → change.there ≡ at p.material.board (target m)
 there-stands p m change by = sym by.before.there ∙ ap (λ (s : Square). at p.material.board s) by.to
-
-pub left-stands : (p : Placed) (m : Move) (change : Change) (s : Square) → IsChangeBy p m change → source m ≡ Some s → change.left ≡ at p.material.board s
-left-stands p m change s by e = sym (by.before.left s (by.from ∙ e))

@@ -1,5 +1,5 @@
 -- What the tests of kinds and colours say.
-use Rattle.std.proofs.Common.{◌≡◌, ℕ, ◌<◌, ◌==◌, true, Option, Some, None, ◌⊎◌, inl, inr, arith, refl, ap, sym, ◌∙◌, lit<}
+use Rattle.std.proofs.Common.{◌≡◌, ℕ, ◌<◌, ◌==◌, true, Option, Some, None, ◌⊎◌, inl, inr, arith, refl, ap, sym, lit<}
 use Rattle.std.proofs.lemmas.Bool.Decides.{Decides-eqb}
 use Rattle.shogi_board.specs.Cells.{piece}
 use Rattle.shogi_board.specs.declared.kind.Piece.{Piece}
@@ -78,10 +78,6 @@ place-king ProKnight h = absurd (omega arith)
 place-king ProSilver h = absurd (omega arith)
 place-king Horse h = absurd (omega arith)
 place-king Dragon h = absurd (omega arith)
-
--- what is a king after a walk was one
-pub form-king : (was its_kind : Kind) → (its_kind ≡ was) ⊎ (promoted was ≡ Some its_kind) → is_king its_kind ≡ true → is_king was ≡ true
-form-king was its_kind form h = place-king was (sym (form-place was its_kind form) ∙ king-place its_kind h)
 
 -- a piece that is no king may be held
 pub captured-held : (k : Kind) → (k ≡ King → ⊥) → is_hand_kind (unpromoted k) ≡ true

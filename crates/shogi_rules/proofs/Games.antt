@@ -82,7 +82,7 @@ positions-long s [] = refl
 positions-long s (m ∷ ms) = let h = positions-long (after s m) ms in omega (arith, h)
 
 -- there is room for one position more
-pub line-room : (start last : Placed) (moves : List Move) (positions : List Placed) → IsLine start last moves positions → length moves < 10000 → length positions < 10001
+pub line-room : (start last : Placed) (moves : List Move) (positions : List Placed) → IsLine start last moves positions → length moves < 10000 → length positions ≤ 10000
 line-room start last moves positions line few = rw line.all (let h = positions-long start moves in omega (arith, h, few))
 
 pub line-more : (start last : Placed) (moves : List Move) (positions : List Placed) (c : Color) (m : Move) → IsLine start last moves positions → length moves < 10000 → IsFirstBroken (Kept (positions_of start moves) (position_after start moves) c m) all_rules None → IsLine start (after (position_after start moves) m) (moves ++ m ∷ []) (positions ++ after (position_after start moves) m ∷ [])

@@ -25,10 +25,6 @@ pressed-at ps turns place color s t are here next side =
       λ all. (are.each (place + 1) b.0 t b.1 next).1.1 (all a.0 b.0 a.1 b.1 (sym (are.each place a.0 s a.1 here).0 ∙ side)),
     )
 
--- a move of the other side is none that had to give check
-pub not-of-it : (ps : List Placed) (turns : List Turn) (place : ℕ) (color : Color) (s : Turn) → AreTurns ps turns → slice_get turns place ≡ Some s → (s.side ≡ color → ⊥) → PressedAt ps color place
-not-of-it ps turns place color s are here other = λ p q hp hq own. absurd (other ((are.each place p s hp here).0 ∙ own))
-
 -- where both pressed, or neither did, nobody pressed alone
 pub nobody-alone : (ps : List Placed) (first fourth : ℕ) (b w : Bool) → (IsTrue b ↔ Pressed ps first fourth Black) → (IsTrue w ↔ Pressed ps first fourth White) → b ≡ w → (color : Color) → PressedAlone ps first fourth color → ⊥
 nobody-alone ps first fourth b w db dw e Black alone = alone.1 (dw.0 (sym e ∙ db.1 alone.0))

@@ -29,7 +29,7 @@ pub record Seeing : Type 0 where
   pub here : ℕ
   pub turns : List Turn
 
--- that is kept of these positions, and this one is the last of them
+-- that is kept of these positions, and the entry of the last one is that of this position
 pub record IsSeen (ps : List Placed) (last : Placed) (seen : Seeing) : Type 0 where
   pub counts : AreCounts ps seen.counts
   pub here : StandsAt seen.counts seen.here last

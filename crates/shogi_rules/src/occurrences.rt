@@ -1,5 +1,6 @@
 ghost use Rattle.std.specs.Prelude.{◌≡◌, ◌+◌, ◌++◌, ◌%◌, ◌<◌, ◌≤◌, [], ◌∷◌, List, MatchOption, Some, OnOk, OnErr, IfOk, length, slice_get, slice_index_or};
 ghost use Rattle.shogi_board.specs.Placed.{Placed};
+ghost use Rattle.shogi_rules.specs.Positions.{max_moves};
 ghost use Rattle.shogi_rules.specs.Repetition.{times};
 ghost use Rattle.shogi_rules.specs.Chains.{chain_of, chains, keys, Leads};
 ghost use Rattle.shogi_rules.specs.Counting.{AreCounts, StandsAt};
@@ -13,7 +14,7 @@ use std::marker::Model;
 // boards that differ in a square or two seldom share a chain.
 const CHAINS: usize = 1019;
 
-// How many positions and moves there is room for from the start: most games have fewer moves.
+// How many entries, turns and moves there is room for from the start: most games have fewer moves.
 pub(crate) const FIRST_ROOM: usize = 256;
 
 // Which chain the position stands in.
@@ -34,7 +35,7 @@ pub(crate) struct Entry {
     pub earlier: usize,
 }
 
-// A map from each position to how often it stands and where first, in the order of first places.
+// A map from each position to how often it stands and where first. A new position comes behind the others.
 #[derive(Drop)]
 pub(crate) struct Occurrences {
     entries: Vec<Entry>,
@@ -103,7 +104,7 @@ impl Occurrences {
     #[inline(always)]
     pub(crate) fn add(&mut self, position: Packed, before: usize) -> Result<usize, AllocError>
         requires counted { (ps : List Placed) × (length ps ≡ before) × AreCounts ps self.old }
-        requires few { before < 10001 }
+        requires few { before ≤ max_moves }
         ensures ok { OnOk result ((ps : List Placed) → length ps ≡ before → AreCounts ps self.old → AreCounts (ps ++ position ∷ []) self.new) }
         ensures place { IfOk result (λ n. (n < length self.new) × StandsAt self.new n position) }
         ensures err { OnErr result (self.new ≡ self.old) }

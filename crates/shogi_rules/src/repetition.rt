@@ -74,6 +74,7 @@ pub(crate) fn verdict_by_moves(p: &Position) -> Verdict
     match first_legal(p) {
         Some(_) => Verdict::Ongoing,
         None => {
+            // a check that only a pawn drop would end which mates
             if in_check(p) {
                 Verdict::Mate
             } else {

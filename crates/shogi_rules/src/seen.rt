@@ -5,6 +5,7 @@ ghost use Rattle.shogi_rules.specs.After.{after};
 ghost use Rattle.shogi_rules.specs.Changes.{IsChangeBy};
 ghost use Rattle.shogi_rules.specs.Counting.{IsSeen};
 ghost use Rattle.shogi_rules.specs.Legal.{FitsBoard};
+ghost use Rattle.shogi_rules.specs.Positions.{max_moves};
 ghost use Rattle.shogi_rules.specs.Repetition.{times, IsNth};
 
 use crate::moves::Move;
@@ -104,7 +105,7 @@ impl Seen {
     // Adds the position, of which it is known whether its side to move is in check. A refused growth changes nothing.
     #[inline(always)]
     pub(crate) fn push(&mut self, position: Packed, in_check: bool) -> Result<(), AllocError>
-        requires seen { (ps : List Placed) × (p : Placed) × (length ps < 10001) × IsSeen ps p self.old }
+        requires seen { (ps : List Placed) × (p : Placed) × (length ps ≤ max_moves) × IsSeen ps p self.old }
         requires check { IsTrue in_check ↔ InCheck position.material.board position.side }
         ensures ok { OnOk result ((ps : List Placed) (p : Placed) → IsSeen ps p self.old → IsSeen (ps ++ position ∷ []) position self.new) }
         ensures err { OnErr result (self.new ≡ self.old) }

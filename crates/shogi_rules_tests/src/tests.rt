@@ -280,9 +280,35 @@ fn counts_legal_moves(rt: HostRuntime) -> Result<(), Fail> {
 }
 
 // Run by tests/growths with each growth refused in turn: a refused call changes nothing, and made again it succeeds.
+// The square of a king that goes round on two ranks, from file 1 of the first.
+fn on_ring(n: usize, first: u8, second: u8) -> Result<Square, Fail>
+    requires { n < 18 }
+{
+    let square = if n < 9 {
+        Square::new(n as u8 + 1, first)
+    } else {
+        Square::new(18 - n as u8, second)
+    };
+    Ok(square.ok_or("no square")?)
+}
+
+// The n-th move of two kings that go round, black's in 18 steps and white's in 17, so that no position stands twice in 612.
+fn king_move(n: usize) -> Result<(Color, Move), Fail> {
+    let step = n / 2;
+    let (color, from, to) = if n % 2 == 0 {
+        let to = on_ring((step + 1) % 18, 9, 8)?;
+        (Color::Black, on_ring(step % 18, 9, 8)?, to)
+    } else {
+        let to = on_ring((step + 1) % 17, 1, 2)?;
+        (Color::White, on_ring(step % 17, 1, 2)?, to)
+    };
+    let kind = Kind::King;
+    Ok((color, Move::Walk { from, to, kind }))
+}
+
 #[test]
 fn refused_growth_changes_nothing(rt: HostRuntime) -> Result<(), Fail> {
-    let start = Position::even();
+    let start = position(Color::Black, "+19OU -11OU ")?;
     let mut line = match Line::new(rt.alloc(), start) {
         Ok(line) => line,
         Err(OutOfMemory) => {
@@ -290,23 +316,20 @@ fn refused_growth_changes_nothing(rt: HostRuntime) -> Result<(), Fail> {
             Line::new(rt.alloc(), start)?
         }
     };
-    for word in "+7776FU -3334FU +2726FU -8384FU +2625FU -8485FU +6978KI -4132KI +2524FU -2324FU "
-        .as_bytes()
-        .chunks(8)
-    {
-        let (color, mv) = read(word)?;
+    // more than there is room for from the start
+    for n in 0..300usize {
+        let (color, mv) = king_move(n)?;
         let last = line.now();
-        let count = line.moves().len();
         if let Err(fault) = line.play(color, mv) {
             println!(rt; "refused")?;
             assert_eq!(rt; fault, PlayFault::OutOfMemory);
-            assert_eq!(rt; line.moves().len(), count);
+            assert_eq!(rt; line.moves().len(), n);
             assert_eq!(rt; line.now(), last);
             line.play(color, mv)?;
         }
         assert_eq!(rt; line.moves().last().copied(), Some(mv));
         assert_ne!(rt; line.now(), last);
     }
-    assert_eq!(rt; line.moves().len(), 10);
+    assert_eq!(rt; line.moves().len(), 300);
     Ok(())
 }
