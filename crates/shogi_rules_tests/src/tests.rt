@@ -1,3 +1,5 @@
+ghost use Rattle.std.specs.Prelude.{◌<◌};
+
 use shogi_board::{Color, Kind, OutOfMemory, Position, Setup, Square};
 use shogi_rules::{
     Line, Move, PlayFault, Rule, Verdict, after, first_legal, in_check, judge, laws,
