@@ -1,5 +1,5 @@
 -- What a piece holds next, by where the cutter stands.
-use Rattle.std.proofs.Common.{◌≡◌, ℕ, zero, suc, ◌+◌, ◌-◌, ◌<◌, ◌≤◌, ◌==◌, Bool, true, false, not, List, [], ◌∷◌, ◌++◌, length, take, drop, get_or, slice_range, length-drop, append_assoc, Ok, Err, arith, refl, sym, ap, ◌∙◌, subst, inl, inr}
+use Rattle.std.proofs.Common.{◌≡◌, ℕ, zero, suc, ◌+◌, ◌-◌, ◌<◌, ◌≤◌, ◌==◌, Bool, true, false, not, List, [], ◌∷◌, ◌++◌, length, take, drop, get_or, slice_range, length-drop, length-append, append_assoc, Err, arith, refl, sym, ap, ◌∙◌, subst, inl, inr}
 use Rattle.std.proofs.lemmas.Bool.{cases_lt, eqb-true}
 use Rattle.std.proofs.lemmas.Bool.Decides.{nat_tests}
 use Rattle.std.proofs.lemmas.List.{length-take-le, take-append-drop, append_cancel_left, get_or-take, get_or-drop}
@@ -7,43 +7,32 @@ use Rattle.std.proofs.lemmas.List.Sums.{prefix_len_stops, prefix_len-le-length}
 use Rattle.std.proofs.Math.Seq.{drop-cons, drop-length, take-length, take-add}
 use Rattle.std.specs.List.{AllByRecursion, position_or_len}
 use Rattle.csa_text.specs.Cut.{TextUnit, IsUnit, EndsBefore, Statements, is_end, begins_with, byte_order_mark, mark_length}
-use Rattle.csa_text.specs.PieceCutting.{Follows}
-use Rattle.csa_text.specs.Places.{Found, IsPart, IsUnitIn, IsFoundIn, IsFirstIn, IsCommon}
+use Rattle.csa_text.specs.PieceCutting.{Follows, mark_of}
+use Rattle.csa_text.specs.Places.{IsPart, IsFoundIn, IsCommon, Passes, PassesTo, begins, open_of}
+use Rattle.csa_text.specs.declared.piece.Place.{Place}
 use Rattle.csa_text.specs.declared.piece.Place.TheVariants.{Mark, Gap, Unit as InUnit, Comment}
 use Rattle.csa_text.proofs.Fronts.{passes, weaker, turned_true, turned_false, ends_before, unit_front}
 use Rattle.csa_text.proofs.LineCutting.{all_joined}
-use Rattle.csa_text.proofs.Passing.{statements_at, statements_of, behind_open_comment, behind_comment, unit_before, whole_range, split_range, head_range}
+use Rattle.csa_text.proofs.Passing.{statements_at, statements_of, unit_before, ends_with_next, split_front, front_size, over_comment, over_open_comment}
 
 -- from the front
-pub first_range : (piece : List ℕ) (k : ℕ) → slice_range piece 0 k ≡ take k piece
+first_range : (piece : List ℕ) (k : ℕ) → slice_range piece 0 k ≡ take k piece
 first_range piece k = let count : k - 0 ≡ k = omega arith in ap (λ n. take n piece) count
 
 -- behind the mark and no longer in it
 pub follows_plain : (fed o : ℕ) (held text : List ℕ) (others : List TextUnit) → o ≡ fed - length held → Statements o (held ++ text) others → Follows false fed held text others
 follows_plain fed o held text others e s = statements_at o _ _ others (omega arith) s
 
-unit_from_gap : (piece held : List ℕ) (goes_on : Bool) (start end : ℕ) → goes_on ≡ false → IsUnitIn piece 0 start end → IsPart Gap held piece goes_on start end
-unit_from_gap piece held true start end e u = cc
-unit_from_gap piece held false start end e u = record {
-  order = omega (arith, u.some);
-  within = u.within;
-  first = λ h. cc;
-  unit = u.unit;
-  spoken = u.spoken;
-  passed = λ fed k more others few up low last s.
-      follows_plain fed (fed + 0) [] (take k piece ++ more) others (omega arith)
-      (statements_of (fed + 0) _ _ others (ap (λ xs. xs ++ more) (first_range piece k))
-      (u.passed fed k more others up low (statements_at _ (fed + start) _ others (omega arith) s)));
-}
+-- what is unfinished, and the piece behind it, where both begin with no mark
+passes_open : (place : Place) (held front : List ℕ) → ((more : List ℕ) → mark_of (begins place) (open_of place held ++ (front ++ more)) ≡ 0) → Passes place held front (open_of place held ++ front)
+passes_open place held front none fed more others few s =
+    let begun = open_of place held in
+    let same : fed + length front - length (begun ++ front) ≡ fed - length begun + 0 = omega (arith, length-append begun front) in
+    subst (λ m. Statements (fed - length begun + m) (drop m (begun ++ (front ++ more))) others) (sym (none more))
+    (statements_at _ _ _ others same (statements_of _ _ _ others (append_assoc begun front more) s))
 
--- the piece from a gap on
-pub found_from_gap : (piece : List ℕ) (held : List ℕ) (f : Found) → IsFirstIn piece 0 f → IsFoundIn Gap held piece f
-found_from_gap piece held (Err Mark) h = absurd h
-found_from_gap piece held (Err InUnit) h = absurd h
-found_from_gap piece held (Err Gap) h = λ fed more others few s. follows_plain fed (fed + 0) [] (piece ++ more) others (omega arith) (h fed more others s)
-found_from_gap piece held (Err Comment) h =
-    (inr h.0, λ fed more others few s. follows_plain fed (fed + 0) [] (piece ++ more) others (omega arith) (h.1 fed more others s))
-found_from_gap piece held (Ok part) h = unit_from_gap piece held part.goes_on part.start part.end h.0 h.1
+pub passes_gap : (held piece : List ℕ) → PassesTo Gap held piece 0
+passes_gap held piece = passes_open Gap held (take 1 piece) (λ more. refl)
 
 -- the rest of a unit whose first byte is held
 pub rest_unit : (held piece : List ℕ) (first n : ℕ) → IsUnit held [] → begins_with first held ≡ true → n ≡ position_or_len (is_end first) piece → IsUnit (held ++ take n piece) (drop n piece)
@@ -72,81 +61,36 @@ pub found_in_unit : (held piece : List ℕ) (n : ℕ) → IsUnit held [] → beg
 found_in_unit held piece n h says e =
     let first = get_or held 0 0 in
     let some = unit_some held [] h in
-    let within : n ≤ length piece = rw e (prefix_len-le-length (λ x. not (is_end first x)) piece) in
     record {
       order = omega arith;
-      within = within;
+      within = rw e (prefix_len-le-length (λ x. not (is_end first x)) piece);
       first = λ _. (refl, refl);
       unit = rw (first_range piece n) (rest_unit held piece first n h (first_of_held held some) e);
       spoken = begins_still 39 held (slice_range piece 0 n) some ∙ says;
-      passed = λ fed k more others few up low last s.
-          follows_plain fed (fed + 0 - length held) held (take k piece ++ more) others (omega arith)
-          (statements_of (fed + 0 - length held) _ _ others
-          (append_assoc held (slice_range piece 0 k) more ∙ ap (λ xs. held ++ (xs ++ more)) (first_range piece k)) s);
+      passed = rw (first_range piece (n + 1)) (passes_open InUnit held (take (n + 1) piece) (λ more. refl));
     }
 
 comment_line : (piece : List ℕ) (n : ℕ) → n ≡ position_or_len (is_end 39) piece → IsUnit (39 ∷ take n piece) (drop n piece)
 comment_line piece n e = rest_unit (39 ∷ []) piece 39 n (refl, tt, tt) refl e
 
 -- the whole piece in a comment
-in_comment : (piece : List ℕ) (n : ℕ) → n ≡ position_or_len (is_end 39) piece → n ≡ length piece → IsFoundIn Comment [] piece (Err Comment)
-in_comment piece n e all =
-    let whole : take n piece ≡ piece = rw all (take-length piece) in
-    let none : drop n piece ≡ [] = rw all (drop-length piece) in
-    let unit : IsUnit (39 ∷ piece) [] = rw (whole, none) at (comment_line piece n e) in (
-      inl refl,
-      λ fed more others few s.
-          follows_plain fed (fed - 1) (39 ∷ []) (piece ++ more) others (omega arith)
-          (behind_open_comment (fed - 1) (39 ∷ piece) more others unit refl (statements_at _ _ _ others (omega arith) s)),
-    )
-
--- behind the comment's line: what comes from its end comes from the front
-over_comment : (piece : List ℕ) (n k fed : ℕ) (more : List ℕ) (others : List TextUnit) → n ≡ position_or_len (is_end 39) piece → n < k → k ≤ length piece → 1 ≤ fed → Statements (fed + n) (slice_range piece n k ++ more) others → Follows false fed (39 ∷ []) (take k piece ++ more) others
-over_comment piece n k fed more others e some low few s =
-    let behind = slice_range piece n k ++ more in
-    let unit : IsUnit (39 ∷ take n piece) behind = unit_before (39 ∷ take n piece) (drop n piece) behind (comment_line piece n e) (λ first h. head_range piece n k first more some low h) in
-    let size : length (take n piece) ≡ n = length-take-le n piece (omega arith) in
-    let split : take k piece ≡ take n piece ++ slice_range piece n k =
-    sym (first_range piece k) ∙ split_range piece 0 n k (omega arith) (omega arith) low ∙ ap (λ xs. xs ++ slice_range piece n k) (first_range piece n) in
-    let whole : (39 ∷ take n piece) ++ behind ≡ (39 ∷ []) ++ (take k piece ++ more) =
-    ap (λ xs. 39 ∷ xs) (sym (append_assoc (take n piece) (slice_range piece n k) more) ∙ ap (λ xs. xs ++ more) (sym split)) in
-    follows_plain fed (fed - 1) (39 ∷ []) (take k piece ++ more) others (omega arith)
-    (statements_of (fed - 1) _ _ others whole
-    (behind_comment (fed - 1) (39 ∷ take n piece) behind others unit refl (statements_at (fed + n) _ _ others (omega (arith, size)) s)))
-
-over_comment_whole : (piece : List ℕ) (n fed : ℕ) (more : List ℕ) (others : List TextUnit) → n ≡ position_or_len (is_end 39) piece → n < length piece → 1 ≤ fed → Statements (fed + n) (drop n piece ++ more) others → Follows false fed (39 ∷ []) (piece ++ more) others
-over_comment_whole piece n fed more others e some few s =
-    subst (λ xs. Follows false fed (39 ∷ []) (xs ++ more) others) (take-length piece)
-    (over_comment piece n (length piece) fed more others e some (omega arith) few
-    (statements_of (fed + n) _ _ others (ap (λ xs. xs ++ more) (sym (whole_range piece n))) s))
-
-unit_behind_comment : (piece : List ℕ) (n : ℕ) (goes_on : Bool) (start end : ℕ) → n ≡ position_or_len (is_end 39) piece → goes_on ≡ false → IsUnitIn piece n start end → IsPart Comment [] piece goes_on start end
-unit_behind_comment piece n true start end e f u = cc
-unit_behind_comment piece n false start end e f u = record {
-  order = omega (arith, u.some);
-  within = u.within;
-  first = λ h. cc;
-  unit = u.unit;
-  spoken = u.spoken;
-  passed = λ fed k more others few up low last s.
-      over_comment piece n k fed more others e (omega (arith, u.order, u.some)) low (omega arith)
-      (u.passed fed k more others up low (statements_at _ (fed + start) _ others (omega arith) s));
-}
-
-behind_comment_in : (piece : List ℕ) (n : ℕ) (f : Found) → n ≡ position_or_len (is_end 39) piece → n < length piece → IsFirstIn piece n f → IsFoundIn Comment [] piece f
-behind_comment_in piece n (Err Mark) e some h = absurd h
-behind_comment_in piece n (Err InUnit) e some h = absurd h
-behind_comment_in piece n (Err Gap) e some h = λ fed more others few s. over_comment_whole piece n fed more others e some few (h fed more others s)
-behind_comment_in piece n (Err Comment) e some h =
-    (inl refl, λ fed more others few s. over_comment_whole piece n fed more others e some few (h.1 fed more others s))
-behind_comment_in piece n (Ok part) e some h = unit_behind_comment piece n part.goes_on part.start part.end e h.0 h.1
-
--- in a comment nothing is held
 pub found_in_comment : (held piece : List ℕ) (n : ℕ) → held ≡ [] → n ≡ position_or_len (is_end 39) piece → n ≡ length piece → IsFoundIn Comment held piece (Err Comment)
-found_in_comment held piece n none e all = rw none (in_comment piece n e all)
+found_in_comment held piece n none e all =
+    let whole : take n piece ≡ piece = rw all (take-length piece) in
+    let rest : drop n piece ≡ [] = rw all (drop-length piece) in
+    let unit : IsUnit (39 ∷ piece) [] = rw (whole, rest) at (comment_line piece n e) in
+    rw none (inl refl, over_open_comment Comment [] piece (39 ∷ piece) unit refl (omega arith) (passes_open Comment [] piece (λ more. refl)))
 
-pub found_behind_comment : (held piece : List ℕ) (n : ℕ) (f : Found) → held ≡ [] → n ≡ position_or_len (is_end 39) piece → n < length piece → IsFirstIn piece n f → IsFoundIn Comment held piece f
-found_behind_comment held piece n f none e some h = rw none (behind_comment_in piece n f e some h)
+-- behind the comment's line
+pub passes_comment : (held piece : List ℕ) (n : ℕ) → held ≡ [] → n ≡ position_or_len (is_end 39) piece → n < length piece → PassesTo Comment held piece n
+passes_comment held piece n none e some =
+    let up : n ≤ n + 1 = omega arith in
+    let front = take (n + 1) piece in
+    let body = 39 ∷ take n piece in
+    let unit : (more : List ℕ) → IsUnit body (slice_range piece n (n + 1) ++ more) =
+    λ more. unit_before body (drop n piece) _ (comment_line piece n e) (λ first h. ends_with_next piece n first more some h) in
+    rw none (over_comment Comment [] front body (slice_range piece n (n + 1)) unit refl (omega (arith, front_size piece n (n + 1) up))
+    (subst (λ xs. Passes Comment [] front (39 ∷ xs)) (split_front piece n (n + 1) up) (passes_open Comment [] front (λ more. refl))))
 
 -- the whole mark
 
@@ -163,21 +107,13 @@ other_byte (suc zero) b rest less h = rw h refl
 other_byte (suc (suc zero)) b rest less h = rw h refl
 other_byte (suc (suc (suc m))) b rest less h = absurd (omega arith)
 
--- the front of the piece up to one place, and the bytes from there to another
-split_front : (piece : List ℕ) (n k : ℕ) → n ≤ k → k ≤ length piece → take k piece ≡ take n piece ++ slice_range piece n k
-split_front piece n k order low =
-    sym (first_range piece k) ∙ split_range piece 0 n k (omega arith) order low ∙ ap (λ xs. xs ++ slice_range piece n k) (first_range piece n)
-
 -- the text behind the bytes that are of the mark
-in_mark : (held piece mark more : List ℕ) (n k : ℕ) → held ++ take n piece ≡ mark → n ≤ k → k ≤ length piece → held ++ (take k piece ++ more) ≡ mark ++ (slice_range piece n k ++ more)
-in_mark held piece mark more n k same order low =
-    ap (λ xs. held ++ (xs ++ more)) (split_front piece n k order low)
+in_mark : (held piece mark more : List ℕ) (n k : ℕ) → held ++ take n piece ≡ mark → n ≤ k → held ++ (take k piece ++ more) ≡ mark ++ (slice_range piece n k ++ more)
+in_mark held piece mark more n k same order =
+    ap (λ xs. held ++ (xs ++ more)) (split_front piece n k order)
     ∙ ap (λ xs. held ++ xs) (append_assoc (take n piece) (slice_range piece n k) more)
     ∙ sym (append_assoc held (take n piece) (slice_range piece n k ++ more))
     ∙ ap (λ xs. xs ++ (slice_range piece n k ++ more)) same
-
-whole_piece : (piece more : List ℕ) → take (length piece) piece ++ more ≡ piece ++ more
-whole_piece piece more = ap (λ xs. xs ++ more) (take-length piece)
 
 -- the mark is whole behind n bytes of the piece
 pub record WholeMark (held piece : List ℕ) (n : ℕ) : Type 0 where
@@ -185,38 +121,13 @@ pub record WholeMark (held piece : List ℕ) (n : ℕ) : Type 0 where
   pub within : n ≤ length piece
   pub same : held ++ take n piece ≡ byte_order_mark
 
-follows_mark : (held piece : List ℕ) (n k fed : ℕ) (more : List ℕ) (others : List TextUnit) → WholeMark held piece n → n ≤ k → k ≤ length piece → length held ≤ fed → Statements (fed + n) (slice_range piece n k ++ more) others → Follows true fed held (take k piece ++ more) others
-follows_mark held piece n k fed more others w order low few s =
-    let place : fed + n ≡ fed - length held + 3 = let size = w.size in omega arith in
-    with_mark fed held (take k piece ++ more) (slice_range piece n k ++ more) others (in_mark held piece byte_order_mark more n k w.same order low)
-    (statements_at (fed + n) _ _ others place s)
-
-follows_mark_whole : (held piece : List ℕ) (n fed : ℕ) (more : List ℕ) (others : List TextUnit) → WholeMark held piece n → length held ≤ fed → Statements (fed + n) (drop n piece ++ more) others → Follows true fed held (piece ++ more) others
-follows_mark_whole held piece n fed more others w few s =
-    subst (λ xs. Follows true fed held xs others) (whole_piece piece more)
-    (follows_mark held piece n (length piece) fed more others w w.within (omega arith) few
-    (statements_of (fed + n) _ _ others (ap (λ xs. xs ++ more) (sym (whole_range piece n))) s))
-
-unit_behind_mark : (held piece : List ℕ) (n : ℕ) (goes_on : Bool) (start end : ℕ) → WholeMark held piece n → goes_on ≡ false → IsUnitIn piece n start end → IsPart Mark held piece goes_on start end
-unit_behind_mark held piece n true start end w e u = cc
-unit_behind_mark held piece n false start end w e u = record {
-  order = omega (arith, u.some);
-  within = u.within;
-  first = λ h. cc;
-  unit = u.unit;
-  spoken = u.spoken;
-  passed = λ fed k more others few up low last s.
-      follows_mark held piece n k fed more others w (omega (arith, u.order, u.some)) low few
-      (u.passed fed k more others up low (statements_at _ (fed + start) _ others (omega arith) s));
-}
-
-pub found_behind_mark : (held piece : List ℕ) (n : ℕ) (f : Found) → WholeMark held piece n → IsFirstIn piece n f → IsFoundIn Mark held piece f
-found_behind_mark held piece n (Err Mark) w h = absurd h
-found_behind_mark held piece n (Err InUnit) w h = absurd h
-found_behind_mark held piece n (Err Gap) w h = λ fed more others few s. follows_mark_whole held piece n fed more others w few (h fed more others s)
-found_behind_mark held piece n (Err Comment) w h =
-    (inr h.0, λ fed more others few s. follows_mark_whole held piece n fed more others w few (h.1 fed more others s))
-found_behind_mark held piece n (Ok part) w h = unit_behind_mark held piece n part.goes_on part.start part.end w h.0 h.1
+pub passes_mark : (held piece : List ℕ) (n : ℕ) → WholeMark held piece n → PassesTo Mark held piece n
+passes_mark held piece n w fed more others few s =
+    let size = w.size in
+    let taken : length (take n piece) ≡ n = length-take-le n piece w.within in
+    let front = front_size piece n (n + 1) (omega arith) in
+    with_mark fed held (take (n + 1) piece ++ more) (slice_range piece n (n + 1) ++ more) others (in_mark held piece byte_order_mark more n (n + 1) w.same (omega arith))
+    (statements_at _ _ _ others (omega arith) s)
 
 -- the byte behind n bytes of the piece is none of the mark
 pub record NoMark (held piece : List ℕ) (n : ℕ) : Type 0 where
@@ -225,46 +136,18 @@ pub record NoMark (held piece : List ℕ) (n : ℕ) : Type 0 where
   pub same : held ++ take n piece ≡ take (length held + n) byte_order_mark
   pub differs : (get_or byte_order_mark (length held + n) 0 == get_or piece n 0) ≡ false
 
-no_mark : (held piece more : List ℕ) (n k : ℕ) → NoMark held piece n → n < k → k ≤ length piece → mark_length (held ++ (take k piece ++ more)) ≡ 0
-no_mark held piece more n k w order low =
+no_mark : (held piece more : List ℕ) (n k : ℕ) → NoMark held piece n → n < k → mark_length (held ++ (take k piece ++ more)) ≡ 0
+no_mark held piece more n k w order =
     let opened : drop n piece ≡ get_or piece n 0 ∷ drop (suc n) piece = drop-cons piece n 0 w.within in
     let count : k - n ≡ suc (k - n - 1) = omega arith in
     let head : slice_range piece n k ≡ get_or piece n 0 ∷ take (k - n - 1) (drop (suc n) piece) =
     ap (λ i. take i (drop n piece)) count ∙ ap (take (suc (k - n - 1))) opened in
     let whole : held ++ (take k piece ++ more) ≡ take (length held + n) byte_order_mark ++ (get_or piece n 0 ∷ (take (k - n - 1) (drop (suc n) piece) ++ more)) =
-    in_mark held piece _ more n k w.same (omega arith) low ∙ ap (λ xs. take (length held + n) byte_order_mark ++ (xs ++ more)) head in
+    in_mark held piece _ more n k w.same (omega arith) ∙ ap (λ xs. take (length held + n) byte_order_mark ++ (xs ++ more)) head in
     ap mark_length whole ∙ other_byte (length held + n) (get_or piece n 0) _ w.less w.differs
 
-follows_no_mark : (held piece : List ℕ) (n k fed o : ℕ) (more : List ℕ) (others : List TextUnit) → NoMark held piece n → n < k → k ≤ length piece → o ≡ fed - length held → Statements o (held ++ (take k piece ++ more)) others → Follows true fed held (take k piece ++ more) others
-follows_no_mark held piece n k fed o more others w order low place s =
-    without_mark fed o held (take k piece ++ more) others (no_mark held piece more n k w order low) place s
-
-unit_no_mark : (piece : List ℕ) (goes_on : Bool) (start end : ℕ) → NoMark [] piece 0 → goes_on ≡ false → IsUnitIn piece 0 start end → IsPart Mark [] piece goes_on start end
-unit_no_mark piece true start end w e u = cc
-unit_no_mark piece false start end w e u = record {
-  order = omega (arith, u.some);
-  within = u.within;
-  first = λ h. cc;
-  unit = u.unit;
-  spoken = u.spoken;
-  passed = λ fed k more others few up low last s.
-      follows_no_mark [] piece 0 k fed (fed + 0) more others w (omega (arith, u.some)) low (omega arith)
-      (statements_of (fed + 0) _ _ others (ap (λ xs. xs ++ more) (first_range piece k))
-      (u.passed fed k more others up low (statements_at _ (fed + start) _ others (omega arith) s)));
-}
-
-follows_no_mark_whole : (piece : List ℕ) (fed : ℕ) (more : List ℕ) (others : List TextUnit) → NoMark [] piece 0 → Statements (fed + 0) (piece ++ more) others → Follows true fed [] (piece ++ more) others
-follows_no_mark_whole piece fed more others w s =
-    let whole = whole_piece piece more in
-    subst (λ xs. Follows true fed [] xs others) whole
-    (follows_no_mark [] piece 0 (length piece) fed (fed + 0) more others w w.within (omega arith) (omega arith) (statements_of (fed + 0) _ _ others (sym whole) s))
-
-pub found_no_mark : (piece : List ℕ) (f : Found) → NoMark [] piece 0 → IsFirstIn piece 0 f → IsFoundIn Mark [] piece f
-found_no_mark piece (Err Mark) w h = absurd h
-found_no_mark piece (Err InUnit) w h = absurd h
-found_no_mark piece (Err Gap) w h = λ fed more others few s. follows_no_mark_whole piece fed more others w (h fed more others s)
-found_no_mark piece (Err Comment) w h = (inr h.0, λ fed more others few s. follows_no_mark_whole piece fed more others w (h.1 fed more others s))
-found_no_mark piece (Ok part) w h = unit_no_mark piece part.goes_on part.start part.end w h.0 h.1
+pub passes_no_mark : (held piece : List ℕ) (n k : ℕ) → NoMark held piece n → n < k → Passes Mark held (take k piece) (held ++ take k piece)
+passes_no_mark held piece n k w order = passes_open Mark held (take k piece) (λ more. no_mark held piece more n k w order)
 
 mark_has_no_end : (m : ℕ) → m < 3 → is_end 0xEF (get_or byte_order_mark m 0) ≡ false
 mark_has_no_end zero less = refl
@@ -354,19 +237,13 @@ pub part_no_mark : (held piece : List ℕ) (n e : ℕ) → NoMark held piece n �
 part_no_mark held piece n e w is_mark some is_run =
     let part = mark_part held piece n e w is_mark some is_run in
     let behind = no_end_before held piece n e w is_mark is_run in
-    let front = first_range piece e in
-    let inside = w.within in
     record {
       order = omega arith;
       within = rw is_run (prefix_len-le-length (λ x. not (is_end 0xEF x)) piece);
       first = λ _. (refl, refl);
-      unit = rw front part.0;
-      spoken = rw front part.1;
-      passed = λ fed k more others few up low last s.
-          let far : n < k = elim last [ inl h ↦ omega arith | inr h ↦ omega arith ] in
-          follows_no_mark held piece n k fed (fed + 0 - length held) more others w far low (omega arith)
-          (statements_of (fed + 0 - length held) _ _ others
-          (append_assoc held (slice_range piece 0 k) more ∙ ap (λ xs. held ++ (xs ++ more)) (first_range piece k)) s);
+      unit = rw (first_range piece e) part.0;
+      spoken = rw (first_range piece e) part.1;
+      passed = rw (first_range piece (e + 1)) (passes_no_mark held piece n (e + 1) w (omega arith));
     }
 
 pub no_length : (xs : List ℕ) → length xs ≡ 0 → xs ≡ []

@@ -2,18 +2,19 @@
 use Rattle.std.proofs.Common.{◌≡◌, ℕ, zero, suc, ◌+◌, ◌-◌, ◌<◌, ◌≤◌, ◌==◌, ◌||◌, ◌&&◌, ◌⊎◌, Bool, true, false, not, nat_lt, List, [], ◌∷◌, ◌++◌, filter, length, take, drop, get_or, slice_range, length-append, append_assoc, append-nil, Option, Some, None, IsSome, IfSome, if◌then◌else◌, Err, arith, refl, sym, ap, ◌∙◌, subst, inl, inr}
 use Rattle.std.proofs.lemmas.Bool.{cases_lt, false≢true}
 use Rattle.std.proofs.lemmas.Bool.Decides.{nat_tests}
-use Rattle.std.proofs.lemmas.List.{length-take-le}
+use Rattle.std.proofs.lemmas.List.{length-take-le, take_all, take-append-drop}
+use Rattle.std.proofs.lemmas.List.Folds.{drop_split}
 use Rattle.std.proofs.Math.Seq.{drop-cons, drop-length, take-length}
 use Rattle.csa_text.specs.Cut.{TextUnit, IsGap, IsUnit, EndsBefore, Statements, is_separator, is_end, takes_line, byte_order_mark, statement_bytes}
 use Rattle.csa_text.specs.PieceCutting.{PieceCutting, Follows, Closes, Leads, is_closed, mark_of}
-use Rattle.csa_text.specs.Places.{IsPart, IsFoundIn, begins, open_of, kept_of}
+use Rattle.csa_text.specs.Places.{IsPart, IsFoundIn, Passes, begins, open_of, kept_of}
 use Rattle.csa_text.specs.PieceSteps.{Used, IsTooLongAt}
 use Rattle.csa_text.specs.declared.cutter.Statement.{Statement}
 use Rattle.csa_text.specs.declared.piece.Place.{Place}
 use Rattle.csa_text.specs.declared.piece.Place.TheVariants.{Mark, Gap, Unit as InUnit, Comment}
 use Rattle.csa_text.proofs.Runs.{no_statements, statement_first, found}
 use Rattle.csa_text.proofs.LineCutting.{length_range, nothing}
-use Rattle.csa_text.proofs.Passing.{statements_at, statements_of, behind_gap, behind_comment, unit_at, unit_before, head_range, split_range, whole_range}
+use Rattle.csa_text.proofs.Passing.{statements_at, statements_of, behind_gap, behind_comment, unit_at, unit_before, next_byte, ends_with_next, split_range, range_end, front_size}
 
 abbrev pub seen : Place → List ℕ → ℕ → ℕ → Option ℕ → PieceCutting
 seen place held fed number refused =
@@ -22,27 +23,30 @@ seen place held fed number refused =
 pub nothing_left : (o : ℕ) → Statements o [] []
 nothing_left o = no_statements o [] tt
 
-to_whole : (b : Bool) (fed : ℕ) (held text : List ℕ) (others : List TextUnit) → Follows b fed held (text ++ []) others → Follows b fed held text others
+pub comment_alone : (o : ℕ) → Statements o (39 ∷ []) []
+comment_alone o = behind_comment o (39 ∷ []) [] [] (refl, tt, tt) refl (nothing_left _)
+
+pub to_whole : (b : Bool) (fed : ℕ) (held text : List ℕ) (others : List TextUnit) → Follows b fed held (text ++ []) others → Follows b fed held text others
 to_whole b fed held text others s = subst (λ t. Follows b fed held t others) (append-nil text) s
 
 pub leads_to_gap : (place : Place) (held other piece : List ℕ) (fed number : ℕ) → IsFoundIn place held piece (Err Gap) → length (open_of place held) ≤ fed → Leads (seen place held fed number None) piece [] (seen Gap other (fed + length piece) number None)
-leads_to_gap place held other piece fed number h few = record {
-  took = refl;
-  counted = omega arith;
-  closes = ([], to_whole (begins place) fed (open_of place held) piece [] (h fed [] [] few (nothing_left (fed + length piece))), refl);
-  onward = λ more others s. h fed more others few (statements_at _ (fed + length piece) _ others (omega arith) s);
-  going = refl;
-}
+leads_to_gap place held other piece fed number h few =
+    let o = fed + length piece - 0 in
+    record {
+      took = refl;
+      counted = omega arith;
+      closes = ([], to_whole (begins place) fed (open_of place held) piece [] (h fed [] [] few (nothing_left o)), refl);
+      onward = λ more others s. h fed more others few (statements_at _ o _ others (omega arith) s);
+      going = refl;
+    }
 
 pub leads_to_comment : (place : Place) (held piece : List ℕ) (fed number : ℕ) → IsFoundIn place held piece (Err Comment) → length (open_of place held) ≤ fed → Leads (seen place held fed number None) piece [] (seen Comment [] (fed + length piece) number None)
 leads_to_comment place held piece fed number h few =
     let o = fed + length piece - 1 in
-    let quote : ℕ = 39 in
-    let alone : Statements o (39 ∷ []) [] = behind_comment o (39 ∷ []) [] [] (refl, tt, tt) refl (nothing_left (o + length (quote ∷ []))) in
     record {
       took = refl;
       counted = omega arith;
-      closes = ([], to_whole (begins place) fed (open_of place held) piece [] (h.1 fed [] [] few alone), refl);
+      closes = ([], to_whole (begins place) fed (open_of place held) piece [] (h.1 fed [] [] few (comment_alone o)), refl);
       onward = λ more others s. h.1 fed more others few (statements_at _ o _ others (omega arith) s);
       going = refl;
     }
@@ -87,7 +91,7 @@ abbrev pub part_unit : Bool → List ℕ → List ℕ → ℕ → ℕ → ℕ �
 part_unit goes_on held piece start end fed =
     record { offset = fed + start - length (kept_of goes_on held); bytes = kept_of goes_on held ++ slice_range piece start end }
 
-part_size : (goes_on : Bool) (held piece : List ℕ) (start end : ℕ) → end ≤ length piece → length (kept_of goes_on held ++ slice_range piece start end) ≡ length (kept_of goes_on held) + (end - start)
+pub part_size : (goes_on : Bool) (held piece : List ℕ) (start end : ℕ) → end ≤ length piece → length (kept_of goes_on held ++ slice_range piece start end) ≡ length (kept_of goes_on held) + (end - start)
 part_size goes_on held piece start end within =
     length-append (kept_of goes_on held) (slice_range piece start end) ∙ ap (λ n. length (kept_of goes_on held) + n) (length_range piece start end within)
 
@@ -106,6 +110,40 @@ none_kept p u h = rw h refl
 pub one_kept : (p : TextUnit → Bool) (u : TextUnit) (us : List TextUnit) → p u ≡ true → u ∷ filter p us ≡ filter p (u ∷ us)
 one_kept p u us h = rw h refl
 
+-- where the unit begins
+unit_place : (kept piece : List ℕ) (start k fed : ℕ) → start ≤ length piece → start ≤ k → fed + length (take k piece) - length (kept ++ slice_range piece start k) ≡ fed + start - length kept
+unit_place kept piece start k fed within order =
+    let taken : length (take start piece) ≡ start = length-take-le start piece within in
+    omega (arith, taken, front_size piece start k order, length-append kept (slice_range piece start k))
+
+-- the unit is told first, before what stands behind it
+pub unit_first : (place : Place) (held piece : List ℕ) (goes_on : Bool) (start end fed : ℕ) (more : List ℕ) (others : List TextUnit) → IsPart place held piece goes_on start end → length (open_of place held) ≤ fed → IsUnit (kept_of goes_on held ++ slice_range piece start end) (slice_range piece end (end + 1) ++ more) → Statements (fed + end) (slice_range piece end (end + 1) ++ more) others → Follows (begins place) fed (open_of place held) (take (end + 1) piece ++ more) (part_unit goes_on held piece start end fed ∷ others)
+unit_first place held piece goes_on start end fed more others p few unit s =
+    let kept = kept_of goes_on held in
+    let u = kept ++ slice_range piece start end in
+    let behind = slice_range piece end (end + 1) ++ more in
+    let low = kept_few place goes_on held fed (λ h. (p.first h).1) few in
+    let size = part_size goes_on held piece start end p.within in
+    let order = p.order in
+    let within = p.within in
+    let o = fed + start - length kept in
+    let here : Statements o (u ++ behind) (part_unit goes_on held piece start end fed ∷ others) =
+    statement_first o (u ++ behind) (part_unit goes_on held piece start end fed) behind others (unit_at o u behind unit) (ap not p.spoken) (statements_at (fed + end) _ _ others (omega arith) s) in
+    let whole : u ++ behind ≡ (kept ++ slice_range piece start (end + 1)) ++ more =
+    sym (append_assoc u (slice_range piece end (end + 1)) more) ∙ ap (λ xs. xs ++ more) (append_assoc kept (slice_range piece start end) (slice_range piece end (end + 1)) ∙ ap (λ xs. kept ++ xs) (sym (split_range piece start end (end + 1) order (omega arith)))) in
+    p.passed fed more _ few (statements_at o _ _ _ (sym (unit_place kept piece start (end + 1) fed (omega arith) (omega arith))) (statements_of o _ _ _ whole here))
+
+-- all of the piece, where the rest of it stands behind the unit
+rest_told : (piece : List ℕ) (end : ℕ) → slice_range piece end (end + 1) ++ drop (end + 1) piece ≡ drop end piece
+rest_told piece end = sym (drop_split piece end (end + 1) (omega arith))
+
+pub unit_told : (place : Place) (held piece : List ℕ) (goes_on : Bool) (start end fed : ℕ) (others : List TextUnit) → IsPart place held piece goes_on start end → length (open_of place held) ≤ fed → Statements (fed + end) (drop end piece) others → Follows (begins place) fed (open_of place held) piece (part_unit goes_on held piece start end fed ∷ others)
+unit_told place held piece goes_on start end fed others p few s =
+    let rest = rest_told piece end in
+    let u = kept_of goes_on held ++ slice_range piece start end in
+    subst (λ t. Follows (begins place) fed (open_of place held) t (part_unit goes_on held piece start end fed ∷ others)) (take-append-drop (end + 1) piece)
+    (unit_first place held piece goes_on start end fed (drop (end + 1) piece) others p few (subst (IsUnit u) (sym rest) p.unit) (statements_of (fed + end) _ _ others (sym rest) s))
+
 pub leads_to_unit : (place : Place) (held piece : List ℕ) (goes_on : Bool) (start end fed number : ℕ) → IsPart place held piece goes_on start end → length (open_of place held) ≤ fed → end ≡ length piece → length (kept_of goes_on held ++ slice_range piece start end) ≤ 4096 → Leads (seen place held fed number None) piece [] (seen InUnit (kept_of goes_on held ++ slice_range piece start end) (fed + end) number None)
 leads_to_unit place held piece goes_on start end fed number p few all short =
     let kept = kept_of goes_on held in
@@ -113,24 +151,20 @@ leads_to_unit place held piece goes_on start end fed number p few all short =
     let low = kept_few place goes_on held fed (λ h. (p.first h).1) few in
     let size = part_size goes_on held piece start end p.within in
     let order = p.order in
-    let o = fed + start - length kept in
     let none : drop end piece ≡ [] = rw all (drop-length piece) in
-    let unit : IsUnit u [] = subst (IsUnit u) none p.unit in
-    let onward : (more : List ℕ) (others : List TextUnit) → Statements o (u ++ more) others → Follows (begins place) fed (open_of place held) (piece ++ more) others =
-    λ more others s.
-    let all_taken : take end piece ++ more ≡ piece ++ more = ap (λ n. take n piece ++ more) all ∙ ap (λ xs. xs ++ more) (take-length piece) in
-    subst (λ t. Follows (begins place) fed (open_of place held) t others) all_taken (p.passed fed end more others few (omega arith) p.within (inl all) s) in
-    let alone : Statements o (u ++ []) (part_unit goes_on held piece start end fed ∷ []) =
-    statement_first o (u ++ []) (part_unit goes_on held piece start end fed) [] [] (unit_at o u [] unit) (ap not p.spoken) (nothing_left (o + length u)) in
+    let front : take (end + 1) piece ≡ piece = take_all (end + 1) piece (omega arith) in
+    let range : slice_range piece start (end + 1) ≡ slice_range piece start end = range_end piece start (end + 1) (omega arith) ∙ sym (range_end piece start end (omega arith)) in
+    let passed : Passes place held piece u = rw (front, range) at p.passed in
+    let alone = unit_told place held piece goes_on start end fed [] p few (statements_of (fed + end) _ _ [] (sym none) (nothing_left (fed + end))) in
     record {
       took = ap (λ n. fed + n) all;
       counted = omega arith;
       closes = (
         part_unit goes_on held piece start end fed ∷ [],
-        to_whole (begins place) fed (open_of place held) piece _ (onward [] _ alone),
-        none_kept (is_closed (fed + length piece)) (part_unit goes_on held piece start end fed) (not_closed (o + length u) (fed + length piece) (length u) (omega arith) short),
+        alone,
+        none_kept (is_closed (fed + length piece)) (part_unit goes_on held piece start end fed) (not_closed (fed + start - length kept + length u) (fed + length piece) (length u) (omega arith) short),
       );
-      onward = λ more others s. onward more others (statements_at _ o _ others (omega arith) s);
+      onward = λ more others s. passed fed more others few (statements_at _ _ _ others (omega arith) s);
       going = refl;
     }
 
@@ -147,31 +181,15 @@ unit_ends : (unit behind : List ℕ) (b : ℕ) (rest : List ℕ) → behind ≡ 
 unit_ends [] behind b rest e h = absurd h
 unit_ends (first ∷ unit) behind b rest e h = end_separates first b (subst (EndsBefore first) e h.2)
 
-one_byte : (piece : List ℕ) (end : ℕ) → end < length piece → slice_range piece end (end + 1) ≡ get_or piece end 0 ∷ []
-one_byte piece end more =
-    let opened : drop end piece ≡ get_or piece end 0 ∷ drop (suc end) piece = drop-cons piece end 0 more in
-    let count : end + 1 - end ≡ suc zero = omega arith in
-    ap (λ n. take n (drop end piece)) count ∙ ap (take (suc zero)) opened
-
 -- from the end of a unit, over the byte that ends it
 over_end : (place : Place) (held piece : List ℕ) (goes_on : Bool) (start end fed : ℕ) → IsPart place held piece goes_on start end → length (open_of place held) ≤ fed → end < length piece → (more : List ℕ) (others : List TextUnit) → Statements (fed + end + 1) more others → Follows (begins place) fed (open_of place held) (take (end + 1) piece ++ more) (part_unit goes_on held piece start end fed ∷ others)
 over_end place held piece goes_on start end fed p few left more others s =
-    let kept = kept_of goes_on held in
-    let u = kept ++ slice_range piece start end in
-    let low = kept_few place goes_on held fed (λ h. (p.first h).1) few in
-    let size = part_size goes_on held piece start end p.within in
-    let order = p.order in
-    let o = fed + start - length kept in
+    let u = kept_of goes_on held ++ slice_range piece start end in
     let last = slice_range piece end (end + 1) in
-    let byte : last ≡ get_or piece end 0 ∷ [] = one_byte piece end left in
+    let byte : last ≡ get_or piece end 0 ∷ [] = next_byte piece end left in
     let gap : IsGap last = subst IsGap (sym byte) (unit_ends u (drop end piece) (get_or piece end 0) (drop (suc end) piece) (drop-cons piece end 0 left) p.unit, tt) in
-    let behind : Statements (o + length u) (last ++ more) others = behind_gap (o + length u) last more others gap (statements_at (fed + end + 1) _ _ others (omega (arith, ap length byte)) s) in
-    let unit : IsUnit u (last ++ more) = unit_before u (drop end piece) (last ++ more) p.unit (λ first e. head_range piece end (end + 1) first more (omega arith) (omega arith) e) in
-    let here : Statements o (u ++ (last ++ more)) (part_unit goes_on held piece start end fed ∷ others) =
-    statement_first o (u ++ (last ++ more)) (part_unit goes_on held piece start end fed) (last ++ more) others (unit_at o u (last ++ more) unit) (ap not p.spoken) behind in
-    let whole : u ++ (last ++ more) ≡ (kept ++ slice_range piece start (end + 1)) ++ more =
-    sym (append_assoc u last more) ∙ ap (λ xs. xs ++ more) (append_assoc kept (slice_range piece start end) last ∙ ap (λ xs. kept ++ xs) (sym (split_range piece start end (end + 1) order (omega arith) (omega arith)))) in
-    p.passed fed (end + 1) more _ few (omega arith) (omega arith) (inr (omega arith)) (statements_of o _ _ _ whole here)
+    unit_first place held piece goes_on start end fed more others p few (unit_before u (drop end piece) (last ++ more) p.unit (λ first e. ends_with_next piece end first more left e))
+    (behind_gap (fed + end) last more others gap (statements_at (fed + end + 1) _ _ others (omega (arith, ap length byte)) s))
 
 pub leads_behind_unit : (place : Place) (held other piece : List ℕ) (goes_on : Bool) (start end fed number : ℕ) → IsPart place held piece goes_on start end → length (open_of place held) ≤ fed → end < length piece → Leads (seen place held fed number None) (take (end + 1) piece) (part_unit goes_on held piece start end fed ∷ []) (seen Gap other (fed + (end + 1)) (number + 1) None)
 leads_behind_unit place held other piece goes_on start end fed number p few left =
@@ -195,27 +213,14 @@ leads_behind_unit place held other piece goes_on start end fed number p few left
 
 pub too_long : (place : Place) (held piece : List ℕ) (goes_on : Bool) (start end fed number : ℕ) → IsPart place held piece goes_on start end → length (open_of place held) ≤ fed → 4096 < length (kept_of goes_on held ++ slice_range piece start end) → (others : List TextUnit) × Closes (seen place held fed number None) piece (part_unit goes_on held piece start end fed ∷ others)
 too_long place held piece goes_on start end fed number p few long =
-    let kept = kept_of goes_on held in
-    let u = kept ++ slice_range piece start end in
-    let o = fed + start - length kept in
+    let u = kept_of goes_on held ++ slice_range piece start end in
     let unit = part_unit goes_on held piece start end fed in
-    let rest = found (o + length u) (drop end piece) in
-    let here : Statements o (u ++ drop end piece) (unit ∷ rest.0) =
-    statement_first o (u ++ drop end piece) unit (drop end piece) rest.0 (unit_at o u (drop end piece) p.unit) (ap not p.spoken) rest.1 in
-    let split : slice_range piece start (length piece) ≡ slice_range piece start end ++ drop end piece =
-    split_range piece start end (length piece) p.order p.within (omega arith) ∙ ap (λ xs. slice_range piece start end ++ xs) (whole_range piece end) in
-    let whole : u ++ drop end piece ≡ (kept ++ slice_range piece start (length piece)) ++ [] =
-    append_assoc kept (slice_range piece start end) (drop end piece) ∙ ap (λ xs. kept ++ xs) (sym split) ∙ sym (append-nil _) in
-    let within = p.within in
-    let last : (end ≡ length piece) ⊎ (end < length piece) = elim (cases_lt end (length piece)) [ inl h ↦ inr h | inr h ↦ inl (omega arith) ] in
-    let all : take (length piece) piece ++ [] ≡ piece = append-nil _ ∙ take-length piece in
-    let told : Follows (begins place) fed (open_of place held) piece (unit ∷ rest.0) =
-    subst (λ t. Follows (begins place) fed (open_of place held) t (unit ∷ rest.0)) all (p.passed fed (length piece) [] _ few p.within (omega arith) last (statements_of o _ _ _ whole here)) in (
+    let rest = found (fed + end) (drop end piece) in (
       filter (is_closed (fed + length piece)) rest.0,
       (
         unit ∷ rest.0,
-        told,
-        one_kept (is_closed (fed + length piece)) unit rest.0 (closed_long (o + length u) (fed + length piece) (length u) long),
+        unit_told place held piece goes_on start end fed rest.0 p few rest.1,
+        one_kept (is_closed (fed + length piece)) unit rest.0 (closed_long (unit.offset + length u) (fed + length piece) (length u) long),
       ),
     )
 

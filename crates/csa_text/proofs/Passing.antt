@@ -1,12 +1,14 @@
 -- Gaps and comments in a piece.
-use Rattle.std.proofs.Common.{◌≡◌, ◌≢◌, eq-eqb, ℕ, suc, ◌+◌, ◌-◌, ◌<◌, ◌≤◌, ◌⊎◌, true, false, not, List, [], ◌∷◌, ◌++◌, filter, length, take, drop, get_or, slice_range, length-drop, length-append, append_assoc, arith, refl, sym, ap, ◌∙◌, subst, inl, inr}
+use Rattle.std.proofs.Common.{◌≡◌, ◌≢◌, eq-eqb, ℕ, zero, suc, ◌+◌, ◌-◌, ◌<◌, ◌≤◌, ◌⊎◌, true, false, not, List, [], ◌∷◌, ◌++◌, filter, length, take, drop, get_or, slice_range, length-drop, length-append, append_assoc, append-nil, arith, refl, sym, ap, ◌∙◌, subst, inl, inr}
 use Rattle.std.proofs.lemmas.Bool.{ne_eqb, eqb-true}
-use Rattle.std.proofs.lemmas.List.{drop-drop}
+use Rattle.std.proofs.lemmas.List.{drop-drop, drop_all, take_all}
 use Rattle.std.proofs.Math.Seq.{drop-cons, drop-length, take-length, take-append_seam, take-add}
 use Rattle.std.specs.List.{AllByRecursion}
 use Rattle.csa_text.specs.Cut.{TextUnit, IsNext, IsGap, IsUnit, EndsBefore, Units, Statements, is_statement, is_separator, is_end, begins_with}
 use Rattle.csa_text.specs.Cutting.{unit_between}
-use Rattle.csa_text.specs.Places.{Passes, IsUnitIn}
+use Rattle.csa_text.specs.PieceCutting.{Follows}
+use Rattle.csa_text.specs.Places.{Passes, PassesTo, IsPart, begins, open_of}
+use Rattle.csa_text.specs.declared.piece.Place.{Place}
 use Rattle.csa_text.proofs.Fronts.{first_between, length_between}
 use Rattle.csa_text.proofs.LineCutting.{all_joined}
 use Rattle.csa_text.proofs.Runs.{comment_first}
@@ -104,95 +106,134 @@ behind_open_comment o (b ∷ body) more others h c s =
     rw first (comment_units o body more s.units others here.1 cut s.kept)
 
 -- a part of the piece in two
-pub split_range : (piece : List ℕ) (a b c : ℕ) → a ≤ b → b ≤ c → c ≤ length piece → slice_range piece a c ≡ slice_range piece a b ++ slice_range piece b c
-split_range piece a b c p q r =
+pub split_range : (piece : List ℕ) (a b c : ℕ) → a ≤ b → b ≤ c → slice_range piece a c ≡ slice_range piece a b ++ slice_range piece b c
+split_range piece a b c p q =
     let count : c - a ≡ b - a + (c - b) = omega arith in
     let place : a + (b - a) ≡ b = omega arith in
     ap (λ n. take n (drop a piece)) count ∙ take-add (b - a) (c - b) (drop a piece)
     ∙ ap (λ xs. slice_range piece a b ++ take (c - b) xs) (drop-drop (b - a) a piece ∙ ap (λ n. drop n piece) place)
 
-pub whole_range : (piece : List ℕ) (a : ℕ) → slice_range piece a (length piece) ≡ drop a piece
-whole_range piece a = ap (λ n. take n (drop a piece)) (sym (length-drop a piece)) ∙ take-length (drop a piece)
+-- the front of the piece in two
+pub split_front : (piece : List ℕ) (a b : ℕ) → a ≤ b → take b piece ≡ take a piece ++ slice_range piece a b
+split_front piece a b order = let count : b ≡ a + (b - a) = omega arith in ap (λ n. take n piece) count ∙ take-add a (b - a) piece
+
+pub front_size : (piece : List ℕ) (a b : ℕ) → a ≤ b → length (take b piece) ≡ length (take a piece) + length (slice_range piece a b)
+front_size piece a b order = ap length (split_front piece a b order) ∙ length-append (take a piece) (slice_range piece a b)
+
+pub range_size : (piece : List ℕ) (a b c : ℕ) → a ≤ b → b ≤ c → length (slice_range piece a c) ≡ length (slice_range piece a b) + length (slice_range piece b c)
+range_size piece a b c p q = ap length (split_range piece a b c p q) ∙ length-append (slice_range piece a b) (slice_range piece b c)
+
+-- up to the end of the piece
+pub range_end : (piece : List ℕ) (a b : ℕ) → length piece ≤ b → slice_range piece a b ≡ drop a piece
+range_end piece a b all = take_all (b - a) (drop a piece) (omega (arith, length-drop a piece))
 
 -- the gap before the next unit lies between places
-pub gap_between : (piece : List ℕ) (at start end : ℕ) → at ≤ length piece → start < end → end ≤ length piece → IsNext at (drop at piece) (unit_between piece start end) (drop end piece) → (at ≤ start) × IsGap (slice_range piece at start)
-gap_between piece at start end within some more n =
+gap_between : (piece : List ℕ) (at start end : ℕ) → start < end → end ≤ length piece → IsNext at (drop at piece) (unit_between piece start end) (drop end piece) → (at ≤ start) × IsGap (slice_range piece at start)
+gap_between piece at start end some more n =
     let order : at ≤ start = omega (arith, n.place) in
     let size : length n.gap ≡ start - at = omega (arith, n.place) in
     let same : slice_range piece at start ≡ n.gap =
     ap (take (start - at)) n.whole ∙ ap (λ k. take k (n.gap ++ (slice_range piece start end ++ drop end piece))) (sym size) ∙ take-append_seam n.gap (slice_range piece start end ++ drop end piece) in
     (order, subst IsGap (sym same) n.separators)
 
-pub head_range : (piece : List ℕ) (end k first : ℕ) (more : List ℕ) → end < k → k ≤ length piece → EndsBefore first (drop end piece) → EndsBefore first (slice_range piece end k ++ more)
-head_range piece end k first more some within h =
-    let opened : drop end piece ≡ get_or piece end 0 ∷ drop (suc end) piece = drop-cons piece end 0 (omega arith) in
-    let count : k - end ≡ suc (k - end - 1) = omega arith in
-    let front : slice_range piece end k ≡ get_or piece end 0 ∷ take (k - end - 1) (drop (suc end) piece) =
-    ap (λ n. take n (drop end piece)) count ∙ ap (take (suc (k - end - 1))) opened in
-    let e : is_end first (get_or piece end 0) ≡ true = subst (EndsBefore first) opened h in
-    rw front e
+pub next_byte : (piece : List ℕ) (at : ℕ) → at < length piece → slice_range piece at (at + 1) ≡ get_or piece at 0 ∷ []
+next_byte piece at some =
+    let count : at + 1 - at ≡ suc zero = omega arith in
+    ap (λ n. take n (drop at piece)) count ∙ ap (take (suc zero)) (drop-cons piece at 0 some)
+
+-- what ends a unit stands in the next byte
+pub ends_with_next : (piece : List ℕ) (end first : ℕ) (more : List ℕ) → end < length piece → EndsBefore first (drop end piece) → EndsBefore first (slice_range piece end (end + 1) ++ more)
+ends_with_next piece end first more some h =
+    let e : is_end first (get_or piece end 0) ≡ true = subst (EndsBefore first) (drop-cons piece end 0 some) h in
+    rw (next_byte piece end some) e
+
+-- with more bytes
+longer : (place : Place) (held front unfinished next : List ℕ) → Passes place held front unfinished → Passes place held (front ++ next) (unfinished ++ next)
+longer place held front unfinished next p fed more others few s =
+    let same : fed + length (front ++ next) - length (unfinished ++ next) ≡ fed + length front - length unfinished =
+    omega (arith, length-append front next, length-append unfinished next) in
+    subst (λ t. Follows (begins place) fed (open_of place held) t others) (sym (append_assoc front next more))
+    (p fed (next ++ more) others few (statements_at _ _ _ others same (statements_of _ _ _ others (append_assoc unfinished next more) s)))
+
+-- on to a later place of the piece
+on_to : (place : Place) (held piece : List ℕ) (at end : ℕ) → at ≤ end → PassesTo place held piece at → Passes place held (take (end + 1) piece) (slice_range piece at (end + 1))
+on_to place held piece at end order p =
+    subst (λ xs. Passes place held xs (slice_range piece at (end + 1))) (sym (split_front piece (at + 1) (end + 1) (omega arith)))
+    (subst (Passes place held (take (at + 1) piece ++ slice_range piece (at + 1) (end + 1))) (sym (split_range piece at (at + 1) (end + 1) (omega arith) (omega arith)))
+    (longer place held (take (at + 1) piece) (slice_range piece at (at + 1)) (slice_range piece (at + 1) (end + 1)) p))
+
+-- over a gap
+over_gap : (place : Place) (held front gap unfinished : List ℕ) → IsGap gap → length gap + length unfinished ≤ length (open_of place held) + length front → Passes place held front (gap ++ unfinished) → Passes place held front unfinished
+over_gap place held front gap unfinished h room p fed more others few s =
+    let o = fed + length front - length (gap ++ unfinished) in
+    let same : fed + length front - length unfinished ≡ o + length gap = omega (arith, length-append gap unfinished) in
+    p fed more others few (statements_of o _ _ others (sym (append_assoc gap unfinished more))
+    (behind_gap o gap (unfinished ++ more) others h (statements_at _ _ _ others same s)))
+
+-- over a comment, and what ends it stands behind it
+pub over_comment : (place : Place) (held front comment unfinished : List ℕ) → ((more : List ℕ) → IsUnit comment (unfinished ++ more)) → begins_with 39 comment ≡ true → length comment + length unfinished ≤ length (open_of place held) + length front → Passes place held front (comment ++ unfinished) → Passes place held front unfinished
+over_comment place held front comment unfinished unit silent room p fed more others few s =
+    let o = fed + length front - length (comment ++ unfinished) in
+    let same : fed + length front - length unfinished ≡ o + length comment = omega (arith, length-append comment unfinished) in
+    p fed more others few (statements_of o _ _ others (sym (append_assoc comment unfinished more))
+    (behind_comment o comment (unfinished ++ more) others (unit more) silent (statements_at _ _ _ others same s)))
+
+-- over what has come of a comment
+pub over_open_comment : (place : Place) (held front comment : List ℕ) → IsUnit comment [] → begins_with 39 comment ≡ true → length comment ≤ length (open_of place held) + length front → Passes place held front comment → Passes place held front (39 ∷ [])
+over_open_comment place held front comment unit silent room p fed more others few s =
+    let o = fed + length front - length comment in
+    p fed more others few (behind_open_comment o comment more others unit silent (statements_at _ _ _ others (omega arith) s))
 
 -- over the gap before a unit
-pub pass_gap : (piece : List ℕ) (from at start end : ℕ) → Passes piece from at → (at ≡ from) ⊎ (at < length piece) → at ≤ length piece → start < end → end ≤ length piece → IsNext at (drop at piece) (unit_between piece start end) (drop end piece) → (offset k : ℕ) (more : List ℕ) (others : List TextUnit) → end ≤ k → k ≤ length piece → Statements (offset + start) (slice_range piece start k ++ more) others → Statements (offset + from) (slice_range piece from k ++ more) others
-pass_gap piece from at start end passed some within order inside n offset k more others up low s =
-    let gap = gap_between piece at start end within order inside n in
-    let size = length_between piece at start gap.0 (omega arith) in
-    let whole : slice_range piece at start ++ (slice_range piece start k ++ more) ≡ slice_range piece at k ++ more =
-    sym (append_assoc (slice_range piece at start) (slice_range piece start k) more) ∙ ap (λ xs. xs ++ more) (sym (split_range piece at start k gap.0 (omega arith) low)) in
-    let place : offset + start ≡ offset + at + length (slice_range piece at start) = omega (arith, size) in
-    passed offset k more others (omega (arith, gap.0)) low (inr (omega (arith, gap.0)))
-    (statements_of (offset + at) _ _ others whole (behind_gap (offset + at) (slice_range piece at start) (slice_range piece start k ++ more) others gap.1 (statements_at (offset + start) _ _ others place s)))
+to_unit : (place : Place) (held piece : List ℕ) (at start end : ℕ) → PassesTo place held piece at → start < end → end ≤ length piece → IsNext at (drop at piece) (unit_between piece start end) (drop end piece) → Passes place held (take (end + 1) piece) (slice_range piece start (end + 1))
+to_unit place held piece at start end p some inside n =
+    let gap = gap_between piece at start end some inside n in
+    let split = split_range piece at start (end + 1) gap.0 (omega arith) in
+    let size = front_size piece at (end + 1) (omega (arith, gap.0)) in
+    let sizes = range_size piece at start (end + 1) gap.0 (omega arith) in
+    over_gap place held (take (end + 1) piece) (slice_range piece at start) (slice_range piece start (end + 1)) gap.1 (omega arith)
+    (subst (Passes place held (take (end + 1) piece)) split (on_to place held piece at end (omega (arith, gap.0)) p))
 
-pub unit_found : (piece : List ℕ) (from at start end : ℕ) → Passes piece from at → (at ≡ from) ⊎ (at < length piece) → from ≤ at → at ≤ length piece → start < end → end ≤ length piece → IsNext at (drop at piece) (unit_between piece start end) (drop end piece) → get_or piece start 0 ≢ 39 → IsUnitIn piece from start end
-unit_found piece from at start end passed some before within order inside n says = record {
-  order = omega (arith, (gap_between piece at start end within order inside n).0);
-  some = order;
+pub unit_found : (place : Place) (held piece : List ℕ) (at start end : ℕ) → PassesTo place held piece at → start < end → end ≤ length piece → IsNext at (drop at piece) (unit_between piece start end) (drop end piece) → get_or piece start 0 ≢ 39 → IsPart place held piece false start end
+unit_found place held piece at start end p some inside n says = record {
+  order = omega arith;
   within = inside;
+  first = λ h. cc;
   unit = n.unit;
-  spoken = first_between piece start end 39 order inside ∙ ne_eqb (get_or piece start 0) 39 says;
-  passed = pass_gap piece from at start end passed some within order inside n;
+  spoken = first_between piece start end 39 some inside ∙ ne_eqb (get_or piece start 0) 39 says;
+  passed = to_unit place held piece at start end p some inside n;
 }
 
-pub comment_passed : (piece : List ℕ) (from at start end : ℕ) → Passes piece from at → (at ≡ from) ⊎ (at < length piece) → at ≤ length piece → from ≤ at → start < end → end ≤ length piece → IsNext at (drop at piece) (unit_between piece start end) (drop end piece) → get_or piece start 0 ≡ 39 → Passes piece from end
-comment_passed piece from at start end passed some within before order inside n quote offset k more others up low later s =
-    let gap = gap_between piece at start end within order inside n in
-    let strict : end < k = elim later [
-      | inl same ↦ absurd (omega (arith, gap.0))
-      | inr h ↦ h
-    ] in
+pub comment_passed : (place : Place) (held piece : List ℕ) (at start end : ℕ) → PassesTo place held piece at → start < end → end < length piece → IsNext at (drop at piece) (unit_between piece start end) (drop end piece) → get_or piece start 0 ≡ 39 → PassesTo place held piece end
+comment_passed place held piece at start end p some left n quote =
+    let inside : end ≤ length piece = omega arith in
+    let order : start ≤ end = omega arith in
+    let up : end ≤ end + 1 = omega arith in
     let body = slice_range piece start end in
-    let size = length_between piece start end (omega arith) inside in
-    let silent : begins_with 39 body ≡ true = first_between piece start end 39 order inside ∙ eq-eqb (get_or piece start 0) 39 quote in
-    let behind = slice_range piece end k ++ more in
-    let unit : IsUnit body behind = unit_before body (drop end piece) behind n.unit (λ first e. head_range piece end k first more strict low e) in
-    let whole : body ++ behind ≡ slice_range piece start k ++ more =
-    sym (append_assoc body (slice_range piece end k) more) ∙ ap (λ xs. xs ++ more) (sym (split_range piece start end k (omega arith) up low)) in
-    let place : offset + end ≡ offset + start + length body = omega (arith, size) in
-    pass_gap piece from at start end passed some within order inside n offset k more others up low
-    (statements_of (offset + start) _ _ others whole (behind_comment (offset + start) body behind others unit silent (statements_at (offset + end) _ _ others place s)))
+    let silent : begins_with 39 body ≡ true = first_between piece start end 39 some inside ∙ eq-eqb (get_or piece start 0) 39 quote in
+    let size = front_size piece start (end + 1) (omega arith) in
+    let sizes = range_size piece start end (end + 1) order up in
+    over_comment place held (take (end + 1) piece) body (slice_range piece end (end + 1))
+    (λ more. unit_before body (drop end piece) _ n.unit (λ first e. ends_with_next piece end first more left e)) silent (omega arith)
+    (subst (Passes place held (take (end + 1) piece)) (split_range piece start end (end + 1) order up) (to_unit place held piece at start end p some inside n))
 
-pub comment_open : (piece : List ℕ) (from at start end : ℕ) → Passes piece from at → (at ≡ from) ⊎ (at < length piece) → at ≤ length piece → start < end → end ≡ length piece → IsNext at (drop at piece) (unit_between piece start end) (drop end piece) → get_or piece start 0 ≡ 39 → (offset : ℕ) (more : List ℕ) (others : List TextUnit) → Statements (offset + length piece - 1) (39 ∷ more) others → Statements (offset + from) (drop from piece ++ more) others
-comment_open piece from at start end passed some within order all n quote offset more others s =
+pub comment_open : (place : Place) (held piece : List ℕ) (at start end : ℕ) → PassesTo place held piece at → start < end → end ≡ length piece → IsNext at (drop at piece) (unit_between piece start end) (drop end piece) → get_or piece start 0 ≡ 39 → Passes place held piece (39 ∷ [])
+comment_open place held piece at start end p some all n quote =
     let inside : end ≤ length piece = omega arith in
     let body = slice_range piece start end in
     let size = length_between piece start end (omega arith) inside in
-    let silent : begins_with 39 body ≡ true = first_between piece start end 39 order inside ∙ eq-eqb (get_or piece start 0) 39 quote in
-    let none : drop end piece ≡ [] = rw all (drop-length piece) in
-    let unit : IsUnit body [] = subst (IsUnit body) none n.unit in
-    let place : offset + length piece - 1 ≡ offset + start + length body - 1 = omega (arith, size) in
-    let here : Statements (offset + start) (slice_range piece start end ++ more) others =
-    behind_open_comment (offset + start) body more others unit silent (statements_at (offset + length piece - 1) _ _ others place s) in
-    let there = pass_gap piece from at start end passed some within order inside n offset end more others (omega arith) inside here in
-    let whole : slice_range piece from end ++ more ≡ drop from piece ++ more = ap (λ xs. xs ++ more) (ap (slice_range piece from) all ∙ whole_range piece from) in
-    statements_of (offset + from) _ _ others whole there
+    let silent : begins_with 39 body ≡ true = first_between piece start end 39 some inside ∙ eq-eqb (get_or piece start 0) 39 quote in
+    let none : drop end piece ≡ [] = drop_all end piece (omega arith) in
+    let same : slice_range piece start (end + 1) ≡ body = range_end piece start (end + 1) (omega arith) ∙ sym (range_end piece start end (omega arith)) in
+    over_open_comment place held piece body (subst (IsUnit body) none n.unit) silent (omega arith)
+    (subst (λ xs. Passes place held xs body) (take_all (end + 1) piece (omega arith))
+    (subst (Passes place held (take (end + 1) piece)) same (to_unit place held piece at start end p some inside n)))
 
-pub gap_open : (piece : List ℕ) (from at : ℕ) → Passes piece from at → (at ≡ from) ⊎ (at < length piece) → at ≤ length piece → IsGap (drop at piece) → (offset : ℕ) (more : List ℕ) (others : List TextUnit) → Statements (offset + length piece) more others → Statements (offset + from) (drop from piece ++ more) others
-gap_open piece from at passed some within gap offset more others s =
+pub gap_open : (place : Place) (held piece : List ℕ) (at : ℕ) → PassesTo place held piece at → at ≤ length piece → IsGap (drop at piece) → Passes place held piece []
+gap_open place held piece at p within gap =
+    let end = length piece in
     let size = length-drop at piece in
-    let place : offset + length piece ≡ offset + at + length (drop at piece) = omega (arith, size) in
-    let here : Statements (offset + at) (drop at piece ++ more) others = behind_gap (offset + at) (drop at piece) more others gap (statements_at (offset + length piece) _ _ others place s) in
-    let there = passed offset (length piece) more others within (omega arith) some (statements_of (offset + at) _ _ others (ap (λ xs. xs ++ more) (sym (whole_range piece at))) here) in
-    statements_of (offset + from) _ _ others (ap (λ xs. xs ++ more) (whole_range piece from)) there
-
-pub passes_none : (piece : List ℕ) (from : ℕ) → Passes piece from from
-passes_none piece from offset k more others up low later s = s
+    let same : slice_range piece at (end + 1) ≡ drop at piece ++ [] = range_end piece at (end + 1) (omega arith) ∙ sym (append-nil _) in
+    over_gap place held piece (drop at piece) [] gap (omega arith)
+    (subst (λ xs. Passes place held xs (drop at piece ++ [])) (take_all (end + 1) piece (omega arith))
+    (subst (Passes place held (take (end + 1) piece)) same (on_to place held piece at end within p)))

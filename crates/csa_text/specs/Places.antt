@@ -31,60 +31,41 @@ IsHeld Comment held = held ≡ []
 abbrev pub IsKept : Place → List ℕ → ℕ → ℕ → Type 0
 IsKept place held fed number = (number + length (open_of place held) ≤ fed) × (length held ≤ longest_statement) × IsHeld place held × (begins place ≡ true → fed ≡ length held) × (fed ≤ 2 ^ 63)
 
--- from one place of the piece to another there are gaps and whole comments: what comes from there comes
--- from here
-abbrev pub Passes : List ℕ → ℕ → ℕ → Type 0
-Passes piece from to = (offset k : ℕ) (more : List ℕ) (others : List TextUnit) → to ≤ k → k ≤ length piece → (to ≡ from) ⊎ (to < k)
-    → Statements (offset + to) (slice_range piece to k ++ more) others → Statements (offset + from) (slice_range piece from k ++ more) others
+-- the front of a piece leads from where the cutter stands to where these bytes are unfinished: what is to come from
+-- there is to come from here
+abbrev pub Passes : Place → List ℕ → List ℕ → List ℕ → Type 0
+Passes place held front unfinished = (fed : ℕ) (more : List ℕ) (others : List TextUnit) → length (open_of place held) ≤ fed
+    → Statements (fed + length front - length unfinished) (unfinished ++ more) others → Follows (begins place) fed (open_of place held) (front ++ more) others
 
--- a statement's unit between two places of the piece, or what has come of it, behind gaps and comments
-pub record IsUnitIn (piece : List ℕ) (from start end : ℕ) : Type 0 where
-  pub order : from ≤ start
-  pub some : start < end
-  pub within : end ≤ length piece
-  pub unit : IsUnit (slice_range piece start end) (drop end piece)
-  pub spoken : begins_with 39 (slice_range piece start end) ≡ false
-  pub passed : (offset k : ℕ) (more : List ℕ) (others : List TextUnit) → end ≤ k → k ≤ length piece
-      → Statements (offset + start) (slice_range piece start k ++ more) others → Statements (offset + from) (slice_range piece from k ++ more) others
+-- the same up to one place of the piece, where its byte begins what is unfinished
+abbrev pub PassesTo : Place → List ℕ → List ℕ → ℕ → Type 0
+PassesTo place held piece at = Passes place held (take (at + 1) piece) (slice_range piece at (at + 1))
 
 -- the statement's unit that a piece holds, or where it leads to where it holds none
 abbrev pub Found : Type 0
 Found = Result Part Place
 
--- what the piece holds from this place on
-abbrev pub IsFirstIn : List ℕ → ℕ → Found → Type 0
-IsFirstIn piece from (Err Mark) = ⊥
-IsFirstIn piece from (Err InUnit) = ⊥
-IsFirstIn piece from (Err Gap) = (offset : ℕ) (more : List ℕ) (others : List TextUnit)
-    → Statements (offset + length piece) more others → Statements (offset + from) (drop from piece ++ more) others
-IsFirstIn piece from (Err Comment) = (0 < length piece) × ((offset : ℕ) (more : List ℕ) (others : List TextUnit)
-    → Statements (offset + length piece - 1) (39 ∷ more) others → Statements (offset + from) (drop from piece ++ more) others)
-IsFirstIn piece from (Ok part) = (part.goes_on ≡ false) × IsUnitIn piece from part.start part.end
-
 -- what is held of a unit
 abbrev pub kept_of : Bool → List ℕ → List ℕ
 kept_of goes_on held = if goes_on then held else []
 
--- a statement's unit, or what has come of it: what is held of it and the bytes of the piece from start to end
+-- a statement's unit, or what has come of it: what is held of it and the bytes of the piece from start to end; and what
+-- leads to it, with the byte that ends it
 pub record IsPart (place : Place) (held piece : List ℕ) (goes_on : Bool) (start end : ℕ) : Type 0 where
   pub order : start ≤ end
   pub within : end ≤ length piece
   pub first : goes_on ≡ true → (start ≡ 0) × (open_of place held ≡ held)
   pub unit : IsUnit (kept_of goes_on held ++ slice_range piece start end) (drop end piece)
   pub spoken : begins_with 39 (kept_of goes_on held ++ slice_range piece start end) ≡ false
-  pub passed : (fed k : ℕ) (more : List ℕ) (others : List TextUnit) → length (open_of place held) ≤ fed → end ≤ k → k ≤ length piece → (end ≡ length piece) ⊎ (end < k)
-      → Statements (fed + start - length (kept_of goes_on held)) ((kept_of goes_on held ++ slice_range piece start k) ++ more) others
-      → Follows (begins place) fed (open_of place held) (take k piece ++ more) others
+  pub passed : Passes place held (take (end + 1) piece) (kept_of goes_on held ++ slice_range piece start (end + 1))
 
 -- what the piece holds next
 abbrev pub IsFoundIn : Place → List ℕ → List ℕ → Found → Type 0
 IsFoundIn place held piece (Err InUnit) = ⊥
 IsFoundIn place held piece (Err Mark) =
     (place ≡ Mark) × (length held + length piece < 3) × (held ++ piece ≡ take (length held + length piece) byte_order_mark)
-IsFoundIn place held piece (Err Gap) = (fed : ℕ) (more : List ℕ) (others : List TextUnit) → length (open_of place held) ≤ fed
-    → Statements (fed + length piece) more others → Follows (begins place) fed (open_of place held) (piece ++ more) others
-IsFoundIn place held piece (Err Comment) = ((place ≡ Comment) ⊎ (0 < length piece)) × ((fed : ℕ) (more : List ℕ) (others : List TextUnit) → length (open_of place held) ≤ fed
-    → Statements (fed + length piece - 1) (39 ∷ more) others → Follows (begins place) fed (open_of place held) (piece ++ more) others)
+IsFoundIn place held piece (Err Gap) = Passes place held piece []
+IsFoundIn place held piece (Err Comment) = ((place ≡ Comment) ⊎ (0 < length piece)) × Passes place held piece (39 ∷ [])
 IsFoundIn place held piece (Ok part) = IsPart place held piece part.goes_on part.start part.end
 
 -- what one holds is held of the other, up to the first byte that differs

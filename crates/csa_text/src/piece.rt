@@ -1,4 +1,4 @@
-ghost use Rattle.std.specs.Prelude.{◌≡◌, ◌+◌, ◌-◌, ◌^◌, ◌<◌, ◌≤◌, ◌++◌, [], length, true, None, Some, IsSome, IfSome, IfOk, IfErr, if◌then◌else◌};
+ghost use Rattle.std.specs.Prelude.{◌≡◌, ℕ, List, ◌+◌, ◌-◌, ◌^◌, ◌<◌, ◌≤◌, ◌++◌, [], length, true, None, Some, IsSome, IfSome, IfOk, IfErr, if◌then◌else◌};
 ghost use Rattle.std.specs.Borrow.{sem};
 ghost use Rattle.std.specs.Io.BufRead.{Rests};
 ghost use Rattle.arrayvec.specs.ArrayVec.{array_vec_len};
@@ -6,7 +6,7 @@ ghost use Rattle.csa_text.specs.contracts.piece.PieceCutter.{the_row};
 ghost use Rattle.csa_text.specs.Cut.{statement_bytes};
 ghost use Rattle.csa_text.specs.PieceCutting.{fresh, HoldsLittle, IsOpen};
 ghost use Rattle.csa_text.specs.PieceSteps.{AfterStep, AfterEnd, Last, IsTooLongAt, IsUsed, IsLentFrom};
-ghost use Rattle.csa_text.specs.Places.{IsKept, IsFoundIn, IsFirstIn, IsCommon, IsHeld, begins, kept_of, has_unit};
+ghost use Rattle.csa_text.specs.Places.{IsKept, IsFoundIn, PassesTo, IsCommon, IsHeld, begins, kept_of, has_unit};
 
 use crate::cutter::{
     BYTE_ORDER_MARK, COMMENT, CutFault, LONGEST_STATEMENT, Statement, handed_out, next_unit,
@@ -318,12 +318,12 @@ fn common_length(a: &[u8], b: &[u8]) -> usize
     a.len()
 }
 
-// The first statement's unit in the piece from here on, behind gaps and comments, or where it leads
-// to where it holds none.
+// What the piece holds next where its front up to `from` was passed: a statement's unit behind gaps
+// and comments, or where it leads to.
 #[inline(always)]
 pub(crate) fn first_in(piece: &[u8], from: usize) -> Result<Part, Place>
     requires { from ≤ length piece.now }
-    ensures { IsFirstIn piece.now from result }
+    ensures { (place : Place) (held : List ℕ) → PassesTo place held piece.now from → IsFoundIn place held piece.now result }
 {
     let mut at = from;
     while let Some((start, end)) = next_unit(piece, at) {

@@ -1,13 +1,12 @@
-use Rattle.std.proofs.Common.{◌≡◌, ◌<◌, ◌≤◌, ◌-◌, ◌⊎◌, length}
-use Rattle.csa_text.specs.Places.{Passes}
+use Rattle.std.proofs.Common.{◌≤◌, ◌-◌, List, ℕ, length}
+use Rattle.csa_text.specs.Places.{PassesTo}
+use Rattle.csa_text.specs.declared.piece.Place.{Place}
 use Rattle.csa_text.proofs.piece.first_in.Given as goal
 
 abbrev pub invariant-loop-start : goal.invariant-loop-start
 invariant-loop-start l = record {
-  order : l.from ≤ l.at;
   within : l.at ≤ length l.piece;
-  some : (l.at ≡ l.from) ⊎ (l.at < length l.piece);
-  passed : Passes l.piece l.from l.at;
+  passed : (place : Place) (held : List ℕ) → PassesTo place held l.piece l.from → PassesTo place held l.piece l.at;
 }
 
 abbrev pub decreases-loop-start : goal.decreases-loop-start
