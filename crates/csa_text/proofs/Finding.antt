@@ -11,12 +11,12 @@ use Rattle.csa_text.specs.PieceCutting.{Follows, mark_of}
 use Rattle.csa_text.specs.Places.{IsPart, IsFoundIn, IsCommon, Passes, PassesTo, begins, open_of}
 use Rattle.csa_text.specs.declared.piece.Place.{Place}
 use Rattle.csa_text.specs.declared.piece.Place.TheVariants.{Mark, Gap, Unit as InUnit, Comment}
-use Rattle.csa_text.proofs.Fronts.{passes, weaker, turned_true, turned_false, ends_before, unit_front}
+use Rattle.csa_text.proofs.Fronts.{passes, weaker, turned_true, turned_false, ends_before, unit_front, length_between}
 use Rattle.csa_text.proofs.LineCutting.{all_joined}
-use Rattle.csa_text.proofs.Passing.{statements_at, statements_of, unit_before, ends_with_next, split_front, front_size, over_comment, over_open_comment}
+use Rattle.csa_text.proofs.Passing.{statements_at, statements_of, unit_before, ends_with_next, split_range, range_size, over_comment, over_open_comment}
 
 -- from the front
-first_range : (piece : List ℕ) (k : ℕ) → slice_range piece 0 k ≡ take k piece
+pub first_range : (piece : List ℕ) (k : ℕ) → slice_range piece 0 k ≡ take k piece
 first_range piece k = let count : k - 0 ≡ k = omega arith in ap (λ n. take n piece) count
 
 -- behind the mark and no longer in it
@@ -31,8 +31,8 @@ passes_open place held front none fed more others few s =
     subst (λ m. Statements (fed - length begun + m) (drop m (begun ++ (front ++ more))) others) (sym (none more))
     (statements_at _ _ _ others same (statements_of _ _ _ others (append_assoc begun front more) s))
 
-pub passes_gap : (held piece : List ℕ) → PassesTo Gap held piece 0
-passes_gap held piece = passes_open Gap held (take 1 piece) (λ more. refl)
+pub passes_gap : (held piece : List ℕ) (from : ℕ) → PassesTo Gap held piece from from
+passes_gap held piece from = passes_open Gap held (slice_range piece from (from + 1)) (λ more. refl)
 
 -- the rest of a unit whose first byte is held
 pub rest_unit : (held piece : List ℕ) (first n : ℕ) → IsUnit held [] → begins_with first held ≡ true → n ≡ position_or_len (is_end first) piece → IsUnit (held ++ take n piece) (drop n piece)
@@ -57,24 +57,24 @@ pub first_of_held : (held : List ℕ) → 0 < length held → begins_with (get_o
 first_of_held [] some = absurd (omega arith)
 first_of_held (b ∷ held) some = grind (arith, nat_tests)
 
-pub found_in_unit : (held piece : List ℕ) (n : ℕ) → IsUnit held [] → begins_with 39 held ≡ false → n ≡ position_or_len (is_end (get_or held 0 0)) piece → IsPart InUnit held piece true 0 n
+pub found_in_unit : (held piece : List ℕ) (n : ℕ) → IsUnit held [] → begins_with 39 held ≡ false → n ≡ position_or_len (is_end (get_or held 0 0)) piece → IsPart InUnit held piece 0 true 0 n
 found_in_unit held piece n h says e =
     let first = get_or held 0 0 in
     let some = unit_some held [] h in
     record {
-      order = omega arith;
+      order = (omega arith, omega arith);
       within = rw e (prefix_len-le-length (λ x. not (is_end first x)) piece);
       first = λ _. (refl, refl);
       unit = rw (first_range piece n) (rest_unit held piece first n h (first_of_held held some) e);
       spoken = begins_still 39 held (slice_range piece 0 n) some ∙ says;
-      passed = rw (first_range piece (n + 1)) (passes_open InUnit held (take (n + 1) piece) (λ more. refl));
+      passed = passes_open InUnit held (slice_range piece 0 (n + 1)) (λ more. refl);
     }
 
 comment_line : (piece : List ℕ) (n : ℕ) → n ≡ position_or_len (is_end 39) piece → IsUnit (39 ∷ take n piece) (drop n piece)
 comment_line piece n e = rest_unit (39 ∷ []) piece 39 n (refl, tt, tt) refl e
 
 -- the whole piece in a comment
-pub found_in_comment : (held piece : List ℕ) (n : ℕ) → held ≡ [] → n ≡ position_or_len (is_end 39) piece → n ≡ length piece → IsFoundIn Comment held piece (Err Comment)
+pub found_in_comment : (held piece : List ℕ) (n : ℕ) → held ≡ [] → n ≡ position_or_len (is_end 39) piece → n ≡ length piece → IsFoundIn Comment held piece 0 (Err Comment)
 found_in_comment held piece n none e all =
     let whole : take n piece ≡ piece = rw all (take-length piece) in
     let rest : drop n piece ≡ [] = rw all (drop-length piece) in
@@ -82,15 +82,16 @@ found_in_comment held piece n none e all =
     rw none (inl refl, over_open_comment Comment [] piece (39 ∷ piece) unit refl (omega arith) (passes_open Comment [] piece (λ more. refl)))
 
 -- behind the comment's line
-pub passes_comment : (held piece : List ℕ) (n : ℕ) → held ≡ [] → n ≡ position_or_len (is_end 39) piece → n < length piece → PassesTo Comment held piece n
+pub passes_comment : (held piece : List ℕ) (n : ℕ) → held ≡ [] → n ≡ position_or_len (is_end 39) piece → n < length piece → PassesTo Comment held piece 0 n
 passes_comment held piece n none e some =
     let up : n ≤ n + 1 = omega arith in
-    let front = take (n + 1) piece in
-    let body = 39 ∷ take n piece in
-    let unit : (more : List ℕ) → IsUnit body (slice_range piece n (n + 1) ++ more) =
-    λ more. unit_before body (drop n piece) _ (comment_line piece n e) (λ first h. ends_with_next piece n first more some h) in
-    rw none (over_comment Comment [] front body (slice_range piece n (n + 1)) unit refl (omega (arith, front_size piece n (n + 1) up))
-    (subst (λ xs. Passes Comment [] front (39 ∷ xs)) (split_front piece n (n + 1) up) (passes_open Comment [] front (λ more. refl))))
+    let front = slice_range piece 0 (n + 1) in
+    let body = slice_range piece 0 n in
+    let line : IsUnit (39 ∷ body) (drop n piece) = rw (first_range piece n) (comment_line piece n e) in
+    let unit : (more : List ℕ) → IsUnit (39 ∷ body) (slice_range piece n (n + 1) ++ more) =
+    λ more. unit_before (39 ∷ body) (drop n piece) _ line (λ first h. ends_with_next piece n first more some h) in
+    rw none (over_comment Comment [] front (39 ∷ body) (slice_range piece n (n + 1)) unit refl (omega (arith, range_size piece 0 n (n + 1) (omega arith) up))
+    (subst (λ xs. Passes Comment [] front (39 ∷ xs)) (split_range piece 0 n (n + 1) (omega arith) up) (passes_open Comment [] front (λ more. refl))))
 
 -- the whole mark
 
@@ -108,9 +109,9 @@ other_byte (suc (suc zero)) b rest less h = rw h refl
 other_byte (suc (suc (suc m))) b rest less h = absurd (omega arith)
 
 -- the text behind the bytes that are of the mark
-in_mark : (held piece mark more : List ℕ) (n k : ℕ) → held ++ take n piece ≡ mark → n ≤ k → held ++ (take k piece ++ more) ≡ mark ++ (slice_range piece n k ++ more)
+in_mark : (held piece mark more : List ℕ) (n k : ℕ) → held ++ take n piece ≡ mark → n ≤ k → held ++ (slice_range piece 0 k ++ more) ≡ mark ++ (slice_range piece n k ++ more)
 in_mark held piece mark more n k same order =
-    ap (λ xs. held ++ (xs ++ more)) (split_front piece n k order)
+    ap (λ xs. held ++ (xs ++ more)) (split_range piece 0 n k (omega arith) order ∙ ap (λ xs. xs ++ slice_range piece n k) (first_range piece n))
     ∙ ap (λ xs. held ++ xs) (append_assoc (take n piece) (slice_range piece n k) more)
     ∙ sym (append_assoc held (take n piece) (slice_range piece n k ++ more))
     ∙ ap (λ xs. xs ++ (slice_range piece n k ++ more)) same
@@ -121,12 +122,12 @@ pub record WholeMark (held piece : List ℕ) (n : ℕ) : Type 0 where
   pub within : n ≤ length piece
   pub same : held ++ take n piece ≡ byte_order_mark
 
-pub passes_mark : (held piece : List ℕ) (n : ℕ) → WholeMark held piece n → PassesTo Mark held piece n
+pub passes_mark : (held piece : List ℕ) (n : ℕ) → WholeMark held piece n → PassesTo Mark held piece 0 n
 passes_mark held piece n w fed more others few s =
     let size = w.size in
-    let taken : length (take n piece) ≡ n = length-take-le n piece w.within in
-    let front = front_size piece n (n + 1) (omega arith) in
-    with_mark fed held (take (n + 1) piece ++ more) (slice_range piece n (n + 1) ++ more) others (in_mark held piece byte_order_mark more n (n + 1) w.same (omega arith))
+    let taken = length_between piece 0 n (omega arith) w.within in
+    let front = range_size piece 0 n (n + 1) (omega arith) (omega arith) in
+    with_mark fed held (slice_range piece 0 (n + 1) ++ more) (slice_range piece n (n + 1) ++ more) others (in_mark held piece byte_order_mark more n (n + 1) w.same (omega arith))
     (statements_at _ _ _ others (omega arith) s)
 
 -- the byte behind n bytes of the piece is none of the mark
@@ -136,18 +137,18 @@ pub record NoMark (held piece : List ℕ) (n : ℕ) : Type 0 where
   pub same : held ++ take n piece ≡ take (length held + n) byte_order_mark
   pub differs : (get_or byte_order_mark (length held + n) 0 == get_or piece n 0) ≡ false
 
-no_mark : (held piece more : List ℕ) (n k : ℕ) → NoMark held piece n → n < k → mark_length (held ++ (take k piece ++ more)) ≡ 0
+no_mark : (held piece more : List ℕ) (n k : ℕ) → NoMark held piece n → n < k → mark_length (held ++ (slice_range piece 0 k ++ more)) ≡ 0
 no_mark held piece more n k w order =
     let opened : drop n piece ≡ get_or piece n 0 ∷ drop (suc n) piece = drop-cons piece n 0 w.within in
     let count : k - n ≡ suc (k - n - 1) = omega arith in
     let head : slice_range piece n k ≡ get_or piece n 0 ∷ take (k - n - 1) (drop (suc n) piece) =
     ap (λ i. take i (drop n piece)) count ∙ ap (take (suc (k - n - 1))) opened in
-    let whole : held ++ (take k piece ++ more) ≡ take (length held + n) byte_order_mark ++ (get_or piece n 0 ∷ (take (k - n - 1) (drop (suc n) piece) ++ more)) =
+    let whole : held ++ (slice_range piece 0 k ++ more) ≡ take (length held + n) byte_order_mark ++ (get_or piece n 0 ∷ (take (k - n - 1) (drop (suc n) piece) ++ more)) =
     in_mark held piece _ more n k w.same (omega arith) ∙ ap (λ xs. take (length held + n) byte_order_mark ++ (xs ++ more)) head in
     ap mark_length whole ∙ other_byte (length held + n) (get_or piece n 0) _ w.less w.differs
 
-pub passes_no_mark : (held piece : List ℕ) (n k : ℕ) → NoMark held piece n → n < k → Passes Mark held (take k piece) (held ++ take k piece)
-passes_no_mark held piece n k w order = passes_open Mark held (take k piece) (λ more. no_mark held piece more n k w order)
+pub passes_no_mark : (held piece : List ℕ) (n k : ℕ) → NoMark held piece n → n < k → Passes Mark held (slice_range piece 0 k) (held ++ slice_range piece 0 k)
+passes_no_mark held piece n k w order = passes_open Mark held (slice_range piece 0 k) (λ more. no_mark held piece more n k w order)
 
 mark_has_no_end : (m : ℕ) → m < 3 → is_end 0xEF (get_or byte_order_mark m 0) ≡ false
 mark_has_no_end zero less = refl
@@ -233,17 +234,17 @@ mark_part (c ∷ held) piece n e w is_mark some is_run =
     let silent : begins_with 39 whole ≡ false = ap (begins_with 39) is_mark ∙ mark_silent (length whole) (omega arith) in
     (rest_unit whole piece 0xEF e unit first is_run, begins_still 39 whole (take e piece) (omega arith) ∙ silent)
 
-pub part_no_mark : (held piece : List ℕ) (n e : ℕ) → NoMark held piece n → held ≡ take (length held) byte_order_mark → 0 < length held + n → e ≡ position_or_len (is_end 0xEF) piece → IsPart Mark held piece true 0 e
+pub part_no_mark : (held piece : List ℕ) (n e : ℕ) → NoMark held piece n → held ≡ take (length held) byte_order_mark → 0 < length held + n → e ≡ position_or_len (is_end 0xEF) piece → IsPart Mark held piece 0 true 0 e
 part_no_mark held piece n e w is_mark some is_run =
     let part = mark_part held piece n e w is_mark some is_run in
     let behind = no_end_before held piece n e w is_mark is_run in
     record {
-      order = omega arith;
+      order = (omega arith, omega arith);
       within = rw is_run (prefix_len-le-length (λ x. not (is_end 0xEF x)) piece);
       first = λ _. (refl, refl);
       unit = rw (first_range piece e) part.0;
       spoken = rw (first_range piece e) part.1;
-      passed = rw (first_range piece (e + 1)) (passes_no_mark held piece n (e + 1) w (omega arith));
+      passed = passes_no_mark held piece n (e + 1) w (omega arith);
     }
 
 pub no_length : (xs : List ℕ) → length xs ≡ 0 → xs ≡ []

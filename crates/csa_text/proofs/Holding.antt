@@ -21,7 +21,7 @@ used_by P Q (Some s) some q = q
 pub held_whole : (unfinished : List ℕ) → begins_with 39 unfinished ≡ false → unfinished ≡ held_of unfinished
 held_whole unfinished quiet = rw quiet refl
 
-pub held_found : (place after : Place) (held other piece : List ℕ) → other ≡ (if begins after then held ++ piece else []) → IsFoundIn place held piece (Err after) → other ≡ held_of (open_of after other)
+pub held_found : (place after : Place) (held other piece : List ℕ) → other ≡ (if begins after then held ++ piece else []) → IsFoundIn place held piece 0 (Err after) → other ≡ held_of (open_of after other)
 held_found place Mark held other piece o h =
     let whole : other ≡ take (length held + length piece) byte_order_mark = o ∙ h.2 in
     held_whole other (ap (begins_with 39) whole ∙ mark_quiet (length held + length piece))

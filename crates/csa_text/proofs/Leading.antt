@@ -2,7 +2,7 @@
 use Rattle.std.proofs.Common.{◌≡◌, ℕ, zero, suc, ◌+◌, ◌-◌, ◌<◌, ◌≤◌, ◌==◌, ◌||◌, ◌&&◌, ◌⊎◌, Bool, true, false, not, nat_lt, List, [], ◌∷◌, ◌++◌, filter, length, take, drop, get_or, slice_range, length-append, append_assoc, append-nil, Option, Some, None, IsSome, IfSome, if◌then◌else◌, Err, arith, refl, sym, ap, ◌∙◌, subst, inl, inr}
 use Rattle.std.proofs.lemmas.Bool.{cases_lt, false≢true}
 use Rattle.std.proofs.lemmas.Bool.Decides.{nat_tests}
-use Rattle.std.proofs.lemmas.List.{length-take-le, take_all, take-append-drop}
+use Rattle.std.proofs.lemmas.List.{length-take-le}
 use Rattle.std.proofs.lemmas.List.Folds.{drop_split}
 use Rattle.std.proofs.Math.Seq.{drop-cons, drop-length, take-length}
 use Rattle.csa_text.specs.Cut.{TextUnit, IsGap, IsUnit, EndsBefore, Statements, is_separator, is_end, takes_line, byte_order_mark, statement_bytes}
@@ -14,7 +14,9 @@ use Rattle.csa_text.specs.declared.piece.Place.{Place}
 use Rattle.csa_text.specs.declared.piece.Place.TheVariants.{Mark, Gap, Unit as InUnit, Comment}
 use Rattle.csa_text.proofs.Runs.{no_statements, statement_first, found}
 use Rattle.csa_text.proofs.LineCutting.{length_range, nothing}
-use Rattle.csa_text.proofs.Passing.{statements_at, statements_of, behind_gap, behind_comment, unit_at, unit_before, next_byte, ends_with_next, split_range, range_end, front_size}
+use Rattle.csa_text.proofs.Passing.{statements_at, statements_of, behind_gap, behind_comment, unit_at, unit_before, next_byte, ends_with_next, split_range, range_size, range_end}
+use Rattle.csa_text.proofs.Finding.{first_range}
+use Rattle.csa_text.proofs.Fronts.{length_between}
 
 abbrev pub seen : Place → List ℕ → ℕ → ℕ → Option ℕ → PieceCutting
 seen place held fed number refused =
@@ -29,7 +31,7 @@ comment_alone o = behind_comment o (39 ∷ []) [] [] (refl, tt, tt) refl (nothin
 pub to_whole : (b : Bool) (fed : ℕ) (held text : List ℕ) (others : List TextUnit) → Follows b fed held (text ++ []) others → Follows b fed held text others
 to_whole b fed held text others s = subst (λ t. Follows b fed held t others) (append-nil text) s
 
-pub leads_to_gap : (place : Place) (held other piece : List ℕ) (fed number : ℕ) → IsFoundIn place held piece (Err Gap) → length (open_of place held) ≤ fed → Leads (seen place held fed number None) piece [] (seen Gap other (fed + length piece) number None)
+pub leads_to_gap : (place : Place) (held other piece : List ℕ) (fed number : ℕ) → IsFoundIn place held piece 0 (Err Gap) → length (open_of place held) ≤ fed → Leads (seen place held fed number None) piece [] (seen Gap other (fed + length piece) number None)
 leads_to_gap place held other piece fed number h few =
     let o = fed + length piece - 0 in
     record {
@@ -40,7 +42,7 @@ leads_to_gap place held other piece fed number h few =
       going = refl;
     }
 
-pub leads_to_comment : (place : Place) (held piece : List ℕ) (fed number : ℕ) → IsFoundIn place held piece (Err Comment) → length (open_of place held) ≤ fed → Leads (seen place held fed number None) piece [] (seen Comment [] (fed + length piece) number None)
+pub leads_to_comment : (place : Place) (held piece : List ℕ) (fed number : ℕ) → IsFoundIn place held piece 0 (Err Comment) → length (open_of place held) ≤ fed → Leads (seen place held fed number None) piece [] (seen Comment [] (fed + length piece) number None)
 leads_to_comment place held piece fed number h few =
     let o = fed + length piece - 1 in
     record {
@@ -86,10 +88,10 @@ kept_few : (place : Place) (goes_on : Bool) (held : List ℕ) (fed : ℕ) → (g
 kept_few place false held fed first few = omega arith
 kept_few place true held fed first few = omega (arith, ap length (first refl))
 
--- the unit of a part
+-- the unit of a part whose bytes in the piece begin at this offset
 abbrev pub part_unit : Bool → List ℕ → List ℕ → ℕ → ℕ → ℕ → TextUnit
-part_unit goes_on held piece start end fed =
-    record { offset = fed + start - length (kept_of goes_on held); bytes = kept_of goes_on held ++ slice_range piece start end }
+part_unit goes_on held piece start end offset =
+    record { offset = offset - length (kept_of goes_on held); bytes = kept_of goes_on held ++ slice_range piece start end }
 
 pub part_size : (goes_on : Bool) (held piece : List ℕ) (start end : ℕ) → end ≤ length piece → length (kept_of goes_on held ++ slice_range piece start end) ≡ length (kept_of goes_on held) + (end - start)
 part_size goes_on held piece start end within =
@@ -110,41 +112,41 @@ none_kept p u h = rw h refl
 pub one_kept : (p : TextUnit → Bool) (u : TextUnit) (us : List TextUnit) → p u ≡ true → u ∷ filter p us ≡ filter p (u ∷ us)
 one_kept p u us h = rw h refl
 
--- where the unit begins
-unit_place : (kept piece : List ℕ) (start k fed : ℕ) → start ≤ length piece → start ≤ k → fed + length (take k piece) - length (kept ++ slice_range piece start k) ≡ fed + start - length kept
-unit_place kept piece start k fed within order =
-    let taken : length (take start piece) ≡ start = length-take-le start piece within in
-    omega (arith, taken, front_size piece start k order, length-append kept (slice_range piece start k))
-
 -- the unit is told first, before what stands behind it
-pub unit_first : (place : Place) (held piece : List ℕ) (goes_on : Bool) (start end fed : ℕ) (more : List ℕ) (others : List TextUnit) → IsPart place held piece goes_on start end → length (open_of place held) ≤ fed → IsUnit (kept_of goes_on held ++ slice_range piece start end) (slice_range piece end (end + 1) ++ more) → Statements (fed + end) (slice_range piece end (end + 1) ++ more) others → Follows (begins place) fed (open_of place held) (take (end + 1) piece ++ more) (part_unit goes_on held piece start end fed ∷ others)
-unit_first place held piece goes_on start end fed more others p few unit s =
+unit_first : (place : Place) (held piece : List ℕ) (from : ℕ) (goes_on : Bool) (start end fed : ℕ) (more : List ℕ) (others : List TextUnit) → IsPart place held piece from goes_on start end → length (open_of place held) ≤ fed → IsUnit (kept_of goes_on held ++ slice_range piece start end) (slice_range piece end (end + 1) ++ more) → Statements (fed + (end - from)) (slice_range piece end (end + 1) ++ more) others → Follows (begins place) fed (open_of place held) (slice_range piece from (end + 1) ++ more) (part_unit goes_on held piece start end (fed + (start - from)) ∷ others)
+unit_first place held piece from goes_on start end fed more others p few unit s =
     let kept = kept_of goes_on held in
     let u = kept ++ slice_range piece start end in
-    let behind = slice_range piece end (end + 1) ++ more in
+    let next = slice_range piece end (end + 1) in
+    let behind = next ++ more in
     let low = kept_few place goes_on held fed (λ h. (p.first h).1) few in
     let size = part_size goes_on held piece start end p.within in
     let order = p.order in
     let within = p.within in
-    let o = fed + start - length kept in
-    let here : Statements o (u ++ behind) (part_unit goes_on held piece start end fed ∷ others) =
-    statement_first o (u ++ behind) (part_unit goes_on held piece start end fed) behind others (unit_at o u behind unit) (ap not p.spoken) (statements_at (fed + end) _ _ others (omega arith) s) in
+    let o = fed + (start - from) - length kept in
+    let here : Statements o (u ++ behind) (part_unit goes_on held piece start end (fed + (start - from)) ∷ others) =
+    statement_first o (u ++ behind) (part_unit goes_on held piece start end (fed + (start - from))) behind others (unit_at o u behind unit) (ap not p.spoken) (statements_at (fed + (end - from)) _ _ others (omega arith) s) in
     let whole : u ++ behind ≡ (kept ++ slice_range piece start (end + 1)) ++ more =
-    sym (append_assoc u (slice_range piece end (end + 1)) more) ∙ ap (λ xs. xs ++ more) (append_assoc kept (slice_range piece start end) (slice_range piece end (end + 1)) ∙ ap (λ xs. kept ++ xs) (sym (split_range piece start end (end + 1) order (omega arith)))) in
-    p.passed fed more _ few (statements_at o _ _ _ (sym (unit_place kept piece start (end + 1) fed (omega arith) (omega arith))) (statements_of o _ _ _ whole here))
+    sym (append_assoc u next more) ∙ ap (λ xs. xs ++ more) (append_assoc kept (slice_range piece start end) next ∙ ap (λ xs. kept ++ xs) (sym (split_range piece start end (end + 1) order.1 (omega arith)))) in
+    let gap = length_between piece from start order.0 (omega arith) in
+    let sizes = range_size piece from start (end + 1) order.0 (omega arith) in
+    p.passed fed more _ few (statements_at o _ _ _ (omega (arith, length-append kept (slice_range piece start (end + 1)))) (statements_of o _ _ _ whole here))
 
--- all of the piece, where the rest of it stands behind the unit
-rest_told : (piece : List ℕ) (end : ℕ) → slice_range piece end (end + 1) ++ drop (end + 1) piece ≡ drop end piece
-rest_told piece end = sym (drop_split piece end (end + 1) (omega arith))
-
-pub unit_told : (place : Place) (held piece : List ℕ) (goes_on : Bool) (start end fed : ℕ) (others : List TextUnit) → IsPart place held piece goes_on start end → length (open_of place held) ≤ fed → Statements (fed + end) (drop end piece) others → Follows (begins place) fed (open_of place held) piece (part_unit goes_on held piece start end fed ∷ others)
-unit_told place held piece goes_on start end fed others p few s =
-    let rest = rest_told piece end in
+-- where all of the piece is taken
+pub unit_told : (place : Place) (held piece : List ℕ) (from : ℕ) (goes_on : Bool) (start end fed : ℕ) (others : List TextUnit) → IsPart place held piece from goes_on start end → length (open_of place held) ≤ fed → Statements (fed + (end - from)) (drop end piece) others → Follows (begins place) fed (open_of place held) (drop from piece) (part_unit goes_on held piece start end (fed + (start - from)) ∷ others)
+unit_told place held piece from goes_on start end fed others p few s =
+    let order = p.order in
+    let rest : drop end piece ≡ slice_range piece end (end + 1) ++ drop (end + 1) piece = drop_split piece end (end + 1) (omega arith) in
     let u = kept_of goes_on held ++ slice_range piece start end in
-    subst (λ t. Follows (begins place) fed (open_of place held) t (part_unit goes_on held piece start end fed ∷ others)) (take-append-drop (end + 1) piece)
-    (unit_first place held piece goes_on start end fed (drop (end + 1) piece) others p few (subst (IsUnit u) (sym rest) p.unit) (statements_of (fed + end) _ _ others (sym rest) s))
+    subst (λ t. Follows (begins place) fed (open_of place held) t (part_unit goes_on held piece start end (fed + (start - from)) ∷ others)) (sym (drop_split piece from (end + 1) (omega arith)))
+    (unit_first place held piece from goes_on start end fed (drop (end + 1) piece) others p few (subst (IsUnit u) rest p.unit) (statements_of _ _ _ others rest s))
 
-pub leads_to_unit : (place : Place) (held piece : List ℕ) (goes_on : Bool) (start end fed number : ℕ) → IsPart place held piece goes_on start end → length (open_of place held) ≤ fed → end ≡ length piece → length (kept_of goes_on held ++ slice_range piece start end) ≤ 4096 → Leads (seen place held fed number None) piece [] (seen InUnit (kept_of goes_on held ++ slice_range piece start end) (fed + end) number None)
+unit_told_here : (place : Place) (held piece : List ℕ) (goes_on : Bool) (start end fed : ℕ) (others : List TextUnit) → IsPart place held piece 0 goes_on start end → length (open_of place held) ≤ fed → Statements (fed + end) (drop end piece) others → Follows (begins place) fed (open_of place held) piece (part_unit goes_on held piece start end (fed + start) ∷ others)
+unit_told_here place held piece goes_on start end fed others p few s =
+    let same : start - 0 ≡ start = omega arith in
+    rw same at (unit_told place held piece 0 goes_on start end fed others p few (statements_at (fed + end) _ _ others (omega arith) s))
+
+pub leads_to_unit : (place : Place) (held piece : List ℕ) (goes_on : Bool) (start end fed number : ℕ) → IsPart place held piece 0 goes_on start end → length (open_of place held) ≤ fed → end ≡ length piece → length (kept_of goes_on held ++ slice_range piece start end) ≤ 4096 → Leads (seen place held fed number None) piece [] (seen InUnit (kept_of goes_on held ++ slice_range piece start end) (fed + end) number None)
 leads_to_unit place held piece goes_on start end fed number p few all short =
     let kept = kept_of goes_on held in
     let u = kept ++ slice_range piece start end in
@@ -152,17 +154,17 @@ leads_to_unit place held piece goes_on start end fed number p few all short =
     let size = part_size goes_on held piece start end p.within in
     let order = p.order in
     let none : drop end piece ≡ [] = rw all (drop-length piece) in
-    let front : take (end + 1) piece ≡ piece = take_all (end + 1) piece (omega arith) in
+    let front : slice_range piece 0 (end + 1) ≡ piece = range_end piece 0 (end + 1) (omega arith) in
     let range : slice_range piece start (end + 1) ≡ slice_range piece start end = range_end piece start (end + 1) (omega arith) ∙ sym (range_end piece start end (omega arith)) in
     let passed : Passes place held piece u = rw (front, range) at p.passed in
-    let alone = unit_told place held piece goes_on start end fed [] p few (statements_of (fed + end) _ _ [] (sym none) (nothing_left (fed + end))) in
+    let alone = unit_told_here place held piece goes_on start end fed [] p few (statements_of (fed + end) _ _ [] (sym none) (nothing_left (fed + end))) in
     record {
       took = ap (λ n. fed + n) all;
       counted = omega arith;
       closes = (
-        part_unit goes_on held piece start end fed ∷ [],
+        part_unit goes_on held piece start end (fed + start) ∷ [],
         alone,
-        none_kept (is_closed (fed + length piece)) (part_unit goes_on held piece start end fed) (not_closed (fed + start - length kept + length u) (fed + length piece) (length u) (omega arith) short),
+        none_kept (is_closed (fed + length piece)) (part_unit goes_on held piece start end (fed + start)) (not_closed (fed + start - length kept + length u) (fed + length piece) (length u) (omega arith) short),
       );
       onward = λ more others s. passed fed more others few (statements_at _ _ _ others (omega arith) s);
       going = refl;
@@ -182,22 +184,24 @@ unit_ends [] behind b rest e h = absurd h
 unit_ends (first ∷ unit) behind b rest e h = end_separates first b (subst (EndsBefore first) e h.2)
 
 -- from the end of a unit, over the byte that ends it
-over_end : (place : Place) (held piece : List ℕ) (goes_on : Bool) (start end fed : ℕ) → IsPart place held piece goes_on start end → length (open_of place held) ≤ fed → end < length piece → (more : List ℕ) (others : List TextUnit) → Statements (fed + end + 1) more others → Follows (begins place) fed (open_of place held) (take (end + 1) piece ++ more) (part_unit goes_on held piece start end fed ∷ others)
+over_end : (place : Place) (held piece : List ℕ) (goes_on : Bool) (start end fed : ℕ) → IsPart place held piece 0 goes_on start end → length (open_of place held) ≤ fed → end < length piece → (more : List ℕ) (others : List TextUnit) → Statements (fed + end + 1) more others → Follows (begins place) fed (open_of place held) (take (end + 1) piece ++ more) (part_unit goes_on held piece start end (fed + start) ∷ others)
 over_end place held piece goes_on start end fed p few left more others s =
     let u = kept_of goes_on held ++ slice_range piece start end in
     let last = slice_range piece end (end + 1) in
     let byte : last ≡ get_or piece end 0 ∷ [] = next_byte piece end left in
     let gap : IsGap last = subst IsGap (sym byte) (unit_ends u (drop end piece) (get_or piece end 0) (drop (suc end) piece) (drop-cons piece end 0 left) p.unit, tt) in
-    unit_first place held piece goes_on start end fed more others p few (unit_before u (drop end piece) (last ++ more) p.unit (λ first e. ends_with_next piece end first more left e))
-    (behind_gap (fed + end) last more others gap (statements_at (fed + end + 1) _ _ others (omega (arith, ap length byte)) s))
+    let same : start - 0 ≡ start = omega arith in
+    let front = first_range piece (end + 1) in
+    rw (same, front) at (unit_first place held piece 0 goes_on start end fed more others p few (unit_before u (drop end piece) (last ++ more) p.unit (λ first e. ends_with_next piece end first more left e))
+    (behind_gap (fed + (end - 0)) last more others gap (statements_at (fed + end + 1) _ _ others (omega (arith, ap length byte)) s)))
 
-pub leads_behind_unit : (place : Place) (held other piece : List ℕ) (goes_on : Bool) (start end fed number : ℕ) → IsPart place held piece goes_on start end → length (open_of place held) ≤ fed → end < length piece → Leads (seen place held fed number None) (take (end + 1) piece) (part_unit goes_on held piece start end fed ∷ []) (seen Gap other (fed + (end + 1)) (number + 1) None)
+pub leads_behind_unit : (place : Place) (held other piece : List ℕ) (goes_on : Bool) (start end fed number : ℕ) → IsPart place held piece 0 goes_on start end → length (open_of place held) ≤ fed → end < length piece → Leads (seen place held fed number None) (take (end + 1) piece) (part_unit goes_on held piece start end (fed + start) ∷ []) (seen Gap other (fed + (end + 1)) (number + 1) None)
 leads_behind_unit place held other piece goes_on start end fed number p few left =
     let low = kept_few place goes_on held fed (λ h. (p.first h).1) few in
     let size = part_size goes_on held piece start end p.within in
     let order = p.order in
     let taken : length (take (end + 1) piece) ≡ end + 1 = length-take-le (end + 1) piece (omega arith) in
-    let u = part_unit goes_on held piece start end fed in
+    let u = part_unit goes_on held piece start end (fed + start) in
     let over = over_end place held piece goes_on start end fed p few left in
     record {
       took = ap (λ n. fed + n) (sym taken);
@@ -211,15 +215,15 @@ leads_behind_unit place held other piece goes_on start end fed number p few left
       going = refl;
     }
 
-pub too_long : (place : Place) (held piece : List ℕ) (goes_on : Bool) (start end fed number : ℕ) → IsPart place held piece goes_on start end → length (open_of place held) ≤ fed → 4096 < length (kept_of goes_on held ++ slice_range piece start end) → (others : List TextUnit) × Closes (seen place held fed number None) piece (part_unit goes_on held piece start end fed ∷ others)
+pub too_long : (place : Place) (held piece : List ℕ) (goes_on : Bool) (start end fed number : ℕ) → IsPart place held piece 0 goes_on start end → length (open_of place held) ≤ fed → 4096 < length (kept_of goes_on held ++ slice_range piece start end) → (others : List TextUnit) × Closes (seen place held fed number None) piece (part_unit goes_on held piece start end (fed + start) ∷ others)
 too_long place held piece goes_on start end fed number p few long =
     let u = kept_of goes_on held ++ slice_range piece start end in
-    let unit = part_unit goes_on held piece start end fed in
+    let unit = part_unit goes_on held piece start end (fed + start) in
     let rest = found (fed + end) (drop end piece) in (
       filter (is_closed (fed + length piece)) rest.0,
       (
         unit ∷ rest.0,
-        unit_told place held piece goes_on start end fed rest.0 p few rest.1,
+        unit_told_here place held piece goes_on start end fed rest.0 p few rest.1,
         one_kept (is_closed (fed + length piece)) unit rest.0 (closed_long (unit.offset + length u) (fed + length piece) (length u) long),
       ),
     )
@@ -230,22 +234,22 @@ mark_lead place held other piece fed number is_mark o less same all =
     let count : fed ≡ length held = all begun in
     rw (is_mark, o, count) (leads_to_mark held piece number less same)
 
-default_lead : (place after : Place) (held other piece : List ℕ) (fed number : ℕ) → other ≡ (if begins after then held ++ piece else []) → IsFoundIn place held piece (Err after) → length (open_of place held) ≤ fed → (begins place ≡ true → fed ≡ length held) → Leads (seen place held fed number None) piece [] (seen after other (fed + length piece) number None)
+default_lead : (place after : Place) (held other piece : List ℕ) (fed number : ℕ) → other ≡ (if begins after then held ++ piece else []) → IsFoundIn place held piece 0 (Err after) → length (open_of place held) ≤ fed → (begins place ≡ true → fed ≡ length held) → Leads (seen place held fed number None) piece [] (seen after other (fed + length piece) number None)
 default_lead place Mark held other piece fed number o h few same = mark_lead place held other piece fed number h.0 o h.1 h.2 same
 default_lead place Gap held other piece fed number o h few same = leads_to_gap place held other piece fed number h few
 default_lead place InUnit held other piece fed number o h few same = absurd h
 default_lead place Comment held other piece fed number o h few same = rw o (leads_to_comment place held piece fed number h few)
 
-pub default_step : (now : PieceCutting) (place after : Place) (held other piece : List ℕ) (fed number : ℕ) (refused : Option ℕ) → seen place held fed number refused ≡ now → refused ≡ None → other ≡ (if begins after then held ++ piece else []) → IsFoundIn place held piece (Err after) → length (open_of place held) ≤ fed → (begins place ≡ true → fed ≡ length held) → (now.refused ≡ None) × Leads now piece [] (seen after other (fed + length piece) number refused)
+pub default_step : (now : PieceCutting) (place after : Place) (held other piece : List ℕ) (fed number : ℕ) (refused : Option ℕ) → seen place held fed number refused ≡ now → refused ≡ None → other ≡ (if begins after then held ++ piece else []) → IsFoundIn place held piece 0 (Err after) → length (open_of place held) ≤ fed → (begins place ≡ true → fed ≡ length held) → (now.refused ≡ None) × Leads now piece [] (seen after other (fed + length piece) number refused)
 default_step now place after held other piece fed number refused view none o h few same =
     rw (← view, none) (refl, default_lead place after held other piece fed number o h few same)
 
-pub unit_step : (now : PieceCutting) (place : Place) (held other piece : List ℕ) (goes_on : Bool) (start end fed number : ℕ) (refused : Option ℕ) → seen place held fed number refused ≡ now → refused ≡ None → IsPart place held piece goes_on start end → length (open_of place held) ≤ fed → end ≡ length piece → other ≡ kept_of goes_on held ++ slice_range piece start end → length (kept_of goes_on held) + (end - start) ≤ 4096 → (now.refused ≡ None) × Leads now piece [] (seen InUnit other (fed + end) number refused)
+pub unit_step : (now : PieceCutting) (place : Place) (held other piece : List ℕ) (goes_on : Bool) (start end fed number : ℕ) (refused : Option ℕ) → seen place held fed number refused ≡ now → refused ≡ None → IsPart place held piece 0 goes_on start end → length (open_of place held) ≤ fed → end ≡ length piece → other ≡ kept_of goes_on held ++ slice_range piece start end → length (kept_of goes_on held) + (end - start) ≤ 4096 → (now.refused ≡ None) × Leads now piece [] (seen InUnit other (fed + end) number refused)
 unit_step now place held other piece goes_on start end fed number refused view none p few all o short =
     let size = part_size goes_on held piece start end p.within in
     rw (← view, none, o) (refl, leads_to_unit place held piece goes_on start end fed number p few all (omega arith))
 
-pub end_step : (now : PieceCutting) (place : Place) (held other piece : List ℕ) (goes_on : Bool) (start end fed number used : ℕ) (refused : Option ℕ) (statement : Option Statement) → seen place held fed number refused ≡ now → refused ≡ None → IsPart place held piece goes_on start end → length (open_of place held) ≤ fed → end < length piece → length (kept_of goes_on held) + (end - start) ≤ 4096 → used ≡ end + 1 → IsSome statement → IfSome statement (λ s. (s.number ≡ number + 1) × (s.offset ≡ fed + start - length (kept_of goes_on held)) × (s.bytes.now ≡ statement_bytes (kept_of goes_on held ++ slice_range piece start end))) → (now.refused ≡ None) × Used now piece used statement (seen Gap other (fed + (end + 1)) (number + 1) refused)
+pub end_step : (now : PieceCutting) (place : Place) (held other piece : List ℕ) (goes_on : Bool) (start end fed number used : ℕ) (refused : Option ℕ) (statement : Option Statement) → seen place held fed number refused ≡ now → refused ≡ None → IsPart place held piece 0 goes_on start end → length (open_of place held) ≤ fed → end < length piece → length (kept_of goes_on held) + (end - start) ≤ 4096 → used ≡ end + 1 → IsSome statement → IfSome statement (λ s. (s.number ≡ number + 1) × (s.offset ≡ fed + start - length (kept_of goes_on held)) × (s.bytes.now ≡ statement_bytes (kept_of goes_on held ++ slice_range piece start end))) → (now.refused ≡ None) × Used now piece used statement (seen Gap other (fed + (end + 1)) (number + 1) refused)
 end_step now place held other piece goes_on start end fed number used refused None view none p few left short is_used some told = absurd (false≢true some)
 end_step now place held other piece goes_on start end fed number used refused (Some s) view none p few left short is_used some told =
     let size = part_size goes_on held piece start end p.within in
@@ -253,7 +257,7 @@ end_step now place held other piece goes_on start end fed number used refused (S
     rw (← view, none, is_used) (
       refl,
       (
-        part_unit goes_on held piece start end fed,
+        part_unit goes_on held piece start end (fed + start),
         record { number_is = told.0; place = told.1; slice = told.2; short = omega arith },
         omega arith,
         omega arith,
@@ -262,12 +266,12 @@ end_step now place held other piece goes_on start end fed number used refused (S
       ),
     )
 
-pub long_step : (now : PieceCutting) (place : Place) (held piece : List ℕ) (goes_on : Bool) (start end fed number o : ℕ) (refused : Option ℕ) → seen place held fed number refused ≡ now → refused ≡ None → IsPart place held piece goes_on start end → length (open_of place held) ≤ fed → o ≡ fed + start - length (kept_of goes_on held) → 4096 < length (kept_of goes_on held) + (end - start) → (number + 1 ≡ now.number + 1) × IsTooLongAt now.refused now piece o × (seen place held fed number (Some o) ≡ record now { refused = Some o })
+pub long_step : (now : PieceCutting) (place : Place) (held piece : List ℕ) (goes_on : Bool) (start end fed number o : ℕ) (refused : Option ℕ) → seen place held fed number refused ≡ now → refused ≡ None → IsPart place held piece 0 goes_on start end → length (open_of place held) ≤ fed → o ≡ fed + start - length (kept_of goes_on held) → 4096 < length (kept_of goes_on held) + (end - start) → (number + 1 ≡ now.number + 1) × IsTooLongAt now.refused now piece o × (seen place held fed number (Some o) ≡ record now { refused = Some o })
 long_step now place held piece goes_on start end fed number o refused view none p few is_offset long =
     let size = part_size goes_on held piece start end p.within in
     let more : 4096 < length (kept_of goes_on held ++ slice_range piece start end) = omega arith in
     let met = too_long place held piece goes_on start end fed number p few more in
-    rw (← view, none) (refl, (part_unit goes_on held piece start end fed, met.0, met.1, more, is_offset), refl)
+    rw (← view, none) (refl, (part_unit goes_on held piece start end (fed + start), met.0, met.1, more, is_offset), refl)
 
 pub kept_size : (goes_on : Bool) (held : List ℕ) (len n : ℕ) → len ≡ length held → n ≡ (if goes_on then len else 0) → n ≡ length (kept_of goes_on held)
 kept_size true held len n e h = h ∙ e
@@ -277,7 +281,7 @@ pub kept_most : (goes_on : Bool) (held : List ℕ) → length (kept_of goes_on h
 kept_most true held = omega arith
 kept_most false held = omega arith
 
-pub mark_room : (place after : Place) (held piece : List ℕ) → IsFoundIn place held piece (Err after) → begins after ≡ true → length held + length piece ≤ 4096
+pub mark_room : (place after : Place) (held piece : List ℕ) → IsFoundIn place held piece 0 (Err after) → begins after ≡ true → length held + length piece ≤ 4096
 mark_room place Mark held piece h t = omega (arith, h.1)
 mark_room place Gap held piece h t = absurd (false≢true t)
 mark_room place InUnit held piece h t = absurd h

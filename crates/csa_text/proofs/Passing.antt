@@ -113,13 +113,6 @@ split_range piece a b c p q =
     ap (λ n. take n (drop a piece)) count ∙ take-add (b - a) (c - b) (drop a piece)
     ∙ ap (λ xs. slice_range piece a b ++ take (c - b) xs) (drop-drop (b - a) a piece ∙ ap (λ n. drop n piece) place)
 
--- the front of the piece in two
-pub split_front : (piece : List ℕ) (a b : ℕ) → a ≤ b → take b piece ≡ take a piece ++ slice_range piece a b
-split_front piece a b order = let count : b ≡ a + (b - a) = omega arith in ap (λ n. take n piece) count ∙ take-add a (b - a) piece
-
-pub front_size : (piece : List ℕ) (a b : ℕ) → a ≤ b → length (take b piece) ≡ length (take a piece) + length (slice_range piece a b)
-front_size piece a b order = ap length (split_front piece a b order) ∙ length-append (take a piece) (slice_range piece a b)
-
 pub range_size : (piece : List ℕ) (a b c : ℕ) → a ≤ b → b ≤ c → length (slice_range piece a c) ≡ length (slice_range piece a b) + length (slice_range piece b c)
 range_size piece a b c p q = ap length (split_range piece a b c p q) ∙ length-append (slice_range piece a b) (slice_range piece b c)
 
@@ -128,7 +121,7 @@ pub range_end : (piece : List ℕ) (a b : ℕ) → length piece ≤ b → slice_
 range_end piece a b all = take_all (b - a) (drop a piece) (omega (arith, length-drop a piece))
 
 -- the gap before the next unit lies between places
-gap_between : (piece : List ℕ) (at start end : ℕ) → start < end → end ≤ length piece → IsNext at (drop at piece) (unit_between piece start end) (drop end piece) → (at ≤ start) × IsGap (slice_range piece at start)
+pub gap_between : (piece : List ℕ) (at start end : ℕ) → start < end → end ≤ length piece → IsNext at (drop at piece) (unit_between piece start end) (drop end piece) → (at ≤ start) × IsGap (slice_range piece at start)
 gap_between piece at start end some more n =
     let order : at ≤ start = omega (arith, n.place) in
     let size : length n.gap ≡ start - at = omega (arith, n.place) in
@@ -156,11 +149,11 @@ longer place held front unfinished next p fed more others few s =
     (p fed (next ++ more) others few (statements_at _ _ _ others same (statements_of _ _ _ others (append_assoc unfinished next more) s)))
 
 -- on to a later place of the piece
-on_to : (place : Place) (held piece : List ℕ) (at end : ℕ) → at ≤ end → PassesTo place held piece at → Passes place held (take (end + 1) piece) (slice_range piece at (end + 1))
-on_to place held piece at end order p =
-    subst (λ xs. Passes place held xs (slice_range piece at (end + 1))) (sym (split_front piece (at + 1) (end + 1) (omega arith)))
-    (subst (Passes place held (take (at + 1) piece ++ slice_range piece (at + 1) (end + 1))) (sym (split_range piece at (at + 1) (end + 1) (omega arith) (omega arith)))
-    (longer place held (take (at + 1) piece) (slice_range piece at (at + 1)) (slice_range piece (at + 1) (end + 1)) p))
+on_to : (place : Place) (held piece : List ℕ) (from at end : ℕ) → from ≤ at → at ≤ end → PassesTo place held piece from at → Passes place held (slice_range piece from (end + 1)) (slice_range piece at (end + 1))
+on_to place held piece from at end low order p =
+    subst (λ xs. Passes place held xs (slice_range piece at (end + 1))) (sym (split_range piece from (at + 1) (end + 1) (omega arith) (omega arith)))
+    (subst (Passes place held (slice_range piece from (at + 1) ++ slice_range piece (at + 1) (end + 1))) (sym (split_range piece at (at + 1) (end + 1) (omega arith) (omega arith)))
+    (longer place held (slice_range piece from (at + 1)) (slice_range piece at (at + 1)) (slice_range piece (at + 1) (end + 1)) p))
 
 -- over a gap
 over_gap : (place : Place) (held front gap unfinished : List ℕ) → IsGap gap → length gap + length unfinished ≤ length (open_of place held) + length front → Passes place held front (gap ++ unfinished) → Passes place held front unfinished
@@ -185,55 +178,56 @@ over_open_comment place held front comment unit silent room p fed more others fe
     p fed more others few (behind_open_comment o comment more others unit silent (statements_at _ _ _ others (omega arith) s))
 
 -- over the gap before a unit
-to_unit : (place : Place) (held piece : List ℕ) (at start end : ℕ) → PassesTo place held piece at → start < end → end ≤ length piece → IsNext at (drop at piece) (unit_between piece start end) (drop end piece) → Passes place held (take (end + 1) piece) (slice_range piece start (end + 1))
-to_unit place held piece at start end p some inside n =
+to_unit : (place : Place) (held piece : List ℕ) (from at start end : ℕ) → from ≤ at → PassesTo place held piece from at → start < end → end ≤ length piece → IsNext at (drop at piece) (unit_between piece start end) (drop end piece) → Passes place held (slice_range piece from (end + 1)) (slice_range piece start (end + 1))
+to_unit place held piece from at start end low p some inside n =
     let gap = gap_between piece at start end some inside n in
     let split = split_range piece at start (end + 1) gap.0 (omega arith) in
-    let size = front_size piece at (end + 1) (omega (arith, gap.0)) in
+    let size = range_size piece from at (end + 1) low (omega (arith, gap.0)) in
     let sizes = range_size piece at start (end + 1) gap.0 (omega arith) in
-    over_gap place held (take (end + 1) piece) (slice_range piece at start) (slice_range piece start (end + 1)) gap.1 (omega arith)
-    (subst (Passes place held (take (end + 1) piece)) split (on_to place held piece at end (omega (arith, gap.0)) p))
+    over_gap place held (slice_range piece from (end + 1)) (slice_range piece at start) (slice_range piece start (end + 1)) gap.1 (omega arith)
+    (subst (Passes place held (slice_range piece from (end + 1))) split (on_to place held piece from at end low (omega (arith, gap.0)) p))
 
-pub unit_found : (place : Place) (held piece : List ℕ) (at start end : ℕ) → PassesTo place held piece at → start < end → end ≤ length piece → IsNext at (drop at piece) (unit_between piece start end) (drop end piece) → get_or piece start 0 ≢ 39 → IsPart place held piece false start end
-unit_found place held piece at start end p some inside n says = record {
-  order = omega arith;
+pub unit_found : (place : Place) (held piece : List ℕ) (from at start end : ℕ) → from ≤ at → PassesTo place held piece from at → start < end → end ≤ length piece → IsNext at (drop at piece) (unit_between piece start end) (drop end piece) → get_or piece start 0 ≢ 39 → IsPart place held piece from false start end
+unit_found place held piece from at start end low p some inside n says = record {
+  order = (omega (arith, (gap_between piece at start end some inside n).0), omega arith);
   within = inside;
   first = λ h. cc;
   unit = n.unit;
   spoken = first_between piece start end 39 some inside ∙ ne_eqb (get_or piece start 0) 39 says;
-  passed = to_unit place held piece at start end p some inside n;
+  passed = to_unit place held piece from at start end low p some inside n;
 }
 
-pub comment_passed : (place : Place) (held piece : List ℕ) (at start end : ℕ) → PassesTo place held piece at → start < end → end < length piece → IsNext at (drop at piece) (unit_between piece start end) (drop end piece) → get_or piece start 0 ≡ 39 → PassesTo place held piece end
-comment_passed place held piece at start end p some left n quote =
+pub comment_passed : (place : Place) (held piece : List ℕ) (from at start end : ℕ) → from ≤ at → PassesTo place held piece from at → start < end → end < length piece → IsNext at (drop at piece) (unit_between piece start end) (drop end piece) → get_or piece start 0 ≡ 39 → PassesTo place held piece from end
+comment_passed place held piece from at start end low p some left n quote =
     let inside : end ≤ length piece = omega arith in
     let order : start ≤ end = omega arith in
     let up : end ≤ end + 1 = omega arith in
+    let gap = gap_between piece at start end some inside n in
     let body = slice_range piece start end in
     let silent : begins_with 39 body ≡ true = first_between piece start end 39 some inside ∙ eq-eqb (get_or piece start 0) 39 quote in
-    let size = front_size piece start (end + 1) (omega arith) in
+    let size = range_size piece from start (end + 1) (omega (arith, gap.0)) (omega arith) in
     let sizes = range_size piece start end (end + 1) order up in
-    over_comment place held (take (end + 1) piece) body (slice_range piece end (end + 1))
+    over_comment place held (slice_range piece from (end + 1)) body (slice_range piece end (end + 1))
     (λ more. unit_before body (drop end piece) _ n.unit (λ first e. ends_with_next piece end first more left e)) silent (omega arith)
-    (subst (Passes place held (take (end + 1) piece)) (split_range piece start end (end + 1) order up) (to_unit place held piece at start end p some inside n))
+    (subst (Passes place held (slice_range piece from (end + 1))) (split_range piece start end (end + 1) order up) (to_unit place held piece from at start end low p some inside n))
 
-pub comment_open : (place : Place) (held piece : List ℕ) (at start end : ℕ) → PassesTo place held piece at → start < end → end ≡ length piece → IsNext at (drop at piece) (unit_between piece start end) (drop end piece) → get_or piece start 0 ≡ 39 → Passes place held piece (39 ∷ [])
-comment_open place held piece at start end p some all n quote =
+pub comment_open : (place : Place) (held piece : List ℕ) (from at start end : ℕ) → from ≤ at → PassesTo place held piece from at → start < end → end ≡ length piece → IsNext at (drop at piece) (unit_between piece start end) (drop end piece) → get_or piece start 0 ≡ 39 → Passes place held (drop from piece) (39 ∷ [])
+comment_open place held piece from at start end low p some all n quote =
     let inside : end ≤ length piece = omega arith in
+    let gap = gap_between piece at start end some inside n in
     let body = slice_range piece start end in
     let size = length_between piece start end (omega arith) inside in
     let silent : begins_with 39 body ≡ true = first_between piece start end 39 some inside ∙ eq-eqb (get_or piece start 0) 39 quote in
     let none : drop end piece ≡ [] = drop_all end piece (omega arith) in
     let same : slice_range piece start (end + 1) ≡ body = range_end piece start (end + 1) (omega arith) ∙ sym (range_end piece start end (omega arith)) in
-    over_open_comment place held piece body (subst (IsUnit body) none n.unit) silent (omega arith)
-    (subst (λ xs. Passes place held xs body) (take_all (end + 1) piece (omega arith))
-    (subst (Passes place held (take (end + 1) piece)) same (to_unit place held piece at start end p some inside n)))
+    over_open_comment place held (drop from piece) body (subst (IsUnit body) none n.unit) silent (omega (arith, length-drop from piece, gap.0))
+    (subst (λ xs. Passes place held xs body) (range_end piece from (end + 1) (omega arith))
+    (subst (Passes place held (slice_range piece from (end + 1))) same (to_unit place held piece from at start end low p some inside n)))
 
-pub gap_open : (place : Place) (held piece : List ℕ) (at : ℕ) → PassesTo place held piece at → at ≤ length piece → IsGap (drop at piece) → Passes place held piece []
-gap_open place held piece at p within gap =
+pub gap_open : (place : Place) (held piece : List ℕ) (from at : ℕ) → from ≤ at → PassesTo place held piece from at → at ≤ length piece → IsGap (drop at piece) → Passes place held (drop from piece) []
+gap_open place held piece from at low p within gap =
     let end = length piece in
-    let size = length-drop at piece in
     let same : slice_range piece at (end + 1) ≡ drop at piece ++ [] = range_end piece at (end + 1) (omega arith) ∙ sym (append-nil _) in
-    over_gap place held piece (drop at piece) [] gap (omega arith)
-    (subst (λ xs. Passes place held xs (drop at piece ++ [])) (take_all (end + 1) piece (omega arith))
-    (subst (Passes place held (take (end + 1) piece)) same (on_to place held piece at end within p)))
+    over_gap place held (drop from piece) (drop at piece) [] gap (omega (arith, length-drop at piece, length-drop from piece))
+    (subst (λ xs. Passes place held xs (drop at piece ++ [])) (range_end piece from (end + 1) (omega arith))
+    (subst (Passes place held (slice_range piece from (end + 1))) same (on_to place held piece from at end low within p)))

@@ -31,15 +31,15 @@ IsHeld Comment held = held ≡ []
 abbrev pub IsKept : Place → List ℕ → ℕ → ℕ → Type 0
 IsKept place held fed number = (number + length (open_of place held) ≤ fed) × (length held ≤ longest_statement) × IsHeld place held × (begins place ≡ true → fed ≡ length held) × (fed ≤ 2 ^ 63)
 
--- the front of a piece leads from where the cutter stands to where these bytes are unfinished: what is to come from
--- there is to come from here
+-- these bytes of a piece lead from where the cutter stands to where those are unfinished: what is to come from there
+-- is to come from here
 abbrev pub Passes : Place → List ℕ → List ℕ → List ℕ → Type 0
 Passes place held front unfinished = (fed : ℕ) (more : List ℕ) (others : List TextUnit) → length (open_of place held) ≤ fed
     → Statements (fed + length front - length unfinished) (unfinished ++ more) others → Follows (begins place) fed (open_of place held) (front ++ more) others
 
--- the same up to one place of the piece, where its byte begins what is unfinished
-abbrev pub PassesTo : Place → List ℕ → List ℕ → ℕ → Type 0
-PassesTo place held piece at = Passes place held (take (at + 1) piece) (slice_range piece at (at + 1))
+-- the same of a piece from one place on and up to another, whose byte begins what is unfinished
+abbrev pub PassesTo : Place → List ℕ → List ℕ → ℕ → ℕ → Type 0
+PassesTo place held piece from at = Passes place held (slice_range piece from (at + 1)) (slice_range piece at (at + 1))
 
 -- the statement's unit that a piece holds, or where it leads to where it holds none
 abbrev pub Found : Type 0
@@ -49,24 +49,24 @@ Found = Result Part Place
 abbrev pub kept_of : Bool → List ℕ → List ℕ
 kept_of goes_on held = if goes_on then held else []
 
--- a statement's unit, or what has come of it: what is held of it and the bytes of the piece from start to end; and what
--- leads to it, with the byte that ends it
-pub record IsPart (place : Place) (held piece : List ℕ) (goes_on : Bool) (start end : ℕ) : Type 0 where
-  pub order : start ≤ end
+-- a statement's unit in the piece from one place on, or what has come of it: what is held of it and the bytes from
+-- start to end; and what leads to it, up to the byte that ends it
+pub record IsPart (place : Place) (held piece : List ℕ) (from : ℕ) (goes_on : Bool) (start end : ℕ) : Type 0 where
+  pub order : (from ≤ start) × (start ≤ end)
   pub within : end ≤ length piece
   pub first : goes_on ≡ true → (start ≡ 0) × (open_of place held ≡ held)
   pub unit : IsUnit (kept_of goes_on held ++ slice_range piece start end) (drop end piece)
   pub spoken : begins_with 39 (kept_of goes_on held ++ slice_range piece start end) ≡ false
-  pub passed : Passes place held (take (end + 1) piece) (kept_of goes_on held ++ slice_range piece start (end + 1))
+  pub passed : Passes place held (slice_range piece from (end + 1)) (kept_of goes_on held ++ slice_range piece start (end + 1))
 
--- what the piece holds next
-abbrev pub IsFoundIn : Place → List ℕ → List ℕ → Found → Type 0
-IsFoundIn place held piece (Err InUnit) = ⊥
-IsFoundIn place held piece (Err Mark) =
+-- what the piece from one place on holds next
+abbrev pub IsFoundIn : Place → List ℕ → List ℕ → ℕ → Found → Type 0
+IsFoundIn place held piece from (Err InUnit) = ⊥
+IsFoundIn place held piece from (Err Mark) =
     (place ≡ Mark) × (length held + length piece < 3) × (held ++ piece ≡ take (length held + length piece) byte_order_mark)
-IsFoundIn place held piece (Err Gap) = Passes place held piece []
-IsFoundIn place held piece (Err Comment) = ((place ≡ Comment) ⊎ (0 < length piece)) × Passes place held piece (39 ∷ [])
-IsFoundIn place held piece (Ok part) = IsPart place held piece part.goes_on part.start part.end
+IsFoundIn place held piece from (Err Gap) = Passes place held (drop from piece) []
+IsFoundIn place held piece from (Err Comment) = ((place ≡ Comment) ⊎ (0 < length piece)) × Passes place held (drop from piece) (39 ∷ [])
+IsFoundIn place held piece from (Ok part) = IsPart place held piece from part.goes_on part.start part.end
 
 -- what one holds is held of the other, up to the first byte that differs
 pub record IsCommon (a b : List ℕ) (n : ℕ) : Type 0 where

@@ -189,8 +189,8 @@ fn next_spoken(source: &[u8], from: usize) -> Option<(usize, usize)>
         (Statements from (drop from source.now) [])
         (λ r. IsFirstStatement source.now from r.0 r.1) }
 {
-    match first_in(&source[from..], 0) {
-        Ok(unit) => Some((from + unit.start, from + unit.end)),
+    match first_in(source, from) {
+        Ok(unit) => Some((unit.start, unit.end)),
         Err(_) => None,
     }
 }

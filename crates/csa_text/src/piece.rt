@@ -263,7 +263,7 @@ fn hold(held: &mut ArrayVec<u8, LONGEST_STATEMENT>, part: &[u8])
 // The statement's unit that the piece holds next, or where it leads to where it holds none.
 fn found_in(place: Place, held: &[u8], piece: &[u8]) -> Result<Part, Place>
     requires { IsHeld place held.now }
-    ensures { IsFoundIn place held.now piece.now result }
+    ensures { IsFoundIn place held.now piece.now 0 result }
 {
     match place {
         Place::Mark => found_in_mark(held, piece),
@@ -287,7 +287,7 @@ fn found_in(place: Place, held: &[u8], piece: &[u8]) -> Result<Part, Place>
 // The same where the bytes so far are of the byte order mark.
 fn found_in_mark(held: &[u8], piece: &[u8]) -> Result<Part, Place>
     requires { IsHeld Place.Mark held.now }
-    ensures { IsFoundIn Place.Mark held.now piece.now result }
+    ensures { IsFoundIn Place.Mark held.now piece.now 0 result }
 {
     let missing = &BYTE_ORDER_MARK[held.len()..];
     let common = common_length(missing, piece);
@@ -318,12 +318,13 @@ fn common_length(a: &[u8], b: &[u8]) -> usize
     a.len()
 }
 
-// What the piece holds next where its front up to `from` was passed: a statement's unit behind gaps
-// and comments, or where it leads to.
+// What the piece holds next, from a place of which it is known that what comes at `from` comes there:
+// a statement's unit behind gaps and comments, or where it leads to.
 #[inline(always)]
 pub(crate) fn first_in(piece: &[u8], from: usize) -> Result<Part, Place>
     requires { from ≤ length piece.now }
-    ensures { (place : Place) (held : List ℕ) → PassesTo place held piece.now from → IsFoundIn place held piece.now result }
+    ensures { (place : Place) (held : List ℕ) (front : ℕ) → front ≤ from → PassesTo place held piece.now front from
+        → IsFoundIn place held piece.now front result }
 {
     let mut at = from;
     while let Some((start, end)) = next_unit(piece, at) {

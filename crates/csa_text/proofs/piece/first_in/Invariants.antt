@@ -5,8 +5,9 @@ use Rattle.csa_text.proofs.piece.first_in.Given as goal
 
 abbrev pub invariant-loop-start : goal.invariant-loop-start
 invariant-loop-start l = record {
+  order : l.from ≤ l.at;
   within : l.at ≤ length l.piece;
-  passed : (place : Place) (held : List ℕ) → PassesTo place held l.piece l.from → PassesTo place held l.piece l.at;
+  passed : (place : Place) (held : List ℕ) (front : ℕ) → front ≤ l.from → PassesTo place held l.piece front l.from → PassesTo place held l.piece front l.at;
 }
 
 abbrev pub decreases-loop-start : goal.decreases-loop-start

@@ -5,7 +5,7 @@ use Rattle.csa_text.proofs.Finding.{passes_gap, found_in_unit, found_in_comment,
 use Rattle.csa_text.proofs.piece.found_in.Goals as goal
 
 pub returns-in-Gap : goal.returns-in-Gap
-returns-in-Gap c = rw c.in-Gap.is (c.first_in.ensures Gap c.args.held.now (passes_gap c.args.held.now c.args.piece.now))
+returns-in-Gap c = rw c.in-Gap.is (c.first_in.ensures Gap c.args.held.now 0 (omega arith) (passes_gap c.args.held.now c.args.piece.now 0))
 
 pub returns-then-end-piece : goal.returns-then-end-piece
 returns-then-end-piece c =
@@ -15,7 +15,7 @@ returns-then-end-piece c =
 pub returns-else-end-piece : goal.returns-else-end-piece
 returns-else-end-piece c =
     let none : c.args.held.now ≡ [] = rw c.in-Comment.is at c.requires in
-    rw c.in-Comment.is (c.first_in-else-end-piece.ensures Comment c.args.held.now
+    rw c.in-Comment.is (c.first_in-else-end-piece.ensures Comment c.args.held.now 0 (omega arith)
     (passes_comment c.args.held.now c.args.piece.now c.unit_length-end.result none c.unit_length-end.ensures.value (omega (arith, c.if-end-piece.false, c.unit_length-end.ensures.within))))
 
 pub returns-in-Unit : goal.returns-in-Unit

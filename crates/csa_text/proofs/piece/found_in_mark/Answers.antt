@@ -8,7 +8,7 @@ use Rattle.csa_text.proofs.piece.found_in_mark.Goals as goal
 pub returns-then-common-missing : goal.returns-then-common-missing
 returns-then-common-missing c =
     let held = c.args.held.now in
-    c.first_in.ensures Mark held (passes_mark held c.args.piece.now c.common_length-common.result
+    c.first_in.ensures Mark held 0 (omega arith) (passes_mark held c.args.piece.now c.common_length-common.result
     (common_whole held c.args.piece.now _ c.common_length-common.result c.requires.0 c.requires.1 (rest_of byte_order_mark (length held)) c.common_length-common.ensures c.if-common-missing.true))
 
 pub returns-then-held-common-eq0 : goal.returns-then-held-common-eq0
@@ -19,7 +19,7 @@ returns-then-held-common-eq0 c =
     let none : held ≡ [] = no_length held (omega (arith, c.if-held-common-eq0.true)) in
     let zero : c.common_length-common.result ≡ 0 = omega (arith, c.if-held-common-eq0.true) in
     let here : NoMark [] c.args.piece.now 0 = rw (none, zero) at w in
-    rw none (c.first_in-then-held-common-eq0.ensures Mark [] (passes_no_mark [] c.args.piece.now 0 1 here (omega arith)))
+    rw none (c.first_in-then-held-common-eq0.ensures Mark [] 0 (omega arith) (passes_no_mark [] c.args.piece.now 0 1 here (omega arith)))
 
 pub returns-else-held-common-eq0 : goal.returns-else-held-common-eq0
 returns-else-held-common-eq0 c =

@@ -12,14 +12,14 @@ use Rattle.csa_text.proofs.piece.PieceCutter.step.Goals as goal
 pub hold_mark-requires : goal.hold_mark-requires
 hold_mark-requires c =
     let s = c.self.inside in
-    let h : IsFoundIn s.place s.held.items c.args.piece.now (Err c.in-Err.place) = subst (λ xs. IsFoundIn s.place xs c.args.piece.now (Err c.in-Err.place)) c.as_slice.ensures.value c.in-Err.ensures in
+    let h : IsFoundIn s.place s.held.items c.args.piece.now 0 (Err c.in-Err.place) = subst (λ xs. IsFoundIn s.place xs c.args.piece.now 0 (Err c.in-Err.place)) c.as_slice.ensures.value c.in-Err.ensures in
     λ t. mark_room s.place c.in-Err.place s.held.items c.args.piece.now h t
 
 pub returns-in-Err : goal.returns-in-Err
 returns-in-Err c =
     let s = c.self.inside in
     let i = c.self.invariant in
-    let h : IsFoundIn s.place s.held.items c.args.piece.now (Err c.in-Err.place) = subst (λ xs. IsFoundIn s.place xs c.args.piece.now (Err c.in-Err.place)) c.as_slice.ensures.value c.in-Err.ensures in
+    let h : IsFoundIn s.place s.held.items c.args.piece.now 0 (Err c.in-Err.place) = subst (λ xs. IsFoundIn s.place xs c.args.piece.now 0 (Err c.in-Err.place)) c.as_slice.ensures.value c.in-Err.ensures in
     let done = default_step c.args.self.now s.place c.in-Err.place s.held.items c.hold_mark.new.held.items c.args.piece.now s.fed s.number s.refused
     c.self.view_is c.in_default.is c.hold_mark.ensures h (omega (arith, i.0)) i.3 in
     let held = held_found s.place c.in-Err.place s.held.items c.hold_mark.new.held.items c.args.piece.now c.hold_mark.ensures h in
@@ -30,7 +30,7 @@ pub returns-then-kept-part : goal.returns-then-kept-part
 returns-then-kept-part c =
     let s = c.self.inside in
     let i = c.self.invariant in
-    let p : IsPart s.place s.held.items c.args.piece.now c.in-Ok.found.goes_on c.in-Ok.found.start c.in-Ok.found.end = rw c.as_slice.ensures.value at c.in-Ok.ensures in
+    let p : IsPart s.place s.held.items c.args.piece.now 0 c.in-Ok.found.goes_on c.in-Ok.found.start c.in-Ok.found.end = rw c.as_slice.ensures.value at c.in-Ok.ensures in
     let kept = kept_size c.in-Ok.found.goes_on s.held.items c.len.result c.kept_length-kept.result c.len.ensures.value c.kept_length-kept.ensures in
     let size = length_range c.args.piece.now c.in-Ok.found.start c.in-Ok.found.end p.within in
     let place : s.fed + c.in-Ok.found.start - c.kept_length-kept.result ≡ s.fed + c.in-Ok.found.start - length (kept_of c.in-Ok.found.goes_on s.held.items) = ap (λ n. s.fed + c.in-Ok.found.start - n) kept in
@@ -47,7 +47,7 @@ returns-then-end-piece c =
     let goes_on = c.in-Ok.found.goes_on in
     let start = c.in-Ok.found.start in
     let end = c.in-Ok.found.end in
-    let p : IsPart s.place s.held.items piece goes_on start end = rw c.as_slice.ensures.value at c.in-Ok.ensures in
+    let p : IsPart s.place s.held.items piece 0 goes_on start end = rw c.as_slice.ensures.value at c.in-Ok.ensures in
     let kept = kept_size goes_on s.held.items c.len.result c.kept_length-kept.result c.len.ensures.value c.kept_length-kept.ensures in
     let size = length_range piece start end p.within in
     let most = kept_most goes_on s.held.items in
@@ -70,7 +70,7 @@ returns-then-is_empty c =
     let goes_on = c.in-Ok.found.goes_on in
     let start = c.in-Ok.found.start in
     let end = c.in-Ok.found.end in
-    let p : IsPart s.place s.held.items piece goes_on start end = rw c.as_slice.ensures.value at c.in-Ok.ensures in
+    let p : IsPart s.place s.held.items piece 0 goes_on start end = rw c.as_slice.ensures.value at c.in-Ok.ensures in
     let kept = kept_size goes_on s.held.items c.len.result c.kept_length-kept.result c.len.ensures.value c.kept_length-kept.ensures in
     let size = length_range piece start end p.within in
     let most = kept_most goes_on s.held.items in
@@ -101,7 +101,7 @@ returns c =
     let goes_on = c.in-Ok.found.goes_on in
     let start = c.in-Ok.found.start in
     let end = c.in-Ok.found.end in
-    let p : IsPart s.place s.held.items piece goes_on start end = rw c.as_slice.ensures.value at c.in-Ok.ensures in
+    let p : IsPart s.place s.held.items piece 0 goes_on start end = rw c.as_slice.ensures.value at c.in-Ok.ensures in
     let kept = kept_size goes_on s.held.items c.len.result c.kept_length-kept.result c.len.ensures.value c.kept_length-kept.ensures in
     let size = length_range piece start end p.within in
     let most = kept_most goes_on s.held.items in
