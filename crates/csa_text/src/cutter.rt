@@ -5,6 +5,7 @@ ghost use Rattle.csa_text.specs.Cutting.{Cutting, ToCome, IfHandedOut, IsTooLong
 
 use crate::line::line_length;
 use crate::piece::first_in;
+use crate::scan::front_length;
 use std::marker::Model;
 use thiserror::Error;
 
@@ -128,11 +129,11 @@ fn takes_line(first: u8) -> bool
     first == COMMENT || first == b'N' || first == b'$'
 }
 
-// What ends a statement that does not take the whole line.
-fn ends_statement(b: u8) -> bool
-    ensures { (first : ℕ) → takes_line first ≡ false → result ≡ is_end first b }
+// Whether a statement that does not take the whole line goes on with this byte.
+fn goes_on(b: u8) -> bool
+    ensures { (first : ℕ) → takes_line first ≡ false → result ≡ not (is_end first b) }
 {
-    b == b'\r' || b == b'\n' || b == b','
+    b != b'\r' && b != b'\n' && b != b','
 }
 
 // How many separators the text begins with.
@@ -140,12 +141,7 @@ fn gap_length(text: &[u8]) -> usize
     ensures value { result ≡ prefix_len is_separator text.now }
     ensures within { result ≤ length text.now }
 {
-    for (i, b) in text.iter().enumerate() {
-        if !is_separator(*b) {
-            return i;
-        }
-    }
-    text.len()
+    front_length(text, is_separator)
 }
 
 // How many bytes of the text come before what ends a unit with this first byte.
@@ -157,12 +153,7 @@ pub(crate) fn unit_length(first: u8, text: &[u8]) -> usize
     if takes_line(first) {
         return line_length(text);
     }
-    for (i, b) in text.iter().enumerate() {
-        if ends_statement(*b) {
-            return i;
-        }
-    }
-    text.len()
+    front_length(text, goes_on)
 }
 
 // The next unit at or after `from`, a comment too: where it starts, and where it ends.

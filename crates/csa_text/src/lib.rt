@@ -18,6 +18,7 @@ mod pair;
 mod pairs;
 mod piece;
 mod rank;
+mod scan;
 mod time;
 
 pub use calendar::Moment;

@@ -7,6 +7,7 @@ ghost use Rattle.csa_text.specs.declared.line.LineFault.TheVariants.{OutOfMemory
 ghost use Rattle.csa_text.specs.Lines.{is_line_end};
 ghost use Rattle.csa_text.specs.LineCutting.{BeginsTooLong, IsRun, LineStep, LinesAfter, LastLine, LinesFinished};
 
+use crate::scan::front_length;
 use memchr::memchr2_iter;
 use std::alloc::{AllocError, Global};
 use std::marker::Model;
@@ -133,10 +134,7 @@ fn line_ends_length(text: &[u8]) -> usize
     ensures value { result ≡ prefix_len is_line_end text.now }
     ensures within { result ≤ length text.now }
 {
-    match text.iter().position(|b| !is_line_end(*b)) {
-        Some(start) => start,
-        None => text.len(),
-    }
+    front_length(text, is_line_end)
 }
 
 // How many bytes of the text come before a CR or LF.

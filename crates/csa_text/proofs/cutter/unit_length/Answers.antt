@@ -1,9 +1,10 @@
-use Rattle.std.proofs.Common.{◌≡◌, ℕ, Bool, true, false, List, [], ◌∷◌, length, sym, ◌∙◌, arith, refl}
+use Rattle.std.proofs.Common.{◌≡◌, ℕ, Bool, true, false, List, [], ◌∷◌, rules, sym, ◌∙◌, refl}
 use Rattle.std.specs.Prelude.{◌==◌, ◌||◌, ◌&&◌}
 use Rattle.std.specs.List.{position_or_len}
 use Rattle.std.proofs.lemmas.List.Sums.{position_or_len_is}
 use Rattle.csa_text.specs.Cut.{is_end, takes_line}
 use Rattle.csa_text.specs.Lines.{is_line_end}
+use Rattle.csa_text.proofs.Fronts.{turned_true, turned_false}
 use Rattle.csa_text.proofs.cutter.unit_length.Goals as goal
 
 -- where a unit takes its line, only a line end ends it
@@ -24,11 +25,6 @@ pub returns-then-takes_line-clause-value : goal.returns-then-takes_line-clause-v
 returns-then-takes_line-clause-value c =
     c.line_length.ensures.value ∙ lengths_alike c.args.first c.args.text.now (sym c.takes_line.ensures ∙ c.if-takes_line.true)
 
-pub returns-then-ends_statement-clause-value : goal.returns-then-ends_statement-clause-value
-returns-then-ends_statement-clause-value c =
-    sym (position_or_len_is (is_end c.args.first) c.args.text.now c.loop-i.i 0 (omega arith) c.loop-i.invariant
-    (λ _. sym (c.if-ends_statement.ensures c.args.first (sym c.takes_line.ensures ∙ c.if-takes_line.false))))
-
 pub returns-clause-value : goal.returns-clause-value
 returns-clause-value c =
-    sym (position_or_len_is (is_end c.args.first) c.args.text.now (length c.args.text.now) 0 (omega arith) (λ k h. c.loop-i.invariant k (omega arith)) (λ h. absurd (omega arith)))
+    sym (position_or_len_is (is_end c.args.first) c.args.text.now c.front_length.result 0 c.front_length.ensures.within (λ k h. turned_true _ (search rules)) (λ h. turned_false _ (search rules)))
