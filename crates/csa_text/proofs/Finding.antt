@@ -1,14 +1,16 @@
 -- What a piece holds next, by where the cutter stands.
-use Rattle.std.proofs.Common.{◌≡◌, ℕ, zero, suc, ◌+◌, ◌-◌, ◌<◌, ◌≤◌, ◌==◌, Bool, true, false, not, List, [], ◌∷◌, ◌++◌, length, take, drop, get_or, slice_range, length-drop, length-append, append_assoc, Err, arith, refl, sym, ap, ◌∙◌, subst, inl, inr}
-use Rattle.std.proofs.lemmas.Bool.{cases_lt, eqb-true}
-use Rattle.std.proofs.lemmas.Bool.Decides.{nat_tests}
-use Rattle.std.proofs.lemmas.List.{length-take-le, take-append-drop, append_cancel_left, get_or-take, get_or-drop}
+use Rattle.std.proofs.Common.{◌≡◌, ◌≢◌, ℕ, zero, suc, ◌+◌, ◌-◌, ◌<◌, ◌≤◌, ◌==◌, ◌&&◌, nat_eq, eq-eqb, Bool, true, false, not, List, [], ◌∷◌, ◌++◌, length, take, drop, get_or, slice_range, length-drop, length-append, append_assoc, Err, arith, refl, sym, ap, ◌∙◌, subst, inl, inr}
+use Rattle.std.proofs.lemmas.Bool.{cases_lt, cases_Bool, eqb-true, ne_eqb}
+use Rattle.std.proofs.lemmas.Bool.Decides.{nat_tests, Decides-eqb}
+use Rattle.std.proofs.lemmas.List.{length-take, length-take-le, take_all, take-append-drop, append_cancel_left, get_or-take, get_or-drop}
 use Rattle.std.proofs.lemmas.List.Sums.{prefix_len_stops, prefix_len-le-length}
 use Rattle.std.proofs.Math.Seq.{drop-cons, drop-length, take-length, take-add}
-use Rattle.std.specs.List.{AllByRecursion, position_or_len}
+use Rattle.std.specs.List.{AllByRecursion, position_or_len, starts_with}
+use Rattle.std.specs.Cmp.Lexicographic.{pointwise}
+use Rattle.std.proofs.lemmas.Slice.Eq.{slice_eq-Decides}
 use Rattle.csa_text.specs.Cut.{TextUnit, IsUnit, EndsBefore, Statements, is_end, begins_with, byte_order_mark, mark_length}
 use Rattle.csa_text.specs.PieceCutting.{Follows, mark_of}
-use Rattle.csa_text.specs.Places.{IsPart, IsFoundIn, IsCommon, Passes, PassesTo, begins, open_of}
+use Rattle.csa_text.specs.Places.{IsPart, IsFoundIn, Passes, PassesTo, begins, open_of}
 use Rattle.csa_text.specs.declared.piece.Place.{Place}
 use Rattle.csa_text.specs.declared.piece.Place.TheVariants.{Mark, Gap, Unit as InUnit, Comment}
 use Rattle.csa_text.proofs.Fronts.{passes, weaker, turned_true, turned_false, ends_before, unit_front, length_between}
@@ -170,29 +172,92 @@ pub mark_silent : (m : ℕ) → 0 < m → begins_with 39 (take m byte_order_mark
 mark_silent zero some = absurd (omega arith)
 mark_silent (suc m) some = refl
 
-pub common_whole : (held piece missing : List ℕ) (n : ℕ) → length held < 3 → held ≡ take (length held) byte_order_mark → missing ≡ drop (length held) byte_order_mark → IsCommon missing piece n → n ≡ length missing → WholeMark held piece n
-common_whole held piece missing n less is_mark is_rest c all =
+same_bytes : (xs ys : List ℕ) → pointwise nat_eq xs ys ≡ true → xs ≡ ys
+same_bytes xs ys h = (slice_eq-Decides Decides-eqb xs ys _ refl).0 h
+
+front_of : (xs needle : List ℕ) → starts_with nat_eq xs needle ≡ true → needle ≡ take (length needle) xs
+front_of xs needle h = same_bytes needle (take (length needle) xs) h
+
+begins_itself : (xs : List ℕ) → starts_with nat_eq xs xs ≡ true
+begins_itself xs = (slice_eq-Decides Decides-eqb xs (take (length xs) xs) _ refl).1 (sym (take-length xs))
+
+pub mark_whole : (held piece missing : List ℕ) → length held < 3 → held ≡ take (length held) byte_order_mark → missing ≡ drop (length held) byte_order_mark → starts_with nat_eq piece missing ≡ true → WholeMark held piece (length missing)
+mark_whole held piece missing less is_mark is_rest begins_so =
+    let front = front_of piece missing begins_so in
     let size : length missing ≡ 3 - length held = ap length is_rest ∙ length-drop (length held) byte_order_mark in
-    let front : take n piece ≡ missing = sym c.same ∙ ap (λ k. take k missing) all ∙ take-length missing in
     record {
       size = omega (arith, size);
-      within = c.in_b;
-      same = ap (λ xs. xs ++ take n piece) is_mark ∙ ap (λ xs. take (length held) byte_order_mark ++ xs) (front ∙ is_rest) ∙ take-append-drop (length held) byte_order_mark;
+      within = omega (arith, ap length front, length-take (length missing) piece);
+      same = ap (λ xs. xs ++ take (length missing) piece) is_mark ∙ ap (λ xs. take (length held) byte_order_mark ++ xs) (sym front ∙ is_rest) ∙ take-append-drop (length held) byte_order_mark;
     }
 
-pub common_part : (held piece missing : List ℕ) (n : ℕ) → length held < 3 → held ≡ take (length held) byte_order_mark → missing ≡ drop (length held) byte_order_mark → IsCommon missing piece n → n < length missing → n < length piece → NoMark held piece n
-common_part held piece missing n less is_mark is_rest c some more =
+pub mark_begun : (held piece missing : List ℕ) → length held < 3 → held ≡ take (length held) byte_order_mark → missing ≡ drop (length held) byte_order_mark → starts_with nat_eq piece missing ≡ false → starts_with nat_eq missing piece ≡ true → (length held + length piece < 3) × (held ++ piece ≡ take (length held + length piece) byte_order_mark)
+mark_begun held piece missing less is_mark is_rest other begins_so =
+    let front = front_of missing piece begins_so in
     let size : length missing ≡ 3 - length held = ap length is_rest ∙ length-drop (length held) byte_order_mark in
-    let front : take n piece ≡ take n (drop (length held) byte_order_mark) = sym c.same ∙ ap (take n) is_rest in
+    let most : length piece ≤ length missing = omega (arith, ap length front, length-take (length piece) missing) in
+    let shorter : length piece < length missing = elim (cases_lt (length piece) (length missing)) [
+      | inl h ↦ h
+      | inr h ↦
+          let same : piece ≡ missing = front ∙ take_all (length piece) missing h in
+          let whole : starts_with nat_eq piece missing ≡ true = subst (λ xs. starts_with nat_eq xs missing ≡ true) (sym same) (begins_itself missing) in
+          absurd (cc)
+    ] in (
+      omega (arith, size),
+      ap (λ xs. xs ++ piece) is_mark ∙ ap (λ xs. take (length held) byte_order_mark ++ xs) (front ∙ ap (take (length piece)) is_rest) ∙ sym (take-add (length held) (length piece) byte_order_mark),
+    )
+
+-- the first byte that differs
+record Differ (a b : List ℕ) (n : ℕ) : Type 0 where
+  in_a : n < length a
+  in_b : n < length b
+  same : take n a ≡ take n b
+  differs : (get_or a n 0 == get_or b n 0) ≡ false
+
+rest_too : (p q : Bool) → p ≡ true → (p && q) ≡ false → q ≡ false
+rest_too p q t h = rw t at h
+
+differ : (a b : List ℕ) → starts_with nat_eq b a ≡ false → starts_with nat_eq a b ≡ false → (n : ℕ) × Differ a b n
+differ [] b h k = cc
+differ (x ∷ a) [] h k = cc
+differ (x ∷ a) (y ∷ b) h k =
+    elim (cases_Bool (x == y)) [
+      | inl t ↦
+          let same : x ≡ y = eqb-true x y t in
+          let more = differ a b (rest_too (x == y) _ t h) (rest_too (y == x) _ (eq-eqb y x (sym same)) k) in
+          let d = more.1 in
+          (suc more.0, record { in_a = omega (arith, d.in_a); in_b = omega (arith, d.in_b); same = ap (λ n. n ∷ take more.0 a) same ∙ ap (λ ns. y ∷ ns) d.same; differs = d.differs })
+      | inr f ↦ (0, record { in_a = omega arith; in_b = omega arith; same = refl; differs = f })
+    ]
+
+pub mark_missed : (held piece missing : List ℕ) → length held < 3 → held ≡ take (length held) byte_order_mark → missing ≡ drop (length held) byte_order_mark → starts_with nat_eq piece missing ≡ false → starts_with nat_eq missing piece ≡ false → (n : ℕ) × NoMark held piece n
+mark_missed held piece missing less is_mark is_rest h k =
+    let found = differ missing piece h k in
+    let n = found.0 in
+    let d = found.1 in
+    let size : length missing ≡ 3 - length held = ap length is_rest ∙ length-drop (length held) byte_order_mark in
+    let front : take n piece ≡ take n (drop (length held) byte_order_mark) = sym d.same ∙ ap (take n) is_rest in
     let byte : get_or missing n 0 ≡ get_or byte_order_mark (length held + n) 0 =
-    ap (λ xs. get_or xs n 0) is_rest ∙ get_or-drop (length held) byte_order_mark n 0 in
-    let other : (get_or missing n 0 == get_or piece n 0) ≡ false = c.differs some more in
-    record {
-      less = omega (arith, size);
-      within = more;
-      same = ap (λ xs. xs ++ take n piece) is_mark ∙ ap (λ xs. take (length held) byte_order_mark ++ xs) front ∙ sym (take-add (length held) n byte_order_mark);
-      differs = subst (λ b. (b == get_or piece n 0) ≡ false) byte other;
-    }
+    ap (λ xs. get_or xs n 0) is_rest ∙ get_or-drop (length held) byte_order_mark n 0 in (
+      n,
+      record {
+        less = omega (arith, size, d.in_a);
+        within = d.in_b;
+        same = ap (λ xs. xs ++ take n piece) is_mark ∙ ap (λ xs. take (length held) byte_order_mark ++ xs) front ∙ sym (take-add (length held) n byte_order_mark);
+        differs = subst (λ b. (b == get_or piece n 0) ≡ false) byte d.differs;
+      },
+    )
+
+pub first_missed : (piece : List ℕ) → 0 < length piece → get_or piece 0 0 ≢ 0xEF → NoMark [] piece 0
+first_missed piece some other = record { less = omega arith; within = some; same = refl; differs = ne_eqb 0xEF (get_or piece 0 0) (λ e. other (sym e)) }
+
+-- where the first byte is of the mark, something was passed
+pub some_passed : (held piece : List ℕ) (n : ℕ) → NoMark held piece n → held ≡ [] → get_or piece 0 0 ≡ 0xEF → 0 < length held + n
+some_passed held piece zero w none first =
+    let differs : (0xEF == get_or piece 0 0) ≡ false = rw none at w.differs in
+    let same : (0xEF == get_or piece 0 0) ≡ true = eq-eqb 0xEF (get_or piece 0 0) (sym first) in
+    absurd (cc)
+some_passed held piece (suc n) w none first = omega arith
 
 -- no byte of the mark ends a unit
 no_end_before : (held piece : List ℕ) (n e : ℕ) → NoMark held piece n → held ≡ take (length held) byte_order_mark → e ≡ position_or_len (is_end 0xEF) piece → n ≤ e

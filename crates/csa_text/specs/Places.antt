@@ -68,13 +68,6 @@ IsFoundIn place held piece from (Err Gap) = Passes place held (drop from piece) 
 IsFoundIn place held piece from (Err Comment) = ((place ≡ Comment) ⊎ (0 < length piece)) × Passes place held (drop from piece) (39 ∷ [])
 IsFoundIn place held piece from (Ok part) = IsPart place held piece from part.goes_on part.start part.end
 
--- what one holds is held of the other, up to the first byte that differs
-pub record IsCommon (a b : List ℕ) (n : ℕ) : Type 0 where
-  pub in_a : n ≤ length a
-  pub in_b : n ≤ length b
-  pub same : take n a ≡ take n b
-  pub differs : n < length a → n < length b → (slice_index a n == slice_index b n) ≡ false
-
 -- a statement's unit, or what may become one, is unfinished
 abbrev pub has_unit : Place → List ℕ → Bool
 has_unit Mark held = not (length held == 0)

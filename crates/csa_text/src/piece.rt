@@ -6,7 +6,7 @@ ghost use Rattle.csa_text.specs.contracts.piece.PieceCutter.{the_row};
 ghost use Rattle.csa_text.specs.Cut.{statement_bytes};
 ghost use Rattle.csa_text.specs.PieceCutting.{fresh, HoldsLittle, IsOpen};
 ghost use Rattle.csa_text.specs.PieceSteps.{AfterStep, AfterEnd, Last, IsTooLongAt, IsUsed, IsLentFrom};
-ghost use Rattle.csa_text.specs.Places.{IsKept, IsFoundIn, PassesTo, IsCommon, IsHeld, begins, kept_of, has_unit};
+ghost use Rattle.csa_text.specs.Places.{IsKept, IsFoundIn, PassesTo, IsHeld, begins, kept_of, has_unit};
 
 use crate::cutter::{
     BYTE_ORDER_MARK, COMMENT, CutFault, LONGEST_STATEMENT, Statement, handed_out, next_unit,
@@ -290,12 +290,11 @@ fn found_in_mark(held: &[u8], piece: &[u8]) -> Result<Part, Place>
     ensures { IsFoundIn Place.Mark held.now piece.now 0 result }
 {
     let missing = &BYTE_ORDER_MARK[held.len()..];
-    let common = common_length(missing, piece);
-    if common == missing.len() {
-        first_in(piece, common)
-    } else if common == piece.len() {
+    if piece.starts_with(missing) {
+        first_in(piece, missing.len())
+    } else if missing.starts_with(piece) {
         Err(Place::Mark)
-    } else if held.len() + common == 0 {
+    } else if held.is_empty() && piece[0] != 0xEF {
         first_in(piece, 0)
     } else {
         Ok(Part {
@@ -304,18 +303,6 @@ fn found_in_mark(held: &[u8], piece: &[u8]) -> Result<Part, Place>
             end: unit_length(0xEF, piece),
         })
     }
-}
-
-// How many bytes both begin with.
-fn common_length(a: &[u8], b: &[u8]) -> usize
-    ensures { IsCommon a.now b.now result }
-{
-    for (i, x) in a.iter().enumerate() {
-        if i == b.len() || *x != b[i] {
-            return i;
-        }
-    }
-    a.len()
 }
 
 // What the piece holds next, from a place of which it is known that what comes at `from` comes there:

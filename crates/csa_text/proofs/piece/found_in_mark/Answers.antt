@@ -1,29 +1,41 @@
-use Rattle.std.proofs.Common.{◌≡◌, length, arith, []}
+use Rattle.std.proofs.Common.{◌≡◌, ◌+◌, ◌<◌, length, arith, [], refl, sym, ◌∙◌}
 use Rattle.csa_text.specs.Cut.{byte_order_mark}
+use Rattle.csa_text.specs.Places.{IsPart}
 use Rattle.csa_text.specs.declared.piece.Place.TheVariants.{Mark}
 use Rattle.csa_text.proofs.Fronts.{rest_of}
-use Rattle.csa_text.proofs.Finding.{NoMark, common_whole, common_part, passes_mark, passes_no_mark, part_no_mark, no_length}
+use Rattle.csa_text.proofs.LineCutting.{nothing, something}
+use Rattle.csa_text.proofs.Finding.{mark_whole, mark_begun, mark_missed, first_missed, some_passed, passes_mark, passes_no_mark, part_no_mark}
 use Rattle.csa_text.proofs.piece.found_in_mark.Goals as goal
+use Rattle.csa_text.proofs.piece.found_in_mark.Goals.{else-is_empty-via-then-is_empty+else-piece, else-is_empty-via-else-is_empty}
 
-pub returns-then-common-missing : goal.returns-then-common-missing
-returns-then-common-missing c =
+pub returns-then-starts_with : goal.returns-then-starts_with
+returns-then-starts_with c =
     let held = c.args.held.now in
-    c.first_in.ensures Mark held 0 (omega arith) (passes_mark held c.args.piece.now c.common_length-common.result
-    (common_whole held c.args.piece.now _ c.common_length-common.result c.requires.0 c.requires.1 (rest_of byte_order_mark (length held)) c.common_length-common.ensures c.if-common-missing.true))
+    c.first_in.ensures Mark held 0 (omega arith) (passes_mark held c.args.piece.now _
+    (mark_whole held c.args.piece.now _ c.requires.0 c.requires.1 (rest_of byte_order_mark (length held)) (sym c.starts_with.ensures.value ∙ c.if-starts_with.true)))
 
-pub returns-then-held-common-eq0 : goal.returns-then-held-common-eq0
-returns-then-held-common-eq0 c =
-    let held = c.args.held.now in
-    let i = c.common_length-common.ensures in
-    let w = common_part held c.args.piece.now _ c.common_length-common.result c.requires.0 c.requires.1 (rest_of byte_order_mark (length held)) i (omega (arith, c.if-common-missing.false, i.in_a)) (omega (arith, c.if-common-piece.false, i.in_b)) in
-    let none : held ≡ [] = no_length held (omega (arith, c.if-held-common-eq0.true)) in
-    let zero : c.common_length-common.result ≡ 0 = omega (arith, c.if-held-common-eq0.true) in
-    let here : NoMark [] c.args.piece.now 0 = rw (none, zero) at w in
-    rw none (c.first_in-then-held-common-eq0.ensures Mark [] 0 (omega arith) (passes_no_mark [] c.args.piece.now 0 1 here (omega arith)))
+pub returns-then-starts_with-2 : goal.returns-then-starts_with-2
+returns-then-starts_with-2 c =
+    let begun = mark_begun c.args.held.now c.args.piece.now _ c.requires.0 c.requires.1 (rest_of byte_order_mark (length c.args.held.now))
+    (sym c.starts_with.ensures.value ∙ c.if-starts_with.false) (sym c.starts_with-else-starts_with.ensures.value ∙ c.if-starts_with-2.true) in
+    (refl, begun.0, begun.1)
 
-pub returns-else-held-common-eq0 : goal.returns-else-held-common-eq0
-returns-else-held-common-eq0 c =
+pub returns-then-piece : goal.returns-then-piece
+returns-then-piece c =
+    let piece = c.args.piece.now in
+    let none : c.args.held.now ≡ [] = nothing c.args.held.now (sym c.is_empty.ensures ∙ c.if-is_empty.true) in
+    let missed = mark_missed c.args.held.now piece _ c.requires.0 c.requires.1 (rest_of byte_order_mark (length c.args.held.now))
+    (sym c.starts_with.ensures.value ∙ c.if-starts_with.false) (sym c.starts_with-else-starts_with.ensures.value ∙ c.if-starts_with-2.false) in
+    rw none (c.first_in-then-piece.ensures Mark [] 0 (omega arith) (passes_no_mark [] piece 0 1 (first_missed piece (omega (arith, missed.1.within)) c.if-piece.true) (omega arith)))
+
+pub returns-else-is_empty : goal.returns-else-is_empty
+returns-else-is_empty c =
     let held = c.args.held.now in
-    let i = c.common_length-common.ensures in
-    let w = common_part held c.args.piece.now _ c.common_length-common.result c.requires.0 c.requires.1 (rest_of byte_order_mark (length held)) i (omega (arith, c.if-common-missing.false, i.in_a)) (omega (arith, c.if-common-piece.false, i.in_b)) in
-    part_no_mark held c.args.piece.now c.common_length-common.result c.unit_length.result w c.requires.1 (omega (arith, c.if-held-common-eq0.false)) c.unit_length.ensures.value
+    let piece = c.args.piece.now in
+    let missed = mark_missed held piece _ c.requires.0 c.requires.1 (rest_of byte_order_mark (length held))
+    (sym c.starts_with.ensures.value ∙ c.if-starts_with.false) (sym c.starts_with-else-starts_with.ensures.value ∙ c.if-starts_with-2.false) in
+    let some : 0 < length held + missed.0 = elim c.else-is_empty.branch [
+      | else-is_empty-via-then-is_empty+else-piece w ↦ some_passed held piece missed.0 missed.1 (nothing held (sym c.is_empty.ensures ∙ w.if-is_empty.true)) w.if-piece.false
+      | else-is_empty-via-else-is_empty w ↦ let some = something held (sym c.is_empty.ensures ∙ w.if-is_empty.false) in omega (arith, some)
+    ] in
+    part_no_mark held piece missed.0 c.unit_length.result missed.1 c.requires.1 some c.unit_length.ensures.value
