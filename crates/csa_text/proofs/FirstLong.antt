@@ -3,10 +3,10 @@ use Rattle.std.proofs.Common.{◌≡◌, ℕ, ◌+◌, ◌<◌, ◌≤◌, ◌&&
 use Rattle.std.proofs.lemmas.Bool.{cases_Bool}
 use Rattle.std.proofs.Math.Seq.{take-length}
 use Rattle.csa_text.specs.Cut.{TextUnit, Statements, IsCut, mark_length}
-use Rattle.csa_text.specs.Cutting.{Cutting, IsTooLong}
+use Rattle.csa_text.specs.Cutting.{Cutting, ToCome, IsTooLong}
 use Rattle.csa_text.specs.PieceCutting.{PieceCutting, Closes, Closed, Leads, fresh, is_closed}
 use Rattle.csa_text.specs.PieceSteps.{Stepped, Used, IsTooLongAt}
-use Rattle.csa_text.specs.TooLong.{AreShort, FirstTooLong, HasCut, HasCutOf}
+use Rattle.csa_text.specs.TooLong.{AreShort, FirstTooLong, HasCutOf}
 use Rattle.csa_text.specs.declared.cutter.Statement.{Statement}
 use Rattle.csa_text.specs.declared.cutter.CutFault.{CutFault}
 use Rattle.csa_text.specs.declared.piece.Cut.{Cut as CutOff}
@@ -14,6 +14,12 @@ use Rattle.csa_text.proofs.Growing.{Longer, cut_grown, fits, followed}
 use Rattle.csa_text.proofs.Joining.{filter_joined, kept_all, pieces_joined, pieces_closed, pieces_whole}
 use Rattle.csa_text.proofs.Leading.{closed_long, closed_behind, one_kept, nothing_left}
 use Rattle.csa_text.proofs.Once.{statements_once}
+
+-- the cutter has handed out these statements of its source, and none of them is too long
+pub record HasCut (c : Cutting) (handed : List TextUnit) : Type 0 where
+  pub onward : (others : List TextUnit) → ToCome c others → IsCut c.source (handed ++ others)
+  pub counted : c.number ≡ length handed
+  pub short : AreShort handed
 
 never_both : (b : Bool) → (b && false) ≡ true → ⊥
 never_both true h = cc

@@ -13,7 +13,7 @@ use Rattle.jiff_core.specs.declared.civil.date.Date.{Date}
 use Rattle.jiff_core.specs.declared.civil.time.Time.{Time}
 use Rattle.csa_text.proofs.LineCutting.{all_joined}
 use Rattle.csa_text.specs.Fields.{IsNumber, HasNone, IsSplit}
-use Rattle.csa_text.specs.Moment.{TimeOfDay, CalendarMoment, AreNumbers, DateDigits, TimeDigits, SpellsDate, SpellsTime, SpellsDateAnd, SpellsMoment, two_digits, four_digits, date_text, time_text, behind_date}
+use Rattle.csa_text.specs.Moment.{TimeOfDay, CalendarMoment, AreNumbers, SpellsDate, SpellsTime, SpellsDateAnd, SpellsMoment, two_digits, four_digits, date_text, time_text, behind_date}
 use Rattle.csa_text.specs.MomentParts.{time_of}
 use Rattle.csa_text.proofs.Once.{same_front}
 
@@ -93,13 +93,13 @@ numbers_once mark few most others bytes y m d a b c none n o =
     (n.whole, none_of mark none n.front n.first_is.digits_only) (refl, none_of mark none n.middle n.second_is.digits_only) o in
     (same_number few most n.front y a n.first_is parts.0, same_number others 2 n.middle m b n.second_is parts.1, same_number others 2 n.back d c n.third_is parts.2)
 
-pub date_once : (bytes : List ℕ) (y m d a b c : ℕ) → DateDigits bytes y m d → DateDigits bytes a b c → (y ≡ a) × (m ≡ b) × (d ≡ c)
+pub date_once : (bytes : List ℕ) (y m d a b c : ℕ) → AreNumbers 47 4 4 1 bytes y m d → AreNumbers 47 4 4 1 bytes a b c → (y ≡ a) × (m ≡ b) × (d ≡ c)
 date_once bytes y m d a b c n o = numbers_once 47 4 4 1 bytes y m d a b c slash n o
 
-pub time_once : (bytes : List ℕ) (h m s a b c : ℕ) → TimeDigits bytes h m s → TimeDigits bytes a b c → (h ≡ a) × (m ≡ b) × (s ≡ c)
+pub time_once : (bytes : List ℕ) (h m s a b c : ℕ) → AreNumbers 58 1 2 2 bytes h m s → AreNumbers 58 1 2 2 bytes a b c → (h ≡ a) × (m ≡ b) × (s ≡ c)
 time_once bytes h m s a b c n o = numbers_once 58 1 2 2 bytes h m s a b c colon n o
 
-pub day_found : (bytes : List ℕ) (y m d : ℕ) (o : Option Date) → DateDigits bytes y m d → IsSome o ↔ IsCivilDate (pos y) m d → IfSome o (λ date. (date.year ≡ pos y) × (date.month ≡ m) × (date.day ≡ d)) → MatchOption o ((a b c : ℕ) → SpellsDate bytes a b c → ⊥) (λ date. SpellsDate bytes (unsigned_abs date.year) date.month date.day)
+pub day_found : (bytes : List ℕ) (y m d : ℕ) (o : Option Date) → AreNumbers 47 4 4 1 bytes y m d → IsSome o ↔ IsCivilDate (pos y) m d → IfSome o (λ date. (date.year ≡ pos y) × (date.month ≡ m) × (date.day ≡ d)) → MatchOption o ((a b c : ℕ) → SpellsDate bytes a b c → ⊥) (λ date. SpellsDate bytes (unsigned_abs date.year) date.month date.day)
 day_found bytes y m d None n exists value = λ a b c s.
     let same = date_once bytes a b c y m d s.0 n in
     absurd (false≢true (exists.1 (rw (← same.0, ← same.1, ← same.2) s.1)))
@@ -107,7 +107,7 @@ day_found bytes y m d (Some date) n exists value =
     let year : unsigned_abs date.year ≡ y = ap unsigned_abs value.0 in
     rw (year, value.1, value.2) (n, exists.0 refl)
 
-pub time_found : (bytes : List ℕ) (h m s : ℕ) (o : Option Time) → TimeDigits bytes h m s → IsSome o ↔ ((h ≤ 23) × (m ≤ 59) × (s ≤ 59)) → IfSome o (λ time. (time.hour ≡ h) × (time.minute ≡ m) × (time.second ≡ s) × (time.subsec_nanosecond ≡ 0)) → MatchOption o ((a b c : ℕ) → SpellsTime bytes a b c → ⊥) (λ time. SpellsTime bytes time.hour time.minute time.second)
+pub time_found : (bytes : List ℕ) (h m s : ℕ) (o : Option Time) → AreNumbers 58 1 2 2 bytes h m s → IsSome o ↔ ((h ≤ 23) × (m ≤ 59) × (s ≤ 59)) → IfSome o (λ time. (time.hour ≡ h) × (time.minute ≡ m) × (time.second ≡ s) × (time.subsec_nanosecond ≡ 0)) → MatchOption o ((a b c : ℕ) → SpellsTime bytes a b c → ⊥) (λ time. SpellsTime bytes time.hour time.minute time.second)
 time_found bytes h m s None n exists value = λ a b c t.
     let same = time_once bytes a b c h m s t.0 n in
     absurd (false≢true (exists.1 (rw (← same.0, ← same.1, ← same.2) (t.1, t.2, t.3))))
@@ -122,7 +122,7 @@ whole_found h m s (Some time) value = value.3
 none_joined : (mark : ℕ) (xs ys : List ℕ) → HasNone mark xs → HasNone mark ys → HasNone mark (xs ++ ys)
 none_joined mark xs ys h k = all_joined (λ b. (b == mark) ≡ false) xs ys h k
 
-date_has_no_space : (bytes : List ℕ) (y m d : ℕ) → DateDigits bytes y m d → HasNone 32 bytes
+date_has_no_space : (bytes : List ℕ) (y m d : ℕ) → AreNumbers 47 4 4 1 bytes y m d → HasNone 32 bytes
 date_has_no_space bytes y m d n =
     rw n.whole
     (none_joined 32 n.front (47 ∷ (n.middle ++ 47 ∷ n.back)) (none_of 32 space n.front n.first_is.digits_only)
@@ -248,8 +248,8 @@ moment_spelt_once bytes None (Some u) y m d a b c p q = absurd (no_split 32 byte
 moment_spelt_once bytes (Some t) None y m d a b c p q = absurd (no_split 32 bytes p.0 p.1 (date_has_no_space bytes a b c q.0) p.2)
 moment_spelt_once bytes (Some t) (Some u) y m d a b c p q =
     let same = split_same 32 bytes p.0 p.1 q.0 q.1 (p.2, date_has_no_space p.0 y m d p.3.0) q.2 (date_has_no_space q.0 a b c q.3.0) in
-    let date : DateDigits p.0 a b c = rw same.0 q.3.0 in
-    let time : TimeDigits p.1 u.hour u.minute u.second = rw same.1 q.4.0 in
+    let date : AreNumbers 47 4 4 1 p.0 a b c = rw same.0 q.3.0 in
+    let time : AreNumbers 58 1 2 2 p.1 u.hour u.minute u.second = rw same.1 q.4.0 in
     let days = date_once p.0 y m d a b c p.3.0 date in
     let times = time_once p.1 t.hour t.minute t.second u.hour u.minute u.second p.4.0 time in (
       days.0,

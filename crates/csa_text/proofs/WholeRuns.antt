@@ -6,12 +6,12 @@ use Rattle.csa_text.specs.Cut.{TextUnit, IsCut, Statements, mark_length, stateme
 use Rattle.csa_text.specs.Cutting.{Cutting, IfHandedOut, IsFirstStatement, IsHandedOut, IsTooLong, ToCome, unit_between}
 use Rattle.csa_text.specs.PieceCutting.{PieceCutting, Closed, Leads, fresh}
 use Rattle.csa_text.specs.PieceSteps.{IsNumbered, Stepped, Used, Last, Finished}
-use Rattle.csa_text.specs.TooLong.{AreShort, HasCut, HasCutOf, FirstTooLong}
+use Rattle.csa_text.specs.TooLong.{AreShort, HasCutOf, FirstTooLong}
 use Rattle.csa_text.specs.WholeRun.{AreNumbered, AreStatementsOf, given, Answered, all_used, all_given, HandedOut}
 use Rattle.csa_text.specs.declared.cutter.Statement.{Statement}
 use Rattle.csa_text.specs.declared.cutter.CutFault.{CutFault}
 use Rattle.csa_text.specs.declared.piece.Cut.{Cut as Step}
-use Rattle.csa_text.proofs.FirstLong.{nothing_fed, too_long_whole, nothing_cut, cutter_refuses, not_short}
+use Rattle.csa_text.proofs.FirstLong.{HasCut, nothing_fed, too_long_whole, nothing_cut, cutter_refuses, not_short}
 use Rattle.csa_text.proofs.Fronts.{length_between}
 use Rattle.csa_text.proofs.Once.{statements_once}
 use Rattle.csa_text.proofs.Joining.{pieces_joined, pieces_closed, pieces_whole}

@@ -22,40 +22,31 @@ text_once text xs all a b e = let same : Some a ≡ Some b = sym (all a) ∙ ap 
 abbrev pub all_kinds : List Kind
 all_kinds = Pawn ∷ Lance ∷ Knight ∷ Silver ∷ Gold ∷ Bishop ∷ Rook ∷ King ∷ ProPawn ∷ ProLance ∷ ProKnight ∷ ProSilver ∷ Horse ∷ Dragon ∷ []
 
+-- the code of a kind has two bytes, and the kind is found by it
+kind_read : (k : Kind) → (found_by kind_code all_kinds (kind_code k) ≡ Some k) × (length (kind_code k) ≡ 2)
+kind_read Pawn = (refl, refl)
+kind_read Lance = (refl, refl)
+kind_read Knight = (refl, refl)
+kind_read Silver = (refl, refl)
+kind_read Gold = (refl, refl)
+kind_read Bishop = (refl, refl)
+kind_read Rook = (refl, refl)
+kind_read King = (refl, refl)
+kind_read ProPawn = (refl, refl)
+kind_read ProLance = (refl, refl)
+kind_read ProKnight = (refl, refl)
+kind_read ProSilver = (refl, refl)
+kind_read Horse = (refl, refl)
+kind_read Dragon = (refl, refl)
+
 pub kind_found : (k : Kind) → found_by kind_code all_kinds (kind_code k) ≡ Some k
-kind_found Pawn = refl
-kind_found Lance = refl
-kind_found Knight = refl
-kind_found Silver = refl
-kind_found Gold = refl
-kind_found Bishop = refl
-kind_found Rook = refl
-kind_found King = refl
-kind_found ProPawn = refl
-kind_found ProLance = refl
-kind_found ProKnight = refl
-kind_found ProSilver = refl
-kind_found Horse = refl
-kind_found Dragon = refl
+kind_found k = (kind_read k).0
+
+pub kind_length : (k : Kind) → length (kind_code k) ≡ 2
+kind_length k = (kind_read k).1
 
 pub kind_once : (a b : Kind) → kind_code a ≡ kind_code b → a ≡ b
 kind_once a b e = text_once kind_code all_kinds kind_found a b e
-
-pub kind_length : (k : Kind) → length (kind_code k) ≡ 2
-kind_length Pawn = refl
-kind_length Lance = refl
-kind_length Knight = refl
-kind_length Silver = refl
-kind_length Gold = refl
-kind_length Bishop = refl
-kind_length Rook = refl
-kind_length King = refl
-kind_length ProPawn = refl
-kind_length ProLance = refl
-kind_length ProKnight = refl
-kind_length ProSilver = refl
-kind_length Horse = refl
-kind_length Dragon = refl
 
 -- `AL` is no kind
 pub no_rest_kind : (k : Kind) → kind_code k ≡ codes "AL" → ⊥

@@ -24,21 +24,14 @@ pub record AreNumbers (mark fewest most others : ℕ) (bytes : List ℕ) (first 
   pub second_is : IsNumber others 2 middle second
   pub third_is : IsNumber others 2 back third
 
--- four digits, `/`, one or two digits, `/`, one or two digits
-abbrev pub DateDigits : List ℕ → ℕ → ℕ → ℕ → Type 0
-DateDigits bytes year month day = AreNumbers 47 4 4 1 bytes year month day
+-- four digits, `/`, one or two digits, `/`, one or two digits: a day that the calendar has
+abbrev pub SpellsDate : List ℕ → ℕ → ℕ → ℕ → Type 0
+SpellsDate bytes year month day = AreNumbers 47 4 4 1 bytes year month day × IsCivilDate (pos year) month day
 
 -- one or two digits, `:`, two digits, `:`, two digits
-abbrev pub TimeDigits : List ℕ → ℕ → ℕ → ℕ → Type 0
-TimeDigits bytes hour minute second = AreNumbers 58 1 2 2 bytes hour minute second
-
--- a day that the calendar has
-abbrev pub SpellsDate : List ℕ → ℕ → ℕ → ℕ → Type 0
-SpellsDate bytes year month day = DateDigits bytes year month day × IsCivilDate (pos year) month day
-
 abbrev pub SpellsTime : List ℕ → ℕ → ℕ → ℕ → Type 0
 SpellsTime bytes hour minute second =
-    TimeDigits bytes hour minute second × (hour ≤ 23) × (minute ≤ 59) × (second ≤ 59)
+    AreNumbers 58 1 2 2 bytes hour minute second × (hour ≤ 23) × (minute ≤ 59) × (second ≤ 59)
 
 -- a date alone, or a date, one space and a time
 abbrev pub SpellsDateAnd : Option TimeOfDay → List ℕ → ℕ → ℕ → ℕ → Type 0

@@ -41,10 +41,6 @@ Passes place held front unfinished = (fed : ℕ) (more : List ℕ) (others : Lis
 abbrev pub PassesTo : Place → List ℕ → List ℕ → ℕ → ℕ → Type 0
 PassesTo place held piece from at = Passes place held (slice_range piece from (at + 1)) (slice_range piece at (at + 1))
 
--- the statement's unit that a piece holds, or where it leads to where it holds none
-abbrev pub Found : Type 0
-Found = Result Part Place
-
 -- what is held of a unit
 abbrev pub kept_of : Bool → List ℕ → List ℕ
 kept_of goes_on held = if goes_on then held else []
@@ -59,8 +55,8 @@ pub record IsPart (place : Place) (held piece : List ℕ) (from : ℕ) (goes_on 
   pub spoken : begins_with 39 (kept_of goes_on held ++ slice_range piece start end) ≡ false
   pub passed : Passes place held (slice_range piece from (end + 1)) (kept_of goes_on held ++ slice_range piece start (end + 1))
 
--- what the piece from one place on holds next
-abbrev pub IsFoundIn : Place → List ℕ → List ℕ → ℕ → Found → Type 0
+-- what the piece from one place on holds next, a statement's unit, or where it leads to
+abbrev pub IsFoundIn : Place → List ℕ → List ℕ → ℕ → Result Part Place → Type 0
 IsFoundIn place held piece from (Err InUnit) = ⊥
 IsFoundIn place held piece from (Err Mark) =
     (place ≡ Mark) × (length held + length piece < 3) × (held ++ piece ≡ take (length held + length piece) byte_order_mark)

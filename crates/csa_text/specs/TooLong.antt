@@ -2,7 +2,6 @@
 use Rattle.std.specs.Prelude.{◌≡◌, ℕ, ◌+◌, ◌<◌, ◌≤◌, List, ◌∷◌, ◌++◌, length}
 use Rattle.std.specs.List.{AllByRecursion}
 use Rattle.csa_text.specs.Cut.{TextUnit, IsCut, longest_statement}
-use Rattle.csa_text.specs.Cutting.{Cutting, ToCome}
 use Rattle.csa_text.specs.PieceCutting.{PieceCutting, Leads, fresh}
 
 -- none has more than 4,096 bytes
@@ -19,12 +18,6 @@ pub record FirstTooLong (source : List ℕ) (number offset : ℕ) : Type 0 where
   pub long : longest_statement < length unit.bytes
   pub number_is : number ≡ length before + 1
   pub place : offset ≡ unit.offset
-
--- the cutter has handed out these statements of its source, and none of them is too long
-pub record HasCut (c : Cutting) (handed : List TextUnit) : Type 0 where
-  pub onward : (others : List TextUnit) → ToCome c others → IsCut c.source (handed ++ others)
-  pub counted : c.number ≡ length handed
-  pub short : AreShort handed
 
 -- a cutter of pieces that was fed this source has handed out these statements, and none of them is too long
 abbrev pub HasCutOf : List ℕ → PieceCutting → List TextUnit → Type 0

@@ -1,5 +1,6 @@
 -- A whole run of a cutter: its steps, one after another.
-use Rattle.std.specs.Prelude.{◌≡◌, ℕ, ◌+◌, List, [], ◌∷◌, ◌++◌, take, Option, Some, None, Ok}
+use Rattle.std.specs.Prelude.{◌≡◌, ℕ, ◌+◌, List, [], ◌∷◌, ◌++◌, map, take, Option, Some, None, Ok}
+use Rattle.std.specs.List.{flat_map}
 use Rattle.csa_text.specs.Cut.{TextUnit, IsCut}
 use Rattle.csa_text.specs.Cutting.{Cutting, IsHandedOut}
 use Rattle.std.specs.Borrow.{Bor}
@@ -31,13 +32,11 @@ Answered old (s ∷ steps) new = (next : PieceCutting) × Stepped old s.0 (Ok s.
 
 -- the bytes that were used
 abbrev pub all_used : List (List ℕ × Step) → List ℕ
-all_used [] = []
-all_used (s ∷ steps) = take s.1.used s.0 ++ all_used steps
+all_used steps = flat_map (λ s. take s.1.used s.0) steps
 
 -- the statements that were handed out
 abbrev pub all_given : List (List ℕ × Step) → List Statement
-all_given [] = []
-all_given (s ∷ steps) = given s.1.statement ++ all_given steps
+all_given steps = flat_map (λ s. given s.1.statement) steps
 
 -- the statements that a cutter handed out one after another
 abbrev pub HandedOut : Cutting → List Statement → Cutting → Type 0
@@ -49,8 +48,7 @@ abbrev pub told : Statement → ℕ × ℕ × List ℕ
 told s = (s.number, s.offset, s.bytes.now)
 
 abbrev pub all_told : List Statement → List (ℕ × ℕ × List ℕ)
-all_told [] = []
-all_told (s ∷ ss) = told s ∷ all_told ss
+all_told ss = map told ss
 
 -- pieces and the answers of a cutter of lines to them, one after another
 abbrev pub LineAnswers : LineCutting → List (List ℕ × (ℕ × Option (Bor (List ℕ)))) → LineCutting → Type 0
@@ -58,13 +56,11 @@ LineAnswers old [] new = old ≡ new
 LineAnswers old (s ∷ steps) new = (next : LineCutting) × (BeginsTooLong old.limit (old.held ++ s.0) → ⊥) × LineStep old.held s.0 s.1 × LinesAfter old s.0 (Ok s.1) next × LineAnswers next steps new
 
 abbrev pub all_taken : List (List ℕ × (ℕ × Option (Bor (List ℕ)))) → List ℕ
-all_taken [] = []
-all_taken (s ∷ steps) = take s.1.0 s.0 ++ all_taken steps
+all_taken steps = flat_map (λ s. take s.1.0 s.0) steps
 
 abbrev pub line_given : Option (Bor (List ℕ)) → List (List ℕ)
 line_given None = []
 line_given (Some line) = line.now ∷ []
 
 abbrev pub all_lines : List (List ℕ × (ℕ × Option (Bor (List ℕ)))) → List (List ℕ)
-all_lines [] = []
-all_lines (s ∷ steps) = line_given s.1.1 ++ all_lines steps
+all_lines steps = flat_map (λ s. line_given s.1.1) steps

@@ -7,7 +7,7 @@ use Rattle.std.proofs.lemmas.Bool.{cases_lt}
 use Rattle.std.proofs.lemmas.Int.{ints}
 use Rattle.jiff_core.specs.Calendar.{IsCivilDate, days_in_month}
 use Rattle.csa_text.specs.Fields.{IsNumber}
-use Rattle.csa_text.specs.Moment.{CalendarMoment, TimeOfDay, AreNumbers, DateDigits, SpellsDate, SpellsTime, SpellsDateAnd, SpellsMoment}
+use Rattle.csa_text.specs.Moment.{CalendarMoment, TimeOfDay, AreNumbers, SpellsDate, SpellsTime, SpellsDateAnd, SpellsMoment}
 use Rattle.csa_text.proofs.Decided.{Decided, same_or_not, split_or_not}
 use Rattle.csa_text.proofs.Moments.{below_power, no_split, slash, colon, first_number, three_parts, date_once, time_once, no_date_alone, no_date_before, no_time_behind}
 use Rattle.record_game.specs.Fits.{IsHeaderLine}
@@ -84,7 +84,7 @@ numbers_or_not mark few most others bytes apart =
       ]
     ]
 
-year_small : (bytes : List ℕ) (y m d : ℕ) → DateDigits bytes y m d → y ≤ 9999
+year_small : (bytes : List ℕ) (y m d : ℕ) → AreNumbers 47 4 4 1 bytes y m d → y ≤ 9999
 year_small bytes y m d n =
     let year = n.first_is in
     let low : digits_value 10 n.front < 10000 = below_power n.front 4 year.digits_only year.many in
