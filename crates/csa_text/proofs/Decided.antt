@@ -325,13 +325,13 @@ digits_or_not (b ∷ bs) =
     ]
 
 seconds_or_not : (bytes : List ℕ) → Decided ((n : ℕ) × IsSeconds bytes n)
-seconds_or_not [] = inr (λ h. h.1.some refl)
+seconds_or_not [] = inr (λ h. let few = h.1.0.few in omega (arith, few))
 seconds_or_not (b ∷ bs) =
     elim (digits_or_not (b ∷ bs)) [
-      | inr never ↦ inr (λ h. never h.1.digits_only)
+      | inr never ↦ inr (λ h. never h.1.0.digits_only)
       | inl digits ↦ elim (cases_lt 4294967295 (digits_value 10 (b ∷ bs))) [
-        | inl big ↦ inr (λ h. let n = h.1 in omega (arith, big, n.value_is, n.limit))
-        | inr small ↦ inl (digits_value 10 (b ∷ bs), record { some = λ e. cc; digits_only = digits; value_is = refl; limit = small })
+        | inl big ↦ inr (λ h. let n = h.1 in omega (arith, big, n.0.value_is, n.1))
+        | inr small ↦ inl (digits_value 10 (b ∷ bs), (record { few = omega arith; many = omega arith; digits_only = digits; value_is = refl }, small))
       ]
     ]
 

@@ -1,8 +1,8 @@
 -- Gaps and comments in a piece.
-use Rattle.std.proofs.Common.{◌≡◌, ◌≢◌, eq-eqb, ℕ, zero, suc, ◌+◌, ◌-◌, ◌<◌, ◌≤◌, ◌⊎◌, true, false, not, List, [], ◌∷◌, ◌++◌, filter, length, take, drop, get_or, slice_range, length-drop, length-append, append_assoc, append-nil, arith, refl, sym, ap, ◌∙◌, subst, inl, inr}
+use Rattle.std.proofs.Common.{◌≡◌, ◌≢◌, eq-eqb, ℕ, zero, suc, ◌+◌, ◌-◌, ◌<◌, ◌≤◌, true, false, not, List, [], ◌∷◌, ◌++◌, filter, length, take, drop, get_or, slice_range, length-drop, length-append, append_assoc, append-nil, arith, refl, sym, ap, ◌∙◌, subst}
 use Rattle.std.proofs.lemmas.Bool.{ne_eqb, eqb-true}
 use Rattle.std.proofs.lemmas.List.{drop-drop, drop_all, take_all}
-use Rattle.std.proofs.Math.Seq.{drop-cons, drop-length, take-length, take-append_seam, take-add}
+use Rattle.std.proofs.Math.Seq.{drop-cons, take-append_seam, take-add}
 use Rattle.std.specs.List.{AllByRecursion}
 use Rattle.csa_text.specs.Cut.{TextUnit, IsNext, IsGap, IsUnit, EndsBefore, Units, Statements, is_statement, is_separator, is_end, begins_with}
 use Rattle.csa_text.specs.Cutting.{unit_between}

@@ -1,6 +1,5 @@
 -- The first statement of a source, by what it holds as a piece.
-use Rattle.std.proofs.Common.{◌≡◌, ℕ, ◌+◌, ◌-◌, ◌<◌, ◌≤◌, Bool, true, false, List, [], ◌∷◌, ◌++◌, length, take, drop, slice_range, append-nil, length-drop, Err, arith, refl, sym, ap, ◌∙◌, subst}
-use Rattle.std.proofs.lemmas.List.{drop-drop}
+use Rattle.std.proofs.Common.{◌≡◌, ℕ, ◌+◌, ◌-◌, Bool, true, false, List, [], ◌∷◌, length, drop, Err, arith, refl, ap, subst}
 use Rattle.csa_text.specs.Cut.{TextUnit, Statements}
 use Rattle.csa_text.specs.Cutting.{IsFirstStatement, unit_between}
 use Rattle.csa_text.specs.PieceCutting.{Follows}
@@ -9,7 +8,7 @@ use Rattle.csa_text.specs.declared.piece.Place.{Place}
 use Rattle.csa_text.specs.declared.piece.Place.TheVariants.{Mark, Gap, Unit as InUnit, Comment}
 use Rattle.csa_text.proofs.Finding.{unit_some}
 use Rattle.csa_text.proofs.Leading.{part_size, part_unit, unit_told, nothing_left, comment_alone, to_whole}
-use Rattle.csa_text.proofs.Passing.{statements_at, statements_of}
+use Rattle.csa_text.proofs.Passing.{statements_at}
 
 none_kept : (goes_on : Bool) → kept_of goes_on [] ≡ []
 none_kept true = refl

@@ -16,7 +16,7 @@ point : digit_value 46 < 10 → ⊥
 point h = omega arith
 
 no_point : (digits : List ℕ) (seconds : ℕ) → IsSeconds digits seconds → HasNone 46 digits
-no_point digits seconds n = none_of 46 point digits n.digits_only
+no_point digits seconds n = none_of 46 point digits n.0.digits_only
 
 pub no_whole : (text : List ℕ) → HasNone 46 text → ((seconds : ℕ) → IsSeconds text seconds → ⊥) → (n : ℕ) → IsTime text n → ⊥
 no_whole text none never n t =
@@ -43,7 +43,7 @@ fraction_once : (digits : List ℕ) (a b : ℕ) → IsFraction digits a → IsFr
 fraction_once digits a b (v, n, e) (w, m, f) = e ∙ ap (λ x. x * 10 ^ (3 - length digits)) (n.value_is ∙ sym m.value_is) ∙ sym f
 
 seconds_once : (digits : List ℕ) (a b : ℕ) → IsSeconds digits a → IsSeconds digits b → a ≡ b
-seconds_once digits a b n m = n.value_is ∙ sym m.value_is
+seconds_once digits a b n m = n.0.value_is ∙ sym m.0.value_is
 
 fractions_once : (text : List ℕ) (m n : ℕ) → HasFraction text m → HasFraction text n → m ≡ n
 fractions_once text m n f g =

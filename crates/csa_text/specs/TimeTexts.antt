@@ -1,14 +1,10 @@
 -- The time of a move or an ending, in thousandths of a second.
-use Rattle.std.specs.Prelude.{◌≡◌, ℕ, ◌+◌, ◌*◌, ◌-◌, ◌^◌, ◌≤◌, ◌≢◌, ◌⊎◌, List, [], ◌∷◌, ◌++◌, length}
-use Rattle.std.specs.Str.Parse.{AllDigits, digits_value}
+use Rattle.std.specs.Prelude.{◌≡◌, ℕ, ◌+◌, ◌*◌, ◌-◌, ◌^◌, ◌≤◌, ◌⊎◌, List, ◌∷◌, ◌++◌, length}
 use Rattle.csa_text.specs.Fields.{IsNumber}
 
 -- one or more decimal digits, of a value of at most 4,294,967,295
-pub record IsSeconds (digits : List ℕ) (seconds : ℕ) : Type 0 where
-  pub some : digits ≢ []
-  pub digits_only : AllDigits 10 digits
-  pub value_is : seconds ≡ digits_value 10 digits
-  pub limit : seconds ≤ 4294967295
+abbrev pub IsSeconds : List ℕ → ℕ → Type 0
+IsSeconds digits seconds = IsNumber 1 (length digits) digits seconds × (seconds ≤ 4294967295)
 
 -- one to three digits behind the point: `5` is 500 thousandths, and `05` is 50
 abbrev pub IsFraction : List ℕ → ℕ → Type 0

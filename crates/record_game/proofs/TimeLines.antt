@@ -89,11 +89,7 @@ thousandths r some few =
 seconds_are : (s : ℕ) → s ≤ 4294967295 → IsSeconds (decimal s) s
 seconds_are s h =
     let n = decimal_is_IsNumeral_wide s (omega (arith, h)) in
-    record { some = some_digits (decimal s) n.0.0; digits_only = n.0.1; value_is = sym n.1; limit = h }
-  where
-    some_digits : (ds : List ℕ) → 0 < length ds → ds ≢ []
-    some_digits [] k e = omega (arith, k)
-    some_digits (d ∷ ds) k e = cc
+    (record { few = omega (arith, n.0.0); many = omega arith; digits_only = n.0.1; value_is = sym n.1 }, h)
 
 -- a time, cut into its seconds and what remains
 record IsClock (t : ℕ) : Type 0 where

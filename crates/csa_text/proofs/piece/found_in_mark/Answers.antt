@@ -1,6 +1,5 @@
 use Rattle.std.proofs.Common.{◌≡◌, ◌+◌, ◌<◌, length, arith, [], refl, sym, ◌∙◌}
 use Rattle.csa_text.specs.Cut.{byte_order_mark}
-use Rattle.csa_text.specs.Places.{IsPart}
 use Rattle.csa_text.specs.declared.piece.Place.TheVariants.{Mark}
 use Rattle.csa_text.proofs.Fronts.{rest_of}
 use Rattle.csa_text.proofs.LineCutting.{nothing, something}
