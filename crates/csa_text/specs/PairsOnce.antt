@@ -1,6 +1,7 @@
 -- Bytes are the text of one list of pairs at most.
 -- These are lemmas, which the type of `Pairs` needs; a reader of the grammar may skip them.
-use Rattle.std.proofs.Common.{◌≡◌, ℕ, ◌+◌, arith, List, [], ◌∷◌, ◌++◌, refl, sym, ap, ◌∙◌, length, subst}
+use Rattle.std.proofs.Common.{◌≡◌, ℕ, ◌+◌, arith, List, [], ◌∷◌, ◌++◌, refl, sym, ap, ◌∙◌, length, take, drop, subst}
+use Rattle.std.proofs.Math.Seq.{take-append_seam, drop-append_seam}
 use Rattle.std.proofs.Props.{props}
 use Rattle.shogi_board.specs.Squares.{file_of, rank_of}
 use Rattle.std.specs.Prelude.{codes}
@@ -33,14 +34,10 @@ pair_once Rest Rest e = refl
 
 -- two fronts of one length are one, and so is what stands behind them
 pub same_split : (a b x y : List ℕ) → length a ≡ length b → a ++ x ≡ b ++ y → (a ≡ b) × (x ≡ y)
-same_split [] [] x y h e = (refl, e)
-same_split [] (b ∷ bs) x y h e = absurd (omega arith)
-same_split (a ∷ os) [] x y h e = absurd (omega arith)
-same_split (a ∷ os) (b ∷ bs) x y h e =
-    let head : a ≡ b = cc in
-    let rest : os ++ x ≡ bs ++ y = cc in
-    let more = same_split os bs x y (omega arith) rest in
-    (ap (λ n. n ∷ os) head ∙ ap (λ ns. b ∷ ns) more.0, more.1)
+same_split a b x y h e = (
+  sym (take-append_seam a x) ∙ ap (take (length a)) e ∙ ap (λ n. take n (b ++ y)) h ∙ take-append_seam b y,
+  sym (drop-append_seam a x) ∙ ap (drop (length a)) e ∙ ap (λ n. drop n (b ++ y)) h ∙ drop-append_seam b y,
+)
 
 pair_first : (p : Pair) (ps : List Pair) → pairs_text (p ∷ ps) ≡ [] → ⊥
 pair_first p ps e = let n : length (pair_text p ++ pairs_text ps) ≡ 0 = ap length e in grind (arith, pair_length p)

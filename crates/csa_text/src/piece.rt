@@ -305,8 +305,8 @@ fn found_in_mark(held: &[u8], piece: &[u8]) -> Result<Part, Place>
     }
 }
 
-// What the piece holds next, from a place of which it is known that what comes at `from` comes there:
-// a statement's unit behind gaps and comments, or where it leads to.
+// The first statement's unit in the piece from here on, behind gaps and comments, or where it leads
+// to where it holds none: so for each cutter that stands before a front that leads here.
 #[inline(always)]
 pub(crate) fn first_in(piece: &[u8], from: usize) -> Result<Part, Place>
     requires { from ≤ length piece.now }

@@ -97,9 +97,9 @@ fraction_small (a ∷ b ∷ c ∷ []) n (value, number, is) =
 fraction_small (a ∷ b ∷ c ∷ d ∷ ds) n (value, number, is) = let many = number.many in absurd (omega (arith, many))
 
 pub time_fits : (text : List ℕ) (n : ℕ) → IsTime text n → n ≤ 4294967295999
-time_fits text n (inl (seconds, is, value)) = let low = is.limit in omega (arith, low, value)
+time_fits text n (inl (seconds, is, value)) = let low = is.1 in omega (arith, low, value)
 time_fits text n (inr h) =
-    let low = h.seconds_are.limit in
+    let low = h.seconds_are.1 in
     let small = fraction_small h.behind h.fraction h.fraction_is in
     let value = h.value_is in
     omega (arith, low, small, value)
