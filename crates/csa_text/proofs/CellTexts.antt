@@ -1,7 +1,7 @@
 -- The cells of a rank are told by their texts, and how they are read.
-use Rattle.std.proofs.Common.{◌≡◌, ◌≢◌, ℕ, ◌+◌, ◌*◌, ◌<◌, ◌≤◌, arith, List, [], ◌∷◌, ◌++◌, length, take, drop, get_or, Option, Some, None, MatchOption, refl, sym, ap, ◌∙◌, inl, inr, ◌⊎◌}
+use Rattle.std.proofs.Common.{◌≡◌, ◌≢◌, ℕ, ◌+◌, ◌*◌, ◌<◌, arith, List, [], ◌∷◌, ◌++◌, length, take, drop, get_or, Option, Some, None, MatchOption, refl, sym, ap, ◌∙◌, inl, inr, ◌⊎◌}
 use Rattle.std.specs.List.{flat_map}
-use Rattle.std.proofs.lemmas.List.{take_all, length-append}
+use Rattle.std.proofs.lemmas.List.{length-append}
 use Rattle.shogi_board.specs.declared.color.Color.{Color}
 use Rattle.shogi_board.specs.declared.color.Color.TheVariants.{Black, White}
 use Rattle.shogi_board.specs.declared.kind.Kind.{Kind}
@@ -59,10 +59,6 @@ pub cells_next : (bytes three : List ℕ) (i : ℕ) (front next : List (Option P
 cells_next bytes three i front next cell h is e more =
     front_more bytes 3 i ∙ ap (λ bs. bs ++ take 3 (drop (3 * i) bytes)) h ∙ ap (λ bs. flat_map cell_text front ++ bs) (sym is ∙ e)
     ∙ sym (texts_more cell_text front cell) ∙ ap (flat_map cell_text) (sym more)
-
-pub cells_all : (bytes : List ℕ) (cells : List (Option Piece)) (i : ℕ) → take (3 * i) bytes ≡ flat_map cell_text (take i cells) → 9 ≤ i → length bytes ≡ 27 → length cells ≡ 9 → bytes ≡ flat_map cell_text cells
-cells_all bytes cells i h past size nine =
-    sym (take_all (3 * i) bytes (omega arith)) ∙ h ∙ ap (flat_map cell_text) (take_all i cells (omega arith))
 
 -- nine cells' text, or that text less its last space
 abbrev pub CellsOf : List ℕ → List (Option Piece) → Type 0

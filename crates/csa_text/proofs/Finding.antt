@@ -311,7 +311,3 @@ part_no_mark held piece n e w is_mark some is_run =
       spoken = rw (first_range piece e) part.1;
       passed = passes_no_mark held piece n (e + 1) w (omega arith);
     }
-
-pub no_length : (xs : List ℕ) → length xs ≡ 0 → xs ≡ []
-no_length [] h = refl
-no_length (x ∷ xs) h = absurd (omega arith)

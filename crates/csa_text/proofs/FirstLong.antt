@@ -1,18 +1,17 @@
 -- The first statement that is too long, in a text that goes on.
-use Rattle.std.proofs.Common.{◌≡◌, ℕ, ◌+◌, ◌<◌, ◌≤◌, ◌&&◌, Bool, true, false, List, [], ◌∷◌, ◌++◌, filter, length, take, drop, length-drop, length-append, Option, Some, None, Ok, Err, if◌then◌else◌, arith, refl, sym, ap, ◌∙◌, subst, inl, inr}
+use Rattle.std.proofs.Common.{◌≡◌, ℕ, ◌+◌, ◌<◌, ◌≤◌, ◌&&◌, Bool, true, false, List, [], ◌∷◌, ◌++◌, filter, length, take, drop, length-drop, length-append, Option, Some, None, Err, if◌then◌else◌, arith, refl, sym, ap, ◌∙◌, subst, inl, inr}
 use Rattle.std.proofs.lemmas.Bool.{cases_Bool}
 use Rattle.std.proofs.Math.Seq.{take-length}
 use Rattle.csa_text.specs.Cut.{TextUnit, Statements, IsCut, mark_length}
 use Rattle.csa_text.specs.Cutting.{Cutting, ToCome, IsTooLong}
-use Rattle.csa_text.specs.PieceCutting.{PieceCutting, Closes, Closed, Leads, fresh, is_closed}
+use Rattle.csa_text.specs.PieceCutting.{PieceCutting, Closes, Leads, fresh, is_closed}
 use Rattle.csa_text.specs.PieceSteps.{Stepped, Used, IsTooLongAt}
 use Rattle.csa_text.specs.TooLong.{AreShort, FirstTooLong, HasCutOf}
 use Rattle.csa_text.specs.declared.cutter.Statement.{Statement}
 use Rattle.csa_text.specs.declared.cutter.CutFault.{CutFault}
-use Rattle.csa_text.specs.declared.piece.Cut.{Cut as CutOff}
 use Rattle.csa_text.proofs.Growing.{Longer, cut_grown, fits, followed}
-use Rattle.csa_text.proofs.Joining.{filter_joined, kept_all, pieces_joined, pieces_closed, pieces_whole}
-use Rattle.csa_text.proofs.Leading.{closed_long, closed_behind, one_kept, nothing_left}
+use Rattle.csa_text.proofs.Joining.{pieces_joined, pieces_whole}
+use Rattle.csa_text.proofs.Leading.{closed_behind, one_kept, nothing_left}
 use Rattle.csa_text.proofs.Once.{statements_once}
 
 -- the cutter has handed out these statements of its source, and none of them is too long
@@ -90,17 +89,6 @@ pub not_short : (xs others : List TextUnit) (u : TextUnit) → AreShort (xs ++ (
 not_short [] others u h = h.0
 not_short (x ∷ xs) others u h = not_short xs others u h.1
 
-pub none_too_long : (source : List ℕ) (handed : List TextUnit) (p : PieceCutting) (number offset : ℕ) → HasCutOf source p handed → FirstTooLong source number offset → ⊥
-none_too_long source handed p number offset h f =
-    let n = length source in
-    let c = pieces_closed source handed p h.0 in
-    let same : c.0 ≡ f.before ++ (f.unit ∷ f.others) = statements_once _ _ c.0 _ c.1 f.cut in
-    let shut : is_closed n f.unit ≡ true = closed_long (f.unit.offset + length f.unit.bytes) n (length f.unit.bytes) f.long in
-    let kept : handed ≡ filter (is_closed n) f.before ++ (f.unit ∷ filter (is_closed n) f.others) =
-    c.2 ∙ ap (filter (is_closed n)) same ∙ filter_joined (is_closed n) f.before (f.unit ∷ f.others) ∙ ap (λ xs. filter (is_closed n) f.before ++ xs) (sym (one_kept (is_closed n) f.unit f.others shut)) in
-    let short = not_short (filter (is_closed n) f.before) (filter (is_closed n) f.others) f.unit (subst AreShort kept h.1) in
-    absurd (omega (arith, short, f.long))
-
 same_first : (xs ys others rest : List TextUnit) (u v : TextUnit) → AreShort xs → AreShort ys → 4096 < length u.bytes → 4096 < length v.bytes → xs ++ (u ∷ others) ≡ ys ++ (v ∷ rest) → (length xs ≡ length ys) × (u ≡ v)
 same_first [] [] others rest u v h k l m e = (refl, cc)
 same_first [] (y ∷ ys) others rest u v h k l m e = let same : u ≡ y = cc in let short : length u.bytes ≤ 4096 = rw same k.0 in absurd (omega (arith, l, short))
@@ -139,9 +127,6 @@ nothing_fed = (
   tt,
 )
 
-pub goes_on_in_pieces : (source piece : List ℕ) (handed : List TextUnit) (old new : PieceCutting) (cut : CutOff) → HasCutOf source old handed → Stepped old piece (Ok cut) new → (more : List TextUnit) × HasCutOf (source ++ take cut.used piece) new (handed ++ more)
-goes_on_in_pieces source piece handed old new cut h s = used_joined source piece handed old new cut.used cut.statement h s.after.led
-
 pub nothing_cut : (c : Cutting) → c.at ≡ mark_length c.source → c.number ≡ 0 → HasCut c []
 nothing_cut c at number = record { onward = λ others s. rw at at s; counted = number; short = tt }
 
@@ -156,10 +141,3 @@ cutter_refuses c handed number offset h t = record {
   number_is = omega (arith, t.number_is, h.counted);
   place = t.place;
 }
-
-pub closed_joined : (source piece : List ℕ) (closed more : List TextUnit) (p : PieceCutting) → Leads fresh source closed p → Closes p piece more → Closed (source ++ piece) (closed ++ more)
-closed_joined source piece closed more p h c =
-    let size : length (source ++ piece) ≡ p.fed + length piece = omega (arith, h.took, length-append source piece) in
-    let first = h.closes in
-    let kept = kept_all (0 + length source) (p.fed + length piece) closed first.0 c.0 (omega (arith, h.took)) first.2 in
-    (closed ++ c.0, pieces_whole source piece closed c.0 p h c.1, ap (λ xs. closed ++ xs) c.2 ∙ sym kept ∙ ap (λ n. filter (is_closed n) (closed ++ c.0)) (sym size))

@@ -1,6 +1,6 @@
 -- What reading pairs of four bytes finds.
 use Rattle.std.proofs.Common.{◌≡◌, ◌≢◌, ℕ, ◌+◌, ◌*◌, ◌/◌, ◌%◌, ◌<◌, ◌≤◌, arith, List, [], ◌∷◌, ◌++◌, length, take, drop, get_or, Option, Some, None, MatchOption, sym, ap, ◌∙◌}
-use Rattle.std.proofs.lemmas.List.{length_push, take_all}
+use Rattle.std.proofs.lemmas.List.{length_push}
 use Rattle.std.specs.List.{slice_get}
 use Rattle.std.proofs.lemmas.Option.{slice_get-get_or, slice_get_past}
 use Rattle.csa_text.specs.declared.pair.Pair.{Pair}
@@ -37,12 +37,6 @@ front_next bytes four i p (ps, count, front) is e = (
   omega (arith, count, length_push ps p),
   front_more bytes 4 i ∙ ap (λ bs. bs ++ take 4 (drop (4 * i) bytes)) front ∙ ap (λ bs. pairs_text ps ++ bs) (sym is ∙ e) ∙ sym (texts_more pair_text ps p),
 )
-
--- all of them
-pub front_all : (bytes : List ℕ) (i : ℕ) → Front bytes i → length bytes % 4 ≡ 0 → length bytes / 4 ≤ i → (ps : List Pair) × (bytes ≡ pairs_text ps)
-front_all bytes i (ps, count, front) four past =
-    let whole : take (4 * i) bytes ≡ bytes = take_all (4 * i) bytes (omega (arith, four, past)) in
-    (ps, sym whole ∙ front)
 
 pub no_pairs : (bytes four : List ℕ) (i : ℕ) → i < length bytes / 4 → four ≡ take 4 (drop (4 * i) bytes) → ((pair : Pair) → four ≡ pair_text pair → ⊥) → (ps : List Pair) → bytes ≡ pairs_text ps → ⊥
 no_pairs bytes four i less is none ps e =

@@ -12,7 +12,7 @@ use Rattle.csa_text.specs.declared.pair.Pair.{Pair}
 use Rattle.csa_text.proofs.CellTexts.{CellsOf}
 use Rattle.csa_text.proofs.Moments.{no_split, split_same}
 use Rattle.csa_text.proofs.Texts.{head_same, tail_same}
-use Rattle.csa_text.specs.Codes.{sign, cell_text, move_text, squares_text}
+use Rattle.csa_text.specs.Codes.{sign, cell_text, move_text}
 use Rattle.csa_text.specs.Endings.{ending_name}
 use Rattle.csa_text.specs.Fields.{IsSplit, HasNone}
 use Rattle.csa_text.specs.PairTexts.{pairs_text, AllOnBoard}
@@ -132,10 +132,6 @@ row_below (walked color m) = omega arith
 row_below (time thousandths) = omega arith
 row_below (ending e) = omega arith
 
--- bytes of no row spell nothing
-pub no_row : (bytes : List ℕ) → row_at bytes ≡ 10 → (s : Saying) → Spells bytes s → ⊥
-no_row bytes none s p = omega (arith, none, begins_so bytes s p, row_below s)
-
 pub no_header : (line : List ℕ) → ((key text : List ℕ) → IsSplit 58 line key text → key ≢ [] → ⊥) → (s : Saying) → Spells (36 ∷ line) s → ⊥
 no_header line never (header key text) h = let same : line ≡ h.line = tail_same 36 36 line h.line h.whole in never key text (rw same h.split) h.some
 no_header line never s p = let row : 2 ≡ row_of s = begins_so (36 ∷ line) s p in absurd (omega (arith, row))
@@ -162,11 +158,6 @@ no_even text never s p = let row : 3 ≡ row_of s = begins_so (80 ∷ 73 ∷ tex
 pub no_pieces : (color : Color) (text : List ℕ) → ((pairs : List Pair) → text ≡ pairs_text pairs → ⊥) → (s : Saying) → Spells (80 ∷ sign color ∷ text) s → ⊥
 no_pieces color text never (pieces other pairs) h = let same : text ≡ pairs_text pairs = cc in never pairs same
 no_pieces color text never s p = let row : 5 ≡ row_of s = sym (pieces_begin color text) ∙ begins_so (80 ∷ sign color ∷ text) s p in absurd (omega (arith, row))
-
-pub no_signed : (color : Color) (first : ℕ) (text : List ℕ) → ((m : Move) → first ∷ text ≡ squares_text m → ⊥) → (s : Saying) → Spells (sign color ∷ first ∷ text) s → ⊥
-no_signed color first text never (walked other m) h = let same : first ∷ text ≡ squares_text m = cc in never m same
-no_signed Black first text never s p = let row : 7 ≡ row_of s = begins_so (43 ∷ first ∷ text) s p in absurd (omega (arith, row))
-no_signed White first text never s p = let row : 7 ≡ row_of s = begins_so (45 ∷ first ∷ text) s p in absurd (omega (arith, row))
 
 behind_two : (a b c : ℕ) (x y : List ℕ) → (a ∷ b ∷ x ≡ a ∷ c ∷ y) ⊎ (a ∷ b ∷ (x ++ 32 ∷ []) ≡ a ∷ c ∷ y) → (x ≡ y) ⊎ (x ++ 32 ∷ [] ≡ y)
 behind_two a b c x y (inl e) = inl cc
