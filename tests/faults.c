@@ -1,8 +1,8 @@
 /* Loaded in front of the C library: reads of standard input and writes of standard output take at most PIECE bytes each;
    the read that FAILED_READ numbers, counted from 1, and the write that FAILED_WRITE numbers fail; with INTERRUPTED each
-   read is interrupted once before it is made, and with EMPTY_WRITES a write takes no byte. With FAILED_SYNC no file reaches
-   its device, and the write to a socket that FAILED_SEND numbers fails. With PLAYING all this is of `play` alone, and the
-   reads are those of pipes and sockets. */
+   read and each write is interrupted once before it is made, one to a socket too, and with EMPTY_WRITES a write takes no
+   byte. With FAILED_SYNC no file reaches its device, and the write to a socket that FAILED_SEND numbers fails. With COMMAND
+   all this is of that command alone, and the reads are those of pipes and sockets. */
 typedef unsigned long size;
 typedef long ssize;
 
@@ -12,8 +12,9 @@ extern int *__errno_location(void);
 
 enum { READ = 0, WRITE = 1, SEND = 44, RECEIVE = 45, SYNC = 74, INTERRUPT = 4, BROKEN = 5 };
 
-static unsigned long reads, writes, sends, piece, failed_read, failed_write, interrupted, empty_writes, playing, failed_sync, failed_send,
-    again;
+static unsigned long reads, writes, sends, piece, failed_read, failed_write, interrupted, empty_writes, failed_sync, failed_send, read_again,
+    write_again, send_again;
+static const char *command;
 
 static unsigned long number(const char *name) {
     const char *digit = getenv(name);
@@ -23,13 +24,15 @@ static unsigned long number(const char *name) {
     return found;
 }
 
-static int is_play(const char *word) {
-    return word[0] == 'p' && word[1] == 'l' && word[2] == 'a' && word[3] == 'y' && !word[4];
+static int is_same(const char *word, const char *other) {
+    while (*word && *word == *other)
+        word++, other++;
+    return *word == *other;
 }
 
 __attribute__((constructor)) static void read_numbers(int count, char **words) {
-    playing = number("PLAYING");
-    if (playing && !(count > 1 && is_play(words[1])))
+    command = getenv("COMMAND");
+    if (command && !(count > 1 && is_same(words[1], command)))
         return;
     piece = number("PIECE");
     failed_read = number("FAILED_READ");
@@ -49,12 +52,17 @@ static size within(size bytes) {
     return piece && piece < bytes ? piece : bytes;
 }
 
+/* Whether a call is interrupted, which is made again then. */
+static int is_interrupted(unsigned long *again) {
+    *again = !*again;
+    return interrupted && *again;
+}
+
 /* Why a read is not made, or 0. */
 static int why_not(int file) {
-    if (playing ? file < 3 : file != 0)
+    if (command ? file < 3 : file != 0)
         return 0;
-    again = !again;
-    if (interrupted && again)
+    if (is_interrupted(&read_again))
         return INTERRUPT;
     return ++reads == failed_read ? BROKEN : 0;
 }
@@ -70,14 +78,18 @@ ssize recv(int file, void *buffer, size bytes, int flags) {
 }
 
 ssize write(int file, const void *buffer, size bytes) {
-    if (playing || file != 1)
+    if (command || file != 1)
         return syscall(WRITE, file, buffer, bytes);
+    if (is_interrupted(&write_again))
+        return fails(INTERRUPT);
     if (++writes == failed_write)
         return fails(BROKEN);
     return empty_writes ? 0 : syscall(WRITE, file, buffer, within(bytes));
 }
 
 ssize send(int file, const void *buffer, size bytes, int flags) {
+    if (is_interrupted(&send_again))
+        return fails(INTERRUPT);
     return ++sends == failed_send ? fails(BROKEN) : syscall(SEND, file, buffer, bytes, flags, 0, 0);
 }
 

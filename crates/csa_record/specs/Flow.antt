@@ -1,5 +1,5 @@
 -- A record that comes from a source, and its canonical text that goes to a sink.
-use Rattle.std.specs.Prelude.{◌≡◌, ◌≢◌, ◌⊎◌, ℕ, ◌+◌, ◌*◌, ◌<◌, ◌≤◌, ◌==◌, ◌&&◌, Bool, true, false, nat_lt, if◌then◌else◌, List, [], ◌++◌, length, take, Option, Result, Ok, Err, MatchResult}
+use Rattle.std.specs.Prelude.{◌≡◌, ◌≢◌, ◌⊎◌, ℕ, ◌+◌, ◌*◌, ◌<◌, ◌≤◌, ◌==◌, ◌&&◌, ◌||◌, Bool, true, false, nat_lt, if◌then◌else◌, List, [], ◌++◌, length, take, Option, Result, Ok, Err, MatchResult}
 use Rattle.std.specs.Io.KnownBytes.{Keeps, Appends, Consumes, IsAtEnd}
 use Rattle.record_game.specs.declared.fault.Refusal.{Refusal}
 use Rattle.record_game.specs.declared.fault.Why.{Why}
@@ -15,6 +15,13 @@ use Rattle.record_game.specs.Tells.{Tells}
 -- it failed once more at an error, and else not
 abbrev pub CountsErrors : {T E : Type 0} → ℕ → ℕ → Result T E → Type 0
 CountsErrors old new r = MatchResult r (λ _. new ≡ old) (λ _. new ≡ old + 1)
+
+-- a read that gives nothing where there is room tells that the end has come
+abbrev pub after_read : Bool → ℕ → List ℕ → Bool
+after_read old taken buffer = old || (taken == 0 && nat_lt 0 (length buffer))
+
+abbrev pub MarksEnd : {E : Type 0} → Bool → Bool → Result ℕ E → List ℕ → Type 0
+MarksEnd old new r buffer = MatchResult r (λ taken. new ≡ after_read old taken buffer) (λ _. new ≡ old)
 
 -- a write that takes none of some bytes is a failure too
 abbrev pub after_write : ℕ → ℕ → List ℕ → ℕ

@@ -1,4 +1,4 @@
-ghost use Rattle.std.specs.Prelude.{◌≡◌, ◌≢◌, true, ℕ, ◌+◌, ◌-◌, ◌^◌, ◌<◌, ◌≤◌, List, [], IfOk, IfErr, OnOk, OnErr, IsErrOf};
+ghost use Rattle.std.specs.Prelude.{◌≡◌, ◌≢◌, true, ℕ, ◌+◌, ◌-◌, ◌^◌, ◌<◌, ◌≤◌, List, [], IfOk, IfErr, OnOk, OnErr, IsErrOf, IsTrue, MatchResult};
 ghost use Rattle.std.specs.Io.KnownBytes.{Keeps};
 ghost use Rattle.csa_record.specs.declared.flow.FlowFault.{FlowFault};
 ghost use Rattle.csa_record.specs.Flow.{fault_of, IsTold, IsRefusal, IsFaultless, FailsRead, IsReadFault, ReadsRecord, FeedsNext, IsFedAll, IsTextFault, TellsText, IsNormal, IsCutShort, IsFlowFault, IsWanting};
@@ -60,6 +60,8 @@ pub fn read_from<S: Source>(alloc: Global, source: &mut S) -> Result<Record, Flo
     ensures refused { (r : Refusal) → IsErrOf result (FlowFault.Refused r) → IsRefusal (S.known source.old) (S.known source.new) r }
     ensures read_fault { IsErrOf result FlowFault.ReadFault
         → FailsRead (S.known source.old) (S.known source.new) (S.failed source.old) (S.failed source.new) }
+    // It is no fault of reading where a read told the end.
+    ensures unended { IsErrOf result FlowFault.ReadFault → S.ended source.new ≡ S.ended source.old }
     ensures quiet { (IsErrOf result FlowFault.ReadFault → ⊥) → S.failed source.new ≡ S.failed source.old }
     ensures memory { IsErrOf result FlowFault.OutOfMemory → IsFaultless (S.known source.old) (S.known source.new) }
     ensures no_write { IsErrOf result FlowFault.WriteFault → ⊥ }
@@ -84,6 +86,8 @@ pub fn normalise<S: Source, T: Sink>(
     ensures refused { (r : Refusal) → IsErrOf result (FlowFault.Refused r) → IsRefusal (S.known source.old) (S.known source.new) r }
     ensures read_fault { IsErrOf result FlowFault.ReadFault
         → FailsRead (S.known source.old) (S.known source.new) (S.failed source.old) (S.failed source.new) }
+    // It is no fault of reading where a read told the end.
+    ensures unended { IsErrOf result FlowFault.ReadFault → S.ended source.new ≡ S.ended source.old }
     ensures quiet { (IsErrOf result FlowFault.ReadFault → ⊥) → S.failed source.new ≡ S.failed source.old }
     // The sink has sent on all that it took.
     ensures settled { OnOk result (T.settled sink.new ≡ true) }
@@ -107,6 +111,7 @@ fn pass<S: Source, T: Sink>(alloc: Global, source: &mut S, sink: &mut T) -> Resu
     ensures settled { OnOk result (T.settled sink.new ≡ true) }
     ensures fault { IfErr result (IsFlowFault (S.known source.old) (S.known source.new) (T.held sink.old) (T.held sink.new)
         (S.failed source.old) (S.failed source.new) (T.failed sink.old) (T.failed sink.new)) }
+    ensures unended { IsErrOf result FlowFault.ReadFault → S.ended source.new ≡ S.ended source.old }
 {
     let text = read_text(alloc, source)?;
     match send(sink, text.as_slice()) {
@@ -120,6 +125,7 @@ fn read_text<S: Source>(alloc: Global, source: &mut S) -> Result<Vec<u8>, FlowFa
     requires { S.failed source.old < 2 ^ 64 - 1 }
     ensures text { IfOk result (λ text. TellsText (S.known source.old) (S.known source.new) (S.failed source.old) (S.failed source.new) text.items) }
     ensures fault { IfErr result (IsTextFault (S.known source.old) (S.known source.new) (S.failed source.old) (S.failed source.new)) }
+    ensures unended { IsErrOf result FlowFault.ReadFault → S.ended source.new ≡ S.ended source.old }
 {
     let record = read_record(alloc, source)?;
     match write(alloc, &record) {
@@ -130,7 +136,8 @@ fn read_text<S: Source>(alloc: Global, source: &mut S) -> Result<Vec<u8>, FlowFa
 
 fn read_record<S: Source>(alloc: Global, source: &mut S) -> Result<Record, FlowFault>
     requires { S.failed source.old < 2 ^ 64 - 1 }
-    ensures { ReadsRecord (S.known source.old) (S.known source.new) (S.failed source.old) (S.failed source.new) result }
+    ensures read { ReadsRecord (S.known source.old) (S.known source.new) (S.failed source.old) (S.failed source.new) result }
+    ensures unended { IsErrOf result FlowFault.ReadFault → S.ended source.new ≡ S.ended source.old }
 {
     let mut reader = RecordReader::new(alloc);
     feed_all(source, &mut reader)?;
@@ -146,6 +153,7 @@ fn feed_all<S: Source>(source: &mut S, reader: &mut RecordReader) -> Result<(), 
     requires fresh { HasRead [] reader.old }
     ensures fed { OnOk result (IsFedAll (S.known source.old) (S.known source.new) (S.failed source.old) (S.failed source.new) reader.new) }
     ensures fault { IfErr result (IsReadFault (S.known source.old) (S.known source.new) (S.failed source.old) (S.failed source.new)) }
+    ensures unended { IfErr result (λ _. S.ended source.new ≡ S.ended source.old) }
 {
     let mut buffer = [0u8; PIECE];
     let mut reads = 0;
@@ -167,8 +175,9 @@ fn feed_next<S: Source>(
 ) -> Result<bool, FlowFault>
     requires failed { S.failed source.old < 2 ^ 64 - 1 }
     requires room { fed_of reader.old + 4096 ≤ 2 ^ 63 }
-    ensures { (bytes : List ℕ) → HasRead bytes reader.old
+    ensures fed { (bytes : List ℕ) → HasRead bytes reader.old
         → FeedsNext bytes (S.known source.old) (S.known source.new) (S.failed source.old) (S.failed source.new) result reader.new }
+    ensures unended { MatchResult result (λ more. IsTrue more → S.ended source.new ≡ S.ended source.old) (λ _. S.ended source.new ≡ S.ended source.old) }
 {
     let taken = match source.read(buffer) {
         Ok(taken) => taken,

@@ -83,6 +83,7 @@ impl Record {
         requires one_line { IsOneLine text.now }
         requires fits { 2 + length text.now ≤ longest_statement }
         ensures answer { IsAnswer (name_fault (titled_of self.old) color text.now) result }
+        ensures empty { text.now ≡ [] → IsOk result }
         ensures changed { OnOk result (self.new ≡ with_titled self.old (with_name (titled_of self.old) color text.now)) }
         ensures unchanged { OnErr result (self.new ≡ self.old) }
     {
@@ -115,6 +116,7 @@ impl Record {
         requires no_colon { HasNone 58 key.now }
         requires fits { 2 + length key.now + length text.now ≤ longest_statement }
         ensures answer { IsAnswer (header_fault (titled_of self.old) key.now text.now) result }
+        ensures empty { text.now ≡ [] → IsOk result }
         ensures changed { OnOk result (IsWithHeader (titled_of self.old) key.now text.now (titled_of self.new)) }
         ensures rest { self.new ≡ with_titled self.old (titled_of self.new) }
         ensures unchanged { OnErr result (self.new ≡ self.old) }

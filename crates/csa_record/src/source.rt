@@ -1,6 +1,6 @@
-ghost use Rattle.std.specs.Prelude.{◌≡◌, ℕ, ◌-◌, ◌^◌, ◌<◌, ◌≤◌, List, length, Option, IfOk};
+ghost use Rattle.std.specs.Prelude.{◌≡◌, Bool, false, ℕ, ◌-◌, ◌^◌, ◌<◌, ◌≤◌, List, length, Option, IfOk};
 ghost use Rattle.std.specs.Io.KnownBytes.{ReadConsumes};
-ghost use Rattle.csa_record.specs.Flow.{CountsErrors};
+ghost use Rattle.csa_record.specs.Flow.{CountsErrors, MarksEnd};
 
 use std::io::{ErrorKind, Read};
 use thiserror::Error;
@@ -18,6 +18,9 @@ pub trait Source {
     // How often it has failed.
     ghost failed: { Self → ℕ };
 
+    // Whether a read has told that its end has come.
+    ghost ended: { Self → Bool };
+
     /// Puts its next bytes at the front of the buffer and answers how many. These may be fewer than
     /// have room; it answers 0 for a buffer that is not empty only at its end.
     ///
@@ -27,7 +30,8 @@ pub trait Source {
         requires { failed self.old < 2 ^ 64 - 1 }
         ensures within { IfOk result (λ taken. taken ≤ length buffer.new) }
         ensures bytes { ReadConsumes (known self.old) (known self.new) result buffer.new }
-        ensures count { CountsErrors (failed self.old) (failed self.new) result };
+        ensures count { CountsErrors (failed self.old) (failed self.new) result }
+        ensures end { MarksEnd (ended self.old) (ended self.new) result buffer.new };
 
     /// How often it has failed.
     fn failures(&self) -> u64
@@ -39,15 +43,21 @@ pub trait Source {
 pub struct Reading<R> {
     inner: R,
     failures: u64,
+    ended: bool,
 }
 
 impl<R> Reading<R> {
-    /// A source of what that reader gives. It has not failed.
+    /// A source of what that reader gives. It has not failed, and its end has not come.
     pub fn new(inner: R) -> Reading<R>
         ensures inner { result.inner ≡ inner }
         ensures failures { result.failures ≡ 0 }
+        ensures ended { result.ended ≡ false }
     {
-        Reading { inner, failures: 0 }
+        Reading {
+            inner,
+            failures: 0,
+            ended: false,
+        }
     }
 }
 
@@ -56,9 +66,14 @@ impl<R: Read> Source for Reading<R> {
 
     ghost failed = { λ s. s.failures };
 
+    ghost ended = { λ s. s.ended };
+
     fn read(&mut self, buffer: &mut [u8]) -> Result<usize, Failure> {
         match read_uninterrupted(&mut self.inner, buffer) {
-            Ok(taken) => Ok(taken),
+            Ok(taken) => {
+                self.ended = self.ended || (taken == 0 && !buffer.is_empty());
+                Ok(taken)
+            }
             Err(Failure) => {
                 self.failures += 1;
                 Err(Failure)

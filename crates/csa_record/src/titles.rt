@@ -1,4 +1,4 @@
-ghost use Rattle.std.specs.Prelude.{◌≡◌, ◌≢◌, ◌⊎◌, ◌↔◌, ℕ, ◌+◌, ◌<◌, ◌≤◌, ◌∷◌, ◌++◌, is_some, List, [], true, IsTrue, None, Some, length, map, IfSome, IfNone, IfOk, IfErr, OnOk, OnErr, MatchOption};
+ghost use Rattle.std.specs.Prelude.{◌≡◌, ◌≢◌, ◌⊎◌, ◌↔◌, ℕ, ◌+◌, ◌<◌, ◌≤◌, ◌∷◌, ◌++◌, is_some, List, [], true, IsTrue, None, Some, length, map, IfSome, IfNone, IsOk, IfOk, IfErr, OnOk, OnErr, MatchOption};
 ghost use Rattle.std.specs.List.{flat_map};
 ghost use Rattle.shogi_board.specs.declared.color.Color.TheVariants.{Black, White};
 ghost use Rattle.csa_text.specs.Fields.{HasNone};
@@ -80,6 +80,7 @@ impl Titles {
         requires one_line { IsOneLine text.now }
         requires fits { 2 + length text.now ≤ longest_statement }
         ensures answer { IsAnswer (name_fault self.old color text.now) result }
+        ensures empty { text.now ≡ [] → IsOk result }
         ensures changed { OnOk result (self.new ≡ with_name self.old color text.now) }
         ensures unchanged { OnErr result (self.new ≡ self.old) }
     {
@@ -118,6 +119,7 @@ impl Titles {
         requires no_colon { HasNone 58 key.now }
         requires fits { 2 + length key.now + length text.now ≤ longest_statement }
         ensures answer { IsAnswer (header_fault self.old key.now text.now) result }
+        ensures empty { text.now ≡ [] → IsOk result }
         ensures changed { OnOk result (IsWithHeader self.old key.now text.now self.new) }
         ensures unchanged { OnErr result (self.new ≡ self.old) }
     {

@@ -1,7 +1,10 @@
 use csa_record::{Reading, Sink, Source, Writing, normalise, read_from};
+use std::io::BufWriter;
 use std::test::Fail;
 
 const GIVEN: &[u8] = b"V2.2\nPI\n+\n+7776FU,T12\n-3334FU,T6\n%TORYO\n";
+
+const TEXT: &[u8] = b"V2.2\nPI\n+\n+7776FU\nT12\n-3334FU\nT6\n%TORYO\n";
 
 // Reads and writes that fail, are short, or are interrupted: tests/faults.
 #[test]
@@ -11,5 +14,19 @@ fn normalises_a_reader(rt: HostRuntime) -> Result<(), Fail> {
     assert!(rt; normalise(rt.alloc(), &mut source, &mut sink) == Ok(()));
     assert!(rt; source.failures() == 0 && sink.failures() == 0);
     assert!(rt; read_from(rt.alloc(), &mut Reading::new(GIVEN)).is_ok());
+    Ok(())
+}
+
+// The writer has room for the whole text, so it sends nothing on before it is flushed.
+#[test]
+fn flushes_the_writer(rt: HostRuntime) -> Result<(), Fail> {
+    let mut writer = BufWriter::new(rt.alloc(), Vec::new(rt.alloc()))?;
+    let written = normalise(
+        rt.alloc(),
+        &mut Reading::new(GIVEN),
+        &mut Writing::new(&mut writer),
+    );
+    assert!(rt; written == Ok(()));
+    assert!(rt; writer.get_ref().as_slice() == TEXT);
     Ok(())
 }

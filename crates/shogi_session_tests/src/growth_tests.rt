@@ -64,15 +64,14 @@ fn read_row(row: &[u8]) -> Result<Event<'_>, Fail>
     }
 }
 
-// Hands the bridge the event of a row.
-fn hand(bridge: &mut Bridge, row: &[u8]) -> Result<Out, Fail> {
-    Ok(bridge.step(read_row(row)?)?)
-}
-
 // A new host takes no memory.
 #[test]
 fn refused_growth_of_a_host(rt: HostRuntime) -> Result<(), Fail> {
     let mut host = host(rt.alloc(), Color::White, 4)?;
+    play_as_host(&rt, &mut host)
+}
+
+fn play_as_host<R: Abort + Print>(rt: &R, host: &mut Host) -> Result<(), Fail> {
     let table = [
         ("LOGIN", "LOGIN:incorrect\n"),
         (
@@ -90,15 +89,14 @@ fn refused_growth_of_a_host(rt: HostRuntime) -> Result<(), Fail> {
             Ok(out) => assert!(rt; out.to_client.bytes() == text.as_bytes(), "{line}"),
             Err(OutOfMemory) => {
                 println!(rt; "refused")?;
-                return is_silent(&rt, host);
+                return is_silent(rt, host);
             }
         }
     }
     Ok(())
 }
 
-fn is_silent<R: Abort>(rt: &R, host: Host) -> Result<(), Fail> {
-    let mut host = host;
+fn is_silent<R: Abort>(rt: &R, host: &mut Host) -> Result<(), Fail> {
     for line in ["LOGIN bridge pw", "AGREE", "-1112KY", "LOGOUT"] {
         let out = host.step(line.as_bytes(), 3)?;
         assert!(rt; out.to_client.bytes().is_empty() && out.ended, "{line}");
@@ -110,6 +108,10 @@ fn is_silent<R: Abort>(rt: &R, host: Host) -> Result<(), Fail> {
 #[test]
 fn refused_growth_of_the_sample_engine(rt: HostRuntime) -> Result<(), Fail> {
     let mut engine = Sample::new(rt.alloc());
+    answer_as_engine(&rt, &mut engine)
+}
+
+fn answer_as_engine<R: Abort + Print>(rt: &R, engine: &mut Sample) -> Result<(), Fail> {
     let table = [
         ("usi", "id name shogi\nid author shogi\nusiok\n"),
         ("isready", "readyok\n"),
@@ -132,32 +134,59 @@ fn refused_growth_of_the_sample_engine(rt: HostRuntime) -> Result<(), Fail> {
     Ok(())
 }
 
-// Hands a new bridge the rows, with a bar between two. At the first whose growth is refused the session is lost, and None is
-// answered.
-fn hand_each<R: Abort + Print + AllocGlobal>(
+// Hands the bridge the event of a row: whether its growth was granted. Where it was not, both states are as they were.
+fn hand_or_lose<R: Abort + Print>(rt: &R, bridge: &mut Bridge, row: &str) -> Result<bool, Fail> {
+    let states = (bridge.engine_state(), bridge.client_state());
+    match bridge.step(read_row(row.as_bytes())?) {
+        Ok(out) => {
+            assert!(rt; out.status == Status::Going, "{row}");
+            Ok(true)
+        }
+        Err(OutOfMemory) => {
+            println!(rt; "refused")?;
+            assert!(rt;
+                states == (bridge.engine_state(), bridge.client_state()),
+                "{row}"
+            );
+            Ok(false)
+        }
+    }
+}
+
+// Hands the bridge the rows, with a bar between two, up to the first whose growth is refused: how many stand before it, if
+// there is one.
+fn first_refused<R: Abort + Print>(
     rt: &R,
-    rows: &[&str],
-) -> Result<Option<Bridge>, Fail> {
-    let mut bridge = bridge(rt.alloc())?;
+    bridge: &mut Bridge,
+    rows: &str,
+) -> Result<Option<usize>, Fail> {
     let mut count = 0usize;
-    for row in rows.iter().flat_map(|part| part.split('|')) {
-        let states = (bridge.engine_state(), bridge.client_state());
-        match bridge.step(read_row(row.as_bytes())?) {
-            Ok(out) => assert!(rt; out.status == Status::Going, "{row}"),
-            Err(OutOfMemory) => {
-                println!(rt; "refused")?;
-                assert!(rt;
-                    states == (bridge.engine_state(), bridge.client_state()),
-                    "{row}"
-                );
-                is_lost(rt, &mut bridge)?;
-                has_game(rt, &bridge, rows, count)?;
-                return Ok(None);
-            }
+    for row in rows.split('|') {
+        if !hand_or_lose(rt, bridge, row)? {
+            return Ok(Some(count));
         }
         count = count.saturating_add(1);
     }
-    Ok(Some(bridge))
+    Ok(None)
+}
+
+// Hands a new bridge the rows.
+fn hand_each<R: Abort + Print + AllocGlobal>(rt: &R, rows: &str) -> Result<(), Fail> {
+    let mut bridge = bridge(rt.alloc())?;
+    hand_or_stop(rt, &mut bridge, rows)
+}
+
+// Hands the bridge the rows. At the first whose growth is refused the session is lost, with a whole game.
+fn hand_or_stop<R: Abort + Print + AllocGlobal>(
+    rt: &R,
+    bridge: &mut Bridge,
+    rows: &str,
+) -> Result<(), Fail> {
+    let Some(count) = first_refused(rt, bridge, rows)? else {
+        return Ok(());
+    };
+    is_lost(rt, bridge)?;
+    has_game(rt, bridge, rows, count)
 }
 
 // No event gives a line.
@@ -181,7 +210,7 @@ fn is_lost<R: Abort>(rt: &R, bridge: &mut Bridge) -> Result<(), Fail> {
 fn has_game<R: Abort + AllocGlobal>(
     rt: &R,
     bridge: &Bridge,
-    rows: &[&str],
+    rows: &str,
     count: usize,
 ) -> Result<(), Fail> {
     let text = bridge.game_text()?;
@@ -192,10 +221,14 @@ fn has_game<R: Abort + AllocGlobal>(
 }
 
 // The game text of a bridge that was handed so many of the rows.
-fn text_behind(alloc: Global, rows: &[&str], count: usize) -> Result<Option<Vec<u8>>, Fail> {
+fn text_behind(alloc: Global, rows: &str, count: usize) -> Result<Option<Vec<u8>>, Fail> {
     let mut bridge = bridge(alloc)?;
-    for row in rows.iter().flat_map(|part| part.split('|')).take(count) {
-        hand(&mut bridge, row.as_bytes())?;
+    text_of(&mut bridge, rows, count)
+}
+
+fn text_of(bridge: &mut Bridge, rows: &str, count: usize) -> Result<Option<Vec<u8>>, Fail> {
+    for row in rows.split('|').take(count) {
+        bridge.step(read_row(row.as_bytes())?)?;
     }
     Ok(bridge.game_text()?)
 }
@@ -206,51 +239,45 @@ fn is_silent_and_lost(out: &Out) -> bool {
         && out.status == Status::Lost
 }
 
-const LOGIN: &str = "begin|Eusiok|Ereadyok|SLOGIN:x OK";
-
-const SUMMARY: &str =
-    "SBEGIN Game_Summary|SYour_Turn:+|SBEGIN Position|S+|SEND Position|SEND Game_Summary";
-
 #[test]
 fn refused_growth_of_names(rt: HostRuntime) -> Result<(), Fail> {
     hand_each(
         &rt,
-        &[
-            LOGIN,
-            "SBEGIN Game_Summary|SName+:bridge|SName-:host|SBEGIN Time|SEND Time",
-        ],
-    )?;
-    Ok(())
+        "begin|Eusiok|Ereadyok|SLOGIN:x OK|SBEGIN Game_Summary|\
+         SName+:bridge|SName-:host|SBEGIN Time|SEND Time",
+    )
 }
 
 #[test]
 fn refused_growth_of_moves(rt: HostRuntime) -> Result<(), Fail> {
     hand_each(
         &rt,
-        &[
-            LOGIN,
-            SUMMARY,
-            "SSTART:g",
-            "Ebestmove 7g7f|S+7776FU,T12|S-3334FU,T6",
-        ],
-    )?;
-    Ok(())
+        "begin|Eusiok|Ereadyok|SLOGIN:x OK|SBEGIN Game_Summary|SYour_Turn:+|SBEGIN Position|S+|\
+         SEND Position|SEND Game_Summary|SSTART:g|Ebestmove 7g7f|S+7776FU,T12|S-3334FU,T6",
+    )
 }
 
 #[test]
 fn refused_growth_of_a_result(rt: HostRuntime) -> Result<(), Fail> {
     hand_each(
         &rt,
-        &[LOGIN, SUMMARY, "SSTART:g", "S%TORYO|S#RESIGN|S#LOSE"],
-    )?;
-    Ok(())
+        "begin|Eusiok|Ereadyok|SLOGIN:x OK|SBEGIN Game_Summary|SYour_Turn:+|SBEGIN Position|S+|\
+         SEND Position|SEND Game_Summary|SSTART:g|S%TORYO|S#RESIGN|S#LOSE",
+    )
 }
 
 #[test]
 fn refused_growth_of_a_game_text(rt: HostRuntime) -> Result<(), Fail> {
-    let Some(bridge) = hand_each(&rt, &[LOGIN, SUMMARY])? else {
+    let rows = "begin|Eusiok|Ereadyok|SLOGIN:x OK|SBEGIN Game_Summary|SYour_Turn:+|\
+                SBEGIN Position|S+|SEND Position|SEND Game_Summary";
+    let mut bridge = bridge(rt.alloc())?;
+    tell_text(&rt, &mut bridge, rows)
+}
+
+fn tell_text<R: Abort + Print>(rt: &R, bridge: &mut Bridge, rows: &str) -> Result<(), Fail> {
+    if first_refused(rt, bridge, rows)?.is_some() {
         return Ok(());
-    };
+    }
     let text = match bridge.game_text() {
         Ok(text) => text,
         Err(OutOfMemory) => {

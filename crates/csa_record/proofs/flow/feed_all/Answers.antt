@@ -1,16 +1,17 @@
-use Rattle.std.proofs.Common.{arith}
+use Rattle.std.proofs.Common.{arith, ◌∙◌}
 use Rattle.csa_record.proofs.Flowing.{fed_last, fed_next}
 use Rattle.csa_record.proofs.flow.feed_all.Goals as goal
 
 pub returns-then-not-more-clause-fed : goal.returns-then-not-more-clause-fed
 returns-then-not-more-clause-fed g c =
-    let step = rw c.if-not-more.true at c.in_ok-more.ensures in
+    let step = rw c.if-not-more.true at c.in_ok-more.ensures.fed in
     fed_last (g.S.Source.known c.args.source.now) (g.S.Source.known c.loop-reads.source) (g.S.Source.known c.feed_next.new.source) (g.S.Source.failed c.args.source.now) (g.S.Source.failed c.loop-reads.source) (g.S.Source.failed c.feed_next.new.source) c.loop-reads.reads c.loop-reads.reader c.feed_next.new.reader c.loop-reads.invariant.within c.loop-reads.invariant.fed step
 
 pub loop-reads-preserved : goal.loop-reads-preserved
 loop-reads-preserved g c =
-    let step = rw c.if-not-more.false at c.in_ok-more.ensures in
+    let step = rw c.if-not-more.false at c.in_ok-more.ensures.fed in
     record {
       within = omega (arith, c.loop-reads-test.true);
       fed = fed_next (g.S.Source.known c.args.source.now) (g.S.Source.known c.loop-reads.source) (g.S.Source.known c.feed_next.new.source) (g.S.Source.failed c.args.source.now) (g.S.Source.failed c.loop-reads.source) (g.S.Source.failed c.feed_next.new.source) c.loop-reads.reads c.loop-reads.reader c.feed_next.new.reader c.loop-reads.invariant.fed step;
+      unended = c.in_ok-more.ensures.unended c.if-not-more.false ∙ c.loop-reads.invariant.unended;
     }

@@ -3,14 +3,14 @@ use Rattle.std.proofs.lemmas.List.{length-take-le}
 use Rattle.csa_record.proofs.Flowing.{no_piece, piece_refused}
 use Rattle.csa_record.proofs.flow.feed_next.Goals as goal
 
-pub returns-then-taken-eq0 : goal.returns-then-taken-eq0
-returns-then-taken-eq0 g c = λ bytes h.
+pub returns-then-taken-eq0-clause-fed : goal.returns-then-taken-eq0-clause-fed
+returns-then-taken-eq0-clause-fed g c = λ bytes h.
     let read = c.in-Ok.ensures in
     let room : 0 < length c.read.new.buffer = omega (arith, c.read.auto.buffer) in
     no_piece bytes c.read.new.buffer c.in-Ok.taken _ _ _ _ c.args.reader.now c.if-taken-eq0.true read.bytes.0 read.bytes.1 room read.count h
 
-pub returns-in-Err-feed : goal.returns-in-Err-feed
-returns-in-Err-feed g c = λ bytes h.
+pub returns-in-Err-feed-clause-fed : goal.returns-in-Err-feed-clause-fed
+returns-in-Err-feed-clause-fed g c = λ bytes h.
     let read = c.in-Ok.ensures in
     let fed = c.in-Err-feed.ensures in
     let short : length (take c.in-Ok.taken c.read.new.buffer) ≤ 4096 = omega (arith, length-take-le c.in-Ok.taken c.read.new.buffer read.within, read.within, c.read.auto.buffer) in
