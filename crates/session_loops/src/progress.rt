@@ -51,7 +51,7 @@ impl Progress {
     pub fn show<R: Eprint + AllocGlobal>(&mut self, rt: &R, bridge: &Bridge, line: &[u8])
         ensures on { self.new.is_on ≡ self.old.is_on }
         ensures counted { (n : ℕ) → IsSigned line.now → self.old.moves ≡ Some n → n + 1 < 2 ^ 64 → self.new.moves ≡ Some (n + 1) }
-        ensures first { IsSigned line.now → self.old.moves ≡ None → IfSome self.new.moves (λ n. (n ≡ 0) ⊎ HasMoves bridge.now.state.client n) }
+        ensures first { IsSigned line.now → self.old.moves ≡ None → (n : ℕ) × (self.new.moves ≡ Some n) × ((n ≡ 0) ⊎ HasMoves bridge.now.state.client n) }
         ensures other { (IsSigned line.now → ⊥) → self.new ≡ self.old }
     {
         if !is_signed(line) {

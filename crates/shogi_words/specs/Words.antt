@@ -1,6 +1,7 @@
 -- The words of the commands.
-use Rattle.std.specs.Prelude.{◌≢◌, ℕ, List, [], ◌∷◌, Option, Some, codes}
-use Rattle.clap.specs.Words.{App, new_app, new_rule, with_rule}
+use Rattle.std.specs.Prelude.{◌≡◌, ◌≢◌, ℕ, List, [], ◌∷◌, Option, Some, codes}
+use Rattle.std.specs.Str.Parse.{digits_value, without_leading_plus}
+use Rattle.clap.specs.Words.{App, IsUnsignedIn, new_app, new_rule, with_rule}
 use Rattle.shogi_words.specs.declared.request.Request.{Request}
 use Rattle.shogi_words.specs.declared.request.Request.TheVariants.{Check, Normal, Usi, Csa, Engine, Serve, Play}
 
@@ -25,3 +26,7 @@ word_of (Play game) = codes "play"
 -- a command of that name whose one word is FILE, which may be absent
 abbrev pub takes_file : List ℕ → App
 takes_file name = with_rule (new_app name) (new_rule (codes "FILE"))
+
+-- n is the number that an option's word spells in decimal, where it spells one in these bounds; a plus may stand first
+abbrev pub IsGiven : Option (List ℕ) → ℕ → ℕ → ℕ → Type 0
+IsGiven word low high n = (text : List ℕ) → word ≡ Some text → IsUnsignedIn low high text → n ≡ digits_value 10 (without_leading_plus text)

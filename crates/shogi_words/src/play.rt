@@ -2,6 +2,7 @@
 
 ghost use Rattle.std.specs.Prelude.{◌≡◌, ℕ, List, IfOk, None, Some, codes, false, option_map, true};
 ghost use Rattle.clap.specs.Words.{app_of, first_value, found_of, one_text};
+ghost use Rattle.shogi_words.specs.Words.{IsGiven};
 
 use crate::{serve, words};
 use clap::{Arg, ArgAction, ArgMatches, Command, value_parser};
@@ -86,6 +87,7 @@ pub fn match_of<'a>(matches: &ArgMatches<'a>) -> Match<'a>
     ensures engine { (text : List ℕ) → first_value (found_of matches.now) (codes "engine") ≡ Some text → result.engine.now ≡ text }
     ensures word { option_map (λ s. s.now) result.engine_word ≡ first_value (found_of matches.now) (codes "engine-arg") }
     ensures out { (text : List ℕ) → first_value (found_of matches.now) (codes "out") ≡ Some text → result.out.now ≡ text }
+    ensures given { IsGiven (one_text (found_of matches.now) (codes "max")) 1 10000 result.max_moves }
     ensures usual { one_text (found_of matches.now) (codes "max") ≡ None → result.max_moves ≡ 256 }
     ensures quiet { one_text (found_of matches.now) (codes "quiet") ≡ Some (codes "true") → result.is_quiet ≡ true }
     ensures shown { one_text (found_of matches.now) (codes "quiet") ≡ Some (codes "false") → result.is_quiet ≡ false }

@@ -2,6 +2,7 @@
 
 ghost use Rattle.std.specs.Prelude.{◌≡◌, ◌≤◌, IfOk, None, Some, codes};
 ghost use Rattle.clap.specs.Words.{app_of, found_of, one_text};
+ghost use Rattle.shogi_words.specs.Words.{IsGiven};
 
 use crate::words;
 use clap::{Arg, ArgAction, ArgMatches, Command, value_parser};
@@ -63,7 +64,10 @@ pub fn service_of(matches: &ArgMatches<'_>) -> Service
     ensures black { one_text (found_of matches.now) (codes "white") ≡ Some (codes "false") → result.client ≡ Color.Black }
     ensures white { one_text (found_of matches.now) (codes "white") ≡ Some (codes "true") → result.client ≡ Color.White }
     ensures within { (1 ≤ result.max_moves) × (result.max_moves ≤ 10000) }
+    ensures given { IsGiven (one_text (found_of matches.now) (codes "max")) 1 10000 result.max_moves }
     ensures usual { one_text (found_of matches.now) (codes "max") ≡ None → result.max_moves ≡ 256 }
+    ensures port { IsGiven (one_text (found_of matches.now) (codes "port")) 0 65535 result.port }
+    ensures free { one_text (found_of matches.now) (codes "port") ≡ None → result.port ≡ 0 }
 {
     Service {
         port: matches.get_one::<u16>("port").unwrap_or(0),
@@ -87,6 +91,7 @@ fn client(matches: &ArgMatches<'_>) -> Color
 /// How many moves the game may have; the command takes no other numbers.
 pub fn max_moves(matches: &ArgMatches<'_>) -> u32
     ensures within { (1 ≤ result) × (result ≤ 10000) }
+    ensures given { IsGiven (one_text (found_of matches.now) (codes "max")) 1 10000 result }
     ensures usual { one_text (found_of matches.now) (codes "max") ≡ None → result ≡ 256 }
 {
     match matches.get_one::<u32>("max") {
