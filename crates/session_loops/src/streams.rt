@@ -53,6 +53,7 @@ pub fn record_of<S: Source>(alloc: Global, source: &mut S) -> Result<Record, Fau
     ensures told { IfOk result (λ g. IsTold (S.known source.old) (S.known source.new) g) }
     ensures refused { (r : Refusal) → IsErrOf result (Fault.Refused r) → IsRefusal (S.known source.old) (S.known source.new) r }
     ensures read_fault { IsErrOf result Fault.Read → FailsRead (S.known source.old) (S.known source.new) (S.failed source.old) (S.failed source.new) }
+    ensures unended { IsErrOf result Fault.Read → S.ended source.new ≡ S.ended source.old }
     ensures memory { IsErrOf result Fault.OutOfMemory → IsFaultless (S.known source.old) (S.known source.new) }
     ensures faults { IfErr result IsRecordFault }
 {
