@@ -30,21 +30,31 @@ fn second() -> Result<Move, Fail> {
     walk((3, 3), (3, 4), Kind::Pawn)
 }
 
-fn titled(alloc: Global) -> Result<Record, Fail> {
-    let mut record = Record::new(alloc, Position::even())?;
+fn give_titles(record: &mut Record) -> Result<(), Fail> {
     record.set_name(Color::Black, b"a,b")?;
     record.set_header(b"SITE", b"b")?;
     record.set_header(b"EVENT", b"a")?;
+    Ok(())
+}
+
+fn titled(alloc: Global) -> Result<Record, Fail> {
+    let mut record = Record::new(alloc, Position::even())?;
+    give_titles(&mut record)?;
     Ok(record)
 }
 
-fn closed(alloc: Global) -> Result<Record, Fail> {
-    let mut record = titled(alloc)?;
+fn give_moves(record: &mut Record) -> Result<(), Fail> {
     record.play(Color::Black, first()?)?;
     record.set_time(12000)?;
     record.play(Color::White, second()?)?;
     record.set_time(6000)?;
     record.close(Ending::Toryo)?;
+    Ok(())
+}
+
+fn closed(alloc: Global) -> Result<Record, Fail> {
+    let mut record = titled(alloc)?;
+    give_moves(&mut record)?;
     Ok(record)
 }
 
@@ -88,6 +98,10 @@ fn nothing_stands_behind_the_ending(rt: HostRuntime) -> Result<(), Fail> {
 #[test]
 fn keeps_the_first_name(rt: HostRuntime) -> Result<(), Fail> {
     let mut record = titled(rt.alloc())?;
+    has_names(&rt, &mut record)
+}
+
+fn has_names(rt: &impl Abort, record: &mut Record) -> Result<(), Fail> {
     assert!(rt; record.set_name(Color::Black, b"b") == order(OrderFault::RepeatedName));
     record.set_name(Color::Black, b"")?;
     record.set_name(Color::White, b"")?;
@@ -98,6 +112,10 @@ fn keeps_the_first_name(rt: HostRuntime) -> Result<(), Fail> {
 #[test]
 fn keeps_64_headers(rt: HostRuntime) -> Result<(), Fail> {
     let mut record = titled(rt.alloc())?;
+    has_room_for_62(&rt, &mut record)
+}
+
+fn has_room_for_62(rt: &impl Abort, record: &mut Record) -> Result<(), Fail> {
     for n in 0..62u8 {
         record.set_header(&[b'a' + n % 8, b'a' + n / 8], b"x")?;
     }

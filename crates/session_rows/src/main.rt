@@ -15,15 +15,5 @@ use std::io;
 fn main(rt: HostRuntime) -> Result<()> {
     let script = io::read_to_string(rt.alloc(), rt.reader())?;
     let mut desk = Desk::new(rt.alloc(), script.as_str())?;
-    let mut is_listed = false;
-    for line in script.as_str().split('\n') {
-        if line == "end" {
-            is_listed = false;
-        } else if line.starts_with("define ") {
-            is_listed = true;
-        } else if !is_listed {
-            obey::obey(&rt, &mut desk, line)?;
-        }
-    }
-    Ok(())
+    obey::obey_all(&rt, &mut desk, script.as_str())
 }

@@ -6,8 +6,23 @@ use crate::game::play_on;
 use anyhow::Result;
 use std::io::Print;
 
-/// Does what the line says, and prints what comes of it. Of an empty line and of a comment nothing comes.
-pub fn obey<'a, R: Print>(rt: &R, desk: &mut Desk<'a>, line: &'a str) -> Result<()> {
+/// Obeys the lines of the script that stand in no list.
+pub fn obey_all<'a, R: Print>(rt: &R, desk: &mut Desk<'a>, script: &'a str) -> Result<()> {
+    let mut is_listed = false;
+    for line in script.split('\n') {
+        if line == "end" {
+            is_listed = false;
+        } else if line.starts_with("define ") {
+            is_listed = true;
+        } else if !is_listed {
+            obey(rt, desk, line)?;
+        }
+    }
+    Ok(())
+}
+
+// Does what the line says, and prints what comes of it. Of an empty line and of a comment nothing comes.
+fn obey<'a, R: Print>(rt: &R, desk: &mut Desk<'a>, line: &'a str) -> Result<()> {
     let (word, rest) = line.split_once(' ').unwrap_or((line, ""));
     match word {
         "" | "--" => Ok(()),
