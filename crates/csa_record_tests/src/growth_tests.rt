@@ -1,8 +1,9 @@
 // Run by tests/growths with each growth refused in turn: the answer is want of memory, and the call made again succeeds.
 use csa_record::{
-    FlowFault, Reading, RecordReader, Refusal, Why, Writing, normalise, read, read_from,
+    FlowFault, Reading, Record, RecordReader, Refusal, Why, Writing, normalise, read, read_from,
 };
 use std::alloc::Global;
+use std::process::Abort;
 use std::test::Fail;
 
 const GIVEN: &[u8] = b"N+a\n$EVENT:b\nPI\n+\n+7776FU,T1\n%TORYO\n";
@@ -13,30 +14,40 @@ const OPEN: &[u8] = b"+\n+7776FU";
 
 const TEXT: &[u8] = b"V2.2\nPI\n+\n+7776FU\n";
 
-#[test]
-fn refused_growth_of_read_at_once(rt: HostRuntime) -> Result<(), Fail> {
-    let record = match read(rt.alloc(), GIVEN) {
-        Ok(record) => record,
+// Read at once, and again where memory was wanting.
+fn read_at_last(rt: &(impl AllocGlobal + Print + Abort)) -> Result<Record, Fail> {
+    match read(rt.alloc(), GIVEN) {
+        Ok(record) => Ok(record),
         Err(refusal) => {
             println!(rt; "refused")?;
             assert_eq!(rt; refusal.why, Why::OutOfMemory);
-            read(rt.alloc(), GIVEN)?
+            Ok(read(rt.alloc(), GIVEN)?)
         }
-    };
+    }
+}
+
+#[test]
+fn refused_growth_of_read_at_once(rt: HostRuntime) -> Result<(), Fail> {
+    let record = read_at_last(&rt)?;
     assert_eq!(rt; record.line().moves().len(), 1);
     Ok(())
 }
 
-#[test]
-fn refused_growth_of_read_from(rt: HostRuntime) -> Result<(), Fail> {
-    let record = match read_from(rt.alloc(), &mut Reading::new(GIVEN)) {
-        Ok(record) => record,
+// Read from a source, and again from its start where memory was wanting.
+fn read_from_at_last(rt: &(impl AllocGlobal + Print + Abort)) -> Result<Record, Fail> {
+    match read_from(rt.alloc(), &mut Reading::new(GIVEN)) {
+        Ok(record) => Ok(record),
         Err(fault) => {
             println!(rt; "refused")?;
             assert_eq!(rt; fault, FlowFault::OutOfMemory);
-            read_from(rt.alloc(), &mut Reading::new(GIVEN))?
+            Ok(read_from(rt.alloc(), &mut Reading::new(GIVEN))?)
         }
-    };
+    }
+}
+
+#[test]
+fn refused_growth_of_read_from(rt: HostRuntime) -> Result<(), Fail> {
+    let record = read_from_at_last(&rt)?;
     assert_eq!(rt; record.line().moves().len(), 1);
     Ok(())
 }
@@ -88,22 +99,27 @@ fn refused_growth_of_feed(rt: HostRuntime) -> Result<(), Fail> {
 }
 
 // A reader of a record whose last statement has no line end.
-fn open_reader(rt: &(impl AllocGlobal + Print)) -> Result<RecordReader, Fail> {
-    let mut reader = RecordReader::new(rt.alloc());
-    if reader.feed(OPEN).is_ok() {
-        return Ok(reader);
-    }
-    println!(rt; "refused")?;
-    let mut reader = RecordReader::new(rt.alloc());
+fn open_reader(alloc: Global) -> Result<RecordReader, Refusal> {
+    let mut reader = RecordReader::new(alloc);
     reader.feed(OPEN)?;
     Ok(reader)
 }
 
+// The same, made again where memory was wanting.
+fn open_reader_at_last(rt: &(impl AllocGlobal + Print)) -> Result<RecordReader, Fail> {
+    match open_reader(rt.alloc()) {
+        Ok(reader) => Ok(reader),
+        Err(_) => {
+            println!(rt; "refused")?;
+            Ok(open_reader(rt.alloc())?)
+        }
+    }
+}
+
 // Its last statement is taken at the end.
-#[test]
-fn refused_growth_of_finish(rt: HostRuntime) -> Result<(), Fail> {
-    let record = match open_reader(&rt)?.finish() {
-        Ok(record) => record,
+fn finished_at_last(rt: &(impl AllocGlobal + Print + Abort)) -> Result<Record, Fail> {
+    match open_reader_at_last(rt)?.finish() {
+        Ok(record) => Ok(record),
         Err(refusal) => {
             println!(rt; "refused")?;
             let wanted = Refusal {
@@ -112,9 +128,14 @@ fn refused_growth_of_finish(rt: HostRuntime) -> Result<(), Fail> {
                 why: Why::OutOfMemory,
             };
             assert!(rt; refusal == wanted);
-            read(rt.alloc(), OPEN)?
+            Ok(read(rt.alloc(), OPEN)?)
         }
-    };
+    }
+}
+
+#[test]
+fn refused_growth_of_finish(rt: HostRuntime) -> Result<(), Fail> {
+    let record = finished_at_last(&rt)?;
     assert_eq!(rt; record.line().moves().len(), 1);
     Ok(())
 }

@@ -1,5 +1,6 @@
-use csa_record::{RecordReader, Refusal, Why, laws, write};
+use csa_record::{Record, RecordReader, Refusal, Why, laws, write};
 use shogi_rules::Rule;
+use std::process::Abort;
 use std::test::Fail;
 
 const SHORT: &[u8] = b"V2.2\nPI\n+\n+7776FU,T12\n-3334FU,T6\n%TORYO\n";
@@ -9,13 +10,17 @@ const TEXT: &[u8] = b"V2.2\nPI\n+\n+7776FU\nT12\n-3334FU\nT6\n%TORYO\n";
 // Its fourth statement is a pawn drop that mates.
 const MATES: &[u8] = b"P+13KI33KE59OU00FU\nP-11OU\n+\n+0012FU\n";
 
-#[test]
-fn reads_a_piece(rt: HostRuntime) -> Result<(), Fail> {
+fn record_of_short(rt: &(impl AllocGlobal + Abort)) -> Result<Record, Fail> {
     let mut reader = RecordReader::new(rt.alloc());
     reader.feed(SHORT)?;
     assert!(rt; reader.fed() == 40);
-    let record = reader.finish()?;
-    assert!(rt; write(rt.alloc(), &record)?.as_slice() == TEXT);
+    Ok(reader.finish()?)
+}
+
+#[test]
+fn reads_a_piece(rt: HostRuntime) -> Result<(), Fail> {
+    let text = write(rt.alloc(), &record_of_short(&rt)?)?;
+    assert!(rt; text.as_slice() == TEXT);
     Ok(())
 }
 

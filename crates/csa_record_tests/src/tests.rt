@@ -1,3 +1,5 @@
+ghost use Rattle.std.specs.Prelude.{◌≤◌, ◌/◌, ◌%◌};
+
 use csa_record::{HeaderValue, OrderFault, Record, Why, write};
 use csa_text::Ending;
 use shogi_board::{Color, Kind, OutOfMemory, Position, Square};
@@ -6,28 +8,33 @@ use std::alloc::Global;
 use std::process::Abort;
 use std::test::Fail;
 
-fn square(file: u8, rank: u8) -> Result<Square, Fail> {
-    Ok(Square::new(file, rank).ok_or("no square")?)
-}
-
-fn walk(from: (u8, u8), to: (u8, u8), kind: Kind) -> Result<Move, Fail> {
-    Ok(Move::Walk {
-        from: square(from.0, from.1)?,
-        to: square(to.0, to.1)?,
-        kind,
-    })
+// The square of a number of two digits, as 55.
+fn square(number: u8) -> Square
+    requires file { (1 ≤ number / 10) × (number / 10 ≤ 9) }
+    requires rank { 1 ≤ number % 10 }
+{
+    let behind = (number / 10 - 1) * 9;
+    Square::at_place(usize::from(behind + number % 10 - 1))
 }
 
 fn order(fault: OrderFault) -> Result<(), Why> {
     Err(Why::Order(fault))
 }
 
-fn first() -> Result<Move, Fail> {
-    walk((7, 7), (7, 6), Kind::Pawn)
+fn first() -> Move {
+    Move::Walk {
+        from: square(77),
+        to: square(76),
+        kind: Kind::Pawn,
+    }
 }
 
-fn second() -> Result<Move, Fail> {
-    walk((3, 3), (3, 4), Kind::Pawn)
+fn second() -> Move {
+    Move::Walk {
+        from: square(33),
+        to: square(34),
+        kind: Kind::Pawn,
+    }
 }
 
 fn give_titles(record: &mut Record) -> Result<(), Fail> {
@@ -44,9 +51,9 @@ fn titled(alloc: Global) -> Result<Record, Fail> {
 }
 
 fn give_moves(record: &mut Record) -> Result<(), Fail> {
-    record.play(Color::Black, first()?)?;
+    record.play(Color::Black, first())?;
     record.set_time(12000)?;
-    record.play(Color::White, second()?)?;
+    record.play(Color::White, second())?;
     record.set_time(6000)?;
     record.close(Ending::Toryo)?;
     Ok(())
@@ -68,16 +75,20 @@ fn builds_and_writes(rt: HostRuntime) -> Result<(), Fail> {
     Ok(())
 }
 
-#[test]
-fn shows_its_parts(rt: HostRuntime) -> Result<(), Fail> {
-    let record = closed(rt.alloc())?;
+fn shows_what_was_given(rt: &impl Abort, record: &Record) -> Result<(), Fail> {
     assert!(rt; record.name(Color::Black) == Some(b"a,b".as_slice()));
     assert!(rt; record.name(Color::White).is_none());
     assert!(rt; record.header(b"EVENT") == Some(HeaderValue::Plain(b"a")));
-    assert!(rt; record.line().moves() == [first()?, second()?].as_slice());
+    assert!(rt; record.line().moves() == [first(), second()].as_slice());
     assert!(rt; record.time(1) == Some(6000) && record.time(2).is_none());
     assert!(rt; record.ending() == Some(Ending::Toryo) && record.ending_time().is_none());
     Ok(())
+}
+
+#[test]
+fn shows_its_parts(rt: HostRuntime) -> Result<(), Fail> {
+    let record = closed(rt.alloc())?;
+    shows_what_was_given(&rt, &record)
 }
 
 // Whether a move and an ending are refused as standing behind the ending.
@@ -86,13 +97,18 @@ fn is_closed(record: &mut Record, mv: Move) -> bool {
         && record.close(Ending::Chudan) == order(OrderFault::AfterEnding)
 }
 
-#[test]
-fn nothing_stands_behind_the_ending(rt: HostRuntime) -> Result<(), Fail> {
-    let mut record = closed(rt.alloc())?;
-    assert!(rt; is_closed(&mut record, first()?));
+// Only the ending's time.
+fn takes_a_time(rt: &impl Abort, record: &mut Record) -> Result<(), Fail> {
+    assert!(rt; is_closed(record, first()));
     record.set_time(5)?;
     assert!(rt; record.ending_time() == Some(5));
     Ok(())
+}
+
+#[test]
+fn nothing_stands_behind_the_ending(rt: HostRuntime) -> Result<(), Fail> {
+    let mut record = closed(rt.alloc())?;
+    takes_a_time(&rt, &mut record)
 }
 
 #[test]
@@ -133,17 +149,31 @@ fn close(record: &mut Record, time: u32, ending: Ending, ending_time: u32) -> Re
     Ok(())
 }
 
+fn line_of_one_move(alloc: Global) -> Result<Line, Fail> {
+    let mut line = Line::new(alloc, Position::even())?;
+    line.play(Color::Black, first())?;
+    Ok(line)
+}
+
+// Whether the record is written so.
+fn is_written(alloc: Global, record: &Record, wanted: &[u8]) -> Result<bool, Fail> {
+    let text = write(alloc, record)?;
+    Ok(text.as_slice() == wanted)
+}
+
+fn ends_in_kachi(rt: &(impl AllocGlobal + Abort), record: &mut Record) -> Result<(), Fail> {
+    close(record, 50, Ending::Kachi, 5)?;
+    let wanted = b"V2.2\nPI\n+\n+7776FU\nT0.05\n%KACHI\nT0.005\n";
+    assert!(rt; is_written(rt.alloc(), record, wanted)?);
+    Ok(())
+}
+
 #[test]
 fn keeps_a_line(rt: HostRuntime) -> Result<(), Fail> {
-    let mut line = Line::new(rt.alloc(), Position::even())?;
-    line.play(Color::Black, first()?)?;
-    let mut record = Record::from_line(rt.alloc(), line)
-        .ok()
-        .ok_or("out of memory")?;
-    close(&mut record, 50, Ending::Kachi, 5)?;
-    let text = write(rt.alloc(), &record)?;
-    assert!(rt; text.as_slice() == b"V2.2\nPI\n+\n+7776FU\nT0.05\n%KACHI\nT0.005\n".as_slice());
-    Ok(())
+    let Ok(mut record) = Record::from_line(rt.alloc(), line_of_one_move(rt.alloc())?) else {
+        return Err(Fail::from("out of memory"));
+    };
+    ends_in_kachi(&rt, &mut record)
 }
 
 // The line of one move. A refused growth is told, and the call made again.
@@ -191,9 +221,16 @@ fn fill(rt: &(impl Print + Abort), record: &mut Record) -> Result<(), Fail> {
     if was_refused(rt, record.set_header(b"EVENT", b"a"))? {
         record.set_header(b"EVENT", b"a")?;
     }
-    if was_refused(rt, record.play(Color::Black, first()?))? {
-        record.play(Color::Black, first()?)?;
+    if was_refused(rt, record.play(Color::Black, first()))? {
+        record.play(Color::Black, first())?;
     }
+    Ok(())
+}
+
+fn filled_at_last(rt: &(impl Print + Abort), record: &mut Record) -> Result<(), Fail> {
+    fill(rt, record)?;
+    assert!(rt; record.name(Color::White) == Some(b"b".as_slice()));
+    assert!(rt; record.header(b"EVENT") == Some(HeaderValue::Plain(b"a")));
     Ok(())
 }
 
@@ -202,10 +239,7 @@ fn fill(rt: &(impl Print + Abort), record: &mut Record) -> Result<(), Fail> {
 #[test]
 fn refused_growth_is_told(rt: HostRuntime) -> Result<(), Fail> {
     let mut record = new_record(&rt)?;
-    fill(&rt, &mut record)?;
-    assert!(rt; record.name(Color::White) == Some(b"b".as_slice()));
-    assert!(rt; record.header(b"EVENT") == Some(HeaderValue::Plain(b"a")));
-    Ok(())
+    filled_at_last(&rt, &mut record)
 }
 
 // The record of the line, made again where memory was wanting.
@@ -214,7 +248,7 @@ fn record_of(rt: &(impl AllocGlobal + Print + Abort), line: Line) -> Result<Reco
         Ok(record) => Ok(record),
         Err(line) => {
             println!(rt; "refused")?;
-            assert!(rt; line.moves() == [first()?].as_slice());
+            assert!(rt; line.moves() == [first()].as_slice());
             Ok(Record::from_line(rt.alloc(), line).ok().ok_or("refused")?)
         }
     }
@@ -231,13 +265,18 @@ fn written(rt: &(impl AllocGlobal + Print), record: &Record) -> Result<Vec<u8>, 
     }
 }
 
+fn ends_in_toryo(rt: &(impl AllocGlobal + Print + Abort), record: &mut Record) -> Result<(), Fail> {
+    close(record, 1, Ending::Toryo, 2)?;
+    assert!(rt; record.time(0) == Some(1) && record.ending_time() == Some(2));
+    let text = written(rt, record)?;
+    assert!(rt; text.as_slice() == b"V2.2\nPI\n+\n+7776FU\nT0.001\n%TORYO\nT0.002\n".as_slice());
+    Ok(())
+}
+
 // `set_time`, `close` and the accessors take no memory.
 #[test]
 fn refused_growth_of_from_line_and_write(rt: HostRuntime) -> Result<(), Fail> {
-    let mut record = record_of(&rt, one_move(&rt, first()?)?)?;
-    close(&mut record, 1, Ending::Toryo, 2)?;
-    assert!(rt; record.time(0) == Some(1) && record.ending_time() == Some(2));
-    let text = written(&rt, &record)?;
-    assert!(rt; text.as_slice() == b"V2.2\nPI\n+\n+7776FU\nT0.001\n%TORYO\nT0.002\n".as_slice());
-    Ok(())
+    let line = one_move(&rt, first())?;
+    let mut record = record_of(&rt, line)?;
+    ends_in_toryo(&rt, &mut record)
 }

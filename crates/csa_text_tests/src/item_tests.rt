@@ -1,10 +1,17 @@
+ghost use Rattle.std.specs.Prelude.{◌≤◌, ◌/◌, ◌%◌};
+
 use csa_text::{Ending, Item, Pair, TextFault, csa_move, kind_text, laws, read_item, sign_of};
 use shogi_board::{Color, Kind, Square};
 use shogi_rules::Move;
 use std::test::Fail;
 
-fn square(number: u8) -> Result<Square, Fail> {
-    Ok(Square::new(number / 10, number % 10).ok_or("no square")?)
+// The square of a number of two digits, as 55.
+fn square(number: u8) -> Square
+    requires file { (1 ≤ number / 10) × (number / 10 ≤ 9) }
+    requires rank { 1 ≤ number % 10 }
+{
+    let behind = (number / 10 - 1) * 9;
+    Square::at_place(usize::from(behind + number % 10 - 1))
 }
 
 // One of each kind of item that holds no more than its text; tests/tables has statements that are none, and more of these.
@@ -37,19 +44,18 @@ fn reads_and_writes(text: &str, color: Color, mv: Move) -> bool {
 }
 
 #[test]
-fn reads_and_writes_moves(rt: HostRuntime) -> Result<(), Fail> {
+fn reads_and_writes_moves(rt: HostRuntime) {
     let capture = Move::Walk {
-        from: square(88)?,
-        to: square(22)?,
+        from: square(88),
+        to: square(22),
         kind: Kind::Horse,
     };
     let drop = Move::Put {
-        to: square(55)?,
+        to: square(55),
         kind: Kind::Pawn,
     };
     assert!(rt; reads_and_writes("+8822UM", Color::Black, capture));
     assert!(rt; reads_and_writes("-0055FU", Color::White, drop));
-    Ok(())
 }
 
 #[test]
@@ -58,7 +64,7 @@ fn reads_pairs(rt: HostRuntime) -> Result<(), Fail> {
         return Err(Fail::from("no pieces"));
     };
     assert!(rt; color == Color::White && pairs.len() == 3 && !pairs.is_empty());
-    assert!(rt; pairs.get(0) == Some(Pair::On(square(13)?, Kind::Gold)));
+    assert!(rt; pairs.get(0) == Some(Pair::On(square(13), Kind::Gold)));
     assert!(rt; pairs.get(1) == Some(Pair::InHand(Kind::Pawn)));
     assert!(rt; pairs.get(2) == Some(Pair::Rest));
     assert!(rt; pairs.get(3).is_none() && pairs.get(usize::MAX).is_none());

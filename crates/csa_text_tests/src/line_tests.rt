@@ -1,4 +1,5 @@
 use csa_text::{LineCutter, LineFault};
+use std::process::Abort;
 use std::test::Fail;
 
 // Writes the lines of the bytes, fed in pieces of this size, each with a bar behind it.
@@ -60,11 +61,25 @@ fn lines_too_long(rt: HostRuntime) {
     assert!(rt; cutter.finish().err() == Some(LineFault::TooLong));
 }
 
-// Run by tests/growths with each growth refused in turn: a refused step changes nothing, and made
-// again it succeeds.
-#[test]
-fn refused_growth_changes_nothing(rt: HostRuntime) -> Result<(), Fail> {
-    let mut cutter = LineCutter::new(rt.alloc(), 4096);
+// Takes a piece, again where memory was wanting: it is used whole, and gives that line.
+fn take_at_last(
+    rt: &(impl Print + Abort),
+    cutter: &mut LineCutter,
+    piece: &[u8],
+    line: Option<&[u8]>,
+) -> Result<(), Fail> {
+    match cutter.step(piece) {
+        Ok(answer) => assert_eq!(rt; answer, (piece.len(), line)),
+        Err(fault) => {
+            println!(rt; "refused")?;
+            assert_eq!(rt; fault, LineFault::OutOfMemory);
+            assert_eq!(rt; cutter.step(piece), Ok((piece.len(), line)));
+        }
+    }
+    Ok(())
+}
+
+fn take_pieces_at_last(rt: &(impl Print + Abort), cutter: &mut LineCutter) -> Result<(), Fail> {
     let table: [(&[u8], Option<&[u8]>); 5] = [
         (b"usi", None),
         (b"newgame", None),
@@ -73,15 +88,16 @@ fn refused_growth_changes_nothing(rt: HostRuntime) -> Result<(), Fail> {
         (b"2g2f\n", Some(b"position startpos moves 7g7f 3c3d 2g2f")),
     ];
     for (piece, line) in table {
-        match cutter.step(piece) {
-            Ok(answer) => assert_eq!(rt; answer, (piece.len(), line)),
-            Err(fault) => {
-                println!(rt; "refused")?;
-                assert_eq!(rt; fault, LineFault::OutOfMemory);
-                assert_eq!(rt; cutter.step(piece), Ok((piece.len(), line)));
-            }
-        }
+        take_at_last(rt, cutter, piece, line)?;
     }
     assert_eq!(rt; cutter.finish(), Ok(None));
     Ok(())
+}
+
+// Run by tests/growths with each growth refused in turn: a refused step changes nothing, and made
+// again it succeeds.
+#[test]
+fn refused_growth_changes_nothing(rt: HostRuntime) -> Result<(), Fail> {
+    let mut cutter = LineCutter::new(rt.alloc(), 4096);
+    take_pieces_at_last(&rt, &mut cutter)
 }

@@ -1,3 +1,5 @@
+ghost use Rattle.std.specs.Prelude.{◌≤◌, ◌/◌, ◌%◌};
+
 use shogi_board::{
     Change, Color, Danger, Hand, Kind, Packed, Piece, Position, Setup, SetupFault, Square,
     attacked, attacked_from, attacker, laws, reaches,
@@ -6,8 +8,12 @@ use std::collections::BTreeMap;
 use std::test::Fail;
 
 // The square of a number of two digits, as 55.
-fn on(number: u8) -> Result<Square, Fail> {
-    Ok(Square::new(number / 10, number % 10).ok_or("no square")?)
+fn on(number: u8) -> Square
+    requires file { (1 ≤ number / 10) × (number / 10 ≤ 9) }
+    requires rank { 1 ≤ number % 10 }
+{
+    let behind = (number / 10 - 1) * 9;
+    Square::at_place(usize::from(behind + number % 10 - 1))
 }
 
 fn kind_of(first: u8, second: u8) -> Result<Kind, Fail> {
@@ -218,11 +224,11 @@ fn reaches_along_steps_and_rays(rt: HostRuntime) -> Result<(), Fail> {
 #[test]
 fn attacks_up_to_the_first_piece(rt: HostRuntime) -> Result<(), Fail> {
     let position = position("-51KY,+57OU")?;
-    for (number, wanted) in [(57, true), (58, false), (52, true)] {
-        assert!(rt; attacked(&position, Color::Black, on(number)?) == wanted);
+    for (square, wanted) in [(on(57), true), (on(58), false), (on(52), true)] {
+        assert!(rt; attacked(&position, Color::Black, square) == wanted);
     }
-    for (number, wanted) in [(52, false), (58, true)] {
-        assert!(rt; attacked(&position, Color::White, on(number)?) == wanted);
+    for (square, wanted) in [(on(52), false), (on(58), true)] {
+        assert!(rt; attacked(&position, Color::White, square) == wanted);
     }
     Ok(())
 }
@@ -232,15 +238,15 @@ fn attacks_up_to_the_first_piece(rt: HostRuntime) -> Result<(), Fail> {
 fn refused_calls_change_nothing(rt: HostRuntime) -> Result<(), Fail> {
     let mut setup = Setup::empty();
     setup.add_hand(Color::Black, Kind::Pawn)?;
-    setup.place(Color::Black, on(55)?, Kind::ProPawn)?;
+    setup.place(Color::Black, on(55), Kind::ProPawn)?;
     let held = setup;
     assert!(rt; setup.take_hand(Color::White, Kind::Pawn) == Err(SetupFault::NotThere));
     assert!(rt; setup.take_hand(Color::Black, Kind::ProPawn) == Err(SetupFault::NotThere));
-    assert!(rt; setup.take_off(on(55)?, Kind::Pawn) == Err(SetupFault::NotThere));
-    assert!(rt; setup.place(Color::Black, on(55)?, Kind::Gold) == Err(SetupFault::SquareTaken));
+    assert!(rt; setup.take_off(on(55), Kind::Pawn) == Err(SetupFault::NotThere));
+    assert!(rt; setup.place(Color::Black, on(55), Kind::Gold) == Err(SetupFault::SquareTaken));
     assert!(rt; setup == held);
     setup.take_hand(Color::Black, Kind::Pawn)?;
-    setup.take_off(on(55)?, Kind::ProPawn)?;
+    setup.take_off(on(55), Kind::ProPawn)?;
     assert!(rt; setup == Setup::empty());
     Ok(())
 }
@@ -261,12 +267,12 @@ fn counts(hand: Hand) -> [u8; 7] {
 #[test]
 fn nothing_follows_the_rest(rt: HostRuntime) -> Result<(), Fail> {
     let mut setup = Setup::empty();
-    setup.place(Color::White, on(51)?, Kind::King)?;
-    setup.place(Color::Black, on(53)?, Kind::Pawn)?;
+    setup.place(Color::White, on(51), Kind::King)?;
+    setup.place(Color::Black, on(53), Kind::Pawn)?;
     setup.add_hand(Color::Black, Kind::Gold)?;
     setup.give_rest(Color::White)?;
     let given = setup;
-    assert!(rt; setup.take_off(on(53)?, Kind::Pawn) == Err(SetupFault::AfterRest));
+    assert!(rt; setup.take_off(on(53), Kind::Pawn) == Err(SetupFault::AfterRest));
     assert!(rt; setup.take_hand(Color::White, Kind::Rook) == Err(SetupFault::AfterRest));
     assert!(rt; setup.give_rest(Color::Black) == Err(SetupFault::AfterRest));
     assert!(rt; setup == given);
@@ -286,10 +292,10 @@ fn parts_of_the_even_position(rt: HostRuntime) -> Result<(), Fail> {
     assert!(rt; even == Setup::even().finish(Color::Black)?);
     assert!(rt; even.setup() == Setup::even());
     assert!(rt; even.side() == Color::Black && even.side().opponent() == Color::White);
-    assert!(rt; even.piece_at(on(82)?) == Some(rook) && even.piece_at(on(55)?).is_none());
+    assert!(rt; even.piece_at(on(82)) == Some(rook) && even.piece_at(on(55)).is_none());
     assert!(rt; even.cells().len() == 81 && even.cells()[64] == Some(rook));
-    assert!(rt; even.king(Color::Black) == Some(on(59)?));
-    assert!(rt; even.pawn_on_file(Color::White, on(55)?));
+    assert!(rt; even.king(Color::Black) == Some(on(59)));
+    assert!(rt; even.pawn_on_file(Color::White, on(55)));
     Ok(())
 }
 
@@ -298,9 +304,9 @@ fn parts_of_the_even_position(rt: HostRuntime) -> Result<(), Fail> {
 fn parts_of_a_bare_position(rt: HostRuntime) -> Result<(), Fail> {
     let bare = position("+33TO,-55FU")?;
     assert!(rt; bare.king(Color::Black).is_none() && bare.king(Color::White).is_none());
-    assert!(rt; !bare.pawn_on_file(Color::Black, on(31)?));
-    assert!(rt; !bare.pawn_on_file(Color::Black, on(51)?));
-    assert!(rt; bare.pawn_on_file(Color::White, on(51)?));
+    assert!(rt; !bare.pawn_on_file(Color::Black, on(31)));
+    assert!(rt; !bare.pawn_on_file(Color::Black, on(51)));
+    assert!(rt; bare.pawn_on_file(Color::White, on(51)));
     Ok(())
 }
 
@@ -368,15 +374,15 @@ fn drop_as_laid(position: &mut Position, to: Square, kind: Kind) -> Option<(bool
 #[test]
 fn walks_where_the_king_is_safe(rt: HostRuntime) -> Result<(), Fail> {
     let mut opened = Position::even();
-    assert!(rt; walk_as_laid(&mut opened, on(77)?, on(76)?, Kind::Pawn) == Some(true));
+    assert!(rt; walk_as_laid(&mut opened, on(77), on(76), Kind::Pawn) == Some(true));
     let mut laid = Setup::even();
-    laid.take_off(on(77)?, Kind::Pawn)?;
-    laid.place(Color::Black, on(76)?, Kind::Pawn)?;
+    laid.take_off(on(77), Kind::Pawn)?;
+    laid.place(Color::Black, on(76), Kind::Pawn)?;
     assert!(rt; opened == laid.finish(Color::White)?);
     let mut pinned = position("+59OU,+58KI,-51HI")?;
-    assert!(rt; walk_as_laid(&mut pinned, on(58)?, on(48)?, Kind::Gold) == Some(false));
+    assert!(rt; walk_as_laid(&mut pinned, on(58), on(48), Kind::Gold) == Some(false));
     assert!(rt; pinned == position("+59OU,+58KI,-51HI")?);
-    assert!(rt; walk_as_laid(&mut pinned, on(58)?, on(57)?, Kind::Gold) == Some(true));
+    assert!(rt; walk_as_laid(&mut pinned, on(58), on(57), Kind::Gold) == Some(true));
     assert!(rt; pinned == position("+59OU,+57KI,-51HI")?.setup().finish(Color::White)?);
     Ok(())
 }
@@ -388,9 +394,9 @@ fn drops_where_the_king_is_safe(rt: HostRuntime) -> Result<(), Fail> {
     laid.add_hand(Color::Black, Kind::Pawn)?;
     let checked = laid.finish(Color::Black)?;
     let mut next = checked;
-    let (safe, packed) = drop_as_laid(&mut next, on(15)?, Kind::Pawn).ok_or("no drop")?;
+    let (safe, packed) = drop_as_laid(&mut next, on(15), Kind::Pawn).ok_or("no drop")?;
     assert!(rt; !safe && next == checked && packed.unpacked() == checked);
-    let (safe, packed) = drop_as_laid(&mut next, on(57)?, Kind::Pawn).ok_or("no drop")?;
+    let (safe, packed) = drop_as_laid(&mut next, on(57), Kind::Pawn).ok_or("no drop")?;
     let stopped = position("+59OU,+57FU,-55HI")?.setup().finish(Color::White)?;
     assert!(rt; safe && next == stopped && packed.unpacked() == stopped);
     Ok(())
@@ -408,15 +414,15 @@ fn is_free(position: &Position, color: Color, square: Square) -> bool {
 #[test]
 fn names_an_attacker(rt: HostRuntime) -> Result<(), Fail> {
     let checked = position("+59OU,-55HI,-51KY,-47KE")?;
-    assert!(rt; attacker(&checked, Color::Black, on(59)?) == Some(on(55)?));
-    assert!(rt; attacker(&checked, Color::Black, on(49)?).is_none());
+    assert!(rt; attacker(&checked, Color::Black, on(59)) == Some(on(55)));
+    assert!(rt; attacker(&checked, Color::Black, on(49)).is_none());
     assert!(rt;
-        !is_free(&checked, Color::Black, on(59)?) && is_free(&checked, Color::Black, on(49)?)
+        !is_free(&checked, Color::Black, on(59)) && is_free(&checked, Color::Black, on(49))
     );
     let across = position("+59OU,-55HI,+57FU,-47KE")?;
-    assert!(rt; attacker(&across, Color::Black, on(59)?) == Some(on(47)?));
-    assert!(rt; on(57)?.lies_between(on(59)?, on(55)?) && !on(55)?.lies_between(on(59)?, on(55)?));
-    assert!(rt; on(25)?.place() == 13 && Square::at_place(13) == on(25)?);
+    assert!(rt; attacker(&across, Color::Black, on(59)) == Some(on(47)));
+    assert!(rt; on(57).lies_between(on(59), on(55)) && !on(55).lies_between(on(59), on(55)));
+    assert!(rt; on(25).place() == 13 && Square::at_place(13) == on(25));
     Ok(())
 }
 
@@ -431,14 +437,13 @@ fn kinds_and_their_forms(rt: HostRuntime) {
 }
 
 #[test]
-fn squares_and_their_order(rt: HostRuntime) -> Result<(), Fail> {
-    let square = on(28)?;
+fn squares_and_their_order(rt: HostRuntime) {
+    let square = on(28);
     assert!(rt; square.file() == 2 && square.rank() == 8);
-    assert!(rt; on(19)? < on(21)? && on(21)? < on(22)? && on(99)? > on(91)?);
+    assert!(rt; on(19) < on(21) && on(21) < on(22) && on(99) > on(91));
     for (file, rank) in [(0, 5), (10, 5), (5, 0), (5, 10)] {
         assert!(rt; Square::new(file, rank).is_none());
     }
-    Ok(())
 }
 
 #[test]
@@ -493,8 +498,8 @@ fn take_from_hand_is_take(setup: &mut Setup, color: Color, kind: Kind) -> Option
 #[test]
 fn calls_without_questions_change_the_same(rt: HostRuntime) -> Result<(), Fail> {
     let mut setup = Setup::empty();
-    assert!(rt; put_is_place(&mut setup, Color::White, on(55)?, Kind::Horse) == Some(true));
-    assert!(rt; put_is_place(&mut setup, Color::White, on(55)?, Kind::Pawn).is_none());
+    assert!(rt; put_is_place(&mut setup, Color::White, on(55), Kind::Horse) == Some(true));
+    assert!(rt; put_is_place(&mut setup, Color::White, on(55), Kind::Pawn).is_none());
     for color in [Color::Black, Color::White] {
         assert!(rt; put_in_hand_is_add(&mut setup, color, Kind::Lance) == Some(true));
         assert!(rt; put_in_hand_is_add(&mut setup, color, Kind::King).is_none());

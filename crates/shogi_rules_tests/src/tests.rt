@@ -5,6 +5,7 @@ use shogi_rules::{
     Line, Move, PlayFault, Rule, Verdict, after, first_legal, in_check, judge, laws,
 };
 use std::alloc::AllocGlobal;
+use std::process::Abort;
 use std::test::Fail;
 
 fn kind_of(first: u8, second: u8) -> Result<Kind, Fail> {
@@ -149,29 +150,37 @@ fn follows_moves(rt: HostRuntime) -> Result<(), Fail> {
     Ok(())
 }
 
-#[test]
-fn refuses_to_play_on(rt: HostRuntime) -> Result<(), Fail> {
-    let mut line = Line::new(rt.alloc(), Position::even())?;
-    for _ in 0..3 {
-        play_all(&mut line, "+2838HI -8272HI +3828HI -7282HI ")?;
-    }
-    assert_eq!(rt; line.verdict(), Verdict::Repetition);
+// Nothing is played behind a repetition, whatever else is wrong with the move; only the side is named before it.
+fn plays_no_more(rt: &impl Abort, line: &mut Line) -> Result<(), Fail> {
     let (color, mv) = read(b"+7776FU")?;
-    let over = PlayFault::Broken(Rule::RepetitionOver);
-    assert_eq!(rt; line.fault(color, &mv), Some(over));
-    assert_eq!(rt; line.play(color, mv), Err(over));
     // the pawn does not reach the square, a later rule
     let (_, far) = read(b"+7775FU")?;
-    assert_eq!(rt; line.fault(color, &far), Some(over));
-    assert_eq!(rt; line.play(color, far), Err(over));
-    assert_eq!(rt;
-        line.fault(Color::White, &mv),
-        Some(PlayFault::Broken(Rule::WrongSide))
-    );
+    let over = PlayFault::Broken(Rule::RepetitionOver);
+    for mv in [mv, far] {
+        assert_eq!(rt; line.fault(color, &mv), Some(over));
+        assert_eq!(rt; line.play(color, mv), Err(over));
+    }
+    let wrong_side = PlayFault::Broken(Rule::WrongSide);
+    assert_eq!(rt; line.fault(Color::White, &mv), Some(wrong_side));
+    Ok(())
+}
+
+fn repeats_the_start(rt: &impl Abort, line: &mut Line) -> Result<(), Fail> {
+    for _ in 0..3 {
+        play_all(line, "+2838HI -8272HI +3828HI -7282HI ")?;
+    }
+    assert_eq!(rt; line.verdict(), Verdict::Repetition);
+    plays_no_more(rt, line)?;
     assert_eq!(rt; line.moves().len(), 12);
     assert_eq!(rt; line.start(), Position::even());
     assert_eq!(rt; line.now(), Position::even());
     Ok(())
+}
+
+#[test]
+fn refuses_to_play_on(rt: HostRuntime) -> Result<(), Fail> {
+    let mut line = Line::new(rt.alloc(), Position::even())?;
+    repeats_the_start(&rt, &mut line)
 }
 
 #[test]
@@ -281,7 +290,6 @@ fn counts_legal_moves(rt: HostRuntime) -> Result<(), Fail> {
     Ok(())
 }
 
-// Run by tests/growths with each growth refused in turn: a refused call changes nothing, and made again it succeeds.
 // The square of a king that goes round on two ranks, from file 1 of the first.
 fn on_ring(n: usize, first: u8, second: u8) -> Result<Square, Fail>
     requires { n < 18 }
@@ -308,30 +316,45 @@ fn king_move(n: usize) -> Result<(Color, Move), Fail> {
     Ok((color, Move::Walk { from, to, kind }))
 }
 
-#[test]
-fn refused_growth_changes_nothing(rt: HostRuntime) -> Result<(), Fail> {
-    let start = position(Color::Black, "+19OU -11OU ")?;
-    let mut line = match Line::new(rt.alloc(), start) {
-        Ok(line) => line,
+// A line of that start, asked for again where memory was wanting.
+fn line_at_last(rt: &(impl AllocGlobal + Print), start: Position) -> Result<Line, Fail> {
+    match Line::new(rt.alloc(), start) {
+        Ok(line) => Ok(line),
         Err(OutOfMemory) => {
             println!(rt; "refused")?;
-            Line::new(rt.alloc(), start)?
+            Ok(Line::new(rt.alloc(), start)?)
         }
-    };
-    // more than there is room for from the start
+    }
+}
+
+// Plays the n-th move, again where memory was wanting.
+fn play_at_last(rt: &(impl Abort + Print), line: &mut Line, n: usize) -> Result<(), Fail> {
+    let (color, mv) = king_move(n)?;
+    let last = line.now();
+    if let Err(fault) = line.play(color, mv) {
+        println!(rt; "refused")?;
+        assert_eq!(rt; fault, PlayFault::OutOfMemory);
+        assert_eq!(rt; line.moves().len(), n);
+        assert_eq!(rt; line.now(), last);
+        line.play(color, mv)?;
+    }
+    assert_eq!(rt; line.moves().last().copied(), Some(mv));
+    assert_ne!(rt; line.now(), last);
+    Ok(())
+}
+
+// Plays more moves than there is room for from the start.
+fn play_each(rt: &(impl Abort + Print), line: &mut Line) -> Result<(), Fail> {
     for n in 0..300usize {
-        let (color, mv) = king_move(n)?;
-        let last = line.now();
-        if let Err(fault) = line.play(color, mv) {
-            println!(rt; "refused")?;
-            assert_eq!(rt; fault, PlayFault::OutOfMemory);
-            assert_eq!(rt; line.moves().len(), n);
-            assert_eq!(rt; line.now(), last);
-            line.play(color, mv)?;
-        }
-        assert_eq!(rt; line.moves().last().copied(), Some(mv));
-        assert_ne!(rt; line.now(), last);
+        play_at_last(rt, line, n)?;
     }
     assert_eq!(rt; line.moves().len(), 300);
     Ok(())
+}
+
+// Run by tests/growths with each growth refused in turn: a refused call changes nothing, and made again it succeeds.
+#[test]
+fn refused_growth_changes_nothing(rt: HostRuntime) -> Result<(), Fail> {
+    let mut line = line_at_last(&rt, position(Color::Black, "+19OU -11OU ")?)?;
+    play_each(&rt, &mut line)
 }

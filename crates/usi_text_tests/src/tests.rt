@@ -1,3 +1,5 @@
+ghost use Rattle.std.specs.Prelude.{◌≤◌, ◌/◌, ◌%◌};
+
 use arrayvec::ArrayString;
 use shogi_board::{Color, Kind, OutOfMemory, Position, Setup, SetupFault, Square};
 use shogi_rules::{Line, Move, Rule, judge};
@@ -8,18 +10,22 @@ use usi_text::{
     read_position_line, read_sfen, write_sfen,
 };
 
-// The square of two digits.
-fn square(digits: u8) -> Result<Square, Fail> {
-    Ok(Square::new(digits / 10, digits % 10).ok_or("no square")?)
+// The square of a number of two digits, as 55.
+fn square(number: u8) -> Square
+    requires file { (1 ≤ number / 10) × (number / 10 ≤ 9) }
+    requires rank { 1 ≤ number % 10 }
+{
+    let behind = (number / 10 - 1) * 9;
+    Square::at_place(usize::from(behind + number % 10 - 1))
 }
 
 // The pawn's move from 77 to 76.
-fn first_move() -> Result<Move, Fail> {
-    Ok(Move::Walk {
-        from: square(77)?,
-        to: square(76)?,
+fn first_move() -> Move {
+    Move::Walk {
+        from: square(77),
+        to: square(76),
         kind: Kind::Pawn,
-    })
+    }
 }
 
 // The text of a move that breaks no rule.
@@ -77,8 +83,8 @@ fn last_position_of_a_line(rt: HostRuntime) -> Result<(), Fail> {
 // A king, a pawn and a gold, and the rest in white's hand.
 fn with_the_rest() -> Result<Position, Fail> {
     let mut setup = Setup::empty();
-    setup.place(Color::White, square(51)?, Kind::King)?;
-    setup.place(Color::Black, square(53)?, Kind::Pawn)?;
+    setup.place(Color::White, square(51), Kind::King)?;
+    setup.place(Color::Black, square(53), Kind::Pawn)?;
     setup.add_hand(Color::Black, Kind::Gold)?;
     setup.give_rest(Color::White)?;
     Ok(setup.finish(Color::Black)?)
@@ -115,7 +121,7 @@ fn faults_without_memory(rt: &(impl AllocGlobal + Abort)) {
 
 fn calls_without_memory(rt: &impl Abort) -> Result<(), Fail> {
     let even = Position::even();
-    let mv = first_move()?;
+    let mv = first_move();
     assert_eq!(rt; read_sfen(EVEN.as_bytes()), Ok(even));
     assert_eq!(rt; read_move(&even, b"7g7f"), Some(mv));
     assert_eq!(rt; text_of(&even, &mv)?.as_str(), "7g7f");
@@ -171,18 +177,33 @@ fn is_refused_later(rt: &impl AllocGlobal) -> bool {
     false
 }
 
+// A line, and its text.
+fn line_and_text_at_last(rt: &(impl AllocGlobal + Abort + Print)) -> Result<(), Fail> {
+    let line = line_at_last(rt, FOUR_MOVES)?;
+    written_at_last(rt, &line)
+}
+
+fn written_at_last(rt: &(impl AllocGlobal + Abort + Print), line: &Line) -> Result<(), Fail> {
+    let text = text_at_last(rt, line)?;
+    assert_eq!(rt; line.moves().len(), 4);
+    assert_eq!(rt; text.as_slice(), FOUR_MOVES.as_bytes());
+    Ok(())
+}
+
+fn rest_written_at_last(rt: &(impl AllocGlobal + Abort + Print)) -> Result<(), Fail> {
+    let sfen = sfen_at_last(rt, &with_the_rest()?)?;
+    assert_eq!(rt; sfen.as_slice(), REST.as_bytes());
+    Ok(())
+}
+
 // Run by tests/growths with each growth refused in turn: the answer is the fault that stands before, else want of
 // memory, and then the call made again succeeds.
 #[test]
 fn refused_growth_is_told(rt: HostRuntime) -> Result<(), Fail> {
     faults_without_memory(&rt);
     calls_without_memory(&rt)?;
-    let line = line_at_last(&rt, FOUR_MOVES)?;
-    assert_eq!(rt; line.moves().len(), 4);
-    let sfen = sfen_at_last(&rt, &with_the_rest()?)?;
-    assert_eq!(rt; sfen.as_slice(), REST.as_bytes());
-    let text = text_at_last(&rt, &line)?;
-    assert_eq!(rt; text.as_slice(), FOUR_MOVES.as_bytes());
+    line_and_text_at_last(&rt)?;
+    rest_written_at_last(&rt)?;
     // the growths of faults_without_memory are refused in silence
     if !is_refused_later(&rt) {
         println!(rt; "refused")?;
