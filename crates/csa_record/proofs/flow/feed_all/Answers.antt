@@ -1,6 +1,9 @@
-use Rattle.std.proofs.Common.{arith, ◌∙◌}
+use Rattle.std.proofs.Common.{arith, rules, ◌∙◌}
 use Rattle.csa_record.proofs.Flowing.{fed_last, fed_next}
 use Rattle.csa_record.proofs.flow.feed_all.Goals as goal
+
+pub loop-reads-init : goal.loop-reads-init
+loop-reads-init g c = search rules
 
 pub returns-then-not-more-clause-fed : goal.returns-then-not-more-clause-fed
 returns-then-not-more-clause-fed g c =

@@ -35,3 +35,6 @@ returns-in-Ok-clause-to_server c = λ out row.
 pub returns-in-Err-clause-game : goal.returns-in-Err-clause-game
 returns-in-Err-clause-game c =
     lost _ _ _ _ _ _ _ _ _ (event_of c.args.event) (sym c.self.view_is) (c.is_going.ensures.0 c.if-not-is_going.false) refl c.in-Err.ensures.answer
+
+pub returns-in-Err-clause-lost : goal.returns-in-Err-clause-lost
+returns-in-Err-clause-lost c = search
