@@ -16,7 +16,7 @@ use Rattle.shogi_board.proofs.Squares.{place-same}
 use Rattle.shogi_rules.specs.Evasions.{MovesFrom}
 use Rattle.shogi_rules.specs.Kinds.{promoted}
 use Rattle.shogi_rules.specs.Legal.{FitsBoard, Legal}
-use Rattle.shogi_rules.specs.Order.{IsBefore, IsDrop, IsDropOf, IsFirstLegal, IsFirstOf, IsWalk, Leads, NoneOf}
+use Rattle.shogi_rules.specs.Order.{IsBefore, IsDrop, IsDropOf, IsFirstLegal, IsFirstOf, IsWalk, IsWalkBetween, NoneOf}
 use Rattle.shogi_rules.specs.Verdicts.{NoLegalMove}
 use Rattle.shogi_rules.specs.declared.moves.Move.{Move}
 use Rattle.shogi_rules.specs.declared.moves.Move.TheVariants.{Walk, Put}
@@ -54,7 +54,7 @@ place-less : (s t : Square) → s ≡ t → place s < place t → ⊥
 place-less s t e lt = let f : place s ≡ place t = ap place e in omega (arith, f, lt)
 
 -- a legal walk between the squares is of one of two kinds
-form-of : (p : Placed) (from to : Square) (was : Kind) (m : Move) → at p.material.board from ≡ piece p.side was → Leads from to m → Legal p m
+form-of : (p : Placed) (from to : Square) (was : Kind) (m : Move) → at p.material.board from ≡ piece p.side was → IsWalkBetween from to m → Legal p m
     → (k : Kind) × (m ≡ Walk from to k) × ((k ≡ was) ⊎ (promoted was ≡ Some k))
 form-of p from to was (Walk g u k) stands leads legal =
     let same : Walk g u k ≡ Walk from to k = rw (leads.0, leads.1) refl in
@@ -67,9 +67,9 @@ before-form : (from to : Square) (k l : Kind) → IsBefore (Walk from to k) (Wal
 before-form from to k l (inl lt) = absurd (place-less from from refl lt)
 before-form from to k l (inr h) = elim h.1 [ inl lt ↦ absurd (place-less to to refl lt) | inr b ↦ (b.1, b.2) ]
 
-pub promoted-first : (p : Placed) (from to : Square) (was k : Kind) (m : Move) → at p.material.board from ≡ piece p.side was → (Legal p (Walk from to was) → ⊥) → promoted was ≡ Some k → m ≡ Walk from to k → Legal p m → IsFirstOf p (Leads from to) m
+pub promoted-first : (p : Placed) (from to : Square) (was k : Kind) (m : Move) → at p.material.board from ≡ piece p.side was → (Legal p (Walk from to was) → ⊥) → promoted was ≡ Some k → m ≡ Walk from to k → Legal p m → IsFirstOf p (IsWalkBetween from to) m
 promoted-first p from to was k m stands bare promotion is legal = record {
-  among = subst (Leads from to) (sym is) (refl, refl);
+  among = subst (IsWalkBetween from to) (sym is) (refl, refl);
   legal = legal;
   first = λ n leads before other.
       let f = form-of p from to was n stands leads other in
@@ -80,7 +80,7 @@ promoted-first p from to was k m stands bare promotion is legal = record {
       bare (subst (Legal p) (f.1 ∙ ap (λ (x : Kind). Walk from to x) same) other);
 }
 
-pub no-form : (p : Placed) (from to : Square) (was : Kind) → at p.material.board from ≡ piece p.side was → (Legal p (Walk from to was) → ⊥) → ((k : Kind) → promoted was ≡ Some k → Legal p (Walk from to k) → ⊥) → NoneOf p (Leads from to)
+pub no-form : (p : Placed) (from to : Square) (was : Kind) → at p.material.board from ≡ piece p.side was → (Legal p (Walk from to was) → ⊥) → ((k : Kind) → promoted was ≡ Some k → Legal p (Walk from to k) → ⊥) → NoneOf p (IsWalkBetween from to)
 no-form p from to was stands bare promoting = λ m leads legal.
     let f = form-of p from to was m stands leads legal in
     elim f.2 [
@@ -94,11 +94,11 @@ none-stands p from empty (Walk g u k) from-there legal =
     empty fits.kind_fits.0 (subst (λ (s : Square). at p.material.board s ≡ piece p.side fits.kind_fits.0) from-there fits.kind_fits.1)
 none-stands p from empty (Put t k) from-there legal = from-there
 
-pub leads-from : (from to : Square) (m : Move) → Leads from to m → MovesFrom from m
-leads-from from to (Walk g u k) h = h.0
-leads-from from to (Put t k) h = h
+pub between-from : (from to : Square) (m : Move) → IsWalkBetween from to m → MovesFrom from m
+between-from from to (Walk g u k) h = h.0
+between-from from to (Put t k) h = h
 
-pub not-reached : (p : Placed) (from to : Square) → (Reach p.material.board from to → ⊥) → NoneOf p (Leads from to)
+pub not-reached : (p : Placed) (from to : Square) → (Reach p.material.board from to → ⊥) → NoneOf p (IsWalkBetween from to)
 not-reached p from to far (Walk g u k) leads legal =
     let there : Legal p (Walk from to k) = subst (Legal p) (let same : Walk g u k ≡ Walk from to k = rw (leads.0, leads.1) refl in same) legal in
     far there.keeps.fits.reaches
@@ -106,13 +106,13 @@ not-reached p from to far (Put t k) leads legal = leads
 
 -- an answer for the promoted form is one for both
 pub promoted-answer : (p : Placed) (from to : Square) (was k : Kind) (found : Option Move) → at p.material.board from ≡ piece p.side was → (Legal p (Walk from to was) → ⊥) → promoted was ≡ Some k
-    → MatchOption found (Legal p (Walk from to k) → ⊥) (λ m. (m ≡ Walk from to k) × Legal p m) → MatchOption found (NoneOf p (Leads from to)) (λ m. IsFirstOf p (Leads from to) m)
+    → MatchOption found (Legal p (Walk from to k) → ⊥) (λ m. (m ≡ Walk from to k) × Legal p m) → MatchOption found (NoneOf p (IsWalkBetween from to)) (λ m. IsFirstOf p (IsWalkBetween from to) m)
 promoted-answer p from to was k None stands bare promotion h =
     no-form p from to was stands bare (λ l e legal. let both : Some k ≡ Some l = sym promotion ∙ e in let same : l ≡ k = cc in h (subst (λ (x : Kind). Legal p (Walk from to x)) same legal))
 promoted-answer p from to was k (Some m) stands bare promotion h = promoted-first p from to was k m stands bare promotion h.0 h.1
 
 -- 2. Walks
-to-before : (p : Placed) (from s : Square) (m n : Move) → ((t : Square) → place t < place s → NoneOf p (Leads from t)) → IsFirstOf p (Leads from s) m → MovesFrom from n → IsBefore n m → Legal p n → ⊥
+to-before : (p : Placed) (from s : Square) (m n : Move) → ((t : Square) → place t < place s → NoneOf p (IsWalkBetween from t)) → IsFirstOf p (IsWalkBetween from s) m → MovesFrom from n → IsBefore n m → Legal p n → ⊥
 to-before p from s (Walk a b k) (Walk g u l) below h there (inl lt) legal = place-less g a (there ∙ sym h.among.0) lt
 to-before p from s (Walk a b k) (Walk g u l) below h there (inr c) legal =
     elim c.1 [
@@ -122,14 +122,14 @@ to-before p from s (Walk a b k) (Walk g u l) below h there (inr c) legal =
 to-before p from s (Put t k) n below h there before legal = h.among
 to-before p from s m (Put t k) below h there before legal = there
 
-pub walk-from-first : (p : Placed) (from s : Square) (m : Move) → ((t : Square) → place t < place s → NoneOf p (Leads from t)) → IsFirstOf p (Leads from s) m → IsFirstOf p (MovesFrom from) m
+pub walk-from-first : (p : Placed) (from s : Square) (m : Move) → ((t : Square) → place t < place s → NoneOf p (IsWalkBetween from t)) → IsFirstOf p (IsWalkBetween from s) m → IsFirstOf p (MovesFrom from) m
 walk-from-first p from s m below h = record {
-  among = leads-from from s m h.among;
+  among = between-from from s m h.among;
   legal = h.legal;
   first = λ n there before legal. to-before p from s m n below h there before legal;
 }
 
-pub none-from : (p : Placed) (from : Square) → ((t : Square) → NoneOf p (Leads from t)) → NoneOf p (MovesFrom from)
+pub none-from : (p : Placed) (from : Square) → ((t : Square) → NoneOf p (IsWalkBetween from t)) → NoneOf p (MovesFrom from)
 none-from p from none (Walk g u k) there legal = none u (Walk g u k) (there, refl) legal
 none-from p from none (Put t k) there legal = there
 

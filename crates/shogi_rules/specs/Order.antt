@@ -27,9 +27,9 @@ IsWalk (Walk from to _) = Unit {0}
 IsWalk (Put to _) = ⊥
 
 -- a walk between these squares
-abbrev pub Leads : Square → Square → Move → Type 0
-Leads a b (Walk from to _) = (from ≡ a) × (to ≡ b)
-Leads a b (Put to _) = ⊥
+abbrev pub IsWalkBetween : Square → Square → Move → Type 0
+IsWalkBetween a b (Walk from to _) = (from ≡ a) × (to ≡ b)
+IsWalkBetween a b (Put to _) = ⊥
 
 abbrev pub IsDrop : Move → Type 0
 IsDrop (Walk from to _) = ⊥

@@ -5,7 +5,7 @@ ghost use Rattle.shogi_board.specs.declared.kind.Kind.{Kind};
 ghost use Rattle.shogi_board.specs.declared.kind.Kind.TheVariants.{Pawn};
 ghost use Rattle.shogi_rules.specs.Evasions.{MovesFrom};
 ghost use Rattle.shogi_rules.specs.Legal.{Legal, IsPawnDrop};
-ghost use Rattle.shogi_rules.specs.Order.{IsFirstLegal, IsFirstOf, NoneOf, IsWalk, IsDrop, IsDropOf, Leads};
+ghost use Rattle.shogi_rules.specs.Order.{IsFirstLegal, IsFirstOf, NoneOf, IsWalk, IsDrop, IsDropOf, IsWalkBetween};
 ghost use Rattle.shogi_rules.specs.Verdicts.{NoLegalMove};
 
 use crate::board_rules::own_kind_at;
@@ -64,8 +64,8 @@ fn if_legal(position: &Position, mv: Move) -> Option<Move>
 // The first legal walk from the one square to the other, if the piece reaches it.
 fn first_form(position: &Position, from: Square, to: Square) -> Option<Move>
     ensures { MatchOption result
-        (NoneOf position.now (Leads from to))
-        (λ m. IsFirstOf position.now (Leads from to) m) }
+        (NoneOf position.now (IsWalkBetween from to))
+        (λ m. IsFirstOf position.now (IsWalkBetween from to) m) }
 {
     let Some(was) = own_kind_at(position, from) else {
         return None;

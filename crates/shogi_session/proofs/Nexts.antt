@@ -10,7 +10,7 @@ use Rattle.csa_text.specs.declared.fault.TextFault.{TextFault}
 use Rattle.csa_text.specs.declared.fault.TextFault.TheVariants.{Unknown}
 use Rattle.csa_text.specs.declared.item.Item.{Item}
 use Rattle.csa_record.specs.Tells.{IsSpelt}
-use Rattle.shogi_session.specs.NextItems.{Leads, IsUnread, unread, Next, FaultAt, EndFault, LastTime}
+use Rattle.shogi_session.specs.NextItems.{StepsOver, IsUnread, unread, Next, FaultAt, EndFault, LastTime}
 use Rattle.session_lines.specs.ServerLines.{another, extra}
 
 -- a cutter that handed out a statement
@@ -21,8 +21,8 @@ pub record Handed (c d : Cutting) (number offset : ℕ) (bytes : List ℕ) : Typ
 abbrev pub unit_of : Cutting → Cutting → ℕ → TextUnit
 unit_of c d offset = unit_between c.source offset d.at
 
-pub handed_leads : (c d : Cutting) (number offset : ℕ) (bytes : List ℕ) → Handed c d number offset bytes → Leads c (unit_of c d offset) d
-handed_leads c d number offset bytes h others behind =
+pub handed_steps : (c d : Cutting) (number offset : ℕ) (bytes : List ℕ) → Handed c d number offset bytes → StepsOver c (unit_of c d offset) d
+handed_steps c d number offset bytes h others behind =
     h.out.first.first others (subst (λ x. Statements d.at (drop d.at x) others) h.same behind)
 
 pub handed_short : (c d : Cutting) (number offset : ℕ) (bytes : List ℕ) → Handed c d number offset bytes → length (slice_range c.source offset d.at) ≤ 4096
@@ -41,7 +41,7 @@ pub handed_first : (c d : Cutting) (number offset : ℕ) (bytes : List ℕ) → 
     → (behind : List TextUnit) × ToCome c (unit_of c d offset ∷ behind)
 handed_first c d number offset bytes h =
     let rest = found d.at (drop d.at d.source) in
-    (rest.0, handed_leads c d number offset bytes h rest.0 rest.1)
+    (rest.0, handed_steps c d number offset bytes h rest.0 rest.1)
 
 pub handed_unread : (c d : Cutting) (number offset : ℕ) (bytes : List ℕ) (fault : TextFault) → Handed c d number offset bytes
     → ((s : Saying) → Spells bytes s → ⊥) → fault ≡ fault_of_row bytes → IsUnread (unit_of c d offset) fault
@@ -53,7 +53,7 @@ handed_unread c d number offset bytes fault h none e =
 pub next_read : (c d : Cutting) (number offset : ℕ) (bytes : List ℕ) (item : Item) → Handed c d number offset bytes
     → Spells bytes (saying_of item) → Next c (Ok (Some item)) d
 next_read c d number offset bytes item h spells =
-    (unit_of c d offset, handed_spelt c d number offset bytes (saying_of item) h spells, handed_leads c d number offset bytes h)
+    (unit_of c d offset, handed_spelt c d number offset bytes (saying_of item) h spells, handed_steps c d number offset bytes h)
 
 pub next_unread : (c d : Cutting) (number offset : ℕ) (bytes : List ℕ) (fault : TextFault) → Handed c d number offset bytes
     → ((s : Saying) → Spells bytes s → ⊥) → fault ≡ fault_of_row bytes → Next c (Err fault) d

@@ -6,7 +6,7 @@ use Rattle.csa_text.specs.Cut.{TextUnit, IsCut}
 use Rattle.csa_text.specs.Cutting.{Cutting, ToCome, IsTooLong}
 use Rattle.csa_text.specs.Spelling.{Saying, Spells}
 use Rattle.csa_record.specs.Tells.{IsSpelt}
-use Rattle.shogi_session.proofs.Nexts.{Handed, unit_of, handed_leads, handed_first, handed_spelt}
+use Rattle.shogi_session.proofs.Nexts.{Handed, unit_of, handed_steps, handed_first, handed_spelt}
 use Rattle.session_lines.proofs.OneStatement.{AtStart, whole}
 use Rattle.session_table.proofs.PositionFits.{FitsIn, not_so}
 use Rattle.shogi_session.specs.PositionTexts.{SpellsPosition, IsPositionText}
@@ -45,7 +45,7 @@ read_on text c d number offset bytes h out says =
       sayings = h.sayings ++ says.0 ∷ [];
       spelt = spelt_behind h.handed h.sayings u says.0 h.spelt (handed_spelt c d number offset bytes says.0 out says.1);
       fit = fit_behind h.sayings says.0 h.fit says.2;
-      whole = λ others behind. rw (append_assoc) (h.whole (u ∷ others) (handed_leads c d number offset bytes out others behind));
+      whole = λ others behind. rw (append_assoc) (h.whole (u ∷ others) (handed_steps c d number offset bytes out others behind));
     }
 
 pub read_less : (text : List ℕ) (c d : Cutting) (number offset : ℕ) (bytes : List ℕ) → HasRead text c → Handed c d number offset bytes

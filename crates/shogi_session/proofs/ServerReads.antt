@@ -16,12 +16,12 @@ use Rattle.shogi_board.specs.declared.color.Color.{Color}
 use Rattle.shogi_rules.specs.declared.moves.Move.{Move}
 use Rattle.session_lines.proofs.OneStatement.{AtStart, whole}
 use Rattle.session_lines.specs.MoveLines.{is_move_line}
-use Rattle.shogi_session.specs.NextItems.{Leads, FaultAt, LastTime, IsEnding}
+use Rattle.shogi_session.specs.NextItems.{StepsOver, FaultAt, LastTime, IsEnding}
 use Rattle.session_lines.specs.ServerLines.{IsLineOf, IsMove, IsTime, TellsEnding, UnitFault, too_long, unread, another, FirstTextFault, no_move, no_time, more}
 
 -- 1. What is read
 -- a statement, and then all that is left
-pub then_last : (line : List ℕ) (c d : Cutting) (u : TextUnit) (s : Saying) (t : Option ℕ) → AtStart line c → IsSpelt u s → Leads c u d
+pub then_last : (line : List ℕ) (c d : Cutting) (u : TextUnit) (s : Saying) (t : Option ℕ) → AtStart line c → IsSpelt u s → StepsOver c u d
     → LastTime d (Ok t) → IsLineOf line (s ∷ time_items t)
 then_last line c d u s None start spelt leads last = (u ∷ [], whole line c (u ∷ []) start (leads [] last), (spelt, tt))
 then_last line c d u s (Some t) start spelt leads last =
@@ -32,7 +32,7 @@ pub first_fault : (line : List ℕ) (c : Cutting) (fault : TextFault) → AtStar
 first_fault line c fault start at = no_move at.0 at.1 (whole line c (at.0 ∷ at.1) start at.2) at.3
 
 pub later_fault : (line : List ℕ) (c d : Cutting) (u : TextUnit) (color : Color) (m : Move) (fault : TextFault) → AtStart line c
-    → IsSpelt u (walked color m) → Leads c u d → LastTime d (Err fault) → FirstTextFault line fault
+    → IsSpelt u (walked color m) → StepsOver c u d → LastTime d (Err fault) → FirstTextFault line fault
 later_fault line c d u color m fault start spelt leads (inl at) =
     no_time u at.0 at.1 color m (whole line c (u ∷ at.0 ∷ at.1) start (leads (at.0 ∷ at.1) at.2)) spelt at.3
 later_fault line c d u color m fault start spelt leads (inr at) =
@@ -70,7 +70,7 @@ two_there : (v w : TextUnit) (vs : List TextUnit) (t : Option ℕ) → AllZip Is
 two_there v w vs None all = absurd all
 two_there v w vs (Some t) all = absurd all.1
 
-pub no_last_time : (line : List ℕ) (c d : Cutting) (u : TextUnit) (fault : TextFault) → AtStart line c → Leads c u d
+pub no_last_time : (line : List ℕ) (c d : Cutting) (u : TextUnit) (fault : TextFault) → AtStart line c → StepsOver c u d
     → LastTime d (Err fault) → (e : Ended) → TellsEnding line e → ⊥
 no_last_time line c d u fault start leads (inl at) e told =
     let cut = whole line c (u ∷ at.0 ∷ at.1) start (leads (at.0 ∷ at.1) at.2) in

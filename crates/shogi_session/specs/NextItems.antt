@@ -12,8 +12,8 @@ use Rattle.csa_record.specs.Tells.{IsSpelt}
 use Rattle.session_lines.specs.ServerLines.{IsTime, UnitFault, ExtraFault}
 
 -- the first statement that is still to come is this one, and then come those of the new cutter
-abbrev pub Leads : Cutting → TextUnit → Cutting → Type 0
-Leads old u new = (others : List TextUnit) → ToCome new others → ToCome old (u ∷ others)
+abbrev pub StepsOver : Cutting → TextUnit → Cutting → Type 0
+StepsOver old u new = (others : List TextUnit) → ToCome new others → ToCome old (u ∷ others)
 
 -- the statement is too long, or spells nothing
 pub data IsUnread (u : TextUnit) (fault : TextFault) : Type 0 where
@@ -26,7 +26,7 @@ pub data IsUnread (u : TextUnit) (fault : TextFault) : Type 0 where
 -- what the next statement says, its fault, or that none is left
 abbrev pub Next : Cutting → Result (Option Item) TextFault → Cutting → Type 0
 Next old (Ok None) new = ToCome old []
-Next old (Ok (Some item)) new = (u : TextUnit) × IsSpelt u (saying_of item) × Leads old u new
+Next old (Ok (Some item)) new = (u : TextUnit) × IsSpelt u (saying_of item) × StepsOver old u new
 Next old (Err fault) new = (u : TextUnit) × (behind : List TextUnit) × ToCome old (u ∷ behind) × IsUnread u fault
 
 -- the next statement is one of these, or it has that fault there

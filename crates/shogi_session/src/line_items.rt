@@ -4,7 +4,7 @@ ghost use Rattle.csa_text.specs.Cutting.{ToCome};
 ghost use Rattle.csa_text.specs.Saying.{saying_of};
 ghost use Rattle.csa_text.specs.Spelling.{time, walked};
 ghost use Rattle.csa_record.specs.Tells.{IsSpelt};
-ghost use Rattle.shogi_session.specs.NextItems.{EndFault, FaultAt, LastTime, Leads, Next};
+ghost use Rattle.shogi_session.specs.NextItems.{EndFault, FaultAt, LastTime, StepsOver, Next};
 ghost use Rattle.session_lines.specs.ServerLines.{IsMove};
 
 use csa_text::{Cutter, Item, TextFault, read_item};
@@ -30,7 +30,7 @@ pub(crate) fn next_item<'a>(cutter: &mut Cutter<'a>) -> Result<Option<Item<'a>>,
 pub(crate) fn next_move(cutter: &mut Cutter<'_>) -> Result<(Color, Move), TextFault>
     requires { ToCome cutter.old [] → ⊥ }
     ensures { MatchResult result
-        (λ r. (u : TextUnit) × IsSpelt u (walked r.0 r.1) × Leads cutter.old u cutter.new)
+        (λ r. (u : TextUnit) × IsSpelt u (walked r.0 r.1) × StepsOver cutter.old u cutter.new)
         (λ fault. FaultAt cutter.old IsMove fault) }
 {
     let Some(item) = next_item(cutter)? else {

@@ -7,7 +7,7 @@ ghost use Rattle.csa_text.specs.declared.ending.Ending.{Ending};
 ghost use Rattle.csa_record.specs.Game.{Ended};
 ghost use Rattle.csa_record.specs.Tells.{IsSpelt};
 ghost use Rattle.session_lines.specs.MoveLines.{is_move_line};
-ghost use Rattle.shogi_session.specs.NextItems.{FaultAt, IsEnding, Leads};
+ghost use Rattle.shogi_session.specs.NextItems.{FaultAt, IsEnding, StepsOver};
 ghost use Rattle.session_lines.specs.ServerLines.{FirstTextFault, TellsEnding, TellsTimed};
 
 use crate::line_items::{last_time, next_item, next_move};
@@ -51,7 +51,7 @@ pub(crate) fn read_server_ending(line: &[u8]) -> Option<(Ending, Option<u64>)>
 // The ending that the next statement is.
 fn next_ending(cutter: &mut Cutter<'_>) -> Result<Ending, TextFault>
     ensures { MatchResult result
-        (λ e. (u : TextUnit) × IsSpelt u (ending e) × Leads cutter.old u cutter.new)
+        (λ e. (u : TextUnit) × IsSpelt u (ending e) × StepsOver cutter.old u cutter.new)
         (λ fault. ToCome cutter.old [] ⊎ FaultAt cutter.old IsEnding fault) }
 {
     let Some(item) = next_item(cutter)? else {

@@ -3,7 +3,7 @@ use Rattle.std.proofs.lemmas.Bool.{cases_lt}
 use Rattle.shogi_board.specs.Squares.{place}
 use Rattle.shogi_board.specs.declared.square.Square.{Square}
 use Rattle.shogi_board.proofs.Squares.{place-bound, place-same}
-use Rattle.shogi_rules.specs.Order.{Leads, NoneOf}
+use Rattle.shogi_rules.specs.Order.{IsWalkBetween, NoneOf}
 use Rattle.shogi_rules.proofs.Firsts.{none-from, walk-from-first}
 use Rattle.shogi_rules.proofs.search.first_walk_from.Goals as goal
 
@@ -11,7 +11,7 @@ pub returns-in-Some : goal.returns-in-Some
 returns-in-Some c =
     let p = c.args.position.now in
     let s = c.at_place.result in
-    let below : (t : Square) → place t < place s → NoneOf p (Leads c.args.from t) = λ t lt. c.loop-n.invariant t (subst (λ i. place t < i) c.at_place.ensures lt) in
+    let below : (t : Square) → place t < place s → NoneOf p (IsWalkBetween c.args.from t) = λ t lt. c.loop-n.invariant t (subst (λ i. place t < i) c.at_place.ensures lt) in
     walk-from-first p c.args.from s c.in-Some.mv below c.in-Some.ensures
 
 pub loop-n-preserved : goal.loop-n-preserved
@@ -22,12 +22,12 @@ loop-n-preserved c = λ t below.
           let p = c.args.position.now in
           let there : place t ≡ c.loop-n.n = omega arith in
           let same : c.at_place.result ≡ t = place-same _ _ (c.at_place.ensures ∙ sym there) in
-          subst (λ (x : Square). NoneOf p (Leads c.args.from x)) same c.in_default.ensures
+          subst (λ (x : Square). NoneOf p (IsWalkBetween c.args.from x)) same c.in_default.ensures
     ]
 
 pub returns : goal.returns
 returns c =
     let p = c.args.position.now in
     let end : 81 ≤ c.loop-n.n = c.loop-n-test.false in
-    let none : (t : Square) → NoneOf p (Leads c.args.from t) = λ t. let b = place-bound t in c.loop-n.invariant t (omega (arith, b, end)) in
+    let none : (t : Square) → NoneOf p (IsWalkBetween c.args.from t) = λ t. let b = place-bound t in c.loop-n.invariant t (omega (arith, b, end)) in
     none-from p c.args.from none
