@@ -12,6 +12,13 @@ use Rattle.csa_record.specs.Reading.{Reading, HasRead}
 use Rattle.record_game.specs.Refused.{Refused, FaultlessTo}
 use Rattle.record_game.specs.Tells.{Tells}
 
+-- the most bytes of a read, and how often a source is read before its end must have come
+abbrev pub longest_piece : ℕ
+longest_piece = 4096
+
+abbrev pub most_reads : ℕ
+most_reads = 16777216
+
 -- it failed once more at an error, and else not
 abbrev pub CountsErrors : {T E : Type 0} → ℕ → ℕ → Result T E → Type 0
 CountsErrors old new r = MatchResult r (λ _. new ≡ old) (λ _. new ≡ old + 1)
@@ -51,7 +58,7 @@ pub record IsTold (old new : Option (List ℕ)) (g : Game) : Type 0 where
   pub bytes : List ℕ
   pub given : Consumes old new bytes
   pub ended : IsAtEnd new
-  pub few : length bytes ≤ 4096 * 16777216
+  pub few : length bytes ≤ longest_piece * most_reads
   pub tells : Tells bytes g
 
 -- bytes with this front are refused so, whatever comes behind it; or the source is at its end, and they are refused there
@@ -65,7 +72,7 @@ pub record StopsAt (bytes : List ℕ) : Type 0 where
   pub front : List ℕ
   pub piece : List ℕ
   pub whole : bytes ≡ front ++ piece
-  pub short : length piece ≤ 4096
+  pub short : length piece ≤ longest_piece
   pub reader : Reading
   pub read : HasRead front reader
 
@@ -95,7 +102,7 @@ pub record GaveMany (old new : Option (List ℕ)) (many : ℕ) : Type 0 where
 
 -- the source failed once; or it has not failed, and after so many bytes its end has not come
 abbrev pub FailsRead : Option (List ℕ) → Option (List ℕ) → ℕ → ℕ → Type 0
-FailsRead old new before after = (after ≡ before + 1) ⊎ ((after ≡ before) × GaveMany old new 16777216)
+FailsRead old new before after = (after ≡ before + 1) ⊎ ((after ≡ before) × GaveMany old new most_reads)
 
 -- what the source gave has no fault: so far, or to its end, where it tells a game
 abbrev pub IsWanting : Option (List ℕ) → Option (List ℕ) → Type 0
@@ -116,7 +123,7 @@ ReadsRecord old new before after (Err fault) = IsReadFault old new before after 
 -- a reader of these bytes was fed the next piece of the source; or the source is at its end; or here the reading stops
 abbrev pub FeedsNext : List ℕ → Option (List ℕ) → Option (List ℕ) → ℕ → ℕ → Result Bool FlowFault → Reading → Type 0
 FeedsNext bytes old new before after (Ok true) reader =
-    (piece : List ℕ) × Consumes old new piece × (0 < length piece) × (length piece ≤ 4096) × (after ≡ before) × HasRead (bytes ++ piece) reader
+    (piece : List ℕ) × Consumes old new piece × (0 < length piece) × (length piece ≤ longest_piece) × (after ≡ before) × HasRead (bytes ++ piece) reader
 FeedsNext bytes old new before after (Ok false) reader = Consumes old new [] × IsAtEnd new × (after ≡ before) × HasRead bytes reader
 FeedsNext bytes old new before after (Err fault) reader =
     (start : Option (List ℕ)) → Consumes start old bytes → IsReadFault start new before after fault
@@ -127,7 +134,7 @@ pub record IsFed (old new : Option (List ℕ)) (before after reads : ℕ) (reade
   pub given : Consumes old new bytes
   pub quiet : after ≡ before
   pub least : reads ≤ length bytes
-  pub most : length bytes ≤ 4096 * reads
+  pub most : length bytes ≤ longest_piece * reads
   pub read : HasRead bytes reader
 
 -- a reader was fed all that the source gave up to its end
@@ -135,7 +142,7 @@ pub record IsFedAll (old new : Option (List ℕ)) (before after : ℕ) (reader :
   pub bytes : List ℕ
   pub given : Consumes old new bytes
   pub ended : IsAtEnd new
-  pub few : length bytes ≤ 4096 * 16777216
+  pub few : length bytes ≤ longest_piece * most_reads
   pub quiet : after ≡ before
   pub read : HasRead bytes reader
 

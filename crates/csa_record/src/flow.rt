@@ -1,7 +1,7 @@
 ghost use Rattle.std.specs.Prelude.{◌≡◌, ◌≢◌, true, ℕ, ◌+◌, ◌-◌, ◌^◌, ◌<◌, ◌≤◌, List, [], IfOk, IfErr, OnOk, OnErr, IsErrOf, IsTrue, MatchResult};
 ghost use Rattle.std.specs.Io.KnownBytes.{Keeps};
 ghost use Rattle.csa_record.specs.declared.flow.FlowFault.{FlowFault};
-ghost use Rattle.csa_record.specs.Flow.{fault_of, IsTold, IsRefusal, IsFaultless, FailsRead, IsReadFault, ReadsRecord, FeedsNext, IsFedAll, IsTextFault, TellsText, IsNormal, IsCutShort, IsFlowFault, IsWanting};
+ghost use Rattle.csa_record.specs.Flow.{longest_piece, fault_of, IsTold, IsRefusal, IsFaultless, FailsRead, IsReadFault, ReadsRecord, FeedsNext, IsFedAll, IsTextFault, TellsText, IsNormal, IsCutShort, IsFlowFault, IsWanting};
 ghost use Rattle.csa_record.specs.Reading.{HasRead, fed_of};
 
 use crate::record::Record;
@@ -174,7 +174,7 @@ fn feed_next<S: Source>(
     buffer: &mut [u8; PIECE],
 ) -> Result<bool, FlowFault>
     requires failed { S.failed source.old < 2 ^ 64 - 1 }
-    requires room { fed_of reader.old + 4096 ≤ 2 ^ 63 }
+    requires room { fed_of reader.old + longest_piece ≤ 2 ^ 63 }
     ensures fed { (bytes : List ℕ) → HasRead bytes reader.old
         → FeedsNext bytes (S.known source.old) (S.known source.new) (S.failed source.old) (S.failed source.new) result reader.new }
     ensures unended { MatchResult result (λ more. IsTrue more → S.ended source.new ≡ S.ended source.old) (λ _. S.ended source.new ≡ S.ended source.old) }

@@ -15,7 +15,7 @@ mod start_writer;
 mod titles;
 mod writer;
 
-pub use flow::{FlowFault, MOST_READS, normalise, read_from};
+pub use flow::{FlowFault, MOST_READS, PIECE, normalise, read_from};
 pub use record::Record;
 pub use record_game::{OrderFault, Refusal, Why, laws};
 pub use record_reader::{RecordReader, read};

@@ -3,7 +3,7 @@ ghost use Rattle.arrayvec.specs.ArrayString.{array_string_len};
 ghost use Rattle.csa_text.specs.Codes.{sign, square_text, squares_text};
 ghost use Rattle.csa_text.specs.Spelling.{Spells, walked};
 
-use crate::codes::{kind_text, read_kind, read_square};
+use crate::codes::{kind_text, read_kind, read_square, sign_of};
 use arrayvec::ArrayString;
 use shogi_board::{Color, Square};
 use shogi_rules::Move;
@@ -15,10 +15,7 @@ pub fn csa_move(color: Color, m: &Move) -> ArrayString<7>
     ensures spells { Spells result.bytes (walked color m.now) }
 {
     let mut text = ArrayString::new();
-    text.push(match color {
-        Color::Black => '+',
-        Color::White => '-',
-    });
+    text.push(sign_of(color) as char);
     match *m {
         Move::Walk { from, to, kind } => {
             push_square(&mut text, from);

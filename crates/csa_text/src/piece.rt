@@ -3,7 +3,7 @@ ghost use Rattle.std.specs.Borrow.{sem};
 ghost use Rattle.std.specs.Io.BufRead.{Rests};
 ghost use Rattle.arrayvec.specs.ArrayVec.{array_vec_len};
 ghost use Rattle.csa_text.specs.contracts.piece.PieceCutter.{the_row};
-ghost use Rattle.csa_text.specs.Cut.{statement_bytes};
+ghost use Rattle.csa_text.specs.Cut.{statement_bytes, longest_statement};
 ghost use Rattle.csa_text.specs.PieceCutting.{fresh, HoldsLittle, IsOpen};
 ghost use Rattle.csa_text.specs.PieceSteps.{AfterStep, AfterEnd, Last, IsTooLongAt, IsUsed, IsLentFrom};
 ghost use Rattle.csa_text.specs.Places.{IsKept, IsFoundIn, PassesTo, IsHeld, begins, kept_of, has_unit};
@@ -244,7 +244,7 @@ fn keep_held(held: &mut ArrayVec<u8, LONGEST_STATEMENT>, goes_on: bool)
 
 // Holds what has come of a byte order mark, and nothing of a gap or a comment.
 fn hold_mark(held: &mut ArrayVec<u8, LONGEST_STATEMENT>, place: Place, piece: &[u8])
-    requires { begins place ≡ true → array_vec_len held.old + length piece.now ≤ 4096 }
+    requires { begins place ≡ true → array_vec_len held.old + length piece.now ≤ longest_statement }
     ensures { held.new.items ≡ (if begins place then held.old.items ++ piece.now else []) }
 {
     match place {
@@ -254,7 +254,7 @@ fn hold_mark(held: &mut ArrayVec<u8, LONGEST_STATEMENT>, place: Place, piece: &[
 }
 
 fn hold(held: &mut ArrayVec<u8, LONGEST_STATEMENT>, part: &[u8])
-    requires { array_vec_len held.old + length part.now ≤ 4096 }
+    requires { array_vec_len held.old + length part.now ≤ longest_statement }
     ensures { held.new.items ≡ held.old.items ++ part.now }
 {
     held.try_extend_from_slice(part).unwrap();

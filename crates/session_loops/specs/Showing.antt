@@ -1,15 +1,10 @@
 -- What is shown of the moves of a game that runs.
-use Rattle.std.specs.Prelude.{◌≡◌, ◌⊎◌, ◌-◌, ◌==◌, ℕ, Bool, List, [], ◌∷◌, length, take, drop, Option, Some, bytes_eq, codes, if◌then◌else◌}
+use Rattle.std.specs.Prelude.{◌≡◌, ◌-◌, ◌==◌, ℕ, Bool, List, [], ◌∷◌, length, take, drop, Option, Some, bytes_eq, codes, if◌then◌else◌}
 use Rattle.std.specs.List.{before_first}
 use Rattle.record_game.specs.Game.{Game}
 use Rattle.record_game.specs.Limits.{IsGame}
 use Rattle.shogi_session.specs.GameTold.{game_of}
 use Rattle.shogi_session.specs.State.{Client}
-
--- the line begins with the sign of a side
-abbrev pub IsSigned : List ℕ → Type 0
-IsSigned [] = ⊥
-IsSigned (b ∷ line) = (b ≡ 43) ⊎ (b ≡ 45)
 
 -- whether moves are shown, and the number of the one that was shown last, if one was
 pub record Showing : Type 0 where

@@ -7,6 +7,7 @@ ghost use Rattle.session_loops.specs.Incoming.{GivesEnd, GivesLine, GivesLongLin
 
 use crate::fault::Fault;
 use crate::streams;
+use csa_record::PIECE;
 use csa_text::{LineCutter, LineFault};
 use std::alloc::Global;
 use std::io::{BufRead, BufReader, ErrorKind, Read};
@@ -55,7 +56,7 @@ impl<R: Read + Drop> Incoming<R> {
         ensures open { IfOk result (λ i. i.is_over ≡ false) }
         ensures faults { IfErr result (λ fault. fault ≡ Fault.OutOfMemory) }
     {
-        let Ok(reader) = BufReader::with_capacity(alloc, streams::PIECE, reader) else {
+        let Ok(reader) = BufReader::with_capacity(alloc, PIECE, reader) else {
             return Err(Fault::OutOfMemory);
         };
         Ok(Incoming {

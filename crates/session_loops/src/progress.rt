@@ -1,11 +1,13 @@
 //! A line on standard error for each move of a game that runs.
 
-ghost use Rattle.std.specs.Prelude.{◌≡◌, ◌⊎◌, ◌↔◌, ◌+◌, ◌<◌, ◌≤◌, ◌^◌, ℕ, length, true, None, Some, IfSome, IsTrue};
+ghost use Rattle.std.specs.Prelude.{◌≡◌, ◌⊎◌, ◌↔◌, ◌+◌, ◌<◌, ◌≤◌, ◌^◌, ℕ, length, true, false, None, Some, IfSome, IsTrue};
 ghost use Rattle.std.specs.List.{position_or_len};
-ghost use Rattle.session_loops.specs.Showing.{HasMoves, IsSigned, is_quote, without_comment};
+ghost use Rattle.session_loops.specs.Showing.{HasMoves, is_quote, without_comment};
+ghost use Rattle.session_lines.specs.MoveLines.{is_move_line};
 ghost use Rattle.shogi_session.specs.State.{client_state};
 
 use csa_record::read;
+use session_lines::is_move_line;
 use shogi_session::{Bridge, ClientState};
 use std::alloc::Global;
 use std::io::Eprint;
@@ -50,11 +52,11 @@ impl Progress {
     /// does not take is lost.
     pub fn show<R: Eprint + AllocGlobal>(&mut self, rt: &R, bridge: &Bridge, line: &[u8])
         ensures on { self.new.is_on ≡ self.old.is_on }
-        ensures counted { (n : ℕ) → IsSigned line.now → self.old.moves ≡ Some n → n + 1 < 2 ^ 64 → self.new.moves ≡ Some (n + 1) }
-        ensures first { IsSigned line.now → self.old.moves ≡ None → (n : ℕ) × (self.new.moves ≡ Some n) × ((n ≡ 0) ⊎ HasMoves bridge.now.state.client n) }
-        ensures other { (IsSigned line.now → ⊥) → self.new ≡ self.old }
+        ensures counted { (n : ℕ) → is_move_line line.now ≡ true → self.old.moves ≡ Some n → n + 1 < 2 ^ 64 → self.new.moves ≡ Some (n + 1) }
+        ensures first { is_move_line line.now ≡ true → self.old.moves ≡ None → (n : ℕ) × (self.new.moves ≡ Some n) × ((n ≡ 0) ⊎ HasMoves bridge.now.state.client n) }
+        ensures other { is_move_line line.now ≡ false → self.new ≡ self.old }
     {
-        if !is_signed(line) {
+        if !is_move_line(line) {
             return;
         }
         let number = match self.moves {
@@ -74,16 +76,6 @@ fn is_playing(state: ClientState) -> bool
     match state {
         ClientState::Playing | ClientState::Sent => true,
         _ => false,
-    }
-}
-
-// Whether the line begins with the sign of a side.
-fn is_signed(line: &[u8]) -> bool
-    ensures { IsTrue result ↔ IsSigned line.now }
-{
-    match line {
-        [first, ..] => *first == b'+' || *first == b'-',
-        [] => false,
     }
 }
 

@@ -17,9 +17,6 @@ use std::rt::Files;
 /// The most bytes of a line that a command takes.
 pub const LONGEST_LINE: usize = 65_536;
 
-/// The most bytes of a read.
-pub const PIECE: usize = 4096;
-
 /// A file to be read from its start. `Fault::Read` where it cannot be opened.
 pub fn open<R: Files>(rt: &R, path: &str) -> Result<R::File, Fault>
     ensures faults { IfErr result IsReadFault }

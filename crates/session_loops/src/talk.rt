@@ -7,6 +7,7 @@ ghost use Rattle.session_loops.specs.Talks.{HasAnswered, BreaksOff, IsReply, IsU
 use crate::fault::Fault;
 use crate::streams;
 use crate::wire::Wire;
+use csa_record::PIECE;
 use csa_text::LineCutter;
 use shogi_board::OutOfMemory;
 use shogi_session::{Host, HostOut, Lines, Sample, SampleOut};
@@ -74,7 +75,7 @@ pub fn answer_all<M: Machine, X: Wire>(
     ensures faults { IfErr result IsTalkFault }
 {
     let mut cutter = LineCutter::new(alloc, streams::LONGEST_LINE);
-    let mut buffer = [0u8; streams::PIECE];
+    let mut buffer = [0u8; PIECE];
     for _pieces in 0..u64::MAX {
         let taken = match wire.receive(&mut buffer) {
             Ok(taken) => taken,

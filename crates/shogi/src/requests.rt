@@ -3,6 +3,7 @@
 ghost use Rattle.std.specs.Prelude.{◌≡◌, ◌≤◌, ◌↔◌, IfErr, IfOk, IsTrue, Some, false};
 ghost use Rattle.clap.specs.Words.{subcommand_name_of};
 ghost use Rattle.shogi.specs.Asking.{IsFaultOf};
+ghost use Rattle.shogi_rules.specs.Positions as positions;
 ghost use Rattle.shogi_words.specs.Words.{IsNoCommand, word_of};
 
 use crate::stop::Stop;
@@ -21,7 +22,7 @@ use std::time::Clock;
 /// `Stop::UnknownCommand` where they name no command.
 pub fn requested<'a>(matches: &ArgMatches<'a>) -> Result<Request<'a>, Stop>
     ensures named { IfOk result (λ r. subcommand_name_of matches.now ≡ Some (word_of r)) }
-    ensures within { IfOk result (λ r. (s : Service) → r ≡ Request.Serve s → (1 ≤ s.max_moves) × (s.max_moves ≤ 10000)) }
+    ensures within { IfOk result (λ r. (s : Service) → r ≡ Request.Serve s → (1 ≤ s.max_moves) × (s.max_moves ≤ positions.max_moves)) }
     ensures unknown { IfErr result (λ stop. (stop ≡ Stop.UnknownCommand) × IsNoCommand (subcommand_name_of matches.now)) }
 {
     request_of(matches).ok_or(Stop::UnknownCommand)
@@ -38,7 +39,7 @@ pub fn meet<
         + Eprint
         + AllocGlobal,
 >(rt: &R, request: &Request<'_>, is_terminal: bool) -> Result<(), Fault>
-    requires { (s : Service) → request.now ≡ Request.Serve s → (1 ≤ s.max_moves) × (s.max_moves ≤ 10000) }
+    requires { (s : Service) → request.now ≡ Request.Serve s → (1 ≤ s.max_moves) × (s.max_moves ≤ positions.max_moves) }
     ensures faults { IfErr result (IsFaultOf request.now) }
 {
     match *request {

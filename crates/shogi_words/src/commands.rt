@@ -1,6 +1,7 @@
 //! The commands, and which of them a command line names.
 
 ghost use Rattle.std.specs.Prelude.{◌≡◌, ◌≤◌, [], IfOk, IfSome, None, Some};
+ghost use Rattle.shogi_rules.specs.Positions as positions;
 ghost use Rattle.shogi_words.specs.Words.{IsNoCommand, commands, word_of};
 ghost use Rattle.clap.specs.Words.{subcommand_name_of, subcommand_names};
 
@@ -38,7 +39,7 @@ fn program<'a>(alloc: Global) -> Command<'a>
 /// What the words ask for, or None where they name none of the commands.
 pub fn request_of<'a>(matches: &ArgMatches<'a>) -> Option<Request<'a>>
     ensures named { IfSome result (λ r. subcommand_name_of matches.now ≡ Some (word_of r)) }
-    ensures within { IfSome result (λ r. (s : Service) → r ≡ Request.Serve s → (1 ≤ s.max_moves) × (s.max_moves ≤ 10000)) }
+    ensures within { IfSome result (λ r. (s : Service) → r ≡ Request.Serve s → (1 ≤ s.max_moves) × (s.max_moves ≤ positions.max_moves)) }
     ensures unknown { result ≡ None → IsNoCommand (subcommand_name_of matches.now) }
 {
     let (name, words) = matches.subcommand()?;

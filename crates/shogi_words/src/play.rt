@@ -2,6 +2,7 @@
 
 ghost use Rattle.std.specs.Prelude.{◌≡◌, ℕ, List, IfOk, None, Some, codes, false, option_map, true};
 ghost use Rattle.clap.specs.Words.{app_of, first_value, found_of, one_text};
+ghost use Rattle.shogi_rules.specs.Positions as positions;
 ghost use Rattle.shogi_words.specs.Words.{IsGiven};
 
 use crate::{serve, words};
@@ -56,7 +57,7 @@ pub fn command<'a>(alloc: Global) -> Result<Command<'a>, AllocError>
             .long("max")
             .value_name("N")
             .help("The server's game ends after so many moves, 1 to 10000 [default: 256]")
-            .value_parser(value_parser!(u32).range(1..=10_000)),
+            .value_parser(value_parser!(u32).range(1..=serve::MOST_MOVES as i64)),
     )?
     .arg(
         Arg::new(alloc, "quiet")
@@ -87,7 +88,7 @@ pub fn match_of<'a>(matches: &ArgMatches<'a>) -> Match<'a>
     ensures engine { (text : List ℕ) → first_value (found_of matches.now) (codes "engine") ≡ Some text → result.engine.now ≡ text }
     ensures word { option_map (λ s. s.now) result.engine_word ≡ first_value (found_of matches.now) (codes "engine-arg") }
     ensures out { (text : List ℕ) → first_value (found_of matches.now) (codes "out") ≡ Some text → result.out.now ≡ text }
-    ensures given { IsGiven (one_text (found_of matches.now) (codes "max")) 1 10000 result.max_moves }
+    ensures given { IsGiven (one_text (found_of matches.now) (codes "max")) 1 positions.max_moves result.max_moves }
     ensures usual { one_text (found_of matches.now) (codes "max") ≡ None → result.max_moves ≡ 256 }
     ensures quiet { one_text (found_of matches.now) (codes "quiet") ≡ Some (codes "true") → result.is_quiet ≡ true }
     ensures shown { one_text (found_of matches.now) (codes "quiet") ≡ Some (codes "false") → result.is_quiet ≡ false }

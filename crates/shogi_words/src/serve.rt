@@ -2,11 +2,13 @@
 
 ghost use Rattle.std.specs.Prelude.{◌≡◌, ◌≤◌, IfOk, None, Some, codes};
 ghost use Rattle.clap.specs.Words.{app_of, found_of, one_text};
+ghost use Rattle.shogi_rules.specs.Positions as positions;
 ghost use Rattle.shogi_words.specs.Words.{IsGiven};
 
 use crate::words;
 use clap::{Arg, ArgAction, ArgMatches, Command, value_parser};
 use shogi_board::Color;
+use shogi_rules::MAX_MOVES;
 use std::alloc::{AllocError, Global};
 
 /// Where a server listens, and which game it plays.
@@ -23,7 +25,8 @@ pub struct Service {
 /// The command's word.
 pub const NAME: &str = "serve";
 
-const MAX_MOVES: u32 = 10_000;
+// The most moves that a game may have.
+pub(crate) const MOST_MOVES: u32 = MAX_MOVES as u32;
 
 const USUAL_MOVES: u32 = 256;
 
@@ -49,7 +52,7 @@ pub fn command<'a>(alloc: Global) -> Result<Command<'a>, AllocError>
             .long("max")
             .value_name("N")
             .help("The game ends after so many moves, 1 to 10000 [default: 256]")
-            .value_parser(value_parser!(u32).range(1..=10_000)),
+            .value_parser(value_parser!(u32).range(1..=MOST_MOVES as i64)),
     )?
     .arg(
         Arg::new(alloc, "white")
@@ -63,8 +66,8 @@ pub fn command<'a>(alloc: Global) -> Result<Command<'a>, AllocError>
 pub fn service_of(matches: &ArgMatches<'_>) -> Service
     ensures black { one_text (found_of matches.now) (codes "white") ≡ Some (codes "false") → result.client ≡ Color.Black }
     ensures white { one_text (found_of matches.now) (codes "white") ≡ Some (codes "true") → result.client ≡ Color.White }
-    ensures within { (1 ≤ result.max_moves) × (result.max_moves ≤ 10000) }
-    ensures given { IsGiven (one_text (found_of matches.now) (codes "max")) 1 10000 result.max_moves }
+    ensures within { (1 ≤ result.max_moves) × (result.max_moves ≤ positions.max_moves) }
+    ensures given { IsGiven (one_text (found_of matches.now) (codes "max")) 1 positions.max_moves result.max_moves }
     ensures usual { one_text (found_of matches.now) (codes "max") ≡ None → result.max_moves ≡ 256 }
     ensures port { IsGiven (one_text (found_of matches.now) (codes "port")) 0 65535 result.port }
     ensures free { one_text (found_of matches.now) (codes "port") ≡ None → result.port ≡ 0 }
@@ -90,12 +93,12 @@ fn client(matches: &ArgMatches<'_>) -> Color
 
 /// How many moves the game may have; the command takes no other numbers.
 pub fn max_moves(matches: &ArgMatches<'_>) -> u32
-    ensures within { (1 ≤ result) × (result ≤ 10000) }
-    ensures given { IsGiven (one_text (found_of matches.now) (codes "max")) 1 10000 result }
+    ensures within { (1 ≤ result) × (result ≤ positions.max_moves) }
+    ensures given { IsGiven (one_text (found_of matches.now) (codes "max")) 1 positions.max_moves result }
     ensures usual { one_text (found_of matches.now) (codes "max") ≡ None → result ≡ 256 }
 {
     match matches.get_one::<u32>("max") {
-        Some(moves) => moves.clamp(1, MAX_MOVES),
+        Some(moves) => moves.clamp(1, MOST_MOVES),
         None => USUAL_MOVES,
     }
 }
