@@ -3,23 +3,23 @@ use Rattle.std.proofs.Common.{◌≡◌, ◌≢◌, ℕ, ◌+◌, ◌≤◌, Lis
 use Rattle.std.specs.List.{AllByRecursion, AllZip}
 use Rattle.std.proofs.lemmas.List.{append-nil, length-append, take-append-drop}
 use Rattle.std.proofs.Math.Seq.{take-length}
-use Rattle.csa_text.specs.Cut.{TextUnit, IsCut, statement_bytes}
-use Rattle.csa_text.specs.PieceCutting.{PieceCutting, ToComeWith, Leads, is_closed, fresh}
-use Rattle.csa_text.specs.PieceSteps.{Stepped, Finished, IsNumbered}
-use Rattle.csa_text.specs.TooLong.{AreShort}
+use Rattle.csa_cutting.specs.Cut.{TextUnit, IsCut, statement_bytes}
+use Rattle.csa_cutting.specs.PieceCutting.{PieceCutting, ToComeWith, Leads, is_closed, fresh}
+use Rattle.csa_cutting.specs.PieceSteps.{Stepped, Finished, IsNumbered}
+use Rattle.csa_cutting.specs.TooLong.{AreShort}
 use Rattle.shogi_board.specs.declared.color.Color.{Color}
 use Rattle.shogi_board.specs.declared.setup.SetupFault.{SetupFault}
 use Rattle.shogi_board.specs.Layout.{Layout}
 use Rattle.shogi_rules.specs.declared.line.PlayFault.{PlayFault}
 use Rattle.shogi_rules.specs.declared.line.PlayFault.TheVariants as faults
 use Rattle.csa_text.specs.Spelling.{Saying, version, name, header, even, rank, pieces, turn, walked, time, ending, Spells, fault_of_row}
-use Rattle.csa_text.specs.declared.cutter.CutFault.{CutFault}
-use Rattle.csa_text.specs.declared.cutter.Statement.{Statement}
+use Rattle.csa_cutting.specs.declared.cutter.CutFault.{CutFault}
+use Rattle.csa_cutting.specs.declared.cutter.Statement.{Statement}
 use Rattle.csa_text.specs.declared.fault.TextFault.TheVariants.{StatementTooLong}
-use Rattle.csa_text.proofs.FirstLong.{too_long_whole, nothing_fed}
-use Rattle.csa_text.proofs.Joining.{pieces_joined, pieces_whole}
-use Rattle.csa_text.proofs.Once.{statements_once}
-use Rattle.csa_text.proofs.Runs.{found}
+use Rattle.csa_cutting.proofs.FirstLong.{too_long_whole, nothing_fed}
+use Rattle.csa_cutting.proofs.Joining.{pieces_joined, pieces_whole}
+use Rattle.csa_cutting.proofs.Once.{statements_once}
+use Rattle.csa_cutting.proofs.Runs.{found}
 use Rattle.record_game.specs.declared.fault.OrderFault.{OrderFault}
 use Rattle.record_game.specs.declared.fault.Refusal.{Refusal}
 use Rattle.record_game.specs.declared.fault.Why.{Why}

@@ -4,13 +4,13 @@ use Rattle.std.specs.Prelude.{OnOk, IfErr}
 use Rattle.std.specs.List.{AllByRecursion}
 use Rattle.std.proofs.Math.Seq.{take-add, take-length}
 use Rattle.std.proofs.lemmas.List.{length-take-le, take-append-drop}
-use Rattle.csa_text.specs.PieceCutting.{PieceCutting}
-use Rattle.csa_text.specs.PieceSteps.{Stepped, Used, Finished}
+use Rattle.csa_cutting.specs.PieceCutting.{PieceCutting}
+use Rattle.csa_cutting.specs.PieceSteps.{Stepped, Used, Finished}
 use Rattle.csa_text.specs.Spelling.{Saying}
-use Rattle.csa_text.specs.declared.cutter.CutFault.{CutFault}
-use Rattle.csa_text.specs.declared.cutter.Statement.{Statement}
+use Rattle.csa_cutting.specs.declared.cutter.CutFault.{CutFault}
+use Rattle.csa_cutting.specs.declared.cutter.Statement.{Statement}
 use Rattle.csa_text.specs.declared.fault.TextFault.TheVariants.{StatementTooLong}
-use Rattle.csa_text.specs.declared.piece.Cut.{Cut}
+use Rattle.csa_cutting.specs.declared.piece.Cut.{Cut}
 use Rattle.record_game.specs.declared.fault.Refusal.{Refusal}
 use Rattle.record_game.specs.declared.fault.OrderFault.TheVariants.{MissingTurn}
 use Rattle.record_game.specs.declared.fault.Why.TheVariants.{Text, Order, OutOfMemory}

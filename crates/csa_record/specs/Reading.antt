@@ -1,8 +1,8 @@
 -- A reader of a record that comes in pieces.
 use Rattle.std.specs.Prelude.{◌≡◌, ◌≢◌, ◌⊎◌, ℕ, List, [], ◌++◌, length, take, Option, Some, None, Result, Ok, Err}
-use Rattle.csa_text.specs.Cut.{TextUnit, IsCut}
-use Rattle.csa_text.specs.PieceCutting.{PieceCutting}
-use Rattle.csa_text.specs.TooLong.{HasCutOf}
+use Rattle.csa_cutting.specs.Cut.{TextUnit, IsCut}
+use Rattle.csa_cutting.specs.PieceCutting.{PieceCutting}
+use Rattle.csa_cutting.specs.TooLong.{HasCutOf}
 use Rattle.csa_text.specs.Spelling.{Saying}
 use Rattle.record_game.specs.declared.fault.Refusal.{Refusal}
 use Rattle.record_game.specs.declared.fault.Why.TheVariants.{OutOfMemory}

@@ -12,7 +12,7 @@ ghost use Rattle.record_game.specs.Limits.{IsOneLine};
 ghost use Rattle.record_game.specs.Outcome.{Outcome, IsWritten, late};
 ghost use Rattle.record_game.specs.Refused.{Finishes};
 ghost use Rattle.record_game.specs.Says.{Says};
-ghost use Rattle.csa_text.specs.Cut.{longest_statement};
+ghost use Rattle.csa_cutting.specs.Cut.{longest_statement};
 
 use crate::course::Course;
 use crate::laying::Laying;

@@ -8,7 +8,7 @@ ghost use Rattle.record_game.specs.Game.{move_of};
 ghost use Rattle.record_game.specs.Limits.{IsGame, IsName, IsOneLine};
 ghost use Rattle.record_game.specs.Titles.{IsWithHeader, name_of, name_fault, header_fault, with_name, under};
 ghost use Rattle.csa_record.specs.TitleBytes.{shown};
-ghost use Rattle.csa_text.specs.Cut.{longest_statement};
+ghost use Rattle.csa_cutting.specs.Cut.{longest_statement};
 
 use crate::course::Course;
 use crate::titles::{HeaderValue, Titles};

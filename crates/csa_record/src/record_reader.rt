@@ -9,7 +9,7 @@ ghost use Rattle.record_game.specs.Tells.{Tells};
 
 use crate::progress::Progress;
 use crate::record::Record;
-use csa_text::{PieceCutter, Statement};
+use csa_cutting::{PieceCutter, Statement};
 use record_game::{OrderFault, Refusal, Why};
 use std::alloc::Global;
 use std::marker::Model;

@@ -11,7 +11,7 @@ ghost use Rattle.record_game.specs.Limits.{IsName, IsOneLine, IsMomentKey, IsEnt
 ghost use Rattle.record_game.specs.Says.{IsValue};
 ghost use Rattle.record_game.specs.Titles.{untitled, name_of, under, name_fault, header_fault, with_name, with_entry, IsWithHeader, IsTitled};
 ghost use Rattle.csa_record.specs.TitleBytes.{text_of, entry_of, entries_of, shown};
-ghost use Rattle.csa_text.specs.Cut.{longest_statement};
+ghost use Rattle.csa_cutting.specs.Cut.{longest_statement};
 
 use csa_text::{Moment, read_moment, sign_of};
 use record_game::{OrderFault, Why};

@@ -1,5 +1,3 @@
-pub mod Fronts
-pub mod Runs
 pub mod SameMoment
 pub mod Texts
 pub mod PairsRead
@@ -9,22 +7,4 @@ pub mod Rows
 pub mod Sayings
 pub mod Decided
 pub mod Codings
-pub mod Blanks
-pub mod Once
-pub mod LineCutting
-pub mod LinesOnce
-mod LinesFound
-pub mod LongLines
 pub mod Moments
-pub mod Passing
-pub mod Spoken
-pub mod Finding
-pub mod Leading
-pub mod Unfinished
-pub mod Joining
-pub mod Growing
-pub mod FirstLong
-mod Lent
-pub mod Holding
-pub mod WholeRuns
-pub mod LineRuns

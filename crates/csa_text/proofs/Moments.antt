@@ -11,11 +11,11 @@ use Rattle.std.proofs.lemmas.Str.{digit_value_digit}
 use Rattle.jiff_core.specs.Calendar.{IsCivilDate, days_in_month, is_leap_year}
 use Rattle.jiff_core.specs.declared.civil.date.Date.{Date}
 use Rattle.jiff_core.specs.declared.civil.time.Time.{Time}
-use Rattle.csa_text.proofs.LineCutting.{all_joined}
+use Rattle.csa_cutting.proofs.LineCutting.{all_joined}
 use Rattle.csa_text.specs.Fields.{IsNumber, HasNone, IsSplit}
 use Rattle.csa_text.specs.Moment.{TimeOfDay, CalendarMoment, AreNumbers, SpellsDate, SpellsTime, SpellsDateAnd, SpellsMoment, two_digits, four_digits, date_text, time_text, behind_date}
 use Rattle.csa_text.specs.MomentParts.{time_of}
-use Rattle.csa_text.proofs.Once.{same_front}
+use Rattle.csa_cutting.proofs.Once.{same_front}
 
 pub digit_below : (ds : List ℕ) (i : ℕ) → AllDigits 10 ds → i < length ds → digit_value (get_or ds i 0) < 10
 digit_below [] i h less = absurd (omega arith)

@@ -1,5 +1,3 @@
-pub mod Cut
-pub mod Cutting
 pub mod Codes
 pub mod PairTexts
 pub mod CodesOnce
@@ -8,13 +6,6 @@ pub mod Endings
 pub mod TimeTexts
 pub mod Saying
 pub mod Spelling
-pub mod Lines
-pub mod LineCutting
 pub mod Fields
 pub mod Moment
 pub mod MomentParts
-pub mod PieceCutting
-pub mod PieceSteps
-pub mod Places
-pub mod TooLong
-pub mod WholeRun

@@ -9,7 +9,7 @@ use Rattle.csa_text.specs.declared.fault.TextFault.{TextFault}
 use Rattle.csa_text.specs.declared.fault.TextFault.TheVariants.{BadVersion, BadHeader, BadPosition, BadMove, BadTime, UnknownEnding, Unknown}
 use Rattle.csa_text.specs.declared.pair.Pair.{Pair}
 use Rattle.csa_text.specs.Codes.{sign, cell_text, move_text}
-use Rattle.csa_text.specs.Cut.{begins_with}
+use Rattle.csa_cutting.specs.Cut.{begins_with}
 use Rattle.csa_text.specs.Endings.{ending_name}
 use Rattle.csa_text.specs.Fields.{IsSplit}
 use Rattle.csa_text.specs.PairTexts.{pairs_text, AllOnBoard}

@@ -21,21 +21,9 @@ fn reads_items(rt: HostRuntime) {
     assert!(rt; read_item(b"N-\x00\xFF, x ") == Ok(Item::Name(Color::White, b"\x00\xFF, x ")));
     assert!(rt; read_item(b"$A 0:b, c ") == Ok(Item::Header(b"A 0", b"b, c ")));
     assert!(rt; read_item(b"T4294967295.999") == Ok(Item::Time(4_294_967_295_999)));
-    laws::cut_once();
     laws::spelt_once();
-    laws::lines_once();
     laws::moment_once();
     laws::equal_moments();
-    laws::closed_once();
-    laws::too_long_once();
-    laws::step_whole();
-    laws::finish_whole();
-    laws::next_whole();
-    laws::pieces_run();
-    laws::cutter_run();
-    laws::never_both();
-    laws::statements_alike();
-    laws::lines_run();
 }
 
 fn reads_and_writes(text: &str, color: Color, mv: Move) -> bool {

@@ -5,10 +5,4 @@
 #[cfg(test)]
 mod item_tests;
 #[cfg(test)]
-mod line_tests;
-#[cfg(test)]
 mod moment_tests;
-#[cfg(test)]
-mod piece_tests;
-#[cfg(test)]
-mod tests;

@@ -14,7 +14,7 @@ use Rattle.shogi_rules.specs.declared.moves.Move.TheVariants.{Walk, Put}
 use Rattle.csa_text.specs.declared.pair.Pair.{Pair}
 use Rattle.csa_text.specs.declared.pair.Pair.TheVariants.{On, InHand, Rest}
 use Rattle.csa_text.specs.Codes.{sign, square_text, kind_code, cell_text, squares_text}
-use Rattle.csa_text.specs.Cut.{is_blank, without_last_blanks, before_kept}
+use Rattle.csa_cutting.specs.Cut.{is_blank, without_last_blanks, before_kept}
 use Rattle.csa_text.specs.PairTexts.{pair_text, pairs_text}
 
 pub all_joined : {X : Type 0} (P : X → Type 0) (xs ys : List X) → AllByRecursion P xs → AllByRecursion P ys → AllByRecursion P (xs ++ ys)

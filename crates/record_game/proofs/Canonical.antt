@@ -8,7 +8,7 @@ use Rattle.std.proofs.lemmas.List.Elements.{filter_map-append, filter-append}
 use Rattle.shogi_board.specs.declared.color.Color.{Color}
 use Rattle.shogi_board.specs.declared.color.Color.TheVariants.{Black, White}
 use Rattle.shogi_board.specs.Pieces.{opponent}
-use Rattle.csa_text.specs.Cut.{Statements}
+use Rattle.csa_cutting.specs.Cut.{Statements}
 use Rattle.csa_text.specs.Moment.{CalendarMoment, TimeOfDay, moment_text}
 use Rattle.csa_text.specs.Spelling.{Saying, version, header, turn}
 use Rattle.csa_text.proofs.Moments.{InDay, text_spelled}

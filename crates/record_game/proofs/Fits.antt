@@ -4,7 +4,7 @@ use Rattle.std.specs.List.{AllByRecursion}
 use Rattle.std.specs.Str.Parse.{digits_value}
 use Rattle.std.proofs.lemmas.Bool.{cases_Bool}
 use Rattle.shogi_board.specs.declared.color.Color.{Color}
-use Rattle.csa_text.specs.Cut.{IsUnit, is_end, begins_with, statement_bytes, without_last_blanks, before_kept, is_blank}
+use Rattle.csa_cutting.specs.Cut.{IsUnit, is_end, begins_with, statement_bytes, without_last_blanks, before_kept, is_blank}
 use Rattle.csa_text.specs.Codes.{sign}
 use Rattle.csa_text.specs.TimeTexts.{IsTime, IsFraction}
 use Rattle.csa_text.specs.Spelling.{Saying, version, name, header, even, rank, pieces, turn, walked, time, ending, Spells, IsHeader}

@@ -16,11 +16,11 @@ use Rattle.csa_text.specs.declared.ending.Ending.TheVariants.{Toryo, Chudan, Sen
 use Rattle.csa_text.specs.declared.pair.Pair.{Pair}
 use Rattle.csa_text.specs.Codes.{sign, kind_code, cell_text, squares_text}
 use Rattle.csa_text.specs.Endings.{ending_name}
-use Rattle.csa_text.specs.Cut.{is_end, is_blank, without_last_blanks}
+use Rattle.csa_cutting.specs.Cut.{is_end, is_blank, without_last_blanks}
 use Rattle.csa_text.specs.Moment.{CalendarMoment, TimeOfDay, moment_text, date_text, behind_date}
 use Rattle.csa_text.specs.PairTexts.{pairs_text, pair_text, AllOnBoard}
 use Rattle.csa_text.specs.Spelling.{version, name, even, rank, pieces, turn, walked, ending}
-use Rattle.csa_text.proofs.Blanks.{kept_last, blank_last}
+use Rattle.csa_cutting.proofs.Blanks.{kept_last, blank_last}
 use Rattle.csa_text.specs.CodesOnce.{kind_length}
 use Rattle.csa_text.specs.PairsOnce.{pair_length}
 use Rattle.csa_text.proofs.CellTexts.{cell_length}

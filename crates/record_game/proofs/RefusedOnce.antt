@@ -12,9 +12,9 @@ use Rattle.shogi_rules.specs.declared.moves.Move.{Move}
 use Rattle.shogi_rules.specs.Play as plays
 use Rattle.shogi_rules.specs.Positions.{Played}
 use Rattle.shogi_rules.proofs.Once.{one-answer}
-use Rattle.csa_text.specs.Cut.{TextUnit, IsCut, statement_bytes}
+use Rattle.csa_cutting.specs.Cut.{TextUnit, IsCut, statement_bytes}
 use Rattle.csa_text.specs.Spelling.{Saying, version, name, header, even, rank, pieces, turn, walked, time, ending}
-use Rattle.csa_text.proofs.Once.{statements_once}
+use Rattle.csa_cutting.proofs.Once.{statements_once}
 use Rattle.csa_text.proofs.Sayings.{same_saying}
 use Rattle.record_game.specs.declared.fault.OrderFault.{OrderFault}
 use Rattle.record_game.specs.declared.fault.Why.{Why}

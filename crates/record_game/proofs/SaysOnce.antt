@@ -13,10 +13,10 @@ use Rattle.shogi_board.specs.Placed.{Placed}
 use Rattle.shogi_board.specs.Setup.{position_of}
 use Rattle.shogi_rules.specs.declared.moves.Move.{Move}
 use Rattle.csa_text.specs.declared.ending.Ending.{Ending}
-use Rattle.csa_text.specs.Cut.{TextUnit, statement_bytes}
+use Rattle.csa_cutting.specs.Cut.{TextUnit, statement_bytes}
 use Rattle.csa_text.specs.Spelling.{Saying, version, name, header, even, rank, pieces, turn, walked, time, ending}
 use Rattle.csa_text.proofs.Moments.{moment_once}
-use Rattle.csa_text.proofs.Once.{statements_once}
+use Rattle.csa_cutting.proofs.Once.{statements_once}
 use Rattle.csa_text.proofs.Sayings.{same_saying}
 use Rattle.record_game.specs.Game.{Game, Timed, Ended, Entry, HeaderText, moment, plain}
 use Rattle.record_game.specs.Limits.{is_below, Rising}

@@ -1,7 +1,7 @@
 -- Each statement of a cut is a unit.
 use Rattle.std.proofs.Common.{ℕ, Bool, true, false, cond, ◌+◌, List, [], ◌∷◌, length, filter}
 use Rattle.std.specs.List.{AllByRecursion}
-use Rattle.csa_text.specs.Cut.{TextUnit, IsUnit, Units, Statements, is_statement}
+use Rattle.csa_cutting.specs.Cut.{TextUnit, IsUnit, Units, Statements, is_statement}
 
 -- the bytes of a unit, whatever stands behind it
 abbrev pub IsSomeUnit : TextUnit → Type 0

@@ -1,6 +1,6 @@
 -- What the bytes of a statement may spell.
 use Rattle.std.specs.Prelude.{◌≡◌, ◌≢◌, ℕ, ◌+◌, ◌≤◌, List, [], length}
-use Rattle.csa_text.specs.Cut.{IsUnit, statement_bytes, longest_statement}
+use Rattle.csa_cutting.specs.Cut.{IsUnit, statement_bytes, longest_statement}
 use Rattle.csa_text.specs.Fields.{HasNone}
 use Rattle.csa_text.specs.Spelling.{Saying, version, name, header, even, rank, pieces, turn, walked, time, ending}
 use Rattle.record_game.specs.Limits.{IsOneLine}

@@ -7,7 +7,7 @@ use Rattle.shogi_rules.specs.Positions as rules
 use Rattle.csa_text.specs.Fields.{HasNone}
 use Rattle.csa_text.specs.Moment.{CalendarMoment, TimeOfDay, SpellsMoment}
 use Rattle.record_game.specs.Game.{Game, Timed, Ended, HeaderText, moment, plain, Entry, move_of}
-use Rattle.csa_text.specs.Cut.{longest_statement}
+use Rattle.csa_cutting.specs.Cut.{longest_statement}
 use Rattle.shogi_rules.specs.Positions.{max_moves}
 
 -- a text that stands on one line

@@ -1,7 +1,7 @@
 -- Which game the bytes of a record tell.
 use Rattle.std.specs.Prelude.{ℕ, ◌≤◌, List, length}
 use Rattle.std.specs.List.{AllZip}
-use Rattle.csa_text.specs.Cut.{TextUnit, IsCut, statement_bytes, longest_statement}
+use Rattle.csa_cutting.specs.Cut.{TextUnit, IsCut, statement_bytes, longest_statement}
 use Rattle.csa_text.specs.Spelling.{Saying, Spells}
 use Rattle.record_game.specs.Game.{Game}
 use Rattle.record_game.specs.Says.{Says}

@@ -2,7 +2,8 @@ ghost use Rattle.std.specs.Prelude.{◌≡◌};
 ghost use Rattle.record_game.specs.declared.fault.Why.TheVariants.{Text, Order, OutOfMemory};
 ghost use Rattle.csa_text.specs.declared.fault.TextFault.TheVariants.{StatementTooLong};
 
-use csa_text::{CutFault, TextFault};
+use csa_cutting::CutFault;
+use csa_text::TextFault;
 use shogi_board::SetupFault;
 use shogi_rules::Rule;
 use std::alloc::AllocError;

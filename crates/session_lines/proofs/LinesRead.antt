@@ -4,9 +4,9 @@ use Rattle.std.specs.Prelude.{◌||◌, nat_eq}
 use Rattle.std.specs.List.{AllZip, starts_with}
 use Rattle.std.proofs.lemmas.Bool.Decides.{Decides-eqb}
 use Rattle.std.proofs.lemmas.Slice.Eq.{slice_eq-Decides}
-use Rattle.csa_text.proofs.Once.{statements_once}
+use Rattle.csa_cutting.proofs.Once.{statements_once}
 use Rattle.csa_text.proofs.Sayings.{same_saying}
-use Rattle.csa_text.specs.Cut.{TextUnit, IsCut, begins_with, statement_bytes}
+use Rattle.csa_cutting.specs.Cut.{TextUnit, IsCut, begins_with, statement_bytes}
 use Rattle.csa_text.specs.Spelling.{Saying, walked, time, ending}
 use Rattle.csa_text.specs.declared.ending.Ending.{Ending}
 use Rattle.csa_text.specs.declared.fault.TextFault.{TextFault}

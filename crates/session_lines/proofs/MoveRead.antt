@@ -1,8 +1,8 @@
 -- The move that a line's one statement spells.
 use Rattle.std.proofs.Common.{◌≡◌, ℕ, List, [], ◌∷◌, Option, Some, None, MatchOption, refl, sym, ap, subst, ◌∙◌}
-use Rattle.csa_text.proofs.Once.{statements_once}
+use Rattle.csa_cutting.proofs.Once.{statements_once}
 use Rattle.csa_text.proofs.Sayings.{same_saying}
-use Rattle.csa_text.specs.Cut.{TextUnit, statement_bytes}
+use Rattle.csa_cutting.specs.Cut.{TextUnit, statement_bytes}
 use Rattle.csa_text.specs.Spelling.{Saying, Spells, walked}
 use Rattle.shogi_board.specs.declared.color.Color.{Color}
 use Rattle.shogi_rules.specs.declared.moves.Move.{Move}

@@ -1,12 +1,12 @@
 -- A line that has one statement, as a cutter finds it.
 use Rattle.std.proofs.Common.{◌≡◌, ℕ, List, [], ◌∷◌, length, drop, arith, refl, sym, ap, subst, ◌∙◌}
-use Rattle.csa_text.proofs.Once.{statements_once}
-use Rattle.csa_text.proofs.Runs.{found}
-use Rattle.csa_text.proofs.WholeRuns.{whole_cut}
-use Rattle.csa_text.specs.Cut.{TextUnit, IsCut, Statements, mark_length, statement_bytes}
-use Rattle.csa_text.specs.Cutting.{Cutting, ToCome, IsFirstStatement, IsHandedOut, IsTooLong, unit_between}
-use Rattle.csa_text.specs.declared.cutter.Statement.{Statement}
-use Rattle.csa_text.specs.WholeRun.{AreNumbered}
+use Rattle.csa_cutting.proofs.Once.{statements_once}
+use Rattle.csa_cutting.proofs.Runs.{found}
+use Rattle.csa_cutting.proofs.WholeRuns.{whole_cut}
+use Rattle.csa_cutting.specs.Cut.{TextUnit, IsCut, Statements, mark_length, statement_bytes}
+use Rattle.csa_cutting.specs.Cutting.{Cutting, ToCome, IsFirstStatement, IsHandedOut, IsTooLong, unit_between}
+use Rattle.csa_cutting.specs.declared.cutter.Statement.{Statement}
+use Rattle.csa_cutting.specs.WholeRun.{AreNumbered}
 use Rattle.session_lines.specs.MoveLines.{IsAlone}
 
 -- a cutter at the start of the line

@@ -1,5 +1,5 @@
 ghost use Rattle.std.specs.Prelude.{◌≡◌, ◌==◌, MatchOption};
-ghost use Rattle.csa_text.specs.Cut.{TextUnit, statement_bytes};
+ghost use Rattle.csa_cutting.specs.Cut.{TextUnit, statement_bytes};
 ghost use Rattle.csa_text.specs.Saying.{saying_of};
 ghost use Rattle.csa_text.specs.Spelling.{walked};
 ghost use Rattle.shogi_board.specs.declared.color.Color.{Color};
@@ -7,7 +7,8 @@ ghost use Rattle.shogi_rules.specs.declared.moves.Move.{Move};
 ghost use Rattle.session_lines.specs.MoveLines.{is_move_line, IsAlone, TellsMove};
 ghost use Rattle.session_lines.specs.Texts.{without_last_spaces};
 
-use csa_text::{Cutter, Item, read_item};
+use csa_cutting::Cutter;
+use csa_text::{Item, read_item};
 use shogi_board::Color;
 use shogi_rules::Move;
 

@@ -1,7 +1,7 @@
 -- A cutter that goes on holds no line that is too long.
 use Rattle.std.proofs.Common.{◌≡◌, ℕ, ◌≤◌, List, [], ◌++◌, length, Option, None, Some, Ok, ◌∙◌, subst}
 use Rattle.std.specs.Borrow.{Bor}
-use Rattle.csa_text.specs.LineCutting.{LineCutting, BeginsTooLong, LineStep, LinesAfter}
+use Rattle.csa_cutting.specs.LineCutting.{LineCutting, BeginsTooLong, LineStep, LinesAfter}
 use Rattle.session_loops.specs.Incoming.{IsHearing}
 use Rattle.session_loops.proofs.Hearing.{rest_run}
 use Rattle.session_loops.proofs.Talks.{held_short, next_short}

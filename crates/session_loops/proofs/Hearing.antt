@@ -7,11 +7,11 @@ use Rattle.std.specs.Io.{StartsWith}
 use Rattle.std.specs.Io.BufRead.{DropsConsumable}
 use Rattle.std.specs.Io.KnownBytes.{Consumes, Keeps, prepend_known}
 use Rattle.std.proofs.KnownBytes.{Consumes-kept, Consumes-nil, Consumes-trans, starts_with_rest}
-use Rattle.csa_text.specs.Lines.{Lines, AreLineEnds, HasNoLineEnd}
-use Rattle.csa_text.specs.LineCutting.{LineCutting, BeginsTooLong}
-use Rattle.csa_text.proofs.LinesOnce.{lines_joined}
-use Rattle.csa_text.specs.declared.line.LineFault.{LineFault}
-use Rattle.csa_text.specs.declared.line.LineFault.TheVariants as faulty
+use Rattle.csa_cutting.specs.Lines.{Lines, AreLineEnds, HasNoLineEnd}
+use Rattle.csa_cutting.specs.LineCutting.{LineCutting, BeginsTooLong}
+use Rattle.csa_cutting.proofs.LinesOnce.{lines_joined}
+use Rattle.csa_cutting.specs.declared.line.LineFault.{LineFault}
+use Rattle.csa_cutting.specs.declared.line.LineFault.TheVariants as faulty
 use Rattle.session_loops.specs.declared.fault.Fault.{Fault}
 use Rattle.session_loops.specs.declared.incoming.Heard.{Heard}
 use Rattle.session_loops.specs.declared.incoming.Heard.TheVariants.{Long}

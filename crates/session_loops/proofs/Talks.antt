@@ -3,13 +3,13 @@ use Rattle.std.proofs.Common.{◌≡◌, inl, inr, ◌⊎◌, ℕ, ◌+◌, ◌-
 use Rattle.std.proofs.Math.Seq.{take-length}
 use Rattle.std.proofs.lemmas.Bool.{cases_lt}
 use Rattle.std.specs.Borrow.{Bor}
-use Rattle.csa_text.specs.Lines.{Lines, HasNoLineEnd}
+use Rattle.csa_cutting.specs.Lines.{Lines, HasNoLineEnd}
 use Rattle.std.specs.Prelude.{IfOk, IfErr}
-use Rattle.csa_text.specs.declared.line.LineFault.{LineFault}
-use Rattle.csa_text.specs.declared.line.LineFault.TheVariants as faulty
+use Rattle.csa_cutting.specs.declared.line.LineFault.{LineFault}
+use Rattle.csa_cutting.specs.declared.line.LineFault.TheVariants as faulty
 use Rattle.session_loops.specs.Faults.{line_fault_of}
-use Rattle.csa_text.specs.LineCutting.{LineCutting, BeginsTooLong, LineStep, LinesAfter, LastLine}
-use Rattle.csa_text.proofs.LinesOnce.{lines_joined}
+use Rattle.csa_cutting.specs.LineCutting.{LineCutting, BeginsTooLong, LineStep, LinesAfter, LastLine}
+use Rattle.csa_cutting.proofs.LinesOnce.{lines_joined}
 use Rattle.session_loops.proofs.Hearing.{rest_run}
 use Rattle.session_loops.specs.declared.fault.Fault.{Fault}
 use Rattle.session_loops.specs.declared.fault.Fault.TheVariants.{LongLine, Read, OutOfMemory}

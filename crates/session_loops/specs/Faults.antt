@@ -3,8 +3,8 @@ use Rattle.std.specs.Prelude.{◌≡◌, ◌⊎◌, ℕ, List, Option, Some, Non
 use Rattle.csa_record.specs.declared.flow.FlowFault.{FlowFault}
 use Rattle.csa_record.specs.declared.flow.FlowFault.TheVariants as flow
 use Rattle.record_game.specs.declared.fault.Refusal.{Refusal}
-use Rattle.csa_text.specs.declared.line.LineFault.{LineFault}
-use Rattle.csa_text.specs.declared.line.LineFault.TheVariants as lines
+use Rattle.csa_cutting.specs.declared.line.LineFault.{LineFault}
+use Rattle.csa_cutting.specs.declared.line.LineFault.TheVariants as lines
 use Rattle.usi_text.specs.declared.fault.UsiFault.{UsiFault}
 use Rattle.usi_text.specs.declared.fault.UsiFault.TheVariants as usi
 use Rattle.session_loops.specs.declared.fault.Fault.{Fault}

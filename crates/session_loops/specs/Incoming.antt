@@ -1,8 +1,8 @@
 -- The lines that a reader gives.
 use Rattle.std.specs.Prelude.{◌≡◌, ℕ, ◌<◌, ◌≤◌, Bool, false, List, [], ◌∷◌, length, Option, IfSome}
 use Rattle.std.specs.Io.KnownBytes.{Consumes}
-use Rattle.csa_text.specs.Lines.{Lines, HasNoLineEnd}
-use Rattle.csa_text.specs.LineCutting.{LineCutting, BeginsTooLong}
+use Rattle.csa_cutting.specs.Lines.{Lines, HasNoLineEnd}
+use Rattle.csa_cutting.specs.LineCutting.{LineCutting, BeginsTooLong}
 
 -- the bytes that still come, those of an unfinished line first, where they are known; the line that was heard last; and
 -- whether nothing is heard any more

@@ -1,7 +1,7 @@
 -- A machine that answers the lines that come over a wire.
 use Rattle.std.specs.Prelude.{◌≡◌, ◌⊎◌, ℕ, ◌-◌, ◌^◌, ◌≤◌, Bool, true, false, List, [], ◌∷◌, ◌++◌, length, drop, Option, Result, Ok, Err}
-use Rattle.csa_text.specs.Lines.{Lines}
-use Rattle.csa_text.specs.LineCutting.{LineCutting, BeginsTooLong}
+use Rattle.csa_cutting.specs.Lines.{Lines}
+use Rattle.csa_cutting.specs.LineCutting.{LineCutting, BeginsTooLong}
 use Rattle.session_loops.specs.declared.fault.Fault.{Fault}
 use Rattle.session_loops.specs.declared.fault.Fault.TheVariants.{LongLine, Read, Write, OutOfMemory}
 

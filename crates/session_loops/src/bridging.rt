@@ -1,7 +1,7 @@
 //! A bridge, and the lines that come and go between it, its engine and its server.
 
 ghost use Rattle.std.specs.Prelude.{◌≡◌, ◌⊎◌, ◌↔◌, [], true, false, IsErrOf, IsTrue, IfErr, IfOk, OnOk, OnErr};
-ghost use Rattle.csa_text.specs.Lines.{HasNoLineEnd};
+ghost use Rattle.csa_cutting.specs.Lines.{HasNoLineEnd};
 ghost use Rattle.session_loops.specs.Plays.{Delivers, HearsNext, IsEndless, Played, Sends, end_of, event_from, seat_for};
 ghost use Rattle.session_loops.specs.Wanting.{GoneWants, HearWants, PlayWants, SendWants};
 ghost use Rattle.shogi_session.specs.Promises.{HoldsLine, event_of};

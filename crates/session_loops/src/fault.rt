@@ -5,8 +5,8 @@ ghost use Rattle.std.specs.IoError.{error_kind};
 ghost use Rattle.session_loops.specs.Faults.{line_of, fault_of, IsLineFaultOf, line_fault_of, status_of};
 ghost use Rattle.session_loops.specs.declared.fault.Fault.TheVariants.{OutOfMemory};
 
+use csa_cutting::LineFault;
 use csa_record::{FlowFault, Refusal};
-use csa_text::LineFault;
 use shogi_session::SessionFault;
 use std::alloc::{AllocError, AllocFailed};
 use std::io::ErrorKind;

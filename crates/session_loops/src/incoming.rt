@@ -1,14 +1,14 @@
 //! The lines that a reader gives, one at a time.
 
 ghost use Rattle.std.specs.Prelude.{◌≡◌, ◌↔◌, ◌⊎◌, ◌<◌, ◌≤◌, ◌++◌, [], ◌∷◌, length, take, None, Some, Ok, Err, IfOk, IfErr, IsErrOf, OnErr, true, false};
-ghost use Rattle.csa_text.specs.Lines.{Lines};
-ghost use Rattle.csa_text.specs.LineCutting.{BeginsTooLong};
+ghost use Rattle.csa_cutting.specs.Lines.{Lines};
+ghost use Rattle.csa_cutting.specs.LineCutting.{BeginsTooLong};
 ghost use Rattle.session_loops.specs.Incoming.{GivesEnd, GivesLine, GivesLongLine, GivesNoLine, IsHearing};
 
 use crate::fault::Fault;
 use crate::streams;
+use csa_cutting::{LineCutter, LineFault};
 use csa_record::PIECE;
-use csa_text::{LineCutter, LineFault};
 use std::alloc::Global;
 use std::io::{BufRead, BufReader, ErrorKind, Read};
 use std::marker::Model;

@@ -7,8 +7,8 @@ ghost use Rattle.session_loops.specs.Talks.{HasAnswered, BreaksOff, IsReply, IsU
 use crate::fault::Fault;
 use crate::streams;
 use crate::wire::Wire;
+use csa_cutting::LineCutter;
 use csa_record::PIECE;
-use csa_text::LineCutter;
 use shogi_board::OutOfMemory;
 use shogi_session::{Host, HostOut, Lines, Sample, SampleOut};
 use std::alloc::Global;

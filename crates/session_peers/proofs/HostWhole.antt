@@ -9,7 +9,7 @@ use Rattle.shogi_board.specs.Pieces.{same_color}
 use Rattle.shogi_rules.specs.declared.moves.Move.{Move}
 use Rattle.shogi_rules.specs.Positions.{Played, now_of}
 use Rattle.csa_text.specs.Codes.{sign, move_text}
-use Rattle.csa_text.specs.Lines.{Lines, HasNoLineEnd}
+use Rattle.csa_cutting.specs.Lines.{Lines, HasNoLineEnd}
 use Rattle.session_peers.proofs.WholeLines.{IsWhole, AllWhole, behind, both, cut_back, login_word, move_visible, number, plain_visible, text, told_run, unspaced_all, visible_run}
 use Rattle.session_peers.specs.declared.config.HostConfig.{HostConfig}
 use Rattle.session_peers.specs.declared.outcome.Outcome.{Outcome}

@@ -12,7 +12,7 @@ use Rattle.shogi_board.specs.declared.square.Square.{Square}
 use Rattle.shogi_rules.specs.declared.moves.Move.{Move}
 use Rattle.shogi_rules.specs.declared.moves.Move.TheVariants.{Walk, Put}
 use Rattle.csa_text.specs.Codes.{sign, kind_code, square_text, squares_text, move_text}
-use Rattle.csa_text.specs.Lines.{Lines, IsNextLine, AreLineEnds, HasNoLineEnd, is_line_end}
+use Rattle.csa_cutting.specs.Lines.{Lines, IsNextLine, AreLineEnds, HasNoLineEnd, is_line_end}
 use Rattle.session_peers.specs.Host.{IsLoginWord}
 use Rattle.session_lines.specs.Texts.{text_of, without_last_spaces, before_kept}
 

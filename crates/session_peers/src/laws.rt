@@ -2,7 +2,7 @@
 
 ghost use Rattle.std.specs.Prelude.{◌≡◌, ℕ, List, []};
 ghost use Rattle.std.specs.List.{AllByRecursion};
-ghost use Rattle.csa_text.specs.Lines.{Lines};
+ghost use Rattle.csa_cutting.specs.Lines.{Lines};
 ghost use Rattle.session_peers.specs.declared.config.HostConfig.{HostConfig};
 ghost use Rattle.session_peers.specs.Host.{HostRow, HostState, IsHostConfig, playing};
 ghost use Rattle.session_peers.specs.HostLogs.{HostLeads, HostStep, IsTimedGame, Timed, written, written_moves};

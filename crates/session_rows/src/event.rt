@@ -1,7 +1,7 @@
 //! What a line of the script says.
 
 ghost use Rattle.std.specs.Prelude.{◌≡◌, ◌↔◌, IsTrue, IfSome};
-ghost use Rattle.csa_text.specs.Lines.{HasNoLineEnd};
+ghost use Rattle.csa_cutting.specs.Lines.{HasNoLineEnd};
 ghost use Rattle.shogi_session.specs.Promises.{HoldsLine, event_of};
 
 use shogi_session::Event;

@@ -1,6 +1,6 @@
 -- What the calls of a bridge promise.
 use Rattle.std.specs.Prelude.{◌≡◌, ℕ, List, Option, Some, None}
-use Rattle.csa_text.specs.Lines.{HasNoLineEnd}
+use Rattle.csa_cutting.specs.Lines.{HasNoLineEnd}
 use Rattle.csa_record.specs.Canon.{canon}
 use Rattle.csa_record.specs.Game.{Game}
 use Rattle.session_table.specs.declared.config.Config.{Config}

@@ -4,7 +4,7 @@ use Rattle.std.specs.List.{AllByRecursion, AllZip, filter_map, flat_map, starts_
 use Rattle.std.specs.Option.{option_to_list}
 use Rattle.shogi_board.specs.declared.color.Color.{Color}
 use Rattle.csa_text.specs.Codes.{sign}
-use Rattle.csa_text.specs.Cut.{TextUnit, IsCut}
+use Rattle.csa_cutting.specs.Cut.{TextUnit, IsCut}
 use Rattle.csa_text.specs.Spelling.{Saying}
 use Rattle.csa_record.specs.Game.{Game}
 use Rattle.csa_record.specs.Items.{is_body, is_ending}

@@ -4,9 +4,9 @@ use Rattle.std.specs.List.{AllByRecursion, AllZip, starts_with}
 use Rattle.std.proofs.lemmas.List.{length-append}
 use Rattle.std.proofs.lemmas.Bool.Decides.{Decides-eqb}
 use Rattle.std.proofs.lemmas.List.Elements.{filter-append}
-use Rattle.csa_text.proofs.Once.{statements_once}
-use Rattle.csa_text.proofs.Runs.{found}
-use Rattle.csa_text.specs.Cut.{TextUnit, IsGap, IsUnit, EndsBefore, Units, Statements, begins_with, is_separator, is_statement, statement_bytes, before_kept, without_last_blanks, mark_length, byte_order_mark}
+use Rattle.csa_cutting.proofs.Once.{statements_once}
+use Rattle.csa_cutting.proofs.Runs.{found}
+use Rattle.csa_cutting.specs.Cut.{TextUnit, IsGap, IsUnit, EndsBefore, Units, Statements, begins_with, is_separator, is_statement, statement_bytes, before_kept, without_last_blanks, mark_length, byte_order_mark}
 use Rattle.csa_text.specs.Codes.{sign, move_text}
 use Rattle.shogi_board.specs.declared.color.Color.{Color}
 use Rattle.shogi_board.specs.declared.color.Color.TheVariants.{Black, White}

@@ -11,7 +11,7 @@ use Rattle.shogi_rules.specs.declared.moves.Move.{Move as TheMove}
 use Rattle.shogi_rules.specs.declared.moves.Move.TheVariants.{Walk, Put}
 use Rattle.shogi_rules.specs.After.{after}
 use Rattle.csa_text.specs.Codes.{move_text}
-use Rattle.csa_text.specs.Lines.{Lines}
+use Rattle.csa_cutting.specs.Lines.{Lines}
 use Rattle.usi_text.proofs.Clean.{board_bytes, side_word}
 use Rattle.usi_text.proofs.Spelt.{side_low}
 use Rattle.usi_text.specs.Hands.{count_text, pile_text}

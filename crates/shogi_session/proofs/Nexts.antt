@@ -1,9 +1,9 @@
 -- What a cutter hands out next, as an item.
 use Rattle.std.proofs.Common.{◌≡◌, ℕ, ◌≤◌, List, [], ◌∷◌, length, drop, slice_range, Ok, Err, Some, arith, refl, subst, inr}
-use Rattle.csa_text.proofs.Fronts.{length_between}
-use Rattle.csa_text.proofs.Runs.{found}
-use Rattle.csa_text.specs.Cut.{TextUnit, Statements}
-use Rattle.csa_text.specs.Cutting.{Cutting, ToCome, IsHandedOut, unit_between}
+use Rattle.csa_cutting.proofs.Fronts.{length_between}
+use Rattle.csa_cutting.proofs.Runs.{found}
+use Rattle.csa_cutting.specs.Cut.{TextUnit, Statements}
+use Rattle.csa_cutting.specs.Cutting.{Cutting, ToCome, IsHandedOut, unit_between}
 use Rattle.csa_text.specs.Saying.{saying_of}
 use Rattle.csa_text.specs.Spelling.{Saying, time, Spells, fault_of_row}
 use Rattle.csa_text.specs.declared.fault.TextFault.{TextFault}

@@ -1,9 +1,9 @@
 -- How the text of a position block is gone through.
 use Rattle.std.proofs.Common.{◌≡◌, ◌<◌, ◌≤◌, ◌-◌, ◌↔◌, IsTrue, ℕ, Bool, true, false, List, [], ◌∷◌, ◌++◌, length, append_assoc, append-nil, arith, refl, sym, subst}
 use Rattle.std.specs.List.{AllByRecursion, AllZip}
-use Rattle.csa_text.proofs.Once.{statements_once}
-use Rattle.csa_text.specs.Cut.{TextUnit, IsCut}
-use Rattle.csa_text.specs.Cutting.{Cutting, ToCome, IsTooLong}
+use Rattle.csa_cutting.proofs.Once.{statements_once}
+use Rattle.csa_cutting.specs.Cut.{TextUnit, IsCut}
+use Rattle.csa_cutting.specs.Cutting.{Cutting, ToCome, IsTooLong}
 use Rattle.csa_text.specs.Spelling.{Saying, Spells}
 use Rattle.csa_record.specs.Tells.{IsSpelt}
 use Rattle.shogi_session.proofs.Nexts.{Handed, unit_of, handed_steps, handed_first, handed_spelt}

@@ -3,10 +3,10 @@ use Rattle.std.proofs.Common.{◌≡◌, ◌||◌, ◌==◌, ℕ, true, false, n
 use Rattle.std.proofs.lemmas.Bool.{cases_Bool}
 use Rattle.std.proofs.lemmas.Bool.Decides.{Decides-eqb}
 use Rattle.std.specs.List.{AllZip}
-use Rattle.csa_text.proofs.Once.{statements_once}
+use Rattle.csa_cutting.proofs.Once.{statements_once}
 use Rattle.csa_text.proofs.Sayings.{same_saying}
-use Rattle.csa_text.specs.Cut.{TextUnit, IsCut, Units, IsGap, is_separator, IsUnit, is_statement, begins_with, statement_bytes}
-use Rattle.csa_text.specs.Cutting.{Cutting, ToCome}
+use Rattle.csa_cutting.specs.Cut.{TextUnit, IsCut, Units, IsGap, is_separator, IsUnit, is_statement, begins_with, statement_bytes}
+use Rattle.csa_cutting.specs.Cutting.{Cutting, ToCome}
 use Rattle.csa_text.specs.Spelling.{Saying, walked, time, ending}
 use Rattle.csa_text.specs.declared.fault.TextFault.{TextFault}
 use Rattle.csa_record.specs.Game.{Ended}

@@ -1,7 +1,7 @@
 -- What the private helpers promise that go through a line statement by statement.
 use Rattle.std.specs.Prelude.{◌≡◌, ◌<◌, ◌≤◌, ℕ, List, [], ◌∷◌, length, Option, Some, None, Result, Ok, Err, ◌⊎◌}
-use Rattle.csa_text.specs.Cut.{TextUnit, statement_bytes, longest_statement}
-use Rattle.csa_text.specs.Cutting.{Cutting, ToCome}
+use Rattle.csa_cutting.specs.Cut.{TextUnit, statement_bytes, longest_statement}
+use Rattle.csa_cutting.specs.Cutting.{Cutting, ToCome}
 use Rattle.csa_text.specs.Saying.{saying_of}
 use Rattle.csa_text.specs.Spelling.{Saying, time, ending, Spells, fault_of_row}
 use Rattle.csa_text.specs.declared.ending.Ending.{Ending}

@@ -1,7 +1,7 @@
 -- The text of a position block, apart from what it tells.
 use Rattle.std.specs.Prelude.{◌≡◌, ◌⊎◌, ◌++◌, ℕ, Bool, true, false, List, [], ◌∷◌, Option, Some, None}
 use Rattle.std.specs.List.{AllByRecursion, AllZip}
-use Rattle.csa_text.specs.Cut.{TextUnit, IsCut}
+use Rattle.csa_cutting.specs.Cut.{TextUnit, IsCut}
 use Rattle.csa_text.specs.Spelling.{Saying, Spells}
 use Rattle.csa_record.specs.Game.{Game}
 use Rattle.csa_record.specs.Reading.{Reading, HasRead}

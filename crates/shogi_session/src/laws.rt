@@ -3,7 +3,7 @@
 
 ghost use Rattle.std.specs.Prelude.{◌≡◌, ◌++◌, ℕ, List, [], filter};
 ghost use Rattle.std.specs.List.{AllByRecursion};
-ghost use Rattle.csa_text.specs.Lines.{Lines};
+ghost use Rattle.csa_cutting.specs.Lines.{Lines};
 ghost use Rattle.session_table.specs.declared.config.Config.{Config};
 ghost use Rattle.session_peers.specs.declared.config.HostConfig.{HostConfig};
 ghost use Rattle.session_peers.specs.Host.{HostState};

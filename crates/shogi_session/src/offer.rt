@@ -3,7 +3,7 @@ ghost use Rattle.csa_record.specs.Building.{titled_of, with_titled};
 ghost use Rattle.csa_record.specs.Limits.{IsOneLine};
 ghost use Rattle.csa_record.specs.Titles.{with_name};
 ghost use Rattle.csa_text.specs.Codes.{sign};
-ghost use Rattle.csa_text.specs.Cut.{longest_statement};
+ghost use Rattle.csa_cutting.specs.Cut.{longest_statement};
 ghost use Rattle.shogi_board.specs.declared.color.Color.{Color};
 ghost use Rattle.shogi_session.specs.Offers.{IsClientTold, IsNamed};
 

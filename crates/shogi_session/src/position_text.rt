@@ -3,7 +3,8 @@ ghost use Rattle.csa_text.specs.Saying.{saying_of};
 ghost use Rattle.shogi_session.specs.PositionTexts.{IsPositionText, SpellsPosition};
 ghost use Rattle.session_table.specs.Summary.{in_position};
 
-use csa_text::{Cutter, Item, read_item};
+use csa_cutting::Cutter;
+use csa_text::{Item, read_item};
 
 // Whether the text is position, side, move and time statements alone.
 pub(crate) fn is_position_text(text: &[u8]) -> bool

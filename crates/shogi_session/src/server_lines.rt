@@ -1,6 +1,6 @@
 ghost use Rattle.std.specs.Prelude.{◌≡◌, ◌⊎◌, [], true, Some, None, MatchOption, MatchResult};
-ghost use Rattle.csa_text.specs.Cut.{TextUnit};
-ghost use Rattle.csa_text.specs.Cutting.{ToCome};
+ghost use Rattle.csa_cutting.specs.Cut.{TextUnit};
+ghost use Rattle.csa_cutting.specs.Cutting.{ToCome};
 ghost use Rattle.csa_text.specs.Saying.{saying_of};
 ghost use Rattle.csa_text.specs.Spelling.{ending};
 ghost use Rattle.csa_text.specs.declared.ending.Ending.{Ending};
@@ -11,7 +11,8 @@ ghost use Rattle.shogi_session.specs.NextItems.{FaultAt, IsEnding, StepsOver};
 ghost use Rattle.session_lines.specs.ServerLines.{FirstTextFault, TellsEnding, TellsTimed};
 
 use crate::line_items::{last_time, next_item, next_move};
-use csa_text::{Cutter, Ending, Item, TextFault};
+use csa_cutting::Cutter;
+use csa_text::{Ending, Item, TextFault};
 use shogi_board::Color;
 use shogi_rules::Move;
 

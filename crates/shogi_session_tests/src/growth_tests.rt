@@ -1,7 +1,7 @@
 // Run by tests/growths with each growth refused in turn: the answer is want of memory. A host has ended then, the sample
 // engine keeps no game, and a bridge is lost with both states and a whole game.
 ghost use Rattle.std.specs.Prelude.{IfOk, IsTrue};
-ghost use Rattle.csa_text.specs.Lines.{HasNoLineEnd};
+ghost use Rattle.csa_cutting.specs.Lines.{HasNoLineEnd};
 ghost use Rattle.shogi_session.specs.Promises.{HoldsLine, event_of};
 
 use arrayvec::ArrayString;

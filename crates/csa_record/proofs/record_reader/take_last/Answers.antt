@@ -1,5 +1,5 @@
 use Rattle.std.proofs.Common.{Ok, ap, ◌∙◌, subst}
-use Rattle.csa_text.specs.PieceSteps.{Finished}
+use Rattle.csa_cutting.specs.PieceSteps.{Finished}
 use Rattle.csa_record.proofs.Onward.{last_given, nothing_last}
 use Rattle.csa_record.proofs.Steps.{last_of}
 use Rattle.csa_record.proofs.record_reader.take_last.Goals as goal

@@ -1,5 +1,5 @@
 use Rattle.std.proofs.Common.{inr, subst}
-use Rattle.csa_text.specs.LineCutting.{LinesAfter}
+use Rattle.csa_cutting.specs.LineCutting.{LinesAfter}
 use Rattle.session_loops.proofs.Cutting.{goes_on, heard_short}
 use Rattle.session_loops.proofs.incoming.cut.Goals as goal
 

@@ -1,5 +1,5 @@
 use Rattle.std.proofs.Common.{ap, Err, subst}
-use Rattle.csa_text.specs.LineCutting.{LinesAfter}
+use Rattle.csa_cutting.specs.LineCutting.{LinesAfter}
 use Rattle.session_loops.proofs.Talks.{next_none, next_answered, next_unanswered, next_uncut}
 use Rattle.session_loops.proofs.talk.answer_next.Goals as goal
 

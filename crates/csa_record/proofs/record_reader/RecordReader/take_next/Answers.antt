@@ -1,5 +1,5 @@
 use Rattle.std.proofs.Common.{Ok, ap, ◌∙◌, sym, subst}
-use Rattle.csa_text.specs.PieceSteps.{Stepped}
+use Rattle.csa_cutting.specs.PieceSteps.{Stepped}
 use Rattle.csa_record.specs.FailingOf.{failing_of}
 use Rattle.csa_record.specs.Reading.{HasRead}
 use Rattle.csa_record.proofs.Steps.{given, next_taken, next_refused, none_next, long_next}

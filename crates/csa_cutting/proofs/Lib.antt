@@ -1,0 +1,20 @@
+pub mod Fronts
+pub mod Runs
+pub mod Blanks
+pub mod Once
+pub mod LineCutting
+pub mod LinesOnce
+mod LinesFound
+pub mod LongLines
+pub mod Passing
+pub mod Spoken
+pub mod Finding
+pub mod Leading
+pub mod Unfinished
+pub mod Joining
+pub mod Growing
+pub mod FirstLong
+mod Lent
+pub mod Holding
+pub mod WholeRuns
+pub mod LineRuns

@@ -1,0 +1,5 @@
+use Rattle.csa_cutting.proofs.WholeRuns.{next_whole}
+use Rattle.csa_cutting.proofs.laws.next_whole.Goals as goal
+
+pub returns : goal.returns
+returns c = record { told = next_whole }

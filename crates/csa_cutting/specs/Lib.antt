@@ -1,0 +1,9 @@
+pub mod Cut
+pub mod Cutting
+pub mod Lines
+pub mod LineCutting
+pub mod PieceCutting
+pub mod PieceSteps
+pub mod Places
+pub mod TooLong
+pub mod WholeRun

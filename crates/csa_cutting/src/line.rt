@@ -1,0 +1,173 @@
+ghost use Rattle.std.specs.Prelude.{◌≡◌, ◌+◌, ◌<◌, ◌≤◌, ◌↔◌, ◌⊎◌, [], length, ◌++◌, ◌||◌, ◌==◌, IsErrOf, IfOk, if◌then◌else◌, true, false};
+ghost use Rattle.std.specs.List.{position_or_len, prefix_len};
+ghost use Rattle.std.specs.Borrow.{sem};
+ghost use Rattle.std.specs.Io.BufRead.{Rests};
+ghost use Rattle.csa_cutting.specs.contracts.line.LineCutter.{the_row};
+ghost use Rattle.csa_cutting.specs.declared.line.LineFault.TheVariants.{OutOfMemory};
+ghost use Rattle.csa_cutting.specs.Lines.{is_line_end};
+ghost use Rattle.csa_cutting.specs.LineCutting.{BeginsTooLong, IsRun, LineStep, LinesAfter, LastLine, LinesFinished};
+
+use crate::scan::front_length;
+use memchr::memchr2_iter;
+use std::alloc::{AllocError, Global};
+use std::marker::Model;
+use thiserror::Error;
+
+/// Why a line is not handed out.
+#[derive(Clone, Copy, Debug, PartialEq, Eq, PartialOrd, Ord, Error)]
+pub enum LineFault {
+    /// A line has more bytes than the limit.
+    #[error("line too long")]
+    TooLong,
+    /// Memory for the line was refused.
+    #[error("out of memory")]
+    OutOfMemory,
+}
+
+impl From<AllocError> for LineFault {
+    ghost from_gives = { λ _ e. e ≡ OutOfMemory };
+
+    fn from(_error: AllocError) -> LineFault {
+        LineFault::OutOfMemory
+    }
+}
+
+/// Cuts bytes that come in pieces into lines, and hands these out in order.
+///
+/// CR and LF each end a line, and a line without bytes is skipped. The cutter keeps the unfinished
+/// line and no more.
+#[derive(Drop)]
+pub struct LineCutter {
+    held: Vec<u8>,
+    limit: usize,
+    // whether what is held was handed out
+    spent: bool,
+    failed: bool,
+}
+
+impl Model for LineCutter {
+    ghost use Rattle.std.specs.Prelude.{[], if◌then◌else◌, length, ◌≤◌};
+    ghost use Rattle.csa_cutting.specs.Lines.{HasNoLineEnd};
+    ghost use Rattle.csa_cutting.specs.LineCutting.{LineCutting};
+
+    ghost Value = { LineCutting };
+
+    ghost view = { λ c. record { held = if c.spent then [] else c.held.items; limit = c.limit; failed = c.failed } };
+
+    ghost invariant = { λ c. (length c.held.items ≤ c.limit) × HasNoLineEnd c.held.items };
+}
+
+impl LineCutter {
+    /// A cutter that has seen nothing, of lines of at most `limit` bytes.
+    pub fn new(alloc: Global, limit: usize) -> LineCutter
+        ensures held { result.held ≡ [] }
+        ensures limit { result.limit ≡ limit }
+        ensures failed { result.failed ≡ false }
+    {
+        LineCutter {
+            held: Vec::new(alloc),
+            limit,
+            spent: false,
+            failed: false,
+        }
+    }
+
+    /// Takes bytes of the piece: how many it used, and the line that ended there, if one did.
+    ///
+    /// It stops behind the CR or LF that ends a line, and uses the whole piece where none ends. Hand
+    /// in what is left of the piece next. `TooLong` comes as soon as a line has more than `limit`
+    /// bytes, and at each later call. After `OutOfMemory` the cutter is as before, and nothing of the
+    /// piece was used.
+    pub fn step(&mut self, piece: &[u8]) -> Result<(usize, Option<&[u8]>), LineFault>
+        ensures long { IsErrOf result LineFault.TooLong
+            ↔ ((self.old.failed ≡ true) ⊎ BeginsTooLong self.old.limit (self.old.held ++ piece.now)) }
+        ensures lines { IfOk result (λ r. LineStep self.old.held piece.now r) }
+        ensures* rests { sem 𝓛 (Rests the_row self.entry (λ new. LinesAfter self.old piece.now result new)) }
+    {
+        if self.failed {
+            return Err(LineFault::TooLong);
+        }
+        forget(&mut self.held, self.spent);
+        self.spent = false;
+        let (start, end) = first_run(self.held.as_slice(), piece);
+        let run = &piece[start..end];
+        if self.limit - self.held.len() < run.len() {
+            self.failed = true;
+            return Err(LineFault::TooLong);
+        }
+        self.held.extend_from_slice(run)?;
+        if end == piece.len() {
+            return Ok((end, None));
+        }
+        self.spent = true;
+        Ok((end + 1, Some(self.held.as_slice())))
+    }
+
+    /// The line that is unfinished at the end of the bytes, if one is.
+    ///
+    /// Afterwards the cutter is as at the start of a line. `TooLong` comes where `step` answered it.
+    pub fn finish(&mut self) -> Result<Option<&[u8]>, LineFault>
+        ensures long { IsErrOf result LineFault.TooLong ↔ (self.old.failed ≡ true) }
+        ensures memory { IsErrOf result LineFault.OutOfMemory → ⊥ }
+        ensures last { IfOk result (λ last. LastLine self.old.held last) }
+        ensures* rests { sem 𝓛 (Rests the_row self.entry (λ new. LinesFinished self.old result new)) }
+    {
+        if self.failed {
+            return Err(LineFault::TooLong);
+        }
+        if self.spent || self.held.is_empty() {
+            return Ok(None);
+        }
+        self.spent = true;
+        Ok(Some(self.held.as_slice()))
+    }
+}
+
+fn is_line_end(b: u8) -> bool
+    ensures { result ≡ is_line_end b }
+{
+    b == b'\r' || b == b'\n'
+}
+
+// How many CR and LF the text begins with.
+fn line_ends_length(text: &[u8]) -> usize
+    ensures value { result ≡ prefix_len is_line_end text.now }
+    ensures within { result ≤ length text.now }
+{
+    front_length(text, is_line_end)
+}
+
+// How many bytes of the text come before a CR or LF.
+#[inline(never)]
+pub(crate) fn line_length(text: &[u8]) -> usize
+    ensures value { result ≡ position_or_len is_line_end text.now }
+    ensures within { result ≤ length text.now }
+{
+    // Most lines are short: the iterator looks at the first bytes alone first.
+    match memchr2_iter(b'\r', b'\n', text).next() {
+        Some(end) => end,
+        None => text.len(),
+    }
+}
+
+// Empties what is held where it was handed out.
+fn forget(held: &mut Vec<u8>, spent: bool)
+    ensures { held.new.items ≡ (if spent then [] else held.old.items) }
+{
+    if spent {
+        held.clear();
+    }
+}
+
+// The run of the piece that goes on with the line that is held, or else behind the line ends at the
+// front: where it starts, and where it ends.
+fn first_run(held: &[u8], piece: &[u8]) -> (usize, usize)
+    ensures { IsRun held.now piece.now result.0 result.1 }
+{
+    let start = if held.is_empty() {
+        line_ends_length(piece)
+    } else {
+        0
+    };
+    (start, start + line_length(&piece[start..]))
+}

@@ -1,0 +1,331 @@
+ghost use Rattle.std.specs.Prelude.{◌≡◌, ℕ, List, ◌+◌, ◌-◌, ◌^◌, ◌<◌, ◌≤◌, ◌++◌, [], length, true, None, Some, IsSome, IfSome, IfOk, IfErr, if◌then◌else◌};
+ghost use Rattle.std.specs.Borrow.{sem};
+ghost use Rattle.std.specs.Io.BufRead.{Rests};
+ghost use Rattle.arrayvec.specs.ArrayVec.{array_vec_len};
+ghost use Rattle.csa_cutting.specs.contracts.piece.PieceCutter.{the_row};
+ghost use Rattle.csa_cutting.specs.Cut.{statement_bytes, longest_statement};
+ghost use Rattle.csa_cutting.specs.PieceCutting.{fresh, HoldsLittle, IsOpen};
+ghost use Rattle.csa_cutting.specs.PieceSteps.{AfterStep, AfterEnd, Last, IsTooLongAt, IsUsed, IsLentFrom};
+ghost use Rattle.csa_cutting.specs.Places.{IsKept, IsFoundIn, PassesTo, IsHeld, begins, kept_of, has_unit};
+
+use crate::cutter::{
+    BYTE_ORDER_MARK, COMMENT, CutFault, LONGEST_STATEMENT, Statement, handed_out, next_unit,
+    unit_length,
+};
+use arrayvec::ArrayVec;
+use std::marker::Model;
+
+/// What a step found.
+#[derive(Clone, Copy, Debug, PartialEq, Eq)]
+pub struct Cut<'b> {
+    /// How many bytes of the piece were used.
+    pub used: usize,
+    /// The statement that the last of them ended.
+    pub statement: Option<Statement<'b>>,
+}
+
+// Where the bytes so far have led to.
+#[derive(Clone, Copy, Debug, PartialEq, Eq)]
+pub(crate) enum Place {
+    // at the start, or in the byte order mark
+    Mark,
+    Gap,
+    Unit,
+    Comment,
+}
+
+// A statement's unit in the piece, from start to before end, behind what is held of it where it goes
+// on.
+#[derive(Clone, Copy, Debug, PartialEq, Eq)]
+pub(crate) struct Part {
+    pub goes_on: bool,
+    pub start: usize,
+    pub end: usize,
+}
+
+/// Cuts a record's bytes that come in pieces into statements, as `Cutter` cuts the whole.
+///
+/// A statement that lies whole in one piece, with the byte that ends it, is lent from there. Of one
+/// that is unfinished at most 4,096 bytes are held, and none of a comment. No memory is taken.
+#[derive(Drop)]
+pub struct PieceCutter {
+    held: ArrayVec<u8, LONGEST_STATEMENT>,
+    place: Place,
+    fed: u64,
+    number: u64,
+    refused: Option<u64>,
+}
+
+impl Model for PieceCutter {
+    ghost use Rattle.csa_cutting.specs.PieceCutting.{PieceCutting};
+
+    ghost Value = { PieceCutting };
+
+    ghost use Rattle.csa_cutting.specs.Places.{begins, open_of, IsKept};
+
+    ghost view = { λ c. record { fed = c.fed; number = c.number; begins = begins c.place; unfinished = open_of c.place c.held.items; held = c.held.items; refused = c.refused } };
+
+    ghost invariant = { λ c. IsKept c.place c.held.items c.fed c.number };
+}
+
+impl PieceCutter {
+    /// A cutter that has seen nothing.
+    pub fn new() -> PieceCutter
+        ensures start { result ≡ fresh }
+    {
+        PieceCutter {
+            held: ArrayVec::new(),
+            place: Place::Mark,
+            fed: 0,
+            number: 0,
+            refused: None,
+        }
+    }
+
+    /// How many bytes were used so far.
+    pub fn fed(&self) -> u64
+        ensures count { result ≡ self.now.fed }
+        ensures little { HoldsLittle self.now }
+        ensures open { IsOpen self.now.unfinished }
+    {
+        self.fed
+    }
+
+    /// How many statements were handed out so far.
+    pub fn statements(&self) -> u64
+        ensures count { result ≡ self.now.number }
+        ensures few { (self.now.number ≤ self.now.fed) × (self.now.fed ≤ 2 ^ 63) }
+    {
+        self.number
+    }
+
+    /// Takes bytes of the piece: how many it used, and the statement that ended there, if one did.
+    ///
+    /// It stops right behind the byte that ends a statement, and uses the whole piece where none
+    /// ends. Hand in what is left of the piece next. A statement that begins in this piece is lent
+    /// from it. One of more than 4,096 bytes is a `CutFault` as soon as that is known, and at each
+    /// later call; all else of the cutter is then as before. At most 2^63 bytes may be fed in all.
+    #[inline(always)]
+    pub fn step<'b>(&'b mut self, piece: &'b [u8]) -> Result<Cut<'b>, CutFault>
+        requires { self.old.fed + length piece.now ≤ 2 ^ 63 }
+        ensures used { IfOk result (IsUsed piece.now) }
+        ensures number { IfOk result (λ cut. IfSome cut.statement (λ s. s.number ≡ self.old.number + 1)) }
+        ensures lent { IfOk result (λ cut. IfSome cut.statement (IsLentFrom piece.entry.ref_ptr self.old.fed)) }
+        ensures going { IfOk result (λ _. self.old.refused ≡ None) }
+        ensures fault { IfErr result (λ f. f.number ≡ self.old.number + 1) }
+        ensures place { IfErr result (λ f. IsTooLongAt self.old.refused self.old piece.now f.offset) }
+        ensures* after { sem 𝓛 (Rests the_row self.entry (λ new. AfterStep self.old piece.now result new)) }
+    {
+        let number = self.number + 1;
+        if let Some(offset) = self.refused {
+            return Err(CutFault { number, offset });
+        }
+        let found = match found_in(self.place, self.held.as_slice(), piece) {
+            Ok(found) => found,
+            Err(place) => {
+                self.place = place;
+                hold_mark(&mut self.held, place, piece);
+                self.fed += piece.len() as u64;
+                return Ok(none_ended(piece.len()));
+            }
+        };
+        let end = found.end;
+        let part = &piece[found.start..end];
+        let kept = kept_length(found.goes_on, self.held.len());
+        let offset = self.fed + found.start as u64 - kept as u64;
+        if LONGEST_STATEMENT - kept < part.len() {
+            self.refused = Some(offset);
+            return Err(CutFault { number, offset });
+        }
+        keep_held(&mut self.held, found.goes_on);
+        if end == piece.len() {
+            hold(&mut self.held, part);
+            self.place = Place::Unit;
+            self.fed += end as u64;
+            return Ok(none_ended(end));
+        }
+        self.place = Place::Gap;
+        self.fed += end as u64 + 1;
+        self.number = number;
+        if self.held.is_empty() {
+            return Ok(ended(end, number, offset, part));
+        }
+        hold(&mut self.held, part);
+        Ok(ended(end, number, offset, self.held.as_slice()))
+    }
+
+    /// The statement that the end of the bytes ends, if one is unfinished.
+    ///
+    /// Afterwards the cutter stands behind it, as if its line had ended there. A `CutFault` comes
+    /// where `step` answered it.
+    pub fn finish(&mut self) -> Result<Option<Statement<'_>>, CutFault>
+        ensures number { IfOk result (λ last. IfSome last (λ s. s.number ≡ self.old.number + 1)) }
+        ensures going { IfOk result (λ _. self.old.refused ≡ None) }
+        ensures last { IfOk result (λ last. Last self.old last) }
+        ensures fault { IfErr result (λ f. f.number ≡ self.old.number + 1) }
+        ensures place { IfErr result (λ f. self.old.refused ≡ Some f.offset) }
+        ensures* after { sem 𝓛 (Rests the_row self.entry (λ new. AfterEnd self.old result new)) }
+    {
+        let number = self.number + 1;
+        if let Some(offset) = self.refused {
+            return Err(CutFault { number, offset });
+        }
+        let unfinished = is_unfinished(self.place, self.held.as_slice());
+        self.place = Place::Gap;
+        if !unfinished {
+            return Ok(None);
+        }
+        self.number = number;
+        let offset = self.fed - self.held.len() as u64;
+        Ok(Some(Statement {
+            number,
+            offset,
+            bytes: handed_out(self.held.as_slice()),
+        }))
+    }
+}
+
+// The bytes that were used end no statement.
+fn none_ended<'b>(used: usize) -> Cut<'b>
+    ensures used { result.used ≡ used }
+    ensures statement { result.statement ≡ None }
+{
+    Cut {
+        used,
+        statement: None,
+    }
+}
+
+// The statement of a unit that ends there.
+fn ended<'b>(end: usize, number: u64, offset: u64, unit: &'b [u8]) -> Cut<'b>
+    requires { end < 2 ^ 64 - 1 }
+    ensures used { result.used ≡ end + 1 }
+    ensures place { IfSome result.statement (λ s. (s.number ≡ number) × (s.offset ≡ offset)) }
+    ensures bytes { IfSome result.statement (λ s. s.bytes.now ≡ statement_bytes unit.now) }
+    ensures some { IsSome result.statement }
+    ensures lent { IfSome result.statement (λ s. s.bytes.ref_ptr ≡ unit.entry.ref_ptr) }
+{
+    Cut {
+        used: end + 1,
+        statement: Some(Statement {
+            number,
+            offset,
+            bytes: handed_out(unit),
+        }),
+    }
+}
+
+// Whether a statement's unit is unfinished.
+fn is_unfinished(place: Place, held: &[u8]) -> bool
+    ensures { result ≡ has_unit place held.now }
+{
+    match place {
+        Place::Mark => !held.is_empty(),
+        Place::Unit => true,
+        Place::Gap | Place::Comment => false,
+    }
+}
+
+// How many of the bytes that are held are the unit's.
+fn kept_length(goes_on: bool, length: usize) -> usize
+    ensures { result ≡ (if goes_on then length else 0) }
+{
+    if goes_on { length } else { 0 }
+}
+
+// Keeps what is held where the unit goes on, and else nothing.
+fn keep_held(held: &mut ArrayVec<u8, LONGEST_STATEMENT>, goes_on: bool)
+    ensures { held.new.items ≡ kept_of goes_on held.old.items }
+{
+    if !goes_on {
+        held.clear();
+    }
+}
+
+// Holds what has come of a byte order mark, and nothing of a gap or a comment.
+fn hold_mark(held: &mut ArrayVec<u8, LONGEST_STATEMENT>, place: Place, piece: &[u8])
+    requires { begins place ≡ true → array_vec_len held.old + length piece.now ≤ longest_statement }
+    ensures { held.new.items ≡ (if begins place then held.old.items ++ piece.now else []) }
+{
+    match place {
+        Place::Mark => hold(held, piece),
+        _ => held.clear(),
+    }
+}
+
+fn hold(held: &mut ArrayVec<u8, LONGEST_STATEMENT>, part: &[u8])
+    requires { array_vec_len held.old + length part.now ≤ longest_statement }
+    ensures { held.new.items ≡ held.old.items ++ part.now }
+{
+    held.try_extend_from_slice(part).unwrap();
+}
+
+// The statement's unit that the piece holds next, or where it leads to where it holds none.
+fn found_in(place: Place, held: &[u8], piece: &[u8]) -> Result<Part, Place>
+    requires { IsHeld place held.now }
+    ensures { IsFoundIn place held.now piece.now 0 result }
+{
+    match place {
+        Place::Mark => found_in_mark(held, piece),
+        Place::Gap => first_in(piece, 0),
+        Place::Unit => Ok(Part {
+            goes_on: true,
+            start: 0,
+            end: unit_length(held[0], piece),
+        }),
+        Place::Comment => {
+            let end = unit_length(COMMENT, piece);
+            if end == piece.len() {
+                Err(Place::Comment)
+            } else {
+                first_in(piece, end)
+            }
+        }
+    }
+}
+
+// The same where the bytes so far are of the byte order mark.
+fn found_in_mark(held: &[u8], piece: &[u8]) -> Result<Part, Place>
+    requires { IsHeld Place.Mark held.now }
+    ensures { IsFoundIn Place.Mark held.now piece.now 0 result }
+{
+    let missing = &BYTE_ORDER_MARK[held.len()..];
+    if piece.starts_with(missing) {
+        first_in(piece, missing.len())
+    } else if missing.starts_with(piece) {
+        Err(Place::Mark)
+    } else if held.is_empty() && piece[0] != 0xEF {
+        first_in(piece, 0)
+    } else {
+        Ok(Part {
+            goes_on: true,
+            start: 0,
+            end: unit_length(0xEF, piece),
+        })
+    }
+}
+
+// The first statement's unit in the piece from here on, behind gaps and comments, or where it leads
+// to where it holds none: so for each cutter that stands before a front that leads here.
+#[inline(always)]
+pub(crate) fn first_in(piece: &[u8], from: usize) -> Result<Part, Place>
+    requires { from ≤ length piece.now }
+    ensures { (place : Place) (held : List ℕ) (front : ℕ) → front ≤ from → PassesTo place held piece.now front from
+        → IsFoundIn place held piece.now front result }
+{
+    let mut at = from;
+    while let Some((start, end)) = next_unit(piece, at) {
+        if piece[start] != COMMENT {
+            return Ok(Part {
+                goes_on: false,
+                start,
+                end,
+            });
+        }
+        if end == piece.len() {
+            return Err(Place::Comment);
+        }
+        at = end;
+    }
+    Err(Place::Gap)
+}

@@ -1,0 +1,51 @@
+use csa_cutting::{CutFault, Cutter, Statement, laws};
+
+#[test]
+fn cuts_a_source(rt: HostRuntime) {
+    let mut cutter = Cutter::new(b"\xEF\xBB\xBFV2.2\r\n\r\n,, PI \t\n'x\n+");
+    for (number, offset, bytes) in [(1, 3, b"V2.2".as_slice()), (2, 14, b"PI"), (3, 22, b"+")] {
+        let statement = Statement {
+            number,
+            offset,
+            bytes,
+        };
+        assert!(rt; cutter.next_statement() == Ok(Some(statement)));
+    }
+    assert!(rt; cutter.next_statement() == Ok(None));
+    laws::cut_once();
+    laws::lines_once();
+    laws::closed_once();
+    laws::too_long_once();
+    laws::step_whole();
+    laws::finish_whole();
+    laws::next_whole();
+    laws::pieces_run();
+    laws::cutter_run();
+    laws::never_both();
+    laws::statements_alike();
+    laws::lines_run();
+}
+
+// A statement of 4,096 bytes is handed out, and one of 4,097 is refused again and again; blanks at
+// its end are counted.
+#[test]
+fn limits_a_statement(rt: HostRuntime) {
+    let mut source = [b' '; 4100];
+    source[0] = b'\n';
+    source[1] = b'+';
+    for (end, fits) in [(4097usize, true), (4098, false)] {
+        let mut cutter = Cutter::new(&source[..end]);
+        for _ in 0..2 {
+            let answer = cutter.next_statement();
+            if fits {
+                assert!(rt; answer.is_ok());
+            } else {
+                let fault = CutFault {
+                    number: 1,
+                    offset: 1,
+                };
+                assert_eq!(rt; answer, Err(fault));
+            }
+        }
+    }
+}
