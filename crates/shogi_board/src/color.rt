@@ -13,7 +13,7 @@ pub enum Color {
 impl Color {
     /// The other side.
     pub fn opponent(self) -> Color
-        ensures { result ≡ opponent self }
+        ensures value { result ≡ opponent self }
     {
         match self {
             Color::Black => Color::White,

@@ -25,7 +25,7 @@ impl Model for Hand {
 impl Hand {
     /// How many pieces of that kind it holds: 0 for the king and the promoted kinds.
     pub fn count(&self, kind: Kind) -> u8
-        ensures { result ≡ count_in self.now kind }
+        ensures value { result ≡ count_in self.now kind }
     {
         if kind.is_hand_kind() {
             self.counts[kind.place()]

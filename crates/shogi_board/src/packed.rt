@@ -68,7 +68,7 @@ impl Model for Packed {
 impl Packed {
     /// The position, packed.
     pub fn of(position: &Position) -> Packed
-        ensures { result ≡ position.now }
+        ensures value { result ≡ position.now }
     {
         // a clause of `side` says that the position is sound
         let _side = position.side();
@@ -80,7 +80,7 @@ impl Packed {
 
     /// Whether both are the same position.
     pub fn is_same(&self, other: &Packed) -> bool
-        ensures { IsTrue result ↔ (self.now ≡ other.now) }
+        ensures answer { IsTrue result ↔ (self.now ≡ other.now) }
     {
         if self.files != other.files {
             return false;

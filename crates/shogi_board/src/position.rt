@@ -48,7 +48,7 @@ impl Model for Position {
 impl Position {
     /// The even position: all pieces in their places, no piece in a hand, black to move.
     pub fn even() -> Position
-        ensures { result ≡ even_start }
+        ensures value { result ≡ even_start }
     {
         Position {
             board: Board::even(),
@@ -60,7 +60,7 @@ impl Position {
 
     /// What stands on the square.
     pub fn piece_at(&self, square: Square) -> Option<Piece>
-        ensures { result ≡ at self.now.material.board square }
+        ensures value { result ≡ at self.now.material.board square }
     {
         self.board.at(square)
     }
@@ -75,7 +75,7 @@ impl Position {
 
     /// The hand of that side.
     pub fn hand(&self, color: Color) -> Hand
-        ensures { result ≡ bag_of self.now.material color }
+        ensures value { result ≡ bag_of self.now.material color }
     {
         match color {
             Color::Black => self.black,
@@ -93,7 +93,7 @@ impl Position {
 
     /// The square of that side's king, or None where it has none.
     pub fn king(&self, color: Color) -> Option<Square>
-        ensures { MatchOption result
+        ensures answer { MatchOption result
             ((s : Square) → at self.now.material.board s ≡ piece color King → ⊥)
             (λ s. at self.now.material.board s ≡ piece color King) }
     {
@@ -102,7 +102,7 @@ impl Position {
 
     /// Whether an unpromoted pawn of that side stands on the file of the square.
     pub fn pawn_on_file(&self, color: Color, square: Square) -> bool
-        ensures { IsTrue result ↔ HasPawnOnFile self.now.material.board color square }
+        ensures answer { IsTrue result ↔ HasPawnOnFile self.now.material.board color square }
     {
         self.board.has_pawn_on_file(color, square)
     }
@@ -124,14 +124,14 @@ impl Position {
 /// Whether the piece on `from` reaches `to`, whatever stands on `to`; false where `from` is empty.
 #[inline(always)]
 pub fn reaches(position: &Position, from: Square, to: Square) -> bool
-    ensures { IsTrue result ↔ Reach position.now.material.board from to }
+    ensures answer { IsTrue result ↔ Reach position.now.material.board from to }
 {
     position.board.reaches(from, to)
 }
 
 /// Whether some enemy piece of `color` reaches the square.
 pub fn attacked(position: &Position, color: Color, square: Square) -> bool
-    ensures { IsTrue result ↔ Attacked position.now.material.board color square }
+    ensures answer { IsTrue result ↔ Attacked position.now.material.board color square }
 {
     position.board.attacked(color, square)
 }
@@ -139,7 +139,7 @@ pub fn attacked(position: &Position, color: Color, square: Square) -> bool
 /// The square of an enemy piece of `color` that reaches the square, or None where none does. Where several do, it is one of
 /// them.
 pub fn attacker(position: &Position, color: Color, square: Square) -> Option<Square>
-    ensures { MatchOption result
+    ensures answer { MatchOption result
         (Attacked position.now.material.board color square → ⊥)
         (λ a. Attack position.now.material.board color a square) }
 {
@@ -149,8 +149,8 @@ pub fn attacker(position: &Position, color: Color, square: Square) -> Option<Squ
 /// Whether some enemy piece of `color` reaches the square, where it is known where such a piece may be.
 #[inline(always)]
 pub fn attacked_from(position: &Position, color: Color, square: Square, danger: Danger) -> bool
-    requires { ComesFrom position.now.material.board color square danger }
-    ensures { IsTrue result ↔ Attacked position.now.material.board color square }
+    requires danger { ComesFrom position.now.material.board color square danger }
+    ensures answer { IsTrue result ↔ Attacked position.now.material.board color square }
 {
     position.board.attacked_from(color, square, danger)
 }

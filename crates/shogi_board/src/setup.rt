@@ -68,7 +68,7 @@ impl Model for Setup {
 impl Setup {
     /// The empty board and empty hands, the rest not given.
     pub fn empty() -> Setup
-        ensures { result ≡ empty_layout }
+        ensures value { result ≡ empty_layout }
     {
         Setup {
             board: Board::empty(),

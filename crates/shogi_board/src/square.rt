@@ -57,8 +57,8 @@ impl Square {
 
     /// The square at that place in the order of the squares, from 0 to 80.
     pub fn at_place(n: usize) -> Square
-        requires { n < 81 }
-        ensures { place result ≡ n }
+        requires low { n < 81 }
+        ensures value { place result ≡ n }
     {
         Square {
             file: (n / 9) as u8 + 1,

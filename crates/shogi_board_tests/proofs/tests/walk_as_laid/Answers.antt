@@ -9,4 +9,4 @@ walk-requires-clause-totals c =
     let cleared : c.clear.new.self ≡ taken_off (layout_of p) c.args.from = grind (arith, c.clear.ensures.changed, c.setup-laid.ensures.value) in
     let laid : c.place.new.self ≡ placed c.clear.new.self c.side-side.result c.args.to c.args.kind = grind (arith, c.place.ensures.changed) in
     walk-fits p c.args.from c.args.to c.args.kind c.place.new.self (rw (cleared, c.side-side.ensures.value) at laid)
-    (sym c.piece_at.ensures ∙ nothing c.piece_at.result c.is_some.result c.is_some.ensures c.if-is_some.false) c.finish-laid.ensures.within
+    (sym c.piece_at.ensures.value ∙ nothing c.piece_at.result c.is_some.result c.is_some.ensures c.if-is_some.false) c.finish-laid.ensures.within

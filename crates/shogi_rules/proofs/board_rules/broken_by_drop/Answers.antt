@@ -10,8 +10,8 @@ pub returns-then-not-has_further_move-clause-first : goal.returns-then-not-has_f
 returns-then-not-has_further_move-clause-first c =
     let p = c.args.position.now in
     let some : 0 < c.count.result = grind arith in
-    let count : c.count.result ≡ count_in (bag_of p.material p.side) c.args.kind = rw (c.hand.ensures, c.side-side.ensures.value) at c.count.ensures in
+    let count : c.count.result ≡ count_in (bag_of p.material p.side) c.args.kind = rw (c.hand.ensures.value, c.side-side.ensures.value) at c.count.ensures.value in
     let held : 0 < count_in (bag_of p.material p.side) c.args.kind = rw count at some in
-    let free : at p.material.board c.args.to ≡ None = sym c.piece_at.ensures ∙ nothing c.piece_at.result c.is_some.result c.is_some.ensures c.if-is_some.false in
+    let free : at p.material.board c.args.to ≡ None = sym c.piece_at.ensures.value ∙ nothing c.piece_at.result c.is_some.result c.is_some.ensures c.if-is_some.false in
     let none : (last_rank c.args.kind ≤ rank_for p.side c.args.to) → ⊥ = rw c.side-side.ensures.value at (fails c.has_further_move.result c.has_further_move.ensures c.if-not-has_further_move.true) in
     inr (held, inr (tt, inr (free, inr (tt, inr (tt, inl (none, refl))))))

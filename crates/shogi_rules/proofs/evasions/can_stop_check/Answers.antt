@@ -17,7 +17,7 @@ loop-n-preserved c = λ m below stops kept.
       | inl lt ↦ c.loop-n.invariant m lt stops kept
       | inr ge ↦
           let there : place (target m) ≡ c.loop-n.n = omega arith in
-          let same : target m ≡ c.at_place.result = place-same _ _ (there ∙ sym c.at_place.ensures) in
+          let same : target m ≡ c.at_place.result = place-same _ _ (there ∙ sym c.at_place.ensures.value) in
           let yes = c.can_stop_on.ensures.1 (m, same, stops-at c.args.checker c.args.king c.at_place.result m same stops, kept) in
           let no = c.if-can_stop_on.false in
           cc

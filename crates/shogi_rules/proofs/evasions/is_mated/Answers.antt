@@ -4,14 +4,14 @@ use Rattle.shogi_rules.proofs.evasions.is_mated.Goals as goal
 
 pub returns-in-Some-attacker : goal.returns-in-Some-attacker
 returns-in-Some-attacker c =
-    let king = rw c.side-side.ensures.value at c.in-Some.ensures in
-    let check = rw c.side-side.ensures.value at c.in-Some-attacker.ensures in
+    let king = rw c.side-side.ensures.value at c.in-Some.ensures.answer in
+    let check = rw c.side-side.ensures.value at c.in-Some-attacker.ensures.answer in
     mated-then c.args.position.now c.has_evasion.result (c.in-Some.king, king, (c.in-Some-attacker.checker, check)) c.has_evasion.ensures
 
 pub returns-in-None : goal.returns-in-None
 returns-in-None c =
     let p = c.args.position.now in
-    let king = rw c.side-side.ensures.value at c.in-Some.ensures in
-    let safe = rw c.side-side.ensures.value at c.in-None.ensures in
+    let king = rw c.side-side.ensures.value at c.in-Some.ensures.answer in
+    let safe = rw c.side-side.ensures.value at c.in-None.ensures.answer in
     let within = c.side-side.ensures.sound.within in
     (λ h. cc, λ mated. absurd (king-safe p.material.board p.side c.in-Some.king within.squares (within.kings p.side) king safe mated.in_check))

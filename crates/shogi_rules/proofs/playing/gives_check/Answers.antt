@@ -11,28 +11,30 @@ returns-then-reaches c =
     let p = c.args.last.now in
     let next = c.args.next.now in
     let m = c.args.mv.now in
-    let reach : Reach next.material.board (target m) c.in-Some.king = subst (λ (t : Square). Reach next.material.board t c.in-Some.king) c.target.ensures.value (c.reaches.ensures.0 c.if-reaches.true) in
-    check-is next c.in-Some.king _ c.side-side-2.ensures.sound (rw c.side-side-2.ensures.value at c.in-Some.ensures) (other-reached p next m c.in-Some.king c.side-side.ensures.sound c.requires.next reach)
+    let reach : Reach next.material.board (target m) c.in-Some.king = subst (λ (t : Square). Reach next.material.board t c.in-Some.king) c.target.ensures.value (c.reaches.ensures.answer.0 c.if-reaches.true) in
+    check-is next c.in-Some.king _ c.side-side-2.ensures.sound (rw c.side-side-2.ensures.value at c.in-Some.ensures.answer) (other-reached p next m c.in-Some.king c.side-side.ensures.sound c.requires.next reach)
 
 pub attacked_from-requires : goal.attacked_from-requires
-attacked_from-requires c = λ a attack.
-    let p = c.args.last.now in
-    let next = c.args.next.now in
-    let m = c.args.mv.now in
-    let free = unreached next m c.in-Some.king c.target.result c.reaches.result c.target.ensures.value c.if-reaches.false c.reaches.ensures in
-    let here : Attack next.material.board next.side a c.in-Some.king = subst (λ (x : Color). Attack next.material.board x a c.in-Some.king) c.side-side-2.ensures.value attack in
-    other-towards p next m c.in-Some-source.from c.in-Some.king c.side-side.ensures.sound c.requires.next (rw c.side-side-2.ensures.value at c.in-Some.ensures) free (sym c.source.ensures ∙ c.in-Some-source.is) a here
+attacked_from-requires c = record {
+  danger = λ a attack.
+      let p = c.args.last.now in
+      let next = c.args.next.now in
+      let m = c.args.mv.now in
+      let free = unreached next m c.in-Some.king c.target.result c.reaches.result c.target.ensures.value c.if-reaches.false c.reaches.ensures.answer in
+      let here : Attack next.material.board next.side a c.in-Some.king = subst (λ (x : Color). Attack next.material.board x a c.in-Some.king) c.side-side-2.ensures.value attack in
+      other-towards p next m c.in-Some-source.from c.in-Some.king c.side-side.ensures.sound c.requires.next (rw c.side-side-2.ensures.value at c.in-Some.ensures.answer) free (sym c.source.ensures ∙ c.in-Some-source.is) a here;
+}
 
 pub returns-in-Some-source : goal.returns-in-Some-source
 returns-in-Some-source c =
     let next = c.args.next.now in
-    let answer : IsTrue c.attacked_from.result ↔ Attacked next.material.board next.side c.in-Some.king = rw c.side-side-2.ensures.value at c.attacked_from.ensures in
-    check-is next c.in-Some.king c.attacked_from.result c.side-side-2.ensures.sound (rw c.side-side-2.ensures.value at c.in-Some.ensures) answer
+    let answer : IsTrue c.attacked_from.result ↔ Attacked next.material.board next.side c.in-Some.king = rw c.side-side-2.ensures.value at c.attacked_from.ensures.answer in
+    check-is next c.in-Some.king c.attacked_from.result c.side-side-2.ensures.sound (rw c.side-side-2.ensures.value at c.in-Some.ensures.answer) answer
 
 pub returns-in-None : goal.returns-in-None
 returns-in-None c =
     let p = c.args.last.now in
     let next = c.args.next.now in
     let m = c.args.mv.now in
-    let free = unreached next m c.in-Some.king c.target.result c.reaches.result c.target.ensures.value c.if-reaches.false c.reaches.ensures in
-    check-is next c.in-Some.king _ c.side-side-2.ensures.sound (rw c.side-side-2.ensures.value at c.in-Some.ensures) (other-free p next m c.in-Some.king c.side-side.ensures.sound c.requires.next (rw c.side-side-2.ensures.value at c.in-Some.ensures) free (sym c.source.ensures ∙ c.in-None.is))
+    let free = unreached next m c.in-Some.king c.target.result c.reaches.result c.target.ensures.value c.if-reaches.false c.reaches.ensures.answer in
+    check-is next c.in-Some.king _ c.side-side-2.ensures.sound (rw c.side-side-2.ensures.value at c.in-Some.ensures.answer) (other-free p next m c.in-Some.king c.side-side.ensures.sound c.requires.next (rw c.side-side-2.ensures.value at c.in-Some.ensures.answer) free (sym c.source.ensures ∙ c.in-None.is))

@@ -10,7 +10,7 @@ pub returns-in-Some : goal.returns-in-Some
 returns-in-Some c =
     let p = c.args.position.now in
     let s = c.at_place-to.result in
-    let below : (t : Square) → place t < place s → NoDrop p c.args.kind t = λ t lt. c.loop-n.invariant t (subst (λ i. place t < i) c.at_place-to.ensures lt) in
+    let below : (t : Square) → place t < place s → NoDrop p c.args.kind t = λ t lt. c.loop-n.invariant t (subst (λ i. place t < i) c.at_place-to.ensures.value lt) in
     drop-of-first p c.args.kind s c.in-Some.mv below c.in-Some.ensures.0 c.in-Some.ensures.1
 
 pub loop-n-preserved : goal.loop-n-preserved
@@ -20,7 +20,7 @@ loop-n-preserved c = λ t below.
       | inr ge ↦
           let p = c.args.position.now in
           let there : place t ≡ c.loop-n.n = omega arith in
-          let same : c.at_place-to.result ≡ t = place-same _ _ (c.at_place-to.ensures ∙ sym there) in
+          let same : c.at_place-to.result ≡ t = place-same _ _ (c.at_place-to.ensures.value ∙ sym there) in
           subst (λ (x : Square). NoDrop p c.args.kind x) same c.in_default.ensures
     ]
 

@@ -11,7 +11,7 @@ pub returns-in-Some : goal.returns-in-Some
 returns-in-Some c =
     let p = c.args.position.now in
     let s = c.at_place.result in
-    let below : (t : Square) → place t < place s → NoneOf p (IsWalkBetween c.args.from t) = λ t lt. c.loop-n.invariant t (subst (λ i. place t < i) c.at_place.ensures lt) in
+    let below : (t : Square) → place t < place s → NoneOf p (IsWalkBetween c.args.from t) = λ t lt. c.loop-n.invariant t (subst (λ i. place t < i) c.at_place.ensures.value lt) in
     walk-from-first p c.args.from s c.in-Some.mv below c.in-Some.ensures
 
 pub loop-n-preserved : goal.loop-n-preserved
@@ -21,7 +21,7 @@ loop-n-preserved c = λ t below.
       | inr ge ↦
           let p = c.args.position.now in
           let there : place t ≡ c.loop-n.n = omega arith in
-          let same : c.at_place.result ≡ t = place-same _ _ (c.at_place.ensures ∙ sym there) in
+          let same : c.at_place.result ≡ t = place-same _ _ (c.at_place.ensures.value ∙ sym there) in
           subst (λ (x : Square). NoneOf p (IsWalkBetween c.args.from x)) same c.in_default.ensures
     ]
 

@@ -4,7 +4,7 @@ use Rattle.usi_text.proofs.setting.board_setup.Goals as goal
 use Rattle.usi_text.proofs.setting.board_setup.Goals.{in-Some+in_ok-place, in_default}
 
 pub loop-n-init : goal.loop-n-init
-loop-n-init c = rw c.empty-setup.ensures (putting_start c.args.cells.now)
+loop-n-init c = rw c.empty-setup.ensures.value (putting_start c.args.cells.now)
 
 pub loop-n-preserved : goal.loop-n-preserved
 loop-n-preserved c =

@@ -11,7 +11,7 @@ returns-in_ok-push c =
     (c.in_ok-push_hand-2.ensures ∙ ap (λ x. x ++ told white) c.in_ok-push_hand.ensures)
     (omega (arith, c.push_hand-2.new.text.ok.0, c.args.text.now.ok.0))
     c.in_ok-push.ensures.items in
-    rw (c.hand.ensures, c.hand-2.ensures) at r
+    rw (c.hand.ensures.value, c.hand-2.ensures.value) at r
 
 pub returns-else-len-before : goal.returns-else-len-before
 returns-else-len-before c =
@@ -19,4 +19,4 @@ returns-else-len-before c =
     let r = hands_told c.args.text.now.items c.push_hand-2.new.text.items (hand_piles Black c.hand.result) white
     (c.in_ok-push_hand-2.ensures ∙ ap (λ x. x ++ told white) c.in_ok-push_hand.ensures)
     (omega (arith, c.push_hand-2.new.text.ok.0, c.args.text.now.ok.0)) in
-    rw (c.hand.ensures, c.hand-2.ensures) at r
+    rw (c.hand.ensures.value, c.hand-2.ensures.value) at r

@@ -15,7 +15,7 @@ returns-in-Err-clause-taken c = λ before lays s e.
     let so = subst (Lays before) (sym c.self.view_is) lays in
     let now = c.if-not-self.self-inside in
     let begun : Begun l item now.setup now.even now.ranks = elim c.if-not-self.branch [
-      | then-not-self w ↦ rw w.self-inside-is (begun_empty l item w.empty-self-inside.result refl w.if-not-self.true w.empty-self-inside.ensures)
+      | then-not-self w ↦ rw w.self-inside-is (begun_empty l item w.empty-self-inside.result refl w.if-not-self.true w.empty-self-inside.ensures.value)
       | else-not-self w ↦ rw w.self-inside-is (begun_on l item w.if-not-self.false)
     ] in
     refused before l l item c.in-Err.fault so refl (pieces_fit before c.args.color (pairs_of c.args.pairs) s e)
@@ -28,7 +28,7 @@ returns-clause-taken c = λ before lays s e.
     let so = subst (Lays before) (sym c.self.view_is) lays in
     let now = c.if-not-self.self-inside in
     let begun : Begun l item now.setup now.even now.ranks = elim c.if-not-self.branch [
-      | then-not-self w ↦ rw w.self-inside-is (begun_empty l item w.empty-self-inside.result refl w.if-not-self.true w.empty-self-inside.ensures)
+      | then-not-self w ↦ rw w.self-inside-is (begun_empty l item w.empty-self-inside.result refl w.if-not-self.true w.empty-self-inside.ensures.value)
       | else-not-self w ↦ rw w.self-inside-is (begun_on l item w.if-not-self.false)
     ] in
     let new = laid_as c.place_pairs.new.setup true now.even now.ranks in

@@ -25,7 +25,7 @@ returns-in-Err-clause-taken c = λ before lays s e.
     let so = subst (Lays before) (sym c.self.view_is) lays in
     let now = c.if-not-self.self-inside in
     let begun : Begun l item now.setup now.even now.ranks = elim c.if-not-self.branch [
-      | then-not-self w ↦ rw w.self-inside-is (begun_empty l item w.empty-self-inside.result refl w.if-not-self.true w.empty-self-inside.ensures)
+      | then-not-self w ↦ rw w.self-inside-is (begun_empty l item w.empty-self-inside.result refl w.if-not-self.true w.empty-self-inside.ensures.value)
       | else-not-self w ↦ rw w.self-inside-is (begun_on l item w.if-not-self.false)
     ] in
     refused before l l item c.in-Err.fault so refl (rank_fits before l c.args.number c.args.cells.now c.requires.low c.requires.high so s e c.if-self.false c.if-self-number.false)
@@ -38,7 +38,7 @@ returns-clause-taken c = λ before lays s e.
     let so = subst (Lays before) (sym c.self.view_is) lays in
     let now = c.if-not-self.self-inside in
     let begun : Begun l item now.setup now.even now.ranks = elim c.if-not-self.branch [
-      | then-not-self w ↦ rw w.self-inside-is (begun_empty l item w.empty-self-inside.result refl w.if-not-self.true w.empty-self-inside.ensures)
+      | then-not-self w ↦ rw w.self-inside-is (begun_empty l item w.empty-self-inside.result refl w.if-not-self.true w.empty-self-inside.ensures.value)
       | else-not-self w ↦ rw w.self-inside-is (begun_on l item w.if-not-self.false)
     ] in
     let new = laid_as c.place_cells.new.setup true now.even (set now.ranks (c.args.number - 1) true) in

@@ -50,8 +50,8 @@ invariant_of-self-2 c =
     let no = c.if-king_is_attacked.false in
     cc in
     elim c.match-side.branch [
-      | in-Black w ↦ rw (w.self-inside-is, c.opponent-self-inside.ensures, w.take_one.ensures, c.put.ensures) (black-dropped i.board i.black i.white i.side c.args.to c.args.kind w.in-Black.is totals safe)
-      | in-White w ↦ rw (w.self-inside-is, c.opponent-self-inside.ensures, w.take_one-in-White.ensures, c.put.ensures) (white-dropped i.board i.black i.white i.side c.args.to c.args.kind w.in-White.is totals safe)
+      | in-Black w ↦ rw (w.self-inside-is, c.opponent-self-inside.ensures.value, w.take_one.ensures, c.put.ensures) (black-dropped i.board i.black i.white i.side c.args.to c.args.kind w.in-Black.is totals safe)
+      | in-White w ↦ rw (w.self-inside-is, c.opponent-self-inside.ensures.value, w.take_one-in-White.ensures, c.put.ensures) (white-dropped i.board i.black i.white i.side c.args.to c.args.kind w.in-White.is totals safe)
     ]
 
 pub returns-clause-answer : goal.returns-clause-answer

@@ -58,8 +58,8 @@ invariant_of-self-2 c =
     let no = c.if-king_is_attacked.false in
     cc in
     elim c.match-side.branch [
-      | in-Black w ↦ rw (w.self-inside-is, c.opponent-self-inside.ensures, w.add_captured.ensures, c.put-2.ensures, c.put.ensures, c.at-captured.ensures) (black-walked i.board i.black i.white i.side c.args.from c.args.to c.args.kind w.in-Black.is totals safe)
-      | in-White w ↦ rw (w.self-inside-is, c.opponent-self-inside.ensures, w.add_captured-in-White.ensures, c.put-2.ensures, c.put.ensures, c.at-captured.ensures) (white-walked i.board i.black i.white i.side c.args.from c.args.to c.args.kind w.in-White.is totals safe)
+      | in-Black w ↦ rw (w.self-inside-is, c.opponent-self-inside.ensures.value, w.add_captured.ensures, c.put-2.ensures, c.put.ensures, c.at-captured.ensures) (black-walked i.board i.black i.white i.side c.args.from c.args.to c.args.kind w.in-Black.is totals safe)
+      | in-White w ↦ rw (w.self-inside-is, c.opponent-self-inside.ensures.value, w.add_captured-in-White.ensures, c.put-2.ensures, c.put.ensures, c.at-captured.ensures) (white-walked i.board i.black i.white i.side c.args.from c.args.to c.args.kind w.in-White.is totals safe)
     ]
 
 pub returns-clause-answer : goal.returns-clause-answer

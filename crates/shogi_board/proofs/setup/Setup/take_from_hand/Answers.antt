@@ -7,5 +7,5 @@ use Rattle.shogi_board.proofs.setup.Setup.take_from_hand.Goals as goal
 pub set_hand-requires : goal.set_hand-requires
 set_hand-requires c =
     let s = c.args.self.now in
-    let less : c.set.new.self ≡ one_less (bag_of s.material c.args.color) c.args.kind = rw (c.set.ensures, c.count.ensures, c.hand-hand.ensures.value) refl in
+    let less : c.set.new.self ≡ one_less (bag_of s.material c.args.color) c.args.kind = rw (c.set.ensures, c.count.ensures.value, c.hand-hand.ensures.value) refl in
     rw less (less-within s c.args.color c.args.kind c.hand-hand.ensures.within)

@@ -26,7 +26,7 @@ loop-n-preserved c =
     let led : Leads (keys es) (length es) q n = rw (sym c.self.view_is) at c.loop-n.invariant in
     let low : n - 1 < length es = omega (arith, led.low, c.loop-n-test.true) in
     let at = slice_get_read es (length es) (n - 1) e refl low c.index-entry.ensures in
-    let other = apart e.position q (λ is. let yes = c.is_same.ensures.1 is in let no = c.if-is_same.false in cc) in
+    let other = apart e.position q (λ is. let yes = c.is_same.ensures.answer.1 is in let no = c.if-is_same.false in cc) in
     rw (sym c.self.view_is) (walk-on es i.heads.items q e n (n - 1) c.self.invariant led (omega (arith, c.loop-n-test.true)) at other)
 
 pub returns : goal.returns
