@@ -1,4 +1,4 @@
-use Rattle.std.proofs.Common.{inr, subst}
+use Rattle.std.proofs.Common.{rules, inr, subst}
 use Rattle.csa_cutting.specs.LineCutting.{LinesAfter}
 use Rattle.session_loops.proofs.Cutting.{goes_on, heard_short}
 use Rattle.session_loops.proofs.incoming.cut.Goals as goal
@@ -15,3 +15,6 @@ returns-clause-short c = λ is hearing.
     (heard_short c.args.cutter.now c.args.piece.now (c.in_ok-used.used, c.in_ok-used.line) c.in-Some.line c.in-Some.is hearing
     (λ x. let long = c.in_ok-used.ensures.long.1 (inr x) in cc)
     c.in_ok-used.ensures.lines)
+
+pub returns-clause-line : goal.returns-clause-line
+returns-clause-line c = search rules

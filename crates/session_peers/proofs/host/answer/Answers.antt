@@ -1,3 +1,4 @@
+use Rattle.std.proofs.Common.{rules}
 use Rattle.session_peers.proofs.HostLines.{if_ok}
 use Rattle.session_peers.proofs.host.answer.Goals as goal
 
@@ -9,3 +10,6 @@ returns-in-Offered-clause-row c = if_ok c.agree.result _ _ (c.agree.ensures c.ar
 
 pub returns-in-Playing-clause-row : goal.returns-in-Playing-clause-row
 returns-in-Playing-clause-row c = if_ok c.answer_in_play.result _ _ c.answer_in_play.ensures (λ r h. rw c.in-Playing.is h)
+
+pub returns-in-Decided-clause-row : goal.returns-in-Decided-clause-row
+returns-in-Decided-clause-row c = search rules

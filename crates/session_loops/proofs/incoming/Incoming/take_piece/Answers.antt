@@ -1,4 +1,4 @@
-use Rattle.std.proofs.Common.{arith, Some, Err, length, ap, subst, ◌≡◌}
+use Rattle.std.proofs.Common.{arith, rules, Some, Err, length, ap, subst, ◌≡◌}
 use Rattle.std.specs.Io.Buffered.{reader_buffer, reader_remaining}
 use Rattle.std.specs.Io.BufRead.{FillKeeps}
 use Rattle.session_loops.specs.declared.incoming.Heard.TheVariants.{Line}
@@ -70,3 +70,6 @@ returns-in-Err-cut-clause-long g c =
     let long = c.in-Err-cut.ensures.long (ap Err is) in
     let gives = piece_long old (remaining lender) c.in-Ok.piece.now cutter.held c.in-Ok.ensures.front kept.0 (begins_long cutter c.in-Ok.piece.now (c.self.invariant c.if-self.false) long.1) in
     rw (← c.self.view_is, long.0) gives)
+
+pub returns-in-Err-2-clause-end : goal.returns-in-Err-2-clause-end
+returns-in-Err-2-clause-end g c = search rules

@@ -1,4 +1,4 @@
-use Rattle.std.proofs.Common.{ap, ◌∙◌}
+use Rattle.std.proofs.Common.{rules, ap, ◌∙◌}
 use Rattle.session_peers.specs.Hosting.{HostSession, state_of}
 use Rattle.session_peers.proofs.HostSteps.{stepped, row_bytes, over_bytes, over_stays}
 use Rattle.session_peers.proofs.host.Host.step.Goals as goal
@@ -27,3 +27,6 @@ returns-in-Ok-clause-stays c = λ over.
 pub returns-in-Err-clause-over : goal.returns-in-Err-clause-over
 returns-in-Err-clause-over c = λ over.
     c.in-Err.ensures.over (ap state_of c.replace-stage.ensures.value ∙ (ap (λ (h : HostSession). h.state) c.self.view_is ∙ over))
+
+pub returns-in-Err-clause-lost : goal.returns-in-Err-clause-lost
+returns-in-Err-clause-lost c = search rules
