@@ -72,4 +72,4 @@ returns-in-Err-cut-clause-long g c =
     rw (← c.self.view_is, long.0) gives)
 
 pub returns-in-Err-2-clause-end : goal.returns-in-Err-2-clause-end
-returns-in-Err-2-clause-end g c = search rules
+returns-in-Err-2-clause-end g c = λ is. search rules
