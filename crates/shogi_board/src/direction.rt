@@ -61,6 +61,7 @@ pub(crate) fn jumps() -> &'static [Direction]
 
 impl Kind {
     // Whether a piece of this kind goes so far in that direction, as its side sees it, where nothing stands between.
+    #[inline(always)]
     pub(crate) fn goes(self, direction: Direction, distance: u8) -> bool
         requires { IsRay direction }
         ensures { IsTrue result ↔ Goes self direction distance }

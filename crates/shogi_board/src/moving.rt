@@ -26,6 +26,7 @@ impl Position {
     ///
     /// The danger says where the mover's king may be attacked from after the walk. To be called with two squares, where no
     /// king is captured and no more pieces stand then than a game has.
+    #[inline(always)]
     pub fn walk(&mut self, from: Square, to: Square, kind: Kind, danger: Danger) -> bool
         requires apart { place from ≢ place to }
         requires totals { IsWithinTotals (walked self.old from to kind).material }
