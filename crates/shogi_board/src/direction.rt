@@ -70,6 +70,7 @@ impl Kind {
     }
 
     // Whether it steps in that direction, one of the eight, as its side sees it.
+    #[inline(always)]
     fn has_step(self, direction: Direction) -> bool
         requires { IsRay direction }
         ensures { IsTrue result ↔ Contains (steps self) direction }
@@ -87,6 +88,7 @@ impl Kind {
     }
 
     // Whether it slides in that direction, one of the eight, as its side sees it.
+    #[inline(always)]
     fn has_ray(self, direction: Direction) -> bool
         requires { IsRay direction }
         ensures { IsTrue result ↔ Contains (rays self) direction }

@@ -59,6 +59,7 @@ impl Position {
     ///
     /// The danger is as in `walk`. To be called where the hand holds such a piece, the square is empty, and no more pieces
     /// stand then than a game has.
+    #[inline(always)]
     pub fn drop_piece(&mut self, to: Square, kind: Kind, danger: Danger) -> bool
         requires held { 0 < count_in (bag_of self.old.material self.old.side) kind }
         requires empty { at self.old.material.board to ≡ None }
@@ -84,6 +85,7 @@ impl Position {
 }
 
 // Adds what was captured to the hand, unpromoted.
+#[inline(always)]
 fn add_captured(hand: &mut Hand, captured: Option<Piece>)
     requires kind { (x : Piece) → captured ≡ Some x → is_hand_kind (unpromoted x.kind) ≡ true }
     requires room { (x : Piece) → captured ≡ Some x → count_in hand.old (unpromoted x.kind) < 255 }
