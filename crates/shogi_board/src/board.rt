@@ -296,6 +296,7 @@ impl Board {
     }
 
     // The square of the first piece in that direction, if it is an enemy of that colour that reaches the square.
+    #[inline(always)]
     fn attacker_from(&self, color: Color, square: Square, direction: Direction) -> Option<Square>
         requires { IsRay direction }
         ensures { MatchOption result

@@ -61,6 +61,7 @@ pub(crate) fn jumps() -> &'static [Direction]
 
 impl Kind {
     // Whether a piece of this kind goes so far in that direction, as its side sees it, where nothing stands between.
+    #[inline(always)]
     pub(crate) fn goes(self, direction: Direction, distance: u8) -> bool
         requires { IsRay direction }
         ensures { IsTrue result ↔ Goes self direction distance }
@@ -69,6 +70,7 @@ impl Kind {
     }
 
     // Whether it steps in that direction, one of the eight, as its side sees it.
+    #[inline(always)]
     fn has_step(self, direction: Direction) -> bool
         requires { IsRay direction }
         ensures { IsTrue result ↔ Contains (steps self) direction }
@@ -86,6 +88,7 @@ impl Kind {
     }
 
     // Whether it slides in that direction, one of the eight, as its side sees it.
+    #[inline(always)]
     fn has_ray(self, direction: Direction) -> bool
         requires { IsRay direction }
         ensures { IsTrue result ↔ Contains (rays self) direction }

@@ -26,6 +26,7 @@ impl Position {
     ///
     /// The danger says where the mover's king may be attacked from after the walk. To be called with two squares, where no
     /// king is captured and no more pieces stand then than a game has.
+    #[inline(always)]
     pub fn walk(&mut self, from: Square, to: Square, kind: Kind, danger: Danger) -> bool
         requires apart { place from ≢ place to }
         requires totals { IsWithinTotals (walked self.old from to kind).material }
@@ -58,6 +59,7 @@ impl Position {
     ///
     /// The danger is as in `walk`. To be called where the hand holds such a piece, the square is empty, and no more pieces
     /// stand then than a game has.
+    #[inline(always)]
     pub fn drop_piece(&mut self, to: Square, kind: Kind, danger: Danger) -> bool
         requires held { 0 < count_in (bag_of self.old.material self.old.side) kind }
         requires empty { at self.old.material.board to ≡ None }
@@ -83,6 +85,7 @@ impl Position {
 }
 
 // Adds what was captured to the hand, unpromoted.
+#[inline(always)]
 fn add_captured(hand: &mut Hand, captured: Option<Piece>)
     requires kind { (x : Piece) → captured ≡ Some x → is_hand_kind (unpromoted x.kind) ≡ true }
     requires room { (x : Piece) → captured ≡ Some x → count_in hand.old (unpromoted x.kind) < 255 }

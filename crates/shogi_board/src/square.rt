@@ -116,6 +116,7 @@ impl Square {
     }
 
     // The direction in which the other square lies and how far, if it is another one, on the rank, file or diagonal.
+    #[inline(always)]
     pub(crate) fn towards(self, other: Square) -> Option<(Direction, u8)>
         ensures { MatchOption result (IsNowhere self other) (λ way. Lies self other way.0 way.1) }
     {

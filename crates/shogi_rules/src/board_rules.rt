@@ -55,6 +55,7 @@ fn doubles_pawn(position: &Position, to: Square, kind: Kind) -> bool
 }
 
 // The first of the rules 3 to 9 that the side to move breaks by the move.
+#[inline(always)]
 pub(crate) fn broken_on_board(position: &Position, mv: &Move) -> Option<Rule>
     ensures first { IsFirstBroken (KeptAlone position.now mv.now) board_rules result }
     ensures fits { IfNone result (FitsBoard position.now mv.now) }
@@ -66,6 +67,7 @@ pub(crate) fn broken_on_board(position: &Position, mv: &Move) -> Option<Rule>
 }
 
 // The same of a walk.
+#[inline(always)]
 fn broken_by_walk(position: &Position, from: Square, to: Square, kind: Kind) -> Option<Rule>
     ensures first { IsFirstBroken (KeptAlone position.now (Move.Walk from to kind)) board_rules result }
     ensures fits { IfNone result (FitsBoard position.now (Move.Walk from to kind)) }
