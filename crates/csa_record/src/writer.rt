@@ -7,6 +7,7 @@ ghost use Rattle.record_game.specs.Tells.{Tells};
 
 use crate::record::Record;
 use crate::start_writer::write_start;
+use csa_text::sign_of;
 use shogi_board::{Color, OutOfMemory};
 use std::alloc::Global;
 
@@ -56,9 +57,6 @@ fn write_titles(text: &mut Vec<u8>, game: &Record) -> Result<(), OutOfMemory>
 fn write_side(text: &mut Vec<u8>, side: Color) -> Result<(), OutOfMemory>
     ensures { OnOk result (text.new.items ≡ text.old.items ++ ended_line (turn side)) }
 {
-    match side {
-        Color::Black => text.extend_from_slice(b"+\n")?,
-        Color::White => text.extend_from_slice(b"-\n")?,
-    }
+    text.extend_from_slice(&[sign_of(side), b'\n'])?;
     Ok(())
 }

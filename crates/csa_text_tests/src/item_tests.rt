@@ -1,6 +1,9 @@
 ghost use Rattle.std.specs.Prelude.{◌≤◌, ◌/◌, ◌%◌};
 
-use csa_text::{Ending, Item, Pair, TextFault, csa_move, kind_text, laws, read_item, sign_of};
+use csa_text::{
+    Cut, CutFault, Cutter, Ending, Item, LONGEST_STATEMENT, LineCutter, LineFault, Pair,
+    PieceCutter, Statement, TextFault, csa_move, kind_text, laws, read_item, sign_of,
+};
 use shogi_board::{Color, Kind, Square};
 use shogi_rules::Move;
 use std::test::Fail;
@@ -130,4 +133,26 @@ fn letters_of_the_kinds(rt: HostRuntime) {
     }
     assert!(rt; sign_of(Color::Black) == b'+');
     assert!(rt; sign_of(Color::White) == b'-');
+}
+
+// The types that cut, by the names that this crate hands on.
+#[test]
+fn hands_on_what_cuts(rt: HostRuntime) {
+    let statement = Statement {
+        number: 1,
+        offset: 0,
+        bytes: b"+",
+    };
+    let answer: Result<Option<Statement>, CutFault> = Cutter::new(b"+").next_statement();
+    assert!(rt; answer == Ok(Some(statement)));
+    let mut pieces = PieceCutter::new();
+    let cut = Cut {
+        used: 2,
+        statement: Some(statement),
+    };
+    assert!(rt; pieces.step(b"+\n") == Ok(cut));
+    let mut lines = LineCutter::new(rt.alloc(), 1);
+    let fault: LineFault = LineFault::TooLong;
+    assert!(rt; lines.step(b"ab") == Err(fault));
+    assert!(rt; LONGEST_STATEMENT == 4096);
 }
