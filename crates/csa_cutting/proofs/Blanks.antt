@@ -1,5 +1,5 @@
 -- The blanks at the end of a statement.
-use Rattle.std.proofs.Common.{◌≡◌, ℕ, ◌+◌, ◌-◌, ◌<◌, ◌≤◌, Bool, true, false, List, [], ◌∷◌, ◌++◌, length, take, get_or, Some, arith, refl, sym, ap, ◌∙◌, subst, if◌then◌else◌}
+use Rattle.std.proofs.Common.{◌≡◌, ℕ, ◌+◌, ◌-◌, ◌<◌, ◌≤◌, Bool, true, false, List, [], ◌∷◌, ◌++◌, length, take, get_or, Option, Some, None, MatchOption, arith, refl, sym, ap, ◌∙◌, subst, if◌then◌else◌}
 use Rattle.std.proofs.lemmas.List.{take_more}
 use Rattle.std.proofs.lemmas.Option.{slice_get-get_or}
 use Rattle.std.proofs.Math.Seq.{take-length}
@@ -31,14 +31,22 @@ all_kept xs end some within solid =
     let split = split_last xs end some within in
     ap without_last_blanks split ∙ kept_last (take (end - 1) xs) (get_or xs (end - 1) 0) solid ∙ sym split
 
--- bytes whose last is no blank are kept whole
-pub last_kept : (xs : List ℕ) (b : ℕ) → Some b ≡ slice_get xs (length xs - 1) → is_blank b ≡ false → without_last_blanks xs ≡ xs
+last_kept : (xs : List ℕ) (b : ℕ) → Some b ≡ slice_get xs (length xs - 1) → is_blank b ≡ false → without_last_blanks xs ≡ xs
 last_kept [] b e solid = refl
 last_kept (x ∷ xs) b e solid =
     let ys : List ℕ = x ∷ xs in
     let last : Some b ≡ Some (get_or ys (length ys - 1) 0) = e ∙ slice_get-get_or ys (length ys - 1) 0 (omega arith) in
     let same : b ≡ get_or ys (length ys - 1) 0 = cc in
     subst (λ zs. without_last_blanks zs ≡ zs) (take-length ys) (all_kept ys (length ys) (omega arith) (omega arith) (rw (← same) solid))
+
+-- bytes whose last, if there is one, is no blank are kept whole
+pub kept_whole : (xs : List ℕ) (last : Option ℕ) (blank : Bool) → last ≡ slice_get xs (length xs - 1) → MatchOption last (blank ≡ false) (λ b. blank ≡ is_blank b) → blank ≡ false → without_last_blanks xs ≡ xs
+kept_whole [] last blank e told solid = refl
+kept_whole (x ∷ xs) None blank e told solid =
+    let ys : List ℕ = x ∷ xs in
+    let some : slice_get ys (length ys - 1) ≡ Some (get_or ys (length ys - 1) 0) = slice_get-get_or ys (length ys - 1) 0 (omega arith) in
+    cc
+kept_whole (x ∷ xs) (Some last) blank e told solid = last_kept (x ∷ xs) last e (sym told ∙ solid)
 
 pub either_way : (b : Bool) (xs ys : List ℕ) → ys ≡ xs → xs ≡ (if b then xs else ys)
 either_way true xs ys e = refl

@@ -11,8 +11,8 @@ use Rattle.std.proofs.lemmas.Slice.Eq.{slice_eq-Decides}
 use Rattle.csa_cutting.specs.Cut.{TextUnit, IsUnit, EndsBefore, Statements, is_end, begins_with, byte_order_mark, mark_length}
 use Rattle.csa_cutting.specs.PieceCutting.{Follows, mark_of}
 use Rattle.csa_cutting.specs.Places.{IsPart, IsFoundIn, Passes, PassesTo, begins, open_of}
-use Rattle.csa_cutting.specs.declared.piece.Place.{Place}
-use Rattle.csa_cutting.specs.declared.piece.Place.TheVariants.{Mark, Gap, Unit as InUnit, Comment}
+use Rattle.csa_cutting.specs.declared.units.Place.{Place}
+use Rattle.csa_cutting.specs.declared.units.Place.TheVariants.{Mark, Gap, Unit as InUnit, Comment}
 use Rattle.csa_cutting.proofs.Fronts.{passes, weaker, turned_true, turned_false, ends_before, unit_front, length_between}
 use Rattle.csa_cutting.proofs.LineCutting.{all_joined}
 use Rattle.csa_cutting.proofs.Passing.{statements_at, statements_of, unit_before, ends_with_next, split_range, range_size, over_comment, over_open_comment}

@@ -113,7 +113,8 @@ used_joined source piece handed old new used None h u =
     let leads : Leads old (take used piece) [] new = subst (λ t. Leads old t [] new) (sym all) u.1 in
     ([], (pieces_joined fresh old new source (take used piece) handed [] h.0 leads, short_joined handed [] h.1 tt))
 used_joined source piece handed old new used (Some s) h u =
-    (u.0 ∷ [], (pieces_joined fresh old new source (take used piece) handed (u.0 ∷ []) h.0 u.5, short_joined handed (u.0 ∷ []) h.1 (u.1.short, tt)))
+    let told = u.told in
+    (u.unit ∷ [], (pieces_joined fresh old new source (take used piece) handed (u.unit ∷ []) h.0 u.leads, short_joined handed (u.unit ∷ []) h.1 (told.short, tt)))
 
 pub nothing_fed : HasCutOf [] fresh []
 nothing_fed = (

@@ -7,8 +7,8 @@ use Rattle.csa_cutting.specs.Places.{IsFoundIn, begins, open_of}
 use Rattle.csa_cutting.specs.PieceSteps.{HoldsAfter, IsUsed}
 use Rattle.csa_cutting.specs.declared.piece.Cut.{Cut}
 use Rattle.csa_cutting.specs.declared.cutter.Statement.{Statement}
-use Rattle.csa_cutting.specs.declared.piece.Place.{Place}
-use Rattle.csa_cutting.specs.declared.piece.Place.TheVariants.{Mark, Gap, Unit as InUnit, Comment}
+use Rattle.csa_cutting.specs.declared.units.Place.{Place}
+use Rattle.csa_cutting.specs.declared.units.Place.TheVariants.{Mark, Gap, Unit as InUnit, Comment}
 
 mark_quiet : (k : ℕ) → begins_with 39 (take k byte_order_mark) ≡ false
 mark_quiet zero = refl

@@ -10,8 +10,8 @@ use Rattle.csa_cutting.specs.PieceCutting.{PieceCutting, Follows, Closes, Leads,
 use Rattle.csa_cutting.specs.Places.{IsPart, IsFoundIn, Passes, begins, open_of, kept_of}
 use Rattle.csa_cutting.specs.PieceSteps.{Used, IsTooLongAt}
 use Rattle.csa_cutting.specs.declared.cutter.Statement.{Statement}
-use Rattle.csa_cutting.specs.declared.piece.Place.{Place}
-use Rattle.csa_cutting.specs.declared.piece.Place.TheVariants.{Mark, Gap, Unit as InUnit, Comment}
+use Rattle.csa_cutting.specs.declared.units.Place.{Place}
+use Rattle.csa_cutting.specs.declared.units.Place.TheVariants.{Mark, Gap, Unit as InUnit, Comment}
 use Rattle.csa_cutting.proofs.Runs.{no_statements, statement_first, found}
 use Rattle.csa_cutting.proofs.LineCutting.{length_range, nothing}
 use Rattle.csa_cutting.proofs.Passing.{statements_at, statements_of, behind_gap, behind_comment, unit_at, unit_before, next_byte, ends_with_next, split_range, range_size, range_end}
@@ -256,14 +256,14 @@ end_step now place held other piece goes_on start end fed number used refused (S
     let low = kept_few place goes_on held fed (λ h. (p.first h).1) few in
     rw (← view, none, is_used) (
       refl,
-      (
-        part_unit goes_on held piece start end (fed + start),
-        record { number_is = told.0; place = told.1; slice = told.2; short = omega arith },
-        omega arith,
-        omega arith,
-        omega (arith, size, p.order, low),
-        leads_behind_unit place held other piece goes_on start end fed number p few left,
-      ),
+      record {
+        unit = part_unit goes_on held piece start end (fed + start);
+        told = record { number_is = told.0; place = told.1; slice = told.2; short = omega arith };
+        some = omega arith;
+        within = omega arith;
+        last = omega (arith, size, p.order, low);
+        leads = leads_behind_unit place held other piece goes_on start end fed number p few left;
+      },
     )
 
 pub long_step : (now : PieceCutting) (place : Place) (held piece : List ℕ) (goes_on : Bool) (start end fed number o : ℕ) (refused : Option ℕ) → seen place held fed number refused ≡ now → refused ≡ None → IsPart place held piece 0 goes_on start end → length (open_of place held) ≤ fed → o ≡ fed + start - length (kept_of goes_on held) → 4096 < length (kept_of goes_on held) + (end - start) → (number + 1 ≡ now.number + 1) × IsTooLongAt now.refused now piece o × (seen place held fed number (Some o) ≡ record now { refused = Some o })

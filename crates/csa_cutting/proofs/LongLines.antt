@@ -1,10 +1,9 @@
 -- A line over the limit is met in pieces as in the whole.
-use Rattle.std.proofs.Common.{◌≡◌, ℕ, ◌<◌, ◌⊎◌, true, false, List, [], ◌∷◌, ◌++◌, Option, Some, None, Ok, length, take, drop, length-append, append_assoc, append-nil, arith, sym, ap, ◌∙◌, inl, inr}
-use Rattle.std.specs.Borrow.{Bor}
+use Rattle.std.proofs.Common.{◌≡◌, ℕ, ◌<◌, ◌⊎◌, true, false, List, [], ◌∷◌, ◌++◌, Some, None, Ok, length, take, drop, length-append, append_assoc, append-nil, arith, sym, ap, ◌∙◌, inl, inr}
 use Rattle.std.proofs.lemmas.List.{take-append-drop}
 use Rattle.std.proofs.Math.Seq.{take-length}
 use Rattle.csa_cutting.specs.Lines.{is_line_end, AreLineEnds, HasNoLineEnd, BeginsWithLineEnd, IsNextLine, Lines}
-use Rattle.csa_cutting.specs.LineCutting.{LineCutting, BeginsTooLong, HasLongLine, LineStep, LinesAfter}
+use Rattle.csa_cutting.specs.LineCutting.{LineCutting, BeginsTooLong, HasLongLine, LineAnswer, LineStep, LinesAfter}
 use Rattle.csa_cutting.proofs.LineCutting.{StopsLine, no_longer_run}
 use Rattle.csa_cutting.proofs.LinesOnce.{lines_joined}
 
@@ -126,7 +125,7 @@ begins_open : (limit : ℕ) (bytes left : List ℕ) → Lines bytes [] left → 
 begins_open limit bytes left (ends, whole, skipped, run) more =
     (ends, left, [], whole ∙ ap (λ xs. ends ++ xs) (sym (append-nil left)), skipped, run, more)
 
-pub none_missed : (old new : LineCutting) (first piece : List ℕ) (lines : List (List ℕ)) (r : ℕ × Option (Bor (List ℕ))) → Lines first lines old.held → (HasLongLine old.limit first → ⊥) → (BeginsTooLong old.limit (old.held ++ piece) → ⊥) → LineStep old.held piece r → LinesAfter old piece (Ok r) new → HasLongLine old.limit (first ++ take r.0 piece) → ⊥
+pub none_missed : (old new : LineCutting) (first piece : List ℕ) (lines : List (List ℕ)) (r : LineAnswer) → Lines first lines old.held → (HasLongLine old.limit first → ⊥) → (BeginsTooLong old.limit (old.held ++ piece) → ⊥) → LineStep old.held piece r → LinesAfter old piece (Ok r) new → HasLongLine old.limit (first ++ take r.0 piece) → ⊥
 none_missed old new first piece lines (n, None) p few short step after =
     let all : take n piece ≡ piece = ap (λ k. take k piece) step.1 ∙ take-length piece in
     rw all (none_longer old.limit first piece lines [] old.held new.held p after.2 few (λ h. h) (λ h. short (begins_open old.limit (old.held ++ piece) new.held after.2 h)))

@@ -8,7 +8,7 @@ use Rattle.csa_cutting.specs.Cut.{TextUnit, IsNext, IsGap, IsUnit, EndsBefore, U
 use Rattle.csa_cutting.specs.Cutting.{unit_between}
 use Rattle.csa_cutting.specs.PieceCutting.{Follows}
 use Rattle.csa_cutting.specs.Places.{Passes, PassesTo, IsPart, begins, open_of}
-use Rattle.csa_cutting.specs.declared.piece.Place.{Place}
+use Rattle.csa_cutting.specs.declared.units.Place.{Place}
 use Rattle.csa_cutting.proofs.Fronts.{first_between, length_between}
 use Rattle.csa_cutting.proofs.LineCutting.{all_joined}
 use Rattle.csa_cutting.proofs.Runs.{comment_first}

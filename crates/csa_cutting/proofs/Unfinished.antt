@@ -2,12 +2,12 @@
 use Rattle.std.proofs.Common.{◌≡◌, ℕ, zero, suc, ◌+◌, ◌-◌, ◌<◌, ◌≤◌, ◌==◌, true, false, not, List, [], ◌∷◌, ◌++◌, length, take, Option, Some, None, arith, refl, sym, ap, ◌∙◌, subst, inl, inr}
 use Rattle.std.proofs.lemmas.Bool.{false≢true, cases_Bool}
 use Rattle.csa_cutting.specs.Cut.{TextUnit, IsUnit, Statements, begins_with, byte_order_mark, mark_length, statement_bytes}
-use Rattle.csa_cutting.specs.PieceCutting.{PieceCutting, Follows, ToComeWith, HoldsLittle, IsOpen}
+use Rattle.csa_cutting.specs.PieceCutting.{PieceCutting, Follows, ToComeWith, IsOpen}
 use Rattle.csa_cutting.specs.Places.{IsHeld, begins, open_of, has_unit}
 use Rattle.csa_cutting.specs.PieceSteps.{Last}
 use Rattle.csa_cutting.specs.declared.cutter.Statement.{Statement}
-use Rattle.csa_cutting.specs.declared.piece.Place.{Place}
-use Rattle.csa_cutting.specs.declared.piece.Place.TheVariants.{Mark, Gap, Unit as InUnit, Comment}
+use Rattle.csa_cutting.specs.declared.units.Place.{Place}
+use Rattle.csa_cutting.specs.declared.units.Place.TheVariants.{Mark, Gap, Unit as InUnit, Comment}
 use Rattle.csa_cutting.proofs.Fronts.{turned_true, turned_false}
 use Rattle.csa_cutting.proofs.Runs.{no_statements, statement_first}
 use Rattle.csa_cutting.proofs.LineCutting.{nothing, something}
@@ -61,11 +61,11 @@ mark_begins : (k : ℕ) → begins_with 39 (take k byte_order_mark) ≡ true →
 mark_begins zero h = false≢true h
 mark_begins (suc k) h = false≢true h
 
-pub holds_little : (place : Place) (held : List ℕ) (fed number : ℕ) (refused : Option ℕ) → length held ≤ 4096 → IsHeld place held → HoldsLittle (seen place held fed number refused)
-holds_little Mark held fed number refused few h = (few, λ t. absurd (mark_begins (length held) (ap (begins_with 39) (sym h.1) ∙ t)))
-holds_little Gap held fed number refused few h = (few, λ t. absurd (false≢true t))
-holds_little InUnit held fed number refused few h = (few, λ t. absurd (false≢true (sym h.1 ∙ t)))
-holds_little Comment held fed number refused few h = (few, λ t. h)
+pub none_of_comment : (place : Place) (held : List ℕ) → IsHeld place held → begins_with 39 (open_of place held) ≡ true → held ≡ []
+none_of_comment Mark held h t = absurd (mark_begins (length held) (ap (begins_with 39) (sym h.1) ∙ t))
+none_of_comment Gap held h t = absurd (false≢true t)
+none_of_comment InUnit held h t = absurd (false≢true (sym h.1 ∙ t))
+none_of_comment Comment held h t = h
 
 pub is_open : (place : Place) (held : List ℕ) → IsHeld place held → IsOpen (open_of place held)
 is_open Mark held h =

@@ -35,8 +35,9 @@ one_more source piece handed gave old new used None h k u =
     (handed ++ [], (pieces_joined fresh old new source (take used piece) handed [] h.0 leads, short_joined handed [] h.1 tt), numbered_joined 0 handed [] gave [] k tt)
 one_more source piece handed gave old new used (Some s) h k u =
     let count : old.number ≡ 0 + length handed = h.0.counted in
-    let here : IsNumbered (0 + length handed) u.0 s = subst (λ n. IsNumbered n u.0 s) count u.1 in
-    (handed ++ (u.0 ∷ []), (pieces_joined fresh old new source (take used piece) handed (u.0 ∷ []) h.0 u.5, short_joined handed (u.0 ∷ []) h.1 (u.1.short, tt)), numbered_joined 0 handed (u.0 ∷ []) gave (s ∷ []) k (here, tt))
+    let here : IsNumbered (0 + length handed) u.unit s = subst (λ n. IsNumbered n u.unit s) count u.told in
+    let told = u.told in
+    (handed ++ (u.unit ∷ []), (pieces_joined fresh old new source (take used piece) handed (u.unit ∷ []) h.0 u.leads, short_joined handed (u.unit ∷ []) h.1 (told.short, tt)), numbered_joined 0 handed (u.unit ∷ []) gave (s ∷ []) k (here, tt))
 
 all_told : (steps : List (List ℕ × Step)) (source : List ℕ) (handed : List TextUnit) (gave : List Statement) (p q : PieceCutting) → HasCutOf source p handed → AreNumbered 0 handed gave → Answered p steps q → (all : List TextUnit) × HasCutOf (source ++ all_used steps) q all × AreNumbered 0 all (gave ++ all_given steps)
 all_told [] source handed gave p q h k r =

@@ -32,15 +32,19 @@ pub record IsRun (held piece : List ℕ) (start end : ℕ) : Type 0 where
   pub ends : end < length piece → BeginsWithLineEnd (drop end piece)
   pub some : end < length piece → 0 < length held + (end - start)
 
+-- how many bytes of the piece were used, and the line that was handed out, if one was
+abbrev pub LineAnswer : Type 0
+LineAnswer = ℕ × Option (Bor (List ℕ))
+
 -- the line ended with the last byte that was used, and was unfinished before it; or the whole piece
 -- was used and none ended in it
-abbrev pub LineStep : List ℕ → List ℕ → ℕ × Option (Bor (List ℕ)) → Type 0
+abbrev pub LineStep : List ℕ → List ℕ → LineAnswer → Type 0
 LineStep held piece r = (r.0 ≤ length piece) × MatchOption r.1
     (r.0 ≡ length piece)
     (λ line. (0 < r.0) × Lines (held ++ take r.0 piece) (line.now ∷ []) [] × Lines (held ++ take (r.0 - 1) piece) [] line.now)
 
 -- what is held after a step
-abbrev pub LinesAfter : LineCutting → List ℕ → Result (ℕ × Option (Bor (List ℕ))) LineFault → LineCutting → Type 0
+abbrev pub LinesAfter : LineCutting → List ℕ → Result LineAnswer LineFault → LineCutting → Type 0
 LinesAfter old piece (Ok r) new =
     (new.limit ≡ old.limit) × (new.failed ≡ false) × MatchOption r.1 (Lines (old.held ++ piece) [] new.held) (λ line. new.held ≡ [])
 LinesAfter old piece (Err TooLong) new = new ≡ record old { failed = true }

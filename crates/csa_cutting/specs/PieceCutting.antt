@@ -1,5 +1,5 @@
 -- A cutter of pieces on its way.
-use Rattle.std.specs.Prelude.{◌≡◌, ℕ, ◌+◌, ◌-◌, ◌≤◌, ◌||◌, ◌⊎◌, Bool, true, false, List, [], ◌∷◌, ◌++◌, length, drop, filter, nat_lt, Option, None, if◌then◌else◌}
+use Rattle.std.specs.Prelude.{◌≡◌, ℕ, ◌+◌, ◌-◌, ◌||◌, ◌⊎◌, Bool, true, false, List, [], ◌∷◌, ◌++◌, length, drop, filter, nat_lt, Option, None, if◌then◌else◌}
 use Rattle.csa_cutting.specs.Cut.{TextUnit, IsUnit, Statements, IsCut, mark_length, begins_with, longest_statement}
 
 -- how many bytes it took; how many statements it handed out; whether these bytes are the beginning of
@@ -12,10 +12,6 @@ pub record PieceCutting : Type 0 where
   pub unfinished : List ℕ
   pub held : List ℕ
   pub refused : Option ℕ
-
--- no more than 4,096 bytes are held, and none of a comment
-abbrev pub HoldsLittle : PieceCutting → Type 0
-HoldsLittle p = (length p.held ≤ longest_statement) × (begins_with 39 p.unfinished ≡ true → p.held ≡ [])
 
 -- nothing is unfinished, or a comment, of which its first byte stands here, or a statement's unit: so nothing of a gap
 abbrev pub IsOpen : List ℕ → Type 0

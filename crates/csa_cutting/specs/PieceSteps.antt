@@ -21,13 +21,19 @@ IsLentFrom piece fed s = fed ≤ s.offset → s.bytes.ref_ptr ≡ (piece.0, piec
 abbrev pub IsUsed : List ℕ → Cut → Type 0
 IsUsed piece cut = MatchOption cut.statement (cut.used ≡ length piece) (λ s. (0 < cut.used) × (cut.used ≤ length piece))
 
--- no statement is closed in the whole piece, or this one is, by the byte behind its unit, which is the
--- last that was used
+-- this statement is closed and no other, by the byte behind its unit, which is the last that was used
+pub record Ends (old : PieceCutting) (piece : List ℕ) (used : ℕ) (s : Statement) (new : PieceCutting) : Type 0 where
+  pub unit : TextUnit
+  pub told : IsNumbered old.number unit s
+  pub some : 0 < used
+  pub within : used ≤ length piece
+  pub last : old.fed + used ≡ unit.offset + length unit.bytes + 1
+  pub leads : Leads old (take used piece) (unit ∷ []) new
+
+-- no statement is closed in the whole piece, or this one is
 abbrev pub Used : PieceCutting → List ℕ → ℕ → Option Statement → PieceCutting → Type 0
 Used old piece used None new = (used ≡ length piece) × Leads old piece [] new
-Used old piece used (Some s) new =
-    (unit : TextUnit) × IsNumbered old.number unit s × (0 < used) × (used ≤ length piece) × (old.fed + used ≡ unit.offset + length unit.bytes + 1)
-    × Leads old (take used piece) (unit ∷ []) new
+Used old piece used (Some s) new = Ends old piece used s new
 
 -- afterwards what is unfinished is held and no more; of a statement that was handed out its bytes, where it
 -- began before this piece, and else none

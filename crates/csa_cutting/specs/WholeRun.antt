@@ -4,7 +4,7 @@ use Rattle.std.specs.List.{flat_map}
 use Rattle.csa_cutting.specs.Cut.{TextUnit, IsCut}
 use Rattle.csa_cutting.specs.Cutting.{Cutting, IsHandedOut}
 use Rattle.std.specs.Borrow.{Bor}
-use Rattle.csa_cutting.specs.LineCutting.{LineCutting, BeginsTooLong, LineStep, LinesAfter}
+use Rattle.csa_cutting.specs.LineCutting.{LineCutting, BeginsTooLong, LineAnswer, LineStep, LinesAfter}
 use Rattle.csa_cutting.specs.PieceCutting.{PieceCutting}
 use Rattle.csa_cutting.specs.PieceSteps.{IsNumbered, Stepped}
 use Rattle.csa_cutting.specs.declared.cutter.Statement.{Statement}
@@ -51,16 +51,16 @@ abbrev pub all_told : List Statement → List (ℕ × ℕ × List ℕ)
 all_told ss = map told ss
 
 -- pieces and the answers of a cutter of lines to them, one after another
-abbrev pub LineAnswers : LineCutting → List (List ℕ × (ℕ × Option (Bor (List ℕ)))) → LineCutting → Type 0
+abbrev pub LineAnswers : LineCutting → List (List ℕ × LineAnswer) → LineCutting → Type 0
 LineAnswers old [] new = old ≡ new
 LineAnswers old (s ∷ steps) new = (next : LineCutting) × (BeginsTooLong old.limit (old.held ++ s.0) → ⊥) × LineStep old.held s.0 s.1 × LinesAfter old s.0 (Ok s.1) next × LineAnswers next steps new
 
-abbrev pub all_taken : List (List ℕ × (ℕ × Option (Bor (List ℕ)))) → List ℕ
+abbrev pub all_taken : List (List ℕ × LineAnswer) → List ℕ
 all_taken steps = flat_map (λ s. take s.1.0 s.0) steps
 
 abbrev pub line_given : Option (Bor (List ℕ)) → List (List ℕ)
 line_given None = []
 line_given (Some line) = line.now ∷ []
 
-abbrev pub all_lines : List (List ℕ × (ℕ × Option (Bor (List ℕ)))) → List (List ℕ)
+abbrev pub all_lines : List (List ℕ × LineAnswer) → List (List ℕ)
 all_lines steps = flat_map (λ s. line_given s.1.1) steps

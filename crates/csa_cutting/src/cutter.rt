@@ -1,22 +1,13 @@
-ghost use Rattle.std.specs.Prelude.{◌≡◌, ℕ, false, ◌<◌, ◌≤◌, ◌==◌, ◌||◌, ◌&&◌, ◌+◌, [], length, drop, slice_range, not, IfOk, IfErr, IfNone, MatchOption};
-ghost use Rattle.std.specs.List.{position_or_len, prefix_len};
-ghost use Rattle.csa_cutting.specs.Cut.{Statements, IsNext, IsGap, is_separator, is_blank, takes_line, is_end, mark_length, statement_bytes, without_last_blanks, longest_statement};
-ghost use Rattle.csa_cutting.specs.Cutting.{Cutting, ToCome, IfHandedOut, IsTooLong, IsFirstStatement, unit_between};
+ghost use Rattle.std.specs.Prelude.{◌≡◌, ◌≤◌, ◌+◌, [], length, drop, slice_range, IfOk, IfErr, IfNone, MatchOption};
+ghost use Rattle.csa_cutting.specs.Cut.{Statements, mark_length, statement_bytes, longest_statement};
+ghost use Rattle.csa_cutting.specs.Cutting.{Cutting, ToCome, IfHandedOut, IsTooLong, IsFirstStatement};
 
-use crate::line::line_length;
-use crate::piece::first_in;
-use crate::scan::front_length;
+use crate::units::{BYTE_ORDER_MARK, first_in, handed_out};
 use std::marker::Model;
 use thiserror::Error;
 
 /// The most bytes that a statement may have, blanks at its end counted.
 pub const LONGEST_STATEMENT: usize = 4096;
-
-/// The first byte of a comment.
-pub(crate) const COMMENT: u8 = b'\'';
-
-/// The UTF-8 byte order mark.
-pub(crate) const BYTE_ORDER_MARK: [u8; 3] = [0xEF, 0xBB, 0xBF];
 
 /// One statement of a record.
 #[derive(Clone, Copy, Debug, PartialEq, Eq)]
@@ -67,7 +58,8 @@ impl<'a> Cutter<'a> {
     pub fn new(source: &'a [u8]) -> Cutter<'a>
         ensures source { result.source ≡ source.now }
         ensures address { result.address ≡ source.entry.ref_ptr }
-        ensures start { (result.at ≡ mark_length source.now) × (result.number ≡ 0) }
+        ensures start { result.at ≡ mark_length source.now }
+        ensures number { result.number ≡ 0 }
         ensures within { result.at ≤ length source.now }
     {
         let at = if source.starts_with(BYTE_ORDER_MARK.as_slice()) {
@@ -95,8 +87,10 @@ impl<'a> Cutter<'a> {
         ensures bytes { IfHandedOut result (λ s. s.bytes.now ≡ statement_bytes (slice_range self.old.source s.offset self.new.at)) }
         ensures lent { IfHandedOut result (λ s. s.bytes.ref_ptr ≡ (self.old.address.0, self.old.address.1 + s.offset)) }
         ensures limit { IfHandedOut result (λ s. self.new.at ≤ s.offset + longest_statement) }
-        ensures end { IfOk result (λ found. IfNone found (ToCome self.old [] × (self.new ≡ self.old))) }
-        ensures fault { IfErr result (λ f. IsTooLong self.old f.number f.offset × (self.new ≡ self.old)) }
+        ensures end { IfOk result (λ found. IfNone found (ToCome self.old [])) }
+        ensures stays { IfOk result (λ found. IfNone found (self.new ≡ self.old)) }
+        ensures fault { IfErr result (λ f. IsTooLong self.old f.number f.offset) }
+        ensures still { IfErr result (λ _. self.new ≡ self.old) }
     {
         let Some((start, end)) = next_spoken(self.source, self.at) else {
             return Ok(None);
@@ -117,62 +111,6 @@ impl<'a> Cutter<'a> {
     }
 }
 
-fn is_separator(b: u8) -> bool
-    ensures { result ≡ is_separator b }
-{
-    b == b'\r' || b == b'\n' || b == b',' || b == b' ' || b == b'\t'
-}
-
-fn takes_line(first: u8) -> bool
-    ensures { result ≡ takes_line first }
-{
-    first == COMMENT || first == b'N' || first == b'$'
-}
-
-// Whether a statement that does not take the whole line goes on with this byte.
-fn goes_on(b: u8) -> bool
-    ensures { (first : ℕ) → takes_line first ≡ false → result ≡ not (is_end first b) }
-{
-    b != b'\r' && b != b'\n' && b != b','
-}
-
-// How many separators the text begins with.
-fn gap_length(text: &[u8]) -> usize
-    ensures value { result ≡ prefix_len is_separator text.now }
-    ensures within { result ≤ length text.now }
-{
-    front_length(text, is_separator)
-}
-
-// How many bytes of the text come before what ends a unit with this first byte.
-#[inline(always)]
-pub(crate) fn unit_length(first: u8, text: &[u8]) -> usize
-    ensures value { result ≡ position_or_len (is_end first) text.now }
-    ensures within { result ≤ length text.now }
-{
-    if takes_line(first) {
-        return line_length(text);
-    }
-    front_length(text, goes_on)
-}
-
-// The next unit at or after `from`, a comment too: where it starts, and where it ends.
-#[inline(always)]
-pub(crate) fn next_unit(source: &[u8], from: usize) -> Option<(usize, usize)>
-    requires { from ≤ length source.now }
-    ensures { MatchOption result
-        (IsGap (drop from source.now))
-        (λ r. (r.0 < r.1) × (r.1 ≤ length source.now)
-        × IsNext from (drop from source.now) (unit_between source.now r.0 r.1) (drop r.1 source.now)) }
-{
-    let start = from + gap_length(&source[from..]);
-    if start == source.len() {
-        return None;
-    }
-    let length = unit_length(source[start], &source[start + 1..]);
-    Some((start, start + 1 + length))
-}
-
 // The next unit at or after `from` that is no comment.
 fn next_spoken(source: &[u8], from: usize) -> Option<(usize, usize)>
     requires { from ≤ length source.now }
@@ -180,50 +118,6 @@ fn next_spoken(source: &[u8], from: usize) -> Option<(usize, usize)>
         (Statements from (drop from source.now) [])
         (λ r. IsFirstStatement source.now from r.0 r.1) }
 {
-    match first_in(source, from) {
-        Ok(unit) => Some((unit.start, unit.end)),
-        Err(_) => None,
-    }
-}
-
-// The bytes of a statement, of its unit's.
-pub(crate) fn handed_out(unit: &[u8]) -> &[u8]
-    ensures value { result.now ≡ statement_bytes unit.now }
-    ensures place { result.ref_ptr ≡ unit.entry.ref_ptr }
-{
-    if !ends_blank(unit) {
-        return unit;
-    }
-    match unit.first() {
-        Some(b'N') | Some(b'$') => unit,
-        _ => without_last_blanks(unit),
-    }
-}
-
-// Whether a space or a tab is the last of the bytes.
-fn ends_blank(bytes: &[u8]) -> bool
-    ensures { result ≡ false → without_last_blanks bytes.now ≡ bytes.now }
-{
-    match bytes.last() {
-        Some(last) => is_blank(*last),
-        None => false,
-    }
-}
-
-fn is_blank(b: u8) -> bool
-    ensures { result ≡ is_blank b }
-{
-    b == b' ' || b == b'\t'
-}
-
-// The bytes less the spaces and tabs at their end.
-fn without_last_blanks(bytes: &[u8]) -> &[u8]
-    ensures value { result.now ≡ without_last_blanks bytes.now }
-    ensures place { result.ref_ptr ≡ bytes.entry.ref_ptr }
-{
-    let mut end = bytes.len();
-    while end > 0 && is_blank(bytes[end - 1]) {
-        end -= 1;
-    }
-    &bytes[..end]
+    let unit = first_in(source, from).ok()?;
+    Some((unit.start, unit.end))
 }

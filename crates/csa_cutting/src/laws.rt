@@ -1,16 +1,17 @@
 //! Laws of the definitions that the contracts of this crate cite. They take and give nothing.
 
-ghost use Rattle.std.specs.Prelude.{◌≡◌, ℕ, ◌+◌, ◌≤◌, List, [], ◌∷◌, ◌++◌, ◌↔◌, slice_range, Option, None, Some, Result, Ok, Err, IfOk, IfErr};
+ghost use Rattle.std.specs.Prelude.{◌≡◌, ℕ, ◌+◌, ◌≤◌, ◌⊎◌, true, false, List, [], ◌∷◌, ◌++◌, ◌↔◌, slice_range, Option, None, Some, Result, Ok, Err, IfOk, IfErr, IsErrOf};
 ghost use Rattle.std.specs.Borrow.{Bor};
 ghost use Rattle.csa_cutting.specs.Cut.{TextUnit, IsCut, Statements, mark_length, statement_bytes, longest_statement};
 ghost use Rattle.csa_cutting.specs.Cutting.{Cutting, ToCome, IfHandedOut, IsFirstStatement, IsHandedOut, IsTooLong};
 ghost use Rattle.csa_cutting.specs.Lines.{Lines};
-ghost use Rattle.csa_cutting.specs.LineCutting.{LineCutting, BeginsTooLong, HasLongLine, LastLine};
+ghost use Rattle.csa_cutting.specs.LineCutting.{LineCutting, BeginsTooLong, HasLongLine, LineAnswer, LineStep, LinesAfter, LastLine};
 ghost use Rattle.csa_cutting.specs.PieceCutting.{PieceCutting, Closed, fresh};
 ghost use Rattle.csa_cutting.specs.PieceSteps.{AfterStep, AfterEnd, Last, IsTooLongAt, Stepped, Finished};
 ghost use Rattle.csa_cutting.specs.TooLong.{FirstTooLong};
 ghost use Rattle.csa_cutting.specs.WholeRun.{AreNumbered, AreStatementsOf, given, Answered, all_used, all_given, HandedOut, all_told, LineAnswers, all_taken, line_given, all_lines};
 ghost use Rattle.csa_cutting.specs.declared.cutter.CutFault.{CutFault};
+ghost use Rattle.csa_cutting.specs.declared.line.LineFault.TheVariants.{TooLong};
 ghost use Rattle.csa_cutting.specs.declared.cutter.Statement.{Statement};
 ghost use Rattle.csa_cutting.specs.declared.piece.Cut.{Cut as Step};
 
@@ -109,19 +110,30 @@ pub fn statements_alike()
     ensures alike { (source : List ℕ) (a b : List Statement) → AreStatementsOf source a → AreStatementsOf source b → all_told a ≡ all_told b }
 {}
 
+/// What the clauses `long`, `lines` and `rests` of `LineCutter::step` say of an answer that is no fault
+/// comes to just two things: that the cutter had not failed, and what `LineAnswers`, of which
+/// `lines_run` speaks, asks of one step.
+pub fn line_step_whole()
+    ensures told { (old new : LineCutting) (piece : List ℕ) (answer : LineAnswer)
+        → ((IsErrOf (Ok answer) TooLong ↔ ((old.failed ≡ true) ⊎ BeginsTooLong old.limit (old.held ++ piece)))
+        × LineStep old.held piece answer
+        × LinesAfter old piece (Ok answer) new)
+        ↔ ((old.failed ≡ false) × LineAnswers old ((piece, answer) ∷ []) new) }
+{}
+
 /// Over a whole run of steps, in whatever pieces, what a new `LineCutter` hands out are the lines of
 /// the bytes that were used, it holds their rest, and no line has more than the limit; where it
 /// answers `TooLong`, the bytes with that piece have a line over the limit. With the line that
 /// `finish` hands out these are all lines of the bytes, whose end ends the last one as LF does.
 pub fn lines_run()
-    ensures lines { (steps : List (List ℕ × (ℕ × Option (Bor (List ℕ))))) (old new : LineCutting)
+    ensures lines { (steps : List (List ℕ × LineAnswer)) (old new : LineCutting)
         → old.held ≡ [] → LineAnswers old steps new → Lines (all_taken steps) (all_lines steps) new.held }
-    ensures short { (steps : List (List ℕ × (ℕ × Option (Bor (List ℕ))))) (old new : LineCutting)
+    ensures short { (steps : List (List ℕ × LineAnswer)) (old new : LineCutting)
         → old.held ≡ [] → LineAnswers old steps new → HasLongLine old.limit (all_taken steps) → ⊥ }
-    ensures long { (steps : List (List ℕ × (ℕ × Option (Bor (List ℕ))))) (old new : LineCutting) (piece : List ℕ)
+    ensures long { (steps : List (List ℕ × LineAnswer)) (old new : LineCutting) (piece : List ℕ)
         → old.held ≡ [] → LineAnswers old steps new → BeginsTooLong new.limit (new.held ++ piece)
         → HasLongLine old.limit (all_taken steps ++ piece) }
-    ensures finished { (steps : List (List ℕ × (ℕ × Option (Bor (List ℕ))))) (old new : LineCutting) (last : Option (Bor (List ℕ)))
+    ensures finished { (steps : List (List ℕ × LineAnswer)) (old new : LineCutting) (last : Option (Bor (List ℕ)))
         → old.held ≡ [] → LineAnswers old steps new → LastLine new.held last
         → Lines (all_taken steps ++ 10 ∷ []) (all_lines steps ++ line_given last) [] }
 {}

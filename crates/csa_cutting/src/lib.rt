@@ -8,6 +8,7 @@ pub mod laws;
 mod line;
 mod piece;
 mod scan;
+mod units;
 
 pub use cutter::{CutFault, Cutter, LONGEST_STATEMENT, Statement};
 pub use line::{LineCutter, LineFault};

@@ -4,7 +4,7 @@ ghost use Rattle.std.specs.Borrow.{sem};
 ghost use Rattle.std.specs.Io.BufRead.{Rests};
 ghost use Rattle.csa_cutting.specs.contracts.line.LineCutter.{the_row};
 ghost use Rattle.csa_cutting.specs.declared.line.LineFault.TheVariants.{OutOfMemory};
-ghost use Rattle.csa_cutting.specs.Lines.{is_line_end};
+ghost use Rattle.csa_cutting.specs.Lines.{is_line_end, HasNoLineEnd};
 ghost use Rattle.csa_cutting.specs.LineCutting.{BeginsTooLong, IsRun, LineStep, LinesAfter, LastLine, LinesFinished};
 
 use crate::scan::front_length;
@@ -110,6 +110,8 @@ impl LineCutter {
         ensures long { IsErrOf result LineFault.TooLong ↔ (self.old.failed ≡ true) }
         ensures memory { IsErrOf result LineFault.OutOfMemory → ⊥ }
         ensures last { IfOk result (λ last. LastLine self.old.held last) }
+        ensures little { length self.old.held ≤ self.old.limit }
+        ensures unended { HasNoLineEnd self.old.held }
         ensures* rests { sem 𝓛 (Rests the_row self.entry (λ new. LinesFinished self.old result new)) }
     {
         if self.failed {
@@ -144,10 +146,9 @@ pub(crate) fn line_length(text: &[u8]) -> usize
     ensures within { result ≤ length text.now }
 {
     // Most lines are short: the iterator looks at the first bytes alone first.
-    match memchr2_iter(b'\r', b'\n', text).next() {
-        Some(end) => end,
-        None => text.len(),
-    }
+    memchr2_iter(b'\r', b'\n', text)
+        .next()
+        .unwrap_or(text.len())
 }
 
 // Empties what is held where it was handed out.

@@ -1,17 +1,15 @@
-ghost use Rattle.std.specs.Prelude.{◌≡◌, ℕ, List, ◌+◌, ◌-◌, ◌^◌, ◌<◌, ◌≤◌, ◌++◌, [], length, true, None, Some, IsSome, IfSome, IfOk, IfErr, if◌then◌else◌};
+ghost use Rattle.std.specs.Prelude.{◌≡◌, ◌+◌, ◌-◌, ◌^◌, ◌<◌, ◌≤◌, ◌++◌, [], length, true, None, Some, IsSome, IfSome, IfOk, IfErr, if◌then◌else◌};
 ghost use Rattle.std.specs.Borrow.{sem};
 ghost use Rattle.std.specs.Io.BufRead.{Rests};
 ghost use Rattle.arrayvec.specs.ArrayVec.{array_vec_len};
 ghost use Rattle.csa_cutting.specs.contracts.piece.PieceCutter.{the_row};
-ghost use Rattle.csa_cutting.specs.Cut.{statement_bytes, longest_statement};
-ghost use Rattle.csa_cutting.specs.PieceCutting.{fresh, HoldsLittle, IsOpen};
+ghost use Rattle.csa_cutting.specs.Cut.{statement_bytes, begins_with, longest_statement};
+ghost use Rattle.csa_cutting.specs.PieceCutting.{fresh, IsOpen};
 ghost use Rattle.csa_cutting.specs.PieceSteps.{AfterStep, AfterEnd, Last, IsTooLongAt, IsUsed, IsLentFrom};
-ghost use Rattle.csa_cutting.specs.Places.{IsKept, IsFoundIn, PassesTo, IsHeld, begins, kept_of, has_unit};
+ghost use Rattle.csa_cutting.specs.Places.{IsKept, IsFoundIn, IsHeld, begins, kept_of, has_unit};
 
-use crate::cutter::{
-    BYTE_ORDER_MARK, COMMENT, CutFault, LONGEST_STATEMENT, Statement, handed_out, next_unit,
-    unit_length,
-};
+use crate::cutter::{CutFault, LONGEST_STATEMENT, Statement};
+use crate::units::{BYTE_ORDER_MARK, COMMENT, Part, Place, first_in, handed_out, unit_length};
 use arrayvec::ArrayVec;
 use std::marker::Model;
 
@@ -22,25 +20,6 @@ pub struct Cut<'b> {
     pub used: usize,
     /// The statement that the last of them ended.
     pub statement: Option<Statement<'b>>,
-}
-
-// Where the bytes so far have led to.
-#[derive(Clone, Copy, Debug, PartialEq, Eq)]
-pub(crate) enum Place {
-    // at the start, or in the byte order mark
-    Mark,
-    Gap,
-    Unit,
-    Comment,
-}
-
-// A statement's unit in the piece, from start to before end, behind what is held of it where it goes
-// on.
-#[derive(Clone, Copy, Debug, PartialEq, Eq)]
-pub(crate) struct Part {
-    pub goes_on: bool,
-    pub start: usize,
-    pub end: usize,
 }
 
 /// Cuts a record's bytes that come in pieces into statements, as `Cutter` cuts the whole.
@@ -85,7 +64,8 @@ impl PieceCutter {
     /// How many bytes were used so far.
     pub fn fed(&self) -> u64
         ensures count { result ≡ self.now.fed }
-        ensures little { HoldsLittle self.now }
+        ensures little { length self.now.held ≤ longest_statement }
+        ensures comment { begins_with 39 self.now.unfinished ≡ true → self.now.held ≡ [] }
         ensures open { IsOpen self.now.unfinished }
     {
         self.fed
@@ -94,7 +74,8 @@ impl PieceCutter {
     /// How many statements were handed out so far.
     pub fn statements(&self) -> u64
         ensures count { result ≡ self.now.number }
-        ensures few { (self.now.number ≤ self.now.fed) × (self.now.fed ≤ 2 ^ 63) }
+        ensures few { self.now.number ≤ self.now.fed }
+        ensures room { self.now.fed ≤ 2 ^ 63 }
     {
         self.number
     }
@@ -107,7 +88,7 @@ impl PieceCutter {
     /// later call; all else of the cutter is then as before. At most 2^63 bytes may be fed in all.
     #[inline(always)]
     pub fn step<'b>(&'b mut self, piece: &'b [u8]) -> Result<Cut<'b>, CutFault>
-        requires { self.old.fed + length piece.now ≤ 2 ^ 63 }
+        requires room { self.old.fed + length piece.now ≤ 2 ^ 63 }
         ensures used { IfOk result (IsUsed piece.now) }
         ensures number { IfOk result (λ cut. IfSome cut.statement (λ s. s.number ≡ self.old.number + 1)) }
         ensures lent { IfOk result (λ cut. IfSome cut.statement (IsLentFrom piece.entry.ref_ptr self.old.fed)) }
@@ -303,29 +284,4 @@ fn found_in_mark(held: &[u8], piece: &[u8]) -> Result<Part, Place>
             end: unit_length(0xEF, piece),
         })
     }
-}
-
-// The first statement's unit in the piece from here on, behind gaps and comments, or where it leads
-// to where it holds none: so for each cutter that stands before a front that leads here.
-#[inline(always)]
-pub(crate) fn first_in(piece: &[u8], from: usize) -> Result<Part, Place>
-    requires { from ≤ length piece.now }
-    ensures { (place : Place) (held : List ℕ) (front : ℕ) → front ≤ from → PassesTo place held piece.now front from
-        → IsFoundIn place held piece.now front result }
-{
-    let mut at = from;
-    while let Some((start, end)) = next_unit(piece, at) {
-        if piece[start] != COMMENT {
-            return Ok(Part {
-                goes_on: false,
-                start,
-                end,
-            });
-        }
-        if end == piece.len() {
-            return Err(Place::Comment);
-        }
-        at = end;
-    }
-    Err(Place::Gap)
 }

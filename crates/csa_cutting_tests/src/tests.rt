@@ -19,6 +19,7 @@ fn cuts_a_source(rt: HostRuntime) {
     laws::step_whole();
     laws::finish_whole();
     laws::next_whole();
+    laws::line_step_whole();
     laws::pieces_run();
     laws::cutter_run();
     laws::never_both();

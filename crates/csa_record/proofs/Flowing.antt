@@ -7,7 +7,7 @@ use Rattle.shogi_board.specs.declared.setup.SetupFault.{SetupFault}
 use Rattle.shogi_board.specs.Layout.{Layout}
 use Rattle.shogi_rules.specs.declared.line.PlayFault.{PlayFault}
 use Rattle.shogi_rules.specs.declared.line.PlayFault.TheVariants as playing
-use Rattle.csa_text.specs.Spelling.{Saying, version, name, header, even, rank, pieces, turn, walked, time, ending}
+use Rattle.csa_text.specs.Saying.{Saying, version, name, header, even, rank, pieces, turn, walked, time, ending}
 use Rattle.record_game.specs.declared.fault.OrderFault.{OrderFault}
 use Rattle.record_game.specs.declared.fault.Refusal.{Refusal}
 use Rattle.record_game.specs.declared.fault.Why.{Why}

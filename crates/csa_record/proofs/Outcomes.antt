@@ -1,6 +1,7 @@
 -- What becomes of a statement whose item is answered.
 use Rattle.std.proofs.Common.{ℕ, List, Option, Some, None, Result, Ok, Err, sym, subst, inl, inr}
-use Rattle.csa_text.specs.Spelling.{Saying, Spells}
+use Rattle.csa_text.specs.Saying.{Saying}
+use Rattle.csa_text.specs.Spelling.{Spells}
 use Rattle.record_game.specs.declared.fault.Why.{Why}
 use Rattle.record_game.specs.Answer.{IsAnswer}
 use Rattle.record_game.specs.Keeping.{Kept, TakenOrRefused}

@@ -15,7 +15,7 @@ use Rattle.shogi_board.specs.declared.square.Square.{Square}
 use Rattle.shogi_board.specs.Totals.{count_in}
 use Rattle.csa_text.specs.Codes.{sign, kind_code, square_text, cell_text}
 use Rattle.csa_text.specs.PairTexts.{pair_text, pairs_text}
-use Rattle.csa_text.specs.Spelling.{rank, pieces}
+use Rattle.csa_text.specs.Saying.{rank, pieces}
 use Rattle.csa_text.specs.declared.pair.Pair.{Pair}
 use Rattle.csa_text.specs.declared.pair.Pair.TheVariants.{InHand}
 use Rattle.record_game.specs.Canon.{ended_line, start_items, is_from_even, missing, rank_cells, rank_items, hand_pairs, hand_items, pairs_items}

@@ -5,8 +5,8 @@ use Rattle.std.specs.List.{AllByRecursion}
 use Rattle.std.proofs.Math.Seq.{take-add, take-length}
 use Rattle.std.proofs.lemmas.List.{length-take-le, take-append-drop}
 use Rattle.csa_cutting.specs.PieceCutting.{PieceCutting}
-use Rattle.csa_cutting.specs.PieceSteps.{Stepped, Used, Finished}
-use Rattle.csa_text.specs.Spelling.{Saying}
+use Rattle.csa_cutting.specs.PieceSteps.{Stepped, Ends, Used, Finished}
+use Rattle.csa_text.specs.Saying.{Saying}
 use Rattle.csa_cutting.specs.declared.cutter.CutFault.{CutFault}
 use Rattle.csa_cutting.specs.declared.cutter.Statement.{Statement}
 use Rattle.csa_text.specs.declared.fault.TextFault.TheVariants.{StatementTooLong}
@@ -35,7 +35,7 @@ last_of source p q k new s (Ok u) h f taken refused = last_taken source p q k ne
 last_of source p q k new s (Err r) h f taken refused = last_refused source p q k new s r h f refused.0 refused.1 refused.2
 
 pub given : (p q : PieceCutting) (piece : List ℕ) (used : ℕ) (s : Statement) → Stepped p piece (Ok (record { used = used; statement = Some s })) q → IsOfStatement s.bytes.now
-given p q piece used s f = let u = f.after.led in statement_given p q (take used piece) u.0 s u.1 u.5
+given p q piece used s f = let u : Ends p piece used s q = f.after.led in statement_given p q (take used piece) u.unit s u.told u.leads
 
 -- a reader by its parts
 abbrev pub reading : PieceCutting → Kept → Option Failing → Reading
@@ -44,14 +44,14 @@ reading p k f = record { cutter = p; kept = k; failing = f }
 pub next_taken : (source piece : List ℕ) (used : ℕ) (p q : PieceCutting) (k new : Kept) (f : Option Failing) (s : Statement) (h : HasRead source (reading p k f)) → Stepped p piece (Ok (record { used = used; statement = Some s })) q
     → Outcome h.taken.sayings s.bytes.now (Ok tt) new → HasRead (source ++ take used piece) (reading q new f)
 next_taken source piece used p q k new f s h step taken =
-    let u = step.after.led in
-    record { going = h.going; taken = statement_taken source piece used p q k new u.0 s h.taken u.1 u.5 taken }
+    let u : Ends p piece used s q = step.after.led in
+    record { going = h.going; taken = statement_taken source piece used p q k new u.unit s h.taken u.told u.leads taken }
 
 pub next_refused : (source piece : List ℕ) (used : ℕ) (p q : PieceCutting) (k new : Kept) (f : Option Failing) (s : Statement) (r : Refusal) (h : HasRead source (reading p k f)) → Stepped p piece (Ok (record { used = used; statement = Some s })) q
     → RefusalOf s h.taken.sayings new r → (more : List ℕ) → IsRefusedBy ((source ++ piece) ++ more) r
 next_refused source piece used p q k new f s r h step refused more =
-    let u = step.after.led in
-    statement_refused source piece more used p q k new u.0 s r h.taken u.1 u.5 refused.0 refused.1 refused.2
+    let u : Ends p piece used s q = step.after.led in
+    statement_refused source piece more used p q k new u.unit s r h.taken u.told u.leads refused.0 refused.1 refused.2
 
 pub none_next : (source piece : List ℕ) (used : ℕ) (p q : PieceCutting) (k : Kept) (f : Option Failing) → HasRead source (reading p k f) → Stepped p piece (Ok (record { used = used; statement = None })) q → HasRead (source ++ take used piece) (reading q k f)
 none_next source piece used p q k f h step = let u = step.after.led in record { going = h.going; taken = nothing_given source piece used p q k h.taken u.0 u.1 }
@@ -66,7 +66,9 @@ went p q piece cut some f = by_statement cut.used cut.statement f.after.led
   where
     by_statement : (used : ℕ) (o : Option Statement) → Used p piece used o q → (0 < used) × (used ≤ length piece) × (q.fed ≡ p.fed + used)
     by_statement used None u = (omega (arith, u.0, some), omega (arith, u.0), u.1.took ∙ ap (λ n. p.fed + n) (sym u.0))
-    by_statement used (Some s) u = (u.2, u.3, u.5.took ∙ ap (λ n. p.fed + n) (length-take-le used piece u.3))
+    by_statement used (Some s) u =
+        let leads = u.leads in
+        (u.some, u.within, leads.took ∙ ap (λ n. p.fed + n) (length-take-le used piece u.within))
 
 -- a piece in two parts
 pub piece_more : (source piece : List ℕ) (used more : ℕ) (r : Reading) → HasRead ((source ++ take used piece) ++ take more (drop used piece)) r → HasRead (source ++ take (used + more) piece) r

@@ -5,7 +5,7 @@ use Rattle.shogi_board.specs.declared.color.Color.{Color}
 use Rattle.shogi_board.specs.declared.color.Color.TheVariants.{Black, White}
 use Rattle.shogi_board.specs.Placed.{Placed}
 use Rattle.shogi_rules.specs.Positions.{Played}
-use Rattle.csa_text.specs.Spelling.{Saying, version, turn}
+use Rattle.csa_text.specs.Saying.{Saying, version, turn}
 use Rattle.record_game.specs.Canon.{name_items, header_item, start_items, canon_items, ended_line, canon}
 use Rattle.record_game.specs.Building.{course_of}
 use Rattle.record_game.specs.Course.{Course}

@@ -3,7 +3,7 @@ use Rattle.std.specs.Prelude.{◌≡◌, ◌≢◌, ◌⊎◌, ℕ, List, [], �
 use Rattle.csa_cutting.specs.Cut.{TextUnit, IsCut}
 use Rattle.csa_cutting.specs.PieceCutting.{PieceCutting}
 use Rattle.csa_cutting.specs.TooLong.{HasCutOf}
-use Rattle.csa_text.specs.Spelling.{Saying}
+use Rattle.csa_text.specs.Saying.{Saying}
 use Rattle.record_game.specs.declared.fault.Refusal.{Refusal}
 use Rattle.record_game.specs.declared.fault.Why.TheVariants.{OutOfMemory}
 use Rattle.record_game.specs.Keeping.{Kept, Keeps}

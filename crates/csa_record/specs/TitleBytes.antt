@@ -1,7 +1,7 @@
 -- Headers that lie in memory, seen as entries.
 use Rattle.std.specs.Prelude.{ℕ, List, [], ◌∷◌}
 use Rattle.std.specs.Global.{Vec}
-use Rattle.csa_text.specs.MomentParts.{moment_of}
+use Rattle.csa_text.specs.Moment.{moment_of}
 use Rattle.csa_record.specs.declared.titles.HeaderText.{HeaderText}
 use Rattle.csa_record.specs.declared.titles.HeaderText.TheVariants as texts
 use Rattle.csa_record.specs.declared.titles.HeaderValue.{HeaderValue}

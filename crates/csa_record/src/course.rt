@@ -3,12 +3,13 @@ ghost use Rattle.std.specs.List.{flat_map};
 ghost use Rattle.shogi_rules.specs.Play.{Answers};
 ghost use Rattle.shogi_rules.specs.Positions.{IsGame, max_moves};
 ghost use Rattle.csa_text.specs.Codes.{kind_code, square_text};
-ghost use Rattle.csa_text.specs.Spelling.{time, walked};
+ghost use Rattle.csa_text.specs.Saying.{time, walked};
 ghost use Rattle.record_game.specs.declared.fault.Why.{Why};
 ghost use Rattle.record_game.specs.Answer.{IsAnswer};
 ghost use Rattle.record_game.specs.Canon.{ended_line, fraction_text};
 ghost use Rattle.record_game.specs.Course.{IsCourse, PlayAnswers, line_of, untimed, play_fault, close_fault, awaits_time, time_fault, with_time, with_ending, time_at, ending_of, ending_time_of};
 ghost use Rattle.csa_record.specs.Coursing.{timed, ended, lacks_last, with_last, played_why, NotPlayed};
+ghost use Rattle.record_game.specs.Limits.{longest_time};
 ghost use Rattle.record_game.specs.Says.{move_items, time_items, ending_items};
 
 use csa_text::{Ending, kind_text, sign_of};
@@ -103,20 +104,14 @@ impl Course {
         ensures value { result ≡ ending_of self.now.ending }
         ensures game { IsCourse self.now }
     {
-        match self.ending {
-            Some(ended) => Some(ended.ending),
-            None => None,
-        }
+        self.ending.map(|ended| ended.ending)
     }
 
     // The time of the ending, if it has one.
     pub(crate) fn ending_time(&self) -> Option<u64>
         ensures { result ≡ ending_time_of self.now.ending }
     {
-        match self.ending {
-            Some(ended) => ended.time,
-            None => None,
-        }
+        self.ending?.time
     }
 
     // Why nothing more may be played, or None.
@@ -145,13 +140,9 @@ impl Course {
         if self.times.reserve(1).is_err() {
             return Err(why_without_room(&self.line, color, &mv));
         }
-        match play_on(&mut self.line, color, mv) {
-            Ok(()) => {
-                self.times.push_reserved(None);
-                Ok(())
-            }
-            Err(why) => Err(why),
-        }
+        play_on(&mut self.line, color, mv)?;
+        self.times.push_reserved(None);
+        Ok(())
     }
 
     // Whether the ending, or else the last move, may have a time.
@@ -166,7 +157,7 @@ impl Course {
 
     // Puts the time to the ending, or else to the last move, if it may have one.
     pub(crate) fn set_time(&mut self, thousandths: u64) -> Result<(), Why>
-        requires { thousandths ≤ 4294967295999 }
+        requires { thousandths ≤ longest_time }
         ensures ok { IsOk result ↔ (time_fault self.old ≡ None) }
         ensures answer { IsAnswer (time_fault self.old) result }
         ensures changed { OnOk result (self.new ≡ with_time self.old thousandths) }

@@ -53,7 +53,7 @@ impl From<Refusal> for FlowFault {
 /// read fails or the end has not come by then, and OutOfMemory where a growth of memory was refused.
 /// To be called where the source has failed fewer than 2^64 - 1 times so far.
 pub fn read_from<S: Source>(alloc: Global, source: &mut S) -> Result<Record, FlowFault>
-    requires { S.failed source.old < 2 ^ 64 - 1 }
+    requires countable { S.failed source.old < 2 ^ 64 - 1 }
     // The bytes that the source gave up to its end tell the game.
     ensures told { IfOk result (λ g. IsTold (S.known source.old) (S.known source.new) g) }
     // A record is refused only where the bytes that the source gave are, whatever comes behind them.
@@ -179,9 +179,8 @@ fn feed_next<S: Source>(
         → FeedsNext bytes (S.known source.old) (S.known source.new) (S.failed source.old) (S.failed source.new) result reader.new }
     ensures unended { MatchResult result (λ more. IsTrue more → S.ended source.new ≡ S.ended source.old) (λ _. S.ended source.new ≡ S.ended source.old) }
 {
-    let taken = match source.read(buffer) {
-        Ok(taken) => taken,
-        Err(_) => return Err(FlowFault::ReadFault),
+    let Ok(taken) = source.read(buffer) else {
+        return Err(FlowFault::ReadFault);
     };
     if taken == 0 {
         return Ok(false);

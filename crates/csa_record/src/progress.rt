@@ -1,14 +1,13 @@
 ghost use Rattle.std.specs.Prelude.{◌≡◌, ℕ, ◌+◌, ◌≤◌, [], ◌∷◌, ◌++◌, List, length, Option, Some, None, Ok, Err, MatchResult, MatchOption, true};
 ghost use Rattle.std.specs.List.{AllByRecursion};
 ghost use Rattle.shogi_board.specs.Setup.{position_of};
-ghost use Rattle.csa_text.specs.Saying.{saying_of, pairs_of};
-ghost use Rattle.csa_text.specs.Spelling.{Saying, version, name, header, even, rank, pieces, turn, walked, time, ending};
+ghost use Rattle.csa_text.specs.Saying.{Saying, version, name, header, even, rank, pieces, turn, walked, time, ending, saying_of, pairs_of};
 ghost use Rattle.record_game.specs.declared.fault.Why.{Why};
 ghost use Rattle.record_game.specs.Answer.{IsAnswer};
 ghost use Rattle.record_game.specs.Fits.{Fits, IsHeaderLine, IsOfStatement};
 ghost use Rattle.record_game.specs.Items.{sides};
 ghost use Rattle.record_game.specs.Keeping.{Keeps, TakenOrRefused};
-ghost use Rattle.record_game.specs.Limits.{IsOneLine};
+ghost use Rattle.record_game.specs.Limits.{IsOneLine, longest_time};
 ghost use Rattle.record_game.specs.Outcome.{Outcome, IsWritten, late};
 ghost use Rattle.record_game.specs.Refused.{Finishes};
 ghost use Rattle.record_game.specs.Says.{Says};
@@ -193,7 +192,7 @@ impl Progress {
 
     #[inline(always)]
     fn take_time(&mut self, thousandths: u64) -> Result<(), Why>
-        requires { thousandths ≤ 4294967295999 }
+        requires { thousandths ≤ longest_time }
         ensures { (before : List Saying) → Keeps before self.old → TakenOrRefused before (time thousandths) result (record self.new { begun = true }) }
     {
         match &mut self.stage {

@@ -5,7 +5,7 @@ ghost use Rattle.record_game.specs.Answer.{IsAnswer};
 ghost use Rattle.record_game.specs.Building.{titled_of, course_of, game_of, with_titled, with_course, game_along};
 ghost use Rattle.record_game.specs.Course.{PlayAnswers, untimed, time_fault, close_fault, with_time, with_ending, time_at, ending_of, ending_time_of};
 ghost use Rattle.record_game.specs.Game.{move_of};
-ghost use Rattle.record_game.specs.Limits.{IsGame, IsName, IsOneLine};
+ghost use Rattle.record_game.specs.Limits.{IsGame, IsName, IsOneLine, longest_time};
 ghost use Rattle.record_game.specs.Titles.{IsWithHeader, name_of, name_fault, header_fault, with_name, under};
 ghost use Rattle.csa_record.specs.TitleBytes.{shown};
 ghost use Rattle.csa_cutting.specs.Cut.{longest_statement};
@@ -163,7 +163,7 @@ impl Record {
     /// That is at most 4,294,967,295,999. Refuses LooseTime where there is neither move nor ending, or
     /// that one has a time. Refused, it changes nothing. It takes no memory.
     pub fn set_time(&mut self, thousandths: u64) -> Result<(), Why>
-        requires { thousandths ≤ 4294967295999 }
+        requires limit { thousandths ≤ longest_time }
         ensures ok { IsOk result ↔ (time_fault (course_of self.old) ≡ None) }
         ensures answer { IsAnswer (time_fault (course_of self.old)) result }
         ensures changed { OnOk result (self.new ≡ with_course self.old (with_time (course_of self.old) thousandths)) }

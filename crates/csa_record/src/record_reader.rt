@@ -1,5 +1,5 @@
 ghost use Rattle.std.specs.Prelude.{◌≡◌, ◌≢◌, ℕ, ◌+◌, ◌^◌, ◌<◌, ◌≤◌, [], ◌++◌, List, length, Some, None, Ok, Err, IfSome, IfOk, IfErr, OnOk, IsErrOf};
-ghost use Rattle.csa_text.specs.Spelling.{Saying};
+ghost use Rattle.csa_text.specs.Saying.{Saying};
 ghost use Rattle.record_game.specs.Fits.{IsOfStatement};
 ghost use Rattle.record_game.specs.Keeping.{Keeps};
 ghost use Rattle.record_game.specs.Outcome.{Outcome};
@@ -86,7 +86,7 @@ impl RecordReader {
     /// refusal of the record, whatever comes behind. `Why::OutOfMemory` comes only where a growth was
     /// refused, and then no statement up to there has a fault.
     pub fn feed(&mut self, piece: &[u8]) -> Result<(), Refusal>
-        requires { self.old.failing ≡ None → fed_of self.old + length piece.now ≤ 2 ^ 63 }
+        requires room { self.old.failing ≡ None → fed_of self.old + length piece.now ≤ 2 ^ 63 }
         // All bytes so far have no fault.
         ensures taken { (source : List ℕ) → HasRead source self.old → OnOk result (HasRead (source ++ piece.now) self.new) }
         ensures refused { (source more : List ℕ) → HasRead source self.old
@@ -122,10 +122,7 @@ impl RecordReader {
     {
         let mut used = 0;
         while used < piece.len() {
-            match self.take_next(&piece[used..]) {
-                Ok(more) => used += more,
-                Err(refusal) => return Err(refusal),
-            }
+            used += self.take_next(&piece[used..])?;
         }
         Ok(())
     }
@@ -144,10 +141,8 @@ impl RecordReader {
         let Some(statement) = cut.statement else {
             return Ok(cut.used);
         };
-        match take_statement(&mut self.progress, statement) {
-            Ok(()) => Ok(cut.used),
-            Err(refusal) => Err(refusal),
-        }
+        take_statement(&mut self.progress, statement)?;
+        Ok(cut.used)
     }
 
     /// The record that all the pieces tell, at their end.
@@ -173,9 +168,7 @@ impl RecordReader {
             failing: _,
         } = self;
         let length = cutter.fed();
-        if let Err(refusal) = take_last(&mut cutter, &mut progress) {
-            return Err(refusal);
-        }
+        take_last(&mut cutter, &mut progress)?;
         match progress.finish() {
             Some(record) => Ok(record),
             None => Err(Refusal {
@@ -193,17 +186,15 @@ impl RecordReader {
 /// offset in bytes, and the fault. `Why::OutOfMemory` comes only where a growth was refused, and
 /// then no statement up to there has a fault; `Why::Failed` never comes.
 pub fn read(alloc: Global, source: &[u8]) -> Result<Record, Refusal>
-    requires { length source.now ≤ 2 ^ 63 }
+    requires room { length source.now ≤ 2 ^ 63 }
     ensures told { IfOk result (λ g. Tells source.now g) }
     ensures refused { IfErr result (λ r. r.why ≢ Why.OutOfMemory → Refused source.now r.number r.offset r.why) }
     ensures memory { IfErr result (λ r. r.why ≡ Why.OutOfMemory → FaultlessTo source.now r.number r.offset) }
     ensures first { IfErr result (λ r. r.why ≢ Why.Failed) }
 {
     let mut reader = RecordReader::new(alloc);
-    match reader.feed(source) {
-        Ok(()) => reader.finish(),
-        Err(refusal) => Err(refusal),
-    }
+    reader.feed(source)?;
+    reader.finish()
 }
 
 // Takes the statement that the end of the bytes ends, if one is unfinished.

@@ -22,7 +22,7 @@ pub trait Sink {
     /// Refuses `Failure` where it fails, which is counted, and then takes nothing. To be called where it
     /// has failed fewer than 2^64 - 1 times so far.
     fn write(&mut self, piece: &[u8]) -> Result<usize, Failure>
-        requires { failed self.old < 2 ^ 64 - 1 }
+        requires countable { failed self.old < 2 ^ 64 - 1 }
         ensures within { IfOk result (λ taken. taken ≤ length piece.now) }
         ensures bytes { WriteAppends (held self.old) (held self.new) result piece.now }
         ensures count { CountsWrites (failed self.old) (failed self.new) result piece.now };
@@ -32,14 +32,14 @@ pub trait Sink {
     /// Refuses `Failure` where it fails, which is counted. To be called where it has failed fewer than
     /// 2^64 - 1 times so far.
     fn flush(&mut self) -> Result<(), Failure>
-        requires { failed self.old < 2 ^ 64 - 1 }
+        requires countable { failed self.old < 2 ^ 64 - 1 }
         ensures bytes { Keeps (held self.old) (held self.new) }
         ensures count { CountsErrors (failed self.old) (failed self.new) result }
         ensures settled { OnOk result (settled self.new ≡ true) };
 
     /// How often it has failed.
     fn failures(&self) -> u64
-        ensures { result ≡ failed self.now };
+        ensures value { result ≡ failed self.now };
 }
 
 /// A writer, as a sink. It is settled where nothing was handed to the writer since a flush that did not fail.
@@ -74,7 +74,7 @@ impl<W: Write> Sink for Writing<W> {
     ghost settled = { λ s. s.settled };
 
     fn write(&mut self, piece: &[u8]) -> Result<usize, Failure>
-        requires { self.old.failures < 2 ^ 64 - 1 }
+        requires countable { self.old.failures < 2 ^ 64 - 1 }
         ensures within { IfOk result (λ taken. taken ≤ length piece.now) }
         ensures bytes { WriteAppends (W.contents self.old.inner) (W.contents self.new.inner) result piece.now }
         ensures count { CountsWrites self.old.failures self.new.failures result piece.now }

@@ -27,7 +27,7 @@ pub trait Source {
     /// Refuses `Failure` where it fails, which is counted, and then gives nothing. To be called where it
     /// has failed fewer than 2^64 - 1 times so far.
     fn read(&mut self, buffer: &mut [u8]) -> Result<usize, Failure>
-        requires { failed self.old < 2 ^ 64 - 1 }
+        requires countable { failed self.old < 2 ^ 64 - 1 }
         ensures within { IfOk result (λ taken. taken ≤ length buffer.new) }
         ensures bytes { ReadConsumes (known self.old) (known self.new) result buffer.new }
         ensures count { CountsErrors (failed self.old) (failed self.new) result }
@@ -35,7 +35,7 @@ pub trait Source {
 
     /// How often it has failed.
     fn failures(&self) -> u64
-        ensures { result ≡ failed self.now };
+        ensures value { result ≡ failed self.now };
 }
 
 /// The bytes of a reader, as a source. A read that is interrupted is made again, and is no failure.

@@ -3,7 +3,7 @@ ghost use Rattle.std.specs.List.{flat_map};
 ghost use Rattle.shogi_board.specs.Cells.{even_cells};
 ghost use Rattle.csa_text.specs.Codes.{sign, kind_code, cell_text};
 ghost use Rattle.csa_text.specs.PairTexts.{pairs_text};
-ghost use Rattle.csa_text.specs.Spelling.{even, rank};
+ghost use Rattle.csa_text.specs.Saying.{even, rank};
 ghost use Rattle.csa_text.specs.declared.pair.Pair.TheVariants.{InHand};
 ghost use Rattle.record_game.specs.Canon.{ended_line, start_items, is_from_even, is_part_of, stands_in, missing, rank_cells, rank_items, hand_pairs, hand_items};
 ghost use Rattle.csa_record.specs.Starting.{gone};

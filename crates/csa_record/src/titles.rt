@@ -2,12 +2,11 @@ ghost use Rattle.std.specs.Prelude.{◌≡◌, ◌≢◌, ◌⊎◌, ◌↔◌, 
 ghost use Rattle.std.specs.List.{flat_map};
 ghost use Rattle.shogi_board.specs.declared.color.Color.TheVariants.{Black, White};
 ghost use Rattle.csa_text.specs.Fields.{HasNone};
-ghost use Rattle.csa_text.specs.MomentParts.{moment_of};
-ghost use Rattle.csa_text.specs.Moment.{CalendarMoment, SpellsMoment, moment_text};
+ghost use Rattle.csa_text.specs.Moment.{CalendarMoment, SpellsMoment, moment_text, moment_of};
 ghost use Rattle.csa_record.specs.Bytes.{name_bytes};
 ghost use Rattle.record_game.specs.Answer.{IsAnswer};
 ghost use Rattle.record_game.specs.Canon.{ended_line, header_item, name_items, value_text};
-ghost use Rattle.record_game.specs.Limits.{IsName, IsOneLine, IsMomentKey, IsEntry};
+ghost use Rattle.record_game.specs.Limits.{IsName, IsOneLine, IsMomentKey, IsEntry, most_headers};
 ghost use Rattle.record_game.specs.Says.{IsValue};
 ghost use Rattle.record_game.specs.Titles.{untitled, name_of, under, name_fault, header_fault, with_name, with_entry, IsWithHeader, IsTitled};
 ghost use Rattle.csa_record.specs.TitleBytes.{text_of, entry_of, entries_of, shown};
@@ -105,10 +104,7 @@ impl Titles {
             Color::Black => &self.black,
             Color::White => &self.white,
         };
-        match name {
-            Some(bytes) => Some(bytes.as_slice()),
-            None => None,
-        }
+        Some(name.as_ref()?.as_slice())
     }
 
     // Takes a header. One with an empty text is none.
@@ -139,7 +135,7 @@ impl Titles {
         ensures fault { (text : List ℕ) → text ≢ [] → MatchOption result
             (header_fault self.now key.now text ≡ None)
             (λ fault. header_fault self.now key.now text ≡ Some (Why.Order fault)) }
-        ensures none { IfNone result ((under key.now self.now.headers ≡ []) × (length self.now.headers < 64)) }
+        ensures none { IfNone result ((under key.now self.now.headers ≡ []) × (length self.now.headers < most_headers)) }
     {
         if self.headers.contains_key(key) {
             return Some(OrderFault::RepeatedHeader);
@@ -154,7 +150,7 @@ impl Titles {
     fn put(&mut self, key: Vec<u8>, value: HeaderText) -> Result<(), Why>
         requires entry { IsEntry (entry_of key value) }
         requires new_key { under key.items self.old.headers ≡ [] }
-        requires few { length self.old.headers < 64 }
+        requires few { length self.old.headers < most_headers }
         ensures ok { OnOk result (self.new ≡ record self.old { headers = with_entry self.old.headers (entry_of key value) }) }
         ensures why { IfErr result (λ why. why ≡ Why.OutOfMemory) }
         ensures unchanged { OnErr result (self.new ≡ self.old) }

@@ -1,7 +1,7 @@
 ghost use Rattle.std.specs.Prelude.{◌≡◌, ◌++◌, ◌∷◌, map, IfOk, OnOk};
 ghost use Rattle.std.specs.List.{flat_map};
 ghost use Rattle.shogi_board.specs.declared.color.Color.TheVariants.{Black, White};
-ghost use Rattle.csa_text.specs.Spelling.{version, turn};
+ghost use Rattle.csa_text.specs.Saying.{version, turn};
 ghost use Rattle.record_game.specs.Canon.{canon, ended_line, header_item, name_items};
 ghost use Rattle.record_game.specs.Tells.{Tells};
 

@@ -13,8 +13,7 @@ use Rattle.jiff_core.specs.declared.civil.date.Date.{Date}
 use Rattle.jiff_core.specs.declared.civil.time.Time.{Time}
 use Rattle.csa_cutting.proofs.LineCutting.{all_joined}
 use Rattle.csa_text.specs.Fields.{IsNumber, HasNone, IsSplit}
-use Rattle.csa_text.specs.Moment.{TimeOfDay, CalendarMoment, AreNumbers, SpellsDate, SpellsTime, SpellsDateAnd, SpellsMoment, two_digits, four_digits, date_text, time_text, behind_date}
-use Rattle.csa_text.specs.MomentParts.{time_of}
+use Rattle.csa_text.specs.Moment.{TimeOfDay, CalendarMoment, AreNumbers, SpellsDate, SpellsTime, SpellsDateAnd, SpellsMoment, two_digits, four_digits, date_text, time_text, behind_date, time_of}
 use Rattle.csa_cutting.proofs.Once.{same_front}
 
 pub digit_below : (ds : List ℕ) (i : ℕ) → AllDigits 10 ds → i < length ds → digit_value (get_or ds i 0) < 10

@@ -1,6 +1,8 @@
 -- The rows of the grammar: bytes that spell something of a row begin as that row does.
-use Rattle.std.proofs.Common.{◌≡◌, ◌≢◌, ℕ, zero, suc, ◌+◌, ◌-◌, ◌<◌, ◌≤◌, ◌==◌, ◌||◌, ◌&&◌, arith, List, [], ◌∷◌, ◌++◌, length, Option, refl, sym, ap, ◌∙◌, inl, inr, ◌⊎◌}
-use Rattle.std.specs.Prelude.{if◌then◌else◌, nat_lt}
+use Rattle.std.proofs.Common.{◌≡◌, ◌≢◌, ℕ, zero, suc, ◌+◌, ◌-◌, ◌<◌, ◌≤◌, ◌==◌, ◌||◌, ◌&&◌, arith, List, [], ◌∷◌, ◌++◌, length, Option, Some, None, Ok, Err, refl, sym, ap, ◌∙◌, inl, inr, ◌⊎◌}
+use Rattle.std.specs.Prelude.{if◌then◌else◌, nat_lt, Result}
+use Rattle.std.specs.Option.{ok_or}
+use Rattle.std.specs.Result.{IsErrAnd}
 use Rattle.shogi_board.specs.declared.color.Color.{Color}
 use Rattle.shogi_board.specs.declared.color.Color.TheVariants.{Black, White}
 use Rattle.shogi_board.specs.declared.kind.Piece.{Piece}
@@ -8,6 +10,8 @@ use Rattle.shogi_rules.specs.declared.moves.Move.{Move}
 use Rattle.shogi_rules.specs.declared.moves.Move.TheVariants.{Walk, Put}
 use Rattle.std.specs.List.{flat_map}
 use Rattle.csa_text.specs.declared.ending.Ending.{Ending}
+use Rattle.csa_text.specs.declared.fault.TextFault.{TextFault}
+use Rattle.csa_text.specs.declared.item.Item.{Item}
 use Rattle.csa_text.specs.declared.pair.Pair.{Pair}
 use Rattle.csa_text.proofs.CellTexts.{CellsOf}
 use Rattle.csa_text.proofs.Moments.{no_split, split_same}
@@ -17,7 +21,8 @@ use Rattle.csa_text.specs.Endings.{ending_name}
 use Rattle.csa_text.specs.Fields.{IsSplit, HasNone}
 use Rattle.csa_text.specs.PairTexts.{pairs_text, AllOnBoard}
 use Rattle.csa_text.specs.TimeTexts.{IsTime}
-use Rattle.csa_text.specs.Spelling.{Saying, version, name, header, even, rank, pieces, turn, walked, time, ending, Spells, IsRank, fault_of_row}
+use Rattle.csa_text.specs.Saying.{Saying, version, name, header, even, rank, pieces, turn, walked, time, ending}
+use Rattle.csa_text.specs.Spelling.{Spells, IsRank, fault_of_row, IsRead}
 use Rattle.csa_text.specs.declared.fault.TextFault.TheVariants.{BadPosition, BadTime}
 use Rattle.csa_text.specs.PairsOnce.{pairs_once}
 
@@ -195,3 +200,12 @@ not_on_board text ps e off pairs f on = off (rw (pairs_once ps pairs (sym e ∙ 
 pub time_fault : (text : List ℕ) → BadTime ≡ fault_of_row (84 ∷ text)
 time_fault [] = refl
 time_fault (b ∷ bs) = refl
+
+same_fault : {T : Type 0} (told fault : TextFault) (found : Option T) → Err told ≡ ok_or found fault → found ≡ None → told ≡ fault
+same_fault told fault (Some x) e none = cc
+same_fault told fault None e none = cc
+
+-- what a `?` answers where a part was not found
+pub refused : {T : Type 0} (bytes : List ℕ) (found : Option T) (told fault : TextFault) (result : Result Item TextFault) → Err told ≡ ok_or found fault → found ≡ None → IsErrAnd result (λ e. e ≡ told) → ((saying : Saying) → Spells bytes saying → ⊥) → fault ≡ fault_of_row bytes → IsRead bytes result
+refused bytes found told fault (Ok item) e none h never row = absurd h
+refused bytes found told fault (Err given) e none h never row = (never, h ∙ same_fault told fault found e none ∙ row)

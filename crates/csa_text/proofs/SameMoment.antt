@@ -9,8 +9,7 @@ use Rattle.jiff_core.specs.Time.{time_nanos}
 use Rattle.jiff_core.specs.declared.civil.time.Time.{Time}
 use Rattle.jiff_core.proofs.DateLemmas.{epoch_day_injective, epoch_day_same}
 use Rattle.jiff_core.proofs.DateTimeLemmas.{time_nanos_injective}
-use Rattle.csa_text.specs.Moment.{TimeOfDay, CalendarMoment}
-use Rattle.csa_text.specs.MomentParts.{time_of, moment_of}
+use Rattle.csa_text.specs.Moment.{TimeOfDay, CalendarMoment, time_of, moment_of}
 use Rattle.csa_text.specs.declared.calendar.Moment.{Moment}
 use Rattle.csa_text.proofs.Moments.{not_negative}
 

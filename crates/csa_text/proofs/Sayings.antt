@@ -20,7 +20,8 @@ use Rattle.csa_text.specs.Endings.{ending_name}
 use Rattle.csa_text.specs.PairTexts.{pairs_text, AllOnBoard}
 use Rattle.csa_text.specs.PairsOnce.{pairs_once}
 use Rattle.csa_text.specs.TimeTexts.{IsTime}
-use Rattle.csa_text.specs.Spelling.{Saying, version, name, header, even, rank, pieces, turn, walked, time, ending, Spells, IsRank, rank_text}
+use Rattle.csa_text.specs.Saying.{Saying, version, name, header, even, rank, pieces, turn, walked, time, ending}
+use Rattle.csa_text.specs.Spelling.{Spells, IsRank, rank_text}
 use Rattle.csa_text.proofs.CellTexts.{cells_once, cells_length, CellsOf}
 use Rattle.csa_text.proofs.Texts.{head_same, tail_same}
 use Rattle.csa_text.proofs.Moments.{split_same}

@@ -8,4 +8,3 @@ pub mod Saying
 pub mod Spelling
 pub mod Fields
 pub mod Moment
-pub mod MomentParts

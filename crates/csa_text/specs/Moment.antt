@@ -1,7 +1,9 @@
 -- Moments: a date, or a date and a time of day.
-use Rattle.std.specs.Prelude.{◌≡◌, ℕ, ◌+◌, ◌/◌, ◌%◌, ◌≤◌, List, [], ◌∷◌, ◌++◌, pos, Option, Some, None}
+use Rattle.std.specs.Prelude.{◌≡◌, ℕ, ◌+◌, ◌/◌, ◌%◌, ◌≤◌, List, [], ◌∷◌, ◌++◌, pos, unsigned_abs, Option, Some, None}
 use Rattle.csa_text.specs.Fields.{IsNumber}
+use Rattle.csa_text.specs.declared.calendar.Moment.{Moment}
 use Rattle.jiff_core.specs.Calendar.{IsCivilDate}
+use Rattle.jiff_core.specs.declared.civil.time.Time.{Time}
 
 pub record TimeOfDay : Type 0 where
   pub hour : ℕ
@@ -64,3 +66,11 @@ behind_date (Some t) = 32 ∷ time_text t.hour t.minute t.second
 -- the canonical text of a moment
 abbrev pub moment_text : CalendarMoment → List ℕ
 moment_text m = date_text m.year m.month m.day ++ behind_date m.time
+
+abbrev pub time_of : Option Time → Option TimeOfDay
+time_of None = None
+time_of (Some t) = Some (record { hour = t.hour; minute = t.minute; second = t.second })
+
+-- a moment of the program, by its numbers
+abbrev pub moment_of : Moment → CalendarMoment
+moment_of m = record { year = unsigned_abs m.date.year; month = m.date.month; day = m.date.day; time = time_of m.time }

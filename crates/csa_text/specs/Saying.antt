@@ -1,11 +1,26 @@
--- What an item says, apart from where its bytes lie.
-use Rattle.std.specs.Prelude.{ℕ, List, Result, MatchResult, ◌≡◌}
-use Rattle.csa_text.specs.declared.fault.TextFault.{TextFault}
+-- What a statement says, apart from where its bytes lie.
+use Rattle.std.specs.Prelude.{ℕ, List, Option}
+use Rattle.shogi_board.specs.declared.color.Color.{Color}
+use Rattle.shogi_board.specs.declared.kind.Piece.{Piece}
+use Rattle.shogi_rules.specs.declared.moves.Move.{Move}
+use Rattle.csa_text.specs.declared.ending.Ending.{Ending}
 use Rattle.csa_text.specs.declared.item.Item.{Item}
 use Rattle.csa_text.specs.declared.item.Item.TheVariants as items
 use Rattle.csa_text.specs.declared.pair.Pair.{Pair}
 use Rattle.csa_text.specs.declared.pairs.Pairs.{Pairs}
-use Rattle.csa_text.specs.Spelling.{Saying, version, name, header, even, rank, pieces, turn, walked, time, ending, Spells, fault_of_row}
+
+-- what a statement says
+pub data Saying : Type 0 where
+  version : Saying
+  name : Color → List ℕ → Saying
+  header : List ℕ → List ℕ → Saying
+  even : List Pair → Saying
+  rank : ℕ → List (Option Piece) → Saying
+  pieces : Color → List Pair → Saying
+  turn : Color → Saying
+  walked : Color → Move → Saying
+  time : ℕ → Saying
+  ending : Ending → Saying
 
 -- the pairs that its bytes spell
 abbrev pub pairs_of : Pairs → List Pair
@@ -22,9 +37,3 @@ saying_of (items.Turn color) = turn color
 saying_of (items.Walked color m) = walked color m
 saying_of (items.Time thousandths) = time thousandths
 saying_of (items.Ending e) = ending e
-
--- the item that the bytes spell, or the fault of their row where they spell none
-abbrev pub IsRead : List ℕ → Result Item TextFault → Type 0
-IsRead bytes result = MatchResult result
-    (λ item. Spells bytes (saying_of item))
-    (λ fault. ((saying : Saying) → Spells bytes saying → ⊥) × (fault ≡ fault_of_row bytes))

@@ -1,7 +1,7 @@
 ghost use Rattle.std.specs.Prelude.{◌≡◌, ◌∷◌, IfOk, IfErr};
 ghost use Rattle.csa_text.specs.Codes.{sign};
-ghost use Rattle.csa_text.specs.Spelling.{Saying, Spells, fault_of_row};
-ghost use Rattle.csa_text.specs.Saying.{saying_of, IsRead};
+ghost use Rattle.csa_text.specs.Saying.{Saying, saying_of};
+ghost use Rattle.csa_text.specs.Spelling.{Spells, fault_of_row, IsRead};
 
 use crate::ending::{Ending, read_ending};
 use crate::fault::TextFault;
@@ -88,9 +88,7 @@ fn read_name(name: &[u8]) -> Result<Item<'_>, TextFault>
 fn read_header(line: &[u8]) -> Result<Item<'_>, TextFault>
     ensures { IsRead (36 ∷ line.now) result }
 {
-    let Some((key, text)) = split_at_byte(line, b':') else {
-        return Err(TextFault::BadHeader);
-    };
+    let (key, text) = split_at_byte(line, b':').ok_or(TextFault::BadHeader)?;
     if key.is_empty() {
         return Err(TextFault::BadHeader);
     }
@@ -105,10 +103,10 @@ fn read_position(start: &[u8]) -> Result<Item<'_>, TextFault>
         [b'I', pairs @ ..] => read_even(pairs),
         [b'+', pairs @ ..] => read_pieces(Color::Black, pairs),
         [b'-', pairs @ ..] => read_pieces(Color::White, pairs),
-        [number @ b'1'..=b'9', cells @ ..] => match read_rank(cells) {
-            Some(cells) => Ok(Item::Rank(*number - b'0', cells)),
-            None => Err(TextFault::BadPosition),
-        },
+        [number @ b'1'..=b'9', cells @ ..] => {
+            let cells = read_rank(cells).ok_or(TextFault::BadPosition)?;
+            Ok(Item::Rank(*number - b'0', cells))
+        }
         _ => Err(TextFault::Unknown),
     }
 }
@@ -117,9 +115,7 @@ fn read_position(start: &[u8]) -> Result<Item<'_>, TextFault>
 fn read_even(pairs: &[u8]) -> Result<Item<'_>, TextFault>
     ensures { IsRead (80 ∷ 73 ∷ pairs.now) result }
 {
-    let Some(pairs) = Pairs::read(pairs) else {
-        return Err(TextFault::BadPosition);
-    };
+    let pairs = Pairs::read(pairs).ok_or(TextFault::BadPosition)?;
     if !pairs.are_on_board() {
         return Err(TextFault::BadPosition);
     }
@@ -130,10 +126,8 @@ fn read_even(pairs: &[u8]) -> Result<Item<'_>, TextFault>
 fn read_pieces(color: Color, pairs: &[u8]) -> Result<Item<'_>, TextFault>
     ensures { IsRead (80 ∷ sign color ∷ pairs.now) result }
 {
-    match Pairs::read(pairs) {
-        Some(pairs) => Ok(Item::Pieces(color, pairs)),
-        None => Err(TextFault::BadPosition),
-    }
+    let pairs = Pairs::read(pairs).ok_or(TextFault::BadPosition)?;
+    Ok(Item::Pieces(color, pairs))
 }
 
 // Behind a sign.
@@ -152,10 +146,8 @@ fn read_signed(color: Color, squares: &[u8]) -> Result<Item<'_>, TextFault>
 fn read_time_item(text: &[u8]) -> Result<Item<'_>, TextFault>
     ensures { IsRead (84 ∷ text.now) result }
 {
-    match read_time(text) {
-        Some(thousandths) => Ok(Item::Time(thousandths)),
-        None => Err(TextFault::BadTime),
-    }
+    let thousandths = read_time(text).ok_or(TextFault::BadTime)?;
+    Ok(Item::Time(thousandths))
 }
 
 // Behind `%`.

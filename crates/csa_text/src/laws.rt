@@ -1,9 +1,9 @@
 //! Laws of the definitions that the contracts of this crate cite. They take and give nothing.
 
 ghost use Rattle.std.specs.Prelude.{◌≡◌, ℕ, List, ◌↔◌, true};
-ghost use Rattle.csa_text.specs.Moment.{CalendarMoment, SpellsMoment};
-ghost use Rattle.csa_text.specs.MomentParts.{moment_of};
-ghost use Rattle.csa_text.specs.Spelling.{Saying, Spells};
+ghost use Rattle.csa_text.specs.Moment.{CalendarMoment, SpellsMoment, moment_of};
+ghost use Rattle.csa_text.specs.Saying.{Saying};
+ghost use Rattle.csa_text.specs.Spelling.{Spells};
 ghost use Rattle.csa_text.specs.declared.calendar.Moment.{Moment};
 
 use crate::calendar::Moment;

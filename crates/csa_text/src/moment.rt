@@ -2,8 +2,7 @@ ghost use Rattle.std.specs.Char.{digit_value};
 ghost use Rattle.std.specs.Prelude.{◌≡◌, ℕ, ◌+◌, ◌^◌, ◌<◌, ◌≤◌, ◌++◌, ◌↔◌, pos, ◌≤ℤ◌, unsigned_abs, MatchOption, IfSome, IfNone, IsSome};
 ghost use Rattle.jiff_core.specs.Calendar.{IsCivilDate};
 ghost use Rattle.arrayvec.specs.ArrayString.{array_string_len};
-ghost use Rattle.csa_text.specs.Moment.{CalendarMoment, SpellsDate, SpellsTime, SpellsMoment, AreNumbers, date_text, time_text, moment_text, two_digits};
-ghost use Rattle.csa_text.specs.MomentParts.{moment_of};
+ghost use Rattle.csa_text.specs.Moment.{CalendarMoment, SpellsDate, SpellsTime, SpellsMoment, AreNumbers, date_text, time_text, moment_text, two_digits, moment_of};
 
 use crate::calendar::Moment;
 use crate::fields::{read_number, split_at_byte};

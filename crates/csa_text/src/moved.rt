@@ -1,7 +1,8 @@
 ghost use Rattle.std.specs.Prelude.{◌≡◌, ◌++◌, ◌+◌, ◌≤◌, MatchOption};
 ghost use Rattle.arrayvec.specs.ArrayString.{array_string_len};
 ghost use Rattle.csa_text.specs.Codes.{sign, square_text, squares_text};
-ghost use Rattle.csa_text.specs.Spelling.{Spells, walked};
+ghost use Rattle.csa_text.specs.Saying.{walked};
+ghost use Rattle.csa_text.specs.Spelling.{Spells};
 
 use crate::codes::{kind_text, read_kind, read_square, sign_of};
 use arrayvec::ArrayString;

@@ -19,7 +19,7 @@ use Rattle.shogi_rules.specs.Rules as rules
 use Rattle.shogi_rules.specs.Rules.{all_rules, IsFirstBroken}
 use Rattle.csa_text.specs.declared.ending.Ending.{Ending}
 use Rattle.csa_text.specs.declared.pair.Pair.{Pair}
-use Rattle.csa_text.specs.Spelling.{Saying, version, name, header, even, rank, pieces, turn, walked, time, ending}
+use Rattle.csa_text.specs.Saying.{Saying, version, name, header, even, rank, pieces, turn, walked, time, ending}
 use Rattle.record_game.specs.declared.fault.OrderFault.{OrderFault}
 use Rattle.record_game.specs.declared.fault.OrderFault.TheVariants.{VersionOutOfPlace, RepeatedName, RepeatedHeader, TooManyHeaders, MixedStart, PositionLate, MoveBeforeTurn, RepeatedTurn, LooseTime, AfterEnding, TooManyMoves}
 use Rattle.record_game.specs.declared.fault.Why.{Why}

@@ -9,7 +9,7 @@ use Rattle.std.proofs.lemmas.List.{append-nil}
 use Rattle.std.proofs.lemmas.List.Elements.{filter_map-append}
 use Rattle.shogi_board.specs.declared.kind.Piece.{Piece}
 use Rattle.shogi_board.specs.Cells.{Cells}
-use Rattle.csa_text.specs.Spelling.{rank}
+use Rattle.csa_text.specs.Saying.{rank}
 use Rattle.record_game.specs.Placings.{cells_placings, placings}
 use Rattle.record_game.specs.Union.{put_on}
 use Rattle.record_game.specs.Canon.{rank_cells, rank_items}

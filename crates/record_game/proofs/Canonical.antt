@@ -10,7 +10,7 @@ use Rattle.shogi_board.specs.declared.color.Color.TheVariants.{Black, White}
 use Rattle.shogi_board.specs.Pieces.{opponent}
 use Rattle.csa_cutting.specs.Cut.{Statements}
 use Rattle.csa_text.specs.Moment.{CalendarMoment, TimeOfDay, moment_text}
-use Rattle.csa_text.specs.Spelling.{Saying, version, header, turn}
+use Rattle.csa_text.specs.Saying.{Saying, version, header, turn}
 use Rattle.csa_text.proofs.Moments.{InDay, text_spelled}
 use Rattle.record_game.specs.Game.{Game, Timed, Ended, Entry, HeaderText, moment, plain}
 use Rattle.record_game.specs.Limits.{IsGame, IsName, IsEntry, IsInDay, MayStandUnder, IsTimed, EndsInTime}

@@ -7,7 +7,8 @@ use Rattle.shogi_board.specs.declared.color.Color.{Color}
 use Rattle.csa_cutting.specs.Cut.{IsUnit, is_end, begins_with, statement_bytes, without_last_blanks, before_kept, is_blank}
 use Rattle.csa_text.specs.Codes.{sign}
 use Rattle.csa_text.specs.TimeTexts.{IsTime, IsFraction}
-use Rattle.csa_text.specs.Spelling.{Saying, version, name, header, even, rank, pieces, turn, walked, time, ending, Spells, IsHeader}
+use Rattle.csa_text.specs.Saying.{Saying, version, name, header, even, rank, pieces, turn, walked, time, ending}
+use Rattle.csa_text.specs.Spelling.{Spells, IsHeader}
 use Rattle.csa_text.proofs.Moments.{below_power}
 use Rattle.record_game.specs.Fits.{Fits, IsOfStatement, IsHeaderLine}
 use Rattle.record_game.specs.Limits.{IsOneLine}

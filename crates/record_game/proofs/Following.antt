@@ -29,7 +29,7 @@ use Rattle.shogi_rules.proofs.Broken.{AllKept, broken-not-kept}
 use Rattle.shogi_rules.proofs.Decided.{decide-kept, some-broken}
 use Rattle.csa_text.specs.declared.ending.Ending.{Ending}
 use Rattle.csa_text.specs.declared.pair.Pair.{Pair}
-use Rattle.csa_text.specs.Spelling.{Saying, version, name, header, even, rank, pieces, turn, walked, time, ending}
+use Rattle.csa_text.specs.Saying.{Saying, version, name, header, even, rank, pieces, turn, walked, time, ending}
 use Rattle.record_game.specs.Course.{Course, line_of, awaits_behind}
 use Rattle.record_game.specs.Game.{Game, Timed, Ended, Entry, move_of}
 use Rattle.record_game.specs.Items.{is_version, name_given, names, header_given, headers, is_even, rank_given, ranks, is_position, positions, sides, moves, is_body, body, AtMostOne}

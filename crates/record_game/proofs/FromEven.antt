@@ -16,7 +16,7 @@ use Rattle.shogi_board.specs.Setup.{layout_of}
 use Rattle.shogi_board.specs.Totals.{hand_kinds}
 use Rattle.shogi_rules.proofs.Forms.{eq-self}
 use Rattle.csa_text.specs.PairTexts.{AllOnBoard}
-use Rattle.csa_text.specs.Spelling.{even}
+use Rattle.csa_text.specs.Saying.{even}
 use Rattle.shogi_board.specs.Placing.{Placing, on, off, in_hand, rest}
 use Rattle.record_game.specs.Placings.{taken_off, placings}
 use Rattle.record_game.specs.Union.{off_at, put_on, is_held, rest_given, MayBeHeld, RestIsLast, MayTakeOff, left_on, bag_given, IsUnion, GiveStart}

@@ -18,7 +18,7 @@ use Rattle.shogi_board.specs.Setup.{layout_of}
 use Rattle.shogi_board.specs.Totals.{count_in, hand_kinds}
 use Rattle.csa_text.specs.declared.pair.Pair.{Pair}
 use Rattle.csa_text.specs.declared.pair.Pair.TheVariants.{InHand}
-use Rattle.csa_text.specs.Spelling.{Saying, rank}
+use Rattle.csa_text.specs.Saying.{Saying, rank}
 use Rattle.shogi_board.specs.Placing.{Placing, on, off, in_hand, rest}
 use Rattle.record_game.specs.Placings.{cells_placings, pair_placing, placings_of, placings}
 use Rattle.record_game.specs.Union.{off_at, put_on, is_held, rest_given, MayBeHeld, RestIsLast, bag_given, IsUnion, GiveStart}

@@ -19,7 +19,7 @@ use Rattle.csa_text.specs.Endings.{ending_name}
 use Rattle.csa_cutting.specs.Cut.{is_end, is_blank, without_last_blanks}
 use Rattle.csa_text.specs.Moment.{CalendarMoment, TimeOfDay, moment_text, date_text, behind_date}
 use Rattle.csa_text.specs.PairTexts.{pairs_text, pair_text, AllOnBoard}
-use Rattle.csa_text.specs.Spelling.{version, name, even, rank, pieces, turn, walked, ending}
+use Rattle.csa_text.specs.Saying.{version, name, even, rank, pieces, turn, walked, ending}
 use Rattle.csa_cutting.proofs.Blanks.{kept_last, blank_last}
 use Rattle.csa_text.specs.CodesOnce.{kind_length}
 use Rattle.csa_text.specs.PairsOnce.{pair_length}

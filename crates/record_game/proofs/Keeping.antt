@@ -13,7 +13,7 @@ use Rattle.shogi_rules.specs.declared.moves.Move.{Move}
 use Rattle.shogi_rules.specs.Positions.{position_after}
 use Rattle.csa_text.specs.declared.ending.Ending.{Ending}
 use Rattle.csa_text.specs.declared.pair.Pair.{Pair}
-use Rattle.csa_text.specs.Spelling.{Saying, version, name, header, even, rank, pieces, turn, walked, time, ending}
+use Rattle.csa_text.specs.Saying.{Saying, version, name, header, even, rank, pieces, turn, walked, time, ending}
 use Rattle.record_game.specs.Course.{Course, awaits_time, awaits_behind, with_time, with_last_time}
 use Rattle.record_game.specs.Game.{Ended, Entry, move_of}
 use Rattle.record_game.specs.Items.{is_version, name_given, names, header_given, headers, is_even, rank_given, ranks, is_position, positions, is_body, body, AtMostOne}

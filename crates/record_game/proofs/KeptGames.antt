@@ -1,7 +1,7 @@
 -- What is kept of items with a side to move is the game that they say.
 use Rattle.std.proofs.Common.{◌≡◌, Bool, List, [], sym, subst}
 use Rattle.std.specs.List.{AllByRecursion}
-use Rattle.csa_text.specs.Spelling.{Saying}
+use Rattle.csa_text.specs.Saying.{Saying}
 use Rattle.record_game.specs.Building.{game_of}
 use Rattle.record_game.specs.Course.{Course, IsCourse}
 use Rattle.record_game.specs.Items.{positions, sides}

@@ -10,7 +10,8 @@ use Rattle.shogi_board.specs.Setup.{position_of}
 use Rattle.shogi_board.specs.Squares.{place}
 use Rattle.csa_text.specs.declared.pair.Pair.{Pair}
 use Rattle.csa_text.specs.declared.pair.Pair.TheVariants.{On, InHand, Rest}
-use Rattle.csa_text.specs.Spelling.{Saying, version, name, header, even, rank, pieces, turn, walked, time, ending, Spells}
+use Rattle.csa_text.specs.Saying.{Saying, version, name, header, even, rank, pieces, turn, walked, time, ending}
+use Rattle.csa_text.specs.Spelling.{Spells}
 use Rattle.record_game.specs.Items.{is_even, is_position, positions}
 use Rattle.record_game.specs.LaidOut.{laid_out}
 use Rattle.shogi_board.specs.Placing.{Placing, on, off, in_hand, rest}

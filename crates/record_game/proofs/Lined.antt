@@ -3,7 +3,8 @@ use Rattle.std.proofs.Common.{◌≡◌, ℕ, ◌+◌, ◌≤◌, true, false, n
 use Rattle.std.specs.List.{AllByRecursion, AllZip, flat_map}
 use Rattle.std.proofs.lemmas.List.{append-nil}
 use Rattle.csa_cutting.specs.Cut.{TextUnit, IsGap, IsUnit, IsNext, Units, is_statement, begins_with, statement_bytes}
-use Rattle.csa_text.specs.Spelling.{Saying, Spells}
+use Rattle.csa_text.specs.Saying.{Saying}
+use Rattle.csa_text.specs.Spelling.{Spells}
 use Rattle.record_game.specs.Canon.{line_of, ended_line}
 use Rattle.record_game.specs.Tells.{IsSpelt}
 

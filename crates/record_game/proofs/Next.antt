@@ -22,7 +22,7 @@ use Rattle.shogi_rules.proofs.Games.{line-more}
 use Rattle.shogi_rules.proofs.Standing.{some-answer}
 use Rattle.csa_text.specs.declared.ending.Ending.{Ending}
 use Rattle.csa_text.specs.declared.pair.Pair.{Pair}
-use Rattle.csa_text.specs.Spelling.{Saying, version, name, header, even, rank, pieces, turn, walked, time, ending}
+use Rattle.csa_text.specs.Saying.{Saying, version, name, header, even, rank, pieces, turn, walked, time, ending}
 use Rattle.record_game.specs.declared.fault.OrderFault.{OrderFault}
 use Rattle.record_game.specs.declared.fault.OrderFault.TheVariants.{VersionOutOfPlace, RepeatedName, RepeatedHeader, TooManyHeaders, MixedStart, LooseTime, AfterEnding, TooManyMoves}
 use Rattle.record_game.specs.declared.fault.Why.{Why}

@@ -3,7 +3,7 @@ use Rattle.std.proofs.Common.{◌≡◌, List, [], drop, filter, Ok}
 use Rattle.std.specs.List.{AllByRecursion, filter_map}
 use Rattle.shogi_board.specs.Layout.{Layout}
 use Rattle.shogi_board.specs.Totals.{IsWithinTotals}
-use Rattle.csa_text.specs.Spelling.{Saying}
+use Rattle.csa_text.specs.Saying.{Saying}
 use Rattle.record_game.specs.Items.{is_even, positions}
 use Rattle.record_game.specs.LaidOut.{laid_out}
 use Rattle.record_game.specs.Placings.{placings}

@@ -9,7 +9,7 @@ use Rattle.shogi_board.specs.Placed.{Placed}
 use Rattle.shogi_rules.specs.declared.moves.Move.{Move}
 use Rattle.shogi_rules.specs.After.{after}
 use Rattle.shogi_rules.specs.Positions.{position_after}
-use Rattle.csa_text.specs.Spelling.{Saying, version, name, header, even, rank, pieces, turn, walked, time, ending}
+use Rattle.csa_text.specs.Saying.{Saying, version, name, header, even, rank, pieces, turn, walked, time, ending}
 use Rattle.record_game.specs.Course.{awaits, awaits_behind, with_last_time}
 use Rattle.record_game.specs.Game.{Timed, Ended, move_of}
 use Rattle.record_game.specs.Items.{positions, side_given, sides, move_given, moves, is_ending, body}

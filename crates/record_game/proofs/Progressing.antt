@@ -7,7 +7,7 @@ use Rattle.shogi_board.specs.Setup.{position_of}
 use Rattle.shogi_rules.specs.declared.moves.Move.{Move}
 use Rattle.csa_text.specs.declared.ending.Ending.{Ending}
 use Rattle.csa_text.specs.declared.pair.Pair.{Pair}
-use Rattle.csa_text.specs.Spelling.{Saying, name, header, even, rank, pieces, turn, walked, time, ending}
+use Rattle.csa_text.specs.Saying.{Saying, name, header, even, rank, pieces, turn, walked, time, ending}
 use Rattle.record_game.specs.declared.fault.Why.{Why}
 use Rattle.record_game.specs.Answer.{IsAnswer}
 use Rattle.record_game.specs.Course.{Course, PlayAnswers, close_fault, time_fault, with_time, with_ending, untimed}

@@ -13,7 +13,7 @@ use Rattle.shogi_rules.specs.Play as plays
 use Rattle.shogi_rules.specs.Positions.{Played}
 use Rattle.shogi_rules.proofs.Once.{one-answer}
 use Rattle.csa_cutting.specs.Cut.{TextUnit, IsCut, statement_bytes}
-use Rattle.csa_text.specs.Spelling.{Saying, version, name, header, even, rank, pieces, turn, walked, time, ending}
+use Rattle.csa_text.specs.Saying.{Saying, version, name, header, even, rank, pieces, turn, walked, time, ending}
 use Rattle.csa_cutting.proofs.Once.{statements_once}
 use Rattle.csa_text.proofs.Sayings.{same_saying}
 use Rattle.record_game.specs.declared.fault.OrderFault.{OrderFault}

@@ -14,7 +14,7 @@ use Rattle.shogi_board.specs.Placed.{Placed}
 use Rattle.shogi_board.specs.Totals.{IsWithinTotals, count_in}
 use Rattle.csa_text.specs.declared.pair.Pair.{Pair}
 use Rattle.csa_text.specs.declared.pair.Pair.TheVariants.{InHand}
-use Rattle.csa_text.specs.Spelling.{Saying, even, rank}
+use Rattle.csa_text.specs.Saying.{Saying, even, rank}
 use Rattle.record_game.specs.Items.{is_even, is_position, rank_given, ranks, AtMostOne}
 use Rattle.record_game.specs.Says.{RanksOnce}
 use Rattle.record_game.specs.Union.{GiveStart}

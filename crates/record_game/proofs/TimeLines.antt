@@ -8,7 +8,7 @@ use Rattle.std.proofs.lemmas.Fmt.{decimal_is_IsNumeral_wide, length-decimal-le_w
 use Rattle.std.proofs.lemmas.List.{append-nil, length-append}
 use Rattle.csa_text.specs.Fields.{IsNumber}
 use Rattle.csa_text.specs.Moment.{two_digits}
-use Rattle.csa_text.specs.Spelling.{time}
+use Rattle.csa_text.specs.Saying.{time}
 use Rattle.csa_text.specs.TimeTexts.{IsSeconds, IsFraction, IsTime}
 use Rattle.csa_text.proofs.Moments.{digit_of, two_number}
 use Rattle.record_game.specs.Canon.{time_text, fraction_text}

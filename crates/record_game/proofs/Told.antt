@@ -7,7 +7,8 @@ use Rattle.std.proofs.lemmas.List.{append-nil}
 use Rattle.shogi_board.specs.Cells.{even_cells}
 use Rattle.csa_text.specs.declared.fault.TextFault.TheVariants.{StatementTooLong}
 use Rattle.csa_cutting.specs.Cut.{TextUnit, IsCut, statement_bytes}
-use Rattle.csa_text.specs.Spelling.{Saying, fault_of_row}
+use Rattle.csa_text.specs.Saying.{Saying}
+use Rattle.csa_text.specs.Spelling.{fault_of_row}
 use Rattle.csa_cutting.proofs.Once.{cut_found, statements_once}
 use Rattle.csa_text.proofs.Sayings.{same_saying, spells_or_not}
 use Rattle.record_game.specs.declared.fault.OrderFault.TheVariants.{MissingTurn}

@@ -26,7 +26,7 @@ use Rattle.shogi_board.proofs.Totals.{limit-same, total-same, placed-within, rem
 use Rattle.shogi_rules.proofs.Forms.{held-low}
 use Rattle.csa_text.specs.declared.pair.Pair.{Pair}
 use Rattle.csa_text.specs.declared.pair.Pair.TheVariants.{On, InHand, Rest}
-use Rattle.csa_text.specs.Spelling.{Saying, version, name, header, even, rank, pieces, turn, walked, time, ending}
+use Rattle.csa_text.specs.Saying.{Saying, version, name, header, even, rank, pieces, turn, walked, time, ending}
 use Rattle.record_game.specs.Fits.{Fits}
 use Rattle.shogi_board.specs.Placing.{Placing, on, off, in_hand, rest, placing_fault, placed, unless, place_all, board_alone}
 use Rattle.record_game.specs.Placings.{taken_off, pair_placing, cells_placings, placings_of}

@@ -16,7 +16,8 @@ use Rattle.csa_text.specs.Moment.{two_digits, moment_text}
 use Rattle.csa_text.specs.PairTexts.{pairs_text}
 use Rattle.csa_text.specs.declared.pair.Pair.{Pair}
 use Rattle.csa_text.specs.declared.pair.Pair.TheVariants.{On, InHand}
-use Rattle.csa_text.specs.Spelling.{Saying, version, name, header, even, rank, pieces, turn, walked, time, ending, rank_text}
+use Rattle.csa_text.specs.Saying.{Saying, version, name, header, even, rank, pieces, turn, walked, time, ending}
+use Rattle.csa_text.specs.Spelling.{rank_text}
 use Rattle.record_game.specs.Game.{Game, Entry, HeaderText, moment, plain}
 use Rattle.record_game.specs.Says.{played_items}
 use Rattle.record_game.specs.Squares.{square_at}

@@ -2,8 +2,8 @@
 use Rattle.std.specs.Prelude.{◌≡◌, ◌≢◌, ℕ, ◌+◌, ◌≤◌, List, [], length}
 use Rattle.csa_cutting.specs.Cut.{IsUnit, statement_bytes, longest_statement}
 use Rattle.csa_text.specs.Fields.{HasNone}
-use Rattle.csa_text.specs.Spelling.{Saying, version, name, header, even, rank, pieces, turn, walked, time, ending}
-use Rattle.record_game.specs.Limits.{IsOneLine}
+use Rattle.csa_text.specs.Saying.{Saying, version, name, header, even, rank, pieces, turn, walked, time, ending}
+use Rattle.record_game.specs.Limits.{IsOneLine, longest_time}
 
 -- the bytes of a statement: of a unit of at most 4,096 bytes
 pub record IsOfStatement (bytes : List ℕ) : Type 0 where
@@ -31,5 +31,5 @@ Fits (rank number cells) = (1 ≤ number) × (number ≤ 9)
 Fits (pieces color pairs) = Unit {0}
 Fits (turn color) = Unit {0}
 Fits (walked color m) = Unit {0}
-Fits (time t) = t ≤ 4294967295999
+Fits (time t) = t ≤ longest_time
 Fits (ending e) = Unit {0}

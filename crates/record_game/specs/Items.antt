@@ -4,7 +4,7 @@ use Rattle.std.specs.List.{filter_map}
 use Rattle.shogi_board.specs.declared.color.Color.{Color}
 use Rattle.shogi_board.specs.Pieces.{same_color}
 use Rattle.shogi_rules.specs.declared.moves.Move.{Move}
-use Rattle.csa_text.specs.Spelling.{Saying, version, name, header, even, rank, pieces, turn, walked, time, ending}
+use Rattle.csa_text.specs.Saying.{Saying, version, name, header, even, rank, pieces, turn, walked, time, ending}
 
 abbrev pub is_version : Saying → Bool
 is_version version = true

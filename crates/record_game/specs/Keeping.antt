@@ -4,7 +4,7 @@ use Rattle.std.specs.Option.{option_to_list}
 use Rattle.shogi_board.specs.declared.color.Color.TheVariants.{Black, White}
 use Rattle.shogi_board.specs.Layout.{Layout}
 use Rattle.shogi_board.specs.Setup.{position_of}
-use Rattle.csa_text.specs.Spelling.{Saying, turn}
+use Rattle.csa_text.specs.Saying.{Saying, turn}
 use Rattle.record_game.specs.declared.fault.Why.{Why}
 use Rattle.record_game.specs.Answer.{IsAnswer}
 use Rattle.record_game.specs.Course.{Course}

@@ -3,7 +3,7 @@ use Rattle.std.specs.Prelude.{List, Result}
 use Rattle.shogi_board.specs.declared.setup.SetupFault.{SetupFault}
 use Rattle.shogi_board.specs.Layout.{Layout}
 use Rattle.shogi_board.specs.Placing.{place_all, board_alone}
-use Rattle.csa_text.specs.Spelling.{Saying}
+use Rattle.csa_text.specs.Saying.{Saying}
 use Rattle.record_game.specs.Items.{positions}
 use Rattle.record_game.specs.Placings.{placings}
 use Rattle.record_game.specs.Union.{first_board}

@@ -10,6 +10,10 @@ use Rattle.record_game.specs.Game.{Game, Timed, Ended, HeaderText, moment, plain
 use Rattle.csa_cutting.specs.Cut.{longest_statement}
 use Rattle.shogi_rules.specs.Positions.{max_moves}
 
+-- how many headers a record has at most
+abbrev pub most_headers : ℕ
+most_headers = 64
+
 -- a text that stands on one line
 abbrev pub IsOneLine : List ℕ → Type 0
 IsOneLine text = AllByRecursion (λ b. (b ≢ 13) × (b ≢ 10)) text
@@ -65,10 +69,14 @@ Rising [] = Unit {0}
 Rising (e ∷ []) = Unit {0}
 Rising (e ∷ f ∷ es) = (is_below e.key f.key ≡ true) × Rising (f ∷ es)
 
--- at most 4,294,967,295 seconds and 999 thousandths
+-- the most that a time may be, in thousandths of a second: 4,294,967,295 seconds and 999 thousandths
+abbrev pub longest_time : ℕ
+longest_time = 4294967295999
+
+-- a time, if there is one, is at most that
 abbrev pub IsTimed : Option ℕ → Type 0
 IsTimed None = Unit {0}
-IsTimed (Some t) = t ≤ 4294967295999
+IsTimed (Some t) = t ≤ longest_time
 
 abbrev pub EndsInTime : Option Ended → Type 0
 EndsInTime None = Unit {0}
@@ -80,7 +88,7 @@ pub record IsGame (g : Game) : Type 0 where
   pub white : IfSome g.white IsName
   pub entries : AllByRecursion IsEntry g.headers
   pub rising : Rising g.headers
-  pub few_headers : length g.headers ≤ 64
+  pub few_headers : length g.headers ≤ most_headers
   pub sound : IsSound g.start
   pub line : rules.IsGame g.start (map move_of g.moves)
   pub few_moves : length g.moves ≤ max_moves

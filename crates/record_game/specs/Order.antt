@@ -3,7 +3,8 @@ use Rattle.std.specs.Prelude.{ℕ, ◌==◌, nat_le, nat_eq, not, Bool, true, fa
 use Rattle.std.specs.Cmp.Lexicographic.{pointwise}
 use Rattle.shogi_board.specs.Setup.{first_fault}
 use Rattle.shogi_rules.specs.Positions.{max_moves}
-use Rattle.csa_text.specs.Spelling.{Saying, version, name, header, even, rank, pieces, turn, walked, time, ending}
+use Rattle.csa_text.specs.Saying.{Saying, version, name, header, even, rank, pieces, turn, walked, time, ending}
+use Rattle.record_game.specs.Limits.{most_headers}
 use Rattle.record_game.specs.Items.{names, headers, is_even, ranks, positions, sides, moves, is_ending, body}
 use Rattle.record_game.specs.declared.fault.OrderFault.{OrderFault}
 use Rattle.record_game.specs.declared.fault.OrderFault.TheVariants.{VersionOutOfPlace, RepeatedName, RepeatedHeader, TooManyHeaders, MixedStart, PositionLate, MoveBeforeTurn, RepeatedTurn, LooseTime, AfterEnding, TooManyMoves}
@@ -46,7 +47,7 @@ order_faults before (name color []) = []
 order_faults before (name color (b ∷ bs)) = (RepeatedName, stands (names color before)) ∷ []
 order_faults before (header key []) = []
 order_faults before (header key (b ∷ bs)) =
-    (RepeatedHeader, stands (under key before)) ∷ (TooManyHeaders, nat_le 64 (length (headers before))) ∷ []
+    (RepeatedHeader, stands (under key before)) ∷ (TooManyHeaders, nat_le most_headers (length (headers before))) ∷ []
 order_faults before (even pairs) =
     (AfterEnding, stands (endings before)) ∷ (PositionLate, stands (sides before)) ∷ (MixedStart, stands (positions before)) ∷ []
 order_faults before (rank number cells) =

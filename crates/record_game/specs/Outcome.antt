@@ -1,6 +1,7 @@
 -- What becomes of the next statement.
 use Rattle.std.specs.Prelude.{◌≡◌, ◌⊎◌, ℕ, List, [], ◌∷◌, ◌++◌, Option, Some, None, Result, Ok, Err}
-use Rattle.csa_text.specs.Spelling.{Saying, Spells, fault_of_row}
+use Rattle.csa_text.specs.Saying.{Saying}
+use Rattle.csa_text.specs.Spelling.{Spells, fault_of_row}
 use Rattle.record_game.specs.declared.fault.OrderFault.{OrderFault}
 use Rattle.record_game.specs.declared.fault.OrderFault.TheVariants.{AfterEnding}
 use Rattle.record_game.specs.declared.fault.Why.{Why}

@@ -7,7 +7,7 @@ use Rattle.shogi_board.specs.Placing.{Placing, on, off, in_hand, rest}
 use Rattle.shogi_board.specs.Squares.{place}
 use Rattle.csa_text.specs.declared.pair.Pair.{Pair}
 use Rattle.csa_text.specs.declared.pair.Pair.TheVariants.{On, InHand, Rest}
-use Rattle.csa_text.specs.Spelling.{Saying, version, name, header, even, rank, pieces, turn, walked, time, ending}
+use Rattle.csa_text.specs.Saying.{Saying, version, name, header, even, rank, pieces, turn, walked, time, ending}
 
 -- a pair behind `P+` or `P-`
 abbrev pub pair_placing : Color → Pair → Placing

@@ -1,7 +1,7 @@
 -- When the items of two records differ only in where their names and headers stand.
 use Rattle.std.specs.Prelude.{◌≡◌, ◌↔◌, ℕ, List, Contains}
 use Rattle.shogi_board.specs.declared.color.Color.TheVariants.{Black, White}
-use Rattle.csa_text.specs.Spelling.{Saying}
+use Rattle.csa_text.specs.Saying.{Saying}
 use Rattle.record_game.specs.Items.{names, headers, body}
 
 -- the same body, the same names and the same headers, wherever these stand and in whatever order the headers do; a version is in none of them

@@ -5,7 +5,7 @@ use Rattle.shogi_board.specs.declared.color.Color.{Color}
 use Rattle.shogi_board.specs.declared.color.Color.TheVariants.{Black, White}
 use Rattle.shogi_board.specs.Pieces.{opponent}
 use Rattle.csa_text.specs.Moment.{CalendarMoment, SpellsMoment}
-use Rattle.csa_text.specs.Spelling.{Saying, turn, walked, time, ending}
+use Rattle.csa_text.specs.Saying.{Saying, turn, walked, time, ending}
 use Rattle.record_game.specs.Game.{Game, Timed, Ended, HeaderText, moment, plain, Entry}
 use Rattle.record_game.specs.Items.{is_version, names, headers, is_even, ranks, positions, body, AtMostOne}
 use Rattle.record_game.specs.Limits.{IsMomentKey, IsGame}

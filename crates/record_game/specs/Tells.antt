@@ -2,7 +2,8 @@
 use Rattle.std.specs.Prelude.{ℕ, ◌≤◌, List, length}
 use Rattle.std.specs.List.{AllZip}
 use Rattle.csa_cutting.specs.Cut.{TextUnit, IsCut, statement_bytes, longest_statement}
-use Rattle.csa_text.specs.Spelling.{Saying, Spells}
+use Rattle.csa_text.specs.Saying.{Saying}
+use Rattle.csa_text.specs.Spelling.{Spells}
 use Rattle.record_game.specs.Game.{Game}
 use Rattle.record_game.specs.Says.{Says}
 

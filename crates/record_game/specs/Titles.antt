@@ -8,7 +8,7 @@ use Rattle.record_game.specs.declared.fault.OrderFault.TheVariants.{RepeatedName
 use Rattle.record_game.specs.declared.fault.Why.{Why}
 use Rattle.record_game.specs.declared.fault.Why.TheVariants.{Order}
 use Rattle.record_game.specs.Game.{HeaderText, Entry}
-use Rattle.record_game.specs.Limits.{IsName, IsEntry, is_below, Rising}
+use Rattle.record_game.specs.Limits.{IsName, IsEntry, is_below, Rising, most_headers}
 use Rattle.record_game.specs.Order.{stands}
 use Rattle.record_game.specs.Says.{IsValue}
 
@@ -41,7 +41,7 @@ abbrev pub header_fault : Titled → List ℕ → List ℕ → Option Why
 header_fault t key [] = None
 header_fault t key (b ∷ bs) =
     if stands (under key t.headers) then Some (Order RepeatedHeader)
-    else if nat_le 64 (length t.headers) then Some (Order TooManyHeaders)
+    else if nat_le most_headers (length t.headers) then Some (Order TooManyHeaders)
     else None
 
 -- with this name
@@ -67,4 +67,4 @@ pub record IsTitled (t : Titled) : Type 0 where
   pub white : IfSome t.white IsName
   pub entries : AllByRecursion IsEntry t.headers
   pub rising : Rising t.headers
-  pub few_headers : length t.headers ≤ 64
+  pub few_headers : length t.headers ≤ most_headers

@@ -13,7 +13,7 @@ use Rattle.shogi_board.specs.Pieces.{same_color, same_kind}
 use Rattle.shogi_board.specs.Placed.{Placed}
 use Rattle.shogi_board.specs.Setup.{holds, rest_to, position_of}
 use Rattle.shogi_board.specs.Totals.{hand_kinds}
-use Rattle.csa_text.specs.Spelling.{Saying}
+use Rattle.csa_text.specs.Saying.{Saying}
 use Rattle.record_game.specs.Items.{is_even}
 use Rattle.shogi_board.specs.Placing.{Placing, on, off, in_hand, rest}
 use Rattle.record_game.specs.Placings.{placings}

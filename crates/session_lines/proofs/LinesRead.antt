@@ -7,7 +7,7 @@ use Rattle.std.proofs.lemmas.Slice.Eq.{slice_eq-Decides}
 use Rattle.csa_cutting.proofs.Once.{statements_once}
 use Rattle.csa_text.proofs.Sayings.{same_saying}
 use Rattle.csa_cutting.specs.Cut.{TextUnit, IsCut, begins_with, statement_bytes}
-use Rattle.csa_text.specs.Spelling.{Saying, walked, time, ending}
+use Rattle.csa_text.specs.Saying.{Saying, walked, time, ending}
 use Rattle.csa_text.specs.declared.ending.Ending.{Ending}
 use Rattle.csa_text.specs.declared.fault.TextFault.{TextFault}
 use Rattle.record_game.proofs.SaysOnce.{same_items}

@@ -3,7 +3,8 @@ use Rattle.std.proofs.Common.{◌≡◌, ℕ, List, [], ◌∷◌, Option, Some,
 use Rattle.csa_cutting.proofs.Once.{statements_once}
 use Rattle.csa_text.proofs.Sayings.{same_saying}
 use Rattle.csa_cutting.specs.Cut.{TextUnit, statement_bytes}
-use Rattle.csa_text.specs.Spelling.{Saying, Spells, walked}
+use Rattle.csa_text.specs.Saying.{Saying, walked}
+use Rattle.csa_text.specs.Spelling.{Spells}
 use Rattle.shogi_board.specs.declared.color.Color.{Color}
 use Rattle.shogi_rules.specs.declared.moves.Move.{Move}
 use Rattle.session_lines.specs.MoveLines.{IsAlone, TellsMove}

@@ -3,7 +3,8 @@ use Rattle.std.specs.Prelude.{ℕ, ◌≤◌, ◌||◌, Bool, List, [], ◌∷�
 use Rattle.shogi_board.specs.declared.color.Color.{Color}
 use Rattle.shogi_rules.specs.declared.moves.Move.{Move}
 use Rattle.csa_cutting.specs.Cut.{TextUnit, IsCut, begins_with, statement_bytes, longest_statement}
-use Rattle.csa_text.specs.Spelling.{Spells, walked}
+use Rattle.csa_text.specs.Saying.{walked}
+use Rattle.csa_text.specs.Spelling.{Spells}
 
 -- a line from `+` or `-`: its first byte
 abbrev pub is_move_line : List ℕ → Bool

@@ -4,7 +4,8 @@ use Rattle.std.specs.List.{AllZip, starts_with, ends_with}
 use Rattle.shogi_board.specs.declared.color.Color.{Color}
 use Rattle.shogi_rules.specs.declared.moves.Move.{Move}
 use Rattle.csa_cutting.specs.Cut.{TextUnit, IsCut, statement_bytes, begins_with, longest_statement}
-use Rattle.csa_text.specs.Spelling.{Saying, walked, time, Spells, fault_of_row}
+use Rattle.csa_text.specs.Saying.{Saying, walked, time}
+use Rattle.csa_text.specs.Spelling.{Spells, fault_of_row}
 use Rattle.csa_text.specs.declared.fault.TextFault.{TextFault}
 use Rattle.csa_text.specs.declared.fault.TextFault.TheVariants.{StatementTooLong, Unknown}
 use Rattle.csa_record.specs.Game.{Timed, Ended}

@@ -24,7 +24,7 @@ impl Model for Lines {
 impl Lines {
     /// No line.
     pub fn new(alloc: Global) -> Lines
-        ensures { result ≡ [] }
+        ensures value { result ≡ [] }
     {
         Lines {
             bytes: Vec::new(alloc),
@@ -33,7 +33,7 @@ impl Lines {
 
     /// That one line.
     pub fn one(alloc: Global, line: &[u8]) -> Result<Lines, OutOfMemory>
-        ensures { IfOk result (λ l. l ≡ ended_line line.now) }
+        ensures value { IfOk result (λ l. l ≡ ended_line line.now) }
     {
         let mut lines = Lines::new(alloc);
         lines.push(line)?;

@@ -1,7 +1,6 @@
 ghost use Rattle.std.specs.Prelude.{◌≡◌, ◌==◌, MatchOption};
 ghost use Rattle.csa_cutting.specs.Cut.{TextUnit, statement_bytes};
-ghost use Rattle.csa_text.specs.Saying.{saying_of};
-ghost use Rattle.csa_text.specs.Spelling.{walked};
+ghost use Rattle.csa_text.specs.Saying.{walked, saying_of};
 ghost use Rattle.shogi_board.specs.declared.color.Color.{Color};
 ghost use Rattle.shogi_rules.specs.declared.moves.Move.{Move};
 ghost use Rattle.session_lines.specs.MoveLines.{is_move_line, IsAlone, TellsMove};
@@ -14,7 +13,7 @@ use shogi_rules::Move;
 
 /// Whether the line is one from `+` or `-`.
 pub fn is_move_line(line: &[u8]) -> bool
-    ensures { result ≡ is_move_line line.now }
+    ensures answer { result ≡ is_move_line line.now }
 {
     match line.first() {
         Some(b) => *b == b'+' || *b == b'-',
@@ -24,7 +23,7 @@ pub fn is_move_line(line: &[u8]) -> bool
 
 /// The move that is the line's one statement, with its side; or None.
 pub fn read_move_line(line: &[u8]) -> Option<(Color, Move)>
-    ensures { MatchOption result
+    ensures told { MatchOption result
         ((color : Color) (m : Move) → TellsMove line.now color m → ⊥)
         (λ r. TellsMove line.now r.0 r.1) }
 {
@@ -39,7 +38,7 @@ pub fn read_move_line(line: &[u8]) -> Option<(Color, Move)>
 
 /// The move that the item is, with its side.
 pub fn walked_of(item: Item<'_>) -> Option<(Color, Move)>
-    ensures { MatchOption result
+    ensures told { MatchOption result
         ((color : Color) (m : Move) → saying_of item.entry ≡ walked color m → ⊥)
         (λ r. saying_of item.entry ≡ walked r.0 r.1) }
 {
@@ -76,7 +75,7 @@ fn is_space(b: u8) -> bool
 
 /// The line less the spaces at its end.
 pub fn without_last_spaces(line: &[u8]) -> &[u8]
-    ensures { result.now ≡ without_last_spaces line.now }
+    ensures value { result.now ≡ without_last_spaces line.now }
 {
     let mut end = line.len();
     while end > 0 && is_space(line[end - 1]) {

@@ -201,7 +201,7 @@ pub const SPACE: &[u8] = b" ";
 
 /// Whether a text is the wanted one.
 pub fn is_same(text: &[u8], wanted: &[u8]) -> bool
-    ensures { IsTrue result ↔ (text.now ≡ wanted.now) }
+    ensures answer { IsTrue result ↔ (text.now ≡ wanted.now) }
 {
     text == wanted
 }

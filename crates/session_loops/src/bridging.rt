@@ -56,7 +56,7 @@ pub trait Ends {
 
     /// The line of that seat that was heard last, without its line end.
     fn line(&self, seat: Seat) -> &[u8]
-        ensures { result.now ≡ last_line self.now seat };
+        ensures value { result.now ≡ last_line self.now seat };
 
     /// Hands the seat these lines: whether it took them all.
     fn tell(&mut self, seat: Seat, lines: &[u8]) -> bool

@@ -39,7 +39,7 @@ pub enum Fault {
 impl Fault {
     /// The status that the program ends with.
     pub fn status(&self) -> u8
-        ensures { result ≡ status_of self.now }
+        ensures value { result ≡ status_of self.now }
     {
         match self {
             Fault::Refused(_) | Fault::Usi(_) | Fault::LongLine => 1,

@@ -43,7 +43,7 @@ impl Progress {
 
     /// Whether the bridge's next line may be a move that is to be shown.
     pub fn is_on(&self, bridge: &Bridge) -> bool
-        ensures { IsTrue result ↔ (self.now.is_on ≡ true) × ((client_state bridge.now.state.client ≡ ClientState.Playing) ⊎ (client_state bridge.now.state.client ≡ ClientState.Sent)) }
+        ensures answer { IsTrue result ↔ (self.now.is_on ≡ true) × ((client_state bridge.now.state.client ≡ ClientState.Playing) ⊎ (client_state bridge.now.state.client ≡ ClientState.Sent)) }
     {
         self.is_shown && is_playing(bridge.client_state())
     }

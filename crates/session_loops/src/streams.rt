@@ -46,7 +46,7 @@ pub fn record<R: Files + Input + AllocGlobal>(rt: &R, file: Option<&str>) -> Res
 /// `Fault::Refused` where it is refused, `Fault::Read` where the source fails or does not end, and `Fault::OutOfMemory`
 /// where a growth of memory was refused.
 pub fn record_of<S: Source>(alloc: Global, source: &mut S) -> Result<Record, Fault>
-    requires { S.failed source.old < 2 ^ 64 - 1 }
+    requires countable { S.failed source.old < 2 ^ 64 - 1 }
     ensures told { IfOk result (λ g. IsTold (S.known source.old) (S.known source.new) g) }
     ensures refused { (r : Refusal) → IsErrOf result (Fault.Refused r) → IsRefusal (S.known source.old) (S.known source.new) r }
     ensures read_fault { IsErrOf result Fault.Read → FailsRead (S.known source.old) (S.known source.new) (S.failed source.old) (S.failed source.new) }

@@ -29,7 +29,7 @@ pub trait Machine {
 
     /// Answers a line, which comes without its line end.
     fn answer(&mut self, line: &[u8]) -> Result<Reply, OutOfMemory>
-        ensures { IfOk result (λ reply. answers self.old line.now reply.lines reply.ended self.new) };
+        ensures answer { IfOk result (λ reply. answers self.old line.now reply.lines reply.ended self.new) };
 }
 
 impl Machine for Sample {

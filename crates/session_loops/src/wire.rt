@@ -30,7 +30,7 @@ pub trait Wire {
     ///
     /// `Fault::Read` where they cannot be had, and `Fault::OutOfMemory` where that is for want of memory.
     fn receive(&mut self, buffer: &mut [u8]) -> Result<usize, Fault>
-        requires { 0 < length buffer.old }
+        requires room { 0 < length buffer.old }
         ensures within { IfOk result (λ taken. taken ≤ length buffer.new) }
         ensures came { IfOk result (λ taken. 0 < taken → came self.old (take taken buffer.new) self.new) }
         ensures ends { IfOk result (λ taken. taken ≡ 0 → ends self.old self.new) }

@@ -55,7 +55,7 @@ pub struct HostOut {
 impl Host {
     /// A host before login. It takes no memory, and answers Ok.
     pub fn new(alloc: Global, config: &HostConfig) -> Result<Host, OutOfMemory>
-        requires { IsHostConfig config.now }
+        requires config { IsHostConfig config.now }
         ensures made { IsOk result }
         ensures config { IfOk result (λ h. h.config ≡ config.now) }
         ensures state { IfOk result (λ h. h.state ≡ waiting) }

@@ -201,10 +201,7 @@ fn play_host(config: &HostConfig, game: Line, mv: Move, lines: Lines) -> Result<
 {
     let mut lines = lines;
     push_move(&mut lines, game.now().side(), &mv, 0)?;
-    match play_legal(game, mv) {
-        Ok(game) => rest(config, game, lines),
-        Err(fault) => Err(fault),
-    }
+    rest(config, play_legal(game, mv)?, lines)
 }
 
 // The game with that move, which is legal.

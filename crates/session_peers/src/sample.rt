@@ -223,8 +223,6 @@ fn first_move(position: &Position) -> Option<ArrayString<5>>
         (NoLegalMove position.now)
         (λ word. (best : Move) × IsFirstLegal position.now best × UsiMove position.now word.bytes best) }
 {
-    match first_legal(position) {
-        Some(mv) => Some(move_text(position, &mv)),
-        None => None,
-    }
+    let mv = first_legal(position)?;
+    Some(move_text(position, &mv))
 }

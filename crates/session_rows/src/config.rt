@@ -6,6 +6,7 @@ ghost use Rattle.shogi_session.specs.Host.{IsLoginWord};
 use anyhow::{Result, bail};
 use arrayvec::ArrayString;
 use shogi_board::Color;
+use shogi_rules::MAX_MOVES;
 use shogi_session::{Bridge, Config, Host, HostConfig};
 use std::alloc::Global;
 
@@ -51,7 +52,7 @@ pub fn new_host(alloc: Global, words: &str) -> Result<Host> {
         _ => bail!("no side"),
     };
     let max_moves = number(words.next())?;
-    if max_moves < 1 || 10000 < max_moves {
+    if max_moves < 1 || (MAX_MOVES as u32) < max_moves {
         bail!("a host's game has 1 to 10,000 moves");
     }
     let config = HostConfig {

@@ -27,7 +27,7 @@ fn is_line(line: &[u8]) -> bool
 
 /// The event of those bytes, if they are one: `begin`, `engine:` or `server:` and a line, `ends` or `long`.
 pub fn read_event(bytes: &[u8]) -> Option<Event<'_>>
-    ensures { IfSome result (λ event. HoldsLine (event_of event)) }
+    ensures line { IfSome result (λ event. HoldsLine (event_of event)) }
 {
     if !is_line(bytes) {
         return None;
@@ -43,7 +43,7 @@ pub fn read_event(bytes: &[u8]) -> Option<Event<'_>>
 }
 
 fn read_line(bytes: &[u8]) -> Option<Event<'_>>
-    ensures { IfSome result (λ event. HoldsLine (event_of event)) }
+    ensures line { IfSome result (λ event. HoldsLine (event_of event)) }
 {
     let mut parts = bytes.splitn(2, |b| *b == b':');
     let seat = parts.next()?;

@@ -9,7 +9,7 @@ use Rattle.shogi_rules.proofs.Decided.{decide-lt, decide-over}
 use Rattle.shogi_rules.specs.Positions.{IsGame, all_of}
 use Rattle.shogi_rules.specs.Repetition.{Over}
 use Rattle.csa_cutting.specs.Lines.{is_line_end, HasNoLineEnd}
-use Rattle.csa_text.specs.Spelling.{Saying, version, name, header, even, rank, pieces, turn, walked, time, ending}
+use Rattle.csa_text.specs.Saying.{Saying, version, name, header, even, rank, pieces, turn, walked, time, ending}
 use Rattle.csa_record.specs.Game.{Game, Ended, move_of}
 use Rattle.csa_record.specs.Items.{headers, is_body, positions}
 use Rattle.csa_record.specs.Limits.{IsOneLine}

@@ -18,7 +18,8 @@ use Rattle.shogi_rules.specs.Positions.{IsGame, begun, played, position_after}
 use Rattle.csa_cutting.proofs.Once.{cut_found}
 use Rattle.csa_text.proofs.Sayings.{spells_or_not}
 use Rattle.csa_cutting.specs.Cut.{TextUnit, IsCut, Units, IsGap, IsUnit, is_statement, is_separator, begins_with, statement_bytes}
-use Rattle.csa_text.specs.Spelling.{Saying, version, name, header, even, rank, pieces, turn, walked, time, ending, fault_of_row}
+use Rattle.csa_text.specs.Saying.{Saying, version, name, header, even, rank, pieces, turn, walked, time, ending}
+use Rattle.csa_text.specs.Spelling.{fault_of_row}
 use Rattle.csa_text.specs.declared.fault.TextFault.{TextFault}
 use Rattle.csa_text.specs.declared.fault.TextFault.TheVariants.{StatementTooLong, Unknown}
 use Rattle.csa_record.specs.Game.{Timed}

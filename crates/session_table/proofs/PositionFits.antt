@@ -1,6 +1,6 @@
 -- Statements that a position block may have.
 use Rattle.std.proofs.Common.{◌≡◌, true, false}
-use Rattle.csa_text.specs.Spelling.{Saying}
+use Rattle.csa_text.specs.Saying.{Saying}
 use Rattle.session_table.specs.Summary.{in_position}
 
 abbrev pub FitsIn : Saying → Type 0

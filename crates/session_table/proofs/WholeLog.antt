@@ -17,7 +17,7 @@ use Rattle.shogi_board.specs.Sound.{IsSound}
 use Rattle.shogi_board.specs.Totals.{total, limit, kings_of}
 use Rattle.shogi_rules.proofs.Alone.{not-over-alone}
 use Rattle.shogi_rules.specs.Positions.{begun}
-use Rattle.csa_text.specs.Spelling.{pieces, turn}
+use Rattle.csa_text.specs.Saying.{pieces, turn}
 use Rattle.csa_text.specs.declared.pair.Pair.TheVariants.{On}
 use Rattle.record_game.specs.Limits.{IsGame}
 use Rattle.record_game.specs.Union.{GiveStart, on_square}

@@ -5,7 +5,7 @@ use Rattle.std.specs.Option.{option_to_list}
 use Rattle.shogi_board.specs.declared.color.Color.{Color}
 use Rattle.csa_text.specs.Codes.{sign}
 use Rattle.csa_cutting.specs.Cut.{TextUnit, IsCut}
-use Rattle.csa_text.specs.Spelling.{Saying}
+use Rattle.csa_text.specs.Saying.{Saying}
 use Rattle.csa_record.specs.Game.{Game}
 use Rattle.csa_record.specs.Items.{is_body, is_ending}
 use Rattle.csa_record.specs.Says.{Says}

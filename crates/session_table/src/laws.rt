@@ -37,19 +37,19 @@ pub fn summary_line_once()
 
 /// One event leads a bridge to one answer and one state: no two rows of its table fit one event.
 pub fn row_once()
-    ensures { (c : Config) (s t u : State) (e : Event) (out other : Out)
+    ensures once { (c : Config) (s t u : State) (e : Event) (out other : Out)
         → Row c s e out t → Row c s e other u → (out ≡ other) × (t ≡ u) }
 {}
 
 /// The end of a side is answered with no line.
 pub fn ends_are_silent()
-    ensures { (c : Config) (s t : State) (e : Event) (out : Out) → Row c s e out t → (e ≡ engine_end) ⊎ (e ≡ server_end) → out ≡ no_lines }
+    ensures silent { (c : Config) (s t : State) (e : Event) (out : Out) → Row c s e out t → (e ≡ engine_end) ⊎ (e ≡ server_end) → out ≡ no_lines }
 {}
 
 /// A step that is a row, gives the bytes of that row's lines and its status, and keeps what it was
 /// configured with, is a step as a whole.
 pub fn step_whole()
-    ensures { (old new : Session) (e : Event) (to_engine to_server : List ℕ) (status : Status)
+    ensures whole { (old new : Session) (e : Event) (to_engine to_server : List ℕ) (status : Status)
         → ((out : Out) × StepRow old e out new)
         → ((out : Out) → StepRow old e out new → to_engine ≡ text_of out.to_engine)
         → ((out : Out) → StepRow old e out new → to_server ≡ text_of out.to_server)
@@ -71,20 +71,20 @@ pub fn silent_when_over()
 /// In every log an engine that thinks while the client plays is one that may be asked: the client is
 /// to move, the position does not stand for the fourth time, and fewer than 10,000 moves stand.
 pub fn thinking_may_ask()
-    ensures { (c : Config) (log : List Step) (s : State) (g : Match) → Leads c log s → s.engine ≡ Thinking
+    ensures asked { (c : Config) (log : List Step) (s : State) (g : Match) → Leads c log s → s.engine ≡ Thinking
         → s.client ≡ playing g → MayAsk g }
 {}
 
 /// The lines of a log confirm one game at most.
 pub fn confirmed_once()
-    ensures { (log : List Step) (o p : Offer) (ms ns : List Moved) → Confirmed log o ms → Confirmed log p ns → (o ≡ p) × (ms ≡ ns) }
+    ensures once { (log : List Step) (o p : Offer) (ms ns : List Moved) → Confirmed log o ms → Confirmed log p ns → (o ≡ p) × (ms ≡ ns) }
 {}
 
 /// In every log, each line that a step sends the server as an answer of the engine is the text of a
 /// legal move of the client's side in the game that the log before it confirmed, or `%TORYO`, or
 /// `%KACHI`.
 pub fn sent_legal()
-    ensures { (c : Config) (log : List Step) (s t : State) (e : Event) (out : Out) → Leads c log s → Row c s e out t
+    ensures legal { (c : Config) (log : List Step) (s t : State) (e : Event) (out : Out) → Leads c log s → Row c s e out t
         → AllByRecursion (λ line. is_answer line ≡ true → IsAnswered log line) out.to_server }
 {}
 
@@ -101,7 +101,7 @@ pub fn sent_once()
 /// In every log, each `position` line that a step sends the engine is that of the game which the log
 /// has confirmed with that step, and its `go` line has the clocks of that game.
 pub fn asked_right()
-    ensures { (c : Config) (log : List Step) (s t : State) (e : Event) (out : Out) → Leads c log s → Row c s e out t
+    ensures right { (c : Config) (log : List Step) (s t : State) (e : Event) (out : Out) → Leads c log s → Row c s e out t
         → list_any is_position_line out.to_engine ≡ true
         → AskedRight c (log ++ (record { event = e; out = out; status = t.status }) ∷ []) out.to_engine }
 {}
@@ -109,7 +109,7 @@ pub fn asked_right()
 /// The lines by which an engine is asked for a move have a `position` line among them, so that what
 /// `asked_right` says of such lines is said of all that ask.
 pub fn asking_has_a_position()
-    ensures { (c : Config) (g : Match) (lines : List (List ℕ)) → AskLines c g lines → list_any is_position_line lines ≡ true }
+    ensures position { (c : Config) (g : Match) (lines : List (List ℕ)) → AskLines c g lines → list_any is_position_line lines ≡ true }
 {}
 
 /// In every log, the game that a bridge has played so far is the game of the log, and there is none

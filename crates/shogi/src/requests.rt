@@ -39,7 +39,7 @@ pub fn meet<
         + Eprint
         + AllocGlobal,
 >(rt: &R, request: &Request<'_>, is_terminal: bool) -> Result<(), Fault>
-    requires { (s : Service) → request.now ≡ Request.Serve s → (1 ≤ s.max_moves) × (s.max_moves ≤ positions.max_moves) }
+    requires moves { (s : Service) → request.now ≡ Request.Serve s → (1 ≤ s.max_moves) × (s.max_moves ≤ positions.max_moves) }
     ensures faults { IfErr result (IsFaultOf request.now) }
 {
     match *request {

@@ -26,7 +26,7 @@ pub const USAGE: u8 = 2;
 impl Stop {
     /// The status that the program ends with.
     pub fn status(&self) -> u8
-        ensures { result ≡ status_of self.now }
+        ensures value { result ≡ status_of self.now }
     {
         match self {
             Stop::WordsNotText | Stop::UnknownCommand => USAGE,

@@ -19,21 +19,24 @@ use Rattle.shogi_board.specs.declared.square.Square.{Square}
 use Rattle.shogi_board.proofs.Check.{king-safe}
 use Rattle.shogi_board.proofs.Moves.{ray-at, step-near}
 
+pub even-full : (k : Kind) → total (bare_board even_cells) k ≡ limit k
+even-full Pawn = refl
+even-full Lance = refl
+even-full Knight = refl
+even-full Silver = refl
+even-full Gold = refl
+even-full Bishop = refl
+even-full Rook = refl
+even-full King = refl
+even-full ProPawn = refl
+even-full ProLance = refl
+even-full ProKnight = refl
+even-full ProSilver = refl
+even-full Horse = refl
+even-full Dragon = refl
+
 even-totals : (k : Kind) → total (bare_board even_cells) k ≤ limit k
-even-totals Pawn = lit≤ tt
-even-totals Lance = lit≤ tt
-even-totals Knight = lit≤ tt
-even-totals Silver = lit≤ tt
-even-totals Gold = lit≤ tt
-even-totals Bishop = lit≤ tt
-even-totals Rook = lit≤ tt
-even-totals King = lit≤ tt
-even-totals ProPawn = lit≤ tt
-even-totals ProLance = lit≤ tt
-even-totals ProKnight = lit≤ tt
-even-totals ProSilver = lit≤ tt
-even-totals Horse = lit≤ tt
-even-totals Dragon = lit≤ tt
+even-totals k = let full = even-full k in omega (arith, full)
 
 even-kings : (c : Color) → kings_of even_cells c ≤ 1
 even-kings Black = lit≤ tt

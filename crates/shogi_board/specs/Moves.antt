@@ -71,12 +71,20 @@ steps Horse = orthogonals
 steps Dragon = diagonals
 
 abbrev pub rays : Kind → List Direction
+rays Pawn = []
 rays Lance = forward ∷ []
+rays Knight = []
+rays Silver = []
+rays Gold = []
 rays Bishop = diagonals
 rays Rook = orthogonals
+rays King = []
+rays ProPawn = []
+rays ProLance = []
+rays ProKnight = []
+rays ProSilver = []
 rays Horse = diagonals
 rays Dragon = orthogonals
-rays _ = []
 
 -- a piece of that kind goes n squares in that direction, as its side sees it, where nothing stands between
 abbrev pub Goes : Kind → Direction → ℕ → Type 0

@@ -33,13 +33,20 @@ place_of Horse = 5
 place_of Dragon = 6
 
 abbrev pub is_promoted : Kind → Bool
+is_promoted Pawn = false
+is_promoted Lance = false
+is_promoted Knight = false
+is_promoted Silver = false
+is_promoted Gold = false
+is_promoted Bishop = false
+is_promoted Rook = false
+is_promoted King = false
 is_promoted ProPawn = true
 is_promoted ProLance = true
 is_promoted ProKnight = true
 is_promoted ProSilver = true
 is_promoted Horse = true
 is_promoted Dragon = true
-is_promoted _ = false
 
 -- the kind that a piece of this kind promotes to
 abbrev pub promoted : Kind → Option Kind
@@ -47,23 +54,49 @@ promoted Pawn = Some ProPawn
 promoted Lance = Some ProLance
 promoted Knight = Some ProKnight
 promoted Silver = Some ProSilver
+promoted Gold = None
 promoted Bishop = Some Horse
 promoted Rook = Some Dragon
-promoted _ = None
+promoted King = None
+promoted ProPawn = None
+promoted ProLance = None
+promoted ProKnight = None
+promoted ProSilver = None
+promoted Horse = None
+promoted Dragon = None
 
 -- the kind that it has in a hand
 abbrev pub unpromoted : Kind → Kind
+unpromoted Pawn = Pawn
+unpromoted Lance = Lance
+unpromoted Knight = Knight
+unpromoted Silver = Silver
+unpromoted Gold = Gold
+unpromoted Bishop = Bishop
+unpromoted Rook = Rook
+unpromoted King = King
 unpromoted ProPawn = Pawn
 unpromoted ProLance = Lance
 unpromoted ProKnight = Knight
 unpromoted ProSilver = Silver
 unpromoted Horse = Bishop
 unpromoted Dragon = Rook
-unpromoted kind = kind
 
 abbrev pub is_king : Kind → Bool
+is_king Pawn = false
+is_king Lance = false
+is_king Knight = false
+is_king Silver = false
+is_king Gold = false
+is_king Bishop = false
+is_king Rook = false
 is_king King = true
-is_king _ = false
+is_king ProPawn = false
+is_king ProLance = false
+is_king ProKnight = false
+is_king ProSilver = false
+is_king Horse = false
+is_king Dragon = false
 
 -- a hand may hold each unpromoted kind but the king
 abbrev pub is_hand_kind : Kind → Bool
@@ -74,7 +107,13 @@ is_hand_kind Silver = true
 is_hand_kind Gold = true
 is_hand_kind Bishop = true
 is_hand_kind Rook = true
-is_hand_kind _ = false
+is_hand_kind King = false
+is_hand_kind ProPawn = false
+is_hand_kind ProLance = false
+is_hand_kind ProKnight = false
+is_hand_kind ProSilver = false
+is_hand_kind Horse = false
+is_hand_kind Dragon = false
 
 abbrev pub same : Bool → Bool → Bool
 same true b = b

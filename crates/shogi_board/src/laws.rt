@@ -18,11 +18,12 @@ ghost use Rattle.shogi_board.specs.Same.{same_position};
 ghost use Rattle.shogi_board.specs.Setup.{board_alone, position_of};
 ghost use Rattle.shogi_board.specs.Sound.{IsSound};
 ghost use Rattle.shogi_board.specs.Squares.{rank_of, place};
-ghost use Rattle.shogi_board.specs.Totals.{hand_kinds};
+ghost use Rattle.shogi_board.specs.Totals.{hand_kinds, total, limit};
 ghost use Rattle.shogi_board.specs.Turned.{turned, IsTurned};
 ghost use Rattle.shogi_board.specs.declared.color.Color.{Color};
 ghost use Rattle.shogi_board.specs.declared.color.Color.TheVariants.{Black, White};
 ghost use Rattle.shogi_board.specs.declared.kind.Piece.{Piece};
+ghost use Rattle.shogi_board.specs.declared.kind.Kind.{Kind};
 ghost use Rattle.shogi_board.specs.declared.kind.Kind.TheVariants.{Gold, Bishop, Knight, King, ProPawn, ProLance, ProKnight, ProSilver, Horse, Dragon};
 ghost use Rattle.shogi_board.specs.declared.square.Square.{Square};
 
@@ -57,6 +58,16 @@ pub fn even_is_sound()
     ensures sound { IsSound even_start }
     ensures safe { (color : Color) → InCheck even_cells color → ⊥ }
     ensures set_up { position_of (board_alone even_cells) Black ≡ even_start }
+{}
+
+/// The even position has as many pieces of each kind as a game may have, promoted ones counted with their unpromoted kind.
+pub fn even_is_full()
+    ensures full { (kind : Kind) → total even_start.material kind ≡ limit kind }
+{}
+
+/// The even board turned round is the same board.
+pub fn even_turned()
+    ensures same { turned even_cells ≡ even_cells }
 {}
 
 /// Two positions are equal exactly where they are the same: each square holds the same, both hands are the same, and the same

@@ -2,7 +2,7 @@ ghost use Rattle.std.specs.Prelude.{◌≡◌, ◌≢◌, ◌<◌, ◌≤◌, �
 ghost use Rattle.shogi_board.specs.Cells.{at, piece};
 ghost use Rattle.shogi_board.specs.Danger.{ComesFrom};
 ghost use Rattle.shogi_board.specs.Material.{bag_of};
-ghost use Rattle.shogi_board.specs.Moved.{walked, dropped, with_captured};
+ghost use Rattle.shogi_board.specs.Moved.{after_walk, after_drop, with_captured};
 ghost use Rattle.shogi_board.specs.Pieces.{is_hand_kind, unpromoted};
 ghost use Rattle.shogi_board.specs.Reach.{InCheck};
 ghost use Rattle.shogi_board.specs.Setup.{one_less};
@@ -29,11 +29,11 @@ impl Position {
     #[inline(always)]
     pub fn walk(&mut self, from: Square, to: Square, kind: Kind, danger: Danger) -> bool
         requires apart { place from ≢ place to }
-        requires totals { IsWithinTotals (walked self.old from to kind).material }
+        requires totals { IsWithinTotals (after_walk self.old from to kind).material }
         requires captured { (x : Piece) → at self.old.material.board to ≡ Some x → is_hand_kind (unpromoted x.kind) ≡ true }
-        requires danger { (s : Square) → at (walked self.old from to kind).material.board s ≡ piece self.old.side King → ComesFrom (walked self.old from to kind).material.board self.old.side s danger }
-        ensures answer { IsTrue result ↔ (InCheck (walked self.old from to kind).material.board self.old.side → ⊥) }
-        ensures value { result ≡ true → self.new ≡ walked self.old from to kind }
+        requires danger { (s : Square) → at (after_walk self.old from to kind).material.board s ≡ piece self.old.side King → ComesFrom (after_walk self.old from to kind).material.board self.old.side s danger }
+        ensures answer { IsTrue result ↔ (InCheck (after_walk self.old from to kind).material.board self.old.side → ⊥) }
+        ensures value { result ≡ true → self.new ≡ after_walk self.old from to kind }
         ensures unchanged { result ≡ false → self.new ≡ self.old }
     {
         let side = self.side;
@@ -63,10 +63,10 @@ impl Position {
     pub fn drop_piece(&mut self, to: Square, kind: Kind, danger: Danger) -> bool
         requires held { 0 < count_in (bag_of self.old.material self.old.side) kind }
         requires empty { at self.old.material.board to ≡ None }
-        requires totals { IsWithinTotals (dropped self.old to kind).material }
-        requires danger { (s : Square) → at (dropped self.old to kind).material.board s ≡ piece self.old.side King → ComesFrom (dropped self.old to kind).material.board self.old.side s danger }
-        ensures answer { IsTrue result ↔ (InCheck (dropped self.old to kind).material.board self.old.side → ⊥) }
-        ensures value { result ≡ true → self.new ≡ dropped self.old to kind }
+        requires totals { IsWithinTotals (after_drop self.old to kind).material }
+        requires danger { (s : Square) → at (after_drop self.old to kind).material.board s ≡ piece self.old.side King → ComesFrom (after_drop self.old to kind).material.board self.old.side s danger }
+        ensures answer { IsTrue result ↔ (InCheck (after_drop self.old to kind).material.board self.old.side → ⊥) }
+        ensures value { result ≡ true → self.new ≡ after_drop self.old to kind }
         ensures unchanged { result ≡ false → self.new ≡ self.old }
     {
         let side = self.side;

@@ -525,6 +525,8 @@ fn laws_are_calls(_rt: HostRuntime) {
     laws::horse_reaches();
     laws::knight_without_move();
     laws::even_is_sound();
+    laws::even_is_full();
+    laws::even_turned();
     laws::equal_positions();
     laws::equal_setups();
     laws::ordered_positions();

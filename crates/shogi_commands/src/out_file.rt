@@ -38,7 +38,7 @@ pub struct Named<'a, R> {
 impl<'a, R: Files + AllocGlobal> Named<'a, R> {
     /// The file of that path.
     pub fn new(rt: &'a R, path: &'a str) -> Named<'a, R>
-        ensures { result.path.now ≡ path.now }
+        ensures path { result.path.now ≡ path.now }
     {
         Named { rt, path }
     }

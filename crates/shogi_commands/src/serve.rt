@@ -31,7 +31,7 @@ pub fn run<R: Net<Listener = TcpListener, Stream = TcpStream> + Print + AllocGlo
     client: Color,
     max_moves: u32,
 ) -> Result<(), Fault>
-    requires { (1 ≤ max_moves) × (max_moves ≤ positions.max_moves) }
+    requires moves { (1 ≤ max_moves) × (max_moves ≤ positions.max_moves) }
     ensures faults { IfErr result IsServeFault }
 {
     let stream = accept(rt, port)?;

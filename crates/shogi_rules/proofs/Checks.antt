@@ -1,20 +1,23 @@
 -- A move that neither moves the king nor stops the check leaves the king in check.
 use Rattle.std.proofs.Common.{◌≡◌, ◌≢◌, ℕ, ◌↔◌, IsTrue, Bool, true, false, not, Option, Some, None, ◌⊎◌, inl, inr, set, get_or, refl, ap, sym, ◌∙◌, subst, get_or-set_same, get_or-set_other}
+use Rattle.std.specs.Prelude.{MatchOption}
 use Rattle.std.proofs.lemmas.Bool.{cases_eq}
 use Rattle.shogi_board.specs.Between.{Between}
 use Rattle.shogi_board.specs.Cells.{Cells, at, piece}
 use Rattle.shogi_board.specs.Moves.{turned_for}
 use Rattle.shogi_board.specs.Pieces.{opponent}
 use Rattle.shogi_board.specs.Placed.{Placed}
-use Rattle.shogi_board.specs.Reach.{Attack, InCheck, InSight, Reach, Slides, Steps}
+use Rattle.shogi_board.specs.Reach.{Attack, Attacked, InCheck, InSight, Reach, Slides, Steps}
 use Rattle.shogi_board.specs.Sound.{IsSound}
 use Rattle.shogi_board.specs.Squares.{place}
+use Rattle.shogi_board.specs.Totals.{IsWithinTotals}
 use Rattle.shogi_board.specs.declared.color.Color.{Color}
 use Rattle.shogi_board.specs.declared.color.Color.TheVariants.{Black, White}
 use Rattle.shogi_board.specs.declared.kind.Kind.{Kind}
 use Rattle.shogi_board.specs.declared.kind.Kind.TheVariants.{King}
 use Rattle.shogi_board.specs.declared.kind.Piece.{Piece}
 use Rattle.shogi_board.specs.declared.square.Square.{Square}
+use Rattle.shogi_board.proofs.Check.{king-check-for}
 use Rattle.shogi_board.proofs.Moves.{ray-at}
 use Rattle.shogi_board.proofs.Squares.{place-same}
 use Rattle.shogi_rules.specs.After.{after, board_after}
@@ -138,6 +141,27 @@ walk-form p from to was k stands fits =
 abbrev pub KeptWalk : Placed → Square → Square → Type 0
 KeptWalk p from to = (k : Kind) × Keeps p (Walk from to k)
 
+-- where a walk as the piece it was does not, some walk keeps the rules exactly where the promoted one does
+pub kept-if-promoted : (p : Placed) (from to : Square) (was : Kind) (promotion : Option Kind) (b : Bool) (Then : Kind → Type 0) → at p.material.board from ≡ piece p.side was → (Keeps p (Walk from to was) → ⊥) → promotion ≡ promoted was
+    → MatchOption promotion (b ≡ false) Then → ((k : Kind) → Then k → IsTrue b ↔ Keeps p (Walk from to k)) → IsTrue b ↔ KeptWalk p from to
+kept-if-promoted p from to was None b Then stands bare promotion off keeps = (
+  λ yes. cc,
+  λ kept. elim (walk-form p from to was kept.0 stands kept.1.fits) [
+    | inl same ↦ absurd (bare (subst (λ (k : Kind). Keeps p (Walk from to k)) same kept.1))
+    | inr becomes ↦ cc
+  ],
+)
+kept-if-promoted p from to was (Some k) b Then stands bare promotion h keeps = (
+  λ yes. (k, (keeps k h).0 yes),
+  λ kept. elim (walk-form p from to was kept.0 stands kept.1.fits) [
+    | inl same ↦ absurd (bare (subst (λ (l : Kind). Keeps p (Walk from to l)) same kept.1))
+    | inr becomes ↦
+        let both : Some k ≡ Some kept.0 = promotion ∙ becomes in
+        let one : kept.0 ≡ k = cc in
+        (keeps k h).1 (subst (λ (l : Kind). Keeps p (Walk from to l)) one kept.1)
+  ],
+)
+
 pub moves-from-walk : (p : Placed) (s : Square) (m : Move) → MovesFrom s m → Keeps p m → (to : Square) × (k : Kind) × Keeps p (Walk s to k)
 moves-from-walk p s (Walk from to k) e kept = (to, k, subst (λ (f : Square). Keeps p (Walk f to k)) e kept)
 moves-from-walk p s (Put to k) e kept = absurd e
@@ -163,6 +187,13 @@ some-stop p a s false false sound king attack e d none some =
     absurd (no-other-evasion p some.0 a s sound some.1 king attack
     (λ from. let yes = e.1 (moves-from-walk p s some.0 from some.1) in cc)
     (λ stop. let yes = d.1 (some.0, stop, some.1) in cc))
+
+-- a side is in check exactly where it has a king, and that is attacked
+pub king-check-if : (p : Placed) (color : Color) (king : Option Square) (b : Bool) (Then : Square → Type 0) → IsWithinTotals p.material → color ≡ p.side → MatchOption king ((s : Square) → at p.material.board s ≡ piece color King → ⊥) (λ s. at p.material.board s ≡ piece color King)
+    → MatchOption king (b ≡ false) Then → ((s : Square) → Then s → IsTrue b ↔ Attacked p.material.board color s) → IsTrue b ↔ InCheck p.material.board p.side
+king-check-if p color None b Then within side none off attacked = (λ yes. cc, λ check. absurd (none check.0 (rw side check.1)))
+king-check-if p color (Some s) b Then within side there h attacked =
+    king-check-for p.material.board color color p.side s b within.squares (within.kings p.side) there (attacked s h) side side
 
 pub mated-then : (p : Placed) (b : Bool) → InCheck p.material.board p.side → (IsTrue b ↔ ((m : Move) × Keeps p m)) → IsTrue (not b) ↔ Mated p
 mated-then p true check d = (λ h. cc, λ mated. let s = d.0 refl in absurd (mated.no_move s.0 s.1))

@@ -227,6 +227,13 @@ pub first-drop-first : (p : Placed) (found : Option Move) → NoneOf p IsWalk �
 first-drop-first p None none h = none-at-all p none h
 first-drop-first p (Some m) none h = record { legal = h.legal; first = λ n before legal. walk-none p m n none h before legal }
 
+-- the answer of the walks, or else of the drops
+pub first-of-both : (p : Placed) (walk found : Option Move) (Else : Type 0) → MatchOption walk (NoneOf p IsWalk) (λ m. IsFirstOf p IsWalk m) → MatchOption walk Else (λ m. found ≡ Some m)
+    → (Else → MatchOption found (NoneOf p IsDrop) (λ m. IsFirstOf p IsDrop m)) → MatchOption found (NoLegalMove p) (λ m. IsFirstLegal p m)
+first-of-both p None found Else none h drops = first-drop-first p found none (drops h)
+first-of-both p (Some m) found Else first h drops =
+    subst (λ (o : Option Move). MatchOption o (NoLegalMove p) (λ n. IsFirstLegal p n)) (sym h) (first-walk-first p m first)
+
 -- 5. One is the first
 some-kind : (a b : Kind) → Some a ≡ Some b → a ≡ b
 some-kind a b e = cc

@@ -1,14 +1,17 @@
 -- One move more.
-use Rattle.std.proofs.Common.{◌≡◌, ◌∙◌, ◌↔◌, IsTrue, Bool, true, false, ℕ, ◌≤◌, inl, inr, ◌<◌, ◌+◌, ◌++◌, List, [], ◌∷◌, Option, None, length, length-append, arith, refl, ap, sym, subst}
+use Rattle.std.proofs.Common.{◌≡◌, ◌∙◌, ◌↔◌, IsTrue, Bool, true, false, ℕ, ◌≤◌, inl, inr, ◌<◌, ◌+◌, ◌++◌, List, [], ◌∷◌, Option, None, Some, length, length-append, arith, refl, ap, sym, subst}
+use Rattle.std.specs.Prelude.{MatchOption, IsSomeAnd}
 use Rattle.std.proofs.lemmas.Bool.{cases_lt}
 use Rattle.shogi_board.specs.Placed.{Placed}
 use Rattle.shogi_board.specs.declared.color.Color.{Color}
 use Rattle.shogi_rules.specs.After.{after}
 use Rattle.shogi_rules.specs.Legal.{Legal}
-use Rattle.shogi_rules.specs.Play.{Breaks, IsOpen}
-use Rattle.shogi_rules.specs.Positions.{Played, now_of, position_after, positions_of, played, begun, IsGame, IsLine}
+use Rattle.shogi_rules.specs.Play.{Answers, Breaks, IsOpen}
+use Rattle.shogi_rules.specs.Positions.{Played, max_moves, now_of, position_after, positions_of, played, begun, IsGame, IsLine}
 use Rattle.shogi_rules.specs.Repetition.{times, Over, IsNth}
 use Rattle.shogi_rules.specs.Rules.{Kept, KeptAlone, move_rules, all_rules, IsFirstBroken}
+use Rattle.shogi_rules.specs.declared.line.PlayFault.{PlayFault}
+use Rattle.shogi_rules.specs.declared.line.PlayFault.TheVariants.{Broken}
 use Rattle.shogi_rules.specs.declared.moves.Move.{Move}
 use Rattle.shogi_rules.specs.declared.rule.Rule.{Rule}
 use Rattle.shogi_rules.proofs.Broken.{AllKept}
@@ -156,6 +159,13 @@ game-last start _ (played before m game may) q over =
     let p = after (position_after start before) m in
     let stands : Over (ps ++ p ∷ []) q = rw (positions-more start before m) at over in
     last-by ps p q (same_position p q) refl (game-few start before game may.not_over q) stands ∙ sym (position-more start before m)
+
+-- the answer that a first broken rule gives, where no limit is met
+pub broken-answer : (line : Played) (color : Color) (m : Move) (rule : Option Rule) (fault : Option PlayFault) (Is : Rule → PlayFault → Type 0) → length line.moves < max_moves → Breaks line color m rule
+    → MatchOption rule (fault ≡ None) (λ r. IsSomeAnd fault (Is r)) → ((r : Rule) (f : PlayFault) → Is r f → f ≡ Broken r) → Answers line color m fault
+broken-answer line color m None fault Is few breaks h broken = subst (Answers line color m) (sym h) (few, breaks)
+broken-answer line color m (Some r) None Is few breaks h broken = absurd h
+broken-answer line color m (Some r) (Some f) Is few breaks h broken = subst (λ (g : PlayFault). Answers line color m (Some g)) (sym (broken r f h)) (few, breaks)
 
 -- the first broken rule of all, where the side may play
 pub breaks-of : (line : Played) (last : Placed) (color : Color) (m : Move) (answer : Option Rule) → last ≡ now_of line → IsOpen line color → IsFirstBroken (KeptAlone last m) move_rules answer → Breaks line color m answer

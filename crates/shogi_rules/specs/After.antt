@@ -1,29 +1,22 @@
 -- The position after a move of the side to move.
-use Rattle.std.specs.Prelude.{ℕ, List, None, slice_set}
-use Rattle.shogi_board.specs.Cells.{Cells, at, piece}
-use Rattle.shogi_board.specs.Pieces.{opponent}
-use Rattle.shogi_board.specs.Material.{bag_of, with_bag}
+use Rattle.std.specs.Prelude.{ℕ, List}
+use Rattle.shogi_board.specs.Cells.{Cells}
+use Rattle.shogi_board.specs.Moved.{board_after_walk, board_after_drop, bag_after_walk, bag_after_drop, next_position}
 use Rattle.shogi_board.specs.Placed.{Placed}
-use Rattle.shogi_board.specs.Setup.{one_less}
-use Rattle.shogi_board.specs.Squares.{place}
 use Rattle.shogi_rules.specs.declared.moves.Move.{Move}
 use Rattle.shogi_rules.specs.declared.moves.Move.TheVariants.{Walk, Put}
 pub use Rattle.shogi_board.specs.Moved.{with_captured}
 
 -- the piece leaves its square and stands on the other, of the kind that the move names
 abbrev pub board_after : Placed → Move → Cells
-board_after p (Walk from to kind) =
-    slice_set (slice_set p.material.board (place from) None) (place to) (piece p.side kind)
-board_after p (Put to kind) = slice_set p.material.board (place to) (piece p.side kind)
+board_after p (Walk from to kind) = board_after_walk p from to kind
+board_after p (Put to kind) = board_after_drop p to kind
 
 -- the mover's bag
 abbrev pub bag_after : Placed → Move → List ℕ
-bag_after p (Walk from to _) = with_captured (bag_of p.material p.side) (at p.material.board to)
-bag_after p (Put to kind) = one_less (bag_of p.material p.side) kind
+bag_after p (Walk from to _) = bag_after_walk p to
+bag_after p (Put to kind) = bag_after_drop p kind
 
 -- the other side is to move
 abbrev pub after : Placed → Move → Placed
-after p m = record {
-  material = record (with_bag p.material p.side (bag_after p m)) { board = board_after p m };
-  side = opponent p.side;
-}
+after p m = next_position p (board_after p m) (bag_after p m)

@@ -3,7 +3,7 @@ use Rattle.std.specs.Prelude.{ℕ, ◌-◌, ◌≤◌}
 use Rattle.shogi_board.specs.declared.color.Color.{Color}
 use Rattle.shogi_board.specs.declared.color.Color.TheVariants.{Black, White}
 use Rattle.shogi_board.specs.declared.kind.Kind.{Kind}
-use Rattle.shogi_board.specs.declared.kind.Kind.TheVariants.{Pawn, Lance, Knight}
+use Rattle.shogi_board.specs.declared.kind.Kind.TheVariants.{Pawn, Lance, Knight, Silver, Gold, Bishop, Rook, King, ProPawn, ProLance, ProKnight, ProSilver, Horse, Dragon}
 use Rattle.shogi_board.specs.declared.square.Square.{Square}
 use Rattle.shogi_board.specs.Squares.{rank_of}
 pub use Rattle.shogi_board.specs.Pieces.{promoted, unpromoted}
@@ -22,4 +22,14 @@ abbrev pub last_rank : Kind → ℕ
 last_rank Pawn = 2
 last_rank Lance = 2
 last_rank Knight = 3
-last_rank _ = 1
+last_rank Silver = 1
+last_rank Gold = 1
+last_rank Bishop = 1
+last_rank Rook = 1
+last_rank King = 1
+last_rank ProPawn = 1
+last_rank ProLance = 1
+last_rank ProKnight = 1
+last_rank ProSilver = 1
+last_rank Horse = 1
+last_rank Dragon = 1

@@ -30,7 +30,8 @@ now_of line = position_after line.start line.moves
 abbrev pub all_of : Played → List Placed
 all_of line = positions_of line.start line.moves
 
--- each move is legal after those before it, and nothing is played where a position stands for the fourth time
+-- the move is legal in the position that those before it lead to, and that position, the last so far (law now_stands_last), does
+-- not stand for the fourth time
 pub record MayFollow (start : Placed) (before : List Move) (m : Move) : Type 0 where
   pub legal : Legal (position_after start before) m
   pub not_over : Over (positions_of start before) (position_after start before) → ⊥

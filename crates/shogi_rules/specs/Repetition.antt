@@ -9,7 +9,7 @@ use Rattle.shogi_board.specs.Same.{same_position}
 abbrev pub times : List Placed → Placed → ℕ
 times ps p = count_by (λ q. same_position q p) ps
 
--- it stands for the fourth time
+-- it stands for the fourth time; callers take p as the last of ps, where a line's last position stands (law now_stands_last)
 abbrev pub Over : List Placed → Placed → Type 0
 Over ps p = 4 ≤ times ps p
 

@@ -22,9 +22,13 @@ Kept ps p color m DoubledPawn = LonePawn p m
 Kept ps p color m LeavesKing = KingSafe p m
 Kept ps p color m PawnDropMate = NoDropMate p m
 
--- the side to move keeps a rule where the position stands for the first time
+-- a side's move keeps a rule where the position stands for the first time
+abbrev pub KeptAt : Placed → Color → Move → Rule → Type 0
+KeptAt p color m = Kept (p ∷ []) p color m
+
+-- the side to move keeps a rule there
 abbrev pub KeptAlone : Placed → Move → Rule → Type 0
-KeptAlone p m = Kept (p ∷ []) p p.side m
+KeptAlone p m = KeptAt p p.side m
 
 -- the rules that a look at the board before the move decides
 abbrev pub board_rules : List Rule

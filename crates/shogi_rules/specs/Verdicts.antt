@@ -18,13 +18,15 @@ abbrev pub PressedAlone : List Placed → ℕ → ℕ → Color → Type 0
 PressedAlone ps first fourth color =
     Pressed ps first fourth color × (Pressed ps first fourth (opponent color) → ⊥)
 
--- the stretch from the first to the fourth place, and whether a side alone pressed in it
+-- that side alone pressed between the first and the fourth place of p, which callers take as the last of ps, where a line's last
+-- position stands (law now_stands_last)
 pub record IsPerpetual (ps : List Placed) (p : Placed) (color : Color) : Type 0 where
   pub first : ℕ
   pub fourth : ℕ
   pub stretch : IsStretch ps p first fourth
   pub alone : PressedAlone ps first fourth color
 
+-- neither side alone pressed there; p is taken as in IsPerpetual
 pub record IsRepetition (ps : List Placed) (p : Placed) : Type 0 where
   pub first : ℕ
   pub fourth : ℕ
@@ -39,7 +41,7 @@ StandsByMoves p NoMove = (InCheck p.material.board p.side → ⊥) × NoLegalMov
 StandsByMoves p Repetition = ⊥
 StandsByMoves p (Perpetual color) = ⊥
 
--- by who pressed, where the position stands for the fourth time
+-- by who pressed, where the position stands for the fourth time; p is taken as in IsPerpetual
 abbrev pub StandsByStretch : List Placed → Placed → Verdict → Type 0
 StandsByStretch ps p Ongoing = ⊥
 StandsByStretch ps p Mate = ⊥
@@ -47,7 +49,7 @@ StandsByStretch ps p NoMove = ⊥
 StandsByStretch ps p Repetition = IsRepetition ps p
 StandsByStretch ps p (Perpetual color) = IsPerpetual ps p color
 
--- of the positions of a line, and the last of them
+-- of the positions of a line, and the last of them, p
 abbrev pub Stands : List Placed → Placed → Verdict → Type 0
 Stands ps p verdict =
     (Over ps p × StandsByStretch ps p verdict) ⊎ ((Over ps p → ⊥) × StandsByMoves p verdict)

@@ -22,10 +22,10 @@ pub(crate) fn is_mated(position: &Position) -> bool
     let Some(king) = position.king(side) else {
         return false;
     };
-    match attacker(position, side, king) {
-        Some(checker) => !has_evasion(position, king, checker),
-        None => false,
-    }
+    let Some(checker) = attacker(position, side, king) else {
+        return false;
+    };
+    !has_evasion(position, king, checker)
 }
 
 // Whether a move keeps the rules 3 to 10, where the king of the side to move is attacked from the other square.
@@ -122,8 +122,6 @@ fn keeps_walk(position: &Position, from: Square, to: Square) -> bool
     ) {
         return true;
     }
-    match was.promoted() {
-        Some(kind) => keeps(position, &Move::Walk { from, to, kind }),
-        None => false,
-    }
+    was.promoted()
+        .is_some_and(|kind| keeps(position, &Move::Walk { from, to, kind }))
 }

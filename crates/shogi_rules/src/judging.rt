@@ -3,7 +3,7 @@ ghost use Rattle.shogi_board.specs.Reach.{InCheck};
 ghost use Rattle.shogi_rules.specs.declared.rule.Rule.TheVariants.{RepetitionOver};
 ghost use Rattle.shogi_rules.specs.After.{after};
 ghost use Rattle.shogi_rules.specs.Legal.{IsPawnDrop, Legal, Mated};
-ghost use Rattle.shogi_rules.specs.Rules.{Kept, KeptAlone, move_rules, all_rules, IsFirstBroken};
+ghost use Rattle.shogi_rules.specs.Rules.{KeptAt, KeptAlone, move_rules, all_rules, IsFirstBroken};
 
 use crate::evasions::is_mated;
 use crate::moves::Move;
@@ -19,15 +19,10 @@ pub(crate) fn make_by_side(position: &mut Position, safe: bool, mv: &Move) -> Op
     ensures broken { IsFirstBroken (KeptAlone position.old mv.now) move_rules result }
     ensures value { result ≡ None → position.new ≡ after position.old mv.now }
 {
-    match make_if_kept(position, safe, mv) {
-        Some(rule) => Some(rule),
-        None => {
-            if is_pawn_drop(mv) && is_mated(position) {
-                return Some(Rule::PawnDropMate);
-            }
-            None
-        }
+    if let Some(rule) = make_if_kept(position, safe, mv) {
+        return Some(rule);
     }
+    (is_pawn_drop(mv) && is_mated(position)).then_some(Rule::PawnDropMate)
 }
 
 // Whether the move that led to the position is a pawn put down that mates, where it is known whether the side to move is in
@@ -52,7 +47,7 @@ fn broken_by_side(position: &Position, mv: &Move) -> Option<Rule>
 ///
 /// The position is taken to stand for the first time, so it never answers RepetitionOver.
 pub fn judge(position: &Position, mover: Color, mv: &Move) -> Option<Rule>
-    ensures first { IsFirstBroken (Kept (position.now ∷ []) position.now mover mv.now) all_rules result }
+    ensures first { IsFirstBroken (KeptAt position.now mover mv.now) all_rules result }
     ensures once { result ≡ Some RepetitionOver → ⊥ }
     ensures legal { (result ≡ None) ↔ ((mover ≡ position.now.side) × Legal position.now mv.now) }
 {

@@ -177,20 +177,14 @@ impl Line {
             return Some(fault);
         }
         let mut next = self.last;
-        match make_by_side(&mut next, self.is_safe(), mv) {
-            Some(rule) => Some(PlayFault::Broken(rule)),
-            None => None,
-        }
+        make_by_side(&mut next, self.is_safe(), mv).map(PlayFault::Broken)
     }
 
     // What `play` refuses where there is no room for the move.
     fn fault_without_room(&self, mover: Color, mv: &Move) -> PlayFault
         ensures { ((result ≡ OutOfMemory) × Answers self.now mover mv.now None) ⊎ Answers self.now mover mv.now (Some result) }
     {
-        match self.fault(mover, mv) {
-            Some(fault) => fault,
-            None => PlayFault::OutOfMemory,
-        }
+        self.fault(mover, mv).unwrap_or(PlayFault::OutOfMemory)
     }
 
     /// Plays the move of that side.

@@ -54,7 +54,7 @@ fn make_if_safe(position: &mut Position, safe: bool, mv: &Move) -> bool
 ///
 /// The move keeps the rules 3 to 10, as each does for which `judge` answers None to the side to move.
 pub fn after(position: &Position, mv: &Move) -> Position
-    requires { Keeps position.now mv.now }
+    requires kept { Keeps position.now mv.now }
     ensures value { result ≡ after position.now mv.now }
 {
     after_if_kept(position, mv).unwrap()
@@ -117,10 +117,9 @@ pub fn in_check(position: &Position) -> bool
     ensures check { IsTrue result ↔ InCheck position.now.material.board position.now.side }
 {
     let side = position.side();
-    match position.king(side) {
-        Some(king) => attacked(position, side, king),
-        None => false,
-    }
+    position
+        .king(side)
+        .is_some_and(|king| attacked(position, side, king))
 }
 
 // Whether the side to move is in check in the position after a move that fits the board of the one before. If its king is

@@ -67,9 +67,7 @@ fn first_form(position: &Position, from: Square, to: Square) -> Option<Move>
         (NoneOf position.now (IsWalkBetween from to))
         (λ m. IsFirstOf position.now (IsWalkBetween from to) m) }
 {
-    let Some(was) = own_kind_at(position, from) else {
-        return None;
-    };
+    let was = own_kind_at(position, from)?;
     if !reaches(position, from, to) {
         return None;
     }
@@ -83,10 +81,8 @@ fn first_form(position: &Position, from: Square, to: Square) -> Option<Move>
     ) {
         return Some(mv);
     }
-    match was.promoted() {
-        Some(kind) => if_legal(position, Move::Walk { from, to, kind }),
-        None => None,
-    }
+    let kind = was.promoted()?;
+    if_legal(position, Move::Walk { from, to, kind })
 }
 
 // The first legal walk from the square.
@@ -150,8 +146,5 @@ fn first_drop(position: &Position) -> Option<Move>
 pub fn first_legal(position: &Position) -> Option<Move>
     ensures first { MatchOption result (NoLegalMove position.now) (λ m. IsFirstLegal position.now m) }
 {
-    match first_walk(position) {
-        Some(mv) => Some(mv),
-        None => first_drop(position),
-    }
+    first_walk(position).or_else(|| first_drop(position))
 }

@@ -6,7 +6,7 @@ use Rattle.std.proofs.lemmas.List.{append-nil}
 use Rattle.csa_record.specs.Game.{Game}
 use Rattle.csa_record.specs.Reading.{Reading, HasRead}
 use Rattle.csa_record.specs.Tells.{Tells}
-use Rattle.csa_text.specs.Spelling.{Saying}
+use Rattle.csa_text.specs.Saying.{Saying}
 use Rattle.session_lines.specs.Texts.{ended_line}
 use Rattle.session_table.proofs.PositionFits.{FitsIn}
 use Rattle.session_table.specs.Summary.{TellsPosition}

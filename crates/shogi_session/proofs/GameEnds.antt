@@ -4,7 +4,7 @@ use Rattle.std.specs.List.{AllZip}
 use Rattle.shogi_board.specs.declared.color.Color.{Color}
 use Rattle.shogi_rules.specs.declared.moves.Move.{Move}
 use Rattle.csa_cutting.specs.Cut.{TextUnit}
-use Rattle.csa_text.specs.Spelling.{Saying, ending, walked}
+use Rattle.csa_text.specs.Saying.{Saying, ending, walked}
 use Rattle.record_game.proofs.Fits.{time_fits}
 use Rattle.record_game.specs.declared.fault.Why.{Why}
 use Rattle.csa_record.specs.Building.{course_of, with_course}

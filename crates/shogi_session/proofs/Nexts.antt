@@ -4,8 +4,8 @@ use Rattle.csa_cutting.proofs.Fronts.{length_between}
 use Rattle.csa_cutting.proofs.Runs.{found}
 use Rattle.csa_cutting.specs.Cut.{TextUnit, Statements}
 use Rattle.csa_cutting.specs.Cutting.{Cutting, ToCome, IsHandedOut, unit_between}
-use Rattle.csa_text.specs.Saying.{saying_of}
-use Rattle.csa_text.specs.Spelling.{Saying, time, Spells, fault_of_row}
+use Rattle.csa_text.specs.Saying.{Saying, time, saying_of}
+use Rattle.csa_text.specs.Spelling.{Spells, fault_of_row}
 use Rattle.csa_text.specs.declared.fault.TextFault.{TextFault}
 use Rattle.csa_text.specs.declared.fault.TextFault.TheVariants.{Unknown}
 use Rattle.csa_text.specs.declared.item.Item.{Item}

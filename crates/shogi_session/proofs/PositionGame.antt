@@ -11,7 +11,7 @@ use Rattle.csa_record.specs.Says.{Says}
 use Rattle.csa_record.specs.Tells.{IsSpelt, Tells}
 use Rattle.record_game.specs.declared.fault.Why.{Why}
 use Rattle.csa_cutting.proofs.Once.{statements_once}
-use Rattle.csa_text.specs.Spelling.{Saying, version, name, header, even, rank, pieces, turn, walked, time, ending}
+use Rattle.csa_text.specs.Saying.{Saying, version, name, header, even, rank, pieces, turn, walked, time, ending}
 use Rattle.shogi_board.specs.declared.color.Color.{Color}
 use Rattle.shogi_board.specs.declared.color.Color.TheVariants.{Black, White}
 use Rattle.session_table.proofs.PositionFits.{FitsIn, not_so}

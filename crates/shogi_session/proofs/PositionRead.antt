@@ -4,7 +4,8 @@ use Rattle.std.specs.List.{AllByRecursion, AllZip}
 use Rattle.csa_cutting.proofs.Once.{statements_once}
 use Rattle.csa_cutting.specs.Cut.{TextUnit, IsCut}
 use Rattle.csa_cutting.specs.Cutting.{Cutting, ToCome, IsTooLong}
-use Rattle.csa_text.specs.Spelling.{Saying, Spells}
+use Rattle.csa_text.specs.Saying.{Saying}
+use Rattle.csa_text.specs.Spelling.{Spells}
 use Rattle.csa_record.specs.Tells.{IsSpelt}
 use Rattle.shogi_session.proofs.Nexts.{Handed, unit_of, handed_steps, handed_first, handed_spelt}
 use Rattle.session_lines.proofs.OneStatement.{AtStart, whole}

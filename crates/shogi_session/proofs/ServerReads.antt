@@ -7,7 +7,7 @@ use Rattle.csa_cutting.proofs.Once.{statements_once}
 use Rattle.csa_text.proofs.Sayings.{same_saying}
 use Rattle.csa_cutting.specs.Cut.{TextUnit, IsCut, Units, IsGap, is_separator, IsUnit, is_statement, begins_with, statement_bytes}
 use Rattle.csa_cutting.specs.Cutting.{Cutting, ToCome}
-use Rattle.csa_text.specs.Spelling.{Saying, walked, time, ending}
+use Rattle.csa_text.specs.Saying.{Saying, walked, time, ending}
 use Rattle.csa_text.specs.declared.fault.TextFault.{TextFault}
 use Rattle.csa_record.specs.Game.{Ended}
 use Rattle.csa_record.specs.Says.{time_items}

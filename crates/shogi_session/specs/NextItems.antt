@@ -2,8 +2,8 @@
 use Rattle.std.specs.Prelude.{◌≡◌, ◌<◌, ◌≤◌, ℕ, List, [], ◌∷◌, length, Option, Some, None, Result, Ok, Err, ◌⊎◌}
 use Rattle.csa_cutting.specs.Cut.{TextUnit, statement_bytes, longest_statement}
 use Rattle.csa_cutting.specs.Cutting.{Cutting, ToCome}
-use Rattle.csa_text.specs.Saying.{saying_of}
-use Rattle.csa_text.specs.Spelling.{Saying, time, ending, Spells, fault_of_row}
+use Rattle.csa_text.specs.Saying.{Saying, time, ending, saying_of}
+use Rattle.csa_text.specs.Spelling.{Spells, fault_of_row}
 use Rattle.csa_text.specs.declared.ending.Ending.{Ending}
 use Rattle.csa_text.specs.declared.fault.TextFault.{TextFault}
 use Rattle.csa_text.specs.declared.fault.TextFault.TheVariants.{StatementTooLong}

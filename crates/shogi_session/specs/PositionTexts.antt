@@ -2,7 +2,8 @@
 use Rattle.std.specs.Prelude.{◌≡◌, ◌⊎◌, ◌++◌, ℕ, Bool, true, false, List, [], ◌∷◌, Option, Some, None}
 use Rattle.std.specs.List.{AllByRecursion, AllZip}
 use Rattle.csa_cutting.specs.Cut.{TextUnit, IsCut}
-use Rattle.csa_text.specs.Spelling.{Saying, Spells}
+use Rattle.csa_text.specs.Saying.{Saying}
+use Rattle.csa_text.specs.Spelling.{Spells}
 use Rattle.csa_record.specs.Game.{Game}
 use Rattle.csa_record.specs.Reading.{Reading, HasRead}
 use Rattle.csa_record.specs.Tells.{IsSpelt, Tells}

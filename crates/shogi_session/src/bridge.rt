@@ -51,7 +51,7 @@ impl Model for Bridge {
 impl Bridge {
     /// A bridge to which nothing has happened. It takes no memory, and answers Ok.
     pub fn new(alloc: Global, config: &Config) -> Result<Bridge, OutOfMemory>
-        requires { IsConfig config.now }
+        requires config { IsConfig config.now }
         ensures made { IsOk result }
         ensures config { IfOk result (λ b. b.config ≡ config.now) }
         ensures state { IfOk result (λ b. b.state ≡ first_state) }
@@ -73,7 +73,7 @@ impl Bridge {
     /// Refuses OutOfMemory, and is Lost then: both states stay as they were, and no event gives a line.
     /// Once the session is over it answers Ok.
     pub fn step(&mut self, event: Event<'_>) -> Result<Out, OutOfMemory>
-        requires { HoldsLine (event_of event) }
+        requires line { HoldsLine (event_of event) }
         ensures row { IfOk result (λ answered. (out : Told) × StepRow self.old (event_of event.entry) out self.new) }
         ensures to_engine { IfOk result (λ answered. (out : Told) → StepRow self.old (event_of event.entry) out self.new → answered.to_engine ≡ text_of out.to_engine) }
         ensures to_server { IfOk result (λ answered. (out : Told) → StepRow self.old (event_of event.entry) out self.new → answered.to_server ≡ text_of out.to_server) }
@@ -108,7 +108,7 @@ impl Bridge {
 
     /// Whose line it waits for.
     pub fn waits_for(&self) -> Waits
-        ensures { result ≡ waits_for self.now.state }
+        ensures value { result ≡ waits_for self.now.state }
     {
         if self.status != Status::Going {
             return Waits::Nobody;
@@ -129,14 +129,14 @@ impl Bridge {
 
     /// How it stands with its engine.
     pub fn engine_state(&self) -> EngineState
-        ensures { result ≡ self.now.state.engine }
+        ensures value { result ≡ self.now.state.engine }
     {
         self.engine
     }
 
     /// How it stands with its server.
     pub fn client_state(&self) -> ClientState
-        ensures { result ≡ client_state self.now.state.client }
+        ensures value { result ≡ client_state self.now.state.client }
     {
         match &self.phase {
             Phase::Idle => ClientState::Idle,
@@ -150,7 +150,7 @@ impl Bridge {
     /// Whether an answer of the engine in the game was no legal move, so that `%TORYO` was sent. It
     /// stays so.
     pub fn slip(&self) -> bool
-        ensures { result ≡ slip_of self.now.state.client }
+        ensures value { result ≡ slip_of self.now.state.client }
     {
         match &self.phase {
             Phase::InGame(play) => play.slip,

@@ -1,4 +1,5 @@
 ghost use Rattle.std.specs.Prelude.{◌≡◌, ◌↔◌, ◌≤◌, if◌then◌else◌, ℕ, true, Option, None, Some, is_some, [], ◌∷◌, map, IsTrue, IfOk, IfSome, OnOk, OnErr, MatchResult};
+ghost use Rattle.csa_record.specs.Limits.{longest_time};
 ghost use Rattle.csa_record.specs.Game.{Game, move_of};
 ghost use Rattle.shogi_rules.specs.Play.{Answers};
 ghost use Rattle.session_table.specs.declared.config.Config.{Config};
@@ -85,7 +86,7 @@ fn keep_ending(play: &mut Play, line: &[u8])
 // Gives the game, which has no ending, that one.
 fn end_with(play: &mut Play, ending: Ending, time: Option<u64>)
     requires none { play.old.game.ending ≡ None }
-    requires time { IfSome time (λ t. t ≤ 4294967295999) }
+    requires time { IfSome time (λ t. t ≤ longest_time) }
     ensures { play.new ≡ record play.old { game = record play.old.game { ending = Some (record { ending = ending; time = time }) } } }
 {
     let _ = play.game.close(ending);
@@ -191,7 +192,7 @@ fn confirm(
 ) -> Result<Out, OutOfMemory>
     requires none { play.old.game.ending ≡ None }
     requires may { Answers (line_of (match_in play.old)) color mv None }
-    requires time { IfSome time (λ t. t ≤ 4294967295999) }
+    requires time { IfSome time (λ t. t ≤ longest_time) }
     ensures { Confirms config.now engine.old play.old (record { move = mv; time = time }) result engine.new play.new }
 {
     play_move(&mut play.game, color, mv, time)?;
@@ -216,7 +217,7 @@ fn play_move(
 ) -> Result<(), OutOfMemory>
     requires none { game.old.ending ≡ None }
     requires may { Answers (record { start = game.old.start; moves = map move_of game.old.moves }) color mv None }
-    requires time { IfSome time (λ t. t ≤ 4294967295999) }
+    requires time { IfSome time (λ t. t ≤ longest_time) }
     ensures ok { OnOk result (game.new ≡ game_with game.old (record { move = mv; time = time } ∷ [])) }
     ensures err { OnErr result (game.new ≡ game.old) }
 {

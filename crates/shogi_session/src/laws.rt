@@ -31,7 +31,7 @@ pub use session_table::laws::{
 /// of those that a host wrote, with any other events between, the lines of play from `+` or `-` are
 /// the first of those that the host wrote behind `START:`.
 pub fn both_ends()
-    ensures { (c : Config) (log : List Step) (s : State) (host : HostConfig) (wrote : List HostStep) (t : HostState)
+    ensures ends { (c : Config) (log : List Step) (s : State) (host : HostConfig) (wrote : List HostStep) (t : HostState)
         → Leads c log s → HostLeads host wrote t → IsPrefix (server_lines log) (written wrote)
         → (taken rest : List (List ℕ)) → Taken log taken rest → IsPrefix (filter is_move_line taken) (written_moves wrote) }
 {}

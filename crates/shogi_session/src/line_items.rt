@@ -1,8 +1,7 @@
 ghost use Rattle.std.specs.Prelude.{◌≡◌, ℕ, [], ◌∷◌, List, MatchOption, MatchResult};
 ghost use Rattle.csa_cutting.specs.Cut.{TextUnit};
 ghost use Rattle.csa_cutting.specs.Cutting.{ToCome};
-ghost use Rattle.csa_text.specs.Saying.{saying_of};
-ghost use Rattle.csa_text.specs.Spelling.{time, walked};
+ghost use Rattle.csa_text.specs.Saying.{time, walked, saying_of};
 ghost use Rattle.csa_record.specs.Tells.{IsSpelt};
 ghost use Rattle.shogi_session.specs.NextItems.{EndFault, FaultAt, LastTime, StepsOver, Next};
 ghost use Rattle.session_lines.specs.ServerLines.{IsMove};

@@ -1,8 +1,7 @@
 ghost use Rattle.std.specs.Prelude.{◌≡◌, ◌⊎◌, [], true, Some, None, MatchOption, MatchResult};
 ghost use Rattle.csa_cutting.specs.Cut.{TextUnit};
 ghost use Rattle.csa_cutting.specs.Cutting.{ToCome};
-ghost use Rattle.csa_text.specs.Saying.{saying_of};
-ghost use Rattle.csa_text.specs.Spelling.{ending};
+ghost use Rattle.csa_text.specs.Saying.{ending, saying_of};
 ghost use Rattle.csa_text.specs.declared.ending.Ending.{Ending};
 ghost use Rattle.csa_record.specs.Game.{Ended};
 ghost use Rattle.csa_record.specs.Tells.{IsSpelt};

@@ -6,6 +6,7 @@ ghost use Rattle.shogi_session.specs.Promises.{HoldsLine, event_of};
 
 use arrayvec::ArrayString;
 use shogi_board::{Color, OutOfMemory};
+use shogi_rules::MAX_MOVES;
 use shogi_session::{Bridge, Config, Event, Host, HostConfig, Out, Sample, Status};
 use std::alloc::Global;
 use std::process::Abort;
@@ -13,7 +14,7 @@ use std::test::Fail;
 
 // A host of the game `local`, which plays as `host`.
 fn host(alloc: Global, client: Color, max_moves: u32) -> Result<Host, Fail> {
-    if !(1..=10000).contains(&max_moves) {
+    if !(1..=MAX_MOVES as u32).contains(&max_moves) {
         return Err(Fail::from("a host's game has 1 to 10,000 moves"));
     }
     let config = HostConfig {

@@ -13,7 +13,7 @@ use std::alloc::{AllocError, Global};
 
 /// The program's whole command line.
 pub fn all<'a>(alloc: Global) -> Result<Command<'a>, AllocError>
-    ensures { IfOk result (λ c. subcommand_names c ≡ commands) }
+    ensures names { IfOk result (λ c. subcommand_names c ≡ commands) }
 {
     program(alloc)
         .subcommand(records::check(alloc)?)?

@@ -31,7 +31,7 @@ pub fn command<'a>(
 
 /// FILE, where the words have it.
 pub fn file<'a>(matches: &ArgMatches<'a>) -> Option<&'a str>
-    ensures { option_map (λ s. s.now) result ≡ first_value (found_of matches.now) (codes "FILE") }
+    ensures value { option_map (λ s. s.now) result ≡ first_value (found_of matches.now) (codes "FILE") }
 {
     matches.get_str("FILE")
 }

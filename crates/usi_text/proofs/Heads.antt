@@ -1,8 +1,7 @@
 -- The first two words of a position line.
-use Rattle.std.proofs.Common.{◌≡◌, ◌≢◌, ℕ, ◌<◌, inl, List, [], ◌∷◌, ◌++◌, length, drop, arith, sym, ap, ◌∙◌, subst, codes}
+use Rattle.std.proofs.Common.{◌≡◌, ◌≢◌, ℕ, ◌<◌, List, [], ◌∷◌, ◌++◌, length, drop, arith, sym, ap, ◌∙◌, subst, codes}
 use Rattle.std.specs.List.{AllByRecursion}
-use Rattle.shogi_board.specs.Placed.{Placed, even_start}
-use Rattle.usi_text.specs.Lines.{HasMoves, EvenLine, SfenLine, Starts}
+use Rattle.usi_text.specs.Lines.{HasMoves, EvenLine, SfenLine}
 use Rattle.usi_text.specs.Words.{nth_word}
 use Rattle.usi_text.specs.Scanning.{Split}
 
@@ -21,9 +20,6 @@ head_is ws r1 r2 first second p x a b c d e f h k =
     let one : ws ≡ first ∷ r1 = cut_first ws first r1 (full_list ws first a (omega (arith, l))) a b in
     let two : r1 ≡ second ∷ r2 = cut_first r1 second r2 (full_list r1 second c (omega (arith, m))) c d in
     one ∙ (ap (λ z. first ∷ z) two ∙ (ap (λ z. z ∷ second ∷ r2) e ∙ ap (λ z. p ∷ z ∷ r2) f))
-
-pub even_started : (ws tail moves : List (List ℕ)) (start : Placed) → ws ≡ codes "position" ∷ codes "startpos" ∷ tail → HasMoves tail moves → start ≡ even_start → Starts ws start moves
-even_started ws tail moves start e h s = inl ((tail, e, h), s)
 
 pub same_tail : (ws a b : List (List ℕ)) (p x : List ℕ) → ws ≡ p ∷ x ∷ a → ws ≡ p ∷ x ∷ b → a ≡ b
 same_tail ws a b p x e f = let g : p ∷ x ∷ a ≡ p ∷ x ∷ b = sym e ∙ f in cc
@@ -64,15 +60,3 @@ sfen_line ws all front moves e split some = record {
   before = split.2;
   behind = split.3;
 }
-
-pub moves_told : (ws behind : List (List ℕ)) → ws ≡ [] → behind ≡ drop 1 ws → HasMoves ws behind
-moves_told [] behind none e = e
-moves_told (w ∷ ws) behind none e = cc
-
-pub moves_first : (ws behind : List (List ℕ)) (w : List ℕ) → w ≡ nth_word ws 0 → behind ≡ drop 1 ws → w ≡ codes "moves" → HasMoves ws behind
-moves_first [] behind w e d m = d
-moves_first (v ∷ vs) behind w e d m = (sym e ∙ m, d)
-
-pub moves_refused : (ws moves : List (List ℕ)) (w : List ℕ) → 0 < length ws → w ≡ nth_word ws 0 → (w ≡ codes "moves" → ⊥) → HasMoves ws moves → ⊥
-moves_refused [] moves w some e other h = omega arith
-moves_refused (v ∷ vs) moves w some e other h = other (e ∙ h.0)

@@ -75,7 +75,7 @@ broken_once kept (r ∷ rs) a b (inl h) (inr k) = absurd (h.0 k.0)
 broken_once kept (r ∷ rs) a b (inr h) (inl k) = absurd (k.0 h.0)
 broken_once kept (r ∷ rs) a b (inr h) (inr k) = broken_once kept rs a b h.1 k.1
 
-abbrev Breaking : Placed → List Move → Move → Option Rule → Type 0
+abbrev pub Breaking : Placed → List Move → Move → Option Rule → Type 0
 Breaking start before m rule = Breaks (line_of start before) (position_now start before).side m rule
 
 breaks_once : (start : Placed) (before : List Move) (m : Move) (a b : Option Rule) → Breaking start before m a → Breaking start before m b → a ≡ b

@@ -1,18 +1,23 @@
 -- Words played as moves, one after another.
-use Rattle.std.proofs.Common.{◌≡◌, ℕ, ◌<◌, ◌⊎◌, inl, inr, List, [], ◌∷◌, ◌++◌, Some, None, Result, Ok, Err, length, drop, arith, refl, sym, ap, ◌∙◌, subst}
-use Rattle.std.specs.Prelude.{MatchResult}
+use Rattle.std.proofs.Common.{◌≡◌, ℕ, ◌⊎◌, ◌+◌, inl, inr, List, [], ◌∷◌, ◌++◌, Some, None, Result, Ok, Err, length, refl, sym, subst}
+use Rattle.std.specs.Prelude.{MatchResult, OnOk}
+use Rattle.std.specs.Result.{IsErrAnd}
 use Rattle.shogi_board.specs.declared.color.Color.{Color}
 use Rattle.shogi_board.specs.Placed.{Placed}
 use Rattle.shogi_rules.specs.Play.{Answers}
-use Rattle.shogi_rules.specs.Positions.{Played}
+use Rattle.shogi_rules.specs.Positions.{Played, now_of}
+use Rattle.shogi_rules.specs.declared.line.PlayFault.{PlayFault}
 use Rattle.shogi_rules.specs.declared.line.PlayFault.TheVariants as play
 use Rattle.shogi_rules.specs.declared.moves.Move.{Move}
 use Rattle.shogi_rules.specs.declared.rule.Rule.{Rule}
+use Rattle.usi_text.specs.declared.fault.SfenFault.{SfenFault}
 use Rattle.usi_text.specs.declared.fault.UsiFault.{UsiFault}
 use Rattle.usi_text.specs.declared.fault.UsiFault.TheVariants.{BadLine, BadMoveText, Broken, TooManyMoves, OutOfMemory}
 use Rattle.usi_text.specs.declared.fault.UsiFault.TheVariants as usi
-use Rattle.usi_text.specs.Lines.{IsPlayed, WordFault, Plays, PlayedFault, StartedFault, LineFault, UsiLine, Starts}
-use Rattle.usi_text.specs.Words.{nth_word}
+use Rattle.usi_text.specs.Lines.{Judged, IsPlayed, WordFault, Plays, PlayedFault, StartedFault, LineFault, UsiLine, SfenLine, Starts, line_of, position_now}
+use Rattle.usi_text.specs.Moves.{UsiMove}
+use Rattle.usi_text.specs.Sfen.{Sfen, FirstFault}
+use Rattle.usi_text.specs.Scanning.{word_fault}
 
 pub broken_told : (line : Played) (c : Color) (m : Move) (rule : Rule) → ((play.Broken rule ≡ play.OutOfMemory) × Answers line c m None) ⊎ Answers line c m (Some (play.Broken rule)) → Answers line c m (Some (play.Broken rule))
 broken_told line c m rule (inl h) = let e = h.0 in cc
@@ -21,6 +26,33 @@ broken_told line c m rule (inr h) = h
 pub memory_told : (line : Played) (c : Color) (m : Move) → ((play.OutOfMemory ≡ play.OutOfMemory) × Answers line c m None) ⊎ Answers line c m (Some play.OutOfMemory) → Answers line c m None
 memory_told line c m (inl h) = h.1
 memory_told line c m (inr h) = absurd h
+
+-- the fault of a word for which play refused its move
+fault_told : (start : Placed) (before : List Move) (w : List ℕ) (m : Move) (n : ℕ) (fault : PlayFault)
+    → n ≡ length before + 1 → UsiMove (position_now start before) w m
+    → ((fault ≡ play.OutOfMemory) × Judged start before m None) ⊎ Judged start before m (Some fault) → WordFault start before w (word_fault n fault)
+fault_told start before w m n play.TooManyMoves size spelt (inl h) = let e = h.0 in cc
+fault_told start before w m n play.TooManyMoves size spelt (inr h) = h
+fault_told start before w m n (play.Broken rule) size spelt h =
+    (size, m, spelt, broken_told (line_of start before) (position_now start before).side m rule h)
+fault_told start before w m n play.OutOfMemory size spelt h =
+    (m, (spelt, memory_told (line_of start before) (position_now start before).side m h))
+
+-- what a word's move is answered, where each fault of its play is made the word's
+pub word_told : (line new : Played) (w : List ℕ) (m : Move) (c : Color) (n : ℕ) (played : Result (Unit {0}) PlayFault) (told : Result (Unit {0}) UsiFault) (P : PlayFault → UsiFault → Type 0)
+    → n ≡ length line.moves + 1 → UsiMove (now_of line) w m → c ≡ (now_of line).side
+    → MatchResult played (λ _. Answers line c m None) (λ fault. ((fault ≡ play.OutOfMemory) × Answers line c m None) ⊎ Answers line c m (Some fault))
+    → OnOk played (new ≡ record line { moves = line.moves ++ m ∷ [] })
+    → MatchResult played (λ x. told ≡ Ok x) (λ e. IsErrAnd told (P e))
+    → ((e : PlayFault) (f : UsiFault) → P e f → f ≡ word_fault n e)
+    → MatchResult told (λ _. (m : Move) × IsPlayed line.start line.moves w m × (new ≡ line_of line.start (line.moves ++ m ∷ []))) (λ f. WordFault line.start line.moves w f)
+word_told line new w m c n (Ok x) told P size spelt side answer now same turns =
+    rw same (m, (spelt, subst (λ (s : Color). Answers line s m None) side answer), now)
+word_told line new w m c n (Err e) (Err f) P size spelt side answer now turned turns =
+    rw (turns e f turned)
+    (fault_told line.start line.moves w m n e size spelt
+    (subst (λ (s : Color). ((e ≡ play.OutOfMemory) × Answers line s m None) ⊎ Answers line s m (Some e)) side answer))
+word_told line new w m c n (Err e) (Ok y) P size spelt side answer now turned turns = absurd turned
 
 -- what playing a rest answers is what playing the words answers
 pub record Playing (start : Placed) (words rest : List (List ℕ)) (moves : List Move) : Type 0 where
@@ -53,10 +85,9 @@ line_fault ws start words TooManyMoves s h = (start, words, s, h)
 line_fault ws start words (BadMoveText n) s h = (start, words, s, h)
 line_fault ws start words (Broken n rule) s h = (start, words, s, h)
 
--- a list with a first word is that word and the others
-pub with_first : (ws : List (List ℕ)) (w : List ℕ) (others : List (List ℕ)) → 0 < length ws → w ≡ nth_word ws 0 → others ≡ drop 1 ws → ws ≡ w ∷ others
-with_first [] w others some e d = absurd (omega arith)
-with_first (v ∷ vs) w others some e d = sym (ap (λ x. x ∷ others) e ∙ ap (λ x. v ∷ x) d)
+pub sfen_answered : (ws sfen moves : List (List ℕ)) (answer : Result Placed SfenFault) → SfenLine ws sfen moves → MatchResult answer (λ p. Sfen sfen p) (λ fault. FirstFault sfen fault) → MatchResult answer (λ p. Starts ws p moves) (λ fault. LineFault ws (usi.Sfen fault))
+sfen_answered ws sfen moves (Ok p) line h = inr (sfen, line, h)
+sfen_answered ws sfen moves (Err fault) line h = (sfen, moves, line, h)
 
 pub usi_line : (ws : List (List ℕ)) (start found : Placed) (words : List (List ℕ)) (moves : List Move) → Starts ws start words → found ≡ start → Plays start [] words (Ok moves) → UsiLine ws found moves
 usi_line ws start found words moves s same h =

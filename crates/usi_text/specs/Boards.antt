@@ -1,6 +1,7 @@
 -- What a board text spells: nine ranks, the farthest from black first, each from file 9 to file 1.
 use Rattle.std.specs.Prelude.{◌≡◌, ℕ, ◌+◌, ◌≤◌, ◌==◌, List, [], ◌∷◌, ◌++◌, Option, Some, None, length, replicate}
 use Rattle.std.specs.List.{AllByRecursion, flat_map, slice_split}
+use Prim.Native.Char.{code}
 use Rattle.shogi_board.specs.declared.kind.Piece.{Piece}
 use Rattle.usi_text.specs.declared.parts.Part.{Part}
 use Rattle.usi_text.specs.declared.parts.Part.TheVariants.{Empty, Stands}
@@ -8,7 +9,7 @@ use Rattle.usi_text.specs.Letters.{piece_text}
 
 -- a part of a rank is a digit, which counts empty squares, or a piece
 abbrev pub part_text : Part → List ℕ
-part_text (Empty n) = (48 + n) ∷ []
+part_text (Empty n) = (code "0" + n) ∷ []
 part_text (Stands p) = piece_text p
 
 abbrev pub part_cells : Part → List (Option Piece)
@@ -32,9 +33,9 @@ SpellsRanks (text ∷ texts) cells =
     (rank : List (Option Piece)) × (others : List (Option Piece)) × (cells ≡ rank ++ others)
     × SpellsCells text rank × (length rank ≡ 9) × SpellsRanks texts others
 
--- the parts of a text between slashes (47)
+-- the parts of a text between slashes
 abbrev pub ranks_of : List ℕ → List (List ℕ)
-ranks_of text = slice_split (λ b. b == 47) text
+ranks_of text = slice_split (λ b. b == code "/") text
 
 abbrev pub SpellsBoard : List ℕ → List (Option Piece) → Type 0
 SpellsBoard text cells = (length (ranks_of text) ≡ 9) × SpellsRanks (ranks_of text) cells

@@ -1,5 +1,5 @@
 -- How squares and kinds are spelt.
-use Rattle.std.specs.Prelude.{ℕ, ◌+◌, List, [], ◌∷◌, ◌++◌, codes, if◌then◌else◌}
+use Rattle.std.specs.Prelude.{ℕ, ◌+◌, ◌-◌, List, [], ◌∷◌, ◌++◌, codes, if◌then◌else◌}
 use Prim.Native.Char.{code}
 use Rattle.shogi_board.specs.declared.color.Color.{Color}
 use Rattle.shogi_board.specs.declared.color.Color.TheVariants.{Black, White}
@@ -10,9 +10,9 @@ use Rattle.shogi_board.specs.declared.square.Square.{Square}
 use Rattle.shogi_board.specs.Pieces.{is_promoted}
 use Rattle.shogi_board.specs.Squares.{file_of, rank_of}
 
--- the digit of the file, and the letter of the rank: a (97) for 1 to i for 9
+-- the digit of the file, and the letter of the rank: a for 1 to i for 9
 abbrev pub square_text : Square → List ℕ
-square_text s = (48 + file_of s) ∷ (96 + rank_of s) ∷ []
+square_text s = (code "0" + file_of s) ∷ (((code "a" - 1) + rank_of s)) ∷ []
 
 -- the capital letter's code; a promoted kind has that of its unpromoted one
 abbrev pub letter : Kind → ℕ
@@ -34,7 +34,7 @@ letter Dragon = code "R"
 -- a capital letter for black, a small one for white
 abbrev pub color_letter : Color → Kind → ℕ
 color_letter Black kind = letter kind
-color_letter White kind = letter kind + 32
+color_letter White kind = letter kind + (code "a" - code "A")
 
 abbrev pub side_letter : Piece → ℕ
 side_letter p = color_letter p.color p.kind

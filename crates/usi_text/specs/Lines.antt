@@ -60,7 +60,8 @@ WordFault start before w (BadMoveText n) =
 WordFault start before w (Broken n rule) =
     (n ≡ length before + 1) × (m : Move) × UsiMove (position_now start before) w m × Judged start before m (Some (play.Broken rule))
 WordFault start before w OutOfMemory = (m : Move) × IsPlayed start before w m
-WordFault start before w _ = ⊥
+WordFault start before w BadLine = ⊥
+WordFault start before w (usi.Sfen fault) = ⊥
 
 -- the words are played as moves, one after another behind those before, and this is the answer: all moves, or the fault
 -- of a word behind played ones
@@ -78,11 +79,18 @@ UsiLine ws start moves = (words : List (List ℕ)) × Starts ws start words × P
 abbrev pub PlayedFault : Placed → List (List ℕ) → UsiFault → Type 0
 PlayedFault start words BadLine = ⊥
 PlayedFault start words (usi.Sfen fault) = ⊥
-PlayedFault start words fault = Plays start [] words (Err fault)
+PlayedFault start words (BadMoveText n) = Plays start [] words (Err (BadMoveText n))
+PlayedFault start words (Broken n rule) = Plays start [] words (Err (Broken n rule))
+PlayedFault start words TooManyMoves = Plays start [] words (Err TooManyMoves)
+PlayedFault start words OutOfMemory = Plays start [] words (Err OutOfMemory)
 
 -- why the words behind the start are not all played; memory is wanting also where there is none
 abbrev pub StartedFault : Placed → List (List ℕ) → UsiFault → Type 0
 StartedFault start words fault = ((fault ≡ OutOfMemory) × (words ≡ [])) ⊎ PlayedFault start words fault
+
+-- why the words behind the start that the line gives are not all played
+abbrev pub MovesFault : List (List ℕ) → UsiFault → Type 0
+MovesFault ws fault = (start : Placed) × (words : List (List ℕ)) × Starts ws start words × StartedFault start words fault
 
 -- the first fault of a line
 abbrev pub LineFault : List (List ℕ) → UsiFault → Type 0
@@ -90,4 +98,7 @@ LineFault ws BadLine =
     ((moves : List (List ℕ)) → EvenLine ws moves → ⊥) × ((sfen moves : List (List ℕ)) → SfenLine ws sfen moves → ⊥)
 LineFault ws (usi.Sfen fault) =
     (sfen : List (List ℕ)) × (moves : List (List ℕ)) × SfenLine ws sfen moves × FirstFault sfen fault
-LineFault ws fault = (start : Placed) × (words : List (List ℕ)) × Starts ws start words × StartedFault start words fault
+LineFault ws (BadMoveText n) = MovesFault ws (BadMoveText n)
+LineFault ws (Broken n rule) = MovesFault ws (Broken n rule)
+LineFault ws TooManyMoves = MovesFault ws TooManyMoves
+LineFault ws OutOfMemory = MovesFault ws OutOfMemory

@@ -2,22 +2,41 @@
 use Rattle.std.specs.Prelude.{◌≡◌, ◌≢◌, ℕ, ◌+◌, ◌≤◌, ◌==◌, List, [], ◌∷◌, ◌++◌, Option, Some, None, codes, if◌then◌else◌}
 use Rattle.std.specs.List.{AllByRecursion}
 use Rattle.std.specs.Borrow.{Bor}
+use Prim.Native.Char.{code}
+use Rattle.shogi_rules.specs.declared.line.PlayFault.{PlayFault}
+use Rattle.shogi_rules.specs.declared.line.PlayFault.TheVariants as play
+use Rattle.usi_text.specs.declared.fault.UsiFault.{UsiFault}
+use Rattle.usi_text.specs.declared.fault.UsiFault.TheVariants as usi
+use Rattle.usi_text.specs.declared.line.GivenStart.{GivenStart}
+use Rattle.usi_text.specs.declared.line.GivenStart.TheVariants.{Even, Sfen}
 use Rattle.usi_text.specs.Boards.{ranks_of}
-use Rattle.usi_text.specs.Lines.{HasMoves}
+use Rattle.usi_text.specs.Lines.{HasMoves, EvenLine, SfenLine}
+use Rattle.usi_text.specs.Words.{words}
 
--- nothing, or a space (32) first
+-- nothing, or a space first
 abbrev pub EndsWord : List ℕ → Type 0
 EndsWord [] = Unit {0}
-EndsWord (b ∷ bs) = b ≡ 32
+EndsWord (b ∷ bs) = b ≡ code " "
 
 -- the rest of a text behind a word's end
 abbrev pub IsBehind : List ℕ → List ℕ → Type 0
 IsBehind text rest = (front : List ℕ) × (text ≡ front ++ rest) × EndsWord rest
 
+-- how the words of a line give its start, and the words of the moves
+abbrev pub GivesStart : List (List ℕ) → GivenStart → List (List ℕ) → Type 0
+GivesStart ws Even moves = EvenLine ws moves
+GivesStart ws (Sfen text) moves = SfenLine ws (words text.now) moves
+
 -- words split at the first word moves
 abbrev pub Split : List (List ℕ) → List (List ℕ) → List (List ℕ) → Type 0
 Split all front moves =
     (tail : List (List ℕ)) × (all ≡ front ++ tail) × AllByRecursion (λ w. w ≢ codes "moves") front × HasMoves tail moves
+
+-- what a position line answers where `play` refused its move of that number so
+abbrev pub word_fault : ℕ → PlayFault → UsiFault
+word_fault n play.TooManyMoves = usi.TooManyMoves
+word_fault n (play.Broken rule) = usi.Broken n rule
+word_fault n play.OutOfMemory = usi.OutOfMemory
 
 -- the ranks behind a slash, if there is one
 abbrev pub ranks_behind : Option (Bor (List ℕ)) → List (List ℕ)
@@ -26,11 +45,11 @@ ranks_behind (Some text) = ranks_of text.now
 
 -- the text begins with that digit, and this stands behind it
 abbrev pub IsDigitBefore : List ℕ → ℕ → List ℕ → Type 0
-IsDigitBefore text digit behind = (digit ≤ 9) × (text ≡ (48 + digit) ∷ behind)
+IsDigitBefore text digit behind = (digit ≤ 9) × (text ≡ (code "0" + digit) ∷ behind)
 
 abbrev pub HasNoDigit : List ℕ → Type 0
 HasNoDigit text = (digit : ℕ) (behind : List ℕ) → IsDigitBefore text digit behind → ⊥
 
 -- so many empty squares, as one digit
 abbrev pub run_text : ℕ → List ℕ
-run_text n = if n == 0 then [] else (48 + n) ∷ []
+run_text n = if n == 0 then [] else (code "0" + n) ∷ []

@@ -1,5 +1,6 @@
 -- Which words are the SFEN of a position, and else the first fault.
 use Rattle.std.specs.Prelude.{◌≡◌, ℕ, ◌≤◌, List, [], Option, Ok, Err, EachIndex, slice_index, codes}
+use Prim.Native.Char.{code}
 use Rattle.shogi_board.specs.declared.color.Color.{Color}
 use Rattle.shogi_board.specs.declared.color.Color.TheVariants.{Black, White}
 use Rattle.shogi_board.specs.declared.kind.Piece.{Piece}
@@ -16,9 +17,9 @@ abbrev pub side_text : Color → List ℕ
 side_text Black = codes "b"
 side_text White = codes "w"
 
--- a digit from 0 (48) to 9
+-- a digit from 0 to 9
 abbrev pub IsDigit : ℕ → Type 0
-IsDigit b = (48 ≤ b) × (b ≤ 57)
+IsDigit b = (code "0" ≤ b) × (b ≤ code "9")
 
 -- a word of digits alone, and no word behind it
 abbrev pub IsNumber : List ℕ → List ℕ → Type 0

@@ -27,7 +27,8 @@ cells_from board rank (suc n) = cell board (suc n) rank ∷ cells_from board ran
 -- one more empty square in front: it joins the count that stands there, or is a count of its own
 abbrev pub with_empty : List Part → List Part
 with_empty (Empty n ∷ parts) = Empty (suc n) ∷ parts
-with_empty parts = Empty 1 ∷ parts
+with_empty (Stands p ∷ parts) = Empty 1 ∷ Stands p ∷ parts
+with_empty [] = Empty 1 ∷ []
 
 -- the parts that are written for cells: a piece is one, and a whole run of empty squares is one
 abbrev pub parts_of : List (Option Piece) → List Part

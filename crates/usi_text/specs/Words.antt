@@ -1,6 +1,7 @@
--- Words: the longest runs of bytes without a space, which is the byte 32 alone.
+-- Words: the longest runs of bytes without a space.
 use Rattle.std.specs.Prelude.{ℕ, ◌==◌, Bool, true, false, List, [], ◌∷◌, slice_index_or}
 use Rattle.std.specs.List.{filter, slice_split}
+use Prim.Native.Char.{code}
 
 abbrev pub has_bytes : List ℕ → Bool
 has_bytes [] = false
@@ -8,7 +9,7 @@ has_bytes (b ∷ bs) = true
 
 -- the text split at each space, less the empty parts
 abbrev pub words : List ℕ → List (List ℕ)
-words text = filter has_bytes (slice_split (λ b. b == 32) text)
+words text = filter has_bytes (slice_split (λ b. b == code " ") text)
 
 -- the nth word, from 0; the empty text, which is no word, where there are fewer
 abbrev pub nth_word : List (List ℕ) → ℕ → List ℕ

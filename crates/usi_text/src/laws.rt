@@ -27,11 +27,13 @@ ghost use Rattle.usi_text.specs.Sfen.{Sfen, FirstFault};
 ghost use Rattle.usi_text.specs.SfenText.{sfen_text};
 ghost use Rattle.usi_text.specs.Words.{words, nth_word};
 
-/// Words are the SFEN of one position at most, and then they have no fault; else they have one first fault at most.
+/// Words are the SFEN of one position at most, and then they have no fault; else they have one first fault at most. They
+/// always have the one or the other.
 pub fn sfen_once()
     ensures one { (ws : List (List ℕ)) (p q : Placed) → Sfen ws p → Sfen ws q → p ≡ q }
     ensures either { (ws : List (List ℕ)) (p : Placed) (fault : SfenFault) → Sfen ws p → FirstFault ws fault → ⊥ }
     ensures first { (ws : List (List ℕ)) (fault other : SfenFault) → FirstFault ws fault → FirstFault ws other → fault ≡ other }
+    ensures some { (ws : List (List ℕ)) → ((p : Placed) → Sfen ws p → ⊥) → ((fault : SfenFault) → FirstFault ws fault → ⊥) → ⊥ }
 {}
 
 /// The pieces of an SFEN are refused as SecondKing, TooMany or OpponentInCheck, and in no other way.
@@ -63,7 +65,7 @@ pub fn sfen_again()
 {}
 
 /// Words are the position line of one start and one list of moves at most, and then they have no fault but want of
-/// memory; else they have one first fault at most beside it.
+/// memory; else they have one first fault at most beside it. They always have the one or the other.
 pub fn line_once()
     ensures one { (ws : List (List ℕ)) (start other : Placed) (moves others : List Move)
         → UsiLine ws start moves → UsiLine ws other others → (start ≡ other) × (moves ≡ others) }
@@ -71,6 +73,8 @@ pub fn line_once()
         → UsiLine ws start moves → LineFault ws fault → fault ≡ OutOfMemory }
     ensures first { (ws : List (List ℕ)) (fault other : UsiFault)
         → LineFault ws fault → LineFault ws other → (fault ≡ OutOfMemory) ⊎ (other ≡ OutOfMemory) ⊎ (fault ≡ other) }
+    ensures some { (ws : List (List ℕ)) → ((start : Placed) (moves : List Move) → UsiLine ws start moves → ⊥)
+        → ((fault : UsiFault) → LineFault ws fault → fault ≡ OutOfMemory) → ⊥ }
 {}
 
 /// The position line that is written for a start and legal moves from it is the position line of that start and these

@@ -2,15 +2,23 @@ ghost use Rattle.std.specs.Prelude.{◌≡◌, ◌++◌, ◌∷◌, [], Ok, ◌�
 ghost use Rattle.shogi_rules.specs.declared.moves.Move.{Move};
 ghost use Rattle.usi_text.specs.Lines.{UsiLine, LineFault, Starts, Plays, HasMoves, IsPlayed, WordFault, PlayedFault, StartedFault, line_of};
 ghost use Rattle.usi_text.specs.Words.{words};
-ghost use Rattle.usi_text.specs.Scanning.{Split};
+ghost use Rattle.usi_text.specs.Scanning.{GivesStart, Split, word_fault};
 
-use crate::fault::UsiFault;
+use crate::fault::{SfenFault, UsiFault};
 use crate::moves::read_move;
 use crate::sfen::read_sfen;
 use crate::words::{next_word, take_word};
 use shogi_board::Position;
 use shogi_rules::{Line, MAX_MOVES, PlayFault, judge};
 use std::alloc::Global;
+
+// How a line gives its start.
+#[derive(Clone, Copy, Debug)]
+enum GivenStart<'a> {
+    Even,
+    // by the text of an SFEN
+    Sfen(&'a [u8]),
+}
 
 /// The line that a position line tells: its start and its moves.
 ///
@@ -23,10 +31,8 @@ pub fn read_position_line(alloc: Global, text: &[u8]) -> Result<Line, UsiFault>
         (λ line. UsiLine (words text.now) line.start line.moves)
         (λ fault. LineFault (words text.now) fault) }
 {
-    match read_start(text) {
-        Ok(started) => play_line(alloc, started.0, started.1),
-        Err(fault) => Err(fault),
-    }
+    let (start, moves) = split_line(text).ok_or(UsiFault::BadLine)?;
+    play_line(alloc, read_start(start)?, moves)
 }
 
 // The line of the words of the text from that start.
@@ -58,29 +64,38 @@ fn fault_without_room(start: Position, text: &[u8]) -> UsiFault
     }
 }
 
-// The start that the line gives, and what stands behind the word `moves`.
-fn read_start(text: &[u8]) -> Result<(Position, &[u8]), UsiFault>
-    ensures { MatchResult result
-        (λ r. Starts (words text.now) r.0 (words r.1.now))
-        (λ fault. LineFault (words text.now) fault) }
+// How the line gives its start, and what stands behind the word `moves`.
+fn split_line(text: &[u8]) -> Option<(GivenStart<'_>, &[u8])>
+    ensures { MatchOption result
+        (LineFault (words text.now) UsiFault.BadLine)
+        (λ r. GivesStart (words text.now) r.0 (words r.1.now)) }
 {
     let (first, rest) = take_word(text);
     let (second, rest) = take_word(rest);
     if !same(first, b"position") {
-        return Err(UsiFault::BadLine);
+        return None;
     }
     if same(second, b"startpos") {
-        let moves = moves_behind(rest).ok_or(UsiFault::BadLine)?;
-        return Ok((Position::even(), moves));
+        return Some((GivenStart::Even, moves_behind(rest)?));
     }
     if !same(second, b"sfen") {
-        return Err(UsiFault::BadLine);
+        return None;
     }
     let (sfen, moves) = split_moves(rest);
-    let Some(_) = next_word(sfen) else {
-        return Err(UsiFault::BadLine);
-    };
-    Ok((read_sfen(sfen)?, moves))
+    next_word(sfen)?;
+    Some((GivenStart::Sfen(sfen), moves))
+}
+
+// The position that the line starts from.
+fn read_start(start: GivenStart<'_>) -> Result<Position, SfenFault>
+    ensures { (ws moves : List (List ℕ)) → GivesStart ws start.entry moves → MatchResult result
+        (λ position. Starts ws position moves)
+        (λ fault. LineFault ws (UsiFault.Sfen fault)) }
+{
+    match start {
+        GivenStart::Even => Ok(Position::even()),
+        GivenStart::Sfen(text) => read_sfen(text),
+    }
 }
 
 // What stands behind the word `moves`, or nothing where there is no word.
@@ -146,13 +161,18 @@ fn play_word(line: &mut Line, word: &[u8]) -> Result<(), UsiFault>
         return Err(UsiFault::TooManyMoves);
     }
     let now = line.now();
-    let Some(mv) = read_move(&now, word) else {
-        return Err(UsiFault::BadMoveText(n + 1));
-    };
-    match line.play(now.side(), mv) {
-        Ok(()) => Ok(()),
-        Err(PlayFault::Broken(rule)) => Err(UsiFault::Broken(n + 1, rule)),
-        Err(PlayFault::OutOfMemory) => Err(UsiFault::OutOfMemory),
-        Err(PlayFault::TooManyMoves) => unreachable!(),
+    let mv = read_move(&now, word).ok_or(UsiFault::BadMoveText(n + 1))?;
+    line.play(now.side(), mv)
+        .map_err(|fault| usi_fault(n + 1, fault))
+}
+
+// What a position line answers where `play` refused its move of that number so.
+fn usi_fault(number: usize, fault: PlayFault) -> UsiFault
+    ensures { result ≡ word_fault number fault }
+{
+    match fault {
+        PlayFault::TooManyMoves => UsiFault::TooManyMoves,
+        PlayFault::Broken(rule) => UsiFault::Broken(number, rule),
+        PlayFault::OutOfMemory => UsiFault::OutOfMemory,
     }
 }

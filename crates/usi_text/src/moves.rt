@@ -44,7 +44,7 @@ pub fn read_move(position: &Position, text: &[u8]) -> Option<Move>
 
 /// The text of a move that is legal for the side to move. Read in that position, it is that move.
 pub fn move_text(position: &Position, mv: &Move) -> ArrayString<5>
-    requires { Legal position.now mv.now }
+    requires legal { Legal position.now mv.now }
     ensures again { UsiMove position.now result.bytes mv.now }
 {
     let mut text = ArrayString::new();

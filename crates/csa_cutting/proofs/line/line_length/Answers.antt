@@ -1,9 +1,10 @@
-use Rattle.std.proofs.Common.{◌≡◌, ℕ, ◌+◌, ◌<◌, ◌≤◌, ◌∷◌, [], Bool, true, false, List, length, sym, ◌∙◌, arith, inl, inr}
+use Rattle.std.proofs.Common.{◌≡◌, ℕ, ◌+◌, ◌<◌, ◌≤◌, ◌∷◌, [], Bool, true, false, List, length, Option, Some, None, sym, ◌∙◌, arith, inl, inr}
 use Rattle.std.proofs.lemmas.Bool.{cases_lt}
 use Rattle.std.proofs.lemmas.List.Sums.{fails_before_first, passes_at_first, prefix_len-le-length}
 use Rattle.std.specs.Prelude.{not}
 use Rattle.std.specs.List.{position_or_len, slice_index}
-use Rattle.memchr.specs.Find.{places, places_between}
+use Rattle.std.specs.Option.{unwrap_or}
+use Rattle.memchr.specs.Find.{places, places_between, TakesFirst}
 use Rattle.memchr.proofs.lemmas.PlaceLemmas.{places_between-first, places_between-none}
 use Rattle.csa_cutting.specs.Lines.{is_line_end}
 use Rattle.csa_cutting.proofs.line.line_length.Goals as goal
@@ -38,10 +39,14 @@ none_is text e =
       | inr h ↦ omega (arith, h, prefix_len-le-length (λ b. not (is_line_end b)) text)
     ]
 
-pub returns-in-Some : goal.returns-in-Some
-returns-in-Some c =
-    let value = first_is c.args.text.now c.in-Some.end c.next.new.self (sym c.memchr2_iter.ensures.value ∙ c.in-Some.ensures.steps) in
-    record { value = value; within = omega (arith, value, prefix_len-le-length (λ b. not (is_line_end b)) c.args.text.now) }
+first_or_all : (text all rest : List ℕ) (first : Option ℕ) → all ≡ places is_line_end text → TakesFirst all first rest → unwrap_or first (length text) ≡ position_or_len is_line_end text
+first_or_all text all rest None whole t = none_is text (sym whole ∙ t.0)
+first_or_all text all rest (Some end) whole t = first_is text end rest (sym whole ∙ t)
 
-pub returns-in-None-clause-value : goal.returns-in-None-clause-value
-returns-in-None-clause-value c = none_is c.args.text.now (sym c.memchr2_iter.ensures.value ∙ c.in-None.ensures.steps.0)
+pub returns-clause-value : goal.returns-clause-value
+returns-clause-value c = c.unwrap_or.ensures ∙ first_or_all c.args.text.now c.memchr2_iter.result c.next.new.self c.next.result c.memchr2_iter.ensures.value c.next.ensures.steps
+
+pub returns-clause-within : goal.returns-clause-within
+returns-clause-within c =
+    let value : c.unwrap_or.result ≡ position_or_len is_line_end c.args.text.now = c.unwrap_or.ensures ∙ first_or_all c.args.text.now c.memchr2_iter.result c.next.new.self c.next.result c.memchr2_iter.ensures.value c.next.ensures.steps in
+    omega (arith, value, prefix_len-le-length (λ b. not (is_line_end b)) c.args.text.now)

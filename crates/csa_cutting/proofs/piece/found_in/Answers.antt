@@ -1,6 +1,6 @@
 use Rattle.std.proofs.Common.{◌≡◌, [], arith}
 use Rattle.csa_cutting.specs.Places.{IsHeld}
-use Rattle.csa_cutting.specs.declared.piece.Place.TheVariants.{Gap, Unit as InUnit, Comment}
+use Rattle.csa_cutting.specs.declared.units.Place.TheVariants.{Gap, Unit as InUnit, Comment}
 use Rattle.csa_cutting.proofs.Finding.{passes_gap, found_in_unit, found_in_comment, passes_comment}
 use Rattle.csa_cutting.proofs.piece.found_in.Goals as goal
 

@@ -1,6 +1,6 @@
 use Rattle.std.proofs.Common.{◌≡◌, ◌+◌, ◌<◌, length, arith, [], refl, sym, ◌∙◌}
 use Rattle.csa_cutting.specs.Cut.{byte_order_mark}
-use Rattle.csa_cutting.specs.declared.piece.Place.TheVariants.{Mark}
+use Rattle.csa_cutting.specs.declared.units.Place.TheVariants.{Mark}
 use Rattle.csa_cutting.proofs.Fronts.{rest_of}
 use Rattle.csa_cutting.proofs.LineCutting.{nothing, something}
 use Rattle.csa_cutting.proofs.Finding.{mark_whole, mark_begun, mark_missed, first_missed, some_passed, passes_mark, passes_no_mark, part_no_mark}

@@ -2,7 +2,7 @@ use Rattle.std.proofs.Common.{◌≡◌, ◌∷◌, ◌+◌, ◌/◌, ◌%◌, [
 use Rattle.std.specs.Fmt.{decimal}
 use Rattle.std.proofs.lemmas.Fmt.{decimal_digit}
 use Rattle.itoa.proofs.Decimal.{decimal_two}
-use Rattle.csa_text.specs.Spelling.{time}
+use Rattle.csa_text.specs.Saying.{time}
 use Rattle.record_game.specs.Canon.{ended_line}
 use Rattle.csa_record.proofs.course.write_thousandths.Goals as goal
 

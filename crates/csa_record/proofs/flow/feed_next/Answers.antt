@@ -9,10 +9,10 @@ returns-then-taken-eq0-clause-fed g c = λ bytes h.
     let room : 0 < length c.read.new.buffer = omega (arith, c.read.auto.buffer) in
     no_piece bytes c.read.new.buffer c.in-Ok.taken _ _ _ _ c.args.reader.now c.if-taken-eq0.true read.bytes.0 read.bytes.1 room read.count h
 
-pub returns-in-Err-feed-clause-fed : goal.returns-in-Err-feed-clause-fed
-returns-in-Err-feed-clause-fed g c = λ bytes h.
+pub returns-in-Err-clause-fed : goal.returns-in-Err-clause-fed
+returns-in-Err-clause-fed g c = λ bytes h.
     let read = c.in-Ok.ensures in
-    let fed = c.in-Err-feed.ensures in
+    let fed = c.in-Err.ensures in
     let short : length (take c.in-Ok.taken c.read.new.buffer) ≤ 4096 = omega (arith, length-take-le c.in-Ok.taken c.read.new.buffer read.within, read.within, c.read.auto.buffer) in
-    piece_refused bytes (take c.in-Ok.taken c.read.new.buffer) (g.S.Source.known c.args.source.now) (g.S.Source.known c.read.new.self) (g.S.Source.failed c.args.source.now) (g.S.Source.failed c.read.new.self) c.in-Err-feed.refusal c.from.result c.args.reader.now h short c.from.ensures read.bytes.0 read.count
+    piece_refused bytes (take c.in-Ok.taken c.read.new.buffer) (g.S.Source.known c.args.source.now) (g.S.Source.known c.read.new.self) (g.S.Source.failed c.args.source.now) (g.S.Source.failed c.read.new.self) c.in-Err.refusal c.from.result c.args.reader.now h short c.from.ensures read.bytes.0 read.count
     (λ more. fed.refused bytes more h) (λ more. fed.memory bytes more h)

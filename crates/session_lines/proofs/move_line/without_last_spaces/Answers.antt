@@ -11,13 +11,15 @@ loop-end-preserved c = record {
 }
 
 pub returns : goal.returns
-returns c =
-    elim c.loop-end-test.branch [
-      | then-loop-end-test+else-is_space w ↦
-          sym (all_kept c.args.line.now c.loop-end.end w.loop-end-test.true c.loop-end.invariant.within (sym w.is_space.ensures ∙ w.if-is_space.false)) ∙ c.loop-end.invariant.same
-      | else-loop-end-test w ↦
-          let none : c.loop-end.end ≡ 0 = omega arith in
-          let empty : take c.loop-end.end c.args.line.now ≡ without_last_spaces (take c.loop-end.end c.args.line.now) =
-          rw none refl in
-          empty ∙ c.loop-end.invariant.same
-    ]
+returns c = record {
+  value =
+      elim c.loop-end-test.branch [
+        | then-loop-end-test+else-is_space w ↦
+            sym (all_kept c.args.line.now c.loop-end.end w.loop-end-test.true c.loop-end.invariant.within (sym w.is_space.ensures ∙ w.if-is_space.false)) ∙ c.loop-end.invariant.same
+        | else-loop-end-test w ↦
+            let none : c.loop-end.end ≡ 0 = omega arith in
+            let empty : take c.loop-end.end c.args.line.now ≡ without_last_spaces (take c.loop-end.end c.args.line.now) =
+            rw none refl in
+            empty ∙ c.loop-end.invariant.same
+      ];
+}

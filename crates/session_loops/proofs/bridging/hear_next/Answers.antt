@@ -15,9 +15,9 @@ returns-clause-heard g c =
     let event = event_of c.event.result in
     let row = steps_of c.args.bridge.now event out.to_engine out.to_server out.status c.step.new.self step.row step.to_engine step.to_server step.status step.config in
     heard_next g.E.Ends.heard c.args.ends.now c.args.bridge.now seat c.waits_for.result what line c.hear.new.self out.to_engine out.to_server out.status c.step.new.self
-    c.seat_of-seat.ensures c.waits_for.ensures c.in_ok-heard.ensures.heard
+    c.seat_of-seat.ensures c.waits_for.ensures.value c.in_ok-heard.ensures.heard
     (same_step c.args.bridge.now event (event_from seat what line) out.to_engine out.to_server out.status c.step.new.self
-    (c.event.ensures.event ∙ ap (event_from seat what) c.line-line.ensures) row)
+    (c.event.ensures.event ∙ ap (event_from seat what) c.line-line.ensures.value) row)
 
 pub returns-in_err-out-clause-wanting : goal.returns-in_err-out-clause-wanting
 returns-in_err-out-clause-wanting g c =
@@ -28,6 +28,6 @@ returns-in_err-out-clause-wanting g c =
     let came = event_from seat what (g.E.Ends.last_line c.hear.new.self seat) in
     at_err _ c.from_residual-in_err-out.result
     (seat_not_stepped g.E.Ends.heard g.E.Ends.missed c.args.ends.now c.args.bridge.now seat c.waits_for.result came c.hear.new.self c.step.new.self
-    c.seat_of-seat.ensures c.waits_for.ensures c.in_ok-heard.ensures.heard
-    (step_wants c.args.bridge.now event came c.step.new.self (c.event.ensures.event ∙ ap (event_from seat what) c.line-line.ensures)
+    c.seat_of-seat.ensures c.waits_for.ensures.value c.in_ok-heard.ensures.heard
+    (step_wants c.args.bridge.now event came c.step.new.self (c.event.ensures.event ∙ ap (event_from seat what) c.line-line.ensures.value)
     step.going step.lost step.config step.states step.slip step.game))

@@ -7,4 +7,4 @@ returns-in_default-clause-unsent g c = no_answer refl
 
 pub returns-in-Err-clause-unsent : goal.returns-in-Err-clause-unsent
 returns-in-Err-clause-unsent g c =
-    rw c.in-Err.ensures.faults (not_sent _ _ _ c.in-Ok.ensures (rw (← c.bytes.ensures.value) c.in-Err.ensures.blocked))
+    rw c.in-Err.ensures.faults (not_sent _ _ _ c.in-Ok.ensures.answer (rw (← c.bytes.ensures.value) c.in-Err.ensures.blocked))

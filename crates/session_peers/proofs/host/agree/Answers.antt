@@ -18,4 +18,4 @@ returns-else-is_word_and_one-2 c = λ seconds.
     (unnamed_offered _ _ _ seconds c.requires.stays
     (λ h. let t = c.is_word_and_one.ensures.1 h in let f = c.if-is_word_and_one.false in cc)
     (λ h. let t = c.is_word_and_one-else-is_word_and_one.ensures.1 h in let f = c.if-is_word_and_one-2.false in cc))
-    refl c.new.ensures
+    refl c.new.ensures.value

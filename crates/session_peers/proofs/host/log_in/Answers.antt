@@ -11,4 +11,4 @@ returns-in-Some c = λ seconds.
 pub returns-in_ok-one-in-None : goal.returns-in_ok-one-in-None
 returns-in_ok-one-in-None c = λ seconds.
     incorrect _ _ _ seconds _ (sym c.first_word.ensures ∙ c.is_login.ensures.0 c.if-is_login.true) c.in-None.ensures refl
-    (c.in_ok-one-in-None.ensures ∙ one_text (codes "LOGIN:incorrect"))
+    (c.in_ok-one-in-None.ensures.value ∙ one_text (codes "LOGIN:incorrect"))

@@ -2,4 +2,4 @@ use Rattle.session_peers.proofs.HostGame.{host_game}
 use Rattle.session_peers.proofs.laws.host_game.Goals as goal
 
 pub returns : goal.returns
-returns c = host_game
+returns c = record { game = host_game }

@@ -2,4 +2,4 @@ use Rattle.session_peers.proofs.HostOnce.{host_row_once}
 use Rattle.session_peers.proofs.laws.host_row_once.Goals as goal
 
 pub returns : goal.returns
-returns c = host_row_once
+returns c = record { once = host_row_once }

@@ -2,4 +2,4 @@ use Rattle.session_table.proofs.Ends.{end_lines}
 use Rattle.session_table.proofs.laws.ends_are_silent.Goals as goal
 
 pub returns : goal.returns
-returns c = end_lines
+returns c = record { silent = end_lines }

@@ -2,16 +2,16 @@ use Rattle.shogi_board.proofs.Check.{king-safe}
 use Rattle.shogi_rules.proofs.Checks.{mated-then}
 use Rattle.shogi_rules.proofs.evasions.is_mated.Goals as goal
 
-pub returns-in-Some-attacker : goal.returns-in-Some-attacker
-returns-in-Some-attacker c =
+pub returns-in_default-attacker : goal.returns-in_default-attacker
+returns-in_default-attacker c =
+    let p = c.args.position.now in
+    let king = rw c.side-side.ensures.value at c.in-Some.ensures.answer in
+    let safe = rw c.side-side.ensures.value at c.in_default-attacker.ensures.answer in
+    let within = c.side-side.ensures.sound.within in
+    (λ h. cc, λ mated. absurd (king-safe p.material.board p.side c.in-Some.king within.squares (within.kings p.side) king safe mated.in_check))
+
+pub returns : goal.returns
+returns c =
     let king = rw c.side-side.ensures.value at c.in-Some.ensures.answer in
     let check = rw c.side-side.ensures.value at c.in-Some-attacker.ensures.answer in
     mated-then c.args.position.now c.has_evasion.result (c.in-Some.king, king, (c.in-Some-attacker.checker, check)) c.has_evasion.ensures
-
-pub returns-in-None : goal.returns-in-None
-returns-in-None c =
-    let p = c.args.position.now in
-    let king = rw c.side-side.ensures.value at c.in-Some.ensures.answer in
-    let safe = rw c.side-side.ensures.value at c.in-None.ensures.answer in
-    let within = c.side-side.ensures.sound.within in
-    (λ h. cc, λ mated. absurd (king-safe p.material.board p.side c.in-Some.king within.squares (within.kings p.side) king safe mated.in_check))

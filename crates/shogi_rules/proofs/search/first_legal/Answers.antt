@@ -1,12 +1,8 @@
-use Rattle.shogi_rules.proofs.Firsts.{first-drop-first, first-walk-first}
+use Rattle.std.proofs.Common.{rules}
+use Rattle.shogi_rules.proofs.Firsts.{first-of-both}
 use Rattle.shogi_rules.proofs.search.first_legal.Goals as goal
 
-pub returns-in-Some : goal.returns-in-Some
-returns-in-Some c = record {
-  first = first-walk-first c.args.position.now c.in-Some.mv c.in-Some.ensures;
-}
-
-pub returns-in-None : goal.returns-in-None
-returns-in-None c = record {
-  first = first-drop-first c.args.position.now c.first_drop.result c.in-None.ensures c.first_drop.ensures;
+pub returns : goal.returns
+returns c = record {
+  first = first-of-both c.args.position.now c.first_walk.result c.or_else.result _ c.first_walk.ensures c.or_else.ensures (λ q. search rules);
 }

@@ -10,7 +10,7 @@ use Rattle.shogi_session.proofs.bridge.answer.Goals as goal
 
 pub hear_server-requires-clause-line : goal.hear_server-requires-clause-line
 hear_server-requires-clause-line c =
-    subst IsOneLine (sym c.without_last_spaces-in-ServerLine.ensures)
+    subst IsOneLine (sym c.without_last_spaces-in-ServerLine.ensures.value)
     (trimmed_line c.in-ServerLine.line.now (subst (λ x. HoldsLine (event_of x)) c.in-ServerLine.is c.requires.line))
 
 pub returns-in-Begin-clause-answer : goal.returns-in-Begin-clause-answer

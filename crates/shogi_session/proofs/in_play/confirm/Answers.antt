@@ -8,5 +8,5 @@ returns c =
     let p = record c.args.play.now { game = c.play_move.new.game } in
     subst (λ g. GoesOn c.args.config.now c.args.engine.now (record c.args.play.now { game = g }) [] c.in_ok-out.out c.ask_engine.new.engine (record p { stage = Playing }))
     c.in_ok-play_move.ensures.ok
-    (subst (λ before. GoesOn c.args.config.now c.args.engine.now p before c.in_ok-out.out c.ask_engine.new.engine (record p { stage = Playing })) c.new.ensures
+    (subst (λ before. GoesOn c.args.config.now c.args.engine.now p before c.in_ok-out.out c.ask_engine.new.engine (record p { stage = Playing })) c.new.ensures.value
     (c.in_ok-out.ensures.goes_on p refl refl))

@@ -6,7 +6,7 @@ use Rattle.shogi_session.proofs.position_text.is_position_text.Goals as goal
 pub loop-statement-init : goal.loop-statement-init
 loop-statement-init c =
     start_read c.args.text.now c.new-cutter.result
-    (record { source = c.new-cutter.ensures.source; at = c.new-cutter.ensures.start.0; number = c.new-cutter.ensures.start.1 })
+    (record { source = c.new-cutter.ensures.source; at = c.new-cutter.ensures.start; number = c.new-cutter.ensures.number })
 
 pub returns-then-not-spells_position : goal.returns-then-not-spells_position
 returns-then-not-spells_position c =
@@ -55,9 +55,9 @@ loop-statement-preserved c =
 pub returns-in-Ok-None : goal.returns-in-Ok-None
 returns-in-Ok-None c =
     told_so (IsPositionText c.args.text.now)
-    (all_read c.args.text.now c.loop-statement.cutter c.loop-statement.invariant (rw c.in-Ok-None.field-0-is at c.in-Ok-None.ensures.end).0)
+    (all_read c.args.text.now c.loop-statement.cutter c.loop-statement.invariant (rw c.in-Ok-None.field-0-is at c.in-Ok-None.ensures.end))
 
 pub returns-in-Err : goal.returns-in-Err
 returns-in-Err c =
     told_otherwise (IsPositionText c.args.text.now)
-    (long_read c.args.text.now c.loop-statement.cutter _ _ c.loop-statement.invariant c.in-Err.ensures.fault.0)
+    (long_read c.args.text.now c.loop-statement.cutter _ _ c.loop-statement.invariant c.in-Err.ensures.fault)

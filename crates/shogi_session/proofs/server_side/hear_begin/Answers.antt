@@ -10,7 +10,7 @@ use Rattle.shogi_session.proofs.server_side.hear_begin.Goals as goal
 
 pub returns-then-not-is_same-clause-answer : goal.returns-then-not-is_same-clause-answer
 returns-then-not-is_same-clause-answer c = λ d engine.
-    quiet d engine _ _ _ _ c.no_lines.result (other_begin d engine c.args.line.now (otherwise _ _ c.if-not-is_same.true c.is_same.ensures)) (ap client_of c.requires) refl
+    quiet d engine _ _ _ _ c.no_lines.result (other_begin d engine c.args.line.now (otherwise _ _ c.if-not-is_same.true c.is_same.ensures.answer)) (ap client_of c.requires) refl
     (c.no_lines.ensures.engine, c.no_lines.ensures.server, c.no_lines.ensures.status)
 
 pub returns-clause-keeps : goal.returns-clause-keeps
@@ -18,5 +18,5 @@ returns-clause-keeps c = ([], subst (CountsAs []) (sym c.new.ensures) counts_fir
 
 pub returns-clause-answer : goal.returns-clause-answer
 returns-clause-answer c = λ d engine.
-    summary_begun d engine _ _ c.args.line.now c.no_lines-2.result (ap client_of c.requires) (c.is_same.ensures.0 c.if-not-is_same.false) c.new.ensures
+    summary_begun d engine _ _ c.args.line.now c.no_lines-2.result (ap client_of c.requires) (c.is_same.ensures.answer.0 c.if-not-is_same.false) c.new.ensures
     (c.no_lines-2.ensures.engine, c.no_lines-2.ensures.server, c.no_lines-2.ensures.status)

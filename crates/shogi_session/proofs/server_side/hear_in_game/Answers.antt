@@ -15,12 +15,12 @@ returns-else-is_hash_line-clause-answer c =
 
 pub returns-then-is_same-clause-answer : goal.returns-then-is_same-clause-answer
 returns-then-is_same-clause-answer c =
-    logged_out _ _ c.args.play.now c.in-Closing.told c.in-Closing.game_result c.args.line.now c.silent.result c.in-Closing.is (c.is_same.ensures.0 c.if-is_same.true)
+    logged_out _ _ c.args.play.now c.in-Closing.told c.in-Closing.game_result c.args.line.now c.silent.result c.in-Closing.is (c.is_same.ensures.answer.0 c.if-is_same.true)
     (c.silent.ensures.engine, c.silent.ensures.server, c.silent.ensures.status)
 
 pub returns-else-is_same-clause-answer : goal.returns-else-is_same-clause-answer
 returns-else-is_same-clause-answer c =
-    quiet _ _ _ _ _ _ c.no_lines-else-is_same.result (other_closing _ _ _ _ _ c.args.line.now (otherwise _ _ c.if-is_same.false c.is_same.ensures)) (ap (staged (match_in c.args.play.now) c.args.play.now.game) c.in-Closing.is) refl
+    quiet _ _ _ _ _ _ c.no_lines-else-is_same.result (other_closing _ _ _ _ _ c.args.line.now (otherwise _ _ c.if-is_same.false c.is_same.ensures.answer)) (ap (staged (match_in c.args.play.now) c.args.play.now.game) c.in-Closing.is) refl
     (c.no_lines-else-is_same.ensures.engine, c.no_lines-else-is_same.ensures.server, c.no_lines-else-is_same.ensures.status)
 
 pub returns-in-Ended-clause-answer : goal.returns-in-Ended-clause-answer

@@ -12,11 +12,11 @@ returns-then-is_login_ok-clause-answer c = λ d engine.
 
 pub returns-then-is_same-clause-answer : goal.returns-then-is_same-clause-answer
 returns-then-is_same-clause-answer c = λ d engine.
-    login_refused d engine _ _ c.args.line.now c.failed.result (ap client_of c.requires) (c.is_same.ensures.0 c.if-is_same.true) refl
+    login_refused d engine _ _ c.args.line.now c.failed.result (ap client_of c.requires) (c.is_same.ensures.answer.0 c.if-is_same.true) refl
     (c.failed.ensures.engine, c.failed.ensures.server, c.failed.ensures.status)
 
 pub returns-clause-answer : goal.returns-clause-answer
 returns-clause-answer c = λ d engine.
     quiet d engine _ _ _ _ c.no_lines-2.result
-    (other_login d engine c.args.line.now (sym c.is_login_ok.ensures ∙ c.if-is_login_ok.false) (otherwise _ _ c.if-is_same.false c.is_same.ensures)) (ap client_of c.requires) refl
+    (other_login d engine c.args.line.now (sym c.is_login_ok.ensures ∙ c.if-is_login_ok.false) (otherwise _ _ c.if-is_same.false c.is_same.ensures.answer)) (ap client_of c.requires) refl
     (c.no_lines-2.ensures.engine, c.no_lines-2.ensures.server, c.no_lines-2.ensures.status)

@@ -14,7 +14,7 @@ returns-in-Idle-clause-answer c =
 
 pub returns-then-is_same-clause-answer : goal.returns-then-is_same-clause-answer
 returns-then-is_same-clause-answer c =
-    ended_or c.end_summary.result _ _ _ _ c.in-Summary.reader c.args.line.now (ap client_of c.in-Summary.is) (c.is_same.ensures.0 c.if-is_same.true)
+    ended_or c.end_summary.result _ _ _ _ c.in-Summary.reader c.args.line.now (ap client_of c.in-Summary.is) (c.is_same.ensures.answer.0 c.if-is_same.true)
     (c.end_summary.ensures.answer _ _) c.end_summary.ensures.given_up
 
 pub returns-else-is_same-clause-answer : goal.returns-else-is_same-clause-answer

@@ -1,43 +1,12 @@
-use Rattle.std.proofs.Common.{ap, arith, codes, inr, length, lit≤}
-use Rattle.std.proofs.lemmas.Result.{err_from_is_err_and}
+use Rattle.std.proofs.Common.{inl}
 use Rattle.usi_text.specs.Words.{words}
-use Rattle.usi_text.proofs.Heads.{head_is, sfen_missing, sfen_line}
-use Rattle.usi_text.proofs.Piles.{is_so}
+use Rattle.usi_text.proofs.Played.{sfen_answered}
 use Rattle.usi_text.proofs.line.read_start.Goals as goal
 
-pub returns-in_default : goal.returns-in_default
-returns-in_default c =
-    let one = c.take_word in
-    let two = c.take_word-2 in
-    let ws = words c.args.text.now in
-    let rest = words two.result.1.now in
-    let position = is_so c.same.result c.same.ensures c.if-not-same.false in
-    let sfen = is_so c.same-3.result c.same-3.ensures c.if-not-same-2.false in
-    let e = head_is ws (words one.result.1.now) rest one.result.0.now two.result.0.now (codes "position") (codes "sfen") one.ensures.word one.ensures.rest two.ensures.word two.ensures.rest position sfen (lit≤ tt) (lit≤ tt) in
-    sfen_missing ws rest (words c.split_moves.result.0.now) (words c.split_moves.result.1.now) e c.split_moves.ensures (c.in_default.ensures {u = tt}).word
+pub returns-in-Even : goal.returns-in-Even
+returns-in-Even c = λ ws moves given. let even = rw c.in-Even.is at given in inl (even, c.even.ensures.value)
 
-pub returns : goal.returns
-returns c =
-    let one = c.take_word in
-    let two = c.take_word-2 in
-    let ws = words c.args.text.now in
-    let rest = words two.result.1.now in
-    let position = is_so c.same.result c.same.ensures c.if-not-same.false in
-    let sfen = is_so c.same-3.result c.same-3.ensures c.if-not-same-2.false in
-    let some = ap length c.in-Some.ensures.word in
-    let e = head_is ws (words one.result.1.now) rest one.result.0.now two.result.0.now (codes "position") (codes "sfen") one.ensures.word one.ensures.rest two.ensures.word two.ensures.rest position sfen (lit≤ tt) (lit≤ tt) in
-    inr (words c.split_moves.result.0.now, sfen_line ws rest (words c.split_moves.result.0.now) (words c.split_moves.result.1.now) e c.split_moves.ensures (omega (arith, some)), (c.in_ok-read_sfen.ensures {u = tt}).told)
-
-pub returns-in_err-read_sfen : goal.returns-in_err-read_sfen
-returns-in_err-read_sfen c =
-    let one = c.take_word in
-    let two = c.take_word-2 in
-    let ws = words c.args.text.now in
-    let rest = words two.result.1.now in
-    let position = is_so c.same.result c.same.ensures c.if-not-same.false in
-    let sfen = is_so c.same-3.result c.same-3.ensures c.if-not-same-2.false in
-    let some = ap length c.in-Some.ensures.word in
-    let e = head_is ws (words one.result.1.now) rest one.result.0.now two.result.0.now (codes "position") (codes "sfen") one.ensures.word one.ensures.rest two.ensures.word two.ensures.rest position sfen (lit≤ tt) (lit≤ tt) in
-    let line = sfen_line ws rest (words c.split_moves.result.0.now) (words c.split_moves.result.1.now) e c.split_moves.ensures (omega (arith, some)) in
-    let p = err_from_is_err_and c.from_residual-in_err-read_sfen.result c.from_residual-in_err-read_sfen.ensures.1 in
-    rw (p.1, p.2) (words c.split_moves.result.0.now, words c.split_moves.result.1.now, line, (c.in_err-read_sfen.ensures {u = tt}).told)
+pub returns-in-Sfen : goal.returns-in-Sfen
+returns-in-Sfen c = λ ws moves given.
+    let line = rw c.in-Sfen.is at given in
+    sfen_answered ws (words c.in-Sfen.text.now) moves c.read_sfen.result line c.read_sfen.ensures.told

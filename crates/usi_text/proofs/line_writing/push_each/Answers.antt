@@ -3,13 +3,15 @@ use Rattle.usi_text.proofs.Games.{now_legal, now_more, told_more}
 use Rattle.usi_text.proofs.line_writing.push_each.Goals as goal
 
 pub move_text-requires : goal.move_text-requires
-move_text-requires c =
-    now_legal c.args.start c.loop-mv.now c.args.moves.now c.loop-mv.mv-index c.mv-item.result c.requires c.loop-mv.invariant.now c.loop-mv-test.true c.mv-item.is
+move_text-requires c = record {
+  legal = now_legal c.args.start c.loop-mv.now c.args.moves.now c.loop-mv.mv-index c.mv-item.result c.requires c.loop-mv.invariant.now c.loop-mv-test.true c.mv-item.is;
+}
 
 pub after-now-requires : goal.after-now-requires
-after-now-requires c =
-    let legal = now_legal c.args.start c.loop-mv.now c.args.moves.now c.loop-mv.mv-index c.mv-item.result c.requires c.loop-mv.invariant.now c.loop-mv-test.true c.mv-item.is in
-    legal.keeps
+after-now-requires c = record {
+  kept = let legal = now_legal c.args.start c.loop-mv.now c.args.moves.now c.loop-mv.mv-index c.mv-item.result c.requires c.loop-mv.invariant.now c.loop-mv-test.true c.mv-item.is in
+      legal.keeps;
+}
 
 pub loop-mv-preserved : goal.loop-mv-preserved
 loop-mv-preserved c = record {

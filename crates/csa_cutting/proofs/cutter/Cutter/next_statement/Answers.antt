@@ -7,17 +7,15 @@ pub returns-then-unit-gt-LONGEST_STATEMENT-clause-fault : goal.returns-then-unit
 returns-then-unit-gt-LONGEST_STATEMENT-clause-fault c =
     let source = c.self.inside.source.now in
     let first = c.in-Some.ensures in
-    let others = found c.in-Some.end (drop c.in-Some.end source) in (
-      rw (← c.self.view_is) (record {
-        unit = unit_between source c.in-Some.start c.in-Some.end;
-        others = others.0;
-        first = first.first others.0 others.1;
-        number_is = refl;
-        place = refl;
-        long = omega (arith, c.if-unit-gt-LONGEST_STATEMENT.true);
-      }),
-      refl,
-    )
+    let others = found c.in-Some.end (drop c.in-Some.end source) in
+    rw (← c.self.view_is) (record {
+      unit = unit_between source c.in-Some.start c.in-Some.end;
+      others = others.0;
+      first = first.first others.0 others.1;
+      number_is = refl;
+      place = refl;
+      long = omega (arith, c.if-unit-gt-LONGEST_STATEMENT.true);
+    })
 
 pub invariant_of-self : goal.invariant_of-self
 invariant_of-self c =

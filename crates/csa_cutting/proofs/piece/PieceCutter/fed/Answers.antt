@@ -1,10 +1,10 @@
-use Rattle.csa_cutting.proofs.Unfinished.{holds_little, is_open}
+use Rattle.csa_cutting.proofs.Unfinished.{none_of_comment, is_open}
 use Rattle.csa_cutting.proofs.piece.PieceCutter.fed.Goals as goal
 
-pub returns-clause-little : goal.returns-clause-little
-returns-clause-little c =
+pub returns-clause-comment : goal.returns-clause-comment
+returns-clause-comment c =
     let s = c.self.inside in
-    rw (← c.self.view_is) (holds_little s.place s.held.items s.fed s.number s.refused c.self.invariant.1 c.self.invariant.2)
+    rw (← c.self.view_is) (none_of_comment s.place s.held.items c.self.invariant.2)
 
 pub returns-clause-open : goal.returns-clause-open
 returns-clause-open c =

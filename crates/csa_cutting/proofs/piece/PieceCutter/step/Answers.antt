@@ -1,6 +1,6 @@
 use Rattle.std.proofs.Common.{◌≡◌, false, Err, [], ◌+◌, ◌-◌, ◌<◌, ◌≤◌, ◌++◌, length, slice_range, arith, refl, sym, ap, subst, ◌∙◌}
 use Rattle.csa_cutting.specs.Cut.{begins_with}
-use Rattle.csa_cutting.specs.declared.piece.Place.TheVariants.{Gap}
+use Rattle.csa_cutting.specs.declared.units.Place.TheVariants.{Gap}
 use Rattle.csa_cutting.specs.Places.{IsPart, IsFoundIn, kept_of}
 use Rattle.csa_cutting.proofs.Leading.{seen, default_step, unit_step, end_step, long_step, kept_size, kept_most, mark_room, all_in_piece, ended_told}
 use Rattle.csa_cutting.proofs.LineCutting.{length_range, nothing}

@@ -1,6 +1,5 @@
 use Rattle.std.proofs.Common.{true, refl, sym, ap, ◌∙◌, subst}
-use Rattle.csa_text.specs.Saying.{pairs_of}
-use Rattle.csa_text.specs.Spelling.{even}
+use Rattle.csa_text.specs.Saying.{even, pairs_of}
 use Rattle.record_game.specs.Laying.{Lays}
 use Rattle.shogi_board.specs.Placing.{place_all}
 use Rattle.record_game.specs.Placings.{placings_of}

@@ -1,5 +1,5 @@
 use Rattle.std.proofs.Common.{true, refl, sym, ap, ◌-◌, ◌∙◌, set, subst}
-use Rattle.csa_text.specs.Spelling.{rank}
+use Rattle.csa_text.specs.Saying.{rank}
 use Rattle.record_game.specs.Laying.{Lays}
 use Rattle.shogi_board.specs.Placing.{place_all}
 use Rattle.record_game.specs.Placings.{placings_of}

@@ -1,26 +1,35 @@
 use Rattle.std.proofs.Common.{sym, subst}
+use Rattle.std.proofs.lemmas.Result.{err_from_is_err_and}
 use Rattle.csa_record.specs.Reading.{HasRead}
 use Rattle.csa_record.proofs.Flowing.{never_failed_by}
-use Rattle.csa_record.proofs.Steps.{refused_of, told_of, missing_of}
+use Rattle.csa_record.proofs.Steps.{refused_of, memory_of, told_of, missing_of}
 use Rattle.csa_record.proofs.record_reader.RecordReader.finish.Goals as goal
 
-pub returns-in-Err-clause-refused : goal.returns-in-Err-clause-refused
-returns-in-Err-clause-refused c = λ source h some.
+pub returns-in_err-take_last-clause-refused : goal.returns-in_err-take_last-clause-refused
+returns-in_err-take_last-clause-refused c = λ source h.
     let before = subst (HasRead source) (sym c.self.view_is) h in
-    refused_of source c.in-Err.refusal (c.in-Err.ensures source before.taken) some
+    let p = err_from_is_err_and c.from_residual.result c.from_residual.ensures.1 in
+    rw (p.1, p.2) (refused_of source c.in_err-take_last.field-0.0 (c.in_err-take_last.ensures source before.taken))
+
+pub returns-in_err-take_last-clause-memory : goal.returns-in_err-take_last-clause-memory
+returns-in_err-take_last-clause-memory c = λ source h.
+    let before = subst (HasRead source) (sym c.self.view_is) h in
+    let p = err_from_is_err_and c.from_residual.result c.from_residual.ensures.1 in
+    rw (p.1, p.2) (memory_of source c.in_err-take_last.field-0.0 (c.in_err-take_last.ensures source before.taken))
 
 pub returns-in-Some-finish-clause-told : goal.returns-in-Some-finish-clause-told
 returns-in-Some-finish-clause-told c = λ source h.
     let before = subst (HasRead source) (sym c.self.view_is) h in
-    told_of source c.take_last.new.cutter c.take_last.new.progress c.in-Some-finish.record (c.in_default-take_last.ensures source before.taken) c.in-Some-finish.ensures
+    told_of source c.take_last.new.cutter c.take_last.new.progress c.in-Some-finish.record (c.in_ok-take_last.ensures source before.taken) c.in-Some-finish.ensures
 
 pub returns-in-None-clause-refused : goal.returns-in-None-clause-refused
 returns-in-None-clause-refused c = λ source h some.
     let before = subst (HasRead source) (sym c.self.view_is) h in
     rw (c.statements.ensures.count, c.fed-length.ensures.count)
-    (missing_of source c.self.inside.cutter c.take_last.new.cutter c.self.inside.progress c.take_last.new.progress before.taken (c.in_default-take_last.ensures source before.taken) c.in-None.ensures)
+    (missing_of source c.self.inside.cutter c.take_last.new.cutter c.self.inside.progress c.take_last.new.progress before.taken (c.in_ok-take_last.ensures source before.taken) c.in-None.ensures)
 
-pub returns-in-Err-clause-first : goal.returns-in-Err-clause-first
-returns-in-Err-clause-first c = λ source h.
+pub returns-in_err-take_last-clause-first : goal.returns-in_err-take_last-clause-first
+returns-in_err-take_last-clause-first c = λ source h.
     let before = subst (HasRead source) (sym c.self.view_is) h in
-    never_failed_by source c.in-Err.refusal (c.in-Err.ensures source before.taken)
+    let p = err_from_is_err_and c.from_residual.result c.from_residual.ensures.1 in
+    rw (p.1, p.2) (never_failed_by source c.in_err-take_last.field-0.0 (c.in_err-take_last.ensures source before.taken))

@@ -1,7 +1,6 @@
 use Rattle.std.proofs.Common.{◌≡◌, arith}
 use Rattle.std.proofs.lemmas.Grind.{common_steps}
-use Rattle.csa_text.specs.Moment.{moment_text}
-use Rattle.csa_text.specs.MomentParts.{moment_of}
+use Rattle.csa_text.specs.Moment.{moment_text, moment_of}
 use Rattle.csa_text.proofs.Moments.{moment_spelled}
 use Rattle.csa_text.proofs.calendar.Moment.text.Goals as goal
 

@@ -13,12 +13,12 @@ returns-in-Usi-clause-row c =
 pub returns-in-IsReady-clause-row : goal.returns-in-IsReady-clause-row
 returns-in-IsReady-clause-row c =
     let e = sym c.self.view_is ∙ ap state_of c.in-Keeping.is in
-    with_text c.one.result _ _ c.one.ensures (named _ _ _ _ _ _ e (row.isready c.in-IsReady.ensures refl e) (one_text (codes "readyok")))
+    with_text c.one.result _ _ c.one.ensures.value (named _ _ _ _ _ _ e (row.isready c.in-IsReady.ensures refl e) (one_text (codes "readyok")))
 
 pub returns-in_ok-read_game-in-Position-clause-row : goal.returns-in_ok-read_game-in-Position-clause-row
 returns-in_ok-read_game-in-Position-clause-row c =
     let e = sym c.self.view_is ∙ ap state_of c.in-Keeping.is in
-    named _ _ _ _ _ _ e (row.position _ c.in-Position.ensures c.in_ok-read_game-in-Position.ensures refl refl) c.new-in-Position.ensures
+    named _ _ _ _ _ _ e (row.position _ c.in-Position.ensures c.in_ok-read_game-in-Position.ensures refl refl) c.new-in-Position.ensures.value
 
 pub returns-in-Go-clause-row : goal.returns-in-Go-clause-row
 returns-in-Go-clause-row c =
@@ -28,9 +28,9 @@ returns-in-Go-clause-row c =
 pub returns-in-Quit-clause-row : goal.returns-in-Quit-clause-row
 returns-in-Quit-clause-row c =
     let e = sym c.self.view_is ∙ ap state_of c.in-Keeping.is in
-    named _ _ _ _ _ _ e (row.quits c.in-Quit.ensures refl refl) c.new-in-Quit.ensures
+    named _ _ _ _ _ _ e (row.quits c.in-Quit.ensures refl refl) c.new-in-Quit.ensures.value
 
 pub returns-in-Other-clause-row : goal.returns-in-Other-clause-row
 returns-in-Other-clause-row c =
     let e = sym c.self.view_is ∙ ap state_of c.in-Keeping.is in
-    other_row _ _ _ _ e c.in-Other.ensures c.new-in-Other.ensures
+    other_row _ _ _ _ e c.in-Other.ensures c.new-in-Other.ensures.value

@@ -1,6 +1,6 @@
 use Rattle.std.proofs.Common.{◌≡◌, ◌∙◌, None, set, ap, refl, subst, sym}
 use Rattle.shogi_board.specs.Cells.{Cells, at, piece}
-use Rattle.shogi_board.specs.Moved.{dropped}
+use Rattle.shogi_board.specs.Moved.{after_drop}
 use Rattle.shogi_board.specs.Placed.{Placed}
 use Rattle.shogi_board.specs.Reach.{InCheck}
 use Rattle.shogi_board.specs.Squares.{place}
@@ -43,7 +43,7 @@ returns-then-king_is_attacked-clause-answer c =
 pub invariant_of-self-2 : goal.invariant_of-self-2
 invariant_of-self-2 c =
     let i = c.self.inside in
-    let totals : IsWithinTotals (dropped (made i.board i.black i.white i.side) c.args.to c.args.kind).material = subst (λ (q : Placed). IsWithinTotals (dropped q c.args.to c.args.kind).material) (sym c.self.view_is) c.requires.totals in
+    let totals : IsWithinTotals (after_drop (made i.board i.black i.white i.side) c.args.to c.args.kind).material = subst (λ (q : Placed). IsWithinTotals (after_drop q c.args.to c.args.kind).material) (sym c.self.view_is) c.requires.totals in
     let safe : InCheck (set i.board (place c.args.to) (piece i.side c.args.kind)) i.side → ⊥ = λ check.
     let asked : InCheck c.put.new.self i.side = rw c.put.ensures check in
     let yes = c.king_is_attacked.ensures.1 asked in

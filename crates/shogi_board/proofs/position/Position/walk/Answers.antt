@@ -1,6 +1,6 @@
 use Rattle.std.proofs.Common.{◌≡◌, ◌∙◌, None, set, get_or, get_or-set_other, refl, subst, sym}
 use Rattle.shogi_board.specs.Cells.{piece}
-use Rattle.shogi_board.specs.Moved.{walked}
+use Rattle.shogi_board.specs.Moved.{after_walk}
 use Rattle.shogi_board.specs.Placed.{Placed}
 use Rattle.shogi_board.specs.Reach.{InCheck}
 use Rattle.shogi_board.specs.Squares.{place}
@@ -51,7 +51,7 @@ returns-then-king_is_attacked-clause-answer c =
 pub invariant_of-self-2 : goal.invariant_of-self-2
 invariant_of-self-2 c =
     let i = c.self.inside in
-    let totals : IsWithinTotals (walked (made i.board i.black i.white i.side) c.args.from c.args.to c.args.kind).material = subst (λ (q : Placed). IsWithinTotals (walked q c.args.from c.args.to c.args.kind).material) (sym c.self.view_is) c.requires.totals in
+    let totals : IsWithinTotals (after_walk (made i.board i.black i.white i.side) c.args.from c.args.to c.args.kind).material = subst (λ (q : Placed). IsWithinTotals (after_walk q c.args.from c.args.to c.args.kind).material) (sym c.self.view_is) c.requires.totals in
     let safe : InCheck (set (set i.board (place c.args.from) None) (place c.args.to) (piece i.side c.args.kind)) i.side → ⊥ = λ check.
     let asked : InCheck c.put-2.new.self i.side = rw (c.put-2.ensures, c.put.ensures) check in
     let yes = c.king_is_attacked.ensures.1 asked in

@@ -2,7 +2,7 @@ use Rattle.std.proofs.Common.{◌≡◌, ◌+◌, get_or, drop, arith, ap, ◌�
 use Rattle.std.specs.List.{prefix_len, position_or_len}
 use Rattle.csa_cutting.specs.Cut.{is_separator, is_end}
 use Rattle.csa_cutting.proofs.Fronts.{next_place, gap_only, rest_of}
-use Rattle.csa_cutting.proofs.cutter.next_unit.Goals as goal
+use Rattle.csa_cutting.proofs.units.next_unit.Goals as goal
 
 pub returns-then-start-source : goal.returns-then-start-source
 returns-then-start-source c =

@@ -1,6 +1,6 @@
 use Rattle.std.proofs.Common.{arith, inr}
 use Rattle.csa_cutting.proofs.Passing.{unit_found, comment_passed, comment_open, gap_open, gap_between}
-use Rattle.csa_cutting.proofs.piece.first_in.Goals as goal
+use Rattle.csa_cutting.proofs.units.first_in.Goals as goal
 
 pub loop-start-init : goal.loop-start-init
 loop-start-init c = record { order = omega arith; within = c.requires; passed = λ place held front low p. p }

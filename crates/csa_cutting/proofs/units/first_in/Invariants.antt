@@ -1,7 +1,7 @@
 use Rattle.std.proofs.Common.{◌≤◌, ◌-◌, List, ℕ, length}
 use Rattle.csa_cutting.specs.Places.{PassesTo}
-use Rattle.csa_cutting.specs.declared.piece.Place.{Place}
-use Rattle.csa_cutting.proofs.piece.first_in.Given as goal
+use Rattle.csa_cutting.specs.declared.units.Place.{Place}
+use Rattle.csa_cutting.proofs.units.first_in.Given as goal
 
 abbrev pub invariant-loop-start : goal.invariant-loop-start
 invariant-loop-start l = record {

@@ -1,7 +1,7 @@
 use Rattle.std.proofs.Common.{rules, sym}
 use Rattle.std.proofs.lemmas.List.Sums.{prefix_len_is}
 use Rattle.csa_cutting.specs.Cut.{is_separator}
-use Rattle.csa_cutting.proofs.cutter.gap_length.Goals as goal
+use Rattle.csa_cutting.proofs.units.gap_length.Goals as goal
 
 pub returns-clause-value : goal.returns-clause-value
 returns-clause-value c =

@@ -5,7 +5,7 @@ use Rattle.std.proofs.lemmas.List.Sums.{position_or_len_is}
 use Rattle.csa_cutting.specs.Cut.{is_end, takes_line}
 use Rattle.csa_cutting.specs.Lines.{is_line_end}
 use Rattle.csa_cutting.proofs.Fronts.{turned_true, turned_false}
-use Rattle.csa_cutting.proofs.cutter.unit_length.Goals as goal
+use Rattle.csa_cutting.proofs.units.unit_length.Goals as goal
 
 -- where a unit takes its line, only a line end ends it
 only_line_ends : (a b c : Bool) → a || b ≡ a || b || (c && false)

@@ -1,6 +1,6 @@
 use Rattle.std.proofs.Common.{◌≡◌, ◌≤◌, length, take}
 use Rattle.csa_cutting.specs.Cut.{without_last_blanks}
-use Rattle.csa_cutting.proofs.cutter.without_last_blanks.Given as goal
+use Rattle.csa_cutting.proofs.units.without_last_blanks.Given as goal
 
 abbrev pub invariant-loop-end : goal.invariant-loop-end
 invariant-loop-end l = record {

@@ -1,8 +1,8 @@
 use Rattle.std.proofs.Common.{◌≡◌, take, arith, sym, ◌∙◌, refl}
 use Rattle.csa_cutting.specs.Cut.{without_last_blanks}
 use Rattle.csa_cutting.proofs.Blanks.{one_less, all_kept}
-use Rattle.csa_cutting.proofs.cutter.without_last_blanks.Goals as goal
-use Rattle.csa_cutting.proofs.cutter.without_last_blanks.Goals.{then-loop-end-test+else-is_blank, else-loop-end-test}
+use Rattle.csa_cutting.proofs.units.without_last_blanks.Goals as goal
+use Rattle.csa_cutting.proofs.units.without_last_blanks.Goals.{then-loop-end-test+else-is_blank, else-loop-end-test}
 
 pub loop-end-preserved : goal.loop-end-preserved
 loop-end-preserved c = record {

@@ -1,0 +1,155 @@
+//! Where the next unit of a text is, and the bytes that are handed out of a statement's unit.
+
+ghost use Rattle.std.specs.Prelude.{◌≡◌, ℕ, List, false, ◌<◌, ◌≤◌, length, drop, not, MatchOption};
+ghost use Rattle.std.specs.List.{position_or_len, prefix_len};
+ghost use Rattle.csa_cutting.specs.Cut.{IsNext, IsGap, is_separator, is_blank, takes_line, is_end, statement_bytes, without_last_blanks};
+ghost use Rattle.csa_cutting.specs.Cutting.{unit_between};
+ghost use Rattle.csa_cutting.specs.Places.{IsFoundIn, PassesTo};
+
+use crate::line::line_length;
+use crate::scan::front_length;
+
+// The first byte of a comment.
+pub(crate) const COMMENT: u8 = b'\'';
+
+// The UTF-8 byte order mark.
+pub(crate) const BYTE_ORDER_MARK: [u8; 3] = [0xEF, 0xBB, 0xBF];
+
+// Where the bytes so far have led to.
+#[derive(Clone, Copy, Debug, PartialEq, Eq)]
+pub(crate) enum Place {
+    // at the start, or in the byte order mark
+    Mark,
+    Gap,
+    Unit,
+    Comment,
+}
+
+// A statement's unit in the piece, from start to before end, behind what is held of it where it goes
+// on.
+#[derive(Clone, Copy, Debug, PartialEq, Eq)]
+pub(crate) struct Part {
+    pub goes_on: bool,
+    pub start: usize,
+    pub end: usize,
+}
+
+// The first statement's unit in the piece from here on, behind gaps and comments, or where it leads
+// to where it holds none: so for each cutter that stands before a front that leads here.
+#[inline(always)]
+pub(crate) fn first_in(piece: &[u8], from: usize) -> Result<Part, Place>
+    requires { from ≤ length piece.now }
+    ensures { (place : Place) (held : List ℕ) (front : ℕ) → front ≤ from → PassesTo place held piece.now front from
+        → IsFoundIn place held piece.now front result }
+{
+    let mut at = from;
+    while let Some((start, end)) = next_unit(piece, at) {
+        if piece[start] != COMMENT {
+            return Ok(Part {
+                goes_on: false,
+                start,
+                end,
+            });
+        }
+        if end == piece.len() {
+            return Err(Place::Comment);
+        }
+        at = end;
+    }
+    Err(Place::Gap)
+}
+
+fn is_separator(b: u8) -> bool
+    ensures { result ≡ is_separator b }
+{
+    b == b'\r' || b == b'\n' || b == b',' || b == b' ' || b == b'\t'
+}
+
+fn takes_line(first: u8) -> bool
+    ensures { result ≡ takes_line first }
+{
+    first == COMMENT || first == b'N' || first == b'$'
+}
+
+// Whether a statement that does not take the whole line goes on with this byte.
+fn goes_on(b: u8) -> bool
+    ensures { (first : ℕ) → takes_line first ≡ false → result ≡ not (is_end first b) }
+{
+    b != b'\r' && b != b'\n' && b != b','
+}
+
+// How many separators the text begins with.
+fn gap_length(text: &[u8]) -> usize
+    ensures value { result ≡ prefix_len is_separator text.now }
+    ensures within { result ≤ length text.now }
+{
+    front_length(text, is_separator)
+}
+
+// How many bytes of the text come before what ends a unit with this first byte.
+#[inline(always)]
+pub(crate) fn unit_length(first: u8, text: &[u8]) -> usize
+    ensures value { result ≡ position_or_len (is_end first) text.now }
+    ensures within { result ≤ length text.now }
+{
+    if takes_line(first) {
+        return line_length(text);
+    }
+    front_length(text, goes_on)
+}
+
+// The next unit at or after `from`, a comment too: where it starts, and where it ends.
+#[inline(always)]
+fn next_unit(source: &[u8], from: usize) -> Option<(usize, usize)>
+    requires { from ≤ length source.now }
+    ensures { MatchOption result
+        (IsGap (drop from source.now))
+        (λ r. (r.0 < r.1) × (r.1 ≤ length source.now)
+        × IsNext from (drop from source.now) (unit_between source.now r.0 r.1) (drop r.1 source.now)) }
+{
+    let start = from + gap_length(&source[from..]);
+    if start == source.len() {
+        return None;
+    }
+    let length = unit_length(source[start], &source[start + 1..]);
+    Some((start, start + 1 + length))
+}
+
+// The bytes of a statement, of its unit's.
+pub(crate) fn handed_out(unit: &[u8]) -> &[u8]
+    ensures value { result.now ≡ statement_bytes unit.now }
+    ensures place { result.ref_ptr ≡ unit.entry.ref_ptr }
+{
+    if !ends_blank(unit) {
+        return unit;
+    }
+    match unit.first() {
+        Some(b'N') | Some(b'$') => unit,
+        _ => without_last_blanks(unit),
+    }
+}
+
+// Whether a space or a tab is the last of the bytes.
+fn ends_blank(bytes: &[u8]) -> bool
+    ensures { result ≡ false → without_last_blanks bytes.now ≡ bytes.now }
+{
+    bytes.last().copied().is_some_and(is_blank)
+}
+
+fn is_blank(b: u8) -> bool
+    ensures { result ≡ is_blank b }
+{
+    b == b' ' || b == b'\t'
+}
+
+// The bytes less the spaces and tabs at their end.
+fn without_last_blanks(bytes: &[u8]) -> &[u8]
+    ensures value { result.now ≡ without_last_blanks bytes.now }
+    ensures place { result.ref_ptr ≡ bytes.entry.ref_ptr }
+{
+    let mut end = bytes.len();
+    while end > 0 && is_blank(bytes[end - 1]) {
+        end -= 1;
+    }
+    &bytes[..end]
+}
