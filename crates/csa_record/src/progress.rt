@@ -167,17 +167,12 @@ impl Progress {
     fn take_turn(&mut self, color: Color) -> Result<(), Why>
         ensures { (before : List Saying) → Keeps before self.old → TakenOrRefused before (turn color) result (record self.new { begun = true }) }
     {
-        let started = match &self.stage {
-            Stage::Laying(laying) => course_from(self.alloc, laying, color),
-            Stage::Playing(course) => Err(late_in(course, OrderFault::RepeatedTurn)),
+        let course = match &self.stage {
+            Stage::Laying(laying) => course_from(self.alloc, laying, color)?,
+            Stage::Playing(course) => return Err(late_in(course, OrderFault::RepeatedTurn)),
         };
-        match started {
-            Ok(course) => {
-                self.stage = Stage::Playing(course);
-                Ok(())
-            }
-            Err(why) => Err(why),
-        }
+        self.stage = Stage::Playing(course);
+        Ok(())
     }
 
     #[inline(always)]
@@ -217,10 +212,7 @@ fn course_from(alloc: Global, laying: &Laying, side: Color) -> Result<Course, Wh
         (λ c. Finishes (Ok laying.now.layout) side None × (c ≡ record { start = position_of laying.now.layout side; moves = []; ending = None }))
         (λ why. (answer : Option Why) × Finishes (Ok laying.now.layout) side answer × IsAnswer answer (Err why)) }
 {
-    let start = match laying.finish(side) {
-        Ok(start) => start,
-        Err(why) => return Err(why),
-    };
+    let start = laying.finish(side)?;
     match Course::new(alloc, start) {
         Ok(course) => Ok(course),
         Err(_) => Err(Why::OutOfMemory),

@@ -57,10 +57,8 @@ impl Record {
         ensures ok { IfOk result (λ r. r ≡ game_along line) }
         ensures err { IfErr result (λ l. l ≡ line) }
     {
-        match Course::from_line(alloc, line) {
-            Ok(course) => Ok(Record::from_parts(Titles::new(alloc), course)),
-            Err(line) => Err(line),
-        }
+        let course = Course::from_line(alloc, line)?;
+        Ok(Record::from_parts(Titles::new(alloc), course))
     }
 
     // The record of these parts.

@@ -77,17 +77,13 @@ pub fn answer_all<M: Machine, X: Wire>(
     let mut cutter = LineCutter::new(alloc, streams::LONGEST_LINE);
     let mut buffer = [0u8; PIECE];
     for _pieces in 0..u64::MAX {
-        let taken = match wire.receive(&mut buffer) {
-            Ok(taken) => taken,
-            Err(fault) => return Err(fault),
-        };
+        let taken = wire.receive(&mut buffer)?;
         if taken == 0 {
             return answer_last(&mut cutter, machine, wire);
         }
-        match answer_piece(&mut cutter, machine, wire, &buffer[..taken]) {
-            Ok(true) => return Ok(true),
-            Ok(false) => {}
-            Err(fault) => return Err(fault),
+        let ended = answer_piece(&mut cutter, machine, wire, &buffer[..taken])?;
+        if ended {
+            return Ok(true);
         }
     }
     Err(Fault::Read)
@@ -124,11 +120,11 @@ fn answer_piece<M: Machine, X: Wire>(
 {
     let mut used = 0;
     while used < piece.len() {
-        match answer_next(cutter, machine, wire, &piece[used..]) {
-            Ok((_, true)) => return Ok(true),
-            Ok((more, false)) => used += more,
-            Err(fault) => return Err(fault),
+        let (more, ended) = answer_next(cutter, machine, wire, &piece[used..])?;
+        if ended {
+            return Ok(true);
         }
+        used += more;
     }
     Ok(false)
 }
@@ -153,10 +149,8 @@ fn answer_next<M: Machine, X: Wire>(
     let Some(line) = line else {
         return Ok((used, false));
     };
-    match answer(machine, wire, line) {
-        Ok(ended) => Ok((used, ended)),
-        Err(fault) => Err(fault),
-    }
+    let ended = answer(machine, wire, line)?;
+    Ok((used, ended))
 }
 
 // Answers a line: whether the machine has ended.
@@ -168,9 +162,6 @@ fn answer<M: Machine, X: Wire>(machine: &mut M, wire: &mut X, line: &[u8]) -> Re
     let Ok(reply) = machine.answer(line) else {
         return Err(Fault::OutOfMemory);
     };
-    match wire.send(reply.lines.bytes()) {
-        Ok(()) => {}
-        Err(fault) => return Err(fault),
-    }
+    wire.send(reply.lines.bytes())?;
     Ok(reply.ended)
 }

@@ -89,23 +89,19 @@ impl Host {
         ensures stays { self.old.state ≡ ended → self.new.state ≡ ended }
     {
         let stage = mem::replace(&mut self.stage, HostStage::Ended);
-        match answer(
+        let reply = answer(
             self.alloc,
             &self.config,
             stage,
             without_last_spaces(line),
             seconds,
-        ) {
-            Ok(reply) => {
-                let ended = is_ended(&reply.stage);
-                self.stage = reply.stage;
-                Ok(HostOut {
-                    to_client: reply.lines,
-                    ended,
-                })
-            }
-            Err(fault) => Err(fault),
-        }
+        )?;
+        let ended = is_ended(&reply.stage);
+        self.stage = reply.stage;
+        Ok(HostOut {
+            to_client: reply.lines,
+            ended,
+        })
     }
 }
 

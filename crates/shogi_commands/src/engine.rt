@@ -29,8 +29,6 @@ fn answer<X: Wire>(alloc: Global, wire: &mut X) -> Result<(), Fault>
     ensures breaks_off { IfErr result (λ fault. BreaksOff X.came X.ends X.went X.silent X.blocked ⟦<Sample as Machine>⟧.answers wire.old (keeps None) fault wire.new) }
     ensures faults { IfErr result IsTalkFault }
 {
-    match talk::answer_all(alloc, &mut Sample::new(alloc), wire) {
-        Ok(_) => Ok(()),
-        Err(fault) => Err(fault),
-    }
+    talk::answer_all(alloc, &mut Sample::new(alloc), wire)?;
+    Ok(())
 }

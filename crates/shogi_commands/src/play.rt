@@ -204,24 +204,17 @@ fn keep_game<P: Place>(
     let Some(text) = found else {
         return told_of(played, 0);
     };
-    match place.replace(text.as_slice()) {
-        Ok(()) => {}
-        Err(fault) => return Err(fault),
-    }
-    match played {
-        Ok(()) => moves_in(alloc, text.as_slice()),
-        Err(fault) => Err(fault),
-    }
+    place.replace(text.as_slice())?;
+    played?;
+    moves_in(alloc, text.as_slice())
 }
 
 // The fault of the session, or else so many moves.
 fn told_of(played: Result<(), Fault>, moves: usize) -> Result<usize, Fault>
     ensures { result ≡ told_of played moves }
 {
-    match played {
-        Ok(()) => Ok(moves),
-        Err(fault) => Err(fault),
-    }
+    played?;
+    Ok(moves)
 }
 
 // A bridge to which nothing has happened.

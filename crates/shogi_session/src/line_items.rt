@@ -17,10 +17,7 @@ pub(crate) fn next_item<'a>(cutter: &mut Cutter<'a>) -> Result<Option<Item<'a>>,
     ensures { Next cutter.old result cutter.new }
 {
     match cutter.next_statement() {
-        Ok(Some(statement)) => match read_item(statement.bytes) {
-            Ok(item) => Ok(Some(item)),
-            Err(fault) => Err(fault),
-        },
+        Ok(Some(statement)) => Ok(Some(read_item(statement.bytes)?)),
         Ok(None) => Ok(None),
         Err(_) => Err(TextFault::StatementTooLong),
     }
@@ -50,10 +47,10 @@ pub(crate) fn last_time(cutter: &mut Cutter<'_>) -> Result<Option<u64>, TextFaul
         return Ok(None);
     };
     match time_of(item) {
-        Some(thousandths) => match expect_end(cutter) {
-            Ok(()) => Ok(Some(thousandths)),
-            Err(fault) => Err(fault),
-        },
+        Some(thousandths) => {
+            expect_end(cutter)?;
+            Ok(Some(thousandths))
+        }
         None => Err(TextFault::Unknown),
     }
 }

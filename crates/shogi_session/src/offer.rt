@@ -75,13 +75,9 @@ fn name_both(game: Record, black: &[u8], white: &[u8]) -> Result<Record, OutOfMe
     ensures { IfOk result (λ named. IsNamed game black.now white.now named) }
 {
     let mut named = game;
-    match name_side(&mut named, Color::Black, black) {
-        Ok(()) => match name_side(&mut named, Color::White, white) {
-            Ok(()) => Ok(named),
-            Err(fault) => Err(fault),
-        },
-        Err(fault) => Err(fault),
-    }
+    name_side(&mut named, Color::Black, black)?;
+    name_side(&mut named, Color::White, white)?;
+    Ok(named)
 }
 
 // Names a side of the game that has no name; only want of memory can refuse that.

@@ -76,13 +76,11 @@ impl PositionReader {
         ensures { IfOk result (λ taken. taken ≡ self ++ ended_line line.now) }
     {
         let PositionReader { text, progress } = self;
-        match go_on(progress, line) {
-            Ok(progress) => Ok(PositionReader {
-                text: text.with(line),
-                progress,
-            }),
-            Err(fault) => Err(fault),
-        }
+        let progress = go_on(progress, line)?;
+        Ok(PositionReader {
+            text: text.with(line),
+            progress,
+        })
     }
 
     // Ends the block.
@@ -90,10 +88,8 @@ impl PositionReader {
         ensures { IfOk result (λ ended. ended ≡ self) }
     {
         let PositionReader { text, progress } = self;
-        match game_of(progress) {
-            Ok(game) => Ok(EndedPosition { text, game }),
-            Err(fault) => Err(fault),
-        }
+        let game = game_of(progress)?;
+        Ok(EndedPosition { text, game })
     }
 }
 
@@ -119,10 +115,10 @@ fn go_on(progress: Progress, line: &[u8]) -> Result<Progress, OutOfMemory>
     let Progress::Reading(mut reader) = progress else {
         return Ok(Progress::Failed);
     };
-    match take_line(&mut reader, line) {
-        Ok(true) => Ok(Progress::Reading(reader)),
-        Ok(false) => Ok(Progress::Failed),
-        Err(fault) => Err(fault),
+    if take_line(&mut reader, line)? {
+        Ok(Progress::Reading(reader))
+    } else {
+        Ok(Progress::Failed)
     }
 }
 
@@ -152,10 +148,10 @@ fn take_line(reader: &mut RecordReader, line: &[u8]) -> Result<bool, OutOfMemory
     if !is_position_text(line) {
         return Ok(false);
     }
-    match feed(reader, line) {
-        Ok(true) => feed(reader, LINE_END),
-        Ok(false) => Ok(false),
-        Err(fault) => Err(fault),
+    if feed(reader, line)? {
+        feed(reader, LINE_END)
+    } else {
+        Ok(false)
     }
 }
 

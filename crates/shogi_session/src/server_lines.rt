@@ -23,13 +23,9 @@ pub(crate) fn read_server_move(line: &[u8]) -> Result<(Color, Move, Option<u64>)
         (λ fault. FirstTextFault line.now fault) }
 {
     let mut cutter = Cutter::new(line);
-    match next_move(&mut cutter) {
-        Ok(told) => match last_time(&mut cutter) {
-            Ok(time) => Ok((told.0, told.1, time)),
-            Err(fault) => Err(fault),
-        },
-        Err(fault) => Err(fault),
-    }
+    let (color, mv) = next_move(&mut cutter)?;
+    let time = last_time(&mut cutter)?;
+    Ok((color, mv, time))
 }
 
 // The ending that a line tells, with its time, if it has one; or None.

@@ -1,10 +1,17 @@
-use Rattle.std.proofs.Common.{refl}
+use Rattle.std.proofs.Common.{inl, inr, refl}
+use Rattle.std.proofs.lemmas.Result.{err_from_is_err_and}
 use Rattle.session_loops.specs.Talks.{no_answer, not_sent}
 use Rattle.session_loops.proofs.talk.answer.Goals as goal
 
 pub returns-in_default-clause-unsent : goal.returns-in_default-clause-unsent
 returns-in_default-clause-unsent g c = no_answer refl
 
-pub returns-in-Err-clause-unsent : goal.returns-in-Err-clause-unsent
-returns-in-Err-clause-unsent g c =
-    rw c.in-Err.ensures.faults (not_sent _ _ _ c.in-Ok.ensures.answer (rw (← c.bytes.ensures.value) c.in-Err.ensures.blocked))
+pub returns-in_err-send-clause-unsent : goal.returns-in_err-send-clause-unsent
+returns-in_err-send-clause-unsent g c =
+    let p = err_from_is_err_and c.from_residual.result c.from_residual.ensures.1 in
+    rw (p.1, p.2, c.in_err-send.ensures.faults) (not_sent _ _ _ c.in-Ok.ensures.answer (rw (← c.bytes.ensures.value) c.in_err-send.ensures.blocked))
+
+pub returns-in_err-send-clause-faults : goal.returns-in_err-send-clause-faults
+returns-in_err-send-clause-faults g c =
+    let p = err_from_is_err_and c.from_residual.result c.from_residual.ensures.1 in
+    rw (p.1, p.2) (inr (inl c.in_err-send.ensures.faults))

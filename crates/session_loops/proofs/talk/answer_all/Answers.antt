@@ -1,5 +1,6 @@
-use Rattle.std.proofs.Common.{arith, ◌+◌, ◌<◌, take}
+use Rattle.std.proofs.Common.{arith, inr, ◌+◌, ◌<◌, take}
 use Rattle.std.proofs.lemmas.List.{length-take-le}
+use Rattle.std.proofs.lemmas.Result.{err_from_is_err_and}
 use Rattle.session_loops.proofs.Talks.{talk_begins, piece_came, fell_silent, never_ends, talk_ends, piece_finishes, piece_goes_on}
 use Rattle.session_loops.proofs.talk.answer_all.Goals as goal
 
@@ -7,39 +8,52 @@ pub loop-pieces-init : goal.loop-pieces-init
 loop-pieces-init g c =
     talk_begins g.X.Wire.came g.X.Wire.ends g.X.Wire.went g.M.Machine.answers c.args.wire.now c.args.machine.now c.new-cutter.result c.new-cutter.ensures.held c.new-cutter.ensures.limit c.new-cutter.ensures.failed
 
-pub returns-in-Err-clause-breaks_off : goal.returns-in-Err-clause-breaks_off
-returns-in-Err-clause-breaks_off g c =
-    fell_silent g.X.Wire.came g.X.Wire.ends g.X.Wire.went g.X.Wire.silent g.X.Wire.blocked g.M.Machine.answers c.args.wire.now c.args.machine.now c.loop-pieces._pieces c.loop-pieces.cutter c.loop-pieces.wire c.receive.new.self c.loop-pieces.machine c.in-Err.fault c.in-Err.ensures.faults c.loop-pieces.invariant c.in-Err.ensures.silent
+pub returns-in_err-taken-clause-breaks_off : goal.returns-in_err-taken-clause-breaks_off
+returns-in_err-taken-clause-breaks_off g c =
+    let p = err_from_is_err_and c.from_residual.result c.from_residual.ensures.1 in
+    rw (p.1, p.2)
+    (fell_silent g.X.Wire.came g.X.Wire.ends g.X.Wire.went g.X.Wire.silent g.X.Wire.blocked g.M.Machine.answers c.args.wire.now c.args.machine.now c.loop-pieces._pieces c.loop-pieces.cutter c.loop-pieces.wire c.receive.new.self c.loop-pieces.machine c.in_err-taken.field-0.0 c.in_err-taken.ensures.faults c.loop-pieces.invariant c.in_err-taken.ensures.silent)
+
+pub returns-in_err-taken-clause-faults : goal.returns-in_err-taken-clause-faults
+returns-in_err-taken-clause-faults g c =
+    let p = err_from_is_err_and c.from_residual.result c.from_residual.ensures.1 in
+    rw (p.1, p.2) (inr (inr c.in_err-taken.ensures.faults))
 
 pub returns-then-taken-eq0-clause-answered : goal.returns-then-taken-eq0-clause-answered
 returns-then-taken-eq0-clause-answered g c =
-    (talk_ends g.X.Wire.came g.X.Wire.ends g.X.Wire.went g.X.Wire.silent g.X.Wire.blocked g.M.Machine.answers c.loop-pieces.cutter c.receive.new.self c.answer_last.new.wire c.loop-pieces.machine c.answer_last.new.machine c.answer_last.result c.args.wire.now c.args.machine.now c.loop-pieces._pieces c.loop-pieces.wire c.answer_last.ensures.talk c.loop-pieces.invariant (c.in-Ok.ensures.ends c.if-taken-eq0.true)).0
+    (talk_ends g.X.Wire.came g.X.Wire.ends g.X.Wire.went g.X.Wire.silent g.X.Wire.blocked g.M.Machine.answers c.loop-pieces.cutter c.receive.new.self c.answer_last.new.wire c.loop-pieces.machine c.answer_last.new.machine c.answer_last.result c.args.wire.now c.args.machine.now c.loop-pieces._pieces c.loop-pieces.wire c.answer_last.ensures.talk c.loop-pieces.invariant (c.in_ok-taken.ensures.ends c.if-taken-eq0.true)).0
 
 pub returns-then-taken-eq0-clause-breaks_off : goal.returns-then-taken-eq0-clause-breaks_off
 returns-then-taken-eq0-clause-breaks_off g c =
-    (talk_ends g.X.Wire.came g.X.Wire.ends g.X.Wire.went g.X.Wire.silent g.X.Wire.blocked g.M.Machine.answers c.loop-pieces.cutter c.receive.new.self c.answer_last.new.wire c.loop-pieces.machine c.answer_last.new.machine c.answer_last.result c.args.wire.now c.args.machine.now c.loop-pieces._pieces c.loop-pieces.wire c.answer_last.ensures.talk c.loop-pieces.invariant (c.in-Ok.ensures.ends c.if-taken-eq0.true)).1
+    (talk_ends g.X.Wire.came g.X.Wire.ends g.X.Wire.went g.X.Wire.silent g.X.Wire.blocked g.M.Machine.answers c.loop-pieces.cutter c.receive.new.self c.answer_last.new.wire c.loop-pieces.machine c.answer_last.new.machine c.answer_last.result c.args.wire.now c.args.machine.now c.loop-pieces._pieces c.loop-pieces.wire c.answer_last.ensures.talk c.loop-pieces.invariant (c.in_ok-taken.ensures.ends c.if-taken-eq0.true)).1
 
 pub returns-clause-breaks_off : goal.returns-clause-breaks_off
 returns-clause-breaks_off g c =
     never_ends g.X.Wire.came g.X.Wire.ends g.X.Wire.went g.X.Wire.silent g.X.Wire.blocked g.M.Machine.answers c.args.wire.now c.args.machine.now c.loop-pieces._pieces c.loop-pieces.cutter c.loop-pieces.wire c.loop-pieces.machine c.loop-pieces.invariant (omega (arith, c.loop-pieces-test.false))
 
-pub returns-in-Ok-true-clause-answered : goal.returns-in-Ok-true-clause-answered
-returns-in-Ok-true-clause-answered g c =
-    let some : 0 < c.in-Ok.taken = omega (arith, c.if-taken-eq0.false) in
-    let size = length-take-le c.in-Ok.taken c.receive.new.buffer c.in-Ok.ensures.within in
-    let fed = piece_came g.X.Wire.came g.X.Wire.ends g.X.Wire.went g.M.Machine.answers c.args.wire.now c.args.machine.now c.loop-pieces._pieces c.loop-pieces.cutter (take c.in-Ok.taken c.receive.new.buffer) c.loop-pieces.wire c.receive.new.self c.loop-pieces.machine c.loop-pieces.invariant (c.in-Ok.ensures.came some) (omega (arith, some, size)) in
-    piece_finishes g.X.Wire.came g.X.Wire.ends g.X.Wire.went g.X.Wire.silent g.X.Wire.blocked g.M.Machine.answers c.loop-pieces.cutter c.answer_piece.new.cutter (take c.in-Ok.taken c.receive.new.buffer) c.in-Ok-true.field-0 c.receive.new.self c.answer_piece.new.wire c.loop-pieces.machine c.answer_piece.new.machine c.in-Ok-true.field-0-test c.in-Ok-true.ensures.talk c.args.wire.now c.args.machine.now (c.loop-pieces._pieces + 1) fed
+pub returns-then-ended-clause-answered : goal.returns-then-ended-clause-answered
+returns-then-ended-clause-answered g c =
+    let some : 0 < c.in_ok-taken.taken = omega (arith, c.if-taken-eq0.false) in
+    let size = length-take-le c.in_ok-taken.taken c.receive.new.buffer c.in_ok-taken.ensures.within in
+    let fed = piece_came g.X.Wire.came g.X.Wire.ends g.X.Wire.went g.M.Machine.answers c.args.wire.now c.args.machine.now c.loop-pieces._pieces c.loop-pieces.cutter (take c.in_ok-taken.taken c.receive.new.buffer) c.loop-pieces.wire c.receive.new.self c.loop-pieces.machine c.loop-pieces.invariant (c.in_ok-taken.ensures.came some) (omega (arith, some, size)) in
+    piece_finishes g.X.Wire.came g.X.Wire.ends g.X.Wire.went g.X.Wire.silent g.X.Wire.blocked g.M.Machine.answers c.loop-pieces.cutter c.answer_piece.new.cutter (take c.in_ok-taken.taken c.receive.new.buffer) c.in_ok-ended.ended c.receive.new.self c.answer_piece.new.wire c.loop-pieces.machine c.answer_piece.new.machine c.if-ended.true c.in_ok-ended.ensures.talk c.args.wire.now c.args.machine.now (c.loop-pieces._pieces + 1) fed
 
-pub returns-in-Err-answer_piece-clause-breaks_off : goal.returns-in-Err-answer_piece-clause-breaks_off
-returns-in-Err-answer_piece-clause-breaks_off g c =
-    let some : 0 < c.in-Ok.taken = omega (arith, c.if-taken-eq0.false) in
-    let size = length-take-le c.in-Ok.taken c.receive.new.buffer c.in-Ok.ensures.within in
-    let fed = piece_came g.X.Wire.came g.X.Wire.ends g.X.Wire.went g.M.Machine.answers c.args.wire.now c.args.machine.now c.loop-pieces._pieces c.loop-pieces.cutter (take c.in-Ok.taken c.receive.new.buffer) c.loop-pieces.wire c.receive.new.self c.loop-pieces.machine c.loop-pieces.invariant (c.in-Ok.ensures.came some) (omega (arith, some, size)) in
-    c.in-Err-answer_piece.ensures.talk c.args.wire.now c.args.machine.now (c.loop-pieces._pieces + 1) fed
+pub returns-in_err-ended-clause-breaks_off : goal.returns-in_err-ended-clause-breaks_off
+returns-in_err-ended-clause-breaks_off g c =
+    let some : 0 < c.in_ok-taken.taken = omega (arith, c.if-taken-eq0.false) in
+    let size = length-take-le c.in_ok-taken.taken c.receive.new.buffer c.in_ok-taken.ensures.within in
+    let fed = piece_came g.X.Wire.came g.X.Wire.ends g.X.Wire.went g.M.Machine.answers c.args.wire.now c.args.machine.now c.loop-pieces._pieces c.loop-pieces.cutter (take c.in_ok-taken.taken c.receive.new.buffer) c.loop-pieces.wire c.receive.new.self c.loop-pieces.machine c.loop-pieces.invariant (c.in_ok-taken.ensures.came some) (omega (arith, some, size)) in
+    let p = err_from_is_err_and c.from_residual-in_err-ended.result c.from_residual-in_err-ended.ensures.1 in
+    rw (p.1, p.2) (c.in_err-ended.ensures.talk c.args.wire.now c.args.machine.now (c.loop-pieces._pieces + 1) fed)
+
+pub returns-in_err-ended-clause-faults : goal.returns-in_err-ended-clause-faults
+returns-in_err-ended-clause-faults g c =
+    let p = err_from_is_err_and c.from_residual-in_err-ended.result c.from_residual-in_err-ended.ensures.1 in
+    rw (p.1, p.2) c.in_err-ended.ensures.faults
 
 pub loop-pieces-preserved : goal.loop-pieces-preserved
 loop-pieces-preserved g c =
-    let some : 0 < c.in-Ok.taken = omega (arith, c.if-taken-eq0.false) in
-    let size = length-take-le c.in-Ok.taken c.receive.new.buffer c.in-Ok.ensures.within in
-    let fed = piece_came g.X.Wire.came g.X.Wire.ends g.X.Wire.went g.M.Machine.answers c.args.wire.now c.args.machine.now c.loop-pieces._pieces c.loop-pieces.cutter (take c.in-Ok.taken c.receive.new.buffer) c.loop-pieces.wire c.receive.new.self c.loop-pieces.machine c.loop-pieces.invariant (c.in-Ok.ensures.came some) (omega (arith, some, size)) in
-    piece_goes_on g.X.Wire.came g.X.Wire.ends g.X.Wire.went g.X.Wire.silent g.X.Wire.blocked g.M.Machine.answers c.loop-pieces.cutter c.answer_piece.new.cutter (take c.in-Ok.taken c.receive.new.buffer) c.in-Ok-false.field-0 c.receive.new.self c.answer_piece.new.wire c.loop-pieces.machine c.answer_piece.new.machine c.in-Ok-false.field-0-test c.in-Ok-false.ensures.talk c.args.wire.now c.args.machine.now (c.loop-pieces._pieces + 1) fed
+    let some : 0 < c.in_ok-taken.taken = omega (arith, c.if-taken-eq0.false) in
+    let size = length-take-le c.in_ok-taken.taken c.receive.new.buffer c.in_ok-taken.ensures.within in
+    let fed = piece_came g.X.Wire.came g.X.Wire.ends g.X.Wire.went g.M.Machine.answers c.args.wire.now c.args.machine.now c.loop-pieces._pieces c.loop-pieces.cutter (take c.in_ok-taken.taken c.receive.new.buffer) c.loop-pieces.wire c.receive.new.self c.loop-pieces.machine c.loop-pieces.invariant (c.in_ok-taken.ensures.came some) (omega (arith, some, size)) in
+    piece_goes_on g.X.Wire.came g.X.Wire.ends g.X.Wire.went g.X.Wire.silent g.X.Wire.blocked g.M.Machine.answers c.loop-pieces.cutter c.answer_piece.new.cutter (take c.in_ok-taken.taken c.receive.new.buffer) c.in_ok-ended.ended c.receive.new.self c.answer_piece.new.wire c.loop-pieces.machine c.answer_piece.new.machine c.if-ended.false c.in_ok-ended.ensures.talk c.args.wire.now c.args.machine.now (c.loop-pieces._pieces + 1) fed
