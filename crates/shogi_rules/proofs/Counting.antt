@@ -1,18 +1,18 @@
 -- One position more among those that are kept of a line.
-use Rattle.std.proofs.Common.{◌≡◌, ◌↔◌, ◌⊎◌, IsTrue, ℕ, set, suc, ◌+◌, ◌<◌, ◌≤◌, List, [], ◌∷◌, ◌++◌, Some, slice_get, arith, refl, sym, ap, ◌∙◌, length, length-set, inl, inr, subst, zero}
+use Rattle.std.proofs.Common.{◌≡◌, ◌↔◌, IsTrue, ℕ, set, suc, ◌+◌, ◌<◌, ◌≤◌, List, [], ◌∷◌, ◌++◌, Some, slice_get, arith, refl, sym, ap, ◌∙◌, length, length-set, inl, inr, subst, zero}
 use Rattle.std.proofs.lemmas.Bool.{cases_lt}
 use Rattle.std.proofs.lemmas.List.{length-append}
 use Rattle.std.proofs.lemmas.Option.{same_Some, slice_get_within}
 use Rattle.shogi_board.specs.Placed.{Placed}
 use Rattle.shogi_board.specs.Reach.{InCheck}
 use Rattle.shogi_board.specs.Same.{same_position}
-use Rattle.shogi_rules.specs.Chains.{keys}
+use Rattle.shogi_rules.specs.Searching.{keys}
 use Rattle.shogi_rules.specs.Counting.{AreCounts, AreTurns, StandsAt}
 use Rattle.shogi_rules.specs.Repetition.{times, IsNth}
 use Rattle.shogi_rules.specs.declared.occurrences.Entry.{Entry}
 use Rattle.shogi_rules.specs.declared.seen.Turn.{Turn}
-use Rattle.shogi_rules.proofs.Counts.{first, times-more}
-use Rattle.shogi_rules.proofs.Counted.{times-last, times-kept, times-whole, times-other, times-low, apart, get-left, get-behind, key-at, keys-more, keys-kept, last-entry, pushed}
+use Rattle.shogi_rules.proofs.Counts.{first, times-more, times-same}
+use Rattle.shogi_rules.proofs.Counted.{times-last, times-kept, times-whole, times-other, times-low, apart, get-left, get-behind, get-set, get-other, equal-or, key-at, keys-more, keys-kept, last-entry, pushed}
 
 -- a position that stands at a place stands at least once
 stands-once : (ps : List Placed) (i : ℕ) (p : Placed) → slice_get ps i ≡ Some p → 1 ≤ times ps p
@@ -103,30 +103,8 @@ counts-more ps es d old none one here =
           omega (arith, a, b, low);
     }
 
-get-set : (es : List Entry) (n : ℕ) (d e x : Entry) → slice_get es n ≡ Some d → slice_get (set es n e) n ≡ Some x → e ≡ x
-get-set [] n d e x at there = cc
-get-set (y ∷ es) zero d e x at there = same_Some e x there
-get-set (y ∷ es) (suc n) d e x at there = get-set es n d e x at there
-
-get-other : (es : List Entry) (n i : ℕ) (e : Entry) → (i ≡ n → ⊥) → slice_get (set es n e) i ≡ slice_get es i
-get-other [] n i e other = refl
-get-other (y ∷ es) zero zero e other = absurd (other refl)
-get-other (y ∷ es) zero (suc i) e other = refl
-get-other (y ∷ es) (suc n) zero e other = refl
-get-other (y ∷ es) (suc n) (suc i) e other = get-other es n i e (λ same. other (ap suc same))
-
-equal-or : (i n : ℕ) → (i ≡ n) ⊎ (i ≡ n → ⊥)
-equal-or i n =
-    elim (cases_lt i n) [
-      | inl low ↦ inr (λ e. omega (arith, e, low))
-      | inr le ↦ elim (cases_lt n i) [
-        | inl high ↦ inr (λ e. omega (arith, e, high))
-        | inr ge ↦ inl (omega (arith, le, ge))
-      ]
-    ]
-
 -- what stood at a place of the entries before one of them was counted on
-was-at : (es : List Entry) (n : ℕ) (d e : Entry) (i : ℕ) (x : Entry) → slice_get es n ≡ Some d → e.position ≡ d.position → slice_get (set es n e) i ≡ Some x → (y : Entry) × (slice_get es i ≡ Some y) × (y.position ≡ x.position)
+pub was-at : (es : List Entry) (n : ℕ) (d e : Entry) (i : ℕ) (x : Entry) → slice_get es n ≡ Some d → e.position ≡ d.position → slice_get (set es n e) i ≡ Some x → (y : Entry) × (slice_get es i ≡ Some y) × (y.position ≡ x.position)
 was-at es n d e i x at same by =
     elim (equal-or i n) [
       | inl here ↦
@@ -212,3 +190,11 @@ stands-behind es d = λ e at. ap (λ (y : Entry). y.position) (sym (last-entry e
 
 pub no-turns : AreTurns [] []
 no-turns = record { long = refl; each = λ i p t at by. cc }
+
+-- where no entry has the position, it stands nowhere among theirs
+pub none-stands : (es : List Entry) (q : Placed) → ((n : ℕ) (e : Entry) → slice_get es n ≡ Some e → e.position ≡ q → ⊥) → times (keys es) q ≡ 0
+none-stands [] q none = refl
+none-stands (e ∷ es) q none =
+    let rest = none-stands es q (λ n d at. none (suc n) d at) in
+    let same = times-same (keys es) e.position q (none 0 e refl) in
+    omega (arith, rest, same)

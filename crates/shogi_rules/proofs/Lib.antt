@@ -17,6 +17,7 @@ pub mod Layouts
 pub mod Once
 pub mod Opened
 pub mod Places
+pub mod Searched
 pub mod Standing
 pub mod Stretches
 pub mod Tests

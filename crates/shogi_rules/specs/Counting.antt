@@ -2,7 +2,7 @@
 use Rattle.std.specs.Prelude.{◌≡◌, ◌≤◌, ◌↔◌, IsTrue, ℕ, List, Some, length, slice_get}
 use Rattle.shogi_board.specs.Placed.{Placed}
 use Rattle.shogi_board.specs.Reach.{InCheck}
-use Rattle.shogi_rules.specs.Chains.{keys}
+use Rattle.shogi_rules.specs.Searching.{keys}
 use Rattle.shogi_rules.specs.Repetition.{times, IsNth}
 use Rattle.shogi_rules.specs.declared.occurrences.Entry.{Entry}
 use Rattle.shogi_rules.specs.declared.seen.Turn.{Turn}

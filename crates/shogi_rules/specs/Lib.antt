@@ -1,5 +1,4 @@
 pub mod After
-pub mod Chains
 pub mod Changes
 pub mod Counting
 pub mod Evasions
@@ -10,4 +9,5 @@ pub mod Play
 pub mod Positions
 pub mod Repetition
 pub mod Rules
+pub mod Searching
 pub mod Verdicts

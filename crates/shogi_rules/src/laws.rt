@@ -3,6 +3,7 @@
 //! A law is a function that does nothing: its contract is the law.
 
 ghost use Rattle.std.specs.Prelude.{◌≡◌, ℕ, ◌+◌, ◌<◌, ◌↔◌, List, [], ◌∷◌, Option, Some, slice_get, length};
+ghost use Rattle.std.specs.List.Sorted.{IsStrictlySortedBy};
 ghost use Rattle.shogi_board.specs.Cells.{Cells, at, piece};
 ghost use Rattle.shogi_board.specs.Pieces.{opponent};
 ghost use Rattle.shogi_board.specs.Placed.{Placed};
@@ -26,6 +27,8 @@ ghost use Rattle.shogi_rules.specs.declared.line.PlayFault.{PlayFault};
 ghost use Rattle.shogi_rules.specs.declared.line.Verdict.{Verdict};
 ghost use Rattle.shogi_rules.specs.declared.moves.Move.{Move};
 ghost use Rattle.shogi_rules.specs.declared.rule.Rule.{Rule};
+
+use crate::rule::Rule;
 
 /// In a sound position no walk of an own piece that reaches its target lands on the enemy king.
 pub fn king_never_taken()
@@ -83,6 +86,11 @@ pub fn one_answer()
 /// Memory aside, each move that is to be played has an answer.
 pub fn some_answer()
     ensures answer { (line : Played) (color : Color) (m : Move) → (answer : Option PlayFault) × Answers line color m answer }
+{}
+
+/// Rules are in the order in which the first broken one is named.
+pub fn ordered_rules()
+    ensures named { IsStrictlySortedBy ⟦<Rule as Ord>⟧.cmp all_rules }
 {}
 
 /// One move is the first legal one.

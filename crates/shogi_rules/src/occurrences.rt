@@ -1,67 +1,113 @@
-ghost use Rattle.std.specs.Prelude.{◌≡◌, ◌+◌, ◌++◌, ◌%◌, ◌<◌, ◌≤◌, [], ◌∷◌, List, MatchOption, Some, OnOk, OnErr, IfOk, length, slice_get, slice_index_or};
+ghost use Rattle.std.specs.Prelude.{◌≡◌, ◌+◌, ◌++◌, ◌<◌, ◌≤◌, [], ◌∷◌, List, MatchResult, Some, OnOk, OnErr, IfOk, length, slice_get};
 ghost use Rattle.shogi_board.specs.Placed.{Placed};
-ghost use Rattle.shogi_rules.specs.Positions.{max_moves};
-ghost use Rattle.shogi_rules.specs.Repetition.{times};
-ghost use Rattle.shogi_rules.specs.Chains.{chain_of, chains, keys, Leads};
 ghost use Rattle.shogi_rules.specs.Counting.{AreCounts, StandsAt};
-ghost use Rattle.shogi_rules.specs.declared.occurrences.Entry.{Entry as Counted};
+ghost use Rattle.shogi_rules.specs.Positions.{max_moves};
+ghost use Rattle.shogi_rules.specs.Searching.{number_of, order, IsFree, IsTree};
 
-use shogi_board::Packed;
+use shogi_board::{Color, Packed, Position};
 use std::alloc::{AllocError, Global};
+use std::cmp::Ordering;
 use std::marker::Model;
-
-// How many chains there are. Modulo this number what a piece adds to `Packed::key` differs from square to square, so that
-// boards that differ in a square or two seldom share a chain.
-const CHAINS: usize = 1019;
 
 // How many entries, turns and moves there is room for from the start: most games have fewer moves.
 pub(crate) const FIRST_ROOM: usize = 256;
 
-// Which chain the position stands in.
-fn chain_of(position: &Packed) -> usize
-    ensures value { result ≡ chain_of position.now }
-    ensures bound { result < chains }
+// A number that differs much where positions differ little, so that the tree of a game seldom grows deep; boards that stand
+// with either side to move have it in either half.
+fn number_of(position: &Packed) -> u64
+    ensures { result ≡ number_of position.now }
 {
-    position.key() as usize % CHAINS
+    let number = position.key().wrapping_mul(11400714819323198485);
+    match position.side() {
+        Color::Black => number,
+        Color::White => number.wrapping_add(1 << 63),
+    }
 }
 
-// A position, how often it stands, how many positions stand before its first place, and how many entries stand up to the one
-// before it in its chain, or 0.
+// How positions of one number are ordered. It is seldom asked, and apart, since it takes much room.
+#[inline(never)]
+fn order_of_one_number(position: &Packed, other: &Packed) -> Ordering
+    ensures { result ≡ ⟦<Position as Ord>⟧.cmp position.now other.now }
+{
+    position.unpacked().cmp(&other.unpacked())
+}
+
+// A position and its number, how often it stands, and how many positions stand before its first place.
 #[derive(Drop)]
 pub(crate) struct Entry {
     pub position: Packed,
+    pub number: u64,
     pub count: u32,
     pub first: u32,
-    pub earlier: usize,
 }
 
-// A map from each position to how often it stands and where first. A new position comes behind the others.
+impl Entry {
+    // How the position of that number is ordered to this one's.
+    #[inline(always)]
+    fn order(&self, number: u64, position: &Packed) -> Ordering
+        requires own { self.now.number ≡ number_of self.now.position }
+        requires given { number ≡ number_of position.now }
+        ensures { result ≡ order position.now self.now.position }
+    {
+        if number != self.number {
+            return number.cmp(&self.number);
+        }
+        if position.is_same(&self.position) {
+            return Ordering::Equal;
+        }
+        order_of_one_number(position, &self.position)
+    }
+}
+
+// The index of the position's entry in a search tree, or else of the link that is to lead to it.
+fn search(entries: &[Entry], links: &[u16], number: u64, position: &Packed) -> Result<usize, usize>
+    requires tree { IsTree entries.now links.now }
+    requires number { number ≡ number_of position.now }
+    ensures { MatchResult result
+        (λ n. (n < length entries.now) × StandsAt entries.now n position.now)
+        (λ link. IsFree entries.now links.now position.now link) }
+{
+    let mut link = 0usize;
+    while links[link] > 0 {
+        let n = links[link] as usize - 1;
+        match entries[n].order(number, position) {
+            Ordering::Less => link = 2 * n + 1,
+            Ordering::Equal => return Ok(n),
+            Ordering::Greater => link = 2 * n + 2,
+        }
+    }
+    Err(link)
+}
+
+// An ordered map from each position to how often it stands and where first. A new position comes behind the others.
 #[derive(Drop)]
 pub(crate) struct Occurrences {
     entries: Vec<Entry>,
-    // how many entries stand up to the last of each chain
-    heads: Vec<u16>,
+    // of the search tree: how many entries stand up to the one that each link leads to, or 0
+    links: Vec<u16>,
 }
 
 impl Model for Occurrences {
     ghost use Rattle.std.specs.Prelude.{List};
+    ghost use Rattle.shogi_rules.specs.Searching.{IsTree};
     ghost use Rattle.shogi_rules.specs.declared.occurrences.Entry.{Entry as Counted};
-    ghost use Rattle.shogi_rules.specs.Chains.{AreChained};
 
     ghost Value = { List Counted };
 
     ghost view = { λ c. c.entries.items };
 
-    ghost invariant = { λ c. AreChained c.entries.items c.heads.items };
+    ghost invariant = { λ c. IsTree c.entries.items c.links.items };
 }
 
 impl Occurrences {
     pub(crate) fn new(alloc: Global) -> Result<Occurrences, AllocError>
         ensures { IfOk result (λ c. c ≡ []) }
     {
+        let mut links = Vec::with_capacity(alloc, 2 * FIRST_ROOM + 1)?;
+        links.push(0u16)?;
         Ok(Occurrences {
             entries: Vec::with_capacity(alloc, FIRST_ROOM)?,
-            heads: vec![in alloc; 0u16; CHAINS]?,
+            links,
         })
     }
 
@@ -71,32 +117,6 @@ impl Occurrences {
         ensures { slice_get self.now n ≡ Some result.now }
     {
         &self.entries[n]
-    }
-
-    // How many entries stand up to the last of the chain, or 0.
-    fn latest(&self, chain: usize) -> usize
-        requires { chain < chains }
-        ensures { (q : Placed) → chain_of q ≡ chain → Leads (keys self.now) (length self.now) q result }
-    {
-        self.heads[chain] as usize
-    }
-
-    // The index of the position's entry, by the entries of its chain from the latest back.
-    fn find(&self, latest: usize, position: &Packed) -> Option<usize>
-        requires { Leads (keys self.now) (length self.now) position.now latest }
-        ensures { MatchOption result
-            (times (keys self.now) position.now ≡ 0)
-            (λ n. (n < length self.now) × StandsAt self.now n position.now) }
-    {
-        let mut n = latest;
-        while n > 0 {
-            let entry = &self.entries[n - 1];
-            if entry.position.is_same(position) {
-                return Some(n - 1);
-            }
-            n = entry.earlier;
-        }
-        None
     }
 
     // Counts the position once more, with so many positions before it, and answers the index of its entry. A refused growth
@@ -109,21 +129,26 @@ impl Occurrences {
         ensures place { IfOk result (λ n. (n < length self.new) × StandsAt self.new n position) }
         ensures err { OnErr result (self.new ≡ self.old) }
     {
-        let chain = chain_of(&position);
-        let earlier = self.latest(chain);
-        if let Some(n) = self.find(earlier, &position) {
-            self.entries[n].count += 1;
-            return Ok(n);
-        }
+        let number = number_of(&position);
+        let link = match search(&self.entries, &self.links, number, &position) {
+            Ok(n) => {
+                self.entries[n].count += 1;
+                return Ok(n);
+            }
+            Err(link) => link,
+        };
         let n = self.entries.len();
         self.entries.reserve(1)?;
+        self.links.reserve(2)?;
+        self.links[link] = n as u16 + 1;
+        self.links.push_reserved(0);
+        self.links.push_reserved(0);
         self.entries.push_reserved(Entry {
             position,
+            number,
             count: 1,
             first: before as u32,
-            earlier,
         });
-        self.heads[chain] = n as u16 + 1;
         Ok(n)
     }
 }

@@ -1,0 +1,62 @@
+-- Positions in a search tree: the entries in the order of their coming, and links that lead to them. The first link leads to the
+-- first entry; the entry n has two links of its own, one for the positions that are less than its own and one for the greater.
+use Rattle.std.specs.Prelude.{◌≡◌, ℕ, ◌+◌, ◌*◌, ◌%◌, ◌<◌, ◌≤◌, List, [], ◌∷◌, Some, length, slice_get}
+use Rattle.std.specs.Ordering.{ordering_then, nat_cmp}
+use Rattle.std.specs.declared.cmp.Ordering.{Ordering}
+use Rattle.std.specs.declared.cmp.Ordering.TheVariants.{Less, Equal, Greater}
+use Rattle.shogi_board.specs.Packing.{key_of}
+use Rattle.shogi_board.specs.Placed.{Placed}
+use Rattle.shogi_board.specs.declared.color.Color.{Color}
+use Rattle.shogi_board.specs.declared.color.Color.TheVariants.{Black, White}
+use Rattle.shogi_board.specs.contracts.position.PositionOrd.TheImpl.{cmp-value}
+use Rattle.shogi_rules.specs.declared.occurrences.Entry.{Entry}
+
+-- with white to move, a number in the other half of all
+abbrev pub half_of : Color → ℕ → ℕ
+half_of Black n = n
+half_of White n = (n + 9223372036854775808) % 18446744073709551616
+
+-- a number of the board's key and of the side to move that differs much where positions differ little
+abbrev pub number_of : Placed → ℕ
+number_of p = half_of p.side ((key_of p * 11400714819323198485) % 18446744073709551616)
+
+-- positions are ordered by their numbers, and those of one number as positions are
+abbrev pub order : Placed → Placed → Ordering
+order p q = ordering_then (nat_cmp (number_of p) (number_of q)) (cmp-value.it p q)
+
+-- the positions of the entries
+abbrev pub keys : List Entry → List Placed
+keys [] = []
+keys (e ∷ es) = e.position ∷ keys es
+
+-- a link leads to the entry n; one that holds 0 leads to none
+pub record LeadsTo (entries : List Entry) (links : List ℕ) (link n : ℕ) (e : Entry) : Type 0 where
+  pub number : slice_get links link ≡ Some (n + 1)
+  pub entry : slice_get entries n ≡ Some e
+
+-- the search for a position goes on from one link to another
+pub data GoesOn (entries : List Entry) (links : List ℕ) (q : Placed) (from to : ℕ) : Type 0 where
+  less : (n : ℕ) (e : Entry) → LeadsTo entries links from n e → order q e.position ≡ Less → to ≡ 2 * n + 1 → GoesOn entries links q from to
+  greater : (n : ℕ) (e : Entry) → LeadsTo entries links from n e → order q e.position ≡ Greater → to ≡ 2 * n + 2 → GoesOn entries links q from to
+
+-- the search that is at the link finds the position
+pub data Finds (entries : List Entry) (links : List ℕ) (q : Placed) : ℕ → Type 0 where
+  here : (link n : ℕ) (e : Entry) → LeadsTo entries links link n e → order q e.position ≡ Equal → Finds entries links q link
+  on : (from to : ℕ) → GoesOn entries links q from to → Finds entries links q to → Finds entries links q from
+
+-- the search comes to the link
+pub data Comes (entries : List Entry) (links : List ℕ) (q : Placed) : ℕ → Type 0 where
+  begins : Comes entries links q 0
+  on : (from to : ℕ) → Comes entries links q from → GoesOn entries links q from to → Comes entries links q to
+
+-- the search ends at the link, which leads to no entry
+pub record IsFree (entries : List Entry) (links : List ℕ) (q : Placed) (link : ℕ) : Type 0 where
+  pub comes : Comes entries links q link
+  pub none : slice_get links link ≡ Some 0
+
+-- each entry has its position's number, and is found; a link leads to an entry that came later than it
+pub record IsTree (entries : List Entry) (links : List ℕ) : Type 0 where
+  pub wide : length links ≡ 2 * length entries + 1
+  pub numbered : (n : ℕ) (e : Entry) → slice_get entries n ≡ Some e → e.number ≡ number_of e.position
+  pub later : (link n : ℕ) → slice_get links link ≡ Some (n + 1) → (n < length entries) × (link ≤ 2 * n)
+  pub found : (n : ℕ) (e : Entry) → slice_get entries n ≡ Some e → Finds entries links e.position 0
