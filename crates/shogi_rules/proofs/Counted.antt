@@ -61,10 +61,6 @@ pub times-other : (ps : List Placed) (p q : Placed) (b : Bool) → same_position
 times-other ps p q true e h = cc
 times-other ps p q false e h = let more : times (ps ++ p ∷ []) q ≡ times ps q + 0 = rw e at (pushed ps p q) in omega (arith, more)
 
-pub keys-long : (es : List Entry) → length (keys es) ≡ length es
-keys-long [] = refl
-keys-long (e ∷ es) = let h = keys-long es in omega (arith, h)
-
 pub keys-more : (es : List Entry) (e : Entry) → keys (es ++ e ∷ []) ≡ keys es ++ e.position ∷ []
 keys-more [] e = refl
 keys-more (x ∷ es) e = ap (λ (ps : List Placed). x.position ∷ ps) (keys-more es e)

@@ -1,19 +1,19 @@
 -- The search for a position in a tree: where it ends it found the position, or no entry has it; and a tree with one entry more.
-use Rattle.std.proofs.Common.{◌≡◌, ℕ, set, suc, ◌+◌, ◌-◌, ◌*◌, ◌<◌, ◌≤◌, List, [], ◌∷◌, ◌++◌, Some, slice_get, arith, refl, sym, ap, ◌∙◌, get_or, length, length-set, inl, inr, subst, zero}
+use Rattle.std.proofs.Common.{◌≡◌, ℕ, set, suc, ◌+◌, ◌-◌, ◌*◌, ◌<◌, ◌≤◌, List, [], ◌∷◌, ◌++◌, Some, slice_get, arith, refl, sym, ap, ◌∙◌, get_or, length, length-set, replicate, inl, inr, subst, zero}
 use Rattle.std.specs.Cmp.{nat_cmp_is, IsTotalOrder}
 use Rattle.std.specs.Ordering.{ordering_then, nat_cmp}
 use Rattle.std.specs.declared.cmp.Ordering.{Ordering}
 use Rattle.std.specs.declared.cmp.Ordering.TheVariants.{Less, Equal, Greater}
 use Rattle.std.proofs.lemmas.Bool.{cases_lt}
 use Rattle.std.proofs.lemmas.Cmp.{nat_cmp_total, then_total}
-use Rattle.std.proofs.lemmas.List.{length-append}
+use Rattle.std.proofs.lemmas.List.{length-append, length-replicate}
 use Rattle.std.proofs.lemmas.Option.{same_Some, slice_get-get_or, slice_get_within}
 use Rattle.shogi_board.specs.Placed.{Placed}
 use Rattle.shogi_board.specs.contracts.position.PositionOrd.TheImpl.{cmp-value}
 use Rattle.shogi_board.proofs.Same.{exact-positions, total-positions}
 use Rattle.shogi_rules.specs.Counting.{StandsAt}
 use Rattle.shogi_rules.specs.Repetition.{times}
-use Rattle.shogi_rules.specs.Searching.{Comes, Finds, GoesOn, IsFree, IsTree, LeadsTo, keys, number_of, order}
+use Rattle.shogi_rules.specs.Searching.{Comes, Finds, GoesOn, IsFree, IsTree, LeadsTo, first_link, first_links, keys, number_of, order}
 use Rattle.shogi_rules.specs.declared.occurrences.Entry.{Entry}
 use Rattle.shogi_rules.proofs.Counted.{get-here, get-left, get-behind, get-other, get-set, equal-or, last-entry}
 use Rattle.shogi_rules.proofs.Counting.{none-stands, was-at}
@@ -42,20 +42,6 @@ pub same-number : (n m : ℕ) (b : Ordering) → n ≡ m → ordering_then (nat_
 same-number n m b e =
     let equal : Equal ≡ nat_cmp n m = nat_cmp_is n m Equal e in
     ap (λ (a : Ordering). ordering_then a b) (sym equal)
-
-pub other-number : (n m : ℕ) (b : Ordering) → (n ≡ m → ⊥) → ordering_then (nat_cmp n m) b ≡ nat_cmp n m
-other-number n m b other =
-    elim (cases_lt n m) [
-      | inl low ↦
-          let is : Less ≡ nat_cmp n m = nat_cmp_is n m Less low in
-          rw (sym is) refl
-      | inr le ↦ elim (cases_lt m n) [
-        | inl high ↦
-            let is : Greater ≡ nat_cmp n m = nat_cmp_is n m Greater high in
-            rw (sym is) refl
-        | inr ge ↦ absurd (other (omega (arith, le, ge)))
-      ]
-    ]
 
 pub own-order : (p q : Placed) → p ≡ q → order p q ≡ Equal
 own-order p q e = same-number (number_of p) (number_of q) (cmp-value.it p q) (ap number_of e) ∙ (exact-positions p q).1 e
@@ -88,12 +74,12 @@ finds-on : (es : List Entry) (links : List ℕ) (q : Placed) (s t : ℕ) → Goe
 finds-on es links q s t go (Finds.here _ n e leads is) = absurd (not-here es links q s t n e go leads is)
 finds-on es links q s t go (Finds.on _ u other finds) = subst (Finds es links q) (goes-one es links q s u t other go) finds
 
-finds-down : (es : List Entry) (links : List ℕ) (q : Placed) (t : ℕ) → Comes es links q t → Finds es links q 0 → Finds es links q t
+finds-down : (es : List Entry) (links : List ℕ) (q : Placed) (t : ℕ) → Comes es links q t → Finds es links q (first_link q) → Finds es links q t
 finds-down es links q _ Comes.begins finds = finds
 finds-down es links q t (Comes.on s _ comes go) finds = finds-on es links q s t go (finds-down es links q s comes finds)
 
 -- and what is found from there, is found from the first link
-finds-up : (es : List Entry) (links : List ℕ) (q : Placed) (t : ℕ) → Comes es links q t → Finds es links q t → Finds es links q 0
+finds-up : (es : List Entry) (links : List ℕ) (q : Placed) (t : ℕ) → Comes es links q t → Finds es links q t → Finds es links q (first_link q)
 finds-up es links q _ Comes.begins finds = finds
 finds-up es links q t (Comes.on s _ comes go) finds = finds-up es links q s comes (Finds.on s t go finds)
 
@@ -111,12 +97,12 @@ finds-nowhere es links q s (Finds.on _ t go finds) none = goes-nowhere es links 
 -- where the search ends at a link that leads to none, no entry has the position
 pub free-stands : (es : List Entry) (links : List ℕ) (q : Placed) (link : ℕ) → IsTree es links → IsFree es links q link → times (keys es) q ≡ 0
 free-stands es links q link tree free =
-    let found : (n : ℕ) (e : Entry) → slice_get es n ≡ Some e → e.position ≡ q → Finds es links q 0 = λ n e at is. subst (λ (p : Placed). Finds es links p 0) is (tree.found n e at) in
+    let found : (n : ℕ) (e : Entry) → slice_get es n ≡ Some e → e.position ≡ q → Finds es links q (first_link q) = λ n e at is. subst (λ (p : Placed). Finds es links p (first_link p)) is (tree.found n e at) in
     none-stands es q (λ n e at is. finds-nowhere es links q link (finds-down es links q link free.comes (found n e at is)) free.none)
 
 -- one turn of the search: the link leads to an entry, and the links of that one come behind it
 pub leads-on : (es : List Entry) (links : List ℕ) (link : ℕ) → IsTree es links → link < length links → 0 < get_or links link 0 →
-    (get_or links link 0 - 1 < length es) × (link ≤ 2 * (get_or links link 0 - 1)) × (2 * (get_or links link 0 - 1) + 2 < length links) × (slice_get links link ≡ Some ((get_or links link 0 - 1) + 1))
+    (get_or links link 0 - 1 < length es) × (link < first_links + 2 * (get_or links link 0 - 1)) × (first_links + 2 * (get_or links link 0 - 1) + 1 < length links) × (slice_get links link ≡ Some ((get_or links link 0 - 1) + 1))
 leads-on es links link tree low some =
     let n = get_or links link 0 in
     let back : n ≡ (n - 1) + 1 = omega (arith, some) in
@@ -125,11 +111,11 @@ leads-on es links link tree low some =
     let wide = tree.wide in
     (later.0, later.1, omega (arith, later.0, wide), at)
 
-pub goes-less : (es : List Entry) (links : List ℕ) (q : Placed) (link n : ℕ) (e : Entry) → (link < length links) × Comes es links q link → slice_get links link ≡ Some (n + 1) → slice_get es n ≡ Some e → order q e.position ≡ Less → Comes es links q (2 * n + 1)
-goes-less es links q link n e comes number entry is = Comes.on link (2 * n + 1) comes.1 (GoesOn.less n e (record { number = number; entry = entry }) is refl)
+pub goes-less : (es : List Entry) (links : List ℕ) (q : Placed) (link n : ℕ) (e : Entry) → (link < length links) × Comes es links q link → slice_get links link ≡ Some (n + 1) → slice_get es n ≡ Some e → order q e.position ≡ Less → Comes es links q (first_links + 2 * n)
+goes-less es links q link n e comes number entry is = Comes.on link (first_links + 2 * n) comes.1 (GoesOn.less n e (record { number = number; entry = entry }) is refl)
 
-pub goes-greater : (es : List Entry) (links : List ℕ) (q : Placed) (link n : ℕ) (e : Entry) → (link < length links) × Comes es links q link → slice_get links link ≡ Some (n + 1) → slice_get es n ≡ Some e → order q e.position ≡ Greater → Comes es links q (2 * n + 2)
-goes-greater es links q link n e comes number entry is = Comes.on link (2 * n + 2) comes.1 (GoesOn.greater n e (record { number = number; entry = entry }) is refl)
+pub goes-greater : (es : List Entry) (links : List ℕ) (q : Placed) (link n : ℕ) (e : Entry) → (link < length links) × Comes es links q link → slice_get links link ≡ Some (n + 1) → slice_get es n ≡ Some e → order q e.position ≡ Greater → Comes es links q (first_links + 2 * n + 1)
+goes-greater es links q link n e comes number entry is = Comes.on link (first_links + 2 * n + 1) comes.1 (GoesOn.greater n e (record { number = number; entry = entry }) is refl)
 
 pub found-here : (es : List Entry) (q : Placed) (n : ℕ) (e : Entry) → slice_get es n ≡ Some e → order q e.position ≡ Equal → StandsAt es n q
 found-here es q n e at is = λ d there. ap (λ (x : Entry). x.position) (same_Some d e (sym there ∙ at)) ∙ sym (one-position q e.position is)
@@ -175,20 +161,20 @@ new-leads es links d link none =
       entry = get-behind es d (length es) refl;
     }
 
-new-found : (es : List Entry) (links : List ℕ) (d : Entry) (link : ℕ) → IsFree es links d.position link → Finds (es ++ d ∷ []) (grown links link (length es)) d.position 0
+new-found : (es : List Entry) (links : List ℕ) (d : Entry) (link : ℕ) → IsFree es links d.position link → Finds (es ++ d ∷ []) (grown links link (length es)) d.position (first_link d.position)
 new-found es links d link free =
     finds-up (es ++ d ∷ []) (grown links link (length es)) d.position link (comes-kept es links d link d.position link free.none free.comes)
     (Finds.here link (length es) d (new-leads es links d link free.none) (own-order d.position d.position refl))
 
-all-found : (es : List Entry) (links : List ℕ) (d : Entry) (link n : ℕ) (e : Entry) → IsTree es links → IsFree es links d.position link → slice_get (es ++ d ∷ []) n ≡ Some e → Finds (es ++ d ∷ []) (grown links link (length es)) e.position 0
+all-found : (es : List Entry) (links : List ℕ) (d : Entry) (link n : ℕ) (e : Entry) → IsTree es links → IsFree es links d.position link → slice_get (es ++ d ∷ []) n ≡ Some e → Finds (es ++ d ∷ []) (grown links link (length es)) e.position (first_link e.position)
 all-found es links d link n e tree free at =
     elim (cases_lt n (length es)) [
-      | inl low ↦ finds-kept es links d link e.position 0 free.none (tree.found n e (sym (get-left es (d ∷ []) n low) ∙ at))
+      | inl low ↦ finds-kept es links d link e.position (first_link e.position) free.none (tree.found n e (sym (get-left es (d ∷ []) n low) ∙ at))
       | inr le ↦
           let within = slice_get_within (es ++ d ∷ []) n e at in
           let more = length-append es (d ∷ []) in
           let one : d ≡ e = last-entry es d e n (omega (arith, le, within, more)) at in
-          subst (λ (x : Entry). Finds (es ++ d ∷ []) (grown links link (length es)) x.position 0) one (new-found es links d link free)
+          subst (λ (x : Entry). Finds (es ++ d ∷ []) (grown links link (length es)) x.position (first_link x.position)) one (new-found es links d link free)
     ]
 
 all-numbered : (es : List Entry) (links : List ℕ) (d : Entry) (n : ℕ) (e : Entry) → IsTree es links → d.number ≡ number_of d.position → slice_get (es ++ d ∷ []) n ≡ Some e → e.number ≡ number_of e.position
@@ -212,7 +198,7 @@ get-right [] ys s x le at = (s, at)
 get-right (y ∷ xs) ys zero x le at = absurd (omega (arith, le))
 get-right (y ∷ xs) ys (suc s) x le at = get-right xs ys s x (omega (arith, le)) at
 
-all-later : (es : List Entry) (links : List ℕ) (d : Entry) (link s n : ℕ) → IsTree es links → slice_get links link ≡ Some 0 → slice_get (grown links link (length es)) s ≡ Some (n + 1) → (n < length (es ++ d ∷ [])) × (s ≤ 2 * n)
+all-later : (es : List Entry) (links : List ℕ) (d : Entry) (link s n : ℕ) → IsTree es links → slice_get links link ≡ Some 0 → slice_get (grown links link (length es)) s ≡ Some (n + 1) → (n < length (es ++ d ∷ [])) × (s < first_links + 2 * n)
 all-later es links d link s n tree none at =
     let long = length-set links link (length es + 1) in
     let more = length-append es (d ∷ []) in
@@ -285,18 +271,19 @@ tree-kept es links k d e tree at same number =
       later = λ s n by. let old = tree.later s n by in (omega (arith, old.0, long), old.1);
       found = λ n x there.
           let was = was-at es k d e n x at same there in
-          subst (λ (p : Placed). Finds (set es k e) links p 0) was.2 (still-finds es links k d e was.0.position 0 at same (tree.found n was.0 was.1));
+          subst (λ (p : Placed). Finds (set es k e) links p (first_link p)) was.2 (still-finds es links k d e was.0.position (first_link was.0.position) at same (tree.found n was.0 was.1));
     }
 
-one-zero : (s n : ℕ) → slice_get (0 ∷ []) s ≡ Some (n + 1) → ⊥
-one-zero zero n at = let e = same_Some 0 (n + 1) at in omega (arith, e)
-one-zero (suc s) n at = cc
+-- with no entry no link leads to one
+only-zeros : (k s n : ℕ) → slice_get (replicate k 0) s ≡ Some (n + 1) → ⊥
+only-zeros zero s n at = cc
+only-zeros (suc k) zero n at = let e = same_Some 0 (n + 1) at in omega (arith, e)
+only-zeros (suc k) (suc s) n at = only-zeros k s n at
 
--- with no entry the first link leads to none
-pub none-found : (es : List Entry) (links : List ℕ) → es ≡ [] → links ≡ 0 ∷ [] → IsTree es links
-none-found es links none one = rw (none, one) (record {
-  wide = refl;
+pub none-found : (es : List Entry) (links : List ℕ) → es ≡ [] → links ≡ replicate first_links 0 → IsTree es links
+none-found es links none zeros = rw none (record {
+  wide = let zero : ℕ = 0 in ap length zeros ∙ length-replicate first_links zero;
   numbered = λ n e at. cc;
-  later = λ s n at. absurd (one-zero s n at);
+  later = λ s n at. absurd (only-zeros first_links s n (rw zeros at at));
   found = λ n e at. cc;
 })

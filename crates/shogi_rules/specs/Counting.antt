@@ -7,11 +7,12 @@ use Rattle.shogi_rules.specs.Repetition.{times, IsNth}
 use Rattle.shogi_rules.specs.declared.occurrences.Entry.{Entry}
 use Rattle.shogi_rules.specs.declared.seen.Turn.{Turn}
 
--- it is the position of that entry
+-- it is the position of that entry, if there is one
 abbrev pub StandsAt : List Entry → ℕ → Placed → Type 0
 StandsAt entries n p = (e : Entry) → slice_get entries n ≡ Some e → e.position ≡ p
 
--- each position of the list has one entry, with how often it stands there and where for the first time
+-- each position of the list has one entry, with how often it stands there and where for the first time; there are no more entries
+-- than positions
 pub record AreCounts (ps : List Placed) (entries : List Entry) : Type 0 where
   pub each : (i : ℕ) (e : Entry) → slice_get entries i ≡ Some e → (e.count ≡ times ps e.position) × IsNth ps e.position 1 e.first
   pub once : (i j : ℕ) (d e : Entry) → slice_get entries i ≡ Some d → slice_get entries j ≡ Some e → d.position ≡ e.position → i ≡ j

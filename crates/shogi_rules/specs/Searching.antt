@@ -1,6 +1,7 @@
--- Positions in a search tree: the entries in the order of their coming, and links that lead to them. The first link leads to the
--- first entry; the entry n has two links of its own, one for the positions that are less than its own and one for the greater.
-use Rattle.std.specs.Prelude.{◌≡◌, ℕ, ◌+◌, ◌*◌, ◌%◌, ◌<◌, ◌≤◌, List, [], ◌∷◌, Some, length, slice_get}
+-- Positions in search trees: the entries in the order of their coming, and links that lead to them. The first 256 links lead to
+-- the first entry of each part of the numbers; behind them each entry has two links of its own, one to the positions that are
+-- less than its own and one to the greater.
+use Rattle.std.specs.Prelude.{◌≡◌, ℕ, ◌+◌, ◌*◌, ◌/◌, ◌%◌, ◌<◌, List, [], ◌∷◌, Some, length, slice_get}
 use Rattle.std.specs.Ordering.{ordering_then, nat_cmp}
 use Rattle.std.specs.declared.cmp.Ordering.{Ordering}
 use Rattle.std.specs.declared.cmp.Ordering.TheVariants.{Less, Equal, Greater}
@@ -16,9 +17,17 @@ abbrev pub half_of : Color → ℕ → ℕ
 half_of Black n = n
 half_of White n = (n + 9223372036854775808) % 18446744073709551616
 
--- a number of the board's key and of the side to move that differs much where positions differ little
+-- a number of the board's key and of the side to move; keys that differ little have numbers far apart
 abbrev pub number_of : Placed → ℕ
 number_of p = half_of p.side ((key_of p * 11400714819323198485) % 18446744073709551616)
+
+-- how many parts the numbers have, each with a tree of its own
+abbrev pub first_links : ℕ
+first_links = 256
+
+-- in which part a position's number lies
+abbrev pub first_link : Placed → ℕ
+first_link p = number_of p / 72057594037927936
 
 -- positions are ordered by their numbers, and those of one number as positions are
 abbrev pub order : Placed → Placed → Ordering
@@ -36,8 +45,8 @@ pub record LeadsTo (entries : List Entry) (links : List ℕ) (link n : ℕ) (e :
 
 -- the search for a position goes on from one link to another
 pub data GoesOn (entries : List Entry) (links : List ℕ) (q : Placed) (from to : ℕ) : Type 0 where
-  less : (n : ℕ) (e : Entry) → LeadsTo entries links from n e → order q e.position ≡ Less → to ≡ 2 * n + 1 → GoesOn entries links q from to
-  greater : (n : ℕ) (e : Entry) → LeadsTo entries links from n e → order q e.position ≡ Greater → to ≡ 2 * n + 2 → GoesOn entries links q from to
+  less : (n : ℕ) (e : Entry) → LeadsTo entries links from n e → order q e.position ≡ Less → to ≡ first_links + 2 * n → GoesOn entries links q from to
+  greater : (n : ℕ) (e : Entry) → LeadsTo entries links from n e → order q e.position ≡ Greater → to ≡ first_links + 2 * n + 1 → GoesOn entries links q from to
 
 -- the search that is at the link finds the position
 pub data Finds (entries : List Entry) (links : List ℕ) (q : Placed) : ℕ → Type 0 where
@@ -46,7 +55,7 @@ pub data Finds (entries : List Entry) (links : List ℕ) (q : Placed) : ℕ → 
 
 -- the search comes to the link
 pub data Comes (entries : List Entry) (links : List ℕ) (q : Placed) : ℕ → Type 0 where
-  begins : Comes entries links q 0
+  begins : Comes entries links q (first_link q)
   on : (from to : ℕ) → Comes entries links q from → GoesOn entries links q from to → Comes entries links q to
 
 -- the search ends at the link, which leads to no entry
@@ -54,9 +63,10 @@ pub record IsFree (entries : List Entry) (links : List ℕ) (q : Placed) (link :
   pub comes : Comes entries links q link
   pub none : slice_get links link ≡ Some 0
 
--- each entry has its position's number, and is found; a link leads to an entry that came later than it
+-- so many links as the entries have; each entry has its position's number, and is found; a link leads to an entry whose own links
+-- stand behind it
 pub record IsTree (entries : List Entry) (links : List ℕ) : Type 0 where
-  pub wide : length links ≡ 2 * length entries + 1
+  pub wide : length links ≡ first_links + 2 * length entries
   pub numbered : (n : ℕ) (e : Entry) → slice_get entries n ≡ Some e → e.number ≡ number_of e.position
-  pub later : (link n : ℕ) → slice_get links link ≡ Some (n + 1) → (n < length entries) × (link ≤ 2 * n)
-  pub found : (n : ℕ) (e : Entry) → slice_get entries n ≡ Some e → Finds entries links e.position 0
+  pub later : (link n : ℕ) → slice_get links link ≡ Some (n + 1) → (n < length entries) × (link < first_links + 2 * n)
+  pub found : (n : ℕ) (e : Entry) → slice_get entries n ≡ Some e → Finds entries links e.position (first_link e.position)

@@ -12,12 +12,18 @@ use std::marker::Model;
 // How many entries, turns and moves there is room for from the start: most games have fewer moves.
 pub(crate) const FIRST_ROOM: usize = 256;
 
-// A number that differs much where positions differ little, so that the tree of a game seldom grows deep; boards that stand
-// with either side to move have it in either half.
+// How many links of the search trees there are before an entry comes: one for each first byte of a number.
+const FIRST_LINKS: usize = 256;
+
+// 2^64 over the golden ratio, odd: multiples of it modulo 2^64 lie far apart where what is multiplied differs little.
+const SPREAD: u64 = 0x9E37_79B9_7F4A_7C15;
+
+// The number by which positions are ordered first: far from that of another board, as a rule, and half of all numbers from that
+// of the same board with the other side to move. It says nothing of the hands.
 fn number_of(position: &Packed) -> u64
     ensures { result ≡ number_of position.now }
 {
-    let number = position.key().wrapping_mul(11400714819323198485);
+    let number = position.key().wrapping_mul(SPREAD);
     match position.side() {
         Color::Black => number,
         Color::White => number.wrapping_add(1 << 63),
@@ -59,7 +65,7 @@ impl Entry {
     }
 }
 
-// The index of the position's entry in a search tree, or else of the link that is to lead to it.
+// The index of the position's entry in the search trees, or else of the link that is to lead to it.
 fn search(entries: &[Entry], links: &[u16], number: u64, position: &Packed) -> Result<usize, usize>
     requires tree { IsTree entries.now links.now }
     requires number { number ≡ number_of position.now }
@@ -67,13 +73,13 @@ fn search(entries: &[Entry], links: &[u16], number: u64, position: &Packed) -> R
         (λ n. (n < length entries.now) × StandsAt entries.now n position.now)
         (λ link. IsFree entries.now links.now position.now link) }
 {
-    let mut link = 0usize;
+    let mut link = (number >> 56) as usize;
     while links[link] > 0 {
         let n = links[link] as usize - 1;
         match entries[n].order(number, position) {
-            Ordering::Less => link = 2 * n + 1,
+            Ordering::Less => link = FIRST_LINKS + 2 * n,
             Ordering::Equal => return Ok(n),
-            Ordering::Greater => link = 2 * n + 2,
+            Ordering::Greater => link = FIRST_LINKS + 2 * n + 1,
         }
     }
     Err(link)
@@ -83,7 +89,7 @@ fn search(entries: &[Entry], links: &[u16], number: u64, position: &Packed) -> R
 #[derive(Drop)]
 pub(crate) struct Occurrences {
     entries: Vec<Entry>,
-    // of the search tree: how many entries stand up to the one that each link leads to, or 0
+    // of the search trees: 1 and the index of the entry that each link leads to, or 0
     links: Vec<u16>,
 }
 
@@ -103,8 +109,8 @@ impl Occurrences {
     pub(crate) fn new(alloc: Global) -> Result<Occurrences, AllocError>
         ensures { IfOk result (λ c. c ≡ []) }
     {
-        let mut links = Vec::with_capacity(alloc, 2 * FIRST_ROOM + 1)?;
-        links.push(0u16)?;
+        let mut links = Vec::with_capacity(alloc, FIRST_LINKS + 2 * FIRST_ROOM)?;
+        links.extend_from_slice(&[0u16; FIRST_LINKS])?;
         Ok(Occurrences {
             entries: Vec::with_capacity(alloc, FIRST_ROOM)?,
             links,

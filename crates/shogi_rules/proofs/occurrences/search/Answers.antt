@@ -1,11 +1,13 @@
-use Rattle.std.proofs.Common.{arith, refl, sym, ◌∙◌}
+use Rattle.std.proofs.Common.{◌≡◌, ◌/◌, ℕ, ap, arith, refl, subst, sym, ◌∙◌}
 use Rattle.std.proofs.lemmas.Option.{slice_get_read}
-use Rattle.shogi_rules.specs.Searching.{Comes}
+use Rattle.shogi_rules.specs.Searching.{Comes, first_link}
 use Rattle.shogi_rules.proofs.Searched.{leads-on, goes-less, goes-greater, found-here, ends-free}
 use Rattle.shogi_rules.proofs.occurrences.search.Goals as goal
 
 pub loop-link-init : goal.loop-link-init
-loop-link-init c = (omega (arith, c.requires.tree.wide), Comes.begins)
+loop-link-init c =
+    let is : first_link c.args.position.now ≡ c.args.number / 72057594037927936 = ap (λ (n : ℕ). n / 72057594037927936) (sym c.requires.number) in
+    (omega (arith, c.requires.tree.wide, c.ranges.number.fits), subst (Comes c.args.entries.now c.args.links.now c.args.position.now) is Comes.begins)
 
 pub bounds-entries-n : goal.bounds-entries-n
 bounds-entries-n c = (leads-on c.args.entries.now c.args.links.now c.loop-link.link c.requires.tree c.loop-link.invariant.0 c.loop-link-test.true).0

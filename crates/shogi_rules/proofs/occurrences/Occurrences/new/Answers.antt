@@ -1,9 +1,10 @@
-use Rattle.std.proofs.Common.{◌≡◌, [], ◌∷◌, arith}
+use Rattle.std.proofs.Common.{◌≡◌, arith, replicate}
 use Rattle.std.proofs.lemmas.Grind.{common_steps}
+use Rattle.shogi_rules.specs.Searching.{first_links}
 use Rattle.shogi_rules.proofs.Searched.{none-found}
 use Rattle.shogi_rules.proofs.occurrences.Occurrences.new.Goals as goal
 
 pub invariant_of-result : goal.invariant_of-result
 invariant_of-result c =
-    let one : c.push.new.self.items ≡ 0 ∷ [] = grind (arith, common_steps) in
-    none-found _ _ c.in_ok-with_capacity.ensures.items one
+    let zeros : c.extend_from_slice.new.self.items ≡ replicate first_links 0 = grind (arith, common_steps) in
+    none-found _ _ c.in_ok-with_capacity.ensures.items zeros
