@@ -7,6 +7,7 @@ pub mod LinesOnce
 mod LinesFound
 pub mod LongLines
 pub mod Passing
+pub mod CommentLines
 pub mod Spoken
 pub mod Finding
 pub mod Leading
@@ -15,6 +16,7 @@ pub mod Joining
 pub mod Growing
 pub mod FirstLong
 mod Lent
+mod LowBytes
 pub mod Holding
 pub mod WholeRuns
 pub mod LineRuns

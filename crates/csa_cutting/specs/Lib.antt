@@ -1,4 +1,5 @@
 pub mod Cut
+pub mod Comments
 pub mod Cutting
 pub mod Lines
 pub mod LineCutting

@@ -125,7 +125,7 @@ impl LineCutter {
     }
 }
 
-fn is_line_end(b: u8) -> bool
+pub(crate) fn is_line_end(b: u8) -> bool
     ensures { result ≡ is_line_end b }
 {
     b == b'\r' || b == b'\n'

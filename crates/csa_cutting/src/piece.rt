@@ -8,6 +8,7 @@ ghost use Rattle.csa_cutting.specs.PieceCutting.{fresh, IsOpen};
 ghost use Rattle.csa_cutting.specs.PieceSteps.{AfterStep, AfterEnd, Last, IsTooLongAt, IsUsed, IsLentFrom};
 ghost use Rattle.csa_cutting.specs.Places.{IsKept, IsFoundIn, IsHeld, begins, kept_of, has_unit};
 
+use crate::comments::past_comments;
 use crate::cutter::{CutFault, LONGEST_STATEMENT, Statement};
 use crate::units::{BYTE_ORDER_MARK, COMMENT, Part, Place, first_in, handed_out, unit_length};
 use arrayvec::ArrayVec;
@@ -259,7 +260,7 @@ fn found_in(place: Place, held: &[u8], piece: &[u8]) -> Result<Part, Place>
             if end == piece.len() {
                 Err(Place::Comment)
             } else {
-                first_in(piece, end)
+                first_in(piece, past_comments(piece, end))
             }
         }
     }

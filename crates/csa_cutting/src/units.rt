@@ -6,6 +6,7 @@ ghost use Rattle.csa_cutting.specs.Cut.{IsNext, IsGap, is_separator, is_blank, t
 ghost use Rattle.csa_cutting.specs.Cutting.{unit_between};
 ghost use Rattle.csa_cutting.specs.Places.{IsFoundIn, PassesTo};
 
+use crate::comments::{comment_length, past_comments};
 use crate::line::line_length;
 use crate::scan::front_length;
 
@@ -54,7 +55,7 @@ pub(crate) fn first_in(piece: &[u8], from: usize) -> Result<Part, Place>
         if end == piece.len() {
             return Err(Place::Comment);
         }
-        at = end;
+        at = past_comments(piece, end);
     }
     Err(Place::Gap)
 }
@@ -92,6 +93,9 @@ pub(crate) fn unit_length(first: u8, text: &[u8]) -> usize
     ensures value { result ≡ position_or_len (is_end first) text.now }
     ensures within { result ≤ length text.now }
 {
+    if first == COMMENT {
+        return comment_length(text);
+    }
     if takes_line(first) {
         return line_length(text);
     }

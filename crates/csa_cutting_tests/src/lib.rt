@@ -3,6 +3,8 @@
 #![tactic(auto)]
 
 #[cfg(test)]
+mod comment_tests;
+#[cfg(test)]
 mod line_tests;
 #[cfg(test)]
 mod piece_tests;

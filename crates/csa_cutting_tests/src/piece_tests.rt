@@ -52,7 +52,7 @@ fn piece_end(length: usize, at: usize, place: usize, size: usize) -> usize
 }
 
 // Whether pieces of this size give what `Cutter` gives of the whole.
-fn same(source: &[u8], size: usize) -> bool {
+pub(crate) fn same(source: &[u8], size: usize) -> bool {
     same_cut_at(source, 0, size)
 }
 

@@ -1,3 +1,4 @@
+use Rattle.std.proofs.Common.{rules}
 use Rattle.std.proofs.Common.{drop, arith, refl}
 use Rattle.csa_cutting.specs.Cutting.{unit_between}
 use Rattle.csa_cutting.proofs.Runs.{found}
@@ -21,3 +22,12 @@ pub invariant_of-self : goal.invariant_of-self
 invariant_of-self c =
     let first = c.in-Some.ensures in
     (first.within, omega (arith, first.order, first.some, c.self.invariant))
+
+pub returns-then-unit-gt-LONGEST_STATEMENT-clause-still : goal.returns-then-unit-gt-LONGEST_STATEMENT-clause-still
+returns-then-unit-gt-LONGEST_STATEMENT-clause-still c = search rules
+
+pub returns-clause-lent : goal.returns-clause-lent
+returns-clause-lent c = search rules
+
+pub returns-clause-limit : goal.returns-clause-limit
+returns-clause-limit c = search rules

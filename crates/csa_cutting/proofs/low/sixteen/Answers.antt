@@ -1,0 +1,5 @@
+use Rattle.std.proofs.Common.{refl}
+use Rattle.csa_cutting.proofs.low.sixteen.Goals as goal
+
+pub returns : goal.returns
+returns c = refl
