@@ -1,3 +1,4 @@
+use Rattle.std.proofs.Common.{rules}
 use Rattle.std.proofs.Common.{◌≡◌, ◌∷◌, List, refl}
 use Rattle.std.proofs.lemmas.Bool.{false≢true}
 use Rattle.csa_text.specs.declared.pair.Pair.{Pair}
@@ -20,3 +21,6 @@ returns-then-not-are_on_board c =
     let same : text ≡ pairs_text ps = rw c.in_ok-pairs.ensures.ok_part at c.read.ensures in
     let off : AllOnBoard ps → ⊥ = λ on. false≢true (c.if-not-are_on_board.ensures.1 on) in
     (no_even text (not_on_board text ps same off), refl)
+
+pub returns : goal.returns
+returns c = search rules

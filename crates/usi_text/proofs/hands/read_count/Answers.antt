@@ -1,9 +1,12 @@
-use Rattle.std.proofs.Common.{arith}
+use Rattle.std.proofs.Common.{arith, rules}
 use Rattle.usi_text.proofs.Spelt.{only_none, only_zero, only_one, only_two, read_one, read_two}
 use Rattle.usi_text.proofs.hands.read_count.Goals as goal
 
 pub returns-in_default-clause-only : goal.returns-in_default-clause-only
 returns-in_default-clause-only c = only_none c.args.text.now c.in_default.ensures
+
+pub returns-then-tens-eq0-clause-read : goal.returns-then-tens-eq0-clause-read
+returns-then-tens-eq0-clause-read c = search rules
 
 pub returns-then-tens-eq0-clause-only : goal.returns-then-tens-eq0-clause-only
 returns-then-tens-eq0-clause-only c =

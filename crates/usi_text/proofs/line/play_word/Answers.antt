@@ -12,3 +12,6 @@ returns c =
     word_told c.args.line.now c.play.new.self c.args.word.now c.in_ok-mv.mv c.side.result (length c.moves.result.now + 1) c.play.result c.map_err.result _
     (ap (λ (ms : List Move). length ms + 1) c.moves.ensures.value) spelt (c.side.ensures.value ∙ ap (λ (p : Placed). p.side) now)
     c.play.ensures.answer c.play.ensures.played c.map_err.ensures.cases (λ e f p. search rules)
+
+pub returns-in_err-mv : goal.returns-in_err-mv
+returns-in_err-mv c = search rules

@@ -1,4 +1,4 @@
-use Rattle.std.proofs.Common.{arith, ap, sym}
+use Rattle.std.proofs.Common.{rules, arith, ap, sym}
 use Rattle.record_game.specs.Titles.{Titled}
 use Rattle.csa_record.proofs.TitleEntries.{repeated, new_key, as_long, too_many, fault_free}
 use Rattle.csa_record.proofs.titles.Titles.order_fault.Goals as goal
@@ -29,3 +29,6 @@ returns-clause-none c =
       new_key c.args.self.now c.self.inside.headers.entries c.args.key.now whole c.self.invariant.rising (sym c.if-contains_key.ensures),
       omega (arith, long, c.len.ensures.len, c.if-len-ge-MAX_HEADERS.false),
     )
+
+pub returns-then-contains_key-clause-none : goal.returns-then-contains_key-clause-none
+returns-then-contains_key-clause-none c = search rules

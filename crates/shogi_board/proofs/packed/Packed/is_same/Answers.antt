@@ -1,4 +1,4 @@
-use Rattle.std.proofs.Common.{sym, ◌∙◌}
+use Rattle.std.proofs.Common.{rules, sym, ◌∙◌}
 use Rattle.shogi_board.proofs.Packing.{packed-same, differ-not}
 use Rattle.shogi_board.proofs.packed.Packed.is_same.Goals as goal
 
@@ -13,3 +13,6 @@ returns-then-ne c = record {
         absurd (differ-not a.files b.files one.0 (sym c.if-ne.true ∙ c.ne.ensures)),
   );
 }
+
+pub returns : goal.returns
+returns c = search rules

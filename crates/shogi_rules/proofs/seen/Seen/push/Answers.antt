@@ -1,4 +1,4 @@
-use Rattle.std.proofs.Common.{◌≡◌, ◌++◌, [], ◌∷◌, arith, sym, ◌∙◌, length}
+use Rattle.std.proofs.Common.{rules, ◌≡◌, ◌++◌, [], ◌∷◌, arith, sym, ◌∙◌, length}
 use Rattle.std.proofs.lemmas.Grind.{common_steps}
 use Rattle.shogi_rules.specs.Counting.{IsSeen, Seeing}
 use Rattle.shogi_rules.specs.declared.seen.Turn.{Turn}
@@ -18,3 +18,6 @@ returns-clause-ok c = λ ps p seen.
       here = c.in_ok-self-inside.ensures.place.1;
       turns = rw more (turns-more ps i.turns.items c.args.position turn kept.turns c.side-side.ensures.value c.requires.check);
     }
+
+pub returns-in_err-reserve-clause-err : goal.returns-in_err-reserve-clause-err
+returns-in_err-reserve-clause-err c = search rules
