@@ -64,11 +64,14 @@ found_in_unit held piece n h says e =
     let first = get_or held 0 0 in
     let some = unit_some held [] h in
     record {
-      order = (omega arith, omega arith);
-      within = rw e (prefix_len-le-length (λ x. not (is_end first x)) piece);
+      order = omega arith;
       first = λ _. (refl, refl);
-      unit = rw (first_range piece n) (rest_unit held piece first n h (first_of_held held some) e);
-      spoken = begins_still 39 held (slice_range piece 0 n) some ∙ says;
+      unit = record {
+        order = omega arith;
+        within = rw e (prefix_len-le-length (λ x. not (is_end first x)) piece);
+        unit = rw (first_range piece n) (rest_unit held piece first n h (first_of_held held some) e);
+        spoken = begins_still 39 held (slice_range piece 0 n) some ∙ says;
+      };
       passed = passes_open InUnit held (slice_range piece 0 (n + 1)) (λ more. refl);
     }
 
@@ -304,10 +307,13 @@ part_no_mark held piece n e w is_mark some is_run =
     let part = mark_part held piece n e w is_mark some is_run in
     let behind = no_end_before held piece n e w is_mark is_run in
     record {
-      order = (omega arith, omega arith);
-      within = rw is_run (prefix_len-le-length (λ x. not (is_end 0xEF x)) piece);
+      order = omega arith;
       first = λ _. (refl, refl);
-      unit = rw (first_range piece e) part.0;
-      spoken = rw (first_range piece e) part.1;
+      unit = record {
+        order = omega arith;
+        within = rw is_run (prefix_len-le-length (λ x. not (is_end 0xEF x)) piece);
+        unit = rw (first_range piece e) part.0;
+        spoken = rw (first_range piece e) part.1;
+      };
       passed = passes_no_mark held piece n (e + 1) w (omega arith);
     }

@@ -120,12 +120,12 @@ unit_first place held piece from goes_on start end fed more others p few unit s 
     let next = slice_range piece end (end + 1) in
     let behind = next ++ more in
     let low = kept_few place goes_on held fed (λ h. (p.first h).1) few in
-    let size = part_size goes_on held piece start end p.within in
-    let order = p.order in
-    let within = p.within in
+    let size = part_size goes_on held piece start end p.unit.within in
+    let order : (from ≤ start) × (start ≤ end) = (p.order, p.unit.order) in
+    let within = p.unit.within in
     let o = fed + (start - from) - length kept in
     let here : Statements o (u ++ behind) (part_unit goes_on held piece start end (fed + (start - from)) ∷ others) =
-    statement_first o (u ++ behind) (part_unit goes_on held piece start end (fed + (start - from))) behind others (unit_at o u behind unit) (ap not p.spoken) (statements_at (fed + (end - from)) _ _ others (omega arith) s) in
+    statement_first o (u ++ behind) (part_unit goes_on held piece start end (fed + (start - from))) behind others (unit_at o u behind unit) (ap not p.unit.spoken) (statements_at (fed + (end - from)) _ _ others (omega arith) s) in
     let whole : u ++ behind ≡ (kept ++ slice_range piece start (end + 1)) ++ more =
     sym (append_assoc u next more) ∙ ap (λ xs. xs ++ more) (append_assoc kept (slice_range piece start end) next ∙ ap (λ xs. kept ++ xs) (sym (split_range piece start end (end + 1) order.1 (omega arith)))) in
     let gap = length_between piece from start order.0 (omega arith) in
@@ -135,11 +135,11 @@ unit_first place held piece from goes_on start end fed more others p few unit s 
 -- where all of the piece is taken
 pub unit_told : (place : Place) (held piece : List ℕ) (from : ℕ) (goes_on : Bool) (start end fed : ℕ) (others : List TextUnit) → IsPart place held piece from goes_on start end → length (open_of place held) ≤ fed → Statements (fed + (end - from)) (drop end piece) others → Follows (begins place) fed (open_of place held) (drop from piece) (part_unit goes_on held piece start end (fed + (start - from)) ∷ others)
 unit_told place held piece from goes_on start end fed others p few s =
-    let order = p.order in
+    let order : (from ≤ start) × (start ≤ end) = (p.order, p.unit.order) in
     let rest : drop end piece ≡ slice_range piece end (end + 1) ++ drop (end + 1) piece = drop_split piece end (end + 1) (omega arith) in
     let u = kept_of goes_on held ++ slice_range piece start end in
     subst (λ t. Follows (begins place) fed (open_of place held) t (part_unit goes_on held piece start end (fed + (start - from)) ∷ others)) (sym (drop_split piece from (end + 1) (omega arith)))
-    (unit_first place held piece from goes_on start end fed (drop (end + 1) piece) others p few (subst (IsUnit u) rest p.unit) (statements_of _ _ _ others rest s))
+    (unit_first place held piece from goes_on start end fed (drop (end + 1) piece) others p few (subst (IsUnit u) rest p.unit.unit) (statements_of _ _ _ others rest s))
 
 unit_told_here : (place : Place) (held piece : List ℕ) (goes_on : Bool) (start end fed : ℕ) (others : List TextUnit) → IsPart place held piece 0 goes_on start end → length (open_of place held) ≤ fed → Statements (fed + end) (drop end piece) others → Follows (begins place) fed (open_of place held) piece (part_unit goes_on held piece start end (fed + start) ∷ others)
 unit_told_here place held piece goes_on start end fed others p few s =
@@ -151,8 +151,8 @@ leads_to_unit place held piece goes_on start end fed number p few all short =
     let kept = kept_of goes_on held in
     let u = kept ++ slice_range piece start end in
     let low = kept_few place goes_on held fed (λ h. (p.first h).1) few in
-    let size = part_size goes_on held piece start end p.within in
-    let order = p.order in
+    let size = part_size goes_on held piece start end p.unit.within in
+    let order : (0 ≤ start) × (start ≤ end) = (p.order, p.unit.order) in
     let none : drop end piece ≡ [] = rw all (drop-length piece) in
     let front : slice_range piece 0 (end + 1) ≡ piece = range_end piece 0 (end + 1) (omega arith) in
     let range : slice_range piece start (end + 1) ≡ slice_range piece start end = range_end piece start (end + 1) (omega arith) ∙ sym (range_end piece start end (omega arith)) in
@@ -189,17 +189,17 @@ over_end place held piece goes_on start end fed p few left more others s =
     let u = kept_of goes_on held ++ slice_range piece start end in
     let last = slice_range piece end (end + 1) in
     let byte : last ≡ get_or piece end 0 ∷ [] = next_byte piece end left in
-    let gap : IsGap last = subst IsGap (sym byte) (unit_ends u (drop end piece) (get_or piece end 0) (drop (suc end) piece) (drop-cons piece end 0 left) p.unit, tt) in
+    let gap : IsGap last = subst IsGap (sym byte) (unit_ends u (drop end piece) (get_or piece end 0) (drop (suc end) piece) (drop-cons piece end 0 left) p.unit.unit, tt) in
     let same : start - 0 ≡ start = omega arith in
     let front = first_range piece (end + 1) in
-    rw (same, front) at (unit_first place held piece 0 goes_on start end fed more others p few (unit_before u (drop end piece) (last ++ more) p.unit (λ first e. ends_with_next piece end first more left e))
+    rw (same, front) at (unit_first place held piece 0 goes_on start end fed more others p few (unit_before u (drop end piece) (last ++ more) p.unit.unit (λ first e. ends_with_next piece end first more left e))
     (behind_gap (fed + (end - 0)) last more others gap (statements_at (fed + end + 1) _ _ others (omega (arith, ap length byte)) s)))
 
 pub leads_behind_unit : (place : Place) (held other piece : List ℕ) (goes_on : Bool) (start end fed number : ℕ) → IsPart place held piece 0 goes_on start end → length (open_of place held) ≤ fed → end < length piece → Leads (seen place held fed number None) (take (end + 1) piece) (part_unit goes_on held piece start end (fed + start) ∷ []) (seen Gap other (fed + (end + 1)) (number + 1) None)
 leads_behind_unit place held other piece goes_on start end fed number p few left =
     let low = kept_few place goes_on held fed (λ h. (p.first h).1) few in
-    let size = part_size goes_on held piece start end p.within in
-    let order = p.order in
+    let size = part_size goes_on held piece start end p.unit.within in
+    let order : (0 ≤ start) × (start ≤ end) = (p.order, p.unit.order) in
     let taken : length (take (end + 1) piece) ≡ end + 1 = length-take-le (end + 1) piece (omega arith) in
     let u = part_unit goes_on held piece start end (fed + start) in
     let over = over_end place held piece goes_on start end fed p few left in
@@ -246,13 +246,13 @@ default_step now place after held other piece fed number refused view none o h f
 
 pub unit_step : (now : PieceCutting) (place : Place) (held other piece : List ℕ) (goes_on : Bool) (start end fed number : ℕ) (refused : Option ℕ) → seen place held fed number refused ≡ now → refused ≡ None → IsPart place held piece 0 goes_on start end → length (open_of place held) ≤ fed → end ≡ length piece → other ≡ kept_of goes_on held ++ slice_range piece start end → length (kept_of goes_on held) + (end - start) ≤ 4096 → (now.refused ≡ None) × Leads now piece [] (seen InUnit other (fed + end) number refused)
 unit_step now place held other piece goes_on start end fed number refused view none p few all o short =
-    let size = part_size goes_on held piece start end p.within in
+    let size = part_size goes_on held piece start end p.unit.within in
     rw (← view, none, o) (refl, leads_to_unit place held piece goes_on start end fed number p few all (omega arith))
 
 pub end_step : (now : PieceCutting) (place : Place) (held other piece : List ℕ) (goes_on : Bool) (start end fed number used : ℕ) (refused : Option ℕ) (statement : Option Statement) → seen place held fed number refused ≡ now → refused ≡ None → IsPart place held piece 0 goes_on start end → length (open_of place held) ≤ fed → end < length piece → length (kept_of goes_on held) + (end - start) ≤ 4096 → used ≡ end + 1 → IsSome statement → IfSome statement (λ s. (s.number ≡ number + 1) × (s.offset ≡ fed + start - length (kept_of goes_on held)) × (s.bytes.now ≡ statement_bytes (kept_of goes_on held ++ slice_range piece start end))) → (now.refused ≡ None) × Used now piece used statement (seen Gap other (fed + (end + 1)) (number + 1) refused)
 end_step now place held other piece goes_on start end fed number used refused None view none p few left short is_used some told = absurd (false≢true some)
 end_step now place held other piece goes_on start end fed number used refused (Some s) view none p few left short is_used some told =
-    let size = part_size goes_on held piece start end p.within in
+    let size = part_size goes_on held piece start end p.unit.within in
     let low = kept_few place goes_on held fed (λ h. (p.first h).1) few in
     rw (← view, none, is_used) (
       refl,
@@ -261,14 +261,14 @@ end_step now place held other piece goes_on start end fed number used refused (S
         told = record { number_is = told.0; place = told.1; slice = told.2; short = omega arith };
         some = omega arith;
         within = omega arith;
-        last = omega (arith, size, p.order, low);
+        last = omega (arith, size, p.order, p.unit.order, low);
         leads = leads_behind_unit place held other piece goes_on start end fed number p few left;
       },
     )
 
 pub long_step : (now : PieceCutting) (place : Place) (held piece : List ℕ) (goes_on : Bool) (start end fed number o : ℕ) (refused : Option ℕ) → seen place held fed number refused ≡ now → refused ≡ None → IsPart place held piece 0 goes_on start end → length (open_of place held) ≤ fed → o ≡ fed + start - length (kept_of goes_on held) → 4096 < length (kept_of goes_on held) + (end - start) → (number + 1 ≡ now.number + 1) × IsTooLongAt now.refused now piece o × (seen place held fed number (Some o) ≡ record now { refused = Some o })
 long_step now place held piece goes_on start end fed number o refused view none p few is_offset long =
-    let size = part_size goes_on held piece start end p.within in
+    let size = part_size goes_on held piece start end p.unit.within in
     let more : 4096 < length (kept_of goes_on held ++ slice_range piece start end) = omega arith in
     let met = too_long place held piece goes_on start end fed number p few more in
     rw (← view, none) (refl, (part_unit goes_on held piece start end (fed + start), met.0, met.1, more, is_offset), refl)

@@ -10,7 +10,7 @@ use Rattle.std.proofs.lemmas.List.Sums.{prefix_len_passes}
 use Rattle.std.proofs.lemmas.Nat.Bits.{bit_at-trailing_zeros}
 use Rattle.std.proofs.lemmas.Simd.{length-chunk, get_or-chunk, length-zip2, length-sel_l, get_or-sel_l, get_or-zip2, tops_compared, leading_from_mask_l, trailing_mask_l, none_from_empty_mask, run_in_chunk_fails, bit_mask_l}
 use Rattle.csa_cutting.specs.Lines.{is_line_end}
-use Rattle.csa_cutting.specs.Comments.{is_low, HasNoLineEndTo, IsReachedIn}
+use Rattle.csa_cutting.specs.Comments.{is_low, HasNoLineEndTo, IsReached}
 
 -- what is not low is no line end
 pub not_low : (b : ℕ) → is_low b ≡ false → is_line_end b ≡ false
@@ -36,7 +36,7 @@ lane_of ms k set =
     ]
 
 -- the first of sixteen bytes that is low
-pub low_in_chunk : (text lanes : List ℕ) (at m : ℕ) → at + 16 ≤ length text → lanes ≡ chunk at 16 text → m ≡ mask_l (map is_low lanes) → m < 2 ^ 64 → (m ≡ 0 → ⊥) → IsReachedIn text at (at + 16) (at + count_trailing_zeros 64 m)
+pub low_in_chunk : (text lanes : List ℕ) (at m : ℕ) → at + 16 ≤ length text → lanes ≡ chunk at 16 text → m ≡ mask_l (map is_low lanes) → m < 2 ^ 64 → (m ≡ 0 → ⊥) → IsReached text at (at + 16) (at + count_trailing_zeros 64 m)
 low_in_chunk text lanes at m room same mask fits some =
     let bytes = chunk at 16 text in
     let whole : m ≡ mask_l (map is_low bytes) = mask ∙ ap (λ xs. mask_l (map is_low xs)) same in

@@ -1,7 +1,7 @@
 -- The first statement of a source, by what it holds as a piece.
-use Rattle.std.proofs.Common.{◌≡◌, ℕ, ◌+◌, ◌-◌, Bool, true, false, List, [], ◌∷◌, length, drop, Some, None, Ok, Err, arith, refl, ap, subst}
+use Rattle.std.proofs.Common.{◌≡◌, ℕ, ◌+◌, ◌-◌, ◌<◌, not, Bool, true, false, List, [], ◌∷◌, ◌++◌, length, drop, slice_range, sym, Some, None, Ok, Err, arith, refl, ap, subst}
 use Rattle.csa_cutting.specs.Cut.{TextUnit, Statements}
-use Rattle.csa_cutting.specs.Cutting.{IsFirstStatement, unit_between}
+use Rattle.csa_cutting.specs.Cutting.{IsStatementUnit, IsFirstStatement, unit_between}
 use Rattle.csa_cutting.specs.PieceCutting.{Follows}
 use Rattle.csa_cutting.specs.Places.{IsPart, IsFoundIn, kept_of}
 use Rattle.std.specs.Prelude.{Result}
@@ -9,17 +9,16 @@ use Rattle.std.specs.Result.{result_ok}
 use Rattle.csa_cutting.specs.declared.units.Part.{Part}
 use Rattle.csa_cutting.specs.declared.units.Place.{Place}
 use Rattle.csa_cutting.specs.declared.units.Place.TheVariants.{Mark, Gap, Unit as InUnit, Comment}
+use Rattle.std.proofs.lemmas.List.Folds.{drop_split}
 use Rattle.csa_cutting.proofs.Finding.{unit_some}
-use Rattle.csa_cutting.proofs.Leading.{part_size, part_unit, unit_told, nothing_left, comment_alone, to_whole}
-use Rattle.csa_cutting.proofs.Passing.{statements_at}
+use Rattle.csa_cutting.proofs.Fronts.{length_between}
+use Rattle.csa_cutting.proofs.Runs.{statement_first}
+use Rattle.csa_cutting.proofs.Leading.{nothing_left, comment_alone, to_whole}
+use Rattle.csa_cutting.proofs.Passing.{statements_at, statements_of, unit_at, range_size}
 
 none_kept : (goes_on : Bool) → kept_of goes_on [] ≡ []
 none_kept true = refl
 none_kept false = refl
-
-unit_is : (source : List ℕ) (start end : ℕ) (goes_on : Bool) → part_unit goes_on [] source start end start ≡ unit_between source start end
-unit_is source start end true = let none : start - 0 ≡ start = omega arith in rw none refl
-unit_is source start end false = let none : start - 0 ≡ start = omega arith in rw none refl
 
 -- what follows a gap is the rest of the source
 from_gap : (source : List ℕ) (from : ℕ) (others : List TextUnit) → Follows false from [] (drop from source) others → Statements from (drop from source) others
@@ -27,19 +26,40 @@ from_gap source from others s = statements_at (from - 0 + 0) from _ others (omeg
 
 first_statement : (source : List ℕ) (from start end : ℕ) (goes_on : Bool) → IsPart Gap [] source from goes_on start end → IsFirstStatement source from start end
 first_statement source from start end goes_on p =
-    let none = ap length (none_kept goes_on) in
-    let size = part_size goes_on [] source start end p.within in
-    let some = unit_some _ _ p.unit in
-    let order = p.order in
-    let place : from + (start - from) ≡ start = omega arith in
+    let front = slice_range source from (end + 1) in
+    let unit = slice_range source start (end + 1) in
+    let more = drop (end + 1) source in
+    let none = none_kept goes_on in
+    let inner = p.unit.order in
+    let size = range_size source from start (end + 1) p.order (omega arith) in
+    let place = length_between source from start p.order (omega (arith, p.unit.order, p.unit.within)) in
+    let all = drop_split source from (end + 1) (omega arith) in
     record {
-      order = order.0;
-      some = omega arith;
-      within = p.within;
+      order = p.order;
+      unit = subst (λ kept. IsStatementUnit kept source start end) none p.unit;
       first = λ others s.
-          let told = rw place at (unit_told Gap [] source from goes_on start end from others p (omega arith) (statements_at end _ _ others (omega arith) s)) in
-          subst (λ u. Statements from (drop from source) (u ∷ others)) (unit_is source start end goes_on) (from_gap source from _ told);
+          let here = statements_of start _ _ others (drop_split source start (end + 1) (omega arith)) s in
+          let there : Statements (from + length front - length (kept_of goes_on [] ++ unit)) ((kept_of goes_on [] ++ unit) ++ more) others =
+          rw none (statements_at start _ _ others (omega arith) here) in
+          from_gap source from others (subst (λ text. Follows false from [] text others) (sym all) (p.passed from more others (omega arith) there));
     }
+
+-- a unit has bytes
+pub unit_has_some : (source : List ℕ) (start end : ℕ) → IsStatementUnit [] source start end → start < end
+unit_has_some source start end h =
+    let some = unit_some _ _ h.unit in
+    let place = length_between source start end h.order h.within in
+    omega arith
+
+-- the unit is told first, and then what is told behind it
+pub told_first : (source : List ℕ) (from start end : ℕ) (others : List TextUnit) → IsFirstStatement source from start end → Statements end (drop end source) others → Statements from (drop from source) (unit_between source start end ∷ others)
+told_first source from start end others h s =
+    let unit = h.unit in
+    let behind = drop end source in
+    let place = length_between source start end unit.order unit.within in
+    let next = unit_at start (slice_range source start end) behind unit.unit in
+    h.first (unit_between source start end ∷ others) (statements_of start _ _ _ (sym (drop_split source start end unit.order))
+    (statement_first start (slice_range source start end ++ behind) (unit_between source start end) behind others next (ap not unit.spoken) (statements_at end _ _ others (omega arith) s)))
 
 none_spoken : (source : List ℕ) (from : ℕ) (place : Place) → IsFoundIn Gap [] source from (Err place) → Statements from (drop from source) []
 none_spoken source from Mark h = let e = h.0 in cc

@@ -13,6 +13,7 @@ use Rattle.csa_cutting.specs.declared.cutter.CutFault.{CutFault}
 use Rattle.csa_cutting.specs.declared.piece.Cut.{Cut as Step}
 use Rattle.csa_cutting.proofs.FirstLong.{HasCut, nothing_fed, too_long_whole, nothing_cut, cutter_refuses, not_short}
 use Rattle.csa_cutting.proofs.Fronts.{length_between}
+use Rattle.csa_cutting.proofs.Spoken.{told_first}
 use Rattle.csa_cutting.proofs.Once.{statements_once}
 use Rattle.csa_cutting.proofs.Joining.{pieces_joined, pieces_closed, pieces_whole}
 
@@ -79,12 +80,12 @@ cut_told [] handed before c d h k r =
     (handed, subst (λ v. HasCut v handed) r h, subst (λ t. AreNumbered 0 handed t) (sym (append-nil before)) k, ap (λ (v : Cutting). v.source) (sym r))
 cut_told (s ∷ gave) handed before c d h k (next, same, out, r) =
     let unit = unit_between c.source s.offset next.at in
-    let size : s.offset + length unit.bytes ≡ next.at = length_between c.source s.offset next.at (omega (arith, out.first.some)) out.first.within in
+    let size : s.offset + length unit.bytes ≡ next.at = length_between c.source s.offset next.at out.first.unit.order out.first.unit.within in
     let short : length unit.bytes ≤ 4096 = omega (arith, size, out.short) in
     let here : HasCut next (handed ++ (unit ∷ [])) = record {
       onward = λ others t.
           let behind : Statements next.at (drop next.at c.source) others = subst (λ w. Statements next.at (drop next.at w) others) same t in
-          let whole = h.onward (unit ∷ others) (out.first.first others behind) in
+          let whole = h.onward (unit ∷ others) (told_first c.source c.at s.offset next.at others out.first behind) in
           let there : IsCut c.source ((handed ++ (unit ∷ [])) ++ others) = subst (IsCut c.source) (sym (append_assoc handed (unit ∷ []) others)) whole in
           subst (λ w. IsCut w ((handed ++ (unit ∷ [])) ++ others)) (sym same) there;
       counted = omega (arith, out.counted, out.number_is, h.counted, length-append handed (unit ∷ []));

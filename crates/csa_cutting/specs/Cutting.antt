@@ -1,6 +1,6 @@
 -- A cutter on its way through a source.
-use Rattle.std.specs.Prelude.{◌≡◌, ℕ, ◌+◌, ◌<◌, ◌≤◌, List, ◌∷◌, length, drop, slice_range, Option, Result, IfOk, IfSome}
-use Rattle.csa_cutting.specs.Cut.{TextUnit, Statements, statement_bytes, longest_statement}
+use Rattle.std.specs.Prelude.{◌≡◌, ℕ, ◌+◌, ◌<◌, ◌≤◌, false, List, [], ◌∷◌, ◌++◌, length, drop, slice_range, Option, Result, IfOk, IfSome}
+use Rattle.csa_cutting.specs.Cut.{TextUnit, IsUnit, Statements, begins_with, statement_bytes, longest_statement}
 use Rattle.csa_cutting.specs.declared.cutter.Statement.{Statement}
 use Rattle.csa_cutting.specs.declared.cutter.CutFault.{CutFault}
 
@@ -18,12 +18,20 @@ unit_between source start end = record { offset = start; bytes = slice_range sou
 abbrev pub ToCome : Cutting → List TextUnit → Type 0
 ToCome c statements = Statements c.at (drop c.at c.source) statements
 
--- in the source from one place on, the first unit that is no comment lies between two others
+-- between these places lies a statement's unit, or what comes of it behind what is kept: up to the byte that ends it,
+-- or to the end of the bytes
+pub record IsStatementUnit (kept bytes : List ℕ) (start end : ℕ) : Type 0 where
+  pub order : start ≤ end
+  pub within : end ≤ length bytes
+  pub unit : IsUnit (kept ++ slice_range bytes start end) (drop end bytes)
+  pub spoken : begins_with 39 (kept ++ slice_range bytes start end) ≡ false
+
+-- in the source from one place on, the first unit that is no comment lies between these two: what is told from where
+-- it starts is told from that place
 pub record IsFirstStatement (source : List ℕ) (from start end : ℕ) : Type 0 where
   pub order : from ≤ start
-  pub some : start < end
-  pub within : end ≤ length source
-  pub first : (others : List TextUnit) → Statements end (drop end source) others → Statements from (drop from source) (unit_between source start end ∷ others)
+  pub unit : IsStatementUnit [] source start end
+  pub first : (others : List TextUnit) → Statements start (drop start source) others → Statements from (drop from source) others
 
 -- what holds of the statement that was handed out, if one was
 abbrev pub IfHandedOut : Result (Option Statement) CutFault → (Statement → Type 0) → Type 0

@@ -2,6 +2,7 @@
 -- These are definitions for private helpers, and for how the private fields of `PieceCutter` make its view; a reader of the contracts may skip them.
 use Rattle.std.specs.Prelude.{◌≡◌, ℕ, ◌+◌, ◌-◌, ◌^◌, not, ◌<◌, ◌≤◌, ◌==◌, ◌⊎◌, if◌then◌else◌, Bool, true, false, List, [], ◌∷◌, ◌++◌, length, take, drop, slice_range, Result, Ok, Err}
 use Rattle.csa_cutting.specs.Cut.{TextUnit, Statements, IsUnit, byte_order_mark, begins_with, longest_statement}
+use Rattle.csa_cutting.specs.Cutting.{IsStatementUnit}
 use Rattle.csa_cutting.specs.PieceCutting.{Follows}
 use Rattle.csa_cutting.specs.declared.units.Part.{Part}
 use Rattle.csa_cutting.specs.declared.units.Place.{Place}
@@ -45,14 +46,12 @@ PassesTo place held piece from at = Passes place held (slice_range piece from (a
 abbrev pub kept_of : Bool → List ℕ → List ℕ
 kept_of goes_on held = if goes_on then held else []
 
--- a statement's unit in the piece from one place on, or what has come of it: what is held of it and the bytes from
--- start to end; and what leads to it, up to the byte that ends it
+-- a statement's unit in the piece from one place on, or what has come of it: where it goes on, what is held of it and
+-- the bytes from start to end; and what leads to it, up to the byte that ends it
 pub record IsPart (place : Place) (held piece : List ℕ) (from : ℕ) (goes_on : Bool) (start end : ℕ) : Type 0 where
-  pub order : (from ≤ start) × (start ≤ end)
-  pub within : end ≤ length piece
+  pub order : from ≤ start
   pub first : goes_on ≡ true → (start ≡ 0) × (open_of place held ≡ held)
-  pub unit : IsUnit (kept_of goes_on held ++ slice_range piece start end) (drop end piece)
-  pub spoken : begins_with 39 (kept_of goes_on held ++ slice_range piece start end) ≡ false
+  pub unit : IsStatementUnit (kept_of goes_on held) piece start end
   pub passed : Passes place held (slice_range piece from (end + 1)) (kept_of goes_on held ++ slice_range piece start (end + 1))
 
 -- what the piece from one place on holds next, a statement's unit, or where it leads to

@@ -1,9 +1,9 @@
 //! Laws of the definitions that the contracts of this crate cite. They take and give nothing.
 
-ghost use Rattle.std.specs.Prelude.{◌≡◌, ℕ, ◌+◌, ◌≤◌, ◌⊎◌, true, false, List, [], ◌∷◌, ◌++◌, ◌↔◌, slice_range, Option, None, Some, Result, Ok, Err, IfOk, IfErr, IsErrOf};
+ghost use Rattle.std.specs.Prelude.{◌≡◌, ℕ, ◌+◌, ◌≤◌, ◌⊎◌, true, false, List, [], ◌∷◌, ◌++◌, ◌↔◌, drop, slice_range, Option, None, Some, Result, Ok, Err, IfOk, IfErr, IsErrOf};
 ghost use Rattle.std.specs.Borrow.{Bor};
 ghost use Rattle.csa_cutting.specs.Cut.{TextUnit, IsCut, Statements, mark_length, statement_bytes, longest_statement};
-ghost use Rattle.csa_cutting.specs.Cutting.{Cutting, ToCome, IfHandedOut, IsFirstStatement, IsHandedOut, IsTooLong};
+ghost use Rattle.csa_cutting.specs.Cutting.{Cutting, ToCome, IfHandedOut, IsFirstStatement, IsHandedOut, IsTooLong, unit_between};
 ghost use Rattle.csa_cutting.specs.Lines.{Lines};
 ghost use Rattle.csa_cutting.specs.LineCutting.{LineCutting, BeginsTooLong, HasLongLine, LineAnswer, LineStep, LinesAfter, LastLine};
 ghost use Rattle.csa_cutting.specs.PieceCutting.{PieceCutting, Closed, fresh};
@@ -22,6 +22,13 @@ pub fn cut_once()
         × ((others : List TextUnit) → Statements offset text others → others ≡ statements) }
     ensures source { (source : List ℕ) → (statements : List TextUnit) × IsCut source statements
         × ((others : List TextUnit) → IsCut source others → others ≡ statements) }
+{}
+
+/// Where the first statement from a place on lies between two places (`IsFirstStatement`), it is told
+/// first, and then what is told behind it.
+pub fn first_is_told()
+    ensures told { (source : List ℕ) (from start end : ℕ) (others : List TextUnit) → IsFirstStatement source from start end
+        → Statements end (drop end source) others → Statements from (drop from source) (unit_between source start end ∷ others) }
 {}
 
 /// Bytes have one list of lines and one unfinished rest, and no other.

@@ -34,8 +34,8 @@ impl From<AllocError> for LineFault {
 
 /// Cuts bytes that come in pieces into lines, and hands these out in order.
 ///
-/// CR and LF each end a line, and a line without bytes is skipped. The cutter keeps the unfinished
-/// line and no more.
+/// CR and LF each end a line, and a line without bytes is skipped. The cutter keeps one line and no
+/// more: the unfinished one, or until the next call the one that it handed out.
 #[derive(Drop)]
 pub struct LineCutter {
     held: Vec<u8>,

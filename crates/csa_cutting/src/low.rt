@@ -1,7 +1,7 @@
 //! Low bytes, those below 14, as CR and LF are: many bytes are looked at in one step.
 
 ghost use Rattle.std.specs.Prelude.{◌≡◌, ℕ, ◌+◌, ◌<◌, ◌≤◌, false, map, length, slice_index, MatchOption};
-ghost use Rattle.csa_cutting.specs.Comments.{HasNoLineEndTo, IsReachedIn, is_low};
+ghost use Rattle.csa_cutting.specs.Comments.{HasNoLineEndTo, IsReached, is_low};
 ghost use Rattle.std.specs.Simd.Lanes.{chunk, mask_l};
 
 use std::simd::prelude::*;
@@ -24,13 +24,27 @@ pub(crate) fn has_low(text: &[u8], at: usize) -> bool
 #[inline(always)]
 pub(crate) fn first_low(text: &[u8], at: usize) -> Option<usize>
     requires { at + 16 ≤ length text.now }
-    ensures { MatchOption result (HasNoLineEndTo text.now at (at + 16)) (IsReachedIn text.now at (at + 16)) }
+    ensures { MatchOption result (HasNoLineEndTo text.now at (at + 16)) (IsReached text.now at (at + 16)) }
 {
     let bits = low_bits(sixteen(text, at));
     if bits == 0 {
         return None;
     }
     Some(at + bits.trailing_zeros() as usize)
+}
+
+// The place of the first low byte of the 64 from `at` on.
+#[inline(always)]
+pub(crate) fn first_of_64(text: &[u8], at: usize) -> Option<usize>
+    requires { at + 64 ≤ length text.now }
+    ensures { MatchOption result (HasNoLineEndTo text.now at (at + 64)) (IsReached text.now at (at + 64)) }
+{
+    for k in 0..4 {
+        if let Some(low) = first_low(text, at + 16 * k) {
+            return Some(low);
+        }
+    }
+    None
 }
 
 // The 16 bytes from `at` on.

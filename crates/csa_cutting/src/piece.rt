@@ -8,9 +8,9 @@ ghost use Rattle.csa_cutting.specs.PieceCutting.{fresh, IsOpen};
 ghost use Rattle.csa_cutting.specs.PieceSteps.{AfterStep, AfterEnd, Last, IsTooLongAt, IsUsed, IsLentFrom};
 ghost use Rattle.csa_cutting.specs.Places.{IsKept, IsFoundIn, IsHeld, begins, kept_of, has_unit};
 
-use crate::comments::past_comments;
+use crate::comments::{COMMENT, past_comments};
 use crate::cutter::{CutFault, LONGEST_STATEMENT, Statement};
-use crate::units::{BYTE_ORDER_MARK, COMMENT, Part, Place, first_in, handed_out, unit_length};
+use crate::units::{BYTE_ORDER_MARK, Part, Place, first_in, handed_out, unit_length};
 use arrayvec::ArrayVec;
 use std::marker::Model;
 

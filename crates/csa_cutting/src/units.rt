@@ -6,12 +6,14 @@ ghost use Rattle.csa_cutting.specs.Cut.{IsNext, IsGap, is_separator, is_blank, t
 ghost use Rattle.csa_cutting.specs.Cutting.{unit_between};
 ghost use Rattle.csa_cutting.specs.Places.{IsFoundIn, PassesTo};
 
-use crate::comments::{comment_length, past_comments};
+use crate::comments::{COMMENT, comment_length, past_comments};
 use crate::line::line_length;
 use crate::scan::front_length;
 
-// The first byte of a comment.
-pub(crate) const COMMENT: u8 = b'\'';
+// The first byte of a name, and that of a header.
+const NAME: u8 = b'N';
+
+const HEADER: u8 = b'$';
 
 // The UTF-8 byte order mark.
 pub(crate) const BYTE_ORDER_MARK: [u8; 3] = [0xEF, 0xBB, 0xBF];
@@ -66,12 +68,6 @@ fn is_separator(b: u8) -> bool
     b == b'\r' || b == b'\n' || b == b',' || b == b' ' || b == b'\t'
 }
 
-fn takes_line(first: u8) -> bool
-    ensures { result ≡ takes_line first }
-{
-    first == COMMENT || first == b'N' || first == b'$'
-}
-
 // Whether a statement that does not take the whole line goes on with this byte.
 fn goes_on(b: u8) -> bool
     ensures { (first : ℕ) → takes_line first ≡ false → result ≡ not (is_end first b) }
@@ -96,7 +92,7 @@ pub(crate) fn unit_length(first: u8, text: &[u8]) -> usize
     if first == COMMENT {
         return comment_length(text);
     }
-    if takes_line(first) {
+    if first == NAME || first == HEADER {
         return line_length(text);
     }
     front_length(text, goes_on)
@@ -128,7 +124,7 @@ pub(crate) fn handed_out(unit: &[u8]) -> &[u8]
         return unit;
     }
     match unit.first() {
-        Some(b'N') | Some(b'$') => unit,
+        Some(&NAME) | Some(&HEADER) => unit,
         _ => without_last_blanks(unit),
     }
 }

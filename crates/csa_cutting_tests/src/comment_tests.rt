@@ -29,7 +29,7 @@ fn comments(
 fn statements_behind_comments_of_each_length(rt: HostRuntime) -> Result<(), AllocError> {
     let table: [&[u8]; 5] = [b"\n", b"\r\n", b"\r", b"\n\t\n", b"\n ,"];
     for separators in table {
-        for length in 0..170usize {
+        for length in 0..280usize {
             let source = comments(&rt, length, separators)?;
             let mut cutter = Cutter::new(source.as_slice());
             let first = 3 * (1 + length as u64 + separators.len() as u64);

@@ -2,6 +2,7 @@
 use Rattle.std.proofs.Common.{◌≡◌, ℕ, List, [], ◌∷◌, length, drop, arith, refl, sym, ap, subst, ◌∙◌}
 use Rattle.csa_cutting.proofs.Once.{statements_once}
 use Rattle.csa_cutting.proofs.Runs.{found}
+use Rattle.csa_cutting.proofs.Spoken.{told_first}
 use Rattle.csa_cutting.proofs.WholeRuns.{whole_cut}
 use Rattle.csa_cutting.specs.Cut.{TextUnit, IsCut, Statements, mark_length, statement_bytes}
 use Rattle.csa_cutting.specs.Cutting.{Cutting, ToCome, IsFirstStatement, IsHandedOut, IsTooLong, unit_between}
@@ -44,7 +45,7 @@ two_units : (line : List ℕ) (c d : Cutting) (offset : ℕ) (v : TextUnit) (vs 
     → (u : TextUnit) → IsAlone line u → ⊥
 two_units line c d offset v vs s same first behind u alone =
     let there : Statements d.at (drop d.at c.source) (v ∷ vs) = subst (λ x. Statements d.at (drop d.at x) (v ∷ vs)) same behind in
-    let all = first.first (v ∷ vs) there in
+    let all = told_first c.source c.at offset d.at (v ∷ vs) first there in
     let e = ap length (one_unit line (unit_between c.source offset d.at ∷ v ∷ vs) u (whole line c (unit_between c.source offset d.at ∷ v ∷ vs) s all) alone) in
     absurd (omega (arith, e))
 
@@ -53,7 +54,7 @@ pub another_statement : (line : List ℕ) (c d : Cutting) (offset next end : ℕ
     → (u : TextUnit) → IsAlone line u → ⊥
 another_statement line c d offset next end s same first second u alone =
     let rest = found end (drop end d.source) in
-    two_units line c d offset (unit_between d.source next end) rest.0 s same first (second.first rest.0 rest.1) u alone
+    two_units line c d offset (unit_between d.source next end) rest.0 s same first (told_first d.source d.at next end rest.0 second rest.1) u alone
 
 pub long_behind : (line : List ℕ) (c d : Cutting) (offset number place : ℕ)
     → AtStart line c → d.source ≡ c.source → IsFirstStatement c.source c.at offset d.at → IsTooLong d number place

@@ -2,6 +2,7 @@
 use Rattle.std.proofs.Common.{◌≡◌, ℕ, ◌≤◌, List, [], ◌∷◌, length, drop, slice_range, Ok, Err, Some, arith, refl, subst, inr}
 use Rattle.csa_cutting.proofs.Fronts.{length_between}
 use Rattle.csa_cutting.proofs.Runs.{found}
+use Rattle.csa_cutting.proofs.Spoken.{told_first}
 use Rattle.csa_cutting.specs.Cut.{TextUnit, Statements}
 use Rattle.csa_cutting.specs.Cutting.{Cutting, ToCome, IsHandedOut, unit_between}
 use Rattle.csa_text.specs.Saying.{Saying, time, saying_of}
@@ -23,11 +24,11 @@ unit_of c d offset = unit_between c.source offset d.at
 
 pub handed_steps : (c d : Cutting) (number offset : ℕ) (bytes : List ℕ) → Handed c d number offset bytes → StepsOver c (unit_of c d offset) d
 handed_steps c d number offset bytes h others behind =
-    h.out.first.first others (subst (λ x. Statements d.at (drop d.at x) others) h.same behind)
+    told_first c.source c.at offset d.at others h.out.first (subst (λ x. Statements d.at (drop d.at x) others) h.same behind)
 
 pub handed_short : (c d : Cutting) (number offset : ℕ) (bytes : List ℕ) → Handed c d number offset bytes → length (slice_range c.source offset d.at) ≤ 4096
 handed_short c d number offset bytes h =
-    let e = length_between c.source offset d.at (omega (arith, h.out.first.some)) h.out.first.within in
+    let e = length_between c.source offset d.at h.out.first.unit.order h.out.first.unit.within in
     let s = h.out.short in
     omega (arith, e, s)
 

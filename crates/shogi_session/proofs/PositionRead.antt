@@ -2,6 +2,7 @@
 use Rattle.std.proofs.Common.{◌≡◌, ◌<◌, ◌≤◌, ◌-◌, ◌↔◌, IsTrue, ℕ, Bool, true, false, List, [], ◌∷◌, ◌++◌, length, append_assoc, append-nil, arith, refl, sym, subst}
 use Rattle.std.specs.List.{AllByRecursion, AllZip}
 use Rattle.csa_cutting.proofs.Once.{statements_once}
+use Rattle.csa_cutting.proofs.Spoken.{unit_has_some}
 use Rattle.csa_cutting.specs.Cut.{TextUnit, IsCut}
 use Rattle.csa_cutting.specs.Cutting.{Cutting, ToCome, IsTooLong}
 use Rattle.csa_text.specs.Saying.{Saying}
@@ -53,8 +54,8 @@ pub read_less : (text : List ℕ) (c d : Cutting) (number offset : ℕ) (bytes :
     → length text - d.at < length text - c.at
 read_less text c d number offset bytes h out =
     let order = out.out.first.order in
-    let some = out.out.first.some in
-    let within = subst (λ x. d.at ≤ length x) h.source out.out.first.within in
+    let some = unit_has_some c.source offset d.at out.out.first.unit in
+    let within = subst (λ x. d.at ≤ length x) h.source out.out.first.unit.within in
     omega (arith, order, some, within)
 
 pub all_read : (text : List ℕ) (c : Cutting) → HasRead text c → ToCome c [] → IsPositionText text

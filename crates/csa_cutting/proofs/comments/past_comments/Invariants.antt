@@ -1,15 +1,12 @@
-use Rattle.std.proofs.Common.{◌≤◌, ◌-◌, List, ℕ, length}
-use Rattle.csa_cutting.specs.Comments.{IsLineEndAt}
-use Rattle.csa_cutting.specs.Places.{PassesTo}
-use Rattle.csa_cutting.specs.declared.units.Place.{Place}
+use Rattle.std.proofs.Common.{◌+◌, ◌-◌, length}
+use Rattle.csa_cutting.specs.Comments.{IsPassed, IsCommentAt}
 use Rattle.csa_cutting.proofs.comments.past_comments.Given as goal
 
-abbrev pub invariant-loop-end : goal.invariant-loop-end
-invariant-loop-end l = record {
-  onward : l.from ≤ l.at;
-  end : IsLineEndAt l.piece l.at;
-  passed : (place : Place) (held : List ℕ) (front : ℕ) → front ≤ l.from → PassesTo place held l.piece front l.from → PassesTo place held l.piece front l.at;
+abbrev pub invariant-loop-at : goal.invariant-loop-at
+invariant-loop-at l = record {
+  passed : IsPassed l.piece l.from l.at;
+  next : IsCommentAt l.piece (l.at + 1);
 }
 
-abbrev pub decreases-loop-end : goal.decreases-loop-end
-decreases-loop-end l = length l.piece - l.at
+abbrev pub decreases-loop-at : goal.decreases-loop-at
+decreases-loop-at l = length l.piece - l.at

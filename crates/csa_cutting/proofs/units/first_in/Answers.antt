@@ -1,6 +1,6 @@
-use Rattle.std.proofs.Common.{arith, inr}
+use Rattle.std.proofs.Common.{arith}
 use Rattle.csa_cutting.proofs.CommentLines.{line_end_behind}
-use Rattle.csa_cutting.proofs.Passing.{unit_found, comment_passed, comment_open, gap_open, gap_between}
+use Rattle.csa_cutting.proofs.Passing.{unit_found, comment_passed, comment_left, gap_open, gap_between}
 use Rattle.csa_cutting.proofs.units.first_in.Goals as goal
 
 pub loop-start-init : goal.loop-start-init
@@ -16,7 +16,7 @@ pub returns-then-end-piece : goal.returns-then-end-piece
 returns-then-end-piece c = λ place held front low p.
     let unit = c.in-Some.ensures in
     let i = c.loop-start.invariant in
-    (inr (omega (arith, unit.0, unit.1)), comment_open place held c.args.piece.now front c.loop-start.at c.in-Some.start c.in-Some.end (omega (arith, i.order)) (i.passed place held front low p) unit.0 c.if-end-piece.true unit.2 c.if-piece-start-ne-COMMENT.false)
+    comment_left place held c.args.piece.now front c.loop-start.at c.in-Some.start c.in-Some.end (omega (arith, i.order)) (i.passed place held front low p) unit.0 c.if-end-piece.true unit.2 c.if-piece-start-ne-COMMENT.false
 
 pub past_comments-at-requires : goal.past_comments-at-requires
 past_comments-at-requires c =

@@ -1,29 +1,19 @@
-use Rattle.std.proofs.Common.{◌≡◌, ℕ, Bool, true, false, List, [], ◌∷◌, rules, sym, ◌∙◌, refl}
-use Rattle.std.specs.Prelude.{◌==◌, ◌||◌, ◌&&◌}
-use Rattle.std.specs.List.{position_or_len}
+use Rattle.std.proofs.Common.{◌≡◌, true, inl, inr, rules, sym, ◌∙◌, refl}
 use Rattle.std.proofs.lemmas.List.Sums.{position_or_len_is}
 use Rattle.csa_cutting.specs.Cut.{is_end, takes_line}
-use Rattle.csa_cutting.specs.Lines.{is_line_end}
+use Rattle.csa_cutting.proofs.CommentLines.{lengths_alike}
 use Rattle.csa_cutting.proofs.Fronts.{turned_true, turned_false}
 use Rattle.csa_cutting.proofs.units.unit_length.Goals as goal
 
--- where a unit takes its line, only a line end ends it
-only_line_ends : (a b c : Bool) → a || b ≡ a || b || (c && false)
-only_line_ends true b c = refl
-only_line_ends false true c = refl
-only_line_ends false false true = refl
-only_line_ends false false false = refl
+pub returns-then-first-eq-COMMENT-clause-value : goal.returns-then-first-eq-COMMENT-clause-value
+returns-then-first-eq-COMMENT-clause-value c =
+    let first = c.if-first-eq-COMMENT.true in
+    c.comment_length.ensures.value ∙ lengths_alike c.args.first c.args.text.now (rw first refl)
 
-ends_alike : (first b : ℕ) → takes_line first ≡ true → is_line_end b ≡ is_end first b
-ends_alike first b h = rw h (only_line_ends (b == 13) (b == 10) (b == 44))
-
-lengths_alike : (first : ℕ) (text : List ℕ) → takes_line first ≡ true → position_or_len is_line_end text ≡ position_or_len (is_end first) text
-lengths_alike first [] h = refl
-lengths_alike first (b ∷ bs) h = rw (← ends_alike first b h, lengths_alike first bs h) refl
-
-pub returns-then-takes_line-clause-value : goal.returns-then-takes_line-clause-value
-returns-then-takes_line-clause-value c =
-    c.line_length.ensures.value ∙ lengths_alike c.args.first c.args.text.now (sym c.takes_line.ensures ∙ c.if-takes_line.true)
+pub returns-then-first-eq-NAME-clause-value : goal.returns-then-first-eq-NAME-clause-value
+returns-then-first-eq-NAME-clause-value c =
+    let takes : takes_line c.args.first ≡ true = elim c.then-first-eq-NAME.either [ inl e ↦ rw e refl | inr e ↦ let second = e.1 in rw second refl ] in
+    c.line_length.ensures.value ∙ lengths_alike c.args.first c.args.text.now takes
 
 pub returns-clause-value : goal.returns-clause-value
 returns-clause-value c =

@@ -32,7 +32,7 @@ returns-then-kept-part c =
     let i = c.self.invariant in
     let p : IsPart s.place s.held.items c.args.piece.now 0 c.in-Ok.found.goes_on c.in-Ok.found.start c.in-Ok.found.end = rw c.as_slice.ensures.value at c.in-Ok.ensures in
     let kept = kept_size c.in-Ok.found.goes_on s.held.items c.len.result c.kept_length-kept.result c.len.ensures.value c.kept_length-kept.ensures in
-    let size = length_range c.args.piece.now c.in-Ok.found.start c.in-Ok.found.end p.within in
+    let size = length_range c.args.piece.now c.in-Ok.found.start c.in-Ok.found.end p.unit.within in
     let place : s.fed + c.in-Ok.found.start - c.kept_length-kept.result ≡ s.fed + c.in-Ok.found.start - length (kept_of c.in-Ok.found.goes_on s.held.items) = ap (λ n. s.fed + c.in-Ok.found.start - n) kept in
     let done = long_step c.args.self.now s.place s.held.items c.args.piece.now c.in-Ok.found.goes_on c.in-Ok.found.start c.in-Ok.found.end s.fed s.number _ s.refused
     c.self.view_is c.in_default.is p (omega (arith, i.0)) place (omega (arith, kept, size, c.if-kept-part.true)) in
@@ -49,7 +49,7 @@ returns-then-end-piece c =
     let end = c.in-Ok.found.end in
     let p : IsPart s.place s.held.items piece 0 goes_on start end = rw c.as_slice.ensures.value at c.in-Ok.ensures in
     let kept = kept_size goes_on s.held.items c.len.result c.kept_length-kept.result c.len.ensures.value c.kept_length-kept.ensures in
-    let size = length_range piece start end p.within in
+    let size = length_range piece start end p.unit.within in
     let most = kept_most goes_on s.held.items in
     let few : length (kept_of goes_on s.held.items) + (end - start) ≤ 4096 = omega (arith, kept, size, c.if-kept-part.false, i.1) in
     let left : c.keep_held.new.held.items ≡ kept_of goes_on s.held.items = c.keep_held.ensures in
@@ -57,7 +57,7 @@ returns-then-end-piece c =
     c.hold.ensures ∙ ap (λ xs. xs ++ slice_range piece start end) left in
     let done = unit_step c.args.self.now s.place s.held.items c.hold.new.held.items piece goes_on start end s.fed s.number s.refused
     c.self.view_is c.in_default.is p (omega (arith, i.0)) c.if-end-piece.true all few in
-    let quiet : begins_with 39 c.hold.new.held.items ≡ false = ap (begins_with 39) all ∙ p.spoken in
+    let quiet : begins_with 39 c.hold.new.held.items ≡ false = ap (begins_with 39) all ∙ p.unit.spoken in
     let held = held_whole c.hold.new.held.items quiet in
     let none = c.none_ended-then-end-piece.ensures.statement in
     ((refl, λ _. tt, record { led = rw none (c.none_ended-then-end-piece.ensures.used ∙ c.if-end-piece.true, done.1); held = rw none held; refused = tt }), record { used = rw none (c.none_ended-then-end-piece.ensures.used ∙ c.if-end-piece.true); number = rw none tt; lent = rw none tt; going = done.0; fault = tt; place = tt; after = tt })
@@ -72,11 +72,11 @@ returns-then-is_empty c =
     let end = c.in-Ok.found.end in
     let p : IsPart s.place s.held.items piece 0 goes_on start end = rw c.as_slice.ensures.value at c.in-Ok.ensures in
     let kept = kept_size goes_on s.held.items c.len.result c.kept_length-kept.result c.len.ensures.value c.kept_length-kept.ensures in
-    let size = length_range piece start end p.within in
+    let size = length_range piece start end p.unit.within in
     let most = kept_most goes_on s.held.items in
     let few : length (kept_of goes_on s.held.items) + (end - start) ≤ 4096 = omega (arith, kept, size, c.if-kept-part.false, i.1) in
     let left : c.keep_held.new.held.items ≡ kept_of goes_on s.held.items = c.keep_held.ensures in
-    let behind : end < length piece = omega (arith, c.if-end-piece.false, p.within) in
+    let behind : end < length piece = omega (arith, c.if-end-piece.false, p.unit.within) in
     let whole : slice_range piece start end ≡ kept_of goes_on s.held.items ++ slice_range piece start end =
     all_in_piece goes_on s.held.items c.keep_held.new.held.items (slice_range piece start end) left (sym c.is_empty.ensures ∙ c.if-is_empty.true) in
     let place : s.fed + start - c.kept_length-kept.result ≡ s.fed + start - length (kept_of goes_on s.held.items) = ap (λ n. s.fed + start - n) kept in
@@ -103,11 +103,11 @@ returns c =
     let end = c.in-Ok.found.end in
     let p : IsPart s.place s.held.items piece 0 goes_on start end = rw c.as_slice.ensures.value at c.in-Ok.ensures in
     let kept = kept_size goes_on s.held.items c.len.result c.kept_length-kept.result c.len.ensures.value c.kept_length-kept.ensures in
-    let size = length_range piece start end p.within in
+    let size = length_range piece start end p.unit.within in
     let most = kept_most goes_on s.held.items in
     let few : length (kept_of goes_on s.held.items) + (end - start) ≤ 4096 = omega (arith, kept, size, c.if-kept-part.false, i.1) in
     let left : c.keep_held.new.held.items ≡ kept_of goes_on s.held.items = c.keep_held.ensures in
-    let behind : end < length piece = omega (arith, c.if-end-piece.false, p.within) in
+    let behind : end < length piece = omega (arith, c.if-end-piece.false, p.unit.within) in
     let whole : c.as_slice-2.result.now ≡ kept_of goes_on s.held.items ++ slice_range piece start end =
     c.as_slice-2.ensures.value ∙ c.hold-2.ensures ∙ ap (λ xs. xs ++ slice_range piece start end) left in
     let place : s.fed + start - c.kept_length-kept.result ≡ s.fed + start - length (kept_of goes_on s.held.items) = ap (λ n. s.fed + start - n) kept in
