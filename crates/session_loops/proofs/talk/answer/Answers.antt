@@ -1,4 +1,4 @@
-use Rattle.std.proofs.Common.{inl, inr, refl}
+use Rattle.std.proofs.Common.{inl, inr, refl, rules}
 use Rattle.std.proofs.lemmas.Result.{err_from_is_err_and}
 use Rattle.session_loops.specs.Talks.{no_answer, not_sent}
 use Rattle.session_loops.proofs.talk.answer.Goals as goal
@@ -15,3 +15,6 @@ pub returns-in_err-send-clause-faults : goal.returns-in_err-send-clause-faults
 returns-in_err-send-clause-faults g c =
     let p = err_from_is_err_and c.from_residual.result c.from_residual.ensures.1 in
     rw (p.1, p.2) (inr (inl c.in_err-send.ensures.faults))
+
+pub returns-clause-replied : goal.returns-clause-replied
+returns-clause-replied g c = search rules

@@ -1,3 +1,4 @@
+use Rattle.std.proofs.Common.{rules}
 use Rattle.session_peers.proofs.SampleSteps.{row_bytes, over_bytes, over_stays}
 use Rattle.session_peers.proofs.sample.Sample.step.Goals as goal
 
@@ -12,3 +13,6 @@ returns-in-Ok-clause-silent c = λ gone. over_bytes _ _ _ _ gone c.in-Ok.ensures
 
 pub returns-in-Ok-clause-stays : goal.returns-in-Ok-clause-stays
 returns-in-Ok-clause-stays c = λ gone. over_stays _ _ _ _ gone c.in-Ok.ensures.row
+
+pub returns-in-Err-clause-lost : goal.returns-in-Err-clause-lost
+returns-in-Err-clause-lost c = search rules
