@@ -1,17 +1,20 @@
--- A comment on a line of its own is passed.
-use Rattle.std.proofs.Common.{◌≡◌, ◌⊎◌, ◌<◌, ◌≤◌, ◌+◌, ◌-◌, inl, inr, ℕ, Bool, true, false, List, length, drop, get_or, ◌∷◌, [], slice_range, eq-eqb, eqb-true, sym, ap, subst, ◌∙◌, arith, refl}
-use Rattle.std.proofs.Math.Seq.{drop-cons}
+-- How far comments go on that stand one behind another.
+use Rattle.std.proofs.Common.{zero, suc, not, ◌≡◌, ◌⊎◌, ◌<◌, ◌≤◌, ◌+◌, ◌-◌, inl, inr, ℕ, Bool, true, false, List, length, drop, get_or, ◌∷◌, [], sym, ap, subst, ◌∙◌, arith, refl}
 use Rattle.std.specs.Prelude.{◌==◌, ◌||◌, ◌&&◌}
 use Rattle.std.specs.List.{position_or_len}
-use Rattle.std.proofs.lemmas.Bool.{cases_lt}
+use Rattle.std.proofs.lemmas.Bool.{cases_lt, cases_Bool}
 use Rattle.std.proofs.lemmas.List.{length-drop, get_or-drop}
-use Rattle.std.proofs.lemmas.List.Sums.{position_or_len_is, passes_at_first, prefix_len_is}
-use Rattle.csa_cutting.specs.Comments.{IsLineEndAt, IsCommentAt, IsLineEndTo, IsFirstLineEnd, IsReached, IsPassed, HasNoLineEndTo}
-use Rattle.csa_cutting.specs.Cut.{IsNext, IsUnit, EndsBefore, is_separator, is_end, takes_line, begins_with}
+use Rattle.std.proofs.lemmas.List.Sums.{position_or_len_is, passes_at_first, prefix_len_is, prefix_len_passes}
+use Rattle.csa_cutting.specs.Comments.{IsLineEndAt, IsLineEndTo, IsNextStart, IsPast, CommentsFollow, LeadsOn, HasNoLineEndTo}
+use Rattle.csa_cutting.specs.Cut.{IsNext, is_separator, is_end, takes_line}
 use Rattle.csa_cutting.specs.Cutting.{unit_between}
+use Rattle.csa_cutting.specs.Places.{PassesTo}
+use Rattle.csa_cutting.specs.declared.units.Place.{Place}
+use Rattle.csa_cutting.specs.declared.units.Place.TheVariants.{Comment}
+use Rattle.csa_cutting.proofs.Finding.{passes_comment, found_in_comment}
 use Rattle.csa_cutting.specs.Lines.{is_line_end}
-use Rattle.csa_cutting.proofs.Fronts.{next_place, first_between}
-use Rattle.csa_cutting.proofs.Passing.{comment_passed, separator_passed}
+use Rattle.csa_cutting.proofs.Fronts.{next_place, turned_true}
+use Rattle.csa_cutting.proofs.Passing.{comment_passed, comment_open, separator_passed}
 
 separates : (r n c b t : Bool) → r || n ≡ true → r || n || c || b || t ≡ true
 separates true n c b t h = refl
@@ -38,94 +41,174 @@ lengths_alike first (b ∷ bs) h = rw (← ends_alike first b h, lengths_alike f
 line_end_ends : (b : ℕ) → is_line_end b ≡ is_end 39 b
 line_end_ends b = ends_alike 39 b refl
 
--- the next unit behind a line end, where a comment begins right behind it
-next_comment : (piece : List ℕ) (at end : ℕ) → IsLineEndAt piece at → IsCommentAt piece (at + 1) → at + 1 < end → HasNoLineEndTo piece (at + 1) end → IsLineEndAt piece end → IsNext at (drop at piece) (unit_between piece (at + 1) end) (drop end piece)
-next_comment piece at end here quote some none ended =
-    let rest = drop at piece in
-    let body = drop (at + 1 + 1) piece in
-    let m = end - (at + 1 + 1) in
-    let whole : at + 1 + 1 + m ≡ end = omega (arith, some) in
-    let gap = prefix_len_is is_separator rest 1 0 (omega (arith, length-drop at piece, here.0))
-    (λ k h. ap is_separator (get_or-drop at piece k 0 ∙ ap (λ i. get_or piece i 0) (omega arith)) ∙ line_end_separates (get_or piece at 0) here.1)
-    (λ h. ap is_separator (get_or-drop at piece 1 0 ∙ quote.1)) in
-    let unit = position_or_len_is (is_end 39) body m 0 (omega (arith, length-drop (at + 1 + 1) piece, ended.0, some))
-    (λ k h. ap (is_end 39) (get_or-drop (at + 1 + 1) piece k 0) ∙ sym (line_end_ends (get_or piece (at + 1 + 1 + k) 0)) ∙ none (at + 1 + 1 + k) (omega arith) (omega (arith, h, whole)))
-    (λ h. ap (is_end 39) (get_or-drop (at + 1 + 1) piece m 0 ∙ ap (λ i. get_or piece i 0) whole) ∙ sym (line_end_ends (get_or piece end 0)) ∙ ended.1) in
-    subst (λ e. IsNext at rest (unit_between piece (at + 1) e) (drop e piece)) whole
-    (next_place at piece at 1 m (sym gap) (omega (arith, some, ended.0)) (sym unit ∙ ap (λ first. position_or_len (is_end first) body) (sym quote.1)))
+-- the unit behind a gap
+pub unit_behind : (piece : List ℕ) (at start m : ℕ) → IsNextStart piece at start → m ≡ position_or_len (is_end (get_or piece start 0)) (drop (start + 1) piece) → IsNext at (drop at piece) (unit_between piece start (start + 1 + m)) (drop (start + 1 + m) piece)
+unit_behind piece at start m begun unit =
+    let first : at + (start - at) ≡ start = omega (arith, begun.order) in
+    subst (λ s. IsNext at (drop at piece) (unit_between piece s (s + 1 + m)) (drop (s + 1 + m) piece)) first
+    (next_place at piece at (start - at) m begun.gap (omega (arith, begun.within, first)) (subst (λ s. m ≡ position_or_len (is_end (get_or piece s 0)) (drop (s + 1) piece)) (sym first) unit))
 
--- a comment's first byte ends no line
-behind_quote : (piece : List ℕ) (at end : ℕ) → IsCommentAt piece at → IsLineEndAt piece end → at ≤ end → at < end
-behind_quote piece at end quote ended order =
-    elim (cases_lt at end) [
-      | inl h ↦ h
-      | inr h ↦
-          let same : end ≡ at = omega (arith, h, order) in
-          let e : is_line_end 39 ≡ true = ap is_line_end (sym quote.1) ∙ ap (λ i. is_line_end (get_or piece i 0)) (sym same) ∙ ended.1 in
-          cc
+-- a comment behind a gap, up to a line end or to the end of the piece
+comment_unit : (piece : List ℕ) (at start end : ℕ) → IsNextStart piece at start → get_or piece start 0 ≡ 39 → start < end → end ≤ length piece → HasNoLineEndTo piece (start + 1) end → (end < length piece → is_line_end (get_or piece end 0) ≡ true) → IsNext at (drop at piece) (unit_between piece start end) (drop end piece)
+comment_unit piece at start end begun quote some inside none ended =
+    let m = end - (start + 1) in
+    let body = drop (start + 1) piece in
+    let whole : start + 1 + m ≡ end = omega (arith, some) in
+    let unit : m ≡ position_or_len (is_end 39) body =
+    sym (position_or_len_is (is_end 39) body m 0 (omega (arith, length-drop (start + 1) piece, inside, some))
+    (λ k h. ap (is_end 39) (get_or-drop (start + 1) piece k 0) ∙ sym (line_end_ends (get_or piece (start + 1 + k) 0)) ∙ none (start + 1 + k) (omega arith) (omega (arith, h, whole)))
+    (λ h. ap (is_end 39) (get_or-drop (start + 1) piece m 0 ∙ ap (λ i. get_or piece i 0) whole) ∙ sym (line_end_ends (get_or piece end 0)) ∙ ended (omega (arith, h, length-drop (start + 1) piece, whole)))) in
+    subst (λ e. IsNext at (drop at piece) (unit_between piece start e) (drop e piece)) whole
+    (unit_behind piece at start m begun (unit ∙ ap (λ b. position_or_len (is_end b) body) (sym quote)))
+
+-- right behind the first byte of a comment
+pub in_comment : (place : Place) (held piece : List ℕ) (front at start : ℕ) → front ≤ at → PassesTo place held piece front at → IsNextStart piece at start → get_or piece start 0 ≡ 39 → LeadsOn place held piece front (start + 1)
+in_comment place held piece front at start low p begun quote = record {
+  ended = λ end order none ended.
+      comment_passed place held piece front at start end low p (omega (arith, order)) ended.0 (comment_unit piece at start end begun quote (omega (arith, order)) (omega (arith, ended.0)) none (λ h. ended.1)) quote;
+  onward = λ none.
+      comment_open place held piece front at start (length piece) low p begun.within refl (comment_unit piece at start (length piece) begun quote begun.within (omega arith) none (λ h. absurd (omega (arith, h)))) quote;
+}
+
+-- a comment begins right behind a line end
+next_start : (piece : List ℕ) (at : ℕ) → is_line_end (get_or piece at 0) ≡ true → at + 1 < length piece → get_or piece (at + 1) 0 ≡ 39 → IsNextStart piece at (at + 1)
+next_start piece at here within quote = record {
+  order = omega arith;
+  within = within;
+  gap =
+      let one : at + 1 - at ≡ 1 = omega arith in
+      one ∙ sym (prefix_len_is is_separator (drop at piece) 1 0 (omega (arith, length-drop at piece, within))
+      (λ k h. ap is_separator (get_or-drop at piece k 0 ∙ ap (λ i. get_or piece i 0) (omega (arith, h))) ∙ line_end_separates (get_or piece at 0) here)
+      (λ h. ap is_separator (get_or-drop at piece 1 0 ∙ quote)));
+}
+
+-- right behind the first byte of a comment that stands right behind a line end
+next_comment : (place : Place) (held piece : List ℕ) (front at behind : ℕ) → front ≤ at → PassesTo place held piece front at → is_line_end (get_or piece at 0) ≡ true → at + 1 < length piece → get_or piece (at + 1) 0 ≡ 39 → behind ≡ at + 2 → LeadsOn place held piece front behind
+next_comment place held piece front at behind low p here within quote same =
+    let whole : at + 1 + 1 ≡ behind = omega (arith, same) in
+    subst (LeadsOn place held piece front) whole (in_comment place held piece front at (at + 1) low p (next_start piece at here within quote) quote)
+
+-- a place before, where no line end stands
+one_before : (place : Place) (held piece : List ℕ) (front at : ℕ) → is_line_end (get_or piece at 0) ≡ false → LeadsOn place held piece front (at + 1) → LeadsOn place held piece front at
+one_before place held piece front at quiet on =
+    record {
+      ended = λ end order before ended.
+          elim (cases_lt at end) [
+            | inl h ↦ on.ended end (omega (arith, h)) (λ k low high. before k (omega (arith, low)) high) ended
+            | inr h ↦ let same : end ≡ at = omega (arith, h, order) in let e : is_line_end (get_or piece at 0) ≡ true = ap (λ i. is_line_end (get_or piece i 0)) (sym same) ∙ ended.1 in cc
+          ];
+      onward = λ before. on.onward (λ k low high. before k (omega (arith, low)) high);
+    }
+
+-- no line end before this place either
+none_from : (piece : List ℕ) (at to : ℕ) → is_line_end (get_or piece at 0) ≡ false → HasNoLineEndTo piece (at + 1) to → HasNoLineEndTo piece at to
+none_from piece at to quiet none k low high =
+    elim (cases_lt at k) [
+      | inl h ↦ none k (omega (arith, h)) high
+      | inr h ↦ let same : k ≡ at = omega (arith, h, low) in ap (λ i. is_line_end (get_or piece i 0)) same ∙ quiet
     ]
 
-comment_line : (piece : List ℕ) (from at end : ℕ) → IsPassed piece from at → IsCommentAt piece (at + 1) → at + 1 ≤ end → HasNoLineEndTo piece (at + 1) end → IsLineEndAt piece end → IsPassed piece from end
-comment_line piece from at end p quote order none ended =
-    let some = behind_quote piece (at + 1) end quote ended order in
-    record {
-      onward = omega (arith, p.onward, some);
-      end = ended;
-      passed = λ place held front low q.
-          comment_passed place held piece front at (at + 1) end (omega (arith, low, p.onward)) (p.passed place held front low q) some ended.0 (next_comment piece at end p.end quote some none ended) quote.1;
-    }
+-- over a byte that ends no line
+quiet_byte : (place : Place) (held piece : List ℕ) (front at : ℕ) → is_line_end (get_or piece at 0) ≡ false → LeadsOn place held piece front at → LeadsOn place held piece front (at + 1)
+quiet_byte place held piece front at quiet on = record {
+  ended = λ end order none ended. on.ended end (omega (arith, order)) (none_from piece at end quiet none) ended;
+  onward = λ none. on.onward (none_from piece at (length piece) quiet none);
+}
 
--- over the LF of a line end
-line_feed : (piece : List ℕ) (from at last : ℕ) → IsPassed piece from at → (last ≡ at) ⊎ ((last ≡ at + 1) × IsLineEndAt piece last) → IsPassed piece from last
-line_feed piece from at last p (inl same) = subst (IsPassed piece from) (sym same) p
-line_feed piece from at last p (inr both) =
-    let next = subst (IsLineEndAt piece) both.0 both.1 in
-    subst (IsPassed piece from) (sym both.0) (record {
-      onward = omega (arith, p.onward);
-      end = next;
-      passed = λ place held front low q.
-          separator_passed place held piece front at (omega (arith, low, p.onward)) (p.passed place held front low q) next.0 (line_end_separates (get_or piece at 0) p.end.1);
-    })
+-- at a line end to which the piece leads
+at_line_end : (place : Place) (held piece : List ℕ) (front at : ℕ) → at < length piece → is_line_end (get_or piece at 0) ≡ true → PassesTo place held piece front at → LeadsOn place held piece front at
+at_line_end place held piece front at within here p = record {
+  ended = λ end order none ended.
+      elim (cases_lt at end) [
+        | inl h ↦ let quiet = none at (omega arith) h in cc
+        | inr h ↦ let same : at ≡ end = omega (arith, h, order) in subst (PassesTo place held piece front) same p
+      ];
+  onward = λ none. let quiet = none at (omega arith) within in cc;
+}
 
--- over a line end
-pub line_end_passed : (piece : List ℕ) (from last : ℕ) → IsLineEndTo piece from last → IsPassed piece from last
-line_end_passed piece from last h =
-    line_feed piece from from last (record { onward = omega arith; end = h.0; passed = λ place held front low q. q }) h.1
+quote_ends_none : (b : ℕ) → b ≡ 39 → is_line_end b ≡ false
+quote_ends_none b quote = rw quote refl
 
--- over a comment and the end of its line
-pub comment_line_passed : (piece : List ℕ) (from at last : ℕ) → IsPassed piece from at → IsCommentAt piece (at + 1) → IsFirstLineEnd piece (at + 1) last → IsPassed piece from last
-comment_line_passed piece from at last p quote first =
-    line_feed piece from first.0 last (comment_line piece from at first.0 p quote first.1 first.2 first.3.0) first.3.1
+-- over a line end behind which a comment or one more line end stands
+line_end_byte : (place : Place) (held piece : List ℕ) (front at : ℕ) → front ≤ at → at + 1 < length piece → is_line_end (get_or piece at 0) ≡ true → (get_or piece (at + 1) 0 ≡ 39) ⊎ (is_line_end (get_or piece (at + 1) 0) ≡ true) → PassesTo place held piece front at → LeadsOn place held piece front (at + 1)
+line_end_byte place held piece front at low within here (inl quote) p =
+    one_before place held piece front (at + 1) (quote_ends_none _ quote) (in_comment place held piece front at (at + 1) low p (next_start piece at here within quote) quote)
+line_end_byte place held piece front at low within here (inr more) p =
+    at_line_end place held piece front (at + 1) within more (separator_passed place held piece front at low p within (line_end_separates (get_or piece at 0) here))
 
-comment_ended : (bytes behind : List ℕ) → IsUnit bytes behind → begins_with 39 bytes ≡ true → EndsBefore 39 behind
-comment_ended [] behind h c = absurd h
-comment_ended (b ∷ bytes) behind h c = subst (λ first. EndsBefore first behind) (eqb-true b 39 c) h.2
+one_on : (place : Place) (held piece : List ℕ) (front at : ℕ) → front ≤ at → at + 1 < length piece → CommentsFollow piece at (at + 1) → LeadsOn place held piece front at → LeadsOn place held piece front (at + 1)
+one_on place held piece front at low within behind on =
+    elim (cases_Bool (is_line_end (get_or piece at 0))) [
+      | inl here ↦ line_end_byte place held piece front at low within here (behind at (omega arith) (omega arith) here) (on.ended at (omega arith) (λ k l h. absurd (omega (arith, l, h))) (omega (arith, within), here))
+      | inr quiet ↦ quiet_byte place held piece front at quiet on
+    ]
 
--- where a comment ends before the end of the piece, a line end stands
-pub line_end_behind : (piece : List ℕ) (at start end : ℕ) → start < end → end < length piece → IsNext at (drop at piece) (unit_between piece start end) (drop end piece) → get_or piece start 0 ≡ 39 → IsLineEndAt piece end
-line_end_behind piece at start end some left n quote =
-    let silent : begins_with 39 (slice_range piece start end) ≡ true = first_between piece start end 39 some (omega arith) ∙ eq-eqb (get_or piece start 0) 39 quote in
-    let ended = subst (EndsBefore 39) (drop-cons piece end 0 left) (comment_ended (slice_range piece start end) (drop end piece) n.unit silent) in
-    (left, line_end_ends (get_or piece end 0) ∙ ended)
+leads_by : (place : Place) (held piece : List ℕ) (front at n : ℕ) → front ≤ at → at + n < length piece → CommentsFollow piece at (at + n) → LeadsOn place held piece front at → LeadsOn place held piece front (at + n)
+leads_by place held piece front at zero low within goes on = let same : at ≡ at + zero = omega arith in subst (LeadsOn place held piece front) same on
+leads_by place held piece front at (suc n) low within goes on =
+    let same : at + 1 + n ≡ at + suc n = omega arith in
+    subst (LeadsOn place held piece front) same
+    (leads_by place held piece front (at + 1) n (omega (arith, low)) (omega (arith, within)) (λ k l h. goes k (omega (arith, l)) (omega (arith, h)))
+    (one_on place held piece front at low (omega (arith, within)) (λ k l h. goes k l (omega (arith, h))) on))
 
--- where a piece that begins in a comment has its end
-pub line_end_found : (piece : List ℕ) (end : ℕ) → end ≡ position_or_len (is_end 39) piece → end < length piece → IsLineEndAt piece end
-line_end_found piece end same left =
-    (left, line_end_ends (get_or piece end 0) ∙ ap (λ i. is_end 39 (get_or piece i 0)) same ∙ passes_at_first (is_end 39) piece 0 (omega (arith, same, left)))
+-- as far as comments go on
+pub leads_along : (place : Place) (held piece : List ℕ) (front at to : ℕ) → front ≤ at → IsPast piece at to → LeadsOn place held piece front at → LeadsOn place held piece front to
+leads_along place held piece front at to low along on =
+    elim (cases_lt at to) [
+      | inl h ↦
+          let same : at + (to - at) ≡ to = omega (arith, h) in
+          subst (LeadsOn place held piece front) same
+          (leads_by place held piece front at (to - at) low (omega (arith, along.behind h, h)) (λ k l u. along.follow k l (omega (arith, u, h))) on)
+      | inr h ↦ let same : at ≡ to = omega (arith, h, along.low) in subst (LeadsOn place held piece front) same on
+    ]
 
--- how far the first line end is: none stands before, and one stands there, or the text ends
-pub length_to : (text : List ℕ) (low : ℕ) → HasNoLineEndTo text 0 low → low ≤ length text → (low < length text → is_line_end (get_or text low 0) ≡ true) → low ≡ position_or_len is_line_end text
-length_to text low before high ended =
-    sym (position_or_len_is is_line_end text low 0 high (λ k h. before k (omega arith) h) ended)
+-- the first line end from one place on
+pub none_before : (piece rest : List ℕ) (at n : ℕ) → rest ≡ drop at piece → n ≡ position_or_len is_line_end rest → HasNoLineEndTo piece at (at + n)
+none_before piece rest at n is_rest is_n k low high =
+    let place : at + (k - at) ≡ k = omega arith in
+    turned_true _ (ap (λ i. not (is_line_end (get_or piece i 0))) (sym place) ∙ ap (λ b. not (is_line_end b)) (sym (ap (λ xs. get_or xs (k - at) 0) is_rest ∙ get_or-drop at piece (k - at) 0)) ∙ prefix_len_passes (λ b. not (is_line_end b)) rest (k - at) 0 (omega (arith, is_n, high, low)))
 
--- the front of what is left
-pub reached_by : (text rest : List ℕ) (from n : ℕ) → rest ≡ drop from text → from ≤ length text → n ≤ length rest → ((k : ℕ) → k < n → is_line_end (get_or rest k 0) ≡ false) → IsReached text from (length text) (from + n)
-reached_by text rest from n same within few none =
-    let size : length rest ≡ length text - from = ap length same ∙ length-drop from text in
-    record {
-      low = omega arith;
-      high = omega (arith, few, size);
-      before = λ k low high.
-          let place : from + (k - from) ≡ k = omega arith in
-          ap is_line_end (sym (ap (λ xs. get_or xs (k - from) 0) same ∙ get_or-drop from text (k - from) 0 ∙ ap (λ i. get_or text i 0) place)) ∙ none (k - from) (omega arith);
-    }
+pub ends_there : (piece rest : List ℕ) (at n : ℕ) → rest ≡ drop at piece → n ≡ position_or_len is_line_end rest → at + n < length piece → IsLineEndAt piece (at + n)
+ends_there piece rest at n is_rest is_n within =
+    let few : position_or_len is_line_end rest < length rest = omega (arith, is_n, ap length is_rest, length-drop at piece, within) in
+    (within, ap is_line_end (sym (ap (λ i. get_or rest i 0) (sym is_n) ∙ ap (λ xs. get_or xs n 0) is_rest ∙ get_or-drop at piece n 0)) ∙ passes_at_first is_line_end rest 0 few)
+
+-- over the LF of CR and LF
+pub line_end_passed : (place : Place) (held piece : List ℕ) (front at last : ℕ) → front ≤ at → IsLineEndTo piece at last → PassesTo place held piece front at → PassesTo place held piece front last
+line_end_passed place held piece front at last low ended p =
+    elim ended.1 [
+      | inl same ↦ subst (PassesTo place held piece front) (sym same) p
+      | inr both ↦
+          subst (PassesTo place held piece front) (sym both.0)
+          (separator_passed place held piece front at low p (subst (λ e. e < length piece) both.0 both.1.0) (line_end_separates (get_or piece at 0) ended.0.1))
+    ]
+
+-- the last byte of a line end is one of a line end
+pub last_ends : (piece : List ℕ) (at last : ℕ) → IsLineEndTo piece at last → (at ≤ last) × IsLineEndAt piece last
+last_ends piece at last ended =
+    elim ended.1 [
+      | inl same ↦ (omega (arith, same), subst (IsLineEndAt piece) (sym same) ended.0)
+      | inr both ↦ (omega (arith, both.0), both.1)
+    ]
+
+-- where a piece begins in a comment
+pub begins_in_comment : (held piece : List ℕ) → held ≡ [] → LeadsOn Comment held piece 0 0
+begins_in_comment held piece none_held = record {
+  ended = λ end low none ended.
+      passes_comment held piece end none_held
+      (sym (position_or_len_is (is_end 39) piece end 0 (omega (arith, ended.0)) (λ k h. sym (line_end_ends (get_or piece k 0)) ∙ none k (omega arith) h) (λ h. sym (line_end_ends (get_or piece end 0)) ∙ ended.1))) ended.0;
+  onward = λ none.
+      (found_in_comment held piece (length piece) none_held
+      (sym (position_or_len_is (is_end 39) piece (length piece) 0 (omega arith) (λ k h. sym (line_end_ends (get_or piece k 0)) ∙ none k (omega arith) h) (λ h. absurd (omega (arith, h))))) refl).1;
+}
+
+-- to the line end of a comment
+pub ended_comment : (place : Place) (held piece rest : List ℕ) (front at n last : ℕ) → front ≤ at → LeadsOn place held piece front at → rest ≡ drop at piece → n ≡ position_or_len is_line_end rest → IsLineEndTo piece (at + n) last → PassesTo place held piece front last
+ended_comment place held piece rest front at n last low on is_rest is_n ended =
+    line_end_passed place held piece front (at + n) last (omega (arith, low)) ended (on.ended (at + n) (omega arith) (none_before piece rest at n is_rest is_n) ended.0)
+
+-- to the comment behind that line end
+pub following_comment : (place : Place) (held piece rest : List ℕ) (front at n last : ℕ) → front ≤ at → LeadsOn place held piece front at → rest ≡ drop at piece → n ≡ position_or_len is_line_end rest → IsLineEndTo piece (at + n) last → last + 1 < length piece → get_or piece (last + 1) 0 ≡ 39 → LeadsOn place held piece front (last + 2)
+following_comment place held piece rest front at n last low on is_rest is_n ended next quote =
+    let ends = last_ends piece (at + n) last ended in
+    next_comment place held piece front last _ (omega (arith, low, ends.0)) (ended_comment place held piece rest front at n last low on is_rest is_n ended) ends.1.1 next quote refl

@@ -4,7 +4,6 @@ pub mod Blanks
 pub mod Once
 pub mod LineCutting
 pub mod LinesOnce
-mod LinesFound
 pub mod LongLines
 pub mod Passing
 pub mod CommentLines
@@ -15,8 +14,9 @@ pub mod Unfinished
 pub mod Joining
 pub mod Growing
 pub mod FirstLong
-mod Lent
-mod LowBytes
 pub mod Holding
 pub mod WholeRuns
 pub mod LineRuns
+mod Lent
+mod LinesFound
+mod Stretches

@@ -1,5 +1,5 @@
 -- Gaps and comments in a piece.
-use Rattle.std.proofs.Common.{◌≡◌, ◌≢◌, inr, Err, eq-eqb, ℕ, zero, suc, ◌+◌, ◌-◌, ◌<◌, ◌≤◌, true, false, not, List, [], ◌∷◌, ◌++◌, filter, length, take, drop, get_or, slice_range, length-drop, length-append, append_assoc, append-nil, arith, refl, sym, ap, ◌∙◌, subst}
+use Rattle.std.proofs.Common.{◌≡◌, ◌≢◌, eq-eqb, ℕ, zero, suc, ◌+◌, ◌-◌, ◌<◌, ◌≤◌, true, false, not, List, [], ◌∷◌, ◌++◌, filter, length, take, drop, get_or, slice_range, length-drop, length-append, append_assoc, append-nil, arith, refl, sym, ap, ◌∙◌, subst}
 use Rattle.std.proofs.lemmas.Bool.{ne_eqb, eqb-true}
 use Rattle.std.proofs.lemmas.List.{drop-drop, drop_all, take_all}
 use Rattle.std.proofs.Math.Seq.{drop-cons, take-append_seam, take-add}
@@ -7,9 +7,8 @@ use Rattle.std.specs.List.{AllByRecursion}
 use Rattle.csa_cutting.specs.Cut.{TextUnit, IsNext, IsGap, IsUnit, EndsBefore, Units, Statements, is_statement, is_separator, is_end, begins_with}
 use Rattle.csa_cutting.specs.Cutting.{unit_between}
 use Rattle.csa_cutting.specs.PieceCutting.{Follows}
-use Rattle.csa_cutting.specs.Places.{Passes, PassesTo, IsPart, IsFoundIn, begins, open_of}
+use Rattle.csa_cutting.specs.Places.{Passes, PassesTo, IsPart, begins, open_of}
 use Rattle.csa_cutting.specs.declared.units.Place.{Place}
-use Rattle.csa_cutting.specs.declared.units.Place.TheVariants.{Comment}
 use Rattle.csa_cutting.proofs.Fronts.{first_between, length_between}
 use Rattle.csa_cutting.proofs.LineCutting.{all_joined}
 use Rattle.csa_cutting.proofs.Runs.{comment_first}
@@ -226,7 +225,8 @@ comment_passed place held piece from at start end low p some left n quote =
     (λ more. unit_before body (drop end piece) _ n.unit (λ first e. ends_with_next piece end first more left e)) silent (omega arith)
     (subst (Passes place held (slice_range piece from (end + 1))) (split_range piece start end (end + 1) order up) (to_unit place held piece from at start end low p some inside n))
 
-comment_open : (place : Place) (held piece : List ℕ) (from at start end : ℕ) → from ≤ at → PassesTo place held piece from at → start < end → end ≡ length piece → IsNext at (drop at piece) (unit_between piece start end) (drop end piece) → get_or piece start 0 ≡ 39 → Passes place held (drop from piece) (39 ∷ [])
+-- a comment that goes on to the end of the piece
+pub comment_open : (place : Place) (held piece : List ℕ) (from at start end : ℕ) → from ≤ at → PassesTo place held piece from at → start < end → end ≡ length piece → IsNext at (drop at piece) (unit_between piece start end) (drop end piece) → get_or piece start 0 ≡ 39 → Passes place held (drop from piece) (39 ∷ [])
 comment_open place held piece from at start end low p some all n quote =
     let inside : end ≤ length piece = omega arith in
     let gap = gap_between piece at start end some inside n in
@@ -238,10 +238,6 @@ comment_open place held piece from at start end low p some all n quote =
     over_open_comment place held (drop from piece) body (subst (IsUnit body) none n.unit) silent (omega (arith, length-drop from piece, gap.0))
     (subst (λ xs. Passes place held xs body) (range_end piece from (end + 1) (omega arith))
     (subst (Passes place held (slice_range piece from (end + 1))) same (to_unit place held piece from at start end low p some inside n)))
-
--- a comment that goes on to the end of the piece
-pub comment_left : (place : Place) (held piece : List ℕ) (from at start end : ℕ) → from ≤ at → PassesTo place held piece from at → start < end → end ≡ length piece → IsNext at (drop at piece) (unit_between piece start end) (drop end piece) → get_or piece start 0 ≡ 39 → IsFoundIn place held piece from (Err Comment)
-comment_left place held piece from at start end low p some all n quote = (inr (omega arith), comment_open place held piece from at start end low p some all n quote)
 
 pub gap_open : (place : Place) (held piece : List ℕ) (from at : ℕ) → from ≤ at → PassesTo place held piece from at → at ≤ length piece → IsGap (drop at piece) → Passes place held (drop from piece) []
 gap_open place held piece from at low p within gap =

@@ -1,8 +1,10 @@
--- Comments that stand one behind another, each on a line of its own, and how the ends of their lines are found.
+-- Comments that stand one behind another, each on a line of its own, and how the line end behind them is found.
 -- These are definitions for private helpers; a reader of the contracts may skip them.
-use Rattle.std.specs.Prelude.{◌≡◌, ◌⊎◌, ℕ, ◌+◌, ◌<◌, ◌≤◌, Bool, true, false, List, length, slice_index, nat_lt}
+use Rattle.std.specs.Prelude.{◌≡◌, ◌⊎◌, ℕ, ◌+◌, ◌-◌, ◌<◌, ◌≤◌, Bool, true, false, List, [], ◌∷◌, length, drop, slice_index, nat_lt}
+use Rattle.std.specs.List.{prefix_len}
+use Rattle.csa_cutting.specs.Cut.{is_separator}
 use Rattle.csa_cutting.specs.Lines.{is_line_end}
-use Rattle.csa_cutting.specs.Places.{PassesTo}
+use Rattle.csa_cutting.specs.Places.{Passes, PassesTo}
 use Rattle.csa_cutting.specs.declared.units.Place.{Place}
 
 abbrev pub IsLineEndAt : List ℕ → ℕ → Type 0
@@ -12,29 +14,46 @@ IsLineEndAt bytes at = (at < length bytes) × (is_line_end (slice_index bytes at
 abbrev pub HasNoLineEndTo : List ℕ → ℕ → ℕ → Type 0
 HasNoLineEndTo bytes from to = (k : ℕ) → from ≤ k → k < to → is_line_end (slice_index bytes k) ≡ false
 
--- a place between two others, up to which no line end stands
-pub record IsReached (bytes : List ℕ) (from to at : ℕ) : Type 0 where
-  pub low : from ≤ at
-  pub high : at ≤ to
-  pub before : HasNoLineEndTo bytes from at
-
--- the first byte of a comment
-abbrev pub IsCommentAt : List ℕ → ℕ → Type 0
-IsCommentAt bytes at = (at < length bytes) × (slice_index bytes at ≡ 39)
-
 -- a line end begins at this place, and its last byte is there too or right behind
 abbrev pub IsLineEndTo : List ℕ → ℕ → ℕ → Type 0
 IsLineEndTo bytes at last = IsLineEndAt bytes at × ((last ≡ at) ⊎ ((last ≡ at + 1) × IsLineEndAt bytes last))
 
--- the first line end from one place on has this last byte
-abbrev pub IsFirstLineEnd : List ℕ → ℕ → ℕ → Type 0
-IsFirstLineEnd bytes from last = (at : ℕ) × (from ≤ at) × HasNoLineEndTo bytes from at × IsLineEndTo bytes at last
+-- CR, and LF behind it
+abbrev pub IsCrLf : List ℕ → ℕ → Type 0
+IsCrLf bytes at = (slice_index bytes at ≡ 13) × ((at + 1 < length bytes) × (slice_index bytes (at + 1) ≡ 10))
 
--- a piece that has led to the one line end leads to the other
-pub record IsPassed (piece : List ℕ) (from to : ℕ) : Type 0 where
-  pub onward : from ≤ to
-  pub end : IsLineEndAt piece to
-  pub passed : (place : Place) (held : List ℕ) (front : ℕ) → front ≤ from → PassesTo place held piece front from → PassesTo place held piece front to
+-- right behind each byte of a line end, from one place on up to another, stands a comment or one more of them
+abbrev pub CommentsFollow : List ℕ → ℕ → ℕ → Type 0
+CommentsFollow bytes from to =
+    (k : ℕ) → from ≤ k → k < to → is_line_end (slice_index bytes k) ≡ true → (slice_index bytes (k + 1) ≡ 39) ⊎ (is_line_end (slice_index bytes (k + 1)) ≡ true)
+
+-- where a comment goes on at the one place, nothing but comments and the ends of their lines stands up to the other;
+-- a byte stands behind that, if they differ
+pub record IsPast (bytes : List ℕ) (from to : ℕ) : Type 0 where
+  pub low : from ≤ to
+  pub high : to ≤ length bytes
+  pub follow : CommentsFollow bytes from to
+  pub behind : from < to → to < length bytes
+
+-- at the end of the piece a comment is unfinished
+abbrev pub IsOpenToEnd : Place → List ℕ → List ℕ → ℕ → Type 0
+IsOpenToEnd place held piece front = Passes place held (drop front piece) (39 ∷ [])
+
+-- the piece leads into a comment that goes on at this place: so to the first line end from there on, and to the end of
+-- the piece where it has none
+pub record LeadsOn (place : Place) (held piece : List ℕ) (front at : ℕ) : Type 0 where
+  pub ended : (end : ℕ) → at ≤ end → HasNoLineEndTo piece at end → IsLineEndAt piece end → PassesTo place held piece front end
+  pub onward : HasNoLineEndTo piece at (length piece) → IsOpenToEnd place held piece front
+
+-- the next byte that is no separator
+pub record IsNextStart (bytes : List ℕ) (from start : ℕ) : Type 0 where
+  pub order : from ≤ start
+  pub within : start < length bytes
+  pub gap : start - from ≡ prefix_len is_separator (drop from bytes)
+
+-- how many bytes are looked at in one step
+abbrev pub stretch : ℕ
+stretch = 256
 
 -- below 14, as each line end is
 abbrev pub is_low : ℕ → Bool

@@ -1,47 +1,64 @@
-//! How long a comment is, and comments that stand one behind another, each on a line of its own.
+//! Comments, and those that follow right behind the end of a comment's line: where they end.
 
-ghost use Rattle.std.specs.Prelude.{◌≡◌, ◌+◌, ◌<◌, ◌≤◌, true, not, length, IfSome};
-ghost use Rattle.std.specs.List.{position_or_len};
-ghost use Rattle.csa_cutting.specs.Comments.{IsLineEndAt, IsCommentAt, IsLineEndTo, IsFirstLineEnd, IsReached, IsPassed};
-ghost use Rattle.csa_cutting.specs.Lines.{is_line_end};
+ghost use Rattle.std.specs.Prelude.{◌≡◌, ◌⊎◌, ℕ, List, ◌+◌, ◌<◌, ◌≤◌, true, false, map, length, slice_index, IfSome, MatchOption};
+ghost use Rattle.csa_cutting.specs.Comments.{CommentsFollow, IsCrLf, IsLineEndAt, IsLineEndTo, IsOpenToEnd, IsPast, LeadsOn, is_low, stretch};
+ghost use Rattle.csa_cutting.specs.Places.{PassesTo};
+ghost use Rattle.csa_cutting.specs.declared.units.Place.{Place};
+ghost use Rattle.std.specs.Simd.Lanes.{chunk, mask_l};
 
-use crate::line::is_line_end;
-use crate::low::{first_low, first_of_64, has_low};
-use crate::scan::front_length;
+use crate::line::line_length;
+use std::simd::prelude::*;
 
 // The first byte of a comment.
 pub(crate) const COMMENT: u8 = b'\'';
 
-// So many bytes have to stand behind a line end for a look at the next line: 128 that are looked at,
-// since most lines have no more, and three behind them.
-const ROOM: usize = 131;
+// How many bytes are looked at in one step where one comment follows another.
+const STRETCH: usize = 256;
 
-// The last byte of the line end to which the piece leads on from the one at `from`, over comments that
-// follow one another, each on a line of its own. The last of them is left, and one near the end of the
-// piece, or with another low byte in it: from there the cutter goes on as elsewhere.
+// Bytes below this are low: CR and LF, and the tab.
+const ABOVE_LOW: u8 = 14;
+
+// Whether one byte ends each line, or CR and LF.
+#[derive(Clone, Copy)]
+enum LineEnds {
+    OneByte,
+    CrLf,
+}
+
+// The last byte of the line end behind the comment that goes on here, or behind the last of those that
+// follow it, each right behind a line end. None where that one goes on to the end of the piece. As many
+// bytes as a stretch has go line by line, before stretches are tried and after one that failed.
 #[inline(never)]
-pub(crate) fn past_comments(piece: &[u8], from: usize) -> usize
-    requires { IsLineEndAt piece.now from }
-    ensures { IsPassed piece.now from result }
+pub(crate) fn comments_end(piece: &[u8], from: usize) -> Option<usize>
+    requires { from ≤ length piece.now }
+    ensures within { IfSome result (λ end. (from ≤ end) × (end < length piece.now)) }
+    ensures passed { (place : Place) (held : List ℕ) (front : ℕ) → front ≤ from → LeadsOn place held piece.now front from
+        → MatchOption result (IsOpenToEnd place held piece.now front) (PassesTo place held piece.now front) }
 {
-    let mut at = line_end_last(piece, from);
-    if at + 1 == piece.len() || piece[at + 1] != COMMENT {
-        return at;
+    let mut at = from;
+    let mut by_lines_to = from.saturating_add(STRETCH);
+    loop {
+        let end = at + line_length(&piece[at..]);
+        if end == piece.len() {
+            return None;
+        }
+        let last = line_end_last(piece, end);
+        if last + 1 == piece.len() || piece[last + 1] != COMMENT {
+            return Some(last);
+        }
+        at = last + 2;
+        if at > by_lines_to {
+            at = past_comments(piece, at);
+            by_lines_to = at.saturating_add(STRETCH);
+        }
     }
-    let limit = piece.len().saturating_sub(ROOM);
-    while at < limit {
-        let Some(end) = joined_comment_end(piece, at) else {
-            break;
-        };
-        at = end;
-    }
-    at
 }
 
 // The last byte of the line end that begins at this place: of CR and LF the LF.
 fn line_end_last(piece: &[u8], at: usize) -> usize
     requires { IsLineEndAt piece.now at }
-    ensures { IsLineEndTo piece.now at result }
+    ensures last { IsLineEndTo piece.now at result }
+    ensures both { IsCrLf piece.now at → result ≡ at + 1 }
 {
     if piece[at] == b'\r' && at + 1 < piece.len() && piece[at + 1] == b'\n' {
         at + 1
@@ -50,107 +67,101 @@ fn line_end_last(piece: &[u8], at: usize) -> usize
     }
 }
 
-// The last byte of the line end of the comment that begins right behind `at`, where another comment
-// follows. None is found where another low byte stands in it, nor where a CR alone ends it.
-#[inline(always)]
-fn joined_comment_end(piece: &[u8], at: usize) -> Option<usize>
-    requires { at + 131 < length piece.now }
-    ensures line { IfSome result (IsFirstLineEnd piece.now (at + 1)) }
-    ensures comment { IfSome result (λ end. IsCommentAt piece.now (end + 1)) }
-{
-    let low = next_low(piece, at + 1)?;
-    if are_lf_and_comment(piece, low) {
-        return Some(low);
-    }
-    if piece[low] == b'\r' && are_lf_and_comment(piece, low + 1) {
-        return Some(low + 1);
-    }
-    None
-}
-
-// Whether LF and the first byte of a comment stand here: both are looked at as one number.
-#[inline(always)]
-fn are_lf_and_comment(piece: &[u8], at: usize) -> bool
-    requires { at + 1 < length piece.now }
-    ensures { result ≡ true → IsLineEndAt piece.now at × IsCommentAt piece.now (at + 1) }
-{
-    u16::from_le_bytes([piece[at], piece[at + 1]]) == u16::from_le_bytes([b'\n', COMMENT])
-}
-
-// How far there is no line end: up to this place, where most often one stands. Two bytes more stand
-// behind it; none is found nearer to the end.
-#[inline(always)]
-fn next_low(text: &[u8], from: usize) -> Option<usize>
-    requires { from + 130 < length text.now }
-    ensures within { IfSome result (λ low. low + 2 < length text.now) }
-    ensures reached { IfSome result (IsReached text.now from (length text.now)) }
-{
-    if has_low(text, from) {
-        return first_of_64(text, from);
-    }
-    if let Some(low) = first_of_64(text, from + 64) {
-        return Some(low);
-    }
-    let low = no_low_by_64(text, from + 128);
-    if low + 2 < text.len() {
-        Some(low)
-    } else {
-        None
-    }
-}
-
-// How many bytes of the text come before a CR or LF: as `line_length`, and faster in a long text.
+// A place up to which nothing stands but comments and line ends, where `from` is in a comment: as far as
+// stretches have nothing else in them.
 #[inline(never)]
-pub(crate) fn comment_length(text: &[u8]) -> usize
-    ensures value { result ≡ position_or_len is_line_end text.now }
-    ensures within { result ≤ length text.now }
+pub(crate) fn past_comments(piece: &[u8], from: usize) -> usize
+    requires { from ≤ length piece.now }
+    ensures { IsPast piece.now from result }
 {
-    let mut at = no_low_by_64(text, 0);
-    while at < text.len() && !is_line_end(text[at]) {
-        at = no_low_by_64(text, at + 1);
+    let at = past_stretches(piece, from, LineEnds::OneByte);
+    past_stretches(piece, at, LineEnds::CrLf)
+}
+
+// The same by stretches with these line ends. The last of them may begin before what is left.
+#[inline(always)]
+fn past_stretches(piece: &[u8], from: usize, ends: LineEnds) -> usize
+    requires { from ≤ length piece.now }
+    ensures { IsPast piece.now from result }
+{
+    let Some(last) = piece.len().checked_sub(STRETCH + 1) else {
+        return from;
+    };
+    let mut at = from;
+    while at + 1 < piece.len() {
+        let start = at.min(last);
+        if !comments_follow(piece, start, ends) {
+            break;
+        }
+        at = start + STRETCH;
     }
     at
 }
 
-// How far there is no line end, by 64 bytes at a time: up to this place, where a low byte stands or the
-// text ends.
-#[inline(never)]
-fn no_low_by_64(text: &[u8], from: usize) -> usize
-    requires { from ≤ length text.now }
-    ensures { IsReached text.now from (length text.now) result }
+// Whether a comment follows each line end of the stretch from `at` on. False too where another low byte
+// stands there that no comment follows.
+#[inline(always)]
+fn comments_follow(text: &[u8], at: usize, ends: LineEnds) -> bool
+    requires { at + stretch < length text.now }
+    ensures { result ≡ true → CommentsFollow text.now at (at + stretch) }
 {
-    let mut at = from;
-    while at + 64 <= text.len() {
-        if has_low(text, at) {
-            return first_of_64(text, at).unwrap_or(at);
-        }
-        at += 64;
+    let mut least = u8x16::splat(u8::MAX);
+    for k in 0..STRETCH / 16 {
+        least = lesser(least, unless_followed(text, at + 16 * k, ends));
     }
-    no_low_by_16(text, at)
+    low_bits(least) == 0
 }
 
-// The same by 16 bytes at a time. The last 16 may begin before those that are left, and fewer than 16
-// are looked at one by one.
-#[inline(never)]
-fn no_low_by_16(text: &[u8], from: usize) -> usize
-    requires { from ≤ length text.now }
-    ensures { IsReached text.now from (length text.now) result }
+// The 16 bytes from `at` on, with 255 in place of each that a comment follows, or an LF where the lines
+// end in CR and LF.
+#[inline(always)]
+fn unless_followed(text: &[u8], at: usize, ends: LineEnds) -> u8x16
+    requires { at + 16 < length text.now }
+    ensures long { length result ≡ 16 }
+    ensures lanes { ((k : ℕ) → k < 16 → is_low (slice_index result k) ≡ false) → CommentsFollow text.now at (at + 16) }
 {
-    let mut at = from;
-    while at + 16 <= text.len() {
-        if let Some(low) = first_low(text, at) {
-            return low;
-        }
-        at += 16;
+    let next = sixteen(text, at + 1);
+    let lanes = unless_before(COMMENT, next, sixteen(text, at));
+    match ends {
+        LineEnds::OneByte => lanes,
+        LineEnds::CrLf => unless_before(b'\n', next, lanes),
     }
-    if from + 16 <= text.len() {
-        return first_low(text, text.len() - 16).unwrap_or(text.len());
-    }
-    from + front_length(&text[from..], is_in_line)
 }
 
-fn is_in_line(b: u8) -> bool
-    ensures { result ≡ not (is_line_end b) }
+// The lanes, with 255 in place of each whose next byte is this one.
+#[inline(always)]
+fn unless_before(byte: u8, next: u8x16, lanes: u8x16) -> u8x16
+    ensures long { length result ≡ 16 }
+    ensures lanes { (k : ℕ) → k < 16 → is_low (slice_index result k) ≡ false
+        → (is_low (slice_index lanes k) ≡ false) ⊎ (slice_index next k ≡ byte) }
 {
-    !is_line_end(b)
+    next.simd_eq(u8x16::splat(byte))
+        .select(u8x16::splat(u8::MAX), lanes)
+}
+
+// The 16 bytes from `at` on.
+#[inline(always)]
+fn sixteen(text: &[u8], at: usize) -> u8x16
+    requires { at + 16 ≤ length text.now }
+    ensures { result ≡ chunk at 16 text.now }
+{
+    u8x16::from_slice(&text[at..])
+}
+
+// The lesser byte of each two lanes.
+#[inline(always)]
+fn lesser(a: u8x16, b: u8x16) -> u8x16
+    ensures long { length result ≡ 16 }
+    ensures lanes { (k : ℕ) → k < 16 → is_low (slice_index result k) ≡ false
+        → (is_low (slice_index a k) ≡ false) × (is_low (slice_index b k) ≡ false) }
+{
+    a.simd_min(b)
+}
+
+// Bit k is set where lane k is low.
+#[inline(always)]
+fn low_bits(lanes: u8x16) -> u64
+    ensures { result ≡ mask_l (map is_low lanes) }
+{
+    lanes.simd_lt(u8x16::splat(ABOVE_LOW)).to_bitmask()
 }

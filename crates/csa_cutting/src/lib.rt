@@ -7,7 +7,6 @@ mod comments;
 mod cutter;
 pub mod laws;
 mod line;
-mod low;
 mod piece;
 mod scan;
 mod units;

@@ -8,7 +8,7 @@ ghost use Rattle.csa_cutting.specs.PieceCutting.{fresh, IsOpen};
 ghost use Rattle.csa_cutting.specs.PieceSteps.{AfterStep, AfterEnd, Last, IsTooLongAt, IsUsed, IsLentFrom};
 ghost use Rattle.csa_cutting.specs.Places.{IsKept, IsFoundIn, IsHeld, begins, kept_of, has_unit};
 
-use crate::comments::{COMMENT, past_comments};
+use crate::comments::{comments_end, past_comments};
 use crate::cutter::{CutFault, LONGEST_STATEMENT, Statement};
 use crate::units::{BYTE_ORDER_MARK, Part, Place, first_in, handed_out, unit_length};
 use arrayvec::ArrayVec;
@@ -256,12 +256,11 @@ fn found_in(place: Place, held: &[u8], piece: &[u8]) -> Result<Part, Place>
             end: unit_length(held[0], piece),
         }),
         Place::Comment => {
-            let end = unit_length(COMMENT, piece);
-            if end == piece.len() {
-                Err(Place::Comment)
-            } else {
-                first_in(piece, past_comments(piece, end))
-            }
+            let inside = past_comments(piece, 0);
+            let Some(end) = comments_end(piece, inside) else {
+                return Err(Place::Comment);
+            };
+            first_in(piece, end)
         }
     }
 }

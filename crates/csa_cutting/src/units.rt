@@ -1,13 +1,13 @@
 //! Where the next unit of a text is, and the bytes that are handed out of a statement's unit.
 
-ghost use Rattle.std.specs.Prelude.{◌≡◌, ℕ, List, false, ◌<◌, ◌≤◌, length, drop, not, MatchOption};
+ghost use Rattle.std.specs.Prelude.{◌≡◌, ℕ, List, false, ◌≤◌, ◌<◌, length, drop, not, MatchOption};
 ghost use Rattle.std.specs.List.{position_or_len, prefix_len};
-ghost use Rattle.csa_cutting.specs.Cut.{IsNext, IsGap, is_separator, is_blank, takes_line, is_end, statement_bytes, without_last_blanks};
-ghost use Rattle.csa_cutting.specs.Cutting.{unit_between};
+ghost use Rattle.csa_cutting.specs.Cut.{IsGap, is_separator, is_blank, takes_line, is_end, statement_bytes, without_last_blanks};
+ghost use Rattle.csa_cutting.specs.Comments.{IsNextStart};
 ghost use Rattle.csa_cutting.specs.Places.{IsFoundIn, PassesTo};
 
-use crate::comments::{COMMENT, comment_length, past_comments};
-use crate::line::line_length;
+use crate::comments::{COMMENT, comments_end};
+use crate::line::{is_line_end, line_length};
 use crate::scan::front_length;
 
 // The first byte of a name, and that of a header.
@@ -28,8 +28,8 @@ pub(crate) enum Place {
     Comment,
 }
 
-// A statement's unit in the piece, from start to before end, behind what is held of it where it goes
-// on.
+// A statement's unit in the piece, from start to before end. Where it goes on from the pieces before,
+// what is held is the front of it.
 #[derive(Clone, Copy, Debug, PartialEq, Eq)]
 pub(crate) struct Part {
     pub goes_on: bool,
@@ -37,8 +37,8 @@ pub(crate) struct Part {
     pub end: usize,
 }
 
-// The first statement's unit in the piece from here on, behind gaps and comments, or where it leads
-// to where it holds none: so for each cutter that stands before a front that leads here.
+// The first statement's unit in the piece from here on, behind gaps and comments; or, where it holds
+// none, where the piece leads to.
 #[inline(always)]
 pub(crate) fn first_in(piece: &[u8], from: usize) -> Result<Part, Place>
     requires { from ≤ length piece.now }
@@ -46,18 +46,19 @@ pub(crate) fn first_in(piece: &[u8], from: usize) -> Result<Part, Place>
         → IsFoundIn place held piece.now front result }
 {
     let mut at = from;
-    while let Some((start, end)) = next_unit(piece, at) {
+    while let Some(start) = next_start(piece, at) {
         if piece[start] != COMMENT {
+            let length = unit_length(piece[start], &piece[start + 1..]);
             return Ok(Part {
                 goes_on: false,
                 start,
-                end,
+                end: start + 1 + length,
             });
         }
-        if end == piece.len() {
+        let Some(end) = comments_end(piece, start + 1) else {
             return Err(Place::Comment);
-        }
-        at = past_comments(piece, end);
+        };
+        at = end;
     }
     Err(Place::Gap)
 }
@@ -65,14 +66,21 @@ pub(crate) fn first_in(piece: &[u8], from: usize) -> Result<Part, Place>
 fn is_separator(b: u8) -> bool
     ensures { result ≡ is_separator b }
 {
-    b == b'\r' || b == b'\n' || b == b',' || b == b' ' || b == b'\t'
+    is_line_end(b) || b == b',' || is_blank(b)
+}
+
+// Whether a unit with this first byte takes the whole line.
+fn takes_line(first: u8) -> bool
+    ensures { result ≡ takes_line first }
+{
+    first == COMMENT || first == NAME || first == HEADER
 }
 
 // Whether a statement that does not take the whole line goes on with this byte.
-fn goes_on(b: u8) -> bool
+fn is_in_statement(b: u8) -> bool
     ensures { (first : ℕ) → takes_line first ≡ false → result ≡ not (is_end first b) }
 {
-    b != b'\r' && b != b'\n' && b != b','
+    !is_line_end(b) && b != b','
 }
 
 // How many separators the text begins with.
@@ -89,33 +97,27 @@ pub(crate) fn unit_length(first: u8, text: &[u8]) -> usize
     ensures value { result ≡ position_or_len (is_end first) text.now }
     ensures within { result ≤ length text.now }
 {
-    if first == COMMENT {
-        return comment_length(text);
+    if takes_line(first) {
+        line_length(text)
+    } else {
+        front_length(text, is_in_statement)
     }
-    if first == NAME || first == HEADER {
-        return line_length(text);
-    }
-    front_length(text, goes_on)
 }
 
-// The next unit at or after `from`, a comment too: where it starts, and where it ends.
+// Where the next unit at or after `from` starts, a comment too.
 #[inline(always)]
-fn next_unit(source: &[u8], from: usize) -> Option<(usize, usize)>
+fn next_start(source: &[u8], from: usize) -> Option<usize>
     requires { from ≤ length source.now }
-    ensures { MatchOption result
-        (IsGap (drop from source.now))
-        (λ r. (r.0 < r.1) × (r.1 ≤ length source.now)
-        × IsNext from (drop from source.now) (unit_between source.now r.0 r.1) (drop r.1 source.now)) }
+    ensures { MatchOption result (IsGap (drop from source.now)) (IsNextStart source.now from) }
 {
     let start = from + gap_length(&source[from..]);
     if start == source.len() {
         return None;
     }
-    let length = unit_length(source[start], &source[start + 1..]);
-    Some((start, start + 1 + length))
+    Some(start)
 }
 
-// The bytes of a statement, of its unit's.
+// The bytes that are handed out of a statement's unit.
 pub(crate) fn handed_out(unit: &[u8]) -> &[u8]
     ensures value { result.now ≡ statement_bytes unit.now }
     ensures place { result.ref_ptr ≡ unit.entry.ref_ptr }

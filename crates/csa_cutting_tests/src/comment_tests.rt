@@ -27,7 +27,7 @@ fn comments(
 
 #[test]
 fn statements_behind_comments_of_each_length(rt: HostRuntime) -> Result<(), AllocError> {
-    let table: [&[u8]; 5] = [b"\n", b"\r\n", b"\r", b"\n\t\n", b"\n ,"];
+    let table: [&[u8]; 6] = [b"\n", b"\r\n", b"\r", b"\n\n", b"\n\t\n", b"\n ,"];
     for separators in table {
         for length in 0..280usize {
             let source = comments(&rt, length, separators)?;
@@ -43,6 +43,51 @@ fn statements_behind_comments_of_each_length(rt: HostRuntime) -> Result<(), Allo
             }
             assert!(rt; cutter.next_statement() == Ok(None));
             assert!(rt; same(source.as_slice(), 300));
+        }
+    }
+    Ok(())
+}
+
+// Adds comments of this many bytes behind `'`, each in a line that these bytes end, up to this size.
+fn fill_with_comments(
+    source: &mut Vec<u8>,
+    size: usize,
+    length: usize,
+    end: &[u8],
+) -> Result<(), AllocError> {
+    for _ in 0..size {
+        if source.len() >= size {
+            break;
+        }
+        source.push(b'\'')?;
+        for _ in 0..length {
+            source.push(b'x')?;
+        }
+        source.extend_from_slice(end)?;
+    }
+    Ok(())
+}
+
+#[test]
+fn statement_among_comments(rt: HostRuntime) -> Result<(), AllocError> {
+    let table: [&[u8]; 3] = [b"\n", b"\r\n", b"\r"];
+    for end in table {
+        for length in 0..300usize {
+            let mut source = Vec::new(rt.alloc());
+            fill_with_comments(&mut source, 600, length, end)?;
+            let offset = source.len() as u64;
+            source.push(b'+')?;
+            source.extend_from_slice(end)?;
+            fill_with_comments(&mut source, 1_500, length, end)?;
+            let mut cutter = Cutter::new(source.as_slice());
+            let statement = Statement {
+                number: 1,
+                offset,
+                bytes: b"+",
+            };
+            assert!(rt; cutter.next_statement() == Ok(Some(statement)));
+            assert!(rt; cutter.next_statement() == Ok(None));
+            assert!(rt; same(source.as_slice(), 700));
         }
     }
     Ok(())
