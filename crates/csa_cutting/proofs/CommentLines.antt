@@ -10,8 +10,8 @@ use Rattle.csa_cutting.specs.Cut.{IsNext, is_separator, is_end, takes_line}
 use Rattle.csa_cutting.specs.Cutting.{unit_between}
 use Rattle.csa_cutting.specs.Places.{PassesTo}
 use Rattle.csa_cutting.specs.declared.units.Place.{Place}
-use Rattle.csa_cutting.specs.declared.units.Place.TheVariants.{Comment}
-use Rattle.csa_cutting.proofs.Finding.{passes_comment, found_in_comment}
+use Rattle.csa_cutting.specs.declared.units.Place.TheVariants.{Gap, Comment}
+use Rattle.csa_cutting.proofs.Finding.{passes_gap, passes_comment, found_in_comment}
 use Rattle.csa_cutting.specs.Lines.{is_line_end}
 use Rattle.csa_cutting.proofs.Fronts.{next_place, turned_true}
 use Rattle.csa_cutting.proofs.Passing.{comment_passed, comment_open, separator_passed}
@@ -150,6 +150,17 @@ leads_by place held piece front at (suc n) low within goes on =
     subst (LeadsOn place held piece front) same
     (leads_by place held piece front (at + 1) n (omega (arith, low)) (omega (arith, within)) (λ k l h. goes k (omega (arith, l)) (omega (arith, h)))
     (one_on place held piece front at low (omega (arith, within)) (λ k l h. goes k l (omega (arith, h))) on))
+
+-- at the first byte of a piece in a gap, where that ends a line or begins a comment
+pub leads_from_gap : (held piece : List ℕ) → 0 < length piece → (get_or piece 0 0 ≡ 39) ⊎ (is_line_end (get_or piece 0 0) ≡ true) → LeadsOn Gap held piece 0 0
+leads_from_gap held piece some (inl quote) =
+    let begun : IsNextStart piece 0 0 = record {
+      order = omega arith;
+      within = some;
+      gap = sym (prefix_len_is is_separator piece 0 0 (omega arith) (λ k h. absurd (omega (arith, h))) (λ h. ap is_separator quote));
+    } in
+    one_before Gap held piece 0 0 (quote_ends_none _ quote) (in_comment Gap held piece 0 0 0 (omega arith) (passes_gap held piece 0) begun quote)
+leads_from_gap held piece some (inr here) = at_line_end Gap held piece 0 0 some here (passes_gap held piece 0)
 
 -- as far as comments go on
 pub leads_along : (place : Place) (held piece : List ℕ) (front at to : ℕ) → front ≤ at → IsPast piece at to → LeadsOn place held piece front at → LeadsOn place held piece front to

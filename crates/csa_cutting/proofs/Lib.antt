@@ -20,3 +20,4 @@ pub mod LineRuns
 mod Lent
 mod LinesFound
 mod Stretches
+mod Turning

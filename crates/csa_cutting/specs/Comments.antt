@@ -1,6 +1,6 @@
 -- Comments that stand one behind another, each on a line of its own, and how the line end behind them is found.
 -- These are definitions for private helpers; a reader of the contracts may skip them.
-use Rattle.std.specs.Prelude.{◌≡◌, ◌⊎◌, ℕ, ◌+◌, ◌-◌, ◌<◌, ◌≤◌, Bool, true, false, List, [], ◌∷◌, length, drop, slice_index, nat_lt}
+use Rattle.std.specs.Prelude.{◌≡◌, ◌⊎◌, ℕ, ◌+◌, ◌-◌, ◌<◌, ◌≤◌, true, false, List, [], ◌∷◌, length, drop, slice_index}
 use Rattle.std.specs.List.{prefix_len}
 use Rattle.csa_cutting.specs.Cut.{is_separator}
 use Rattle.csa_cutting.specs.Lines.{is_line_end}
@@ -27,7 +27,7 @@ abbrev pub CommentsFollow : List ℕ → ℕ → ℕ → Type 0
 CommentsFollow bytes from to =
     (k : ℕ) → from ≤ k → k < to → is_line_end (slice_index bytes k) ≡ true → (slice_index bytes (k + 1) ≡ 39) ⊎ (is_line_end (slice_index bytes (k + 1)) ≡ true)
 
--- where a comment goes on at the one place, nothing but comments and the ends of their lines stands up to the other;
+-- where a comment goes on at the one place, nothing but comments, ends of lines and empty lines stands up to the other;
 -- a byte stands behind that, if they differ
 pub record IsPast (bytes : List ℕ) (from to : ℕ) : Type 0 where
   pub low : from ≤ to
@@ -53,8 +53,18 @@ pub record IsNextStart (bytes : List ℕ) (from start : ℕ) : Type 0 where
 
 -- how many bytes are looked at in one step
 abbrev pub stretch : ℕ
-stretch = 256
+stretch = 512
 
--- below 14, as each line end is
-abbrev pub is_low : ℕ → Bool
-is_low b = nat_lt b 14
+-- no byte is below LF from one place on up to another, and none below 31, as each line end is, without an apostrophe,
+-- LF or a lower byte right behind it
+abbrev pub LowFollowed : List ℕ → ℕ → ℕ → Type 0
+LowFollowed bytes from to =
+    (k : ℕ) → from ≤ k → k < to → (10 ≤ slice_index bytes k) × ((31 ≤ slice_index bytes k) ⊎ ((slice_index bytes (k + 1) ≡ 39) ⊎ (slice_index bytes (k + 1) ≤ 10)))
+
+-- sixteen lanes of each
+abbrev pub IsLeast : List ℕ → List ℕ → Type 0
+IsLeast all followed = (length all ≡ 16) × (length followed ≡ 16)
+
+-- none of the one is below LF, and none of the other below 31
+abbrev pub AreHigh : List ℕ → List ℕ → Type 0
+AreHigh all followed = (k : ℕ) → k < 16 → (10 ≤ slice_index all k) × (31 ≤ slice_index followed k)

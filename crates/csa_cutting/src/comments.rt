@@ -1,33 +1,33 @@
 //! Comments, and those that follow right behind the end of a comment's line: where they end.
 
-ghost use Rattle.std.specs.Prelude.{◌≡◌, ◌⊎◌, ℕ, List, ◌+◌, ◌<◌, ◌≤◌, true, false, map, length, slice_index, IfSome, MatchOption};
-ghost use Rattle.csa_cutting.specs.Comments.{CommentsFollow, IsCrLf, IsLineEndAt, IsLineEndTo, IsOpenToEnd, IsPast, LeadsOn, is_low, stretch};
+ghost use Rattle.std.specs.Prelude.{◌≡◌, ◌⊎◌, ℕ, List, ◌+◌, ◌*◌, ◌<◌, ◌≤◌, true, length, slice_index, IfSome, MatchOption};
+ghost use Rattle.csa_cutting.specs.Comments.{AreHigh, CommentsFollow, IsCrLf, IsLeast, IsLineEndAt, IsLineEndTo, IsOpenToEnd, IsPast, LeadsOn, LowFollowed, stretch};
 ghost use Rattle.csa_cutting.specs.Places.{PassesTo};
 ghost use Rattle.csa_cutting.specs.declared.units.Place.{Place};
-ghost use Rattle.std.specs.Simd.Lanes.{chunk, mask_l};
+ghost use Rattle.std.specs.Simd.Lanes.{chunk};
 
-use crate::line::line_length;
+use crate::line::{is_line_end, line_length};
 use std::simd::prelude::*;
 
 // The first byte of a comment.
 pub(crate) const COMMENT: u8 = b'\'';
 
-// How many bytes are looked at in one step where one comment follows another.
-const STRETCH: usize = 256;
+// How many bytes a stretch of comments has, and how many stretches are looked at together at most.
+const STRETCH: usize = 512;
 
-// Bytes below this are low: CR and LF, and the tab.
-const ABOVE_LOW: u8 = 14;
+const STRETCHES: usize = 8;
 
-// Whether one byte ends each line, or CR and LF.
-#[derive(Clone, Copy)]
-enum LineEnds {
-    OneByte,
-    CrLf,
-}
+// How many comments are gone through line by line before stretches are tried.
+const LINES: u32 = 4;
+
+// The lesser line end, and a byte above both.
+const LF: u8 = b'\n';
+
+const ABOVE_LINE_ENDS: u8 = 31;
 
 // The last byte of the line end behind the comment that goes on here, or behind the last of those that
-// follow it, each right behind a line end. None where that one goes on to the end of the piece. As many
-// bytes as a stretch has go line by line, before stretches are tried and after one that failed.
+// follow it, each right behind a line end. None where that one goes on to the end of the piece. Stretches
+// are tried behind each fourth comment that is gone through line by line.
 #[inline(never)]
 pub(crate) fn comments_end(piece: &[u8], from: usize) -> Option<usize>
     requires { from ≤ length piece.now }
@@ -36,7 +36,7 @@ pub(crate) fn comments_end(piece: &[u8], from: usize) -> Option<usize>
         → MatchOption result (IsOpenToEnd place held piece.now front) (PassesTo place held piece.now front) }
 {
     let mut at = from;
-    let mut by_lines_to = from.saturating_add(STRETCH);
+    let mut lines = 0;
     loop {
         let end = at + line_length(&piece[at..]);
         if end == piece.len() {
@@ -47,10 +47,42 @@ pub(crate) fn comments_end(piece: &[u8], from: usize) -> Option<usize>
             return Some(last);
         }
         at = last + 2;
-        if at > by_lines_to {
+        lines += 1;
+        if lines == LINES {
             at = past_comments(piece, at);
-            by_lines_to = at.saturating_add(STRETCH);
+            lines = 0;
         }
+    }
+}
+
+// The same where the piece begins in a comment. Stretches are tried at once.
+#[inline(always)]
+pub(crate) fn begun_comments_end(piece: &[u8]) -> Option<usize>
+    ensures within { IfSome result (λ end. end < length piece.now) }
+    ensures passed { (place : Place) (held : List ℕ) → LeadsOn place held piece.now 0 0
+        → MatchOption result (IsOpenToEnd place held piece.now 0) (PassesTo place held piece.now 0) }
+{
+    let at = past_comments(piece, 0);
+    if at + 1 < piece.len() {
+        comments_end(piece, at)
+    } else {
+        last_line_end(piece, at)
+    }
+}
+
+// The place where the comment that goes on here ends, if the last byte of the piece ends it.
+#[inline(always)]
+fn last_line_end(piece: &[u8], from: usize) -> Option<usize>
+    requires from { from ≤ length piece.now }
+    requires last { length piece.now ≤ from + 1 }
+    ensures within { IfSome result (λ end. end < length piece.now) }
+    ensures passed { (place : Place) (held : List ℕ) → LeadsOn place held piece.now 0 from
+        → MatchOption result (IsOpenToEnd place held piece.now 0) (PassesTo place held piece.now 0) }
+{
+    if from < piece.len() && is_line_end(piece[from]) {
+        Some(from)
+    } else {
+        None
     }
 }
 
@@ -60,7 +92,7 @@ fn line_end_last(piece: &[u8], at: usize) -> usize
     ensures last { IsLineEndTo piece.now at result }
     ensures both { IsCrLf piece.now at → result ≡ at + 1 }
 {
-    if piece[at] == b'\r' && at + 1 < piece.len() && piece[at + 1] == b'\n' {
+    if piece[at] == b'\r' && at + 1 < piece.len() && piece[at + 1] == LF {
         at + 1
     } else {
         at
@@ -70,73 +102,148 @@ fn line_end_last(piece: &[u8], at: usize) -> usize
 // A place up to which nothing stands but comments and line ends, where `from` is in a comment: as far as
 // stretches have nothing else in them.
 #[inline(never)]
-pub(crate) fn past_comments(piece: &[u8], from: usize) -> usize
+fn past_comments(piece: &[u8], from: usize) -> usize
     requires { from ≤ length piece.now }
     ensures { IsPast piece.now from result }
 {
-    let at = past_stretches(piece, from, LineEnds::OneByte);
-    past_stretches(piece, at, LineEnds::CrLf)
+    if !stretch_follows(piece, from) {
+        return from;
+    }
+    let at = past_stretches(piece, from + STRETCH);
+    if at + 1 == piece.len() {
+        return at;
+    }
+    past_single_stretches(piece, at)
 }
 
-// The same by stretches with these line ends. The last of them may begin before what is left.
+// The same, by as many stretches at a time as are left, but at most eight. The first of them may begin
+// before what is left, so that the last ends at the last byte of the piece.
 #[inline(always)]
-fn past_stretches(piece: &[u8], from: usize, ends: LineEnds) -> usize
+fn past_stretches(piece: &[u8], from: usize) -> usize
     requires { from ≤ length piece.now }
     ensures { IsPast piece.now from result }
 {
-    let Some(last) = piece.len().checked_sub(STRETCH + 1) else {
-        return from;
-    };
     let mut at = from;
     while at + 1 < piece.len() {
-        let start = at.min(last);
-        if !comments_follow(piece, start, ends) {
+        let last = piece.len() - 1;
+        let count = (last - at).div_ceil(STRETCH).min(STRETCHES);
+        let Some(latest) = last.checked_sub(count * STRETCH) else {
+            break;
+        };
+        let start = at.min(latest);
+        if !comments_follow(piece, start, count) {
             break;
         }
-        at = start + STRETCH;
+        at = start + count * STRETCH;
     }
     at
 }
 
-// Whether a comment follows each line end of the stretch from `at` on. False too where another low byte
-// stands there that no comment follows.
+// The same, by one stretch at a time.
 #[inline(always)]
-fn comments_follow(text: &[u8], at: usize, ends: LineEnds) -> bool
-    requires { at + stretch < length text.now }
-    ensures { result ≡ true → CommentsFollow text.now at (at + stretch) }
+fn past_single_stretches(piece: &[u8], from: usize) -> usize
+    requires { from ≤ length piece.now }
+    ensures { IsPast piece.now from result }
 {
-    let mut least = u8x16::splat(u8::MAX);
-    for k in 0..STRETCH / 16 {
-        least = lesser(least, unless_followed(text, at + 16 * k, ends));
+    let mut at = from;
+    while stretch_follows(piece, at) {
+        at += STRETCH;
     }
-    low_bits(least) == 0
+    at
 }
 
-// The 16 bytes from `at` on, with 255 in place of each that a comment follows, or an LF where the lines
-// end in CR and LF.
+// Whether a whole stretch stands here that is passed.
 #[inline(always)]
-fn unless_followed(text: &[u8], at: usize, ends: LineEnds) -> u8x16
-    requires { at + 16 < length text.now }
-    ensures long { length result ≡ 16 }
-    ensures lanes { ((k : ℕ) → k < 16 → is_low (slice_index result k) ≡ false) → CommentsFollow text.now at (at + 16) }
+fn stretch_follows(piece: &[u8], at: usize) -> bool
+    requires { at ≤ length piece.now }
+    ensures { result ≡ true → (at + stretch < length piece.now) × CommentsFollow piece.now at (at + stretch) }
 {
-    let next = sixteen(text, at + 1);
-    let lanes = unless_before(COMMENT, next, sixteen(text, at));
-    match ends {
-        LineEnds::OneByte => lanes,
-        LineEnds::CrLf => unless_before(b'\n', next, lanes),
+    piece.len() - at > STRETCH && comments_follow(piece, at, 1)
+}
+
+// Whether a comment or one more line end follows each line end of so many stretches from `at` on. False
+// too where a byte below LF stands there, as the tab, or another below 31 that neither follows.
+#[inline(always)]
+fn comments_follow(text: &[u8], at: usize, count: usize) -> bool
+    requires { at + count * stretch < length text.now }
+    ensures { result ≡ true → CommentsFollow text.now at (at + count * stretch) }
+{
+    let mut least = Least::new();
+    for k in 0..count {
+        least = least.with_stretch(text, at + k * STRETCH);
+    }
+    least.are_high() && text[at + count * STRETCH] >= LF
+}
+
+// The least of the bytes seen in each of sixteen lanes.
+#[derive(Clone, Copy)]
+struct Least {
+    all: u8x16,
+    // of those that no apostrophe, LF or lower byte follows
+    followed: u8x16,
+}
+
+impl Least {
+    fn new() -> Least
+        ensures { IsLeast result.all result.followed }
+    {
+        Least {
+            all: u8x16::splat(u8::MAX),
+            followed: u8x16::splat(u8::MAX),
+        }
+    }
+
+    #[inline(always)]
+    fn with_stretch(self, text: &[u8], at: usize) -> Least
+        requires room { at + stretch < length text.now }
+        requires long { IsLeast self.all self.followed }
+        ensures long { IsLeast result.all result.followed }
+        ensures high { AreHigh result.all result.followed → AreHigh self.all self.followed × LowFollowed text.now at (at + stretch) }
+    {
+        let mut least = self;
+        for k in 0..STRETCH / 16 {
+            least = least.with_sixteen(text, at + 16 * k);
+        }
+        least
+    }
+
+    #[inline(always)]
+    fn with_sixteen(self, text: &[u8], at: usize) -> Least
+        requires room { at + 16 < length text.now }
+        requires long { IsLeast self.all self.followed }
+        ensures long { IsLeast result.all result.followed }
+        ensures high { AreHigh result.all result.followed → AreHigh self.all self.followed × LowFollowed text.now at (at + 16) }
+    {
+        let here = sixteen(text, at);
+        let followed = greater(here, high_comments(sixteen(text, at + 1)));
+        Least {
+            all: lesser(self.all, here),
+            followed: lesser(self.followed, followed),
+        }
+    }
+
+    // Whether none of all is below LF, and none below 31 without one of those behind it.
+    #[inline(always)]
+    fn are_high(self) -> bool
+        requires { IsLeast self.all self.followed }
+        ensures { result ≡ true → AreHigh self.all self.followed }
+    {
+        have_none_below(self.all, LF) && have_none_below(self.followed, ABOVE_LINE_ENDS)
     }
 }
 
-// The lanes, with 255 in place of each whose next byte is this one.
+// The lanes turned so that they are 31 and more for the apostrophe, LF and the bytes below LF alone. The sum
+// with 213, at most 255, is 252 for the apostrophe and 213 to 223 for LF and the bytes below it.
 #[inline(always)]
-fn unless_before(byte: u8, next: u8x16, lanes: u8x16) -> u8x16
+fn high_comments(next: u8x16) -> u8x16
     ensures long { length result ≡ 16 }
-    ensures lanes { (k : ℕ) → k < 16 → is_low (slice_index result k) ≡ false
-        → (is_low (slice_index lanes k) ≡ false) ⊎ (slice_index next k ≡ byte) }
+    ensures lanes { (k : ℕ) → k < 16 → 31 ≤ slice_index result k → (slice_index next k ≡ 39) ⊎ (slice_index next k ≤ 10) }
 {
-    next.simd_eq(u8x16::splat(byte))
-        .select(u8x16::splat(u8::MAX), lanes)
+    let sum = next + u8x16::splat(213);
+    let most = next
+        .simd_lt(u8x16::splat(42))
+        .select(sum, u8x16::splat(u8::MAX));
+    most ^ u8x16::splat(227)
 }
 
 // The 16 bytes from `at` on.
@@ -152,16 +259,24 @@ fn sixteen(text: &[u8], at: usize) -> u8x16
 #[inline(always)]
 fn lesser(a: u8x16, b: u8x16) -> u8x16
     ensures long { length result ≡ 16 }
-    ensures lanes { (k : ℕ) → k < 16 → is_low (slice_index result k) ≡ false
-        → (is_low (slice_index a k) ≡ false) × (is_low (slice_index b k) ≡ false) }
+    ensures lanes { (n k : ℕ) → k < 16 → n ≤ slice_index result k → (n ≤ slice_index a k) × (n ≤ slice_index b k) }
 {
     a.simd_min(b)
 }
 
-// Bit k is set where lane k is low.
+// The greater byte of each two lanes.
 #[inline(always)]
-fn low_bits(lanes: u8x16) -> u64
-    ensures { result ≡ mask_l (map is_low lanes) }
+fn greater(a: u8x16, b: u8x16) -> u8x16
+    ensures long { length result ≡ 16 }
+    ensures lanes { (n k : ℕ) → k < 16 → n ≤ slice_index result k → (n ≤ slice_index a k) ⊎ (n ≤ slice_index b k) }
 {
-    lanes.simd_lt(u8x16::splat(ABOVE_LOW)).to_bitmask()
+    a.simd_max(b)
+}
+
+// Whether no lane is below this byte.
+#[inline(always)]
+fn have_none_below(lanes: u8x16, least: u8) -> bool
+    ensures { result ≡ true → (k : ℕ) → k < 16 → least ≤ slice_index lanes k }
+{
+    lanes.simd_lt(u8x16::splat(least)).to_bitmask() == 0
 }

@@ -1,15 +1,17 @@
-ghost use Rattle.std.specs.Prelude.{◌≡◌, ◌+◌, ◌-◌, ◌^◌, ◌<◌, ◌≤◌, ◌++◌, [], length, true, None, Some, IsSome, IfSome, IfOk, IfErr, if◌then◌else◌};
+ghost use Rattle.std.specs.Prelude.{◌≡◌, ◌⊎◌, ℕ, List, ◌+◌, ◌-◌, ◌^◌, ◌<◌, ◌≤◌, ◌++◌, [], length, true, None, Some, IsSome, IfSome, IfOk, IfErr, if◌then◌else◌};
 ghost use Rattle.std.specs.Borrow.{sem};
 ghost use Rattle.std.specs.Io.BufRead.{Rests};
 ghost use Rattle.arrayvec.specs.ArrayVec.{array_vec_len};
 ghost use Rattle.csa_cutting.specs.contracts.piece.PieceCutter.{the_row};
+ghost use Rattle.csa_cutting.specs.Comments.{LeadsOn};
 ghost use Rattle.csa_cutting.specs.Cut.{statement_bytes, begins_with, longest_statement};
 ghost use Rattle.csa_cutting.specs.PieceCutting.{fresh, IsOpen};
 ghost use Rattle.csa_cutting.specs.PieceSteps.{AfterStep, AfterEnd, Last, IsTooLongAt, IsUsed, IsLentFrom};
 ghost use Rattle.csa_cutting.specs.Places.{IsKept, IsFoundIn, IsHeld, begins, kept_of, has_unit};
 
-use crate::comments::{comments_end, past_comments};
+use crate::comments::{COMMENT, begun_comments_end};
 use crate::cutter::{CutFault, LONGEST_STATEMENT, Statement};
+use crate::line::is_line_end;
 use crate::units::{BYTE_ORDER_MARK, Part, Place, first_in, handed_out, unit_length};
 use arrayvec::ArrayVec;
 use std::marker::Model;
@@ -34,6 +36,8 @@ pub struct PieceCutter {
     fed: u64,
     number: u64,
     refused: Option<u64>,
+    // whether a piece began in a comment, and no statement has come since
+    among_comments: bool,
 }
 
 impl Model for PieceCutter {
@@ -59,6 +63,7 @@ impl PieceCutter {
             fed: 0,
             number: 0,
             refused: None,
+            among_comments: false,
         }
     }
 
@@ -102,9 +107,11 @@ impl PieceCutter {
         if let Some(offset) = self.refused {
             return Err(CutFault { number, offset });
         }
-        let found = match found_in(self.place, self.held.as_slice(), piece) {
+        let among_comments = self.among_comments || self.place == Place::Comment;
+        let found = match found_in(self.place, self.held.as_slice(), piece, among_comments) {
             Ok(found) => found,
             Err(place) => {
+                self.among_comments = among_comments;
                 self.place = place;
                 hold_mark(&mut self.held, place, piece);
                 self.fed += piece.len() as u64;
@@ -119,6 +126,7 @@ impl PieceCutter {
             self.refused = Some(offset);
             return Err(CutFault { number, offset });
         }
+        self.among_comments = false;
         keep_held(&mut self.held, found.goes_on);
         if end == piece.len() {
             hold(&mut self.held, part);
@@ -243,26 +251,41 @@ fn hold(held: &mut ArrayVec<u8, LONGEST_STATEMENT>, part: &[u8])
 }
 
 // The statement's unit that the piece holds next, or where it leads to where it holds none.
-fn found_in(place: Place, held: &[u8], piece: &[u8]) -> Result<Part, Place>
+fn found_in(place: Place, held: &[u8], piece: &[u8], among_comments: bool) -> Result<Part, Place>
     requires { IsHeld place held.now }
     ensures { IsFoundIn place held.now piece.now 0 result }
 {
     match place {
         Place::Mark => found_in_mark(held, piece),
+        Place::Gap if among_comments && begins_as_comment(piece) => found_in_comment(piece),
         Place::Gap => first_in(piece, 0),
         Place::Unit => Ok(Part {
             goes_on: true,
             start: 0,
             end: unit_length(held[0], piece),
         }),
-        Place::Comment => {
-            let inside = past_comments(piece, 0);
-            let Some(end) = comments_end(piece, inside) else {
-                return Err(Place::Comment);
-            };
-            first_in(piece, end)
-        }
+        Place::Comment => found_in_comment(piece),
     }
+}
+
+// The same where a comment may go on at the first byte.
+#[inline(always)]
+fn found_in_comment(piece: &[u8]) -> Result<Part, Place>
+    ensures { (place : Place) (held : List ℕ) → (place ≡ Place.Comment) ⊎ (0 < length piece.now) → LeadsOn place held piece.now 0 0
+        → IsFoundIn place held piece.now 0 result }
+{
+    let Some(end) = begun_comments_end(piece) else {
+        return Err(Place::Comment);
+    };
+    first_in(piece, end)
+}
+
+// Whether the piece begins with a comment or the end of a line, as where one goes on.
+fn begins_as_comment(piece: &[u8]) -> bool
+    ensures some { result ≡ true → 0 < length piece.now }
+    ensures leads { result ≡ true → (held : List ℕ) → LeadsOn Place.Gap held piece.now 0 0 }
+{
+    !piece.is_empty() && (piece[0] == COMMENT || is_line_end(piece[0]))
 }
 
 // The same where the bytes so far are of the byte order mark.

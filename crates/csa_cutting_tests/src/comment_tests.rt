@@ -74,11 +74,11 @@ fn statement_among_comments(rt: HostRuntime) -> Result<(), AllocError> {
     for end in table {
         for length in 0..300usize {
             let mut source = Vec::new(rt.alloc());
-            fill_with_comments(&mut source, 600, length, end)?;
+            fill_with_comments(&mut source, 1_300, length, end)?;
             let offset = source.len() as u64;
             source.push(b'+')?;
             source.extend_from_slice(end)?;
-            fill_with_comments(&mut source, 1_500, length, end)?;
+            fill_with_comments(&mut source, 6_000, length, end)?;
             let mut cutter = Cutter::new(source.as_slice());
             let statement = Statement {
                 number: 1,
@@ -88,6 +88,45 @@ fn statement_among_comments(rt: HostRuntime) -> Result<(), AllocError> {
             assert!(rt; cutter.next_statement() == Ok(Some(statement)));
             assert!(rt; cutter.next_statement() == Ok(None));
             assert!(rt; same(source.as_slice(), 700));
+            assert!(rt; same(source.as_slice(), 4_096));
+        }
+    }
+    Ok(())
+}
+
+// The statement of a line with this byte first and these behind it. No bytes where it has none.
+fn statement_of(rt: &impl AllocGlobal, first: u8, behind: &[u8]) -> Result<Vec<u8>, AllocError> {
+    let mut bytes = Vec::new(rt.alloc());
+    match first {
+        b'\'' => return Ok(bytes),
+        b'\r' | b'\n' | b',' | b' ' | b'\t' => {}
+        _ => bytes.push(first)?,
+    }
+    bytes.extend_from_slice(behind)?;
+    Ok(bytes)
+}
+
+#[test]
+fn line_with_each_first_byte_among_comments(rt: HostRuntime) -> Result<(), AllocError> {
+    let table: [&[u8]; 2] = [b"", b"x"];
+    for behind in table {
+        for first in 0..=255u8 {
+            let mut source = Vec::new(rt.alloc());
+            fill_with_comments(&mut source, 1_300, 29, b"\n")?;
+            source.push(first)?;
+            source.extend_from_slice(behind)?;
+            source.push(b'\n')?;
+            fill_with_comments(&mut source, 6_000, 29, b"\n")?;
+            let wanted = statement_of(&rt, first, behind)?;
+            let mut cutter = Cutter::new(source.as_slice());
+            let found = match cutter.next_statement() {
+                Ok(Some(statement)) => statement.bytes,
+                _ => &[],
+            };
+            assert!(rt; found == wanted.as_slice());
+            assert!(rt; cutter.next_statement() == Ok(None));
+            assert!(rt; same(source.as_slice(), 700));
+            assert!(rt; same(source.as_slice(), 4_096));
         }
     }
     Ok(())

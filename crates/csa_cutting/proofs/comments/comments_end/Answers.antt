@@ -28,20 +28,18 @@ returns-then-last-piece-clause-passed c = λ place held front low on.
 
 pub loop-from-preserved : goal.loop-from-preserved
 loop-from-preserved c =
-    let piece = c.args.piece.now in
-    let i = c.loop-from.invariant in
-    let line = c.line_end_last-last.result in
-    let last = last_ends piece (c.loop-from.at + c.line_length.result) line c.line_end_last-last.ensures.last in
-    let next : line + 1 < length piece = omega (arith, last.1.0, c.if-last-piece.false) in
+    let last = last_ends c.args.piece.now (c.loop-from.at + c.line_length.result) c.line_end_last-last.result c.line_end_last-last.ensures.last in
+    let next : c.line_end_last-last.result + 1 < length c.args.piece.now = omega (arith, last.1.0, c.if-last-piece.false) in
     record {
-      low = omega (arith, i.low, last.0);
+      low = omega (arith, c.loop-from.invariant.low, last.0);
       high = omega (arith, next);
+      few = omega (arith, c.loop-from.invariant.few, c.if-lines-eq-LINES.false);
       leads = λ place held front low on.
-          following_comment place held piece _ front c.loop-from.at c.line_length.result line (omega (arith, low, i.low)) (i.leads place held front low on) (rest_of piece c.loop-from.at) c.line_length.ensures.value c.line_end_last-last.ensures.last next c.if-piece-last-ne-COMMENT.false;
+          following_comment place held c.args.piece.now _ front c.loop-from.at c.line_length.result c.line_end_last-last.result (omega (arith, low, c.loop-from.invariant.low)) (c.loop-from.invariant.leads place held front low on) (rest_of c.args.piece.now c.loop-from.at) c.line_length.ensures.value c.line_end_last-last.ensures.last next c.if-piece-last-ne-COMMENT.false;
     }
 
-pub loop-from-preserved-then-at-by_lines_to : goal.loop-from-preserved-then-at-by_lines_to
-loop-from-preserved-then-at-by_lines_to c =
+pub loop-from-preserved-then-lines-eq-LINES : goal.loop-from-preserved-then-lines-eq-LINES
+loop-from-preserved-then-lines-eq-LINES c =
     let piece = c.args.piece.now in
     let i = c.loop-from.invariant in
     let line = c.line_end_last-last.result in
@@ -51,6 +49,7 @@ loop-from-preserved-then-at-by_lines_to c =
     record {
       low = omega (arith, i.low, last.0, past.low);
       high = past.high;
+      few = omega arith;
       leads = λ place held front low on.
           leads_along place held piece front (line + 2) c.past_comments-at.result (omega (arith, low, i.low, last.0)) past
           (following_comment place held piece _ front c.loop-from.at c.line_length.result line (omega (arith, low, i.low)) (i.leads place held front low on) (rest_of piece c.loop-from.at) c.line_length.ensures.value c.line_end_last-last.ensures.last next c.if-piece-last-ne-COMMENT.false);

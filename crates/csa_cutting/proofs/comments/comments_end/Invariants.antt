@@ -1,4 +1,4 @@
-use Rattle.std.proofs.Common.{◌≤◌, ◌-◌, List, ℕ, length}
+use Rattle.std.proofs.Common.{◌≤◌, ◌<◌, ◌-◌, List, ℕ, length}
 use Rattle.csa_cutting.specs.Comments.{LeadsOn}
 use Rattle.csa_cutting.specs.declared.units.Place.{Place}
 use Rattle.csa_cutting.proofs.comments.comments_end.Given as goal
@@ -7,6 +7,7 @@ abbrev pub invariant-loop-from : goal.invariant-loop-from
 invariant-loop-from l = record {
   low : l.from ≤ l.at;
   high : l.at ≤ length l.piece;
+  few : l.lines < 4;
   leads : (place : Place) (held : List ℕ) (front : ℕ) → front ≤ l.from → LeadsOn place held l.piece front l.from → LeadsOn place held l.piece front l.at;
 }
 
