@@ -5,7 +5,7 @@ use Rattle.std.specs.List.{position_or_len}
 use Rattle.std.proofs.lemmas.Bool.{cases_lt, cases_Bool}
 use Rattle.std.proofs.lemmas.List.{length-drop, get_or-drop}
 use Rattle.std.proofs.lemmas.List.Sums.{position_or_len_is, passes_at_first, prefix_len_is, prefix_len_passes}
-use Rattle.csa_cutting.specs.Comments.{IsLineEndAt, IsLineEndTo, IsNextStart, IsPast, CommentsFollow, LeadsOn, HasNoLineEndTo}
+use Rattle.csa_cutting.specs.Comments.{IsLineEndAt, IsLineEndTo, IsPast, CommentsFollow, LeadsOn, HasNoLineEndTo}
 use Rattle.csa_cutting.specs.Cut.{IsNext, is_separator, is_end, takes_line}
 use Rattle.csa_cutting.specs.Cutting.{unit_between}
 use Rattle.csa_cutting.specs.Places.{PassesTo}
@@ -13,6 +13,7 @@ use Rattle.csa_cutting.specs.declared.units.Place.{Place}
 use Rattle.csa_cutting.specs.declared.units.Place.TheVariants.{Gap, Comment}
 use Rattle.csa_cutting.proofs.Finding.{passes_gap, passes_comment, found_in_comment}
 use Rattle.csa_cutting.specs.Lines.{is_line_end}
+use Rattle.csa_cutting.specs.Starts.{IsNextStart}
 use Rattle.csa_cutting.proofs.Fronts.{next_place, turned_true}
 use Rattle.csa_cutting.proofs.Passing.{comment_passed, comment_open, separator_passed}
 
@@ -191,7 +192,7 @@ line_end_passed place held piece front at last low ended p =
       | inl same ↦ subst (PassesTo place held piece front) (sym same) p
       | inr both ↦
           subst (PassesTo place held piece front) (sym both.0)
-          (separator_passed place held piece front at low p (subst (λ e. e < length piece) both.0 both.1.0) (line_end_separates (get_or piece at 0) ended.0.1))
+          (separator_passed place held piece front at low p both.1.1.0 (line_end_separates (get_or piece at 0) ended.0.1))
     ]
 
 -- the last byte of a line end is one of a line end
@@ -199,7 +200,9 @@ pub last_ends : (piece : List ℕ) (at last : ℕ) → IsLineEndTo piece at last
 last_ends piece at last ended =
     elim ended.1 [
       | inl same ↦ (omega (arith, same), subst (IsLineEndAt piece) (sym same) ended.0)
-      | inr both ↦ (omega (arith, both.0), both.1)
+      | inr both ↦
+          let feed : is_line_end (get_or piece (at + 1) 0) ≡ true = ap is_line_end both.1.1.1 in
+          (omega (arith, both.0), subst (IsLineEndAt piece) (sym both.0) (both.1.1.0, feed))
     ]
 
 -- where a piece begins in a comment

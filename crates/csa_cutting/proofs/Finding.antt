@@ -1,5 +1,5 @@
 -- What a piece holds next, by where the cutter stands.
-use Rattle.std.proofs.Common.{◌≡◌, ◌≢◌, ℕ, zero, suc, ◌+◌, ◌-◌, ◌<◌, ◌≤◌, ◌==◌, ◌&&◌, nat_eq, eq-eqb, Bool, true, false, not, List, [], ◌∷◌, ◌++◌, length, take, drop, get_or, slice_range, length-drop, length-append, append_assoc, Err, arith, refl, sym, ap, ◌∙◌, subst, inl, inr}
+use Rattle.std.proofs.Common.{◌≡◌, ◌≢◌, ℕ, zero, suc, ◌+◌, ◌-◌, ◌<◌, ◌≤◌, ◌==◌, ◌&&◌, nat_eq, eq-eqb, Bool, true, false, not, List, [], ◌∷◌, ◌++◌, length, take, drop, get_or, slice_range, length-drop, length-append, append_assoc, arith, refl, sym, ap, ◌∙◌, subst, inl, inr}
 use Rattle.std.proofs.lemmas.Bool.{cases_lt, cases_Bool, eqb-true, ne_eqb}
 use Rattle.std.proofs.lemmas.Bool.Decides.{nat_tests, Decides-eqb}
 use Rattle.std.proofs.lemmas.List.{length-take, take_all, take-append-drop, append_cancel_left, get_or-take, get_or-drop}
@@ -12,6 +12,7 @@ use Rattle.csa_cutting.specs.Cut.{TextUnit, IsUnit, EndsBefore, Statements, is_e
 use Rattle.csa_cutting.specs.PieceCutting.{Follows, mark_of}
 use Rattle.csa_cutting.specs.Places.{IsPart, IsFoundIn, Passes, PassesTo, begins, open_of}
 use Rattle.csa_cutting.specs.declared.units.Place.{Place}
+use Rattle.csa_cutting.specs.declared.units.Found.TheVariants.{LeadsTo}
 use Rattle.csa_cutting.specs.declared.units.Place.TheVariants.{Mark, Gap, Unit as InUnit, Comment}
 use Rattle.csa_cutting.proofs.Fronts.{passes, weaker, turned_true, turned_false, ends_before, unit_front, length_between}
 use Rattle.csa_cutting.proofs.LineCutting.{all_joined}
@@ -79,7 +80,7 @@ comment_line : (piece : List ℕ) (n : ℕ) → n ≡ position_or_len (is_end 39
 comment_line piece n e = rest_unit (39 ∷ []) piece 39 n (refl, tt, tt) refl e
 
 -- the whole piece in a comment
-pub found_in_comment : (held piece : List ℕ) (n : ℕ) → held ≡ [] → n ≡ position_or_len (is_end 39) piece → n ≡ length piece → IsFoundIn Comment held piece 0 (Err Comment)
+pub found_in_comment : (held piece : List ℕ) (n : ℕ) → held ≡ [] → n ≡ position_or_len (is_end 39) piece → n ≡ length piece → IsFoundIn Comment held piece 0 (LeadsTo Comment)
 found_in_comment held piece n none e all =
     let whole : take n piece ≡ piece = rw all (take-length piece) in
     let rest : drop n piece ≡ [] = rw all (drop-length piece) in

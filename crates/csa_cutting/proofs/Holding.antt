@@ -1,5 +1,5 @@
 -- What a cutter of pieces holds after a step.
-use Rattle.std.proofs.Common.{◌≡◌, ℕ, zero, suc, ◌<◌, ◌≤◌, false, List, [], ◌++◌, length, take, Option, Some, None, MatchOption, IfSome, if◌then◌else◌, Err, arith, refl, ap, ◌∙◌, ◌+◌, IsSome}
+use Rattle.std.proofs.Common.{◌≡◌, ℕ, zero, suc, ◌<◌, ◌≤◌, false, List, [], ◌++◌, length, take, Option, Some, None, MatchOption, IfSome, if◌then◌else◌, arith, refl, ap, ◌∙◌, ◌+◌, IsSome}
 use Rattle.std.proofs.lemmas.Bool.{false≢true}
 use Rattle.csa_cutting.specs.Cut.{begins_with, byte_order_mark, statement_bytes}
 use Rattle.csa_cutting.specs.PieceCutting.{PieceCutting, held_of}
@@ -8,6 +8,7 @@ use Rattle.csa_cutting.specs.PieceSteps.{HoldsAfter, IsUsed}
 use Rattle.csa_cutting.specs.declared.piece.Cut.{Cut}
 use Rattle.csa_cutting.specs.declared.cutter.Statement.{Statement}
 use Rattle.csa_cutting.specs.declared.units.Place.{Place}
+use Rattle.csa_cutting.specs.declared.units.Found.TheVariants.{LeadsTo}
 use Rattle.csa_cutting.specs.declared.units.Place.TheVariants.{Mark, Gap, Unit as InUnit, Comment}
 
 mark_quiet : (k : ℕ) → begins_with 39 (take k byte_order_mark) ≡ false
@@ -21,7 +22,7 @@ used_by P Q (Some s) some q = q
 pub held_whole : (unfinished : List ℕ) → begins_with 39 unfinished ≡ false → unfinished ≡ held_of unfinished
 held_whole unfinished quiet = rw quiet refl
 
-pub held_found : (place after : Place) (held other piece : List ℕ) → other ≡ (if begins after then held ++ piece else []) → IsFoundIn place held piece 0 (Err after) → other ≡ held_of (open_of after other)
+pub held_found : (place after : Place) (held other piece : List ℕ) → other ≡ (if begins after then held ++ piece else []) → IsFoundIn place held piece 0 (LeadsTo after) → other ≡ held_of (open_of after other)
 held_found place Mark held other piece o h =
     let whole : other ≡ take (length held + length piece) byte_order_mark = o ∙ h.2 in
     held_whole other (ap (begins_with 39) whole ∙ mark_quiet (length held + length piece))

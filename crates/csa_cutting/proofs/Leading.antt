@@ -1,5 +1,5 @@
 -- What a step of a cutter of pieces leads to.
-use Rattle.std.proofs.Common.{◌≡◌, ℕ, zero, suc, ◌+◌, ◌-◌, ◌<◌, ◌≤◌, ◌==◌, ◌||◌, ◌&&◌, Bool, true, false, not, nat_lt, List, [], ◌∷◌, ◌++◌, filter, length, take, drop, get_or, slice_range, length-append, append_assoc, append-nil, Option, Some, None, IsSome, IfSome, if◌then◌else◌, Err, arith, refl, sym, ap, ◌∙◌, subst}
+use Rattle.std.proofs.Common.{◌≡◌, ℕ, zero, suc, ◌+◌, ◌-◌, ◌<◌, ◌≤◌, ◌==◌, ◌||◌, ◌&&◌, Bool, true, false, not, nat_lt, List, [], ◌∷◌, ◌++◌, filter, length, take, drop, get_or, slice_range, length-append, append_assoc, append-nil, Option, Some, None, IsSome, IfSome, if◌then◌else◌, arith, refl, sym, ap, ◌∙◌, subst}
 use Rattle.std.proofs.lemmas.Bool.{false≢true}
 use Rattle.std.proofs.lemmas.Bool.Decides.{nat_tests}
 use Rattle.std.proofs.lemmas.List.{length-take-le}
@@ -11,6 +11,7 @@ use Rattle.csa_cutting.specs.Places.{IsPart, IsFoundIn, Passes, begins, open_of,
 use Rattle.csa_cutting.specs.PieceSteps.{Used, IsTooLongAt}
 use Rattle.csa_cutting.specs.declared.cutter.Statement.{Statement}
 use Rattle.csa_cutting.specs.declared.units.Place.{Place}
+use Rattle.csa_cutting.specs.declared.units.Found.TheVariants.{LeadsTo}
 use Rattle.csa_cutting.specs.declared.units.Place.TheVariants.{Mark, Gap, Unit as InUnit, Comment}
 use Rattle.csa_cutting.proofs.Runs.{no_statements, statement_first, found}
 use Rattle.csa_cutting.proofs.LineCutting.{length_range, nothing}
@@ -31,7 +32,7 @@ comment_alone o = behind_comment o (39 ∷ []) [] [] (refl, tt, tt) refl (nothin
 pub to_whole : (b : Bool) (fed : ℕ) (held text : List ℕ) (others : List TextUnit) → Follows b fed held (text ++ []) others → Follows b fed held text others
 to_whole b fed held text others s = subst (λ t. Follows b fed held t others) (append-nil text) s
 
-pub leads_to_gap : (place : Place) (held other piece : List ℕ) (fed number : ℕ) → IsFoundIn place held piece 0 (Err Gap) → length (open_of place held) ≤ fed → Leads (seen place held fed number None) piece [] (seen Gap other (fed + length piece) number None)
+pub leads_to_gap : (place : Place) (held other piece : List ℕ) (fed number : ℕ) → IsFoundIn place held piece 0 (LeadsTo Gap) → length (open_of place held) ≤ fed → Leads (seen place held fed number None) piece [] (seen Gap other (fed + length piece) number None)
 leads_to_gap place held other piece fed number h few =
     let o = fed + length piece - 0 in
     record {
@@ -42,7 +43,7 @@ leads_to_gap place held other piece fed number h few =
       going = refl;
     }
 
-pub leads_to_comment : (place : Place) (held piece : List ℕ) (fed number : ℕ) → IsFoundIn place held piece 0 (Err Comment) → length (open_of place held) ≤ fed → Leads (seen place held fed number None) piece [] (seen Comment [] (fed + length piece) number None)
+pub leads_to_comment : (place : Place) (held piece : List ℕ) (fed number : ℕ) → IsFoundIn place held piece 0 (LeadsTo Comment) → length (open_of place held) ≤ fed → Leads (seen place held fed number None) piece [] (seen Comment [] (fed + length piece) number None)
 leads_to_comment place held piece fed number h few =
     let o = fed + length piece - 1 in
     record {
@@ -234,13 +235,13 @@ mark_lead place held other piece fed number is_mark o less same all =
     let count : fed ≡ length held = all begun in
     rw (is_mark, o, count) (leads_to_mark held piece number less same)
 
-default_lead : (place after : Place) (held other piece : List ℕ) (fed number : ℕ) → other ≡ (if begins after then held ++ piece else []) → IsFoundIn place held piece 0 (Err after) → length (open_of place held) ≤ fed → (begins place ≡ true → fed ≡ length held) → Leads (seen place held fed number None) piece [] (seen after other (fed + length piece) number None)
+default_lead : (place after : Place) (held other piece : List ℕ) (fed number : ℕ) → other ≡ (if begins after then held ++ piece else []) → IsFoundIn place held piece 0 (LeadsTo after) → length (open_of place held) ≤ fed → (begins place ≡ true → fed ≡ length held) → Leads (seen place held fed number None) piece [] (seen after other (fed + length piece) number None)
 default_lead place Mark held other piece fed number o h few same = mark_lead place held other piece fed number h.0 o h.1 h.2 same
 default_lead place Gap held other piece fed number o h few same = leads_to_gap place held other piece fed number h few
 default_lead place InUnit held other piece fed number o h few same = absurd h
 default_lead place Comment held other piece fed number o h few same = rw o (leads_to_comment place held piece fed number h few)
 
-pub default_step : (now : PieceCutting) (place after : Place) (held other piece : List ℕ) (fed number : ℕ) (refused : Option ℕ) → seen place held fed number refused ≡ now → refused ≡ None → other ≡ (if begins after then held ++ piece else []) → IsFoundIn place held piece 0 (Err after) → length (open_of place held) ≤ fed → (begins place ≡ true → fed ≡ length held) → (now.refused ≡ None) × Leads now piece [] (seen after other (fed + length piece) number refused)
+pub default_step : (now : PieceCutting) (place after : Place) (held other piece : List ℕ) (fed number : ℕ) (refused : Option ℕ) → seen place held fed number refused ≡ now → refused ≡ None → other ≡ (if begins after then held ++ piece else []) → IsFoundIn place held piece 0 (LeadsTo after) → length (open_of place held) ≤ fed → (begins place ≡ true → fed ≡ length held) → (now.refused ≡ None) × Leads now piece [] (seen after other (fed + length piece) number refused)
 default_step now place after held other piece fed number refused view none o h few same =
     rw (← view, none) (refl, default_lead place after held other piece fed number o h few same)
 
@@ -281,7 +282,7 @@ pub kept_most : (goes_on : Bool) (held : List ℕ) → length (kept_of goes_on h
 kept_most true held = omega arith
 kept_most false held = omega arith
 
-pub mark_room : (place after : Place) (held piece : List ℕ) → IsFoundIn place held piece 0 (Err after) → begins after ≡ true → length held + length piece ≤ 4096
+pub mark_room : (place after : Place) (held piece : List ℕ) → IsFoundIn place held piece 0 (LeadsTo after) → begins after ≡ true → length held + length piece ≤ 4096
 mark_room place Mark held piece h t = omega (arith, h.1)
 mark_room place Gap held piece h t = absurd (false≢true t)
 mark_room place InUnit held piece h t = absurd h

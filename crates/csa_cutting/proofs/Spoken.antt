@@ -1,12 +1,10 @@
 -- The first statement of a source, by what it holds as a piece.
-use Rattle.std.proofs.Common.{◌≡◌, ℕ, ◌+◌, ◌-◌, ◌<◌, not, Bool, true, false, List, [], ◌∷◌, ◌++◌, length, drop, slice_range, sym, Some, None, Ok, Err, arith, refl, ap, subst}
+use Rattle.std.proofs.Common.{◌≡◌, ℕ, ◌+◌, ◌-◌, ◌<◌, not, Bool, true, false, List, [], ◌∷◌, ◌++◌, length, drop, slice_range, sym, arith, refl, ap, subst}
 use Rattle.csa_cutting.specs.Cut.{TextUnit, Statements}
 use Rattle.csa_cutting.specs.Cutting.{IsStatementUnit, IsFirstStatement, unit_between}
 use Rattle.csa_cutting.specs.PieceCutting.{Follows}
 use Rattle.csa_cutting.specs.Places.{IsPart, IsFoundIn, kept_of}
-use Rattle.std.specs.Prelude.{Result}
-use Rattle.std.specs.Result.{result_ok}
-use Rattle.csa_cutting.specs.declared.units.Part.{Part}
+use Rattle.csa_cutting.specs.declared.units.Found.TheVariants.{LeadsTo}
 use Rattle.csa_cutting.specs.declared.units.Place.{Place}
 use Rattle.csa_cutting.specs.declared.units.Place.TheVariants.{Mark, Gap, Unit as InUnit, Comment}
 use Rattle.std.proofs.lemmas.List.Folds.{drop_split}
@@ -24,7 +22,7 @@ none_kept false = refl
 from_gap : (source : List ℕ) (from : ℕ) (others : List TextUnit) → Follows false from [] (drop from source) others → Statements from (drop from source) others
 from_gap source from others s = statements_at (from - 0 + 0) from _ others (omega arith) s
 
-first_statement : (source : List ℕ) (from start end : ℕ) (goes_on : Bool) → IsPart Gap [] source from goes_on start end → IsFirstStatement source from start end
+pub first_statement : (source : List ℕ) (from start end : ℕ) (goes_on : Bool) → IsPart Gap [] source from goes_on start end → IsFirstStatement source from start end
 first_statement source from start end goes_on p =
     let front = slice_range source from (end + 1) in
     let unit = slice_range source start (end + 1) in
@@ -61,20 +59,11 @@ told_first source from start end others h s =
     h.first (unit_between source start end ∷ others) (statements_of start _ _ _ (sym (drop_split source start end unit.order))
     (statement_first start (slice_range source start end ++ behind) (unit_between source start end) behind others next (ap not unit.spoken) (statements_at end _ _ others (omega arith) s)))
 
-none_spoken : (source : List ℕ) (from : ℕ) (place : Place) → IsFoundIn Gap [] source from (Err place) → Statements from (drop from source) []
+-- where the source holds no unit of a statement, it tells none
+pub none_spoken : (source : List ℕ) (from : ℕ) (place : Place) → IsFoundIn Gap [] source from (LeadsTo place) → Statements from (drop from source) []
 none_spoken source from Mark h = let e = h.0 in cc
 none_spoken source from InUnit h = absurd h
 none_spoken source from Gap h =
     from_gap source from [] (to_whole false from [] (drop from source) [] (h from [] [] (omega arith) (nothing_left _)))
 none_spoken source from Comment h =
     from_gap source from [] (to_whole false from [] (drop from source) [] (h.1 from [] [] (omega arith) (comment_alone _)))
-
-pub found_spoken : (source : List ℕ) (from : ℕ) (found : Result Part Place) (part : Part) → IsFoundIn Gap [] source from found → Some part ≡ result_ok found → IsFirstStatement source from part.start part.end
-found_spoken source from (Ok p) part h e =
-    let same : p ≡ part = cc in
-    subst (λ (q : Part). IsFirstStatement source from q.start q.end) same (first_statement source from p.start p.end p.goes_on h)
-found_spoken source from (Err place) part h e = cc
-
-pub none_found : (source : List ℕ) (from : ℕ) (found : Result Part Place) → IsFoundIn Gap [] source from found → None ≡ result_ok found → Statements from (drop from source) []
-none_found source from (Ok part) h e = cc
-none_found source from (Err place) h e = none_spoken source from place h

@@ -1,8 +1,6 @@
 -- Comments that stand one behind another, each on a line of its own, and how the line end behind them is found.
 -- These are definitions for private helpers; a reader of the contracts may skip them.
-use Rattle.std.specs.Prelude.{◌≡◌, ◌⊎◌, ℕ, ◌+◌, ◌-◌, ◌<◌, ◌≤◌, true, false, List, [], ◌∷◌, length, drop, slice_index}
-use Rattle.std.specs.List.{prefix_len}
-use Rattle.csa_cutting.specs.Cut.{is_separator}
+use Rattle.std.specs.Prelude.{◌≡◌, ◌⊎◌, ℕ, ◌+◌, ◌<◌, ◌≤◌, true, false, List, [], ◌∷◌, length, drop, slice_index}
 use Rattle.csa_cutting.specs.Lines.{is_line_end}
 use Rattle.csa_cutting.specs.Places.{Passes, PassesTo}
 use Rattle.csa_cutting.specs.declared.units.Place.{Place}
@@ -14,13 +12,13 @@ IsLineEndAt bytes at = (at < length bytes) × (is_line_end (slice_index bytes at
 abbrev pub HasNoLineEndTo : List ℕ → ℕ → ℕ → Type 0
 HasNoLineEndTo bytes from to = (k : ℕ) → from ≤ k → k < to → is_line_end (slice_index bytes k) ≡ false
 
--- a line end begins at this place, and its last byte is there too or right behind
-abbrev pub IsLineEndTo : List ℕ → ℕ → ℕ → Type 0
-IsLineEndTo bytes at last = IsLineEndAt bytes at × ((last ≡ at) ⊎ ((last ≡ at + 1) × IsLineEndAt bytes last))
-
 -- CR, and LF behind it
 abbrev pub IsCrLf : List ℕ → ℕ → Type 0
 IsCrLf bytes at = (slice_index bytes at ≡ 13) × ((at + 1 < length bytes) × (slice_index bytes (at + 1) ≡ 10))
+
+-- a line end begins at this place, and its last byte is there too, or right behind, of CR and LF
+abbrev pub IsLineEndTo : List ℕ → ℕ → ℕ → Type 0
+IsLineEndTo bytes at last = IsLineEndAt bytes at × ((last ≡ at) ⊎ ((last ≡ at + 1) × IsCrLf bytes at))
 
 -- right behind each byte of a line end, from one place on up to another, stands a comment or one more of them
 abbrev pub CommentsFollow : List ℕ → ℕ → ℕ → Type 0
@@ -39,19 +37,13 @@ pub record IsPast (bytes : List ℕ) (from to : ℕ) : Type 0 where
 abbrev pub IsOpenToEnd : Place → List ℕ → List ℕ → ℕ → Type 0
 IsOpenToEnd place held piece front = Passes place held (drop front piece) (39 ∷ [])
 
--- the piece leads into a comment that goes on at this place: so to the first line end from there on, and to the end of
--- the piece where it has none
+-- the piece leads into a comment that goes on at this place, or to a line end there: so to the first line end from there
+-- on, and to the end of the piece where it has none
 pub record LeadsOn (place : Place) (held piece : List ℕ) (front at : ℕ) : Type 0 where
   pub ended : (end : ℕ) → at ≤ end → HasNoLineEndTo piece at end → IsLineEndAt piece end → PassesTo place held piece front end
   pub onward : HasNoLineEndTo piece at (length piece) → IsOpenToEnd place held piece front
 
--- the next byte that is no separator
-pub record IsNextStart (bytes : List ℕ) (from start : ℕ) : Type 0 where
-  pub order : from ≤ start
-  pub within : start < length bytes
-  pub gap : start - from ≡ prefix_len is_separator (drop from bytes)
-
--- how many bytes are looked at in one step
+-- how many bytes a stretch has
 abbrev pub stretch : ℕ
 stretch = 512
 
@@ -61,10 +53,9 @@ abbrev pub LowFollowed : List ℕ → ℕ → ℕ → Type 0
 LowFollowed bytes from to =
     (k : ℕ) → from ≤ k → k < to → (10 ≤ slice_index bytes k) × ((31 ≤ slice_index bytes k) ⊎ ((slice_index bytes (k + 1) ≡ 39) ⊎ (slice_index bytes (k + 1) ≤ 10)))
 
--- sixteen lanes of each
-abbrev pub IsLeast : List ℕ → List ℕ → Type 0
-IsLeast all followed = (length all ≡ 16) × (length followed ≡ 16)
+abbrev pub HaveSixteenLanes : List ℕ → List ℕ → Type 0
+HaveSixteenLanes least followed = (length least ≡ 16) × (length followed ≡ 16)
 
 -- none of the one is below LF, and none of the other below 31
 abbrev pub AreHigh : List ℕ → List ℕ → Type 0
-AreHigh all followed = (k : ℕ) → k < 16 → (10 ≤ slice_index all k) × (31 ≤ slice_index followed k)
+AreHigh least followed = (k : ℕ) → k < 16 → (10 ≤ slice_index least k) × (31 ≤ slice_index followed k)

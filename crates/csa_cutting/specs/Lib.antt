@@ -6,5 +6,6 @@ pub mod LineCutting
 pub mod PieceCutting
 pub mod PieceSteps
 pub mod Places
+pub mod Starts
 pub mod TooLong
 pub mod WholeRun

@@ -1,10 +1,11 @@
 -- Where a cutter of pieces stands, and what it holds.
 -- These are definitions for private helpers, and for how the private fields of `PieceCutter` make its view; a reader of the contracts may skip them.
-use Rattle.std.specs.Prelude.{◌≡◌, ℕ, ◌+◌, ◌-◌, ◌^◌, not, ◌<◌, ◌≤◌, ◌==◌, ◌⊎◌, if◌then◌else◌, Bool, true, false, List, [], ◌∷◌, ◌++◌, length, take, drop, slice_range, Result, Ok, Err}
+use Rattle.std.specs.Prelude.{◌≡◌, ℕ, ◌+◌, ◌-◌, ◌^◌, not, ◌<◌, ◌≤◌, ◌==◌, ◌⊎◌, if◌then◌else◌, Bool, true, false, List, [], ◌∷◌, ◌++◌, length, take, drop, slice_range}
 use Rattle.csa_cutting.specs.Cut.{TextUnit, Statements, IsUnit, byte_order_mark, begins_with, longest_statement}
 use Rattle.csa_cutting.specs.Cutting.{IsStatementUnit}
 use Rattle.csa_cutting.specs.PieceCutting.{Follows}
-use Rattle.csa_cutting.specs.declared.units.Part.{Part}
+use Rattle.csa_cutting.specs.declared.units.Found.{Found}
+use Rattle.csa_cutting.specs.declared.units.Found.TheVariants.{Part, LeadsTo}
 use Rattle.csa_cutting.specs.declared.units.Place.{Place}
 use Rattle.csa_cutting.specs.declared.units.Place.TheVariants.{Mark, Gap, Unit as InUnit, Comment}
 
@@ -55,13 +56,13 @@ pub record IsPart (place : Place) (held piece : List ℕ) (from : ℕ) (goes_on 
   pub passed : Passes place held (slice_range piece from (end + 1)) (kept_of goes_on held ++ slice_range piece start (end + 1))
 
 -- what the piece from one place on holds next, a statement's unit, or where it leads to
-abbrev pub IsFoundIn : Place → List ℕ → List ℕ → ℕ → Result Part Place → Type 0
-IsFoundIn place held piece from (Err InUnit) = ⊥
-IsFoundIn place held piece from (Err Mark) =
+abbrev pub IsFoundIn : Place → List ℕ → List ℕ → ℕ → Found → Type 0
+IsFoundIn place held piece from (LeadsTo InUnit) = ⊥
+IsFoundIn place held piece from (LeadsTo Mark) =
     (place ≡ Mark) × (length held + length piece < 3) × (held ++ piece ≡ take (length held + length piece) byte_order_mark)
-IsFoundIn place held piece from (Err Gap) = Passes place held (drop from piece) []
-IsFoundIn place held piece from (Err Comment) = ((place ≡ Comment) ⊎ (0 < length piece)) × Passes place held (drop from piece) (39 ∷ [])
-IsFoundIn place held piece from (Ok part) = IsPart place held piece from part.goes_on part.start part.end
+IsFoundIn place held piece from (LeadsTo Gap) = Passes place held (drop from piece) []
+IsFoundIn place held piece from (LeadsTo Comment) = ((place ≡ Comment) ⊎ (0 < length piece)) × Passes place held (drop from piece) (39 ∷ [])
+IsFoundIn place held piece from (Part part) = IsPart place held piece from part.goes_on part.start part.end
 
 -- a statement's unit, or what may become one, is unfinished
 abbrev pub has_unit : Place → List ℕ → Bool

@@ -1,7 +1,7 @@
 //! Comments, and those that follow right behind the end of a comment's line: where they end.
 
 ghost use Rattle.std.specs.Prelude.{◌≡◌, ◌⊎◌, ℕ, List, ◌+◌, ◌*◌, ◌<◌, ◌≤◌, true, length, slice_index, IfSome, MatchOption};
-ghost use Rattle.csa_cutting.specs.Comments.{AreHigh, CommentsFollow, IsCrLf, IsLeast, IsLineEndAt, IsLineEndTo, IsOpenToEnd, IsPast, LeadsOn, LowFollowed, stretch};
+ghost use Rattle.csa_cutting.specs.Comments.{AreHigh, CommentsFollow, HaveSixteenLanes, IsCrLf, IsLineEndAt, IsLineEndTo, IsOpenToEnd, IsPast, LeadsOn, LowFollowed, stretch};
 ghost use Rattle.csa_cutting.specs.Places.{PassesTo};
 ghost use Rattle.csa_cutting.specs.declared.units.Place.{Place};
 ghost use Rattle.std.specs.Simd.Lanes.{chunk};
@@ -20,14 +20,16 @@ const STRETCHES: usize = 8;
 // How many comments are gone through line by line before stretches are tried.
 const LINES: u32 = 4;
 
-// The lesser line end, and a byte above both.
+// The lesser of the two bytes that end lines, and a bound above both: what `high_comments` makes of the
+// apostrophe.
 const LF: u8 = b'\n';
 
-const ABOVE_LINE_ENDS: u8 = 31;
+const HIGH: u8 = 31;
 
-// The last byte of the line end behind the comment that goes on here, or behind the last of those that
-// follow it, each right behind a line end. None where that one goes on to the end of the piece. Stretches
-// are tried behind each fourth comment that is gone through line by line.
+// Where the comment that goes on here and those that follow it end: the last byte of a line end up to
+// which nothing stands but comments and line ends, and right behind which no comment begins. None where
+// the last of them goes on to the end of the piece. Stretches are tried behind each fourth comment that is
+// gone through line by line.
 #[inline(never)]
 pub(crate) fn comments_end(piece: &[u8], from: usize) -> Option<usize>
     requires { from ≤ length piece.now }
@@ -42,7 +44,7 @@ pub(crate) fn comments_end(piece: &[u8], from: usize) -> Option<usize>
         if end == piece.len() {
             return None;
         }
-        let last = line_end_last(piece, end);
+        let last = whole_line_end(piece, end);
         if last + 1 == piece.len() || piece[last + 1] != COMMENT {
             return Some(last);
         }
@@ -55,7 +57,8 @@ pub(crate) fn comments_end(piece: &[u8], from: usize) -> Option<usize>
     }
 }
 
-// The same where the piece begins in a comment. Stretches are tried at once.
+// The same where at the first byte of the piece a comment goes on or begins, or a line ends. Stretches are
+// tried at once.
 #[inline(always)]
 pub(crate) fn begun_comments_end(piece: &[u8]) -> Option<usize>
     ensures within { IfSome result (λ end. end < length piece.now) }
@@ -66,13 +69,13 @@ pub(crate) fn begun_comments_end(piece: &[u8]) -> Option<usize>
     if at + 1 < piece.len() {
         comments_end(piece, at)
     } else {
-        last_line_end(piece, at)
+        end_in_last_byte(piece, at)
     }
 }
 
-// The place where the comment that goes on here ends, if the last byte of the piece ends it.
+// The same from the last byte of the piece on, or from its end: that byte where it ends a line, else None.
 #[inline(always)]
-fn last_line_end(piece: &[u8], from: usize) -> Option<usize>
+fn end_in_last_byte(piece: &[u8], from: usize) -> Option<usize>
     requires from { from ≤ length piece.now }
     requires last { length piece.now ≤ from + 1 }
     ensures within { IfSome result (λ end. end < length piece.now) }
@@ -87,7 +90,7 @@ fn last_line_end(piece: &[u8], from: usize) -> Option<usize>
 }
 
 // The last byte of the line end that begins at this place: of CR and LF the LF.
-fn line_end_last(piece: &[u8], at: usize) -> usize
+fn whole_line_end(piece: &[u8], at: usize) -> usize
     requires { IsLineEndAt piece.now at }
     ensures last { IsLineEndTo piece.now at result }
     ensures both { IsCrLf piece.now at → result ≡ at + 1 }
@@ -99,8 +102,8 @@ fn line_end_last(piece: &[u8], at: usize) -> usize
     }
 }
 
-// A place up to which nothing stands but comments and line ends, where `from` is in a comment: as far as
-// stretches have nothing else in them.
+// A place up to which nothing stands but comments and line ends, where a comment goes on at `from`: as far
+// as stretches show it.
 #[inline(never)]
 fn past_comments(piece: &[u8], from: usize) -> usize
     requires { from ≤ length piece.now }
@@ -116,21 +119,20 @@ fn past_comments(piece: &[u8], from: usize) -> usize
     past_single_stretches(piece, at)
 }
 
-// The same, by as many stretches at a time as are left, but at most eight. The first of them may begin
-// before what is left, so that the last ends at the last byte of the piece.
+// The same, by as many stretches at a time as reach the last byte of the piece, but at most eight. Those
+// that reach it are laid so that they end right before it; the first of them may begin before what was
+// already passed.
 #[inline(always)]
 fn past_stretches(piece: &[u8], from: usize) -> usize
-    requires { from ≤ length piece.now }
+    requires within { from ≤ length piece.now }
+    requires behind { stretch ≤ from }
     ensures { IsPast piece.now from result }
 {
     let mut at = from;
     while at + 1 < piece.len() {
         let last = piece.len() - 1;
-        let count = (last - at).div_ceil(STRETCH).min(STRETCHES);
-        let Some(latest) = last.checked_sub(count * STRETCH) else {
-            break;
-        };
-        let start = at.min(latest);
+        let count = ((last - at) / STRETCH + 1).min(STRETCHES);
+        let start = at.min(last - count * STRETCH);
         if !comments_follow(piece, start, count) {
             break;
         }
@@ -140,7 +142,7 @@ fn past_stretches(piece: &[u8], from: usize) -> usize
 }
 
 // The same, by one stretch at a time.
-#[inline(always)]
+#[inline(never)]
 fn past_single_stretches(piece: &[u8], from: usize) -> usize
     requires { from ≤ length piece.now }
     ensures { IsPast piece.now from result }
@@ -152,7 +154,7 @@ fn past_single_stretches(piece: &[u8], from: usize) -> usize
     at
 }
 
-// Whether a whole stretch stands here that is passed.
+// Whether a whole stretch and a byte behind it stand here, and comments follow its line ends.
 #[inline(always)]
 fn stretch_follows(piece: &[u8], at: usize) -> bool
     requires { at ≤ length piece.now }
@@ -161,79 +163,83 @@ fn stretch_follows(piece: &[u8], at: usize) -> bool
     piece.len() - at > STRETCH && comments_follow(piece, at, 1)
 }
 
-// Whether a comment or one more line end follows each line end of so many stretches from `at` on. False
-// too where a byte below LF stands there, as the tab, or another below 31 that neither follows.
+// Whether right behind each line end of so many stretches from `at` on stands a comment or one more line
+// end. False too where a byte below LF, as the tab, stands in them or right behind them, or CR behind a line
+// end, or another byte below 31 behind which neither a comment nor LF stands.
 #[inline(always)]
-fn comments_follow(text: &[u8], at: usize, count: usize) -> bool
-    requires { at + count * stretch < length text.now }
-    ensures { result ≡ true → CommentsFollow text.now at (at + count * stretch) }
+fn comments_follow(piece: &[u8], at: usize, count: usize) -> bool
+    requires { at + count * stretch < length piece.now }
+    ensures { result ≡ true → CommentsFollow piece.now at (at + count * stretch) }
 {
     let mut least = Least::new();
     for k in 0..count {
-        least = least.with_stretch(text, at + k * STRETCH);
+        least = least.with_stretch(piece, at + k * STRETCH);
     }
-    least.are_high() && text[at + count * STRETCH] >= LF
+    // what is below LF passes for a comment behind a line end, so it may not stand behind them either
+    least.are_high() && piece[at + count * STRETCH] >= LF
 }
 
-// The least of the bytes seen in each of sixteen lanes.
+// The least that was seen in each of sixteen lanes.
 #[derive(Clone, Copy)]
 struct Least {
-    all: u8x16,
-    // of those that no apostrophe, LF or lower byte follows
+    // of the bytes
+    bytes: u8x16,
+    // of the greater of each byte and what `high_comments` makes of the byte right behind it
     followed: u8x16,
 }
 
 impl Least {
     fn new() -> Least
-        ensures { IsLeast result.all result.followed }
+        ensures { HaveSixteenLanes result.bytes result.followed }
     {
         Least {
-            all: u8x16::splat(u8::MAX),
+            bytes: u8x16::splat(u8::MAX),
             followed: u8x16::splat(u8::MAX),
         }
     }
 
     #[inline(always)]
-    fn with_stretch(self, text: &[u8], at: usize) -> Least
-        requires room { at + stretch < length text.now }
-        requires long { IsLeast self.all self.followed }
-        ensures long { IsLeast result.all result.followed }
-        ensures high { AreHigh result.all result.followed → AreHigh self.all self.followed × LowFollowed text.now at (at + stretch) }
+    fn with_stretch(self, piece: &[u8], at: usize) -> Least
+        requires room { at + stretch < length piece.now }
+        requires long { HaveSixteenLanes self.bytes self.followed }
+        ensures long { HaveSixteenLanes result.bytes result.followed }
+        ensures high { AreHigh result.bytes result.followed → AreHigh self.bytes self.followed × LowFollowed piece.now at (at + stretch) }
     {
         let mut least = self;
         for k in 0..STRETCH / 16 {
-            least = least.with_sixteen(text, at + 16 * k);
+            least = least.with_sixteen(piece, at + 16 * k);
         }
         least
     }
 
     #[inline(always)]
-    fn with_sixteen(self, text: &[u8], at: usize) -> Least
-        requires room { at + 16 < length text.now }
-        requires long { IsLeast self.all self.followed }
-        ensures long { IsLeast result.all result.followed }
-        ensures high { AreHigh result.all result.followed → AreHigh self.all self.followed × LowFollowed text.now at (at + 16) }
+    fn with_sixteen(self, piece: &[u8], at: usize) -> Least
+        requires room { at + 16 < length piece.now }
+        requires long { HaveSixteenLanes self.bytes self.followed }
+        ensures long { HaveSixteenLanes result.bytes result.followed }
+        ensures high { AreHigh result.bytes result.followed → AreHigh self.bytes self.followed × LowFollowed piece.now at (at + 16) }
     {
-        let here = sixteen(text, at);
-        let followed = greater(here, high_comments(sixteen(text, at + 1)));
+        let here = sixteen(piece, at);
+        let followed = greater(here, high_comments(sixteen(piece, at + 1)));
         Least {
-            all: lesser(self.all, here),
+            bytes: lesser(self.bytes, here),
             followed: lesser(self.followed, followed),
         }
     }
 
-    // Whether none of all is below LF, and none below 31 without one of those behind it.
+    // Whether no byte was below LF, and none below 31 without a comment, LF or a lower byte behind it.
     #[inline(always)]
     fn are_high(self) -> bool
-        requires { IsLeast self.all self.followed }
-        ensures { result ≡ true → AreHigh self.all self.followed }
+        requires { HaveSixteenLanes self.bytes self.followed }
+        ensures { result ≡ true → AreHigh self.bytes self.followed }
     {
-        have_none_below(self.all, LF) && have_none_below(self.followed, ABOVE_LINE_ENDS)
+        have_none_below(self.bytes, LF) && have_none_below(self.followed, HIGH)
     }
 }
 
 // The lanes turned so that they are 31 and more for the apostrophe, LF and the bytes below LF alone. The sum
-// with 213, at most 255, is 252 for the apostrophe and 213 to 223 for LF and the bytes below it.
+// with 213, at most 255, is 213 to 223 up to LF, 252 for the apostrophe, and 224 to 251 or 253 to 255 for
+// all others; with the bits of 227 turned, these are 52 to 63, 31, and 0 to 30.
 #[inline(always)]
 fn high_comments(next: u8x16) -> u8x16
     ensures long { length result ≡ 16 }
@@ -248,11 +254,11 @@ fn high_comments(next: u8x16) -> u8x16
 
 // The 16 bytes from `at` on.
 #[inline(always)]
-fn sixteen(text: &[u8], at: usize) -> u8x16
-    requires { at + 16 ≤ length text.now }
-    ensures { result ≡ chunk at 16 text.now }
+fn sixteen(piece: &[u8], at: usize) -> u8x16
+    requires { at + 16 ≤ length piece.now }
+    ensures { result ≡ chunk at 16 piece.now }
 {
-    u8x16::from_slice(&text[at..])
+    u8x16::from_slice(&piece[at..])
 }
 
 // The lesser byte of each two lanes.

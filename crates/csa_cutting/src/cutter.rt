@@ -2,7 +2,7 @@ ghost use Rattle.std.specs.Prelude.{◌≡◌, ◌≤◌, ◌+◌, [], length, d
 ghost use Rattle.csa_cutting.specs.Cut.{Statements, mark_length, statement_bytes, longest_statement};
 ghost use Rattle.csa_cutting.specs.Cutting.{Cutting, ToCome, IfHandedOut, IsTooLong, IsFirstStatement};
 
-use crate::units::{BYTE_ORDER_MARK, first_in, handed_out};
+use crate::units::{BYTE_ORDER_MARK, Found, first_in, handed_out};
 use std::marker::Model;
 use thiserror::Error;
 
@@ -118,6 +118,8 @@ fn next_spoken(source: &[u8], from: usize) -> Option<(usize, usize)>
         (Statements from (drop from source.now) [])
         (λ r. IsFirstStatement source.now from r.0 r.1) }
 {
-    let unit = first_in(source, from).ok()?;
-    Some((unit.start, unit.end))
+    match first_in(source, from) {
+        Found::Part(unit) => Some((unit.start, unit.end)),
+        Found::LeadsTo(_) => None,
+    }
 }

@@ -12,7 +12,7 @@ ghost use Rattle.csa_cutting.specs.Places.{IsKept, IsFoundIn, IsHeld, begins, ke
 use crate::comments::{COMMENT, begun_comments_end};
 use crate::cutter::{CutFault, LONGEST_STATEMENT, Statement};
 use crate::line::is_line_end;
-use crate::units::{BYTE_ORDER_MARK, Part, Place, first_in, handed_out, unit_length};
+use crate::units::{BYTE_ORDER_MARK, Found, Part, Place, first_in, handed_out, unit_length};
 use arrayvec::ArrayVec;
 use std::marker::Model;
 
@@ -36,7 +36,8 @@ pub struct PieceCutter {
     fed: u64,
     number: u64,
     refused: Option<u64>,
-    // whether a piece began in a comment, and no statement has come since
+    // Whether a piece began in a comment, and no statement has begun or gone on since. For speed alone:
+    // with any value the answers are the same.
     among_comments: bool,
 }
 
@@ -109,8 +110,8 @@ impl PieceCutter {
         }
         let among_comments = self.among_comments || self.place == Place::Comment;
         let found = match found_in(self.place, self.held.as_slice(), piece, among_comments) {
-            Ok(found) => found,
-            Err(place) => {
+            Found::Part(found) => found,
+            Found::LeadsTo(place) => {
                 self.among_comments = among_comments;
                 self.place = place;
                 hold_mark(&mut self.held, place, piece);
@@ -251,15 +252,17 @@ fn hold(held: &mut ArrayVec<u8, LONGEST_STATEMENT>, part: &[u8])
 }
 
 // The statement's unit that the piece holds next, or where it leads to where it holds none.
-fn found_in(place: Place, held: &[u8], piece: &[u8], among_comments: bool) -> Result<Part, Place>
+fn found_in(place: Place, held: &[u8], piece: &[u8], among_comments: bool) -> Found
     requires { IsHeld place held.now }
     ensures { IsFoundIn place held.now piece.now 0 result }
 {
     match place {
         Place::Mark => found_in_mark(held, piece),
-        Place::Gap if among_comments && begins_as_comment(piece) => found_in_comment(piece),
+        Place::Gap if among_comments && begins_with_comment_or_line_end(piece) => found_in_comment(
+            piece,
+        ),
         Place::Gap => first_in(piece, 0),
-        Place::Unit => Ok(Part {
+        Place::Unit => Found::Part(Part {
             goes_on: true,
             start: 0,
             end: unit_length(held[0], piece),
@@ -268,28 +271,28 @@ fn found_in(place: Place, held: &[u8], piece: &[u8], among_comments: bool) -> Re
     }
 }
 
-// The same where a comment may go on at the first byte.
+// The same where at the first byte a comment goes on or begins, or a line ends.
 #[inline(always)]
-fn found_in_comment(piece: &[u8]) -> Result<Part, Place>
+fn found_in_comment(piece: &[u8]) -> Found
     ensures { (place : Place) (held : List ℕ) → (place ≡ Place.Comment) ⊎ (0 < length piece.now) → LeadsOn place held piece.now 0 0
         → IsFoundIn place held piece.now 0 result }
 {
     let Some(end) = begun_comments_end(piece) else {
-        return Err(Place::Comment);
+        return Found::LeadsTo(Place::Comment);
     };
     first_in(piece, end)
 }
 
-// Whether the piece begins with a comment or the end of a line, as where one goes on.
-fn begins_as_comment(piece: &[u8]) -> bool
+// Whether the piece begins with a comment or the end of a line.
+fn begins_with_comment_or_line_end(piece: &[u8]) -> bool
     ensures some { result ≡ true → 0 < length piece.now }
     ensures leads { result ≡ true → (held : List ℕ) → LeadsOn Place.Gap held piece.now 0 0 }
 {
     !piece.is_empty() && (piece[0] == COMMENT || is_line_end(piece[0]))
 }
 
-// The same where the bytes so far are of the byte order mark.
-fn found_in_mark(held: &[u8], piece: &[u8]) -> Result<Part, Place>
+// The same as `found_in`, where the bytes so far are of the byte order mark.
+fn found_in_mark(held: &[u8], piece: &[u8]) -> Found
     requires { IsHeld Place.Mark held.now }
     ensures { IsFoundIn Place.Mark held.now piece.now 0 result }
 {
@@ -297,14 +300,14 @@ fn found_in_mark(held: &[u8], piece: &[u8]) -> Result<Part, Place>
     if piece.starts_with(missing) {
         first_in(piece, missing.len())
     } else if missing.starts_with(piece) {
-        Err(Place::Mark)
-    } else if held.is_empty() && piece[0] != 0xEF {
+        Found::LeadsTo(Place::Mark)
+    } else if held.is_empty() && piece[0] != BYTE_ORDER_MARK[0] {
         first_in(piece, 0)
     } else {
-        Ok(Part {
+        Found::Part(Part {
             goes_on: true,
             start: 0,
-            end: unit_length(0xEF, piece),
+            end: unit_length(BYTE_ORDER_MARK[0], piece),
         })
     }
 }

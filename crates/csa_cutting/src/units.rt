@@ -3,7 +3,7 @@
 ghost use Rattle.std.specs.Prelude.{◌≡◌, ℕ, List, false, ◌≤◌, ◌<◌, length, drop, not, MatchOption};
 ghost use Rattle.std.specs.List.{position_or_len, prefix_len};
 ghost use Rattle.csa_cutting.specs.Cut.{IsGap, is_separator, is_blank, takes_line, is_end, statement_bytes, without_last_blanks};
-ghost use Rattle.csa_cutting.specs.Comments.{IsNextStart};
+ghost use Rattle.csa_cutting.specs.Starts.{IsNextStart};
 ghost use Rattle.csa_cutting.specs.Places.{IsFoundIn, PassesTo};
 
 use crate::comments::{COMMENT, comments_end};
@@ -37,10 +37,16 @@ pub(crate) struct Part {
     pub end: usize,
 }
 
-// The first statement's unit in the piece from here on, behind gaps and comments; or, where it holds
-// none, where the piece leads to.
+// What a piece holds next: a statement's unit, or none, and then it leads to this place.
+#[derive(Clone, Copy, Debug, PartialEq, Eq)]
+pub(crate) enum Found {
+    Part(Part),
+    LeadsTo(Place),
+}
+
+// The first statement's unit in the piece from here on, behind gaps and comments.
 #[inline(always)]
-pub(crate) fn first_in(piece: &[u8], from: usize) -> Result<Part, Place>
+pub(crate) fn first_in(piece: &[u8], from: usize) -> Found
     requires { from ≤ length piece.now }
     ensures { (place : Place) (held : List ℕ) (front : ℕ) → front ≤ from → PassesTo place held piece.now front from
         → IsFoundIn place held piece.now front result }
@@ -49,18 +55,18 @@ pub(crate) fn first_in(piece: &[u8], from: usize) -> Result<Part, Place>
     while let Some(start) = next_start(piece, at) {
         if piece[start] != COMMENT {
             let length = unit_length(piece[start], &piece[start + 1..]);
-            return Ok(Part {
+            return Found::Part(Part {
                 goes_on: false,
                 start,
                 end: start + 1 + length,
             });
         }
         let Some(end) = comments_end(piece, start + 1) else {
-            return Err(Place::Comment);
+            return Found::LeadsTo(Place::Comment);
         };
         at = end;
     }
-    Err(Place::Gap)
+    Found::LeadsTo(Place::Gap)
 }
 
 fn is_separator(b: u8) -> bool

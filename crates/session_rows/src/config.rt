@@ -27,12 +27,12 @@ fn login_word(text: Option<&str>) -> Result<ArrayString<32>>
 }
 
 /// The number that the text is, or an error.
-pub fn number(text: Option<&str>) -> Result<u32> {
+pub(crate) fn number(text: Option<&str>) -> Result<u32> {
     Ok(text.unwrap_or("").parse::<u32>()?)
 }
 
 /// A bridge, by its name, its password, and its total and its byoyomi in milliseconds.
-pub fn new_bridge(alloc: Global, words: &str) -> Result<Bridge> {
+pub(crate) fn new_bridge(alloc: Global, words: &str) -> Result<Bridge> {
     let mut words = words.split(' ');
     let config = Config {
         name: login_word(words.next())?,
@@ -44,7 +44,7 @@ pub fn new_bridge(alloc: Global, words: &str) -> Result<Bridge> {
 }
 
 /// A host, by the client's side, the most moves, the game's name and its own.
-pub fn new_host(alloc: Global, words: &str) -> Result<Host> {
+pub(crate) fn new_host(alloc: Global, words: &str) -> Result<Host> {
     let mut words = words.split(' ');
     let client = match words.next() {
         Some("black") => Color::Black,

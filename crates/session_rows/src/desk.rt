@@ -9,7 +9,7 @@ use std::io::Print;
 
 /// The machines of a script.
 #[derive(Drop)]
-pub struct Desk<'a> {
+pub(crate) struct Desk<'a> {
     pub alloc: Global,
     pub script: &'a str,
     /// The words of the last `bridge` and `host`.
@@ -25,7 +25,7 @@ pub struct Desk<'a> {
 
 /// Which events are printed.
 #[derive(Clone, Copy, Debug, PartialEq, Eq)]
-pub enum Shown {
+pub(crate) enum Shown {
     Every,
     Changes,
     Nothing,
@@ -36,7 +36,7 @@ const BRIDGE: &str = "bridge pw 600000 10000";
 const HOST: &str = "black 256 local host";
 
 impl<'a> Desk<'a> {
-    pub fn new(alloc: Global, script: &'a str) -> Result<Desk<'a>> {
+    pub(crate) fn new(alloc: Global, script: &'a str) -> Result<Desk<'a>> {
         Ok(Desk {
             alloc,
             script,
@@ -51,7 +51,7 @@ impl<'a> Desk<'a> {
     }
 
     /// Puts new machines in the place of these.
-    pub fn renew(&mut self) -> Result<()> {
+    pub(crate) fn renew(&mut self) -> Result<()> {
         self.bridge = new_bridge(self.alloc, self.bridge_words)?;
         self.host = new_host(self.alloc, self.host_words)?;
         self.sample = Sample::new(self.alloc);
@@ -60,7 +60,7 @@ impl<'a> Desk<'a> {
     }
 
     /// The lines of the list of that name.
-    pub fn list(&self, name: &str) -> Result<Vec<&'a str>> {
+    pub(crate) fn list(&self, name: &str) -> Result<Vec<&'a str>> {
         let mut lines = Vec::new(self.alloc);
         let mut is_inside = false;
         for line in self.script.split('\n') {
@@ -78,7 +78,7 @@ impl<'a> Desk<'a> {
 }
 
 /// Hands the event of the line to the machine that it names, and prints what comes of it.
-pub fn hand<R: Print>(rt: &R, desk: &mut Desk<'_>, line: &str, shown: Shown) -> Result<()> {
+pub(crate) fn hand<R: Print>(rt: &R, desk: &mut Desk<'_>, line: &str, shown: Shown) -> Result<()> {
     let bytes = unescape(desk.alloc, line)?;
     if let Some(rest) = bytes.as_slice().strip_prefix(b"sample:".as_slice()) {
         let out = desk.sample.step(rest)?;
@@ -160,7 +160,7 @@ fn print_out<R: Print>(rt: &R, out: &Out) -> Result<()> {
 }
 
 /// Prints how the bridge stands, behind its status.
-pub fn print_state<R: Print>(rt: &R, bridge: &Bridge) -> Result<()> {
+pub(crate) fn print_state<R: Print>(rt: &R, bridge: &Bridge) -> Result<()> {
     println!(rt;
         " {:?} {:?} {:?}{}",
         bridge.engine_state(),

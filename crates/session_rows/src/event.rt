@@ -8,7 +8,7 @@ use shogi_session::Event;
 use std::alloc::{AllocError, Global};
 
 /// The bytes of a text in which `\xNN` stands for a byte.
-pub fn unescape(alloc: Global, text: &str) -> Result<Vec<u8>, AllocError> {
+pub(crate) fn unescape(alloc: Global, text: &str) -> Result<Vec<u8>, AllocError> {
     let mut parts = text.split("\\x");
     let mut bytes = Vec::from_slice(alloc, parts.next().unwrap_or("").as_bytes())?;
     for part in parts {
@@ -26,7 +26,7 @@ fn is_line(line: &[u8]) -> bool
 }
 
 /// The event of those bytes, if they are one: `begin`, `engine:` or `server:` and a line, `ends` or `long`.
-pub fn read_event(bytes: &[u8]) -> Option<Event<'_>>
+pub(crate) fn read_event(bytes: &[u8]) -> Option<Event<'_>>
     ensures line { IfSome result (λ event. HoldsLine (event_of event)) }
 {
     if !is_line(bytes) {

@@ -11,7 +11,7 @@ const MOST_LINES: u32 = 100_000;
 
 /// Plays on, the engine with these answers one after another, until none is left or the session is over. Prints what the
 /// engine was told last, and how the bridge stands.
-pub fn play_on<R: Print>(rt: &R, desk: &mut Desk<'_>, answers: &str) -> Result<()> {
+pub(crate) fn play_on<R: Print>(rt: &R, desk: &mut Desk<'_>, answers: &str) -> Result<()> {
     exchange(desk, b"begin")?;
     let mut answers = answers.split(' ');
     for _ in 0..MOST_LINES {

@@ -7,7 +7,7 @@ use anyhow::Result;
 use std::io::Print;
 
 /// Obeys the lines of the script that stand in no list.
-pub fn obey_all<'a, R: Print>(rt: &R, desk: &mut Desk<'a>, script: &'a str) -> Result<()> {
+pub(crate) fn obey_all<'a, R: Print>(rt: &R, desk: &mut Desk<'a>, script: &'a str) -> Result<()> {
     let mut is_listed = false;
     for line in script.split('\n') {
         if line == "end" {

@@ -8,4 +8,4 @@ returns-then-at-piece-clause-passed c = λ place held on.
 
 pub returns-else-at-piece-clause-passed : goal.returns-else-at-piece-clause-passed
 returns-else-at-piece-clause-passed c = λ place held on.
-    c.last_line_end.ensures.passed place held (leads_along place held c.args.piece.now 0 0 c.past_comments-at.result (omega arith) c.past_comments-at.ensures on)
+    c.end_in_last_byte.ensures.passed place held (leads_along place held c.args.piece.now 0 0 c.past_comments-at.result (omega arith) c.past_comments-at.ensures on)

@@ -1,15 +1,15 @@
 use Rattle.std.proofs.Common.{[], arith}
 use Rattle.csa_cutting.specs.declared.units.Place.TheVariants.{Gap}
 use Rattle.csa_cutting.proofs.Finding.{passes_gap}
-use Rattle.csa_cutting.proofs.Spoken.{found_spoken, none_found}
+use Rattle.csa_cutting.proofs.Spoken.{first_statement, none_spoken}
 use Rattle.csa_cutting.proofs.cutter.next_spoken.Goals as goal
 
-pub returns-in_err-unit : goal.returns-in_err-unit
-returns-in_err-unit c =
+pub returns-in-Part : goal.returns-in-Part
+returns-in-Part c =
     let source = c.args.source.now in
-    rw c.from_residual.ensures (none_found source c.args.from c.first_in.result (c.first_in.ensures Gap [] c.args.from (omega arith) (passes_gap [] source c.args.from)) c.in_err-unit.ensures.value)
+    first_statement source c.args.from c.in-Part.unit.start c.in-Part.unit.end c.in-Part.unit.goes_on (c.in-Part.ensures Gap [] c.args.from (omega arith) (passes_gap [] source c.args.from))
 
-pub returns : goal.returns
-returns c =
+pub returns-in-LeadsTo : goal.returns-in-LeadsTo
+returns-in-LeadsTo c =
     let source = c.args.source.now in
-    found_spoken source c.args.from c.first_in.result c.in_ok-unit.unit (c.first_in.ensures Gap [] c.args.from (omega arith) (passes_gap [] source c.args.from)) c.in_ok-unit.ensures.value
+    none_spoken source c.args.from c.in-LeadsTo.field-0 (c.in-LeadsTo.ensures Gap [] c.args.from (omega arith) (passes_gap [] source c.args.from))

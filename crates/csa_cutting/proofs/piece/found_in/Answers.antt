@@ -7,8 +7,8 @@ use Rattle.csa_cutting.proofs.piece.found_in.Goals as goal
 
 pub returns-in-Gap : goal.returns-in-Gap
 returns-in-Gap c =
-    let begins = c.begins_as_comment.ensures in
-    let does = c.if-begins_as_comment.true in
+    let begins = c.begins_with_comment_or_line_end.ensures in
+    let does = c.if-begins_with_comment_or_line_end.true in
     rw c.in-Gap.is (c.found_in_comment.ensures Gap c.args.held.now (inr (begins.some does)) (begins.leads does c.args.held.now))
 
 pub returns-in-Gap-2 : goal.returns-in-Gap-2

@@ -18,7 +18,7 @@ returns-then-piece-start-ne-COMMENT c = λ place held front low p.
     let inside : start < length piece = c.in-Some.ensures.within in
     let unit : n ≡ position_or_len (is_end (get_or piece start 0)) (drop (start + 1) piece) =
     c.unit_length-length.ensures.value ∙ ap (position_or_len (is_end (get_or piece start 0))) (rest_of piece (start + 1)) in
-    unit_found place held piece front c.loop-start.at start (start + 1 + n) (omega (arith, low, i.order)) (i.passed place held front low p) (omega arith) (omega (arith, inside, c.unit_length-length.ensures.within, length-drop (start + 1) piece, ap length (rest_of piece (start + 1)))) (unit_behind piece c.loop-start.at start n c.in-Some.ensures unit) c.if-piece-start-ne-COMMENT.true
+    unit_found place held piece front c.loop-start.at start (start + 1 + n) (omega (arith, low, i.order)) (i.passed place held front low p) (omega arith) (omega (arith, inside, c.unit_length-length.ensures.within, length-drop (start + 1) piece, ap length (rest_of piece (start + 1)))) (unit_behind piece c.loop-start.at start n c.in-Some.ensures unit) (omega (arith, c.if-piece-start-ne-COMMENT.true))
 
 pub returns-in_default-comments_end : goal.returns-in_default-comments_end
 returns-in_default-comments_end c = λ place held front low p.

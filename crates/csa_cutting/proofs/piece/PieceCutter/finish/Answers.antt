@@ -1,4 +1,4 @@
-use Rattle.std.proofs.Common.{◌≡◌, ◌+◌, ◌-◌, true, false, refl, sym, ap, ◌∙◌}
+use Rattle.std.proofs.Common.{◌≡◌, ◌+◌, arith, true, false, refl, sym, ap, ◌∙◌}
 use Rattle.csa_cutting.specs.Cut.{statement_bytes}
 use Rattle.csa_cutting.specs.PieceCutting.{PieceCutting}
 use Rattle.csa_cutting.specs.Places.{has_unit}
@@ -17,6 +17,6 @@ returns c =
     let s = c.self.inside in
     let h : has_unit s.place s.held.items ≡ true = sym (c.is_unfinished-unfinished.ensures ∙ ap (has_unit s.place) c.as_slice.ensures.value) ∙ c.if-not-unfinished.false in
     let bytes : c.handed_out.result.now ≡ statement_bytes s.held.items = c.handed_out.ensures.value ∙ ap statement_bytes c.as_slice-2.ensures.value in
-    let done = one_left c.args.self.now s.place s.held.items s.fed s.number s.refused _ c.self.view_is c.in_default.is h c.self.invariant.2 c.self.invariant.1 refl (ap (λ n. s.fed - n) c.len.ensures.value) bytes in
+    let done = one_left c.args.self.now s.place s.held.items s.fed s.number s.refused _ c.self.view_is c.in_default.is h c.self.invariant.2 c.self.invariant.1 refl (omega (arith, c.len.ensures.value)) bytes in
     let numbered = ap (λ (v : PieceCutting). v.number + 1) c.self.view_is in
     ((refl, λ _. tt, done.2), record { number = numbered; going = done.0; last = done.1; fault = tt; place = tt; after = tt })

@@ -1,5 +1,6 @@
-use Rattle.std.proofs.Common.{◌≡◌, false, Err, [], ◌+◌, ◌-◌, ◌<◌, ◌≤◌, ◌++◌, length, slice_range, arith, refl, sym, ap, subst, ◌∙◌}
+use Rattle.std.proofs.Common.{◌≡◌, false, [], ◌+◌, ◌-◌, ◌<◌, ◌≤◌, ◌++◌, length, slice_range, arith, rules, refl, sym, ap, subst, ◌∙◌}
 use Rattle.csa_cutting.specs.Cut.{begins_with}
+use Rattle.csa_cutting.specs.declared.units.Found.TheVariants.{LeadsTo}
 use Rattle.csa_cutting.specs.declared.units.Place.TheVariants.{Gap}
 use Rattle.csa_cutting.specs.Places.{IsPart, IsFoundIn, kept_of}
 use Rattle.csa_cutting.proofs.Leading.{seen, default_step, unit_step, end_step, long_step, kept_size, kept_most, mark_room, all_in_piece, ended_told}
@@ -12,17 +13,17 @@ use Rattle.csa_cutting.proofs.piece.PieceCutter.step.Goals as goal
 pub hold_mark-requires : goal.hold_mark-requires
 hold_mark-requires c =
     let s = c.self.inside in
-    let h : IsFoundIn s.place s.held.items c.args.piece.now 0 (Err c.in-Err.place) = subst (λ xs. IsFoundIn s.place xs c.args.piece.now 0 (Err c.in-Err.place)) c.as_slice.ensures.value c.in-Err.ensures in
-    λ t. mark_room s.place c.in-Err.place s.held.items c.args.piece.now h t
+    let h : IsFoundIn s.place s.held.items c.args.piece.now 0 (LeadsTo c.in-LeadsTo.place) = subst (λ xs. IsFoundIn s.place xs c.args.piece.now 0 (LeadsTo c.in-LeadsTo.place)) c.as_slice.ensures.value c.in-LeadsTo.ensures in
+    λ t. mark_room s.place c.in-LeadsTo.place s.held.items c.args.piece.now h t
 
-pub returns-in-Err : goal.returns-in-Err
-returns-in-Err c =
+pub returns-in-LeadsTo : goal.returns-in-LeadsTo
+returns-in-LeadsTo c =
     let s = c.self.inside in
     let i = c.self.invariant in
-    let h : IsFoundIn s.place s.held.items c.args.piece.now 0 (Err c.in-Err.place) = subst (λ xs. IsFoundIn s.place xs c.args.piece.now 0 (Err c.in-Err.place)) c.as_slice.ensures.value c.in-Err.ensures in
-    let done = default_step c.args.self.now s.place c.in-Err.place s.held.items c.hold_mark.new.held.items c.args.piece.now s.fed s.number s.refused
+    let h : IsFoundIn s.place s.held.items c.args.piece.now 0 (LeadsTo c.in-LeadsTo.place) = subst (λ xs. IsFoundIn s.place xs c.args.piece.now 0 (LeadsTo c.in-LeadsTo.place)) c.as_slice.ensures.value c.in-LeadsTo.ensures in
+    let done = default_step c.args.self.now s.place c.in-LeadsTo.place s.held.items c.hold_mark.new.held.items c.args.piece.now s.fed s.number s.refused
     c.self.view_is c.in_default.is c.hold_mark.ensures h (omega (arith, i.0)) i.3 in
-    let held = held_found s.place c.in-Err.place s.held.items c.hold_mark.new.held.items c.args.piece.now c.hold_mark.ensures h in
+    let held = held_found s.place c.in-LeadsTo.place s.held.items c.hold_mark.new.held.items c.args.piece.now c.hold_mark.ensures h in
     let none = c.none_ended.ensures.statement in
     ((refl, λ _. tt, record { led = rw none (c.none_ended.ensures.used, done.1); held = rw none held; refused = tt }), record { used = rw none c.none_ended.ensures.used; number = rw none tt; lent = rw none tt; going = done.0; fault = tt; place = tt; after = tt })
 
@@ -30,24 +31,24 @@ pub returns-then-kept-part : goal.returns-then-kept-part
 returns-then-kept-part c =
     let s = c.self.inside in
     let i = c.self.invariant in
-    let p : IsPart s.place s.held.items c.args.piece.now 0 c.in-Ok.found.goes_on c.in-Ok.found.start c.in-Ok.found.end = rw c.as_slice.ensures.value at c.in-Ok.ensures in
-    let kept = kept_size c.in-Ok.found.goes_on s.held.items c.len.result c.kept_length-kept.result c.len.ensures.value c.kept_length-kept.ensures in
-    let size = length_range c.args.piece.now c.in-Ok.found.start c.in-Ok.found.end p.unit.within in
-    let place : s.fed + c.in-Ok.found.start - c.kept_length-kept.result ≡ s.fed + c.in-Ok.found.start - length (kept_of c.in-Ok.found.goes_on s.held.items) = ap (λ n. s.fed + c.in-Ok.found.start - n) kept in
-    let done = long_step c.args.self.now s.place s.held.items c.args.piece.now c.in-Ok.found.goes_on c.in-Ok.found.start c.in-Ok.found.end s.fed s.number _ s.refused
+    let p : IsPart s.place s.held.items c.args.piece.now 0 c.in-Part.found.goes_on c.in-Part.found.start c.in-Part.found.end = rw c.as_slice.ensures.value at c.in-Part.ensures in
+    let kept = kept_size c.in-Part.found.goes_on s.held.items c.len.result c.kept_length-kept.result c.len.ensures.value c.kept_length-kept.ensures in
+    let size = length_range c.args.piece.now c.in-Part.found.start c.in-Part.found.end p.unit.within in
+    let place : s.fed + c.in-Part.found.start - c.kept_length-kept.result ≡ s.fed + c.in-Part.found.start - length (kept_of c.in-Part.found.goes_on s.held.items) = ap (λ n. s.fed + c.in-Part.found.start - n) kept in
+    let done = long_step c.args.self.now s.place s.held.items c.args.piece.now c.in-Part.found.goes_on c.in-Part.found.start c.in-Part.found.end s.fed s.number _ s.refused
     c.self.view_is c.in_default.is p (omega (arith, i.0)) place (omega (arith, kept, size, c.if-kept-part.true)) in
     let numbered : s.number + 1 ≡ c.args.self.now.number + 1 = done.0 in
-    ((refl, λ _. tt, record { led = tt; held = tt; refused = done.2 }), record { used = tt; number = tt; lent = tt; going = tt; fault = numbered; place = done.1; after = tt })
+    ((refl, λ _. tt, record { led = tt; held = tt; refused = search rules }), record { used = tt; number = tt; lent = tt; going = tt; fault = numbered; place = done.1; after = tt })
 
 pub returns-then-end-piece : goal.returns-then-end-piece
 returns-then-end-piece c =
     let s = c.self.inside in
     let i = c.self.invariant in
     let piece = c.args.piece.now in
-    let goes_on = c.in-Ok.found.goes_on in
-    let start = c.in-Ok.found.start in
-    let end = c.in-Ok.found.end in
-    let p : IsPart s.place s.held.items piece 0 goes_on start end = rw c.as_slice.ensures.value at c.in-Ok.ensures in
+    let goes_on = c.in-Part.found.goes_on in
+    let start = c.in-Part.found.start in
+    let end = c.in-Part.found.end in
+    let p : IsPart s.place s.held.items piece 0 goes_on start end = rw c.as_slice.ensures.value at c.in-Part.ensures in
     let kept = kept_size goes_on s.held.items c.len.result c.kept_length-kept.result c.len.ensures.value c.kept_length-kept.ensures in
     let size = length_range piece start end p.unit.within in
     let most = kept_most goes_on s.held.items in
@@ -56,21 +57,22 @@ returns-then-end-piece c =
     let all : c.hold.new.held.items ≡ kept_of goes_on s.held.items ++ slice_range piece start end =
     c.hold.ensures ∙ ap (λ xs. xs ++ slice_range piece start end) left in
     let done = unit_step c.args.self.now s.place s.held.items c.hold.new.held.items piece goes_on start end s.fed s.number s.refused
-    c.self.view_is c.in_default.is p (omega (arith, i.0)) c.if-end-piece.true all few in
+    c.self.view_is c.in_default.is p (omega (arith, i.0)) (omega (arith, c.if-end-piece.true)) all few in
     let quiet : begins_with 39 c.hold.new.held.items ≡ false = ap (begins_with 39) all ∙ p.unit.spoken in
     let held = held_whole c.hold.new.held.items quiet in
     let none = c.none_ended-then-end-piece.ensures.statement in
-    ((refl, λ _. tt, record { led = rw none (c.none_ended-then-end-piece.ensures.used ∙ c.if-end-piece.true, done.1); held = rw none held; refused = tt }), record { used = rw none (c.none_ended-then-end-piece.ensures.used ∙ c.if-end-piece.true); number = rw none tt; lent = rw none tt; going = done.0; fault = tt; place = tt; after = tt })
+    let all_used : c.none_ended-then-end-piece.result.used ≡ length piece = omega (arith, c.none_ended-then-end-piece.ensures.used, c.if-end-piece.true) in
+    ((refl, λ _. tt, record { led = rw none (all_used, done.1); held = rw none held; refused = tt }), record { used = rw none all_used; number = rw none tt; lent = rw none tt; going = done.0; fault = tt; place = tt; after = tt })
 
 pub returns-then-is_empty : goal.returns-then-is_empty
 returns-then-is_empty c =
     let s = c.self.inside in
     let i = c.self.invariant in
     let piece = c.args.piece.now in
-    let goes_on = c.in-Ok.found.goes_on in
-    let start = c.in-Ok.found.start in
-    let end = c.in-Ok.found.end in
-    let p : IsPart s.place s.held.items piece 0 goes_on start end = rw c.as_slice.ensures.value at c.in-Ok.ensures in
+    let goes_on = c.in-Part.found.goes_on in
+    let start = c.in-Part.found.start in
+    let end = c.in-Part.found.end in
+    let p : IsPart s.place s.held.items piece 0 goes_on start end = rw c.as_slice.ensures.value at c.in-Part.ensures in
     let kept = kept_size goes_on s.held.items c.len.result c.kept_length-kept.result c.len.ensures.value c.kept_length-kept.ensures in
     let size = length_range piece start end p.unit.within in
     let most = kept_most goes_on s.held.items in
@@ -98,10 +100,10 @@ returns c =
     let s = c.self.inside in
     let i = c.self.invariant in
     let piece = c.args.piece.now in
-    let goes_on = c.in-Ok.found.goes_on in
-    let start = c.in-Ok.found.start in
-    let end = c.in-Ok.found.end in
-    let p : IsPart s.place s.held.items piece 0 goes_on start end = rw c.as_slice.ensures.value at c.in-Ok.ensures in
+    let goes_on = c.in-Part.found.goes_on in
+    let start = c.in-Part.found.start in
+    let end = c.in-Part.found.end in
+    let p : IsPart s.place s.held.items piece 0 goes_on start end = rw c.as_slice.ensures.value at c.in-Part.ensures in
     let kept = kept_size goes_on s.held.items c.len.result c.kept_length-kept.result c.len.ensures.value c.kept_length-kept.ensures in
     let size = length_range piece start end p.unit.within in
     let most = kept_most goes_on s.held.items in
