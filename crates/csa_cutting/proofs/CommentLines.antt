@@ -6,7 +6,7 @@ use Rattle.std.proofs.lemmas.Bool.{cases_lt, cases_Bool}
 use Rattle.std.proofs.lemmas.List.{length-drop, get_or-drop}
 use Rattle.std.proofs.lemmas.List.Sums.{position_or_len_is, passes_at_first, prefix_len_is, prefix_len_passes}
 use Rattle.csa_cutting.specs.Comments.{IsLineEndAt, IsLineEndTo, IsPast, CommentsFollow, LeadsOn, HasNoLineEndTo}
-use Rattle.csa_cutting.specs.Cut.{IsNext, is_separator, is_end, takes_line}
+use Rattle.csa_cutting.specs.Cut.{IsGap, IsNext, is_separator, is_end, takes_line}
 use Rattle.csa_cutting.specs.Cutting.{unit_between}
 use Rattle.csa_cutting.specs.Places.{PassesTo}
 use Rattle.csa_cutting.specs.declared.units.Place.{Place}
@@ -14,7 +14,7 @@ use Rattle.csa_cutting.specs.declared.units.Place.TheVariants.{Gap, Comment}
 use Rattle.csa_cutting.proofs.Finding.{passes_gap, passes_comment, found_in_comment}
 use Rattle.csa_cutting.specs.Lines.{is_line_end}
 use Rattle.csa_cutting.specs.Starts.{IsNextStart}
-use Rattle.csa_cutting.proofs.Fronts.{next_place, turned_true}
+use Rattle.csa_cutting.proofs.Fronts.{gap_only, next_place, turned_true}
 use Rattle.csa_cutting.proofs.Passing.{comment_passed, comment_open, separator_passed}
 
 separates : (r n c b t : Bool) → r || n ≡ true → r || n || c || b || t ≡ true
@@ -70,6 +70,15 @@ in_comment place held piece front at start low p begun quote = record {
   onward = λ none.
       comment_open place held piece front at start (length piece) low p begun.within refl (comment_unit piece at start (length piece) begun quote begun.within (omega arith) none (λ h. absurd (omega (arith, h)))) quote;
 }
+
+-- where the last byte of the piece ends a line, a gap stands from there on
+pub gap_at_the_end : (piece : List ℕ) (at : ℕ) → IsLineEndAt piece at → at + 1 ≡ length piece → IsGap (drop at piece)
+gap_at_the_end piece at ended last =
+    gap_only piece at 1 (omega (arith, ended.0))
+    (sym (prefix_len_is is_separator (drop at piece) 1 0 (omega (arith, length-drop at piece, ended.0))
+    (λ k h. ap is_separator (get_or-drop at piece k 0 ∙ ap (λ i. get_or piece i 0) (omega (arith, h))) ∙ line_end_separates (get_or piece at 0) ended.1)
+    (λ h. absurd (omega (arith, h, length-drop at piece, last)))))
+    last
 
 -- a comment begins right behind a line end
 next_start : (piece : List ℕ) (at : ℕ) → is_line_end (get_or piece at 0) ≡ true → at + 1 < length piece → get_or piece (at + 1) 0 ≡ 39 → IsNextStart piece at (at + 1)

@@ -17,8 +17,10 @@ const STRETCH: usize = 512;
 
 const STRETCHES: usize = 8;
 
-// How many comments are gone through line by line before stretches are tried.
+// How many comments are gone through line by line before stretches are tried, at first and at most.
 const LINES: u32 = 4;
+
+const MOST_LINES: u32 = 64;
 
 // The lesser of the two bytes that end lines, and a bound above both: what `high_comments` makes of the
 // apostrophe.
@@ -28,17 +30,19 @@ const HIGH: u8 = 31;
 
 // Where the comment that goes on here and those that follow it end: the last byte of a line end up to
 // which nothing stands but comments and line ends, and right behind which no comment begins. None where
-// the last of them goes on to the end of the piece. Stretches are tried behind each fourth comment that is
-// gone through line by line.
+// the last of them goes on to the end of the piece. Stretches are tried behind the first four comments that
+// are gone through line by line, and then behind as many as `next_wait` says.
 #[inline(never)]
 pub(crate) fn comments_end(piece: &[u8], from: usize) -> Option<usize>
     requires { from ≤ length piece.now }
-    ensures within { IfSome result (λ end. (from ≤ end) × (end < length piece.now)) }
+    ensures low { IfSome result (λ end. from ≤ end) }
+    ensures ends { IfSome result (IsLineEndAt piece.now) }
     ensures passed { (place : Place) (held : List ℕ) (front : ℕ) → front ≤ from → LeadsOn place held piece.now front from
         → MatchOption result (IsOpenToEnd place held piece.now front) (PassesTo place held piece.now front) }
 {
     let mut at = from;
-    let mut lines = 0;
+    let mut wait = LINES;
+    let mut left = wait;
     loop {
         let end = at + line_length(&piece[at..]);
         if end == piece.len() {
@@ -49,10 +53,12 @@ pub(crate) fn comments_end(piece: &[u8], from: usize) -> Option<usize>
             return Some(last);
         }
         at = last + 2;
-        lines += 1;
-        if lines == LINES {
-            at = past_comments(piece, at);
-            lines = 0;
+        left -= 1;
+        if left == 0 {
+            let past = past_single_stretches(piece, at);
+            wait = next_wait(wait, past > at);
+            at = past;
+            left = wait;
         }
     }
 }
@@ -61,11 +67,11 @@ pub(crate) fn comments_end(piece: &[u8], from: usize) -> Option<usize>
 // tried at once.
 #[inline(always)]
 pub(crate) fn begun_comments_end(piece: &[u8]) -> Option<usize>
-    ensures within { IfSome result (λ end. end < length piece.now) }
+    ensures ends { IfSome result (IsLineEndAt piece.now) }
     ensures passed { (place : Place) (held : List ℕ) → LeadsOn place held piece.now 0 0
         → MatchOption result (IsOpenToEnd place held piece.now 0) (PassesTo place held piece.now 0) }
 {
-    let at = past_comments(piece, 0);
+    let at = past_comments(piece);
     if at + 1 < piece.len() {
         comments_end(piece, at)
     } else {
@@ -78,7 +84,7 @@ pub(crate) fn begun_comments_end(piece: &[u8]) -> Option<usize>
 fn end_in_last_byte(piece: &[u8], from: usize) -> Option<usize>
     requires from { from ≤ length piece.now }
     requires last { length piece.now ≤ from + 1 }
-    ensures within { IfSome result (λ end. end < length piece.now) }
+    ensures ends { IfSome result (IsLineEndAt piece.now) }
     ensures passed { (place : Place) (held : List ℕ) → LeadsOn place held piece.now 0 from
         → MatchOption result (IsOpenToEnd place held piece.now 0) (PassesTo place held piece.now 0) }
 {
@@ -86,6 +92,22 @@ fn end_in_last_byte(piece: &[u8], from: usize) -> Option<usize>
         Some(from)
     } else {
         None
+    }
+}
+
+// How many comments are gone through line by line before stretches are tried again: as many as at first
+// behind a try that passed some, and twice as many as before behind one in vain, but at most `MOST_LINES`.
+#[inline(always)]
+fn next_wait(wait: u32, passed: bool) -> u32
+    requires { 0 < wait }
+    ensures { 0 < result }
+{
+    if passed {
+        LINES
+    } else if wait < MOST_LINES {
+        2 * wait
+    } else {
+        wait
     }
 }
 
@@ -102,26 +124,25 @@ fn whole_line_end(piece: &[u8], at: usize) -> usize
     }
 }
 
-// A place up to which nothing stands but comments and line ends, where a comment goes on at `from`: as far
-// as stretches show it.
+// A place up to which nothing stands but comments and line ends, where at the first byte of the piece a
+// comment goes on or begins, or a line ends: as far as stretches show it.
 #[inline(never)]
-fn past_comments(piece: &[u8], from: usize) -> usize
-    requires { from ≤ length piece.now }
-    ensures { IsPast piece.now from result }
+fn past_comments(piece: &[u8]) -> usize
+    ensures { IsPast piece.now 0 result }
 {
-    if !stretch_follows(piece, from) {
-        return from;
+    if !stretch_follows(piece, 0) {
+        return 0;
     }
-    let at = past_stretches(piece, from + STRETCH);
+    let at = past_stretches(piece, STRETCH);
     if at + 1 == piece.len() {
         return at;
     }
     past_single_stretches(piece, at)
 }
 
-// The same, by as many stretches at a time as reach the last byte of the piece, but at most eight. Those
-// that reach it are laid so that they end right before it; the first of them may begin before what was
-// already passed.
+// The same from a place on, by as many stretches at a time as it takes to come up to the last byte of the
+// piece, but at most eight. Those that come up to it are laid so that they end right before it, and the first
+// of them may begin up to 511 bytes before the place: so at least one stretch must stand before that.
 #[inline(always)]
 fn past_stretches(piece: &[u8], from: usize) -> usize
     requires within { from ≤ length piece.now }
@@ -131,7 +152,7 @@ fn past_stretches(piece: &[u8], from: usize) -> usize
     let mut at = from;
     while at + 1 < piece.len() {
         let last = piece.len() - 1;
-        let count = ((last - at) / STRETCH + 1).min(STRETCHES);
+        let count = ((last - at - 1) / STRETCH + 1).min(STRETCHES);
         let start = at.min(last - count * STRETCH);
         if !comments_follow(piece, start, count) {
             break;
@@ -141,7 +162,7 @@ fn past_stretches(piece: &[u8], from: usize) -> usize
     at
 }
 
-// The same, by one stretch at a time.
+// The same from a place on, by one stretch at a time.
 #[inline(never)]
 fn past_single_stretches(piece: &[u8], from: usize) -> usize
     requires { from ≤ length piece.now }
@@ -165,7 +186,7 @@ fn stretch_follows(piece: &[u8], at: usize) -> bool
 
 // Whether right behind each line end of so many stretches from `at` on stands a comment or one more line
 // end. False too where a byte below LF, as the tab, stands in them or right behind them, or CR behind a line
-// end, or another byte below 31 behind which neither a comment nor LF stands.
+// end, or another byte below 31 behind which neither an apostrophe nor LF stands.
 #[inline(always)]
 fn comments_follow(piece: &[u8], at: usize, count: usize) -> bool
     requires { at + count * stretch < length piece.now }

@@ -36,9 +36,10 @@ pub struct PieceCutter {
     fed: u64,
     number: u64,
     refused: Option<u64>,
-    // Whether a piece began in a comment, and no statement has begun or gone on since. For speed alone:
-    // with any value the answers are the same.
-    among_comments: bool,
+    // Whether stretches of comments are tried at once where the next bytes begin with a comment or a line
+    // end: so where the last step found nothing of a statement's unit. For speed alone: with any value the
+    // answers are the same.
+    comments_first: bool,
 }
 
 impl Model for PieceCutter {
@@ -64,7 +65,7 @@ impl PieceCutter {
             fed: 0,
             number: 0,
             refused: None,
-            among_comments: false,
+            comments_first: false,
         }
     }
 
@@ -108,11 +109,10 @@ impl PieceCutter {
         if let Some(offset) = self.refused {
             return Err(CutFault { number, offset });
         }
-        let among_comments = self.among_comments || self.place == Place::Comment;
-        let found = match found_in(self.place, self.held.as_slice(), piece, among_comments) {
+        let found = match found_in(self.place, self.held.as_slice(), piece, self.comments_first) {
             Found::Part(found) => found,
             Found::LeadsTo(place) => {
-                self.among_comments = among_comments;
+                self.comments_first = true;
                 self.place = place;
                 hold_mark(&mut self.held, place, piece);
                 self.fed += piece.len() as u64;
@@ -127,7 +127,7 @@ impl PieceCutter {
             self.refused = Some(offset);
             return Err(CutFault { number, offset });
         }
-        self.among_comments = false;
+        self.comments_first = false;
         keep_held(&mut self.held, found.goes_on);
         if end == piece.len() {
             hold(&mut self.held, part);
@@ -252,13 +252,13 @@ fn hold(held: &mut ArrayVec<u8, LONGEST_STATEMENT>, part: &[u8])
 }
 
 // The statement's unit that the piece holds next, or where it leads to where it holds none.
-fn found_in(place: Place, held: &[u8], piece: &[u8], among_comments: bool) -> Found
+fn found_in(place: Place, held: &[u8], piece: &[u8], comments_first: bool) -> Found
     requires { IsHeld place held.now }
     ensures { IsFoundIn place held.now piece.now 0 result }
 {
     match place {
         Place::Mark => found_in_mark(held, piece),
-        Place::Gap if among_comments && begins_with_comment_or_line_end(piece) => found_in_comment(
+        Place::Gap if comments_first && begins_with_comment_or_line_end(piece) => found_in_comment(
             piece,
         ),
         Place::Gap => first_in(piece, 0),
@@ -280,6 +280,10 @@ fn found_in_comment(piece: &[u8]) -> Found
     let Some(end) = begun_comments_end(piece) else {
         return Found::LeadsTo(Place::Comment);
     };
+    // `first_in` would answer the same, but take longer
+    if end + 1 == piece.len() {
+        return Found::LeadsTo(Place::Gap);
+    }
     first_in(piece, end)
 }
 

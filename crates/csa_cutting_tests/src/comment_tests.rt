@@ -70,7 +70,7 @@ fn fill_with_comments(
 
 #[test]
 fn statement_among_comments(rt: HostRuntime) -> Result<(), AllocError> {
-    let table: [&[u8]; 3] = [b"\n", b"\r\n", b"\r"];
+    let table: [&[u8]; 5] = [b"\n", b"\r\n", b"\r", b"\t\n", b"\r\n\r\n"];
     for end in table {
         for length in 0..300usize {
             let mut source = Vec::new(rt.alloc());

@@ -7,7 +7,8 @@ abbrev pub invariant-loop-from : goal.invariant-loop-from
 invariant-loop-from l = record {
   low : l.from ≤ l.at;
   high : l.at ≤ length l.piece;
-  few : l.lines < 4;
+  left : 0 < l.left;
+  wait : 0 < l.wait;
   leads : (place : Place) (held : List ℕ) (front : ℕ) → front ≤ l.from → LeadsOn place held l.piece front l.from → LeadsOn place held l.piece front l.at;
 }
 

@@ -31,10 +31,9 @@ pub loop-start-preserved : goal.loop-start-preserved
 loop-start-preserved c =
     let i = c.loop-start.invariant in
     let begun = c.in-Some.ensures in
-    let within = c.in-Some-comments_end.ensures.within in
     record {
-      order = omega (arith, i.order, begun.order, within.0);
-      within = omega (arith, within.1);
+      order = omega (arith, i.order, begun.order, c.in-Some-comments_end.ensures.low);
+      within = omega (arith, c.in-Some-comments_end.ensures.ends.0);
       passed = λ place held front low p.
           c.in-Some-comments_end.ensures.passed place held front (omega (arith, low, i.order, begun.order))
           (in_comment place held c.args.piece.now front c.loop-start.at c.in-Some.start (omega (arith, low, i.order)) (i.passed place held front low p) begun c.if-piece-start-ne-COMMENT.false);
