@@ -5,7 +5,7 @@ use Rattle.std.specs.List.{position_or_len}
 use Rattle.std.proofs.lemmas.Bool.{cases_lt, cases_Bool}
 use Rattle.std.proofs.lemmas.List.{length-drop, get_or-drop}
 use Rattle.std.proofs.lemmas.List.Sums.{position_or_len_is, passes_at_first, prefix_len_is, prefix_len_passes}
-use Rattle.csa_cutting.specs.Comments.{IsLineEndAt, IsLineEndTo, IsPast, CommentsFollow, LeadsOn, HasNoLineEndTo}
+use Rattle.csa_cutting.specs.Comments.{IsLineEndAt, AreLineEndsTo, IsPast, CommentsFollow, LeadsOn, HasNoLineEndTo}
 use Rattle.csa_cutting.specs.Cut.{IsGap, IsNext, is_separator, is_end, takes_line}
 use Rattle.csa_cutting.specs.Cutting.{unit_between}
 use Rattle.csa_cutting.specs.Places.{PassesTo}
@@ -194,25 +194,19 @@ ends_there piece rest at n is_rest is_n within =
     let few : position_or_len is_line_end rest < length rest = omega (arith, is_n, ap length is_rest, length-drop at piece, within) in
     (within, ap is_line_end (sym (ap (λ i. get_or rest i 0) (sym is_n) ∙ ap (λ xs. get_or xs n 0) is_rest ∙ get_or-drop at piece n 0)) ∙ passes_at_first is_line_end rest 0 few)
 
--- over the LF of CR and LF
-pub line_end_passed : (place : Place) (held piece : List ℕ) (front at last : ℕ) → front ≤ at → IsLineEndTo piece at last → PassesTo place held piece front at → PassesTo place held piece front last
-line_end_passed place held piece front at last low ended p =
-    elim ended.1 [
-      | inl same ↦ subst (PassesTo place held piece front) (sym same) p
-      | inr both ↦
-          subst (PassesTo place held piece front) (sym both.0)
-          (separator_passed place held piece front at low p both.1.1.0 (line_end_separates (get_or piece at 0) ended.0.1))
-    ]
+-- over line ends
+line_ends_passed : (place : Place) (held piece : List ℕ) (front at n : ℕ) → front ≤ at → at + n < length piece → ((k : ℕ) → at ≤ k → k < at + n → is_line_end (get_or piece k 0) ≡ true) → PassesTo place held piece front at → PassesTo place held piece front (at + n)
+line_ends_passed place held piece front at zero low within all p = let same : at ≡ at + zero = omega arith in subst (PassesTo place held piece front) same p
+line_ends_passed place held piece front at (suc n) low within all p =
+    let same : at + 1 + n ≡ at + suc n = omega arith in
+    subst (PassesTo place held piece front) same
+    (line_ends_passed place held piece front (at + 1) n (omega (arith, low)) (omega (arith, within)) (λ k l h. all k (omega (arith, l)) (omega (arith, h)))
+    (separator_passed place held piece front at low p (omega (arith, within)) (line_end_separates (get_or piece at 0) (all at (omega arith) (omega arith)))))
 
--- the last byte of a line end is one of a line end
-pub last_ends : (piece : List ℕ) (at last : ℕ) → IsLineEndTo piece at last → (at ≤ last) × IsLineEndAt piece last
-last_ends piece at last ended =
-    elim ended.1 [
-      | inl same ↦ (omega (arith, same), subst (IsLineEndAt piece) (sym same) ended.0)
-      | inr both ↦
-          let feed : is_line_end (get_or piece (at + 1) 0) ≡ true = ap is_line_end both.1.1.1 in
-          (omega (arith, both.0), subst (IsLineEndAt piece) (sym both.0) (both.1.1.0, feed))
-    ]
+-- the last of them
+pub last_ends : (piece : List ℕ) (at next : ℕ) → AreLineEndsTo piece at next → (at ≤ next - 1) × IsLineEndAt piece (next - 1)
+last_ends piece at next ends =
+    (omega (arith, ends.0), (omega (arith, ends.0, ends.1), ends.2 (next - 1) (omega (arith, ends.0)) (omega (arith, ends.0))))
 
 -- where a piece begins in a comment
 pub begins_in_comment : (held piece : List ℕ) → held ≡ [] → LeadsOn Comment held piece 0 0
@@ -225,13 +219,17 @@ begins_in_comment held piece none_held = record {
       (sym (position_or_len_is (is_end 39) piece (length piece) 0 (omega arith) (λ k h. sym (line_end_ends (get_or piece k 0)) ∙ none k (omega arith) h) (λ h. absurd (omega (arith, h))))) refl).1;
 }
 
--- to the line end of a comment
-pub ended_comment : (place : Place) (held piece rest : List ℕ) (front at n last : ℕ) → front ≤ at → LeadsOn place held piece front at → rest ≡ drop at piece → n ≡ position_or_len is_line_end rest → IsLineEndTo piece (at + n) last → PassesTo place held piece front last
-ended_comment place held piece rest front at n last low on is_rest is_n ended =
-    line_end_passed place held piece front (at + n) last (omega (arith, low)) ended (on.ended (at + n) (omega arith) (none_before piece rest at n is_rest is_n) ended.0)
+-- to the last byte of the line ends behind a comment
+pub ended_comment : (place : Place) (held piece rest : List ℕ) (front at n next : ℕ) → front ≤ at → LeadsOn place held piece front at → rest ≡ drop at piece → n ≡ position_or_len is_line_end rest → AreLineEndsTo piece (at + n) next → PassesTo place held piece front (next - 1)
+ended_comment place held piece rest front at n next low on is_rest is_n ends =
+    let same : at + n + (next - 1 - (at + n)) ≡ next - 1 = omega (arith, ends.0) in
+    subst (PassesTo place held piece front) same
+    (line_ends_passed place held piece front (at + n) (next - 1 - (at + n)) (omega (arith, low)) (omega (arith, same, ends.0, ends.1)) (λ k l h. ends.2 k l (omega (arith, h, same)))
+    (on.ended (at + n) (omega arith) (none_before piece rest at n is_rest is_n) (omega (arith, ends.0, ends.1), ends.2 (at + n) (omega arith) ends.0)))
 
--- to the comment behind that line end
-pub following_comment : (place : Place) (held piece rest : List ℕ) (front at n last : ℕ) → front ≤ at → LeadsOn place held piece front at → rest ≡ drop at piece → n ≡ position_or_len is_line_end rest → IsLineEndTo piece (at + n) last → last + 1 < length piece → get_or piece (last + 1) 0 ≡ 39 → LeadsOn place held piece front (last + 2)
-following_comment place held piece rest front at n last low on is_rest is_n ended next quote =
-    let ends = last_ends piece (at + n) last ended in
-    next_comment place held piece front last _ (omega (arith, low, ends.0)) (ended_comment place held piece rest front at n last low on is_rest is_n ended) ends.1.1 next quote refl
+-- to the comment behind them
+pub following_comment : (place : Place) (held piece rest : List ℕ) (front at n next : ℕ) → front ≤ at → LeadsOn place held piece front at → rest ≡ drop at piece → n ≡ position_or_len is_line_end rest → AreLineEndsTo piece (at + n) next → next < length piece → get_or piece next 0 ≡ 39 → LeadsOn place held piece front (next + 1)
+following_comment place held piece rest front at n next low on is_rest is_n ends within quote =
+    let last = last_ends piece (at + n) next ends in
+    let same : next ≡ next - 1 + 1 = omega (arith, ends.0) in
+    next_comment place held piece front (next - 1) _ (omega (arith, low, last.0)) (ended_comment place held piece rest front at n next low on is_rest is_n ends) last.1.1 (omega (arith, same, within)) (ap (λ i. get_or piece i 0) (sym same) ∙ quote) (omega (arith, same))

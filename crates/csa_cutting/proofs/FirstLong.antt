@@ -1,16 +1,14 @@
 -- The first statement that is too long, in a text that goes on.
-use Rattle.std.proofs.Common.{◌≡◌, ℕ, ◌+◌, ◌<◌, ◌≤◌, ◌&&◌, Bool, true, false, List, [], ◌∷◌, ◌++◌, filter, length, take, drop, length-drop, length-append, Option, Some, None, Err, if◌then◌else◌, arith, refl, sym, ap, ◌∙◌, subst, inl, inr}
+use Rattle.std.proofs.Common.{◌≡◌, ℕ, ◌+◌, ◌<◌, ◌≤◌, ◌&&◌, Bool, true, false, List, [], ◌∷◌, ◌++◌, filter, length, drop, length-drop, length-append, None, Err, if◌then◌else◌, arith, refl, sym, ap, ◌∙◌, subst, inl, inr}
 use Rattle.std.proofs.lemmas.Bool.{cases_Bool}
-use Rattle.std.proofs.Math.Seq.{take-length}
 use Rattle.csa_cutting.specs.Cut.{TextUnit, Statements, IsCut, mark_length}
 use Rattle.csa_cutting.specs.Cutting.{Cutting, ToCome, IsTooLong}
 use Rattle.csa_cutting.specs.PieceCutting.{PieceCutting, Closes, Leads, fresh, is_closed}
-use Rattle.csa_cutting.specs.PieceSteps.{Stepped, Used, IsTooLongAt}
+use Rattle.csa_cutting.specs.PieceSteps.{Stepped, IsTooLongAt}
 use Rattle.csa_cutting.specs.TooLong.{AreShort, FirstTooLong, HasCutOf}
-use Rattle.csa_cutting.specs.declared.cutter.Statement.{Statement}
 use Rattle.csa_cutting.specs.declared.cutter.CutFault.{CutFault}
 use Rattle.csa_cutting.proofs.Growing.{Longer, cut_grown, fits, followed}
-use Rattle.csa_cutting.proofs.Joining.{pieces_joined, pieces_whole}
+use Rattle.csa_cutting.proofs.Joining.{pieces_whole}
 use Rattle.csa_cutting.proofs.Leading.{closed_behind, one_kept, nothing_left}
 use Rattle.csa_cutting.proofs.Once.{statements_once}
 
@@ -102,19 +100,6 @@ pub too_long_once : (source : List ℕ) (m n i j : ℕ) → FirstTooLong source 
 too_long_once source m n i j f g =
     let same = same_first f.before g.before f.others g.others f.unit g.unit f.short g.short f.long g.long (statements_once _ _ _ _ f.cut g.cut) in
     (omega (arith, f.number_is, g.number_is, same.0), f.place ∙ ap (λ (u : TextUnit). u.offset) same.1 ∙ sym g.place)
-
-short_joined : (xs ys : List TextUnit) → AreShort xs → AreShort ys → AreShort (xs ++ ys)
-short_joined [] ys h k = k
-short_joined (x ∷ xs) ys h k = (h.0, short_joined xs ys h.1 k)
-
-used_joined : (source piece : List ℕ) (handed : List TextUnit) (old new : PieceCutting) (used : ℕ) (statement : Option Statement) → HasCutOf source old handed → Used old piece used statement new → (more : List TextUnit) × HasCutOf (source ++ take used piece) new (handed ++ more)
-used_joined source piece handed old new used None h u =
-    let all : take used piece ≡ piece = ap (λ n. take n piece) u.0 ∙ take-length piece in
-    let leads : Leads old (take used piece) [] new = subst (λ t. Leads old t [] new) (sym all) u.1 in
-    ([], (pieces_joined fresh old new source (take used piece) handed [] h.0 leads, short_joined handed [] h.1 tt))
-used_joined source piece handed old new used (Some s) h u =
-    let told = u.told in
-    (u.unit ∷ [], (pieces_joined fresh old new source (take used piece) handed (u.unit ∷ []) h.0 u.leads, short_joined handed (u.unit ∷ []) h.1 (told.short, tt)))
 
 pub nothing_fed : HasCutOf [] fresh []
 nothing_fed = (

@@ -1,4 +1,4 @@
--- Comments that stand one behind another, each on a line of its own, and how the line end behind them is found.
+-- Comments that stand one behind another with nothing but line ends between, and where the last line end behind them stands.
 -- These are definitions for private helpers; a reader of the contracts may skip them.
 use Rattle.std.specs.Prelude.{◌≡◌, ◌⊎◌, ℕ, ◌+◌, ◌<◌, ◌≤◌, true, false, List, [], ◌∷◌, length, drop, slice_index}
 use Rattle.csa_cutting.specs.Lines.{is_line_end}
@@ -12,20 +12,16 @@ IsLineEndAt bytes at = (at < length bytes) × (is_line_end (slice_index bytes at
 abbrev pub HasNoLineEndTo : List ℕ → ℕ → ℕ → Type 0
 HasNoLineEndTo bytes from to = (k : ℕ) → from ≤ k → k < to → is_line_end (slice_index bytes k) ≡ false
 
--- CR, and LF behind it
-abbrev pub IsCrLf : List ℕ → ℕ → Type 0
-IsCrLf bytes at = (slice_index bytes at ≡ 13) × ((at + 1 < length bytes) × (slice_index bytes (at + 1) ≡ 10))
-
--- a line end begins at this place, and its last byte is there too, or right behind, of CR and LF
-abbrev pub IsLineEndTo : List ℕ → ℕ → ℕ → Type 0
-IsLineEndTo bytes at last = IsLineEndAt bytes at × ((last ≡ at) ⊎ ((last ≡ at + 1) × IsCrLf bytes at))
+-- nothing but line ends, one at least, stands from one place on up to another
+abbrev pub AreLineEndsTo : List ℕ → ℕ → ℕ → Type 0
+AreLineEndsTo bytes from to = (from < to) × (to ≤ length bytes) × ((k : ℕ) → from ≤ k → k < to → is_line_end (slice_index bytes k) ≡ true)
 
 -- right behind each byte of a line end, from one place on up to another, stands a comment or one more of them
 abbrev pub CommentsFollow : List ℕ → ℕ → ℕ → Type 0
 CommentsFollow bytes from to =
     (k : ℕ) → from ≤ k → k < to → is_line_end (slice_index bytes k) ≡ true → (slice_index bytes (k + 1) ≡ 39) ⊎ (is_line_end (slice_index bytes (k + 1)) ≡ true)
 
--- where a comment goes on at the one place, nothing but comments, ends of lines and empty lines stands up to the other;
+-- where a comment goes on at the one place, nothing but comments and line ends stands up to the other;
 -- a byte stands behind that, if they differ
 pub record IsPast (bytes : List ℕ) (from to : ℕ) : Type 0 where
   pub low : from ≤ to

@@ -1,7 +1,8 @@
-//! Comments, and those that follow right behind the end of a comment's line: where they end.
+//! Comments, and those that follow with nothing but line ends between: where they end.
 
-ghost use Rattle.std.specs.Prelude.{◌≡◌, ◌⊎◌, ℕ, List, ◌+◌, ◌*◌, ◌<◌, ◌≤◌, true, length, slice_index, IfSome, MatchOption};
-ghost use Rattle.csa_cutting.specs.Comments.{AreHigh, CommentsFollow, HaveSixteenLanes, IsCrLf, IsLineEndAt, IsLineEndTo, IsOpenToEnd, IsPast, LeadsOn, LowFollowed, stretch};
+ghost use Rattle.std.specs.Prelude.{◌≡◌, ◌⊎◌, ℕ, List, ◌+◌, ◌*◌, ◌<◌, ◌≤◌, true, false, length, slice_index, IfSome, MatchOption};
+ghost use Rattle.csa_cutting.specs.Comments.{AreHigh, AreLineEndsTo, CommentsFollow, HaveSixteenLanes, IsLineEndAt, IsOpenToEnd, IsPast, LeadsOn, LowFollowed, stretch};
+ghost use Rattle.csa_cutting.specs.Lines.{is_line_end};
 ghost use Rattle.csa_cutting.specs.Places.{PassesTo};
 ghost use Rattle.csa_cutting.specs.declared.units.Place.{Place};
 ghost use Rattle.std.specs.Simd.Lanes.{chunk};
@@ -18,9 +19,9 @@ const STRETCH: usize = 512;
 const STRETCHES: usize = 8;
 
 // How many comments are gone through line by line before stretches are tried, at first and at most.
-const LINES: u32 = 4;
+const FIRST_WAIT: u32 = 4;
 
-const MOST_LINES: u32 = 64;
+const LONGEST_WAIT: u32 = 64;
 
 // The lesser of the two bytes that end lines, and a bound above both: what `high_comments` makes of the
 // apostrophe.
@@ -28,10 +29,10 @@ const LF: u8 = b'\n';
 
 const HIGH: u8 = 31;
 
-// Where the comment that goes on here and those that follow it end: the last byte of a line end up to
-// which nothing stands but comments and line ends, and right behind which no comment begins. None where
-// the last of them goes on to the end of the piece. Stretches are tried behind the first four comments that
-// are gone through line by line, and then behind as many as `next_wait` says.
+// Where the comment that goes on or ends here and those that follow it end: the last byte of a line end up
+// to which nothing stands but comments and line ends, and right behind which neither a comment nor one more
+// line end stands. None where the last of them goes on to the end of the piece. Stretches are tried behind
+// the first four comments that are gone through line by line, and then behind as many as `next_wait` says.
 #[inline(never)]
 pub(crate) fn comments_end(piece: &[u8], from: usize) -> Option<usize>
     requires { from ≤ length piece.now }
@@ -41,18 +42,18 @@ pub(crate) fn comments_end(piece: &[u8], from: usize) -> Option<usize>
         → MatchOption result (IsOpenToEnd place held piece.now front) (PassesTo place held piece.now front) }
 {
     let mut at = from;
-    let mut wait = LINES;
+    let mut wait = FIRST_WAIT;
     let mut left = wait;
     loop {
         let end = at + line_length(&piece[at..]);
         if end == piece.len() {
             return None;
         }
-        let last = whole_line_end(piece, end);
-        if last + 1 == piece.len() || piece[last + 1] != COMMENT {
-            return Some(last);
+        let next = behind_line_ends(piece, end);
+        if next == piece.len() || piece[next] != COMMENT {
+            return Some(next - 1);
         }
-        at = last + 2;
+        at = next + 1;
         left -= 1;
         if left == 0 {
             let past = past_single_stretches(piece, at);
@@ -96,32 +97,32 @@ fn end_in_last_byte(piece: &[u8], from: usize) -> Option<usize>
 }
 
 // How many comments are gone through line by line before stretches are tried again: as many as at first
-// behind a try that passed some, and twice as many as before behind one in vain, but at most `MOST_LINES`.
+// behind a try that passed some, and twice as many as before behind one in vain, but at most `LONGEST_WAIT`.
 #[inline(always)]
 fn next_wait(wait: u32, passed: bool) -> u32
     requires { 0 < wait }
     ensures { 0 < result }
 {
     if passed {
-        LINES
-    } else if wait < MOST_LINES {
+        FIRST_WAIT
+    } else if wait < LONGEST_WAIT {
         2 * wait
     } else {
         wait
     }
 }
 
-// The last byte of the line end that begins at this place: of CR and LF the LF.
-fn whole_line_end(piece: &[u8], at: usize) -> usize
+// The place right behind the line end here and those that follow right behind it.
+fn behind_line_ends(piece: &[u8], at: usize) -> usize
     requires { IsLineEndAt piece.now at }
-    ensures last { IsLineEndTo piece.now at result }
-    ensures both { IsCrLf piece.now at → result ≡ at + 1 }
+    ensures all { AreLineEndsTo piece.now at result }
+    ensures behind { result < length piece.now → is_line_end (slice_index piece.now result) ≡ false }
 {
-    if piece[at] == b'\r' && at + 1 < piece.len() && piece[at + 1] == LF {
-        at + 1
-    } else {
-        at
+    let mut next = at + 1;
+    while next < piece.len() && is_line_end(piece[next]) {
+        next += 1;
     }
+    next
 }
 
 // A place up to which nothing stands but comments and line ends, where at the first byte of the piece a
