@@ -3,4 +3,6 @@
 #![tactic(auto)]
 
 #[cfg(test)]
+mod random_play;
+#[cfg(test)]
 mod tests;

@@ -1,5 +1,6 @@
 ghost use Rattle.std.specs.Prelude.{◌<◌};
 
+use crate::random_play::GAMES;
 use shogi_board::{Color, Kind, OutOfMemory, Position, Setup, Square};
 use shogi_rules::{
     Line, Move, PlayFault, Rule, Verdict, after, first_legal, in_check, judge, laws,
@@ -286,6 +287,67 @@ fn counts_legal_moves(rt: HostRuntime) -> Result<(), Fail> {
     ];
     for (p, depth, wanted) in table {
         assert_eq!(rt; count_lines(&p, depth), wanted);
+    }
+    Ok(())
+}
+
+// The first legal move of those whose numbers are from one on and below another.
+fn first_between(p: &Position, from: usize, to: usize) -> Option<Move> {
+    (from..to)
+        .filter_map(nth_move)
+        .find(|mv| judge(p, p.side(), mv).is_none())
+}
+
+// The position after the first legal move by number, counted round from this one.
+fn next_from(p: &Position, begin: usize) -> Option<Position> {
+    let mv = first_between(p, begin, EVERY_MOVE).or_else(|| first_between(p, 0, begin))?;
+    match judge(p, p.side(), &mv) {
+        None => Some(after(p, &mv)),
+        Some(_) => None,
+    }
+}
+
+// The number of a move, or the number of all where there is none.
+fn number_of(mv: Option<Move>) -> u64 {
+    (0..EVERY_MOVE)
+        .position(|n| nth_move(n) == mv)
+        .unwrap_or(EVERY_MOVE) as u64
+}
+
+fn mixed(state: u64, value: u64) -> u64 {
+    state
+        .wrapping_mul(6_364_136_223_846_793_005)
+        .wrapping_add(value)
+}
+
+// What a game of random moves shows: of each position how many moves `judge` lets through and which is the first legal one,
+// mixed. The next move is the one that `next_from` finds from where chance begins.
+fn shown(start: Position, seed: u64, most: usize) -> u64 {
+    let mut p = start;
+    let mut chance = seed;
+    let mut shown = 0;
+    for _ in 0..most {
+        shown = mixed(shown, count_lines(&p, 1) as u64);
+        shown = mixed(shown, number_of(first_legal(&p)));
+        chance = mixed(chance, 1_442_695_040_888_963_407);
+        let Some(next) = next_from(&p, (chance >> 33) as usize % EVERY_MOVE) else {
+            break;
+        };
+        p = next;
+    }
+    shown
+}
+
+// Some thousand positions of random play: what `judge` and `first_legal` say there, beside what the rules said plainly have of
+// them. It takes three to four times as long as the counts above.
+#[test]
+fn random_play_is_judged(rt: HostRuntime) -> Result<(), Fail> {
+    for (pieces, seed, most, wanted) in GAMES {
+        let start = match pieces {
+            "" => Position::even(),
+            _ => position(Color::Black, pieces)?,
+        };
+        assert_eq!(rt; shown(start, seed, most), wanted, "{pieces} {seed}");
     }
     Ok(())
 }
