@@ -287,9 +287,6 @@ last_refused source p q k new s r h f number_is place outcome =
     (subst (IsNext source h.closed unit h.sayings) (sym number_is) (last_next source p k unit s h numbered f.last.2)) (place ∙ numbered.place)
     (subst (λ bs. Outcome h.sayings bs (Err r.why) new) numbered.slice outcome)
 
-pub never_long_last : (source : List ℕ) (p q : PieceCutting) (k : Kept) (fault : CutFault) → HasTaken source p k → Finished p (Err fault) q → ⊥
-never_long_last source p q k fault h f = let e : None ≡ Some fault.offset = sym h.cut.0.going ∙ f.place in cc
-
 -- statements without a fault are spelt
 pub all_spelt : (before : List Saying) (us : List TextUnit) (ss : List Saying) → Faultless before us ss → AllZip IsSpelt us ss
 all_spelt before [] [] h = tt

@@ -101,10 +101,6 @@ pub goes_cell : (c : Option Piece) → AllByRecursion GoesOn (cell_text c)
 goes_cell None = goes_star
 goes_cell (Some p) = ((solid_sign p.color).0, all_weaker IsSolid GoesOn (λ b h. h.0) (kind_code p.kind) (solid_kind p.kind))
 
-or_true : (b : Bool) → (b && true) ≡ b
-or_true true = refl
-or_true false = refl
-
 pub no_end : (b : ℕ) → GoesOn b → (b == 13 || b == 10 || (b == 44 && true)) ≡ false
 no_end b h = rw (ne_eqb b 13 h.0, ne_eqb b 10 h.1, ne_eqb b 44 h.2) refl
 

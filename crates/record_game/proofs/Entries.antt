@@ -62,7 +62,3 @@ place_for (x ∷ xs) e r new =
         | inr equal ↦ absurd (new.0 (sym equal))
       ]
     ]
-
--- a header more is an entry more, wherever it goes in
-pub entry_more : (h : List ℕ × List ℕ) (hs : List (List ℕ × List ℕ)) (es : List Entry) (e : Entry) → AreEntries hs es → e.key ≡ h.0 → IsValue h.0 h.1 e.text → (p : HasPlace es e) → AreEntries (h ∷ hs) (p.front ++ e ∷ p.behind)
-entry_more h hs es e a key value p = (p.front, e, p.behind, refl, key, value, subst (AreEntries hs) p.whole a)

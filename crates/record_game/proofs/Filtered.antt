@@ -118,18 +118,6 @@ position_body (walked color m) h = cc
 position_body (time t) h = cc
 position_body (ending e) h = cc
 
-position_side : (s : Saying) → is_position s ≡ true → side_given s ≡ None
-position_side version h = cc
-position_side (name color text) h = cc
-position_side (header key text) h = cc
-position_side (even pairs) h = refl
-position_side (rank number cells) h = refl
-position_side (pieces color pairs) h = refl
-position_side (turn color) h = cc
-position_side (walked color m) h = cc
-position_side (time t) h = cc
-position_side (ending e) h = cc
-
 pub no_versions : (ss : List Saying) → AreBody ss → filter is_version ss ≡ []
 no_versions ss h = none_of is_version ss (each_weaker (λ s. is_body s ≡ true) (λ s. is_version s ≡ false) body_version ss h)
 
@@ -156,6 +144,3 @@ all_body ss h = all_of is_body ss h
 
 pub positions_are_body : (ss : List Saying) → ArePositions ss → AreBody ss
 positions_are_body ss h = each_weaker (λ s. is_position s ≡ true) (λ s. is_body s ≡ true) position_body ss h
-
-pub no_sides : (ss : List Saying) → ArePositions ss → sides ss ≡ []
-no_sides ss h = nothing_of side_given ss (each_weaker (λ s. is_position s ≡ true) (λ s. side_given s ≡ None) position_side ss h)

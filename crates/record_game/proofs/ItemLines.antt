@@ -57,9 +57,6 @@ name_line color text h = record {
   spells = refl;
 }
 
-solid_lines : (bytes : List ℕ) → AllByRecursion IsSolid bytes → IsOneLine bytes
-solid_lines bytes h = all_weaker IsSolid (λ b. (b ≢ 13) × (b ≢ 10)) (λ b s. (s.0.0, s.0.1)) bytes h
-
 abbrev IsLate : ℕ → Type 0
 IsLate b = (b ≢ 13) × (b ≢ 10)
 

@@ -52,9 +52,6 @@ left_fault f ps start now i pair fault left e h =
 pub never_past : (ps : List Pair) (i : ℕ) → i < length ps → None ≡ slice_get ps i → ⊥
 never_past ps i low e = let here = slice_get-get_or ps i Rest low in cc
 
-pub left_end : (f : Pair → List Placing) (ps : List Pair) (start now : Layout) (i : ℕ) → Left f ps start now i → length ps ≤ i → place_all start (flat_map f ps) ≡ Ok now
-left_end f ps start now i left past = left ∙ ap (λ xs. place_all now (flat_map f xs)) (drop_all i ps past)
-
 -- one placing a pair
 pub singles : (g : Pair → Placing) (ps : List Pair) → flat_map (λ p. g p ∷ []) ps ≡ map g ps
 singles g [] = refl
@@ -88,12 +85,6 @@ cells_some number cells start now next i x square left low here e fits is =
     let rest = cells_placings (9 - (i + 1)) number (drop (i + 1) cells) in
     left ∙ (at_square number cells now i x square low here e
     ∙ (ap (λ o. unless o (place_all (placed now (on (place square) x)) rest)) fits ∙ ap (λ s. place_all s rest) (sym is)))
-
-pub cells_fault : (number : ℕ) (cells : List (Option Piece)) (start now : Layout) (i : ℕ) (x : Piece) (square : Square) (fault : SetupFault) → CellsLeft number cells start now i → i < length cells → get_or cells i None ≡ Some x → place square ≡ (9 - i - 1) * 9 + (number - 1) → setup.place_fault now x.color square x.kind ≡ Some fault → place_all start (cells_placings 9 number cells) ≡ Err fault
-cells_fault number cells start now i x square fault left low here e fails =
-    let rest = cells_placings (9 - (i + 1)) number (drop (i + 1) cells) in
-    left ∙ (at_square number cells now i x square low here e
-    ∙ ap (λ o. unless o (place_all (placed now (on (place square) x)) rest)) fails)
 
 pub cells_end : (number : ℕ) (cells : List (Option Piece)) (start now : Layout) (i : ℕ) → CellsLeft number cells start now i → length cells ≤ i → place_all start (cells_placings 9 number cells) ≡ Ok now
 cells_end number cells start now i left past = left ∙ ap (λ cs. place_all now (cells_placings (9 - i) number cs)) (drop_all i cells past)

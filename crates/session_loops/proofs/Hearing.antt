@@ -21,11 +21,6 @@ pub rest_run : (bytes : List ℕ) (lines : List (List ℕ)) (rest : List ℕ) �
 rest_run bytes [] rest (ends, whole, skipped, run) = run
 rest_run bytes (line ∷ lines) rest (behind, n, others) = rest_run behind lines rest others
 
--- a line that is given has no line end in it
-pub given_run : (old new : Option (List ℕ)) (line : List ℕ) → GivesLine old new line → HasNoLineEnd line
-given_run old new line (ended front taken (behind, n, others)) = n.run
-given_run old new line (last front taken over cut some) = rest_run front [] line cut
-
 no_bytes : Lines [] [] []
 no_bytes = ([], refl, tt, tt)
 

@@ -75,17 +75,5 @@ round_begun heard told gone e s count f t to_engine to_server status g u rounds 
     subst (λ n. Answered heard told gone e s to_engine to_server status n g u) rounds.counted
     (later f g t u next.event rounds.played next.came next.step)
 
--- after that many rounds the session still goes on
-pub goes_on_for : {E : Type 0} (heard : Hears E) (told gone : Tells E) (e : E) (s : Session) (to_engine to_server : List ℕ) (status : Status) (count : ℕ) (f : E) (t : Session)
-    → Answered heard told gone e s to_engine to_server status count f t → count ≡ 2 ^ 64 - 1
-    → IsEndless heard told gone e s
-goes_on_for heard told gone e s to_engine to_server status count f t (first t' step) is =
-    let bad : 0 ≡ 2 ^ 64 - 1 = is in
-    absurd (omega arith)
-goes_on_for heard told gone e s to_engine to_server status count f t (later f' g' t' u' event played came step) is =
-    let same : rounds played ≡ 2 ^ 64 - 1 = is in
-    let many : 2 ^ 64 - 1 ≤ rounds played = omega arith in
-    record { ends = f'; session = t'; played = played; many = many }
-
 pub same_session_fault : {T : Type 0} (f g : SessionFault) → IsErrOf {T = T} {E = Fault} (Err (fault.Session f)) (fault.Session g) → f ≡ g
 same_session_fault f g same = cc

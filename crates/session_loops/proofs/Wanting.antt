@@ -26,12 +26,6 @@ pub step_wants : (old : Session) (e f : Event) (new : Session) → e ≡ f
 step_wants old e f new same going lost config states slip game =
     subst (λ x. StepWants old x new) same (record { going = going; lost = lost; config = config; states = states; slip = slip; game = game })
 
--- nothing was heard of the seat that the bridge waits for
-pub seat_missed : {E : Type 0} (heard : Hears E) (missed : Misses E) (e : E) (s : Session) (seat : Seat) (waits : Waits) (f : E)
-    → seat ≡ seat_for waits → waits ≡ waits_for s.state → missed e seat f → HearWants heard missed e s f s
-seat_missed heard missed e s seat waits f is_seat is_waits none =
-    not_heard (subst (λ x. missed e x f) (is_seat ∙ ap seat_for is_waits) none) refl
-
 -- what was heard of it has no step
 pub seat_not_stepped : {E : Type 0} (heard : Hears E) (missed : Misses E) (e : E) (s : Session) (seat : Seat) (waits : Waits) (event : Event) (f : E) (t : Session)
     → seat ≡ seat_for waits → waits ≡ waits_for s.state → heard e seat event f → StepWants s event t → HearWants heard missed e s f t

@@ -42,15 +42,6 @@ unnamed_ended c line seconds lines t r =
       | row.logs_out e h l k ↦ e refl
     ]
 
-pub unnamed_decided : (c : HostConfig) (line : List ℕ) (seconds : ℕ) → (line ≡ codes "LOGOUT" → ⊥) → IsUnnamed c decided line seconds
-unnamed_decided c line seconds stays lines t r =
-    elim r [
-      | row.before_login e b ↦ cc
-      | row.after_summary n e b ↦ cc
-      | row.in_play g e b ↦ cc
-      | row.logs_out e h l k ↦ stays h
-    ]
-
 -- nothing is said
 pub silent : (c : HostConfig) (s t : HostState) (line : List ℕ) (seconds : ℕ) (text : List ℕ)
     → IsUnnamed c s line seconds → t ≡ s → text ≡ [] → RowText c s line seconds text t
@@ -66,16 +57,6 @@ not_login c line lines t other b =
     elim b [
       | row.logs_in n p h l e ↦ other (login_word line n p h)
       | row.login_incorrect h none l e ↦ other h
-    ]
-
-pub unnamed_waiting : (c : HostConfig) (line : List ℕ) (seconds : ℕ) → (line ≡ codes "LOGOUT" → ⊥)
-    → (nth_word (words line) 0 ≡ codes "LOGIN" → ⊥) → IsUnnamed c waiting line seconds
-unnamed_waiting c line seconds stays other lines t r =
-    elim r [
-      | row.before_login e b ↦ not_login c line lines t other b
-      | row.after_summary n e b ↦ cc
-      | row.in_play g e b ↦ cc
-      | row.logs_out e h l k ↦ stays h
     ]
 
 pub incorrect : (c : HostConfig) (t : HostState) (line : List ℕ) (seconds : ℕ) (text : List ℕ)

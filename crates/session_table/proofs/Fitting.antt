@@ -258,6 +258,3 @@ log_fits c log u (next before s e out t leads r) =
 -- an engine that thinks in play may be asked
 pub thinks_may_ask : (s : State) (g : Match) → FitsState s → s.engine ≡ Thinking → s.client ≡ playing g → MayAsk g
 thinks_may_ask s g fits at k = rw (k, at) at fits
-
-pub sent_side : (s : State) (g : Match) (a : Answer) → FitsState s → s.client ≡ sent g a → (position_now g).side ≡ g.client
-sent_side s g a fits k = let h : IsReady s.engine × ((position_now g).side ≡ g.client) = rw k at fits in h.1

@@ -42,8 +42,3 @@ king-safe cells color s whole one h safe check =
 
 pub checked-for : (cells : Cells) (color other : Color) (b : Bool) → (IsTrue b ↔ InCheck cells color) → color ≡ other → IsTrue b ↔ InCheck cells other
 checked-for cells color other b d e = rw e at d
-
-pub king-check-in : (cells seen : Cells) (color : Color) (s : Square) (b : Bool) → cells ≡ seen → length cells ≡ 81 → kings_of cells color ≤ 1 → at seen s ≡ piece color King → (IsTrue b ↔ Attacked cells color s) → IsTrue b ↔ InCheck seen color
-king-check-in cells seen color s b e whole one h d =
-    let there : at cells s ≡ piece color King = rw e h in
-    rw (← e) (king_check cells color s b whole one there d)

@@ -51,11 +51,6 @@ pub decide-by : (b : Bool) (P : Type 0) → Decides b P → Decision P
 decide-by true P d = inl (d.0 refl)
 decide-by false P d = inr (λ p. let e = d.1 p in cc)
 
--- all have it, where it is decided whether one has it not
-pub decide-all : {X : Type 0} (P : X → Type 0) → ((x : X) → Decision (P x)) → Decision ((x : X) × (P x → ⊥)) → Decision ((x : X) → P x)
-decide-all P each (inl other) = inr (λ all. other.1 (all other.0))
-decide-all P each (inr none) = inl (λ x. elim (each x) [ inl p ↦ p | inr differs ↦ absurd (none (x, differs)) ])
-
 -- a number below a bound
 abbrev pub Below : (ℕ → Type 0) → ℕ → Type 0
 Below P n = (k : ℕ) × (k < n) × P k

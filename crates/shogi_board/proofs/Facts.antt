@@ -44,9 +44,6 @@ gold-from a b i (inr (inr (inr (inr (inl h))))) = inr (inr (inr (inr (inl (omega
 gold-from a b i (inr (inr (inr (inr (inr (inl h)))))) = inr (inr (inr (inr (inr (inl (omega (arith, i.0, h.0), omega (arith, i.1, h.1)))))))
 gold-from a b i (inr (inr (inr (inr (inr (inr h)))))) = elim h [ ]
 
-black_gold : Piece
-black_gold = record { color = Black; kind = Gold }
-
 pub gold-reach : (cells : Cells) (a b : Square) → at cells a ≡ piece Black Gold → Reach cells a b ↔ IsAmong (gold_squares a) b
 gold-reach cells a b h =
     let j = b.on_board in (

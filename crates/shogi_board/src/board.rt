@@ -261,9 +261,9 @@ impl Board {
     pub(crate) fn attacker(&self, color: Color, square: Square) -> Option<Square>
         ensures { MatchOption result (Attacked self.now color square → ⊥) (λ a. Attack self.now color a square) }
     {
-        match self.attacker_in_line(color, square) {
+        match self.attacker_by_jump(color, square) {
             Some(from) => Some(from),
-            None => self.attacker_by_jump(color, square),
+            None => self.attacker_in_line(color, square),
         }
     }
 

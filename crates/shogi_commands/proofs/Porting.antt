@@ -10,18 +10,6 @@ use Rattle.std.specs.Str.{IsUtf8, bytes_eq}
 use Rattle.std.specs.Str.Parse.{ParsesUnsigned}
 use Rattle.shogi_commands.specs.Ports.{IsPort}
 
-pub behind_front : (front line rest : List ℕ) → bytes_eq (take (length front) line) front ≡ true → rest ≡ drop (length front) line → line ≡ front ++ rest
-behind_front front line rest is at =
-    sym (take-append-drop (length front) line)
-    ∙ ap (λ xs. xs ++ drop (length front) line) ((bytes_eq-Decides (take (length front) line) front).0 is)
-    ∙ ap (λ xs. front ++ xs) (sym at)
-
-pub other_front : (front line rest : List ℕ) → bytes_eq (take (length front) line) front ≡ false → line ≡ front ++ rest → ⊥
-other_front front line rest not whole =
-    let same : take (length front) line ≡ front = ap (take (length front)) whole ∙ take-append_seam front rest in
-    let is : bytes_eq (take (length front) line) front ≡ true = (bytes_eq-Decides (take (length front) line) front).1 same in
-    absurd cc
-
 pub same_behind : (front line rest found : List ℕ) → found ≡ drop (length front) line → line ≡ front ++ rest → found ≡ rest
 same_behind front line rest found at whole = at ∙ ap (drop (length front)) whole ∙ drop-append_seam front rest
 

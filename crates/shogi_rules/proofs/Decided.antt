@@ -29,10 +29,6 @@ decide-le m n = elim (cases_lt n m) [ inl lt ↦ inr (λ h. omega (arith, lt, h)
 pub decide-lt : (m n : ℕ) → Decision (m < n)
 decide-lt m n = elim (cases_lt m n) [ inl lt ↦ inl lt | inr le ↦ inr (λ h. omega (arith, le, h)) ]
 
-kind-of : Option Kind → Kind
-kind-of None = Pawn
-kind-of (Some k) = k
-
 -- a kind and an optional one are compared as cells of one colour are
 decide-option : (a : Option Kind) (k : Kind) → Decision (a ≡ Some k)
 decide-option None k = inr (λ h. cc)

@@ -6,7 +6,6 @@ use Rattle.shogi_board.specs.Cells.{at, piece}
 use Rattle.shogi_board.specs.Pieces.{is_hand_kind, is_promoted, place_of}
 use Rattle.shogi_board.specs.Material.{bag_of}
 use Rattle.shogi_board.specs.Placed.{Placed}
-use Rattle.shogi_board.specs.Reach.{Reach}
 use Rattle.shogi_board.specs.Squares.{place}
 use Rattle.shogi_board.specs.Totals.{hand_kinds}
 use Rattle.shogi_board.specs.declared.kind.Kind.{Kind}
@@ -97,12 +96,6 @@ none-stands p from empty (Put t k) from-there legal = from-there
 pub between-from : (from to : Square) (m : Move) → IsWalkBetween from to m → MovesFrom from m
 between-from from to (Walk g u k) h = h.0
 between-from from to (Put t k) h = h
-
-pub not-reached : (p : Placed) (from to : Square) → (Reach p.material.board from to → ⊥) → NoneOf p (IsWalkBetween from to)
-not-reached p from to far (Walk g u k) leads legal =
-    let there : Legal p (Walk from to k) = subst (Legal p) (let same : Walk g u k ≡ Walk from to k = rw (leads.0, leads.1) refl in same) legal in
-    far there.keeps.fits.reaches
-not-reached p from to far (Put t k) leads legal = leads
 
 -- an answer for the promoted form is one for both
 pub promoted-answer : (p : Placed) (from to : Square) (was k : Kind) (found : Option Move) → at p.material.board from ≡ piece p.side was → (Legal p (Walk from to was) → ⊥) → promoted was ≡ Some k

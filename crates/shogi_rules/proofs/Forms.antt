@@ -1,30 +1,14 @@
 -- What the tests of kinds and colours say.
-use Rattle.std.proofs.Common.{◌≡◌, ℕ, ◌<◌, ◌==◌, true, Option, Some, None, ◌⊎◌, inl, inr, arith, refl, ap, sym, lit<}
+use Rattle.std.proofs.Common.{◌≡◌, ℕ, ◌<◌, ◌==◌, true, Option, Some, None, ◌⊎◌, inl, inr, refl, ap, sym, lit<}
 use Rattle.std.proofs.lemmas.Bool.Decides.{Decides-eqb}
 use Rattle.shogi_board.specs.Cells.{piece}
 use Rattle.shogi_board.specs.declared.kind.Piece.{Piece}
-use Rattle.shogi_board.specs.Pieces.{place_of, is_king, is_hand_kind, same_kind, opponent, same_color}
+use Rattle.shogi_board.specs.Pieces.{place_of, is_king, is_hand_kind, opponent, same_color}
 use Rattle.shogi_board.specs.declared.color.Color.{Color}
 use Rattle.shogi_board.specs.declared.color.Color.TheVariants.{Black, White}
 use Rattle.shogi_board.specs.declared.kind.Kind.{Kind}
 use Rattle.shogi_board.specs.declared.kind.Kind.TheVariants.{Pawn, Lance, Knight, Silver, Gold, Bishop, Rook, King, ProPawn, ProLance, ProKnight, ProSilver, Horse, Dragon}
 use Rattle.shogi_rules.specs.Kinds.{promoted, unpromoted}
-
-pub same_kind-self : (k : Kind) → same_kind k k ≡ true
-same_kind-self Pawn = refl
-same_kind-self Lance = refl
-same_kind-self Knight = refl
-same_kind-self Silver = refl
-same_kind-self Gold = refl
-same_kind-self Bishop = refl
-same_kind-self Rook = refl
-same_kind-self King = refl
-same_kind-self ProPawn = refl
-same_kind-self ProLance = refl
-same_kind-self ProKnight = refl
-same_kind-self ProSilver = refl
-same_kind-self Horse = refl
-same_kind-self Dragon = refl
 
 -- a promoted form has the place of its kind
 pub promoted-place : (was its_kind : Kind) → promoted was ≡ Some its_kind → place_of its_kind ≡ place_of was
@@ -46,38 +30,6 @@ promoted-place Dragon its_kind h = cc
 pub form-place : (was its_kind : Kind) → (its_kind ≡ was) ⊎ (promoted was ≡ Some its_kind) → place_of its_kind ≡ place_of was
 form-place was its_kind (inl e) = ap place_of e
 form-place was its_kind (inr e) = promoted-place was its_kind e
-
-king-place : (k : Kind) → is_king k ≡ true → place_of k ≡ 7
-king-place Pawn h = cc
-king-place Lance h = cc
-king-place Knight h = cc
-king-place Silver h = cc
-king-place Gold h = cc
-king-place Bishop h = cc
-king-place Rook h = cc
-king-place King h = refl
-king-place ProPawn h = cc
-king-place ProLance h = cc
-king-place ProKnight h = cc
-king-place ProSilver h = cc
-king-place Horse h = cc
-king-place Dragon h = cc
-
-place-king : (k : Kind) → place_of k ≡ 7 → is_king k ≡ true
-place-king Pawn h = absurd (omega arith)
-place-king Lance h = absurd (omega arith)
-place-king Knight h = absurd (omega arith)
-place-king Silver h = absurd (omega arith)
-place-king Gold h = absurd (omega arith)
-place-king Bishop h = absurd (omega arith)
-place-king Rook h = absurd (omega arith)
-place-king King h = refl
-place-king ProPawn h = absurd (omega arith)
-place-king ProLance h = absurd (omega arith)
-place-king ProKnight h = absurd (omega arith)
-place-king ProSilver h = absurd (omega arith)
-place-king Horse h = absurd (omega arith)
-place-king Dragon h = absurd (omega arith)
 
 -- a piece that is no king may be held
 pub captured-held : (k : Kind) → (k ≡ King → ⊥) → is_hand_kind (unpromoted k) ≡ true

@@ -41,9 +41,21 @@ fn make_if_safe(position: &mut Position, safe: bool, mv: &Move) -> bool
     ensures value { result ≡ true → position.new ≡ after position.old mv.now }
     ensures unchanged { result ≡ false → position.new ≡ position.old }
 {
+    let danger = danger_after(position, safe, mv);
+    make(position, danger, mv)
+}
+
+// The same where it is known where a piece may be that attacks that king after the move.
+#[inline(always)]
+fn make(position: &mut Position, danger: Danger, mv: &Move) -> bool
+    requires fits { FitsBoard position.old mv.now }
+    requires danger { (s : Square) → at (board_after position.old mv.now) s ≡ piece position.old.side King → ComesFrom (board_after position.old mv.now) position.old.side s danger }
+    ensures safe { IsTrue result ↔ KingSafe position.old mv.now }
+    ensures value { result ≡ true → position.new ≡ after position.old mv.now }
+    ensures unchanged { result ≡ false → position.new ≡ position.old }
+{
     // a clause of `side` says that the position is sound
     let _side = position.side();
-    let danger = danger_after(position, safe, mv);
     match *mv {
         Move::Walk { from, to, kind } => position.walk(from, to, kind, danger),
         Move::Put { to, kind } => position.drop_piece(to, kind, danger),
@@ -57,7 +69,9 @@ pub fn after(position: &Position, mv: &Move) -> Position
     requires kept { Keeps position.now mv.now }
     ensures value { result ≡ after position.now mv.now }
 {
-    after_if_kept(position, mv).unwrap()
+    let mut next = *position;
+    make(&mut next, Danger::Nowhere, mv);
+    next
 }
 
 // Makes the position the one after the move, or says which of the rules 3 to 10 the side to move breaks first by it; then

@@ -72,9 +72,6 @@ timed_move old first new m time r none e so is =
     now ∙ (next ∙ (last ∙ ap (λ (x : Option Ended). record old { moves = old.moves ++ record { move = m; time = Some time } ∷ []; ending = x }) (sym none)))
 
 -- 3. what was told of an ending
-pub has_ending : (k : Option Ended) → is_some (course.ending_of k) ≡ is_some k
-has_ending None = refl
-has_ending (Some k) = refl
 
 -- the ending that a game was told, once it has one
 pub kept_again : (client : Color) (k : Option Ended) (why : Option Reason) (o : Outcome) → kept_of (is_some k) (ending_of client k why (Some o)) ≡ k

@@ -75,10 +75,6 @@ extra_statement c d number offset bytes h =
     let first = handed_first c d number offset bytes h in
     (unit_of c d offset, first.0, first.1, extra (handed_short c d number offset bytes h) refl)
 
-pub time_last : (old new : Cutting) (item : Item) (t : ℕ) → Next old (Ok (Some item)) new → saying_of item ≡ time t → ToCome new []
-    → LastTime old (Ok (Some t))
-time_last old new item t next says end = (next.0, subst (IsSpelt next.0) says next.1, next.2 [] end)
-
 pub time_then : (old new : Cutting) (item : Item) (t : ℕ) (fault : TextFault) → Next old (Ok (Some item)) new → saying_of item ≡ time t
     → EndFault new fault → LastTime old (Err fault)
 time_then old new item t fault next says more =

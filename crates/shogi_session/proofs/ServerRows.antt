@@ -102,9 +102,6 @@ pub rejected : (c : Config) (engine : EngineState) (offer : Offer) (line : List 
 rejected c engine offer line o reject h =
     by_row c engine engine (agreeing offer) (agreeing offer) (server_line line) o _ (Failed Rejected) (row.rejected offer line refl refl reject refl refl) h.2 h.0 h.1
 
-pub begun_play : (o : GameOffer) → IsOpen o.game → IsPlay (begun o)
-begun_play o i = record { game = ap Some (unended o.game o.game.ending i.none refl); legal = i.legal }
-
 -- the match at the start is that of the offer
 begun_match : (o : GameOffer) → IsOpen o.game → match_in (begun o) ≡ match_of (offer_in o)
 begun_match o i = ap (λ (x : Game). record { client = o.client; game = x; slip = false }) (unended o.game o.game.ending i.none refl)
@@ -149,12 +146,6 @@ pub hung_up : (c : Config) (engine : EngineState) (p : Own) (told : Told) (res :
 hung_up c engine p told res o at h =
     by_row c engine engine (play_client p) _ server_end o _ Done
     (row.closes _ _ _ (ap (staged (match_in p) p.game) at) (inr refl) refl refl) h.2 h.0 h.1
-
-pub over_play : (p : Own) (told : Told) (res : GameResult) → p.stage ≡ stages.Closing told res → IsPlay p → IsPlay (record p { stage = stages.Ended told res })
-over_play p told res at i = record {
-  game = sym (ap (λ x. game_of (staged (match_in p) p.game x)) at) ∙ i.game;
-  legal = i.legal;
-}
 
 pub or_stays : {E : Type 0} (r : Result Answered E) (P : Answered → Type 0) (c : Config) (engine engine_after : EngineState) (client client_after : Client) (e : Event)
     → MatchResult r P (λ f. Same engine client engine_after client_after) → MatchResult r P (λ f. Stays c engine client e engine_after client_after)

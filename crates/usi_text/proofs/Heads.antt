@@ -1,5 +1,5 @@
 -- The first two words of a position line.
-use Rattle.std.proofs.Common.{◌≡◌, ◌≢◌, ℕ, ◌<◌, List, [], ◌∷◌, ◌++◌, length, drop, arith, sym, ap, ◌∙◌, subst, codes}
+use Rattle.std.proofs.Common.{◌≡◌, ◌≢◌, ℕ, ◌<◌, List, [], ◌∷◌, ◌++◌, length, drop, arith, sym, ap, ◌∙◌, codes}
 use Rattle.std.specs.List.{AllByRecursion}
 use Rattle.usi_text.specs.Lines.{HasMoves, EvenLine, SfenLine}
 use Rattle.usi_text.specs.Words.{nth_word}
@@ -29,13 +29,6 @@ second_of ws a b p x y e f = let g : p ∷ x ∷ a ≡ p ∷ y ∷ b = sym e ∙
 
 pub sizes : (x y : List ℕ) → x ≡ y → length x ≢ length y → ⊥
 sizes x y e h = h (ap length e)
-
--- where no moves may follow behind startpos
-pub even_refused : (ws tail : List (List ℕ)) → ws ≡ codes "position" ∷ codes "startpos" ∷ tail → ((moves : List (List ℕ)) → HasMoves tail moves → ⊥) → ((moves : List (List ℕ)) → EvenLine ws moves → ⊥) × ((sfen moves : List (List ℕ)) → SfenLine ws sfen moves → ⊥)
-even_refused ws tail e none = (
-  λ moves l. none moves (subst (λ t. HasMoves t moves) (same_tail ws l.0 tail (codes "position") (codes "startpos") l.1 e) l.2),
-  λ sfen moves s. sizes (codes "startpos") (codes "sfen") (second_of ws tail (sfen ++ s.tail) (codes "position") (codes "startpos") (codes "sfen") e s.whole) (omega arith),
-)
 
 no_front : (sfen tail all moves : List (List ℕ)) → all ≡ sfen ++ tail → 0 < length sfen → AllByRecursion (λ w. w ≢ codes "moves") sfen → HasMoves all moves → ⊥
 no_front [] tail all moves e some before has = absurd (omega arith)

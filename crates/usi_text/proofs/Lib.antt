@@ -17,7 +17,6 @@ pub mod Runs
 pub mod Settings
 pub mod Setups
 pub mod SfenOnce
-pub mod Sfens
 pub mod Spelt
 pub mod Splits
 pub mod Standing

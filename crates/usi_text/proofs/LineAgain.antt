@@ -97,9 +97,6 @@ moves_end : (p : Placed) (ms : List Move) (text : List ℕ) → MovesText p ms t
 moves_end p [] text h = rw h tt
 moves_end p (m ∷ ms) text h = rw h.2 refl
 
-after_space : (text : List ℕ) → words (32 ∷ text) ≡ words text
-after_space text = refl
-
 one_word : (w rest : List ℕ) → AreWord w → 0 < length w → EndsWord rest → words (w ++ rest) ≡ w ∷ words rest
 one_word w rest h some ends =
     words_joined w rest ends ∙ ap (λ x. x ++ words rest) (words_alone w (no_space w h) some)

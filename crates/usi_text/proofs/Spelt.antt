@@ -8,7 +8,7 @@ use Rattle.shogi_board.specs.declared.kind.Kind.{Kind}
 use Rattle.shogi_board.specs.declared.kind.Kind.TheVariants.{Pawn, Lance, Knight, Silver, Gold, Bishop, Rook, King, ProPawn, ProLance, ProKnight, ProSilver, Horse, Dragon}
 use Rattle.shogi_board.specs.declared.kind.Piece.{Piece}
 use Rattle.shogi_board.specs.Pieces.{is_promoted}
-use Rattle.shogi_rules.specs.Kinds.{promoted, unpromoted}
+use Rattle.shogi_rules.specs.Kinds.{unpromoted}
 use Rattle.usi_text.specs.declared.parts.Part.{Part}
 use Rattle.usi_text.specs.declared.parts.Part.TheVariants.{Empty, Stands}
 use Rattle.usi_text.specs.Boards.{IsPart, part_text}
@@ -175,78 +175,6 @@ not_promoted Dragon = refl
 pub no_promoted : (l : ℕ) → ((p : Piece) → is_promoted p.kind ≡ false → side_letter p ≡ l → ⊥) → (p : Piece) → side_letter p ≡ l → ⊥
 no_promoted l none p e =
     none (made p.color (unpromoted p.kind)) (not_promoted p.kind) (unpromoted_letter p.color p.kind ∙ e)
-
-promotes_again : (a b : Kind) → promoted a ≡ Some b → (letter b ≡ letter a) × (is_promoted b ≡ true)
-promotes_again Pawn b e = let d : ProPawn ≡ b = cc in rw (← d) (refl, refl)
-promotes_again Lance b e = let d : ProLance ≡ b = cc in rw (← d) (refl, refl)
-promotes_again Knight b e = let d : ProKnight ≡ b = cc in rw (← d) (refl, refl)
-promotes_again Silver b e = let d : ProSilver ≡ b = cc in rw (← d) (refl, refl)
-promotes_again Gold b e = cc
-promotes_again Bishop b e = let d : Horse ≡ b = cc in rw (← d) (refl, refl)
-promotes_again Rook b e = let d : Dragon ≡ b = cc in rw (← d) (refl, refl)
-promotes_again King b e = cc
-promotes_again ProPawn b e = cc
-promotes_again ProLance b e = cc
-promotes_again ProKnight b e = cc
-promotes_again ProSilver b e = cc
-promotes_again Horse b e = cc
-promotes_again Dragon b e = cc
-
-pub promoted_letter : (c : Color) (a b : Kind) → promoted a ≡ Some b → (color_letter c b ≡ color_letter c a) × (is_promoted b ≡ true)
-promoted_letter Black a b e = promotes_again a b e
-promoted_letter White a b e = let h = promotes_again a b e in (ap (λ n. n + 32) h.0, h.1)
-
-no_promoted_gold : (m : Kind) → is_promoted m ≡ true → letter m ≡ 71 → ⊥
-no_promoted_gold Pawn t e = cc
-no_promoted_gold Lance t e = cc
-no_promoted_gold Knight t e = cc
-no_promoted_gold Silver t e = cc
-no_promoted_gold Gold t e = cc
-no_promoted_gold Bishop t e = cc
-no_promoted_gold Rook t e = cc
-no_promoted_gold King t e = cc
-no_promoted_gold ProPawn t e = absurd (omega arith)
-no_promoted_gold ProLance t e = absurd (omega arith)
-no_promoted_gold ProKnight t e = absurd (omega arith)
-no_promoted_gold ProSilver t e = absurd (omega arith)
-no_promoted_gold Horse t e = absurd (omega arith)
-no_promoted_gold Dragon t e = absurd (omega arith)
-
-no_promoted_king : (m : Kind) → is_promoted m ≡ true → letter m ≡ 75 → ⊥
-no_promoted_king Pawn t e = cc
-no_promoted_king Lance t e = cc
-no_promoted_king Knight t e = cc
-no_promoted_king Silver t e = cc
-no_promoted_king Gold t e = cc
-no_promoted_king Bishop t e = cc
-no_promoted_king Rook t e = cc
-no_promoted_king King t e = cc
-no_promoted_king ProPawn t e = absurd (omega arith)
-no_promoted_king ProLance t e = absurd (omega arith)
-no_promoted_king ProKnight t e = absurd (omega arith)
-no_promoted_king ProSilver t e = absurd (omega arith)
-no_promoted_king Horse t e = absurd (omega arith)
-no_promoted_king Dragon t e = absurd (omega arith)
-
--- a letter whose unpromoted kind does not promote is that of no promoted piece
-none_promotes : (k m : Kind) → is_promoted k ≡ false → promoted k ≡ None → is_promoted m ≡ true → letter m ≡ letter k → ⊥
-none_promotes Pawn m h n t e = cc
-none_promotes Lance m h n t e = cc
-none_promotes Knight m h n t e = cc
-none_promotes Silver m h n t e = cc
-none_promotes Gold m h n t e = no_promoted_gold m t e
-none_promotes Bishop m h n t e = cc
-none_promotes Rook m h n t e = cc
-none_promotes King m h n t e = no_promoted_king m t e
-none_promotes ProPawn m h n t e = cc
-none_promotes ProLance m h n t e = cc
-none_promotes ProKnight m h n t e = cc
-none_promotes ProSilver m h n t e = cc
-none_promotes Horse m h n t e = cc
-none_promotes Dragon m h n t e = cc
-
-pub no_other : (c d : Color) (k m : Kind) → is_promoted k ≡ false → promoted k ≡ None → is_promoted m ≡ true → color_letter d m ≡ color_letter c k → ⊥
-no_other c d k m h n t e = none_promotes k m h n t (same_letters d c m k e).1
 
 pub one_digit : (n : ℕ) → n < 10 → decimal n ≡ (48 + n) ∷ []
 one_digit n h = decimal_digit n h

@@ -9,7 +9,7 @@ use Rattle.shogi_rules.specs.declared.moves.Move.TheVariants.{Walk, Put}
 use Rattle.shogi_rules.proofs.Forms.{captured-held}
 use Rattle.shogi_rules.proofs.Kept.{after-within}
 use Rattle.shogi_rules.proofs.Walks.{start-of, no-king-taken}
-use Rattle.shogi_rules.proofs.playing.make_if_safe.Goals as goal
+use Rattle.shogi_rules.proofs.playing.make.Goals as goal
 
 pub walk-requires-clause-totals : goal.walk-requires-clause-totals
 walk-requires-clause-totals c =
@@ -27,7 +27,7 @@ pub walk-requires-clause-danger : goal.walk-requires-clause-danger
 walk-requires-clause-danger c = λ s there.
     let p = c.args.position.now in
     let before = subst (λ (m : Move). at (board_after p m) s ≡ piece p.side King) (sym c.in-Walk.is) there in
-    subst (λ (m : Move). ComesFrom (board_after p m) p.side s c.danger_after-danger.result) c.in-Walk.is (c.danger_after-danger.ensures s before)
+    subst (λ (m : Move). ComesFrom (board_after p m) p.side s c.args.danger) c.in-Walk.is (c.requires.danger s before)
 
 pub drop_piece-requires-clause-totals : goal.drop_piece-requires-clause-totals
 drop_piece-requires-clause-totals c =
@@ -38,7 +38,7 @@ pub drop_piece-requires-clause-danger : goal.drop_piece-requires-clause-danger
 drop_piece-requires-clause-danger c = λ s there.
     let p = c.args.position.now in
     let before = subst (λ (m : Move). at (board_after p m) s ≡ piece p.side King) (sym c.in-Put.is) there in
-    subst (λ (m : Move). ComesFrom (board_after p m) p.side s c.danger_after-danger.result) c.in-Put.is (c.danger_after-danger.ensures s before)
+    subst (λ (m : Move). ComesFrom (board_after p m) p.side s c.args.danger) c.in-Put.is (c.requires.danger s before)
 
 pub returns-in-Walk-clause-safe : goal.returns-in-Walk-clause-safe
 returns-in-Walk-clause-safe c = rw c.in-Walk.is c.walk.ensures.answer
