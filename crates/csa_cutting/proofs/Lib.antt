@@ -17,6 +17,7 @@ pub mod FirstLong
 pub mod Holding
 pub mod WholeRuns
 pub mod LineRuns
+mod Places
 mod Lent
 mod LinesFound
 mod Stretches

@@ -9,11 +9,15 @@ ghost use Rattle.csa_cutting.specs.Places.{IsFoundIn, PassesTo};
 use crate::comments::{COMMENT, comments_end};
 use crate::line::{is_line_end, line_length};
 use crate::scan::front_length;
+use memchr::memchr3_iter;
 
 // The first byte of a name, and that of a header.
 const NAME: u8 = b'N';
 
 const HEADER: u8 = b'$';
+
+// The first byte of a time.
+const TIME: u8 = b'T';
 
 // The UTF-8 byte order mark.
 pub(crate) const BYTE_ORDER_MARK: [u8; 3] = [0xEF, 0xBB, 0xBF];
@@ -105,9 +109,23 @@ pub(crate) fn unit_length(first: u8, text: &[u8]) -> usize
 {
     if takes_line(first) {
         line_length(text)
-    } else {
+    } else if first == TIME {
+        // A time has so few bytes that to look at each takes less than a search.
         front_length(text, is_in_statement)
+    } else {
+        plain_length(text)
     }
+}
+
+// How many bytes of the text come before a CR, LF or comma, each of which ends a unit that does not take the whole line.
+#[inline(never)]
+fn plain_length(text: &[u8]) -> usize
+    ensures value { (first : ℕ) → takes_line first ≡ false → result ≡ position_or_len (is_end first) text.now }
+    ensures within { result ≤ length text.now }
+{
+    memchr3_iter(b'\r', b'\n', b',', text)
+        .next()
+        .unwrap_or(text.len())
 }
 
 // Where the next unit at or after `from` starts, a comment too.

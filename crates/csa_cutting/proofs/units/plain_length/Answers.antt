@@ -1,0 +1,32 @@
+use Rattle.std.proofs.Common.{◌≡◌, ℕ, List, Bool, true, false, [], ◌∷◌, refl, ◌∙◌, arith}
+use Rattle.std.specs.Prelude.{not, ◌==◌, ◌||◌, ◌&&◌}
+use Rattle.std.specs.List.{position_or_len}
+use Rattle.std.proofs.lemmas.List.Sums.{prefix_len-le-length}
+use Rattle.memchr.specs.Find.{is_byte3}
+use Rattle.csa_cutting.specs.Cut.{is_end, takes_line}
+use Rattle.csa_cutting.proofs.Places.{first_or_all}
+use Rattle.csa_cutting.proofs.units.plain_length.Goals as goal
+
+with_comma : (r n c : Bool) → r || n || c ≡ r || n || (c && true)
+with_comma true n c = refl
+with_comma false true c = refl
+with_comma false false true = refl
+with_comma false false false = refl
+
+-- where a unit does not take its line, a comma ends it too
+ends_alike : (first b : ℕ) → takes_line first ≡ false → is_byte3 13 10 44 b ≡ is_end first b
+ends_alike first b h = rw h (with_comma (b == 13) (b == 10) (b == 44))
+
+plain_alike : (first : ℕ) (text : List ℕ) → takes_line first ≡ false → position_or_len (is_byte3 13 10 44) text ≡ position_or_len (is_end first) text
+plain_alike first [] h = refl
+plain_alike first (b ∷ bs) h = rw (← ends_alike first b h, plain_alike first bs h) refl
+
+pub returns-clause-value : goal.returns-clause-value
+returns-clause-value c = λ first plain.
+    c.unwrap_or.ensures ∙ first_or_all (is_byte3 13 10 44) c.args.text.now c.memchr3_iter.result c.next.new.self c.next.result c.memchr3_iter.ensures.value c.next.ensures.steps
+    ∙ plain_alike first c.args.text.now plain
+
+pub returns-clause-within : goal.returns-clause-within
+returns-clause-within c =
+    let value : c.unwrap_or.result ≡ position_or_len (is_byte3 13 10 44) c.args.text.now = c.unwrap_or.ensures ∙ first_or_all (is_byte3 13 10 44) c.args.text.now c.memchr3_iter.result c.next.new.self c.next.result c.memchr3_iter.ensures.value c.next.ensures.steps in
+    omega (arith, value, prefix_len-le-length (λ b. not (is_byte3 13 10 44 b)) c.args.text.now)
