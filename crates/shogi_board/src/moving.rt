@@ -24,8 +24,8 @@ impl Position {
     /// on `to` goes to the mover's hand, unpromoted. Says whether the mover's king is not attacked then; where it is, the
     /// position stays as it was.
     ///
-    /// The danger says where the mover's king may be attacked from after the walk. To be called with two squares, where no
-    /// king is captured and no more pieces stand then than a game has.
+    /// The danger says where the mover's king may be attacked from after the walk. To be called with two different squares,
+    /// where no king is captured and no more pieces stand then than a game has.
     #[inline(always)]
     pub fn walk(&mut self, from: Square, to: Square, kind: Kind, danger: Danger) -> bool
         requires apart { place from ≢ place to }

@@ -207,6 +207,7 @@ fn tells_the_parts_of_moves(rt: HostRuntime) -> Result<(), Fail> {
     laws::some_first_broken_rule();
     laws::one_answer();
     laws::some_answer();
+    laws::ordered_rules();
     laws::one_first_legal();
     laws::times_counts_equal_positions();
     laws::nth_place_once();
@@ -338,8 +339,9 @@ fn shown(start: Position, seed: u64, most: usize) -> u64 {
     shown
 }
 
-// Some thousand positions of random play: what `judge` and `first_legal` say there, beside what the rules said plainly have of
-// them. It takes three to four times as long as the counts above.
+// Some thousand positions of random play: how many moves `judge` lets through in each, and which move `first_legal` gives, must
+// be as the rules of tests/random_play have it, which are said plainly. One number is compared for each game. It takes four to
+// five times as long as the counts above.
 #[test]
 fn random_play_is_judged(rt: HostRuntime) -> Result<(), Fail> {
     for (pieces, seed, most, wanted) in GAMES {

@@ -21,10 +21,15 @@ plain_alike : (first : ℕ) (text : List ℕ) → takes_line first ≡ false →
 plain_alike first [] h = refl
 plain_alike first (b ∷ bs) h = rw (← ends_alike first b h, plain_alike first bs h) refl
 
+-- whatever bytes are searched for, if they are CR, LF and comma
+needles_alike : (r n comma first : ℕ) (text : List ℕ) → r ≡ 13 → n ≡ 10 → comma ≡ 44 → takes_line first ≡ false
+    → position_or_len (is_byte3 r n comma) text ≡ position_or_len (is_end first) text
+needles_alike r n comma first text is_cr is_lf is_comma h = rw (is_cr, is_lf, is_comma) (plain_alike first text h)
+
 pub returns-clause-value : goal.returns-clause-value
 returns-clause-value c = λ first plain.
-    c.unwrap_or.ensures ∙ first_or_all (is_byte3 13 10 44) c.args.text.now c.memchr3_iter.result c.next.new.self c.next.result c.memchr3_iter.ensures.value c.next.ensures.steps
-    ∙ plain_alike first c.args.text.now plain
+    c.unwrap_or.ensures ∙ first_or_all (is_byte3 _ _ _) c.args.text.now c.memchr3_iter.result c.next.new.self c.next.result c.memchr3_iter.ensures.value c.next.ensures.steps
+    ∙ needles_alike _ _ _ first c.args.text.now (omega arith) (omega arith) (omega arith) plain
 
 pub returns-clause-within : goal.returns-clause-within
 returns-clause-within c =
