@@ -1,6 +1,6 @@
 ghost use Rattle.std.specs.Prelude.{◌<◌};
 
-use crate::random_play::GAMES;
+use crate::random_play::{DROP_GAMES, GAMES};
 use shogi_board::{Color, Kind, OutOfMemory, Position, Setup, Square};
 use shogi_rules::{
     Line, Move, PlayFault, Rule, Verdict, after, first_legal, in_check, judge, laws,
@@ -339,12 +339,10 @@ fn shown(start: Position, seed: u64, most: usize) -> u64 {
     shown
 }
 
-// Some thousand positions of random play: how many moves `judge` lets through in each, and which move `first_legal` gives, must
-// be as the rules of tests/random_play have it, which are said plainly. One number is compared for each game. It takes four to
-// five times as long as the counts above.
-#[test]
-fn random_play_is_judged(rt: HostRuntime) -> Result<(), Fail> {
-    for (pieces, seed, most, wanted) in GAMES {
+// Plays the games, and looks whether they show what the table has of them.
+fn play_games(rt: &impl Abort, games: &[(&str, u64, usize, u64)]) -> Result<(), Fail> {
+    for game in games {
+        let (pieces, seed, most, wanted) = *game;
         let start = match pieces {
             "" => Position::even(),
             _ => position(Color::Black, pieces)?,
@@ -352,6 +350,15 @@ fn random_play_is_judged(rt: HostRuntime) -> Result<(), Fail> {
         assert_eq!(rt; shown(start, seed, most), wanted, "{pieces} {seed}");
     }
     Ok(())
+}
+
+// Some thousand positions of random play: how many moves `judge` lets through in each, and which move `first_legal` gives, must
+// be as the rules of tests/random_play have it, which are said plainly. One number is compared for each game. It takes four to
+// five times as long as the counts above.
+#[test]
+fn random_play_is_judged(rt: HostRuntime) -> Result<(), Fail> {
+    play_games(&rt, &GAMES)?;
+    play_games(&rt, &DROP_GAMES)
 }
 
 // The square of a king that goes round on two ranks, from file 1 of the first.
