@@ -1,5 +1,5 @@
 -- A bridge that plays, round after round.
-use Rattle.std.proofs.Common.{◌≡◌, ◌≤◌, ◌+◌, ◌-◌, ◌^◌, ℕ, List, Err, IsErrOf, ap, arith, refl, subst, ◌∙◌}
+use Rattle.std.proofs.Common.{◌≡◌, ◌+◌, ℕ, List, Err, IsErrOf, ap, refl, subst, ◌∙◌}
 use Rattle.session_table.specs.declared.event.Status.{Status}
 use Rattle.session_table.specs.declared.event.Status.TheVariants.{Going}
 use Rattle.session_table.specs.declared.fault.SessionFault.{SessionFault}
@@ -12,7 +12,7 @@ use Rattle.session_loops.specs.declared.bridging.Seat.{Seat}
 use Rattle.session_loops.specs.declared.fault.Fault.{Fault}
 use Rattle.session_loops.specs.declared.fault.Fault.TheVariants as fault
 use Rattle.session_loops.specs.declared.incoming.Heard.{Heard}
-use Rattle.session_loops.specs.Plays.{HearsNext, Hears, IsEndless, Played, Sends, Tells, event_from, rounds, seat_for, begun, goes_on}
+use Rattle.session_loops.specs.Plays.{HearsNext, Hears, Played, Sends, Tells, event_from, rounds, seat_for, begun, goes_on}
 
 -- a step was made whose lines are not sent yet, after so many rounds
 pub data Answered {E : Type 0} (heard : Hears E) (told gone : Tells E) (e : E) (s : Session) (to_engine to_server : List ℕ) (status : Status) : ℕ → E → Session → Type 0 where

@@ -1,5 +1,5 @@
 -- A bridge that plays, and is refused memory.
-use Rattle.std.proofs.Common.{◌≡◌, ℕ, List, Result, Ok, Err, OnErr, ap, refl, subst, ◌∙◌}
+use Rattle.std.proofs.Common.{◌≡◌, ℕ, List, Result, Ok, Err, OnErr, ap, subst, ◌∙◌}
 use Rattle.session_table.specs.declared.event.Status.{Status}
 use Rattle.session_table.specs.declared.event.Status.TheVariants.{Going, Lost}
 use Rattle.session_table.specs.declared.state.Waits.{Waits}
@@ -10,7 +10,7 @@ use Rattle.session_loops.specs.declared.bridging.Seat.{Seat}
 use Rattle.session_loops.specs.declared.fault.Fault.{Fault}
 use Rattle.session_loops.specs.declared.bridging.Seat.TheVariants.{Engine, Server}
 use Rattle.session_loops.specs.Plays.{Delivers, Hears, Misses, Tells, seat_for}
-use Rattle.session_loops.specs.Wanting.{GoneWants, HearWants, not_heard, not_stepped, PlayWants, SendWants, server_gone, StepWants, first_unsent, later_unsent, no_next}
+use Rattle.session_loops.specs.Wanting.{GoneWants, HearWants, not_stepped, PlayWants, SendWants, server_gone, StepWants, first_unsent, later_unsent, no_next}
 use Rattle.session_loops.proofs.Playing.{Answered, Rounds, first, later}
 
 -- what holds anyway holds at an error

@@ -45,7 +45,7 @@ fn make_if_safe(position: &mut Position, safe: bool, mv: &Move) -> bool
     make(position, danger, mv)
 }
 
-// The same where it is known where a piece may be that attacks that king after the move.
+// The same, where the danger says where an attack on that king may come from after the move.
 #[inline(always)]
 fn make(position: &mut Position, danger: Danger, mv: &Move) -> bool
     requires fits { FitsBoard position.old mv.now }
@@ -70,6 +70,7 @@ pub fn after(position: &Position, mv: &Move) -> Position
     ensures value { result ≡ after position.now mv.now }
 {
     let mut next = *position;
+    // the rules are kept, so nothing attacks that king then, and the move is made
     make(&mut next, Danger::Nowhere, mv);
     next
 }
