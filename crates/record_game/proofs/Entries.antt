@@ -4,7 +4,6 @@ use Rattle.std.specs.List.{AllByRecursion}
 use Rattle.std.proofs.lemmas.Bool.{cases_lt}
 use Rattle.record_game.specs.Game.{Entry}
 use Rattle.record_game.specs.Limits.{is_below, Rising}
-use Rattle.record_game.specs.Says.{IsValue, AreEntries}
 use Rattle.record_game.proofs.SaysOnce.{below_first, below_next}
 
 -- of two texts one comes before the other, or they are equal

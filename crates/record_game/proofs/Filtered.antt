@@ -3,7 +3,7 @@ use Rattle.std.proofs.Common.{◌≡◌, Bool, true, false, List, [], ◌∷◌,
 use Rattle.std.specs.List.{AllByRecursion, filter_map}
 use Rattle.shogi_board.specs.declared.color.Color.{Color}
 use Rattle.csa_text.specs.Saying.{Saying, version, name, header, even, rank, pieces, turn, walked, time, ending}
-use Rattle.record_game.specs.Items.{is_version, name_given, names, header_given, headers, is_even, rank_given, ranks, is_position, positions, side_given, sides, is_body, body}
+use Rattle.record_game.specs.Items.{is_version, name_given, names, header_given, headers, is_even, rank_given, ranks, is_position, positions, is_body, body}
 
 abbrev pub AreBody : List Saying → Type 0
 AreBody ss = AllByRecursion (λ s. is_body s ≡ true) ss

@@ -19,7 +19,7 @@ use Rattle.csa_text.specs.Codes.{move_text}
 use Rattle.usi_text.specs.Words.{words, nth_word}
 use Rattle.session_peers.specs.declared.config.HostConfig.{HostConfig}
 use Rattle.session_peers.specs.declared.outcome.Outcome.{Outcome}
-use Rattle.session_peers.specs.Host.{HostState, HostRow, HostTableRow, HostMoves, BeforeLogin, AfterSummary, InPlay, AfterMove, IsLogin, IsWordAndOne, IsGoodMove, IsUnnamed, with_move, moved_line, outcome_lines, even_game, waiting, offered, playing, decided, ended, in_table, skipped}
+use Rattle.session_peers.specs.Host.{HostState, HostMoves, BeforeLogin, AfterSummary, InPlay, AfterMove, IsLogin, IsWordAndOne, IsGoodMove, IsUnnamed, with_move, moved_line, outcome_lines, even_game, waiting, offered, playing, decided, ended, in_table, skipped}
 use Rattle.session_peers.specs.Host as row
 use Rattle.session_peers.specs.Hosting.{RowText, MovesBehind, Begins, Follows, follows, follows_last, Tries, taken, refused, Rests, rests, rests_last}
 use Rattle.session_lines.specs.MoveLines.{is_move_line, TellsMove}

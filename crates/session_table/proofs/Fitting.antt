@@ -12,7 +12,7 @@ use Rattle.session_table.specs.Events.{Out, Event}
 use Rattle.session_table.specs.Logs.{Step, Leads, new, next}
 use Rattle.session_table.specs.Row.{Play, in_play, before_result, Judged, IsExpected, TableRow, in_table, unnamed}
 use Rattle.session_table.specs.Row as row
-use Rattle.session_table.specs.State.{Match, Finish, Answer, Client, idle, logging_in, before_summary, summary, agreeing, playing, sent, reason, closing, ended, State, client_state, position_now}
+use Rattle.session_table.specs.State.{Match, Finish, Client, idle, logging_in, before_summary, summary, agreeing, playing, sent, reason, closing, ended, State, client_state, position_now}
 
 abbrev IsFirst : EngineState → Type 0
 IsFirst New = Unit {0}

@@ -1,5 +1,5 @@
 -- What a cutter hands out next, as an item.
-use Rattle.std.proofs.Common.{◌≡◌, ℕ, ◌≤◌, List, [], ◌∷◌, length, drop, slice_range, Ok, Err, Some, arith, refl, subst, inr}
+use Rattle.std.proofs.Common.{◌≡◌, ℕ, ◌≤◌, List, ◌∷◌, length, drop, slice_range, Ok, Err, Some, arith, refl, subst, inr}
 use Rattle.csa_cutting.proofs.Fronts.{length_between}
 use Rattle.csa_cutting.proofs.Runs.{found}
 use Rattle.csa_cutting.proofs.Spoken.{told_first}

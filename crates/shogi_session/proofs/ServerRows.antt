@@ -1,5 +1,5 @@
 -- How the answers to lines of the server before a game are rows of the table.
-use Rattle.std.proofs.Common.{◌≡◌, ℕ, ◌++◌, ◌⊎◌, inl, inr, Result, Ok, Err, true, false, List, [], ◌∷◌, Option, Some, None, codes, refl, sym, ap, subst, ◌∙◌}
+use Rattle.std.proofs.Common.{◌≡◌, ℕ, ◌++◌, ◌⊎◌, inl, inr, Result, Ok, Err, true, false, List, [], ◌∷◌, Option, None, codes, refl, sym, ap, subst, ◌∙◌}
 use Rattle.std.specs.Prelude.{IfOk, OnOk, OnErr, MatchResult}
 use Rattle.csa_record.specs.Game.{Game, Ended}
 use Rattle.session_table.specs.declared.config.Config.{Config}
@@ -22,7 +22,7 @@ use Rattle.session_table.specs.Events.{Event, begin, server_line, server_end, en
 use Rattle.session_table.specs.GameTold.{game_of}
 use Rattle.session_table.specs.Hearing.{heard_after}
 use Rattle.shogi_session.specs.Offers.{offer_in}
-use Rattle.shogi_session.specs.Phases.{Reacts, Stays, Same, GoesOn, IsOpen, IsPhase, IsPlay, begun, client_of, going, match_in, play_client, staged}
+use Rattle.shogi_session.specs.Phases.{Reacts, Stays, Same, GoesOn, IsOpen, IsPhase, begun, client_of, going, match_in, play_client, staged}
 use Rattle.session_table.specs.Promises.{before}
 use Rattle.session_table.specs.Row.{IsUnnamed}
 use Rattle.session_table.specs.Row as row
