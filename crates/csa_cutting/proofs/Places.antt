@@ -43,3 +43,9 @@ pub first_or_all : (passes : ℕ → Bool) (text all rest : List ℕ) (first : O
     → unwrap_or first (length text) ≡ position_or_len passes text
 first_or_all passes text all rest None whole t = none_is passes text (sym whole ∙ t.0)
 first_or_all passes text all rest (Some end) whole t = first_is passes text end rest (sym whole ∙ t)
+
+-- no more than the text has
+pub within_text : (passes : ℕ → Bool) (text all rest : List ℕ) (first : Option ℕ) → all ≡ places passes text → TakesFirst all first rest
+    → unwrap_or first (length text) ≤ length text
+within_text passes text all rest first whole t =
+    omega (arith, first_or_all passes text all rest first whole t, prefix_len-le-length (λ b. not (passes b)) text)

@@ -117,14 +117,19 @@ still-moves : (p : Placed) (m : Move) (a s : Square) (x : Piece) → IsSound p �
 still-moves p m a s x sound past (inl step) = inl step
 still-moves p m a s x sound past (inr slide) = inr (still-in-sight p m a s x sound past slide)
 
--- after any other move the checking piece still reaches the king
-pub still-in-check : (p : Placed) (m : Move) (a s : Square) → IsSound p → FitsBoard p m → at p.material.board s ≡ piece p.side King → Attack p.material.board p.side a s → (MovesFrom s m → ⊥) → (StopsCheck a s (target m) → ⊥) → InCheck (after p m).material.board p.side
-still-in-check p m a s sound fits king attack still past =
+-- after any other move the king stands where it stood, and the checking piece still attacks it
+pub still-attacks : (p : Placed) (m : Move) (a s : Square) → IsSound p → FitsBoard p m → at p.material.board s ≡ piece p.side King → Attack p.material.board p.side a s → (MovesFrom s m → ⊥) → (StopsCheck a s (target m) → ⊥) → (at (after p m).material.board s ≡ piece p.side King) × Attack (after p m).material.board p.side a s
+still-attacks p m a s sound fits king attack still past =
     let x = attack.reach.mover in
     let stands : at (board_after p m) a ≡ Some x = stays p m a x fits (enemy-stays p m a x fits attack.reach.stands attack.enemy) (λ e. past (inl e)) attack.reach.stands in
     let there : at (board_after p m) s ≡ piece p.side King = stays p m s (record { color = p.side; kind = King }) fits still (own-free p m s King fits king) king in
     let reach : Reach (board_after p m) a s = record { mover = x; stands = stands; moves = still-moves p m a s x sound (λ b. past (inr b)) attack.reach.moves } in
-    (s, there, (a, record { reach = reach; enemy = attack.enemy }))
+    (there, record { reach = reach; enemy = attack.enemy })
+
+-- so its side is still in check
+still-in-check : (p : Placed) (m : Move) (a s : Square) → IsSound p → FitsBoard p m → at p.material.board s ≡ piece p.side King → Attack p.material.board p.side a s → (MovesFrom s m → ⊥) → (StopsCheck a s (target m) → ⊥) → InCheck (after p m).material.board p.side
+still-in-check p m a s sound fits king attack still past =
+    let kept = still-attacks p m a s sound fits king attack still past in (s, kept.0, (a, kept.1))
 
 -- 3. The search
 -- a move that keeps the rules 3 to 10 moves the king or stops the check

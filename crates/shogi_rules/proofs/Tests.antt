@@ -26,5 +26,5 @@ unmet P None b e off h = h
 unmet P (Some k) b e off h = cc
 
 pub promotes : (p : Placed) (from to : Square) (was kind : Kind) → at p.material.board from ≡ piece p.side was → (kind ≡ was) ⊎ InZone p.side from ⊎ InZone p.side to → MayPromote p (Walk from to kind)
-promotes p from to was kind own (inl e) = inl (subst (λ (k : Kind). at p.material.board from ≡ piece p.side k) (sym e) own)
-promotes p from to was kind own (inr zone) = inr zone
+promotes p from to was k own (inl e) = inl (subst (λ (x : Kind). at p.material.board from ≡ piece p.side x) (sym e) own)
+promotes p from to was k own (inr zone) = inr zone

@@ -8,15 +8,16 @@ ghost use Rattle.shogi_board.specs.Cells.{Cells, at, piece};
 ghost use Rattle.shogi_board.specs.Pieces.{opponent};
 ghost use Rattle.shogi_board.specs.Placed.{Placed};
 ghost use Rattle.shogi_board.specs.Sound.{IsSound};
-ghost use Rattle.shogi_board.specs.Reach.{Reach, InCheck};
+ghost use Rattle.shogi_board.specs.Reach.{Attack, Reach, InCheck};
 ghost use Rattle.shogi_board.specs.Totals.{total};
 ghost use Rattle.shogi_board.specs.declared.color.Color.{Color};
 ghost use Rattle.shogi_board.specs.declared.kind.Kind.{Kind};
 ghost use Rattle.shogi_board.specs.declared.kind.Kind.TheVariants.{King, Pawn, Lance, Knight};
 ghost use Rattle.shogi_board.specs.declared.square.Square.{Square};
 ghost use Rattle.shogi_rules.specs.After.{after};
+ghost use Rattle.shogi_rules.specs.Evasions.{MovesFrom, StopsCheck};
 ghost use Rattle.shogi_rules.specs.Kinds.{rank_for, last_rank};
-ghost use Rattle.shogi_rules.specs.Legal.{HasPiece, ReachesTarget, Legal};
+ghost use Rattle.shogi_rules.specs.Legal.{FitsBoard, HasPiece, Keeps, ReachesTarget, Legal, target};
 ghost use Rattle.shogi_rules.specs.Order.{IsFirstLegal};
 ghost use Rattle.shogi_rules.specs.Play.{Answers};
 ghost use Rattle.shogi_rules.specs.Positions.{Played, position_after, IsGame, now_of, all_of};
@@ -42,9 +43,10 @@ pub fn last_ranks()
     ensures knight { (cells : Cells) (color : Color) (a : Square) → at cells a ≡ piece color Knight → (rank_for color a < last_rank Knight) ↔ ((b : Square) → Reach cells a b → ⊥) }
 {}
 
-/// A legal move leads from a sound position to a sound one.
+/// A legal move leads from a sound position to a sound one, and so does any that keeps the rules 3 to 10.
 pub fn legal_move_keeps_soundness()
     ensures sound { (p : Placed) (m : Move) → IsSound p → Legal p m → IsSound (after p m) }
+    ensures kept { (p : Placed) (m : Move) → IsSound p → Keeps p m → IsSound (after p m) }
 {}
 
 /// So does a game.
@@ -61,6 +63,18 @@ pub fn pieces_stay()
 /// A legal move leaves its mover's king safe.
 pub fn mover_not_in_check()
     ensures safe { (p : Placed) (m : Move) → Legal p m → InCheck (after p m).material.board p.side → ⊥ }
+{}
+
+/// In check, a move that keeps the rules 3 to 9, but neither moves the king nor captures the checking piece nor puts one between,
+/// leaves the king where it is and attacked by that piece. So no such move keeps rule 10.
+pub fn only_evasions_end_check()
+    ensures attacked { (p : Placed) (m : Move) (checker king : Square) → IsSound p → FitsBoard p m
+        → at p.material.board king ≡ piece p.side King → Attack p.material.board p.side checker king
+        → (MovesFrom king m → ⊥) → (StopsCheck checker king (target m) → ⊥)
+        → (at (after p m).material.board king ≡ piece p.side King) × Attack (after p m).material.board p.side checker king }
+    ensures refused { (p : Placed) (m : Move) (checker king : Square) → IsSound p → Keeps p m
+        → at p.material.board king ≡ piece p.side King → Attack p.material.board p.side checker king
+        → (MovesFrom king m → ⊥) → (StopsCheck checker king (target m) → ⊥) → ⊥ }
 {}
 
 /// After a move the other side is to move.

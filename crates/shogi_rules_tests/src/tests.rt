@@ -202,6 +202,7 @@ fn tells_the_parts_of_moves(rt: HostRuntime) -> Result<(), Fail> {
     laws::game_keeps_soundness();
     laws::pieces_stay();
     laws::mover_not_in_check();
+    laws::only_evasions_end_check();
     laws::other_side_moves();
     laws::one_first_broken_rule();
     laws::some_first_broken_rule();

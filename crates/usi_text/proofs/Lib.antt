@@ -1,6 +1,7 @@
 pub mod Again
 pub mod Clean
 pub mod Counted
+pub mod EngineOnce
 pub mod Existing
 pub mod Filled
 pub mod Heads

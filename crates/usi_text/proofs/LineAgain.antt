@@ -28,6 +28,7 @@ use Rattle.usi_text.specs.Words.{words}
 use Rattle.usi_text.proofs.Again.{again, sfen_words, hands_spelt, both_fit}
 use Rattle.usi_text.proofs.Clean.{AreWord, no_space, word_joined, words_front, words_alone, board_spelt}
 use Rattle.usi_text.proofs.Games.{after_more}
+use Rattle.usi_text.proofs.Heads.{sizes}
 use Rattle.usi_text.proofs.Splits.{words_joined}
 use Rattle.usi_text.proofs.Spelt.{letter_low, leads}
 use Rattle.usi_text.specs.Scanning.{EndsWord}
@@ -171,9 +172,6 @@ letter_no_m White ProKnight e = number_apart _ 109 e (omega arith)
 letter_no_m White ProSilver e = number_apart _ 109 e (omega arith)
 letter_no_m White Horse e = number_apart _ 109 e (omega arith)
 letter_no_m White Dragon e = number_apart _ 109 e (omega arith)
-
-sizes : (x y : List ℕ) → x ≡ y → length x ≢ length y → ⊥
-sizes x y e h = h (ap length e)
 
 count_no_m : (count : Option ℕ) (p : Piece) (x rest : List ℕ) → IsCount count → 109 ∷ rest ≡ count_text count ++ side_letter p ∷ x → ⊥
 count_no_m None p x rest h e = let f : side_letter p ≡ 109 = cc in letter_no_m p.color p.kind f

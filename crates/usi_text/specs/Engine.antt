@@ -1,5 +1,5 @@
 -- What an engine's line says: its first word decides.
-use Rattle.std.specs.Prelude.{◌≡◌, ◌≢◌, ℕ, List, codes}
+use Rattle.std.specs.Prelude.{◌≡◌, ◌≢◌, ℕ, List, Option, Some, None, codes}
 use Rattle.usi_text.specs.declared.engine.EngineWord.{EngineWord}
 use Rattle.usi_text.specs.declared.engine.EngineWord.TheVariants.{UsiOk, ReadyOk, Best, Resign, Win, Other}
 use Rattle.usi_text.specs.Words.{nth_word}
@@ -21,3 +21,12 @@ LineSays ws Other = (nth_word ws 0 ≢ codes "usiok") × (nth_word ws 0 ≢ code
 LineSays ws Resign = (nth_word ws 0 ≡ codes "bestmove") × BestSays (nth_word ws 1) Resign
 LineSays ws Win = (nth_word ws 0 ≡ codes "bestmove") × BestSays (nth_word ws 1) Win
 LineSays ws (Best text) = (nth_word ws 0 ≡ codes "bestmove") × BestSays (nth_word ws 1) (Best text)
+
+-- the text of Best, which no other has
+abbrev pub text_in : EngineWord → Option (List ℕ)
+text_in (Best text) = Some text.now
+text_in Resign = None
+text_in Win = None
+text_in UsiOk = None
+text_in ReadyOk = None
+text_in Other = None

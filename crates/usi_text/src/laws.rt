@@ -12,12 +12,14 @@ ghost use Rattle.shogi_board.specs.Sound.{IsSound};
 ghost use Rattle.shogi_board.specs.Totals.{count_in};
 ghost use Rattle.shogi_rules.specs.declared.moves.Move.{Move};
 ghost use Rattle.shogi_rules.specs.Positions.{IsGame, max_moves};
+ghost use Rattle.usi_text.specs.declared.engine.EngineWord.{EngineWord};
 ghost use Rattle.usi_text.specs.declared.fault.SfenFault.{SfenFault};
 ghost use Rattle.usi_text.specs.declared.fault.SfenFault.TheVariants.{Start};
 ghost use Rattle.usi_text.specs.declared.fault.UsiFault.TheVariants.{OutOfMemory};
 ghost use Rattle.usi_text.specs.declared.fault.UsiFault.{UsiFault};
 ghost use Rattle.usi_text.specs.declared.hands.Pile.{Pile};
 ghost use Rattle.usi_text.specs.Boards.{SpellsBoard};
+ghost use Rattle.usi_text.specs.Engine.{LineSays, text_in};
 ghost use Rattle.usi_text.specs.Hands.{SpellsHands, pile_total};
 ghost use Rattle.usi_text.specs.LineText.{LineText};
 ghost use Rattle.usi_text.specs.Lines.{UsiLine, LineFault};
@@ -98,4 +100,10 @@ pub fn one_text()
 pub fn one_line_text()
     ensures one { (start : Placed) (moves : List Move) (text other : List ℕ)
         → LineText start moves text → LineText start moves other → text ≡ other }
+{}
+
+/// A line of an engine says one thing at most, and as `Best` one text.
+pub fn one_engine_word()
+    ensures text { (ws : List (List ℕ)) (word other : EngineWord) → LineSays ws word → LineSays ws other → text_in word ≡ text_in other }
+    ensures word { (ws : List (List ℕ)) (word other : EngineWord) → text_in word ≡ None → LineSays ws word → LineSays ws other → other ≡ word }
 {}

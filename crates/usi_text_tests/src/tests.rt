@@ -6,7 +6,7 @@ use shogi_rules::{Line, Move, Rule, judge};
 use std::process::Abort;
 use std::test::Fail;
 use usi_text::{
-    EngineWord, SfenFault, UsiFault, move_text, position_line, read_engine_line, read_move,
+    EngineWord, SfenFault, UsiFault, laws, move_text, position_line, read_engine_line, read_move,
     read_position_line, read_sfen, write_sfen,
 };
 
@@ -64,6 +64,21 @@ fn engine_lines(rt: HostRuntime) -> Result<(), Fail> {
         assert_eq!(rt; read_engine_line(line.as_bytes()), want, "{line}");
     }
     Ok(())
+}
+
+#[test]
+fn laws_are_called() {
+    laws::sfen_once();
+    laws::start_faults();
+    laws::board_stands();
+    laws::hands_held();
+    laws::sfen_again();
+    laws::line_once();
+    laws::line_again();
+    laws::one_move();
+    laws::one_text();
+    laws::one_line_text();
+    laws::one_engine_word();
 }
 
 const EVEN: &str = "lnsgkgsnl/1r5b1/ppppppppp/9/9/9/PPPPPPPPP/1B5R1/LNSGKGSNL b - 1";

@@ -1,10 +1,9 @@
 use Rattle.std.proofs.Common.{◌≡◌, ℕ, List, Bool, true, false, [], ◌∷◌, refl, ◌∙◌, arith}
-use Rattle.std.specs.Prelude.{not, ◌==◌, ◌||◌, ◌&&◌}
+use Rattle.std.specs.Prelude.{◌==◌, ◌||◌, ◌&&◌}
 use Rattle.std.specs.List.{position_or_len}
-use Rattle.std.proofs.lemmas.List.Sums.{prefix_len-le-length}
 use Rattle.memchr.specs.Find.{is_byte3}
 use Rattle.csa_cutting.specs.Cut.{is_end, takes_line}
-use Rattle.csa_cutting.proofs.Places.{first_or_all}
+use Rattle.csa_cutting.proofs.Places.{first_or_all, within_text}
 use Rattle.csa_cutting.proofs.units.plain_length.Goals as goal
 
 with_comma : (r n c : Bool) → r || n || c ≡ r || n || (c && true)
@@ -33,5 +32,4 @@ returns-clause-value c = λ first plain.
 
 pub returns-clause-within : goal.returns-clause-within
 returns-clause-within c =
-    let value : c.unwrap_or.result ≡ position_or_len (is_byte3 13 10 44) c.args.text.now = c.unwrap_or.ensures ∙ first_or_all (is_byte3 13 10 44) c.args.text.now c.memchr3_iter.result c.next.new.self c.next.result c.memchr3_iter.ensures.value c.next.ensures.steps in
-    omega (arith, value, prefix_len-le-length (λ b. not (is_byte3 13 10 44 b)) c.args.text.now)
+    omega (arith, c.unwrap_or.ensures, within_text (is_byte3 _ _ _) c.args.text.now c.memchr3_iter.result c.next.new.self c.next.result c.memchr3_iter.ensures.value c.next.ensures.steps)
