@@ -119,6 +119,9 @@ fn first_drop_of(position: &Position, kind: Kind) -> Option<Move>
         (NoneOf position.now (IsDropOf kind))
         (λ m. IsFirstOf position.now (IsDropOf kind) m) }
 {
+    if position.hand(position.side()).count(kind) == 0 {
+        return None;
+    }
     for n in 0..81usize {
         let to = Square::at_place(n);
         if let Some(mv) = if_legal(position, Move::Put { to, kind }) {
