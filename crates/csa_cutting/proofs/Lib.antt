@@ -6,7 +6,6 @@ pub mod LineCutting
 pub mod LinesOnce
 pub mod LongLines
 pub mod Passing
-pub mod CommentLines
 pub mod Spoken
 pub mod Finding
 pub mod Leading
@@ -20,5 +19,3 @@ pub mod LineRuns
 mod Places
 mod Lent
 mod LinesFound
-mod Stretches
-mod Turning

@@ -67,9 +67,6 @@ parts : (piece : List ℕ) (start end : ℕ) → start ≤ end → piece ≡ tak
 parts piece start end order =
     sym (take-append-drop start piece) ∙ ap (λ xs. take start piece ++ xs) (drop_split piece start end order)
 
-no_front : (held xs : List ℕ) → held ≡ [] → held ++ xs ≡ xs ++ held
-no_front held xs none = rw none (sym (append-nil xs))
-
 none_taken : (piece : List ℕ) (start : ℕ) → start ≡ 0 → take start piece ≡ []
 none_taken piece start h = rw h refl
 

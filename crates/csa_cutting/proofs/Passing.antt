@@ -200,17 +200,6 @@ unit_found place held piece from at start end low p some inside n says = record 
   passed = to_unit place held piece from at start end low p some inside n;
 }
 
--- over a separator that stands before another byte of the piece
-pub separator_passed : (place : Place) (held piece : List ℕ) (from at : ℕ) → from ≤ at → PassesTo place held piece from at → at + 1 < length piece → is_separator (get_or piece at 0) ≡ true → PassesTo place held piece from (at + 1)
-separator_passed place held piece from at low p left h =
-    let end = at + 1 in
-    let up : end ≤ end + 1 = omega arith in
-    let byte = next_byte piece at (omega arith) in
-    let sizes = range_size piece at end (end + 1) (omega arith) up in
-    let size = range_size piece from at (end + 1) low (omega arith) in
-    over_gap place held (slice_range piece from (end + 1)) (slice_range piece at end) (slice_range piece end (end + 1)) (rw byte (h, tt)) (omega arith)
-    (subst (Passes place held (slice_range piece from (end + 1))) (split_range piece at end (end + 1) (omega arith) up) (on_to place held piece from at end low (omega arith) p))
-
 pub comment_passed : (place : Place) (held piece : List ℕ) (from at start end : ℕ) → from ≤ at → PassesTo place held piece from at → start < end → end < length piece → IsNext at (drop at piece) (unit_between piece start end) (drop end piece) → get_or piece start 0 ≡ 39 → PassesTo place held piece from end
 comment_passed place held piece from at start end low p some left n quote =
     let inside : end ≤ length piece = omega arith in

@@ -1,11 +1,9 @@
 pub mod Cut
-pub mod Comments
 pub mod Cutting
 pub mod Lines
 pub mod LineCutting
 pub mod PieceCutting
 pub mod PieceSteps
 pub mod Places
-pub mod Starts
 pub mod TooLong
 pub mod WholeRun

@@ -3,7 +3,6 @@
 //! The grammar is that of CSA V2.2, in the profile of this project (`docs/CSA.md`).
 #![tactic(auto)]
 
-mod comments;
 mod cutter;
 pub mod laws;
 mod line;

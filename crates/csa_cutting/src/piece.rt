@@ -3,16 +3,15 @@ ghost use Rattle.std.specs.Borrow.{sem};
 ghost use Rattle.std.specs.Io.BufRead.{Rests};
 ghost use Rattle.arrayvec.specs.ArrayVec.{array_vec_len};
 ghost use Rattle.csa_cutting.specs.contracts.piece.PieceCutter.{the_row};
-ghost use Rattle.csa_cutting.specs.Comments.{LeadsOn};
 ghost use Rattle.csa_cutting.specs.Cut.{statement_bytes, begins_with, longest_statement};
 ghost use Rattle.csa_cutting.specs.PieceCutting.{fresh, IsOpen};
 ghost use Rattle.csa_cutting.specs.PieceSteps.{AfterStep, AfterEnd, Last, IsTooLongAt, IsUsed, IsLentFrom};
 ghost use Rattle.csa_cutting.specs.Places.{IsKept, IsFoundIn, IsHeld, begins, kept_of, has_unit};
 
-use crate::comments::{COMMENT, begun_comments_end};
 use crate::cutter::{CutFault, LONGEST_STATEMENT, Statement};
-use crate::line::is_line_end;
-use crate::units::{BYTE_ORDER_MARK, Found, Part, Place, first_in, handed_out, unit_length};
+use crate::units::{
+    BYTE_ORDER_MARK, COMMENT, Found, Part, Place, first_in, handed_out, unit_length,
+};
 use arrayvec::ArrayVec;
 use std::marker::Model;
 
@@ -36,10 +35,6 @@ pub struct PieceCutter {
     fed: u64,
     number: u64,
     refused: Option<u64>,
-    // Whether stretches of comments are tried at once where the next bytes begin with a comment or a line
-    // end: so where the last step found nothing of a statement's unit. For speed alone: with any value the
-    // answers are the same.
-    comments_first: bool,
 }
 
 impl Model for PieceCutter {
@@ -65,7 +60,6 @@ impl PieceCutter {
             fed: 0,
             number: 0,
             refused: None,
-            comments_first: false,
         }
     }
 
@@ -109,10 +103,9 @@ impl PieceCutter {
         if let Some(offset) = self.refused {
             return Err(CutFault { number, offset });
         }
-        let found = match found_in(self.place, self.held.as_slice(), piece, self.comments_first) {
+        let found = match found_in(self.place, self.held.as_slice(), piece) {
             Found::Part(found) => found,
             Found::LeadsTo(place) => {
-                self.comments_first = true;
                 self.place = place;
                 hold_mark(&mut self.held, place, piece);
                 self.fed += piece.len() as u64;
@@ -127,7 +120,6 @@ impl PieceCutter {
             self.refused = Some(offset);
             return Err(CutFault { number, offset });
         }
-        self.comments_first = false;
         keep_held(&mut self.held, found.goes_on);
         if end == piece.len() {
             hold(&mut self.held, part);
@@ -252,15 +244,12 @@ fn hold(held: &mut ArrayVec<u8, LONGEST_STATEMENT>, part: &[u8])
 }
 
 // The statement's unit that the piece holds next, or where it leads to where it holds none.
-fn found_in(place: Place, held: &[u8], piece: &[u8], comments_first: bool) -> Found
+fn found_in(place: Place, held: &[u8], piece: &[u8]) -> Found
     requires { IsHeld place held.now }
     ensures { IsFoundIn place held.now piece.now 0 result }
 {
     match place {
         Place::Mark => found_in_mark(held, piece),
-        Place::Gap if comments_first && begins_with_comment_or_line_end(piece) => found_in_comment(
-            piece,
-        ),
         Place::Gap => first_in(piece, 0),
         Place::Unit => Found::Part(Part {
             goes_on: true,
@@ -271,28 +260,15 @@ fn found_in(place: Place, held: &[u8], piece: &[u8], comments_first: bool) -> Fo
     }
 }
 
-// The same where at the first byte a comment goes on or begins, or a line ends.
-#[inline(always)]
+// The same, where the bytes so far lead into a comment.
 fn found_in_comment(piece: &[u8]) -> Found
-    ensures { (place : Place) (held : List ℕ) → (place ≡ Place.Comment) ⊎ (0 < length piece.now) → LeadsOn place held piece.now 0 0
-        → IsFoundIn place held piece.now 0 result }
+    ensures { IsFoundIn Place.Comment [] piece.now 0 result }
 {
-    let Some(end) = begun_comments_end(piece) else {
+    let length = unit_length(COMMENT, piece);
+    if length == piece.len() {
         return Found::LeadsTo(Place::Comment);
-    };
-    // `first_in` would answer the same, but take longer
-    if end + 1 == piece.len() {
-        return Found::LeadsTo(Place::Gap);
     }
-    first_in(piece, end)
-}
-
-// Whether the piece begins with a comment or the end of a line.
-fn begins_with_comment_or_line_end(piece: &[u8]) -> bool
-    ensures some { result ≡ true → 0 < length piece.now }
-    ensures leads { result ≡ true → (held : List ℕ) → LeadsOn Place.Gap held piece.now 0 0 }
-{
-    !piece.is_empty() && (piece[0] == COMMENT || is_line_end(piece[0]))
+    first_in(piece, length)
 }
 
 // The same as `found_in`, where the bytes so far are of the byte order mark.

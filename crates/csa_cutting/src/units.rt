@@ -2,14 +2,16 @@
 
 ghost use Rattle.std.specs.Prelude.{◌≡◌, ℕ, List, false, ◌≤◌, ◌<◌, length, drop, not, MatchOption};
 ghost use Rattle.std.specs.List.{position_or_len, prefix_len};
-ghost use Rattle.csa_cutting.specs.Cut.{IsGap, is_separator, is_blank, takes_line, is_end, statement_bytes, without_last_blanks};
-ghost use Rattle.csa_cutting.specs.Starts.{IsNextStart};
+ghost use Rattle.csa_cutting.specs.Cut.{IsNext, IsGap, is_separator, is_blank, takes_line, is_end, statement_bytes, without_last_blanks};
+ghost use Rattle.csa_cutting.specs.Cutting.{unit_between};
 ghost use Rattle.csa_cutting.specs.Places.{IsFoundIn, PassesTo};
 
-use crate::comments::{COMMENT, comments_end};
 use crate::line::{is_line_end, line_length};
 use crate::scan::front_length;
 use memchr::memchr3_iter;
+
+// The first byte of a comment.
+pub(crate) const COMMENT: u8 = b'\'';
 
 // The first byte of a name, and that of a header.
 const NAME: u8 = b'N';
@@ -56,18 +58,17 @@ pub(crate) fn first_in(piece: &[u8], from: usize) -> Found
         → IsFoundIn place held piece.now front result }
 {
     let mut at = from;
-    while let Some(start) = next_start(piece, at) {
+    while let Some((start, end)) = next_unit(piece, at) {
         if piece[start] != COMMENT {
-            let length = unit_length(piece[start], &piece[start + 1..]);
             return Found::Part(Part {
                 goes_on: false,
                 start,
-                end: start + 1 + length,
+                end,
             });
         }
-        let Some(end) = comments_end(piece, start + 1) else {
+        if end == piece.len() {
             return Found::LeadsTo(Place::Comment);
-        };
+        }
         at = end;
     }
     Found::LeadsTo(Place::Gap)
@@ -128,17 +129,18 @@ fn plain_length(text: &[u8]) -> usize
         .unwrap_or(text.len())
 }
 
-// Where the next unit at or after `from` starts, a comment too.
+// Where the next unit at or after `from` starts and ends, a comment too.
 #[inline(always)]
-fn next_start(source: &[u8], from: usize) -> Option<usize>
+fn next_unit(source: &[u8], from: usize) -> Option<(usize, usize)>
     requires { from ≤ length source.now }
-    ensures { MatchOption result (IsGap (drop from source.now)) (IsNextStart source.now from) }
+    ensures { MatchOption result (IsGap (drop from source.now)) (λ r. (r.0 < r.1) × (r.1 ≤ length source.now) × IsNext from (drop from source.now) (unit_between source.now r.0 r.1) (drop r.1 source.now)) }
 {
     let start = from + gap_length(&source[from..]);
     if start == source.len() {
         return None;
     }
-    Some(start)
+    let length = unit_length(source[start], &source[start + 1..]);
+    Some((start, start + 1 + length))
 }
 
 // The bytes that are handed out of a statement's unit.

@@ -1,8 +1,7 @@
 use Rattle.std.proofs.Common.{rules, sym, ◌∙◌}
 use Rattle.std.proofs.lemmas.List.Sums.{position_or_len_is}
 use Rattle.csa_cutting.specs.Cut.{is_end}
-use Rattle.csa_cutting.proofs.CommentLines.{lengths_alike}
-use Rattle.csa_cutting.proofs.Fronts.{turned_true, turned_false}
+use Rattle.csa_cutting.proofs.Fronts.{lengths_alike, turned_true, turned_false}
 use Rattle.csa_cutting.proofs.units.unit_length.Goals as goal
 
 pub returns-then-takes_line-clause-value : goal.returns-then-takes_line-clause-value
