@@ -80,27 +80,26 @@ comment_line : (piece : List ℕ) (n : ℕ) → n ≡ position_or_len (is_end 39
 comment_line piece n e = rest_unit (39 ∷ []) piece 39 n (refl, tt, tt) refl e
 
 -- the whole piece in a comment
-pub found_in_comment : (held piece : List ℕ) (n : ℕ) → held ≡ [] → n ≡ position_or_len (is_end 39) piece → n ≡ length piece → IsFoundIn Comment held piece 0 (LeadsTo Comment)
-found_in_comment held piece n none e all =
+pub found_in_comment : (piece : List ℕ) (n : ℕ) → n ≡ position_or_len (is_end 39) piece → n ≡ length piece → IsFoundIn Comment [] piece 0 (LeadsTo Comment)
+found_in_comment piece n e all =
     let whole : take n piece ≡ piece = rw all (take-length piece) in
     let rest : drop n piece ≡ [] = rw all (drop-length piece) in
     let unit : IsUnit (39 ∷ piece) [] = rw (whole, rest) at (comment_line piece n e) in
-    rw none (inl refl, over_open_comment Comment [] piece (39 ∷ piece) unit refl (omega arith) (passes_open Comment [] piece (λ more. refl)))
+    (inl refl, over_open_comment Comment [] piece (39 ∷ piece) unit refl (omega arith) (passes_open Comment [] piece (λ more. refl)))
 
 -- behind the comment's line
-pub passes_comment : (held piece : List ℕ) (n : ℕ) → held ≡ [] → n ≡ position_or_len (is_end 39) piece → n < length piece → PassesTo Comment held piece 0 n
-passes_comment held piece n none e some =
+pub passes_comment : (piece : List ℕ) (n : ℕ) → n ≡ position_or_len (is_end 39) piece → n < length piece → PassesTo Comment [] piece 0 n
+passes_comment piece n e some =
     let up : n ≤ n + 1 = omega arith in
     let front = slice_range piece 0 (n + 1) in
     let body = slice_range piece 0 n in
     let line : IsUnit (39 ∷ body) (drop n piece) = rw (first_range piece n) (comment_line piece n e) in
     let unit : (more : List ℕ) → IsUnit (39 ∷ body) (slice_range piece n (n + 1) ++ more) =
     λ more. unit_before (39 ∷ body) (drop n piece) _ line (λ first h. ends_with_next piece n first more some h) in
-    rw none (over_comment Comment [] front (39 ∷ body) (slice_range piece n (n + 1)) unit refl (omega (arith, range_size piece 0 n (n + 1) (omega arith) up))
-    (subst (λ xs. Passes Comment [] front (39 ∷ xs)) (split_range piece 0 n (n + 1) (omega arith) up) (passes_open Comment [] front (λ more. refl))))
+    over_comment Comment [] front (39 ∷ body) (slice_range piece n (n + 1)) unit refl (omega (arith, range_size piece 0 n (n + 1) (omega arith) up))
+    (subst (λ xs. Passes Comment [] front (39 ∷ xs)) (split_range piece 0 n (n + 1) (omega arith) up) (passes_open Comment [] front (λ more. refl)))
 
 -- the whole mark
-
 with_mark : (fed : ℕ) (held text rest : List ℕ) (others : List TextUnit) → held ++ text ≡ byte_order_mark ++ rest → Statements (fed - length held + 3) rest others → Follows true fed held text others
 with_mark fed held text rest others e s = rw e s
 

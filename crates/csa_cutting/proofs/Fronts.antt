@@ -1,5 +1,5 @@
 -- The gap and the unit at the front of a text.
-use Rattle.std.proofs.Common.{◌≡◌, ℕ, suc, ◌+◌, ◌-◌, ◌==◌, ◌&&◌, ◌||◌, slice_range, length-drop, ◌<◌, ◌≤◌, Bool, true, false, not, List, [], ◌∷◌, ◌++◌, length, take, drop, get_or, arith, refl, sym, ap, ◌∙◌, subst, inl, inr}
+use Rattle.std.proofs.Common.{◌≡◌, ℕ, suc, ◌+◌, ◌-◌, ◌==◌, slice_range, length-drop, ◌<◌, ◌≤◌, Bool, true, false, not, List, [], ◌∷◌, ◌++◌, length, take, drop, get_or, arith, refl, sym, ap, ◌∙◌, subst, inl, inr}
 use Rattle.std.proofs.lemmas.Bool.{cases_lt}
 use Rattle.std.proofs.lemmas.List.{get_or-take, get_or-drop, length-take-le, take-append-drop, drop-drop}
 use Rattle.std.proofs.lemmas.List.Elements.{recursion_from_All, All-from_get_or}
@@ -7,8 +7,7 @@ use Rattle.std.proofs.lemmas.List.Sums.{prefix_len_passes, prefix_len_stops, pre
 use Rattle.std.proofs.lemmas.List.Folds.{length-prefix_len, drop_split}
 use Rattle.std.proofs.Math.Seq.{drop-cons, drop-length, take-length}
 use Rattle.std.specs.List.{AllByRecursion, prefix_len, position_or_len}
-use Rattle.csa_cutting.specs.Cut.{IsNext, IsGap, IsUnit, EndsBefore, is_separator, takes_line, is_end, begins_with}
-use Rattle.csa_cutting.specs.Lines.{is_line_end}
+use Rattle.csa_cutting.specs.Cut.{IsNext, IsGap, IsUnit, EndsBefore, is_separator, is_end, begins_with}
 
 -- what passes a test at the front
 pub passes : (p : ℕ → Bool) (xs : List ℕ) → AllByRecursion (λ b. p b ≡ true) (take (prefix_len p xs) xs)
@@ -97,17 +96,3 @@ pub gap_only : (source : List ℕ) (from g : ℕ) → from ≤ length source →
 gap_only source from g order is_gap all =
     let whole : prefix_len is_separator (drop from source) ≡ length (drop from source) = omega (arith, length-drop from source, is_gap) in
     subst IsGap (ap (λ n. take n (drop from source)) whole ∙ take-length (drop from source)) (gap_front (drop from source))
-
-only_line_ends : (r n c : Bool) → r || n ≡ r || n || (c && false)
-only_line_ends true n c = refl
-only_line_ends false true c = refl
-only_line_ends false false true = refl
-only_line_ends false false false = refl
-
--- where a unit takes its line, only a line end ends it
-ends_alike : (first b : ℕ) → takes_line first ≡ true → is_line_end b ≡ is_end first b
-ends_alike first b h = rw h (only_line_ends (b == 13) (b == 10) (b == 44))
-
-pub lengths_alike : (first : ℕ) (text : List ℕ) → takes_line first ≡ true → position_or_len is_line_end text ≡ position_or_len (is_end first) text
-lengths_alike first [] h = refl
-lengths_alike first (b ∷ bs) h = rw (← ends_alike first b h, lengths_alike first bs h) refl

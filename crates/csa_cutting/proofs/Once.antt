@@ -67,7 +67,7 @@ gap_has_no_unit (b ∷ gap) unit behind h g = gap_has_no_unit gap unit behind h 
 no_next : (offset : ℕ) (text : List ℕ) (u : TextUnit) (behind : List ℕ) → IsGap text → IsNext offset text u behind → ⊥
 no_next offset text u behind gap next = gap_has_no_unit next.gap u.bytes behind next.unit (rw (← next.whole) gap)
 
-units_once : (offset : ℕ) (text : List ℕ) (us vs : List TextUnit) → Units offset text us → Units offset text vs → us ≡ vs
+pub units_once : (offset : ℕ) (text : List ℕ) (us vs : List TextUnit) → Units offset text us → Units offset text vs → us ≡ vs
 units_once offset text [] [] p q = refl
 units_once offset text [] (v ∷ vs) p q = absurd (no_next offset text v q.0 p q.1)
 units_once offset text (u ∷ us) [] p q = absurd (no_next offset text u p.0 q p.1)

@@ -2,7 +2,7 @@
 
 ghost use Rattle.std.specs.Prelude.{◌≡◌, ℕ, ◌+◌, ◌≤◌, ◌⊎◌, true, false, List, [], ◌∷◌, ◌++◌, ◌↔◌, drop, slice_range, Option, None, Some, Result, Ok, Err, IfOk, IfErr, IsErrOf};
 ghost use Rattle.std.specs.Borrow.{Bor};
-ghost use Rattle.csa_cutting.specs.Cut.{TextUnit, IsCut, Statements, mark_length, statement_bytes, longest_statement};
+ghost use Rattle.csa_cutting.specs.Cut.{TextUnit, Units, IsCut, Statements, mark_length, statement_bytes, longest_statement};
 ghost use Rattle.csa_cutting.specs.Cutting.{Cutting, ToCome, IfHandedOut, IsFirstStatement, IsHandedOut, IsTooLong, unit_between};
 ghost use Rattle.csa_cutting.specs.Lines.{Lines};
 ghost use Rattle.csa_cutting.specs.LineCutting.{LineCutting, BeginsTooLong, HasLongLine, LineAnswer, LineStep, LinesAfter, LastLine};
@@ -15,9 +15,11 @@ ghost use Rattle.csa_cutting.specs.declared.line.LineFault.TheVariants.{TooLong}
 ghost use Rattle.csa_cutting.specs.declared.cutter.Statement.{Statement};
 ghost use Rattle.csa_cutting.specs.declared.piece.Cut.{Cut as Step};
 
-/// From each offset on, a text has one list of statements and no other; and so a source is cut in
-/// one way.
+/// From each offset on, a text has one list of units, comments among them, and one of statements,
+/// and no other; and so a source is cut in one way.
 pub fn cut_once()
+    ensures units { (offset : ℕ) (text : List ℕ) → (units : List TextUnit) × Units offset text units
+        × ((others : List TextUnit) → Units offset text others → others ≡ units) }
     ensures anywhere { (offset : ℕ) (text : List ℕ) → (statements : List TextUnit) × Statements offset text statements
         × ((others : List TextUnit) → Statements offset text others → others ≡ statements) }
     ensures source { (source : List ℕ) → (statements : List TextUnit) × IsCut source statements

@@ -133,7 +133,8 @@ fn plain_length(text: &[u8]) -> usize
 #[inline(always)]
 fn next_unit(source: &[u8], from: usize) -> Option<(usize, usize)>
     requires { from ≤ length source.now }
-    ensures { MatchOption result (IsGap (drop from source.now)) (λ r. (r.0 < r.1) × (r.1 ≤ length source.now) × IsNext from (drop from source.now) (unit_between source.now r.0 r.1) (drop r.1 source.now)) }
+    ensures { MatchOption result (IsGap (drop from source.now)) (λ r. (r.0 < r.1) × (r.1 ≤ length source.now)
+        × IsNext from (drop from source.now) (unit_between source.now r.0 r.1) (drop r.1 source.now)) }
 {
     let start = from + gap_length(&source[from..]);
     if start == source.len() {

@@ -6,8 +6,8 @@ use Rattle.csa_cutting.proofs.Places.{first_or_all, within_text}
 use Rattle.csa_cutting.proofs.line.line_length.Goals as goal
 
 -- whatever bytes are searched for, if they are CR and LF
-needles_alike : (r n : ℕ) (text : List ℕ) → r ≡ 13 → n ≡ 10 → position_or_len (is_byte2 r n) text ≡ position_or_len is_line_end text
-needles_alike r n text is_cr is_lf = rw (is_cr, is_lf) refl
+needles_alike : (cr lf : ℕ) (text : List ℕ) → cr ≡ 13 → lf ≡ 10 → position_or_len (is_byte2 cr lf) text ≡ position_or_len is_line_end text
+needles_alike cr lf text is_cr is_lf = rw (is_cr, is_lf) refl
 
 pub returns-clause-value : goal.returns-clause-value
 returns-clause-value c =

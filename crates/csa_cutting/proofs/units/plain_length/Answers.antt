@@ -6,9 +6,9 @@ use Rattle.csa_cutting.specs.Cut.{is_end, takes_line}
 use Rattle.csa_cutting.proofs.Places.{first_or_all, within_text}
 use Rattle.csa_cutting.proofs.units.plain_length.Goals as goal
 
-with_comma : (r n c : Bool) → r || n || c ≡ r || n || (c && true)
-with_comma true n c = refl
-with_comma false true c = refl
+with_comma : (cr lf comma : Bool) → cr || lf || comma ≡ cr || lf || (comma && true)
+with_comma true lf comma = refl
+with_comma false true comma = refl
 with_comma false false true = refl
 with_comma false false false = refl
 
@@ -21,9 +21,9 @@ plain_alike first [] h = refl
 plain_alike first (b ∷ bs) h = rw (← ends_alike first b h, plain_alike first bs h) refl
 
 -- whatever bytes are searched for, if they are CR, LF and comma
-needles_alike : (r n comma first : ℕ) (text : List ℕ) → r ≡ 13 → n ≡ 10 → comma ≡ 44 → takes_line first ≡ false
-    → position_or_len (is_byte3 r n comma) text ≡ position_or_len (is_end first) text
-needles_alike r n comma first text is_cr is_lf is_comma h = rw (is_cr, is_lf, is_comma) (plain_alike first text h)
+needles_alike : (cr lf comma first : ℕ) (text : List ℕ) → cr ≡ 13 → lf ≡ 10 → comma ≡ 44 → takes_line first ≡ false
+    → position_or_len (is_byte3 cr lf comma) text ≡ position_or_len (is_end first) text
+needles_alike cr lf comma first text is_cr is_lf is_comma h = rw (is_cr, is_lf, is_comma) (plain_alike first text h)
 
 pub returns-clause-value : goal.returns-clause-value
 returns-clause-value c = λ first plain.
