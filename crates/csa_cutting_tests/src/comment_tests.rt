@@ -25,6 +25,7 @@ fn comments(
     Ok(source)
 }
 
+// Comments of each length up to 280 bytes, so that a line end stands at each place of what the library looks at at once.
 #[test]
 fn statements_behind_comments_of_each_length(rt: HostRuntime) -> Result<(), AllocError> {
     let table: [&[u8]; 6] = [b"\n", b"\r\n", b"\r", b"\n\n", b"\n\t\n", b"\n ,"];
@@ -68,6 +69,8 @@ fn fill_with_comments(
     Ok(())
 }
 
+// A statement among comments of each length up to 300 bytes, some more than 4,096 bytes of them, whole and in pieces in
+// which a comment goes on from the piece before.
 #[test]
 fn statement_among_comments(rt: HostRuntime) -> Result<(), AllocError> {
     let table: [&[u8]; 5] = [b"\n", b"\r\n", b"\r", b"\t\n", b"\r\n\r\n"];
@@ -106,6 +109,7 @@ fn statement_of(rt: &impl AllocGlobal, first: u8, behind: &[u8]) -> Result<Vec<u
     Ok(bytes)
 }
 
+// Each byte at the start of a line among comments.
 #[test]
 fn line_with_each_first_byte_among_comments(rt: HostRuntime) -> Result<(), AllocError> {
     let table: [&[u8]; 2] = [b"", b"x"];
