@@ -139,7 +139,7 @@ fn line_ends_length(text: &[u8]) -> usize
     front_length(text, is_line_end)
 }
 
-// How many bytes of the text come before a CR or LF.
+// How many bytes of the text come before a CR or LF. Not compiled into its callers, as `plain_length`.
 #[inline(never)]
 pub(crate) fn line_length(text: &[u8]) -> usize
     ensures value { result ≡ position_or_len is_line_end text.now }

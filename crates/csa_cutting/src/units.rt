@@ -119,6 +119,7 @@ pub(crate) fn unit_length(first: u8, text: &[u8]) -> usize
 }
 
 // How many bytes of the text come before a CR, LF or comma, each of which ends a unit that does not take the whole line.
+// Compiled into its callers, the search would take registers from them, and all would take more.
 #[inline(never)]
 fn plain_length(text: &[u8]) -> usize
     ensures value { (first : ℕ) → takes_line first ≡ false → result ≡ position_or_len (is_end first) text.now }

@@ -1,4 +1,5 @@
 use csa_cutting::{CutFault, Cutter, Statement, laws};
+use std::alloc::AllocError;
 
 #[test]
 fn cuts_a_source(rt: HostRuntime) {
@@ -50,4 +51,15 @@ fn limits_a_statement(rt: HostRuntime) {
             }
         }
     }
+}
+
+#[test]
+fn prints_a_fault(rt: HostRuntime) -> Result<(), AllocError> {
+    let fault = CutFault {
+        number: 4,
+        offset: 28,
+    };
+    let text = format!(in rt.alloc(); "{fault}")?;
+    assert!(rt; text.as_str() == "statement 4, offset 28: C1 StatementTooLong");
+    Ok(())
 }
