@@ -1,4 +1,4 @@
--- The blanks at the end of a statement.
+-- The trailing blanks of a statement.
 use Rattle.std.proofs.Common.{◌≡◌, ℕ, ◌+◌, ◌-◌, ◌<◌, ◌≤◌, Bool, true, false, List, [], ◌∷◌, ◌++◌, length, take, get_or, Option, Some, None, MatchOption, arith, refl, sym, ap, ◌∙◌, subst, if◌then◌else◌}
 use Rattle.std.proofs.lemmas.List.{take_more}
 use Rattle.std.proofs.lemmas.Option.{slice_get-get_or}
@@ -39,7 +39,7 @@ last_kept (x ∷ xs) b e solid =
     let same : b ≡ get_or ys (length ys - 1) 0 = cc in
     subst (λ zs. without_last_blanks zs ≡ zs) (take-length ys) (all_kept ys (length ys) (omega arith) (omega arith) (rw (← same) solid))
 
--- bytes whose last, if there is one, is no blank are kept whole
+-- bytes whose last one is not a blank are kept whole
 pub kept_whole : (xs : List ℕ) (last : Option ℕ) (blank : Bool) → last ≡ slice_get xs (length xs - 1) → MatchOption last (blank ≡ false) (λ b. blank ≡ is_blank b) → blank ≡ false → without_last_blanks xs ≡ xs
 kept_whole [] last blank e told solid = refl
 kept_whole (x ∷ xs) None blank e told solid =

@@ -1,4 +1,4 @@
--- What a piece holds next, by where the cutter stands.
+-- What a piece holds next, depending on where the cutter is.
 use Rattle.std.proofs.Common.{◌≡◌, ◌≢◌, ℕ, zero, suc, ◌+◌, ◌-◌, ◌<◌, ◌≤◌, ◌==◌, ◌&&◌, nat_eq, eq-eqb, Bool, true, false, not, List, [], ◌∷◌, ◌++◌, length, take, drop, get_or, slice_range, length-drop, length-append, append_assoc, arith, refl, sym, ap, ◌∙◌, subst, inl, inr}
 use Rattle.std.proofs.lemmas.Bool.{cases_lt, cases_Bool, eqb-true, ne_eqb}
 use Rattle.std.proofs.lemmas.Bool.Decides.{nat_tests, Decides-eqb}
@@ -22,11 +22,11 @@ use Rattle.csa_cutting.proofs.Passing.{statements_at, statements_of, unit_before
 pub first_range : (piece : List ℕ) (k : ℕ) → slice_range piece 0 k ≡ take k piece
 first_range piece k = let count : k - 0 ≡ k = omega arith in ap (λ n. take n piece) count
 
--- behind the mark and no longer in it
+-- after the mark
 pub follows_plain : (fed o : ℕ) (held text : List ℕ) (others : List TextUnit) → o ≡ fed - length held → Statements o (held ++ text) others → Follows false fed held text others
 follows_plain fed o held text others e s = statements_at o _ _ others (omega arith) s
 
--- what is unfinished, and the piece behind it, where both begin with no mark
+-- what is unfinished, and the piece after it, if both begin with no mark
 passes_open : (place : Place) (held front : List ℕ) → ((more : List ℕ) → mark_of (begins place) (open_of place held ++ (front ++ more)) ≡ 0) → Passes place held front (open_of place held ++ front)
 passes_open place held front none fed more others few s =
     let begun = open_of place held in
@@ -79,7 +79,7 @@ found_in_unit held piece n h says e =
 comment_line : (piece : List ℕ) (n : ℕ) → n ≡ position_or_len (is_end 39) piece → IsUnit (39 ∷ take n piece) (drop n piece)
 comment_line piece n e = rest_unit (39 ∷ []) piece 39 n (refl, tt, tt) refl e
 
--- the whole piece in a comment
+-- the whole piece is in a comment
 pub found_in_comment : (piece : List ℕ) (n : ℕ) → n ≡ position_or_len (is_end 39) piece → n ≡ length piece → IsFoundIn Comment [] piece 0 (LeadsTo Comment)
 found_in_comment piece n e all =
     let whole : take n piece ≡ piece = rw all (take-length piece) in
@@ -87,7 +87,7 @@ found_in_comment piece n e all =
     let unit : IsUnit (39 ∷ piece) [] = rw (whole, rest) at (comment_line piece n e) in
     (inl refl, over_open_comment Comment [] piece (39 ∷ piece) unit refl (omega arith) (passes_open Comment [] piece (λ more. refl)))
 
--- behind the comment's line
+-- after the comment's line
 pub passes_comment : (piece : List ℕ) (n : ℕ) → n ≡ position_or_len (is_end 39) piece → n < length piece → PassesTo Comment [] piece 0 n
 passes_comment piece n e some =
     let up : n ≤ n + 1 = omega arith in
@@ -113,7 +113,7 @@ other_byte (suc zero) b rest less h = rw h refl
 other_byte (suc (suc zero)) b rest less h = rw h refl
 other_byte (suc (suc (suc m))) b rest less h = absurd (omega arith)
 
--- the text behind the bytes that are of the mark
+-- the text after the bytes of the mark
 in_mark : (held piece mark more : List ℕ) (n k : ℕ) → held ++ take n piece ≡ mark → n ≤ k → held ++ (slice_range piece 0 k ++ more) ≡ mark ++ (slice_range piece n k ++ more)
 in_mark held piece mark more n k same order =
     ap (λ xs. held ++ (xs ++ more)) (split_range piece 0 n k (omega arith) order ∙ ap (λ xs. xs ++ slice_range piece n k) (first_range piece n))
@@ -121,7 +121,7 @@ in_mark held piece mark more n k same order =
     ∙ sym (append_assoc held (take n piece) (slice_range piece n k ++ more))
     ∙ ap (λ xs. xs ++ (slice_range piece n k ++ more)) same
 
--- the mark is whole behind n bytes of the piece
+-- the mark is complete after n bytes of the piece
 pub record WholeMark (held piece : List ℕ) (n : ℕ) : Type 0 where
   pub size : length held + n ≡ 3
   pub within : n ≤ length piece
@@ -135,7 +135,7 @@ passes_mark held piece n w fed more others few s =
     with_mark fed held (slice_range piece 0 (n + 1) ++ more) (slice_range piece n (n + 1) ++ more) others (in_mark held piece byte_order_mark more n (n + 1) w.same (omega arith))
     (statements_at _ _ _ others (omega arith) s)
 
--- the byte behind n bytes of the piece is none of the mark
+-- the byte after n bytes of the piece is not the mark's
 pub record NoMark (held piece : List ℕ) (n : ℕ) : Type 0 where
   pub less : length held + n < 3
   pub within : n < length piece
@@ -254,7 +254,7 @@ mark_missed held piece missing less is_mark is_rest h k =
 pub first_missed : (piece : List ℕ) → 0 < length piece → get_or piece 0 0 ≢ 0xEF → NoMark [] piece 0
 first_missed piece some other = record { less = omega arith; within = some; same = refl; differs = ne_eqb 0xEF (get_or piece 0 0) (λ e. other (sym e)) }
 
--- where the first byte is of the mark, something was passed
+-- if the first byte is the mark's, something was passed
 pub some_passed : (held piece : List ℕ) (n : ℕ) → NoMark held piece n → held ≡ [] → get_or piece 0 0 ≡ 0xEF → 0 < length held + n
 some_passed held piece zero w none first =
     let differs : (0xEF == get_or piece 0 0) ≡ false = rw none at w.differs in

@@ -12,7 +12,7 @@ use Rattle.csa_cutting.proofs.Joining.{pieces_whole}
 use Rattle.csa_cutting.proofs.Leading.{closed_behind, one_kept, nothing_left}
 use Rattle.csa_cutting.proofs.Once.{statements_once}
 
--- the cutter has handed out these statements of its source, and none of them is too long
+-- the cutter has yielded these statements of its source, and none of them is too long
 pub record HasCut (c : Cutting) (handed : List TextUnit) : Type 0 where
   pub onward : (others : List TextUnit) → ToCome c others → IsCut c.source (handed ++ others)
   pub counted : c.number ≡ length handed
@@ -36,10 +36,10 @@ mark_within (a ∷ []) = mark_fits _ _ (λ h. absurd (never_both _ h))
 mark_within (a ∷ b ∷ []) = mark_fits _ _ (λ h. absurd (second _ _ h))
 mark_within (a ∷ b ∷ c ∷ source) = mark_fits _ _ (λ h. omega arith)
 
-text_ends : (source : List ℕ) → length source ≡ mark_length source + length (drop (mark_length source) source)
+pub text_ends : (source : List ℕ) → length source ≡ mark_length source + length (drop (mark_length source) source)
 text_ends source = omega (arith, mark_within source, length-drop (mark_length source) source)
 
--- of closed statements the first is the first of all, since only the last of all is not closed
+-- the first of the closed statements is the first of all, since only the last may not be closed
 head_is : (o : ℕ) (text : List ℕ) (end : ℕ) (closed all others : List TextUnit) (unit : TextUnit) → end ≡ o + length text → Statements o text (closed ++ all) → unit ∷ others ≡ filter (is_closed end) all → (rest : List TextUnit) × (all ≡ unit ∷ rest)
 head_is o text end closed [] others unit e s kept = cc
 head_is o text end closed (x ∷ []) others unit e s kept =

@@ -51,7 +51,7 @@ pub unit_front : (first : ℕ) (rest : List ℕ) → is_separator first ≡ fals
 unit_front first rest h =
     (h, weaker (λ b. not (is_end first b) ≡ true) (λ b. is_end first b ≡ false) (λ b. turned_true (is_end first b)) _ (passes (λ b. not (is_end first b)) rest), ends_before first rest)
 
--- the next unit of a source lies behind its gap
+-- the next unit of a source comes after its gap
 pub next_place : (offset : ℕ) (source : List ℕ) (from g m : ℕ) → g ≡ prefix_len is_separator (drop from source) → from + g < length source → m ≡ position_or_len (is_end (get_or source (from + g) 0)) (drop (from + g + 1) source) → IsNext offset (drop from source) (record { offset = offset + g; bytes = slice_range source (from + g) (from + g + 1 + m) }) (drop (from + g + 1 + m) source)
 next_place offset source from g m is_gap some is_unit =
     let start = from + g in
@@ -91,7 +91,7 @@ first_between source start end c order within =
     let count : end - start ≡ suc (end - start - 1) = omega arith in
     ap (λ k. begins_with c (take k (drop start source))) count ∙ ap (λ xs. begins_with c (take (suc (end - start - 1)) xs)) opened
 
--- only separators are left where they go on to the end
+-- if the separators extend to the end, only separators are left
 pub gap_only : (source : List ℕ) (from g : ℕ) → from ≤ length source → g ≡ prefix_len is_separator (drop from source) → from + g ≡ length source → IsGap (drop from source)
 gap_only source from g order is_gap all =
     let whole : prefix_len is_separator (drop from source) ≡ length (drop from source) = omega (arith, length-drop from source, is_gap) in

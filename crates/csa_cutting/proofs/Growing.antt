@@ -8,7 +8,7 @@ use Rattle.csa_cutting.proofs.Finding.{rest_unit, first_of_held, begins_still, u
 use Rattle.csa_cutting.proofs.Passing.{unit_before, statements_of}
 use Rattle.csa_cutting.proofs.Runs.{found}
 
--- the units of a longer text: the same, but the last may be longer, and more behind it
+-- the units of a longer text: the same, but the last may be longer, and more may follow it
 abbrev pub Grown : List TextUnit → List TextUnit → Type 0
 Grown [] vs = Unit {0}
 Grown (u ∷ us) [] = ⊥
@@ -34,8 +34,8 @@ grown_unit (first ∷ body) more h =
     let n = position_or_len (is_end first) more in
     (n, rest_unit (first ∷ body) more first n h (first_of_held (first ∷ body) (omega arith)) refl)
 
--- where a unit ends, and how much is behind it
-unit_size : (o : ℕ) (text : List ℕ) (u : TextUnit) (behind : List ℕ) → IsNext o text u behind → (u.offset + length u.bytes + length behind ≡ o + length text) × (length behind < length text) × (length u.bytes ≤ length text)
+-- where a unit ends, and how much follows it
+pub unit_size : (o : ℕ) (text : List ℕ) (u : TextUnit) (behind : List ℕ) → IsNext o text u behind → (u.offset + length u.bytes + length behind ≡ o + length text) × (length behind < length text) × (length u.bytes ≤ length text)
 unit_size o text u behind n =
     let whole : length text ≡ length n.gap + (length u.bytes + length behind) =
     ap length n.whole ∙ length-append n.gap (u.bytes ++ behind) ∙ ap (λ k. length n.gap + k) (length-append u.bytes behind) in
@@ -82,14 +82,14 @@ grow o text more (u ∷ v ∷ us) cut =
     let rest = grow (u.offset + length u.bytes) behind more (v ∷ us) cut.2 in
     (u ∷ rest.0, (behind ++ more, next_longer o text more u behind some cut.1, rest.1), (refl, refl, omega arith, inr (refl, rest.2)))
 
-never_none : {A : Type 0} (xs ys : List A) (x : A) → xs ++ (x ∷ ys) ≡ [] → ⊥
+pub never_none : {A : Type 0} (xs ys : List A) (x : A) → xs ++ (x ∷ ys) ≡ [] → ⊥
 never_none [] ys x e = cc
 never_none (z ∷ zs) ys x e = cc
 
-filter_kept : (u : TextUnit) (us : List TextUnit) → is_statement u ≡ true → filter is_statement (u ∷ us) ≡ u ∷ filter is_statement us
+pub filter_kept : (u : TextUnit) (us : List TextUnit) → is_statement u ≡ true → filter is_statement (u ∷ us) ≡ u ∷ filter is_statement us
 filter_kept u us h = rw h refl
 
-filter_dropped : (u : TextUnit) (us : List TextUnit) → is_statement u ≡ false → filter is_statement (u ∷ us) ≡ filter is_statement us
+pub filter_dropped : (u : TextUnit) (us : List TextUnit) → is_statement u ≡ false → filter is_statement (u ∷ us) ≡ filter is_statement us
 filter_dropped u us h = rw h refl
 
 -- the statement of a longer text in the place of this one
@@ -148,16 +148,17 @@ kept_grown (w ∷ us) (v ∷ vs) ys u xs g e =
           }
     ]
 
-statements_grown : (o : ℕ) (text more : List ℕ) (xs ys : List TextUnit) (u : TextUnit) → Statements o text (xs ++ (u ∷ ys)) → (all : List TextUnit) × Statements o (text ++ more) all × Longer xs u all
+pub statements_grown : (o : ℕ) (text more : List ℕ) (xs ys : List TextUnit) (u : TextUnit) → Statements o text (xs ++ (u ∷ ys)) → (all : List TextUnit) × Statements o (text ++ more) all × Longer xs u all
 statements_grown o text more xs ys u s =
     let g = grow o text more s.units s.cut in
     (filter is_statement g.0, record { units = g.0; cut = g.1; kept = refl }, kept_grown s.units g.0 ys u xs g.2 s.kept)
 
-front_grown : (mark : Bool) (a b c : ℕ) (w more : List ℕ) → drop (if mark then 3 else 0) (a ∷ b ∷ c ∷ w) ++ more ≡ drop (if mark then 3 else 0) (a ∷ b ∷ c ∷ (w ++ more))
+pub front_grown : (mark : Bool) (a b c : ℕ) (w more : List ℕ) → drop (if mark then 3 else 0) (a ∷ b ∷ c ∷ w) ++ more ≡ drop (if mark then 3 else 0) (a ∷ b ∷ c ∷ (w ++ more))
 front_grown true a b c w more = refl
 front_grown false a b c w more = refl
 
--- a statement of so many bytes that no mark is to come stands in each longer text, at its place, and is no shorter
+-- a statement of so many bytes that no mark can still come is in each longer text, in its place,
+-- and is no shorter
 pub cut_grown : (source more : List ℕ) (xs ys : List TextUnit) (u : TextUnit) → 3 ≤ length source → IsCut source (xs ++ (u ∷ ys)) → (all : List TextUnit) × IsCut (source ++ more) all × Longer xs u all
 cut_grown [] more xs ys u size s = absurd (omega arith)
 cut_grown (a ∷ []) more xs ys u size s = absurd (omega arith)
@@ -167,7 +168,7 @@ cut_grown (a ∷ b ∷ c ∷ w) more xs ys u size s =
     let grown = statements_grown m (drop m (a ∷ b ∷ c ∷ w)) more xs ys u s in
     (grown.0, statements_of m _ _ grown.0 (front_grown _ a b c w more) grown.1, grown.2)
 
--- where a statement stands in its text
+-- where a statement is in its text
 record Standing (o : ℕ) (text : List ℕ) (x : TextUnit) (ys : List TextUnit) : Type 0 where
   behind : List ℕ
   later : Statements (x.offset + length x.bytes) behind ys
@@ -210,7 +211,7 @@ some_behind : (o : ℕ) (text : List ℕ) (us : List TextUnit) (y : TextUnit) (z
 some_behind o text [] y zs cut e = cc
 some_behind o text (u ∷ us) y zs cut e = some_units o text u us cut
 
--- behind each statement but the last something follows
+-- something follows each statement but the last
 pub followed : (o : ℕ) (text : List ℕ) (xs zs : List TextUnit) (x y : TextUnit) → Statements o text (xs ++ (x ∷ y ∷ zs)) → x.offset + length x.bytes < o + length text
 followed o text xs zs x y s =
     let p = stands o text s.units (y ∷ zs) x s.cut xs s.kept in

@@ -54,7 +54,7 @@ leads_to_comment place held piece fed number h few =
       going = refl;
     }
 
--- of the mark alone nothing is closed
+-- the mark alone closes nothing
 mark_alone : (k : ℕ) → k < 3 → (statements : List TextUnit) × Follows true k (take k byte_order_mark) [] statements × ([] ≡ filter (is_closed k) statements)
 mark_alone zero less = ([], nothing_left 0, refl)
 mark_alone (suc zero) less =
@@ -113,7 +113,7 @@ none_kept p u h = rw h refl
 pub one_kept : (p : TextUnit → Bool) (u : TextUnit) (us : List TextUnit) → p u ≡ true → u ∷ filter p us ≡ filter p (u ∷ us)
 one_kept p u us h = rw h refl
 
--- the unit is told first, before what stands behind it
+-- the unit is the first statement, before those after it
 unit_first : (place : Place) (held piece : List ℕ) (from : ℕ) (goes_on : Bool) (start end fed : ℕ) (more : List ℕ) (others : List TextUnit) → IsPart place held piece from goes_on start end → length (open_of place held) ≤ fed → IsUnit (kept_of goes_on held ++ slice_range piece start end) (slice_range piece end (end + 1) ++ more) → Statements (fed + (end - from)) (slice_range piece end (end + 1) ++ more) others → Follows (begins place) fed (open_of place held) (slice_range piece from (end + 1) ++ more) (part_unit goes_on held piece start end (fed + (start - from)) ∷ others)
 unit_first place held piece from goes_on start end fed more others p few unit s =
     let kept = kept_of goes_on held in
@@ -133,7 +133,7 @@ unit_first place held piece from goes_on start end fed more others p few unit s 
     let sizes = range_size piece from start (end + 1) order.0 (omega arith) in
     p.passed fed more _ few (statements_at o _ _ _ (omega (arith, length-append kept (slice_range piece start (end + 1)))) (statements_of o _ _ _ whole here))
 
--- where all of the piece is taken
+-- if all of the piece is used
 pub unit_told : (place : Place) (held piece : List ℕ) (from : ℕ) (goes_on : Bool) (start end fed : ℕ) (others : List TextUnit) → IsPart place held piece from goes_on start end → length (open_of place held) ≤ fed → Statements (fed + (end - from)) (drop end piece) others → Follows (begins place) fed (open_of place held) (drop from piece) (part_unit goes_on held piece start end (fed + (start - from)) ∷ others)
 unit_told place held piece from goes_on start end fed others p few s =
     let order : (from ≤ start) × (start ≤ end) = (p.order, p.unit.order) in
@@ -184,7 +184,7 @@ unit_ends : (unit behind : List ℕ) (b : ℕ) (rest : List ℕ) → behind ≡ 
 unit_ends [] behind b rest e h = absurd h
 unit_ends (first ∷ unit) behind b rest e h = end_separates first b (subst (EndsBefore first) e h.2)
 
--- from the end of a unit, over the byte that ends it
+-- from the end of a unit, past the byte that ends it
 over_end : (place : Place) (held piece : List ℕ) (goes_on : Bool) (start end fed : ℕ) → IsPart place held piece 0 goes_on start end → length (open_of place held) ≤ fed → end < length piece → (more : List ℕ) (others : List TextUnit) → Statements (fed + end + 1) more others → Follows (begins place) fed (open_of place held) (take (end + 1) piece ++ more) (part_unit goes_on held piece start end (fed + start) ∷ others)
 over_end place held piece goes_on start end fed p few left more others s =
     let u = kept_of goes_on held ++ slice_range piece start end in

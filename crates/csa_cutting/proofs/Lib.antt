@@ -19,3 +19,4 @@ pub mod LineRuns
 mod Places
 mod Lent
 mod LinesFound
+pub mod Opened

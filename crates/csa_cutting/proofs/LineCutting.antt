@@ -1,4 +1,4 @@
--- A line that comes in pieces.
+-- A line that arrives in pieces.
 use Rattle.std.proofs.Common.{◌≡◌, ℕ, ◌+◌, ◌-◌, ◌<◌, ◌≤◌, ◌==◌, true, false, not, List, [], ◌∷◌, ◌++◌, length, take, drop, get_or, slice_range, length-drop, length-append, append_assoc, append-nil, arith, refl, sym, ap, ◌∙◌, subst, inl, inr, ◌⊎◌}
 use Rattle.std.proofs.lemmas.Bool.{cases_lt, false≢true, eqb-true}
 use Rattle.std.proofs.lemmas.List.{take-append-drop, length-take-le, take_more, get_or-drop}
@@ -25,7 +25,7 @@ something (x ∷ xs) h = omega arith
 pub skipped_front : (text : List ℕ) → AreLineEnds (take (prefix_len is_line_end text) text)
 skipped_front text = passes is_line_end text
 
--- a run begins behind the line ends, or where a line is held
+-- a run begins after the line ends, or at the front if a line is held
 pub a_run : (held piece : List ℕ) (start n : ℕ) → start ≤ length piece → AreLineEnds (take start piece) → (0 < start → held ≡ []) → (0 < length held) ⊎ (start < length piece → is_line_end (get_or piece start 0) ≡ false) → n ≡ position_or_len is_line_end (drop start piece) → IsRun held piece start (start + n)
 a_run held piece start n order skipped first begins is_run =
     let rest = drop start piece in
@@ -70,7 +70,7 @@ parts piece start end order =
 none_taken : (piece : List ℕ) (start : ℕ) → start ≡ 0 → take start piece ≡ []
 none_taken piece start h = rw h refl
 
--- what is held comes before the run, since nothing is held where line ends are skipped
+-- what is held comes before the run, since nothing is held if line ends are skipped
 front : (held piece run : List ℕ) (start : ℕ) → (0 < start → held ≡ []) → held ++ (take start piece ++ run) ≡ take start piece ++ (held ++ run)
 front held piece run start first =
     elim (cases_lt 0 start) [
@@ -103,7 +103,7 @@ line_unfinished held piece start end r solid all =
     let whole : take end piece ≡ piece = ap (λ n. take n piece) all ∙ take-length piece in
     subst (λ xs. Lines (held ++ xs) [] (held ++ slice_range piece start end)) whole (line_waits held piece start end r solid)
 
--- the piece up to and with the byte that ends the line
+-- the piece up to the byte that ends the line, and with it
 used : (piece : List ℕ) (start end : ℕ) → start ≤ end → end < length piece → take (end + 1) piece ≡ take start piece ++ (slice_range piece start end ++ get_or piece end 0 ∷ [])
 used piece start end order more =
     let before : take end piece ≡ take start piece ++ slice_range piece start end = take_between piece start end order in
@@ -163,7 +163,8 @@ no_longer_run (r ∷ run) behind (l ∷ line) more solid stops same =
     let rest : run ++ behind ≡ line ++ more = cc in
     omega (arith, no_longer_run run behind line more solid.1 stops rest)
 
--- behind line ends no line is longer than the run, which goes on to a line end or to the end of the text
+-- after line ends no line is longer than the run, which extends to a line end or to the end of the
+-- text
 no_longer : (skipped ends run behind line more : List ℕ) → AreLineEnds skipped → AreLineEnds ends → HasNoLineEnd run → HasNoLineEnd line → StopsLine behind → (run ≡ [] → behind ≡ []) → skipped ++ (run ++ behind) ≡ ends ++ (line ++ more) → length line ≤ length run
 no_longer [] [] run behind line more s e f g stops begins same = no_longer_run run behind line more g stops same
 no_longer [] (x ∷ ends) [] behind line more s e f g stops begins same =

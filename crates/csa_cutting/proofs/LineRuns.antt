@@ -1,4 +1,4 @@
--- A whole run of a cutter of lines; and the statements of a source are told in one way.
+-- A whole run of a cutter of lines; and the statements of a source are unique.
 use Rattle.std.proofs.Common.{◌≡◌, ℕ, ◌+◌, ◌↔◌, ◌⊎◌, Bool, true, false, List, [], ◌∷◌, ◌++◌, length, length-append, take, append_assoc, append-nil, Option, Some, None, Ok, IsErrOf, inl, inr, arith, refl, sym, ap, ◌∙◌, subst}
 use Rattle.std.specs.Borrow.{Bor}
 use Rattle.std.proofs.Math.Seq.{take-length}

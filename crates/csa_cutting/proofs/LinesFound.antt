@@ -28,7 +28,7 @@ before_line b bytes line lines rest behind (x ∷ ends) e whole skipped n others
     let first : IsNextLine (b ∷ bytes) (b ∷ []) bytes = rw whole (alone b x (ends ++ (line ++ behind)) e skipped.0) in
     ((b ∷ []) ∷ line ∷ lines, rest, (bytes, first, (behind, n, others)))
 
--- any other byte in front goes on with the first line or with the rest, or is a line of its own
+-- any other byte in front continues the first line or the rest, or is a line of its own
 before_run : (b : ℕ) (bytes : List ℕ) (lines : List (List ℕ)) (rest : List ℕ) → is_line_end b ≡ false → Lines bytes lines rest → HasLines (b ∷ bytes)
 before_run b bytes [] rest e ([], whole, skipped, run) = ([], b ∷ rest, ([], ap (λ xs. b ∷ xs) whole, tt, (e, run)))
 before_run b bytes [] rest e (x ∷ ends, whole, skipped, run) =

@@ -1,4 +1,4 @@
--- A line over the limit is met in pieces as in the whole.
+-- A line over the limit is found in pieces as in the whole.
 use Rattle.std.proofs.Common.{◌≡◌, ℕ, ◌<◌, ◌⊎◌, true, false, List, [], ◌∷◌, ◌++◌, Some, None, Ok, length, take, drop, length-append, append_assoc, append-nil, arith, sym, ap, ◌∙◌, inl, inr}
 use Rattle.std.proofs.lemmas.List.{take-append-drop}
 use Rattle.std.proofs.Math.Seq.{take-length}
@@ -11,7 +11,7 @@ stops_at : (behind : List ℕ) → BeginsWithLineEnd behind → StopsLine behind
 stops_at [] h = tt
 stops_at (b ∷ behind) h = h
 
--- a long line stands in the line that comes first, or behind it
+-- a long line is in the line that comes first, or after it
 in_line : (limit : ℕ) (line behind before long after : List ℕ) → HasNoLineEnd long → limit < length long → StopsLine behind → line ++ behind ≡ before ++ (long ++ after) → (limit < length line) ⊎ HasLongLine limit behind
 in_line limit [] behind before long after solid more stops same = inr (before, long, after, same, solid, more)
 in_line limit (l ∷ line) behind [] long after solid more stops same =
@@ -23,7 +23,7 @@ in_line limit (l ∷ line) behind (b ∷ before) long after solid more stops sam
       | inr h ↦ inr h
     ]
 
--- none stands in line ends
+-- line ends contain none
 behind_ends : (limit : ℕ) (ends bytes before long after : List ℕ) → AreLineEnds ends → HasNoLineEnd long → limit < length long → ends ++ bytes ≡ before ++ (long ++ after) → HasLongLine limit bytes
 behind_ends limit [] bytes before long after skipped solid more same = (before, long, after, same, solid, more)
 behind_ends limit (e ∷ ends) bytes [] [] after skipped solid more same = absurd (omega (arith, more))
@@ -45,7 +45,7 @@ in_rest : (limit : ℕ) (rest : List ℕ) → HasLongLine limit rest → limit <
 in_rest limit rest (before, long, after, whole, solid, more) =
     omega (arith, more, ap length whole, length-append before (long ++ after), length-append long after)
 
--- one of the lines has more than the limit
+-- one of the lines is over the limit
 abbrev OneIsLong : ℕ → List (List ℕ) → Type 0
 OneIsLong limit [] = ⊥
 OneIsLong limit (line ∷ lines) = (limit < length line) ⊎ OneIsLong limit lines
@@ -76,7 +76,7 @@ of_lines limit bytes (line ∷ lines) rest (behind, next, others) (inr one) =
     let later = of_lines limit behind lines rest others one in
     rw next.whole (further limit next.ends (line ++ behind) (further limit line behind later))
 
--- the rest stands at the end of the bytes
+-- the rest is at the end of the bytes
 rest_last : (bytes : List ℕ) (lines : List (List ℕ)) (rest : List ℕ) → Lines bytes lines rest → (front : List ℕ) × (bytes ≡ front ++ rest)
 rest_last bytes [] rest (ends, whole, skipped, run) = (ends, whole)
 rest_last bytes (line ∷ lines) rest (behind, next, others) =

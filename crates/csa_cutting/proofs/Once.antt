@@ -1,4 +1,4 @@
--- A text is cut in one way, and the bytes of a statement spell one thing.
+-- A text is cut in one way, and the bytes of a statement have one meaning.
 use Rattle.std.proofs.Common.{◌≡◌, ℕ, ◌+◌, Bool, true, false, List, [], ◌∷◌, ◌++◌, filter, length, drop, refl, sym, ap, ◌∙◌}
 use Rattle.std.specs.List.{AllByRecursion}
 use Rattle.csa_cutting.specs.Cut.{TextUnit, IsNext, IsGap, IsUnit, EndsBefore, Units, Statements, IsCut, is_statement, is_separator, is_end, mark_length}
@@ -9,7 +9,7 @@ abbrev pub Stops : (ℕ → Bool) → Bool → List ℕ → Type 0
 Stops p v [] = Unit {0}
 Stops p v (b ∷ bs) = p b ≡ v → ⊥
 
--- the longest front with one answer to a test is one, and so is what stands behind it
+-- the longest front with one answer to a test is unique, and so is what follows it
 pub same_front : (p : ℕ → Bool) (v : Bool) (a b x y : List ℕ) → AllByRecursion (λ n. p n ≡ v) a → AllByRecursion (λ n. p n ≡ v) b → Stops p v x → Stops p v y → a ++ x ≡ b ++ y → (a ≡ b) × (x ≡ y)
 same_front p v [] [] x y f g s t e = (refl, e)
 same_front p v [] (b ∷ bs) [] y f g s t e = cc

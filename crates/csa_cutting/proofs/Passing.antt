@@ -95,7 +95,7 @@ comment_units o body more (u ∷ us) others solid cut kept =
     let silent : is_statement u ≡ false = ap not (begins_same u.bytes cut.0 more whole n.unit) in
     comment_unit o u.offset body more u.bytes cut.0 us others solid whole n.unit (omega (arith, n.place, ap length none)) cut.2 (kept_rest u us others silent kept)
 
--- what has come of a comment may be left out but for its first byte
+-- of a comment that has begun, only the first byte matters
 pub behind_open_comment : (o : ℕ) (bytes more : List ℕ) (others : List TextUnit) → IsUnit bytes [] → begins_with 39 bytes ≡ true → Statements (o + length bytes - 1) (39 ∷ more) others → Statements o (bytes ++ more) others
 behind_open_comment o [] more others h c s = absurd h
 behind_open_comment o (b ∷ body) more others h c s =
@@ -134,7 +134,7 @@ next_byte piece at some =
     let count : at + 1 - at ≡ suc zero = omega arith in
     ap (λ n. take n (drop at piece)) count ∙ ap (take (suc zero)) (drop-cons piece at 0 some)
 
--- what ends a unit stands in the next byte
+-- what ends a unit is in the next byte
 pub ends_with_next : (piece : List ℕ) (end first : ℕ) (more : List ℕ) → end < length piece → EndsBefore first (drop end piece) → EndsBefore first (slice_range piece end (end + 1) ++ more)
 ends_with_next piece end first more some h =
     let e : is_end first (get_or piece end 0) ≡ true = subst (EndsBefore first) (drop-cons piece end 0 some) h in
@@ -163,7 +163,7 @@ over_gap place held front gap unfinished h room p fed more others few s =
     p fed more others few (statements_of o _ _ others (sym (append_assoc gap unfinished more))
     (behind_gap o gap (unfinished ++ more) others h (statements_at _ _ _ others same s)))
 
--- over a comment, and what ends it stands behind it
+-- past a comment, and what ends it follows it
 pub over_comment : (place : Place) (held front comment unfinished : List ℕ) → ((more : List ℕ) → IsUnit comment (unfinished ++ more)) → begins_with 39 comment ≡ true → length comment + length unfinished ≤ length (open_of place held) + length front → Passes place held front (comment ++ unfinished) → Passes place held front unfinished
 over_comment place held front comment unfinished unit silent room p fed more others few s =
     let o = fed + length front - length (comment ++ unfinished) in
@@ -171,7 +171,7 @@ over_comment place held front comment unfinished unit silent room p fed more oth
     p fed more others few (statements_of o _ _ others (sym (append_assoc comment unfinished more))
     (behind_comment o comment (unfinished ++ more) others (unit more) silent (statements_at _ _ _ others same s)))
 
--- over what has come of a comment
+-- past a comment that has begun
 pub over_open_comment : (place : Place) (held front comment : List ℕ) → IsUnit comment [] → begins_with 39 comment ≡ true → length comment ≤ length (open_of place held) + length front → Passes place held front comment → Passes place held front (39 ∷ [])
 over_open_comment place held front comment unit silent room p fed more others few s =
     let o = fed + length front - length comment in
@@ -214,7 +214,7 @@ comment_passed place held piece from at start end low p some left n quote =
     (λ more. unit_before body (drop end piece) _ n.unit (λ first e. ends_with_next piece end first more left e)) silent (omega arith)
     (subst (Passes place held (slice_range piece from (end + 1))) (split_range piece start end (end + 1) order up) (to_unit place held piece from at start end low p some inside n))
 
--- a comment that goes on to the end of the piece
+-- a comment that extends to the end of the piece
 pub comment_open : (place : Place) (held piece : List ℕ) (from at start end : ℕ) → from ≤ at → PassesTo place held piece from at → start < end → end ≡ length piece → IsNext at (drop at piece) (unit_between piece start end) (drop end piece) → get_or piece start 0 ≡ 39 → Passes place held (drop from piece) (39 ∷ [])
 comment_open place held piece from at start end low p some all n quote =
     let inside : end ≤ length piece = omega arith in

@@ -1,5 +1,5 @@
--- The first of the places that a library search gives, or the length where it gives none, is how many bytes come before the
--- first that passes.
+-- The first of the places that a library search yields, or the length if it yields none, is how
+-- many bytes come before the first that passes.
 use Rattle.std.proofs.Common.{◌≡◌, ℕ, ◌+◌, ◌<◌, ◌≤◌, ◌∷◌, [], Bool, true, false, List, length, Option, Some, None, sym, ◌∙◌, arith, inl, inr}
 use Rattle.std.proofs.lemmas.Bool.{cases_lt}
 use Rattle.std.proofs.lemmas.List.Sums.{fails_before_first, passes_at_first, prefix_len-le-length}

@@ -24,7 +24,7 @@ pub comment_first : (offset : ℕ) (text : List ℕ) (u : TextUnit) (behind : Li
 comment_first offset text u behind others next silent rest =
     record { units = u ∷ rest.units; cut = (behind, next, rest.cut); kept = dropped_first u others rest.units silent rest.kept }
 
--- a unit, and less of the text behind it
+-- a unit, and less of the text after it
 record Step (offset : ℕ) (text : List ℕ) : Type 0 where
   unit : TextUnit
   behind : List ℕ

@@ -49,7 +49,7 @@ unit_has_some source start end h =
     let place = length_between source start end h.order h.within in
     omega arith
 
--- the unit is told first, and then what is told behind it
+-- the unit is the first statement, and those after it follow
 pub told_first : (source : List ℕ) (from start end : ℕ) (others : List TextUnit) → IsFirstStatement source from start end → Statements end (drop end source) others → Statements from (drop from source) (unit_between source start end ∷ others)
 told_first source from start end others h s =
     let unit = h.unit in
@@ -59,7 +59,7 @@ told_first source from start end others h s =
     h.first (unit_between source start end ∷ others) (statements_of start _ _ _ (sym (drop_split source start end unit.order))
     (statement_first start (slice_range source start end ++ behind) (unit_between source start end) behind others next (ap not unit.spoken) (statements_at end _ _ others (omega arith) s)))
 
--- where the source holds no unit of a statement, it tells none
+-- if the source holds no statement's unit, it has no statement
 pub none_spoken : (source : List ℕ) (from : ℕ) (place : Place) → IsFoundIn Gap [] source from (LeadsTo place) → Statements from (drop from source) []
 none_spoken source from Mark h = let e = h.0 in cc
 none_spoken source from InUnit h = absurd h

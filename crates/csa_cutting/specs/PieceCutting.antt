@@ -1,10 +1,11 @@
--- A cutter of pieces on its way.
+-- The state of a cutter of pieces.
 use Rattle.std.specs.Prelude.{◌≡◌, ℕ, ◌+◌, ◌-◌, ◌||◌, ◌⊎◌, Bool, true, false, List, [], ◌∷◌, ◌++◌, length, drop, filter, nat_lt, Option, None, if◌then◌else◌}
 use Rattle.csa_cutting.specs.Cut.{TextUnit, IsUnit, Statements, IsCut, mark_length, begins_with, longest_statement}
 
--- how many bytes it took; how many statements it handed out; whether these bytes are the beginning of
--- a byte order mark, or none; what is unfinished: the bytes of that mark, the bytes of a unit, of a
--- comment its first byte; the bytes that are held; and the offset of a statement that is too long, if one was met
+-- how many bytes it has used; how many statements it has yielded; whether these bytes are the front
+-- of a byte order mark, or none; what is unfinished: the bytes of that mark, the bytes of a unit,
+-- or of a comment its first byte; the bytes that are held; and the offset of the statement that was
+-- too long, if there was one
 pub record PieceCutting : Type 0 where
   pub fed : ℕ
   pub number : ℕ
@@ -13,49 +14,58 @@ pub record PieceCutting : Type 0 where
   pub held : List ℕ
   pub refused : Option ℕ
 
--- nothing is unfinished, or a comment, of which its first byte stands here, or a statement's unit: so nothing of a gap
+-- unfinished is nothing, or a comment, of which only the first byte is listed, or a statement's
+-- unit; so a gap never is
 abbrev pub IsOpen : List ℕ → Type 0
 IsOpen unfinished =
-    (unfinished ≡ []) ⊎ ((unfinished ≡ 39 ∷ []) ⊎ (IsUnit unfinished [] × (begins_with 39 unfinished ≡ false)))
+    (unfinished ≡ [])
+    ⊎ ((unfinished ≡ 39 ∷ []) ⊎ (IsUnit unfinished [] × (begins_with 39 unfinished ≡ false)))
 
--- what is held of the unfinished bytes: all, but of a comment nothing
+-- what is held of the unfinished bytes: all of them, but nothing of a comment
 abbrev pub held_of : List ℕ → List ℕ
 held_of unfinished = if begins_with 39 unfinished then [] else unfinished
 
--- nothing has come
+-- no bytes have come
 abbrev pub fresh : PieceCutting
 fresh = record { fed = 0; number = 0; begins = true; unfinished = []; held = []; refused = None }
 
--- how much of the text is the mark
+-- how many bytes of the text are the mark
 abbrev pub mark_of : Bool → List ℕ → ℕ
 mark_of begins text = if begins then mark_length text else 0
 
--- behind so many bytes, and with these unfinished, the text that comes tells these statements
+-- after so many bytes, with these unfinished, the text that follows has these statements
 abbrev pub Follows : Bool → ℕ → List ℕ → List ℕ → List TextUnit → Type 0
 Follows begins fed held text statements =
-    Statements (fed - length held + mark_of begins (held ++ text)) (drop (mark_of begins (held ++ text)) (held ++ text)) statements
+    Statements (fed - length held + mark_of begins (held ++ text))
+    (drop (mark_of begins (held ++ text)) (held ++ text)) statements
 
--- the statements that are still to be handed out where these bytes come, and no more
+-- the statements that are still to come, if these bytes follow and no others
 abbrev pub ToComeWith : PieceCutting → List ℕ → List TextUnit → Type 0
 ToComeWith p text statements = Follows p.begins p.fed p.unfinished text statements
 
--- in a text of so many bytes, a unit that is followed by the byte that ends it, or has more than 4,096
+-- in a text of so many bytes, a unit that is followed by the byte that ends it, or has more than
+-- 4,096 bytes
 abbrev pub is_closed : ℕ → TextUnit → Bool
-is_closed end u = nat_lt (u.offset + length u.bytes) end || nat_lt longest_statement (length u.bytes)
+is_closed end u =
+    nat_lt (u.offset + length u.bytes) end || nat_lt longest_statement (length u.bytes)
 
 -- the closed statements of a record's bytes
 abbrev pub Closed : List ℕ → List TextUnit → Type 0
-Closed source closed = (statements : List TextUnit) × IsCut source statements × (closed ≡ filter (is_closed (length source)) statements)
+Closed source closed = (statements : List TextUnit) × IsCut source statements
+    × (closed ≡ filter (is_closed (length source)) statements)
 
--- the closed statements that are still to be handed out where these bytes come
+-- the closed statements that are still to come, if these bytes follow
 abbrev pub Closes : PieceCutting → List ℕ → List TextUnit → Type 0
-Closes p text closed = (statements : List TextUnit) × ToComeWith p text statements × (closed ≡ filter (is_closed (p.fed + length text)) statements)
+Closes p text closed = (statements : List TextUnit) × ToComeWith p text statements
+    × (closed ≡ filter (is_closed (p.fed + length text)) statements)
 
--- these bytes close these statements and no others, and lead on to the new state: what is to come from
--- there is to come behind them
-pub record Leads (old : PieceCutting) (text : List ℕ) (closed : List TextUnit) (new : PieceCutting) : Type 0 where
+-- these bytes close exactly these statements and lead to the new state: what is to come from the
+-- new state comes after them
+pub record Leads (old : PieceCutting) (text : List ℕ) (closed : List TextUnit)
+    (new : PieceCutting) : Type 0 where
   pub took : new.fed ≡ old.fed + length text
   pub counted : new.number ≡ old.number + length closed
   pub closes : Closes old text closed
-  pub onward : (more : List ℕ) (others : List TextUnit) → ToComeWith new more others → ToComeWith old (text ++ more) (closed ++ others)
+  pub onward : (more : List ℕ) (others : List TextUnit) → ToComeWith new more others
+      → ToComeWith old (text ++ more) (closed ++ others)
   pub going : new.refused ≡ None

@@ -19,6 +19,6 @@ pub record FirstTooLong (source : List ℕ) (number offset : ℕ) : Type 0 where
   pub number_is : number ≡ length before + 1
   pub place : offset ≡ unit.offset
 
--- a cutter of pieces that was fed this source has handed out these statements, and none of them is too long
+-- a cutter of pieces that has used this source has yielded these statements, and none is too long
 abbrev pub HasCutOf : List ℕ → PieceCutting → List TextUnit → Type 0
 HasCutOf source p handed = Leads fresh source handed p × AreShort handed

@@ -17,9 +17,11 @@ AreNumbered count [] (s ∷ ss) = ⊥
 AreNumbered count (u ∷ us) [] = ⊥
 AreNumbered count (u ∷ us) (s ∷ ss) = IsNumbered count u s × AreNumbered (count + 1) us ss
 
--- these are the statements of the source, with their numbers, offsets and bytes, and none is too long
+-- these are the statements of the source, with their numbers, offsets and bytes, and none is too
+-- long
 abbrev pub AreStatementsOf : List ℕ → List Statement → Type 0
-AreStatementsOf source given = (units : List TextUnit) × IsCut source units × AreNumbered 0 units given
+AreStatementsOf source given = (units : List TextUnit) × IsCut source units
+    × AreNumbered 0 units given
 
 abbrev pub given : Option Statement → List Statement
 given None = []
@@ -28,20 +30,22 @@ given (Some s) = s ∷ []
 -- pieces and the answers to them, one after another
 abbrev pub Answered : PieceCutting → List (List ℕ × Step) → PieceCutting → Type 0
 Answered old [] new = old ≡ new
-Answered old (s ∷ steps) new = (next : PieceCutting) × Stepped old s.0 (Ok s.1) next × Answered next steps new
+Answered old (s ∷ steps) new = (next : PieceCutting) × Stepped old s.0 (Ok s.1) next
+    × Answered next steps new
 
 -- the bytes that were used
 abbrev pub all_used : List (List ℕ × Step) → List ℕ
 all_used steps = flat_map (λ s. take s.1.used s.0) steps
 
--- the statements that were handed out
+-- the statements that were yielded
 abbrev pub all_given : List (List ℕ × Step) → List Statement
 all_given steps = flat_map (λ s. given s.1.statement) steps
 
--- the statements that a cutter handed out one after another
+-- the statements that a cutter yielded, one after another
 abbrev pub HandedOut : Cutting → List Statement → Cutting → Type 0
 HandedOut old [] new = old ≡ new
-HandedOut old (s ∷ ss) new = (next : Cutting) × (next.source ≡ old.source) × IsHandedOut old next s.number s.offset s.bytes.now × HandedOut next ss new
+HandedOut old (s ∷ ss) new = (next : Cutting) × (next.source ≡ old.source)
+    × IsHandedOut old next s.number s.offset s.bytes.now × HandedOut next ss new
 
 -- a statement by its number, its offset and its bytes
 abbrev pub told : Statement → ℕ × ℕ × List ℕ
@@ -53,7 +57,9 @@ all_told ss = map told ss
 -- pieces and the answers of a cutter of lines to them, one after another
 abbrev pub LineAnswers : LineCutting → List (List ℕ × LineAnswer) → LineCutting → Type 0
 LineAnswers old [] new = old ≡ new
-LineAnswers old (s ∷ steps) new = (next : LineCutting) × (BeginsTooLong old.limit (old.held ++ s.0) → ⊥) × LineStep old.held s.0 s.1 × LinesAfter old s.0 (Ok s.1) next × LineAnswers next steps new
+LineAnswers old (s ∷ steps) new = (next : LineCutting)
+    × (BeginsTooLong old.limit (old.held ++ s.0) → ⊥) × LineStep old.held s.0 s.1
+    × LinesAfter old s.0 (Ok s.1) next × LineAnswers next steps new
 
 abbrev pub all_taken : List (List ℕ × LineAnswer) → List ℕ
 all_taken steps = flat_map (λ s. take s.1.0 s.0) steps

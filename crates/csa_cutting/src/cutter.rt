@@ -6,21 +6,21 @@ use crate::units::{BYTE_ORDER_MARK, Found, first_in, handed_out};
 use std::marker::Model;
 use thiserror::Error;
 
-/// The most bytes that a statement may have, blanks at its end counted.
-pub const LONGEST_STATEMENT: usize = 4096;
+// The most bytes that a statement may have, including blanks at its end.
+pub(crate) const LONGEST_STATEMENT: usize = 4096;
 
 /// One statement of a record.
 #[derive(Clone, Copy, Debug, PartialEq, Eq)]
 pub struct Statement<'a> {
     /// Its number, counted from 1. Comments are not counted.
     pub number: u64,
-    /// The offset of its first byte in the source, counted from 0 with the byte order mark.
+    /// The offset of its first byte in the source, counted from 0. A byte order mark counts too.
     pub offset: u64,
-    /// Its bytes: a name or a header whole, another less the spaces and tabs at its end.
+    /// Its bytes: all of them for a name or a header, else without trailing spaces and tabs.
     pub bytes: &'a [u8],
 }
 
-/// A statement has more than 4,096 bytes, blanks at its end counted: `C1 StatementTooLong`.
+/// A statement has more than 4,096 bytes, including blanks at its end: `C1 StatementTooLong`.
 #[derive(Clone, Copy, Debug, PartialEq, Eq, Error)]
 #[error("statement {number}, offset {offset}: C1 StatementTooLong")]
 pub struct CutFault {
@@ -30,11 +30,11 @@ pub struct CutFault {
     pub offset: u64,
 }
 
-/// Cuts a record's bytes into statements, and hands them out in order.
+/// Cuts a record's bytes into statements, and yields them in order.
 ///
-/// A byte order mark at the very start is skipped. CR, LF, commas, spaces and tabs separate
-/// statements; a name (`N`) or a header (`$`) goes on to the end of its line, and a comment (`'`)
-/// is no statement. No memory is taken.
+/// By the grammar of CSA V2.2, CR, LF, commas, spaces and tabs separate statements, and a name
+/// (`N`) or a header (`$`) extends to the end of its line. A byte order mark at the very start is
+/// skipped, and so are comments (`'`). Nothing is allocated.
 #[derive(Drop)]
 pub struct Cutter<'a> {
     source: &'a [u8],
@@ -48,13 +48,18 @@ impl<'a> Model for Cutter<'a> {
 
     ghost Value = { Cutting };
 
-    ghost view = { λ c. record { source = c.source.now; address = c.source.ref_ptr; at = c.at; number = c.number } };
+    ghost view = { λ c. record {
+      source = c.source.now;
+      address = c.source.ref_ptr;
+      at = c.at;
+      number = c.number;
+    } };
 
     ghost invariant = { λ c. (c.at ≤ length c.source.now) × (c.number ≤ c.at) };
 }
 
 impl<'a> Cutter<'a> {
-    /// A cutter at the start of the source.
+    /// Creates a cutter at the start of the source.
     pub fn new(source: &'a [u8]) -> Cutter<'a>
         ensures source { result.source ≡ source.now }
         ensures address { result.address ≡ source.entry.ref_ptr }
@@ -74,18 +79,22 @@ impl<'a> Cutter<'a> {
         }
     }
 
-    /// The next statement, or `None` where none is left.
+    /// Returns the next statement, or `None` if no statement is left.
     ///
-    /// A statement of more than 4,096 bytes is a `CutFault`; the cutter stays before it, so each
-    /// later call answers the same.
+    /// Returns a `CutFault` if the next statement has more than 4,096 bytes. The cutter then does
+    /// not move, so each later call returns the same fault.
     pub fn next_statement(&mut self) -> Result<Option<Statement<'a>>, CutFault>
         ensures source { self.new.source ≡ self.old.source }
         ensures address { self.new.address ≡ self.old.address }
-        ensures first { IfHandedOut result (λ s. IsFirstStatement self.old.source self.old.at s.offset self.new.at) }
+        ensures first { IfHandedOut result
+            (λ s. IsFirstStatement self.old.source self.old.at s.offset self.new.at) }
         ensures number { IfHandedOut result (λ s. s.number ≡ self.old.number + 1) }
         ensures counted { IfHandedOut result (λ s. self.new.number ≡ s.number) }
-        ensures bytes { IfHandedOut result (λ s. s.bytes.now ≡ statement_bytes (slice_range self.old.source s.offset self.new.at)) }
-        ensures lent { IfHandedOut result (λ s. s.bytes.ref_ptr ≡ (self.old.address.0, self.old.address.1 + s.offset)) }
+        ensures bytes { IfHandedOut result
+            (λ s. s.bytes.now
+            ≡ statement_bytes (slice_range self.old.source s.offset self.new.at)) }
+        ensures lent { IfHandedOut result
+            (λ s. s.bytes.ref_ptr ≡ (self.old.address.0, self.old.address.1 + s.offset)) }
         ensures limit { IfHandedOut result (λ s. self.new.at ≤ s.offset + longest_statement) }
         ensures end { IfOk result (λ found. IfNone found (ToCome self.old [])) }
         ensures stays { IfOk result (λ found. IfNone found (self.new ≡ self.old)) }
@@ -111,7 +120,7 @@ impl<'a> Cutter<'a> {
     }
 }
 
-// The next unit at or after `from` that is no comment.
+// The next unit at or after `from` that is not a comment.
 fn next_spoken(source: &[u8], from: usize) -> Option<(usize, usize)>
     requires { from ≤ length source.now }
     ensures { MatchOption result

@@ -13,13 +13,13 @@ use std::alloc::{AllocError, Global};
 use std::marker::Model;
 use thiserror::Error;
 
-/// Why a line is not handed out.
+/// Why no line is returned.
 #[derive(Clone, Copy, Debug, PartialEq, Eq, PartialOrd, Ord, Error)]
 pub enum LineFault {
     /// A line has more bytes than the limit.
     #[error("line too long")]
     TooLong,
-    /// Memory for the line was refused.
+    /// An allocation for the line failed.
     #[error("out of memory")]
     OutOfMemory,
 }
@@ -32,15 +32,15 @@ impl From<AllocError> for LineFault {
     }
 }
 
-/// Cuts bytes that come in pieces into lines, and hands these out in order.
+/// Cuts bytes that arrive in pieces into lines, and yields these in order.
 ///
-/// CR and LF each end a line, and a line without bytes is skipped. The cutter keeps one line and no
-/// more: the unfinished one, or until the next call the one that it handed out.
+/// CR and LF each end a line, and empty lines are skipped. The cutter keeps at most one line: the
+/// unfinished one or, until the next call, the one that it returned.
 #[derive(Drop)]
 pub struct LineCutter {
     held: Vec<u8>,
     limit: usize,
-    // whether what is held was handed out
+    // whether what is held has been returned
     spent: bool,
     failed: bool,
 }
@@ -52,13 +52,17 @@ impl Model for LineCutter {
 
     ghost Value = { LineCutting };
 
-    ghost view = { λ c. record { held = if c.spent then [] else c.held.items; limit = c.limit; failed = c.failed } };
+    ghost view = { λ c. record {
+      held = if c.spent then [] else c.held.items;
+      limit = c.limit;
+      failed = c.failed;
+    } };
 
     ghost invariant = { λ c. (length c.held.items ≤ c.limit) × HasNoLineEnd c.held.items };
 }
 
 impl LineCutter {
-    /// A cutter that has seen nothing, of lines of at most `limit` bytes.
+    /// Creates a cutter for lines of at most `limit` bytes.
     pub fn new(alloc: Global, limit: usize) -> LineCutter
         ensures held { result.held ≡ [] }
         ensures limit { result.limit ≡ limit }
@@ -72,17 +76,22 @@ impl LineCutter {
         }
     }
 
-    /// Takes bytes of the piece: how many it used, and the line that ended there, if one did.
+    /// Takes bytes from the front of the piece. Returns how many it used, and the line that ended
+    /// there, if one did.
     ///
-    /// It stops behind the CR or LF that ends a line, and uses the whole piece where none ends. Hand
-    /// in what is left of the piece next. `TooLong` comes as soon as a line has more than `limit`
-    /// bytes, and at each later call. After `OutOfMemory` the cutter is as before, and nothing of the
-    /// piece was used.
+    /// It stops after the CR or LF that ends a line, and uses the whole piece if no line ends in
+    /// it. Pass the rest of the piece to the next call.
+    ///
+    /// Returns `TooLong` as soon as a line has more than `limit` bytes, and from then on at each
+    /// call; then `OutOfMemory` if an allocation fails. After `OutOfMemory` the cutter is
+    /// unchanged, and no byte of the piece has been used.
     pub fn step(&mut self, piece: &[u8]) -> Result<(usize, Option<&[u8]>), LineFault>
         ensures long { IsErrOf result LineFault.TooLong
-            ↔ ((self.old.failed ≡ true) ⊎ BeginsTooLong self.old.limit (self.old.held ++ piece.now)) }
+            ↔ ((self.old.failed ≡ true)
+            ⊎ BeginsTooLong self.old.limit (self.old.held ++ piece.now)) }
         ensures lines { IfOk result (λ r. LineStep self.old.held piece.now r) }
-        ensures* rests { sem 𝓛 (Rests the_row self.entry (λ new. LinesAfter self.old piece.now result new)) }
+        ensures* rests { sem 𝓛
+            (Rests the_row self.entry (λ new. LinesAfter self.old piece.now result new)) }
     {
         if self.failed {
             return Err(LineFault::TooLong);
@@ -103,16 +112,18 @@ impl LineCutter {
         Ok((end + 1, Some(self.held.as_slice())))
     }
 
-    /// The line that is unfinished at the end of the bytes, if one is.
+    /// Returns the line that is unfinished at the end of the bytes, if there is one.
     ///
-    /// Afterwards the cutter is as at the start of a line. `TooLong` comes where `step` answered it.
+    /// Afterwards the cutter is at the start of a line. Returns `TooLong` if `step` has returned
+    /// it.
     pub fn finish(&mut self) -> Result<Option<&[u8]>, LineFault>
         ensures long { IsErrOf result LineFault.TooLong ↔ (self.old.failed ≡ true) }
         ensures memory { IsErrOf result LineFault.OutOfMemory → ⊥ }
         ensures last { IfOk result (λ last. LastLine self.old.held last) }
         ensures little { length self.old.held ≤ self.old.limit }
         ensures unended { HasNoLineEnd self.old.held }
-        ensures* rests { sem 𝓛 (Rests the_row self.entry (λ new. LinesFinished self.old result new)) }
+        ensures* rests { sem 𝓛
+            (Rests the_row self.entry (λ new. LinesFinished self.old result new)) }
     {
         if self.failed {
             return Err(LineFault::TooLong);
@@ -139,19 +150,20 @@ fn line_ends_length(text: &[u8]) -> usize
     front_length(text, is_line_end)
 }
 
-// How many bytes of the text come before a CR or LF. Not compiled into its callers, as `plain_length`.
+// How many bytes of the text come before a CR or LF. Not inlined, for the reason that
+// `plain_length` has.
 #[inline(never)]
 pub(crate) fn line_length(text: &[u8]) -> usize
     ensures value { result ≡ position_or_len is_line_end text.now }
     ensures within { result ≤ length text.now }
 {
-    // Most lines are short: the iterator looks at the first bytes alone first.
+    // Most lines are short: the iterator first looks at the first bytes alone.
     memchr2_iter(b'\r', b'\n', text)
         .next()
         .unwrap_or(text.len())
 }
 
-// Empties what is held where it was handed out.
+// Clears what is held if it has been returned.
 fn forget(held: &mut Vec<u8>, spent: bool)
     ensures { held.new.items ≡ (if spent then [] else held.old.items) }
 {
@@ -160,8 +172,8 @@ fn forget(held: &mut Vec<u8>, spent: bool)
     }
 }
 
-// The run of the piece that goes on with the line that is held, or else behind the line ends at the
-// front: where it starts, and where it ends.
+// Where the run of the piece starts and ends that continues the held line or, if none is held,
+// follows the line ends at the front.
 fn first_run(held: &[u8], piece: &[u8]) -> (usize, usize)
     ensures { IsRun held.now piece.now result.0 result.1 }
 {

@@ -1,3 +1,15 @@
+// Cutting bytes that come in pieces: a statement may lie in several of them.
+//
+// Between two steps the cutter keeps where the bytes so far have led to, its place: in the byte
+// order mark, in a gap between statements, in a statement, or in a comment. Beside the place it
+// holds the bytes of an unfinished statement, at most 4,096. Of a comment it holds none, since a
+// comment is not handed out and ends at the next line end, whatever it says.
+//
+// A step looks for the next statement from that place on. One that begins and ends in the piece is
+// lent from there, and nothing is copied. The bytes of any other are held until a piece ends it,
+// and it is lent from what is held. The byte order mark is held too, since bytes that begin like
+// one may turn out to be a statement.
+
 ghost use Rattle.std.specs.Prelude.{◌≡◌, ◌+◌, ◌-◌, ◌^◌, ◌<◌, ◌≤◌, ◌++◌, [], length, true, None, Some, IsSome, IfSome, IfOk, IfErr, if◌then◌else◌};
 ghost use Rattle.std.specs.Borrow.{sem};
 ghost use Rattle.std.specs.Io.BufRead.{Rests};
@@ -15,19 +27,21 @@ use crate::units::{
 use arrayvec::ArrayVec;
 use std::marker::Model;
 
-/// What a step found.
+/// What one step used and found.
 #[derive(Clone, Copy, Debug, PartialEq, Eq)]
 pub struct Cut<'b> {
     /// How many bytes of the piece were used.
     pub used: usize,
-    /// The statement that the last of them ended.
+    /// The statement that the last of them ended, if one did.
     pub statement: Option<Statement<'b>>,
 }
 
-/// Cuts a record's bytes that come in pieces into statements, as `Cutter` cuts the whole.
+/// Cuts a record's bytes that arrive in pieces into the statements that a `Cutter` yields for the
+/// whole source.
 ///
-/// A statement that lies whole in one piece, with the byte that ends it, is lent from there. Of one
-/// that is unfinished at most 4,096 bytes are held, and none of a comment. No memory is taken.
+/// A statement that lies in one piece together with the byte that ends it is borrowed from that
+/// piece. Of an unfinished statement at most 4,096 bytes are held, and of a comment none. Nothing
+/// is allocated.
 #[derive(Drop)]
 pub struct PieceCutter {
     held: ArrayVec<u8, LONGEST_STATEMENT>,
@@ -44,13 +58,20 @@ impl Model for PieceCutter {
 
     ghost use Rattle.csa_cutting.specs.Places.{begins, open_of, IsKept};
 
-    ghost view = { λ c. record { fed = c.fed; number = c.number; begins = begins c.place; unfinished = open_of c.place c.held.items; held = c.held.items; refused = c.refused } };
+    ghost view = { λ c. record {
+      fed = c.fed;
+      number = c.number;
+      begins = begins c.place;
+      unfinished = open_of c.place c.held.items;
+      held = c.held.items;
+      refused = c.refused;
+    } };
 
     ghost invariant = { λ c. IsKept c.place c.held.items c.fed c.number };
 }
 
 impl PieceCutter {
-    /// A cutter that has seen nothing.
+    /// Creates a cutter that has used no bytes.
     pub fn new() -> PieceCutter
         ensures start { result ≡ fresh }
     {
@@ -63,7 +84,7 @@ impl PieceCutter {
         }
     }
 
-    /// How many bytes were used so far.
+    /// How many bytes have been used so far.
     pub fn fed(&self) -> u64
         ensures count { result ≡ self.now.fed }
         ensures little { length self.now.held ≤ longest_statement }
@@ -73,7 +94,7 @@ impl PieceCutter {
         self.fed
     }
 
-    /// How many statements were handed out so far.
+    /// How many statements have been yielded so far.
     pub fn statements(&self) -> u64
         ensures count { result ≡ self.now.number }
         ensures few { self.now.number ≤ self.now.fed }
@@ -82,22 +103,29 @@ impl PieceCutter {
         self.number
     }
 
-    /// Takes bytes of the piece: how many it used, and the statement that ended there, if one did.
+    /// Takes bytes from the front of the piece. Returns how many it used, and the statement that
+    /// ended there, if one did.
     ///
-    /// It stops right behind the byte that ends a statement, and uses the whole piece where none
-    /// ends. Hand in what is left of the piece next. A statement that begins in this piece is lent
-    /// from it. One of more than 4,096 bytes is a `CutFault` as soon as that is known, and at each
-    /// later call; all else of the cutter is then as before. At most 2^63 bytes may be fed in all.
+    /// It stops right after the byte that ends a statement, and uses the whole piece if no
+    /// statement ends in it. Pass the rest of the piece to the next call. A statement that begins
+    /// in this piece is borrowed from it. At most 2^63 bytes may be passed in all.
+    ///
+    /// Returns a `CutFault` as soon as a statement has more than 4,096 bytes, and from then on at
+    /// each call. A fault changes nothing else in the cutter.
     #[inline(always)]
     pub fn step<'b>(&'b mut self, piece: &'b [u8]) -> Result<Cut<'b>, CutFault>
         requires room { self.old.fed + length piece.now ≤ 2 ^ 63 }
         ensures used { IfOk result (IsUsed piece.now) }
-        ensures number { IfOk result (λ cut. IfSome cut.statement (λ s. s.number ≡ self.old.number + 1)) }
-        ensures lent { IfOk result (λ cut. IfSome cut.statement (IsLentFrom piece.entry.ref_ptr self.old.fed)) }
+        ensures number { IfOk result
+            (λ cut. IfSome cut.statement (λ s. s.number ≡ self.old.number + 1)) }
+        ensures lent { IfOk result
+            (λ cut. IfSome cut.statement (IsLentFrom piece.entry.ref_ptr self.old.fed)) }
         ensures going { IfOk result (λ _. self.old.refused ≡ None) }
         ensures fault { IfErr result (λ f. f.number ≡ self.old.number + 1) }
-        ensures place { IfErr result (λ f. IsTooLongAt self.old.refused self.old piece.now f.offset) }
-        ensures* after { sem 𝓛 (Rests the_row self.entry (λ new. AfterStep self.old piece.now result new)) }
+        ensures place { IfErr result
+            (λ f. IsTooLongAt self.old.refused self.old piece.now f.offset) }
+        ensures* after { sem 𝓛
+            (Rests the_row self.entry (λ new. AfterStep self.old piece.now result new)) }
     {
         let number = self.number + 1;
         if let Some(offset) = self.refused {
@@ -137,10 +165,10 @@ impl PieceCutter {
         Ok(ended(end, number, offset, self.held.as_slice()))
     }
 
-    /// The statement that the end of the bytes ends, if one is unfinished.
+    /// Returns the statement that is unfinished at the end of the bytes, if there is one.
     ///
-    /// Afterwards the cutter stands behind it, as if its line had ended there. A `CutFault` comes
-    /// where `step` answered it.
+    /// Afterwards the cutter is past that statement, as if its line had ended. Returns a `CutFault`
+    /// if `step` has returned one.
     pub fn finish(&mut self) -> Result<Option<Statement<'_>>, CutFault>
         ensures number { IfOk result (λ last. IfSome last (λ s. s.number ≡ self.old.number + 1)) }
         ensures going { IfOk result (λ _. self.old.refused ≡ None) }
@@ -168,7 +196,7 @@ impl PieceCutter {
     }
 }
 
-// The bytes that were used end no statement.
+// No statement ended in the bytes that were used.
 fn none_ended<'b>(used: usize) -> Cut<'b>
     ensures used { result.used ≡ used }
     ensures statement { result.statement ≡ None }
@@ -179,7 +207,7 @@ fn none_ended<'b>(used: usize) -> Cut<'b>
     }
 }
 
-// The statement of a unit that ends there.
+// The statement whose unit ends there.
 fn ended<'b>(end: usize, number: u64, offset: u64, unit: &'b [u8]) -> Cut<'b>
     requires { end < 2 ^ 64 - 1 }
     ensures used { result.used ≡ end + 1 }
@@ -209,14 +237,14 @@ fn is_unfinished(place: Place, held: &[u8]) -> bool
     }
 }
 
-// How many of the bytes that are held are the unit's.
+// How many of the held bytes belong to the unit.
 fn kept_length(goes_on: bool, length: usize) -> usize
     ensures { result ≡ (if goes_on then length else 0) }
 {
     if goes_on { length } else { 0 }
 }
 
-// Keeps what is held where the unit goes on, and else nothing.
+// Keeps the held bytes if the unit goes on, and clears them if not.
 fn keep_held(held: &mut ArrayVec<u8, LONGEST_STATEMENT>, goes_on: bool)
     ensures { held.new.items ≡ kept_of goes_on held.old.items }
 {
@@ -225,7 +253,7 @@ fn keep_held(held: &mut ArrayVec<u8, LONGEST_STATEMENT>, goes_on: bool)
     }
 }
 
-// Holds what has come of a byte order mark, and nothing of a gap or a comment.
+// Holds the bytes of a byte order mark so far, and nothing of a gap or a comment.
 fn hold_mark(held: &mut ArrayVec<u8, LONGEST_STATEMENT>, place: Place, piece: &[u8])
     requires { begins place ≡ true → array_vec_len held.old + length piece.now ≤ longest_statement }
     ensures { held.new.items ≡ (if begins place then held.old.items ++ piece.now else []) }
@@ -243,7 +271,7 @@ fn hold(held: &mut ArrayVec<u8, LONGEST_STATEMENT>, part: &[u8])
     held.try_extend_from_slice(part).unwrap();
 }
 
-// The statement's unit that the piece holds next, or where it leads to where it holds none.
+// The statement's unit that the piece holds next, or where the piece leads if it holds none.
 fn found_in(place: Place, held: &[u8], piece: &[u8]) -> Found
     requires { IsHeld place held.now }
     ensures { IsFoundIn place held.now piece.now 0 result }
@@ -260,7 +288,7 @@ fn found_in(place: Place, held: &[u8], piece: &[u8]) -> Found
     }
 }
 
-// The same, where the bytes so far lead into a comment.
+// As `found_in`, if the bytes so far end in a comment.
 fn found_in_comment(piece: &[u8]) -> Found
     ensures { IsFoundIn Place.Comment [] piece.now 0 result }
 {
@@ -271,7 +299,7 @@ fn found_in_comment(piece: &[u8]) -> Found
     first_in(piece, length)
 }
 
-// The same as `found_in`, where the bytes so far are of the byte order mark.
+// As `found_in`, if the bytes so far may be the front of a byte order mark.
 fn found_in_mark(held: &[u8], piece: &[u8]) -> Found
     requires { IsHeld Place.Mark held.now }
     ensures { IsFoundIn Place.Mark held.now piece.now 0 result }

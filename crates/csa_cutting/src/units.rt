@@ -1,4 +1,4 @@
-//! Where the next unit of a text is, and the bytes that are handed out of a statement's unit.
+//! Finds the next unit of a text, and the bytes of a unit that a statement keeps.
 
 ghost use Rattle.std.specs.Prelude.{◌≡◌, ℕ, List, false, ◌≤◌, ◌<◌, length, drop, not, MatchOption};
 ghost use Rattle.std.specs.List.{position_or_len, prefix_len};
@@ -13,7 +13,7 @@ use memchr::memchr3_iter;
 // The first byte of a comment.
 pub(crate) const COMMENT: u8 = b'\'';
 
-// The first byte of a name, and that of a header.
+// The first bytes of a name and of a header.
 const NAME: u8 = b'N';
 
 const HEADER: u8 = b'$';
@@ -24,7 +24,7 @@ const TIME: u8 = b'T';
 // The UTF-8 byte order mark.
 pub(crate) const BYTE_ORDER_MARK: [u8; 3] = [0xEF, 0xBB, 0xBF];
 
-// Where the bytes so far have led to.
+// Where the bytes so far have led.
 #[derive(Clone, Copy, Debug, PartialEq, Eq)]
 pub(crate) enum Place {
     // at the start, or in the byte order mark
@@ -34,8 +34,8 @@ pub(crate) enum Place {
     Comment,
 }
 
-// A statement's unit in the piece, from start to before end. Where it goes on from the pieces before,
-// what is held is the front of it.
+// The unit of a statement in the piece, from `start` up to and without `end`. If it goes on from
+// earlier pieces, the held bytes are its front.
 #[derive(Clone, Copy, Debug, PartialEq, Eq)]
 pub(crate) struct Part {
     pub goes_on: bool,
@@ -50,11 +50,12 @@ pub(crate) enum Found {
     LeadsTo(Place),
 }
 
-// The first statement's unit in the piece from here on, behind gaps and comments.
+// The first statement's unit in the piece from here on, after gaps and comments.
 #[inline(always)]
 pub(crate) fn first_in(piece: &[u8], from: usize) -> Found
     requires { from ≤ length piece.now }
-    ensures { (place : Place) (held : List ℕ) (front : ℕ) → front ≤ from → PassesTo place held piece.now front from
+    ensures { (place : Place) (held : List ℕ) (front : ℕ) → front ≤ from
+        → PassesTo place held piece.now front from
         → IsFoundIn place held piece.now front result }
 {
     let mut at = from;
@@ -80,14 +81,14 @@ fn is_separator(b: u8) -> bool
     is_line_end(b) || b == b',' || is_blank(b)
 }
 
-// Whether a unit with this first byte takes the whole line.
+// Whether a unit with this first byte extends to the end of its line.
 fn takes_line(first: u8) -> bool
     ensures { result ≡ takes_line first }
 {
     first == COMMENT || first == NAME || first == HEADER
 }
 
-// Whether a statement that does not take the whole line goes on with this byte.
+// Whether a statement that does not take its whole line can contain this byte.
 fn is_in_statement(b: u8) -> bool
     ensures { (first : ℕ) → takes_line first ≡ false → result ≡ not (is_end first b) }
 {
@@ -102,7 +103,7 @@ fn gap_length(text: &[u8]) -> usize
     front_length(text, is_separator)
 }
 
-// How many bytes of the text come before what ends a unit with this first byte.
+// How many bytes of the text come before the one that ends a unit with this first byte.
 #[inline(always)]
 pub(crate) fn unit_length(first: u8, text: &[u8]) -> usize
     ensures value { result ≡ position_or_len (is_end first) text.now }
@@ -111,18 +112,20 @@ pub(crate) fn unit_length(first: u8, text: &[u8]) -> usize
     if takes_line(first) {
         line_length(text)
     } else if first == TIME {
-        // A time has so few bytes that to look at each takes less than a search.
+        // A time has so few bytes that looking at each is faster than a search.
         front_length(text, is_in_statement)
     } else {
         plain_length(text)
     }
 }
 
-// How many bytes of the text come before a CR, LF or comma, each of which ends a unit that does not take the whole line.
-// Compiled into its callers, the search would take registers from them, and all would take more.
+// How many bytes of the text come before a CR, LF or comma, each of which ends a unit that does not
+// take its whole line. If the search were inlined, it would take registers from its callers and
+// slow them down.
 #[inline(never)]
 fn plain_length(text: &[u8]) -> usize
-    ensures value { (first : ℕ) → takes_line first ≡ false → result ≡ position_or_len (is_end first) text.now }
+    ensures value { (first : ℕ) → takes_line first ≡ false
+        → result ≡ position_or_len (is_end first) text.now }
     ensures within { result ≤ length text.now }
 {
     memchr3_iter(b'\r', b'\n', b',', text)
@@ -130,12 +133,14 @@ fn plain_length(text: &[u8]) -> usize
         .unwrap_or(text.len())
 }
 
-// Where the next unit at or after `from` starts and ends, a comment too.
+// Where the next unit at or after `from` starts and ends. A comment counts as a unit.
 #[inline(always)]
 fn next_unit(source: &[u8], from: usize) -> Option<(usize, usize)>
     requires { from ≤ length source.now }
-    ensures { MatchOption result (IsGap (drop from source.now)) (λ r. (r.0 < r.1) × (r.1 ≤ length source.now)
-        × IsNext from (drop from source.now) (unit_between source.now r.0 r.1) (drop r.1 source.now)) }
+    ensures { MatchOption result (IsGap (drop from source.now))
+        (λ r. (r.0 < r.1) × (r.1 ≤ length source.now)
+        × IsNext from (drop from source.now) (unit_between source.now r.0 r.1)
+        (drop r.1 source.now)) }
 {
     let start = from + gap_length(&source[from..]);
     if start == source.len() {
@@ -145,7 +150,7 @@ fn next_unit(source: &[u8], from: usize) -> Option<(usize, usize)>
     Some((start, start + 1 + length))
 }
 
-// The bytes that are handed out of a statement's unit.
+// The bytes of a unit that its statement keeps.
 pub(crate) fn handed_out(unit: &[u8]) -> &[u8]
     ensures value { result.now ≡ statement_bytes unit.now }
     ensures place { result.ref_ptr ≡ unit.entry.ref_ptr }
@@ -159,7 +164,7 @@ pub(crate) fn handed_out(unit: &[u8]) -> &[u8]
     }
 }
 
-// Whether a space or a tab is the last of the bytes.
+// Whether the last byte is a space or a tab.
 fn ends_blank(bytes: &[u8]) -> bool
     ensures { result ≡ false → without_last_blanks bytes.now ≡ bytes.now }
 {
@@ -172,7 +177,7 @@ fn is_blank(b: u8) -> bool
     b == b' ' || b == b'\t'
 }
 
-// The bytes less the spaces and tabs at their end.
+// The bytes without trailing spaces and tabs.
 fn without_last_blanks(bytes: &[u8]) -> &[u8]
     ensures value { result.now ≡ without_last_blanks bytes.now }
     ensures place { result.ref_ptr ≡ bytes.entry.ref_ptr }

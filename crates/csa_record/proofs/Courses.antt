@@ -93,7 +93,7 @@ course_last line ts us time c long v is =
 pub awaits_seen : (line : Played) (ts : List (Option ℕ)) (c : Course) → length ts ≡ length line.moves → course_of line ts None ≡ c → lacks_last ts ≡ awaits_time c
 awaits_seen line ts c long v = sym (awaits_timed line.moves ts long) ∙ ap awaits_time v
 
--- why nothing more is played
+-- why no further move is played
 ended_some : (e : Option stored.Ended) → is_some (ended e) ≡ is_some e
 ended_some None = refl
 ended_some (Some e) = refl
@@ -122,7 +122,7 @@ few_played line ts e c long v free =
     let few = leb-false 10000 (length ts) (not_full (is_some e) (nat_le 10000 (length ts)) (sym (fault_seen line ts e c long v) ∙ free)) in
     omega (arith, few, long)
 
--- what a move answers
+-- what playing a move returns
 
 pub answer_played : (line : Played) (ts : List (Option ℕ)) (e : Option stored.Ended) (c : Course) (color : Color) (m : Move) → length ts ≡ length line.moves → course_of line ts e ≡ c → play_fault c ≡ None → Answers line color m None → (answer : Option Why) × PlayAnswers c color m answer × IsAnswer answer (Ok (tt {0}))
 answer_played line ts e c color m long v free h =
@@ -138,7 +138,7 @@ pub answer_refused : (line : Played) (ts : List (Option ℕ)) (e : Option stored
 answer_refused line ts e c color m why long v free h =
     answer_why line c color m why (line_seen line ts e c long v) (few_played line ts e c long v free) free h
 
--- what `Line::play` answers, as a move that is not played
+-- what `Line::play` returns, for a move that is not played
 pub not_played : (line : Played) (color : Color) (m : Move) (fault : PlayFault) → ((fault ≡ playing.OutOfMemory) × Answers line color m None) ⊎ Answers line color m (Some fault) → (why : Why) → why ≡ played_why fault → NotPlayed line color m why
 not_played line color m fault (inl h) why is = (None, h.1, is ∙ ap played_why h.0)
 not_played line color m fault (inr h) why is = (Some fault, h, is)

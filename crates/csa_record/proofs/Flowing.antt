@@ -1,4 +1,4 @@
--- What flows from a source through a reader to a sink.
+-- What passes from a source through a reader to a sink.
 use Rattle.std.proofs.Common.{◌≡◌, ◌≢◌, inl, inr, ℕ, ◌+◌, ◌<◌, ◌≤◌, true, false, List, [], ◌∷◌, ◌++◌, length, Option, Some, None, Result, Ok, Err, refl, sym, ◌∙◌, ap, subst, arith, append-nil, length-append, take}
 use Rattle.std.specs.Io.KnownBytes.{Consumes, IsAtEnd}
 use Rattle.std.proofs.KnownBytes.{Consumes-trans}
@@ -105,7 +105,7 @@ fault_tells old new before after bytes r fault stopped is given quiet refused wa
 
 -- ---- one piece
 
--- the piece shows a refusal
+-- the piece shows a fault
 pub piece_refused : (bytes piece : List ℕ) (old new : Option (List ℕ)) (before after : ℕ) (r : Refusal) (fault : FlowFault) (reader : Reading) → HasRead bytes reader → length piece ≤ 4096 → fault ≡ fault_of r → Consumes old new piece → after ≡ before
     → ((more : List ℕ) → r.why ≢ why.OutOfMemory → Refused ((bytes ++ piece) ++ more) r.number r.offset r.why)
     → ((more : List ℕ) → r.why ≡ why.OutOfMemory → FaultlessTo ((bytes ++ piece) ++ more) r.number r.offset)

@@ -1,4 +1,4 @@
--- How a reader goes on.
+-- How a reader continues.
 use Rattle.std.proofs.Common.{◌≡◌, ◌≢◌, ℕ, ◌+◌, ◌≤◌, List, [], ◌∷◌, ◌++◌, length, take, drop, Option, Some, None, Result, Ok, Err, refl, sym, ap, ◌∙◌, append_assoc, subst, arith, inl, inr}
 use Rattle.std.specs.List.{AllByRecursion, AllZip}
 use Rattle.std.proofs.lemmas.List.{append-nil, length-append, take-append-drop}
@@ -51,7 +51,7 @@ short_more : (us : List TextUnit) (u : TextUnit) → AreShort us → length u.by
 short_more [] u h k = (k, tt)
 short_more (v ∷ vs) u h k = (h.0, short_more vs u h.1 k)
 
--- the cut of all bytes, whatever stands behind
+-- the cut of all bytes, whatever follows
 record Onward (source piece : List ℕ) (used : ℕ) (handed : List TextUnit) (unit : TextUnit) (q : PieceCutting) : Type 0 where
   leads : Leads fresh (source ++ take used piece) (handed ++ unit ∷ []) q
   cut : (more : List ℕ) → (others : List TextUnit) × IsCut ((source ++ piece) ++ more) (handed ++ unit ∷ others)
@@ -74,7 +74,7 @@ onward source piece used handed unit p q a b =
 of_unit : (count : ℕ) (u : TextUnit) (s : Statement) → IsSomeUnit u → IsNumbered count u s → IsOfStatement s.bytes.now
 of_unit count u s unit n = record { unit = u.bytes; behind = unit.0; is_unit = unit.1; short = n.short; whole = n.slice }
 
--- what a step and the end hand out is the bytes of a statement
+-- what a step and the end yield is the bytes of a statement
 pub statement_given : (p q : PieceCutting) (text : List ℕ) (u : TextUnit) (s : Statement) → IsNumbered p.number u s → Leads p text (u ∷ []) q → IsOfStatement s.bytes.now
 statement_given p q text u s n leads =
     let closed = leads.closes in
@@ -86,7 +86,7 @@ last_given p q s f =
     let units : AllByRecursion IsSomeUnit (f.last.0 ∷ []) = statements_are _ _ (f.last.0 ∷ []) f.last.2 in
     of_unit p.number f.last.0 s units.0 f.last.1
 
--- memory is no fault of an item
+-- lack of memory is not a fault of an item
 judged_never : (played : Option PlayFault) → IsJudged played (Some OutOfMemory) → ⊥
 judged_never None h = cc
 judged_never (Some (faults.Broken rule)) h = cc
@@ -120,7 +120,7 @@ after_never (Some fault) before s h = cc
 never_memory : (before : List Saying) (s : Saying) (why : Why) → Answers before s (Some why) → why ≢ OutOfMemory
 never_memory before s why h e = after_never (order_fault before s) before s (subst (λ w. Answers before s (Some w)) e h)
 
--- a statement behind those without a fault
+-- a statement after those without a fault
 record IsNext (source : List ℕ) (handed : List TextUnit) (unit : TextUnit) (sayings : List Saying) (number : ℕ) : Type 0 where
   faultless : Faultless [] handed sayings
   short : length unit.bytes ≤ 4096
@@ -155,7 +155,7 @@ refused_next source handed unit sayings new r n place (inr (inl (none, is))) =
 refused_next source handed unit sayings new r n place (inr (inr (s, spells, answers))) =
     inl (never_memory sayings s r.why answers, refused_at source handed unit sayings r n place (inr (inr (s, (n.short, spells), answers))))
 
--- how many statements the cutter has handed out
+-- how many statements the cutter has yielded
 count_of : (source : List ℕ) (handed : List TextUnit) (p : PieceCutting) → Leads fresh source handed p → p.number ≡ length handed
 count_of source handed p h = h.counted ∙ omega arith
 
@@ -287,7 +287,7 @@ last_refused source p q k new s r h f number_is place outcome =
     (subst (IsNext source h.closed unit h.sayings) (sym number_is) (last_next source p k unit s h numbered f.last.2)) (place ∙ numbered.place)
     (subst (λ bs. Outcome h.sayings bs (Err r.why) new) numbered.slice outcome)
 
--- statements without a fault are spelt
+-- statements without a fault spell items
 pub all_spelt : (before : List Saying) (us : List TextUnit) (ss : List Saying) → Faultless before us ss → AllZip IsSpelt us ss
 all_spelt before [] [] h = tt
 all_spelt before [] (s ∷ ss) h = absurd h

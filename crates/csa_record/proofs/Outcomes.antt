@@ -1,4 +1,4 @@
--- What becomes of a statement whose item is answered.
+-- The outcome for a statement whose item has an answer.
 use Rattle.std.proofs.Common.{ℕ, List, Option, Some, None, Result, Ok, Err, sym, subst, inl, inr}
 use Rattle.csa_text.specs.Saying.{Saying}
 use Rattle.csa_text.specs.Spelling.{Spells}

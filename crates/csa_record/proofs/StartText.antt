@@ -21,15 +21,15 @@ use Rattle.csa_text.specs.declared.pair.Pair.TheVariants.{InHand}
 use Rattle.record_game.specs.Canon.{ended_line, start_items, is_from_even, missing, rank_cells, rank_items, hand_pairs, hand_items, pairs_items}
 use Rattle.record_game.specs.Squares.{square_at}
 
--- the text so far, and what is still to be written, are the whole
+-- the text so far and what is still to be written make the whole
 abbrev pub MissingLeft : List ℕ → List ℕ → Cells → ℕ → Type 0
 MissingLeft old now board n = now ++ pairs_text (missing n (drop n even_cells) (drop n board)) ≡ old ++ pairs_text (missing 0 even_cells board)
 
--- the square at a place is written as that place's
+-- the square at a place is written as the text of that place
 pub text_at : (s : Square) (n : ℕ) → place s ≡ n → square_text s ≡ square_text (square_at n)
 text_at s n h = grind arith
 
--- the ranks from this one on, so many
+-- so many ranks, from this one on
 abbrev pub rows : Cells → ℕ → ℕ → List ℕ
 rows cells number zero = []
 rows cells number (suc n) = ended_line (rank number (rank_cells cells number)) ++ rows cells (number + 1) n
@@ -103,7 +103,7 @@ held_more whole now mid next kind n k low left e f =
     ap (λ t. t ++ rest) (f ∙ (ap (λ t. t ++ kind_code kind) e ∙ append_assoc now (codes "00") (kind_code kind)))
     ∙ (append_assoc now (codes "00" ++ kind_code kind) rest ∙ (ap (λ ps. now ++ pairs_text ps) (sym (replicate_less n k (InHand kind) low)) ∙ left))
 
--- one kind more of a hand
+-- one more kind of a hand
 pub kind_more : (old now next done : List ℕ) (bag : List ℕ) (kind : Kind) (n : ℕ) → n ≡ count_in bag kind → now ≡ old ++ done → next ≡ now ++ pairs_text (replicate n (InHand kind)) → next ≡ old ++ (done ++ pairs_text (held bag kind))
 kind_more old now next done bag kind n e f g =
     g ∙ (ap (λ m. now ++ pairs_text (replicate m (InHand kind))) e ∙ (ap (λ t. t ++ pairs_text (held bag kind)) f ∙ append_assoc old done (pairs_text (held bag kind))))

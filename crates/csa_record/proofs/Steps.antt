@@ -1,4 +1,4 @@
--- A reader's steps, by what its parts answer.
+-- A reader's steps, by what its parts return.
 use Rattle.std.proofs.Common.{◌≡◌, ◌≢◌, ℕ, ◌+◌, ◌-◌, ◌<◌, ◌≤◌, List, [], ◌++◌, length, take, drop, append_assoc, length-drop, Option, Some, None, Result, Ok, Err, refl, sym, ap, ◌∙◌, subst, arith, inl, inr}
 use Rattle.std.specs.Prelude.{OnOk, IfErr}
 use Rattle.std.specs.List.{AllByRecursion}
@@ -60,7 +60,7 @@ pub long_next : (source piece : List ℕ) (p q : PieceCutting) (k : Kept) (f : O
     → (more : List ℕ) → IsRefusedBy ((source ++ piece) ++ more) r
 long_next source piece p q k f fault r h step is more = long_refused source piece more p q k fault r h.taken step is
 
--- how far the cutter went
+-- how far the cutter has come
 pub went : (p q : PieceCutting) (piece : List ℕ) (cut : Cut) → 0 < length piece → Stepped p piece (Ok cut) q → (0 < cut.used) × (cut.used ≤ length piece) × (q.fed ≡ p.fed + cut.used)
 went p q piece cut some f = by_statement cut.used cut.statement f.after.led
   where
@@ -70,7 +70,7 @@ went p q piece cut some f = by_statement cut.used cut.statement f.after.led
         let leads = u.leads in
         (u.some, u.within, leads.took ∙ ap (λ n. p.fed + n) (length-take-le used piece u.within))
 
--- a piece in two parts
+-- a piece, split in two
 pub piece_more : (source piece : List ℕ) (used more : ℕ) (r : Reading) → HasRead ((source ++ take used piece) ++ take more (drop used piece)) r → HasRead (source ++ take (used + more) piece) r
 piece_more source piece used more r h =
     subst (λ bs. HasRead bs r) (append_assoc source (take used piece) (take more (drop used piece)) ∙ ap (λ bs. source ++ bs) (sym (take-add used more piece))) h
@@ -92,7 +92,7 @@ pub memory_of : (source : List ℕ) (r : Refusal) → IsRefusedBy source r → r
 memory_of source r (inl h) is = absurd (h.0 is)
 memory_of source r (inr h) is = h.1
 
--- the end, where all statements were taken
+-- the end, if all statements were taken
 pub told_of : (source : List ℕ) (p : PieceCutting) (k : Kept) (g : Game) → HasAll source p k → ((sayings : List Saying) → Keeps sayings k → AllByRecursion IsWritten sayings → Says sayings g) → Tells source g
 told_of source p k g h says =
     let spelt = all_spelt [] h.statements h.sayings h.faultless in

@@ -58,7 +58,7 @@ length_with_last [] time = refl
 length_with_last (t ∷ []) time = refl
 length_with_last (t ∷ u ∷ ts) time = let k = length_with_last (u ∷ ts) time in omega (arith, k)
 
--- the last one is written by its place
+-- the last time is written at its index
 set_last_at : (ts : List (Option ℕ)) (n time : ℕ) → suc n ≡ length ts → set ts n (Some time) ≡ with_last ts time
 set_last_at [] n time h = absurd (omega (arith, h))
 set_last_at (t ∷ []) zero time h = refl
@@ -69,7 +69,7 @@ set_last_at (t ∷ u ∷ ts) (suc n) time h = ap (λ (xs : List (Option ℕ)). t
 pub last_set : (ts : List (Option ℕ)) (count time : ℕ) → count ≡ length ts → 0 < count → set ts (count - 1) (Some time) ≡ with_last ts time
 last_set ts count time h some = set_last_at ts (count - 1) time (omega (arith, h, some))
 
--- the last one is read by its place
+-- the last time is read at its index
 lacks_at : (ts : List (Option ℕ)) (n : ℕ) (t : Option ℕ) → suc n ≡ length ts → slice_get ts n ≡ Some t → lacks_last ts ≡ not (is_some t)
 lacks_at [] n t h e = absurd (omega (arith, h))
 lacks_at (x ∷ []) zero t h e = ap (λ o. not (is_some (some_or o x))) e
@@ -96,7 +96,7 @@ last_lacks (x ∷ ts) t b e h =
 abbrev pub lines_of : Color → List Move → List (Option ℕ) → List ℕ
 lines_of color ms ts = flat_map ended_line (move_items color (timed ms ts))
 
--- a property that no number has is one of None alone
+-- a property that no number has is one of None only
 pub none_only : (P : Option ℕ → Type 0) → ((n : ℕ) → P (Some n) → ⊥) → (t : Option ℕ) → P t → t ≡ None
 none_only P h None k = refl
 none_only P h (Some n) k = absurd (h n k)

@@ -98,7 +98,7 @@ pub length_entries : (es : Heads) → length (entries_of es) ≡ length es
 length_entries [] = refl
 length_entries (e ∷ es) = ap suc (length_entries es)
 
--- what the map answers
+-- what the map returns
 abbrev pub found_at : List ℕ → Heads → Option memory.HeaderText
 found_at key es = lookup (λ (k : Vec ℕ). is_eq (slice_cmp nat_cmp key k.items)) es
 
@@ -130,7 +130,7 @@ new_key t es key whole rising h = none_new t key (found_at key es) (seen_under t
 pub as_long : (t : Titled) (es : Heads) → entries_of es ≡ t.headers → length t.headers ≡ length es
 as_long t es whole = ap (λ (fs : List Entry). length fs) (sym whole) ∙ length_entries es
 
--- what the map holds with a header more
+-- what the map holds with one more header
 pub put_headers : (t : Titled) (es fs : Heads) (k : Vec ℕ) (v : memory.HeaderText) → entries_of es ≡ t.headers → fs ≡ insert_entry by_bytes es k v → under k.items t.headers ≡ [] → entries_of fs ≡ with_entry t.headers (entry_of k v)
 put_headers t es fs k v whole put new =
     ap entries_of put

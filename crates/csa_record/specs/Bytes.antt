@@ -1,4 +1,4 @@
--- Texts that lie in memory, seen as their bytes.
+-- Texts in memory, seen as their bytes.
 use Rattle.std.specs.Prelude.{ℕ, List, Option, Some, None}
 use Rattle.std.specs.Global.{Vec}
 

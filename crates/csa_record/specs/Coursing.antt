@@ -1,4 +1,5 @@
--- A course, put together from a line, the times of its moves, and an ending.
+-- What private helpers promise: a course, put together from a line, the times of its moves, and an
+-- ending. A reader of the public contracts may skip this file.
 use Rattle.std.specs.Prelude.{◌≡◌, ℕ, not, is_some, Bool, false, List, [], ◌∷◌, length, Option, Some, None}
 use Rattle.shogi_board.specs.declared.color.Color.{Color}
 use Rattle.shogi_rules.specs.Play.{Answers}
@@ -24,10 +25,12 @@ ended None = None
 ended (Some e) = Some (record { ending = e.ending; time = e.time })
 
 abbrev pub course_of : Played → List (Option ℕ) → Option stored.Ended → Course
-course_of line times ending = record { start = line.start; moves = timed line.moves times; ending = ended ending }
+course_of line times ending =
+    record { start = line.start; moves = timed line.moves times; ending = ended ending }
 
 -- a time for each move, and they make a course
-pub record IsKept (line : Played) (times : List (Option ℕ)) (ending : Option stored.Ended) : Type 0 where
+pub record IsKept (line : Played) (times : List (Option ℕ))
+    (ending : Option stored.Ended) : Type 0 where
   pub long : length times ≡ length line.moves
   pub course : IsCourse (course_of line times ending)
 
@@ -37,7 +40,7 @@ lacks_last [] = false
 lacks_last (t ∷ []) = not (is_some t)
 lacks_last (t ∷ u ∷ ts) = lacks_last (u ∷ ts)
 
--- with this last time
+-- the times with this one as the last
 abbrev pub with_last : List (Option ℕ) → ℕ → List (Option ℕ)
 with_last [] time = []
 with_last (t ∷ []) time = Some time ∷ []
@@ -49,11 +52,12 @@ played_why playing.TooManyMoves = Order TooManyMoves
 played_why (playing.Broken rule) = Rule rule
 played_why playing.OutOfMemory = OutOfMemory
 
--- a refused move has its fault, or else memory lacks
+-- a refused move has its fault, or else memory is lacking
 abbrev pub tried_why : Option PlayFault → Why
 tried_why None = OutOfMemory
 tried_why (Some fault) = played_why fault
 
 -- the move is not played, and why
 abbrev pub NotPlayed : Played → Color → Move → Why → Type 0
-NotPlayed line color m why = (tried : Option PlayFault) × Answers line color m tried × (why ≡ tried_why tried)
+NotPlayed line color m why = (tried : Option PlayFault) × Answers line color m tried
+    × (why ≡ tried_why tried)

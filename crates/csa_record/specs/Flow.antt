@@ -12,32 +12,34 @@ use Rattle.csa_record.specs.Reading.{Reading, HasRead}
 use Rattle.record_game.specs.Refused.{Refused, FaultlessTo}
 use Rattle.record_game.specs.Tells.{Tells}
 
--- the most bytes of a read, and how often a source is read before its end must have come
+-- the most bytes of a read, and how often a source is read before its end must have been reached
 abbrev pub longest_piece : ℕ
 longest_piece = 4096
 
 abbrev pub most_reads : ℕ
 most_reads = 16777216
 
--- it failed once more at an error, and else not
+-- it has failed once more if there was an error, and otherwise not
 abbrev pub CountsErrors : {T E : Type 0} → ℕ → ℕ → Result T E → Type 0
 CountsErrors old new r = MatchResult r (λ _. new ≡ old) (λ _. new ≡ old + 1)
 
--- a read that gives nothing where there is room tells that the end has come
+-- a read that gives nothing although there is room reports the end
 abbrev pub after_read : Bool → ℕ → List ℕ → Bool
 after_read old taken buffer = old || (taken == 0 && nat_lt 0 (length buffer))
 
 abbrev pub MarksEnd : {E : Type 0} → Bool → Bool → Result ℕ E → List ℕ → Type 0
-MarksEnd old new r buffer = MatchResult r (λ taken. new ≡ after_read old taken buffer) (λ _. new ≡ old)
+MarksEnd old new r buffer =
+    MatchResult r (λ taken. new ≡ after_read old taken buffer) (λ _. new ≡ old)
 
 -- a write that takes none of some bytes is a failure too
 abbrev pub after_write : ℕ → ℕ → List ℕ → ℕ
 after_write old taken piece = if taken == 0 && nat_lt 0 (length piece) then old + 1 else old
 
 abbrev pub CountsWrites : {E : Type 0} → ℕ → ℕ → Result ℕ E → List ℕ → Type 0
-CountsWrites old new r piece = MatchResult r (λ taken. new ≡ after_write old taken piece) (λ _. new ≡ old + 1)
+CountsWrites old new r piece =
+    MatchResult r (λ taken. new ≡ after_write old taken piece) (λ _. new ≡ old + 1)
 
--- the known bytes grew by the front of the text, perhaps by nothing and perhaps by all of it
+-- the known bytes grew by a front of the text, which may be empty or the whole text
 abbrev pub AppendsFront : Option (List ℕ) → Option (List ℕ) → List ℕ → Type 0
 AppendsFront old new text = (n : ℕ) × (n ≤ length text) × Appends old new (take n text)
 
@@ -49,11 +51,11 @@ fault_by (why.Rule rule) r = flow.Refused r
 fault_by why.OutOfMemory r = flow.OutOfMemory
 fault_by why.Failed r = flow.Refused r
 
--- want of memory is no refusal of the record
+-- lack of memory is not a refusal of the record
 abbrev pub fault_of : Refusal → FlowFault
 fault_of r = fault_by r.why r
 
--- the source gave bytes that tell this game, and is at its end
+-- the source gave bytes that contain this game, and is at its end
 pub record IsTold (old new : Option (List ℕ)) (g : Game) : Type 0 where
   pub bytes : List ℕ
   pub given : Consumes old new bytes
@@ -61,7 +63,8 @@ pub record IsTold (old new : Option (List ℕ)) (g : Game) : Type 0 where
   pub few : length bytes ≤ longest_piece * most_reads
   pub tells : Tells bytes g
 
--- bytes with this front are refused so, whatever comes behind it; or the source is at its end, and they are refused there
+-- bytes with this front are refused in this way, whatever follows it; or the source is at its end,
+-- and they are refused there
 abbrev pub IsRefusedBehind : Option (List ℕ) → List ℕ → Refusal → Type 0
 IsRefusedBehind new bytes r =
     ((more : List ℕ) → Refused (bytes ++ more) r.number r.offset r.why)
@@ -76,7 +79,7 @@ pub record StopsAt (bytes : List ℕ) : Type 0 where
   pub reader : Reading
   pub read : HasRead front reader
 
--- the source gave bytes that are refused so
+-- the source gave bytes that are refused in this way
 pub record IsRefusal (old new : Option (List ℕ)) (r : Refusal) : Type 0 where
   pub bytes : List ℕ
   pub given : Consumes old new bytes
@@ -85,7 +88,7 @@ pub record IsRefusal (old new : Option (List ℕ)) (r : Refusal) : Type 0 where
   pub no_want : r.why ≢ why.OutOfMemory
   pub first : r.why ≢ why.Failed
 
--- the source gave bytes of which the statements up to some have no fault
+-- the source gave bytes whose statements up to some offset have no fault
 pub record IsFaultless (old new : Option (List ℕ)) : Type 0 where
   pub bytes : List ℕ
   pub given : Consumes old new bytes
@@ -100,15 +103,16 @@ pub record GaveMany (old new : Option (List ℕ)) (many : ℕ) : Type 0 where
   pub given : Consumes old new bytes
   pub least : many ≤ length bytes
 
--- the source failed once; or it has not failed, and after so many bytes its end has not come
+-- the source failed once; or it did not fail, and its end was not reached after so many bytes
 abbrev pub FailsRead : Option (List ℕ) → Option (List ℕ) → ℕ → ℕ → Type 0
-FailsRead old new before after = (after ≡ before + 1) ⊎ ((after ≡ before) × GaveMany old new most_reads)
+FailsRead old new before after = (after ≡ before + 1)
+    ⊎ ((after ≡ before) × GaveMany old new most_reads)
 
--- what the source gave has no fault: so far, or to its end, where it tells a game
+-- what the source gave has no fault: so far, or to its end, where it contains a game
 abbrev pub IsWanting : Option (List ℕ) → Option (List ℕ) → Type 0
 IsWanting old new = IsFaultless old new ⊎ ((g : Game) × IsTold old new g)
 
--- what the source gave where a record was not read, and how often it had failed before and after
+-- what the source gave if no record was read, and how often it had failed before and after
 abbrev pub IsReadFault : Option (List ℕ) → Option (List ℕ) → ℕ → ℕ → FlowFault → Type 0
 IsReadFault old new before after (flow.Refused r) = IsRefusal old new r × (after ≡ before)
 IsReadFault old new before after flow.ReadFault = FailsRead old new before after
@@ -120,16 +124,21 @@ abbrev pub ReadsRecord : Option (List ℕ) → Option (List ℕ) → ℕ → ℕ
 ReadsRecord old new before after (Ok g) = IsTold old new g × (after ≡ before)
 ReadsRecord old new before after (Err fault) = IsReadFault old new before after fault
 
--- a reader of these bytes was fed the next piece of the source; or the source is at its end; or here the reading stops
-abbrev pub FeedsNext : List ℕ → Option (List ℕ) → Option (List ℕ) → ℕ → ℕ → Result Bool FlowFault → Reading → Type 0
+-- a reader of these bytes was fed the next piece of the source; or the source is at its end; or the
+-- reading stops here
+abbrev pub FeedsNext : List ℕ → Option (List ℕ) → Option (List ℕ) → ℕ → ℕ → Result Bool FlowFault
+    → Reading → Type 0
 FeedsNext bytes old new before after (Ok true) reader =
-    (piece : List ℕ) × Consumes old new piece × (0 < length piece) × (length piece ≤ longest_piece) × (after ≡ before) × HasRead (bytes ++ piece) reader
-FeedsNext bytes old new before after (Ok false) reader = Consumes old new [] × IsAtEnd new × (after ≡ before) × HasRead bytes reader
+    (piece : List ℕ) × Consumes old new piece × (0 < length piece) × (length piece ≤ longest_piece)
+    × (after ≡ before) × HasRead (bytes ++ piece) reader
+FeedsNext bytes old new before after (Ok false) reader = Consumes old new [] × IsAtEnd new
+    × (after ≡ before) × HasRead bytes reader
 FeedsNext bytes old new before after (Err fault) reader =
     (start : Option (List ℕ)) → Consumes start old bytes → IsReadFault start new before after fault
 
--- in so many reads a reader was fed what the source gave
-pub record IsFed (old new : Option (List ℕ)) (before after reads : ℕ) (reader : Reading) : Type 0 where
+-- a reader was fed what the source gave in so many reads
+pub record IsFed (old new : Option (List ℕ)) (before after reads : ℕ)
+    (reader : Reading) : Type 0 where
   pub bytes : List ℕ
   pub given : Consumes old new bytes
   pub quiet : after ≡ before
@@ -146,7 +155,8 @@ pub record IsFedAll (old new : Option (List ℕ)) (before after : ℕ) (reader :
   pub quiet : after ≡ before
   pub read : HasRead bytes reader
 
--- the source tells a game, and this is its canonical text; or none was read, or memory was wanting
+-- the source gave a game, and this is its canonical text; or no game was read, or memory was
+-- lacking
 abbrev pub IsTextFault : Option (List ℕ) → Option (List ℕ) → ℕ → ℕ → FlowFault → Type 0
 IsTextFault old new before after (flow.Refused r) = IsRefusal old new r × (after ≡ before)
 IsTextFault old new before after flow.ReadFault = FailsRead old new before after
@@ -154,22 +164,25 @@ IsTextFault old new before after flow.WriteFault = ⊥
 IsTextFault old new before after flow.OutOfMemory = IsWanting old new × (after ≡ before)
 
 abbrev pub TellsText : Option (List ℕ) → Option (List ℕ) → ℕ → ℕ → List ℕ → Type 0
-TellsText old new before after text = (g : Game) × IsTold old new g × (text ≡ canon g) × (after ≡ before)
+TellsText old new before after text = (g : Game) × IsTold old new g × (text ≡ canon g)
+    × (after ≡ before)
 
--- the source tells a game, of whose canonical text the sink took all and nothing else
+-- the source gave a game, of whose canonical text the sink took all and nothing else
 pub record IsNormal (old new held_old held_new : Option (List ℕ)) : Type 0 where
   pub game : Game
   pub told : IsTold old new game
   pub taken : Appends held_old held_new (canon game)
 
--- the source tells a game, of whose canonical text the sink took the front and nothing else
+-- the source gave a game, of whose canonical text the sink took a front and nothing else
 pub record IsCutShort (old new held_old held_new : Option (List ℕ)) : Type 0 where
   pub game : Game
   pub told : IsTold old new game
   pub taken : AppendsFront held_old held_new (canon game)
 
--- what flowed where the text was not written whole, and how often the source and the sink had failed before and after
-abbrev pub IsFlowFault : Option (List ℕ) → Option (List ℕ) → Option (List ℕ) → Option (List ℕ) → ℕ → ℕ → ℕ → ℕ → FlowFault → Type 0
+-- what was read and written if the text was not written whole, and how often the source and the
+-- sink had failed before and after
+abbrev pub IsFlowFault : Option (List ℕ) → Option (List ℕ) → Option (List ℕ) → Option (List ℕ) → ℕ
+    → ℕ → ℕ → ℕ → FlowFault → Type 0
 IsFlowFault old new held_old held_new before after sink_before sink_after (flow.Refused r) =
     IsRefusal old new r × (after ≡ before) × Keeps held_old held_new × (sink_after ≡ sink_before)
 IsFlowFault old new held_old held_new before after sink_before sink_after flow.ReadFault =

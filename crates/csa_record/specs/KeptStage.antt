@@ -1,4 +1,5 @@
--- What a reader's own stage is.
+-- What private fields hold: the stage of a reader. A reader of the public contracts may skip this
+-- file.
 use Rattle.csa_record.specs.declared.progress.Stage.{Stage}
 use Rattle.csa_record.specs.declared.progress.Stage.TheVariants as stages
 use Rattle.record_game.specs.Keeping as kept

@@ -1,4 +1,4 @@
--- A reader of a record that comes in pieces.
+-- A reader of a record that arrives in pieces.
 use Rattle.std.specs.Prelude.{◌≡◌, ◌≢◌, ◌⊎◌, ℕ, List, [], ◌++◌, length, take, Option, Some, None, Result, Ok, Err}
 use Rattle.csa_cutting.specs.Cut.{TextUnit, IsCut}
 use Rattle.csa_cutting.specs.PieceCutting.{PieceCutting}
@@ -9,7 +9,7 @@ use Rattle.record_game.specs.declared.fault.Why.TheVariants.{OutOfMemory}
 use Rattle.record_game.specs.Keeping.{Kept, Keeps}
 use Rattle.record_game.specs.Refused.{Faultless, Refused, FaultlessTo}
 
--- the statement that was refused, and how many bytes were fed before
+-- the statement that was refused, and how many bytes had been fed before
 pub record Failing : Type 0 where
   pub number : ℕ
   pub offset : ℕ
@@ -29,7 +29,8 @@ fed_by p (Some f) = f.fed
 abbrev pub fed_of : Reading → ℕ
 fed_of r = fed_by r.cutter r.failing
 
--- of these bytes the cutter has handed out the closed statements; none has a fault; and this is kept of their items
+-- the cutter has yielded the closed statements of these bytes; none has a fault; and this is kept
+-- of their items
 pub record HasTaken (source : List ℕ) (p : PieceCutting) (k : Kept) : Type 0 where
   pub closed : List TextUnit
   pub sayings : List Saying
@@ -42,12 +43,14 @@ pub record HasRead (source : List ℕ) (r : Reading) : Type 0 where
   pub going : r.failing ≡ None
   pub taken : HasTaken source r.cutter r.kept
 
--- refused for its first fault; or memory was refused where no statement up to there has one
+-- refused for its first fault; or an allocation failed, and no statement up to there has a fault
 abbrev pub IsRefusedBy : List ℕ → Refusal → Type 0
 IsRefusedBy source r =
-    ((r.why ≢ OutOfMemory) × Refused source r.number r.offset r.why) ⊎ ((r.why ≡ OutOfMemory) × FaultlessTo source r.number r.offset)
+    ((r.why ≢ OutOfMemory) × Refused source r.number r.offset r.why)
+    ⊎ ((r.why ≡ OutOfMemory) × FaultlessTo source r.number r.offset)
 
--- the next bytes of the piece were taken; or the bytes with that piece are refused, whatever comes behind them
+-- the next bytes of the piece were taken; or the bytes with that piece are refused, whatever
+-- follows them
 abbrev pub NextTaken : List ℕ → List ℕ → Result ℕ Refusal → Reading → Type 0
 NextTaken source piece (Ok used) new = HasRead (source ++ take used piece) new
 NextTaken source piece (Err r) new = (more : List ℕ) → IsRefusedBy ((source ++ piece) ++ more) r

@@ -1,4 +1,4 @@
--- Headers that lie in memory, seen as entries.
+-- Headers in memory, seen as entries.
 use Rattle.std.specs.Prelude.{ℕ, List, [], ◌∷◌}
 use Rattle.std.specs.Global.{Vec}
 use Rattle.csa_text.specs.Moment.{moment_of}
@@ -15,7 +15,7 @@ text_of (texts.Plain bytes) = games.plain bytes.items
 abbrev pub entry_of : Vec ℕ → HeaderText → games.Entry
 entry_of key text = record { key = key.items; text = text_of text }
 
--- the entries of these keys and texts
+-- the entries with these keys and texts
 abbrev pub entries_of : List (Vec ℕ × HeaderText) → List games.Entry
 entries_of [] = []
 entries_of (e ∷ es) = entry_of e.0 e.1 ∷ entries_of es

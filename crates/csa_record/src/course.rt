@@ -20,7 +20,7 @@ use shogi_rules::{Line, MAX_MOVES, Move, PlayFault};
 use std::alloc::Global;
 use std::marker::Model;
 
-// How many times there is room for from the start, as `Line` has it for moves.
+// For how many times room is reserved at first, as `Line` does for moves.
 const FIRST_ROOM: usize = 256;
 
 // An ending, and its time in thousandths of a second.
@@ -51,11 +51,11 @@ impl Model for Course {
 }
 
 impl Course {
-    // The start, with no move.
+    // A course with that start and no moves.
     pub(crate) fn new(alloc: Global, start: Position) -> Result<Course, OutOfMemory>
         ensures { IfOk result (λ c. c ≡ record { start = start; moves = []; ending = None }) }
     {
-        // a clause of `side` says that the start is sound
+        // the contract of `side` says that the start is sound
         let _side = start.side();
         Ok(Course {
             line: Line::new(alloc, start)?,
@@ -64,12 +64,18 @@ impl Course {
         })
     }
 
-    // The moves of the line, without times; or the line again, where memory is refused.
+    // A course of the line's moves, without times. If an allocation fails, returns the line
+    // unchanged.
     pub(crate) fn from_line(alloc: Global, line: Line) -> Result<Course, Line>
-        ensures ok { IfOk result (λ c. c ≡ record { start = line.start; moves = map untimed line.moves; ending = None }) }
+        ensures ok { IfOk result
+            (λ c. c ≡ record {
+              start = line.start;
+              moves = map untimed line.moves;
+              ending = None;
+            }) }
         ensures err { IfErr result (λ l. l ≡ line) }
     {
-        // a clause of `side` says that the start is sound
+        // the contract of `side` says that the start is sound
         let _side = line.start().side();
         match Vec::from_elem(alloc, None, line.moves().len()) {
             Ok(times) => Ok(Course {
@@ -88,7 +94,7 @@ impl Course {
         &self.line
     }
 
-    // The time of the move with this index, if it stands and has one.
+    // The time of the move with this index, if there is such a move and it has one.
     pub(crate) fn time(&self, i: usize) -> Option<u64>
         ensures { result ≡ time_at self.now.moves i }
     {
@@ -99,7 +105,7 @@ impl Course {
         }
     }
 
-    // How it ends, if it does.
+    // How the game ended, if it has an ending.
     pub(crate) fn ending(&self) -> Option<Ending>
         ensures value { result ≡ ending_of self.now.ending }
         ensures game { IsCourse self.now }
@@ -114,7 +120,7 @@ impl Course {
         self.ending?.time
     }
 
-    // Why nothing more may be played, or None.
+    // Why no further move may be played, or `None`.
     fn play_fault(&self) -> Option<OrderFault>
         ensures { result ≡ play_fault self.now }
     {
@@ -127,11 +133,13 @@ impl Course {
         None
     }
 
-    // Plays the move of that side, or says why it is refused; then nothing changes.
+    // Plays the move of that side, or says why it is refused and changes nothing.
     #[inline(always)]
     pub(crate) fn play(&mut self, color: Color, mv: Move) -> Result<(), Why>
-        ensures answer { (answer : Option Why) × PlayAnswers self.old color mv answer × IsAnswer answer result }
-        ensures changed { OnOk result (self.new ≡ record self.old { moves = self.old.moves ++ untimed mv ∷ [] }) }
+        ensures answer { (answer : Option Why) × PlayAnswers self.old color mv answer
+            × IsAnswer answer result }
+        ensures changed { OnOk result
+            (self.new ≡ record self.old { moves = self.old.moves ++ untimed mv ∷ [] }) }
         ensures unchanged { OnErr result (self.new ≡ self.old) }
     {
         if let Some(fault) = self.play_fault() {
@@ -145,7 +153,7 @@ impl Course {
         Ok(())
     }
 
-    // Whether the ending, or else the last move, may have a time.
+    // Whether the ending, or else the last move, may be given a time.
     fn awaits_time(&self) -> bool
         ensures { result ≡ awaits_time self.now }
     {
@@ -155,7 +163,7 @@ impl Course {
         }
     }
 
-    // Puts the time to the ending, or else to the last move, if it may have one.
+    // Sets the time of the ending, or else of the last move, if it may be given one.
     pub(crate) fn set_time(&mut self, thousandths: u64) -> Result<(), Why>
         requires { thousandths ≤ longest_time }
         ensures ok { IsOk result ↔ (time_fault self.old ≡ None) }
@@ -178,7 +186,7 @@ impl Course {
         Ok(())
     }
 
-    // Ends it so, without a time, if it has no ending yet.
+    // Sets the ending, without a time, if there is none yet.
     pub(crate) fn close(&mut self, ending: Ending) -> Result<(), Why>
         ensures ok { IsOk result ↔ (close_fault self.old ≡ None) }
         ensures answer { IsAnswer (close_fault self.old) result }
@@ -195,7 +203,8 @@ impl Course {
     // Adds the lines of the moves, of their times and of the ending.
     pub(crate) fn write_moves(&self, out: &mut Vec<u8>) -> Result<(), OutOfMemory>
         ensures { OnOk result (out.new.items ≡ out.old.items
-            ++ flat_map ended_line (move_items self.now.start.side self.now.moves ++ ending_items self.now.ending)) }
+            ++ flat_map ended_line
+            (move_items self.now.start.side self.now.moves ++ ending_items self.now.ending)) }
     {
         write_each(
             out,
@@ -207,18 +216,21 @@ impl Course {
     }
 }
 
-// Plays the move; the line is a game then.
+// Plays the move. The line then is a game.
 #[inline(always)]
 fn play_on(line: &mut Line, color: Color, mv: Move) -> Result<(), Why>
-    ensures ok { OnOk result (Answers line.old color mv None × (line.new ≡ record line.old { moves = line.old.moves ++ mv ∷ [] })) }
-    ensures game { OnOk result (IsGame line.new.start line.new.moves × (length line.new.moves ≤ max_moves)) }
+    ensures ok { OnOk result
+        (Answers line.old color mv None
+        × (line.new ≡ record line.old { moves = line.old.moves ++ mv ∷ [] })) }
+    ensures game { OnOk result
+        (IsGame line.new.start line.new.moves × (length line.new.moves ≤ max_moves)) }
     ensures err { IfErr result (λ why. NotPlayed line.old color mv why) }
     ensures unchanged { OnErr result (line.new ≡ line.old) }
 {
     if let Err(fault) = line.play(color, mv) {
         return Err(why_of(fault));
     }
-    // clauses of `moves` say that they are a game
+    // the contract of `moves` says that they are a game
     let _moves = line.moves();
     Ok(())
 }
@@ -234,7 +246,7 @@ fn why_of(fault: PlayFault) -> Why
     }
 }
 
-// Why the move is not played where there is no room for it.
+// Why the move is not played if there is no memory for it.
 fn why_without_room(line: &Line, color: Color, mv: &Move) -> Why
     ensures { NotPlayed line.now color mv.now result }
 {
@@ -254,7 +266,7 @@ fn last_missing(times: &[Option<u64>]) -> bool
     }
 }
 
-// Puts the last time, where there is one.
+// Sets the last time, if there is one.
 fn set_last(times: &mut Vec<Option<u64>>, time: u64)
     ensures { times.new.items ≡ with_last times.old.items time }
 {
@@ -264,7 +276,7 @@ fn set_last(times: &mut Vec<Option<u64>>, time: u64)
     }
 }
 
-// Adds the lines of the moves and of their times, the first of this side.
+// Adds the lines of the moves and of their times. The first move is that of this side.
 fn write_each(
     out: &mut Vec<u8>,
     side: Color,
@@ -272,7 +284,9 @@ fn write_each(
     times: &[Option<u64>],
 ) -> Result<(), OutOfMemory>
     requires { length times.now ≡ length moves.now }
-    ensures { OnOk result (out.new.items ≡ out.old.items ++ flat_map ended_line (move_items side (timed moves.now times.now))) }
+    ensures { OnOk result
+        (out.new.items
+        ≡ out.old.items ++ flat_map ended_line (move_items side (timed moves.now times.now))) }
 {
     let mut color = side;
     for i in 0..moves.len() {
@@ -283,7 +297,7 @@ fn write_each(
     Ok(())
 }
 
-// Adds the line of a move of that side: the text of `csa_move`, as bytes.
+// Adds the line of a move of that side: the bytes of `csa_move`, and LF.
 #[inline(always)]
 fn write_move(out: &mut Vec<u8>, color: Color, mv: &Move) -> Result<(), OutOfMemory>
     ensures { OnOk result (out.new.items ≡ out.old.items ++ ended_line (walked color mv.now)) }
@@ -311,7 +325,8 @@ fn digits_of(square: Square) -> [u8; 2]
 // Adds the sign and the squares of a move, its kind, and the end of the line.
 #[inline(always)]
 fn write_squares(out: &mut Vec<u8>, squares: &[u8; 5], kind: Kind) -> Result<(), OutOfMemory>
-    ensures { OnOk result (out.new.items ≡ out.old.items ++ (squares.now ++ (kind_code kind ++ 10 ∷ []))) }
+    ensures { OnOk result
+        (out.new.items ≡ out.old.items ++ (squares.now ++ (kind_code kind ++ 10 ∷ []))) }
 {
     let [sign, file, rank, to_file, to_rank] = *squares;
     let [first, second] = letters_of(kind);
@@ -328,7 +343,8 @@ fn letters_of(kind: Kind) -> [u8; 2]
 }
 
 fn write_ending(out: &mut Vec<u8>, ending: Option<Ended>) -> Result<(), OutOfMemory>
-    ensures { OnOk result (out.new.items ≡ out.old.items ++ flat_map ended_line (ending_items (ended ending))) }
+    ensures { OnOk result
+        (out.new.items ≡ out.old.items ++ flat_map ended_line (ending_items (ended ending))) }
 {
     let Some(ended) = ending else {
         return Ok(());
@@ -365,7 +381,7 @@ fn write_thousandths(out: &mut Vec<u8>, thousandths: u64) -> Result<(), OutOfMem
     Ok(())
 }
 
-// The same for any time.
+// As `write_time`, for any time.
 #[inline(never)]
 fn write_any_time(out: &mut Vec<u8>, thousandths: u64) -> Result<(), OutOfMemory>
     ensures { OnOk result (out.new.items ≡ out.old.items ++ ended_line (time thousandths)) }
@@ -378,7 +394,7 @@ fn write_any_time(out: &mut Vec<u8>, thousandths: u64) -> Result<(), OutOfMemory
     Ok(())
 }
 
-// A point and up to three digits, less the zeros at their end; nothing for 0.
+// A point and up to three digits, without trailing zeros; nothing for 0.
 fn write_fraction(out: &mut Vec<u8>, n: u64) -> Result<(), OutOfMemory>
     requires { n < 1000 }
     ensures { OnOk result (out.new.items ≡ out.old.items ++ fraction_text n) }

@@ -13,25 +13,25 @@ use record_game::{Refusal, Why};
 use std::alloc::Global;
 use thiserror::Error;
 
-/// How often a source is read before its end must have come.
+/// How often a source is read at most; by then its end must have been reached.
 pub const MOST_READS: u32 = 16_777_216;
 
-/// The most bytes of a read.
+/// The most bytes of one read.
 pub const PIECE: usize = 4096;
 
-/// Why a record did not flow from its source to its sink.
+/// Why a record did not get from its source to its sink.
 #[derive(Clone, Copy, Debug, PartialEq, Eq, Error)]
 pub enum FlowFault {
     /// The record is refused.
     #[error("{0}")]
     Refused(Refusal),
-    /// The source failed, or its end did not come.
+    /// The source failed, or its end was not reached in time.
     #[error("read fault")]
     ReadFault,
     /// The sink failed.
     #[error("write fault")]
     WriteFault,
-    /// A growth of memory was refused.
+    /// An allocation failed.
     #[error("out of memory")]
     OutOfMemory,
 }
@@ -47,23 +47,29 @@ impl From<Refusal> for FlowFault {
     }
 }
 
-/// Reads the record that a source gives, up to its end or to the first piece that shows a refusal.
+/// Reads the CSA record that a source gives, up to its end or to the first piece that shows a
+/// fault.
 ///
-/// The source is read at most 16,777,216 times, for 4,096 bytes each time. Refuses ReadFault where a
-/// read fails or the end has not come by then, and OutOfMemory where a growth of memory was refused.
-/// To be called where the source has failed fewer than 2^64 - 1 times so far.
+/// The source is read at most 16,777,216 times, for up to 4,096 bytes each time. Returns `Refused`
+/// if the record is refused, `ReadFault` if a read fails or the end has not been reached by then,
+/// and `OutOfMemory` if an allocation fails, whichever happens first. Only to be called if the
+/// source has failed fewer than 2^64 - 1 times so far.
 pub fn read_from<S: Source>(alloc: Global, source: &mut S) -> Result<Record, FlowFault>
     requires countable { S.failed source.old < 2 ^ 64 - 1 }
-    // The bytes that the source gave up to its end tell the game.
+    // The bytes that the source gave up to its end contain the game.
     ensures told { IfOk result (λ g. IsTold (S.known source.old) (S.known source.new) g) }
-    // A record is refused only where the bytes that the source gave are, whatever comes behind them.
-    ensures refused { (r : Refusal) → IsErrOf result (FlowFault.Refused r) → IsRefusal (S.known source.old) (S.known source.new) r }
+    // A record is refused only if the source's bytes are, whatever follows them.
+    ensures refused { (r : Refusal) → IsErrOf result (FlowFault.Refused r)
+        → IsRefusal (S.known source.old) (S.known source.new) r }
     ensures read_fault { IsErrOf result FlowFault.ReadFault
-        → FailsRead (S.known source.old) (S.known source.new) (S.failed source.old) (S.failed source.new) }
-    // It is no fault of reading where a read told the end.
+        → FailsRead (S.known source.old) (S.known source.new)
+        (S.failed source.old) (S.failed source.new) }
+    // Reaching the end is not a read fault.
     ensures unended { IsErrOf result FlowFault.ReadFault → S.ended source.new ≡ S.ended source.old }
-    ensures quiet { (IsErrOf result FlowFault.ReadFault → ⊥) → S.failed source.new ≡ S.failed source.old }
-    ensures memory { IsErrOf result FlowFault.OutOfMemory → IsFaultless (S.known source.old) (S.known source.new) }
+    ensures quiet { (IsErrOf result FlowFault.ReadFault → ⊥)
+        → S.failed source.new ≡ S.failed source.old }
+    ensures memory { IsErrOf result FlowFault.OutOfMemory
+        → IsFaultless (S.known source.old) (S.known source.new) }
     ensures no_write { IsErrOf result FlowFault.WriteFault → ⊥ }
 {
     read_record(alloc, source)
@@ -72,8 +78,8 @@ pub fn read_from<S: Source>(alloc: Global, source: &mut S) -> Result<Record, Flo
 /// Writes the canonical text of the record that a source gives to a sink, and flushes the sink.
 ///
 /// The whole record is read and accepted before anything is written. Refuses as `read_from` does;
-/// then OutOfMemory; then WriteFault where the sink fails. To be called where the source and the sink
-/// each have failed fewer than 2^64 - 1 times so far.
+/// then `OutOfMemory` if there is no memory for the text; then `WriteFault` if the sink fails. Only
+/// to be called if the source and the sink have each failed fewer than 2^64 - 1 times so far.
 pub fn normalise<S: Source, T: Sink>(
     alloc: Global,
     source: &mut S,
@@ -81,23 +87,31 @@ pub fn normalise<S: Source, T: Sink>(
 ) -> Result<(), FlowFault>
     requires source { S.failed source.old < 2 ^ 64 - 1 }
     requires sink { T.failed sink.old < 2 ^ 64 - 1 }
-    // The sink took the canonical text of the game that the source's bytes tell, and nothing else.
-    ensures accepted { OnOk result (IsNormal (S.known source.old) (S.known source.new) (T.held sink.old) (T.held sink.new)) }
-    ensures refused { (r : Refusal) → IsErrOf result (FlowFault.Refused r) → IsRefusal (S.known source.old) (S.known source.new) r }
+    // The sink took the canonical text of the game in the source's bytes, and nothing else.
+    ensures accepted { OnOk result
+        (IsNormal (S.known source.old) (S.known source.new) (T.held sink.old) (T.held sink.new)) }
+    ensures refused { (r : Refusal) → IsErrOf result (FlowFault.Refused r)
+        → IsRefusal (S.known source.old) (S.known source.new) r }
     ensures read_fault { IsErrOf result FlowFault.ReadFault
-        → FailsRead (S.known source.old) (S.known source.new) (S.failed source.old) (S.failed source.new) }
-    // It is no fault of reading where a read told the end.
+        → FailsRead (S.known source.old) (S.known source.new)
+        (S.failed source.old) (S.failed source.new) }
+    // Reaching the end is not a read fault.
     ensures unended { IsErrOf result FlowFault.ReadFault → S.ended source.new ≡ S.ended source.old }
-    ensures quiet { (IsErrOf result FlowFault.ReadFault → ⊥) → S.failed source.new ≡ S.failed source.old }
-    // The sink has sent on all that it took.
+    ensures quiet { (IsErrOf result FlowFault.ReadFault → ⊥)
+        → S.failed source.new ≡ S.failed source.old }
+    // The sink has passed on all that it took.
     ensures settled { OnOk result (T.settled sink.new ≡ true) }
-    // A write fails only where a game is told, and what was written is the front of its text.
+    // A write fails only if there is a game, and what was written is the front of its text.
     ensures cut_short { IsErrOf result FlowFault.WriteFault
         → IsCutShort (S.known source.old) (S.known source.new) (T.held sink.old) (T.held sink.new) }
-    ensures write_fault { IsErrOf result FlowFault.WriteFault → T.failed sink.new ≡ T.failed sink.old + 1 }
-    ensures sink_quiet { (IsErrOf result FlowFault.WriteFault → ⊥) → T.failed sink.new ≡ T.failed sink.old }
-    ensures memory { IsErrOf result FlowFault.OutOfMemory → IsWanting (S.known source.old) (S.known source.new) }
-    ensures unwritten { IfErr result (λ fault. fault ≢ FlowFault.WriteFault → Keeps (T.held sink.old) (T.held sink.new)) }
+    ensures write_fault { IsErrOf result FlowFault.WriteFault
+        → T.failed sink.new ≡ T.failed sink.old + 1 }
+    ensures sink_quiet { (IsErrOf result FlowFault.WriteFault → ⊥)
+        → T.failed sink.new ≡ T.failed sink.old }
+    ensures memory { IsErrOf result FlowFault.OutOfMemory
+        → IsWanting (S.known source.old) (S.known source.new) }
+    ensures unwritten { IfErr result
+        (λ fault. fault ≢ FlowFault.WriteFault → Keeps (T.held sink.old) (T.held sink.new)) }
 {
     pass(alloc, source, sink)
 }
@@ -105,11 +119,13 @@ pub fn normalise<S: Source, T: Sink>(
 fn pass<S: Source, T: Sink>(alloc: Global, source: &mut S, sink: &mut T) -> Result<(), FlowFault>
     requires source { S.failed source.old < 2 ^ 64 - 1 }
     requires sink { T.failed sink.old < 2 ^ 64 - 1 }
-    ensures ok { OnOk result (IsNormal (S.known source.old) (S.known source.new) (T.held sink.old) (T.held sink.new)) }
+    ensures ok { OnOk result
+        (IsNormal (S.known source.old) (S.known source.new) (T.held sink.old) (T.held sink.new)) }
     ensures quiet { OnOk result (S.failed source.new ≡ S.failed source.old) }
     ensures sink_quiet { OnOk result (T.failed sink.new ≡ T.failed sink.old) }
     ensures settled { OnOk result (T.settled sink.new ≡ true) }
-    ensures fault { IfErr result (IsFlowFault (S.known source.old) (S.known source.new) (T.held sink.old) (T.held sink.new)
+    ensures fault { IfErr result
+        (IsFlowFault (S.known source.old) (S.known source.new) (T.held sink.old) (T.held sink.new)
         (S.failed source.old) (S.failed source.new) (T.failed sink.old) (T.failed sink.new)) }
     ensures unended { IsErrOf result FlowFault.ReadFault → S.ended source.new ≡ S.ended source.old }
 {
@@ -123,8 +139,12 @@ fn pass<S: Source, T: Sink>(alloc: Global, source: &mut S, sink: &mut T) -> Resu
 // The canonical text of the record that the source gives.
 fn read_text<S: Source>(alloc: Global, source: &mut S) -> Result<Vec<u8>, FlowFault>
     requires { S.failed source.old < 2 ^ 64 - 1 }
-    ensures text { IfOk result (λ text. TellsText (S.known source.old) (S.known source.new) (S.failed source.old) (S.failed source.new) text.items) }
-    ensures fault { IfErr result (IsTextFault (S.known source.old) (S.known source.new) (S.failed source.old) (S.failed source.new)) }
+    ensures text { IfOk result
+        (λ text. TellsText (S.known source.old) (S.known source.new)
+        (S.failed source.old) (S.failed source.new) text.items) }
+    ensures fault { IfErr result
+        (IsTextFault (S.known source.old) (S.known source.new)
+        (S.failed source.old) (S.failed source.new)) }
     ensures unended { IsErrOf result FlowFault.ReadFault → S.ended source.new ≡ S.ended source.old }
 {
     let record = read_record(alloc, source)?;
@@ -136,7 +156,8 @@ fn read_text<S: Source>(alloc: Global, source: &mut S) -> Result<Vec<u8>, FlowFa
 
 fn read_record<S: Source>(alloc: Global, source: &mut S) -> Result<Record, FlowFault>
     requires { S.failed source.old < 2 ^ 64 - 1 }
-    ensures read { ReadsRecord (S.known source.old) (S.known source.new) (S.failed source.old) (S.failed source.new) result }
+    ensures read { ReadsRecord (S.known source.old) (S.known source.new)
+        (S.failed source.old) (S.failed source.new) result }
     ensures unended { IsErrOf result FlowFault.ReadFault → S.ended source.new ≡ S.ended source.old }
 {
     let mut reader = RecordReader::new(alloc);
@@ -151,8 +172,12 @@ fn read_record<S: Source>(alloc: Global, source: &mut S) -> Result<Record, FlowF
 fn feed_all<S: Source>(source: &mut S, reader: &mut RecordReader) -> Result<(), FlowFault>
     requires failed { S.failed source.old < 2 ^ 64 - 1 }
     requires fresh { HasRead [] reader.old }
-    ensures fed { OnOk result (IsFedAll (S.known source.old) (S.known source.new) (S.failed source.old) (S.failed source.new) reader.new) }
-    ensures fault { IfErr result (IsReadFault (S.known source.old) (S.known source.new) (S.failed source.old) (S.failed source.new)) }
+    ensures fed { OnOk result
+        (IsFedAll (S.known source.old) (S.known source.new)
+        (S.failed source.old) (S.failed source.new) reader.new) }
+    ensures fault { IfErr result
+        (IsReadFault (S.known source.old) (S.known source.new)
+        (S.failed source.old) (S.failed source.new)) }
     ensures unended { IfErr result (λ _. S.ended source.new ≡ S.ended source.old) }
 {
     let mut buffer = [0u8; PIECE];
@@ -167,7 +192,8 @@ fn feed_all<S: Source>(source: &mut S, reader: &mut RecordReader) -> Result<(), 
     Err(FlowFault::ReadFault)
 }
 
-// Feeds the reader the next piece that the source gives into the buffer: whether there was one.
+// Feeds the reader the next piece that the source gives into the buffer. Returns whether there was
+// one.
 fn feed_next<S: Source>(
     source: &mut S,
     reader: &mut RecordReader,
@@ -176,8 +202,11 @@ fn feed_next<S: Source>(
     requires failed { S.failed source.old < 2 ^ 64 - 1 }
     requires room { fed_of reader.old + longest_piece ≤ 2 ^ 63 }
     ensures fed { (bytes : List ℕ) → HasRead bytes reader.old
-        → FeedsNext bytes (S.known source.old) (S.known source.new) (S.failed source.old) (S.failed source.new) result reader.new }
-    ensures unended { MatchResult result (λ more. IsTrue more → S.ended source.new ≡ S.ended source.old) (λ _. S.ended source.new ≡ S.ended source.old) }
+        → FeedsNext bytes (S.known source.old) (S.known source.new)
+        (S.failed source.old) (S.failed source.new) result reader.new }
+    ensures unended { MatchResult result
+        (λ more. IsTrue more → S.ended source.new ≡ S.ended source.old)
+        (λ _. S.ended source.new ≡ S.ended source.old) }
 {
     let Ok(taken) = source.read(buffer) else {
         return Err(FlowFault::ReadFault);

@@ -34,15 +34,25 @@ impl Model for Laying {
 
     ghost Value = { Laid };
 
-    ghost view = { λ l. record { layout = l.setup; positioned = l.positioned; even = l.even; ranks = l.ranks } };
+    ghost view = { λ l. record {
+      layout = l.setup;
+      positioned = l.positioned;
+      even = l.even;
+      ranks = l.ranks;
+    } };
 
     ghost invariant = { λ l. length l.ranks ≡ 9 };
 
-    ghost inverse = { λ d. record { setup = d.layout; positioned = d.positioned; even = d.even; ranks = d.ranks } };
+    ghost inverse = { λ d. record {
+      setup = d.layout;
+      positioned = d.positioned;
+      even = d.even;
+      ranks = d.ranks;
+    } };
 }
 
 impl Laying {
-    // With no position statement the start is even.
+    // Without a position statement the start is the even one.
     pub(crate) fn new() -> Laying
         ensures { Lays [] result }
     {
@@ -54,9 +64,10 @@ impl Laying {
         }
     }
 
-    // Takes the pairs behind `PI` off the even board.
+    // Takes the pairs after `PI` off the even board.
     pub(crate) fn lay_even(&mut self, pairs: Pairs<'_>) -> Result<(), Why>
-        ensures taken { (before : List Saying) → Lays before self.old → sides before ≡ [] → endings before ≡ []
+        ensures taken { (before : List Saying) → Lays before self.old → sides before ≡ []
+            → endings before ≡ []
             → LaidOrRefused before (even (pairs_of pairs.entry)) result self.new }
         ensures never { IfErr result (λ why. why ≢ OutOfMemory) }
     {
@@ -75,7 +86,8 @@ impl Laying {
     pub(crate) fn lay_rank(&mut self, number: u8, cells: &[Option<Piece>; 9]) -> Result<(), Why>
         requires low { 1 ≤ number }
         requires high { number ≤ 9 }
-        ensures taken { (before : List Saying) → Lays before self.old → sides before ≡ [] → endings before ≡ []
+        ensures taken { (before : List Saying) → Lays before self.old → sides before ≡ []
+            → endings before ≡ []
             → LaidOrRefused before (rank number cells.now) result self.new }
         ensures never { IfErr result (λ why. why ≢ OutOfMemory) }
     {
@@ -93,9 +105,10 @@ impl Laying {
         Ok(())
     }
 
-    // Places the pairs behind the sign of a side.
+    // Places the pairs after the sign of a side.
     pub(crate) fn lay_pieces(&mut self, color: Color, pairs: Pairs<'_>) -> Result<(), Why>
-        ensures taken { (before : List Saying) → Lays before self.old → sides before ≡ [] → endings before ≡ []
+        ensures taken { (before : List Saying) → Lays before self.old → sides before ≡ []
+            → endings before ≡ []
             → LaidOrRefused before (pieces color (pairs_of pairs.entry)) result self.new }
         ensures never { IfErr result (λ why. why ≢ OutOfMemory) }
     {
@@ -109,11 +122,13 @@ impl Laying {
         Ok(())
     }
 
-    // The start, with that side to move.
+    // The start with that side to move, or why there is none.
     pub(crate) fn finish(&self, side: Color) -> Result<Position, Why>
         ensures answer { MatchResult result
-            (λ p. (InCheck self.now.layout.material.board (opponent side) → ⊥) × (p ≡ position_of self.now.layout side))
-            (λ why. InCheck self.now.layout.material.board (opponent side) × (why ≡ Why.Start OpponentInCheck)) }
+            (λ p. (InCheck self.now.layout.material.board (opponent side) → ⊥)
+            × (p ≡ position_of self.now.layout side))
+            (λ why. InCheck self.now.layout.material.board (opponent side)
+            × (why ≡ Why.Start OpponentInCheck)) }
         ensures sound { IfOk result (λ p. IsSound p) }
         ensures within { IsWithinTotals self.now.layout.material }
     {
@@ -135,7 +150,7 @@ fn take_off_pairs(setup: &mut Setup, pairs: Pairs<'_>) -> Result<(), SetupFault>
     Ok(())
 }
 
-// Behind `PI` each pair has a square.
+// After `PI` each pair has a square.
 fn take_off_pair(setup: &mut Setup, pair: Pair) -> Result<(), SetupFault>
     ensures { Places setup.old (taken_off pair) result setup.new }
 {

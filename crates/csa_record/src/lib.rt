@@ -1,6 +1,16 @@
-//! Games as CSA records tell them, read and written: whole or piece by piece, and the canonical text.
+//! Reads CSA records, whole or in pieces, and writes the canonical text of their games.
 //!
-//! The format is CSA V2.2, in the profile of this project (`docs/CSA.md`).
+//! The format is CSA V2.2, as `docs/CSA.md` restricts it. `read` takes a source that lies in
+//! memory, `RecordReader` one that arrives in pieces. Both return a `Record`, which is always a
+//! legal game, or a `Refusal` that names the first statement with a fault. `normalise` goes from a
+//! byte source straight to a sink. The faults and the laws are those of `record_game`, and are
+//! re-exported.
+//!
+//! ```text
+//! let game = read(alloc, source)?;
+//! let text = write(alloc, &game)?;
+//! // two records have the same text exactly if their games are the same
+//! ```
 #![tactic(auto)]
 
 mod course;

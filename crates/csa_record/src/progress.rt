@@ -31,7 +31,7 @@ enum Stage {
     Playing(Course),
 }
 
-// What the statements so far have said.
+// What is kept of the statements so far.
 #[derive(Drop)]
 pub(crate) struct Progress {
     alloc: Global,
@@ -50,7 +50,7 @@ impl Model for Progress {
 }
 
 impl Progress {
-    // Nothing was said. It takes no memory.
+    // The progress before any statement. Allocates nothing.
     pub(crate) fn new(alloc: Global) -> Progress
         ensures { Keeps [] result }
     {
@@ -62,7 +62,7 @@ impl Progress {
         }
     }
 
-    // The record, where the side to move was said.
+    // The record, if the side to move has been given.
     pub(crate) fn finish(self) -> Option<Record>
         ensures { (sayings : List Saying) → Keeps sayings self → AllByRecursion IsWritten sayings
             → MatchOption result (sides sayings ≡ []) (λ g. Says sayings g) }
@@ -83,17 +83,20 @@ impl Progress {
     #[inline(always)]
     pub(crate) fn take_bytes(&mut self, bytes: &[u8]) -> Result<(), Why>
         requires { IsOfStatement bytes.now }
-        ensures { (before : List Saying) → Keeps before self.old → Outcome before bytes.now result self.new }
+        ensures { (before : List Saying) → Keeps before self.old
+            → Outcome before bytes.now result self.new }
     {
         let item = read_item(bytes)?;
         self.take(item)
     }
 
-    // Takes the next item, or says why it does not fit. Only here it is marked that something was said.
+    // Takes the next item, or says why it does not fit. Only this call records that there has been
+    // an item.
     #[inline(always)]
     fn take(&mut self, item: Item<'_>) -> Result<(), Why>
         requires { Fits (saying_of item) }
-        ensures { (before : List Saying) → Keeps before self.old → TakenOrRefused before (saying_of item.entry) result self.new }
+        ensures { (before : List Saying) → Keeps before self.old
+            → TakenOrRefused before (saying_of item.entry) result self.new }
     {
         let taken = match item {
             Item::Version => self.take_version(),
@@ -112,7 +115,8 @@ impl Progress {
     }
 
     fn take_version(&mut self) -> Result<(), Why>
-        ensures { (before : List Saying) → Keeps before self.old → TakenOrRefused before version result (record self.new { begun = true }) }
+        ensures { (before : List Saying) → Keeps before self.old
+            → TakenOrRefused before version result (record self.new { begun = true }) }
     {
         if self.begun {
             return Err(Why::Order(OrderFault::VersionOutOfPlace));
@@ -123,20 +127,26 @@ impl Progress {
     fn take_name(&mut self, color: Color, text: &[u8]) -> Result<(), Why>
         requires one_line { IsOneLine text.now }
         requires fits { 2 + length text.now ≤ longest_statement }
-        ensures { (before : List Saying) → Keeps before self.old → TakenOrRefused before (name color text.now) result (record self.new { begun = true }) }
+        ensures { (before : List Saying) → Keeps before self.old
+            → TakenOrRefused before (name color text.now) result
+            (record self.new { begun = true }) }
     {
         self.titles.set_name(color, text)
     }
 
     fn take_header(&mut self, key: &[u8], text: &[u8]) -> Result<(), Why>
         requires { IsHeaderLine key.now text.now }
-        ensures { (before : List Saying) → Keeps before self.old → TakenOrRefused before (header key.now text.now) result (record self.new { begun = true }) }
+        ensures { (before : List Saying) → Keeps before self.old
+            → TakenOrRefused before (header key.now text.now) result
+            (record self.new { begun = true }) }
     {
         self.titles.set_header(key, text)
     }
 
     fn take_even(&mut self, pairs: Pairs<'_>) -> Result<(), Why>
-        ensures { (before : List Saying) → Keeps before self.old → TakenOrRefused before (even (pairs_of pairs.entry)) result (record self.new { begun = true }) }
+        ensures { (before : List Saying) → Keeps before self.old
+            → TakenOrRefused before (even (pairs_of pairs.entry)) result
+            (record self.new { begun = true }) }
     {
         match &mut self.stage {
             Stage::Laying(laying) => laying.lay_even(pairs),
@@ -147,7 +157,9 @@ impl Progress {
     fn take_rank(&mut self, number: u8, cells: &[Option<Piece>; 9]) -> Result<(), Why>
         requires low { 1 ≤ number }
         requires high { number ≤ 9 }
-        ensures { (before : List Saying) → Keeps before self.old → TakenOrRefused before (rank number cells.now) result (record self.new { begun = true }) }
+        ensures { (before : List Saying) → Keeps before self.old
+            → TakenOrRefused before (rank number cells.now) result
+            (record self.new { begun = true }) }
     {
         match &mut self.stage {
             Stage::Laying(laying) => laying.lay_rank(number, cells),
@@ -156,7 +168,9 @@ impl Progress {
     }
 
     fn take_pieces(&mut self, color: Color, pairs: Pairs<'_>) -> Result<(), Why>
-        ensures { (before : List Saying) → Keeps before self.old → TakenOrRefused before (pieces color (pairs_of pairs.entry)) result (record self.new { begun = true }) }
+        ensures { (before : List Saying) → Keeps before self.old
+            → TakenOrRefused before (pieces color (pairs_of pairs.entry)) result
+            (record self.new { begun = true }) }
     {
         match &mut self.stage {
             Stage::Laying(laying) => laying.lay_pieces(color, pairs),
@@ -165,7 +179,8 @@ impl Progress {
     }
 
     fn take_turn(&mut self, color: Color) -> Result<(), Why>
-        ensures { (before : List Saying) → Keeps before self.old → TakenOrRefused before (turn color) result (record self.new { begun = true }) }
+        ensures { (before : List Saying) → Keeps before self.old
+            → TakenOrRefused before (turn color) result (record self.new { begun = true }) }
     {
         let course = match &self.stage {
             Stage::Laying(laying) => course_from(self.alloc, laying, color)?,
@@ -177,7 +192,8 @@ impl Progress {
 
     #[inline(always)]
     fn take_move(&mut self, color: Color, mv: Move) -> Result<(), Why>
-        ensures { (before : List Saying) → Keeps before self.old → TakenOrRefused before (walked color mv) result (record self.new { begun = true }) }
+        ensures { (before : List Saying) → Keeps before self.old
+            → TakenOrRefused before (walked color mv) result (record self.new { begun = true }) }
     {
         match &mut self.stage {
             Stage::Laying(_) => Err(Why::Order(OrderFault::MoveBeforeTurn)),
@@ -188,7 +204,8 @@ impl Progress {
     #[inline(always)]
     fn take_time(&mut self, thousandths: u64) -> Result<(), Why>
         requires { thousandths ≤ longest_time }
-        ensures { (before : List Saying) → Keeps before self.old → TakenOrRefused before (time thousandths) result (record self.new { begun = true }) }
+        ensures { (before : List Saying) → Keeps before self.old
+            → TakenOrRefused before (time thousandths) result (record self.new { begun = true }) }
     {
         match &mut self.stage {
             Stage::Laying(_) => Err(Why::Order(OrderFault::LooseTime)),
@@ -197,7 +214,8 @@ impl Progress {
     }
 
     fn take_ending(&mut self, how: Ending) -> Result<(), Why>
-        ensures { (before : List Saying) → Keeps before self.old → TakenOrRefused before (ending how) result (record self.new { begun = true }) }
+        ensures { (before : List Saying) → Keeps before self.old
+            → TakenOrRefused before (ending how) result (record self.new { begun = true }) }
     {
         match &mut self.stage {
             Stage::Laying(_) => Err(Why::Order(OrderFault::MoveBeforeTurn)),
@@ -206,11 +224,13 @@ impl Progress {
     }
 }
 
-// The start that is laid out, with that side to move, and nothing played from it.
+// The course with the start that is laid out, that side to move, and no moves.
 fn course_from(alloc: Global, laying: &Laying, side: Color) -> Result<Course, Why>
     ensures { MatchResult result
-        (λ c. Finishes (Ok laying.now.layout) side None × (c ≡ record { start = position_of laying.now.layout side; moves = []; ending = None }))
-        (λ why. (answer : Option Why) × Finishes (Ok laying.now.layout) side answer × IsAnswer answer (Err why)) }
+        (λ c. Finishes (Ok laying.now.layout) side None
+        × (c ≡ record { start = position_of laying.now.layout side; moves = []; ending = None }))
+        (λ why. (answer : Option Why) × Finishes (Ok laying.now.layout) side answer
+        × IsAnswer answer (Err why)) }
 {
     let start = laying.finish(side)?;
     match Course::new(alloc, start) {

@@ -19,8 +19,8 @@ use shogi_rules::{Line, Move};
 use std::alloc::Global;
 use std::marker::Model;
 
-/// A game as a record tells it: the names of both sides, headers, a start, legal moves from it with
-/// their times, and an ending.
+/// A game as a CSA record contains it: the names of both sides, headers, a start, legal moves from
+/// it with their times, and an ending.
 #[derive(Drop)]
 pub struct Record {
     titles: Titles,
@@ -40,9 +40,9 @@ impl Model for Record {
 }
 
 impl Record {
-    /// The record of that start alone: no name, header, move or ending.
+    /// Creates the record of a start alone, with no names, headers, moves or ending.
     ///
-    /// Refuses OutOfMemory.
+    /// Returns `OutOfMemory` if an allocation fails.
     pub fn new(alloc: Global, start: Position) -> Result<Record, OutOfMemory>
         ensures game { IfOk result (λ r. r ≡ game_along (record { start = start; moves = [] })) }
     {
@@ -50,9 +50,9 @@ impl Record {
         Ok(Record::from_parts(Titles::new(alloc), course))
     }
 
-    /// The record of the line's start and moves: no name, header, time or ending.
+    /// Creates the record of the line's start and moves, with no names, headers, times or ending.
     ///
-    /// Where memory is refused, the answer is the line as it was.
+    /// If an allocation fails, returns the line unchanged.
     pub fn from_line(alloc: Global, line: Line) -> Result<Record, Line>
         ensures ok { IfOk result (λ r. r ≡ game_along line) }
         ensures err { IfErr result (λ l. l ≡ line) }
@@ -66,32 +66,33 @@ impl Record {
         ensures parts { result ≡ game_of titles course }
         ensures game { IsGame result }
     {
-        // clauses of these say that the parts are sound
+        // the contracts of these say that the parts are sound
         let _name = titles.name(Color::Black);
         let _ending = course.ending();
         Record { titles, course }
     }
 
-    /// Gives that side its name, in any character set. An empty name is none: it changes nothing, and
-    /// is not refused.
+    /// Gives that side its name, in any character set. An empty name counts as none: it is accepted
+    /// and changes nothing.
     ///
-    /// The name has no CR and no LF, and at most 4,094 bytes. Refuses RepeatedName where that side has
-    /// a name, then OutOfMemory. Refused, it changes nothing.
+    /// The name must have no CR or LF, and at most 4,094 bytes. Refuses `RepeatedName` if that side
+    /// already has a name, then `OutOfMemory` if an allocation fails. A refusal changes nothing.
     pub fn set_name(&mut self, color: Color, text: &[u8]) -> Result<(), Why>
         requires one_line { IsOneLine text.now }
         requires fits { 2 + length text.now ≤ longest_statement }
         ensures answer { IsAnswer (name_fault (titled_of self.old) color text.now) result }
         ensures empty { text.now ≡ [] → IsOk result }
-        ensures changed { OnOk result (self.new ≡ with_titled self.old (with_name (titled_of self.old) color text.now)) }
+        ensures changed { OnOk result
+            (self.new ≡ with_titled self.old (with_name (titled_of self.old) color text.now)) }
         ensures unchanged { OnErr result (self.new ≡ self.old) }
     {
         let result = self.titles.set_name(color, text);
-        // a clause of `name` says that the titles are sound
+        // the contract of `name` says that the titles are sound
         let _name = self.titles.name(color);
         result
     }
 
-    /// That side's name, if it has one. It is not empty and stands on one line.
+    /// That side's name, if it has one. It is not empty and has no CR or LF.
     pub fn name(&self, color: Color) -> Option<&[u8]>
         ensures value { MatchOption result
             (name_of (titled_of self.now) color ≡ None)
@@ -101,12 +102,13 @@ impl Record {
         self.titles.name(color)
     }
 
-    /// Adds a header. One with an empty text is none: it changes nothing, and is not refused. Under
-    /// `START_TIME` and `END_TIME` a text that spells a moment is kept as that moment.
+    /// Adds a header. One with an empty text counts as none: it is accepted and changes nothing.
+    /// For the keys `START_TIME` and `END_TIME` a text that spells a moment is kept as that moment.
     ///
-    /// The key is not empty and has no colon, neither has a CR or LF, and both have at most 4,094 bytes
-    /// together. Refuses RepeatedHeader where a header of that key stands, then TooManyHeaders where 64
-    /// stand, then OutOfMemory. Refused, it changes nothing.
+    /// The key must not be empty and must have no colon. Neither key nor text may have a CR or LF,
+    /// and together they may have at most 4,094 bytes. Refuses `RepeatedHeader` if there is a
+    /// header with that key, then `TooManyHeaders` if there are already 64 headers, then
+    /// `OutOfMemory` if an allocation fails. A refusal changes nothing.
     pub fn set_header(&mut self, key: &[u8], text: &[u8]) -> Result<(), Why>
         requires some { key.now ≢ [] }
         requires key_line { IsOneLine key.now }
@@ -115,84 +117,94 @@ impl Record {
         requires fits { 2 + length key.now + length text.now ≤ longest_statement }
         ensures answer { IsAnswer (header_fault (titled_of self.old) key.now text.now) result }
         ensures empty { text.now ≡ [] → IsOk result }
-        ensures changed { OnOk result (IsWithHeader (titled_of self.old) key.now text.now (titled_of self.new)) }
+        ensures changed { OnOk result
+            (IsWithHeader (titled_of self.old) key.now text.now (titled_of self.new)) }
         ensures rest { self.new ≡ with_titled self.old (titled_of self.new) }
         ensures unchanged { OnErr result (self.new ≡ self.old) }
     {
         let result = self.titles.set_header(key, text);
-        // a clause of `name` says that the titles are sound
+        // the contract of `name` says that the titles are sound
         let _name = self.titles.name(Color::Black);
         result
     }
 
-    /// What stands under this key, if something does.
+    /// The value of this header, if there is one.
     pub fn header(&self, key: &[u8]) -> Option<HeaderValue<'_>>
         ensures value { MatchOption result
             (under key.now self.now.headers ≡ [])
-            (λ value. under key.now self.now.headers ≡ record { key = key.now; text = shown value } ∷ []) }
+            (λ value. under key.now self.now.headers
+            ≡ record { key = key.now; text = shown value } ∷ []) }
     {
         self.titles.header(key)
     }
 
     /// The start and the moves.
     pub fn line(&self) -> &Line
-        ensures value { result.now ≡ record { start = self.now.start; moves = map move_of self.now.moves } }
+        ensures value { result.now
+            ≡ record { start = self.now.start; moves = map move_of self.now.moves } }
     {
         self.course.line()
     }
 
     /// Plays a move of that side, without a time.
     ///
-    /// Refuses AfterEnding where the record has an ending, then TooManyMoves behind 10,000 moves, then
-    /// the first rule that the move breaks, then OutOfMemory. Refused, it changes nothing.
+    /// Refuses `AfterEnding` if the record has an ending, then `TooManyMoves` if it already has
+    /// 10,000 moves, then the first rule that the move breaks, then `OutOfMemory` if an allocation
+    /// fails. A refusal changes nothing.
     pub fn play(&mut self, color: Color, mv: Move) -> Result<(), Why>
-        ensures answer { (answer : Option Why) × PlayAnswers (course_of self.old) color mv answer × IsAnswer answer result }
-        ensures changed { OnOk result (self.new ≡ record self.old { moves = self.old.moves ++ untimed mv ∷ [] }) }
+        ensures answer { (answer : Option Why) × PlayAnswers (course_of self.old) color mv answer
+            × IsAnswer answer result }
+        ensures changed { OnOk result
+            (self.new ≡ record self.old { moves = self.old.moves ++ untimed mv ∷ [] }) }
         ensures unchanged { OnErr result (self.new ≡ self.old) }
     {
         let result = self.course.play(color, mv);
-        // a clause of `ending` says that the course is sound
+        // the contract of `ending` says that the course is sound
         let _ending = self.course.ending();
         result
     }
 
-    /// Gives the ending, or else the last move, the time that it took, in thousandths of a second.
+    /// Sets the time that the ending or, if there is none, the last move took, in thousandths of a
+    /// second.
     ///
-    /// That is at most 4,294,967,295,999. Refuses LooseTime where there is neither move nor ending, or
-    /// that one has a time. Refused, it changes nothing. It takes no memory.
+    /// The time may be at most 4,294,967,295,999. Refuses `LooseTime` if there is neither a move
+    /// nor an ending, or if that one already has a time. A refusal changes nothing. Allocates
+    /// nothing.
     pub fn set_time(&mut self, thousandths: u64) -> Result<(), Why>
         requires limit { thousandths ≤ longest_time }
         ensures ok { IsOk result ↔ (time_fault (course_of self.old) ≡ None) }
         ensures answer { IsAnswer (time_fault (course_of self.old)) result }
-        ensures changed { OnOk result (self.new ≡ with_course self.old (with_time (course_of self.old) thousandths)) }
+        ensures changed { OnOk result
+            (self.new ≡ with_course self.old (with_time (course_of self.old) thousandths)) }
         ensures unchanged { OnErr result (self.new ≡ self.old) }
     {
         let result = self.course.set_time(thousandths);
-        // a clause of `ending` says that the course is sound
+        // the contract of `ending` says that the course is sound
         let _ending = self.course.ending();
         result
     }
 
-    /// The time that the move with this index took, counted from 0, in thousandths of a second; None
-    /// where it has none, and past the last move.
+    /// The time that the move with this index took, in thousandths of a second. The index is
+    /// counted from 0. Returns `None` if the move has no time, or if there is no such move.
     pub fn time(&self, i: usize) -> Option<u64>
         ensures value { result ≡ time_at self.now.moves i }
     {
         self.course.time(i)
     }
 
-    /// Ends the game so, without a time.
+    /// Ends the game in this way, without a time.
     ///
-    /// Refuses AfterEnding where the record has an ending. Refused, it changes nothing. It takes no
-    /// memory.
+    /// Refuses `AfterEnding` if the record already has an ending. A refusal changes nothing.
+    /// Allocates nothing.
     pub fn close(&mut self, ending: Ending) -> Result<(), Why>
         ensures ok { IsOk result ↔ (close_fault (course_of self.old) ≡ None) }
         ensures answer { IsAnswer (close_fault (course_of self.old)) result }
-        ensures changed { OnOk result (self.new ≡ with_course self.old (with_ending (course_of self.old) ending)) }
+        ensures changed { OnOk result
+            (self.new ≡ with_course self.old (with_ending (course_of self.old) ending)) }
         ensures unchanged { OnErr result (self.new ≡ self.old) }
     {
         let result = self.course.close(ending);
-        // a clause of `ending` says that the course is sound
+        // the contract of `ending` says that the course is sound
         let _ending = self.course.ending();
         result
     }

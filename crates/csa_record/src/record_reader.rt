@@ -14,7 +14,7 @@ use record_game::{OrderFault, Refusal, Why};
 use std::alloc::Global;
 use std::marker::Model;
 
-// The statement at which a reader was refused, and how many bytes were fed before.
+// The statement at which a reader was refused, and how many bytes had been fed before.
 #[derive(Clone, Copy, Debug, PartialEq, Eq)]
 struct Failing {
     number: u64,
@@ -23,9 +23,10 @@ struct Failing {
 }
 
 impl Failing {
-    // What a refused reader answers.
+    // What a refused reader returns.
     fn refusal(&self) -> Refusal
-        ensures { result ≡ record { number = self.now.number; offset = self.now.offset; why = Why.Failed } }
+        ensures { result
+            ≡ record { number = self.now.number; offset = self.now.offset; why = Why.Failed } }
     {
         Refusal {
             number: self.number,
@@ -35,11 +36,11 @@ impl Failing {
     }
 }
 
-/// Reads a record whose bytes come in pieces.
+/// Reads a CSA record whose bytes arrive in pieces.
 ///
-/// It holds no more of the source than an unfinished statement of at most 4,096 bytes, and none of a
-/// comment. After a refusal, want of memory among them, `feed` and `finish` answer `Why::Failed`
-/// with the number and the offset of the first refusal.
+/// Of the source it holds only an unfinished statement of at most 4,096 bytes, and nothing of a
+/// comment. After any refusal, including one for lack of memory, `feed` and `finish` return
+/// `Why::Failed` with the number and the offset of the first refusal.
 #[derive(Drop)]
 pub struct RecordReader {
     cutter: PieceCutter,
@@ -53,11 +54,15 @@ impl Model for RecordReader {
 
     ghost Value = { told.Reading };
 
-    ghost view = { λ r. record { cutter = r.cutter; kept = r.progress; failing = failing_of r.failing } };
+    ghost view = { λ r. record {
+      cutter = r.cutter;
+      kept = r.progress;
+      failing = failing_of r.failing;
+    } };
 }
 
 impl RecordReader {
-    /// A reader that has seen nothing. It takes no memory.
+    /// Creates a reader that has been fed no bytes. Allocates nothing.
     #[tactic(auto, using(crate::proofs::Onward::new_reader))]
     pub fn new(alloc: Global) -> RecordReader
         ensures start { HasRead [] result }
@@ -69,7 +74,7 @@ impl RecordReader {
         }
     }
 
-    /// How many bytes the calls of `feed` took that were not refused.
+    /// How many bytes have been fed, without those of a refused piece.
     pub fn fed(&self) -> u64
         ensures count { result ≡ fed_of self.now }
         ensures bytes { (source : List ℕ) → HasRead source self.now → result ≡ length source }
@@ -80,23 +85,34 @@ impl RecordReader {
         }
     }
 
-    /// Takes the next piece of the record. At most 2^63 bytes may be fed in all, unless it was refused.
+    /// Takes the next piece of the record. At most 2^63 bytes may be fed in all, unless the reader
+    /// has been refused.
     ///
-    /// It is refused at the first statement that these bytes close and that has a fault; that is the
-    /// refusal of the record, whatever comes behind. `Why::OutOfMemory` comes only where a growth was
-    /// refused, and then no statement up to there has a fault.
+    /// Refuses with the first fault among the statements that these bytes close. That is the
+    /// refusal of the whole record, whatever follows. Then `Why::OutOfMemory` if an allocation
+    /// fails, which means that no statement up to that point has a fault.
     pub fn feed(&mut self, piece: &[u8]) -> Result<(), Refusal>
         requires room { self.old.failing ≡ None → fed_of self.old + length piece.now ≤ 2 ^ 63 }
-        // All bytes so far have no fault.
-        ensures taken { (source : List ℕ) → HasRead source self.old → OnOk result (HasRead (source ++ piece.now) self.new) }
+        // Accepted: no statement that the bytes so far close has a fault.
+        ensures taken { (source : List ℕ) → HasRead source self.old
+            → OnOk result (HasRead (source ++ piece.now) self.new) }
         ensures refused { (source more : List ℕ) → HasRead source self.old
-            → IfErr result (λ r. r.why ≢ Why.OutOfMemory → Refused ((source ++ piece.now) ++ more) r.number r.offset r.why) }
+            → IfErr result
+            (λ r. r.why ≢ Why.OutOfMemory
+            → Refused ((source ++ piece.now) ++ more) r.number r.offset r.why) }
         ensures memory { (source more : List ℕ) → HasRead source self.old
-            → IfErr result (λ r. r.why ≡ Why.OutOfMemory → FaultlessTo ((source ++ piece.now) ++ more) r.number r.offset) }
+            → IfErr result
+            (λ r. r.why ≡ Why.OutOfMemory
+            → FaultlessTo ((source ++ piece.now) ++ more) r.number r.offset) }
         ensures failed { (source : List ℕ) → HasRead source self.old
-            → IfErr result (λ r. self.new.failing ≡ Some (record { number = r.number; offset = r.offset; fed = length source })) }
-        ensures first { (source : List ℕ) → HasRead source self.old → IfErr result (λ r. r.why ≢ Why.Failed) }
-        ensures again { IfSome self.old.failing (λ f. IsErrOf result (record { number = f.number; offset = f.offset; why = Why.Failed }) × (self.new ≡ self.old)) }
+            → IfErr result
+            (λ r. self.new.failing
+            ≡ Some (record { number = r.number; offset = r.offset; fed = length source })) }
+        ensures first { (source : List ℕ) → HasRead source self.old
+            → IfErr result (λ r. r.why ≢ Why.Failed) }
+        ensures again { IfSome self.old.failing
+            (λ f. IsErrOf result (record { number = f.number; offset = f.offset; why = Why.Failed })
+            × (self.new ≡ self.old)) }
     {
         if let Some(failing) = self.failing {
             return Err(failing.refusal());
@@ -116,9 +132,12 @@ impl RecordReader {
     // Takes the whole piece, statement by statement.
     fn take_piece(&mut self, piece: &[u8]) -> Result<(), Refusal>
         requires { self.old.cutter.fed + length piece.now ≤ 2 ^ 63 }
-        ensures taken { (source : List ℕ) → HasRead source self.old → OnOk result (HasRead (source ++ piece.now) self.new) }
-        ensures refused { (source : List ℕ) → HasRead source self.old → IfErr result (λ r. (more : List ℕ) → IsRefusedBy ((source ++ piece.now) ++ more) r) }
-        ensures first { (source : List ℕ) → HasRead source self.old → IfErr result (λ r. r.why ≢ Why.Failed) }
+        ensures taken { (source : List ℕ) → HasRead source self.old
+            → OnOk result (HasRead (source ++ piece.now) self.new) }
+        ensures refused { (source : List ℕ) → HasRead source self.old
+            → IfErr result (λ r. (more : List ℕ) → IsRefusedBy ((source ++ piece.now) ++ more) r) }
+        ensures first { (source : List ℕ) → HasRead source self.old
+            → IfErr result (λ r. r.why ≢ Why.Failed) }
     {
         let mut used = 0;
         while used < piece.len() {
@@ -127,12 +146,16 @@ impl RecordReader {
         Ok(())
     }
 
-    // Takes bytes of the piece up to the end of a statement, and that statement: how many it used.
+    // Takes bytes of the piece up to the end of a statement, and that statement. Returns how many
+    // it used.
     fn take_next(&mut self, piece: &[u8]) -> Result<usize, Refusal>
         requires room { self.old.cutter.fed + length piece.now ≤ 2 ^ 63 }
         requires some { 0 < length piece.now }
-        ensures used { IfOk result (λ used. (0 < used) × (used ≤ length piece.now) × (self.new.cutter.fed ≡ self.old.cutter.fed + used)) }
-        ensures next { (source : List ℕ) → HasRead source self.old → NextTaken source piece.now result self.new }
+        ensures used { IfOk result
+            (λ used. (0 < used) × (used ≤ length piece.now)
+            × (self.new.cutter.fed ≡ self.old.cutter.fed + used)) }
+        ensures next { (source : List ℕ) → HasRead source self.old
+            → NextTaken source piece.now result self.new }
     {
         let cut = match self.cutter.step(piece) {
             Ok(cut) => cut,
@@ -145,19 +168,22 @@ impl RecordReader {
         Ok(cut.used)
     }
 
-    /// The record that all the pieces tell, at their end.
+    /// Returns the record that all the pieces contain, at their end.
     ///
-    /// It is refused as `feed` says, for its last statement; else, where no statement is the side to
-    /// move, as `MissingTurn`, whose number is one more than that of the statements and whose offset is
-    /// the length of all pieces in bytes.
+    /// The end of the bytes ends an unfinished statement, which is refused as `feed` refuses one.
+    /// Then refuses with `MissingTurn` if no statement gives the side to move: its number is one
+    /// more than the number of the statements, and its offset is the length of all pieces in bytes.
     pub fn finish(self) -> Result<Record, Refusal>
         ensures told { (source : List ℕ) → HasRead source self → IfOk result (λ g. Tells source g) }
         ensures refused { (source : List ℕ) → HasRead source self
             → IfErr result (λ r. r.why ≢ Why.OutOfMemory → Refused source r.number r.offset r.why) }
         ensures memory { (source : List ℕ) → HasRead source self
             → IfErr result (λ r. r.why ≡ Why.OutOfMemory → FaultlessTo source r.number r.offset) }
-        ensures first { (source : List ℕ) → HasRead source self → IfErr result (λ r. r.why ≢ Why.Failed) }
-        ensures again { IfSome self.failing (λ f. IsErrOf result (record { number = f.number; offset = f.offset; why = Why.Failed })) }
+        ensures first { (source : List ℕ) → HasRead source self
+            → IfErr result (λ r. r.why ≢ Why.Failed) }
+        ensures again { IfSome self.failing
+            (λ f. IsErrOf result
+            (record { number = f.number; offset = f.offset; why = Why.Failed })) }
     {
         if let Some(failing) = self.failing {
             return Err(failing.refusal());
@@ -180,16 +206,18 @@ impl RecordReader {
     }
 }
 
-/// Reads a record of at most 2^63 bytes, all at once.
+/// Reads a whole CSA record of at most 2^63 bytes.
 ///
-/// The answer is the game that the bytes tell, or the first statement with a fault: its number, its
-/// offset in bytes, and the fault. `Why::OutOfMemory` comes only where a growth was refused, and
-/// then no statement up to there has a fault; `Why::Failed` never comes.
+/// Returns the game that the bytes contain, or refuses the first statement with a fault: its
+/// number, its offset in bytes, and the fault. Returns `Why::OutOfMemory` if an allocation fails,
+/// which means that no statement up to that point has a fault. Never returns `Why::Failed`.
 pub fn read(alloc: Global, source: &[u8]) -> Result<Record, Refusal>
     requires room { length source.now ≤ 2 ^ 63 }
     ensures told { IfOk result (λ g. Tells source.now g) }
-    ensures refused { IfErr result (λ r. r.why ≢ Why.OutOfMemory → Refused source.now r.number r.offset r.why) }
-    ensures memory { IfErr result (λ r. r.why ≡ Why.OutOfMemory → FaultlessTo source.now r.number r.offset) }
+    ensures refused { IfErr result
+        (λ r. r.why ≢ Why.OutOfMemory → Refused source.now r.number r.offset r.why) }
+    ensures memory { IfErr result
+        (λ r. r.why ≡ Why.OutOfMemory → FaultlessTo source.now r.number r.offset) }
     ensures first { IfErr result (λ r. r.why ≢ Why.Failed) }
 {
     let mut reader = RecordReader::new(alloc);
@@ -197,9 +225,10 @@ pub fn read(alloc: Global, source: &[u8]) -> Result<Record, Refusal>
     reader.finish()
 }
 
-// Takes the statement that the end of the bytes ends, if one is unfinished.
+// Takes the statement that is unfinished at the end of the bytes, if there is one.
 fn take_last(cutter: &mut PieceCutter, progress: &mut Progress) -> Result<(), Refusal>
-    ensures { (source : List ℕ) → HasTaken source cutter.old progress.old → LastTaken source result cutter.new progress.new }
+    ensures { (source : List ℕ) → HasTaken source cutter.old progress.old
+        → LastTaken source result cutter.new progress.new }
 {
     let last = match cutter.finish() {
         Ok(last) => last,
@@ -215,9 +244,11 @@ fn take_last(cutter: &mut PieceCutter, progress: &mut Progress) -> Result<(), Re
 #[inline(always)]
 fn take_statement(progress: &mut Progress, statement: Statement<'_>) -> Result<(), Refusal>
     requires { IsOfStatement statement.bytes.now }
-    ensures taken { (before : List Saying) → Keeps before progress.old → OnOk result (Outcome before statement.entry.bytes.now (Ok tt) progress.new) }
+    ensures taken { (before : List Saying) → Keeps before progress.old
+        → OnOk result (Outcome before statement.entry.bytes.now (Ok tt) progress.new) }
     ensures refused { (before : List Saying) → Keeps before progress.old
-        → IfErr result (λ r. (r.number ≡ statement.entry.number) × (r.offset ≡ statement.entry.offset)
+        → IfErr result
+        (λ r. (r.number ≡ statement.entry.number) × (r.offset ≡ statement.entry.offset)
         × Outcome before statement.entry.bytes.now (Err r.why) progress.new) }
 {
     match progress.take_bytes(statement.bytes) {

@@ -7,30 +7,30 @@ use std::io::{ErrorKind, Write};
 
 /// Takes bytes, and counts how often it fails.
 pub trait Sink {
-    // The bytes that it holds, where they are known.
+    // The bytes that it holds, if they are known.
     ghost held: { Self → Option (List ℕ) };
 
     // How often it has failed.
     ghost failed: { Self → ℕ };
 
-    // Whether it has sent on all that it took.
+    // Whether it has passed on all that it took.
     ghost settled: { Self → Bool };
 
-    /// Takes bytes from the front of the piece and answers how many. These may be fewer than all of
-    /// them; to take none of a piece that is not empty is counted as a failure too.
+    /// Takes bytes from the front of the piece and returns how many. These may be fewer than all of
+    /// them. To take none of a piece that is not empty also counts as a failure.
     ///
-    /// Refuses `Failure` where it fails, which is counted, and then takes nothing. To be called where it
-    /// has failed fewer than 2^64 - 1 times so far.
+    /// Returns `Failure` if it fails; that is counted, and no bytes are taken. Only to be called if
+    /// it has failed fewer than 2^64 - 1 times so far.
     fn write(&mut self, piece: &[u8]) -> Result<usize, Failure>
         requires countable { failed self.old < 2 ^ 64 - 1 }
         ensures within { IfOk result (λ taken. taken ≤ length piece.now) }
         ensures bytes { WriteAppends (held self.old) (held self.new) result piece.now }
         ensures count { CountsWrites (failed self.old) (failed self.new) result piece.now };
 
-    /// Sends on what it has taken.
+    /// Passes on what it has taken.
     ///
-    /// Refuses `Failure` where it fails, which is counted. To be called where it has failed fewer than
-    /// 2^64 - 1 times so far.
+    /// Returns `Failure` if it fails; that is counted. Only to be called if it has failed fewer
+    /// than 2^64 - 1 times so far.
     fn flush(&mut self) -> Result<(), Failure>
         requires countable { failed self.old < 2 ^ 64 - 1 }
         ensures bytes { Keeps (held self.old) (held self.new) }
@@ -42,8 +42,9 @@ pub trait Sink {
         ensures value { result ≡ failed self.now };
 }
 
-/// A writer, as a sink. It is settled where nothing was handed to the writer since a flush that did not fail.
-/// A write that is interrupted is made again, and is no failure; a flush that is interrupted is one.
+/// A writer, as a sink. It is settled if no bytes have been passed to the writer since the last
+/// successful flush. A write that is interrupted is tried again, and is not a failure; a flush that
+/// is interrupted is one.
 #[derive(Drop)]
 pub struct Writing<W> {
     inner: W,
@@ -52,7 +53,8 @@ pub struct Writing<W> {
 }
 
 impl<W> Writing<W> {
-    /// A sink that hands what it takes to that writer. It has not failed, and is not settled: the writer may hold bytes.
+    /// Creates a sink that passes what it takes to that writer. It has not failed, and is not
+    /// settled: the writer may hold bytes.
     pub fn new(inner: W) -> Writing<W>
         ensures inner { result.inner ≡ inner }
         ensures failures { result.failures ≡ 0 }
@@ -76,7 +78,8 @@ impl<W: Write> Sink for Writing<W> {
     fn write(&mut self, piece: &[u8]) -> Result<usize, Failure>
         requires countable { self.old.failures < 2 ^ 64 - 1 }
         ensures within { IfOk result (λ taken. taken ≤ length piece.now) }
-        ensures bytes { WriteAppends (W.contents self.old.inner) (W.contents self.new.inner) result piece.now }
+        ensures bytes { WriteAppends
+            (W.contents self.old.inner) (W.contents self.new.inner) result piece.now }
         ensures count { CountsWrites self.old.failures self.new.failures result piece.now }
         ensures unsettled { self.new.settled ≡ false }
     {
@@ -113,7 +116,7 @@ impl<W: Write> Sink for Writing<W> {
     }
 }
 
-// Writes again where it was interrupted.
+// Writes, and tries again whenever it is interrupted.
 fn write_uninterrupted<W: Write>(writer: &mut W, piece: &[u8]) -> Result<usize, Failure>
     ensures within { IfOk result (λ taken. taken ≤ length piece.now) }
     ensures bytes { WriteAppends (W.contents writer.old) (W.contents writer.new) result piece.now }

@@ -12,20 +12,20 @@ pub struct Failure;
 
 /// Gives bytes, and counts how often it fails.
 pub trait Source {
-    // The bytes that it will give from here on, where they are known.
+    // The bytes that it will still give, if they are known.
     ghost known: { Self → Option (List ℕ) };
 
     // How often it has failed.
     ghost failed: { Self → ℕ };
 
-    // Whether a read has told that its end has come.
+    // Whether a read has reported that its end was reached.
     ghost ended: { Self → Bool };
 
-    /// Puts its next bytes at the front of the buffer and answers how many. These may be fewer than
-    /// have room; it answers 0 for a buffer that is not empty only at its end.
+    /// Puts its next bytes at the front of the buffer and returns how many. These may be fewer than
+    /// fit. Returns 0 for a buffer that is not empty only at the end of the source.
     ///
-    /// Refuses `Failure` where it fails, which is counted, and then gives nothing. To be called where it
-    /// has failed fewer than 2^64 - 1 times so far.
+    /// Returns `Failure` if it fails; that is counted, and no bytes are given. Only to be called if
+    /// it has failed fewer than 2^64 - 1 times so far.
     fn read(&mut self, buffer: &mut [u8]) -> Result<usize, Failure>
         requires countable { failed self.old < 2 ^ 64 - 1 }
         ensures within { IfOk result (λ taken. taken ≤ length buffer.new) }
@@ -38,7 +38,8 @@ pub trait Source {
         ensures value { result ≡ failed self.now };
 }
 
-/// The bytes of a reader, as a source. A read that is interrupted is made again, and is no failure.
+/// The bytes of a reader, as a source. A read that is interrupted is tried again, and is not a
+/// failure.
 #[derive(Drop)]
 pub struct Reading<R> {
     inner: R,
@@ -47,7 +48,8 @@ pub struct Reading<R> {
 }
 
 impl<R> Reading<R> {
-    /// A source of what that reader gives. It has not failed, and its end has not come.
+    /// Creates a source of what that reader gives. It has not failed, and its end has not been
+    /// reached.
     pub fn new(inner: R) -> Reading<R>
         ensures inner { result.inner ≡ inner }
         ensures failures { result.failures ≡ 0 }
@@ -86,10 +88,11 @@ impl<R: Read> Source for Reading<R> {
     }
 }
 
-// Reads again where it was interrupted.
+// Reads, and tries again whenever it is interrupted.
 fn read_uninterrupted<R: Read>(reader: &mut R, buffer: &mut [u8]) -> Result<usize, Failure>
     ensures within { IfOk result (λ taken. taken ≤ length buffer.new) }
-    ensures bytes { ReadConsumes (R.remaining reader.old) (R.remaining reader.new) result buffer.new }
+    ensures bytes { ReadConsumes
+        (R.remaining reader.old) (R.remaining reader.new) result buffer.new }
 {
     for _ in 0..u64::MAX {
         match reader.read(buffer) {

@@ -11,11 +11,13 @@ ghost use Rattle.csa_record.specs.Starting.{gone};
 use csa_text::{kind_text, sign_of};
 use shogi_board::{Color, Hand, Kind, OutOfMemory, Piece, Position, Square};
 
-// Writes `PI` with the missing pieces of the even board, or else the ranks and the hands that are not empty.
+// Writes `PI` with the missing pieces of the even board, or else the ranks and the hands that are
+// not empty.
 pub(crate) fn write_start(out: &mut Vec<u8>, start: &Position) -> Result<(), OutOfMemory>
-    ensures { OnOk result (out.new.items ≡ out.old.items ++ flat_map ended_line (start_items start.now)) }
+    ensures { OnOk result
+        (out.new.items ≡ out.old.items ++ flat_map ended_line (start_items start.now)) }
 {
-    // this call's contract says that the board has 81 squares
+    // the contract of `side` says that the board has 81 squares
     let _ = start.side();
     if is_from_even(start) {
         return write_even(out, start);
@@ -47,7 +49,7 @@ fn count_held(hand: Hand) -> u32
         + hand.count(Kind::Pawn) as u32
 }
 
-// Whether each piece stands where the even board has it.
+// Whether each piece is where the even board has it.
 fn is_part_of_even(start: &Position) -> bool
     requires { length start.now.material.board ≡ 81 }
     ensures { result ≡ is_part_of start.now.material.board even_cells }
@@ -76,7 +78,9 @@ fn stands_in(cell: Option<Piece>, other: Option<Piece>) -> bool
 
 fn write_even(out: &mut Vec<u8>, start: &Position) -> Result<(), OutOfMemory>
     requires { length start.now.material.board ≡ 81 }
-    ensures { OnOk result (out.new.items ≡ out.old.items ++ ended_line (even (missing 0 even_cells start.now.material.board))) }
+    ensures { OnOk result
+        (out.new.items
+        ≡ out.old.items ++ ended_line (even (missing 0 even_cells start.now.material.board))) }
 {
     out.extend_from_slice(b"PI")?;
     write_missing(out, start)?;
@@ -84,11 +88,13 @@ fn write_even(out: &mut Vec<u8>, start: &Position) -> Result<(), OutOfMemory>
     Ok(())
 }
 
-// The pieces of the even board that are missing.
+// Writes a pair for each piece of the even board that the start lacks.
 #[tactic(auto, using(crate::proofs::StartText::text_at))]
 fn write_missing(out: &mut Vec<u8>, start: &Position) -> Result<(), OutOfMemory>
     requires { length start.now.material.board ≡ 81 }
-    ensures { OnOk result (out.new.items ≡ out.old.items ++ pairs_text (missing 0 even_cells start.now.material.board)) }
+    ensures { OnOk result
+        (out.new.items
+        ≡ out.old.items ++ pairs_text (missing 0 even_cells start.now.material.board)) }
 {
     let even = Position::even();
     for n in 0..81usize {
@@ -118,7 +124,9 @@ fn write_gone(
 }
 
 fn write_ranks(out: &mut Vec<u8>, start: &Position) -> Result<(), OutOfMemory>
-    ensures { OnOk result (out.new.items ≡ out.old.items ++ flat_map ended_line (rank_items start.now.material.board)) }
+    ensures { OnOk result
+        (out.new.items
+        ≡ out.old.items ++ flat_map ended_line (rank_items start.now.material.board)) }
 {
     for number in 1..10u8 {
         write_rank(out, start, number)?;
@@ -129,7 +137,9 @@ fn write_ranks(out: &mut Vec<u8>, start: &Position) -> Result<(), OutOfMemory>
 fn write_rank(out: &mut Vec<u8>, start: &Position, number: u8) -> Result<(), OutOfMemory>
     requires low { 1 ≤ number }
     requires high { number ≤ 9 }
-    ensures { OnOk result (out.new.items ≡ out.old.items ++ ended_line (rank number (rank_cells start.now.material.board number))) }
+    ensures { OnOk result
+        (out.new.items
+        ≡ out.old.items ++ ended_line (rank number (rank_cells start.now.material.board number))) }
 {
     out.push(b'P')?;
     out.push(b'0' + number)?;
@@ -142,7 +152,9 @@ fn write_rank(out: &mut Vec<u8>, start: &Position, number: u8) -> Result<(), Out
 fn write_cells(out: &mut Vec<u8>, start: &Position, number: u8) -> Result<(), OutOfMemory>
     requires low { 1 ≤ number }
     requires high { number ≤ 9 }
-    ensures { OnOk result (out.new.items ≡ out.old.items ++ flat_map cell_text (rank_cells start.now.material.board number)) }
+    ensures { OnOk result
+        (out.new.items
+        ≡ out.old.items ++ flat_map cell_text (rank_cells start.now.material.board number)) }
 {
     for i in 0..9usize {
         let square = Square::at_place((8 - i) * 9 + number as usize - 1);
@@ -164,7 +176,8 @@ fn write_cell(out: &mut Vec<u8>, cell: Option<Piece>) -> Result<(), OutOfMemory>
 
 // An empty hand has no line.
 fn write_hand(out: &mut Vec<u8>, color: Color, hand: Hand) -> Result<(), OutOfMemory>
-    ensures { OnOk result (out.new.items ≡ out.old.items ++ flat_map ended_line (hand_items color hand)) }
+    ensures { OnOk result
+        (out.new.items ≡ out.old.items ++ flat_map ended_line (hand_items color hand)) }
 {
     if count_held(hand) == 0 {
         return Ok(());
@@ -191,7 +204,8 @@ fn write_pairs(out: &mut Vec<u8>, hand: Hand) -> Result<(), OutOfMemory>
 }
 
 fn write_held(out: &mut Vec<u8>, kind: Kind, count: u8) -> Result<(), OutOfMemory>
-    ensures { OnOk result (out.new.items ≡ out.old.items ++ pairs_text (replicate count (InHand kind))) }
+    ensures { OnOk result
+        (out.new.items ≡ out.old.items ++ pairs_text (replicate count (InHand kind))) }
 {
     for _ in 0..count {
         out.extend_from_slice(b"00")?;

@@ -19,10 +19,10 @@ use std::alloc::Global;
 use std::collections::BTreeMap;
 use std::marker::Model;
 
-/// How many headers a record may have.
+/// The most headers that a record may have.
 pub const MAX_HEADERS: usize = 64;
 
-// What stands under a key.
+// The value of a header.
 #[derive(Drop)]
 enum HeaderText {
     Moment(Moment),
@@ -31,12 +31,12 @@ enum HeaderText {
 
 type Headers = BTreeMap<Vec<u8>, HeaderText>;
 
-/// What stands under a key: a moment, or another text.
+/// The value of a header: a moment, or any other text.
 #[derive(Clone, Copy, Debug, PartialEq, Eq)]
 pub enum HeaderValue<'a> {
-    /// The moment of `START_TIME` or `END_TIME`.
+    /// The moment of a `START_TIME` or `END_TIME`.
     Moment(Moment),
-    /// The text, which is not empty and stands on one line.
+    /// The text, which is not empty and has no CR or LF.
     Plain(&'a [u8]),
 }
 
@@ -56,13 +56,22 @@ impl Model for Titles {
 
     ghost Value = { Titled };
 
-    ghost view = { λ t. record { black = name_bytes t.black; white = name_bytes t.white; headers = entries_of t.headers.entries } };
+    ghost view = { λ t. record {
+      black = name_bytes t.black;
+      white = name_bytes t.white;
+      headers = entries_of t.headers.entries;
+    } };
 
-    ghost invariant = { λ t. IsTitled (record { black = name_bytes t.black; white = name_bytes t.white; headers = entries_of t.headers.entries }) };
+    ghost invariant = { λ t. IsTitled
+        (record {
+          black = name_bytes t.black;
+          white = name_bytes t.white;
+          headers = entries_of t.headers.entries;
+        }) };
 }
 
 impl Titles {
-    // No name and no header. It takes no memory.
+    // Titles with no name and no header. Allocates nothing.
     pub(crate) fn new(alloc: Global) -> Titles
         ensures { result ≡ untitled }
     {
@@ -74,7 +83,7 @@ impl Titles {
         }
     }
 
-    // Takes that side's name. An empty name is none.
+    // Takes that side's name. An empty name counts as none.
     pub(crate) fn set_name(&mut self, color: Color, text: &[u8]) -> Result<(), Why>
         requires one_line { IsOneLine text.now }
         requires fits { 2 + length text.now ≤ longest_statement }
@@ -107,7 +116,7 @@ impl Titles {
         Some(name.as_ref()?.as_slice())
     }
 
-    // Takes a header. One with an empty text is none.
+    // Takes a header. One with an empty text counts as none.
     pub(crate) fn set_header(&mut self, key: &[u8], text: &[u8]) -> Result<(), Why>
         requires some { key.now ≢ [] }
         requires key_line { IsOneLine key.now }
@@ -130,12 +139,13 @@ impl Titles {
         self.put(key, value)
     }
 
-    // Why a header of this key is refused, if its text is not empty.
+    // Why a header with this key is refused, if its text is not empty.
     fn order_fault(&self, key: &[u8]) -> Option<OrderFault>
         ensures fault { (text : List ℕ) → text ≢ [] → MatchOption result
             (header_fault self.now key.now text ≡ None)
             (λ fault. header_fault self.now key.now text ≡ Some (Why.Order fault)) }
-        ensures none { IfNone result ((under key.now self.now.headers ≡ []) × (length self.now.headers < most_headers)) }
+        ensures none { IfNone result
+            ((under key.now self.now.headers ≡ []) × (length self.now.headers < most_headers)) }
     {
         if self.headers.contains_key(key) {
             return Some(OrderFault::RepeatedHeader);
@@ -151,7 +161,9 @@ impl Titles {
         requires entry { IsEntry (entry_of key value) }
         requires new_key { under key.items self.old.headers ≡ [] }
         requires few { length self.old.headers < most_headers }
-        ensures ok { OnOk result (self.new ≡ record self.old { headers = with_entry self.old.headers (entry_of key value) }) }
+        ensures ok { OnOk result
+            (self.new
+            ≡ record self.old { headers = with_entry self.old.headers (entry_of key value) }) }
         ensures why { IfErr result (λ why. why ≡ Why.OutOfMemory) }
         ensures unchanged { OnErr result (self.new ≡ self.old) }
     {
@@ -161,11 +173,12 @@ impl Titles {
         }
     }
 
-    // What stands under this key, if something does.
+    // The value of this header, if there is one.
     pub(crate) fn header(&self, key: &[u8]) -> Option<HeaderValue<'_>>
         ensures { MatchOption result
             (under key.now self.now.headers ≡ [])
-            (λ value. under key.now self.now.headers ≡ record { key = key.now; text = shown value } ∷ []) }
+            (λ value. under key.now self.now.headers
+            ≡ record { key = key.now; text = shown value } ∷ []) }
     {
         match self.headers.get(key) {
             Some(HeaderText::Moment(moment)) => Some(HeaderValue::Moment(*moment)),
@@ -177,14 +190,17 @@ impl Titles {
     // Writes the lines of the names, black's first.
     pub(crate) fn write_names(&self, out: &mut Vec<u8>) -> Result<(), OutOfMemory>
         ensures { OnOk result (out.new.items ≡ out.old.items
-            ++ flat_map ended_line (name_items Black self.now.black ++ name_items White self.now.white)) }
+            ++ flat_map ended_line
+            (name_items Black self.now.black ++ name_items White self.now.white)) }
     {
         self.write_name(out, Color::Black)?;
         self.write_name(out, Color::White)
     }
 
     fn write_name(&self, out: &mut Vec<u8>, color: Color) -> Result<(), OutOfMemory>
-        ensures { OnOk result (out.new.items ≡ out.old.items ++ flat_map ended_line (name_items color (name_of self.now color))) }
+        ensures { OnOk result
+            (out.new.items
+            ≡ out.old.items ++ flat_map ended_line (name_items color (name_of self.now color))) }
     {
         let Some(name) = self.name(color) else {
             return Ok(());
@@ -197,7 +213,9 @@ impl Titles {
 
     // Writes the lines of the headers, in the order of their keys.
     pub(crate) fn write_headers(&self, out: &mut Vec<u8>) -> Result<(), OutOfMemory>
-        ensures { OnOk result (out.new.items ≡ out.old.items ++ flat_map ended_line (map header_item self.now.headers)) }
+        ensures { OnOk result
+            (out.new.items
+            ≡ out.old.items ++ flat_map ended_line (map header_item self.now.headers)) }
     {
         write_entries(out, &self.headers)
     }
@@ -205,8 +223,10 @@ impl Titles {
 
 // Sets a name that is not set yet.
 fn fill_name(alloc: Global, name: &mut Option<Vec<u8>>, text: &[u8]) -> Result<(), Why>
-    ensures ok { OnOk result ((name_bytes name.old ≡ None) × (name_bytes name.new ≡ Some text.now)) }
-    ensures why { IfErr result (λ why. (why ≡ Why.Order OrderFault.RepeatedName) × (is_some (name_bytes name.old) ≡ true)
+    ensures ok { OnOk result
+        ((name_bytes name.old ≡ None) × (name_bytes name.new ≡ Some text.now)) }
+    ensures why { IfErr result
+        (λ why. (why ≡ Why.Order OrderFault.RepeatedName) × (is_some (name_bytes name.old) ≡ true)
         ⊎ (why ≡ Why.OutOfMemory) × (name_bytes name.old ≡ None)) }
     ensures unchanged { OnErr result (name.new ≡ name.old) }
 {
@@ -227,7 +247,7 @@ fn copied(alloc: Global, bytes: &[u8]) -> Result<Vec<u8>, Why>
     Ok(copy)
 }
 
-// What the text says under this key.
+// The value that the text spells for this key.
 fn value_under(alloc: Global, key: &[u8], text: &[u8]) -> Result<HeaderText, Why>
     ensures ok { IfOk result (λ value. IsValue key.now text.now (text_of value)) }
     ensures err { IfErr result (λ why. why ≡ Why.OutOfMemory) }
@@ -238,7 +258,7 @@ fn value_under(alloc: Global, key: &[u8], text: &[u8]) -> Result<HeaderText, Why
     }
 }
 
-// The moment, where one may stand under this key and the text spells one.
+// The moment that the text spells, if the key may have one.
 fn moment_under(key: &[u8], text: &[u8]) -> Option<Moment>
     ensures { MatchOption result
         (IsMomentKey key.now → (m : CalendarMoment) → SpellsMoment text.now m → ⊥)
@@ -250,7 +270,7 @@ fn moment_under(key: &[u8], text: &[u8]) -> Option<Moment>
     read_moment(text)
 }
 
-// A moment may stand under this key.
+// Whether this key may have a moment as its value.
 fn is_moment_key(key: &[u8]) -> bool
     ensures { IsTrue result ↔ IsMomentKey key.now }
 {
@@ -258,7 +278,9 @@ fn is_moment_key(key: &[u8]) -> bool
 }
 
 fn write_entries(out: &mut Vec<u8>, headers: &Headers) -> Result<(), OutOfMemory>
-    ensures { OnOk result (out.new.items ≡ out.old.items ++ flat_map ended_line (map header_item (entries_of headers.now.entries))) }
+    ensures { OnOk result
+        (out.new.items
+        ≡ out.old.items ++ flat_map ended_line (map header_item (entries_of headers.now.entries))) }
 {
     for (key, text) in headers {
         out.push(b'$')?;

@@ -11,16 +11,16 @@ use csa_text::sign_of;
 use shogi_board::{Color, OutOfMemory};
 use std::alloc::Global;
 
-// How many bytes there is room for from the start: for what stands before the moves, and for each move with its time. Most
-// records take no more.
+// For how many bytes room is reserved at first: for what comes before the moves, and for each move
+// with its time. Most records need no more.
 const FRONT_ROOM: usize = 1024;
 
 const MOVE_ROOM: usize = 16;
 
-/// The canonical text of the record's game, LF after each line.
+/// Writes the canonical text of the record's game, in CSA V2.2, with an LF after each line.
 ///
-/// Two records have the same canonical text exactly if their games are the same, and the text tells
-/// the record's game. Refuses OutOfMemory.
+/// Two records have the same canonical text exactly if their games are the same, and `read` reads
+/// the text back as the record's game. Returns `OutOfMemory` if an allocation fails.
 pub fn write(alloc: Global, game: &Record) -> Result<Vec<u8>, OutOfMemory>
     ensures text { IfOk result (λ text. text.items ≡ canon game.now) }
     ensures read_back { IfOk result (λ text. Tells text.items game.now) }
@@ -28,7 +28,7 @@ pub fn write(alloc: Global, game: &Record) -> Result<Vec<u8>, OutOfMemory>
     let room = FRONT_ROOM + game.line().moves().len() * MOVE_ROOM;
     let mut text = Vec::with_capacity(alloc, room)?;
     write_lines(&mut text, game)?;
-    // a clause of `ending` says that it is a game
+    // the contract of `ending` says that it is a game
     let _ending = game.ending();
     Ok(text)
 }
@@ -47,7 +47,8 @@ fn write_lines(text: &mut Vec<u8>, game: &Record) -> Result<(), OutOfMemory>
 // The version, the names and the headers.
 fn write_titles(text: &mut Vec<u8>, game: &Record) -> Result<(), OutOfMemory>
     ensures { OnOk result (text.new.items ≡ text.old.items ++ flat_map ended_line (version
-        ∷ (name_items Black game.now.black ++ (name_items White game.now.white ++ map header_item game.now.headers)))) }
+        ∷ (name_items Black game.now.black
+        ++ (name_items White game.now.white ++ map header_item game.now.headers)))) }
 {
     text.extend_from_slice(b"V2.2\n")?;
     game.titles().write_names(text)?;

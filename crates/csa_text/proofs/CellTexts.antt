@@ -1,4 +1,4 @@
--- The cells of a rank are told by their texts, and how they are read.
+-- The cells of a rank are determined by their texts, and how they are read.
 use Rattle.std.proofs.Common.{◌≡◌, ◌≢◌, ℕ, ◌+◌, ◌*◌, ◌<◌, arith, List, [], ◌∷◌, ◌++◌, length, take, drop, get_or, Option, Some, None, MatchOption, refl, sym, ap, ◌∙◌, inl, inr, ◌⊎◌}
 use Rattle.std.specs.List.{flat_map}
 use Rattle.std.proofs.lemmas.List.{length-append}
@@ -60,7 +60,7 @@ cells_next bytes three i front next cell h is e more =
     front_more bytes 3 i ∙ ap (λ bs. bs ++ take 3 (drop (3 * i) bytes)) h ∙ ap (λ bs. flat_map cell_text front ++ bs) (sym is ∙ e)
     ∙ sym (texts_more cell_text front cell) ∙ ap (flat_map cell_text) (sym more)
 
--- nine cells' text, or that text less its last space
+-- the text of nine cells, or that text without its last space
 abbrev pub CellsOf : List ℕ → List (Option Piece) → Type 0
 CellsOf bytes cells = (bytes ≡ flat_map cell_text cells) ⊎ (bytes ++ 32 ∷ [] ≡ flat_map cell_text cells)
 

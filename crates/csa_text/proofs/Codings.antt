@@ -1,4 +1,5 @@
--- The signs and the names of endings are all different, and whether bytes are one of a list's texts is decided.
+-- The signs are all different, as are the names of endings; whether bytes are one of a list's texts
+-- is decided.
 use Rattle.std.proofs.Common.{◌≡◌, ℕ, List, [], ◌∷◌, Option, Some, None, refl, sym, ap, ◌∙◌, inl, inr, ◌⊎◌}
 use Rattle.std.specs.Prelude.{nat_eq}
 use Rattle.std.specs.Cmp.Lexicographic.{pointwise, same_text}

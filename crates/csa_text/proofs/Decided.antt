@@ -1,4 +1,4 @@
--- Whether bytes spell a text of the grammar's parts is decided.
+-- Whether bytes spell one of the grammar's parts is decided.
 use Rattle.std.proofs.Common.{◌≡◌, ◌≢◌, ℕ, zero, suc, ◌+◌, ◌-◌, ◌*◌, ◌^◌, ◌<◌, arith, List, [], ◌∷◌, ◌++◌, length, Option, Some, None, refl, sym, ap, ◌∙◌, subst, inl, inr, ◌⊎◌}
 use Rattle.std.specs.Prelude.{codes}
 use Rattle.std.specs.List.{flat_map}
@@ -46,7 +46,7 @@ same_or_not (x ∷ xs) (y ∷ ys) =
       | inr heads ↦ inr (λ e. let head : x ≡ y = cc in heads.1 head)
     ]
 
--- one byte, and what stands behind it
+-- one byte, and what follows it
 pub behind : (a : ℕ) (P : List ℕ → Type 0) → ((rest : List ℕ) → Decided (P rest)) → (bytes : List ℕ) → Decided ((rest : List ℕ) × (bytes ≡ a ∷ rest) × P rest)
 behind a P decide [] = inr (λ h. let e = h.1 in cc)
 behind a P decide (b ∷ bs) =
@@ -72,7 +72,7 @@ sign_or_not b =
       ]
     ]
 
--- a sign, and what stands behind it
+-- a sign, and what follows it
 pub behind_sign : (P : List ℕ → Type 0) → ((rest : List ℕ) → Decided (P rest)) → (bytes : List ℕ) → Decided ((color : Color) × (rest : List ℕ) × (bytes ≡ sign color ∷ rest) × P rest)
 behind_sign P decide [] = inr (λ h. let e = h.2 in cc)
 behind_sign P decide (b ∷ bs) =
@@ -84,7 +84,7 @@ behind_sign P decide (b ∷ bs) =
       ]
     ]
 
--- a text in which a byte stands, with what stands before the first one and behind it
+-- a text that contains a byte, with what comes before and after its first occurrence
 pub split_or_not : (mark : ℕ) (bytes : List ℕ) → ((front rest : List ℕ) × IsSplit mark bytes front rest) ⊎ HasNone mark bytes
 split_or_not mark [] = inr tt
 split_or_not mark (b ∷ bs) =
@@ -125,7 +125,7 @@ no_pair a b c d square zeros (On s k) e = let file : a ≡ 48 + file_of s = cc i
 no_pair a b c d square zeros (InHand k) e = let x : a ≡ 48 = cc in let y : b ≡ 48 = cc in zeros (ap (λ n. n ∷ b ∷ []) x ∙ ap (λ n. 48 ∷ n ∷ []) y)
 no_pair a b c d square zeros Rest e = let x : a ≡ 48 = cc in let y : b ≡ 48 = cc in zeros (ap (λ n. n ∷ b ∷ []) x ∙ ap (λ n. 48 ∷ n ∷ []) y)
 
--- no kind, and not `AL`, behind a square or `00`
+-- no kind, and not `AL`, after a square or `00`
 no_code : (a b c d : ℕ) → ((k : Kind) → c ∷ d ∷ [] ≡ kind_code k → ⊥) → (a ∷ b ∷ [] ≡ codes "00" → c ∷ d ∷ [] ≡ codes "AL" → ⊥) → (p : Pair) → a ∷ b ∷ c ∷ d ∷ [] ≡ pair_text p → ⊥
 no_code a b c d kinds rest (On s k) e = let code : c ∷ d ∷ [] ≡ kind_code k = cc in kinds k code
 no_code a b c d kinds rest (InHand k) e = let code : c ∷ d ∷ [] ≡ kind_code k = cc in kinds k code
@@ -205,7 +205,7 @@ on_board_or_not (p ∷ ps) =
       ]
     ]
 
--- pairs of a square and a kind alone
+-- pairs of a square and a kind only
 pub board_pairs_or_not : (bytes : List ℕ) → Decided ((ps : List Pair) × (bytes ≡ pairs_text ps) × AllOnBoard ps)
 board_pairs_or_not bytes =
     elim (pairs_or_not bytes) [

@@ -26,22 +26,22 @@ use Rattle.csa_text.specs.Spelling.{Spells, IsRank, fault_of_row, IsRead}
 use Rattle.csa_text.specs.declared.fault.TextFault.TheVariants.{BadPosition, BadTime}
 use Rattle.csa_text.specs.PairsOnce.{pairs_once}
 
--- behind `P`
+-- after `P`
 abbrev pub start_row : List ℕ → ℕ
 start_row [] = 10
 start_row (b ∷ bs) = if b == 73 then 3 else if b == 43 || b == 45 then 5 else if nat_lt 48 b && nat_lt b 58 then 4 else 10
 
--- behind a sign
+-- after a sign
 abbrev pub signed_row : List ℕ → ℕ
 signed_row [] = 6
 signed_row (b ∷ bs) = 7
 
--- behind `N`
+-- after `N`
 abbrev pub name_row : List ℕ → ℕ
 name_row [] = 10
 name_row (b ∷ bs) = if b == 43 || b == 45 then 1 else 10
 
--- the row that bytes belong to by how they begin; 10 is none
+-- the row that bytes belong to, by how they begin; 10 is none
 abbrev pub row_at : List ℕ → ℕ
 row_at [] = 10
 row_at (a ∷ rest) =
@@ -110,7 +110,7 @@ front_of (a ∷ b ∷ bs) text number low (inr e) =
 pub rank_whole : (bytes : List ℕ) (number : ℕ) (cells : List (Option Piece)) → IsRank bytes number cells → (rest : List ℕ) × (bytes ≡ 80 ∷ (48 + number) ∷ rest)
 rank_whole bytes number cells r = front_of bytes (flat_map cell_text cells) number r.low r.whole
 
--- each saying's bytes begin as its row does
+-- the bytes of each saying begin as its row does
 pub begins_so : (bytes : List ℕ) (s : Saying) → Spells bytes s → row_at bytes ≡ row_of s
 begins_so bytes version (inl e) = ap row_at e
 begins_so bytes version (inr (inl e)) = ap row_at e
@@ -205,7 +205,7 @@ same_fault : {T : Type 0} (told fault : TextFault) (found : Option T) → Err to
 same_fault told fault (Some x) e none = cc
 same_fault told fault None e none = cc
 
--- what a `?` answers where a part was not found
+-- what a `?` returns if a part was not found
 pub refused : {T : Type 0} (bytes : List ℕ) (found : Option T) (told fault : TextFault) (result : Result Item TextFault) → Err told ≡ ok_or found fault → found ≡ None → IsErrAnd result (λ e. e ≡ told) → ((saying : Saying) → Spells bytes saying → ⊥) → fault ≡ fault_of_row bytes → IsRead bytes result
 refused bytes found told fault (Ok item) e none h never row = absurd h
 refused bytes found told fault (Err given) e none h never row = (never, h ∙ same_fault told fault found e none ∙ row)

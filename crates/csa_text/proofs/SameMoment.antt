@@ -1,4 +1,4 @@
--- Moments compare as equal where their calendar moments are equal.
+-- Moments compare as equal if their calendar moments are equal.
 use Rattle.std.proofs.Common.{◌≡◌, ℕ, ◌==◌, Bool, true, false, ◌&&◌, Option, Some, None, IfSome, ℤ, pos, ◌≤ℤ◌, unsigned_abs, int_eq, refl, sym, ap, ◌∙◌}
 use Rattle.std.specs.Bool.{Decides}
 use Rattle.std.specs.Option.{option_eq}

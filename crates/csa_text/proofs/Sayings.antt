@@ -269,7 +269,7 @@ of_no_row bytes none (ending e) p = none.endings (e, p)
 abbrev Said : List ℕ → Type 0
 Said bytes = (s : Saying) × Spells bytes s
 
--- bytes spell something or nothing
+-- whether bytes spell something is decided
 pub spells_or_not : (bytes : List ℕ) → Said bytes ⊎ ((s : Saying) → Spells bytes s → ⊥)
 spells_or_not bytes =
     elim (version_or_not bytes) [

@@ -1,4 +1,4 @@
--- Lists written as texts of one length each: where each text lies.
+-- Lists written as texts of the same length: where each text is.
 use Rattle.std.proofs.Common.{◌≡◌, ℕ, zero, suc, ◌+◌, ◌*◌, ◌-◌, ◌<◌, arith, List, [], ◌∷◌, ◌++◌, length, take, drop, get_or, refl, sym, ap, ◌∙◌, append_assoc}
 use Rattle.std.specs.List.{flat_map, AllByRecursion}
 use Rattle.std.proofs.lemmas.List.{append-nil}
@@ -13,7 +13,7 @@ pub texts_length : {X : Type 0} (text : X → List ℕ) (width : ℕ) → HasWid
 texts_length text width h [] = omega arith
 texts_length text width h (x ∷ xs) = omega (arith, length-append (text x) (flat_map text xs), h x, texts_length text width h xs)
 
--- the i-th text lies behind i others
+-- the i-th text comes after i others
 pub text_at : {X : Type 0} (text : X → List ℕ) (width : ℕ) → HasWidth text width → (xs : List X) (i : ℕ) (d : X) → i < length xs → take width (drop (width * i) (flat_map text xs)) ≡ text (get_or xs i d)
 text_at text width h [] i d less = absurd (omega arith)
 text_at text width h (x ∷ xs) zero d less =
@@ -23,7 +23,7 @@ text_at text width h (x ∷ xs) (suc i) d less =
     let more : width * suc i ≡ length (text x) + width * i = omega (arith, h x) in
     rw (more, drop-append-add (text x) (flat_map text xs) (width * i)) (text_at text width h xs i d (omega arith))
 
--- with one text more
+-- with one more text
 pub texts_more : {X : Type 0} (text : X → List ℕ) (xs : List X) (x : X) → flat_map text (xs ++ x ∷ []) ≡ flat_map text xs ++ text x
 texts_more text [] x = append-nil (text x)
 texts_more text (y ∷ ys) x = ap (λ bs. text y ++ bs) (texts_more text ys x) ∙ sym (append_assoc (text y) (flat_map text ys) (text x))
@@ -41,7 +41,7 @@ pub all_from_each : {X : Type 0} (P : X → Type 0) (xs : List X) (d : X) → ((
 all_from_each P [] d h = tt
 all_from_each P (x ∷ xs) d h = (h 0 (omega arith), all_from_each P xs d (λ i less. h (suc i) (omega arith)))
 
--- the i-th width, as it is cut out
+-- the i-th width, as the code cuts it out
 pub cut_out : (bytes : List ℕ) (width i : ℕ) → take (width * i + width - width * i) (drop (width * i) bytes) ≡ take width (drop (width * i) bytes)
 cut_out bytes width i = let one : width * i + width - width * i ≡ width = omega arith in rw one refl
 

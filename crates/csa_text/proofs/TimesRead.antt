@@ -1,4 +1,4 @@
--- How a time is read, and that bytes spell one time at most.
+-- How a time is read, and that bytes spell at most one time.
 use Rattle.std.proofs.Common.{◌≡◌, ℕ, ◌+◌, ◌*◌, ◌-◌, ◌^◌, ◌<◌, ◌≤◌, arith, List, length, take, get_or, sym, ap, ◌∙◌, inl, inr}
 use Rattle.std.proofs.lemmas.Int.Digits.{digits_value_more}
 use Rattle.std.proofs.lemmas.Str.Parse.{digits_value-take-le}
@@ -8,7 +8,7 @@ use Rattle.csa_text.specs.Fields.{HasNone, IsSplit}
 use Rattle.csa_text.specs.TimeTexts.{IsSeconds, IsFraction, HasFraction, IsTime}
 use Rattle.csa_text.proofs.Moments.{none_of, no_split, split_same}
 
--- the digits so far and the next one are no more than all of them
+-- the digits so far with the next one have no larger value than all of them
 pub so_far : (bytes : List ℕ) (i : ℕ) → i < length bytes → digits_value 10 (take i bytes) * 10 + digit_value (get_or bytes i 0) ≤ digits_value 10 bytes
 so_far bytes i less = omega (arith, digits_value_more 10 bytes i less, digits_value-take-le 10 bytes (i + 1) (omega arith))
 

@@ -40,7 +40,7 @@ abbrev pub cell_text : Option Piece → List ℕ
 cell_text None = codes " * "
 cell_text (Some p) = sign p.color ∷ kind_code p.kind
 
--- the square left, or `00` for a drop; the target; and the kind after the move
+-- the square that the piece leaves, or `00` for a drop; the target; and the kind after the move
 abbrev pub squares_text : Move → List ℕ
 squares_text (Walk from to after) = square_text from ++ (square_text to ++ kind_code after)
 squares_text (Put to dropped) = codes "00" ++ (square_text to ++ kind_code dropped)

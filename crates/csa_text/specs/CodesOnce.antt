@@ -1,5 +1,6 @@
--- The codes of kinds are all different, and squares are told by their digits: so that the bytes of `Pairs` are one list of pairs.
--- These are lemmas, which the type of `Pairs` needs; a reader of the grammar may skip them.
+-- Lemmas that the type of `Pairs` needs: no two kinds have the same code, and no two squares the
+-- same digits, so the bytes of `Pairs` are one list of pairs. A reader of the grammar may skip this
+-- file.
 use Rattle.std.proofs.Common.{◌≡◌, ℕ, ◌+◌, arith, List, [], ◌∷◌, Option, Some, None, refl, sym, ap, ◌∙◌, length}
 use Rattle.std.specs.Prelude.{nat_eq, if◌then◌else◌, codes}
 use Rattle.std.specs.Cmp.Lexicographic.{pointwise}
@@ -10,20 +11,24 @@ use Rattle.shogi_board.specs.Squares.{file_of, rank_of}
 use Rattle.shogi_board.proofs.Squares.{square-same}
 use Rattle.csa_text.specs.Codes.{kind_code}
 
--- the first of the list with this text
+-- the first element of the list with this text
 abbrev pub found_by : {X : Type 0} → (X → List ℕ) → List X → List ℕ → Option X
 found_by text [] bytes = None
-found_by text (x ∷ xs) bytes = if pointwise nat_eq (text x) bytes then Some x else found_by text xs bytes
+found_by text (x ∷ xs) bytes =
+    if pointwise nat_eq (text x) bytes then Some x else found_by text xs bytes
 
--- each is found by its text: so no two have one
-pub text_once : {X : Type 0} (text : X → List ℕ) (xs : List X) → ((x : X) → found_by text xs (text x) ≡ Some x) → (a b : X) → text a ≡ text b → a ≡ b
+-- if each element is found by its text, no two have the same text
+pub text_once : {X : Type 0} (text : X → List ℕ) (xs : List X)
+    → ((x : X) → found_by text xs (text x) ≡ Some x) → (a b : X) → text a ≡ text b → a ≡ b
 text_once text xs all a b e = let same : Some a ≡ Some b = sym (all a) ∙ ap (found_by text xs) e ∙ all b in cc
 
 abbrev pub all_kinds : List Kind
-all_kinds = Pawn ∷ Lance ∷ Knight ∷ Silver ∷ Gold ∷ Bishop ∷ Rook ∷ King ∷ ProPawn ∷ ProLance ∷ ProKnight ∷ ProSilver ∷ Horse ∷ Dragon ∷ []
+all_kinds =
+    Pawn ∷ Lance ∷ Knight ∷ Silver ∷ Gold ∷ Bishop ∷ Rook ∷ King ∷ ProPawn ∷ ProLance ∷ ProKnight ∷ ProSilver ∷ Horse ∷ Dragon ∷ []
 
 -- the code of a kind has two bytes, and the kind is found by it
-kind_read : (k : Kind) → (found_by kind_code all_kinds (kind_code k) ≡ Some k) × (length (kind_code k) ≡ 2)
+kind_read : (k : Kind)
+    → (found_by kind_code all_kinds (kind_code k) ≡ Some k) × (length (kind_code k) ≡ 2)
 kind_read Pawn = (refl, refl)
 kind_read Lance = (refl, refl)
 kind_read Knight = (refl, refl)
@@ -52,7 +57,8 @@ kind_once a b e = text_once kind_code all_kinds kind_found a b e
 pub no_rest_kind : (k : Kind) → kind_code k ≡ codes "AL" → ⊥
 no_rest_kind k e = let none : Some k ≡ None = sym (kind_found k) ∙ ap (found_by kind_code all_kinds) e in cc
 
-pub square_once : (a b : Square) → 48 + file_of a ≡ 48 + file_of b → 48 + rank_of a ≡ 48 + rank_of b → a ≡ b
+pub square_once : (a b : Square) → 48 + file_of a ≡ 48 + file_of b
+    → 48 + rank_of a ≡ 48 + rank_of b → a ≡ b
 square_once a b f r = square-same a b (omega (arith, f)) (omega (arith, r))
 
 -- no square has the digit 0

@@ -1,9 +1,9 @@
--- Numbers in digits, and texts that a mark parts.
+-- Numbers in digits, and texts that a mark separates.
 use Rattle.std.specs.Prelude.{◌≡◌, ℕ, ◌≤◌, ◌==◌, false, List, ◌∷◌, ◌++◌, length}
 use Rattle.std.specs.List.{AllByRecursion}
 use Rattle.std.specs.Str.Parse.{AllDigits, digits_value}
 
--- at least and at most so many decimal digits, with this value
+-- decimal digits, at least `fewest` and at most `most`, with this value
 pub record IsNumber (fewest most : ℕ) (digits : List ℕ) (value : ℕ) : Type 0 where
   pub few : fewest ≤ length digits
   pub many : length digits ≤ most
@@ -14,6 +14,6 @@ pub record IsNumber (fewest most : ℕ) (digits : List ℕ) (value : ℕ) : Type
 abbrev pub HasNone : ℕ → List ℕ → Type 0
 HasNone mark bytes = AllByRecursion (λ b. (b == mark) ≡ false) bytes
 
--- what stands before and behind the first byte of this value
+-- what comes before and after the first byte of this value
 abbrev pub IsSplit : ℕ → List ℕ → List ℕ → List ℕ → Type 0
 IsSplit mark bytes front rest = (bytes ≡ front ++ mark ∷ rest) × HasNone mark front

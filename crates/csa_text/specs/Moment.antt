@@ -16,8 +16,10 @@ pub record CalendarMoment : Type 0 where
   pub day : ℕ
   pub time : Option TimeOfDay
 
--- three numbers with this mark between: the first of at least and at most so many digits, the others of at least so many and at most two
-pub record AreNumbers (mark fewest most others : ℕ) (bytes : List ℕ) (first second third : ℕ) : Type 0 where
+-- three numbers with this mark between: the first of at least `fewest` and at most `most` digits,
+-- each other of at least `others` and at most two
+pub record AreNumbers (mark fewest most others : ℕ) (bytes : List ℕ)
+    (first second third : ℕ) : Type 0 where
   pub front : List ℕ
   pub middle : List ℕ
   pub back : List ℕ
@@ -28,7 +30,8 @@ pub record AreNumbers (mark fewest most others : ℕ) (bytes : List ℕ) (first 
 
 -- four digits, `/`, one or two digits, `/`, one or two digits: a day that the calendar has
 abbrev pub SpellsDate : List ℕ → ℕ → ℕ → ℕ → Type 0
-SpellsDate bytes year month day = AreNumbers 47 4 4 1 bytes year month day × IsCivilDate (pos year) month day
+SpellsDate bytes year month day = AreNumbers 47 4 4 1 bytes year month day
+    × IsCivilDate (pos year) month day
 
 -- one or two digits, `:`, two digits, `:`, two digits
 abbrev pub SpellsTime : List ℕ → ℕ → ℕ → ℕ → Type 0
@@ -73,4 +76,10 @@ time_of (Some t) = Some (record { hour = t.hour; minute = t.minute; second = t.s
 
 -- a moment of the program, by its numbers
 abbrev pub moment_of : Moment → CalendarMoment
-moment_of m = record { year = unsigned_abs m.date.year; month = m.date.month; day = m.date.day; time = time_of m.time }
+moment_of m =
+    record {
+      year = unsigned_abs m.date.year;
+      month = m.date.month;
+      day = m.date.day;
+      time = time_of m.time;
+    }

@@ -1,4 +1,4 @@
--- How CSA writes the pieces behind `PI`, `P+` and `P-`: pairs of four bytes.
+-- How CSA writes the pieces after `PI`, `P+` and `P-`: pairs of four bytes.
 use Rattle.std.specs.Prelude.{ℕ, List, ◌++◌, codes}
 use Rattle.std.specs.List.{AllByRecursion, flat_map}
 use Rattle.csa_text.specs.Codes.{square_text, kind_code}
@@ -19,6 +19,6 @@ IsOnBoard (On square of_kind) = Unit {0}
 IsOnBoard (InHand of_kind) = ⊥
 IsOnBoard Rest = ⊥
 
--- each pair has a square, as `PI` wants it
+-- each pair has a square, as `PI` requires
 abbrev pub AllOnBoard : List Pair → Type 0
 AllOnBoard pairs = AllByRecursion IsOnBoard pairs

@@ -1,5 +1,5 @@
--- Bytes are the text of one list of pairs at most.
--- These are lemmas, which the type of `Pairs` needs; a reader of the grammar may skip them.
+-- Lemmas that the type of `Pairs` needs: bytes are the text of at most one list of pairs. A reader
+-- of the grammar may skip this file.
 use Rattle.std.proofs.Common.{◌≡◌, ℕ, ◌+◌, arith, List, [], ◌∷◌, ◌++◌, refl, sym, ap, ◌∙◌, length, take, drop, subst}
 use Rattle.std.proofs.Math.Seq.{take-append_seam, drop-append_seam}
 use Rattle.std.proofs.Props.{props}
@@ -32,7 +32,7 @@ pair_once Rest (On t l) e = let zero_file : 48 + file_of t ≡ 48 = cc in absurd
 pair_once Rest (InHand l) e = let code : kind_code l ≡ codes "AL" = cc in absurd (no_rest_kind l code)
 pair_once Rest Rest e = refl
 
--- two fronts of one length are one, and so is what stands behind them
+-- two fronts of the same length are equal, and so is what follows them
 pub same_split : (a b x y : List ℕ) → length a ≡ length b → a ++ x ≡ b ++ y → (a ≡ b) × (x ≡ y)
 same_split a b x y h e = (
   sym (take-append_seam a x) ∙ ap (take (length a)) e ∙ ap (λ n. take n (b ++ y)) h ∙ take-append_seam b y,
@@ -53,7 +53,7 @@ pairs_once (p ∷ ps) (q ∷ qs) e =
 texts-prop : (a b : List ℕ) (e f : a ≡ b) → e ≡ f
 texts-prop a b = let p : IsProp (a ≡ b) = hlevel props in p
 
--- there is one such list at most
+-- there is at most one such list
 pub pairs-prop : (bytes : List ℕ) → IsProp ((pairs : List Pair) × (bytes ≡ pairs_text pairs))
 pairs-prop bytes (ps, e) (qs, f) =
     let same : ps ≡ qs = pairs_once ps qs (sym e ∙ f) in

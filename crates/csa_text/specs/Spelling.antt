@@ -17,7 +17,7 @@ use Rattle.csa_text.specs.TimeTexts.{IsTime}
 abbrev pub rank_text : ℕ → List (Option Piece) → List ℕ
 rank_text number cells = codes "P" ++ (48 + number) ∷ flat_map cell_text cells
 
--- nine cells; the last one, where it is empty, may lack its last space
+-- nine cells; if the last one is empty, its last space may be missing
 pub record IsRank (bytes : List ℕ) (number : ℕ) (cells : List (Option Piece)) : Type 0 where
   pub low : 1 ≤ number
   pub high : number ≤ 9
@@ -41,7 +41,8 @@ Spells bytes (rank number cells) = IsRank bytes number cells
 Spells bytes (pieces color pairs) = bytes ≡ codes "P" ++ sign color ∷ pairs_text pairs
 Spells bytes (turn color) = bytes ≡ sign color ∷ []
 Spells bytes (walked color m) = bytes ≡ move_text color m
-Spells bytes (time thousandths) = (text : List ℕ) × (bytes ≡ codes "T" ++ text) × IsTime text thousandths
+Spells bytes (time thousandths) = (text : List ℕ) × (bytes ≡ codes "T" ++ text)
+    × IsTime text thousandths
 Spells bytes (ending e) = bytes ≡ codes "%" ++ ending_name e
 
 -- `PI`, `P+`, `P-` or `P1` to `P9`
@@ -51,7 +52,8 @@ begins_position (first ∷ []) = false
 begins_position (first ∷ next ∷ rest) =
     first == 80 && (next == 73 || next == 43 || next == 45 || (nat_le 49 next && nat_le next 57))
 
--- the fault of bytes that spell nothing, by how they begin: `V`, `$`, `P` as above, `+` or `-`, `T`, `%`
+-- the fault of bytes that spell nothing, by how they begin: `V`, `$`, `P` as above, `+` or `-`,
+-- `T`, `%`
 abbrev pub fault_of_row : List ℕ → TextFault
 fault_of_row bytes =
     if begins_with 86 bytes then BadVersion
@@ -62,7 +64,7 @@ fault_of_row bytes =
     else if begins_with 37 bytes then UnknownEnding
     else Unknown
 
--- the item that the bytes spell, or the fault of their row where they spell none
+-- the item that the bytes spell, or the fault of their row if they spell none
 abbrev pub IsRead : List ℕ → Result Item TextFault → Type 0
 IsRead bytes result = MatchResult result
     (λ item. Spells bytes (saying_of item))

@@ -6,7 +6,7 @@ use Rattle.csa_text.specs.Fields.{IsNumber}
 abbrev pub IsSeconds : List ℕ → ℕ → Type 0
 IsSeconds digits seconds = IsNumber 1 (length digits) digits seconds × (seconds ≤ 4294967295)
 
--- one to three digits behind the point: `5` is 500 thousandths, and `05` is 50
+-- one to three digits after the point: `5` is 500 thousandths, and `05` is 50
 abbrev pub IsFraction : List ℕ → ℕ → Type 0
 IsFraction digits thousandths =
     (value : ℕ) × IsNumber 1 3 digits value × (thousandths ≡ value * 10 ^ (3 - length digits))

@@ -13,9 +13,10 @@ pub fn sign_of(color: Color) -> u8
     }
 }
 
-// The side of this sign.
+// The side with this sign.
 pub(crate) fn read_sign(byte: u8) -> Option<Color>
-    ensures { MatchOption result ((color : Color) → byte ≡ sign color → ⊥) (λ color. byte ≡ sign color) }
+    ensures { MatchOption result ((color : Color) → byte ≡ sign color → ⊥)
+        (λ color. byte ≡ sign color) }
 {
     match byte {
         b'+' => Some(Color::Black),
@@ -24,7 +25,7 @@ pub(crate) fn read_sign(byte: u8) -> Option<Color>
     }
 }
 
-// The square of this file and rank, two digits.
+// The square with this file and rank, two digits.
 #[inline(always)]
 pub(crate) fn read_square(bytes: &[u8]) -> Option<Square>
     ensures { MatchOption result
@@ -37,7 +38,7 @@ pub(crate) fn read_square(bytes: &[u8]) -> Option<Square>
     Square::new(file.checked_sub(b'0')?, rank.checked_sub(b'0')?)
 }
 
-// The kind of this code.
+// The kind with this code.
 #[inline(always)]
 pub(crate) fn read_kind(code: &[u8]) -> Option<Kind>
     ensures { MatchOption result
@@ -63,7 +64,8 @@ pub(crate) fn read_kind(code: &[u8]) -> Option<Kind>
     }
 }
 
-/// The two letters of a kind in CSA V2.2: `FU` of a pawn, `RY` of a dragon. `read_item` reads them as that kind again.
+/// The two letters of a kind in CSA V2.2, such as `FU` for a pawn and `RY` for a dragon.
+/// `read_item` reads them back as that kind.
 pub fn kind_text(kind: Kind) -> &'static str
     ensures code { result.now ≡ kind_code kind }
 {

@@ -1,12 +1,12 @@
 ghost use Rattle.std.specs.Prelude.{◌≡◌, MatchOption};
 ghost use Rattle.csa_text.specs.Endings.{ending_name};
 
-/// How a game ended, as the record says it: the special moves of CSA V2.2 that are read.
+/// How a game ended according to its record: the special moves of CSA V2.2 that are read.
 #[derive(Clone, Copy, Debug, PartialEq, Eq)]
 pub enum Ending {
     /// `%TORYO`: the side to move resigned.
     Toryo,
-    /// `%CHUDAN`: the game was broken off.
+    /// `%CHUDAN`: the game was interrupted.
     Chudan,
     /// `%SENNICHITE`: a draw by repetition.
     Sennichite,
@@ -55,7 +55,7 @@ const ENDINGS: [Ending; 15] = [
 ];
 
 impl Ending {
-    /// What stands behind the `%` of this ending.
+    /// The text after the `%` of this ending.
     pub fn name(self) -> &'static str
         ensures name { result.now ≡ ending_name self }
     {
@@ -79,7 +79,7 @@ impl Ending {
     }
 }
 
-// The ending of this name, which stands behind the `%`.
+// The ending with this name, the text after the `%`.
 pub(crate) fn read_ending(name: &[u8]) -> Option<Ending>
     ensures { MatchOption result
         ((ending : Ending) → name.now ≡ ending_name ending → ⊥)

@@ -1,15 +1,17 @@
 ghost use Rattle.std.specs.Prelude.{◌≡◌, ℕ, ◌+◌, ◌*◌, ◌<◌, ◌≤◌, ◌^◌, length, MatchOption, IfSome};
 ghost use Rattle.csa_text.specs.Fields.{IsNumber, HasNone, IsSplit};
 
-// What stands before the first byte of this value, and what stands behind it.
+// What comes before the first byte of this value, and what follows it.
 pub(crate) fn split_at_byte(bytes: &[u8], mark: u8) -> Option<(&[u8], &[u8])>
-    ensures { MatchOption result (HasNone mark bytes.now) (λ r. IsSplit mark bytes.now r.0.now r.1.now) }
+    ensures { MatchOption result (HasNone mark bytes.now)
+        (λ r. IsSplit mark bytes.now r.0.now r.1.now) }
 {
     let at = bytes.iter().position(|b| *b == mark)?;
     Some((&bytes[..at], &bytes[at + 1..]))
 }
 
-// The number that the bytes spell in at least and at most so many digits.
+// The number that the bytes spell, if they are that many decimal digits: at least `fewest`, at most
+// `most`.
 pub(crate) fn read_number(bytes: &[u8], fewest: usize, most: usize) -> Option<u16>
     requires { most ≤ 4 }
     ensures value { MatchOption result
@@ -23,7 +25,7 @@ pub(crate) fn read_number(bytes: &[u8], fewest: usize, most: usize) -> Option<u1
     Some(read_digits(bytes)? as u16)
 }
 
-// The number that the bytes spell in decimal digits, 0 where there are none, unless it passes
+// The number that the bytes spell in decimal digits, 0 if there are none, or `None` if it is above
 // 4,294,967,295.
 pub(crate) fn read_digits(bytes: &[u8]) -> Option<u32>
     ensures { MatchOption result
@@ -38,9 +40,10 @@ pub(crate) fn read_digits(bytes: &[u8]) -> Option<u32>
     Some(value)
 }
 
-// The number with one digit more behind it, unless it passes 4,294,967,295.
+// The number with one more digit at its end, or `None` if it is above 4,294,967,295.
 fn with_digit(number: u32, digit: u32) -> Option<u32>
-    ensures { MatchOption result (4294967295 < number * 10 + digit) (λ n. (n ≡ number * 10 + digit) × (n ≤ 4294967295)) }
+    ensures { MatchOption result (4294967295 < number * 10 + digit)
+        (λ n. (n ≡ number * 10 + digit) × (n ≤ 4294967295)) }
 {
     number.checked_mul(10)?.checked_add(digit)
 }

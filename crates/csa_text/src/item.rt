@@ -13,7 +13,7 @@ use crate::time::read_time;
 use shogi_board::{Color, Piece};
 use shogi_rules::Move;
 
-/// What a statement says. It borrows the statement.
+/// What a statement says. It borrows from the statement.
 #[derive(Clone, Copy, Debug, PartialEq, Eq)]
 pub enum Item<'a> {
     /// `V2`, `V2.1` or `V2.2`.
@@ -22,7 +22,7 @@ pub enum Item<'a> {
     Name(Color, &'a [u8]),
     /// `$`, the key, `:` and the text. The key is not empty and ends at the first colon.
     Header(&'a [u8], &'a [u8]),
-    /// `PI`: the even start, less the pieces of the pairs, each of a square and a kind.
+    /// `PI`: the even start, without the pieces of the pairs. Each pair is a square and a kind.
     Even(Pairs<'a>),
     /// `P1` to `P9`: the number of the rank, and its cells from file 9 to file 1.
     Rank(u8, [Option<Piece>; 9]),
@@ -30,20 +30,20 @@ pub enum Item<'a> {
     Pieces(Color, Pairs<'a>),
     /// `+` or `-` alone: the side to move.
     Turn(Color),
-    /// A move of that side, `+7776FU`, or a drop, `+0055FU`. Any of the 14 kinds may stand in it.
+    /// A move by that side, `+7776FU`, or a drop, `+0055FU`. Any of the 14 kinds may occur in it.
     Walked(Color, Move),
-    /// `T` and the time that the move or the ending before it took, in thousandths of a second.
+    /// `T` and the time that the preceding move or ending took, in thousandths of a second.
     Time(u64),
     /// `%` and how the game ended.
     Ending(Ending),
 }
 
-/// What the bytes of one statement spell, or the fault of their row of the grammar.
+/// Reads the bytes of one `Statement` as an item of CSA V2.2.
 ///
-/// The bytes are those of a `Statement`. The fault is given by how they begin: `BadVersion` for `V`,
-/// `BadHeader` for `$`, `BadPosition` for `PI`, `P+`, `P-` and `P1` to `P9`, `BadMove` for `+` and
-/// `-`, `BadTime` for `T`, `UnknownEnding` for `%`, and `Unknown` for all else. `StatementTooLong`
-/// is the cutter's and is never answered.
+/// Refuses bytes that are no item, by how they begin: with `BadVersion` for `V`, `BadHeader` for
+/// `$`, `BadPosition` for `PI`, `P+`, `P-` and `P1` to `P9`, `BadMove` for `+` and `-`, `BadTime`
+/// for `T`, `UnknownEnding` for `%`, and `Unknown` for anything else. Never returns
+/// `StatementTooLong`, which is for the cutter to report.
 #[inline(always)]
 pub fn read_item(bytes: &[u8]) -> Result<Item<'_>, TextFault>
     ensures item { IfOk result (λ item. Spells bytes.now (saying_of item)) }
@@ -63,7 +63,7 @@ pub fn read_item(bytes: &[u8]) -> Result<Item<'_>, TextFault>
     }
 }
 
-// Behind `V`.
+// After `V`.
 fn read_version(number: &[u8]) -> Result<Item<'_>, TextFault>
     ensures { IsRead (86 ∷ number.now) result }
 {
@@ -73,7 +73,7 @@ fn read_version(number: &[u8]) -> Result<Item<'_>, TextFault>
     }
 }
 
-// Behind `N`.
+// After `N`.
 fn read_name(name: &[u8]) -> Result<Item<'_>, TextFault>
     ensures { IsRead (78 ∷ name.now) result }
 {
@@ -84,7 +84,7 @@ fn read_name(name: &[u8]) -> Result<Item<'_>, TextFault>
     }
 }
 
-// Behind `$`.
+// After `$`.
 fn read_header(line: &[u8]) -> Result<Item<'_>, TextFault>
     ensures { IsRead (36 ∷ line.now) result }
 {
@@ -95,7 +95,7 @@ fn read_header(line: &[u8]) -> Result<Item<'_>, TextFault>
     Ok(Item::Header(key, text))
 }
 
-// Behind `P`.
+// After `P`.
 fn read_position(start: &[u8]) -> Result<Item<'_>, TextFault>
     ensures { IsRead (80 ∷ start.now) result }
 {
@@ -111,7 +111,7 @@ fn read_position(start: &[u8]) -> Result<Item<'_>, TextFault>
     }
 }
 
-// Behind `PI`.
+// After `PI`.
 fn read_even(pairs: &[u8]) -> Result<Item<'_>, TextFault>
     ensures { IsRead (80 ∷ 73 ∷ pairs.now) result }
 {
@@ -122,7 +122,7 @@ fn read_even(pairs: &[u8]) -> Result<Item<'_>, TextFault>
     Ok(Item::Even(pairs))
 }
 
-// Behind `P` and the sign.
+// After `P` and the sign.
 fn read_pieces(color: Color, pairs: &[u8]) -> Result<Item<'_>, TextFault>
     ensures { IsRead (80 ∷ sign color ∷ pairs.now) result }
 {
@@ -130,7 +130,7 @@ fn read_pieces(color: Color, pairs: &[u8]) -> Result<Item<'_>, TextFault>
     Ok(Item::Pieces(color, pairs))
 }
 
-// Behind a sign.
+// After a sign.
 fn read_signed(color: Color, squares: &[u8]) -> Result<Item<'_>, TextFault>
     ensures { IsRead (sign color ∷ squares.now) result }
 {
@@ -141,7 +141,7 @@ fn read_signed(color: Color, squares: &[u8]) -> Result<Item<'_>, TextFault>
     Ok(Item::Walked(color, m))
 }
 
-// Behind `T`.
+// After `T`.
 #[inline(always)]
 fn read_time_item(text: &[u8]) -> Result<Item<'_>, TextFault>
     ensures { IsRead (84 ∷ text.now) result }
@@ -150,7 +150,7 @@ fn read_time_item(text: &[u8]) -> Result<Item<'_>, TextFault>
     Ok(Item::Time(thousandths))
 }
 
-// Behind `%`.
+// After `%`.
 fn read_ending_item(name: &[u8]) -> Result<Item<'_>, TextFault>
     ensures { IsRead (37 ∷ name.now) result }
 {

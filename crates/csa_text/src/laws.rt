@@ -1,4 +1,5 @@
-//! Laws of the definitions that the contracts of this crate cite. They take and give nothing.
+//! Laws of the definitions that this crate's contracts cite. The functions take no arguments and
+//! return nothing: their contracts are what is proved.
 
 ghost use Rattle.std.specs.Prelude.{◌≡◌, ℕ, List, ◌↔◌, true};
 ghost use Rattle.csa_text.specs.Moment.{CalendarMoment, SpellsMoment, moment_of};
@@ -8,18 +9,20 @@ ghost use Rattle.csa_text.specs.declared.calendar.Moment.{Moment};
 
 use crate::calendar::Moment;
 
-/// The bytes of a statement spell one thing at most.
+/// The bytes of a statement say at most one thing.
 pub fn spelt_once()
     ensures saying { (bytes : List ℕ) (a b : Saying) → Spells bytes a → Spells bytes b → a ≡ b }
 {}
 
-/// Bytes spell one moment at most.
+/// Bytes spell at most one moment.
 pub fn moment_once()
-    ensures moment { (bytes : List ℕ) (a b : CalendarMoment) → SpellsMoment bytes a → SpellsMoment bytes b → a ≡ b }
+    ensures moment { (bytes : List ℕ) (a b : CalendarMoment) → SpellsMoment bytes a
+        → SpellsMoment bytes b → a ≡ b }
 {}
 
-/// Two moments are equal exactly where their calendar moments are: so however a moment is spelt, it
-/// is one.
+/// Two moments are equal exactly if their calendar moments are. So all spellings of one moment are
+/// read as the same value.
 pub fn equal_moments()
-    ensures equal { (p q : Moment) → (⟦<Moment as PartialEq>⟧.eq p q ≡ true) ↔ (moment_of p ≡ moment_of q) }
+    ensures equal { (p q : Moment) → (⟦<Moment as PartialEq>⟧.eq p q ≡ true)
+        ↔ (moment_of p ≡ moment_of q) }
 {}

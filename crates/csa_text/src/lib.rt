@@ -1,7 +1,16 @@
-//! What the statements of CSA records spell. How bytes are cut into statements stands in `csa_cutting`, whose types this crate
-//! hands on.
+//! Reads what the statements of CSA records say, and writes moves and moments in the same form.
 //!
-//! The grammar is that of CSA V2.2, in the profile of this project (`docs/CSA.md`).
+//! The grammar is that of CSA V2.2, as `docs/CSA.md` restricts it. `csa_cutting` cuts bytes into
+//! statements, and this crate re-exports its types. `read_item` reads one statement into an `Item`,
+//! which borrows from it, or says by a `TextFault` which row of the grammar the statement breaks.
+//!
+//! ```text
+//! match read_item(statement.bytes)? {
+//!     Item::Walked(color, m) => println!(rt; "{}", csa_move(color, &m).as_str())?,
+//!     Item::Time(thousandths) => println!(rt; "{} s", thousandths / 1000)?,
+//!     _ => {}
+//! }
+//! ```
 #![tactic(auto)]
 
 mod calendar;
@@ -20,9 +29,7 @@ mod time;
 
 pub use calendar::Moment;
 pub use codes::{kind_text, sign_of};
-pub use csa_cutting::{
-    Cut, CutFault, Cutter, LONGEST_STATEMENT, LineCutter, LineFault, PieceCutter, Statement,
-};
+pub use csa_cutting::{Cut, CutFault, Cutter, LineCutter, LineFault, PieceCutter, Statement};
 pub use ending::Ending;
 pub use fault::TextFault;
 pub use item::{Item, read_item};

@@ -10,7 +10,8 @@ use arrayvec::ArrayString;
 use jiff::civil::{Date, Time};
 
 impl Moment {
-    /// The canonical text: `YYYY/MM/DD`, or `YYYY/MM/DD HH:MM:SS`. Read again, it is this moment.
+    /// The canonical text: `YYYY/MM/DD`, or `YYYY/MM/DD HH:MM:SS`. `read_moment` reads it back as
+    /// this moment.
     pub fn text(&self) -> ArrayString<19>
         ensures text { result.bytes ≡ moment_text (moment_of self.now) }
         ensures read_back { SpellsMoment result.bytes (moment_of self.now) }
@@ -25,11 +26,12 @@ impl Moment {
     }
 }
 
-/// The moment that the bytes spell, or `None` where they spell none.
+/// Reads a date, alone or with a time of day, as CSA V2.2 writes them in headers.
 ///
-/// That is four digits, `/`, one or two digits, `/`, one or two digits, and optionally one space, one
-/// or two digits, `:`, two digits, `:`, two digits, where the calendar has that day, the hour is at
-/// most 23 and the minute and the second are at most 59.
+/// The text is four digits, `/`, one or two digits, `/`, one or two digits. A time of day may
+/// follow: one space, one or two digits, `:`, two digits, `:`, two digits. Returns `None` for any
+/// other text, if the calendar does not have the day, if the hour is above 23, or if the minute or
+/// the second is above 59.
 pub fn read_moment(bytes: &[u8]) -> Option<Moment>
     ensures moment { IfSome result (λ moment. SpellsMoment bytes.now (moment_of moment)) }
     ensures none { IfNone result ((moment : CalendarMoment) → SpellsMoment bytes.now moment → ⊥) }
@@ -66,26 +68,29 @@ fn read_time(bytes: &[u8]) -> Option<Time>
     time_of(hour, minute, second)
 }
 
-// The day, where the calendar has it.
+// The day, if the calendar has it.
 fn date_of(year: u16, month: u16, day: u16) -> Option<Date>
     requires { (year < 10000) × (month < 100) × (day < 100) }
     ensures exists { IsSome result ↔ IsCivilDate (pos year) month day }
-    ensures value { IfSome result (λ date. (date.year ≡ pos year) × (date.month ≡ month) × (date.day ≡ day)) }
+    ensures value { IfSome result
+        (λ date. (date.year ≡ pos year) × (date.month ≡ month) × (date.day ≡ day)) }
 {
     Date::new(year as i16, month as i8, day as i8).ok()
 }
 
-// The time of day, where there is such a time.
+// The time of day, if there is such a time.
 fn time_of(hour: u16, minute: u16, second: u16) -> Option<Time>
     requires { (hour < 100) × (minute < 100) × (second < 100) }
     ensures exists { IsSome result ↔ ((hour ≤ 23) × (minute ≤ 59) × (second ≤ 59)) }
-    ensures value { IfSome result (λ time. (time.hour ≡ hour) × (time.minute ≡ minute) × (time.second ≡ second) × (time.subsec_nanosecond ≡ 0)) }
+    ensures value { IfSome result
+        (λ time. (time.hour ≡ hour) × (time.minute ≡ minute) × (time.second ≡ second)
+        × (time.subsec_nanosecond ≡ 0)) }
 {
     Time::new(hour as i8, minute as i8, second as i8, 0).ok()
 }
 
-// Three numbers with the mark between them: the first of at least and at most so many digits, the
-// others of at least so many and at most two.
+// Three numbers with the mark between them. The first has as many digits as its two bounds allow;
+// each other has at least `others` and at most two.
 fn three_numbers(
     bytes: &[u8],
     mark: u8,
@@ -112,7 +117,8 @@ fn three_numbers(
 fn push_date(text: &mut ArrayString<19>, date: Date)
     requires room { array_string_len text.old + 10 ≤ 19 }
     requires years { (pos 0 ≤ℤ date.year) × (date.year ≤ℤ pos 9999) }
-    ensures { text.new.bytes ≡ text.old.bytes ++ date_text (unsigned_abs date.year) date.month date.day }
+    ensures { text.new.bytes
+        ≡ text.old.bytes ++ date_text (unsigned_abs date.year) date.month date.day }
 {
     let year = date.year() as u16;
     push_two(text, (year / 100) as u8);

@@ -9,8 +9,9 @@ use arrayvec::ArrayString;
 use shogi_board::{Color, Square};
 use shogi_rules::Move;
 
-/// The seven bytes of a move: the sign of its side, the square left or `00` for a drop, the target,
-/// and the kind after the move. `read_item` reads them as that move again.
+/// The seven bytes of a move in CSA V2.2: the sign of its side, the square that it leaves or `00`
+/// for a drop, the square that it goes to, and the kind after the move. `read_item` reads them back
+/// as that move.
 #[inline(always)]
 pub fn csa_move(color: Color, m: &Move) -> ArrayString<7>
     ensures spells { Spells result.bytes (walked color m.now) }
@@ -32,7 +33,7 @@ pub fn csa_move(color: Color, m: &Move) -> ArrayString<7>
     text
 }
 
-// The move of these six bytes, which stand behind the sign.
+// The move of these six bytes, which follow the sign.
 pub(crate) fn read_move(bytes: &[u8]) -> Option<Move>
     ensures { MatchOption result
         ((m : Move) → bytes.now ≡ squares_text m → ⊥)

@@ -9,7 +9,7 @@ use crate::pair::Pair;
 // The bytes of a pair.
 const PAIR: usize = 4;
 
-/// The pairs behind `PI`, `P+` or `P-`, in their order. They borrow the statement.
+/// The pairs after `PI`, `P+` or `P-`, in their order. They borrow from the statement.
 #[derive(Clone, Copy, Debug, PartialEq, Eq)]
 pub struct Pairs<'a> {
     bytes: &'a [u8],
@@ -29,14 +29,14 @@ impl<'a> Pairs<'a> {
         self.bytes.len() / PAIR
     }
 
-    /// Whether there is none.
+    /// Whether there are no pairs.
     pub fn is_empty(&self) -> bool
         ensures none { IsTrue result ↔ (pairs_of self.now ≡ []) }
     {
         self.len() == 0
     }
 
-    /// The pair at this place, counted from 0, or `None` past the last one.
+    /// The pair at this index, counted from 0, or `None` if there are not so many pairs.
     pub fn get(&self, i: usize) -> Option<Pair>
         ensures pair { result ≡ slice_get (pairs_of self.now) i }
     {

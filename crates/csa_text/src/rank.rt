@@ -5,18 +5,22 @@ ghost use Rattle.csa_text.specs.Codes.{cell_text};
 use crate::codes::{read_kind, read_sign};
 use shogi_board::Piece;
 
-// The cells of a rank, the bytes of a cell, and the bytes of a rank's cells.
+// The number of cells in a rank, of bytes in a cell, and of bytes in a rank's cells.
 const CELLS: usize = 9;
 
 const CELL: usize = 3;
 
 const RANK: usize = CELL * CELLS;
 
-// The cells of a rank, from file 9 to file 1. The last one, where it is empty, may lack its last space.
+// The cells of a rank, from file 9 to file 1. If the last cell is empty, its last space may be
+// missing.
 pub(crate) fn read_rank(bytes: &[u8]) -> Option<[Option<Piece>; CELLS]>
     ensures { MatchOption result
-        ((cells : List (Option Piece)) → length cells ≡ 9 → (bytes.now ≡ flat_map cell_text cells) ⊎ (bytes.now ++ codes " " ≡ flat_map cell_text cells) → ⊥)
-        (λ cells. (bytes.now ≡ flat_map cell_text cells) ⊎ (bytes.now ++ codes " " ≡ flat_map cell_text cells)) }
+        ((cells : List (Option Piece)) → length cells ≡ 9
+        → (bytes.now ≡ flat_map cell_text cells)
+        ⊎ (bytes.now ++ codes " " ≡ flat_map cell_text cells) → ⊥)
+        (λ cells. (bytes.now ≡ flat_map cell_text cells)
+        ⊎ (bytes.now ++ codes " " ≡ flat_map cell_text cells)) }
 {
     if bytes.len() == RANK - 1 {
         let mut whole = [b' '; RANK];
@@ -28,7 +32,8 @@ pub(crate) fn read_rank(bytes: &[u8]) -> Option<[Option<Piece>; CELLS]>
 
 fn read_cells(bytes: &[u8]) -> Option<[Option<Piece>; CELLS]>
     ensures { MatchOption result
-        ((cells : List (Option Piece)) → length cells ≡ 9 → bytes.now ≡ flat_map cell_text cells → ⊥)
+        ((cells : List (Option Piece)) → length cells ≡ 9 → bytes.now ≡ flat_map cell_text cells
+        → ⊥)
         (λ cells. bytes.now ≡ flat_map cell_text cells) }
 {
     if bytes.len() != RANK {
@@ -41,7 +46,7 @@ fn read_cells(bytes: &[u8]) -> Option<[Option<Piece>; CELLS]>
     Some(cells)
 }
 
-// What the cell holds, or `None` where it is no cell.
+// What the cell holds, or `None` if the bytes are not a cell.
 fn read_cell(bytes: &[u8]) -> Option<Option<Piece>>
     ensures { MatchOption result
         ((cell : Option Piece) → bytes.now ≡ cell_text cell → ⊥)

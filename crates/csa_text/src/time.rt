@@ -3,7 +3,7 @@ ghost use Rattle.csa_text.specs.TimeTexts.{IsSeconds, IsFraction, IsTime};
 
 use crate::fields::{read_digits, read_number, split_at_byte};
 
-// The time that the text behind `T` spells, in thousandths of a second: whole seconds up to
+// The time that the text after `T` spells, in thousandths of a second: whole seconds up to
 // 4,294,967,295, and optionally a point and one to three digits.
 #[inline(always)]
 pub(crate) fn read_time(text: &[u8]) -> Option<u64>
@@ -20,7 +20,7 @@ pub(crate) fn read_time(text: &[u8]) -> Option<u64>
     Some(seconds as u64 * 1000 + fraction as u64)
 }
 
-// The number that one or more digits spell, unless it passes 4,294,967,295.
+// The number that one or more digits spell, or `None` if it is above 4,294,967,295.
 fn read_seconds(digits: &[u8]) -> Option<u32>
     ensures { MatchOption result
         ((seconds : ℕ) → IsSeconds digits.now seconds → ⊥)
@@ -32,7 +32,7 @@ fn read_seconds(digits: &[u8]) -> Option<u32>
     read_digits(digits)
 }
 
-// The thousandths that one to three digits behind the point spell.
+// The thousandths that one to three digits after the point spell.
 fn read_fraction(digits: &[u8]) -> Option<u16>
     ensures value { MatchOption result
         ((thousandths : ℕ) → IsFraction digits.now thousandths → ⊥)

@@ -1,4 +1,4 @@
--- What answers the next item, by what is kept.
+-- How the next item is answered, depending on what is kept.
 use Rattle.std.proofs.Common.{◌≡◌, ℕ, ◌==◌, Bool, true, false, List, [], ◌∷◌, ◌++◌, length, map, Option, Some, None, Result, Ok, Err, refl, sym, ap, ◌∙◌, subst, inl, inr}
 use Rattle.std.specs.Prelude.{filter, is_some, nat_le, OnOk, if◌then◌else◌}
 use Rattle.std.specs.List.{AllByRecursion}
@@ -39,7 +39,7 @@ use Rattle.record_game.proofs.Headers.{as_many, same_keys}
 use Rattle.record_game.proofs.Keeping.{with_version, with_name_kept, with_no_name, with_no_header, with_header, with_even, with_rank, with_pieces, with_turn, with_walked, with_ending, with_time_kept}
 use Rattle.record_game.proofs.Played.{laying_body, playing_body, IsLaying, IsPlaying}
 
--- an item in order is answered so; with the first order fault so
+-- an item in order is answered by this, any other by the first order fault
 in_order : (before : List Saying) (s : Saying) (answer : Option Why) → order_fault before s ≡ None → AnswersInOrder before s answer → Answers before s answer
 in_order before s answer none h = subst (λ f. AnswersAfter f before s answer) (sym none) h
 
@@ -95,7 +95,7 @@ name_kept : (before : List Saying) (k : Kept) (color : Color) (text : List ℕ) 
 name_kept before k Black text b bs is none h = with_name_kept before k Black text b bs is (λ _. none) (λ e. cc) h
 name_kept before k White text b bs is none h = with_name_kept before k White text b bs is (λ e. cc) (λ _. none) h
 
--- Ok is answered only where there is no fault
+-- Ok is returned only if there is no fault
 no_fault : (answer : Option Why) → IsAnswer answer (Ok tt) → answer ≡ None
 no_fault None h = refl
 no_fault (Some why) h = absurd h
@@ -176,7 +176,7 @@ pieces_step before k new l m color pairs (Err why) h is (answer, answers, is_ans
 pieces_step before k new l m color pairs (Ok u) h is (answer, answers, is_answer, lays) same =
     (answer, answers, is_answer, subst (Keeps (before ++ pieces color pairs ∷ [])) (sym same) (with_pieces before color pairs k l m is lays h))
 
--- what stands while the start is laid out, and from the side to move on
+-- the items while the start is laid out, and from the side to move on
 pub is_laying : (before : List Saying) (k : Kept) (l : Laid) → Keeps before k → k.stage ≡ laying l → IsLaying before
 is_laying before k l h is = let now : KeepsStage before (laying l) = subst (KeepsStage before) is h.stage in laying_body before now.1
 
@@ -186,7 +186,7 @@ lays_now before k l h is = let now : KeepsStage before (laying l) = subst (Keeps
 is_playing : (before : List Saying) (k : Kept) (c : Course) → Keeps before k → k.stage ≡ playing c → IsPlaying before c.start.side c.moves c.ending
 is_playing before k c h is = let now : KeepsStage before (playing c) = subst (KeepsStage before) is h.stage in playing_body before c.start.side c.moves c.ending now.3
 
--- a position statement or a side behind a side
+-- a position statement or a side after a side
 first_late : (e : Option Ended) (a b : Bool) (fault : OrderFault) (rest : Option OrderFault) → a ≡ is_some e → b ≡ true → (if a then Some AfterEnding else if b then Some fault else rest) ≡ Some (late e fault)
 first_late None a b fault rest p q = rw (p, q) refl
 first_late (Some e) a b fault rest p q = rw p refl
@@ -295,7 +295,7 @@ move_answers before k c color m answer h is answers =
     subst (λ f. AnswersAfter f before (walked color m) answer) (sym (play_in_order before k c color m h is))
     (play_answers_by before c color m answer (play_fault c) (line_now before k c h is) answers)
 
--- a move that is played is of the side to move
+-- a move that is played belongs to the side to move
 mover_first : (ps : List Placed) (p : Placed) (color : Color) (m : Move) → IsFirstBroken (rules.Kept ps p color m) all_rules None → color ≡ p.side
 mover_first ps p color m (inl broken) = cc
 mover_first ps p color m (inr both) = both.0

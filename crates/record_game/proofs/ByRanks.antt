@@ -17,7 +17,7 @@ use Rattle.record_game.proofs.Pieces.{and_left, and_right}
 use Rattle.std.proofs.lemmas.Slice.Eq.{slice_eq-Decides}
 use Rattle.std.proofs.lemmas.Bool.Decides.{Decides-eqb}
 
--- what stands on the place where it is asked for
+-- what is on the square with this place
 abbrev pick : Cells → ℕ → ℕ → List Piece
 pick cells n k = if k == n then option_to_list (get_or cells k None) else []
 
@@ -28,7 +28,7 @@ rank_places number = map (λ b. b + (number - 1)) (72 ∷ 63 ∷ 54 ∷ 45 ∷ 3
 abbrev numbers : List ℕ
 numbers = 1 ∷ 2 ∷ 3 ∷ 4 ∷ 5 ∷ 6 ∷ 7 ∷ 8 ∷ 9 ∷ []
 
--- a cell that is put, and those behind it
+-- a cell that is put, and those after it
 cell_put : (n file number : ℕ) (c : Option Piece) (cs : List (Option Piece)) → filter_map (put_on n) (cells_placings file number (c ∷ cs)) ≡ (if (file - 1) * 9 + (number - 1) == n then option_to_list c else []) ++ filter_map (put_on n) (cells_placings (file - 1) number cs)
 cell_put n file number None cs = neither ((file - 1) * 9 + (number - 1) == n) (filter_map (put_on n) (cells_placings (file - 1) number cs))
   where
@@ -41,7 +41,7 @@ cell_put n file number (Some p) cs =
       | inr miss ↦ rw miss refl
     ]
 
--- the cells of a rank, each where it is asked for
+-- the cells of a rank, each on its own square
 abbrev row_picks : ℕ → ℕ → ℕ → List (Option Piece) → List Piece
 row_picks n file number [] = []
 row_picks n file number (c ∷ cs) = (if (file - 1) * 9 + (number - 1) == n then option_to_list c else []) ++ row_picks n (file - 1) number cs
@@ -52,7 +52,7 @@ row_put n file number (c ∷ cs) =
     cell_put n file number c cs
     ∙ ap (λ xs. (if (file - 1) * 9 + (number - 1) == n then option_to_list c else []) ++ xs) (row_put n (file - 1) number cs)
 
--- the places of a rank that are asked for
+-- the places of a rank
 picked_places : ℕ → ℕ → List ℕ
 picked_places n number = filter (λ k. k == n) (rank_places number)
 
@@ -85,7 +85,7 @@ ranks_put cells n (number ∷ ns) h =
     ∙ (ap (λ xs. flat_map (λ j. option_to_list (get_or cells j None)) (filter (λ j. j == n) (rank_places number)) ++ xs) (ranks_put cells n ns h.1)
     ∙ sym (flat_joined (λ j. option_to_list (get_or cells j None)) (filter (λ j. j == n) (rank_places number)) (flat_map (λ m. filter (λ j. j == n) (rank_places m)) ns))))
 
--- each place is asked for once, which is seen by trying all
+-- each place occurs once, which is proved by trying all
 tries : ℕ → Bool
 tries zero = true
 tries (suc n) = pointwise nat_eq (flat_map (picked_places n) numbers) (n ∷ []) && tries n

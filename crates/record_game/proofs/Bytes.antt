@@ -1,4 +1,4 @@
--- Bytes that end no statement, and bytes that are no blanks either.
+-- Bytes that end no statement, and bytes that are not blanks either.
 use Rattle.std.proofs.Common.{◌≡◌, ◌≢◌, ℕ, ◌+◌, ◌<◌, ◌==◌, ◌&&◌, ◌||◌, true, false, List, [], ◌∷◌, ◌++◌, Option, Some, None, refl, ap, ◌∙◌, arith}
 use Rattle.std.specs.List.{AllByRecursion, flat_map}
 use Rattle.std.proofs.lemmas.Bool.{ne_eqb}
@@ -33,7 +33,7 @@ all_weaker P Q f (x ∷ xs) h = (f x h.0, all_weaker P Q f xs h.1)
 abbrev pub GoesOn : ℕ → Type 0
 GoesOn b = (b ≢ 13) × (b ≢ 10) × (b ≢ 44)
 
--- no blank either
+-- nor a blank
 abbrev pub IsSolid : ℕ → Type 0
 IsSolid b = GoesOn b × (b ≢ 32) × (b ≢ 9)
 

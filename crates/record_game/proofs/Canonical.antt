@@ -1,4 +1,4 @@
--- The canonical text of a game tells that game.
+-- The canonical text of a game contains that game.
 use Rattle.std.proofs.Common.{◌≡◌, ◌≢◌, ◌⊎◌, ℕ, true, false, List, [], ◌∷◌, ◌++◌, drop, filter, map, Option, Some, None, refl, sym, ap, ◌∙◌, append_assoc, arith, inl, inr}
 use Rattle.std.specs.Prelude.{IfSome}
 use Rattle.std.specs.List.{AllByRecursion}
@@ -25,7 +25,7 @@ use Rattle.record_game.proofs.Lined.{IsItemLine, units_of, lines_cut, all_statem
 use Rattle.record_game.proofs.Starting.{IsStart, start_is}
 use Rattle.record_game.proofs.TimeLines.{time_line}
 
--- the items of moves and of an ending, which are no position statements
+-- the items of moves and of an ending, which are not position statements
 abbrev pub IsPlayed : Saying → Type 0
 IsPlayed s = (is_body s ≡ true) × (is_position s ≡ false) × (is_even s ≡ false) × (rank_given s ≡ None)
 
@@ -96,7 +96,7 @@ canon_lines g h = (
       )))),
 )
 
--- what the heads are
+-- what the head items are
 abbrev IsNameOrHeader : Saying → Type 0
 IsNameOrHeader s = (is_version s ≡ false) × (is_body s ≡ false)
 

@@ -28,7 +28,7 @@ below_total (b ∷ bs) (c ∷ cs) =
       ]
     ]
 
--- where it goes in
+-- where it is inserted
 pub record HasPlace (es : List Entry) (e : Entry) : Type 0 where
   pub front : List Entry
   pub behind : List Entry

@@ -1,4 +1,4 @@
--- Names and headers, with an entry more.
+-- Names and headers, with one more entry.
 use Rattle.std.proofs.Common.{◌≡◌, ℕ, suc, ◌<◌, Bool, true, false, List, [], ◌∷◌, length, nat_eq, refl, sym, ap, ◌∙◌, arith, inl, inr, cond}
 use Rattle.std.specs.Prelude.{if◌then◌else◌}
 use Rattle.std.specs.Cmp.Lexicographic.{pointwise, bytes_decides}
@@ -13,7 +13,7 @@ pub rising_tail : (e : Entry) (es : List Entry) → Rising (e ∷ es) → Rising
 rising_tail e [] h = tt
 rising_tail e (f ∷ es) h = h.1
 
--- where no entry is kept, neither the first is nor one behind it
+-- if no entry is kept, neither the first nor any later one is
 pub kept : (b : Bool) (e : Entry) (es : List Entry) → cond b (e ∷ es) es ≡ [] → (b ≡ false) × (es ≡ [])
 kept true e es h = cc
 kept false e es h = (refl, h)
@@ -64,7 +64,7 @@ rising_with (f ∷ es) e r h =
     rising_step (is_below e.key f.key) e f es (with_entry es e) (λ t. t) r
     (λ n. later_with f e es r (after e.key f.key n parts.0) rest)
 
--- what is titled stays so with an entry more
+-- valid titles stay valid with one more entry
 pub titled_with : (t : Titled) (e : Entry) → IsTitled t → IsEntry e → under e.key t.headers ≡ [] → length t.headers < 64 → IsTitled (record t { headers = with_entry t.headers e })
 titled_with t e h entry new few = record {
   black = h.black;

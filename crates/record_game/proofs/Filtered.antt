@@ -1,4 +1,4 @@
--- What the parts of a record's items give to each of the filters.
+-- What the parts of a record's items contribute to each of the filters.
 use Rattle.std.proofs.Common.{◌≡◌, Bool, true, false, List, [], ◌∷◌, filter, Option, None, refl, ap}
 use Rattle.std.specs.List.{AllByRecursion, filter_map}
 use Rattle.shogi_board.specs.declared.color.Color.{Color}
@@ -14,7 +14,7 @@ AreHead ss = AllByRecursion (λ s. is_body s ≡ false) ss
 abbrev pub ArePositions : List Saying → Type 0
 ArePositions ss = AllByRecursion (λ s. is_position s ≡ true) ss
 
--- a list that a test or a choice leaves nothing or all of
+-- a list of which a test or a choice leaves nothing or everything
 pub none_of : {X : Type 0} (p : X → Bool) (xs : List X) → AllByRecursion (λ x. p x ≡ false) xs → filter p xs ≡ []
 none_of p [] h = refl
 none_of p (x ∷ xs) h = rw h.0 (none_of p xs h.1)
@@ -31,7 +31,7 @@ pub each_weaker : {X : Type 0} (P Q : X → Type 0) → ((x : X) → P x → Q x
 each_weaker P Q f [] h = tt
 each_weaker P Q f (x ∷ xs) h = (f x h.0, each_weaker P Q f xs h.1)
 
--- items of the body are no versions, names or headers
+-- items of the body are not versions, names or headers
 body_version : (s : Saying) → is_body s ≡ true → is_version s ≡ false
 body_version version h = cc
 body_version (name color text) h = cc
@@ -68,7 +68,7 @@ body_header (walked color m) h = refl
 body_header (time t) h = refl
 body_header (ending e) h = refl
 
--- the others are no position statements
+-- the others are not position statements
 head_position : (s : Saying) → is_body s ≡ false → is_position s ≡ false
 head_position version h = refl
 head_position (name color text) h = refl
@@ -105,7 +105,7 @@ head_rank (walked color m) h = refl
 head_rank (time t) h = refl
 head_rank (ending e) h = refl
 
--- position statements are of the body, and give no side
+-- position statements belong to the body, and give no side
 position_body : (s : Saying) → is_position s ≡ true → is_body s ≡ true
 position_body version h = cc
 position_body (name color text) h = cc

@@ -1,4 +1,4 @@
--- Times that may stand.
+-- Times within the limit.
 use Rattle.std.proofs.Common.{ℕ, ◌≤◌, List, [], ◌∷◌, ◌++◌, map}
 use Rattle.std.specs.List.{AllByRecursion}
 use Rattle.shogi_rules.specs.declared.moves.Move.{Move}

@@ -1,4 +1,4 @@
--- What items say a game, each is taken after those before it.
+-- If items say a game, each of them is taken after those before it.
 use Rattle.std.proofs.Common.{◌≡◌, ◌⊎◌, ℕ, ◌<◌, ◌==◌, Bool, true, false, not, List, [], ◌∷◌, ◌++◌, length, map, Option, Some, None, Result, Ok, Err, refl, sym, ap, ◌∙◌, append_assoc, subst, arith, inl, inr}
 use Rattle.std.specs.Prelude.{drop, filter, is_some, nat_le, nat_eq}
 use Rattle.std.specs.Cmp.Lexicographic.{pointwise, bytes_decides}
@@ -77,7 +77,7 @@ without_front : {X : Type 0} (xs ys zs : List X) → xs ++ ys ≡ xs ++ zs → y
 without_front [] ys zs h = h
 without_front (x ∷ xs) ys zs h = let rest_same : xs ++ ys ≡ xs ++ zs = cc in without_front xs ys zs rest_same
 
--- only the first is of those
+-- only the first is one of those
 first_only : (p : Saying → Bool) (xs ys : List Saying) (s : Saying) → p s ≡ true → filter p (drop 1 (xs ++ s ∷ ys)) ≡ [] → stands xs ≡ false
 first_only p [] ys s is h = refl
 first_only p (x ∷ xs) ys s is h =
@@ -105,7 +105,7 @@ name_follows fs bs color [] g says = refl
 name_follows fs bs Black (b ∷ text) g says = let none = name_first fs bs Black b text g.black says.black in in_order fs (name Black (b ∷ text)) (rw none refl) refl
 name_follows fs bs White (b ∷ text) g says = let none = name_first fs bs White b text g.white says.white in in_order fs (name White (b ∷ text)) (rw none refl) refl
 
--- headers: no key stands twice
+-- headers: no key occurs twice
 key_below : (e f : List ℕ) → is_below e f ≡ true → pointwise nat_eq e f ≡ false
 key_below e f h =
     elim (cases_Bool (pointwise nat_eq e f)) [
@@ -177,7 +177,7 @@ whole_laid ss g written says =
       start = s.start_is;
     }
 
--- a front of what can be placed can be placed
+-- if placings can be placed, so can any front of them
 can_place : (r : Result Layout SetupFault) (s t : Layout) (ps qs : _) → place_all s ps ≡ r → place_all s (ps ++ qs) ≡ Ok t → None ≡ start_why r
 can_place (Ok u) s t ps qs e h = refl
 can_place (Err f) s t ps qs e h = let clash : Err f ≡ Ok t = sym (placed_fault s f ps qs e) ∙ h in cc
@@ -217,7 +217,7 @@ starts (walked c m) = false
 starts (time t) = false
 starts (ending e) = false
 
--- what stands first in a body with a side is a position statement or the side
+-- the first item of a body with a side is a position statement or the side
 head_starts : (xs : List Saying) (s : Saying) (ss : List Saying) (c : Color) (zs : List Saying) → s ∷ ss ≡ positions xs ++ turn c ∷ zs → starts s ≡ true
 unfolding starts
 head_starts [] s ss c zs h = let same : s ≡ turn c = cc in ap starts same
@@ -232,7 +232,7 @@ head_starts (walked d m ∷ xs) s ss c zs h = head_starts xs s ss c zs h
 head_starts (time t ∷ xs) s ss c zs h = head_starts xs s ss c zs h
 head_starts (ending e ∷ xs) s ss c zs h = head_starts xs s ss c zs h
 
--- behind the side stands no position statement
+-- no position statement comes after the side
 turn_first : (xs : List Saying) (d : Color) (ss zs : List Saying) → turn d ∷ ss ≡ positions xs ++ zs → positions xs ≡ []
 turn_first [] d ss zs h = refl
 turn_first (version ∷ xs) d ss zs h = turn_first xs d ss zs h
@@ -314,7 +314,7 @@ no_time c [] None n ss h = cc
 no_time c [] (Some e) n ss h = let head : time n ≡ ending e.ending = cc in cc
 no_time c (t ∷ ts) e n ss h = let head : time n ≡ walked c t.move = cc in cc
 
--- where a time comes next, the last move awaits it
+-- if a time comes next, the last move awaits it
 time_next : (p : Placed) (t u : Timed) (ts us : List Timed) (e : Option Ended) (s : Saying) (ss : List Saying) (n : ℕ) (zs : List Saying) → t.time ≡ None → move_items (opponent p.side) ts ++ (ending_items e ++ s ∷ ss) ≡ time n ∷ zs → Goes p (t ∷ ts) e (u ∷ us) s
 time_next p t u [] us None s ss n zs none h =
     let same : s ≡ time n = cc in

@@ -44,7 +44,7 @@ missing_few m (None ∷ cs) (d ∷ ds) = omega (arith, missing_few (m + 1) cs ds
 missing_few m (Some p ∷ cs) (None ∷ ds) = omega (arith, missing_few (m + 1) cs ds)
 missing_few m (Some p ∷ cs) (Some q ∷ ds) = omega (arith, missing_few (m + 1) cs ds)
 
--- a list of placings that only take off
+-- a list of placings that only take pieces off
 abbrev OnlyOff : Placing → Type 0
 OnlyOff (on m p) = ⊥
 OnlyOff (off m k) = Unit {0}

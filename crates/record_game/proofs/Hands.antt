@@ -26,7 +26,7 @@ use Rattle.record_game.specs.Canon.{rank_cells, rank_items, hand_pairs, pairs_it
 use Rattle.record_game.proofs.Bytes.{all_joined}
 use Rattle.record_game.proofs.ByRanks.{ranks_cell, flat_joined}
 
--- neither taken off nor all that remain
+-- neither taken off nor all remaining pieces
 abbrev IsPlain : Placing → Type 0
 IsPlain (on m p) = Unit {0}
 IsPlain (off m k) = ⊥
@@ -61,7 +61,7 @@ rest_last (off m k ∷ ps) h = absurd h.0
 rest_last (in_hand c k ∷ ps) h = rest_last ps h.1
 rest_last (rest c ∷ ps) h = absurd h.0
 
--- ranks put pieces on squares alone
+-- ranks put pieces on squares only
 abbrev IsOnSquare : Placing → Type 0
 IsOnSquare (on m p) = Unit {0}
 IsOnSquare (off m k) = ⊥
@@ -121,7 +121,7 @@ hand_order = Rook ∷ Bishop ∷ Gold ∷ Silver ∷ Knight ∷ Lance ∷ Pawn �
 hand_placed : (c : Color) (bag : List ℕ) → placings (hand_items c bag) ≡ held_pairs c bag hand_order
 hand_placed c bag = pairs_placed c (hand_pairs bag) ∙ pairs_held c bag hand_order
 
--- they are of the seven kinds, and on no square
+-- they are of the seven kinds, and not on a square
 many_plain : (c : Color) (k : Kind) (m : ℕ) → kinds.is_hand_kind k ≡ true → AllByRecursion IsPlain (replicate m (in_hand c k))
 many_plain c k zero h = tt
 many_plain c k (suc m) h = (h, many_plain c k m h)
@@ -212,7 +212,7 @@ all_put p n less =
     ∙ (ap (λ ps. ps ++ filter_map (put_on n) (held_pairs White p.material.white hand_order)) (held_not_put n Black p.material.black hand_order) ∙ held_not_put n White p.material.white hand_order))
     ∙ (append-nil (filter_map (put_on n) (placings (rank_items p.material.board))) ∙ ranks_cell p.material.board n less))
 
--- how many of a kind there are for a side
+-- how many of a kind a side has
 held_of_all : (p : Placed) (c : Color) (k : Kind) → length (filter (is_held c k) (all_placed p)) ≡ tally Black c k p.material.black hand_order + tally White c k p.material.white hand_order
 held_of_all p c k =
     let first = filter-append (is_held c k) (placings (rank_items p.material.board)) (held_pairs Black p.material.black hand_order ++ held_pairs White p.material.white hand_order) in

@@ -8,7 +8,7 @@ use Rattle.record_game.specs.Order.{stands}
 use Rattle.record_game.specs.Says.{IsValue, AreEntries}
 use Rattle.record_game.specs.Titles.{under, with_entry}
 
--- an entry goes in somewhere
+-- an entry is inserted somewhere
 record GoesIn (es : List Entry) (e : Entry) (all : List Entry) : Type 0 where
   front : List Entry
   behind : List Entry
@@ -26,7 +26,7 @@ goes_in : (es : List Entry) (e : Entry) → GoesIn es e (with_entry es e)
 goes_in [] e = record { front = []; behind = []; before = refl; after = refl }
 goes_in (f ∷ es) e = goes_by (is_below e.key f.key) f es e (goes_in es e)
 
--- another entry among those that it goes into
+-- another entry among those that it is inserted into
 record Around (front behind : List Entry) (e : Entry) (f : List Entry) (y : Entry) (b : List Entry) : Type 0 where
   left : List Entry
   right : List Entry
@@ -73,7 +73,7 @@ last_in (k ∷ hs) es h e all (f, y, b, whole, key_is, value_is, rest) key value
     let r = around g.front g.behind e f y b (sym g.before ∙ whole) in
     (r.left, y, r.right, g.after ∙ r.all, key_is, value_is, last_in hs (f ++ b) h e (r.left ++ r.right) rest key value r.without)
 
--- a header more is an entry more
+-- one more header is one more entry
 pub header_more : (hs : List (List ℕ × List ℕ)) (es : List Entry) (h : List ℕ × List ℕ) (e : Entry) → AreEntries hs es → e.key ≡ h.0 → IsValue h.0 h.1 e.text → AreEntries (hs ++ h ∷ []) (with_entry es e)
 header_more hs es h e a key value = last_in hs es h e (with_entry es e) a key value (goes_in es e)
 
@@ -89,7 +89,7 @@ as_many (h ∷ hs) es (f, y, b, whole, key, value, rest) =
     let all : length es ≡ length (f ++ b) + 1 = ap length whole ∙ middle_length f y b in
     omega (arith, more, all)
 
--- of the same keys
+-- with the same keys
 by_first : {X : Type 0} (p : X → Bool) (x : X) (xs : List X) (b : Bool) → p x ≡ b → stands (filter p (x ∷ xs)) ≡ (b || stands (filter p xs))
 by_first p x xs true h = rw h refl
 by_first p x xs false h = rw h refl

@@ -34,7 +34,7 @@ use Rattle.record_game.proofs.Lined.{IsItemLine}
 pub version_line : IsItemLine version
 version_line = record { unit = (refl, (refl, (refl, (refl, tt))), refl); spoken = refl; fits = omega arith; spells = inr (inr refl) }
 
--- names and headers take the whole line
+-- names and headers take their whole line
 and_false : (b : Bool) → (b && false) ≡ false
 and_false true = refl
 and_false false = refl
@@ -156,7 +156,7 @@ header_line e h = record {
   spells = record { line = e.key ++ 58 ∷ value_text e.text; whole = refl; split = (refl, h.no_colon); some = h.some };
 }
 
--- statements from `P` have no comma and lose nothing, but where they end in a blank
+-- statements from `P` have no comma and lose nothing, except a blank at their end
 pub even_line : (ps : List Pair) → AllOnBoard ps → length ps ≤ 1000 → IsItemLine (even ps)
 even_line ps on_board few =
     let parts = solid_pairs ps in

@@ -29,7 +29,7 @@ use Rattle.record_game.specs.Union.{first_board}
 use Rattle.record_game.proofs.Headers.{header_more}
 use Rattle.record_game.proofs.Played.{with_move, with_time_of_move, with_time_of_ending}
 
--- lists with one more
+-- lists with one more element
 stands_more : {X : Type 0} (xs : List X) (x : X) → true ≡ stands (xs ++ x ∷ [])
 stands_more [] x = refl
 stands_more (y ∷ xs) x = refl
@@ -48,7 +48,7 @@ kept_filter p xs s h = filter-append p xs (s ∷ []) ∙ (ap (λ ys. filter p xs
 kept_choice : {Y : Type 0} (f : Saying → Option Y) (xs : List Saying) (s : Saying) → filter_map f (s ∷ []) ≡ [] → filter_map f (xs ++ s ∷ []) ≡ filter_map f xs
 kept_choice f xs s h = filter_map-append f xs (s ∷ []) ∙ (ap (λ ys. filter_map f xs ++ ys) h ∙ append-nil (filter_map f xs))
 
--- an item that is of no start
+-- an item that does not belong to the start
 record IsNoPosition (s : Saying) : Type 0 where
   positions : positions (s ∷ []) ≡ []
   evens : filter is_even (s ∷ []) ≡ []
@@ -72,7 +72,7 @@ same_lays a b l p q r h = record {
   ranks = λ number low high. h.ranks number low high ∙ ap (λ ns. stands (filter (λ n. n == number) ns)) (sym r);
 }
 
--- a head item leaves the stage as it is
+-- a head item leaves the stage unchanged
 same_stage : (before : List Saying) (s : Saying) (g : Stage) → IsNoPosition s → body (s ∷ []) ≡ [] → KeepsStage before g → KeepsStage (before ++ s ∷ []) g
 same_stage before s (laying l) off none (lays, all) =
     let ps = kept_filter is_position before s off.positions in (
@@ -87,7 +87,7 @@ same_stage before s (playing c) off none (layout, laid, start, all) =
       kept_filter is_body before s none ∙ (all ∙ ap (λ xs. xs ++ turn c.start.side ∷ (move_items c.start.side c.moves ++ ending_items c.ending)) (sym ps)),
     )
 
--- a version, a name or a header more
+-- one more version, name or header
 with_head : (before : List Saying) (s : Saying) (k : Kept) (t : Titled) → IsNoPosition s → body (s ∷ []) ≡ [] → filter is_version (drop 1 (before ++ s ∷ [])) ≡ []
     → names Black (before ++ s ∷ []) ≡ option_to_list t.black → names White (before ++ s ∷ []) ≡ option_to_list t.white → AreEntries (headers (before ++ s ∷ [])) t.headers
     → Keeps before k → Keeps (before ++ s ∷ []) (record { begun = true; titles = t; stage = k.stage })
@@ -115,7 +115,7 @@ with_version before k none h =
     (kept_choice (name_given Black) before version refl ∙ h.black) (kept_choice (name_given White) before version refl ∙ h.white)
     (subst (λ hs. AreEntries hs k.titles.headers) (sym (kept_choice header_given before version refl)) h.headers) h
 
--- a name, where that side has none
+-- a name, if that side has none
 one_name : (before : List Saying) (s : Saying) (side : Color) (o : Option (List ℕ)) (text : List ℕ) → names side before ≡ option_to_list o → is_some o ≡ false → names side (s ∷ []) ≡ text ∷ [] → names side (before ++ s ∷ []) ≡ text ∷ []
 one_name before s side None text h none given = filter_map-append (name_given side) before (s ∷ []) ∙ (ap (λ ns. ns ++ names side (s ∷ [])) h ∙ given)
 one_name before s side (Some t) text h none given = cc
@@ -166,7 +166,7 @@ with_header before k key b bs t (value, is_value, is) h =
     (subst (λ hs. AreEntries hs t.headers) (sym same) (subst (λ (u : Titled). AreEntries (headers before ++ (key, b ∷ bs) ∷ []) u.headers) (sym is)
     (header_more (headers before) k.titles.headers (key, b ∷ bs) e h.headers refl is_value))) h
 
--- an item of the body more
+-- one more item of the body
 with_body : (before : List Saying) (s : Saying) (k : Kept) (g : Stage) → IsOfBody s → filter is_even (drop 1 (positions (before ++ s ∷ []))) ≡ []
     → (filter is_even (before ++ s ∷ []) ≡ []) ⊎ (ranks (before ++ s ∷ []) ≡ []) → RanksOnce (before ++ s ∷ []) → KeepsStage (before ++ s ∷ []) g
     → Keeps before k → Keeps (before ++ s ∷ []) (record { begun = true; titles = k.titles; stage = g })

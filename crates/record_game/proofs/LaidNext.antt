@@ -27,7 +27,8 @@ use Rattle.record_game.specs.Refused.{start_why, AnswersInOrder, AnswersAfter}
 use Rattle.record_game.specs.Union.{first_board}
 use Rattle.record_game.proofs.LayingPlaced.{placed_on}
 
--- where this item's pieces are placed: on what is laid out, or first of all on its own first board
+-- where this item's pieces are placed: on what is laid out or, for the first item, on its own first
+-- board
 abbrev pub begins : Bool → Layout → Saying → Layout
 begins true s item = s
 begins false s item = board_alone (first_board (item ∷ []))
@@ -84,7 +85,7 @@ refused before l new s fault lays h none fails =
     let answer = in_order before s (Some (Start fault)) h (sym (ap start_why (laid_more before l s lays h ∙ fails))) in
     (Some (Start fault), subst (λ f. AnswersAfter f before s (Some (Start fault))) (sym none) answer, refl, tt)
 
--- a rank stands if it stood before or is this item
+-- a rank is given if it was before, or if this item gives it
 abbrev pub RanksMore : Laid → Saying → Laid → Type 0
 RanksMore l s new = (number : ℕ) → 1 ≤ number → number ≤ 9 → get_or new.ranks (number - 1) false ≡ (get_or l.ranks (number - 1) false || stands (filter (λ n. n == number) (option_to_list (rank_given s))))
 
@@ -143,13 +144,13 @@ pub or_one : (b : Bool) → true ≡ (b || true)
 or_one true = refl
 or_one false = refl
 
--- no rank more
+-- no further rank
 pub same_ranks : (l new : Laid) (s : Saying) → rank_given s ≡ None → new.ranks ≡ l.ranks → RanksMore l s new
 same_ranks l new s none same number low high =
     ap (λ bs. get_or bs (number - 1) false) same
     ∙ (or_none (get_or l.ranks (number - 1) false) ∙ ap (λ o. get_or l.ranks (number - 1) false || stands (filter (λ n. n == number) (option_to_list o))) (sym none))
 
--- this rank more
+-- this further rank
 pub one_rank : (l new : Laid) (n : ℕ) (cells : List (Option Piece)) → 1 ≤ n → n ≤ 9 → length l.ranks ≡ 9 → new.ranks ≡ set l.ranks (n - 1) true → RanksMore l (rank n cells) new
 one_rank l new n cells from to nine is number low high =
     elim (cases_Bool (n == number)) [

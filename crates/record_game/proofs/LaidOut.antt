@@ -1,4 +1,4 @@
--- What the position statements lay out is the start that they give.
+-- The position statements lay out the start that they give.
 use Rattle.std.proofs.Common.{◌≡◌, ℕ, ◌-◌, ◌<◌, ◌≤◌, false, List, [], ◌∷◌, ◌++◌, drop, length, filter, map, Option, Some, None, Ok, refl, ap, arith, inl, inr}
 use Rattle.std.specs.List.{AllByRecursion, flat_map}
 use Rattle.std.proofs.lemmas.Bool.{cases_Bool}
@@ -20,11 +20,11 @@ use Rattle.record_game.specs.Union.{first_board, GiveStart}
 use Rattle.record_game.proofs.Bytes.{all_joined}
 use Rattle.record_game.proofs.PlacedUnion.{OnlyOff, InTurn, placed_union, begins}
 
--- some bytes spell it
+-- some bytes spell this item
 abbrev pub IsWritten : Saying → Type 0
 IsWritten s = (bytes : List ℕ) × Spells bytes s
 
--- nothing is taken off, and squares are of the 81
+-- nothing is taken off, and all squares are among the 81
 abbrev IsLow : Placing → Type 0
 IsLow (on n p) = n < 81
 IsLow (off n k) = ⊥

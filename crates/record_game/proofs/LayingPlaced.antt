@@ -52,7 +52,7 @@ left_fault f ps start now i pair fault left e h =
 pub never_past : (ps : List Pair) (i : ℕ) → i < length ps → None ≡ slice_get ps i → ⊥
 never_past ps i low e = let here = slice_get-get_or ps i Rest low in cc
 
--- one placing a pair
+-- one placing for each pair
 pub singles : (g : Pair → Placing) (ps : List Pair) → flat_map (λ p. g p ∷ []) ps ≡ map g ps
 singles g [] = refl
 singles g (p ∷ ps) = ap (λ qs. g p ∷ qs) (singles g ps)
@@ -73,7 +73,7 @@ cells_none number cells start now i left low here =
     left ∙ (ap (λ cs. place_all now (cells_placings (9 - i) number cs)) (cut_cell cells i None low here)
     ∙ ap (λ file. place_all now (cells_placings file number (drop (i + 1) cells))) (less_file i))
 
--- a piece of a rank, where its square has this place
+-- a piece of a rank, if its square has this place
 at_square : (number : ℕ) (cells : List (Option Piece)) (now : Layout) (i : ℕ) (x : Piece) (square : Square) → i < length cells → get_or cells i None ≡ Some x → place square ≡ (9 - i - 1) * 9 + (number - 1) → place_all now (cells_placings (9 - i) number (drop i cells)) ≡ place_all now (on (place square) x ∷ cells_placings (9 - (i + 1)) number (drop (i + 1) cells))
 at_square number cells now i x square low here e =
     ap (λ cs. place_all now (cells_placings (9 - i) number cs)) (cut_cell cells i (Some x) low here)

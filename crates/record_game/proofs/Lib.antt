@@ -36,3 +36,4 @@ pub mod Within
 pub mod Next
 pub mod Following
 pub mod Told
+pub mod RefusedClosed

@@ -1,4 +1,4 @@
--- Lines of items are cut into just those statements, and each spells its item.
+-- Lines of items are cut into exactly these statements, and each spells its item.
 use Rattle.std.proofs.Common.{◌≡◌, ℕ, ◌+◌, ◌≤◌, true, false, not, List, [], ◌∷◌, ◌++◌, length, filter, refl, sym, ap, append_assoc, subst}
 use Rattle.std.specs.List.{AllByRecursion, AllZip, flat_map}
 use Rattle.std.proofs.lemmas.List.{append-nil}
@@ -8,7 +8,7 @@ use Rattle.csa_text.specs.Spelling.{Spells}
 use Rattle.record_game.specs.Canon.{line_of, ended_line}
 use Rattle.record_game.specs.Tells.{IsSpelt}
 
--- the line of an item is one unit and no comment, is short, and spells the item
+-- the line of an item is one unit and not a comment, is short, and spells the item
 pub record IsItemLine (s : Saying) : Type 0 where
   pub unit : IsUnit (line_of s) (10 ∷ [])
   pub spoken : begins_with 39 (line_of s) ≡ false

@@ -1,4 +1,4 @@
--- Each next item is taken, and what is kept stays well, or it is refused.
+-- Each next item is taken, and what is kept stays valid, or it is refused.
 use Rattle.std.proofs.Common.{◌≡◌, ◌≢◌, ◌⊎◌, ℕ, ◌+◌, ◌-◌, ◌≤◌, ◌||◌, Bool, true, false, List, [], ◌∷◌, ◌++◌, length, map, get_or, set, Option, Some, None, Result, Ok, Err, refl, sym, ap, ◌∙◌, subst, arith, inl, inr}
 use Rattle.std.specs.Prelude.{is_some, nat_le, if◌then◌else◌}
 use Rattle.std.proofs.lemmas.Bool.{cases_Bool, leb-false}
@@ -16,8 +16,8 @@ use Rattle.shogi_rules.specs.declared.line.PlayFault.{PlayFault}
 use Rattle.shogi_rules.specs.declared.line.PlayFault.TheVariants as faults
 use Rattle.shogi_rules.specs.declared.moves.Move.{Move}
 use Rattle.shogi_rules.specs.Play as plays
-use Rattle.shogi_rules.specs.Positions as rules
-use Rattle.shogi_rules.specs.Positions.{position_after, positions_of, begun}
+use Rattle.shogi_rules.specs.Lines.{IsLine}
+use Rattle.shogi_rules.specs.Positions.{position_after, begun}
 use Rattle.shogi_rules.proofs.Games.{line-more}
 use Rattle.shogi_rules.proofs.Standing.{some-answer}
 use Rattle.csa_text.specs.declared.ending.Ending.{Ending}
@@ -55,7 +55,7 @@ abbrev pub IsWellStage : Stage → Type 0
 IsWellStage (laying l) = Within l.layout × (length l.ranks ≡ 9)
 IsWellStage (playing c) = IsCourse c
 
--- titles that may stand, a start within the totals, a course that may be played
+-- valid titles, a start within the totals, a course that may be played
 abbrev pub IsWell : Kept → Type 0
 IsWell k = IsTitled k.titles × IsWellStage k.stage
 
@@ -77,7 +77,7 @@ refused_so : (before : List Saying) (s : Saying) (why : Why) (new : Kept) → Ta
 refused_so before s why new (None, answer, is, keeps) other = absurd (other is)
 refused_so before s why new (Some w, answer, is, keeps) other = inl (w, answer)
 
--- faults are not want of memory
+-- faults are not lack of memory
 test_why : (b : Bool) (x w : Why) (next : Option Why) → (if b then Some x else next) ≡ Some w → (x ≡ w) ⊎ (next ≡ Some w)
 test_why true x w next h = let same : x ≡ w = cc in inl same
 test_why false x w next h = inr h
@@ -269,9 +269,9 @@ course_more : (c : Course) (color : Color) (m : Move) → IsCourse c → plays.A
 course_more c color m h (few, none) =
     let as_long : length (map move_of c.moves) ≡ length c.moves = length-map c.moves move_of in
     let limit = h.few_moves in
-    let line : rules.IsLine c.start (position_after c.start (map move_of c.moves)) (map move_of c.moves) (positions_of c.start (map move_of c.moves)) =
-    record { leads = refl; all = refl; game = h.line; few = omega (arith, as_long, limit) } in
-    let longer = line-more c.start _ (map move_of c.moves) _ color m line few none in
+    let line : IsLine c.start (position_after c.start (map move_of c.moves)) (map move_of c.moves) =
+    record { leads = refl; game = h.line; few = omega (arith, as_long, limit) } in
+    let longer = line-more c.start _ (map move_of c.moves) color m line few none in
     record {
       sound = h.sound;
       line = rw (moves_more c.moves m) longer.game;

@@ -12,7 +12,7 @@ pub not_itself : (a : List ℕ) → is_below a a ≡ true → ⊥
 not_itself [] h = absurd (false≢true h)
 not_itself (b ∷ bs) h = let level : nat_lt b b ≡ false = le-ltb b b (omega arith) in not_itself bs (rw level at h)
 
--- the key of an entry that comes later is another
+-- the key of a later entry is another one
 pub other_key : (e f : List ℕ) → is_below e f ≡ true → pointwise nat_eq f e ≡ false
 other_key e f h =
     elim (cases_Bool (pointwise nat_eq f e)) [

@@ -24,7 +24,7 @@ use Rattle.shogi_board.specs.Placing.{Placing, on, off, in_hand, rest, placing_f
 use Rattle.record_game.specs.Union.{put_on, off_at, is_held, rest_given, MayBeHeld, RestIsLast, MayTakeOff, left_on, on_square, bag_given, IsUnion, with_rest_given}
 use Rattle.record_game.proofs.Bytes.{all_joined}
 
--- a fault that is none: no test holds
+-- no fault: no test holds
 not_first : (f : SetupFault) (b : Bool) (fs : List (SetupFault × Bool)) → setup.first_fault ((f, b) ∷ fs) ≡ None → (b ≡ false) × (setup.first_fault fs ≡ None)
 not_first f true fs h = cc
 not_first f false fs h = (refl, h)
@@ -254,7 +254,7 @@ step_hand first done s White k u none held =
       rest_last = rest_end done (in_hand White k) none;
     }
 
--- all that remain: the layout before is the union with it
+-- all remaining pieces: the layout before is the union with it
 pub step_rest : (first : Cells) (done : List Placing) (s : Layout) (c : Color) → IsUnion first done s → filter_map rest_given done ≡ [] → IsUnion first (done ++ rest c ∷ []) s
 step_rest first done s c u none = record {
   squares = u.squares;
@@ -269,7 +269,7 @@ step_rest first done s c u none = record {
   rest_last = rest_end done (rest c) none;
 }
 
--- pieces are taken off first, and every square is one of the 81
+-- pieces are taken off first, and every square is among the 81
 abbrev pub InTurn : List Placing → List Placing → Type 0
 InTurn done [] = Unit {0}
 InTurn done (on n p ∷ ps) = (n < 81) × InTurn (done ++ on n p ∷ []) ps
@@ -277,7 +277,7 @@ InTurn done (off n k ∷ ps) = (n < 81) × AllByRecursion OnlyOff done × InTurn
 InTurn done (in_hand c k ∷ ps) = InTurn (done ++ in_hand c k ∷ []) ps
 InTurn done (rest c ∷ ps) = InTurn (done ++ rest c ∷ []) ps
 
--- what was placed is the union, with the rest given
+-- what was placed is the union, with the remaining pieces given
 pub record IsPlacedUnion (first : Cells) (ps : List Placing) (t : Layout) : Type 0 where
   pub layout : Layout
   pub union : IsUnion first ps layout

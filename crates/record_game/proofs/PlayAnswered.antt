@@ -1,4 +1,4 @@
--- What a move answers after the faults of its place.
+-- What playing a move returns after the order faults.
 use Rattle.std.proofs.Common.{◌≡◌, Option, Some, Err, refl}
 use Rattle.shogi_board.specs.declared.color.Color.{Color}
 use Rattle.shogi_rules.specs.declared.moves.Move.{Move}

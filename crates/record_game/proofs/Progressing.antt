@@ -1,4 +1,4 @@
--- What a reader's parts answer is what answers the next item.
+-- A reader's parts return the answer to the next item.
 use Rattle.std.proofs.Common.{◌≡◌, ℕ, Bool, true, List, [], ◌∷◌, ◌++◌, Option, None, Result, Ok, Err, refl, sym, ap, subst}
 use Rattle.std.specs.Prelude.{OnOk, MatchResult}
 use Rattle.shogi_board.specs.declared.color.Color.{Color}

@@ -133,7 +133,7 @@ never before (v ∷ vs) u behind (t ∷ ts) (s ∷ all) why whole f fault =
     let rest : Faultless (before ++ t ∷ []) (vs ++ u ∷ behind) all = subst (λ x. Faultless (before ++ x ∷ []) (vs ++ u ∷ behind) all) same whole.2 in
     never (before ++ t ∷ []) vs u behind ts all why rest f.2 (subst (λ b. Fault b u why) (sym (append_assoc before (t ∷ []) ts)) fault)
 
--- the first fault is one
+-- the first fault is unique
 record SameFault (a b : List TextUnit) (u v : TextUnit) (w x : Why) : Type 0 where
   pub count : length a ≡ length b
   pub unit : u ≡ v
@@ -170,7 +170,7 @@ first_fault_once before (m ∷ ms) (n ∷ ns) u v c d (s ∷ ss) (t ∷ ts) w x 
     let more = first_fault_once (before ++ s ∷ []) ms ns u v c d ss ts w x rest f.2 others here there in
     record { count = omega (arith, more.count); unit = more.unit; why = more.why }
 
--- a record that is refused at a statement has no cut without a fault
+-- a record that is refused at a statement cannot be cut without a fault
 refused_at_whole : (source : List ℕ) (n o : ℕ) (why : Why) (statements : List TextUnit) (sayings : List Saying) → RefusedAt source n o why → IsCut source statements → Faultless [] statements sayings → ⊥
 refused_at_whole source n o why statements sayings r cut whole =
     let same : statements ≡ r.front ++ r.unit ∷ r.behind = statements_once _ _ statements _ cut r.cut in

@@ -1,4 +1,4 @@
--- Items say one game, and bytes tell one.
+-- Items say at most one game, and bytes contain at most one.
 use Rattle.std.proofs.Common.{◌≡◌, ◌⊎◌, ℕ, suc, ◌<◌, Bool, true, false, List, [], ◌∷◌, ◌++◌, length, get_or, Option, Some, None, refl, sym, ap, ◌∙◌, append_assoc, arith, inl, inr}
 use Rattle.std.specs.Prelude.{nat_lt}
 use Rattle.std.specs.List.{AllZip, filter_map}
@@ -139,7 +139,7 @@ below_through (x ∷ xs) (y ∷ ys) (z ∷ zs) h k =
       ]
     ]
 
--- the first of a rising list comes before each that follows
+-- the first of a rising list comes before each later one
 rising_tail : (e : Entry) (es : List Entry) → Rising (e ∷ es) → Rising es
 rising_tail e [] h = tt
 rising_tail e (f ∷ es) h = h.1

@@ -153,7 +153,7 @@ white_few p w = (
   ),
 )
 
--- no number stands twice among these that follow one another
+-- no number occurs twice among consecutive ones
 abbrev count_up : ℕ → ℕ → List ℕ
 count_up m zero = []
 count_up m (suc k) = m ∷ count_up (m + 1) k

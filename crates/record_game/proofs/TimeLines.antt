@@ -29,7 +29,7 @@ solid_numerals : (ds : List ℕ) → AllDigits 10 ds → AllByRecursion IsSolid 
 solid_numerals [] h = tt
 solid_numerals (d ∷ ds) h = (solid_numeral d h.0, solid_numerals ds h.1)
 
--- the digits behind the point
+-- the digits after the point
 record IsThousandths (r : ℕ) : Type 0 where
   behind : List ℕ
   text : fraction_text r ≡ 46 ∷ behind
@@ -91,7 +91,7 @@ seconds_are s h =
     let n = decimal_is_IsNumeral_wide s (omega (arith, h)) in
     (record { few = omega (arith, n.0.0); many = omega arith; digits_only = n.0.1; value_is = sym n.1 }, h)
 
--- a time, cut into its seconds and what remains
+-- a time, divided into its seconds and the thousandths
 record IsClock (t : ℕ) : Type 0 where
   spelt : IsTime (time_text t) t
   solid_all : AllByRecursion IsSolid (time_text t)

@@ -1,4 +1,4 @@
--- The bytes of each record tell a whole game or are refused, and never both.
+-- The bytes of each record contain a whole game or are refused, and never both.
 use Rattle.std.proofs.Common.{◌≡◌, ◌⊎◌, ℕ, zero, suc, ◌+◌, ◌-◌, ◌≤◌, false, List, [], ◌∷◌, ◌++◌, length, replicate, Some, None, refl, sym, ap, ◌∙◌, append_assoc, subst, arith, inl, inr}
 use Rattle.std.specs.Prelude.{slice_index_or}
 use Rattle.std.specs.List.{AllByRecursion, AllZip}
@@ -142,7 +142,7 @@ first_well : IsWell first_kept
 unfolding first_kept first_laid
 first_well = (record { black = tt; white = tt; entries = tt; rising = tt; few_headers = omega arith }, (all_even_within, refl))
 
--- what was spelt
+-- what was spelled
 spelt_all : (before : List Saying) (us : List TextUnit) (ss : List Saying) → Faultless before us ss → AllZip IsSpelt us ss
 spelt_all before [] [] f = tt
 spelt_all before [] (s ∷ ss) f = absurd f
@@ -175,7 +175,7 @@ front_units : (front : List TextUnit) (u : TextUnit) (behind : List TextUnit) �
 front_units [] u behind h = tt
 front_units (v ∷ vs) u behind h = (h.0, front_units vs u behind h.1)
 
--- of statements without a fault something is kept
+-- something is kept of statements without a fault
 record KeptOf (sayings : List Saying) : Type 0 where
   kept : Kept
   keeps : Keeps sayings kept
@@ -228,7 +228,7 @@ told_not_refused source g n o why t (inr end) = told_not_at_end source g n o why
 abbrev IsRefused : List ℕ → Type 0
 IsRefused source = (n o : ℕ) × (why : Why) × Refused source n o why
 
--- without a fault they tell a game, or lack the side
+-- without a fault they contain a game, or lack the side to move
 told_by : (source : List ℕ) (us : List TextUnit) → IsCut source us → (f : NoFault [] us) (stage : Stage) → f.kept.stage ≡ stage → ((g : Game) × Tells source g) ⊎ IsRefused source
 told_by source us cut f (playing c) is =
     let spelt = spelt_all [] us f.sayings f.faultless in

@@ -24,7 +24,7 @@ use Rattle.record_game.specs.Union.{put_on, off_at, rest_given, MayBeHeld, RestI
 use Rattle.record_game.proofs.PlacedUnion.{OnlyOff, InTurn, step_on, step_off, step_hand, step_rest, rests_more, none_put}
 use Rattle.record_game.proofs.SaysOnce.{union_once}
 
--- no more is taken off
+-- no further piece is taken off
 abbrev NoOff : Placing → Type 0
 NoOff (on n p) = Unit {0}
 NoOff (off n k) = ⊥
@@ -57,7 +57,7 @@ none_off m (off n k ∷ ps) h = absurd h.0
 none_off m (in_hand c k ∷ ps) h = none_off m ps h.1
 none_off m (rest c ∷ ps) h = none_off m ps h.1
 
--- one of at most one stands alone
+-- if there is at most one, it is alone
 alone : (xs ys : List Piece) (p : Piece) (zs : List Piece) (o : Option Piece) → xs ++ (ys ++ p ∷ zs) ≡ option_to_list o → xs ++ ys ≡ []
 alone [] [] p zs o h = refl
 alone [] (y ∷ []) p zs None h = cc
@@ -93,7 +93,7 @@ empty_before first done ps s u n p a b low none =
     no_list (get_or s.material.board n None)
     (sym (a.cells n low) ∙ alone (left_on (get_or first n None) (filter_map (off_at n) done)) (filter_map (put_on n) done) p (filter_map (put_on n) ps) (get_or u.material.board n None) all)
 
--- a kind that may be taken off stands there still
+-- a kind that may be taken off is still there
 only_one : (cell : Option Piece) (xs : List Kind) (k : Kind) (ys : List Kind) → MayTakeOff cell (xs ++ k ∷ ys) → (xs ≡ []) × (holds k cell ≡ true)
 only_one cell [] k [] h = (refl, h)
 only_one cell [] k (y ∷ ys) h = absurd h
@@ -123,7 +123,7 @@ held_before first done ps s u n k a b low only =
     ∙ ap (λ xs. option_to_list (get_or first n None) ++ xs) (none_put n done only)) ∙ a.cells n low in
     ap (holds k) (sym (same_option (get_or first n None) (get_or s.material.board n None) cell)) ∙ one.1
 
--- a part of a list in which all hold
+-- a part of a list for all of which something holds
 mid_held : (done : List Placing) (p : Placing) (ps : List Placing) → AllByRecursion MayBeHeld (done ++ p ∷ ps) → MayBeHeld p
 mid_held [] p ps h = h.0
 mid_held (q ∷ done) p ps h = mid_held done p ps h.1
@@ -211,7 +211,7 @@ fine_hand s u c k free b w held grows within =
     let full : nat_le (limit k) (total_of s k) ≡ false = lt-leb _ _ room in
     rw (free, held, full) refl
 
--- all can be placed, and nothing grows less
+-- all can be placed, and no total shrinks
 record Placeable (s u : Layout) (ps : List Placing) : Type 0 where
   all : place_all s ps ≡ Ok (with_rest_given (filter_map rest_given ps) u)
   grows : AllByRecursion NoOff ps → Grows s u

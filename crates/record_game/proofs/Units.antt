@@ -3,7 +3,7 @@ use Rattle.std.proofs.Common.{ℕ, Bool, true, false, cond, ◌+◌, List, [], �
 use Rattle.std.specs.List.{AllByRecursion}
 use Rattle.csa_cutting.specs.Cut.{TextUnit, IsUnit, Units, Statements, is_statement}
 
--- the bytes of a unit, whatever stands behind it
+-- the bytes of a unit, whatever follows it
 abbrev pub IsSomeUnit : TextUnit → Type 0
 IsSomeUnit u = (behind : List ℕ) × IsUnit u.bytes behind
 

@@ -1,4 +1,4 @@
--- What stands under a header's key is decided.
+-- The value of a header is decided.
 use Rattle.std.proofs.Common.{◌≢◌, ◌⊎◌, ℕ, ◌<◌, ◌≤◌, List, [], ◌∷◌, ◌++◌, length, Option, Some, None, pos, refl, sym, ap, ◌∙◌, subst, arith, inl, inr}
 use Rattle.std.specs.Prelude.{codes}
 use Rattle.std.specs.Char.{digit_value}
@@ -177,7 +177,7 @@ moment_key_or_not key =
       ]
     ]
 
--- some text or moment stands under the key
+-- the key has some text or moment as its value
 pub value_under : (key text : List ℕ) → (value : HeaderText) × IsValue key text value
 value_under key text =
     elim (moment_key_or_not key) [
@@ -192,7 +192,7 @@ in_calendar : (t : Option TimeOfDay) (text : List ℕ) (y m d : ℕ) → SpellsD
 in_calendar None text y m d s = (year_small text y m d s.0, s.1, tt)
 in_calendar (Some t) text y m d (date, clock, whole, spells, hours) = (year_small date y m d spells.0, spells.1, (hours.1, hours.2, hours.3))
 
--- what a header's line spells may stand in a game
+-- what a header's line spells may be in a game
 pub entry_fits : (key text : List ℕ) (value : HeaderText) → text ≢ [] → IsHeaderLine key text → IsValue key text value → IsEntry (record { key = key; text = value })
 entry_fits key text (moment m) some h (is, spells) =
     let in_it = in_calendar m.time text m.year m.month m.day spells in

@@ -70,7 +70,7 @@ within_on s n p low fine w =
     let fourth = not_first TooMany (is_full s p.kind) [] third.1 in
     placed-within s.material p.color p.kind n w low (room_in s p.kind fourth.0) (λ h. no_king (is_king p.kind) (kings_of s.material.board p.color) third.0 h)
 
--- one more in a bag
+-- one more piece in a bag
 bag_more : (bag : List ℕ) (k j : Kind) → length bag ≡ 7 → kinds.is_hand_kind k ≡ true → slice_index (one_more bag k) (place_of j) ≡ slice_index bag (place_of j) + cond (place_of k == place_of j) 1 0
 bag_more bag k j seven held =
     let low = held-low k held in
@@ -136,7 +136,7 @@ fine_first : (fault : Option SetupFault) (next : Result Layout SetupFault) (t : 
 fine_first None next t h = (refl, h)
 fine_first (Some f) next t h = cc
 
--- all that are placed one after another
+-- all that are placed, one after another
 pub all_within : (s t : Layout) (ps : List Placing) → AllByRecursion IsOnBoard ps → Within s → place_all s ps ≡ Ok t → Within t
 all_within s t [] low w h = let same : s ≡ t = cc in subst Within same w
 all_within s t (p ∷ ps) low w h =

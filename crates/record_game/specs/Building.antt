@@ -15,7 +15,15 @@ course_of g = record { start = g.start; moves = g.moves; ending = g.ending }
 
 -- the game of both
 abbrev pub game_of : Titled → Course → Game
-game_of t c = record { black = t.black; white = t.white; headers = t.headers; start = c.start; moves = c.moves; ending = c.ending }
+game_of t c =
+    record {
+      black = t.black;
+      white = t.white;
+      headers = t.headers;
+      start = c.start;
+      moves = c.moves;
+      ending = c.ending;
+    }
 
 -- with these names and headers
 abbrev pub with_titled : Game → Titled → Game
@@ -25,6 +33,7 @@ with_titled g t = record g { black = t.black; white = t.white; headers = t.heade
 abbrev pub with_course : Game → Course → Game
 with_course g c = record g { start = c.start; moves = c.moves; ending = c.ending }
 
--- the game of a line alone: no name, no header, no time, no ending
+-- the game of a line alone: no names, headers, times or ending
 abbrev pub game_along : Played → Game
-game_along line = game_of untitled (record { start = line.start; moves = map untimed line.moves; ending = None })
+game_along line =
+    game_of untitled (record { start = line.start; moves = map untimed line.moves; ending = None })

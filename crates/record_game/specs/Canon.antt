@@ -22,7 +22,7 @@ use Rattle.record_game.specs.Game.{Game, Entry, HeaderText, moment, plain}
 use Rattle.record_game.specs.Says.{played_items}
 use Rattle.record_game.specs.Squares.{square_at}
 
--- a point and up to three digits, less the zeros at their end; no thousandths are nothing
+-- a point and up to three digits, without trailing zeros; zero thousandths give no text
 abbrev pub fraction_text : ℕ → List ℕ
 fraction_text n =
     if n == 0 then []
@@ -30,7 +30,7 @@ fraction_text n =
     else if n % 10 == 0 then 46 ∷ two_digits (n / 10)
     else 46 ∷ (48 + n / 100) ∷ two_digits (n % 100)
 
--- the seconds without leading zeros, and the thousandths that remain
+-- the seconds without leading zeros, and then the thousandths
 abbrev pub time_text : ℕ → List ℕ
 time_text t = decimal (t / 1000) ++ fraction_text (t % 1000)
 
@@ -58,19 +58,20 @@ value_text (plain text) = text
 abbrev pub header_item : Entry → Saying
 header_item e = header e.key (value_text e.text)
 
--- a cell is empty or holds the piece that the other holds
+-- the cell is empty or holds the same piece as the other
 abbrev pub stands_in : Option Piece → Option Piece → Bool
 stands_in None other = true
 stands_in (Some p) None = false
 stands_in (Some p) (Some q) = same_color p.color q.color && same_kind p.kind q.kind
 
--- every piece of the first board stands on the other too
+-- every piece of the first board is on the other too
 abbrev pub is_part_of : Cells → Cells → Bool
 is_part_of [] others = true
 is_part_of (c ∷ cs) [] = false
 is_part_of (c ∷ cs) (d ∷ ds) = stands_in c d && is_part_of cs ds
 
--- the pieces of the first board that are missing on the other, from this place on, in the order of the squares
+-- the pieces of the first board that the other lacks, from this place on, in the order of the
+-- squares
 abbrev pub missing : ℕ → Cells → Cells → List Pair
 missing n [] others = []
 missing n (c ∷ cs) [] = []
@@ -80,14 +81,19 @@ missing n (Some p ∷ cs) (Some q ∷ ds) = missing (n + 1) cs ds
 
 -- the cells of a rank, from file 9 to file 1
 abbrev pub rank_cells : Cells → ℕ → List (Option Piece)
-rank_cells cells number = map (λ before. slice_index_or cells (before + (number - 1)) None) (72 ∷ 63 ∷ 54 ∷ 45 ∷ 36 ∷ 27 ∷ 18 ∷ 9 ∷ 0 ∷ [])
+rank_cells cells number =
+    map (λ before. slice_index_or cells (before + (number - 1)) None)
+    (72 ∷ 63 ∷ 54 ∷ 45 ∷ 36 ∷ 27 ∷ 18 ∷ 9 ∷ 0 ∷ [])
 
 abbrev pub rank_items : Cells → List Saying
-rank_items cells = map (λ number. rank number (rank_cells cells number)) (1 ∷ 2 ∷ 3 ∷ 4 ∷ 5 ∷ 6 ∷ 7 ∷ 8 ∷ 9 ∷ [])
+rank_items cells =
+    map (λ number. rank number (rank_cells cells number)) (1 ∷ 2 ∷ 3 ∷ 4 ∷ 5 ∷ 6 ∷ 7 ∷ 8 ∷ 9 ∷ [])
 
 -- a pair for each piece of a hand, rooks first
 abbrev pub hand_pairs : List ℕ → List Pair
-hand_pairs bag = flat_map (λ kind. replicate (count_in bag kind) (InHand kind)) (Rook ∷ Bishop ∷ Gold ∷ Silver ∷ Knight ∷ Lance ∷ Pawn ∷ [])
+hand_pairs bag =
+    flat_map (λ kind. replicate (count_in bag kind) (InHand kind))
+    (Rook ∷ Bishop ∷ Gold ∷ Silver ∷ Knight ∷ Lance ∷ Pawn ∷ [])
 
 abbrev pub pairs_items : Color → List Pair → List Saying
 pairs_items color [] = []
@@ -100,17 +106,22 @@ abbrev pub no_items : List Saying → Bool
 no_items [] = true
 no_items (s ∷ ss) = false
 
--- both hands are empty, and every piece of the board stands where the even board has that same piece
+-- both hands are empty, and every piece of the board is where the even board has the same piece
 abbrev pub is_from_even : Placed → Bool
-is_from_even p = no_items (hand_items Black p.material.black ++ hand_items White p.material.white) && is_part_of p.material.board even_cells
+is_from_even p =
+    no_items (hand_items Black p.material.black ++ hand_items White p.material.white)
+    && is_part_of p.material.board even_cells
 
--- `PI` with the missing pieces of the even board, or else the ranks and the hands that are not empty
+-- `PI` with the missing pieces of the even board; or else the ranks, and the hands that are not
+-- empty
 abbrev pub start_items : Placed → List Saying
 start_items p =
     if is_from_even p then even (missing 0 even_cells p.material.board) ∷ []
-    else rank_items p.material.board ++ (hand_items Black p.material.black ++ hand_items White p.material.white)
+    else rank_items p.material.board
+    ++ (hand_items Black p.material.black ++ hand_items White p.material.white)
 
--- the version, the names, the headers, the start, the side to move, the moves with their times, and the ending
+-- the version, the names, the headers, the start, the side to move, the moves with their times, and
+-- the ending
 abbrev pub canon_items : Game → List Saying
 canon_items g =
     version ∷ (name_items Black g.black ++ (name_items White g.white ++ (map header_item g.headers

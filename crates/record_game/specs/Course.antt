@@ -32,9 +32,11 @@ line_of c = record { start = c.start; moves = map move_of c.moves }
 abbrev pub untimed : Move → Timed
 untimed m = record { move = m; time = None }
 
--- with an ending nothing more is played; 10,000 moves are the most
+-- after an ending no move is played; 10,000 moves are the most
 abbrev pub play_fault : Course → Option OrderFault
-play_fault c = first_fault ((AfterEnding, is_some c.ending) ∷ (TooManyMoves, nat_le max_moves (length c.moves)) ∷ [])
+play_fault c =
+    first_fault
+    ((AfterEnding, is_some c.ending) ∷ (TooManyMoves, nat_le max_moves (length c.moves)) ∷ [])
 
 abbrev pub PlayAnswersAfter : Option OrderFault → Course → Color → Move → Option Why → Type 0
 PlayAnswersAfter (Some fault) c color m answer = answer ≡ Some (Order fault)
@@ -45,11 +47,11 @@ PlayAnswersAfter None c color m answer =
 abbrev pub PlayAnswers : Course → Color → Move → Option Why → Type 0
 PlayAnswers c = PlayAnswersAfter (play_fault c) c
 
--- there is one ending
+-- there is at most one ending
 abbrev pub close_fault : Course → Option Why
 close_fault c = if is_some c.ending then Some (Order AfterEnding) else None
 
--- the last of the moves has no time yet
+-- the last move has no time yet
 abbrev pub awaits : List Timed → Bool
 awaits [] = false
 awaits (t ∷ []) = not (is_some t.time)
@@ -59,14 +61,14 @@ abbrev pub awaits_behind : List Timed → Option Ended → Bool
 awaits_behind moves None = awaits moves
 awaits_behind moves (Some e) = not (is_some e.time)
 
--- the ending, or else the last move, may have a time
+-- the ending, or else the last move, may be given a time
 abbrev pub awaits_time : Course → Bool
 awaits_time c = awaits_behind c.moves c.ending
 
 abbrev pub time_fault : Course → Option Why
 time_fault c = if awaits_time c then None else Some (Order LooseTime)
 
--- with this time of the last move
+-- the moves with this time for the last one
 abbrev pub with_last_time : List Timed → ℕ → List Timed
 with_last_time [] time = []
 with_last_time (t ∷ []) time = record { move = t.move; time = Some time } ∷ []
@@ -74,17 +76,19 @@ with_last_time (t ∷ u ∷ ts) time = t ∷ with_last_time (u ∷ ts) time
 
 abbrev pub with_time_behind : Option Ended → Course → ℕ → Course
 with_time_behind None c time = record c { moves = with_last_time c.moves time }
-with_time_behind (Some e) c time = record c { ending = Some (record { ending = e.ending; time = Some time }) }
+with_time_behind (Some e) c time =
+    record c { ending = Some (record { ending = e.ending; time = Some time }) }
 
--- with this time of the ending, or else of the last move
+-- the course with this time for the ending, or else for the last move
 abbrev pub with_time : Course → ℕ → Course
 with_time c = with_time_behind c.ending c
 
--- with this ending, which has no time
+-- the course with this ending, which has no time yet
 abbrev pub with_ending : Course → Ending → Course
 with_ending c e = record c { ending = Some (record { ending = e; time = None }) }
 
--- a sound start, legal moves, none played where a position stands for the fourth time, and times that may stand
+-- a sound start, legal moves, none of them played in a position that occurs for the fourth time,
+-- and times within the limit
 pub record IsCourse (c : Course) : Type 0 where
   pub sound : IsSound c.start
   pub line : rules.IsGame c.start (map move_of c.moves)
@@ -95,7 +99,7 @@ pub record IsCourse (c : Course) : Type 0 where
 abbrev pub time_of : Timed → Option ℕ
 time_of t = t.time
 
--- the time of this move, counted from 0, if the move stands and has one
+-- the time of this move, counted from 0, if there is such a move and it has a time
 abbrev pub time_at : List Timed → ℕ → Option ℕ
 time_at moves n = slice_index_or (map time_of moves) n None
 

@@ -1,11 +1,12 @@
--- What the bytes of a statement may spell.
+-- What private helpers need: what the bytes of a statement may contain. A reader of the public
+-- contracts may skip this file.
 use Rattle.std.specs.Prelude.{◌≡◌, ◌≢◌, ℕ, ◌+◌, ◌≤◌, List, [], length}
 use Rattle.csa_cutting.specs.Cut.{IsUnit, statement_bytes, longest_statement}
 use Rattle.csa_text.specs.Fields.{HasNone}
 use Rattle.csa_text.specs.Saying.{Saying, version, name, header, even, rank, pieces, turn, walked, time, ending}
 use Rattle.record_game.specs.Limits.{IsOneLine, longest_time}
 
--- the bytes of a statement: of a unit of at most 4,096 bytes
+-- bytes of a statement whose unit has at most 4,096 bytes
 pub record IsOfStatement (bytes : List ℕ) : Type 0 where
   pub unit : List ℕ
   pub behind : List ℕ

@@ -15,7 +15,7 @@ pub record Ended : Type 0 where
   pub ending : Ending
   pub time : Option ℕ
 
--- what stands under a key: a moment, or another text
+-- the value of a header: a moment, or any other text
 pub data HeaderText : Type 0 where
   moment : CalendarMoment → HeaderText
   plain : List ℕ → HeaderText
@@ -25,7 +25,8 @@ pub record Entry : Type 0 where
   pub key : List ℕ
   pub text : HeaderText
 
--- two names, headers in the order of their keys, a start with its side to move, the moves from it, and an ending
+-- two names, headers in the order of their keys, a start with its side to move, the moves from it,
+-- and an ending
 pub record Game : Type 0 where
   pub black : Option (List ℕ)
   pub white : Option (List ℕ)

@@ -18,7 +18,7 @@ is_version (walked color m) = false
 is_version (time t) = false
 is_version (ending e) = false
 
--- the name of this side; an empty one is none
+-- the name of this side; an empty name counts as none
 abbrev pub name_given : Color → Saying → Option (List ℕ)
 name_given side version = None
 name_given side (name color []) = None
@@ -35,7 +35,7 @@ name_given side (ending e) = None
 abbrev pub names : Color → List Saying → List (List ℕ)
 names side sayings = filter_map (name_given side) sayings
 
--- the key and the text of a header; one with an empty text is none
+-- the key and the text of a header; a header with an empty text counts as none
 abbrev pub header_given : Saying → Option (List ℕ × List ℕ)
 header_given version = None
 header_given (name color text) = None
@@ -139,7 +139,7 @@ is_ending (walked color m) = false
 is_ending (time t) = false
 is_ending (ending e) = true
 
--- the body, in which the order counts: all but versions, names and headers
+-- the body, whose order matters: all items but versions, names and headers
 abbrev pub is_body : Saying → Bool
 is_body version = false
 is_body (name color text) = false

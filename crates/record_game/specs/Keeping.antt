@@ -16,7 +16,7 @@ use Rattle.record_game.specs.Refused.{Answers}
 use Rattle.record_game.specs.Says.{AreEntries, RanksOnce, move_items, ending_items}
 use Rattle.record_game.specs.Titles.{Titled}
 
--- the start while it is laid out, or from the side to move on the moves
+-- the start while it is laid out, or the moves once the side to move is given
 pub data Stage : Type 0 where
   laying : Laid → Stage
   playing : Course → Stage
@@ -26,14 +26,17 @@ pub record Kept : Type 0 where
   pub titles : Titled
   pub stage : Stage
 
--- the body of the items so far is position statements; or these, the side to move, and what was played from the start
+-- the body of the items so far is position statements; or it is these, the side to move, and what
+-- was played from the start
 abbrev pub KeepsStage : List Saying → Stage → Type 0
 KeepsStage before (laying l) = Lays before l × (body before ≡ positions before)
 KeepsStage before (playing c) =
     (layout : Layout) × (laid_out before ≡ Ok layout) × (c.start ≡ position_of layout c.start.side)
-    × (body before ≡ positions before ++ turn c.start.side ∷ (move_items c.start.side c.moves ++ ending_items c.ending))
+    × (body before
+    ≡ positions before
+    ++ turn c.start.side ∷ (move_items c.start.side c.moves ++ ending_items c.ending))
 
--- this is kept of the items so far
+-- what a reader keeps of the items so far
 pub record Keeps (before : List Saying) (k : Kept) : Type 0 where
   pub begun : k.begun ≡ stands before
   pub version_first : filter is_version (drop 1 before) ≡ []
@@ -48,4 +51,5 @@ pub record Keeps (before : List Saying) (k : Kept) : Type 0 where
 -- the next item was taken, or refused for the first fault that it has after the items before it
 abbrev pub TakenOrRefused : List Saying → Saying → Result (Unit {0}) Why → Kept → Type 0
 TakenOrRefused before s result new =
-    (answer : Option Why) × Answers before s answer × IsAnswer answer result × OnOk result (Keeps (before ++ s ∷ []) new)
+    (answer : Option Why) × Answers before s answer × IsAnswer answer result
+    × OnOk result (Keeps (before ++ s ∷ []) new)

@@ -8,6 +8,8 @@ use Rattle.record_game.specs.Items.{positions}
 use Rattle.record_game.specs.Placings.{placings}
 use Rattle.record_game.specs.Union.{first_board}
 
--- what the position statements among the items place, or why the first that cannot be placed cannot be
+-- what the position statements among the items place, or the fault of the first that cannot be
+-- placed
 abbrev pub laid_out : List Saying → Result Layout SetupFault
-laid_out sayings = place_all (board_alone (first_board (positions sayings))) (placings (positions sayings))
+laid_out sayings =
+    place_all (board_alone (first_board (positions sayings))) (placings (positions sayings))

@@ -19,3 +19,4 @@ pub mod Building
 pub mod Keeping
 pub mod Fits
 pub mod Outcome
+pub mod Closed

@@ -10,21 +10,21 @@ use Rattle.record_game.specs.Game.{Game, Timed, Ended, HeaderText, moment, plain
 use Rattle.csa_cutting.specs.Cut.{longest_statement}
 use Rattle.shogi_rules.specs.Positions.{max_moves}
 
--- how many headers a record has at most
+-- the most headers that a record may have
 abbrev pub most_headers : ℕ
 most_headers = 64
 
--- a text that stands on one line
+-- a text without a line end
 abbrev pub IsOneLine : List ℕ → Type 0
 IsOneLine text = AllByRecursion (λ b. (b ≢ 13) × (b ≢ 10)) text
 
--- a name, which is not empty, and fits into a statement behind its `N+` or `N-`
+-- a name, which is not empty, and fits into a statement after its `N+` or `N-`
 pub record IsName (text : List ℕ) : Type 0 where
   pub some : text ≢ []
   pub one_line : IsOneLine text
   pub fits : 2 + length text ≤ longest_statement
 
--- the keys under which a moment may stand
+-- the keys whose value may be a moment
 abbrev pub IsMomentKey : List ℕ → Type 0
 IsMomentKey key = (key ≡ codes "START_TIME") ⊎ (key ≡ codes "END_TIME")
 
@@ -38,7 +38,8 @@ pub record IsMoment (m : CalendarMoment) : Type 0 where
   pub day : IsCivilDate (pos m.year) m.month m.day
   pub time : IsInDay m.time
 
--- another text, which is not empty, fits into a statement behind `$`, the key and `:`, and under those keys spells no moment
+-- another text, which is not empty, fits into a statement after `$`, the key and `:`, and does not
+-- spell a moment if the key is one of those
 pub record IsPlain (key text : List ℕ) : Type 0 where
   pub some : text ≢ []
   pub one_line : IsOneLine text
@@ -49,27 +50,28 @@ abbrev pub MayStandUnder : List ℕ → HeaderText → Type 0
 MayStandUnder key (moment m) = IsMomentKey key × IsMoment m
 MayStandUnder key (plain text) = IsPlain key text
 
--- a key, which is not empty and has no colon, and what may stand under it
+-- a key, which is not empty and has no colon, and a value that it may have
 pub record IsEntry (e : Entry) : Type 0 where
   pub some : e.key ≢ []
   pub one_line : IsOneLine e.key
   pub no_colon : HasNone 58 e.key
   pub text : MayStandUnder e.key e.text
 
--- the first of two texts comes before the other, byte by byte
+-- the first of two texts comes before the other in the order of their bytes
 abbrev pub is_below : List ℕ → List ℕ → Bool
 is_below [] [] = false
 is_below [] (c ∷ cs) = true
 is_below (b ∷ bs) [] = false
-is_below (b ∷ bs) (c ∷ cs) = if nat_lt b c then true else if nat_lt c b then false else is_below bs cs
+is_below (b ∷ bs) (c ∷ cs) =
+    if nat_lt b c then true else if nat_lt c b then false else is_below bs cs
 
--- each key comes before the next one: so no two are equal, and the entries have one order
+-- each key comes before the next one, so no two are equal and the entries have one order
 abbrev pub Rising : List Entry → Type 0
 Rising [] = Unit {0}
 Rising (e ∷ []) = Unit {0}
 Rising (e ∷ f ∷ es) = (is_below e.key f.key ≡ true) × Rising (f ∷ es)
 
--- the most that a time may be, in thousandths of a second: 4,294,967,295 seconds and 999 thousandths
+-- the longest time, in thousandths of a second: 4,294,967,295 seconds and 999 thousandths
 abbrev pub longest_time : ℕ
 longest_time = 4294967295999
 
@@ -82,7 +84,8 @@ abbrev pub EndsInTime : Option Ended → Type 0
 EndsInTime None = Unit {0}
 EndsInTime (Some e) = IsTimed e.time
 
--- each move is legal after those before it, and nothing is played where a position stands for the fourth time
+-- each move is legal after those before it, and none is played in a position that occurs for the
+-- fourth time
 pub record IsGame (g : Game) : Type 0 where
   pub black : IfSome g.black IsName
   pub white : IfSome g.white IsName

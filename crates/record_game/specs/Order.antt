@@ -1,4 +1,4 @@
--- Why the next item does not fit behind the items before it.
+-- Why the next item does not fit after the items before it.
 use Rattle.std.specs.Prelude.{ℕ, ◌==◌, nat_le, nat_eq, not, Bool, true, false, List, [], ◌∷◌, length, filter, Option}
 use Rattle.std.specs.Cmp.Lexicographic.{pointwise}
 use Rattle.shogi_board.specs.Setup.{first_fault}
@@ -9,12 +9,12 @@ use Rattle.record_game.specs.Items.{names, headers, is_even, ranks, positions, s
 use Rattle.record_game.specs.declared.fault.OrderFault.{OrderFault}
 use Rattle.record_game.specs.declared.fault.OrderFault.TheVariants.{VersionOutOfPlace, RepeatedName, RepeatedHeader, TooManyHeaders, MixedStart, PositionLate, MoveBeforeTurn, RepeatedTurn, LooseTime, AfterEnding, TooManyMoves}
 
--- something stands in the list
+-- the list is not empty
 abbrev pub stands : {X : Type 0} → List X → Bool
 stands [] = false
 stands (x ∷ xs) = true
 
--- the headers of this key
+-- the headers with this key
 abbrev pub under : List ℕ → List Saying → List (List ℕ × List ℕ)
 under key sayings = filter (λ h. pointwise nat_eq h.0 key) (headers sayings)
 
@@ -40,27 +40,33 @@ awaits_time [] = false
 awaits_time (s ∷ []) = may_have_time s
 awaits_time (s ∷ t ∷ ss) = awaits_time (t ∷ ss)
 
--- the order faults of the next item, in the order in which they are looked for; an empty name or an empty text has none
+-- the order faults of the next item, in the order in which they are looked for; an empty name or
+-- text has none
 abbrev pub order_faults : List Saying → Saying → List (OrderFault × Bool)
 order_faults before version = (VersionOutOfPlace, stands before) ∷ []
 order_faults before (name color []) = []
 order_faults before (name color (b ∷ bs)) = (RepeatedName, stands (names color before)) ∷ []
 order_faults before (header key []) = []
 order_faults before (header key (b ∷ bs)) =
-    (RepeatedHeader, stands (under key before)) ∷ (TooManyHeaders, nat_le most_headers (length (headers before))) ∷ []
+    (RepeatedHeader, stands (under key before))
+    ∷ (TooManyHeaders, nat_le most_headers (length (headers before))) ∷ []
 order_faults before (even pairs) =
-    (AfterEnding, stands (endings before)) ∷ (PositionLate, stands (sides before)) ∷ (MixedStart, stands (positions before)) ∷ []
+    (AfterEnding, stands (endings before)) ∷ (PositionLate, stands (sides before))
+    ∷ (MixedStart, stands (positions before)) ∷ []
 order_faults before (rank number cells) =
     (AfterEnding, stands (endings before)) ∷ (PositionLate, stands (sides before))
-    ∷ (MixedStart, stands (filter is_even before)) ∷ (MixedStart, stands (filter (λ n. n == number) (ranks before))) ∷ []
+    ∷ (MixedStart, stands (filter is_even before))
+    ∷ (MixedStart, stands (filter (λ n. n == number) (ranks before))) ∷ []
 order_faults before (pieces color pairs) =
     (AfterEnding, stands (endings before)) ∷ (PositionLate, stands (sides before)) ∷ []
-order_faults before (turn color) = (AfterEnding, stands (endings before)) ∷ (RepeatedTurn, stands (sides before)) ∷ []
+order_faults before (turn color) = (AfterEnding, stands (endings before))
+    ∷ (RepeatedTurn, stands (sides before)) ∷ []
 order_faults before (walked color m) =
     (AfterEnding, stands (endings before)) ∷ (MoveBeforeTurn, not (stands (sides before)))
     ∷ (TooManyMoves, nat_le max_moves (length (moves before))) ∷ []
 order_faults before (time t) = (LooseTime, not (awaits_time (body before))) ∷ []
-order_faults before (ending e) = (AfterEnding, stands (endings before)) ∷ (MoveBeforeTurn, not (stands (sides before))) ∷ []
+order_faults before (ending e) = (AfterEnding, stands (endings before))
+    ∷ (MoveBeforeTurn, not (stands (sides before))) ∷ []
 
 abbrev pub order_fault : List Saying → Saying → Option OrderFault
 order_fault before saying = first_fault (order_faults before saying)

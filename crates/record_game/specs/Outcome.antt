@@ -1,4 +1,5 @@
--- What becomes of the next statement.
+-- What private helpers promise: what becomes of the next statement. A reader of the public
+-- contracts may skip this file.
 use Rattle.std.specs.Prelude.{◌≡◌, ◌⊎◌, ℕ, List, [], ◌∷◌, ◌++◌, Option, Some, None, Result, Ok, Err}
 use Rattle.csa_text.specs.Saying.{Saying}
 use Rattle.csa_text.specs.Spelling.{Spells, fault_of_row}
@@ -10,7 +11,7 @@ use Rattle.record_game.specs.Game.{Ended}
 use Rattle.record_game.specs.Keeping.{Kept, Keeps}
 use Rattle.record_game.specs.Refused.{Answers}
 
--- some bytes spell it
+-- some bytes spell this item
 abbrev pub IsWritten : Saying → Type 0
 IsWritten s = (bytes : List ℕ) × Spells bytes s
 
@@ -26,13 +27,17 @@ SpellRefused before bytes why = (s : Saying) × Spells bytes s × Answers before
 abbrev pub SpellTaken : List Saying → List ℕ → Saying → Type 0
 SpellTaken before bytes s = Spells bytes s × Answers before s None
 
--- the item that the bytes spell was taken; or it could be, and memory was refused; or the bytes are refused
+-- the item that the bytes spell was taken; or it could be, and an allocation failed; or the bytes
+-- are refused
 abbrev pub Outcome : List Saying → List ℕ → Result (Unit {0}) Why → Kept → Type 0
-Outcome before bytes (Ok u) new = (s : Saying) × SpellTaken before bytes s × Keeps (before ++ s ∷ []) new
+Outcome before bytes (Ok u) new = (s : Saying) × SpellTaken before bytes s
+    × Keeps (before ++ s ∷ []) new
 Outcome before bytes (Err why) new =
-    ((why ≡ OutOfMemory) × ((s : Saying) × SpellTaken before bytes s)) ⊎ (SpellNothing bytes why ⊎ SpellRefused before bytes why)
+    ((why ≡ OutOfMemory) × ((s : Saying) × SpellTaken before bytes s))
+    ⊎ (SpellNothing bytes why ⊎ SpellRefused before bytes why)
 
--- the fault of a position statement or a side behind the side to move; behind an ending that comes first
+-- the fault of a position statement or a side after the side to move; after an ending it is
+-- AfterEnding
 abbrev pub late : Option Ended → OrderFault → OrderFault
 late None fault = fault
 late (Some e) fault = AfterEnding

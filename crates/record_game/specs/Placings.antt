@@ -9,13 +9,14 @@ use Rattle.csa_text.specs.declared.pair.Pair.{Pair}
 use Rattle.csa_text.specs.declared.pair.Pair.TheVariants.{On, InHand, Rest}
 use Rattle.csa_text.specs.Saying.{Saying, version, name, header, even, rank, pieces, turn, walked, time, ending}
 
--- a pair behind `P+` or `P-`
+-- a pair after `P+` or `P-`
 abbrev pub pair_placing : Color → Pair → Placing
-pair_placing color (On square of_kind) = on (place square) (record { color = color; kind = of_kind })
+pair_placing color (On square of_kind) =
+    on (place square) (record { color = color; kind = of_kind })
 pair_placing color (InHand of_kind) = in_hand color of_kind
 pair_placing color Rest = rest color
 
--- a pair behind `PI`: bytes spell it with a square alone, so that the other two never stand there
+-- a pair after `PI`: bytes spell only pairs with a square there, so the other two never occur
 abbrev pub taken_off : Pair → List Placing
 taken_off (On square of_kind) = off (place square) of_kind ∷ []
 taken_off (InHand of_kind) = []
@@ -25,7 +26,8 @@ taken_off Rest = []
 abbrev pub cells_placings : ℕ → ℕ → List (Option Piece) → List Placing
 cells_placings file number [] = []
 cells_placings file number (None ∷ cells) = cells_placings (file - 1) number cells
-cells_placings file number (Some p ∷ cells) = on ((file - 1) * 9 + (number - 1)) p ∷ cells_placings (file - 1) number cells
+cells_placings file number (Some p ∷ cells) = on ((file - 1) * 9 + (number - 1)) p
+    ∷ cells_placings (file - 1) number cells
 
 abbrev pub placings_of : Saying → List Placing
 placings_of version = []

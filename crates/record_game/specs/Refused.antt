@@ -29,13 +29,14 @@ abbrev pub start_why : Result Layout SetupFault → Option Why
 start_why (Ok s) = None
 start_why (Err fault) = Some (Start fault)
 
--- the side to move finishes the start: the king of the other side may not be attacked
+-- the side to move completes the start: the other side's king may not be attacked
 abbrev pub Finishes : Result Layout SetupFault → Color → Option Why → Type 0
 Finishes (Err fault) color answer = ⊥
 Finishes (Ok s) color None = InCheck s.material.board (opponent color) → ⊥
-Finishes (Ok s) color (Some why) = InCheck s.material.board (opponent color) × (why ≡ Start OpponentInCheck)
+Finishes (Ok s) color (Some why) = InCheck s.material.board (opponent color)
+    × (why ≡ Start OpponentInCheck)
 
--- the line of the start that the items before have laid out, and of their moves
+-- the line with the start that the items before have laid out, and their moves
 pub record IsLineOf (before : List Saying) (line : Played) : Type 0 where
   pub layout : Layout
   pub side : Color
@@ -44,24 +45,28 @@ pub record IsLineOf (before : List Saying) (line : Played) : Type 0 where
   pub start : line.start ≡ position_of layout side
   pub moves_are : line.moves ≡ moves before
 
--- what playing a move answers, as a fault of its statement
+-- what playing a move returns, as a fault of its statement
 abbrev pub IsJudged : Option PlayFault → Option Why → Type 0
 IsJudged None answer = answer ≡ None
 IsJudged (Some (playing.Broken rule)) answer = answer ≡ Some (Rule rule)
 IsJudged (Some playing.TooManyMoves) answer = ⊥
 IsJudged (Some playing.OutOfMemory) answer = ⊥
 
--- why an item without an order fault is refused after those before it; or None, and it is taken
+-- why an item without an order fault is refused after those before it; None if it is taken
 abbrev pub AnswersInOrder : List Saying → Saying → Option Why → Type 0
 AnswersInOrder before version answer = answer ≡ None
 AnswersInOrder before (name color text) answer = answer ≡ None
 AnswersInOrder before (header key text) answer = answer ≡ None
-AnswersInOrder before (even pairs) answer = answer ≡ start_why (laid_out (before ++ even pairs ∷ []))
-AnswersInOrder before (rank number cells) answer = answer ≡ start_why (laid_out (before ++ rank number cells ∷ []))
-AnswersInOrder before (pieces color pairs) answer = answer ≡ start_why (laid_out (before ++ pieces color pairs ∷ []))
+AnswersInOrder before (even pairs) answer = answer
+    ≡ start_why (laid_out (before ++ even pairs ∷ []))
+AnswersInOrder before (rank number cells) answer = answer
+    ≡ start_why (laid_out (before ++ rank number cells ∷ []))
+AnswersInOrder before (pieces color pairs) answer = answer
+    ≡ start_why (laid_out (before ++ pieces color pairs ∷ []))
 AnswersInOrder before (turn color) answer = Finishes (laid_out before) color answer
 AnswersInOrder before (walked color m) answer =
-    (line : Played) × IsLineOf before line × (played : Option PlayFault) × plays.Answers line color m played × IsJudged played answer
+    (line : Played) × IsLineOf before line × (played : Option PlayFault)
+    × plays.Answers line color m played × IsJudged played answer
 AnswersInOrder before (time t) answer = answer ≡ None
 AnswersInOrder before (ending e) answer = answer ≡ None
 
@@ -69,7 +74,7 @@ abbrev pub AnswersAfter : Option OrderFault → List Saying → Saying → Optio
 AnswersAfter (Some fault) before saying answer = answer ≡ Some (Order fault)
 AnswersAfter None before saying answer = AnswersInOrder before saying answer
 
--- why the next item is refused after the items before it: an order fault first; or None, and it is taken
+-- why the next item is refused after the items before it, order faults first; None if it is taken
 abbrev pub Answers : List Saying → Saying → Option Why → Type 0
 Answers before saying answer = AnswersAfter (order_fault before saying) before saying answer
 
@@ -79,11 +84,13 @@ IsTooLong unit why = (longest_statement < length unit.bytes) × (why ≡ Text St
 -- it spells no item, and has the fault of its row
 abbrev pub IsUnspelt : TextUnit → Why → Type 0
 IsUnspelt unit why =
-    (length unit.bytes ≤ longest_statement) × ((saying : Saying) → Spells (statement_bytes unit.bytes) saying → ⊥)
+    (length unit.bytes ≤ longest_statement)
+    × ((saying : Saying) → Spells (statement_bytes unit.bytes) saying → ⊥)
     × (why ≡ Text (fault_of_row (statement_bytes unit.bytes)))
 
 abbrev pub IsRefusedItem : List Saying → TextUnit → Why → Type 0
-IsRefusedItem before unit why = (saying : Saying) × IsSpelt unit saying × Answers before saying (Some why)
+IsRefusedItem before unit why = (saying : Saying) × IsSpelt unit saying
+    × Answers before saying (Some why)
 
 -- why the next statement is refused after these items
 abbrev pub Fault : List Saying → TextUnit → Why → Type 0
@@ -94,7 +101,8 @@ abbrev pub Faultless : List Saying → List TextUnit → List Saying → Type 0
 Faultless before [] [] = Unit {0}
 Faultless before [] (s ∷ ss) = ⊥
 Faultless before (u ∷ us) [] = ⊥
-Faultless before (u ∷ us) (s ∷ ss) = IsSpelt u s × Answers before s None × Faultless (before ++ s ∷ []) us ss
+Faultless before (u ∷ us) (s ∷ ss) = IsSpelt u s × Answers before s None
+    × Faultless (before ++ s ∷ []) us ss
 
 -- the first statement with a fault is this one
 pub record RefusedAt (source : List ℕ) (number offset : ℕ) (why : Why) : Type 0 where
@@ -120,7 +128,8 @@ pub record RefusedAtEnd (source : List ℕ) (number offset : ℕ) (why : Why) : 
   pub why_is : why ≡ Order MissingTurn
 
 abbrev pub Refused : List ℕ → ℕ → ℕ → Why → Type 0
-Refused source number offset why = RefusedAt source number offset why ⊎ RefusedAtEnd source number offset why
+Refused source number offset why = RefusedAt source number offset why
+    ⊎ RefusedAtEnd source number offset why
 
 -- the statements up to the one with this number and offset have no fault
 pub record FaultlessTo (source : List ℕ) (number offset : ℕ) : Type 0 where
@@ -133,14 +142,14 @@ pub record FaultlessTo (source : List ℕ) (number offset : ℕ) : Type 0 where
   pub number_is : number ≡ length front + 1
   pub place : offset ≡ unit.offset
 
--- the bytes tell this game, no other, and are not refused
+-- the bytes contain this game and no other, and are not refused
 pub record ToldAlone (source : List ℕ) : Type 0 where
   pub game : Game
   pub tells : Tells source game
   pub only : (other : Game) → Tells source other → other ≡ game
   pub not_refused : (number offset : ℕ) (why : Why) → Refused source number offset why → ⊥
 
--- the bytes are refused so, not otherwise, and tell no game
+-- the bytes are refused in this way and no other, and contain no game
 pub record RefusedAlone (source : List ℕ) : Type 0 where
   pub number : ℕ
   pub offset : ℕ

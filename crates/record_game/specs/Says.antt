@@ -11,12 +11,14 @@ use Rattle.record_game.specs.Items.{is_version, names, headers, is_even, ranks, 
 use Rattle.record_game.specs.Limits.{IsMomentKey, IsGame}
 use Rattle.record_game.specs.Union.{GiveStart}
 
--- the moment that the text spells where the key is one of these and it spells one, else the text
+-- the moment that the text spells, if the key is one of those and it spells one; else the text
 abbrev pub IsValue : List ℕ → List ℕ → HeaderText → Type 0
 IsValue key text (moment m) = IsMomentKey key × SpellsMoment text m
-IsValue key text (plain other) = (other ≡ text) × (IsMomentKey key → (m : CalendarMoment) → SpellsMoment text m → ⊥)
+IsValue key text (plain other) = (other ≡ text)
+    × (IsMomentKey key → (m : CalendarMoment) → SpellsMoment text m → ⊥)
 
--- these keys and texts are those of the entries, whatever their order: an entry is that of the first, and the others are those of the rest
+-- these keys and texts are those of the entries, in any order: one entry is that of the first
+-- header, and the others are those of the rest
 abbrev pub AreEntries : List (List ℕ × List ℕ) → List Entry → Type 0
 AreEntries [] entries = entries ≡ []
 AreEntries (h ∷ hs) entries =
@@ -30,7 +32,8 @@ time_items (Some t) = time t ∷ []
 
 abbrev pub move_items : Color → List Timed → List Saying
 move_items color [] = []
-move_items color (t ∷ ts) = walked color t.move ∷ (time_items t.time ++ move_items (opponent color) ts)
+move_items color (t ∷ ts) = walked color t.move
+    ∷ (time_items t.time ++ move_items (opponent color) ts)
 
 abbrev pub ending_items : Option Ended → List Saying
 ending_items None = []
@@ -39,20 +42,20 @@ ending_items (Some e) = ending e.ending ∷ time_items e.time
 abbrev pub played_items : Game → List Saying
 played_items g = move_items g.start.side g.moves ++ ending_items g.ending
 
--- no rank stands twice
+-- no rank is given twice
 abbrev pub RanksOnce : List Saying → Type 0
 RanksOnce sayings = (number : ℕ) → AtMostOne (filter (λ n. n == number) (ranks sayings))
 
 -- the items say this game
 pub record Says (sayings : List Saying) (g : Game) : Type 0 where
-  -- a version is the first item or there is none
+  -- a version is the first item, or there is none
   pub version_first : filter is_version (drop 1 sayings) ≡ []
   -- at most one name of each side, anywhere
   pub black : names Black sayings ≡ option_to_list g.black
   pub white : names White sayings ≡ option_to_list g.white
   -- headers, anywhere
   pub headers : AreEntries (headers sayings) g.headers
-  -- `PI` is the first position statement or there is none, and no rank stands beside it or twice
+  -- `PI` is the first position statement or there is none, and no rank is given beside it or twice
   pub even_first : filter is_even (drop 1 (positions sayings)) ≡ []
   pub even_or_ranks : (filter is_even sayings ≡ []) ⊎ (ranks sayings ≡ [])
   pub ranks_once : RanksOnce sayings

@@ -2,7 +2,8 @@
 use Rattle.std.proofs.Common.{ℕ, ◌+◌, ◌/◌, ◌%◌, ◌≤◌, arith}
 use Rattle.shogi_board.specs.declared.square.Square.{Square}
 
-pub on_board : (n : ℕ) → (1 ≤ n / 9 % 9 + 1) × (n / 9 % 9 + 1 ≤ 9) × (1 ≤ n % 9 + 1) × (n % 9 + 1 ≤ 9)
+pub on_board : (n : ℕ)
+    → (1 ≤ n / 9 % 9 + 1) × (n / 9 % 9 + 1 ≤ 9) × (1 ≤ n % 9 + 1) × (n % 9 + 1 ≤ 9)
 on_board n = (omega arith, omega arith, omega arith, omega arith)
 
 -- the square of this place below 81, in the order 11, 12, .. 19, 21, .. 99

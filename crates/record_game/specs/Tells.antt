@@ -1,4 +1,4 @@
--- Which game the bytes of a record tell.
+-- Which game the bytes of a record contain.
 use Rattle.std.specs.Prelude.{ℕ, ◌≤◌, List, length}
 use Rattle.std.specs.List.{AllZip}
 use Rattle.csa_cutting.specs.Cut.{TextUnit, IsCut, statement_bytes, longest_statement}
@@ -7,9 +7,10 @@ use Rattle.csa_text.specs.Spelling.{Spells}
 use Rattle.record_game.specs.Game.{Game}
 use Rattle.record_game.specs.Says.{Says}
 
--- a statement of at most 4,096 bytes, blanks at its end counted, that spells this item
+-- a statement of at most 4,096 bytes, including blanks at its end, that spells this item
 abbrev pub IsSpelt : TextUnit → Saying → Type 0
-IsSpelt unit saying = (length unit.bytes ≤ longest_statement) × Spells (statement_bytes unit.bytes) saying
+IsSpelt unit saying = (length unit.bytes ≤ longest_statement)
+    × Spells (statement_bytes unit.bytes) saying
 
 -- the bytes are cut into statements, each spells an item, and the items say this game
 pub record Tells (source : List ℕ) (g : Game) : Type 0 where

@@ -27,16 +27,17 @@ abbrev pub name_of : Titled → Color → Option (List ℕ)
 name_of t Black = t.black
 name_of t White = t.white
 
--- the entries of this key
+-- the entries with this key
 abbrev pub under : List ℕ → List Entry → List Entry
 under key entries = filter (λ (e : Entry). pointwise nat_eq e.key key) entries
 
--- why this name is refused: that side has one; an empty name is none
+-- why this name is refused: that side already has one; an empty name counts as none
 abbrev pub name_fault : Titled → Color → List ℕ → Option Why
 name_fault t color [] = None
 name_fault t color (b ∷ bs) = if is_some (name_of t color) then Some (Order RepeatedName) else None
 
--- why this header is refused: one of its key is there, or 64 are; an empty text is none
+-- why this header is refused: there is one with its key, or there are already 64; an empty text
+-- counts as none
 abbrev pub header_fault : Titled → List ℕ → List ℕ → Option Why
 header_fault t key [] = None
 header_fault t key (b ∷ bs) =
@@ -50,18 +51,20 @@ with_name t color [] = t
 with_name t Black (b ∷ bs) = record t { black = Some (b ∷ bs) }
 with_name t White (b ∷ bs) = record t { white = Some (b ∷ bs) }
 
--- with this entry in its place by its key
+-- the entries with this one added, in its place by its key
 abbrev pub with_entry : List Entry → Entry → List Entry
 with_entry [] e = e ∷ []
 with_entry (f ∷ es) e = if is_below e.key f.key then e ∷ f ∷ es else f ∷ with_entry es e
 
--- with this header: a moment where the key is one of these and the text spells one, else the text
+-- the titles with this header: a moment if the key is one of those and the text spells one, else
+-- the text
 abbrev pub IsWithHeader : Titled → List ℕ → List ℕ → Titled → Type 0
 IsWithHeader t key [] new = new ≡ t
 IsWithHeader t key (b ∷ bs) new =
-    (value : HeaderText) × IsValue key (b ∷ bs) value × (new ≡ record t { headers = with_entry t.headers (record { key = key; text = value }) })
+    (value : HeaderText) × IsValue key (b ∷ bs) value
+    × (new ≡ record t { headers = with_entry t.headers (record { key = key; text = value }) })
 
--- what may be titled: names that fit, at most 64 entries that fit, in the order of their keys
+-- valid titles: names that fit, and at most 64 entries that fit, in the order of their keys
 pub record IsTitled (t : Titled) : Type 0 where
   pub black : IfSome t.black IsName
   pub white : IfSome t.white IsName

@@ -1,4 +1,5 @@
--- The start that position statements give: the union of what they place, in which their order does not matter, but for `PI` first and all that remain last.
+-- The start that position statements give: the union of what they place. Their order does not
+-- matter, except that `PI` comes first and the remaining pieces come last.
 use Rattle.std.specs.Prelude.{◌≡◌, ℕ, ◌<◌, ◌==◌, ◌&&◌, Bool, true, false, List, [], ◌∷◌, ◌++◌, length, map, filter, Option, Some, None, slice_index_or, if◌then◌else◌}
 use Rattle.std.specs.List.{AllByRecursion, filter_map}
 use Rattle.std.specs.Option.{option_to_list}
@@ -39,21 +40,21 @@ is_held color of_kind (off m other) = false
 is_held color of_kind (in_hand side other) = same_color side color && same_kind other of_kind
 is_held color of_kind (rest side) = false
 
--- the side to whose hand all that remain are given
+-- the side whose hand is given all remaining pieces
 abbrev pub rest_given : Placing → Option Color
 rest_given (on m p) = None
 rest_given (off m of_kind) = None
 rest_given (in_hand color of_kind) = None
 rest_given (rest color) = Some color
 
--- a hand holds none but the seven kinds
+-- a hand may hold only the seven kinds
 abbrev pub MayBeHeld : Placing → Type 0
 MayBeHeld (on m p) = Unit {0}
 MayBeHeld (off m of_kind) = Unit {0}
 MayBeHeld (in_hand color of_kind) = pieces.is_hand_kind of_kind ≡ true
 MayBeHeld (rest color) = Unit {0}
 
--- all that remain are given last, and once
+-- all remaining pieces are given last, and only once
 abbrev pub RestIsLast : List Placing → Type 0
 RestIsLast [] = Unit {0}
 RestIsLast (on m p ∷ ps) = RestIsLast ps
@@ -72,18 +73,20 @@ abbrev pub left_on : Option Piece → List Kind → List Piece
 left_on cell [] = option_to_list cell
 left_on cell (of_kind ∷ kinds) = []
 
--- what stands on a square: what is left of the first board there, and what is put there
+-- what is on a square: what is left of the first board there, and what is put there
 abbrev pub on_square : Cells → List Placing → ℕ → List Piece
-on_square first ps n = left_on (slice_index_or first n None) (filter_map (off_at n) ps) ++ filter_map (put_on n) ps
+on_square first ps n = left_on (slice_index_or first n None) (filter_map (off_at n) ps)
+    ++ filter_map (put_on n) ps
 
 -- how many of each kind are put into that side's hand
 abbrev pub bag_given : Color → List Placing → List ℕ
 bag_given color ps = map (λ k. length (filter (is_held color k) ps)) hand_kinds
 
--- what is placed on the first board makes this board and these hands; no two hold the same square
+-- what is placed on the first board makes this board and these hands; no two pieces share a square
 pub record IsUnion (first : Cells) (ps : List Placing) (s : Layout) : Type 0 where
   pub squares : length s.material.board ≡ 81
-  pub cells : (n : ℕ) → n < 81 → on_square first ps n ≡ option_to_list (slice_index_or s.material.board n None)
+  pub cells : (n : ℕ) → n < 81
+      → on_square first ps n ≡ option_to_list (slice_index_or s.material.board n None)
   pub taken : (n : ℕ) → MayTakeOff (slice_index_or first n None) (filter_map (off_at n) ps)
   pub held : AllByRecursion MayBeHeld ps
   pub black : s.material.black ≡ bag_given Black ps
@@ -91,12 +94,12 @@ pub record IsUnion (first : Cells) (ps : List Placing) (s : Layout) : Type 0 whe
   pub no_rest : s.rest_given ≡ false
   pub rest_last : RestIsLast ps
 
--- with all that remain in the hand of the side that is given them
+-- with all remaining pieces in the hand of the side that is given them
 abbrev pub with_rest_given : List Color → Layout → Layout
 with_rest_given [] s = s
 with_rest_given (color ∷ colors) s = rest_to s color
 
--- with no position statement, and with `PI` first, the even board; else the empty one
+-- the even board if there is no position statement or `PI` comes first, else the empty one
 abbrev pub first_board : List Saying → Cells
 first_board [] = even_cells
 first_board (s ∷ ss) = if is_even s then even_cells else no_cells
@@ -105,4 +108,5 @@ first_board (s ∷ ss) = if is_even s then even_cells else no_cells
 pub record GiveStart (ss : List Saying) (start : Placed) : Type 0 where
   pub layout : Layout
   pub union : IsUnion (first_board ss) (placings ss) layout
-  pub start_is : start ≡ position_of (with_rest_given (filter_map rest_given (placings ss)) layout) start.side
+  pub start_is : start
+      ≡ position_of (with_rest_given (filter_map rest_given (placings ss)) layout) start.side

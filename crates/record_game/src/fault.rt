@@ -9,8 +9,8 @@ use shogi_rules::Rule;
 use std::alloc::AllocError;
 use thiserror::Error;
 
-/// Why a statement does not fit behind those before it. Each prints as its number and name,
-/// `G8 RepeatedTurn`.
+/// Why a statement does not fit after those before it. Each fault prints as its number and name,
+/// such as `G8 RepeatedTurn`.
 #[derive(Clone, Copy, Debug, PartialEq, Eq, PartialOrd, Ord, Error)]
 pub enum OrderFault {
     /// A version that is not the first statement.
@@ -19,16 +19,16 @@ pub enum OrderFault {
     /// A second name of one side.
     #[error("G2 RepeatedName")]
     RepeatedName,
-    /// A second header with one key.
+    /// A second header with the same key.
     #[error("G3 RepeatedHeader")]
     RepeatedHeader,
-    /// A header behind 64 others.
+    /// A header after 64 others.
     #[error("G4 TooManyHeaders")]
     TooManyHeaders,
-    /// `PI` beside another position statement, or a rank twice.
+    /// `PI` together with another position statement, or a rank given twice.
     #[error("G5 MixedStart")]
     MixedStart,
-    /// A position statement behind the side to move.
+    /// A position statement after the side to move.
     #[error("G6 PositionLate")]
     PositionLate,
     /// A move or an ending before the side to move.
@@ -37,16 +37,16 @@ pub enum OrderFault {
     /// A second side to move.
     #[error("G8 RepeatedTurn")]
     RepeatedTurn,
-    /// A time with no move or ending before it, or a second one.
+    /// A time with no move or ending before it, or a second time for one.
     #[error("G9 LooseTime")]
     LooseTime,
-    /// A position statement, a side, a move or an ending behind an ending.
+    /// A position statement, a side to move, a move or an ending after an ending.
     #[error("G10 AfterEnding")]
     AfterEnding,
-    /// A move behind 10,000 others.
+    /// A move after 10,000 others.
     #[error("G11 TooManyMoves")]
     TooManyMoves,
-    /// The end of the record with no side to move.
+    /// The record ends without a side to move.
     #[error("G12 MissingTurn")]
     MissingTurn,
 }
@@ -54,19 +54,19 @@ pub enum OrderFault {
 /// Why a record is refused.
 #[derive(Clone, Copy, Debug, PartialEq, Eq, PartialOrd, Ord, Error)]
 pub enum Why {
-    /// The statement is too long, or spells no item.
+    /// The statement is too long, or is no item of the grammar.
     #[error("{0}")]
     Text(TextFault),
-    /// The item does not fit behind those before it.
+    /// The item does not fit after those before it.
     #[error("{0}")]
     Order(OrderFault),
-    /// A piece cannot be placed, or the side to move leaves the enemy king attacked.
+    /// A piece cannot be placed, or the side to move could take the enemy king.
     #[error("{0}")]
     Start(SetupFault),
     /// The move breaks this rule.
     #[error("{0}")]
     Rule(Rule),
-    /// A growth of memory was refused; nothing else was found up to this statement.
+    /// An allocation failed. No other fault was found up to this statement.
     #[error("out of memory")]
     OutOfMemory,
     /// The reader was refused before, at this statement.
@@ -106,22 +106,23 @@ impl From<shogi_board::OutOfMemory> for Why {
     }
 }
 
-/// A record is refused at its first statement that has a fault.
+/// The first statement of a record that has a fault, and which fault it has.
 #[derive(Clone, Copy, Debug, PartialEq, Eq, Error)]
 #[error("statement {number}, offset {offset}: {why}")]
 pub struct Refusal {
-    /// The number of the statement, counted from 1; at the end of the record one more than the
-    /// number of its statements.
+    /// The number of the statement, counted from 1. At the end of the record it is one more than
+    /// the number of its statements.
     pub number: u64,
-    /// The offset of the statement's first byte, counted from 0; at the end of the record its
-    /// length in bytes.
+    /// The offset of the statement's first byte, counted from 0. At the end of the record it is the
+    /// length of the record in bytes.
     pub offset: u64,
     /// The fault.
     pub why: Why,
 }
 
 impl From<CutFault> for Refusal {
-    ghost from_gives = { λ fault refusal. refusal ≡ record { number = fault.number; offset = fault.offset; why = Text StatementTooLong } };
+    ghost from_gives = { λ fault refusal. refusal
+        ≡ record { number = fault.number; offset = fault.offset; why = Text StatementTooLong } };
 
     fn from(fault: CutFault) -> Refusal {
         Refusal {

@@ -1,6 +1,8 @@
-//! Laws of the definitions that the contracts of this crate cite. They take and give nothing.
+//! Laws of the definitions that this crate's contracts cite. The functions take no arguments and
+//! return nothing: their contracts are what is proved.
 
-ghost use Rattle.std.specs.Prelude.{◌≡◌, ◌⊎◌, ◌↔◌, ℕ, List, [], Ok, drop, filter};
+ghost use Rattle.std.specs.Prelude.{◌≤◌, ◌++◌, length, ◌≡◌, ◌⊎◌, ◌↔◌, ℕ, List, [], Ok, drop, filter};
+ghost use Rattle.record_game.specs.Closed.{ClosedAt};
 ghost use Rattle.record_game.specs.Canon.{canon};
 ghost use Rattle.record_game.specs.Game.{Game};
 ghost use Rattle.record_game.specs.Items.{is_even, positions};
@@ -20,12 +22,12 @@ ghost use Rattle.shogi_board.specs.declared.color.Color.{Color};
 ghost use Rattle.std.specs.List.{AllByRecursion, filter_map};
 ghost use Rattle.record_game.specs.declared.fault.Why.{Why};
 
-/// All bytes tell exactly one game, or are refused in exactly one way, and never both.
+/// All bytes contain exactly one game or are refused in exactly one way, and never both.
 pub fn told_once()
     ensures once { (source : List ℕ) → ToldAlone source ⊎ RefusedAlone source }
 {}
 
-/// The canonical text of a game tells that game.
+/// The canonical text of a game contains that game.
 pub fn canon_tells()
     ensures tells { (g : Game) → IsGame g → Tells (canon g) g }
 {}
@@ -35,40 +37,56 @@ pub fn canon_equal()
     ensures equal { (g h : Game) → IsGame g → IsGame h → ((canon g ≡ canon h) ↔ (g ≡ h)) }
 {}
 
-/// Bytes tell one game at most.
+/// Bytes contain at most one game.
 pub fn one_game()
     ensures once { (source : List ℕ) (g h : Game) → Tells source g → Tells source h → g ≡ h }
 {}
 
-/// Records whose items differ only in a version, in where names and headers stand, and in the order of the headers, tell
-/// one game, and so have one canonical text. Comments are no items, so they may differ too.
+/// If the items of two records differ only in a version, in where names and headers are, and in the
+/// order of the headers, then both records contain the same game and have the same canonical text.
+/// Comments are not items, so they may differ too.
 pub fn headers_anywhere()
-    ensures game { (source other : List ℕ) (g h : Game) (told : Tells source g) (again : Tells other h)
+    ensures game { (source other : List ℕ) (g h : Game) (told : Tells source g)
+        (again : Tells other h)
         → IsRearranged told.sayings again.sayings → g ≡ h }
-    ensures text { (source other : List ℕ) (g h : Game) (told : Tells source g) (again : Tells other h)
+    ensures text { (source other : List ℕ) (g h : Game) (told : Tells source g)
+        (again : Tells other h)
         → IsRearranged told.sayings again.sayings → canon g ≡ canon h }
 {}
 
-/// Bytes are refused in one way at most: at one statement, at one offset, for one reason.
+/// Bytes are refused in at most one way: at one statement, at one offset, for one reason.
 pub fn one_refusal()
-    ensures once { (source : List ℕ) (n m offset other : ℕ) (v w : Why) → Refused source n offset v → Refused source m other w
+    ensures once { (source : List ℕ) (n m offset other : ℕ) (v w : Why) → Refused source n offset v
+        → Refused source m other w
         → (m ≡ n) × (other ≡ offset) × (w ≡ v) }
 {}
 
-/// What position statements that bytes spell place one after another, with `PI` first where it stands, is the union of
-/// what they place, which does not speak of their order but for `PI` first and the rest last.
+/// What position statements place one after another, with `PI` first if they contain it, is the
+/// union of what each places. In the union their order does not matter, except that `PI` comes
+/// first and the remaining pieces come last.
 pub fn laid_out()
-    ensures places { (sayings : List Saying) (laid : Layout) (side : Color) → AllByRecursion (λ s. (bytes : List ℕ) × Spells bytes s) sayings
+    ensures places { (sayings : List Saying) (laid : Layout) (side : Color)
+        → AllByRecursion (λ s. (bytes : List ℕ) × Spells bytes s) sayings
         → filter is_even (drop 1 (positions sayings)) ≡ [] → starts.laid_out sayings ≡ Ok laid
         → GiveStart (positions sayings) (position_of laid side) }
 {}
 
-/// The union of what position statements that bytes spell place, with `PI` first where it stands, can be placed one after
-/// another, where no total is passed before the rest is given.
+/// The union of what position statements place, with `PI` first if they contain it, can be placed
+/// one after another, if no total is exceeded before the remaining pieces are given.
 pub fn union_placed()
-    ensures laid { (sayings : List Saying) (placed : Layout) → AllByRecursion (λ s. (bytes : List ℕ) × Spells bytes s) sayings
+    ensures laid { (sayings : List Saying) (placed : Layout)
+        → AllByRecursion (λ s. (bytes : List ℕ) × Spells bytes s) sayings
         → filter is_even (drop 1 (positions sayings)) ≡ []
         → IsUnion (first_board (positions sayings)) (placings (positions sayings)) placed
         → IsWithinTotals placed.material
-        → starts.laid_out sayings ≡ Ok (with_rest_given (filter_map rest_given (placings (positions sayings))) placed) }
+        → starts.laid_out sayings
+        ≡ Ok (with_rest_given (filter_map rest_given (placings (positions sayings))) placed) }
+{}
+
+/// If bytes are refused whatever follows them, the fault is that of a statement that they close,
+/// and of the first closed one with a fault.
+pub fn refused_when_closed()
+    ensures closed { (source : List ℕ) (number offset : ℕ) (why : Why)
+        → ((more : List ℕ) → Refused (source ++ more) number offset why)
+        → ClosedAt source number offset why }
 {}

@@ -1,4 +1,4 @@
--- A line of the server tells one move or one ending at most, or has one first fault.
+-- A line of the server spells at most one move or one ending, or has one first fault.
 use Rattle.std.proofs.Common.{◌≡◌, ℕ, ◌≤◌, ◌<◌, ◌⊎◌, inl, inr, Bool, true, false, codes, take, List, [], ◌∷◌, length, Option, Some, None, refl, sym, ap, subst, ◌∙◌, arith}
 use Rattle.std.specs.Prelude.{◌||◌, nat_eq}
 use Rattle.std.specs.List.{AllZip, starts_with}
@@ -11,9 +11,9 @@ use Rattle.csa_text.specs.Saying.{Saying, walked, time, ending}
 use Rattle.csa_text.specs.declared.ending.Ending.{Ending}
 use Rattle.csa_text.specs.declared.fault.TextFault.{TextFault}
 use Rattle.record_game.proofs.SaysOnce.{same_items}
-use Rattle.csa_record.specs.Game.{Timed, Ended}
-use Rattle.csa_record.specs.Says.{time_items}
-use Rattle.csa_record.specs.Tells.{IsSpelt}
+use Rattle.record_game.specs.Game.{Timed, Ended}
+use Rattle.record_game.specs.Says.{time_items}
+use Rattle.record_game.specs.Tells.{IsSpelt}
 use Rattle.shogi_board.specs.declared.color.Color.{Color}
 use Rattle.shogi_rules.specs.declared.moves.Move.{Move}
 use Rattle.session_lines.specs.MoveLines.{is_move_line}
@@ -41,7 +41,7 @@ pub either : (a b : Bool) → (a || b) ≡ true → (a ≡ true) ⊎ (b ≡ true
 either true b h = inl refl
 either false b h = inr h
 
--- a line from `+` or `-`, from `%`, from `#`: no two at once
+-- a line begins with `+` or `-`, with `%` or with `#`: with one only
 pub move_or_ending : (l : List ℕ) → is_move_line l ≡ true → is_ending_line l ≡ true → ⊥
 move_or_ending l h k =
     let e = begins_so 37 l k in
@@ -196,7 +196,7 @@ fault_once line f g a b =
       ]
     ]
 
--- the units of a line that tells a move: one, or a second that spells the time
+-- the units of a line that spells a move: one, or a second that spells the time
 pub data MoveUnits (line : List ℕ) (c : Color) (m : Timed) : Type 0 where
   alone : (u : TextUnit) → IsCut line (u ∷ []) → IsSpelt u (walked c m.move) → MoveUnits line c m
   timed : (u v : TextUnit) (t : ℕ) → IsCut line (u ∷ v ∷ []) → IsSpelt u (walked c m.move) → IsSpelt v (time t) → MoveUnits line c m

@@ -41,7 +41,7 @@ move_of line bytes s (Some r) only spells h =
 walked_once : (c d : Color) (m n : Move) → walked c m ≡ walked d n → (c ≡ d) × (m ≡ n)
 walked_once c d m n e = (cc, cc)
 
--- a line tells one move at most
+-- a line spells at most one move
 pub move_once : (line : List ℕ) (c d : Color) (m n : Move) → TellsMove line c m → TellsMove line d n → (c ≡ d) × (m ≡ n)
 move_once line c d m n a b =
     let only : Only line (statement_bytes a.0.bytes) = (a.0, a.1, refl) in

@@ -1,4 +1,4 @@
--- A line that has one statement, as a cutter finds it.
+-- A line with one statement, as a cutter finds it.
 use Rattle.std.proofs.Common.{◌≡◌, ℕ, List, [], ◌∷◌, length, drop, arith, refl, sym, ap, subst, ◌∙◌}
 use Rattle.csa_cutting.proofs.Once.{statements_once}
 use Rattle.csa_cutting.proofs.Runs.{found}
@@ -39,7 +39,7 @@ long_statement line c number offset s h u alone =
     let short = alone.1 in
     absurd (omega (arith, l, long, short))
 
--- behind the first statement others stand
+-- a line in which others follow the first statement
 two_units : (line : List ℕ) (c d : Cutting) (offset : ℕ) (v : TextUnit) (vs : List TextUnit)
     → AtStart line c → d.source ≡ c.source → IsFirstStatement c.source c.at offset d.at → ToCome d (v ∷ vs)
     → (u : TextUnit) → IsAlone line u → ⊥

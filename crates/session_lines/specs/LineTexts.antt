@@ -200,6 +200,6 @@ engine_resigns = codes "resign"
 abbrev pub engine_wins : List ℕ
 engine_wins = codes "win"
 
--- 8. Both: what stands between words
+-- 8. Both: what separates words
 abbrev pub space : List ℕ
 space = codes " "

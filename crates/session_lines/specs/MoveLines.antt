@@ -6,14 +6,15 @@ use Rattle.csa_cutting.specs.Cut.{TextUnit, IsCut, begins_with, statement_bytes,
 use Rattle.csa_text.specs.Saying.{walked}
 use Rattle.csa_text.specs.Spelling.{Spells}
 
--- a line from `+` or `-`: its first byte
+-- its first byte is `+` or `-`
 abbrev pub is_move_line : List ℕ → Bool
 is_move_line line = begins_with 43 line || begins_with 45 line
 
--- the line has one statement, which is not too long; a comment is none
+-- the line has one statement, which is not too long; a comment is no statement
 abbrev pub IsAlone : List ℕ → TextUnit → Type 0
 IsAlone line unit = IsCut line (unit ∷ []) × (length unit.bytes ≤ longest_statement)
 
 -- and that statement is this move of that side
 abbrev pub TellsMove : List ℕ → Color → Move → Type 0
-TellsMove line color m = (unit : TextUnit) × IsAlone line unit × Spells (statement_bytes unit.bytes) (walked color m)
+TellsMove line color m =
+    (unit : TextUnit) × IsAlone line unit × Spells (statement_bytes unit.bytes) (walked color m)

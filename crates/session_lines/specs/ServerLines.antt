@@ -1,4 +1,8 @@
--- What a line of the server says, outside the game summary.
+-- What a line of a CSA server means, outside the game summary.
+use Rattle.session_lines.specs.declared.server_words.GameResult.{GameResult}
+use Rattle.session_lines.specs.declared.server_words.GameResult.TheVariants.{Win, Lose, Draw, Censored, Chudan}
+use Rattle.session_lines.specs.declared.server_words.EndReason.{EndReason}
+use Rattle.session_lines.specs.declared.server_words.EndReason.TheVariants as end_reason
 use Rattle.std.specs.Prelude.{◌≡◌, ℕ, ◌<◌, ◌≤◌, ◌&&◌, nat_eq, Bool, List, [], ◌∷◌, length, Option, Some, None, unwrap_or, bytes_eq, if◌then◌else◌}
 use Rattle.std.specs.List.{AllZip, starts_with, ends_with}
 use Rattle.shogi_board.specs.declared.color.Color.{Color}
@@ -8,12 +12,12 @@ use Rattle.csa_text.specs.Saying.{Saying, walked, time}
 use Rattle.csa_text.specs.Spelling.{Spells, fault_of_row}
 use Rattle.csa_text.specs.declared.fault.TextFault.{TextFault}
 use Rattle.csa_text.specs.declared.fault.TextFault.TheVariants.{StatementTooLong, Unknown}
-use Rattle.csa_record.specs.Game.{Timed, Ended}
-use Rattle.csa_record.specs.Says.{time_items, ending_items}
-use Rattle.csa_record.specs.Tells.{IsSpelt}
+use Rattle.record_game.specs.Game.{Timed, Ended}
+use Rattle.record_game.specs.Says.{time_items, ending_items}
+use Rattle.record_game.specs.Tells.{IsSpelt}
 use Rattle.session_lines.specs.LineTexts as texts
 
--- a line from `%`, from `#`: its first byte
+-- its first byte is `%`, or `#`
 abbrev pub is_ending_line : List ℕ → Bool
 is_ending_line line = begins_with 37 line
 
@@ -43,28 +47,30 @@ TellsTimed line color m = IsLineOf line (walked color m.move ∷ time_items m.ti
 abbrev pub TellsEnding : List ℕ → Ended → Type 0
 TellsEnding line e = IsLineOf line (ending_items (Some e))
 
--- 2. The first text fault of a line from `+` or `-`
+-- 2. The first text fault of a line that begins with `+` or `-`
 abbrev pub IsMove : Saying → Type 0
 IsMove s = (color : Color) × (m : Move) × (s ≡ walked color m)
 
 abbrev pub IsTime : Saying → Type 0
 IsTime s = (t : ℕ) × (s ≡ time t)
 
--- the statement is too long, spells nothing, or spells another item than is wanted in its place
+-- the statement is too long, spells nothing, or spells another item than the one expected there
 pub data UnitFault (Wanted : Saying → Type 0) (u : TextUnit) (fault : TextFault) : Type 0 where
-  too_long : longest_statement < length u.bytes → fault ≡ StatementTooLong → UnitFault Wanted u fault
+  too_long : longest_statement < length u.bytes
+      → fault ≡ StatementTooLong → UnitFault Wanted u fault
   unread :
       length u.bytes ≤ longest_statement → ((s : Saying) → Spells (statement_bytes u.bytes) s → ⊥)
       → fault ≡ fault_of_row (statement_bytes u.bytes)
       → UnitFault Wanted u fault
   another : (s : Saying) → IsSpelt u s → (Wanted s → ⊥) → fault ≡ Unknown → UnitFault Wanted u fault
 
--- the statement stands behind the move and the time
+-- a statement after the move and the time
 pub data ExtraFault (u : TextUnit) (fault : TextFault) : Type 0 where
   too_long : longest_statement < length u.bytes → fault ≡ StatementTooLong → ExtraFault u fault
   extra : length u.bytes ≤ longest_statement → fault ≡ Unknown → ExtraFault u fault
 
--- of the first statement, where the move is wanted; of the second, where the time is; or of the third
+-- the first text fault: of the first statement, where a move is expected; of the second, where a
+-- time is; or of the third
 pub data FirstTextFault (line : List ℕ) (fault : TextFault) : Type 0 where
   no_move : (u : TextUnit) (behind : List TextUnit)
       → IsCut line (u ∷ behind) → UnitFault IsMove u fault
@@ -73,56 +79,40 @@ pub data FirstTextFault (line : List ℕ) (fault : TextFault) : Type 0 where
       → IsCut line (u ∷ v ∷ behind) → IsSpelt u (walked color m) → UnitFault IsTime v fault
       → FirstTextFault line fault
   more : (u v w : TextUnit) (behind : List TextUnit) (color : Color) (m : Move) (t : ℕ)
-      → IsCut line (u ∷ v ∷ w ∷ behind) → IsSpelt u (walked color m) → IsSpelt v (time t) → ExtraFault w fault
+      → IsCut line (u ∷ v ∷ w ∷ behind)
+      → IsSpelt u (walked color m) → IsSpelt v (time t) → ExtraFault w fault
       → FirstTextFault line fault
 
 -- 3. Results and reasons
-pub data Outcome : Type 0 where
-  win : Outcome
-  lose : Outcome
-  draw : Outcome
-  censored : Outcome
-  chudan : Outcome
-
-pub data Reason : Type 0 where
-  resign : Reason
-  time_up : Reason
-  illegal_move : Reason
-  sennichite : Reason
-  oute_sennichite : Reason
-  jishogi : Reason
-  max_moves : Reason
-  other : Reason
-
--- what stands beside this text in a table
+-- the value in the row with this text
 abbrev pub look_up : {X : Type 0} → List (List ℕ × X) → List ℕ → Option X
 look_up [] text = None
 look_up (row ∷ rows) text = if bytes_eq text row.0 then Some row.1 else look_up rows text
 
-abbrev pub outcomes : List (List ℕ × Outcome)
+abbrev pub outcomes : List (List ℕ × GameResult)
 outcomes =
-    (texts.win, win)
-    ∷ (texts.lose, lose)
-    ∷ (texts.draw, draw)
-    ∷ (texts.censored, censored)
-    ∷ (texts.chudan, chudan)
+    (texts.win, Win)
+    ∷ (texts.lose, Lose)
+    ∷ (texts.draw, Draw)
+    ∷ (texts.censored, Censored)
+    ∷ (texts.chudan, Chudan)
     ∷ []
 
-abbrev pub reasons : List (List ℕ × Reason)
+abbrev pub reasons : List (List ℕ × EndReason)
 reasons =
-    (texts.resign, resign)
-    ∷ (texts.time_up, time_up)
-    ∷ (texts.illegal_move, illegal_move)
-    ∷ (texts.sennichite, sennichite)
-    ∷ (texts.oute_sennichite, oute_sennichite)
-    ∷ (texts.jishogi, jishogi)
-    ∷ (texts.max_moves, max_moves)
+    (texts.resign, end_reason.Resign)
+    ∷ (texts.time_up, end_reason.TimeUp)
+    ∷ (texts.illegal_move, end_reason.IllegalMove)
+    ∷ (texts.sennichite, end_reason.Sennichite)
+    ∷ (texts.oute_sennichite, end_reason.OuteSennichite)
+    ∷ (texts.jishogi, end_reason.Jishogi)
+    ∷ (texts.max_moves, end_reason.MaxMoves)
     ∷ []
 
 -- the result that a line gives
-abbrev pub outcome_of : List ℕ → Option Outcome
+abbrev pub outcome_of : List ℕ → Option GameResult
 outcome_of line = look_up outcomes line
 
--- the reason that a line from `#` gives which is no result: one of the table, or another
-abbrev pub reason_of : List ℕ → Reason
-reason_of line = unwrap_or (look_up reasons line) other
+-- the reason that a line gives: one of the table, or another
+abbrev pub reason_of : List ℕ → EndReason
+reason_of line = unwrap_or (look_up reasons line) end_reason.Other

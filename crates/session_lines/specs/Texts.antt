@@ -3,19 +3,19 @@ use Rattle.std.specs.Prelude.{ℕ, ◌==◌, List, [], ◌∷◌, ◌++◌, deci
 use Rattle.std.specs.List.{flat_map}
 use Rattle.session_lines.specs.LineTexts as texts
 
--- a line and its end, which is LF
+-- a line and its line end, LF
 abbrev pub ended_line : List ℕ → List ℕ
 ended_line line = line ++ 10 ∷ []
 
 abbrev pub text_of : List (List ℕ) → List ℕ
 text_of lines = flat_map ended_line lines
 
--- a byte before what was kept of the bytes behind it, unless it is a space (32) with nothing kept there
+-- a byte before what was kept of the bytes after it; a space (32) before nothing is dropped
 abbrev pub before_kept : ℕ → List ℕ → List ℕ
 before_kept b [] = if b == 32 then [] else b ∷ []
 before_kept b (c ∷ cs) = b ∷ c ∷ cs
 
--- the line less the spaces at its end
+-- the line without the spaces at its end
 abbrev pub without_last_spaces : List ℕ → List ℕ
 without_last_spaces [] = []
 without_last_spaces (b ∷ bs) = before_kept b (without_last_spaces bs)

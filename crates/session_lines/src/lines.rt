@@ -7,7 +7,7 @@ use shogi_board::OutOfMemory;
 use std::alloc::Global;
 use std::marker::Model;
 
-/// Lines to send, LF behind each. A call that is refused for want of memory leaves them as they were.
+/// Lines to send, each followed by LF. A call that returns `OutOfMemory` leaves them as they were.
 #[derive(Drop)]
 pub struct Lines {
     bytes: Vec<u8>,
@@ -22,7 +22,7 @@ impl Model for Lines {
 }
 
 impl Lines {
-    /// No line.
+    /// No lines.
     pub fn new(alloc: Global) -> Lines
         ensures value { result ≡ [] }
     {
@@ -31,7 +31,7 @@ impl Lines {
         }
     }
 
-    /// That one line.
+    /// That line alone. `line` has no line end. Returns `OutOfMemory` if an allocation fails.
     pub fn one(alloc: Global, line: &[u8]) -> Result<Lines, OutOfMemory>
         ensures value { IfOk result (λ l. l ≡ ended_line line.now) }
     {
@@ -40,7 +40,7 @@ impl Lines {
         Ok(lines)
     }
 
-    /// Adds a line, which has no line end.
+    /// Adds a line. `line` has no line end. Returns `OutOfMemory` if an allocation fails.
     pub fn push(&mut self, line: &[u8]) -> Result<(), OutOfMemory>
         ensures added { OnOk result (self.new ≡ self.old ++ ended_line line.now) }
         ensures unchanged { OnErr result (self.new ≡ self.old) }
@@ -51,7 +51,7 @@ impl Lines {
         Ok(())
     }
 
-    /// Adds two lines.
+    /// Adds two lines, or none. Returns `OutOfMemory` if an allocation fails.
     pub fn push_two(&mut self, first: &[u8], second: &[u8]) -> Result<(), OutOfMemory>
         ensures added { OnOk result (self.new ≡ self.old ++ text_of (first.now ∷ second.now ∷ [])) }
         ensures unchanged { OnErr result (self.new ≡ self.old) }
@@ -62,7 +62,7 @@ impl Lines {
         self.keep(before, added)
     }
 
-    /// Adds a line of two parts.
+    /// Adds one line, `front` followed by `back`. Returns `OutOfMemory` if an allocation fails.
     pub fn push_joined(&mut self, front: &[u8], back: &[u8]) -> Result<(), OutOfMemory>
         ensures added { OnOk result (self.new ≡ self.old ++ ended_line (front.now ++ back.now)) }
         ensures unchanged { OnErr result (self.new ≡ self.old) }
@@ -73,9 +73,11 @@ impl Lines {
         self.keep(before, added)
     }
 
-    /// Adds the text, `,T` and the seconds, as a line.
+    /// Adds one line: the text, `,T` and the seconds in decimal, as the CSA server protocol writes
+    /// times. Returns `OutOfMemory` if an allocation fails.
     pub fn push_timed(&mut self, text: &[u8], seconds: u32) -> Result<(), OutOfMemory>
-        ensures added { OnOk result (self.new ≡ self.old ++ ended_line (with_time text.now seconds)) }
+        ensures added { OnOk result
+            (self.new ≡ self.old ++ ended_line (with_time text.now seconds)) }
         ensures unchanged { OnErr result (self.new ≡ self.old) }
     {
         let mut buffer = Buffer::new();
@@ -85,7 +87,8 @@ impl Lines {
         self.keep(before, added)
     }
 
-    /// Adds a part of a line.
+    /// Adds bytes without a line end; `end_line` ends the line. Returns `OutOfMemory` if an
+    /// allocation fails.
     pub fn push_part(&mut self, part: &[u8]) -> Result<(), OutOfMemory>
         ensures added { OnOk result (self.new ≡ self.old ++ part.now) }
         ensures unchanged { OnErr result (self.new ≡ self.old) }
@@ -94,7 +97,7 @@ impl Lines {
         Ok(())
     }
 
-    /// Ends the line.
+    /// Adds LF. Returns `OutOfMemory` if the allocation fails.
     pub fn end_line(&mut self) -> Result<(), OutOfMemory>
         ensures added { OnOk result (self.new ≡ self.old ++ 10 ∷ []) }
         ensures unchanged { OnErr result (self.new ≡ self.old) }
@@ -103,7 +106,7 @@ impl Lines {
         Ok(())
     }
 
-    // Keeps what was added; where it was refused, goes back to that many bytes.
+    // Keeps what was added, or cuts back to `before` bytes if adding failed.
     fn keep(&mut self, before: usize, added: Result<(), OutOfMemory>) -> Result<(), OutOfMemory>
         ensures same { result ≡ added }
         ensures added { OnOk added (self.new ≡ self.old) }
@@ -115,7 +118,7 @@ impl Lines {
         added
     }
 
-    /// The bytes to send.
+    /// The bytes to send, line ends included.
     pub fn bytes(&self) -> &[u8]
         ensures value { result.now ≡ self.now }
     {

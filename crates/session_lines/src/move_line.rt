@@ -11,7 +11,8 @@ use csa_text::{Item, read_item};
 use shogi_board::Color;
 use shogi_rules::Move;
 
-/// Whether the line is one from `+` or `-`.
+/// Whether the line begins with `+` or `-`, as lines of moves do in CSA V2.2 and in the CSA server
+/// protocol.
 pub fn is_move_line(line: &[u8]) -> bool
     ensures answer { result ≡ is_move_line line.now }
 {
@@ -21,7 +22,8 @@ pub fn is_move_line(line: &[u8]) -> bool
     }
 }
 
-/// The move that is the line's one statement, with its side; or None.
+/// The side and the move that the line spells in CSA V2.2, or None. The line has this one
+/// statement; a comment is no statement.
 pub fn read_move_line(line: &[u8]) -> Option<(Color, Move)>
     ensures told { MatchOption result
         ((color : Color) (m : Move) → TellsMove line.now color m → ⊥)
@@ -36,7 +38,7 @@ pub fn read_move_line(line: &[u8]) -> Option<(Color, Move)>
     }
 }
 
-/// The move that the item is, with its side.
+/// The side and the move, if the item is a move; else None.
 pub fn walked_of(item: Item<'_>) -> Option<(Color, Move)>
     ensures told { MatchOption result
         ((color : Color) (m : Move) → saying_of item.entry ≡ walked color m → ⊥)
@@ -48,11 +50,13 @@ pub fn walked_of(item: Item<'_>) -> Option<(Color, Move)>
     }
 }
 
-// The bytes of the line's one statement; None where it has none, two or more, or one that is too long.
+// The bytes of the line's one statement. None if it has no statement, several, or one that is too
+// long.
 fn only_statement(line: &[u8]) -> Option<&[u8]>
     ensures { MatchOption result
         ((unit : TextUnit) → IsAlone line.now unit → ⊥)
-        (λ bytes. (unit : TextUnit) × IsAlone line.now unit × (bytes.now ≡ statement_bytes unit.bytes)) }
+        (λ bytes. (unit : TextUnit) × IsAlone line.now unit
+        × (bytes.now ≡ statement_bytes unit.bytes)) }
 {
     let mut cutter = Cutter::new(line);
     let statement = match cutter.next_statement() {
@@ -73,7 +77,7 @@ fn is_space(b: u8) -> bool
     b == b' '
 }
 
-/// The line less the spaces at its end.
+/// The line without the spaces at its end.
 pub fn without_last_spaces(line: &[u8]) -> &[u8]
     ensures value { result.now ≡ without_last_spaces line.now }
 {

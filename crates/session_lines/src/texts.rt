@@ -1,4 +1,4 @@
-//! The texts that lines of both protocols are made of.
+//! The texts of which lines are made in the CSA server protocol and in USI.
 
 ghost use Rattle.std.specs.Prelude.{◌≡◌, ◌↔◌, IsTrue};
 
@@ -27,22 +27,22 @@ pub const LOGOUT: &[u8] = b"LOGOUT";
 /// How the answer to a login begins.
 pub const LOGIN_ANSWER: &[u8] = b"LOGIN:";
 
-/// How the answer to a login ends that is taken.
+/// How the answer to an accepted login ends.
 pub const OK: &[u8] = b" OK";
 
-/// The answer to a login that is refused.
+/// The answer to a refused login.
 pub const LOGIN_INCORRECT: &[u8] = b"LOGIN:incorrect";
 
-/// How the line begins that starts a game.
+/// How the line that starts a game begins.
 pub const START: &[u8] = b"START:";
 
-/// How the line begins that tells of a rejected game.
+/// How the line that reports a rejected game begins.
 pub const REJECTED: &[u8] = b"REJECT:";
 
-/// What stands before the name of who rejected it.
+/// Comes before the name of who rejected the game.
 pub const BY: &[u8] = b" by ";
 
-/// What stands between a text and its seconds.
+/// Comes between a text and its seconds.
 pub const TIME: &[u8] = b",T";
 
 /// The answer to a logout.
@@ -53,16 +53,16 @@ pub const LOGOUT_COMPLETED: &[u8] = b"LOGOUT:completed";
 /// A side resigned.
 pub const RESIGN: &[u8] = b"#RESIGN";
 
-/// A side's time is over.
+/// A side's time has run out.
 pub const TIME_UP: &[u8] = b"#TIME_UP";
 
 /// A side made an illegal move.
 pub const ILLEGAL_MOVE: &[u8] = b"#ILLEGAL_MOVE";
 
-/// A position stood for the fourth time.
+/// A position has occurred for the fourth time.
 pub const SENNICHITE: &[u8] = b"#SENNICHITE";
 
-/// It did so by perpetual check.
+/// A position has occurred for the fourth time, by perpetual check.
 pub const OUTE_SENNICHITE: &[u8] = b"#OUTE_SENNICHITE";
 
 /// A side declared its win by points.
@@ -93,22 +93,22 @@ pub const CHUDAN: &[u8] = b"#CHUDAN";
 /// How the first line of a block of the summary begins.
 pub const BEGIN: &[u8] = b"BEGIN ";
 
-/// How its last line begins.
+/// How the last line of a block begins.
 pub const END: &[u8] = b"END ";
 
 /// The first line of the summary.
 pub const BEGIN_SUMMARY: &[u8] = b"BEGIN Game_Summary";
 
-/// Its last line.
+/// The last line of the summary.
 pub const END_SUMMARY: &[u8] = b"END Game_Summary";
 
-/// The title of the block of the start.
+/// The title of the block with the start position.
 pub const POSITION_TITLE: &[u8] = b"Position";
 
 /// The first line of that block.
 pub const BEGIN_POSITION: &[u8] = b"BEGIN Position";
 
-/// Its last line.
+/// The last line of that block.
 pub const END_POSITION: &[u8] = b"END Position";
 
 /// The game's name follows.
@@ -155,13 +155,13 @@ pub const POSITION: &[u8] = b"position";
 /// The first word of a line that asks for a move.
 pub const GO: &[u8] = b"go";
 
-/// How a line begins that asks for a move with clocks; black's clock follows.
+/// How a line that asks for a move with clocks begins; black's clock in milliseconds follows.
 pub const GO_BLACK_TIME: &[u8] = b"go btime ";
 
-/// White's clock follows.
+/// White's clock in milliseconds follows.
 pub const WHITE_TIME: &[u8] = b" wtime ";
 
-/// The time for each move follows.
+/// The time for each move in milliseconds follows.
 pub const BYOYOMI: &[u8] = b" byoyomi ";
 
 /// The engine's side has won.
@@ -196,10 +196,10 @@ pub const BEST_MOVE: &[u8] = b"bestmove ";
 /// The engine resigns.
 pub const NO_BEST_MOVE: &[u8] = b"bestmove resign";
 
-/// What stands between words.
+/// Separates words.
 pub const SPACE: &[u8] = b" ";
 
-/// Whether a text is the wanted one.
+/// Whether the two texts are equal.
 pub fn is_same(text: &[u8], wanted: &[u8]) -> bool
     ensures answer { IsTrue result ↔ (text.now ≡ wanted.now) }
 {

@@ -1,10 +1,9 @@
 -- How the sample engine's answers are rows of its table.
 use Rattle.std.proofs.Common.{◌≡◌, ℕ, ◌++◌, ◌⊎◌, inl, inr, List, [], ◌∷◌, Option, Some, None, Result, Ok, Err, IfOk, MatchOption, refl, sym, subst, ◌∙◌, append_assoc}
 use Rattle.shogi_board.specs.Placed.{Placed}
-use Rattle.shogi_rules.specs.declared.line.Verdict.TheVariants.{Ongoing}
 use Rattle.shogi_rules.specs.Positions.{Played, now_of, all_of}
 use Rattle.shogi_rules.specs.Repetition.{Over}
-use Rattle.shogi_rules.specs.Verdicts.{Stands, NoLegalMove}
+use Rattle.shogi_rules.specs.Verdicts.{NoLegalMove}
 use Rattle.arrayvec.specs.ArrayString.{ArrayString}
 use Rattle.shogi_rules.specs.declared.moves.Move.{Move}
 use Rattle.shogi_rules.specs.Order.{IsFirstLegal}
@@ -21,26 +20,18 @@ use Rattle.session_peers.specs.Sample.{SampleState, SampleRow, SampleTableRow, I
 use Rattle.session_peers.specs.Sample as row
 use Rattle.session_lines.specs.Texts.{text_of, ended_line}
 
--- an ongoing game is not over
-goes_on : (ps : List Placed) (p : Placed) → Stands ps p Ongoing → Over ps p → ⊥
-goes_on ps p stands fourth =
-    elim stands [
-      | inl stretch ↦ stretch.1
-      | inr rest ↦ rest.0 fourth
-    ]
-
 abbrev pub FirstMove : Placed → ArrayString → Type 0
 FirstMove p word = (best : Move) × IsFirstLegal p best × UsiMove p word.bytes best
 
 pub best_of : (answer : Option ArrayString) (g : Played) (p : Placed)
-    → p ≡ now_of g → Stands (all_of g) (now_of g) Ongoing → MatchOption answer (NoLegalMove p) (FirstMove p)
+    → p ≡ now_of g → (Over (all_of g) (now_of g) → ⊥) → MatchOption answer (NoLegalMove p) (FirstMove p)
     → MatchOption answer (NoLegalMove (now_of g) ⊎ Over (all_of g) (now_of g)) (λ word. IsBest g word.bytes)
-best_of None g p e stands none = inl (subst NoLegalMove e none)
-best_of (Some word) g p e stands found =
+best_of None g p e not_over none = inl (subst NoLegalMove e none)
+best_of (Some word) g p e not_over found =
     let there = subst (λ q. FirstMove q word) e found in
-    record { best = there.0; first = there.1; not_over = goes_on (all_of g) (now_of g) stands; text = there.2 }
+    record { best = there.0; first = there.1; not_over = not_over; text = there.2 }
 
--- a line that is refused, and not for want of memory, tells no game
+-- a line that is refused, and not for lack of memory, spells no game
 pub tells_none : (line : List ℕ) (fault : UsiFault) → LineFault (words line) fault → (fault ≡ OutOfMemory → ⊥)
     → (g : Played) → UsiLine (words line) g.start g.moves → ⊥
 tells_none line fault refused memory g told = memory (line_no_fault (words line) g.start g.moves fault told refused)

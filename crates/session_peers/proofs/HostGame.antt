@@ -1,4 +1,4 @@
--- The lines that a host wrote behind START: are a game.
+-- The lines that a host sent after START: are a game.
 use Rattle.std.proofs.Common.{◌≡◌, ℕ, suc, ◌<◌, ◌++◌, ◌⊎◌, inl, inr, Bool, true, false, cond, List, [], ◌∷◌, length, length-append, map, None, codes, arith, refl, sym, ap, subst, ◌∙◌, append_assoc}
 use Rattle.std.specs.List.{AllByRecursion, filter}
 use Rattle.std.proofs.lemmas.List.{append-nil, map-append}
@@ -30,7 +30,7 @@ use Rattle.session_peers.proofs.HostRows.{even_goes_on}
 abbrev pub Lines : Type 0
 Lines = List (List ℕ)
 
--- 1. lines before and behind START:
+-- 1. lines before and after START:
 abbrev pub NoStart : Lines → Type 0
 NoStart lines = AllByRecursion (λ l. is_start_line l ≡ false) lines
 

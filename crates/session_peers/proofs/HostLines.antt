@@ -1,4 +1,4 @@
--- Lines one behind another.
+-- Lines one after another.
 use Rattle.std.proofs.Common.{◌≡◌, ℕ, ◌++◌, List, [], ◌∷◌, Result, Ok, Err, IfOk, OnOk, refl, sym, ap, ◌∙◌, append_assoc}
 use Rattle.std.proofs.lemmas.List.{append-nil}
 use Rattle.session_lines.specs.Texts.{text_of, ended_line}

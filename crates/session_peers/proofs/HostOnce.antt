@@ -1,4 +1,4 @@
--- One line leads a host to one answer and one state.
+-- For a host, a state and a line have one answer and one next state.
 use Rattle.std.proofs.Common.{◌≡◌, ℕ, ◌++◌, ◌⊎◌, inl, inr, true, false, List, [], ◌∷◌, length, Option, Some, None, codes, arith, refl, sym, ap, subst, ◌∙◌}
 use Rattle.shogi_board.specs.declared.color.Color.{Color}
 use Rattle.shogi_board.specs.declared.color.Color.TheVariants.{Black, White}
@@ -110,7 +110,7 @@ host_once c g lines others t u r q =
           ]
     ]
 
--- 3. before login and behind the summary
+-- 3. before login and after the summary
 login_once : (line n p m q : List ℕ) → IsLogin line n p → IsLogin line m q → m ≡ n
 login_once line n p m q h k = ap (λ ws. nth_word ws 1) (sym k.words_are ∙ h.words_are)
 

@@ -28,7 +28,7 @@ use Rattle.session_lines.proofs.OneLine.{one_text}
 use Rattle.shogi_rules.specs.Verdicts.{NoLegalMove}
 use Rattle.session_lines.proofs.MoveRead.{move_once}
 
--- 1. LOGOUT, and lines that no row names
+-- 1. LOGOUT, and lines to which no row applies
 pub logged_out : (c : HostConfig) (s t : HostState) (seconds : ℕ) (text : List ℕ)
     → (s ≡ ended → ⊥) → t ≡ ended → text ≡ text_of (codes "LOGOUT:completed" ∷ []) → RowText c s (codes "LOGOUT") seconds text t
 logged_out c s t seconds text running e h = (codes "LOGOUT:completed" ∷ [], in_table (row.logs_out running refl refl e), h)
@@ -42,7 +42,7 @@ unnamed_ended c line seconds lines t r =
       | row.logs_out e h l k ↦ e refl
     ]
 
--- nothing is said
+-- no line is sent
 pub silent : (c : HostConfig) (s t : HostState) (line : List ℕ) (seconds : ℕ) (text : List ℕ)
     → IsUnnamed c s line seconds → t ≡ s → text ≡ [] → RowText c s line seconds text t
 silent c s t line seconds text unnamed e h = ([], skipped unnamed refl e, h)
@@ -70,7 +70,7 @@ pub let_in : (c : HostConfig) (t : HostState) (line : List ℕ) (seconds : ℕ) 
 let_in c t line seconds text n p h e same =
     (_, in_table (row.before_login refl (row.logs_in n p h refl e)), same)
 
--- 3. behind the summary
+-- 3. after the summary
 pub agreed : (c : HostConfig) (n line : List ℕ) (seconds : ℕ) (text : List ℕ) (t : HostState)
     → IsWordAndOne line (codes "AGREE") → Begins c text t → RowText c (offered n) line seconds text t
 agreed c n line seconds text t word b = (b.0, in_table (row.after_summary n refl (b.1 n line word)), b.2)
@@ -173,7 +173,7 @@ pub host_resigned : (c : HostConfig) (g : Played) (p : Placed) (before text : Li
     → text ≡ before ++ text_of (with_time (codes "%TORYO") 0 ∷ codes "#RESIGN" ∷ codes "#WIN" ∷ []) → MovesBehind c g before text t
 host_resigned c g p before text t now none e h = (_, row.resigns (subst NoLegalMove now none) refl e, h)
 
--- behind the client's move
+-- after the client's move
 pub follow_last : (c : HostConfig) (g : Played) (line so_far text : List ℕ) (t : HostState) (outcome : Outcome)
     → AfterMove c g (Some outcome) → so_far ≡ ended_line line → t ≡ decided → text ≡ so_far ++ text_of (outcome_lines c outcome)
     → Follows c g line text t

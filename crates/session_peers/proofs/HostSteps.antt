@@ -7,7 +7,7 @@ use Rattle.session_lines.specs.Texts.{text_of, without_last_spaces}
 use Rattle.session_peers.proofs.HostOnce.{host_row_once}
 use Rattle.session_peers.proofs.HostRows.{unnamed_ended}
 
--- the row of the line less its last spaces, from the stage that the host had
+-- the row of the line without its last spaces, from the stage before
 pub stepped : (c : HostConfig) (s now : HostState) (old : HostSession) (line trimmed : List ℕ) (seconds : ℕ) (text : List ℕ) (t : HostState)
     → record { config = c; state = s } ≡ old → now ≡ s → trimmed ≡ without_last_spaces line → RowText c now trimmed seconds text t
     → RowText old.config old.state (without_last_spaces line) seconds text t
@@ -22,7 +22,7 @@ pub row_bytes : (c : HostConfig) (s t : HostState) (line : List ℕ) (seconds : 
 row_bytes c s t line seconds text lines r other =
     r.2 ∙ ap text_of (host_row_once c s t t line seconds r.0 lines r.1 other).0
 
--- once the host has ended
+-- once the session is over
 over_row : (c : HostConfig) (s t : HostState) (line : List ℕ) (seconds : ℕ) (lines : List (List ℕ))
     → s ≡ ended → HostRow c s line seconds lines t → (lines ≡ []) × (t ≡ ended)
 over_row c s t line seconds lines over r =

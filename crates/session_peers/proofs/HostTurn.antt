@@ -1,4 +1,4 @@
--- A host in play waits for its client, whose side is to move.
+-- While a game goes on, the client is to move.
 use Rattle.std.proofs.Common.{◌≡◌, ℕ, ◌++◌, List, [], ◌∷◌, refl, sym, ap, ◌∙◌}
 use Rattle.shogi_board.specs.declared.color.Color.{Color}
 use Rattle.shogi_board.specs.declared.color.Color.TheVariants.{Black, White}
@@ -12,7 +12,7 @@ use Rattle.session_peers.specs.Host.{HostState, HostRow, HostTableRow, HostMoves
 use Rattle.session_peers.specs.Host as row
 use Rattle.session_peers.specs.HostLogs.{HostStep, HostLeads, begins, next}
 
--- the client is to move in a game that is on
+-- the client is to move in a game that goes on
 abbrev Waits : HostConfig → HostState → Type 0
 Waits c waiting = Unit {0}
 Waits c (offered n) = Unit {0}

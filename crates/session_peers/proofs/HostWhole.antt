@@ -1,4 +1,4 @@
--- The bytes that a host writes are cut back into its lines, which have no space at their end.
+-- The bytes that a host sends are cut back into its lines, which have no space at their end.
 use Rattle.std.proofs.Common.{◌≡◌, ℕ, ◌++◌, Bool, true, false, cond, List, [], ◌∷◌, codes, decimal, arith, refl, sym, ap, subst, ◌∙◌}
 use Rattle.std.specs.List.{AllByRecursion}
 use Rattle.std.proofs.lemmas.List.{append-nil}

@@ -1,4 +1,4 @@
--- A host writes one line START: at most.
+-- A host sends one line START: at most.
 use Rattle.std.proofs.Common.{◌≡◌, ℕ, ◌++◌, Bool, true, false, cond, List, [], ◌∷◌, codes, refl, sym, ap, subst, ◌∙◌, append_assoc}
 use Rattle.std.proofs.lemmas.List.{append-nil}
 use Rattle.std.proofs.lemmas.Grind.{flat_map-append}
@@ -18,7 +18,7 @@ use Rattle.session_lines.specs.ServerLines.{is_start_line}
 use Rattle.session_lines.specs.Texts.{with_time}
 use Rattle.session_peers.proofs.HostGame.{Lines, NoStart, HasStart, no_more, has_more, behind_more, found, none_behind, none_yet, login_lines}
 
--- 1. lines that are none
+-- 1. lines that do not begin with START:
 no_start_move : (color : Color) (m : Move) (seconds : ℕ) → is_start_line (with_time (move_text color m) seconds) ≡ false
 no_start_move Black m seconds = refl
 no_start_move White m seconds = refl

@@ -1,4 +1,4 @@
--- One line leads the sample engine to one answer and one state.
+-- For the sample engine, a state and a line have one answer and one next state.
 use Rattle.std.proofs.Common.{◌≡◌, ℕ, ◌++◌, inl, inr, List, [], ◌∷◌, Option, Some, None, codes, arith, refl, sym, ap, subst, ◌∙◌}
 use Rattle.shogi_board.specs.Placed.{Placed}
 use Rattle.shogi_rules.proofs.Once.{first-once}

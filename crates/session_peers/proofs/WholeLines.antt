@@ -1,4 +1,5 @@
--- Whole lines are not empty, hold no line end and have no space at their end; the bytes of such lines are cut back into them.
+-- Whole lines are not empty, contain no line end and have no space at their end; the bytes of such
+-- lines are cut back into them.
 use Rattle.std.proofs.Common.{◌≡◌, ◌≢◌, ℕ, zero, suc, ◌+◌, ◌/◌, ◌%◌, ◌<◌, ◌≤◌, ◌++◌, ◌==◌, if◌then◌else◌, inl, inr, Bool, true, false, cond, List, [], ◌∷◌, length, decimal, arith, refl, ap, ◌∙◌, append_assoc}
 use Rattle.std.specs.Fmt.{digits, digits_onto, digit_glyph}
 use Rattle.std.specs.List.{AllByRecursion}

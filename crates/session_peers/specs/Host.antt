@@ -24,9 +24,9 @@ use Rattle.session_lines.specs.Texts.{with_time}
 pub data HostState : Type 0 where
   -- before login
   waiting : HostState
-  -- after the summary, which this name was sent
+  -- after the summary, sent to a client of this name
   offered : List ℕ → HostState
-  -- after these moves, the client to move
+  -- after these moves, with the client to move
   playing : Played → HostState
   -- after a result
   decided : HostState
@@ -39,7 +39,7 @@ pub record IsLoginWord (word : List ℕ) : Type 0 where
   pub short : length word ≤ 32
   pub plain : AllByRecursion (λ b. (0x21 ≤ b) × (b ≤ 0x7E)) word
 
--- what callers keep of a host's game
+-- what callers must give for a host's game
 pub record IsHostConfig (c : HostConfig) : Type 0 where
   pub some_moves : 1 ≤ c.max_moves
   pub few_moves : c.max_moves ≤ max_moves
@@ -52,11 +52,11 @@ pub record IsLogin (line n p : List ℕ) : Type 0 where
   pub name : IsLoginWord n
   pub password : IsLoginWord p
 
--- the word alone or with one more
+-- the word alone or followed by one more
 abbrev pub IsWordAndOne : List ℕ → List ℕ → Type 0
 IsWordAndOne line word = (words line ≡ word ∷ []) ⊎ ((w : List ℕ) × (words line ≡ word ∷ w ∷ []))
 
--- the client's name on its side, the host's on the other
+-- the client's name for its side, the host's for the other
 abbrev pub name_for : HostConfig → List ℕ → Color → List ℕ
 name_for c n color = if same_color color c.client then n else c.name.bytes
 
@@ -81,7 +81,7 @@ summary_lines c n =
 abbrev pub with_move : Played → Move → Played
 with_move g m = record g { moves = g.moves ++ m ∷ [] }
 
--- the move's line, with its time
+-- the line of the move, with its time
 abbrev pub moved_line : Played → Move → ℕ → List ℕ
 moved_line g m seconds = with_time (move_text (now_of g).side m) seconds
 
@@ -100,7 +100,8 @@ outcome_lines c (Perpetual loser) =
 outcome_lines c MaxMoves = texts.max_moves ∷ texts.censored ∷ []
 
 -- the host's move is the first legal one; without one it resigns
-pub data HostMoves (c : HostConfig) (g : Played) (lines : List (List ℕ)) (t : HostState) : Type 0 where
+pub data HostMoves (c : HostConfig)
+    (g : Played) (lines : List (List ℕ)) (t : HostState) : Type 0 where
   moves : (m : Move)
       → IsFirstLegal (now_of g) m → AfterMove c (with_move g m) None
       → lines ≡ moved_line g m 0 ∷ [] → t ≡ playing (with_move g m)
@@ -118,8 +119,9 @@ pub data HostMoves (c : HostConfig) (g : Played) (lines : List (List ℕ)) (t : 
 abbrev pub IsGoodMove : Played → List ℕ → Move → Type 0
 IsGoodMove g line m = (color : Color) × TellsMove line color m × Answers g color m None
 
--- 3. The table, for a line less the spaces at its end
-pub data BeforeLogin (c : HostConfig) (line : List ℕ) (lines : List (List ℕ)) (t : HostState) : Type 0 where
+-- 3. The table, for a line without the spaces at its end
+pub data BeforeLogin (c : HostConfig)
+    (line : List ℕ) (lines : List (List ℕ)) (t : HostState) : Type 0 where
   logs_in : (n p : List ℕ)
       → IsLogin line n p
       → lines ≡ (texts.login_answer ++ (n ++ texts.ok)) ∷ summary_lines c n → t ≡ offered n
@@ -132,7 +134,8 @@ pub data BeforeLogin (c : HostConfig) (line : List ℕ) (lines : List (List ℕ)
 abbrev pub even_game : Played
 even_game = record { start = even_start; moves = [] }
 
-pub data AfterSummary (c : HostConfig) (n line : List ℕ) (lines : List (List ℕ)) (t : HostState) : Type 0 where
+pub data AfterSummary (c : HostConfig)
+    (n line : List ℕ) (lines : List (List ℕ)) (t : HostState) : Type 0 where
   agrees :
       IsWordAndOne line texts.agree → c.client ≡ Black
       → lines ≡ (texts.start ++ c.id.bytes) ∷ [] → t ≡ playing even_game
@@ -146,7 +149,8 @@ pub data AfterSummary (c : HostConfig) (n line : List ℕ) (lines : List (List �
       → lines ≡ (texts.rejected ++ (c.id.bytes ++ (texts.by ++ n))) ∷ [] → t ≡ ended
       → AfterSummary c n line lines t
 
-pub data InPlay (c : HostConfig) (g : Played) (line : List ℕ) (seconds : ℕ) (lines : List (List ℕ)) (t : HostState) : Type 0 where
+pub data InPlay (c : HostConfig) (g : Played)
+    (line : List ℕ) (seconds : ℕ) (lines : List (List ℕ)) (t : HostState) : Type 0 where
   client_moves : (m : Move) (more : List (List ℕ))
       → is_move_line line ≡ true → IsGoodMove g line m
       → AfterMove c (with_move g m) None → HostMoves c (with_move g m) more t
@@ -171,20 +175,25 @@ pub data InPlay (c : HostConfig) (g : Played) (line : List ℕ) (seconds : ℕ) 
       → lines ≡ with_time texts.kachi seconds ∷ texts.jishogi ∷ texts.win ∷ [] → t ≡ decided
       → InPlay c g line seconds lines t
 
-pub data HostTableRow (c : HostConfig) (s : HostState) (line : List ℕ) (seconds : ℕ) (lines : List (List ℕ)) (t : HostState) : Type 0 where
+pub data HostTableRow (c : HostConfig) (s : HostState)
+    (line : List ℕ) (seconds : ℕ) (lines : List (List ℕ)) (t : HostState) : Type 0 where
   before_login : s ≡ waiting → BeforeLogin c line lines t → HostTableRow c s line seconds lines t
-  after_summary : (n : List ℕ) → s ≡ offered n → AfterSummary c n line lines t → HostTableRow c s line seconds lines t
-  in_play : (g : Played) → s ≡ playing g → InPlay c g line seconds lines t → HostTableRow c s line seconds lines t
+  after_summary : (n : List ℕ) → s ≡ offered n
+      → AfterSummary c n line lines t → HostTableRow c s line seconds lines t
+  in_play : (g : Played) → s ≡ playing g
+      → InPlay c g line seconds lines t → HostTableRow c s line seconds lines t
   logs_out :
       s ≢ ended → line ≡ texts.logout
       → lines ≡ texts.logout_completed ∷ [] → t ≡ ended
       → HostTableRow c s line seconds lines t
 
--- no row names the line
+-- no row applies to the line
 abbrev pub IsUnnamed : HostConfig → HostState → List ℕ → ℕ → Type 0
-IsUnnamed c s line seconds = (lines : List (List ℕ)) (t : HostState) → HostTableRow c s line seconds lines t → ⊥
+IsUnnamed c s line seconds =
+    (lines : List (List ℕ)) (t : HostState) → HostTableRow c s line seconds lines t → ⊥
 
--- a row of the table; or none names the line, and it is skipped
-pub data HostRow (c : HostConfig) (s : HostState) (line : List ℕ) (seconds : ℕ) (lines : List (List ℕ)) (t : HostState) : Type 0 where
+-- a row of the table; or no row applies to the line, and it is skipped
+pub data HostRow (c : HostConfig) (s : HostState)
+    (line : List ℕ) (seconds : ℕ) (lines : List (List ℕ)) (t : HostState) : Type 0 where
   in_table : HostTableRow c s line seconds lines t → HostRow c s line seconds lines t
   skipped : IsUnnamed c s line seconds → lines ≡ [] → t ≡ s → HostRow c s line seconds lines t

@@ -1,4 +1,4 @@
--- Logs of a host, and the game that is read off its lines.
+-- Logs of a host, and the game that its lines spell.
 use Rattle.std.specs.Prelude.{◌≡◌, ℕ, ◌++◌, ◌≤◌, List, [], ◌∷◌, filter, map, length, if◌then◌else◌}
 use Rattle.std.specs.List.{AllByRecursion, flat_map}
 use Rattle.shogi_board.specs.declared.color.Color.{Color}
@@ -14,7 +14,8 @@ use Rattle.session_lines.specs.MoveLines.{is_move_line}
 use Rattle.session_lines.specs.ServerLines.{is_start_line}
 use Rattle.session_lines.specs.Texts.{with_time}
 
--- one call of step: the line less the spaces at its end, its seconds, and the lines to the client
+-- one call of step: the line without the spaces at its end, its seconds, and the lines to the
+-- client
 pub record HostStep : Type 0 where
   pub line : List ℕ
   pub seconds : ℕ
@@ -23,11 +24,12 @@ pub record HostStep : Type 0 where
 abbrev pub IsSeconds : ℕ → Type 0
 IsSeconds n = n ≤ 4294967295
 
--- calls of step one after another, each a row, from before login on
+-- calls of step one after another, each a row of the table, from before login on
 pub data HostLeads (c : HostConfig) : List HostStep → HostState → Type 0 where
   begins : HostLeads c [] waiting
   next : (log : List HostStep) (s : HostState) (step : HostStep) (t : HostState)
-      → HostLeads c log s → IsSeconds step.seconds → HostRow c s step.line step.seconds step.to_client t
+      → HostLeads c log s → IsSeconds step.seconds
+      → HostRow c s step.line step.seconds step.to_client t
       → HostLeads c (log ++ step ∷ []) t
 
 abbrev pub client_lines : HostStep → List (List ℕ)
@@ -36,12 +38,12 @@ client_lines step = step.to_client
 abbrev pub written : List HostStep → List (List ℕ)
 written log = flat_map client_lines log
 
--- the lines behind the first line `START:` ..
+-- the lines after the first line that begins with `START:`
 abbrev pub behind_start : List (List ℕ) → List (List ℕ)
 behind_start [] = []
 behind_start (line ∷ lines) = if is_start_line line then lines else behind_start lines
 
--- the lines from `+` or `-` behind it
+-- those of them that begin with `+` or `-`
 abbrev pub written_moves : List HostStep → List (List ℕ)
 written_moves log = filter is_move_line (behind_start (written log))
 
@@ -53,12 +55,14 @@ pub record Timed : Type 0 where
 abbrev pub move_of : Timed → Move
 move_of m = m.move
 
--- the lines of the moves of both sides in turn, that side first
+-- the lines of the moves of both sides in turn, this side first
 abbrev pub lines_in_turn : Color → List Timed → List (List ℕ)
 lines_in_turn color [] = []
-lines_in_turn color (m ∷ ms) = with_time (move_text color m.move) m.seconds ∷ lines_in_turn (opponent color) ms
+lines_in_turn color (m ∷ ms) =
+    with_time (move_text color m.move) m.seconds ∷ lines_in_turn (opponent color) ms
 
--- these moves are a game from the even start, black first, of at most so many moves, and these are its lines
+-- these moves are a game from the even start, black first, of at most `most` moves, and these are
+-- its lines
 pub record IsTimedGame (most : ℕ) (lines : List (List ℕ)) (ms : List Timed) : Type 0 where
   pub game : IsGame even_start (map move_of ms)
   pub few : length ms ≤ most

@@ -1,4 +1,4 @@
--- What a line asks of the sample engine, and the bytes of its answer: what its private helpers promise.
+-- The bytes of an answer of the sample engine; and, for private functions, what a line asks of it.
 use Rattle.std.specs.Prelude.{◌≡◌, ℕ, ◌++◌, ◌∷◌, [], List, Option, Some}
 use Rattle.shogi_rules.specs.Positions.{Played}
 use Rattle.session_peers.specs.declared.sample.Request.{Request}
@@ -14,7 +14,8 @@ Asks line Position = BeginsWith line texts.position
 Asks line Go = BeginsWith line texts.go
 Asks line Quit = IsWord line texts.quit
 Asks line Other =
-    (IsWord line texts.usi → ⊥) × (IsWord line texts.is_ready → ⊥) × (BeginsWith line texts.position → ⊥)
+    (IsWord line texts.usi → ⊥) × (IsWord line texts.is_ready → ⊥)
+    × (BeginsWith line texts.position → ⊥)
     × (BeginsWith line texts.go → ⊥) × (IsWord line texts.quit → ⊥)
 
 -- the bytes are those of the lines of a row

@@ -15,12 +15,12 @@ pub data SampleState : Type 0 where
   keeps : Option Played → SampleState
   quit : SampleState
 
--- it has no move: no game is kept, or there is no legal move, or the position stands for the fourth time
+-- it has no move: no game is kept, there is no legal move, or the position has occurred four times
 abbrev pub HasNoMove : Option Played → Type 0
 HasNoMove None = Unit {0}
 HasNoMove (Some g) = NoLegalMove (now_of g) ⊎ Over (all_of g) (now_of g)
 
--- the word is the first legal move of a position that does not stand for the fourth time
+-- the word is the first legal move of a position that has not occurred four times
 pub record IsBest (g : Played) (word : List ℕ) : Type 0 where
   pub best : Move
   pub first : IsFirstLegal (now_of g) best
@@ -31,17 +31,19 @@ pub record IsBest (g : Played) (word : List ℕ) : Type 0 where
 abbrev pub IsWord : List ℕ → List ℕ → Type 0
 IsWord line word = words line ≡ word ∷ []
 
--- its first word
+-- this is its first word
 abbrev pub BeginsWith : List ℕ → List ℕ → Type 0
 BeginsWith line word = nth_word (words line) 0 ≡ word
 
--- the game that a position line tells, or none where it tells none
+-- the game that a position line spells, or none if it spells none
 abbrev pub IsGameOf : List ℕ → Option Played → Type 0
 IsGameOf line (Some g) = UsiLine (words line) g.start g.moves
 IsGameOf line None = (g : Played) → UsiLine (words line) g.start g.moves → ⊥
 
--- the table: a line to an engine that keeps a game or none, the lines that it answers, and its state afterwards
-pub data SampleTableRow (kept : Option Played) (line : List ℕ) (lines : List (List ℕ)) (t : SampleState) : Type 0 where
+-- the table: a line to an engine that keeps a game or none, the lines of its answer, and its state
+-- afterwards
+pub data SampleTableRow (kept : Option Played)
+    (line : List ℕ) (lines : List (List ℕ)) (t : SampleState) : Type 0 where
   usi :
       IsWord line texts.usi
       → lines ≡ texts.id_name ∷ texts.id_author ∷ texts.usi_ok ∷ [] → t ≡ keeps kept
@@ -67,12 +69,15 @@ pub data SampleTableRow (kept : Option Played) (line : List ℕ) (lines : List (
       → lines ≡ [] → t ≡ quit
       → SampleTableRow kept line lines t
 
--- no row names the line
+-- no row applies to the line
 abbrev pub IsUnnamed : Option Played → List ℕ → Type 0
-IsUnnamed kept line = (lines : List (List ℕ)) (t : SampleState) → SampleTableRow kept line lines t → ⊥
+IsUnnamed kept line =
+    (lines : List (List ℕ)) (t : SampleState) → SampleTableRow kept line lines t → ⊥
 
--- a row of the table; or none names the line, no line is given and nothing changes; or it has quit, and no line is answered
-pub data SampleRow (s : SampleState) (line : List ℕ) (lines : List (List ℕ)) (t : SampleState) : Type 0 where
+-- a row of the table; or no row applies to the line, the answer is empty and nothing changes; or it
+-- has quit, and no line is answered
+pub data SampleRow (s : SampleState)
+    (line : List ℕ) (lines : List (List ℕ)) (t : SampleState) : Type 0 where
   in_table : (kept : Option Played)
       → s ≡ keeps kept → SampleTableRow kept line lines t
       → SampleRow s line lines t

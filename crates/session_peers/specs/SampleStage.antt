@@ -1,4 +1,4 @@
--- What the sample engine's own stage is.
+-- For private functions and fields of `Sample`: the state that its own stage means.
 use Rattle.session_peers.specs.declared.sample.Stage.{Stage}
 use Rattle.session_peers.specs.declared.sample.Stage.TheVariants.{Keeping, Quit}
 use Rattle.session_peers.specs.Sample.{SampleState, keeps, quit}

@@ -6,7 +6,7 @@ use shogi_board::Color;
 pub struct HostConfig {
     /// The client's side.
     pub client: Color,
-    /// The game ends after so many moves, 1 to 10,000.
+    /// The number of moves after which the game ends, 1 to 10,000.
     pub max_moves: u32,
     /// The game's name: 1 to 32 bytes from 0x21 to 0x7E.
     pub id: ArrayString<32>,

@@ -20,10 +20,10 @@ use std::alloc::Global;
 use std::marker::Model;
 use std::mem;
 
-/// A server's side of one game, which it plays itself: it offers the even start with black to move,
-/// and plays the first legal move.
+/// The server's side of one game, in which it is the opponent too: it offers the even start with
+/// black to move, and plays the first legal move.
 ///
-/// It speaks the CSA server protocol with one client, one line at a call.
+/// It speaks the CSA server protocol with one client, one line per call.
 #[derive(Drop)]
 pub struct Host {
     alloc: Global,
@@ -48,12 +48,12 @@ impl Model for Host {
 pub struct HostOut {
     /// The lines to send to the client.
     pub to_client: Lines,
-    /// Whether the session is over. No line is answered from then on.
+    /// Whether the session is over. No line is answered after that.
     pub ended: bool,
 }
 
 impl Host {
-    /// A host before login. It takes no memory, and answers Ok.
+    /// A host before login. Allocates nothing, and always returns `Ok`.
     pub fn new(alloc: Global, config: &HostConfig) -> Result<Host, OutOfMemory>
         requires config { IsHostConfig config.now }
         ensures made { IsOk result }
@@ -67,20 +67,28 @@ impl Host {
         })
     }
 
-    /// Answers a line, which comes without its line end; spaces at its end do not count. `seconds` is
-    /// the time that the client took for it.
+    /// Answers a line. `line` has no line end; spaces at its end do not count. `seconds` is the
+    /// time that the client took for it.
     ///
-    /// Before login, `LOGIN name password` gives `LOGIN:name OK` and the game summary, and another line
-    /// from `LOGIN` gives `LOGIN:incorrect`. Then `AGREE` gives `START:` and the game's name, and
-    /// `REJECT` gives `REJECT:` and ends. A legal move is given back with its time, and the host's move
-    /// follows; another line from `+` or `-` loses. `%TORYO` resigns and `%KACHI` declares a win, which
-    /// is not judged. A repetition, a perpetual check and the last move that the game may have end it.
-    /// `LOGOUT` gives `LOGOUT:completed` and ends. Other lines are skipped.
+    /// - Before login, `LOGIN name password` gives `LOGIN:name OK` and the game summary. Another
+    ///   line whose first word is `LOGIN` gives `LOGIN:incorrect`.
+    /// - After the summary, `AGREE` gives `START:` and the game's name. `REJECT` gives `REJECT:`,
+    ///   and ends the session.
+    /// - In the game, a legal move is sent back with its time, and the host's move follows. Another
+    ///   line that begins with `+` or `-` loses. `%TORYO` resigns. `%KACHI` wins; the declaration
+    ///   is not judged.
+    /// - The host resigns if it has no legal move. The game also ends at a repetition or a
+    ///   perpetual check, and after the last move that it may have.
+    /// - `LOGOUT` gives `LOGOUT:completed`, and ends the session.
+    /// - Other lines are skipped.
     ///
-    /// Refuses OutOfMemory, and has ended then. Once it has ended it answers Ok and gives no line.
+    /// Returns `OutOfMemory` if an allocation fails; the session is over then. Once it is over,
+    /// every call returns `Ok` without lines.
     pub fn step(&mut self, line: &[u8], seconds: u32) -> Result<HostOut, OutOfMemory>
-        ensures row { IfOk result (λ out. (lines : List (List ℕ)) × StepRow self.old line.now seconds lines self.new) }
-        ensures to_client { IfOk result (λ out. (lines : List (List ℕ)) → StepRow self.old line.now seconds lines self.new → out.to_client ≡ text_of lines) }
+        ensures row { IfOk result
+            (λ out. (lines : List (List ℕ)) × StepRow self.old line.now seconds lines self.new) }
+        ensures to_client { IfOk result (λ out. (lines : List (List ℕ))
+            → StepRow self.old line.now seconds lines self.new → out.to_client ≡ text_of lines) }
         ensures config { self.new.config ≡ self.old.config }
         ensures ended { IfOk result (λ out. IsTrue out.ended ↔ (self.new.state ≡ ended)) }
         ensures lost { OnErr result (self.new.state ≡ ended) }
@@ -114,7 +122,7 @@ fn is_ended(stage: &HostStage) -> bool
     }
 }
 
-// Answers a line less its last spaces, by the stage before it.
+// Answers a line without its last spaces. `stage` is the stage before it.
 fn answer(
     alloc: Global,
     config: &HostConfig,
@@ -123,7 +131,8 @@ fn answer(
     seconds: u32,
 ) -> Result<Reply, OutOfMemory>
     requires { config.now.max_moves ≤ max_moves }
-    ensures row { IfOk result (λ r. RowText config.now (state_of stage) line.now seconds r.lines (state_of r.stage)) }
+    ensures row { IfOk result
+        (λ r. RowText config.now (state_of stage) line.now seconds r.lines (state_of r.stage)) }
     ensures over { state_of stage ≡ ended → IsOk result }
 {
     if is_same(line, texts::LOGOUT) {
@@ -146,7 +155,8 @@ fn answer(
 
 // Answers `LOGOUT`.
 fn log_out(alloc: Global, stage: HostStage) -> Result<Reply, OutOfMemory>
-    ensures row { (config : HostConfig) (seconds : ℕ) → IfOk result (λ r. RowText config (state_of stage) texts.logout seconds r.lines (state_of r.stage)) }
+    ensures row { (config : HostConfig) (seconds : ℕ) → IfOk result
+        (λ r. RowText config (state_of stage) texts.logout seconds r.lines (state_of r.stage)) }
     ensures over { state_of stage ≡ ended → IsOk result }
 {
     if is_ended(&stage) {
@@ -164,7 +174,8 @@ fn log_out(alloc: Global, stage: HostStage) -> Result<Reply, OutOfMemory>
 // Answers a line before login. It is not `LOGOUT`.
 fn log_in(alloc: Global, config: &HostConfig, line: &[u8]) -> Result<Reply, OutOfMemory>
     requires { line.now ≡ texts.logout → ⊥ }
-    ensures { (seconds : ℕ) → IfOk result (λ r. RowText config.now waiting line.now seconds r.lines (state_of r.stage)) }
+    ensures { (seconds : ℕ) → IfOk result
+        (λ r. RowText config.now waiting line.now seconds r.lines (state_of r.stage)) }
 {
     match read_login(line) {
         Some(name) => offer(alloc, config, name),
@@ -184,10 +195,11 @@ fn log_in(alloc: Global, config: &HostConfig, line: &[u8]) -> Result<Reply, OutO
     }
 }
 
-// Lets the client in, and offers it the game.
+// Accepts the login, and offers the game to the client of that name.
 fn offer(alloc: Global, config: &HostConfig, name: ArrayVec<u8, 32>) -> Result<Reply, OutOfMemory>
     ensures { IfOk result (λ r. (state_of r.stage ≡ offered name.items)
-        × (r.lines ≡ text_of ((texts.login_answer ++ (name.items ++ texts.ok)) ∷ summary_lines config.now name.items))) }
+        × (r.lines ≡ text_of ((texts.login_answer ++ (name.items ++ texts.ok))
+        ∷ summary_lines config.now name.items))) }
 {
     let mut lines = Lines::new(alloc);
     lines.push_part(texts::LOGIN_ANSWER)?;
@@ -199,7 +211,7 @@ fn offer(alloc: Global, config: &HostConfig, name: ArrayVec<u8, 32>) -> Result<R
     })
 }
 
-// Answers a line behind the summary. It is not `LOGOUT`.
+// Answers a line after the summary. It is not `LOGOUT`.
 fn agree(
     alloc: Global,
     config: &HostConfig,
@@ -208,7 +220,8 @@ fn agree(
 ) -> Result<Reply, OutOfMemory>
     requires few { config.now.max_moves ≤ max_moves }
     requires stays { line.now ≡ texts.logout → ⊥ }
-    ensures { (seconds : ℕ) → IfOk result (λ r. RowText config.now (offered name.items) line.now seconds r.lines (state_of r.stage)) }
+    ensures { (seconds : ℕ) → IfOk result
+        (λ r. RowText config.now (offered name.items) line.now seconds r.lines (state_of r.stage)) }
 {
     if is_word_and_one(line, texts::AGREE) {
         begin(alloc, config)
@@ -222,10 +235,11 @@ fn agree(
     }
 }
 
-// Tells the client of that name that it called the game off.
+// Says that the client of that name rejected the game.
 fn reject(alloc: Global, config: &HostConfig, name: &[u8]) -> Result<Reply, OutOfMemory>
     ensures { IfOk result (λ r. (state_of r.stage ≡ ended)
-        × (r.lines ≡ text_of ((texts.rejected ++ (config.now.id.bytes ++ (texts.by ++ name.now))) ∷ []))) }
+        × (r.lines ≡ text_of ((texts.rejected ++ (config.now.id.bytes ++ (texts.by ++ name.now)))
+        ∷ []))) }
 {
     let mut lines = Lines::new(alloc);
     lines.push_part(texts::REJECTED)?;
@@ -237,7 +251,7 @@ fn reject(alloc: Global, config: &HostConfig, name: &[u8]) -> Result<Reply, OutO
     })
 }
 
-// Begins the game, with the host's move where black is its side.
+// Begins the game, with the host's move if the host has black.
 fn begin(alloc: Global, config: &HostConfig) -> Result<Reply, OutOfMemory>
     requires { config.now.max_moves ≤ max_moves }
     ensures { IfOk result (λ r. Begins config.now r.lines (state_of r.stage)) }

@@ -1,8 +1,15 @@
-//! The two sides that a bridge can be tried with: a host, which plays one game as a server does, and a
-//! sample engine. Each takes one line at a call and answers the lines that it sends.
+//! Two peers to try a bridge with: a [`Host`], which plays one game as a server does, and a
+//! [`Sample`] engine. Each call takes one line and returns the lines to send.
 //!
-//! They speak the CSA server protocol and the USI protocol, in the profile of this project:
+//! The host speaks the CSA server protocol, the engine USI, both in the profile of this project:
 //! `docs/SESSIONS.md` has a table of each.
+//!
+//! ```text
+//! let mut engine = Sample::new(alloc);
+//! engine.step(b"position startpos moves 7g7f")?;  // no lines
+//! let out = engine.step(b"go")?;
+//! out.lines.bytes()                               // b"bestmove 1a1b\n"
+//! ```
 #![tactic(auto)]
 
 mod config;

@@ -13,7 +13,7 @@ use itoa::Buffer;
 use session_lines::{Lines, texts};
 use shogi_board::{Color, OutOfMemory};
 
-// The name of a line `LOGIN name password`, or None for another line.
+// The name in a line `LOGIN name password`, or None for another line.
 pub(crate) fn read_login(line: &[u8]) -> Option<ArrayVec<u8, 32>>
     ensures { MatchOption result
         ((n p : List ℕ) → IsLogin line.now n p → ⊥)
@@ -68,7 +68,8 @@ pub(crate) fn push_summary(
 }
 
 fn push_head(lines: &mut Lines, config: &HostConfig) -> Result<(), OutOfMemory>
-    ensures { OnOk result (lines.new ≡ lines.old ++ text_of (texts.begin_summary ∷ (texts.game_id ++ config.now.id.bytes) ∷ [])) }
+    ensures { OnOk result (lines.new ≡ lines.old
+        ++ text_of (texts.begin_summary ∷ (texts.game_id ++ config.now.id.bytes) ∷ [])) }
 {
     lines.push(texts::BEGIN_SUMMARY)?;
     lines.push_joined(texts::GAME_ID, config.id.as_str().as_bytes())
@@ -76,7 +77,8 @@ fn push_head(lines: &mut Lines, config: &HostConfig) -> Result<(), OutOfMemory>
 
 // Adds the client's side, the side to move and the length of the game.
 fn push_turn(lines: &mut Lines, config: &HostConfig) -> Result<(), OutOfMemory>
-    ensures { OnOk result (lines.new ≡ lines.old ++ text_of ((texts.your_turn ++ sign config.now.client ∷ [])
+    ensures { OnOk result
+        (lines.new ≡ lines.old ++ text_of ((texts.your_turn ++ sign config.now.client ∷ [])
         ∷ texts.black_to_move ∷ (texts.most_moves ++ decimal config.now.max_moves) ∷ [])) }
 {
     let mut buffer = Buffer::new();
@@ -90,7 +92,8 @@ fn push_turn(lines: &mut Lines, config: &HostConfig) -> Result<(), OutOfMemory>
 
 // Adds the even start with black to move.
 fn push_position(lines: &mut Lines) -> Result<(), OutOfMemory>
-    ensures { OnOk result (lines.new ≡ lines.old ++ text_of (texts.begin_position ∷ texts.even_start ∷ texts.black ∷ texts.end_position
+    ensures { OnOk result (lines.new ≡ lines.old
+        ++ text_of (texts.begin_position ∷ texts.even_start ∷ texts.black ∷ texts.end_position
         ∷ texts.end_summary ∷ [])) }
 {
     lines.push_two(texts::BEGIN_POSITION, texts::EVEN_START)?;
@@ -100,7 +103,8 @@ fn push_position(lines: &mut Lines) -> Result<(), OutOfMemory>
 
 // Adds the names of both sides.
 fn push_names(lines: &mut Lines, config: &HostConfig, name: &[u8]) -> Result<(), OutOfMemory>
-    ensures { OnOk result (lines.new ≡ lines.old ++ text_of ((texts.black_name ++ name_for config.now name.now Black)
+    ensures { OnOk result
+        (lines.new ≡ lines.old ++ text_of ((texts.black_name ++ name_for config.now name.now Black)
         ∷ (texts.white_name ++ name_for config.now name.now White) ∷ [])) }
 {
     let host = config.name.as_str().as_bytes();

@@ -1,4 +1,7 @@
-ghost use Rattle.std.specs.Prelude.{◌≡◌, ◌++◌, OnOk};
+ghost use Rattle.std.specs.Prelude.{◌≡◌, ◌++◌, OnOk, Some};
+ghost use Rattle.shogi_rules.specs.Positions.{all_of, now_of};
+ghost use Rattle.shogi_rules.specs.Repetition.{Over};
+ghost use Rattle.session_peers.specs.declared.config.HostConfig.{HostConfig};
 ghost use Rattle.session_peers.specs.Host.{AfterMove, outcome_lines};
 ghost use Rattle.session_lines.specs.Texts.{text_of};
 
@@ -16,20 +19,27 @@ pub(crate) enum Outcome {
     MaxMoves,
 }
 
-// What the last move of the game ended it by, or None where it goes on.
+// How the last move of the game ended it, or None if the game goes on.
 pub(crate) fn outcome_of(config: &HostConfig, game: &Line) -> Option<Outcome>
     ensures { AfterMove config.now game.now result }
 {
+    if game.is_over() {
+        return Some(outcome_of_repetition(game));
+    }
+    if game.moves().len() >= config.max_moves as usize {
+        return Some(Outcome::MaxMoves);
+    }
+    None
+}
+
+fn outcome_of_repetition(game: &Line) -> Outcome
+    requires { Over (all_of game.now) (now_of game.now) }
+    ensures { (c : HostConfig) → AfterMove c game.now (Some result) }
+{
     match game.verdict() {
-        Verdict::Repetition => Some(Outcome::Repetition),
-        Verdict::Perpetual(loser) => Some(Outcome::Perpetual(loser)),
-        Verdict::Ongoing | Verdict::Mate | Verdict::NoMove => {
-            if game.moves().len() >= config.max_moves as usize {
-                Some(Outcome::MaxMoves)
-            } else {
-                None
-            }
-        }
+        Verdict::Repetition => Outcome::Repetition,
+        Verdict::Perpetual(loser) => Outcome::Perpetual(loser),
+        Verdict::Ongoing | Verdict::Mate | Verdict::NoMove => unreachable!(),
     }
 }
 

@@ -20,7 +20,8 @@ use shogi_board::{Color, OutOfMemory};
 use shogi_rules::{Line, Move, PlayFault, first_legal};
 use std::alloc::Global;
 
-// Answers a line while the client is to move. The line is less its last spaces, and is not `LOGOUT`.
+// Answers a line while the client is to move. The line has no spaces at its end, and is not
+// `LOGOUT`.
 pub(crate) fn answer_in_play(
     alloc: Global,
     config: &HostConfig,
@@ -30,7 +31,8 @@ pub(crate) fn answer_in_play(
 ) -> Result<Reply, OutOfMemory>
     requires few { config.now.max_moves ≤ max_moves }
     requires stays { line.now ≡ texts.logout → ⊥ }
-    ensures { IfOk result (λ r. RowText config.now (playing game) line.now seconds r.lines (state_of r.stage)) }
+    ensures { IfOk result
+        (λ r. RowText config.now (playing game) line.now seconds r.lines (state_of r.stage)) }
 {
     if is_move_line(line) {
         take_move(alloc, config, game, line, seconds)
@@ -46,7 +48,7 @@ pub(crate) fn answer_in_play(
     }
 }
 
-// Says the client's own word with its time, the reason and the result.
+// Sends back the client's own line with its time, then the reason and the result.
 fn decide(
     alloc: Global,
     word: &[u8],
@@ -66,7 +68,7 @@ fn decide(
     })
 }
 
-// Plays the client's move, and then the host's; or the client has lost by a line that is no move.
+// Plays the client's move, and then the host's. The client loses if its line is no move.
 fn take_move(
     alloc: Global,
     config: &HostConfig,
@@ -76,7 +78,8 @@ fn take_move(
 ) -> Result<Reply, OutOfMemory>
     requires few { config.now.max_moves ≤ max_moves }
     requires from_a_sign { is_move_line line.now ≡ true }
-    ensures { IfOk result (λ r. RowText config.now (playing game) line.now seconds r.lines (state_of r.stage)) }
+    ensures { IfOk result
+        (λ r. RowText config.now (playing game) line.now seconds r.lines (state_of r.stage)) }
 {
     match read_move_line(line) {
         Some(told) => try_move(alloc, config, game, told.0, told.1, seconds),
@@ -84,7 +87,7 @@ fn take_move(
     }
 }
 
-// Plays the client's move where it may be played.
+// Plays the client's move if it may be played.
 fn try_move(
     alloc: Global,
     config: &HostConfig,
@@ -115,7 +118,8 @@ fn wants_memory(fault: PlayFault) -> bool
     fault == PlayFault::OutOfMemory
 }
 
-// Behind the client's move, which is the last of the game: its line, and the outcome or the host's move.
+// What follows the client's move, which is the last of the game: its line, and the outcome or the
+// host's move.
 fn follow(
     alloc: Global,
     config: &HostConfig,
@@ -125,7 +129,8 @@ fn follow(
     seconds: u32,
 ) -> Result<Reply, OutOfMemory>
     requires few { config.now.max_moves ≤ max_moves }
-    ensures { IfOk result (λ r. Follows config.now game (with_time (move_text color mv) seconds) r.lines (state_of r.stage)) }
+    ensures { IfOk result (λ r. Follows config.now game
+        (with_time (move_text color mv) seconds) r.lines (state_of r.stage)) }
 {
     let mut lines = Lines::new(alloc);
     push_move(&mut lines, color, &mv, seconds)?;
@@ -135,9 +140,10 @@ fn follow(
     }
 }
 
-// Adds what ends the game.
+// Adds the lines of what ends the game.
 fn end_by(config: &HostConfig, outcome: Outcome, lines: Lines) -> Result<Reply, OutOfMemory>
-    ensures { IfOk result (λ r. (state_of r.stage ≡ decided) × (r.lines ≡ lines ++ text_of (outcome_lines config.now outcome))) }
+    ensures { IfOk result (λ r. (state_of r.stage ≡ decided)
+        × (r.lines ≡ lines ++ text_of (outcome_lines config.now outcome))) }
 {
     let mut lines = lines;
     push_outcome(&mut lines, config, outcome)?;
@@ -148,7 +154,8 @@ fn end_by(config: &HostConfig, outcome: Outcome, lines: Lines) -> Result<Reply, 
 }
 
 fn lose_by_error(alloc: Global) -> Result<Reply, OutOfMemory>
-    ensures { IfOk result (λ r. (state_of r.stage ≡ decided) × (r.lines ≡ text_of (texts.illegal_move ∷ texts.lose ∷ []))) }
+    ensures { IfOk result (λ r. (state_of r.stage ≡ decided)
+        × (r.lines ≡ text_of (texts.illegal_move ∷ texts.lose ∷ []))) }
 {
     let mut lines = Lines::new(alloc);
     lines.push_two(texts::ILLEGAL_MOVE, texts::LOSE)?;
@@ -160,12 +167,13 @@ fn lose_by_error(alloc: Global) -> Result<Reply, OutOfMemory>
 
 // Adds the line of a move with its time.
 fn push_move(lines: &mut Lines, color: Color, mv: &Move, seconds: u32) -> Result<(), OutOfMemory>
-    ensures { OnOk result (lines.new ≡ lines.old ++ ended_line (with_time (move_text color mv.now) seconds)) }
+    ensures { OnOk result
+        (lines.new ≡ lines.old ++ ended_line (with_time (move_text color mv.now) seconds)) }
 {
     lines.push_timed(csa_move(color, mv).as_str().as_bytes(), seconds)
 }
 
-// Plays the host's move behind the lines so far, or resigns.
+// Plays the host's move after the lines so far, or resigns.
 pub(crate) fn move_host(config: &HostConfig, game: Line, lines: Lines) -> Result<Reply, OutOfMemory>
     requires few { config.now.max_moves ≤ max_moves }
     requires room { length game.moves < max_moves }
@@ -225,7 +233,7 @@ fn play_legal(game: Line, mv: Move) -> Result<Line, OutOfMemory>
     }
 }
 
-// Behind the host's move: what ends the game, or the client is to move.
+// What follows the host's move: what ends the game, or nothing, and the client is to move.
 fn rest(config: &HostConfig, game: Line, lines: Lines) -> Result<Reply, OutOfMemory>
     ensures { IfOk result (λ r. Rests config.now game lines r.lines (state_of r.stage)) }
 {

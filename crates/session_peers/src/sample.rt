@@ -14,12 +14,12 @@ use crate::words::{first_word, is_word};
 use arrayvec::ArrayString;
 use session_lines::{Lines, texts};
 use shogi_board::{OutOfMemory, Position};
-use shogi_rules::{Line, Verdict, first_legal};
+use shogi_rules::{Line, first_legal};
 use std::alloc::Global;
 use std::marker::Model;
 use usi_text::{UsiFault, move_text, read_position_line};
 
-// The game that the engine keeps, if any; or it has quit.
+// The game that the engine keeps, if any; or the engine has quit.
 #[derive(Drop)]
 enum Stage {
     Keeping(Option<Line>),
@@ -37,9 +37,9 @@ enum Request {
     Other,
 }
 
-/// An engine that plays the first legal move of the position that it was told last.
+/// An engine that plays the first legal move in the last position that it was given.
 ///
-/// It speaks the USI protocol, one line at a call.
+/// It speaks USI, one line per call.
 #[derive(Drop)]
 pub struct Sample {
     alloc: Global,
@@ -60,12 +60,12 @@ impl Model for Sample {
 pub struct SampleOut {
     /// The lines to send.
     pub lines: Lines,
-    /// Whether it has quit. It answers no line from then on.
+    /// Whether the engine has quit. It answers no line after that.
     pub ended: bool,
 }
 
 impl Sample {
-    /// An engine that was told nothing. It takes no memory.
+    /// An engine that keeps no game. Allocates nothing.
     pub fn new(alloc: Global) -> Sample
         ensures nothing_kept { result ≡ keeps None }
     {
@@ -75,18 +75,26 @@ impl Sample {
         }
     }
 
-    /// Answers a line, which comes without its line end.
+    /// Answers a line. `line` has no line end.
     ///
-    /// `usi`, `isready` and `quit` stand alone between spaces; `position` and `go` are the first word
-    /// of their line. `usi` gives `id name shogi`, `id author shogi` and `usiok`; `isready` gives
-    /// `readyok`. A position line gives no line: its game is kept, and where it is refused, none is.
-    /// `go` gives `bestmove` and the first legal move, or `bestmove resign` where there is none, no
-    /// game is kept, or the position stands for the fourth time. `quit` ends. Other lines give nothing.
+    /// - `usi` gives `id name shogi`, `id author shogi` and `usiok`.
+    /// - `isready` gives `readyok`.
+    /// - A position line gives no line. Its game is kept; if the line is refused, no game is kept.
+    /// - `go` gives `bestmove` and the first legal move. It gives `bestmove resign` if there is no
+    ///   legal move, no game is kept, or the position has occurred four times.
+    /// - `quit` ends the engine.
+    /// - Other lines give nothing.
     ///
-    /// Refuses OutOfMemory, and then keeps no game. That does not come once it has quit.
+    /// `usi`, `isready` and `quit` are alone on their line, spaces aside; `position` and `go` are
+    /// its first word.
+    ///
+    /// Returns `OutOfMemory` if an allocation fails; then no game is kept. After `quit`, every call
+    /// returns `Ok` without lines.
     pub fn step(&mut self, line: &[u8]) -> Result<SampleOut, OutOfMemory>
-        ensures row { IfOk result (λ out. (lines : List (List ℕ)) × SampleRow self.old line.now lines self.new) }
-        ensures lines { IfOk result (λ out. (lines : List (List ℕ)) → SampleRow self.old line.now lines self.new → out.lines ≡ text_of lines) }
+        ensures row { IfOk result
+            (λ out. (lines : List (List ℕ)) × SampleRow self.old line.now lines self.new) }
+        ensures lines { IfOk result (λ out. (lines : List (List ℕ))
+            → SampleRow self.old line.now lines self.new → out.lines ≡ text_of lines) }
         ensures ended { IfOk result (λ out. IsTrue out.ended ↔ (self.new ≡ quit)) }
         ensures lost { OnErr result (self.new ≡ keeps None) }
         ensures needs_no_memory_to_stay_silent { self.old ≡ quit → IsOk result }
@@ -167,7 +175,7 @@ fn greet(alloc: Global) -> Result<Lines, OutOfMemory>
     Ok(lines)
 }
 
-// The game of a position line, or None where it is refused.
+// The game of a position line, or None if the line is refused.
 fn read_game(alloc: Global, line: &[u8]) -> Result<Option<Line>, OutOfMemory>
     ensures { IfOk result (λ told. IsGameOf line.now told) }
 {
@@ -205,23 +213,24 @@ fn best_line(alloc: Global, kept: &Option<Line>) -> Result<Lines, OutOfMemory>
     Ok(lines)
 }
 
-// The first legal move, or None where the engine resigns.
+// The first legal move, or None if the engine resigns.
 fn best_move(game: &Line) -> Option<ArrayString<5>>
     ensures { MatchOption result
         (NoLegalMove (now_of game.now) ⊎ Over (all_of game.now) (now_of game.now))
         (λ word. IsBest game.now word.bytes) }
 {
-    match game.verdict() {
-        Verdict::Ongoing => first_move(&game.now()),
-        Verdict::Mate | Verdict::NoMove | Verdict::Repetition | Verdict::Perpetual(_) => None,
+    if game.is_over() {
+        return None;
     }
+    first_move(&game.now())
 }
 
 // The text of the first legal move.
 fn first_move(position: &Position) -> Option<ArrayString<5>>
     ensures { MatchOption result
         (NoLegalMove position.now)
-        (λ word. (best : Move) × IsFirstLegal position.now best × UsiMove position.now word.bytes best) }
+        (λ word. (best : Move) × IsFirstLegal position.now best
+        × UsiMove position.now word.bytes best) }
 {
     let mv = first_legal(position)?;
     Some(move_text(position, &mv))

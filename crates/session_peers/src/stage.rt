@@ -2,12 +2,12 @@ use arrayvec::ArrayVec;
 use session_lines::Lines;
 use shogi_rules::Line;
 
-// How a host stands.
+// A host's state.
 #[derive(Drop)]
 pub(crate) enum HostStage {
     // Before login.
     Waiting,
-    // After the summary; the client's name.
+    // After the summary, with the client's name.
     Offered(ArrayVec<u8, 32>),
     // The client is to move.
     Playing(Line),

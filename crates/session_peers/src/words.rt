@@ -2,7 +2,7 @@ ghost use Rattle.std.specs.Prelude.{◌≡◌, ◌≢◌, ℕ, ◌≤◌, ◌<�
 ghost use Rattle.session_peers.specs.Host.{IsWordAndOne};
 ghost use Rattle.usi_text.specs.Words.{words, nth_word};
 
-// The first word, and what stands behind it; or None where the text has no word.
+// The first word and the text after it, or None if the text has no word.
 pub(crate) fn next_word(text: &[u8]) -> Option<(&[u8], &[u8])>
     ensures { MatchOption result
         (words text.now ≡ [])
@@ -15,7 +15,7 @@ pub(crate) fn next_word(text: &[u8]) -> Option<(&[u8], &[u8])>
     Some(text.split_at(run_length(text, false)))
 }
 
-// The first word, or the empty text where there is none.
+// The first word, or the empty text if there is none.
 pub(crate) fn first_word(text: &[u8]) -> &[u8]
     ensures { result.now ≡ nth_word (words text.now) 0 }
 {
@@ -35,7 +35,7 @@ pub(crate) fn is_word(text: &[u8], wanted: &[u8]) -> bool
     }
 }
 
-// Whether the text is that word, alone or with one word more.
+// Whether the text is that word, alone or followed by one more.
 pub(crate) fn is_word_and_one(text: &[u8], wanted: &[u8]) -> bool
     ensures { IsTrue result ↔ IsWordAndOne text.now wanted.now }
 {
@@ -55,7 +55,7 @@ fn has_at_most_one(text: &[u8]) -> bool
     }
 }
 
-// How many bytes at the front of the text are spaces; or how many are none, where `spaces` is false.
+// How many bytes at the front of the text are spaces; if `spaces` is false, how many are not.
 fn run_length(text: &[u8], spaces: bool) -> usize
     ensures within { result ≤ length text.now }
     ensures run { (k : ℕ) → k < result → (slice_index text.now k == 32) ≡ spaces }

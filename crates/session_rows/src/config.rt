@@ -1,4 +1,4 @@
-//! New machines, by the words of a line.
+//! New machines, from the words of a line.
 
 ghost use Rattle.std.specs.Prelude.{◌↔◌, IsTrue, IfOk};
 ghost use Rattle.shogi_session.specs.Host.{IsLoginWord};
@@ -26,12 +26,12 @@ fn login_word(text: Option<&str>) -> Result<ArrayString<32>>
     Ok(ArrayString::from(text)?)
 }
 
-/// The number that the text is, or an error.
+/// The number that the text spells, or an error.
 pub(crate) fn number(text: Option<&str>) -> Result<u32> {
     Ok(text.unwrap_or("").parse::<u32>()?)
 }
 
-/// A bridge, by its name, its password, and its total and its byoyomi in milliseconds.
+/// A bridge, from its name, its password, and its total time and byoyomi in milliseconds.
 pub(crate) fn new_bridge(alloc: Global, words: &str) -> Result<Bridge> {
     let mut words = words.split(' ');
     let config = Config {
@@ -43,7 +43,7 @@ pub(crate) fn new_bridge(alloc: Global, words: &str) -> Result<Bridge> {
     Ok(Bridge::new(alloc, &config)?)
 }
 
-/// A host, by the client's side, the most moves, the game's name and its own.
+/// A host, from the client's side, the greatest number of moves, the game's name and its own.
 pub(crate) fn new_host(alloc: Global, words: &str) -> Result<Host> {
     let mut words = words.split(' ');
     let client = match words.next() {

@@ -1,4 +1,4 @@
-//! The machines, and what is handed to them.
+//! The machines, and what is given to them.
 
 use crate::config::{new_bridge, new_host};
 use crate::event::{read_event, unescape};
@@ -12,13 +12,14 @@ use std::io::Print;
 pub(crate) struct Desk<'a> {
     pub alloc: Global,
     pub script: &'a str,
-    /// The words of the last `bridge` and `host`.
+    /// The words of the last `bridge` and the last `host`.
     pub bridge_words: &'a str,
     pub host_words: &'a str,
     pub bridge: Bridge,
     pub host: Host,
     pub sample: Sample,
-    /// What the host wrote and the bridge has not read, and what the engine was told last, in a game of the two.
+    /// In a game of the two: what the host sent and the bridge has not read, and the last lines to
+    /// the engine.
     pub unread: Vec<u8>,
     pub told: Vec<u8>,
 }
@@ -50,7 +51,7 @@ impl<'a> Desk<'a> {
         })
     }
 
-    /// Puts new machines in the place of these.
+    /// Replaces these machines by new ones.
     pub(crate) fn renew(&mut self) -> Result<()> {
         self.bridge = new_bridge(self.alloc, self.bridge_words)?;
         self.host = new_host(self.alloc, self.host_words)?;
@@ -59,7 +60,7 @@ impl<'a> Desk<'a> {
         Ok(())
     }
 
-    /// The lines of the list of that name.
+    /// The lines of the list with that name.
     pub(crate) fn list(&self, name: &str) -> Result<Vec<&'a str>> {
         let mut lines = Vec::new(self.alloc);
         let mut is_inside = false;
@@ -77,7 +78,7 @@ impl<'a> Desk<'a> {
     }
 }
 
-/// Hands the event of the line to the machine that it names, and prints what comes of it.
+/// Gives the event in the line to the machine that it names, and prints the result.
 pub(crate) fn hand<R: Print>(rt: &R, desk: &mut Desk<'_>, line: &str, shown: Shown) -> Result<()> {
     let bytes = unescape(desk.alloc, line)?;
     if let Some(rest) = bytes.as_slice().strip_prefix(b"sample:".as_slice()) {
@@ -137,7 +138,7 @@ fn hand_bridge<R: Print>(
     Ok(())
 }
 
-// Prints the lines that the bridge answered, if any, and its status.
+// Prints the lines that the bridge sent, if any, and its status.
 fn print_out<R: Print>(rt: &R, out: &Out) -> Result<()> {
     for (seat, bytes) in [
         ("engine", out.to_engine.bytes()),
@@ -159,7 +160,7 @@ fn print_out<R: Print>(rt: &R, out: &Out) -> Result<()> {
     Ok(())
 }
 
-/// Prints how the bridge stands, behind its status.
+/// Prints the bridge's states, after its status.
 pub(crate) fn print_state<R: Print>(rt: &R, bridge: &Bridge) -> Result<()> {
     println!(rt;
         " {:?} {:?} {:?}{}",

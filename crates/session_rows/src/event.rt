@@ -7,7 +7,7 @@ ghost use Rattle.shogi_session.specs.Promises.{HoldsLine, event_of};
 use shogi_session::Event;
 use std::alloc::{AllocError, Global};
 
-/// The bytes of a text in which `\xNN` stands for a byte.
+/// The bytes of a text in which `\xNN` means one byte.
 pub(crate) fn unescape(alloc: Global, text: &str) -> Result<Vec<u8>, AllocError> {
     let mut parts = text.split("\\x");
     let mut bytes = Vec::from_slice(alloc, parts.next().unwrap_or("").as_bytes())?;
@@ -25,7 +25,8 @@ fn is_line(line: &[u8]) -> bool
     line.iter().all(|b| !(*b == b'\r' || *b == b'\n'))
 }
 
-/// The event of those bytes, if they are one: `begin`, `engine:` or `server:` and a line, `ends` or `long`.
+/// The event that the bytes spell, if they spell one: `begin`, `engine:` or `server:` and a line,
+/// `ends` or `long`.
 pub(crate) fn read_event(bytes: &[u8]) -> Option<Event<'_>>
     ensures line { IfSome result (λ event. HoldsLine (event_of event)) }
 {

@@ -6,11 +6,11 @@ use anyhow::{Result, bail};
 use shogi_session::{EngineState, Waits};
 use std::io::Print;
 
-// The most lines that a bridge hears in a game.
+// The greatest number of lines that a bridge receives in a game.
 const MOST_LINES: u32 = 100_000;
 
-/// Plays on, the engine with these answers one after another, until none is left or the session is over. Prints what the
-/// engine was told last, and how the bridge stands.
+/// Plays on with these answers of the engine, one after another, until none is left or the session
+/// is over. Prints the last lines to the engine and the bridge's states.
 pub(crate) fn play_on<R: Print>(rt: &R, desk: &mut Desk<'_>, answers: &str) -> Result<()> {
     exchange(desk, b"begin")?;
     let mut answers = answers.split(' ');
@@ -35,7 +35,7 @@ pub(crate) fn play_on<R: Print>(rt: &R, desk: &mut Desk<'_>, answers: &str) -> R
     print_state(rt, &desk.bridge)
 }
 
-// Hands the bridge an event, and the host each line that the bridge sends it, for which it took 2 seconds.
+// Gives the bridge an event, and the host each line that the bridge sends it, each after 2 seconds.
 fn exchange(desk: &mut Desk<'_>, bytes: &[u8]) -> Result<()> {
     let Some(event) = read_event(bytes) else {
         bail!("a line with a line end");
@@ -62,7 +62,7 @@ fn hear_engine(desk: &mut Desk<'_>, answer: &str) -> Result<()> {
     exchange(desk, line.as_bytes())
 }
 
-// Hands the bridge the host's next line; where there is none, the host is gone.
+// Gives the bridge the host's next line; if there is none, the host is gone.
 fn hear_host(desk: &mut Desk<'_>) -> Result<()> {
     if desk.unread.is_empty() {
         return exchange(desk, b"server ends");

@@ -1,5 +1,12 @@
-//! The program `session_rows`: hands the events of a script on standard input to a bridge, a host and a sample engine, and
-//! prints what they answer. The head of the file `stdin` says what a script is.
+//! The program `session_rows`, a test driver: gives the events of a script on standard input to a
+//! bridge, a host and a sample engine, and prints their answers. The head of the file `stdin` says
+//! what a script is. An event, and what is printed for it:
+//!
+//! ```text
+//! engine:usiok
+//!   engine isready\n
+//!   going Readying Idle Engine
+//! ```
 #![tactic(auto)]
 
 mod config;

@@ -6,7 +6,7 @@ use crate::game::play_on;
 use anyhow::Result;
 use std::io::Print;
 
-/// Obeys the lines of the script that stand in no list.
+/// Obeys the lines of the script that are in no list.
 pub(crate) fn obey_all<'a, R: Print>(rt: &R, desk: &mut Desk<'a>, script: &'a str) -> Result<()> {
     let mut is_listed = false;
     for line in script.split('\n') {
@@ -21,7 +21,7 @@ pub(crate) fn obey_all<'a, R: Print>(rt: &R, desk: &mut Desk<'a>, script: &'a st
     Ok(())
 }
 
-// Does what the line says, and prints what comes of it. Of an empty line and of a comment nothing comes.
+// Does what the line says, and prints the result. Empty lines and comments do nothing.
 fn obey<'a, R: Print>(rt: &R, desk: &mut Desk<'a>, line: &'a str) -> Result<()> {
     let (word, rest) = line.split_once(' ').unwrap_or((line, ""));
     match word {
@@ -52,7 +52,8 @@ fn obey<'a, R: Print>(rt: &R, desk: &mut Desk<'a>, line: &'a str) -> Result<()> 
     }
 }
 
-// New machines, behind the first N events of a list and the events behind a bar: `LIST N | EVENT | EVENT`.
+// New machines, given the first N events of a list and then the events after a bar:
+// `LIST N | EVENT | EVENT`.
 fn go_from<R: Print>(rt: &R, desk: &mut Desk<'_>, rest: &str) -> Result<()> {
     desk.renew()?;
     let (place, events) = rest.split_once(" | ").unwrap_or((rest, ""));
@@ -63,7 +64,7 @@ fn go_from<R: Print>(rt: &R, desk: &mut Desk<'_>, rest: &str) -> Result<()> {
     unseen(rt, desk, events)
 }
 
-// Hands in the events, with a bar between two, and prints nothing.
+// Gives the machines the events, separated by bars, and prints nothing.
 fn unseen<R: Print>(rt: &R, desk: &mut Desk<'_>, events: &str) -> Result<()> {
     if events.is_empty() {
         return Ok(());
@@ -74,7 +75,8 @@ fn unseen<R: Print>(rt: &R, desk: &mut Desk<'_>, events: &str) -> Result<()> {
     Ok(())
 }
 
-// Behind the first N events of a list, for each N of a range, the events of another, and the game's text: `LIST N N LIST`.
+// For each N of a range: the first N events of a list, then the events of another list, and the
+// game's text: `LIST N N LIST`.
 fn each<R: Print>(rt: &R, desk: &mut Desk<'_>, rest: &str) -> Result<()> {
     let mut words = rest.split(' ');
     let name = words.next().unwrap_or("");
@@ -93,7 +95,7 @@ fn each<R: Print>(rt: &R, desk: &mut Desk<'_>, rest: &str) -> Result<()> {
     Ok(())
 }
 
-// Of the events of a list those are printed that give a line or change something.
+// The events of a list; prints those that send a line or change something.
 fn changes<R: Print>(rt: &R, desk: &mut Desk<'_>, name: &str) -> Result<()> {
     let rows = desk.list(name)?;
     println!(rt; "changes {name}: {}", rows.len())?;
@@ -103,7 +105,7 @@ fn changes<R: Print>(rt: &R, desk: &mut Desk<'_>, name: &str) -> Result<()> {
     Ok(())
 }
 
-// The events of a list so often, of which nothing is printed: `N LIST`.
+// The events of a list, this many times, without printing: `N LIST`.
 fn repeat<R: Print>(rt: &R, desk: &mut Desk<'_>, rest: &str) -> Result<()> {
     let (count, name) = rest.split_once(' ').unwrap_or(("", ""));
     let rows = desk.list(name)?;
@@ -115,7 +117,7 @@ fn repeat<R: Print>(rt: &R, desk: &mut Desk<'_>, rest: &str) -> Result<()> {
     Ok(())
 }
 
-// Prints the game's text, or its last bytes where their number is not 0.
+// Prints the game's text, or its last bytes if their number is not 0.
 fn print_text<R: Print>(rt: &R, desk: &Desk<'_>, bytes: usize) -> Result<()> {
     match desk.bridge.game_text()? {
         None => println!(rt; "text none")?,

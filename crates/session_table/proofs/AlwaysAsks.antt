@@ -1,4 +1,5 @@
--- What stands always: an asking of a game, what an offer has no place for, and a line without its last spaces on one line.
+-- What always holds: of asking for a move, of the fields that an offer does not have, and of lines
+-- without their last spaces.
 use Rattle.std.proofs.Common.{◌≡◌, ℕ, ◌≢◌, ◌==◌, inl, inr, Bool, true, false, List, [], ◌∷◌, ◌++◌, length, take, codes, Option, Some, None, map, refl, subst}
 use Rattle.std.specs.Prelude.{if◌then◌else◌, nat_eq}
 use Rattle.std.specs.List.{AllByRecursion, filter, list_any, starts_with}
@@ -10,10 +11,10 @@ use Rattle.shogi_rules.specs.Positions.{IsGame, all_of}
 use Rattle.shogi_rules.specs.Repetition.{Over}
 use Rattle.csa_cutting.specs.Lines.{is_line_end, HasNoLineEnd}
 use Rattle.csa_text.specs.Saying.{Saying, version, name, header, even, rank, pieces, turn, walked, time, ending}
-use Rattle.csa_record.specs.Game.{Game, Ended, move_of}
-use Rattle.csa_record.specs.Items.{headers, is_body, positions}
-use Rattle.csa_record.specs.Limits.{IsOneLine}
-use Rattle.csa_record.specs.Says.{AreEntries, move_items, ending_items, played_items}
+use Rattle.record_game.specs.Game.{Game, Ended, move_of}
+use Rattle.record_game.specs.Items.{headers, is_body, positions}
+use Rattle.record_game.specs.Limits.{IsOneLine}
+use Rattle.record_game.specs.Says.{AreEntries, move_items, ending_items, played_items}
 use Rattle.session_table.specs.declared.config.Config.{Config}
 use Rattle.session_table.specs.declared.state.EngineState.{EngineState}
 use Rattle.session_table.specs.declared.state.EngineState.TheVariants.{Thinking}
@@ -43,14 +44,14 @@ asks_by c g old game (inl may) =
     (line.0 ∷ go_line c g ∷ [], Thinking, asked may (record { position = line.0; of_game = line.1; whole = refl }) refl)
 asks_by c g old game (inr never) = ([], old, not_asked never refl refl)
 
--- a game is asked about, or not
+-- the engine is asked or not
 pub some_ask : (c : Config) (g : Match) (old : EngineState) → IsGame g.game.start (map move_of g.game.moves) → (lines : List (List ℕ)) × (new : EngineState) × Asks c g old lines new
 some_ask c g old game = asks_by c g old game (may_ask g)
 
 begins : (x : List ℕ) → starts_with nat_eq (codes "position " ++ x) (codes "position ") ≡ true
 begins x = (slice_eq-Decides Decides-eqb (codes "position ") (take 9 (codes "position " ++ x)) _ refl).1 refl
 
--- an asking has a position line
+-- asking sends a position line
 pub asks_by_position : (c : Config) (g : Match) (lines : List (List ℕ)) → AskLines c g lines → list_any is_position_line lines ≡ true
 asks_by_position c g lines q =
     let text = q.of_game in

@@ -2,7 +2,7 @@
 use Rattle.std.proofs.Common.{◌≡◌, ℕ, ◌++◌, inl, inr, List, [], ◌∷◌, refl, sym, ap, subst, ◌∙◌}
 use Rattle.std.specs.List.{AllByRecursion, AllZip, filter}
 use Rattle.shogi_board.specs.declared.color.Color.{Color}
-use Rattle.csa_record.specs.Game.{Timed}
+use Rattle.record_game.specs.Game.{Timed}
 use Rattle.session_table.specs.Logs.{Step, Moved, IsMoved, GoesOn, EndsPlay, Confirmed, summary_lines}
 use Rattle.session_lines.specs.MoveLines.{is_move_line}
 use Rattle.session_table.specs.Summary.{Offer, TellsOffer, TellsSummary}

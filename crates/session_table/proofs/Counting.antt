@@ -1,4 +1,5 @@
--- What counts of a summary's lines is what the plain function makes of them, one line after another.
+-- What counts of a summary's lines is what the plain function makes of them, one line after
+-- another.
 use Rattle.std.proofs.Common.{◌≡◌, ◌↔◌, ℕ, ◌++◌, take, subst, take-append-drop, Bool, true, false, List, [], ◌∷◌, length, drop, Option, Some, None, codes, refl, sym, ap, ◌∙◌, append_assoc}
 use Rattle.std.specs.Prelude.{nat_eq, bytes_eq, ◌≢◌, IfSome, if◌then◌else◌, option_map}
 use Rattle.std.specs.List.{AllByRecursion, filter_map, flat_map, starts_with, cons_option}
@@ -55,7 +56,7 @@ inner b w t p title false [] e f = refl
 inner b w t p title true (x ∷ xs) e f = rw (other_line x (end_line title) f.0, e) (inner b w t (extended p x) title true xs e f.1)
 inner b w t p title false (x ∷ xs) e f = rw (other_line x (end_line title) f.0, e) (inner b w t p title false xs e f.1)
 
--- the position blocks with that one more
+-- the position blocks and this one more
 abbrev added : PositionBlocks → List ℕ → PositionBlocks
 added none text = one text
 added (one old) text = several

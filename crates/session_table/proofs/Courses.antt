@@ -4,7 +4,7 @@ use Rattle.std.specs.List.{AllByRecursion, AllZip, filter}
 use Rattle.std.proofs.lemmas.List.{append-nil, map-append}
 use Rattle.std.proofs.lemmas.List.Elements.{filter-append, filter_map-append}
 use Rattle.shogi_board.specs.declared.color.Color.{Color}
-use Rattle.csa_record.specs.Game.{Game, Timed}
+use Rattle.record_game.specs.Game.{Game, Timed}
 use Rattle.session_table.specs.Logs.{Step, hears, sends, heard, server_lines, behind, ahead, behind_login, is_begin_line, EndsPlay, GoesOn, Moved, timed_of, IsMoved, Confirmed, game_confirmed, counted}
 use Rattle.session_lines.specs.MoveLines.{is_move_line}
 use Rattle.session_lines.specs.ServerLines.{is_login_ok, is_start_line}
@@ -33,7 +33,7 @@ hears_begin step = hears is_begin_line step
 abbrev pub hears_start : Step → Bool
 hears_start step = hears is_start_line step
 
--- the line that the step heard, if it heard one
+-- the line that the step received, if any
 abbrev pub extra : Step → Lines
 extra step = server_lines (step ∷ [])
 
@@ -126,7 +126,7 @@ course_more k x client game new taken rest taken′ rest′ o moved moved′ c g
   spelt = spelt;
 }
 
--- no line was heard
+-- no line was received
 pub course_quiet : (k : Steps) (x : Step) (client : Color) (game : Game) (taken : Lines) (o : Offer) (moved : List Moved)
     → Course k client game taken [] o moved → heard x ≡ None → Course (k ++ x ∷ []) client game taken [] o moved
 course_quiet k x client game taken o moved c e =
@@ -142,7 +142,7 @@ with_line taken line x e =
     ap (λ ls. (taken ++ []) ++ ls) (one_extra x line e)
     ∙ (ap (λ ls. ls ++ line ∷ []) (append-nil taken) ∙ sym (append-nil (taken ++ line ∷ [])))
 
--- a line that is no move, and goes on
+-- a line that is no move, and does not end play
 pub course_skips : (k : Steps) (x : Step) (client : Color) (game : Game) (taken : Lines) (o : Offer) (moved : List Moved) (line : List ℕ)
     → Course k client game taken [] o moved → heard x ≡ Some line → GoesOn line → is_move_line line ≡ false
     → Course (k ++ x ∷ []) client game (taken ++ line ∷ []) [] o moved
@@ -166,7 +166,7 @@ game_more o moved m =
     ap (λ (ts : List Timed). record o.game { moves = ts })
     (append_assoc o.game.moves (map timed_of moved) (m.played ∷ []) ∙ ap (λ (ts : List Timed). o.game.moves ++ ts) (sym (map-append timed_of moved (m ∷ []))))
 
--- a line that tells a move
+-- a line that spells a move
 pub course_moves : (k : Steps) (x : Step) (client : Color) (game : Game) (taken : Lines) (o : Offer) (moved : List Moved) (line : List ℕ) (m : Moved)
     → Course k client game taken [] o moved → heard x ≡ Some line → GoesOn line → is_move_line line ≡ true → IsMoved line m
     → Course (k ++ x ∷ []) client (game_with game (m.played ∷ [])) (taken ++ line ∷ []) [] o (moved ++ m ∷ [])
@@ -185,7 +185,7 @@ course_ends k x client game taken o moved line c e ends =
     course_more k x client game game taken [] taken (line ∷ []) o moved moved c c.game_is
     (ap (λ ls. (taken ++ []) ++ ls) (one_extra x line e) ∙ ap (λ ls. ls ++ line ∷ []) (append-nil taken)) c.goes_on ends c.spelt
 
--- whatever is heard behind it
+-- any line after it
 pub course_over : (k : Steps) (x : Step) (client : Color) (game : Game) (taken : Lines) (line : List ℕ) (rest : Lines) (o : Offer) (moved : List Moved)
     → Course k client game taken (line ∷ rest) o moved → Course (k ++ x ∷ []) client game taken (line ∷ (rest ++ extra x)) o moved
 course_over k x client game taken line rest o moved c =

@@ -1,4 +1,4 @@
--- The end of a side is answered with no line.
+-- When a side ends, no line is sent.
 use Rattle.std.proofs.Common.{◌≡◌, ◌⊎◌, inl, inr, Bool, true, false, refl, ap, ◌∙◌}
 use Rattle.session_table.specs.declared.config.Config.{Config}
 use Rattle.session_table.specs.Events.{Event, begin, engine_line, server_line, engine_end, server_end, engine_long, server_long, Out, no_lines}

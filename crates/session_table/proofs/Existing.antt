@@ -1,4 +1,5 @@
--- What there always is: a position line of a game, and what a line from `+` or `-` says.
+-- What always exists: a position line of a game, and a meaning of a line that begins with `+` or
+-- `-`.
 use Rattle.std.proofs.Common.{◌≡◌, ℕ, ◌++◌, ◌⊎◌, inl, inr, Bool, true, false, List, [], ◌∷◌, length, Some, None, codes, arith, refl, ap, subst, ◌∙◌}
 use Rattle.std.specs.Prelude.{◌==◌}
 use Rattle.std.specs.List.{filter}
@@ -22,8 +23,8 @@ use Rattle.csa_text.specs.Saying.{Saying, version, name, header, even, rank, pie
 use Rattle.csa_text.specs.Spelling.{fault_of_row}
 use Rattle.csa_text.specs.declared.fault.TextFault.{TextFault}
 use Rattle.csa_text.specs.declared.fault.TextFault.TheVariants.{StatementTooLong, Unknown}
-use Rattle.csa_record.specs.Game.{Timed}
-use Rattle.csa_record.specs.Tells.{IsSpelt}
+use Rattle.record_game.specs.Game.{Timed}
+use Rattle.record_game.specs.Tells.{IsSpelt}
 use Rattle.usi_text.proofs.Games.{text_more, behind_told}
 use Rattle.usi_text.specs.Letters.{square_text, letter}
 use Rattle.usi_text.specs.LineText.{StartText, MovesText, BehindStart, LineText}
@@ -69,7 +70,7 @@ some_line start moves game =
     let rest = some_behind start moves text.0 text.1 in
     (codes "position " ++ (front.0 ++ rest.0), (front.0, rest.0, refl, front.1, rest.1))
 
--- 2. a line from `+` or `-` has a statement
+-- 2. a line that begins with `+` or `-` has a statement
 signed : (l : List ℕ) → is_move_line l ≡ true → (head_of l ≡ 43) ⊎ (head_of l ≡ 45)
 signed l h = elim (either (begins_with 43 l) (begins_with 45 l) h) [ inl x ↦ inl (begins_so 43 l x) | inr x ↦ inr (begins_so 45 l x) ]
 
@@ -108,7 +109,7 @@ no_units (b ∷ bs) h c = elim (signed (b ∷ bs) h) [
   | inr e ↦ minus bs (subst (λ n. IsCut (n ∷ bs) []) e c)
 ]
 
--- 3. it has a first fault, or tells a move
+-- 3. it has a first fault, or spells a move
 abbrev NoFault : List ℕ → Type 0
 NoFault l = (f : TextFault) → FirstTextFault l f → ⊥
 
@@ -177,6 +178,6 @@ by_units l (u ∷ us) sign cut no_fault no_move =
       ]
     ]
 
--- a line from `+` or `-` that has no fault and tells no move does not exist
+-- there is no line that begins with `+` or `-`, has no fault and spells no move
 pub fault_or_told : (l : List ℕ) → is_move_line l ≡ true → ((f : TextFault) → FirstTextFault l f → ⊥) → ((color : Color) (m : Timed) → TellsTimed l color m → ⊥) → ⊥
 fault_or_told l sign no_fault no_move = let all = cut_found l in by_units l all.0 sign all.1 no_fault no_move

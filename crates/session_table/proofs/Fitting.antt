@@ -1,8 +1,8 @@
--- How the engine stands beside each state of the client.
+-- The engine's state beside each state of the client.
 use Rattle.std.proofs.Common.{◌≡◌, ℕ, List, Some, None, refl, ◌∙◌, inl, inr, ap, subst}
 use Rattle.std.specs.Prelude.{◌≢◌}
 use Rattle.shogi_board.specs.declared.color.Color.{Color}
-use Rattle.csa_record.specs.Game.{Timed}
+use Rattle.record_game.specs.Game.{Timed}
 use Rattle.session_table.specs.declared.config.Config.{Config}
 use Rattle.session_table.specs.declared.state.ClientState.TheVariants as clients
 use Rattle.session_table.specs.declared.state.EngineState.{EngineState}
@@ -30,7 +30,7 @@ IsReady Ready = Unit {0}
 IsReady Thinking = ⊥
 IsReady EngineEnded = ⊥
 
--- it thinks only where it may be asked
+-- it thinks only if it may be asked
 abbrev PlaysIn : Match → EngineState → Type 0
 PlaysIn g New = ⊥
 PlaysIn g Greeting = ⊥
@@ -165,14 +165,14 @@ late_ready (reason g f) n h = tt
 late_ready (closing g f o) n h = tt
 late_ready (ended g f o) n h = tt
 
--- a move that is taken is of the side to move
+-- a move that is accepted is of the side to move
 pub right_side : (g : Match) (line : List ℕ) (color : Color) (m : Timed) → Judged g line color m None → color ≡ (position_now g).side
 right_side g line color m j = elim j.answers.1 [
   | inl wrong ↦ let e = wrong.1 in cc
   | inr right ↦ right.0
 ]
 
--- while a move is taken, the engine does not think
+-- while a move is accepted, the engine does not think
 taken_thinking : (g : Match) (p : Play) (line : List ℕ) (color : Color) (m : Timed) → MayAsk g → Some (record { game = g; waiting = None }) ≡ Some p
     → Judged p.game line color m None → IsExpected p color m → ⊥
 taken_thinking g p line color m may is j own =

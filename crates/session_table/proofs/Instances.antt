@@ -18,7 +18,7 @@ use Rattle.shogi_rules.specs.Legal.{ReachesTarget, KingSafe, Legal}
 use Rattle.shogi_rules.specs.Play.{Answers}
 use Rattle.usi_text.proofs.OneMove.{same_square}
 use Rattle.record_game.specs.declared.fault.Why.TheVariants as causes
-use Rattle.csa_record.specs.Game.{Timed}
+use Rattle.record_game.specs.Game.{Timed}
 use Rattle.session_table.specs.declared.config.Config.{Config}
 use Rattle.session_table.specs.declared.fault.MoveCause.TheVariants.{Refused, Unsent}
 use Rattle.session_table.specs.declared.fault.SessionFault.TheVariants.{BadServerMove}
@@ -28,7 +28,8 @@ use Rattle.session_table.specs.Examples.{pawn_start, pawn_match, pawn_step, read
 use Rattle.session_table.specs.Row.{Row, in_table, failed, Judged, breaks}
 use Rattle.session_table.specs.Row as row
 use Rattle.session_lines.specs.ServerLines.{TellsTimed}
-use Rattle.session_table.specs.State.{move, playing, sent, line_of, with_move}
+use Rattle.session_table.specs.declared.state.Answer.TheVariants.{Move as move}
+use Rattle.session_table.specs.State.{playing, sent, line_of, with_move}
 
 abbrev pub from : Square
 from = record { file = 7; rank = 7; on_board = (lit≤ tt, lit≤ tt, lit≤ tt, lit≤ tt) }

@@ -3,14 +3,15 @@ use Rattle.std.proofs.Common.{◌≡◌, ◌↔◌, ◌⊎◌, inl, inr, ◌++�
 use Rattle.std.specs.List.{list_any}
 use Rattle.std.proofs.lemmas.List.{append-nil}
 use Rattle.shogi_board.specs.declared.color.Color.{Color}
-use Rattle.csa_record.specs.Game.{Game, Timed, Ended}
+use Rattle.record_game.specs.Game.{Game, Timed, Ended}
 use Rattle.session_table.specs.declared.config.Config.{Config}
 use Rattle.session_table.specs.Events.{Event, Out}
 use Rattle.session_table.specs.GameTold.{ending_of, ended_game, game_of}
 use Rattle.session_table.specs.Logs.{Step, Leads, next, counted, is_sound, behind, Moved, Confirmed, game_confirmed, Keeps, reason_in, result_in, GameOf, TellsGame}
 use Rattle.session_table.specs.Promises.{KeepsGame, before, after}
 use Rattle.session_table.specs.Row.{Row}
-use Rattle.session_lines.specs.ServerLines.{Outcome, Reason}
+use Rattle.session_lines.specs.declared.server_words.GameResult.{GameResult}
+use Rattle.session_lines.specs.declared.server_words.EndReason.{EndReason}
 use Rattle.session_table.specs.State.{Match, Finish, Client, idle, logging_in, before_summary, summary, agreeing, playing, sent, reason, closing, ended, State}
 use Rattle.session_table.specs.Summary.{Offer, TellsSummary}
 use Rattle.session_table.proofs.AlwaysAsks.{offer_plain}
@@ -50,7 +51,7 @@ agreed_told log o agreed none = record {
       ∙ ap (with_ending (game_confirmed o [])) (plain (summary_of (counted log)) o agreed.told).0;
 }
 
-over_told : (log : Steps) (g : Match) (a : Lines) (f : Finish) (result : Option Outcome) → IsOver (counted log) g.client g.game a f result → GameOf log (ended_game g f result)
+over_told : (log : Steps) (g : Match) (a : Lines) (f : Finish) (result : Option GameResult) → IsOver (counted log) g.client g.game a f result → GameOf log (ended_game g f result)
 over_told log g a f result h =
     let lines = h.line ∷ h.rest in
     let told = game_confirmed h.offer h.moved in
@@ -63,8 +64,8 @@ over_told log g a f result h =
       game =
           ap (λ (x : Game). with_ending x (ending_of g.client f.kept f.reason result)) h.course.game_is
           ∙ (ap (λ (c : Color). with_ending told (ending_of c f.kept f.reason result)) h.course.client_is
-          ∙ (ap (λ (why : Option Reason). with_ending told (ending_of h.offer.client f.kept why result)) h.told.reason
-          ∙ ap (λ (r : Option Outcome). with_ending told (ending_of h.offer.client f.kept (reason_in lines) r)) h.told.result_is));
+          ∙ (ap (λ (why : Option EndReason). with_ending told (ending_of h.offer.client f.kept why result)) h.told.reason
+          ∙ ap (λ (r : Option GameResult). with_ending told (ending_of h.offer.client f.kept (reason_in lines) r)) h.told.result_is));
     }
 
 abbrev Found : Steps → Option Game → Type 0
@@ -123,7 +124,7 @@ not_sent : (b : Bool) → (b ≡ true → ⊥) → b ≡ false
 not_sent true h = absurd (h refl)
 not_sent false h = refl
 
--- there is none exactly until AGREE was sent
+-- there is none exactly until AGREE is sent
 abbrev NoneTill : Steps → Option Game → Type 0
 NoneTill log o = (o ≡ None) ↔ (list_any agrees (counted log) ≡ false)
 
@@ -148,7 +149,7 @@ none_till log a (ended g f o) h = some_since log _ h.course.agreed.has
 pub none_told : (c : Config) (log : Steps) (s : State) → Leads c log s → (game_of s.client ≡ None) ↔ (list_any agrees (counted log) ≡ false)
 none_told c log s leads = none_till log _ s.client (log_tied c log s leads).0
 
--- the same of a log of which the same counts
+-- the same for a log of which the same steps count
 abbrev confirmed_over : (log other : Steps) (o : Offer) (moved : List Moved) → counted log ≡ counted other → Confirmed log o moved → Confirmed other o moved
 confirmed_over log other o moved e h = record {
   agreed = rw (← e) h.agreed;

@@ -1,4 +1,4 @@
--- Each row, and each event that no row names, keeps a bridge tied to its log.
+-- Each row, and each event to which no row applies, keeps a bridge tied to its log.
 use Rattle.std.proofs.Common.{◌≡◌, ℕ, ◌++◌, inl, Bool, true, false, List, [], ◌∷◌, Option, Some, None, codes, refl, sym, ap, subst, ◌∙◌, map}
 use Rattle.std.specs.Prelude.{◌≢◌, bytes_eq}
 use Rattle.std.specs.List.{AllByRecursion, filter, flat_map}
@@ -16,7 +16,7 @@ use Rattle.shogi_rules.specs.Positions.{IsGame}
 use Rattle.csa_text.specs.Codes.{move_text}
 use Rattle.record_game.specs.declared.fault.OrderFault.TheVariants as order
 use Rattle.record_game.specs.declared.fault.Why.TheVariants as causes
-use Rattle.csa_record.specs.Game.{Timed, move_of}
+use Rattle.record_game.specs.Game.{Timed, move_of}
 use Rattle.session_table.specs.declared.config.Config.{Config}
 use Rattle.session_table.specs.declared.event.Status.{Status}
 use Rattle.session_table.specs.declared.event.Status.TheVariants.{Going, Done, Failed, Lost}
@@ -30,8 +30,11 @@ use Rattle.session_lines.specs.MoveLines.{is_move_line}
 use Rattle.session_table.specs.Row.{Play, in_play, before_result, Judged, IsExpected, TableRow, IsInTable, IsUnnamed, Row, in_table, unnamed, answer_line, login_line, with_reason, text_fault, too_many, breaks}
 use Rattle.session_table.specs.Row as row
 use Rattle.session_table.specs.Sending.{own_texts}
-use Rattle.session_lines.specs.ServerLines.{Outcome, is_login_ok, is_start_line, is_hash_line, outcome_of, reason_of}
-use Rattle.session_table.specs.State.{Match, Answer, move, toryo, kachi, Finish, Client, idle, logging_in, before_summary, summary, agreeing, playing, sent, reason, closing, ended, State, match_of, line_of, with_move}
+use Rattle.session_lines.specs.declared.server_words.GameResult.{GameResult}
+use Rattle.session_lines.specs.ServerLines.{is_login_ok, is_start_line, is_hash_line, outcome_of, reason_of}
+use Rattle.session_table.specs.declared.state.Answer.{Answer}
+use Rattle.session_table.specs.declared.state.Answer.TheVariants.{Move as move, Toryo as toryo, Kachi as kachi}
+use Rattle.session_table.specs.State.{Match, Finish, Client, idle, logging_in, before_summary, summary, agreeing, playing, sent, reason, closing, ended, State, match_of, line_of, with_move}
 use Rattle.session_table.specs.Summary.{Heard, nothing_heard, CountsAs, Offer, TellsOffer}
 use Rattle.session_table.proofs.Counting.{counts_first, counts_next, counts_more}
 use Rattle.session_table.proofs.Courses.{Steps, Lines, sends_login, agrees, hears_ok, hears_begin, hears_start, logged_more, login_more, begun_more, Agreed, agreed_now, course_quiet, course_begins}
@@ -195,7 +198,7 @@ row_tied c k a s e out t status tied fits r =
       | row.line_too_long ev o n ↦ rw n (faults refl o refl)
     ]
 
--- 2. an event that no row names
+-- 2. an event to which no row applies
 asks_something : (c : Config) (g : Match) (old : EngineState) → IsGame g.game.start (map move_of g.game.moves)
     → ((lines : Lines) (now : EngineState) → Asks c g old lines now → ⊥) → ⊥
 asks_something c g old legal none =
@@ -230,7 +233,7 @@ move_named c s l p going at sign legal none =
     let answer = some-answer (line_of p.game) color m.move in
     judged_named c s l p color m answer.0 going at sign legal (record { told = told; answers = answer.1 }) none)
 
-hash_named : (c : Config) (s : State) (l : List ℕ) (g : Match) (f : Finish) (o : Option Outcome) → s.status ≡ Going → before_result s.client ≡ Some (g, f) → outcome_of l ≡ o
+hash_named : (c : Config) (s : State) (l : List ℕ) (g : Match) (f : Finish) (o : Option GameResult) → s.status ≡ Going → before_result s.client ≡ Some (g, f) → outcome_of l ≡ o
     → is_hash_line l ≡ true → Nameless c s l → ⊥
 hash_named c s l g f None going at e sign none = none _ _ (going, row.reason_told g f l at refl sign e refl refl)
 hash_named c s l g f (Some o) going at e sign none = none _ _ (going, row.result_told g f l o at refl e refl refl)
@@ -318,7 +321,7 @@ IsEnded (reason g f) = ⊥
 IsEnded (closing g f o) = ⊥
 IsEnded (ended g f o) = Unit {0}
 
--- Done comes with the end alone
+-- Done comes only with the end
 abbrev DoneEnds : State → Type 0
 DoneEnds s = s.status ≡ Done → IsEnded s.client
 

@@ -1,4 +1,4 @@
--- One event leads a bridge to one answer and one state.
+-- A state and an event have one answer and one next state.
 use Rattle.std.proofs.Common.{◌≡◌, ℕ, ◌+◌, ◌<◌, ◌⊎◌, inl, inr, Bool, true, false, List, [], ◌∷◌, Option, Some, None, codes, arith, refl, sym, ap, subst, ◌∙◌}
 use Rattle.std.specs.Prelude.{◌≢◌, bytes_eq, if◌then◌else◌}
 use Rattle.std.specs.List.{AllByRecursion}
@@ -18,8 +18,8 @@ use Rattle.csa_text.specs.Codes.{sign}
 use Rattle.record_game.proofs.SaysOnce.{tells_once}
 use Rattle.record_game.specs.declared.fault.Why.{Why}
 use Rattle.record_game.specs.declared.fault.Why.TheVariants as causes
-use Rattle.csa_record.specs.Game.{Game, Timed, Ended}
-use Rattle.csa_record.specs.Tells.{Tells}
+use Rattle.record_game.specs.Game.{Game, Timed, Ended}
+use Rattle.record_game.specs.Tells.{Tells}
 use Rattle.usi_text.proofs.OneMove.{one_move}
 use Rattle.usi_text.proofs.OneText.{one_line_text}
 use Rattle.usi_text.specs.declared.engine.EngineWord.TheVariants.{UsiOk, ReadyOk}
@@ -40,8 +40,11 @@ use Rattle.session_table.specs.Hearing.{heard_after}
 use Rattle.session_lines.specs.MoveLines.{is_move_line}
 use Rattle.session_table.specs.Row.{TableRow, IsInTable, Row, in_table, unnamed, Play, in_play, before_result, client_to, failed, login_line, answer_line, slipped, gameover_line, with_reason, IsBestMove, IsLegalWord, IsNoAnswer, Judged, IsRefused, IsExpected}
 use Rattle.session_table.specs.Row as row
-use Rattle.session_lines.specs.ServerLines.{Outcome, is_login_ok, is_start_line, is_reject_line, is_ending_line, is_hash_line, TellsEnding, look_up, outcomes, outcome_of, reason_of}
-use Rattle.session_table.specs.State.{Match, Answer, move, toryo, kachi, Finish, Client, idle, logging_in, before_summary, summary, agreeing, playing, sent, reason, closing, ended, State, client_state, match_of, line_of, position_now, with_move}
+use Rattle.session_lines.specs.declared.server_words.GameResult.{GameResult}
+use Rattle.session_lines.specs.ServerLines.{is_login_ok, is_start_line, is_reject_line, is_ending_line, is_hash_line, TellsEnding, look_up, outcomes, outcome_of, reason_of}
+use Rattle.session_table.specs.declared.state.Answer.{Answer}
+use Rattle.session_table.specs.declared.state.Answer.TheVariants.{Move as move, Toryo as toryo, Kachi as kachi}
+use Rattle.session_table.specs.State.{Match, Finish, Client, idle, logging_in, before_summary, summary, agreeing, playing, sent, reason, closing, ended, State, client_state, match_of, line_of, position_now, with_move}
 use Rattle.session_table.specs.Summary.{Heard, nothing_heard, Offer, one, TellsOffer, TellsPosition, nameless}
 use Rattle.session_table.proofs.Counting.{counts_next}
 use Rattle.session_lines.proofs.LinesRead.{start_or_reject, move_or_ending, move_or_hash, ending_or_hash, timed_once, ending_once, fault_once, fault_or_move}
@@ -218,7 +221,7 @@ summary_once s h l out other t u a b =
       ]
     ]
 
--- 4. behind the summary
+-- 4. after the summary
 pub data AgreedRow (c : Config) (s : State) (o : Offer) (l : List ℕ) (out : Out) (t : State) : Type 0 where
   starts : (lines : Lines) (now : EngineState) → is_start_line l ≡ true → Asks c (match_of o) s.engine lines now
       → Gives (engine (codes "usinewgame" ∷ lines)) (record s { engine = now; client = playing (match_of o) }) out t → AgreedRow c s o l out t
@@ -335,17 +338,17 @@ play_once c s p l out other t u a b =
       ]
     ]
 
--- 6. lines from `#`
+-- 6. lines that begin with `#`
 pub data HashRow (s : State) (g : Match) (f : Finish) (l : List ℕ) (out : Out) (t : State) : Type 0 where
   gives_reason : is_hash_line l ≡ true → outcome_of l ≡ None → Gives no_lines (client_to s (reason g (with_reason f (reason_of l)))) out t → HashRow s g f l out t
-  gives_result : (o : Outcome) → outcome_of l ≡ Some o
+  gives_result : (o : GameResult) → outcome_of l ≡ Some o
       → Gives (record { to_engine = gameover_line o ∷ codes "quit" ∷ []; to_server = codes "LOGOUT" ∷ [] }) (record s { engine = EngineEnded; client = closing g f o }) out t
       → HashRow s g f l out t
 
-same_outcome : (a b : Outcome) → Some a ≡ Some b → a ≡ b
+same_outcome : (a b : GameResult) → Some a ≡ Some b → a ≡ b
 same_outcome a b e = cc
 
-pub no_outcome : (a : Outcome) → Some a ≡ None → ⊥
+pub no_outcome : (a : GameResult) → Some a ≡ None → ⊥
 no_outcome a e = cc
 
 hash_once : (s : State) (g : Match) (f : Finish) (l : List ℕ) (out other : Out) (t u : State) → HashRow s g f l out t → HashRow s g f l other u → Same out t other u
@@ -359,23 +362,23 @@ hash_once s g f l out other t u a b =
         | gives_reason k d y ↦ absurd (no_outcome o (sym e ∙ d))
         | gives_result q d y ↦
             let same_result = same_outcome o q (sym e ∙ d) in
-            alike _ _ out other _ _ t u (ap (λ (z : Outcome). record { to_engine = gameover_line z ∷ codes "quit" ∷ []; to_server = codes "LOGOUT" ∷ [] }) same_result)
+            alike _ _ out other _ _ t u (ap (λ (z : GameResult). record { to_engine = gameover_line z ∷ codes "quit" ∷ []; to_server = codes "LOGOUT" ∷ [] }) same_result)
             (ap (λ z. record s { engine = EngineEnded; client = closing g f z }) same_result) x y
       ]
     ]
 
-by_row : (v : Bool) (row : List ℕ × Outcome) (rows : List (List ℕ × Outcome)) (l : List ℕ) (o : Outcome) → bytes_eq l row.0 ≡ v
+by_row : (v : Bool) (row : List ℕ × GameResult) (rows : List (List ℕ × GameResult)) (l : List ℕ) (o : GameResult) → bytes_eq l row.0 ≡ v
     → is_hash_line row.0 ≡ true → (look_up rows l ≡ Some o → is_hash_line l ≡ true) → (if v then Some row.1 else look_up rows l) ≡ Some o → is_hash_line l ≡ true
 by_row true row rows l o e h next k = ap is_hash_line ((bytes_eq-Decides l row.0).0 e) ∙ h
 by_row false row rows l o e h next k = next k
 
-look_hash : (rows : List (List ℕ × Outcome)) → AllByRecursion (λ (r : List ℕ × Outcome). is_hash_line r.0 ≡ true) rows → (l : List ℕ) (o : Outcome)
+look_hash : (rows : List (List ℕ × GameResult)) → AllByRecursion (λ (r : List ℕ × GameResult). is_hash_line r.0 ≡ true) rows → (l : List ℕ) (o : GameResult)
     → look_up rows l ≡ Some o → is_hash_line l ≡ true
 look_hash [] f l o e = absurd (no_outcome o (sym e))
 look_hash (r ∷ rs) f l o e = by_row (bytes_eq l r.0) r rs l o refl f.0 (look_hash rs f.1 l o) e
 
--- a result is a line from `#`
-pub result_hash : (l : List ℕ) (o : Outcome) → outcome_of l ≡ Some o → is_hash_line l ≡ true
+-- a result begins with `#`
+pub result_hash : (l : List ℕ) (o : GameResult) → outcome_of l ≡ Some o → is_hash_line l ≡ true
 result_hash l o e = look_hash outcomes (refl, (refl, (refl, (refl, (refl, tt))))) l o e
 
 pub hash_line : (s : State) (g : Match) (f : Finish) (l : List ℕ) (out : Out) (t : State) → HashRow s g f l out t → is_hash_line l ≡ true
@@ -547,7 +550,7 @@ engine_once c s Ready l out other t u a b = absurd a
 engine_once c s Thinking l out other t u a b = thinks_once s s.client l out other t u a b
 engine_once c s EngineEnded l out other t u a b = absurd a
 
--- the server's end: it closes, or the server is gone
+-- the server's end: the session closes, or the server is gone
 abbrev pub EndRow : State → Client → Out → State → Type 0
 EndRow s idle out t = Gives no_lines (failed s ServerGone) out t
 EndRow s logging_in out t = Gives no_lines (failed s ServerGone) out t

@@ -5,8 +5,8 @@ use Rattle.shogi_board.specs.declared.color.Color.{Color}
 use Rattle.shogi_rules.specs.declared.moves.Move.{Move}
 use Rattle.shogi_rules.specs.Legal.{Legal}
 use Rattle.csa_text.specs.Codes.{move_text}
-use Rattle.csa_record.specs.Game.{Game}
-use Rattle.csa_record.specs.Items.{AtMostOne}
+use Rattle.record_game.specs.Game.{Game}
+use Rattle.record_game.specs.Items.{AtMostOne}
 use Rattle.session_table.specs.declared.config.Config.{Config}
 use Rattle.session_table.specs.declared.state.EngineState.{EngineState}
 use Rattle.session_table.specs.Asking.{MayAsk, AskLines, Asks, asked, not_asked}
@@ -15,8 +15,10 @@ use Rattle.session_table.specs.Logs.{Leads, next, behind, Moved, Confirmed, game
 use Rattle.session_table.specs.Row.{TableRow, Row, in_table, unnamed, answer_line, login_line, gameover_line}
 use Rattle.session_table.specs.Row as row
 use Rattle.session_table.specs.Sending.{match_told, IsAnswered, legal_move, toryo, kachi, OwnSent, is_position_line, AskedRight}
-use Rattle.session_lines.specs.ServerLines.{Outcome, win, lose, draw, censored, chudan}
-use Rattle.session_table.specs.State.{Match, move, Finish, Client, idle, logging_in, before_summary, summary, agreeing, playing, sent, reason, closing, ended, State, match_of, position_now, with_move}
+use Rattle.session_lines.specs.declared.server_words.GameResult.{GameResult}
+use Rattle.session_lines.specs.declared.server_words.GameResult.TheVariants.{Win, Lose, Draw, Censored, Chudan}
+use Rattle.session_table.specs.declared.state.Answer.TheVariants.{Move as move}
+use Rattle.session_table.specs.State.{Match, Finish, Client, idle, logging_in, before_summary, summary, agreeing, playing, sent, reason, closing, ended, State, match_of, position_now, with_move}
 use Rattle.session_table.specs.Summary.{Offer}
 use Rattle.session_table.proofs.Courses.{Steps, Lines, agrees, hears_start, Agreed, confirmed_of, confirmed_first}
 use Rattle.session_table.proofs.Fitting.{FitsState, log_fits, thinks_may_ask}
@@ -158,7 +160,7 @@ agreed_sent log o none agreed quiet = (
   },
 )
 
-over_sent : (log : Steps) (client : Color) (game : Game) (f : Finish) (result : Option Outcome) → IsOver (counted log) client game (answers log) f result → Sent log
+over_sent : (log : Steps) (client : Color) (game : Game) (f : Finish) (result : Option GameResult) → IsOver (counted log) client game (answers log) f result → Sent log
 over_sent log client game f result h = (
   h.waiting,
   record {
@@ -197,12 +199,12 @@ Right c log lines = list_any is_position_line lines ≡ true → AskedRight c lo
 not_position : (c : Config) (log : Steps) (lines : Lines) → list_any is_position_line lines ≡ false → Right c log lines
 not_position c log lines e h = absurd (let f = e in let g = h in cc)
 
-over_line : (o : Outcome) → list_any is_position_line (gameover_line o ∷ codes "quit" ∷ []) ≡ false
-over_line win = refl
-over_line lose = refl
-over_line draw = refl
-over_line censored = refl
-over_line chudan = refl
+over_line : (o : GameResult) → list_any is_position_line (gameover_line o ∷ codes "quit" ∷ []) ≡ false
+over_line Win = refl
+over_line Lose = refl
+over_line Draw = refl
+over_line Censored = refl
+over_line Chudan = refl
 
 asked_in : (c : Config) (log : Steps) (g : Match) (lines asking : Lines) → InPlay (counted log) g.client g.game (answers log) [] → AskLines c g asking
     → (lines ≡ asking) ⊎ (lines ≡ codes "usinewgame" ∷ asking) → AskedRight c log lines

@@ -1,4 +1,4 @@
--- A step that faults gives no line, and a session that is over gives none any more.
+-- A step that faults sends no line, and a session that is over sends none.
 use Rattle.std.proofs.Common.{◌≡◌, ◌⊎◌, inl, inr, ◌++◌, Bool, true, false, List, [], ◌∷◌, refl, sym, ap, subst, ◌∙◌}
 use Rattle.std.specs.List.{AllByRecursion}
 use Rattle.session_table.specs.declared.config.Config.{Config}
@@ -71,7 +71,7 @@ over_silent c s t e out (unnamed u o q) over = (o, q)
 abbrev Steps : Type 0
 Steps = List Step
 
--- a log with one step more is that step alone behind the front, or what stands behind has that step too
+-- a log with one step more is this step after the front, or what follows has this step too
 abbrev Splits : Steps → Steps → Steps → Step → Step → Type 0
 Splits log before behind x y =
     ((behind ≡ []) × (x ≡ y)) ⊎ ((rest : Steps) × (behind ≡ rest ++ x ∷ []) × (log ≡ before ++ y ∷ rest))

@@ -1,4 +1,5 @@
--- What stands ahead of and behind the first element that passes a test, in a list that grows at its end.
+-- What comes before and after the first element that passes a test, in a list that grows at its
+-- end.
 use Rattle.std.proofs.Common.{◌≡◌, ◌++◌, ◌⊎◌, inl, inr, Bool, true, false, List, [], ◌∷◌, refl, ap}
 use Rattle.std.specs.List.{AllByRecursion, list_any}
 use Rattle.session_table.specs.Logs.{behind, ahead}

@@ -11,14 +11,16 @@ use Rattle.shogi_rules.specs.Play.{Answers}
 use Rattle.shogi_rules.specs.Positions.{IsGame, MayFollow, played, now_of, all_of}
 use Rattle.shogi_rules.specs.Rules.{Kept, all_rules}
 use Rattle.csa_text.specs.Codes.{move_text}
-use Rattle.csa_record.specs.Game.{Game, Timed, move_of}
-use Rattle.csa_record.specs.Items.{AtMostOne}
+use Rattle.record_game.specs.Game.{Game, Timed, move_of}
+use Rattle.record_game.specs.Items.{AtMostOne}
 use Rattle.session_table.specs.Logs.{Step, heard, server_lines, behind, behind_login, EndsPlay, GoesOn, Moved}
 use Rattle.session_lines.specs.MoveLines.{is_move_line}
 use Rattle.session_table.specs.Row.{Play, in_play, before_result, Judged, IsExpected, answer_line}
 use Rattle.session_table.specs.Sending.{own_text, own_texts}
-use Rattle.session_lines.specs.ServerLines.{Outcome, is_hash_line, outcome_of}
-use Rattle.session_table.specs.State.{Match, move, toryo, kachi, Finish, nothing_told, Client, idle, logging_in, before_summary, summary, agreeing, playing, sent, reason, closing, ended, State, line_of, position_now, game_with}
+use Rattle.session_lines.specs.declared.server_words.GameResult.{GameResult}
+use Rattle.session_lines.specs.ServerLines.{is_hash_line, outcome_of}
+use Rattle.session_table.specs.declared.state.Answer.TheVariants.{Move as move, Toryo as toryo, Kachi as kachi}
+use Rattle.session_table.specs.State.{Match, Finish, nothing_told, Client, idle, logging_in, before_summary, summary, agreeing, playing, sent, reason, closing, ended, State, line_of, position_now, game_with}
 use Rattle.session_table.specs.Summary.{CountsAs, Offer}
 use Rattle.session_table.proofs.Courses.{Steps, Lines, sends_login, agrees, hears_ok, hears_begin, hears_start, extra, one_extra, Logged, logged_more, login_more, Begun, begun_more, Agreed, agreed_more, Course, course_quiet, course_skips, course_moves, course_ends, course_over}
 use Rattle.session_table.proofs.EndTold.{Told, after_hash, told_hash, told_hash_more, told_more, told_closed}
@@ -39,8 +41,8 @@ pub record InPlay (k : Steps) (client : Color) (game : Game) (a waiting : Lines)
   pub answered : a ≡ own_texts offer.client moved ++ waiting
   pub legal : IsGame game.start (map move_of game.moves)
 
--- the lines from the end of play on tell this of it, and this result, if they have one
-pub record IsOver (k : Steps) (client : Color) (game : Game) (a : Lines) (f : Finish) (result : Option Outcome) : Type 0 where
+-- the lines from the end of play on say this of it, and have this result, if any
+pub record IsOver (k : Steps) (client : Color) (game : Game) (a : Lines) (f : Finish) (result : Option GameResult) : Type 0 where
   pub offer : Offer
   pub moved : List Moved
   pub taken : Lines
@@ -77,7 +79,7 @@ abbrev pub NoHash : Option (List ℕ) → Type 0
 NoHash None = Unit {0}
 NoHash (Some line) = is_hash_line line ≡ false
 
--- what it heard does not count in that state
+-- the line does not count in this state
 abbrev pub Skipped : Client → Step → Type 0
 Skipped idle x = Unit {0}
 Skipped logging_in x = hears_ok x ≡ false
@@ -124,7 +126,7 @@ pass k client game a waiting x (Some line) e h skipped = record {
   legal = h.legal;
 }
 
-over_more : (k : Steps) (client : Color) (game : Game) (a : Lines) (x : Step) (f new : Finish) (old result : Option Outcome) (h : IsOver k client game a f old)
+over_more : (k : Steps) (client : Color) (game : Game) (a : Lines) (x : Step) (f new : Finish) (old result : Option GameResult) (h : IsOver k client game a f old)
     → Told (h.line ∷ (h.rest ++ extra x)) new result → IsOver (k ++ x ∷ []) client game a new result
 over_more k client game a x f new old result h told = record {
   offer = h.offer;
@@ -139,12 +141,12 @@ over_more k client game a x f new old result h told = record {
   one = h.one;
 }
 
--- whatever stands behind the result
-pub over_closed : (k : Steps) (client : Color) (game : Game) (a : Lines) (x : Step) (f : Finish) (o : Outcome) → IsOver k client game a f (Some o)
+-- whatever follows the result
+pub over_closed : (k : Steps) (client : Color) (game : Game) (a : Lines) (x : Step) (f : Finish) (o : GameResult) → IsOver k client game a f (Some o)
     → IsOver (k ++ x ∷ []) client game a f (Some o)
 over_closed k client game a x f o h = over_more k client game a x f f (Some o) (Some o) h (told_closed h.line h.rest (extra x) f o h.told)
 
--- nothing heard, or a line that is not from `#`
+-- no line received, or one that does not begin with `#`
 over_skips : (k : Steps) (client : Color) (game : Game) (a : Lines) (x : Step) (f : Finish) (o : Option (List ℕ)) → heard x ≡ o → IsOver k client game a f None → NoHash o
     → IsOver (k ++ x ∷ []) client game a f None
 over_skips k client game a x f None e h skipped =
@@ -188,7 +190,7 @@ pub record Plays (k : Steps) (a : Lines) (p : Play) : Type 0 where
   pub waiting : Lines
   pub in_play : InPlay k p.game.client p.game.game a waiting
   pub waits_so : waits p.game p.waiting waiting
-  -- something was sent only where the client is to move
+  -- something was sent only if the client is to move
   pub side : (waiting ≡ [] → ⊥) → (position_now p.game).side ≡ p.game.client
 
 no_play : (p : Play) → None ≡ Some p → ⊥
@@ -240,7 +242,7 @@ none_waits : (p : Play) (w : Lines) (color : Color) → waits p.game p.waiting w
 none_waits p [] color h side e other = refl
 none_waits p (x ∷ xs) color h side e other = absurd (other (e ∙ side (not_empty x xs)))
 
--- the answers and the confirmed moves, the confirmed one behind them
+-- the answers and the confirmed moves, with the confirmed one after them
 own_waits : (g : Match) (o : Option Move) (w : Lines) (m : Move) → waits g o w → o ≡ Some m → w ≡ move_text g.client m ∷ []
 own_waits g None w m h e = absurd (let f : None ≡ Some m = e in cc)
 own_waits g (Some n) w m h e = let f : n ≡ m = cc in h ∙ ap (λ x. move_text g.client x ∷ []) f
@@ -285,7 +287,7 @@ confirm k a p x line color m h e sign j own on =
     }
 
 -- a line that ends play
-pub finish : (k : Steps) (a : Lines) (p : Play) (x : Step) (line : List ℕ) (f : Finish) (result : Option Outcome) → Plays k a p → heard x ≡ Some line → EndsPlay (line ∷ [])
+pub finish : (k : Steps) (a : Lines) (p : Play) (x : Step) (line : List ℕ) (f : Finish) (result : Option GameResult) → Plays k a p → heard x ≡ Some line → EndsPlay (line ∷ [])
     → Told (line ∷ []) f result → IsOver (k ++ x ∷ []) p.game.client p.game.game a f result
 finish k a p x line f result h e ends told =
     let i = h.in_play in
@@ -308,21 +310,21 @@ no_result x e = cc
 same_result : (x y : Match × Finish) → Some x ≡ Some y → x ≡ y
 same_result x y e = cc
 
-over_hash : (k : Steps) (client : Color) (game : Game) (a : Lines) (x : Step) (f : Finish) (line : List ℕ) (o : Option Outcome) → IsOver k client game a f None
+over_hash : (k : Steps) (client : Color) (game : Game) (a : Lines) (x : Step) (f : Finish) (line : List ℕ) (o : Option GameResult) → IsOver k client game a f None
     → heard x ≡ Some line → is_hash_line line ≡ true → outcome_of line ≡ o → IsOver (k ++ x ∷ []) client game a (after_hash f line o) o
 over_hash k client game a x f line o h e sign is =
     over_more k client game a x f (after_hash f line o) None o h
     (subst (λ ls. Told (h.line ∷ (h.rest ++ ls)) (after_hash f line o) o) (sym (one_extra x line e)) (told_hash_more h.line line h.rest f o h.told sign is))
 
-first_hash : (k : Steps) (a : Lines) (p : Play) (x : Step) (line : List ℕ) (o : Option Outcome) → Plays k a p → heard x ≡ Some line → is_hash_line line ≡ true
+first_hash : (k : Steps) (a : Lines) (p : Play) (x : Step) (line : List ℕ) (o : Option GameResult) → Plays k a p → heard x ≡ Some line → is_hash_line line ≡ true
     → outcome_of line ≡ o → IsOver (k ++ x ∷ []) p.game.client p.game.game a (after_hash nothing_told line o) o
 first_hash k a p x line o h e sign is = finish k a p x line (after_hash nothing_told line o) o h e (inr sign) (told_hash line o sign is)
 
-abbrev OverSo : Steps → Lines → List ℕ → Option Outcome → Match × Finish → Type 0
+abbrev OverSo : Steps → Lines → List ℕ → Option GameResult → Match × Finish → Type 0
 OverSo k a line o y = IsOver k y.0.client y.0.game a (after_hash y.1 line o) o
 
--- a line from `#` in Playing, Sent, Reason
-pub hash : (k : Steps) (a : Lines) (s : State) (c : Client) (y : Match × Finish) (x : Step) (line : List ℕ) (o : Option Outcome) → Tied k a c → Fits c s.engine
+-- a line that begins with `#` in Playing, Sent, Reason
+pub hash : (k : Steps) (a : Lines) (s : State) (c : Client) (y : Match × Finish) (x : Step) (line : List ℕ) (o : Option GameResult) → Tied k a c → Fits c s.engine
     → before_result c ≡ Some y → heard x ≡ Some line → is_hash_line line ≡ true → outcome_of line ≡ o → OverSo (k ++ x ∷ []) a line o y
 hash k a s idle y x line o h f e r sign is = absurd (no_result y e)
 hash k a s logging_in y x line o h f e r sign is = absurd (no_result y e)

@@ -34,7 +34,8 @@ use Rattle.session_table.specs.Examples.{pawn_start, pawn_game, pawn_match, pawn
 use Rattle.session_table.specs.Logs.{Step, Leads, new, next, event_in, answers}
 use Rattle.session_table.specs.Row.{Row, in_table, login_line}
 use Rattle.session_table.specs.Row as row
-use Rattle.session_table.specs.State.{Client, State, first_state, idle, logging_in, before_summary, summary, agreeing, playing, sent, move}
+use Rattle.session_table.specs.declared.state.Answer.TheVariants.{Move as move}
+use Rattle.session_table.specs.State.{Client, State, first_state, idle, logging_in, before_summary, summary, agreeing, playing, sent}
 use Rattle.session_table.specs.Summary.{Heard, PositionBlocks, CountsAs, Block, IsBlock, Offer, TellsOffer, TellsPosition, line, block, none, one, nothing_heard, end_line}
 use Rattle.session_lines.specs.Texts.{text_of}
 use Rattle.session_table.specs.Sending.{is_position_line}
@@ -42,7 +43,7 @@ use Rattle.session_table.proofs.AlwaysAsks.{asks_by_position}
 use Rattle.session_table.proofs.Existing.{some_line}
 use Rattle.session_table.proofs.Instances.{from, to, opening, start_safe, answers as answers_row}
 
--- 1. the position block tells the game
+-- 1. the position block spells the game
 abbrev placed_pawn : List Placing
 placed_pawn = on 60 (record { color = Black; kind = Pawn }) ∷ []
 
@@ -153,7 +154,7 @@ turn_line = codes "Your_Turn:+"
 abbrev heard : List ℕ → PositionBlocks → Option (List ℕ) → Heard
 heard side positions title = record { black = []; white = []; turn = side; positions = positions; begun = title }
 
--- behind `Your_Turn:`, with these lines of the position block
+-- after `Your_Turn:`, with these lines of the position block
 abbrev within : List (List ℕ) → Heard
 within lines = heard (codes "+") (one (text_of lines)) (Some texts.position_title)
 
@@ -258,7 +259,7 @@ starts c position told = in_table (
       (asked may_ask (record { position = position; of_game = told; whole = refl }) refl) refl refl,
 )
 
--- an event that has this answer
+-- an event with this answer
 abbrev told : Event → Out → Step
 told e out = record { event = e; out = out; status = Going }
 

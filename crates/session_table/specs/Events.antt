@@ -1,4 +1,4 @@
--- What happens to a bridge, and the lines that it gives.
+-- What happens to a bridge, and the lines that it sends.
 use Rattle.std.specs.Prelude.{ℕ, List, [], ◌∷◌}
 use Rattle.session_lines.specs.Texts.{without_last_spaces}
 
@@ -11,7 +11,7 @@ pub data Event : Type 0 where
   engine_long : Event
   server_long : Event
 
--- the event, and of its line the spaces at its end dropped
+-- the event, without the spaces at the end of its line
 abbrev pub trimmed : Event → Event
 trimmed begin = begin
 trimmed (engine_line line) = engine_line (without_last_spaces line)

@@ -1,4 +1,5 @@
--- A game that begins with one pawn on the board: lines of its server and of its engine, and the events up to its first move.
+-- A game that begins with one pawn on the board: lines of its server and of its engine, and the
+-- events up to its first move.
 use Rattle.std.specs.Prelude.{false, List, [], ◌∷◌, None, codes, slice_set}
 use Rattle.shogi_board.specs.declared.color.Color.TheVariants.{Black}
 use Rattle.shogi_board.specs.declared.kind.Kind.TheVariants.{Pawn}
@@ -7,7 +8,7 @@ use Rattle.shogi_board.specs.Cells.{no_cells, piece}
 use Rattle.shogi_board.specs.Placed.{Placed}
 use Rattle.shogi_board.specs.Totals.{bare_board}
 use Rattle.shogi_rules.specs.declared.moves.Move.TheVariants.{Walk}
-use Rattle.csa_record.specs.Game.{Game, Timed}
+use Rattle.record_game.specs.Game.{Game, Timed}
 use Rattle.session_table.specs.declared.event.Status.TheVariants.{Going}
 use Rattle.session_table.specs.declared.state.EngineState.TheVariants.{Ready, Thinking}
 use Rattle.session_table.specs.Events.{Event, begin, engine_line, server_line}
@@ -15,7 +16,8 @@ use Rattle.session_table.specs.State.{Match, Client, State}
 
 -- a black pawn on 77, black to move
 abbrev pub pawn_start : Placed
-pawn_start = record { material = bare_board (slice_set no_cells 60 (piece Black Pawn)); side = Black }
+pawn_start =
+    record { material = bare_board (slice_set no_cells 60 (piece Black Pawn)); side = Black }
 
 abbrev pub pawn_game : Game
 pawn_game = record { black = None; white = None; headers = []; start = pawn_start; moves = []; ending = None }
@@ -24,19 +26,19 @@ pawn_game = record { black = None; white = None; headers = []; start = pawn_star
 abbrev pub pawn_match : Match
 pawn_match = record { client = Black; game = pawn_game; slip = false }
 
--- the pawn's step
+-- the pawn's move from one square to another
 abbrev pub pawn_step : Square → Square → Timed
 pawn_step from to = record { move = Walk from to Pawn; time = None }
 
--- the engine is ready, and the client in that state
+-- the engine is ready, and the client is in this state
 abbrev pub ready : Client → State
 ready client = record { engine = Ready; client = client; status = Going }
 
--- the engine thinks, and the client is in that state
+-- the engine thinks, and the client is in this state
 abbrev pub thinking : Client → State
 thinking client = record { engine = Thinking; client = client; status = Going }
 
--- what a bridge hears that is offered the game as black, up to its engine's move
+-- the events of a bridge that is offered the game as black, up to its engine's move
 abbrev pub pawn_events : List Event
 pawn_events =
     begin

@@ -1,57 +1,61 @@
 -- The game that a bridge has played so far.
-use Rattle.std.specs.Prelude.{Option, Some, None}
+use Rattle.std.specs.Prelude.{◌≡◌, ℕ, length, Option, Some, None}
 use Rattle.shogi_board.specs.declared.color.Color.{Color}
 use Rattle.shogi_board.specs.declared.color.Color.TheVariants.{Black, White}
 use Rattle.shogi_board.specs.Pieces.{opponent}
 use Rattle.csa_text.specs.declared.ending.Ending.{Ending}
 use Rattle.csa_text.specs.declared.ending.Ending.TheVariants.{Toryo, Chudan, Sennichite, TimeUp, IllegalMove, BlackIllegalAction, WhiteIllegalAction, Jishogi}
-use Rattle.csa_record.specs.Game.{Game, Ended}
-use Rattle.session_lines.specs.ServerLines.{Outcome, win, lose, draw, censored, chudan, Reason, resign, time_up, illegal_move, sennichite, oute_sennichite, jishogi, max_moves, other}
+use Rattle.record_game.specs.Game.{Game, Ended}
+use Rattle.session_lines.specs.declared.server_words.GameResult.{GameResult}
+use Rattle.session_lines.specs.declared.server_words.GameResult.TheVariants as game_result
+use Rattle.session_lines.specs.declared.server_words.EndReason.{EndReason}
+use Rattle.session_lines.specs.declared.server_words.EndReason.TheVariants as end_reason
 use Rattle.session_table.specs.State.{Match, Finish, Client, idle, logging_in, before_summary, summary, agreeing, playing, sent, reason, closing, ended}
 
--- that side's sign in `%+ILLEGAL_ACTION` or `%-ILLEGAL_ACTION`
+-- the ending `%+ILLEGAL_ACTION` or `%-ILLEGAL_ACTION`, with this side's sign
 abbrev pub illegal_action : Color → Ending
 illegal_action Black = BlackIllegalAction
 illegal_action White = WhiteIllegalAction
 
--- at a perpetual check, by the result of a client of that side
-abbrev pub perpetual_ending : Color → Outcome → Ending
-perpetual_ending client lose = illegal_action client
-perpetual_ending client win = illegal_action (opponent client)
-perpetual_ending client draw = Sennichite
-perpetual_ending client censored = Sennichite
-perpetual_ending client chudan = Sennichite
+-- after a perpetual check, by the result for a client of this side
+abbrev pub perpetual_ending : Color → GameResult → Ending
+perpetual_ending client game_result.Lose = illegal_action client
+perpetual_ending client game_result.Win = illegal_action (opponent client)
+perpetual_ending client game_result.Draw = Sennichite
+perpetual_ending client game_result.Censored = Sennichite
+perpetual_ending client game_result.Chudan = Sennichite
 
-abbrev pub ending_by : Color → Reason → Outcome → Option Ending
-ending_by client resign o = Some Toryo
-ending_by client time_up o = Some TimeUp
-ending_by client illegal_move o = Some IllegalMove
-ending_by client sennichite o = Some Sennichite
-ending_by client jishogi o = Some Jishogi
-ending_by client max_moves o = Some Chudan
-ending_by client oute_sennichite o = Some (perpetual_ending client o)
-ending_by client other o = None
+abbrev pub ending_by : Color → EndReason → GameResult → Option Ending
+ending_by client end_reason.Resign o = Some Toryo
+ending_by client end_reason.TimeUp o = Some TimeUp
+ending_by client end_reason.IllegalMove o = Some IllegalMove
+ending_by client end_reason.Sennichite o = Some Sennichite
+ending_by client end_reason.Jishogi o = Some Jishogi
+ending_by client end_reason.MaxMoves o = Some Chudan
+ending_by client end_reason.OuteSennichite o = Some (perpetual_ending client o)
+ending_by client end_reason.Other o = None
 
--- with no reason
-abbrev pub ending_without : Outcome → Option Ending
-ending_without chudan = Some Chudan
-ending_without win = None
-ending_without lose = None
-ending_without draw = None
-ending_without censored = None
+-- if there is no reason
+abbrev pub ending_without : GameResult → Option Ending
+ending_without game_result.Chudan = Some Chudan
+ending_without game_result.Win = None
+ending_without game_result.Lose = None
+ending_without game_result.Draw = None
+ending_without game_result.Censored = None
 
 abbrev pub untimed : Option Ending → Option Ended
 untimed None = None
 untimed (Some e) = Some (record { ending = e; time = None })
 
--- a kept ending stands with its time; otherwise, once a result came, by the reason
-abbrev pub ending_of : Color → Option Ended → Option Reason → Option Outcome → Option Ended
+-- an ending that was kept, with its time; else, once there is a result, the one that follows from
+-- the reason
+abbrev pub ending_of : Color → Option Ended → Option EndReason → Option GameResult → Option Ended
 ending_of client (Some kept) why result = Some kept
 ending_of client None why None = None
 ending_of client None (Some why) (Some o) = untimed (ending_by client why o)
 ending_of client None None (Some o) = untimed (ending_without o)
 
-abbrev pub ended_game : Match → Finish → Option Outcome → Game
+abbrev pub ended_game : Match → Finish → Option GameResult → Game
 ended_game g f result = record g.game { ending = ending_of g.client f.kept f.reason result }
 
 -- none before a summary was accepted
@@ -66,3 +70,7 @@ game_of (sent g answer) = Some g.game
 game_of (reason g f) = Some (ended_game g f None)
 game_of (closing g f o) = Some (ended_game g f (Some o))
 game_of (ended g f o) = Some (ended_game g f (Some o))
+
+-- the number of moves of the client's game
+abbrev pub HasMoves : Client → ℕ → Type 0
+HasMoves client n = (g : Game) × (game_of client ≡ Some g) × (n ≡ length g.moves)

@@ -1,4 +1,4 @@
--- What counts of a summary's lines with one line more, as a plain function for the code.
+-- What counts of a summary's lines and one more, as a plain function for the code.
 use Rattle.std.specs.Prelude.{ℕ, ◌++◌, List, [], length, drop, Option, Some, None, nat_eq, bytes_eq, if◌then◌else◌}
 use Rattle.std.specs.List.{starts_with}
 use Rattle.session_lines.specs.LineTexts as texts
@@ -17,11 +17,11 @@ extended none line = none
 extended (one text) line = one (text ++ ended_line line)
 extended several line = several
 
--- what stands behind the key, or what stood there before
+-- what follows the key; or, if the line has another, the value before
 abbrev pub value_or : List ℕ → List ℕ → List ℕ → List ℕ
 value_or key old text = if starts_with nat_eq text key then drop (length key) text else old
 
--- a line that begins no block, outside all
+-- a line outside all blocks that begins none
 abbrev pub outside : Heard → List ℕ → Heard
 outside h text =
     record h {
@@ -34,7 +34,7 @@ abbrev pub opened : Heard → List ℕ → Heard
 opened h title =
     record h { positions = if is_position title then one_more h.positions else h.positions; begun = Some title }
 
--- a line of the block that has not ended
+-- a line inside a block that has not ended
 abbrev pub within : Heard → List ℕ → List ℕ → Heard
 within h title text =
     if bytes_eq text (end_line title) then record h { begun = None }
@@ -42,7 +42,8 @@ within h title text =
 
 abbrev pub by_block : Heard → Option (List ℕ) → List ℕ → Heard
 by_block h None text =
-    if starts_with nat_eq text texts.begin then opened h (drop (length texts.begin) text) else outside h text
+    if starts_with nat_eq text texts.begin
+    then opened h (drop (length texts.begin) text) else outside h text
 by_block h (Some title) text = within h title text
 
 abbrev pub heard_after : Heard → List ℕ → Heard

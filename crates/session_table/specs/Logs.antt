@@ -1,8 +1,8 @@
--- Logs of a bridge, and what is read off their lines alone.
+-- Logs of a bridge, and what is read from their lines alone.
 use Rattle.std.specs.Prelude.{◌≡◌, ◌↔◌, ℕ, ◌++◌, ◌⊎◌, ◌||◌, Bool, true, false, List, [], ◌∷◌, filter, find, nat_eq, bytes_eq, flat_map, filter_map, map, Option, Some, None, if◌then◌else◌}
 use Rattle.std.specs.List.{AllByRecursion, AllZip, starts_with, list_any}
 use Rattle.shogi_board.specs.declared.color.Color.{Color}
-use Rattle.csa_record.specs.Game.{Timed, Ended, Game}
+use Rattle.record_game.specs.Game.{Timed, Ended, Game}
 use Rattle.session_table.specs.declared.config.Config.{Config}
 use Rattle.session_table.specs.declared.event.Status.{Status}
 use Rattle.session_table.specs.declared.event.Status.TheVariants.{Going, Done, Failed, Lost}
@@ -11,11 +11,13 @@ use Rattle.session_table.specs.GameTold.{ending_of, game_of}
 use Rattle.session_lines.specs.LineTexts as texts
 use Rattle.session_lines.specs.MoveLines.{is_move_line}
 use Rattle.session_table.specs.Row.{Row}
-use Rattle.session_lines.specs.ServerLines.{Outcome, Reason, is_login_ok, is_start_line, is_ending_line, is_hash_line, TellsTimed, TellsEnding, outcome_of, reason_of}
+use Rattle.session_lines.specs.declared.server_words.GameResult.{GameResult}
+use Rattle.session_lines.specs.declared.server_words.EndReason.{EndReason}
+use Rattle.session_lines.specs.ServerLines.{is_login_ok, is_start_line, is_ending_line, is_hash_line, TellsTimed, TellsEnding, outcome_of, reason_of}
 use Rattle.session_table.specs.State.{Client, State, first_state, game_with}
 use Rattle.session_table.specs.Summary.{Offer, TellsSummary}
 
--- one call of step: the event, its line less the spaces at its end; the lines; the status
+-- one call of step: the event, without the spaces at the end of its line; the lines; the status
 pub record Step : Type 0 where
   pub event : Event
   pub out : Out
@@ -65,20 +67,20 @@ abbrev pub passes : (List ℕ → Bool) → Option (List ℕ) → Bool
 passes test None = false
 passes test (Some line) = test line
 
--- the step heard such a line of the server
+-- the step received such a line from the server
 abbrev pub hears : (List ℕ → Bool) → Step → Bool
 hears test step = passes test (heard step)
 
--- the step sent the server a line that begins so
+-- the step sent the server a line that begins like this
 abbrev pub sends : List ℕ → Step → Bool
 sends text step = list_any (λ line. starts_with nat_eq line text) step.out.to_server
 
--- the elements behind the first that passes the test, none where none does
+-- the elements after the first that passes the test; none if none passes
 abbrev pub behind : {X : Type 0} → (X → Bool) → List X → List X
 behind test [] = []
 behind test (x ∷ xs) = if test x then xs else behind test xs
 
--- the elements ahead of it, all where none does
+-- the elements before it; all if none passes
 abbrev pub ahead : {X : Type 0} → (X → Bool) → List X → List X
 ahead test [] = []
 ahead test (x ∷ xs) = if test x then [] else x ∷ ahead test xs
@@ -86,25 +88,27 @@ ahead test (x ∷ xs) = if test x then [] else x ∷ ahead test xs
 abbrev pub is_begin_line : List ℕ → Bool
 is_begin_line line = bytes_eq line texts.begin_summary
 
--- the steps behind the one that sent LOGIN; of these those behind the `LOGIN:` .. ` OK` line
+-- the steps after the one that sent LOGIN; of these, those after the `LOGIN:` .. ` OK` line
 abbrev pub behind_login : List Step → List Step
 behind_login log = behind (hears is_login_ok) (behind (sends texts.login_front) log)
 
--- the lines of the summary: of the steps behind these, and before the one that is answered by AGREE, those behind
--- `BEGIN Game_Summary`
+-- the lines of the summary: of these steps, those after `BEGIN Game_Summary` and before the one
+-- that is answered with AGREE
 abbrev pub summary_lines : List Step → List (List ℕ)
 summary_lines log =
-    server_lines (behind (hears is_begin_line) (behind_login (ahead (sends texts.agree) (counted log))))
+    server_lines (behind (hears is_begin_line)
+    (behind_login (ahead (sends texts.agree) (counted log))))
 
--- the lines behind the first `START:` line that follows AGREE
+-- the lines after the first `START:` line that follows AGREE
 abbrev pub started_lines : List Step → List (List ℕ)
-started_lines log = server_lines (behind (hears is_start_line) (behind (sends texts.agree) (counted log)))
+started_lines log =
+    server_lines (behind (hears is_start_line) (behind (sends texts.agree) (counted log)))
 
 -- a readable ending
 abbrev pub IsEnding : List ℕ → Type 0
 IsEnding line = (is_ending_line line ≡ true) × (e : Ended) × TellsEnding line e
 
--- play ends at a readable ending or a line from `#`, or has not ended
+-- play ends at a readable ending or a line that begins with `#`, or has not ended
 abbrev pub EndsPlay : List (List ℕ) → Type 0
 EndsPlay [] = Unit {0}
 EndsPlay (line ∷ lines) = IsEnding line ⊎ (is_hash_line line ≡ true)
@@ -123,7 +127,8 @@ pub record Splits (lines taken rest : List (List ℕ)) : Type 0 where
 abbrev pub Taken : List Step → List (List ℕ) → List (List ℕ) → Type 0
 Taken log taken rest = Splits (started_lines log) taken rest
 
--- 2. Confirmed: the offer with the moves of its summary, and then the moves that the lines of play from `+` or `-` spell
+-- 2. Confirmed: the offer with the moves of its summary, and then the moves that lines of play
+-- spell
 pub record Moved : Type 0 where
   pub color : Color
   pub played : Timed
@@ -134,7 +139,8 @@ timed_of m = m.played
 abbrev pub IsMoved : List ℕ → Moved → Type 0
 IsMoved line m = TellsTimed line m.color m.played
 
--- the summary was answered by AGREE, and told this; the lines of play spell these moves
+-- the summary was answered with AGREE, and described this offer; the lines of play spell these
+-- moves
 pub record Confirmed (log : List Step) (o : Offer) (moved : List Moved) : Type 0 where
   pub agreed : list_any (sends texts.agree) (counted log) ≡ true
   pub told : TellsSummary (summary_lines log) o
@@ -146,7 +152,7 @@ pub record Confirmed (log : List Step) (o : Offer) (moved : List Moved) : Type 0
 abbrev pub game_confirmed : Offer → List Moved → Game
 game_confirmed o moved = game_with o.game (map timed_of moved)
 
--- 3. Answers: the lines to the server that are a move, `%TORYO` or `%KACHI`: those from `+`, `-` or `%`
+-- 3. Answers: the lines to the server that begin with `+`, `-` or `%`: a move, `%TORYO` or `%KACHI`
 abbrev pub is_answer : List ℕ → Bool
 is_answer line = is_move_line line || is_ending_line line
 
@@ -156,28 +162,29 @@ sent_lines step = step.out.to_server
 abbrev pub answers : List Step → List (List ℕ)
 answers log = filter is_answer (flat_map sent_lines log)
 
--- 4. The game: the kept ending is the one that ends play; the reason is the first `#` line, unless that is the result
+-- 4. The game: the kept ending is the one that ends play; the reason is the first `#` line, unless
+-- that is the result
 abbrev pub Keeps : List (List ℕ) → Option Ended → Type 0
 Keeps [] kept = kept ≡ None
 Keeps (line ∷ lines) None = IsEnding line → ⊥
 Keeps (line ∷ lines) (Some e) = (is_ending_line line ≡ true) × TellsEnding line e
 
-abbrev pub first_outcome : List Outcome → Option Outcome
+abbrev pub first_outcome : List GameResult → Option GameResult
 first_outcome [] = None
 first_outcome (o ∷ os) = Some o
 
-abbrev pub result_in : List (List ℕ) → Option Outcome
+abbrev pub result_in : List (List ℕ) → Option GameResult
 result_in lines = first_outcome (filter_map outcome_of lines)
 
-abbrev pub reason_by : List ℕ → Option Outcome → Option Reason
+abbrev pub reason_by : List ℕ → Option GameResult → Option EndReason
 reason_by line None = Some (reason_of line)
 reason_by line (Some o) = None
 
-abbrev pub reason_at : Option (List ℕ) → Option Reason
+abbrev pub reason_at : Option (List ℕ) → Option EndReason
 reason_at None = None
 reason_at (Some line) = reason_by line (outcome_of line)
 
-abbrev pub reason_in : List (List ℕ) → Option Reason
+abbrev pub reason_in : List (List ℕ) → Option EndReason
 reason_in lines = reason_at (find is_hash_line lines)
 
 -- the confirmed game, and how it ended
@@ -187,8 +194,10 @@ pub record GameOf (log : List Step) (g : Game) : Type 0 where
   pub confirmed : Confirmed log offer moved
   pub kept : Option Ended
   pub keeps : Keeps confirmed.rest kept
-  pub game : g ≡ record (game_confirmed offer moved) { ending = ending_of offer.client kept (reason_in confirmed.rest) (result_in confirmed.rest) }
+  pub game : g ≡ record (game_confirmed offer moved) {
+    ending = ending_of offer.client kept (reason_in confirmed.rest) (result_in confirmed.rest);
+  }
 
--- the game that a bridge has played so far is that of the log, and none where it has none
+-- the game that a bridge has played so far is that of the log; it has none if the log has none
 abbrev pub TellsGame : Client → List Step → Type 0
 TellsGame client log = (g : Game) → (game_of client ≡ Some g) ↔ GameOf log g

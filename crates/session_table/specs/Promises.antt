@@ -1,8 +1,8 @@
 -- What the calls of a bridge promise.
 use Rattle.std.specs.Prelude.{◌≡◌, ℕ, List, Option, Some, None}
 use Rattle.csa_cutting.specs.Lines.{HasNoLineEnd}
-use Rattle.csa_record.specs.Canon.{canon}
-use Rattle.csa_record.specs.Game.{Game}
+use Rattle.record_game.specs.Canon.{canon}
+use Rattle.record_game.specs.Game.{Game}
 use Rattle.session_table.specs.declared.config.Config.{Config}
 use Rattle.session_table.specs.declared.event.Event.{Event as Handed}
 use Rattle.session_table.specs.declared.event.Event.TheVariants as handed
@@ -13,7 +13,7 @@ use Rattle.session_table.specs.Row.{Row}
 use Rattle.session_table.specs.State.{State, client_state}
 use Rattle.session_lines.specs.Texts.{text_of}
 
--- the event, apart from where its line lies
+-- the event, without the address of its line
 abbrev pub event_of : Handed → Event
 event_of handed.Begin = begin
 event_of (handed.EngineLine line) = engine_line line.now
@@ -23,7 +23,7 @@ event_of handed.ServerEnd = server_end
 event_of handed.EngineLong = engine_long
 event_of handed.ServerLong = server_long
 
--- what callers keep of a line: it holds no CR and no LF
+-- what callers must give: a line without CR and LF
 abbrev pub HoldsLine : Event → Type 0
 HoldsLine begin = Unit {0}
 HoldsLine (engine_line line) = HasNoLineEnd line
@@ -38,12 +38,14 @@ pub record Session : Type 0 where
   pub config : Config
   pub state : State
 
--- a row leads by the event, less the spaces at the end of its line, from one to the other with these lines
+-- a row leads by the event, without the spaces at the end of its line, from one to the other with
+-- these lines
 abbrev pub StepRow : Session → Event → Out → Session → Type 0
 StepRow old e out new = Row old.config old.state (trimmed e) out new.state
 
--- a step that answers Ok, whole: its row, whose lines it gives, and the status after it
-pub record Steps (old : Session) (e : Event) (to_engine to_server : List ℕ) (status : Status) (new : Session) : Type 0 where
+-- a whole step that returns Ok: its row, whose lines it sends, and the status after it
+pub record Steps (old : Session)
+    (e : Event) (to_engine to_server : List ℕ) (status : Status) (new : Session) : Type 0 where
   pub out : Out
   pub row : StepRow old e out new
   pub config : new.config ≡ old.config
@@ -51,12 +53,13 @@ pub record Steps (old : Session) (e : Event) (to_engine to_server : List ℕ) (s
   pub server_text : to_server ≡ text_of out.to_server
   pub status_is : status ≡ new.state.status
 
--- the game of a state is that of another, or that after a row of this event from it
+-- the game of a state is that of another, or the one after a row for this event from it
 pub data KeepsGame (c : Config) (s : State) (e : Event) (t : State) : Type 0 where
   before : game_of t.client ≡ game_of s.client → KeepsGame c s e t
-  after : (out : Out) (u : State) → Row c s e out u → game_of t.client ≡ game_of u.client → KeepsGame c s e t
+  after : (out : Out) (u : State)
+      → Row c s e out u → game_of t.client ≡ game_of u.client → KeepsGame c s e t
 
--- how both states stand, apart from what they have
+-- both states are the same, apart from their values
 abbrev pub SameStates : State → State → Type 0
 SameStates s t = (t.engine ≡ s.engine) × (client_state t.client ≡ client_state s.client)
 

@@ -16,7 +16,7 @@ use Rattle.usi_text.specs.Words.{words, nth_word}
 use Rattle.record_game.specs.declared.fault.OrderFault.TheVariants as order
 use Rattle.record_game.specs.declared.fault.Why.{Why}
 use Rattle.record_game.specs.declared.fault.Why.TheVariants as why
-use Rattle.csa_record.specs.Game.{Timed, Ended}
+use Rattle.record_game.specs.Game.{Timed, Ended}
 use Rattle.session_table.specs.declared.config.Config.{Config}
 use Rattle.session_table.specs.declared.event.Status.TheVariants.{Going, Done, Failed}
 use Rattle.session_table.specs.declared.fault.MoveCause.TheVariants.{Refused, Unsent}
@@ -29,15 +29,20 @@ use Rattle.session_table.specs.Asking.{Asks}
 use Rattle.session_table.specs.Events.{Event, begin, engine_line, server_line, engine_end, server_end, engine_long, server_long, Out, no_lines, engine, server}
 use Rattle.session_lines.specs.LineTexts as texts
 use Rattle.session_lines.specs.MoveLines.{is_move_line}
-use Rattle.session_lines.specs.ServerLines.{Outcome, win, lose, draw, censored, chudan, Reason, is_login_ok, is_start_line, is_reject_line, is_ending_line, is_hash_line, TellsTimed, TellsEnding, FirstTextFault, outcome_of, reason_of}
-use Rattle.session_table.specs.State.{Match, Answer, move, toryo, kachi, Finish, nothing_told, Client, idle, logging_in, before_summary, summary, agreeing, playing, sent, reason, closing, ended, State, client_state, match_of, line_of, position_now, with_move}
+use Rattle.session_lines.specs.declared.server_words.GameResult.{GameResult}
+use Rattle.session_lines.specs.declared.server_words.GameResult.TheVariants.{Win, Lose, Draw, Censored, Chudan}
+use Rattle.session_lines.specs.declared.server_words.EndReason.{EndReason}
+use Rattle.session_lines.specs.ServerLines.{is_login_ok, is_start_line, is_reject_line, is_ending_line, is_hash_line, TellsTimed, TellsEnding, FirstTextFault, outcome_of, reason_of}
+use Rattle.session_table.specs.declared.state.Answer.{Answer}
+use Rattle.session_table.specs.declared.state.Answer.TheVariants.{Move as move, Toryo as toryo, Kachi as kachi}
+use Rattle.session_table.specs.State.{Match, Finish, nothing_told, Client, idle, logging_in, before_summary, summary, agreeing, playing, sent, reason, closing, ended, State, client_state, match_of, line_of, position_now, with_move}
 use Rattle.session_table.specs.Summary.{Heard, nothing_heard, CountsAs, Offer, TellsOffer}
 
 -- 1. Words of the table
 abbrev pub login_line : Config → List ℕ
 login_line c = texts.login_front ++ (c.name.bytes ++ (texts.space ++ c.password.bytes))
 
--- `bestmove` and a word, or the empty text where there is none
+-- `bestmove` and a word, or the empty text if there is none
 pub record IsBestMove (line word : List ℕ) : Type 0 where
   pub first : nth_word (words line) 0 ≡ texts.best_move_word
   pub second : nth_word (words line) 1 ≡ word
@@ -61,23 +66,23 @@ answer_line g kachi = texts.kachi
 abbrev pub slipped : Match → Match
 slipped g = record g { slip = true }
 
-abbrev pub gameover_line : Outcome → List ℕ
-gameover_line win = texts.game_won
-gameover_line lose = texts.game_lost
-gameover_line draw = texts.game_drawn
-gameover_line censored = texts.game_drawn
-gameover_line chudan = texts.game_drawn
+abbrev pub gameover_line : GameResult → List ℕ
+gameover_line Win = texts.game_won
+gameover_line Lose = texts.game_lost
+gameover_line Draw = texts.game_drawn
+gameover_line Censored = texts.game_drawn
+gameover_line Chudan = texts.game_drawn
 
--- the reason, if none stands
-abbrev pub first_reason : Option Reason → Reason → Option Reason
+-- the first reason is kept
+abbrev pub first_reason : Option EndReason → EndReason → Option EndReason
 first_reason None new = Some new
 first_reason (Some old) new = Some old
 
-abbrev pub with_reason : Finish → Reason → Finish
+abbrev pub with_reason : Finish → EndReason → Finish
 with_reason f new = record f { reason = first_reason f.reason new }
 
--- 2. States named together
--- Playing, Sent: the match, and the sent move that still waits for its confirmation
+-- 2. Groups of states
+-- Playing, Sent: the match, and the sent move that still waits for confirmation
 pub record Play : Type 0 where
   pub game : Match
   pub waiting : Option Move
@@ -96,7 +101,7 @@ in_play (reason g f) = None
 in_play (closing g f o) = None
 in_play (ended g f o) = None
 
--- Playing, Sent, Reason: the match, and what was told of its end
+-- Playing, Sent, Reason: the match, and what the server said of its end
 abbrev pub before_result : Client → Option (Match × Finish)
 before_result idle = None
 before_result logging_in = None
@@ -110,12 +115,14 @@ before_result (closing g f o) = None
 before_result (ended g f o) = None
 
 -- 3. Moves of the server
--- the line tells this move of that side, and playing it answers this
-pub record Judged (g : Match) (line : List ℕ) (color : Color) (m : Timed) (answer : Option PlayFault) : Type 0 where
+-- the line spells this move of this side, and playing it has this result
+pub record Judged (g : Match) (line : List ℕ)
+    (color : Color) (m : Timed) (answer : Option PlayFault) : Type 0 where
   pub told : TellsTimed line color m
   pub answers : Answers (line_of g) color m.move answer
 
--- why the line is refused: the first text fault of the whole line, then too many moves, then the first broken rule
+-- why the line is refused: the first text fault of the whole line, then too many moves, then the
+-- first broken rule
 pub data IsRefused (g : Match) (line : List ℕ) (cause : Why) : Type 0 where
   text_fault : (fault : TextFault)
       → FirstTextFault line fault → cause ≡ why.Text fault
@@ -127,16 +134,16 @@ pub data IsRefused (g : Match) (line : List ℕ) (cause : Why) : Type 0 where
       → Judged g line color m (Some (play.Broken rule)) → cause ≡ why.Rule rule
       → IsRefused g line cause
 
--- of the client's side only the sent move that waits is expected
+-- a move of the client's side is expected only if it was sent and waits
 abbrev pub IsExpected : Play → Color → Timed → Type 0
 IsExpected p color m = color ≡ p.game.client → p.waiting ≡ Some m.move
 
 -- 4. The table
--- the client goes on to this state, and the engine stays
+-- the client goes to this state; the engine's stays
 abbrev pub client_to : State → Client → State
 client_to s client = record s { client = client }
 
--- a fault leaves both states
+-- a fault changes neither state
 abbrev pub failed : State → SessionFault → State
 failed s fault = record s { status = Failed fault }
 
@@ -181,14 +188,16 @@ pub data TableRow (c : Config) (s : State) (e : Event) (out : Out) (t : State) :
       → out ≡ server texts.agree → t ≡ client_to s (agreeing o)
       → TableRow c s e out t
   summary_fails : (h : Heard)
-      → s.client ≡ summary h → e ≡ server_line texts.end_summary → ((o : Offer) → TellsOffer h o → ⊥)
+      → s.client ≡ summary h → e ≡ server_line texts.end_summary
+      → ((o : Offer) → TellsOffer h o → ⊥)
       → out ≡ no_lines → t ≡ failed s BadSummary
       → TableRow c s e out t
   -- Agreeing | `START:` ..
   started : (o : Offer) (line : List ℕ) (asked : List (List ℕ)) (now : EngineState)
       → s.client ≡ agreeing o → e ≡ server_line line → is_start_line line ≡ true
       → Asks c (match_of o) s.engine asked now
-      → out ≡ engine (texts.new_game ∷ asked) → t ≡ record s { engine = now; client = playing (match_of o) }
+      → out ≡ engine (texts.new_game ∷ asked)
+      → t ≡ record s { engine = now; client = playing (match_of o) }
       → TableRow c s e out t
   -- Agreeing | `REJECT:` ..
   rejected : (o : Offer) (line : List ℕ)
@@ -197,61 +206,75 @@ pub data TableRow (c : Config) (s : State) (e : Event) (out : Out) (t : State) :
       → TableRow c s e out t
   -- Thinking, Playing | `bestmove` legal move
   engine_moves : (g : Match) (line word : List ℕ) (m : Move)
-      → s.engine ≡ Thinking → s.client ≡ playing g → e ≡ engine_line line → IsBestMove line word → IsLegalWord g word m
-      → out ≡ server (answer_line g (move m)) → t ≡ record s { engine = Ready; client = sent g (move m) }
+      → s.engine ≡ Thinking → s.client ≡ playing g
+      → e ≡ engine_line line → IsBestMove line word → IsLegalWord g word m
+      → out ≡ server (answer_line g (move m))
+      → t ≡ record s { engine = Ready; client = sent g (move m) }
       → TableRow c s e out t
   -- Thinking, Playing | `bestmove resign` / `win`
   engine_resigns : (g : Match) (line : List ℕ)
-      → s.engine ≡ Thinking → s.client ≡ playing g → e ≡ engine_line line → IsBestMove line texts.engine_resigns
+      → s.engine ≡ Thinking → s.client ≡ playing g
+      → e ≡ engine_line line → IsBestMove line texts.engine_resigns
       → out ≡ server (answer_line g toryo) → t ≡ record s { engine = Ready; client = sent g toryo }
       → TableRow c s e out t
   engine_wins : (g : Match) (line : List ℕ)
-      → s.engine ≡ Thinking → s.client ≡ playing g → e ≡ engine_line line → IsBestMove line texts.engine_wins
+      → s.engine ≡ Thinking → s.client ≡ playing g
+      → e ≡ engine_line line → IsBestMove line texts.engine_wins
       → out ≡ server (answer_line g kachi) → t ≡ record s { engine = Ready; client = sent g kachi }
       → TableRow c s e out t
   -- Thinking, Playing | `bestmove` other
   engine_slips : (g : Match) (line word : List ℕ)
-      → s.engine ≡ Thinking → s.client ≡ playing g → e ≡ engine_line line → IsBestMove line word → IsNoAnswer g word
-      → out ≡ server (answer_line g toryo) → t ≡ record s { engine = Ready; client = sent (slipped g) toryo }
+      → s.engine ≡ Thinking → s.client ≡ playing g
+      → e ≡ engine_line line → IsBestMove line word → IsNoAnswer g word
+      → out ≡ server (answer_line g toryo)
+      → t ≡ record s { engine = Ready; client = sent (slipped g) toryo }
       → TableRow c s e out t
   -- Thinking, not Playing | `bestmove` any
   engine_late : (line word : List ℕ)
-      → s.engine ≡ Thinking → client_state s.client ≢ clients.Playing → e ≡ engine_line line → IsBestMove line word
+      → s.engine ≡ Thinking → client_state s.client ≢ clients.Playing
+      → e ≡ engine_line line → IsBestMove line word
       → out ≡ no_lines → t ≡ record s { engine = Ready }
       → TableRow c s e out t
-  -- Playing, Sent | line from `+` or `-`
+  -- Playing, Sent | line that begins with `+` or `-`
   move_refused : (p : Play) (line : List ℕ) (cause : Why)
-      → in_play s.client ≡ Some p → e ≡ server_line line → is_move_line line ≡ true → IsRefused p.game line cause
+      → in_play s.client ≡ Some p → e ≡ server_line line
+      → is_move_line line ≡ true → IsRefused p.game line cause
       → out ≡ no_lines → t ≡ failed s (BadServerMove (Refused cause))
       → TableRow c s e out t
   move_unsent : (p : Play) (line : List ℕ) (color : Color) (m : Timed)
-      → in_play s.client ≡ Some p → e ≡ server_line line → is_move_line line ≡ true → Judged p.game line color m None
+      → in_play s.client ≡ Some p → e ≡ server_line line
+      → is_move_line line ≡ true → Judged p.game line color m None
       → (IsExpected p color m → ⊥)
       → out ≡ no_lines → t ≡ failed s (BadServerMove Unsent)
       → TableRow c s e out t
-  move_confirmed : (p : Play) (line : List ℕ) (color : Color) (m : Timed) (asked : List (List ℕ)) (now : EngineState)
-      → in_play s.client ≡ Some p → e ≡ server_line line → is_move_line line ≡ true → Judged p.game line color m None
+  move_confirmed : (p : Play) (line : List ℕ)
+      (color : Color) (m : Timed) (asked : List (List ℕ)) (now : EngineState)
+      → in_play s.client ≡ Some p → e ≡ server_line line
+      → is_move_line line ≡ true → Judged p.game line color m None
       → IsExpected p color m → Asks c (with_move p.game m) s.engine asked now
       → out ≡ engine asked → t ≡ record s { engine = now; client = playing (with_move p.game m) }
       → TableRow c s e out t
-  -- Playing, Sent | line from `%`: an ending, optionally a time
+  -- Playing, Sent | line that begins with `%`: an ending, optionally a time
   ending_told : (p : Play) (line : List ℕ) (kept : Ended)
-      → in_play s.client ≡ Some p → e ≡ server_line line → is_ending_line line ≡ true → TellsEnding line kept
-      → out ≡ no_lines → t ≡ client_to s (reason p.game (record { kept = Some kept; reason = None }))
+      → in_play s.client ≡ Some p → e ≡ server_line line
+      → is_ending_line line ≡ true → TellsEnding line kept
+      → out ≡ no_lines
+      → t ≡ client_to s (reason p.game (record { kept = Some kept; reason = None }))
       → TableRow c s e out t
   -- Playing, Sent, Reason | a `#` line that is no result
   reason_told : (g : Match) (f : Finish) (line : List ℕ)
-      → before_result s.client ≡ Some (g, f) → e ≡ server_line line → is_hash_line line ≡ true → outcome_of line ≡ None
+      → before_result s.client ≡ Some (g, f)
+      → e ≡ server_line line → is_hash_line line ≡ true → outcome_of line ≡ None
       → out ≡ no_lines → t ≡ client_to s (reason g (with_reason f (reason_of line)))
       → TableRow c s e out t
   -- Playing, Sent, Reason | `#WIN #LOSE #DRAW #CENSORED #CHUDAN`
-  result_told : (g : Match) (f : Finish) (line : List ℕ) (o : Outcome)
+  result_told : (g : Match) (f : Finish) (line : List ℕ) (o : GameResult)
       → before_result s.client ≡ Some (g, f) → e ≡ server_line line → outcome_of line ≡ Some o
       → out ≡ record { to_engine = gameover_line o ∷ texts.quit ∷ []; to_server = texts.logout ∷ [] }
       → t ≡ record s { engine = EngineEnded; client = closing g f o }
       → TableRow c s e out t
   -- Closing | `LOGOUT:completed` or ServerEnd
-  closes : (g : Match) (f : Finish) (o : Outcome)
+  closes : (g : Match) (f : Finish) (o : GameResult)
       → s.client ≡ closing g f o → (e ≡ server_line texts.logout_completed) ⊎ (e ≡ server_end)
       → out ≡ no_lines → t ≡ record s { client = ended g f o; status = Done }
       → TableRow c s e out t
@@ -262,7 +285,8 @@ pub data TableRow (c : Config) (s : State) (e : Event) (out : Out) (t : State) :
       → TableRow c s e out t
   -- client not Closing, not Ended | ServerEnd
   server_gone :
-      client_state s.client ≢ clients.Closing → client_state s.client ≢ clients.Ended → e ≡ server_end
+      client_state s.client ≢ clients.Closing
+      → client_state s.client ≢ clients.Ended → e ≡ server_end
       → out ≡ no_lines → t ≡ failed s ServerGone
       → TableRow c s e out t
   -- not Done | EngineLong, ServerLong
@@ -271,16 +295,16 @@ pub data TableRow (c : Config) (s : State) (e : Event) (out : Out) (t : State) :
       → out ≡ no_lines → t ≡ failed s LineTooLong
       → TableRow c s e out t
 
--- the bridge has neither ended nor failed, and its table has a row for the event
+-- the session is neither over nor failed, and the table has a row for the event
 abbrev pub IsInTable : Config → State → Event → Out → State → Type 0
 IsInTable c s e out t = (s.status ≡ Going) × TableRow c s e out t
 
--- no row names the event
+-- no row applies to the event
 abbrev pub IsUnnamed : Config → State → Event → Type 0
 IsUnnamed c s e = (out : Out) (t : State) → IsInTable c s e out t → ⊥
 
--- a row of the table, for an event whose line has no spaces at its end; or no row names the event, no line is given
--- and nothing changes
+-- a row of the table, for an event whose line has no spaces at its end; or no row applies to the
+-- event, no line is sent and nothing changes
 pub data Row (c : Config) (s : State) (e : Event) (out : Out) (t : State) : Type 0 where
   in_table : IsInTable c s e out t → Row c s e out t
   unnamed : IsUnnamed c s e → out ≡ no_lines → t ≡ s → Row c s e out t

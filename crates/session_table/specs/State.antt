@@ -1,10 +1,11 @@
--- How a bridge stands.
+-- The states of a bridge.
 use Rattle.std.specs.Prelude.{◌++◌, List, [], ◌∷◌, map, Bool, false, Option, None}
 use Rattle.shogi_board.specs.declared.color.Color.{Color}
 use Rattle.shogi_board.specs.Placed.{Placed}
 use Rattle.shogi_rules.specs.declared.moves.Move.{Move}
+use Rattle.session_table.specs.declared.state.Answer.{Answer}
 use Rattle.shogi_rules.specs.Positions.{Played, now_of}
-use Rattle.csa_record.specs.Game.{Game, Timed, Ended, move_of}
+use Rattle.record_game.specs.Game.{Game, Timed, Ended, move_of}
 use Rattle.session_table.specs.declared.event.Status.{Status}
 use Rattle.session_table.specs.declared.event.Status.TheVariants as status
 use Rattle.session_table.specs.declared.state.ClientState.{ClientState}
@@ -13,43 +14,38 @@ use Rattle.session_table.specs.declared.state.EngineState.{EngineState}
 use Rattle.session_table.specs.declared.state.EngineState.TheVariants.{New, Greeting, Readying, Ready, Thinking, Ended as EngineEnded}
 use Rattle.session_table.specs.declared.state.Waits.{Waits}
 use Rattle.session_table.specs.declared.state.Waits.TheVariants.{Engine, Server, Nobody}
-use Rattle.session_lines.specs.ServerLines.{Outcome, Reason}
+use Rattle.session_lines.specs.declared.server_words.GameResult.{GameResult}
+use Rattle.session_lines.specs.declared.server_words.EndReason.{EndReason}
 use Rattle.session_table.specs.Summary.{Heard, Offer}
 
--- a match: the client's side, the game so far, whose moves are the confirmed ones, those of the summary first, and
--- whether the engine slipped: an answer of it was no legal move
+-- a match: the client's side; the game so far, with the moves of the summary first and then those
+-- confirmed; and whether the engine slipped, which means that an answer was no legal move
 pub record Match : Type 0 where
   pub client : Color
   pub game : Game
   pub slip : Bool
 
--- what the bridge sent for the engine: a move, `%TORYO` or `%KACHI`
-pub data Answer : Type 0 where
-  move : Move → Answer
-  toryo : Answer
-  kachi : Answer
-
--- what the server has told of the end: the ending that is kept, and the reason
+-- what the server has said of the end: the ending that is kept, and the reason
 pub record Finish : Type 0 where
   pub kept : Option Ended
-  pub reason : Option Reason
+  pub reason : Option EndReason
 
 abbrev pub nothing_told : Finish
 nothing_told = record { kept = None; reason = None }
 
--- the client states, each with what it has
+-- the client states, each with its values
 pub data Client : Type 0 where
   idle : Client
   logging_in : Client
-  -- Summary: before `BEGIN Game_Summary`, and behind it with what counts of the lines since
+  -- Summary: before `BEGIN Game_Summary`, and after it with what counts of the lines since
   before_summary : Client
   summary : Heard → Client
   agreeing : Offer → Client
   playing : Match → Client
   sent : Match → Answer → Client
   reason : Match → Finish → Client
-  closing : Match → Finish → Outcome → Client
-  ended : Match → Finish → Outcome → Client
+  closing : Match → Finish → GameResult → Client
+  ended : Match → Finish → GameResult → Client
 
 pub record State : Type 0 where
   pub engine : EngineState
@@ -98,7 +94,7 @@ waits_in status.Lost engine client = Nobody
 abbrev pub waits_for : State → Waits
 waits_for s = waits_in s.status s.engine (client_state s.client)
 
--- the match at the start of play: the moves that come with the summary count as confirmed
+-- the match at the start of play; the moves of the summary count as confirmed
 abbrev pub match_of : Offer → Match
 match_of o = record { client = o.client; game = o.game; slip = false }
 

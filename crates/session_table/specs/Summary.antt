@@ -1,4 +1,5 @@
--- What the lines of a game summary tell: those behind `BEGIN Game_Summary`, before `END Game_Summary`.
+-- What the lines of a game summary say, from after `BEGIN Game_Summary` to before
+-- `END Game_Summary`.
 use Rattle.std.specs.Prelude.{◌≡◌, ◌≢◌, ℕ, ◌≤◌, ◌&&◌, Bool, not, true, false, List, [], ◌∷◌, ◌++◌, length, drop, Option, Some, None, IfSome, option_map, nat_eq, bytes_eq, if◌then◌else◌}
 use Rattle.std.specs.List.{AllByRecursion, AllZip, filter_map, flat_map, starts_with}
 use Rattle.std.specs.Option.{option_to_list}
@@ -6,10 +7,10 @@ use Rattle.shogi_board.specs.declared.color.Color.{Color}
 use Rattle.csa_text.specs.Codes.{sign}
 use Rattle.csa_cutting.specs.Cut.{TextUnit, IsCut}
 use Rattle.csa_text.specs.Saying.{Saying}
-use Rattle.csa_record.specs.Game.{Game}
-use Rattle.csa_record.specs.Items.{is_body, is_ending}
-use Rattle.csa_record.specs.Says.{Says}
-use Rattle.csa_record.specs.Tells.{IsSpelt}
+use Rattle.record_game.specs.Game.{Game}
+use Rattle.record_game.specs.Items.{is_body, is_ending}
+use Rattle.record_game.specs.Says.{Says}
+use Rattle.record_game.specs.Tells.{IsSpelt}
 use Rattle.session_lines.specs.LineTexts as texts
 use Rattle.session_lines.specs.Texts.{text_of}
 
@@ -21,11 +22,11 @@ pub data PositionBlocks : Type 0 where
   several : PositionBlocks
 
 pub record Heard : Type 0 where
-  -- what stands behind the last `Name+:`, `Name-:` and `Your_Turn:`; the empty text where there is none
+  -- what follows the last `Name+:`, `Name-:` and `Your_Turn:`; the empty text if there is none
   pub black : List ℕ
   pub white : List ℕ
   pub turn : List ℕ
-  -- the position blocks, the one that has not ended as far as it has come
+  -- the position blocks; one that has not ended, as far as it goes
   pub positions : PositionBlocks
   -- the `x` of the block `BEGIN x` that has not ended
   pub begun : Option (List ℕ)
@@ -34,7 +35,7 @@ abbrev pub nothing_heard : Heard
 nothing_heard = record { black = []; white = []; turn = []; positions = none; begun = None }
 
 -- 2. The parts of a summary
--- the `x` of `BEGIN x`, and the lines behind it
+-- the `x` of `BEGIN x`, and the lines after it
 pub record Block : Type 0 where
   pub title : List ℕ
   pub lines : List (List ℕ)
@@ -57,7 +58,7 @@ abbrev pub part_lines : Part → List (List ℕ)
 part_lines (line text) = text ∷ []
 part_lines (block b) = begun_lines b ++ end_line b.title ∷ []
 
--- a block goes to the first `END x`, whatever stands before it
+-- a block goes to the first `END x`, whatever comes before it
 abbrev pub IsBlock : Block → Type 0
 IsBlock b = AllByRecursion (λ text. text ≢ end_line b.title) b.lines
 
@@ -65,9 +66,10 @@ abbrev pub IsPart : Part → Type 0
 IsPart (line text) = starts_with nat_eq text texts.begin ≡ false
 IsPart (block b) = IsBlock b
 
--- what stands behind a key, such as `Name+:`
+-- what follows a key, such as `Name+:`
 abbrev pub value_of : List ℕ → Part → Option (List ℕ)
-value_of key (line text) = if starts_with nat_eq text key then Some (drop (length key) text) else None
+value_of key (line text) =
+    if starts_with nat_eq text key then Some (drop (length key) text) else None
 value_of key (block b) = None
 
 abbrev pub last_text : List (List ℕ) → List ℕ
@@ -86,7 +88,7 @@ block_of (block b) = Some b
 abbrev pub is_position : List ℕ → Bool
 is_position title = bytes_eq title texts.position_title
 
--- the text of a block `BEGIN Position`: its lines, LF behind each
+-- the text of a block `BEGIN Position`: its lines, each followed by LF
 abbrev pub position_text : Block → Option (List ℕ)
 position_text b = if is_position b.title then Some (text_of b.lines) else None
 
@@ -98,7 +100,8 @@ counted (text ∷ other ∷ texts) = several
 abbrev pub title_of : Block → List ℕ
 title_of b = b.title
 
--- what counts of these lines: they are whole parts, and then the block that has not ended, if there is one; all else is skipped
+-- what counts of these lines, which are whole parts and then perhaps a block that has not ended;
+-- all else is skipped
 pub record CountsAs (lines : List (List ℕ)) (h : Heard) : Type 0 where
   pub parts : List Part
   pub begun : Option Block
@@ -108,23 +111,24 @@ pub record CountsAs (lines : List (List ℕ)) (h : Heard) : Type 0 where
   pub black : h.black ≡ last_value texts.black_name parts
   pub white : h.white ≡ last_value texts.white_name parts
   pub turn : h.turn ≡ last_value texts.your_turn parts
-  pub positions : h.positions ≡ counted (filter_map position_text (filter_map block_of parts ++ option_to_list begun))
+  pub positions : h.positions ≡ counted
+      (filter_map position_text (filter_map block_of parts ++ option_to_list begun))
   pub title : h.begun ≡ option_map title_of begun
 
--- 3. What a whole summary tells
+-- 3. What a whole summary offers
 -- the client's side, and a game, some of whose moves may have been played
 pub record Offer : Type 0 where
   pub client : Color
   pub game : Game
 
--- position, side, move and time statements: the body, but for the ending
+-- position, side, move and time statements: the body without the ending
 abbrev pub in_position : Saying → Bool
 in_position said = is_body said && not (is_ending said)
 
 abbrev pub nameless : Game → Game
 nameless g = record g { black = None; white = None }
 
--- the text is statements of these kinds alone, which tell this game, its names aside
+-- the text has only statements of these kinds, and they are this game without names
 pub record TellsPosition (text : List ℕ) (g : Game) : Type 0 where
   pub statements : List TextUnit
   pub sayings : List Saying
@@ -133,13 +137,14 @@ pub record TellsPosition (text : List ℕ) (g : Game) : Type 0 where
   pub no_others : AllByRecursion (λ s. in_position s ≡ true) sayings
   pub says : Says sayings (nameless g)
 
--- an empty name is none
+-- an empty name counts as none
 abbrev pub name_given : List ℕ → Option (List ℕ)
 name_given [] = None
 name_given (b ∷ bs) = Some (b ∷ bs)
 
--- what counts tells this offer; what keeps it from telling one is a field that nothing fits: a block left open,
--- a long name, `Your_Turn` neither `+` nor `-`, no position block or two, a fault or another statement in it or no side
+-- what counts describes this offer; it describes none if a block is open, a name is too long,
+-- `Your_Turn` is neither `+` nor `-`, there are no position block or several, or the one has a
+-- fault, another statement or no side
 pub record TellsOffer (h : Heard) (o : Offer) : Type 0 where
   pub no_block : h.begun ≡ None
   pub black_fits : length h.black ≤ 4094
@@ -151,6 +156,6 @@ pub record TellsOffer (h : Heard) (o : Offer) : Type 0 where
   pub one_position : h.positions ≡ one text
   pub position : TellsPosition text o.game
 
--- the lines of a summary tell this offer
+-- the lines of a summary describe this offer
 abbrev pub TellsSummary : List (List ℕ) → Offer → Type 0
 TellsSummary lines o = (h : Heard) × CountsAs lines h × TellsOffer h o

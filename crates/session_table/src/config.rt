@@ -1,11 +1,11 @@
 use arrayvec::ArrayString;
 
-/// How a bridge logs in, and the clocks that its engine is told.
+/// How a bridge logs in, and the clocks that it gives its engine.
 #[derive(Clone, Copy, Debug)]
 pub struct Config {
-    /// 1 to 32 bytes from 0x21 to 0x7E.
+    /// The name to log in with: 1 to 32 bytes from 0x21 to 0x7E.
     pub name: ArrayString<32>,
-    /// 1 to 32 bytes from 0x21 to 0x7E.
+    /// The password to log in with: 1 to 32 bytes from 0x21 to 0x7E.
     pub password: ArrayString<32>,
     /// Each side's time for the whole game, in milliseconds.
     pub total_ms: u32,

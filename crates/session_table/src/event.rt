@@ -1,26 +1,26 @@
 use crate::fault::SessionFault;
 use session_lines::Lines;
 
-/// What happens to a bridge. A line comes without its line end.
+/// What happens to a bridge. Lines have no line end.
 #[derive(Clone, Copy, Debug, PartialEq, Eq)]
 pub enum Event<'a> {
     /// The session begins.
     Begin,
-    /// The engine wrote this line.
+    /// The engine sent this line.
     EngineLine(&'a [u8]),
-    /// The server wrote this line.
+    /// The server sent this line.
     ServerLine(&'a [u8]),
     /// The engine is gone, or reading from it or writing to it failed.
     EngineEnd,
     /// The server is gone, or reading from it or writing to it failed.
     ServerEnd,
-    /// A line of the engine is over the limit.
+    /// A line of the engine exceeded the limit.
     EngineLong,
-    /// A line of the server is over the limit.
+    /// A line of the server exceeded the limit.
     ServerLong,
 }
 
-/// How a bridge stands after an event.
+/// The state of a session after an event.
 #[derive(Clone, Copy, Debug, PartialEq, Eq)]
 pub enum Status {
     /// The session goes on.
@@ -29,17 +29,17 @@ pub enum Status {
     Done,
     /// It failed.
     Failed(SessionFault),
-    /// It failed for want of memory.
+    /// It failed for lack of memory.
     Lost,
 }
 
-/// What a bridge answers to an event.
+/// A bridge's answer to an event.
 #[derive(Drop)]
 pub struct Out {
     /// The lines to send to the engine.
     pub to_engine: Lines,
-    /// The lines to send to the server, behind those to the engine.
+    /// The lines to send to the server, after those to the engine.
     pub to_server: Lines,
-    /// How the bridge stands now.
+    /// The state of the session now.
     pub status: Status,
 }

@@ -1,7 +1,9 @@
-/// How a bridge stands with its engine.
+use shogi_rules::Move;
+
+/// How far a bridge is with its engine.
 #[derive(Clone, Copy, Debug, PartialEq, Eq)]
 pub enum EngineState {
-    /// Nothing was sent to it.
+    /// It was sent nothing.
     New,
     /// It was sent `usi`.
     Greeting,
@@ -15,10 +17,10 @@ pub enum EngineState {
     Ended,
 }
 
-/// How a bridge stands with its server, whose client it is.
+/// How far a bridge is with its server, whose client it is.
 #[derive(Clone, Copy, Debug, PartialEq, Eq)]
 pub enum ClientState {
-    /// The engine is not ready.
+    /// The engine is not ready yet.
     Idle,
     /// `LOGIN` was sent.
     LoggingIn,
@@ -26,22 +28,33 @@ pub enum ClientState {
     Summary,
     /// `AGREE` was sent.
     Agreeing,
-    /// The game is on.
+    /// The game is in play.
     Playing,
     /// A move, `%TORYO` or `%KACHI` was sent.
     Sent,
-    /// An ending or a reason was told.
+    /// The server sent an ending or a reason.
     Reason,
-    /// A result was told, and `LOGOUT` sent.
+    /// The server sent a result, and `LOGOUT` was sent.
     Closing,
     /// The session is over.
     Ended,
 }
 
-/// Whose line a bridge waits for.
+/// Which side a bridge waits for.
 #[derive(Clone, Copy, Debug, PartialEq, Eq)]
 pub enum Waits {
     Engine,
     Server,
     Nobody,
+}
+
+/// What a bridge sent the server as its engine's answer.
+#[derive(Clone, Copy, Debug, PartialEq, Eq)]
+pub enum Answer {
+    /// This move.
+    Move(Move),
+    /// `%TORYO`.
+    Toryo,
+    /// `%KACHI`.
+    Kachi,
 }

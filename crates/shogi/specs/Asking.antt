@@ -1,15 +1,22 @@
--- Which faults there are of what is asked for.
-use Rattle.session_loops.specs.Faults.{IsTalkFault}
-use Rattle.session_loops.specs.declared.fault.Fault.{Fault}
-use Rattle.shogi_commands.specs.Faults.{IsLineCommandFault, IsPlayFault, IsRecordCommandFault, IsServeFault}
+-- What ends a requested command early.
+use Rattle.std.specs.Prelude.{◌≡◌, ◌≢◌}
+use Rattle.csa_record.specs.declared.flow.FlowFault.{FlowFault}
+use Rattle.record_commands.specs.declared.fault.PositionLineFault.{PositionLineFault}
+use Rattle.record_commands.specs.declared.fault.PositionLineFault.TheVariants.{Refused}
+use Rattle.session_commands.specs.declared.fault.MatchFault.{MatchFault}
+use Rattle.session_commands.specs.declared.fault.ServeFault.{ServeFault}
+use Rattle.session_commands.specs.declared.fault.TalkFault.{TalkFault}
+use Rattle.shogi.specs.Stops.{stop_of_line, stop_of_match, stop_of_record, stop_of_serve, stop_of_talk}
+use Rattle.shogi.specs.declared.stop.Stop.{Stop}
 use Rattle.shogi_words.specs.declared.request.Request.{Request}
+use Rattle.usi_text.specs.declared.fault.UsiFault.TheVariants.{OutOfMemory}
 use Rattle.shogi_words.specs.declared.request.Request.TheVariants.{Check, Normal, Usi, Csa, Engine, Serve, Play}
 
-abbrev pub IsFaultOf : Request → Fault → Type 0
-IsFaultOf (Check file) fault = IsRecordCommandFault fault
-IsFaultOf (Normal file) fault = IsRecordCommandFault fault
-IsFaultOf (Usi file) fault = IsRecordCommandFault fault
-IsFaultOf (Csa file) fault = IsLineCommandFault fault
-IsFaultOf Engine fault = IsTalkFault fault
-IsFaultOf (Serve service) fault = IsServeFault fault
-IsFaultOf (Play game) fault = IsPlayFault fault
+abbrev pub IsStopOf : Request → Stop → Type 0
+IsStopOf (Check file) stop = (fault : FlowFault) × (stop ≡ stop_of_record fault)
+IsStopOf (Normal file) stop = (fault : FlowFault) × (stop ≡ stop_of_record fault)
+IsStopOf (Usi file) stop = (fault : FlowFault) × (stop ≡ stop_of_record fault)
+IsStopOf (Csa file) stop = (fault : PositionLineFault) × (fault ≢ Refused OutOfMemory) × (stop ≡ stop_of_line fault)
+IsStopOf Engine stop = (fault : TalkFault) × (stop ≡ stop_of_talk fault)
+IsStopOf (Serve service) stop = (fault : ServeFault) × (stop ≡ stop_of_serve fault)
+IsStopOf (Play game) stop = (fault : MatchFault) × (stop ≡ stop_of_match fault)

@@ -1,17 +1,80 @@
--- What the program says where it ends early.
-use Rattle.std.specs.Prelude.{ℕ, List, Option, Some, codes}
-use Rattle.session_loops.specs.Faults as faults
+-- What the program reports if it ends early.
+use Rattle.std.specs.Prelude.{ℕ, List, Option, None, Some, codes}
+use Rattle.csa_record.specs.declared.flow.FlowFault.{FlowFault}
+use Rattle.csa_record.specs.declared.flow.FlowFault.TheVariants as record_fault
+use Rattle.record_commands.specs.declared.fault.PositionLineFault.{PositionLineFault}
+use Rattle.record_commands.specs.declared.fault.PositionLineFault.TheVariants as line_fault
+use Rattle.session_commands.specs.declared.fault.MatchFault.{MatchFault}
+use Rattle.session_commands.specs.declared.fault.MatchFault.TheVariants as match_fault
+use Rattle.session_commands.specs.declared.fault.ServeFault.{ServeFault}
+use Rattle.session_commands.specs.declared.fault.ServeFault.TheVariants as serve_fault
+use Rattle.session_commands.specs.declared.fault.TalkFault.{TalkFault}
+use Rattle.session_commands.specs.declared.fault.TalkFault.TheVariants as talk_fault
 use Rattle.shogi.specs.declared.stop.Stop.{Stop}
-use Rattle.shogi.specs.declared.stop.Stop.TheVariants.{WordsNotText, UnknownCommand, Failed}
+use Rattle.shogi.specs.declared.stop.Stop.TheVariants.{WordsNotText, UnknownCommand, Refused, LineRefused, LineTooLong, Read, Write, ClientGone, ClientLineTooLong, Session, OutOfMemory}
 
--- the status of a usage fault, or that of the command's fault
+-- the status that the program ends with
 abbrev pub status_of : Stop → ℕ
 status_of WordsNotText = 2
 status_of UnknownCommand = 2
-status_of (Failed fault) = faults.status_of fault
+status_of (Refused refusal) = 1
+status_of (LineRefused fault) = 1
+status_of LineTooLong = 1
+status_of Read = 3
+status_of Write = 3
+status_of ClientGone = 4
+status_of ClientLineTooLong = 4
+status_of (Session fault) = 4
+status_of OutOfMemory = 5
 
--- the line, where it has one text
+-- the line, if it is one fixed text; that of a refusal or of a session ends with the words of its
+-- fault
 abbrev pub line_of : Stop → Option (List ℕ)
 line_of WordsNotText = Some (codes "error: a word of the command line is not UTF-8")
 line_of UnknownCommand = Some (codes "error: there is no such command")
-line_of (Failed fault) = faults.line_of fault
+line_of (Refused refusal) = None
+line_of (LineRefused fault) = None
+line_of LineTooLong = Some (codes "refused: line too long")
+line_of Read = Some (codes "read fault")
+line_of Write = Some (codes "write fault")
+line_of ClientGone = Some (codes "fault: client gone")
+line_of ClientLineTooLong = Some (codes "fault: B7 LineTooLong")
+line_of (Session fault) = None
+line_of OutOfMemory = Some (codes "out of memory")
+
+-- of check, normal and usi
+abbrev pub stop_of_record : FlowFault → Stop
+stop_of_record (record_fault.Refused refusal) = Refused refusal
+stop_of_record record_fault.ReadFault = Read
+stop_of_record record_fault.WriteFault = Write
+stop_of_record record_fault.OutOfMemory = OutOfMemory
+
+-- of csa
+abbrev pub stop_of_line : PositionLineFault → Stop
+stop_of_line (line_fault.Refused why) = LineRefused why
+stop_of_line line_fault.TooLong = LineTooLong
+stop_of_line line_fault.Read = Read
+stop_of_line line_fault.Write = Write
+stop_of_line line_fault.OutOfMemory = OutOfMemory
+
+-- of engine
+abbrev pub stop_of_talk : TalkFault → Stop
+stop_of_talk talk_fault.LineTooLong = LineTooLong
+stop_of_talk talk_fault.Read = Read
+stop_of_talk talk_fault.Write = Write
+stop_of_talk talk_fault.OutOfMemory = OutOfMemory
+
+-- of serve
+abbrev pub stop_of_serve : ServeFault → Stop
+stop_of_serve serve_fault.ClientGone = ClientGone
+stop_of_serve serve_fault.LineTooLong = ClientLineTooLong
+stop_of_serve serve_fault.Read = Read
+stop_of_serve serve_fault.Write = Write
+stop_of_serve serve_fault.OutOfMemory = OutOfMemory
+
+-- of play
+abbrev pub stop_of_match : MatchFault → Stop
+stop_of_match (match_fault.Session why) = Session why
+stop_of_match match_fault.Endless = Read
+stop_of_match match_fault.Write = Write
+stop_of_match match_fault.OutOfMemory = OutOfMemory

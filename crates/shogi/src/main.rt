@@ -1,4 +1,12 @@
-//! The program `shogi`: its command line is read by `shogi_words`, and what that asks for `shogi_commands` does.
+//! The program `shogi`: reads its command line and runs the command that this asks for.
+//!
+//! `shogi_words` says what a command line means, `record_commands` and `session_commands` do it,
+//! and [`stop`] has the status and the line on standard error for each fault.
+//!
+//! ```text
+//! $ shogi check game.csa
+//! accepted 2 ongoing
+//! ```
 #![tactic(auto)]
 
 mod requests;
@@ -6,7 +14,6 @@ mod stop;
 mod usage;
 
 use crate::stop::Stop;
-use shogi_commands::Fault;
 use std::io::IsTerminal;
 use std::net::{Net, TcpListener, TcpStream};
 use std::process::{ExitCode, Processes};
@@ -18,14 +25,14 @@ fn main(rt: HostRuntime) -> ExitCode {
     match run(&rt, is_terminal) {
         Ok(status) => status,
         Err(stop) => {
-            // The status says what happened, also where nobody can be told.
+            // The status says what happened, even if standard error is closed.
             let _ = rt.eprintln(&stop);
             ExitCode::from(stop.status())
         }
     }
 }
 
-// Reads the words of the command line, and does what they ask for. The status is that of a run without fault.
+// Reads the command line and does what it asks for. The status is that of a run without a fault.
 fn run<
     R: Env
         + Files
@@ -39,7 +46,7 @@ fn run<
 >(rt: &R, is_terminal: bool) -> Result<ExitCode, Stop> {
     let words = usage::words(rt)?;
     let Ok(commands) = shogi_words::all(rt.alloc()) else {
-        return Err(Stop::Failed(Fault::OutOfMemory));
+        return Err(Stop::OutOfMemory);
     };
     match commands.try_get_matches_from(words.as_slice()) {
         Ok(matches) => {

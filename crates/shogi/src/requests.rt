@@ -1,15 +1,16 @@
-//! What the words of the command line ask for, and how it is done.
+//! What the command line asks for, and how it is done.
 
 ghost use Rattle.std.specs.Prelude.{◌≡◌, ◌≤◌, ◌↔◌, IfErr, IfOk, IsTrue, Some, false};
 ghost use Rattle.clap.specs.Words.{subcommand_name_of};
-ghost use Rattle.shogi.specs.Asking.{IsFaultOf};
+ghost use Rattle.shogi.specs.Asking.{IsStopOf};
 ghost use Rattle.shogi_rules.specs.Positions as positions;
 ghost use Rattle.shogi_words.specs.Words.{IsNoCommand, word_of};
 
 use crate::stop::Stop;
 use clap::ArgMatches;
-use shogi_commands::play::Plan;
-use shogi_commands::{Fault, check, csa, engine, normal, play, serve, usi};
+use record_commands::{check, csa, normal, usi};
+use session_commands::play::Plan;
+use session_commands::{engine, play, serve};
 use shogi_words::{Match, Request, Service, request_of};
 use std::io::Eprint;
 use std::net::{Net, TcpListener, TcpStream};
@@ -17,18 +18,21 @@ use std::process::Processes;
 use std::rt::Files;
 use std::time::Clock;
 
-/// What the words ask for.
+/// The request of the command line.
 ///
-/// `Stop::UnknownCommand` where they name no command.
+/// Refuses `UnknownCommand` if it names no command.
 pub fn requested<'a>(matches: &ArgMatches<'a>) -> Result<Request<'a>, Stop>
     ensures named { IfOk result (λ r. subcommand_name_of matches.now ≡ Some (word_of r)) }
-    ensures within { IfOk result (λ r. (s : Service) → r ≡ Request.Serve s → (1 ≤ s.max_moves) × (s.max_moves ≤ positions.max_moves)) }
-    ensures unknown { IfErr result (λ stop. (stop ≡ Stop.UnknownCommand) × IsNoCommand (subcommand_name_of matches.now)) }
+    ensures within { IfOk result (λ r. (s : Service)
+        → r ≡ Request.Serve s → (1 ≤ s.max_moves) × (s.max_moves ≤ positions.max_moves)) }
+    ensures unknown { IfErr result
+        (λ stop. (stop ≡ Stop.UnknownCommand) × IsNoCommand (subcommand_name_of matches.now)) }
 {
     request_of(matches).ok_or(Stop::UnknownCommand)
 }
 
-/// Does what is asked for; `is_terminal` says whether standard error is a terminal.
+/// Does what is asked for; `is_terminal` says whether standard error is a terminal. Refuses as the
+/// command does.
 pub fn meet<
     R: Files
         + Input
@@ -38,24 +42,27 @@ pub fn meet<
         + Print
         + Eprint
         + AllocGlobal,
->(rt: &R, request: &Request<'_>, is_terminal: bool) -> Result<(), Fault>
-    requires moves { (s : Service) → request.now ≡ Request.Serve s → (1 ≤ s.max_moves) × (s.max_moves ≤ positions.max_moves) }
-    ensures faults { IfErr result (IsFaultOf request.now) }
+>(rt: &R, request: &Request<'_>, is_terminal: bool) -> Result<(), Stop>
+    requires moves { (s : Service)
+        → request.now ≡ Request.Serve s → (1 ≤ s.max_moves) × (s.max_moves ≤ positions.max_moves) }
+    ensures stops { IfErr result (IsStopOf request.now) }
 {
     match *request {
-        Request::Check(file) => check::run(rt, file),
-        Request::Normal(file) => normal::run(rt, file),
-        Request::Usi(file) => usi::run(rt, file),
-        Request::Csa(file) => csa::run(rt, file),
-        Request::Engine => engine::run(rt),
-        Request::Serve(asked) => serve::run(rt, asked.port, asked.client, asked.max_moves),
-        Request::Play(asked) => play::run(rt, &plan_of(&asked, is_terminal)),
+        Request::Check(file) => check::run(rt, file)?,
+        Request::Normal(file) => normal::run(rt, file)?,
+        Request::Usi(file) => usi::run(rt, file)?,
+        Request::Csa(file) => csa::run(rt, file)?,
+        Request::Engine => engine::run(rt)?,
+        Request::Serve(asked) => serve::run(rt, asked.port, asked.client, asked.max_moves)?,
+        Request::Play(asked) => play::run(rt, &plan_of(&asked, is_terminal))?,
     }
+    Ok(())
 }
 
-// Moves are shown where standard error is a terminal and the words do not say `--quiet`.
+// Moves are shown if standard error is a terminal and the words do not contain `--quiet`.
 fn plan_of<'a>(asked: &Match<'a>, is_terminal: bool) -> Plan<'a>
-    ensures programs { (result.server.now ≡ asked.now.server.now) × (result.engine.now ≡ asked.now.engine.now) }
+    ensures programs { (result.server.now ≡ asked.now.server.now)
+        × (result.engine.now ≡ asked.now.engine.now) }
     ensures shown { IsTrue result.is_shown ↔ (IsTrue is_terminal × (asked.now.is_quiet ≡ false)) }
 {
     Plan {

@@ -1,23 +1,42 @@
-//! What ends the program early: the status that it then ends with, and its line on standard error.
+//! What ends the program early: its status, and its line on standard error.
 
 ghost use Rattle.std.specs.Prelude.{◌≡◌, ◌≢◌};
 ghost use Rattle.std.specs.IoError.{error_kind};
-ghost use Rattle.shogi.specs.Stops.{line_of, status_of};
-ghost use Rattle.shogi.specs.declared.stop.Stop.TheVariants.{Failed};
+ghost use Rattle.shogi.specs.Stops.{line_of, status_of, stop_of_line, stop_of_match, stop_of_record, stop_of_serve, stop_of_talk};
 
-use shogi_commands::Fault;
+use csa_record::{FlowFault, Refusal};
+use record_commands::PositionLineFault;
+use session_commands::{MatchFault, ServeFault, TalkFault};
+use shogi_session::SessionFault;
 use std::io::ErrorKind;
 use std::{fmt, io};
+use usi_text::UsiFault;
 
 /// Why the program did not do what it was asked for.
 #[derive(Clone, Copy, Debug)]
 pub enum Stop {
     /// A word of the command line is not UTF-8.
     WordsNotText,
-    /// The command line named a command that is not there.
+    /// The command line named a command that does not exist.
     UnknownCommand,
-    /// The command failed, or memory or a stream did before it.
-    Failed(Fault),
+    /// The record was refused.
+    Refused(Refusal),
+    /// The position line was refused.
+    LineRefused(UsiFault),
+    /// A line has more than 65,536 bytes.
+    LineTooLong,
+    /// A file or a stream could not be read, or there is no socket to listen on.
+    Read,
+    /// Not all could be written to a file or a stream.
+    Write,
+    /// The client of `serve` ended before the session was over.
+    ClientGone,
+    /// A line of the client of `serve` has more than 65,536 bytes.
+    ClientLineTooLong,
+    /// The session of `play` failed.
+    Session(SessionFault),
+    /// An allocation failed.
+    OutOfMemory,
 }
 
 /// The status of a usage fault.
@@ -29,24 +48,27 @@ impl Stop {
         ensures value { result ≡ status_of self.now }
     {
         match self {
+            Stop::Refused(_) | Stop::LineRefused(_) | Stop::LineTooLong => 1,
             Stop::WordsNotText | Stop::UnknownCommand => USAGE,
-            Stop::Failed(fault) => fault.status(),
+            Stop::Read | Stop::Write => 3,
+            Stop::ClientGone | Stop::ClientLineTooLong | Stop::Session(_) => 4,
+            Stop::OutOfMemory => 5,
         }
     }
 
-    /// Why a command line could not be taken.
+    /// Why a command line could not be read.
     pub fn of_words(error: &io::Error) -> Stop
-        ensures memory { error_kind error.now ≡ ErrorKind.OutOfMemory → result ≡ Stop.Failed Fault.OutOfMemory }
+        ensures memory { error_kind error.now ≡ ErrorKind.OutOfMemory → result ≡ Stop.OutOfMemory }
         ensures words { error_kind error.now ≢ ErrorKind.OutOfMemory → result ≡ Stop.WordsNotText }
     {
         match error.kind() {
-            ErrorKind::OutOfMemory => Stop::Failed(Fault::OutOfMemory),
+            ErrorKind::OutOfMemory => Stop::OutOfMemory,
             _ => Stop::WordsNotText,
         }
     }
 }
 
-// The line on standard error, without its end.
+// The line on standard error, without its line end.
 impl fmt::Display for Stop {
     ghost output = { line_of };
 
@@ -54,15 +76,90 @@ impl fmt::Display for Stop {
         match self {
             Stop::WordsNotText => f.write_str("error: a word of the command line is not UTF-8"),
             Stop::UnknownCommand => f.write_str("error: there is no such command"),
-            Stop::Failed(fault) => fault.fmt(f),
+            Stop::Refused(refusal) => write!(f, "refused: {refusal}"),
+            Stop::LineRefused(UsiFault::BadMoveText(number)) => write!(
+                f,
+                "refused: move {number}: U6 BadMoveText"
+            ),
+            Stop::LineRefused(UsiFault::Broken(number, rule)) => write!(
+                f,
+                "refused: move {number}: {rule}"
+            ),
+            Stop::LineRefused(fault) => write!(f, "refused: {fault}"),
+            Stop::LineTooLong => f.write_str("refused: line too long"),
+            Stop::Read => f.write_str("read fault"),
+            Stop::Write => f.write_str("write fault"),
+            Stop::ClientGone => f.write_str("fault: client gone"),
+            Stop::ClientLineTooLong => f.write_str("fault: B7 LineTooLong"),
+            Stop::Session(fault) => write!(f, "fault: {fault}"),
+            Stop::OutOfMemory => f.write_str("out of memory"),
         }
     }
 }
 
-impl From<Fault> for Stop {
-    ghost from_gives = { λ fault stop. stop ≡ Failed fault };
+impl From<FlowFault> for Stop {
+    ghost from_gives = { λ fault stop. stop ≡ stop_of_record fault };
 
-    fn from(fault: Fault) -> Stop {
-        Stop::Failed(fault)
+    fn from(fault: FlowFault) -> Stop {
+        match fault {
+            FlowFault::Refused(refusal) => Stop::Refused(refusal),
+            FlowFault::ReadFault => Stop::Read,
+            FlowFault::WriteFault => Stop::Write,
+            FlowFault::OutOfMemory => Stop::OutOfMemory,
+        }
+    }
+}
+
+impl From<PositionLineFault> for Stop {
+    ghost from_gives = { λ fault stop. stop ≡ stop_of_line fault };
+
+    fn from(fault: PositionLineFault) -> Stop {
+        match fault {
+            PositionLineFault::Refused(why) => Stop::LineRefused(why),
+            PositionLineFault::TooLong => Stop::LineTooLong,
+            PositionLineFault::Read => Stop::Read,
+            PositionLineFault::Write => Stop::Write,
+            PositionLineFault::OutOfMemory => Stop::OutOfMemory,
+        }
+    }
+}
+
+impl From<TalkFault> for Stop {
+    ghost from_gives = { λ fault stop. stop ≡ stop_of_talk fault };
+
+    fn from(fault: TalkFault) -> Stop {
+        match fault {
+            TalkFault::LineTooLong => Stop::LineTooLong,
+            TalkFault::Read => Stop::Read,
+            TalkFault::Write => Stop::Write,
+            TalkFault::OutOfMemory => Stop::OutOfMemory,
+        }
+    }
+}
+
+impl From<ServeFault> for Stop {
+    ghost from_gives = { λ fault stop. stop ≡ stop_of_serve fault };
+
+    fn from(fault: ServeFault) -> Stop {
+        match fault {
+            ServeFault::ClientGone => Stop::ClientGone,
+            ServeFault::LineTooLong => Stop::ClientLineTooLong,
+            ServeFault::Read => Stop::Read,
+            ServeFault::Write => Stop::Write,
+            ServeFault::OutOfMemory => Stop::OutOfMemory,
+        }
+    }
+}
+
+impl From<MatchFault> for Stop {
+    ghost from_gives = { λ fault stop. stop ≡ stop_of_match fault };
+
+    fn from(fault: MatchFault) -> Stop {
+        match fault {
+            MatchFault::Session(why) => Stop::Session(why),
+            MatchFault::Endless => Stop::Read,
+            MatchFault::Write => Stop::Write,
+            MatchFault::OutOfMemory => Stop::OutOfMemory,
+        }
     }
 }

@@ -3,10 +3,11 @@ use Rattle.std.proofs.Common.{◌≡◌, ℕ, ◌+◌, ◌-◌, ◌*◌, ◌<◌
 use Rattle.std.specs.Prelude.{MatchOption}
 use Rattle.std.proofs.lemmas.Bool.{cases_lt}
 use Rattle.shogi_board.specs.Attackers.{AttackInSight, IsAttackedByJump, IsAttackedInLine}
-use Rattle.shogi_board.specs.Between.{IsNowhere, Lies}
+use Rattle.shogi_board.specs.Directions.{IsNowhere, Lies}
 use Rattle.shogi_board.specs.Cells.{Cells, at}
 use Rattle.shogi_board.specs.Danger.{SeenTowards}
-use Rattle.shogi_board.specs.Moves.{IsNear, IsRay, Goes, diagonals, orthogonals, rays, steps, turned_for}
+use Rattle.shogi_board.specs.Moves.{IsRay, diagonals, orthogonals, rays, steps, turned_for}
+use Rattle.shogi_board.specs.Directions.{IsNear, Goes}
 use Rattle.shogi_board.specs.Pieces.{opponent}
 use Rattle.shogi_board.specs.Reach.{Attack, Attacked, InSight, IsClear, Slides, Steps}
 use Rattle.shogi_board.specs.Squares.{IsAway}

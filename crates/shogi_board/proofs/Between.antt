@@ -1,7 +1,7 @@
 -- In which direction and how far away a square lies, and which squares lie on the way.
 use Rattle.std.proofs.Common.{◌≡◌, ℕ, ◌+◌, ◌-◌, ◌*◌, ◌<◌, ◌≤◌, ◌⊎◌, inl, inr, arith, ap, sym, refl, ◌∙◌}
 use Rattle.std.proofs.lemmas.Bool.{cases_eq, cases_lt}
-use Rattle.shogi_board.specs.Between.{IsDirection, IsInLine}
+use Rattle.shogi_board.specs.Directions.{IsDirection, IsInLine}
 use Rattle.shogi_board.specs.Moves.{IsRay, to}
 use Rattle.shogi_board.specs.Squares.{IsAway}
 use Rattle.shogi_board.specs.declared.direction.Direction.{Direction}

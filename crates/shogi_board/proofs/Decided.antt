@@ -1,4 +1,5 @@
--- Each statement on a board holds or does not: whether a piece reaches a square, whether a king is in check.
+-- Each statement on a board holds or does not: whether a piece reaches a square, whether a king is
+-- in check.
 use Rattle.std.proofs.Common.{◌≡◌, ℕ, zero, suc, ◌+◌, ◌/◌, ◌%◌, ◌<◌, ◌≤◌, ◌⊎◌, inl, inr, Bool, true, false, List, [], ◌∷◌, Option, Some, None, Any, arith, refl, sym, ◌∙◌, subst}
 use Rattle.std.specs.Bool.{Decides}
 use Rattle.std.proofs.lemmas.Bool.{cases_lt, cases_eq}

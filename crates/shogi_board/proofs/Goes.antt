@@ -1,8 +1,9 @@
 -- Along a line a piece reaches what its kind goes to.
 use Rattle.std.proofs.Common.{◌≡◌, ℕ, ◌≤◌, ◌⊎◌, inl, inr, Any, Contains, arith, refl, sym, ap, subst, ◌∙◌}
-use Rattle.shogi_board.specs.Between.{IsNowhere, Lies}
+use Rattle.shogi_board.specs.Directions.{IsNowhere, Lies}
 use Rattle.shogi_board.specs.Cells.{Cells}
-use Rattle.shogi_board.specs.Moves.{IsNear, IsRay, Goes, rays, steps, turned_for}
+use Rattle.shogi_board.specs.Moves.{IsRay, rays, steps, turned_for}
+use Rattle.shogi_board.specs.Directions.{IsNear, Goes}
 use Rattle.shogi_board.specs.Reach.{InSight, IsClear, Slides, Steps}
 use Rattle.shogi_board.specs.Squares.{IsAway}
 use Rattle.shogi_board.specs.declared.color.Color.{Color}

@@ -160,7 +160,7 @@ counted : (p : Option Piece → Bool) (xs : Cells) → 0 < count_by p xs → Pas
 counted p [] h = absurd (omega (arith, h))
 counted p (x ∷ xs) h = counted-first p x xs (p x) refl (counted p xs) h
 
--- some are counted on a file exactly where a pawn stands on it
+-- some are counted on a file exactly if a pawn is on it
 pub pawn-counted : (c : Color) (cells : Cells) (s : Square) → length cells ≡ 81 → (0 < get_or (pawn_counts c 9 cells) (file_of s - 1) 0) ↔ HasPawnOnFile cells c s
 pawn-counted c cells s whole =
     let b = s.on_board in
@@ -226,7 +226,8 @@ king-gone c cells s whole few h = λ t k.
           differ (ap place e)
     ]
 
--- what a square has lost or gained changes no landmark of a side, unless it is a king or a pawn of that side
+-- what a square has lost or gained changes no landmark of a side, unless it is a king or a pawn of
+-- that side
 pub marks-kept : (c : Color) (cells : Cells) (s : Square) (v : Option Piece) (m : Landmarks) → length cells ≡ 81 → (at cells s ≡ piece c King → ⊥) → (at cells s ≡ piece c Pawn → ⊥) → (v ≡ piece c King → ⊥) → (v ≡ piece c Pawn → ⊥) → AreLandmarks cells c m → AreLandmarks (set cells (place s) v) c m
 marks-kept c cells s v m whole old_king old_pawn new_king new_pawn h = record {
   king = king-stays c cells s v m.king whole old_king new_king h.king;

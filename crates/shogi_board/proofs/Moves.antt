@@ -2,7 +2,8 @@
 use Rattle.std.proofs.Common.{◌≡◌, ◌↔◌, ◌&&◌, ◌||◌, IsTrue, Bool, true, false, ℕ, zero, suc, ◌<◌, ◌≤◌, List, [], ◌∷◌, length, get_or, arith, lit≤, refl, sym, ap, subst, ◌∙◌, nat_eq, Contains, ◌⊎◌, inl, inr}
 use Rattle.std.proofs.lemmas.Bool.{and_from, and_parts, cases_lt, eq-eqb, eqb-true, or_cases, or_left, or_right}
 use Rattle.shogi_board.proofs.Between.{direction-same}
-use Rattle.shogi_board.specs.Moves.{steps, rays, turned_for, IsNear, IsRay, to, forward, back, left, right, forward_left, forward_right, back_left, back_right, orthogonals, diagonals, gold}
+use Rattle.shogi_board.specs.Moves.{steps, rays, turned_for, IsRay, to, forward, back, left, right, forward_left, forward_right, back_left, back_right, orthogonals, diagonals, gold}
+use Rattle.shogi_board.specs.Directions.{IsNear}
 use Rattle.shogi_board.specs.declared.color.Color.{Color}
 use Rattle.shogi_board.specs.declared.color.Color.TheVariants.{Black, White}
 use Rattle.shogi_board.specs.declared.direction.Direction.{Direction}

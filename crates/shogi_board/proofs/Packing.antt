@@ -16,7 +16,8 @@ use Rattle.shogi_board.specs.Squares.{place}
 use Rattle.shogi_board.specs.declared.square.Square.{Square}
 use Rattle.shogi_board.proofs.Same.{counts-eq}
 use Rattle.std.specs.Cmp.Lexicographic.{pointwise}
-use Rattle.shogi_board.specs.Packing.{digit_of, kind_digit, color_digit, cell_of_digit, number_of, cells_of, board_of, shifted, counts_of, count_number, file_numbers, IsFile, IsHand, ArePacked}
+use Rattle.shogi_board.specs.Packing.{digit_of, kind_digit, color_digit, number_of, file_numbers}
+use Rattle.shogi_board.specs.Numbers.{cell_of_digit, cells_of, board_of, shifted, counts_of, count_number, IsFile, IsHand, ArePacked}
 use Rattle.shogi_board.specs.Pieces.{place_of}
 use Rattle.shogi_board.specs.Material.{bag_of}
 use Rattle.shogi_board.specs.Placed.{Placed}

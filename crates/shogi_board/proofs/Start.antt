@@ -81,7 +81,7 @@ abbrev is_ranked : Color → ℕ → Bool
 is_ranked Black r = nat_le 6 r
 is_ranked White r = nat_le r 2
 
--- black's pieces stand on the ranks 7 to 9, white's on 1 to 3
+-- black's pieces are on the ranks 7 to 9, white's on 1 to 3
 abbrev is_home : Option Piece → ℕ → Bool
 is_home None r = true
 is_home (Some p) r = is_ranked p.color r

@@ -2,7 +2,8 @@
 use Rattle.std.proofs.Common.{◌≡◌, ◌↔◌, ℕ, ◌+◌, ◌-◌, ◌*◌, ◌≤◌, inl, inr, Option, Some, None, length, get_or, map, arith, refl, sym, ap, ◌∙◌}
 use Rattle.std.proofs.lemmas.List.{length-map, length-reverse, get_or-reverse, get_or-map}
 use Rattle.shogi_board.specs.Cells.{Cells, at}
-use Rattle.shogi_board.specs.Moves.{turned_for, IsNear}
+use Rattle.shogi_board.specs.Moves.{turned_for}
+use Rattle.shogi_board.specs.Directions.{IsNear}
 use Rattle.shogi_board.specs.Pieces.{opponent}
 use Rattle.shogi_board.specs.Reach.{Reach, InSight, IsClear}
 use Rattle.shogi_board.specs.Squares.{place, IsAway}

@@ -1,4 +1,5 @@
--- The pieces that attack a square, as they are seen from it.
+-- For private functions: the pieces that attack a square, as they are seen from it.
+-- A reader of the public contracts may skip this file.
 use Rattle.std.specs.Prelude.{Any}
 use Rattle.shogi_board.specs.declared.color.Color.{Color}
 use Rattle.shogi_board.specs.declared.direction.Direction.{Direction}

@@ -1,4 +1,4 @@
--- The board: what stands on each of the 81 squares, in their order.
+-- The board: what is on each of the 81 squares, in their order.
 use Rattle.std.specs.Prelude.{◌≡◌, ◌++◌, List, [], ◌∷◌, Option, Some, None, slice_index_or, replicate}
 use Rattle.shogi_board.specs.declared.color.Color.{Color}
 use Rattle.shogi_board.specs.declared.color.Color.TheVariants.{Black, White}
@@ -14,11 +14,11 @@ Cells = List (Option Piece)
 abbrev pub piece : Color → Kind → Option Piece
 piece color kind = Some (record { color = color; kind = kind })
 
--- what stands on a square
+-- what is on a square
 abbrev pub at : Cells → Square → Option Piece
 at cells s = slice_index_or cells (place s) None
 
--- an unpromoted pawn of that colour stands on the square's file
+-- an unpromoted pawn of that colour is on the square's file
 abbrev pub HasPawnOnFile : Cells → Color → Square → Type 0
 HasPawnOnFile cells color s = (t : Square) × (file_of t ≡ file_of s) × (at cells t ≡ piece color Pawn)
 
@@ -26,7 +26,7 @@ HasPawnOnFile cells color s = (t : Square) × (file_of t ≡ file_of s) × (at c
 abbrev pub no_cells : Cells
 no_cells = replicate 81 None
 
--- one file of the even board: the two back pieces, what stands on the ranks 2 and 8, and the pawns
+-- one file of the even board: the two back pieces, what is on the ranks 2 and 8, and the pawns
 abbrev pub even_file : Kind → Option Piece → Option Piece → Cells
 even_file back second eighth =
     piece White back ∷ second ∷ piece White Pawn ∷ None ∷ None ∷ None ∷ piece Black Pawn ∷ eighth ∷ piece Black back ∷ []

@@ -1,4 +1,4 @@
--- What stands on the squares that a move changes.
+-- What is on the squares that a move changes.
 use Rattle.std.specs.Prelude.{◌≡◌, Some}
 use Rattle.shogi_board.specs.Cells.{Cells, at}
 use Rattle.shogi_board.specs.declared.change.Change.{Change}

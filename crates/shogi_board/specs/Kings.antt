@@ -1,4 +1,5 @@
--- Where a king stands.
+-- For private functions: where a king is.
+-- A reader of the public contracts may skip this file.
 use Rattle.std.specs.Prelude.{◌≡◌, Option, Some, None}
 use Rattle.shogi_board.specs.Cells.{Cells, at, piece}
 use Rattle.shogi_board.specs.declared.color.Color.{Color}

@@ -1,4 +1,6 @@
--- What a board keeps beside its cells: where each side's king stands, and how many unpromoted pawns it has on each file.
+-- For private functions and fields of `Board`: what it keeps beside its cells, the square of each
+-- side's king and how many unpromoted pawns that side has on each file.
+-- A reader of the public contracts may skip this file.
 use Rattle.std.specs.Prelude.{◌≡◌, ◌≤◌, ℕ, zero, suc, ◌+◌, ◌/◌, ◌%◌, ◌&&◌, Bool, true, false, List, [], ◌∷◌, Option, Some, None, length, count_by, take, drop}
 use Rattle.shogi_board.specs.declared.color.Color.{Color}
 use Rattle.shogi_board.specs.declared.color.Color.TheVariants.{Black, White}

@@ -3,6 +3,7 @@ pub mod Between
 pub mod Cells
 pub mod Changes
 pub mod Danger
+pub mod Directions
 pub mod Kings
 pub mod Landmarks
 pub mod Layout
@@ -10,6 +11,7 @@ pub mod Material
 pub mod Moved
 pub mod Moves
 pub mod Neighbours
+pub mod Numbers
 pub mod Packing
 pub mod Pieces
 pub mod Placed

@@ -1,5 +1,5 @@
 -- How the pieces move: the steps and rays of each kind, as black sees them.
-use Rattle.std.specs.Prelude.{ℕ, ◌≡◌, ◌-◌, ◌≤◌, ◌==◌, ◌&&◌, ◌⊎◌, Bool, not, List, [], ◌∷◌, ◌++◌, Contains}
+use Rattle.std.specs.Prelude.{ℕ, ◌≡◌, ◌-◌, ◌≤◌, List, [], ◌∷◌, ◌++◌}
 use Rattle.shogi_board.specs.declared.color.Color.{Color}
 use Rattle.shogi_board.specs.declared.color.Color.TheVariants.{Black, White}
 use Rattle.shogi_board.specs.declared.direction.Direction.{Direction}
@@ -33,13 +33,6 @@ back_left = to 3 3
 
 abbrev pub back_right : Direction
 back_right = to 1 3
-
-abbrev pub is_forward : Direction → Bool
-is_forward d = d.files == 2 && d.ranks == 1
-
--- neither along a file nor along a rank
-abbrev pub is_diagonal : Direction → Bool
-is_diagonal d = not (d.files == 2) && not (d.ranks == 2)
 
 abbrev pub orthogonals : List Direction
 orthogonals = forward ∷ back ∷ left ∷ right ∷ []
@@ -86,18 +79,10 @@ rays ProSilver = []
 rays Horse = diagonals
 rays Dragon = orthogonals
 
--- a piece of that kind goes n squares in that direction, as its side sees it, where nothing stands between
-abbrev pub Goes : Kind → Direction → ℕ → Type 0
-Goes kind d n = ((n ≡ 1) × Contains (steps kind) d) ⊎ Contains (rays kind) d
-
 -- white sees the board turned round
 abbrev pub turned_for : Color → Direction → Direction
 turned_for Black d = d
 turned_for White d = to (4 - d.files) (4 - d.ranks)
-
--- at most two files and two ranks
-abbrev pub IsNear : Direction → Type 0
-IsNear d = (d.files ≤ 4) × (d.ranks ≤ 4)
 
 -- at most one file and one rank, and not both none
 abbrev pub IsRay : Direction → Type 0

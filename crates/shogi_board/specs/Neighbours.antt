@@ -1,4 +1,5 @@
--- Squares beside a square, by file and rank. There is no file or rank 0 or 10, so a place outside is no square's.
+-- Squares beside a square, by file and rank. There is no file or rank 0 or 10, so a place outside
+-- is no square's.
 use Rattle.std.specs.Prelude.{◌≡◌, ℕ, ◌+◌, ◌-◌, List, [], ◌∷◌, Option, Any, slice_set}
 use Rattle.shogi_board.specs.Cells.{Cells}
 use Rattle.shogi_board.specs.Squares.{place, file_of, rank_of}

@@ -15,7 +15,8 @@ same_color White White = true
 same_color Black White = false
 same_color White Black = false
 
--- the places of the kinds: first the seven that a hand may hold, then the king; a promoted kind has the place of its unpromoted one
+-- the places of the kinds: first the seven that a hand may hold, then the king; a promoted kind has
+-- the place of its unpromoted one
 abbrev pub place_of : Kind → ℕ
 place_of Pawn = 0
 place_of Lance = 1

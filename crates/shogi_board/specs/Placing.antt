@@ -8,7 +8,8 @@ use Rattle.shogi_board.specs.Layout.{Layout}
 use Rattle.shogi_board.specs.Setup.{add_fault, rest_fault, put_fault, off_fault, with_at, added, rest_to}
 pub use Rattle.shogi_board.specs.Setup.{board_alone}
 
--- a piece put on a square, one of that kind taken off it, one put into a hand, or all that remain; squares by their place
+-- a piece put on a square, one of that kind taken off it, one put into a hand, or all that remain;
+-- squares by their place
 pub data Placing : Type 0 where
   on : ℕ → Piece → Placing
   off : ℕ → Kind → Placing

@@ -29,7 +29,7 @@ pub record InSight (cells : Cells) (a : Square) (d : Direction) (b : Square) : T
 abbrev pub Slides : Cells → Piece → Square → Square → Type 0
 Slides cells p a b = Any (λ d. InSight cells a (turned_for p.color d) b) (rays p.kind)
 
--- the piece on a reaches b, whatever stands on b
+-- the piece on a reaches b, whatever is on b
 pub record Reach (cells : Cells) (a b : Square) : Type 0 where
   pub mover : Piece
   pub stands : at cells a ≡ Some mover
@@ -44,6 +44,6 @@ pub record Attack (cells : Cells) (color : Color) (a b : Square) : Type 0 where
 abbrev pub Attacked : Cells → Color → Square → Type 0
 Attacked cells color s = (a : Square) × Attack cells color a s
 
--- a king of that colour stands, and is attacked
+-- there is a king of that colour, and it is attacked
 abbrev pub InCheck : Cells → Color → Type 0
 InCheck cells color = (s : Square) × (at cells s ≡ piece color King) × Attacked cells color s

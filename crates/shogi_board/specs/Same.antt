@@ -1,4 +1,5 @@
--- When two positions are the same: each square holds the same, both hands are the same, and the same side is to move.
+-- When two positions are the same: each square holds the same, both hands are the same, and the
+-- same side is to move.
 use Rattle.std.specs.Prelude.{Bool, true, false, ◌&&◌, nat_eq, Option, Some, None}
 use Rattle.std.specs.Cmp.Lexicographic.{pointwise}
 use Rattle.shogi_board.specs.declared.kind.Piece.{Piece}

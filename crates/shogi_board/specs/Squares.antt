@@ -15,6 +15,7 @@ rank_of s = s.rank
 abbrev pub place : Square → ℕ
 place s = (s.file - 1) * 9 + (s.rank - 1)
 
--- b lies n times the direction away from a; a direction counts from 2, so that 2 stays on the file or rank
+-- b lies n times the direction away from a; a direction counts from 2, so that 2 stays on the file
+-- or rank
 abbrev pub IsAway : Square → Direction → ℕ → Square → Type 0
 IsAway a d n b = (b.file + n * 2 ≡ a.file + n * d.files) × (b.rank + n * 2 ≡ a.rank + n * d.ranks)

@@ -29,7 +29,7 @@ is_of wanted None = false
 is_of wanted (Some p) = place_of p.kind == place_of wanted
 
 -- how many pieces there are of that kind, promoted or not, on the board and in both hands;
--- a king's place lies behind the end of a bag, where none is counted
+-- a king's place lies after the end of a bag, where none is counted
 abbrev pub total : Material → Kind → ℕ
 total m kind =
     count_by (is_of kind) m.board + slice_index m.black (place_of kind) + slice_index m.white (place_of kind)

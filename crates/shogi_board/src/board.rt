@@ -4,7 +4,8 @@ ghost use Rattle.shogi_board.specs.Danger.{ComesFrom, SeenTowards};
 ghost use Rattle.shogi_board.specs.Attackers.{AttackAcross, AttackInSight, IsAttackedByJump, IsAttackedInLine};
 ghost use Rattle.shogi_board.specs.Kings.{IsKingOf};
 ghost use Rattle.shogi_board.specs.Landmarks.{AreLandmarks};
-ghost use Rattle.shogi_board.specs.Moves.{steps, turned_for, Goes, IsNear, IsRay};
+ghost use Rattle.shogi_board.specs.Moves.{steps, turned_for, IsRay};
+ghost use Rattle.shogi_board.specs.Directions.{Goes, IsNear};
 ghost use Rattle.shogi_board.specs.Pieces.{opponent};
 ghost use Rattle.shogi_board.specs.Reach.{Reach, Attack, Attacked, InCheck, IsClear, Slides, Steps};
 ghost use Rattle.shogi_board.specs.Setup.{holds};
@@ -22,7 +23,7 @@ use crate::landmarks::Landmarks;
 use crate::square::Square;
 use std::marker::Model;
 
-// What stands on the squares, and the landmarks of both sides.
+// What is on the squares, and the landmarks of both sides.
 //
 // Each side has one king at most.
 #[derive(Clone, Copy, Debug)]
@@ -104,7 +105,7 @@ impl Board {
         self.cells[square.place()]
     }
 
-    // Has another cell stand on the square.
+    // Puts another cell on the square.
     #[inline(always)]
     pub(crate) fn put(&mut self, square: Square, cell: Option<Piece>)
         requires { (color : Color) → kings_of (slice_set self.old (place square) cell) color ≤ 1 }
@@ -131,7 +132,7 @@ impl Board {
         }
     }
 
-    // Has the piece stand on the square, which is empty.
+    // Puts the piece on the square, which is empty.
     #[inline(always)]
     fn stand(&mut self, square: Square, piece: Piece)
         requires empty { at self.old square ≡ None }
@@ -145,7 +146,7 @@ impl Board {
         }
     }
 
-    // How many pieces of that kind stand, promoted ones counted with their unpromoted kind.
+    // How many pieces of that kind there are, promoted ones counted with their unpromoted kind.
     pub(crate) fn count(&self, kind: Kind) -> usize
         ensures value { result ≡ count_by (is_of kind) self.now }
         ensures bound { result ≤ 81 }
@@ -194,7 +195,8 @@ impl Board {
         }
     }
 
-    // Whether a step or a ray of the piece leads from one square to the other, by a ray with nothing between.
+    // Whether a step or a ray of the piece leads from one square to the other, by a ray with
+    // nothing between.
     #[inline(always)]
     fn leads(&self, piece: Piece, from: Square, to: Square) -> bool
         ensures { IsTrue result ↔ (Steps piece from to ⊎ Slides self.now piece from to) }
@@ -232,7 +234,8 @@ impl Board {
         self.attacker(color, square).is_some()
     }
 
-    // Whether an enemy piece of that colour reaches the square, where it is known where such a piece may be.
+    // Whether an enemy piece of that colour reaches the square, if it is known where such a piece
+    // may be.
     #[inline(always)]
     pub(crate) fn attacked_from(&self, color: Color, square: Square, danger: Danger) -> bool
         requires { ComesFrom self.now color square danger }
@@ -245,7 +248,7 @@ impl Board {
         }
     }
 
-    // The same, where such a piece is in sight in the direction in which the other square lies.
+    // The same, if such a piece is in sight in the direction in which the other square lies.
     #[inline(always)]
     fn attacked_towards(&self, color: Color, square: Square, other: Square) -> bool
         requires { (a : Square) → Attack self.now color a square → SeenTowards self.now square other a }
@@ -267,7 +270,8 @@ impl Board {
         }
     }
 
-    // A piece that attacks the square and is seen from it in one of the eight directions, if there is one.
+    // A piece that attacks the square and is seen from it in one of the eight directions, if there
+    // is one.
     fn attacker_in_line(&self, color: Color, square: Square) -> Option<Square>
         ensures { MatchOption result
             (IsAttackedInLine self.now color square → ⊥)
@@ -295,7 +299,8 @@ impl Board {
         None
     }
 
-    // The square of the first piece in that direction, if it is an enemy of that colour that reaches the square.
+    // The square of the first piece in that direction, if it is an enemy of that colour that
+    // reaches the square.
     #[inline(always)]
     fn attacker_from(&self, color: Color, square: Square, direction: Direction) -> Option<Square>
         requires { IsRay direction }
@@ -318,7 +323,8 @@ impl Board {
         None
     }
 
-    // The square one step of that direction away, if an enemy of that colour stands there and reaches the square.
+    // The square one step of that direction away, if an enemy of that colour is there and reaches
+    // the square.
     fn attacker_across(&self, color: Color, square: Square, direction: Direction) -> Option<Square>
         requires { IsNear direction }
         ensures { MatchOption result
@@ -331,7 +337,7 @@ impl Board {
         }
     }
 
-    // The one square, if an enemy piece of that colour stands there and reaches the other.
+    // The one square, if an enemy piece of that colour is there and reaches the other.
     fn attacker_at(&self, color: Color, from: Square, to: Square) -> Option<Square>
         ensures { MatchOption result
             (Attack self.now color from to → ⊥)
@@ -351,7 +357,7 @@ impl Board {
         self.king_is_attacked(color, Danger::Anywhere)
     }
 
-    // The same, where it is known where such an attack may come from.
+    // The same, if it is known where such an attack may come from.
     #[inline(always)]
     pub(crate) fn king_is_attacked(&self, color: Color, danger: Danger) -> bool
         requires { (s : Square) → at self.now s ≡ piece color King → ComesFrom self.now color s danger }
@@ -363,7 +369,7 @@ impl Board {
         }
     }
 
-    // Whether an enemy piece of that colour stands on the one square and reaches the other.
+    // Whether an enemy piece of that colour is on the one square and reaches the other.
     fn attacks(&self, color: Color, from: Square, to: Square) -> bool
         ensures { IsTrue result ↔ Attack self.now color from to }
     {
@@ -383,8 +389,9 @@ fn jumps_to(color: Color, from: Square, to: Square) -> bool
         .any(|d| from.is_away(d.turned_for(color), 1, to))
 }
 
-// Whether the piece, seen so far away in that direction, is an enemy of that colour that reaches back. Its own way leads the
-// other way round, which its side sees as the attacked side sees this one.
+// Whether the piece, seen so far away in that direction, is an enemy of that colour that reaches
+// back. Its own way leads the other way round, which its side sees as the attacked side sees this
+// one.
 fn is_attacker(piece: Piece, color: Color, direction: Direction, distance: u8) -> bool
     requires { IsRay direction }
     ensures { IsTrue result ↔ ((piece.color ≡ opponent color) × Goes piece.kind (turned_for color direction) distance) }

@@ -3,7 +3,8 @@ ghost use Rattle.shogi_board.specs.Pieces.{opponent};
 
 /// A side of the game.
 ///
-/// Black (sente) moves first in an even game and is written `+` in CSA, white (gote) is written `-`.
+/// Black (sente) moves first in an even game and is written `+` in CSA, white (gote) is written
+/// `-`.
 #[derive(Clone, Copy, Debug, PartialEq, Eq, PartialOrd, Ord)]
 pub enum Color {
     Black,

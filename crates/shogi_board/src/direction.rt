@@ -1,11 +1,13 @@
 ghost use Rattle.std.specs.Prelude.{◌≡◌, ◌≤◌, ◌-◌, ◌+◌, ◌*◌, ◌↔◌, IsTrue, Contains};
-ghost use Rattle.shogi_board.specs.Moves.{steps, rays, turned_for, is_forward, is_diagonal, Goes, IsRay};
+ghost use Rattle.shogi_board.specs.Moves.{steps, rays, turned_for, IsRay};
+ghost use Rattle.shogi_board.specs.Directions.{is_forward, is_diagonal, Goes};
 ghost use Rattle.shogi_board.specs.declared.kind.Kind.TheVariants.{Knight, King};
 
 use crate::color::Color;
 use crate::kind::Kind;
 
-// How far a step goes: files and ranks are counted from 2, so that 1 is one less, 2 stays and 3 is one more.
+// How far a step goes: files and ranks are counted from 2, so that 1 is one less, 2 stays and 3 is
+// one more.
 #[derive(Clone, Copy, Debug)]
 pub struct Direction {
     pub files: u8,
@@ -60,7 +62,8 @@ pub(crate) fn jumps() -> &'static [Direction]
 }
 
 impl Kind {
-    // Whether a piece of this kind goes so far in that direction, as its side sees it, where nothing stands between.
+    // Whether a piece of this kind goes so far in that direction, as its side sees it, if nothing
+    // is between.
     #[inline(always)]
     pub(crate) fn goes(self, direction: Direction, distance: u8) -> bool
         requires { IsRay direction }

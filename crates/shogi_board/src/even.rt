@@ -39,7 +39,7 @@ static EVEN: [Option<Piece>; 81] = [
     white!(Lance), None, white!(Pawn), None, None, None, black!(Pawn), None, black!(Lance),
 ];
 
-// What stands on each square of the even board.
+// What is on each square of the even board.
 pub(crate) fn even_cells() -> [Option<Piece>; 81]
     ensures { result ≡ even_cells }
 {

@@ -55,7 +55,8 @@ impl Kind {
         )
     }
 
-    /// The kind that a piece of this kind promotes to, or None for the gold, the king and the promoted kinds.
+    /// The kind that a piece of this kind promotes to, or None for the gold, the king and the
+    /// promoted kinds.
     pub fn promoted(self) -> Option<Kind>
         ensures value { result ≡ promoted self }
     {
@@ -70,8 +71,8 @@ impl Kind {
         }
     }
 
-    /// The kind that a promoted piece has in a hand; each other kind is its own.
-    pub fn unpromoted(self) -> Kind
+    // The kind that a promoted piece has in a hand; each other kind is its own.
+    pub(crate) fn unpromoted(self) -> Kind
         ensures value { result ≡ unpromoted self }
     {
         match self {

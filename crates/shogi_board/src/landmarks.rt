@@ -10,8 +10,8 @@ use crate::color::Color;
 use crate::kind::{Kind, Piece};
 use crate::square::Square;
 
-// What is asked of a side so often that a board keeps it: the square of its king, if it has one, and how many unpromoted
-// pawns it has on each file.
+// What is asked of a side so often that a board keeps it: the square of its king, if it has one,
+// and how many unpromoted pawns it has on each file.
 #[derive(Clone, Copy, Debug)]
 pub(crate) struct Landmarks {
     pub king: Option<Square>,
@@ -20,7 +20,8 @@ pub(crate) struct Landmarks {
 }
 
 impl Landmarks {
-    // Those of that side on a board. Of several kings it would be the first in the order of the squares.
+    // Those of that side on a board. Of several kings it would be the first in the order of the
+    // squares.
     pub(crate) fn of(cells: &[Option<Piece>], color: Color) -> Landmarks
         requires { length cells.now ≡ 81 }
         ensures { AreLandmarks cells.now color result }
@@ -31,7 +32,7 @@ impl Landmarks {
         }
     }
 
-    // Whether an unpromoted pawn stands on the file of the square.
+    // Whether an unpromoted pawn is on the file of the square.
     pub(crate) fn has_pawn_on_file(&self, square: Square) -> bool
         requires { length self.now.pawns ≡ 9 }
         ensures { (cells : Cells) (color : Color) → length cells ≡ 81 → AreLandmarks cells color self.now → IsTrue result ↔ HasPawnOnFile cells color square }
@@ -79,7 +80,7 @@ fn king_on(cells: &[Option<Piece>], color: Color) -> Option<Square>
     None
 }
 
-// How many unpromoted pawns of that side stand on each file.
+// How many unpromoted pawns of that side there are on each file.
 fn pawn_counts(cells: &[Option<Piece>], color: Color) -> [u8; 9]
     requires { length cells.now ≡ 81 }
     ensures { result ≡ pawn_counts color 9 cells.now }

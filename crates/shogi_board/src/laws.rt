@@ -33,7 +33,8 @@ use crate::position::Position;
 use crate::setup::Setup;
 use crate::square::Square;
 
-/// A piece reaches a square exactly where, all turned round, the other side's piece reaches the square turned round.
+/// A piece reaches a square exactly if, all turned round, the other side's piece reaches the square
+/// turned round.
 pub fn reach_turned()
     ensures same { (cells : Cells) (a b c d : Square) → length cells ≡ 81 → IsTurned a c → IsTurned b d → Reach cells a b ↔ Reach (turned cells) c d }
 {}
@@ -48,7 +49,8 @@ pub fn horse_reaches()
     ensures reach { (cells : Cells) (color : Color) (a b : Square) → length cells ≡ 81 → Reach (with_cell cells a (piece color Horse)) a b ↔ (Reach (with_cell cells a (piece color Bishop)) a b ⊎ IsAmong (beside a) b) }
 {}
 
-/// A knight of black on one of the two ranks farthest from black reaches nothing, whatever else stands.
+/// A knight of black on one of the two ranks farthest from black reaches nothing, whatever else is
+/// on the board.
 pub fn knight_without_move()
     ensures none { (cells : Cells) (a b : Square) → at cells a ≡ piece Black Knight → rank_of a ≤ 2 → Reach cells a b → ⊥ }
 {}
@@ -60,7 +62,8 @@ pub fn even_is_sound()
     ensures set_up { position_of (board_alone even_cells) Black ≡ even_start }
 {}
 
-/// The even position has as many pieces of each kind as a game may have, promoted ones counted with their unpromoted kind.
+/// The even position has as many pieces of each kind as a game may have, promoted ones counted with
+/// their unpromoted kind.
 pub fn even_is_full()
     ensures full { (kind : Kind) → total even_start.material kind ≡ limit kind }
 {}
@@ -70,27 +73,29 @@ pub fn even_turned()
     ensures same { turned even_cells ≡ even_cells }
 {}
 
-/// Two positions are equal exactly where they are the same: each square holds the same, both hands are the same, and the same
-/// side is to move.
+/// Two positions are equal exactly if they are the same: each square holds the same, both hands are
+/// the same, and the same side is to move.
 pub fn equal_positions()
     ensures same { (p q : Placed) → ⟦<Position as PartialEq>⟧.eq p q ≡ same_position p q }
     ensures exact { (p q : Placed) → (⟦<Position as PartialEq>⟧.eq p q ≡ true) ↔ (p ≡ q) }
 {}
 
-/// Two setups are equal exactly where boards and hands are, and the rest was given in both or in neither.
+/// Two setups are equal exactly if boards and hands are, and the rest was given in both or in
+/// neither.
 pub fn equal_setups()
     ensures exact { (s t : Layout) → (⟦<Setup as PartialEq>⟧.eq s t ≡ true) ↔ (s ≡ t) }
 {}
 
-/// Positions are in a total order, in which only equal ones compare as equal: by the board, then by black's hand, then by
-/// white's, then by the side to move.
+/// Positions are in a total order, in which only equal ones compare as equal: by the board, then by
+/// black's hand, then by white's, then by the side to move.
 pub fn ordered_positions()
     ensures total { IsTotalOrder ⟦<Position as Ord>⟧.cmp }
     ensures exact { (p q : Placed) → (⟦<Position as Ord>⟧.cmp p q ≡ Equal) ↔ (p ≡ q) }
     ensures by_parts { (p q : Placed) → ⟦<Position as Ord>⟧.cmp p q ≡ ordering_then (slice_cmp (option_cmp ⟦<Piece as Ord>⟧.cmp) p.material.board q.material.board) (ordering_then (slice_cmp nat_cmp p.material.black q.material.black) (ordering_then (slice_cmp nat_cmp p.material.white q.material.white) (⟦<Color as Ord>⟧.cmp p.side q.side))) }
 {}
 
-/// Pieces are in a total order: by their sides, black's first, and then by their kinds, in the order of `Kind`.
+/// Pieces are in a total order: by their sides, black's first, and then by their kinds, in the
+/// order of `Kind`.
 pub fn ordered_pieces()
     ensures total { IsTotalOrder ⟦<Piece as Ord>⟧.cmp }
     ensures by_parts { (p q : Piece) → ⟦<Piece as Ord>⟧.cmp p q ≡ ordering_then (⟦<Color as Ord>⟧.cmp p.color q.color) (⟦<Kind as Ord>⟧.cmp p.kind q.kind) }

@@ -1,4 +1,15 @@
-//! The ground that the other crates stand on: squares, pieces, hands and sound positions.
+//! What a shogi board is: squares, pieces, hands and sound positions.
+//!
+//! A `Position` is sound whenever there is one: it has no more pieces than a game and at most one
+//! king a side, and the king of the side that is not to move is not attacked. `Position::even` is
+//! the even start; any other position is set up in a `Setup`, piece by piece, and each call there
+//! says why a piece may not be added. A `Packed` is a position in a few numbers. Which moves are
+//! legal is the subject of `shogi_rules`.
+//!
+//!     let mut setup = Setup::empty();
+//!     setup.place(Color::Black, square, Kind::King)?;
+//!     setup.add_hand(Color::White, Kind::Pawn)?;
+//!     let position = setup.finish(Color::Black)?;
 #![tactic(auto)]
 
 mod board;

@@ -3,9 +3,9 @@ ghost use Rattle.std.specs.Prelude.{◌≡◌};
 use std::alloc::{AllocError, AllocFailed};
 use thiserror::Error;
 
-/// A growth of memory was refused.
+/// An allocation failed.
 ///
-/// It is answered only where that happened, and comes last in each call's order of refusals.
+/// It is returned only if that happened, and comes last in each call's order of refusals.
 #[derive(Clone, Copy, Debug, PartialEq, Eq, PartialOrd, Ord, Error)]
 #[error("out of memory")]
 pub struct OutOfMemory;

@@ -20,12 +20,13 @@ use crate::position::Position;
 use crate::square::Square;
 
 impl Position {
-    /// Empties `from`, has a piece of the mover and of that kind stand on `to`, and has the other side to move. What stood
-    /// on `to` goes to the mover's hand, unpromoted. Says whether the mover's king is not attacked then; where it is, the
-    /// position stays as it was.
+    /// Empties `from`, puts a piece of the mover and of that kind on `to`, and has the other side
+    /// to move. What was on `to` goes to the mover's hand, unpromoted. Returns whether the mover's
+    /// king is not attacked then; if it is, the position stays as it was.
     ///
-    /// The danger says where the mover's king may be attacked from after the walk. To be called with two different squares,
-    /// where no king is captured and no more pieces stand then than a game has.
+    /// The danger says where the mover's king may be attacked from after the walk. To be called
+    /// with two different squares, if no king is captured and there are then no more pieces than a
+    /// game has.
     #[inline(always)]
     pub fn walk(&mut self, from: Square, to: Square, kind: Kind, danger: Danger) -> bool
         requires apart { place from ≢ place to }
@@ -54,11 +55,12 @@ impl Position {
         true
     }
 
-    /// Has the side to move put a piece of that kind from its hand on the square, and has the other side to move. Says
-    /// whether the mover's king is not attacked then; where it is, the position stays as it was.
+    /// Has the side to move put a piece of that kind from its hand on the square, and has the other
+    /// side to move. Returns whether the mover's king is not attacked then; if it is, the position
+    /// stays as it was.
     ///
-    /// The danger is as in `walk`. To be called where the hand holds such a piece, the square is empty, and no more pieces
-    /// stand then than a game has.
+    /// The danger is as in `walk`. To be called if the hand holds such a piece, the square is
+    /// empty, and there are then no more pieces than a game has.
     #[inline(always)]
     pub fn drop_piece(&mut self, to: Square, kind: Kind, danger: Danger) -> bool
         requires held { 0 < count_in (bag_of self.old.material self.old.side) kind }

@@ -3,7 +3,8 @@ ghost use Rattle.std.specs.List.{AllByRecursion};
 ghost use Rattle.shogi_board.specs.Cells.{at};
 ghost use Rattle.shogi_board.specs.Changes.{IsChange};
 ghost use Rattle.shogi_board.specs.Material.{bag_of};
-ghost use Rattle.shogi_board.specs.Packing.{digit_cells, cell_of_digit, digit_of, kind_digit, color_digit, number_of, cells_of, board_of, count_number, counts_of, shifted, emptied, key_number, key_of, IsFile, IsHand};
+ghost use Rattle.shogi_board.specs.Packing.{digit_of, kind_digit, color_digit, number_of, emptied, key_number, key_of};
+ghost use Rattle.shogi_board.specs.Numbers.{digit_cells, cell_of_digit, cells_of, board_of, count_number, counts_of, shifted, IsFile, IsHand};
 ghost use Rattle.shogi_board.specs.Sound.{IsSound};
 ghost use Rattle.shogi_board.specs.Squares.{place};
 ghost use Rattle.shogi_board.specs.declared.color.Color.{Color};
@@ -54,7 +55,7 @@ pub struct Packed {
 }
 
 impl Model for Packed {
-    ghost use Rattle.shogi_board.specs.Packing.{board_of, counts_of, ArePacked};
+    ghost use Rattle.shogi_board.specs.Numbers.{board_of, counts_of, ArePacked};
     ghost use Rattle.shogi_board.specs.Placed.{Placed};
     ghost use Rattle.shogi_board.specs.Sound.{IsSound};
 
@@ -70,8 +71,6 @@ impl Packed {
     pub fn of(position: &Position) -> Packed
         ensures value { result ≡ position.now }
     {
-        // a clause of `side` says that the position is sound
-        let _side = position.side();
         let files = file_numbers(position.cells());
         let black = hand_number(position, Color::Black);
         let white = hand_number(position, Color::White);
@@ -98,8 +97,6 @@ impl Packed {
     pub fn unpacked(&self) -> Position
         ensures value { result ≡ self.now }
     {
-        // a clause of `side` says that the position is sound
-        let _side = self.side();
         Position {
             board: Board::of(self.cells()),
             black: hand_of(self.black),
@@ -108,15 +105,26 @@ impl Packed {
         }
     }
 
-    // What stands on the squares.
+    // What is on the squares.
     fn cells(&self) -> [Option<Piece>; 81]
-        ensures { result ≡ self.now.material.board }
+        ensures value { result ≡ self.now.material.board }
+        ensures sound { IsSound self.now }
     {
         let mut cells = [None; 81];
         for n in 0..81usize {
             cells[n] = cell(self.files[n / 9], n % 9);
         }
         cells
+    }
+
+    /// Does nothing: its clause says that the position is sound, for callers that do not see its
+    /// fields.
+    #[inline(always)]
+    pub fn soundness(&self)
+        ensures sound { IsSound self.now }
+    {
+        // what holds of each position is known once one of its fields is read
+        let _side = self.side;
     }
 
     /// The side to move.
@@ -134,11 +142,11 @@ impl Packed {
         key_number(self.files)
     }
 
-    /// The position `next`, packed, where this one is the position before it.
+    /// The position `next`, packed, if this one is the position before it.
     ///
-    /// To be called where the boards differ at most in the squares of the change, which names what stood there before: the
-    /// square that is left, if one is, is another one and empty in `next`. Where a piece walks to an empty square, both hands
-    /// are as they were.
+    /// To be called if the boards differ at most in the squares of the change, which names what was
+    /// there before: the square that is left, if one is, is another one and empty in `next`. If a
+    /// piece walks to an empty square, both hands are as they were.
     #[inline(always)]
     pub fn followed(&self, next: &Position, change: &Change) -> Packed
         requires before { IsChange self.now.material.board change.now }
@@ -157,8 +165,6 @@ impl Packed {
             change.there,
             next.piece_at(change.to),
         );
-        // a clause of `side` says that the position is sound
-        let _side = next.side();
         let kept = change.from.is_some() && change.there.is_none();
         let black = hand_number_after(self.black, next, Color::Black, kept);
         let white = hand_number_after(self.white, next, Color::White, kept);
@@ -174,13 +180,11 @@ fn with_numbers(files: [u64; 9], black: u64, white: u64, position: &Position) ->
     requires white { IsHand white × (counts_of 7 white ≡ position.now.material.white) }
     ensures { result ≡ position.now }
 {
-    // a clause of `side` says that the position is sound
-    let side = position.side();
     Packed {
         files,
         black,
         white,
-        side,
+        side: position.side(),
     }
 }
 
@@ -299,17 +303,16 @@ fn cell(number: u64, rank: usize) -> Option<Piece>
 
 // The number of the counts of that side's hand.
 fn hand_number(position: &Position, color: Color) -> u64
-    requires { IsSound position.now }
     ensures whole { IsHand result }
     ensures counts { counts_of 7 result ≡ bag_of position.now.material color }
 {
     number_of_counts(position.hand(color).counts())
 }
 
-// The same, where the number of that side's hand in the position before is known, and whether it is kept. Most moves keep it.
+// The same, if the number of that side's hand in the position before is known, and whether it is
+// kept. Most moves keep it.
 #[inline(always)]
 fn hand_number_after(number: u64, next: &Position, color: Color, kept: bool) -> u64
-    requires sound { IsSound next.now }
     requires whole { IsHand number }
     requires counts { kept ≡ true → counts_of 7 number ≡ bag_of next.now.material color }
     ensures whole { IsHand result }

@@ -19,11 +19,12 @@ use std::marker::Model;
 
 /// A sound position: the board, both hands, and the side to move.
 ///
-/// There are at most 18 pawns, four each of lances, knights, silvers and golds, and two each of bishops and rooks,
-/// promoted ones and those in hands counted; each side has at most one king; and the king of the side that is not to
-/// move is not attacked. Pieces may be missing, kings too.
+/// There are at most 18 pawns, four each of lances, knights, silvers and golds, and two each of
+/// bishops and rooks, promoted ones and those in hands counted; each side has at most one king; and
+/// the king of the side that is not to move is not attacked. Pieces may be missing, kings too.
 ///
-/// Two positions are equal where board, hands and side to move are, and positions are ordered by these.
+/// Two positions are equal if board, hands and side to move are, and positions are ordered by
+/// these.
 #[derive(Clone, Copy, Debug, PartialEq, Eq, PartialOrd, Ord)]
 pub struct Position {
     pub(crate) board: Board,
@@ -58,15 +59,15 @@ impl Position {
         }
     }
 
-    /// What stands on the square.
+    /// The piece on the square, if there is one.
     pub fn piece_at(&self, square: Square) -> Option<Piece>
         ensures value { result ≡ at self.now.material.board square }
     {
         self.board.at(square)
     }
 
-    /// What stands on each of the 81 squares, in their order.
-    pub fn cells(&self) -> &[Option<Piece>]
+    // What is on each of the 81 squares, in their order.
+    pub(crate) fn cells(&self) -> &[Option<Piece>]
         ensures value { result.now ≡ self.now.material.board }
         ensures all { length result.now ≡ 81 }
     {
@@ -76,11 +77,22 @@ impl Position {
     /// The hand of that side.
     pub fn hand(&self, color: Color) -> Hand
         ensures value { result ≡ bag_of self.now.material color }
+        ensures sound { IsSound self.now }
     {
         match color {
             Color::Black => self.black,
             Color::White => self.white,
         }
+    }
+
+    /// Does nothing: its clause says that the position is sound, for callers that do not see its
+    /// fields.
+    #[inline(always)]
+    pub fn soundness(&self)
+        ensures sound { IsSound self.now }
+    {
+        // what holds of each position is known once one of its fields is read
+        let _side = self.side;
     }
 
     /// The side to move.
@@ -91,7 +103,7 @@ impl Position {
         self.side
     }
 
-    /// The square of that side's king, or None where it has none.
+    /// The square of that side's king, or None if it has none.
     pub fn king(&self, color: Color) -> Option<Square>
         ensures answer { MatchOption result
             ((s : Square) → at self.now.material.board s ≡ piece color King → ⊥)
@@ -100,7 +112,7 @@ impl Position {
         self.board.king(color)
     }
 
-    /// Whether an unpromoted pawn of that side stands on the file of the square.
+    /// Whether an unpromoted pawn of that side is on the file of the square.
     pub fn pawn_on_file(&self, color: Color, square: Square) -> bool
         ensures answer { IsTrue result ↔ HasPawnOnFile self.now.material.board color square }
     {
@@ -121,7 +133,7 @@ impl Position {
     }
 }
 
-/// Whether the piece on `from` reaches `to`, whatever stands on `to`; false where `from` is empty.
+/// Whether the piece on `from` reaches `to`, whatever is on `to`; false if `from` is empty.
 #[inline(always)]
 pub fn reaches(position: &Position, from: Square, to: Square) -> bool
     ensures answer { IsTrue result ↔ Reach position.now.material.board from to }
@@ -136,8 +148,8 @@ pub fn attacked(position: &Position, color: Color, square: Square) -> bool
     position.board.attacked(color, square)
 }
 
-/// The square of an enemy piece of `color` that reaches the square, or None where none does. Where several do, it is one of
-/// them.
+/// The square of an enemy piece of `color` that reaches the square, or None if none does. If
+/// several do, it is one of them.
 pub fn attacker(position: &Position, color: Color, square: Square) -> Option<Square>
     ensures answer { MatchOption result
         (Attacked position.now.material.board color square → ⊥)
@@ -146,7 +158,8 @@ pub fn attacker(position: &Position, color: Color, square: Square) -> Option<Squ
     position.board.attacker(color, square)
 }
 
-/// Whether some enemy piece of `color` reaches the square, where it is known where such a piece may be.
+/// Whether some enemy piece of `color` reaches the square, if it is known where such a piece may
+/// be.
 #[inline(always)]
 pub fn attacked_from(position: &Position, color: Color, square: Square, danger: Danger) -> bool
     requires danger { ComesFrom position.now.material.board color square danger }

@@ -92,9 +92,10 @@ impl Setup {
 
     /// Places a piece of that side and kind on the square.
     ///
-    /// Refuses, in this order: AfterRest where the rest was given; SquareTaken where the square holds a piece;
-    /// SecondKing for a king of a side that has one; TooMany where all pieces of that kind, promoted ones counted with
-    /// their unpromoted kind, are placed or in hands already. A refused call changes nothing.
+    /// Refuses, in this order: AfterRest if the rest was given; SquareTaken if the square holds a
+    /// piece; SecondKing for a king of a side that has one; TooMany if all pieces of that kind,
+    /// promoted ones counted with their unpromoted kind, are placed or in hands already. A refused
+    /// call changes nothing.
     pub fn place(&mut self, color: Color, square: Square, kind: Kind) -> Result<(), SetupFault>
         ensures answer { MatchResult result
             (λ _. place_fault self.old color square kind ≡ None)
@@ -118,8 +119,8 @@ impl Setup {
         Ok(())
     }
 
-    /// Places a piece as `place` does, where it is known that `place` would not refuse, and so without its questions.
-    pub fn put(&mut self, color: Color, square: Square, kind: Kind)
+    // Places a piece if it is known that `place` would not refuse it.
+    fn put(&mut self, color: Color, square: Square, kind: Kind)
         requires fits { place_fault self.old color square kind ≡ None }
         ensures changed { self.new ≡ placed self.old color square kind }
     {
@@ -128,8 +129,9 @@ impl Setup {
 
     /// Adds a piece of that kind to the hand of that side.
     ///
-    /// Refuses, in this order: AfterRest where the rest was given; NotForHand for a king or a promoted kind; TooMany
-    /// where all pieces of that kind are placed or in hands already. A refused call changes nothing.
+    /// Refuses, in this order: AfterRest if the rest was given; NotForHand for a king or a promoted
+    /// kind; TooMany if all pieces of that kind are placed or in hands already. A refused call
+    /// changes nothing.
     pub fn add_hand(&mut self, color: Color, kind: Kind) -> Result<(), SetupFault>
         ensures answer { MatchResult result
             (λ _. add_fault self.old kind ≡ None)
@@ -150,8 +152,8 @@ impl Setup {
         Ok(())
     }
 
-    /// Adds a piece to the hand as `add_hand` does, where it is known that `add_hand` would not refuse.
-    pub fn put_in_hand(&mut self, color: Color, kind: Kind)
+    // Adds a piece to the hand if it is known that `add_hand` would not refuse it.
+    fn put_in_hand(&mut self, color: Color, kind: Kind)
         requires fits { add_fault self.old kind ≡ None }
         ensures changed { self.new ≡ added self.old color kind }
     {
@@ -162,8 +164,8 @@ impl Setup {
 
     /// Takes the piece of that kind, of either side, off the square.
     ///
-    /// Refuses, in this order: AfterRest where the rest was given; NotThere where the square is empty or holds another
-    /// kind. A refused call changes nothing.
+    /// Refuses, in this order: AfterRest if the rest was given; NotThere if the square is empty or
+    /// holds another kind. A refused call changes nothing.
     pub fn take_off(&mut self, square: Square, kind: Kind) -> Result<(), SetupFault>
         ensures answer { MatchResult result
             (λ _. take_off_fault self.old square kind ≡ None)
@@ -181,8 +183,8 @@ impl Setup {
         Ok(())
     }
 
-    /// Takes off what stands on the square, of whatever kind, where the rest was not given. An empty square stays empty.
-    pub fn clear(&mut self, square: Square)
+    // Takes off what is on the square, of whatever kind. An empty square stays empty.
+    fn clear(&mut self, square: Square)
         requires not_given { self.old.rest_given ≡ false }
         ensures changed { self.new ≡ taken_off self.old square }
     {
@@ -191,8 +193,8 @@ impl Setup {
 
     /// Takes a piece of that kind out of the hand of that side.
     ///
-    /// Refuses, in this order: AfterRest where the rest was given; NotThere where the hand holds none of that kind. A
-    /// refused call changes nothing.
+    /// Refuses, in this order: AfterRest if the rest was given; NotThere if the hand holds none of
+    /// that kind. A refused call changes nothing.
     pub fn take_hand(&mut self, color: Color, kind: Kind) -> Result<(), SetupFault>
         ensures answer { MatchResult result
             (λ _. take_hand_fault self.old color kind ≡ None)
@@ -210,8 +212,8 @@ impl Setup {
         Ok(())
     }
 
-    /// Takes a piece out of the hand as `take_hand` does, where it is known that `take_hand` would not refuse.
-    pub fn take_from_hand(&mut self, color: Color, kind: Kind)
+    // Takes a piece out of the hand if it is known that `take_hand` would not refuse it.
+    fn take_from_hand(&mut self, color: Color, kind: Kind)
         requires fits { take_hand_fault self.old color kind ≡ None }
         ensures changed { self.new ≡ taken self.old color kind }
     {
@@ -222,7 +224,7 @@ impl Setup {
 
     /// Gives all pieces that are neither placed nor in a hand to the hand of that side, kings not.
     ///
-    /// Refuses AfterRest where the rest was given before, and then changes nothing.
+    /// Refuses AfterRest if the rest was given before, and then changes nothing.
     pub fn give_rest(&mut self, color: Color) -> Result<(), SetupFault>
         ensures answer { MatchResult result
             (λ _. rest_fault self.old ≡ None)
@@ -241,7 +243,7 @@ impl Setup {
 
     /// The position with these pieces and hands and that side to move. The setup stays as it is.
     ///
-    /// Refuses OpponentInCheck where the king of the other side stands and is attacked, and nothing else.
+    /// Refuses OpponentInCheck if the other side has a king and it is attacked, and nothing else.
     pub fn finish(&self, side: Color) -> Result<Position, SetupFault>
         ensures answer { MatchResult result
             (λ p. InCheck self.now.material.board (opponent side) → ⊥)
@@ -261,7 +263,7 @@ impl Setup {
         })
     }
 
-    // Whether the king of the other side stands and is attacked, with that side to move.
+    // Whether the other side has a king and it is attacked, with that side to move.
     fn leaves_check(&self, side: Color) -> bool
         ensures value { IsTrue result ↔ InCheck self.now.material.board (opponent side) }
         ensures within { IsWithinTotals self.now.material }

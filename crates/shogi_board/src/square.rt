@@ -2,7 +2,8 @@ ghost use Rattle.std.specs.Prelude.{◌≡◌, true, ℕ, ◌+◌, ◌*◌, ◌-
 
 use crate::direction::Direction;
 
-/// One of the 81 squares: its file from 1, at black's right, to 9, and its rank from 1, the farthest from black, to 9.
+/// One of the 81 squares: its file from 1, at black's right, to 9, and its rank from 1, the
+/// farthest from black, to 9.
 ///
 /// Squares are ordered by file and then by rank: 11, 12, .. 19, 21, .. 99.
 #[derive(Clone, Copy, Debug, PartialEq, Eq, PartialOrd, Ord)]
@@ -13,12 +14,13 @@ pub struct Square {
 }
 
 impl Square {
-    ghost use Rattle.shogi_board.specs.Between.{Between, IsDirection, IsDistance, IsInLine, IsNowhere, Lies};
+    ghost use Rattle.shogi_board.specs.Between.{Between};
+    ghost use Rattle.shogi_board.specs.Directions.{IsDirection, IsDistance, IsInLine, IsNowhere, Lies};
     ghost use Rattle.shogi_board.specs.Moves.{IsRay};
     ghost use Rattle.shogi_board.specs.Squares.{file_of, rank_of, place, IsAway};
     ghost use Rattle.shogi_board.specs.declared.direction.Direction.{Direction};
 
-    /// The square on that file and rank, or None where either lies outside 1 to 9.
+    /// The square on that file and rank, or None if either lies outside 1 to 9.
     pub fn new(file: u8, rank: u8) -> Option<Square>
         ensures answer { MatchOption result
             ((file < 1) ⊎ (9 < file) ⊎ (rank < 1) ⊎ (9 < rank))
@@ -47,8 +49,8 @@ impl Square {
         self.rank
     }
 
-    /// Its place in the order of the squares, from 0 to 80.
-    pub fn place(self) -> usize
+    // Its place in the order of the squares, from 0 to 80.
+    pub(crate) fn place(self) -> usize
         ensures value { result ≡ place self }
         ensures bound { result < 81 }
     {
@@ -115,7 +117,8 @@ impl Square {
         }
     }
 
-    // The direction in which the other square lies and how far, if it is another one, on the rank, file or diagonal.
+    // The direction in which the other square lies and how far, if it is another one, on the rank,
+    // file or diagonal.
     #[inline(always)]
     pub(crate) fn towards(self, other: Square) -> Option<(Direction, u8)>
         ensures { MatchOption result (IsNowhere self other) (λ way. Lies self other way.0 way.1) }
@@ -178,7 +181,7 @@ fn step(from: u8, to: u8) -> u8
     }
 }
 
-// How many steps lead from the number to 1 or 9; 8 where the step stays.
+// How many steps lead from the number to 1 or 9; 8 if the step stays.
 fn room(from: u8, step: u8) -> u8
     requires number { (1 ≤ from) × (from ≤ 9) }
     requires step { (1 ≤ step) × (step ≤ 3) }

@@ -1,4 +1,4 @@
--- What stands on the squares after a move.
+-- What is on the squares after a move.
 use Rattle.std.proofs.Common.{◌≡◌, ◌≢◌, ℕ, Option, Some, None, inl, inr, set, get_or, ap, sym, ◌∙◌, get_or-set_same, get_or-set_other}
 use Rattle.std.proofs.lemmas.Bool.{cases_eq}
 use Rattle.shogi_board.specs.Cells.{at, piece}

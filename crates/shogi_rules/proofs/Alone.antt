@@ -1,4 +1,4 @@
--- A position alone does not stand four times.
+-- A position alone does not occur four times.
 use Rattle.std.proofs.Common.{[], ◌∷◌, arith}
 use Rattle.std.proofs.lemmas.List.Sums.{count_by-le-length}
 use Rattle.shogi_board.specs.Placed.{Placed}

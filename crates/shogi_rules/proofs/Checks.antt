@@ -39,7 +39,7 @@ not-opponent White e = cc
 not-none : (a : Option Piece) (x : Piece) → a ≡ None → a ≡ Some x → ⊥
 not-none a x e h = cc
 
--- what stands on one place stands on no other
+-- what is on one place is on no other
 at-place : (cells : Cells) (s t : Square) → place s ≡ place t → at cells s ≡ at cells t
 at-place cells s t e = ap (λ (n : ℕ). get_or cells n None) e
 
@@ -117,7 +117,7 @@ still-moves : (p : Placed) (m : Move) (a s : Square) (x : Piece) → IsSound p �
 still-moves p m a s x sound past (inl step) = inl step
 still-moves p m a s x sound past (inr slide) = inr (still-in-sight p m a s x sound past slide)
 
--- after any other move the king stands where it stood, and the checking piece still attacks it
+-- after any other move the king is where it was, and the checking piece still attacks it
 pub still-attacks : (p : Placed) (m : Move) (a s : Square) → IsSound p → FitsBoard p m → at p.material.board s ≡ piece p.side King → Attack p.material.board p.side a s → (MovesFrom s m → ⊥) → (StopsCheck a s (target m) → ⊥) → (at (after p m).material.board s ≡ piece p.side King) × Attack (after p m).material.board p.side a s
 still-attacks p m a s sound fits king attack still past =
     let x = attack.reach.mover in
@@ -136,7 +136,7 @@ still-in-check p m a s sound fits king attack still past =
 pub no-other-evasion : (p : Placed) (m : Move) (a s : Square) → IsSound p → Keeps p m → at p.material.board s ≡ piece p.side King → Attack p.material.board p.side a s → (MovesFrom s m → ⊥) → (StopsCheck a s (target m) → ⊥) → ⊥
 no-other-evasion p m a s sound kept king attack still past = kept.king_safe (still-in-check p m a s sound kept.fits king attack still past)
 
--- the walk is of the kind that stands there, or of its promoted kind
+-- the walk is of the kind that is there, or of its promoted kind
 pub walk-form : (p : Placed) (from to : Square) (was k : Kind) → at p.material.board from ≡ piece p.side was → FitsBoard p (Walk from to k) → (k ≡ was) ⊎ (promoted was ≡ Some k)
 walk-form p from to was k stands fits =
     let same : fits.kind_fits.0 ≡ was = piece-kind p.side _ _ (sym fits.kind_fits.1 ∙ stands) in
@@ -146,7 +146,8 @@ walk-form p from to was k stands fits =
 abbrev pub KeptWalk : Placed → Square → Square → Type 0
 KeptWalk p from to = (k : Kind) × Keeps p (Walk from to k)
 
--- where a walk as the piece it was does not, some walk keeps the rules exactly where the promoted one does
+-- where a walk as the piece it was does not, some walk keeps the rules exactly where the promoted
+-- one does
 pub kept-if-promoted : (p : Placed) (from to : Square) (was : Kind) (promotion : Option Kind) (b : Bool) (Then : Kind → Type 0) → at p.material.board from ≡ piece p.side was → (Keeps p (Walk from to was) → ⊥) → promotion ≡ promoted was
     → MatchOption promotion (b ≡ false) Then → ((k : Kind) → Then k → IsTrue b ↔ Keeps p (Walk from to k)) → IsTrue b ↔ KeptWalk p from to
 kept-if-promoted p from to was None b Then stands bare promotion off keeps = (

@@ -1,4 +1,5 @@
--- How often a position stands in a list that grows at its end, and what stands at a place of such a list.
+-- How often a position occurs in a list that grows at its end, and what is at a place of such a
+-- list.
 use Rattle.std.proofs.Common.{◌≡◌, ℕ, set, suc, ◌+◌, ◌<◌, ◌≤◌, ◌⊎◌, List, [], ◌∷◌, ◌++◌, Bool, true, false, cond, Some, take, slice_get, arith, refl, sym, ap, ◌∙◌, length, inl, inr, zero}
 use Rattle.std.proofs.lemmas.Bool.{cases_lt}
 use Rattle.std.proofs.lemmas.List.{take-append-le, take_all}
@@ -81,7 +82,7 @@ keys-kept (x ∷ es) zero d e at same =
     ap (λ (p : Placed). p ∷ keys es) (same ∙ ap (λ (y : Entry). y.position) (sym one))
 keys-kept (x ∷ es) (suc i) d e at same = ap (λ (ps : List Placed). x.position ∷ ps) (keys-kept es i d e at same)
 
--- what stands at a place of a list where one place was set
+-- what is at a place of a list if one place was set
 pub get-set : {X : Type 0} (xs : List X) (n : ℕ) (d e x : X) → slice_get xs n ≡ Some d → slice_get (set xs n e) n ≡ Some x → e ≡ x
 get-set [] n d e x at there = cc
 get-set (y ∷ xs) zero d e x at there = same_Some e x there

@@ -14,7 +14,7 @@ use Rattle.shogi_rules.specs.declared.seen.Turn.{Turn}
 use Rattle.shogi_rules.proofs.Counts.{first, times-more, times-same}
 use Rattle.shogi_rules.proofs.Counted.{times-last, times-kept, times-whole, times-other, times-low, apart, get-left, get-behind, get-set, get-other, equal-or, key-at, keys-more, keys-kept, last-entry, pushed}
 
--- a position that stands at a place stands at least once
+-- a position that is at a place occurs at least once
 stands-once : (ps : List Placed) (i : ℕ) (p : Placed) → slice_get ps i ≡ Some p → 1 ≤ times ps p
 stands-once [] i p at = cc
 stands-once (x ∷ ps) zero p at =
@@ -32,11 +32,11 @@ entry-apart es i e p none at same =
     let no : times (keys es) e.position ≡ 0 = rw same at none in
     omega (arith, some, no)
 
--- another position stands as often as before
+-- another position occurs as often as before
 pub times-apart : (ps : List Placed) (p q : Placed) → (p ≡ q → ⊥) → times (ps ++ p ∷ []) q ≡ times ps q
 times-apart ps p q other = times-other ps p q (same_position p q) refl (apart p q other)
 
--- where it stood for the n-th time it still does
+-- where it occurred for the n-th time it still does
 pub nth-kept : (ps : List Placed) (p q : Placed) (n i : ℕ) → IsNth ps q n i → IsNth (ps ++ p ∷ []) q n i
 nth-kept ps p q n i nth =
     let low = slice_get_within ps i q nth.stands in
@@ -113,7 +113,7 @@ was-at es n d e i x at same by =
       | inr other ↦ (x, sym (get-other es n i e other) ∙ by, refl)
     ]
 
--- the position of an entry stands once more
+-- the position of an entry occurs once more
 pub counts-again : (ps : List Placed) (es : List Entry) (n : ℕ) (d e : Entry) (p : Placed) → AreCounts ps es → slice_get es n ≡ Some d → d.position ≡ p → e.position ≡ d.position → e.count ≡ d.count + 1 → e.first ≡ d.first → AreCounts (ps ++ p ∷ []) (set es n e)
 counts-again ps es n d e p old at stands same count begins =
     let was = old.each n d at in
@@ -174,14 +174,14 @@ turns-more ps turns p turn old side check =
 pub none-counted : (es : List Entry) → es ≡ [] → AreCounts [] es
 none-counted es none = rw none (record { each = λ i e at. cc; once = λ i j d e at by same. cc; all = λ q h. refl; few = omega arith })
 
--- a position does not stand more often than there are positions
+-- a position does not occur more often than there are positions
 pub count-low : (ps : List Placed) (es : List Entry) (n : ℕ) (e : Entry) → AreCounts ps es → slice_get es n ≡ Some e → e.count ≤ length ps
 count-low ps es n e old at =
     let low = times-low ps e.position in
     let is = (old.each n e at).0 in
     omega (arith, low, is)
 
--- the entry that was counted on, and the one behind the others
+-- the entry that was counted on, and the one after the others
 pub stands-again : (es : List Entry) (n : ℕ) (d e : Entry) (p : Placed) → slice_get es n ≡ Some d → d.position ≡ p → e.position ≡ d.position → StandsAt (set es n e) n p
 stands-again es n d e p at stands same = λ x there. let one : e ≡ x = get-set es n d e x at there in ap (λ (y : Entry). y.position) (sym one) ∙ (same ∙ stands)
 
@@ -191,7 +191,7 @@ stands-behind es d = λ e at. ap (λ (y : Entry). y.position) (sym (last-entry e
 pub no-turns : AreTurns [] []
 no-turns = record { long = refl; each = λ i p t at by. cc }
 
--- where no entry has the position, it stands nowhere among theirs
+-- if no entry has the position, it is nowhere among theirs
 pub none-stands : (es : List Entry) (q : Placed) → ((n : ℕ) (e : Entry) → slice_get es n ≡ Some e → e.position ≡ q → ⊥) → times (keys es) q ≡ 0
 none-stands [] q none = refl
 none-stands (e ∷ es) q none =

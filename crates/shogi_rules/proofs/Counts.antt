@@ -1,4 +1,4 @@
--- How often a position stands in a list, by what stands first.
+-- How often a position occurs in a list, by what is first.
 use Rattle.std.proofs.Common.{◌≡◌, ℕ, ◌+◌, ◌↔◌, Bool, true, false, cond, List, ◌∷◌, arith, refl}
 use Rattle.std.proofs.lemmas.List.Sums.{sum_by-cons}
 use Rattle.shogi_board.specs.Placed.{Placed}

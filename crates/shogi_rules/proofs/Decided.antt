@@ -154,7 +154,7 @@ decide-legal p m =
     (λ h. (h.keeps, h.no_drop_mate))
     (decide-both _ _ (decide-keeps p m) (decide-no_drop_mate p m))
 
--- whether a position stands for the fourth time
+-- whether a position occurs for the fourth time
 pub decide-over : (ps : List Placed) (p : Placed) → Decision (Over ps p)
 decide-over ps p = decide-le 4 (times ps p)
 

@@ -1,4 +1,5 @@
--- The first legal move is the first of the walks, else of the drops; and so on for the parts of each.
+-- The first legal move is the first of the walks, else of the drops; and so on for the parts of
+-- each.
 use Rattle.std.proofs.Common.{◌≡◌, ℕ, ◌<◌, ◌≤◌, true, false, get_or, Option, Some, None, ◌⊎◌, inl, inr, arith, refl, ap, sym, ◌∙◌, subst}
 use Rattle.std.specs.Prelude.{MatchOption}
 use Rattle.std.proofs.lemmas.Bool.{cases_order}
@@ -15,7 +16,8 @@ use Rattle.shogi_board.proofs.Squares.{place-same}
 use Rattle.shogi_rules.specs.Evasions.{MovesFrom}
 use Rattle.shogi_rules.specs.Kinds.{promoted}
 use Rattle.shogi_rules.specs.Legal.{FitsBoard, Legal}
-use Rattle.shogi_rules.specs.Order.{IsBefore, IsDrop, IsDropOf, IsFirstLegal, IsFirstOf, IsWalk, IsWalkBetween, NoneOf}
+use Rattle.shogi_rules.specs.Order.{IsBefore, IsFirstLegal}
+use Rattle.shogi_rules.specs.Trying.{IsDrop, IsDropOf, IsFirstOf, IsWalk, IsWalkBetween, NoneOf}
 use Rattle.shogi_rules.specs.Verdicts.{NoLegalMove}
 use Rattle.shogi_rules.specs.declared.moves.Move.{Move}
 use Rattle.shogi_rules.specs.declared.moves.Move.TheVariants.{Walk, Put}

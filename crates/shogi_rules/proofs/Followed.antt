@@ -25,7 +25,7 @@ left-apart p (Walk from to k) s sound fits e = λ same.
     apart p from to k (start-of p from to k sound fits) (sym (ap place one ∙ same))
 left-apart p (Put to k) s sound fits e = cc
 
--- the square left is empty, and on the target stands what stands there
+-- the square left is empty, and the target holds what it holds after the move
 pub board-followed : (p : Placed) (m : Move) → IsSound p → FitsBoard p m → (after p m).material.board ≡ set (emptied p.material.board (source m)) (place (target m)) (at (after p m).material.board (target m))
 board-followed p (Walk from to k) sound fits =
     let lifted = set p.material.board (place from) None in

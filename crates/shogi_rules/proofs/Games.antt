@@ -6,8 +6,10 @@ use Rattle.shogi_board.specs.Placed.{Placed}
 use Rattle.shogi_board.specs.declared.color.Color.{Color}
 use Rattle.shogi_rules.specs.After.{after}
 use Rattle.shogi_rules.specs.Legal.{Legal}
-use Rattle.shogi_rules.specs.Play.{Answers, Breaks, IsOpen}
-use Rattle.shogi_rules.specs.Positions.{Played, max_moves, now_of, position_after, positions_of, played, begun, IsGame, IsLine}
+use Rattle.shogi_rules.specs.Play.{Answers, Breaks}
+use Rattle.shogi_rules.specs.Lines.{IsOpen}
+use Rattle.shogi_rules.specs.Positions.{Played, max_moves, now_of, position_after, positions_of, played, begun, IsGame}
+use Rattle.shogi_rules.specs.Lines.{IsLine}
 use Rattle.shogi_rules.specs.Repetition.{times, Over, IsNth}
 use Rattle.shogi_rules.specs.Rules.{Kept, KeptAlone, move_rules, all_rules, IsFirstBroken}
 use Rattle.shogi_rules.specs.declared.line.PlayFault.{PlayFault}
@@ -85,23 +87,18 @@ positions-long s [] = refl
 positions-long s (m ∷ ms) = let h = positions-long (after s m) ms in omega (arith, h)
 
 -- there is room for one position more
-pub line-room : (start last : Placed) (moves : List Move) (positions : List Placed) → IsLine start last moves positions → length moves < 10000 → length positions ≤ 10000
-line-room start last moves positions line few = rw line.all (let h = positions-long start moves in omega (arith, h, few))
+pub line-room : (start : Placed) (moves : List Move) → length moves < 10000 → length (positions_of start moves) ≤ 10000
+line-room start moves few = let h = positions-long start moves in omega (arith, h, few)
 
-pub line-more : (start last : Placed) (moves : List Move) (positions : List Placed) (c : Color) (m : Move) → IsLine start last moves positions → length moves < 10000 → IsFirstBroken (Kept (positions_of start moves) (position_after start moves) c m) all_rules None → IsLine start (after (position_after start moves) m) (moves ++ m ∷ []) (positions ++ after (position_after start moves) m ∷ [])
-line-more start last moves positions c m line few none = record {
+pub line-more : (start last : Placed) (moves : List Move) (c : Color) (m : Move) → IsLine start last moves → length moves < 10000 → IsFirstBroken (Kept (positions_of start moves) (position_after start moves) c m) all_rules None → IsLine start (after (position_after start moves) m) (moves ++ m ∷ [])
+line-more start last moves c m line few none = record {
   leads = sym (position-more start moves m);
-  all = rw line.all (sym (positions-more start moves m));
   game =
       let kept = all-of-none (Kept (positions_of start moves) (position_after start moves) c m) all_rules none in
       let rest = kept.1 in
       played moves m line.game (record { legal = legal-of-none (positions_of start moves) (position_after start moves) c m none; not_over = rest.0 });
   few = omega (arith, length-append moves (m ∷ []));
 }
-
--- the same with the positions of the moves
-pub line-next : (start last : Placed) (moves : List Move) (c : Color) (m : Move) → IsLine start last moves (positions_of start moves) → length moves < 10000 → IsFirstBroken (Kept (positions_of start moves) (position_after start moves) c m) all_rules None → IsLine start (after (position_after start moves) m) (moves ++ m ∷ []) (positions_of start (moves ++ m ∷ []))
-line-next start last moves c m line few none = rw (positions-more start moves m) (line-more start last moves (positions_of start moves) c m line few none)
 
 -- what a test says is not so
 pub denied : {A : Type 0} (b : Bool) → IsTrue b ↔ A → b ≡ false → A → ⊥
@@ -118,7 +115,7 @@ few-by ps p q true e low going =
     let last : times (ps ++ p ∷ []) p ≤ 3 = elim (cases_lt (times (ps ++ p ∷ []) p) 4) [ inl few ↦ omega (arith, few) | inr over ↦ absurd (going over) ] in
     subst (λ (x : Placed). times (ps ++ p ∷ []) x ≤ 3) is last
 
--- while a game goes on no position stands for the fourth time
+-- while a game goes on no position occurs for the fourth time
 game-few : (start : Placed) (ms : List Move) → IsGame start ms → (Over (positions_of start ms) (position_after start ms) → ⊥) → (q : Placed) → times (positions_of start ms) q ≤ 3
 game-few start _ begun going q = let low = times-low (start ∷ []) q in omega (arith, low)
 game-few start _ (played before m game may) going q =
@@ -129,7 +126,7 @@ game-few start _ (played before m game may) going q =
     let still : Over (ps ++ p ∷ []) p → ⊥ = rw (all, last) at going in
     rw all (few-by ps p q (same_position p q) refl (game-few start before game may.not_over q) still)
 
--- a position that stands for the fourth time stands so at the last place
+-- a position that occurs for the fourth time does so at the last place
 pub game-fourth : (start : Placed) (ms : List Move) → IsGame start ms → Over (positions_of start ms) (position_after start ms) → IsNth (positions_of start ms) (position_after start ms) 4 (length ms)
 game-fourth start _ begun over = let low = times-low (start ∷ []) start in absurd (omega (arith, low, over))
 game-fourth start _ (played before m game may) over =

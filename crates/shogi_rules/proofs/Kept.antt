@@ -1,4 +1,5 @@
--- A move that fits the board adds no piece and takes none, and leads to a sound position where it leaves the king safe.
+-- A move that fits the board adds no piece and takes none, and leads to a sound position where it
+-- leaves the king safe.
 use Rattle.std.proofs.Common.{◌≡◌, ℕ, ◌+◌, ◌-◌, ◌<◌, ◌≤◌, ◌==◌, ◌&&◌, Bool, true, false, cond, List, Option, Some, None, length, set, get_or, count_by, slice_index, arith, refl, ap, sym, ◌∙◌, inl, inr, length-set, get_or-set_same, get_or-set_other}
 use Rattle.std.proofs.lemmas.Bool.{cases_eq, cases_Bool, and_right, ne_eqb}
 use Rattle.std.proofs.lemmas.List.Sums.{sum_by-set}

@@ -1,4 +1,5 @@
--- A pawn, a lance and a knight reach a square exactly from the ranks on which they still have a move.
+-- A pawn, a lance and a knight reach a square exactly from the ranks on which they still have a
+-- move.
 use Rattle.std.proofs.Common.{◌≡◌, ◌+◌, ◌-◌, ◌<◌, ◌≤◌, ◌⊎◌, ◌↔◌, inl, inr, [], ◌∷◌, Some, arith}
 use Rattle.std.proofs.lemmas.Bool.{cases_lt}
 use Rattle.shogi_board.specs.Cells.{Cells, at, piece}

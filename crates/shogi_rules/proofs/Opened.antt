@@ -1,4 +1,5 @@
--- A king that was not attacked is attacked after a move by the piece that moved, or across the square which that left.
+-- A king that was not attacked is attacked after a move by the piece that moved, or across the
+-- square which that left.
 use Rattle.std.proofs.Common.{◌≡◌, ◌≢◌, ℕ, zero, suc, ◌+◌, ◌*◌, ◌<◌, ◌≤◌, ◌↔◌, IsTrue, Bool, true, false, not, Some, None, ◌⊎◌, inl, inr, Any, arith, ap, sym, ◌∙◌, subst, refl, get_or-set_other}
 use Rattle.std.proofs.lemmas.Bool.{cases_eq, cases_lt}
 use Rattle.shogi_board.specs.Cells.{at, piece}
@@ -183,7 +184,7 @@ pub check-is : (next : Placed) (s : Square) (b : Bool) → IsSound next → at n
 check-is next s b sound there d =
     king_check next.material.board next.side s b sound.within.squares (sound.within.kings next.side) there d
 
--- the other side's king before the move, as it is told after it
+-- the other side's king before the move, by what is known after it
 king-of-other : (p : Placed) (m : Move) (s : Square) → IsSound p → at (board_after p m) s ≡ piece (opponent p.side) King → at p.material.board s ≡ piece (opponent p.side) King
 king-of-other p m s sound there =
     held-before p m s (record { color = opponent p.side; kind = King }) sound

@@ -1,4 +1,4 @@
--- What stands at a place of a list of positions, and who pressed.
+-- What is at a place of a list of positions, and who pressed.
 use Rattle.std.proofs.Common.{◌≡◌, ◌↔◌, ℕ, ◌+◌, ◌<◌, IsTrue, Bool, List, [], ◌∷◌, Some, length, slice_get, arith, sym, ◌∙◌, zero, suc, refl}
 use Rattle.std.proofs.lemmas.Option.{slice_get_within}
 use Rattle.shogi_board.specs.Placed.{Placed}
@@ -14,7 +14,7 @@ some-at [] i low = absurd (omega (arith, low))
 some-at (p ∷ ps) zero low = (p, refl)
 some-at (p ∷ ps) (suc i) low = some-at ps i (omega (arith, low))
 
--- whether the side moved from the place gave check, by the turn behind it
+-- whether the side moved from the place gave check, by the turn after it
 pub pressed-at : (ps : List Placed) (turns : List Turn) (place : ℕ) (color : Color) (s t : Turn) → AreTurns ps turns → slice_get turns place ≡ Some s → slice_get turns (place + 1) ≡ Some t → s.side ≡ color → IsTrue t.in_check ↔ PressedAt ps color place
 pressed-at ps turns place color s t are here next side =
     let within = slice_get_within turns (place + 1) t next in

@@ -1,4 +1,5 @@
--- The search for a position in a tree: where it ends it found the position, or no entry has it; and a tree with one entry more.
+-- The search for a position in a tree: where it ends it found the position, or no entry has it; and
+-- a tree with one entry more.
 use Rattle.std.proofs.Common.{◌≡◌, ℕ, set, suc, ◌+◌, ◌-◌, ◌*◌, ◌<◌, ◌≤◌, List, [], ◌∷◌, ◌++◌, Some, slice_get, arith, refl, sym, ap, ◌∙◌, get_or, length, length-set, replicate, inl, inr, subst, zero}
 use Rattle.std.specs.Cmp.{nat_cmp_is, IsTotalOrder}
 use Rattle.std.specs.Ordering.{ordering_then, nat_cmp}
@@ -100,7 +101,7 @@ free-stands es links q link tree free =
     let found : (n : ℕ) (e : Entry) → slice_get es n ≡ Some e → e.position ≡ q → Finds es links q (first_link q) = λ n e at is. subst (λ (p : Placed). Finds es links p (first_link p)) is (tree.found n e at) in
     none-stands es q (λ n e at is. finds-nowhere es links q link (finds-down es links q link free.comes (found n e at is)) free.none)
 
--- one turn of the search: the link leads to an entry, and the links of that one come behind it
+-- one turn of the search: the link leads to an entry, and the links of that one come after it
 pub leads-on : (es : List Entry) (links : List ℕ) (link : ℕ) → IsTree es links → link < length links → 0 < get_or links link 0 →
     (get_or links link 0 - 1 < length es) × (link < first_links + 2 * (get_or links link 0 - 1)) × (first_links + 2 * (get_or links link 0 - 1) + 1 < length links) × (slice_get links link ≡ Some ((get_or links link 0 - 1) + 1))
 leads-on es links link tree low some =

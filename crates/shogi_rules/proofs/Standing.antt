@@ -38,7 +38,7 @@ some-answer line color m =
       | inr full ↦ (Some TooManyMoves, full-of (length line.moves) full)
     ]
 
--- the place where a position stands for the time after n others
+-- the place where a position occurs for the time after n others
 place-from : (ps : List Placed) (x p : Placed) (n : ℕ) (b : Bool) → same_position x p ≡ b → n < cond b 1 0 + times ps p → ((m : ℕ) → m < times ps p → (place : ℕ) × IsNth ps p (m + 1) place) → (place : ℕ) × IsNth (x ∷ ps) p (n + 1) place
 place-from ps x p zero true e low rest = (zero, record { stands = ap Some ((position-same x p).0 e); before = refl })
 place-from ps x p (suc m) true e low rest =

@@ -1,4 +1,4 @@
--- A position stands for the n-th time at one place, and a line has one verdict.
+-- A position occurs for the n-th time at one place, and a line has one verdict.
 use Rattle.std.proofs.Common.{◌≡◌, ℕ, ◌+◌, ◌<◌, ◌≤◌, true, cond, List, Some, take, get_or, slice_get, arith, refl, ap, inl, inr}
 use Rattle.std.proofs.lemmas.Bool.{cases_order}
 use Rattle.std.proofs.lemmas.List.{take-take}

@@ -1,4 +1,4 @@
--- What the answer of a test tells.
+-- What the answer of a test says.
 use Rattle.std.proofs.Common.{◌≡◌, Bool, true, false, Option, None, Some, is_some, refl, sym, subst, IsTrue, ◌↔◌, ◌⊎◌, inl, inr}
 use Rattle.std.specs.Prelude.{MatchOption}
 use Rattle.shogi_board.specs.Cells.{at, piece}

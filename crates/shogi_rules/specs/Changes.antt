@@ -1,4 +1,5 @@
--- What a move changes on the board.
+-- For private functions: what a move changes on the board.
+-- A reader of the public contracts may skip this file.
 use Rattle.std.specs.Prelude.{◌≡◌}
 use Rattle.shogi_board.specs.Changes.{IsChange}
 use Rattle.shogi_board.specs.Placed.{Placed}
@@ -6,7 +7,7 @@ use Rattle.shogi_board.specs.declared.change.Change.{Change}
 use Rattle.shogi_rules.specs.declared.moves.Move.{Move}
 use Rattle.shogi_rules.specs.Legal.{source, target}
 
--- the squares of the move, and what stands on them before it
+-- the squares of the move, and what is on them before it
 pub record IsChangeBy (p : Placed) (m : Move) (change : Change) : Type 0 where
   pub from : change.from ≡ source m
   pub to : change.to ≡ target m

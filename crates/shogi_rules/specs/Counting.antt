@@ -1,4 +1,6 @@
--- The positions of a line, each with how often it stands and where first, and the turn of each place.
+-- For private functions and fields of `Line`: its positions, each with how often it occurs and
+-- where first, and the turn of each place.
+-- A reader of the public contracts may skip this file.
 use Rattle.std.specs.Prelude.{◌≡◌, ◌≤◌, ◌↔◌, IsTrue, ℕ, List, Some, length, slice_get}
 use Rattle.shogi_board.specs.Placed.{Placed}
 use Rattle.shogi_board.specs.Reach.{InCheck}
@@ -11,8 +13,8 @@ use Rattle.shogi_rules.specs.declared.seen.Turn.{Turn}
 abbrev pub StandsAt : List Entry → ℕ → Placed → Type 0
 StandsAt entries n p = (e : Entry) → slice_get entries n ≡ Some e → e.position ≡ p
 
--- each position of the list has one entry, with how often it stands there and where for the first time; there are no more entries
--- than positions
+-- each position of the list has one entry, with how often it occurs there and where for the first
+-- time; there are no more entries than positions
 pub record AreCounts (ps : List Placed) (entries : List Entry) : Type 0 where
   pub each : (i : ℕ) (e : Entry) → slice_get entries i ≡ Some e → (e.count ≡ times ps e.position) × IsNth ps e.position 1 e.first
   pub once : (i j : ℕ) (d e : Entry) → slice_get entries i ≡ Some d → slice_get entries j ≡ Some e → d.position ≡ e.position → i ≡ j

@@ -4,10 +4,12 @@ pub mod Counting
 pub mod Evasions
 pub mod Kinds
 pub mod Legal
+pub mod Lines
 pub mod Order
 pub mod Play
 pub mod Positions
 pub mod Repetition
 pub mod Rules
 pub mod Searching
+pub mod Trying
 pub mod Verdicts

@@ -1,12 +1,11 @@
--- What playing a move answers.
-use Rattle.std.specs.Prelude.{◌≡◌, ◌<◌, ◌≤◌, Option, Some, None, length}
+-- What `play` returns.
+use Rattle.std.specs.Prelude.{◌<◌, ◌≤◌, Option, Some, None, length}
 use Rattle.shogi_board.specs.declared.color.Color.{Color}
 use Rattle.shogi_rules.specs.declared.line.PlayFault.{PlayFault}
 use Rattle.shogi_rules.specs.declared.line.PlayFault.TheVariants.{TooManyMoves, Broken, OutOfMemory}
 use Rattle.shogi_rules.specs.declared.moves.Move.{Move}
 use Rattle.shogi_rules.specs.declared.rule.Rule.{Rule}
 use Rattle.shogi_rules.specs.Positions.{Played, max_moves, now_of, all_of}
-use Rattle.shogi_rules.specs.Repetition.{Over}
 use Rattle.shogi_rules.specs.Rules.{Kept, all_rules, IsFirstBroken}
 
 -- the first rule that the move breaks, over all positions of the line
@@ -19,9 +18,3 @@ Answers line color m None = (length line.moves < max_moves) × Breaks line color
 Answers line color m (Some TooManyMoves) = max_moves ≤ length line.moves
 Answers line color m (Some (Broken rule)) = (length line.moves < max_moves) × Breaks line color m (Some rule)
 Answers line color m (Some OutOfMemory) = ⊥
-
--- that side may play, if it has a legal move
-pub record IsOpen (line : Played) (color : Color) : Type 0 where
-  pub few : length line.moves < max_moves
-  pub turn : color ≡ (now_of line).side
-  pub not_over : Over (all_of line) (now_of line) → ⊥

@@ -1,5 +1,5 @@
 -- A line: a start and the moves from it.
-use Rattle.std.specs.Prelude.{◌≡◌, ◌≤◌, ◌++◌, ℕ, List, length, [], ◌∷◌}
+use Rattle.std.specs.Prelude.{◌++◌, ℕ, List, [], ◌∷◌}
 use Rattle.shogi_board.specs.Placed.{Placed}
 use Rattle.shogi_rules.specs.declared.moves.Move.{Move}
 use Rattle.shogi_rules.specs.After.{after}
@@ -30,8 +30,8 @@ now_of line = position_after line.start line.moves
 abbrev pub all_of : Played → List Placed
 all_of line = positions_of line.start line.moves
 
--- the move is legal in the position that those before it lead to, and that position, the last so far (law now_stands_last), does
--- not stand for the fourth time
+-- the move is legal in the position that those before it lead to, and that position, the last so
+-- far (law now_stands_last), does not occur for the fourth time
 pub record MayFollow (start : Placed) (before : List Move) (m : Move) : Type 0 where
   pub legal : Legal (position_after start before) m
   pub not_over : Over (positions_of start before) (position_after start before) → ⊥
@@ -40,10 +40,3 @@ pub record MayFollow (start : Placed) (before : List Move) (m : Move) : Type 0 w
 pub data IsGame (start : Placed) : List Move → Type 0 where
   begun : IsGame start []
   played : (before : List Move) (m : Move) → IsGame start before → MayFollow start before m → IsGame start (before ++ m ∷ [])
-
--- a start, what its moves lead to, the moves, and all positions
-pub record IsLine (start now : Placed) (moves : List Move) (positions : List Placed) : Type 0 where
-  pub leads : now ≡ position_after start moves
-  pub all : positions ≡ positions_of start moves
-  pub game : IsGame start moves
-  pub few : length moves ≤ max_moves

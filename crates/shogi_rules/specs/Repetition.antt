@@ -1,19 +1,20 @@
--- When a position stands for the fourth time, and who gave check all the while.
+-- When a position occurs for the fourth time, and who gave check all the while.
 use Rattle.std.specs.Prelude.{◌≡◌, ℕ, ◌+◌, ◌<◌, ◌≤◌, List, Some, take, count_by, slice_get}
 use Rattle.shogi_board.specs.declared.color.Color.{Color}
 use Rattle.shogi_board.specs.Placed.{Placed}
 use Rattle.shogi_board.specs.Reach.{InCheck}
 use Rattle.shogi_board.specs.Same.{same_position}
 
--- how often the position stands in the list, with its board, hands and side to move
+-- how often the position occurs in the list, with its board, hands and side to move
 abbrev pub times : List Placed → Placed → ℕ
 times ps p = count_by (λ q. same_position q p) ps
 
--- it stands for the fourth time; callers take p as the last of ps, where a line's last position stands (law now_stands_last)
+-- it occurs for the fourth time; callers take p as the last of ps, which a line's last position is
+-- (law now_stands_last)
 abbrev pub Over : List Placed → Placed → Type 0
 Over ps p = 4 ≤ times ps p
 
--- it stands at that place, and fewer times before
+-- it is at that place, and occurs fewer times before
 pub record IsNth (ps : List Placed) (p : Placed) (n place : ℕ) : Type 0 where
   pub stands : slice_get ps place ≡ Some p
   pub before : times (take place ps) p + 1 ≡ n

@@ -22,7 +22,7 @@ Kept ps p color m DoubledPawn = LonePawn p m
 Kept ps p color m LeavesKing = KingSafe p m
 Kept ps p color m PawnDropMate = NoDropMate p m
 
--- a side's move keeps a rule where the position stands for the first time
+-- a side's move keeps a rule if the position occurs for the first time
 abbrev pub KeptAt : Placed → Color → Move → Rule → Type 0
 KeptAt p color m = Kept (p ∷ []) p color m
 

@@ -1,6 +1,9 @@
--- Positions in search trees: the entries in the order of their coming, and links that lead to them. The first 256 links lead to
--- the first entry of each part of the numbers; behind them each entry has two links of its own, one to the positions that are
--- less than its own and one to the greater.
+-- For private functions and fields of `Occurrences`: positions in search trees.
+-- A reader of the public contracts may skip this file.
+--
+-- The entries are in the order of their coming, and links lead to them. The first 256 links lead to
+-- the first entry of each part of the numbers. After them come two links for each entry: one to the
+-- positions that are less than its own, and one to those that are greater.
 use Rattle.std.specs.Prelude.{◌≡◌, ℕ, ◌+◌, ◌*◌, ◌/◌, ◌%◌, ◌<◌, List, [], ◌∷◌, Some, length, slice_get}
 use Rattle.std.specs.Ordering.{ordering_then, nat_cmp}
 use Rattle.std.specs.declared.cmp.Ordering.{Ordering}
@@ -17,7 +20,8 @@ abbrev pub half_of : Color → ℕ → ℕ
 half_of Black n = n
 half_of White n = (n + 9223372036854775808) % 18446744073709551616
 
--- a number of the board's key and of the side to move; keys that differ little have numbers far apart
+-- a number of the board's key and of the side to move; keys that differ little have numbers far
+-- apart
 abbrev pub number_of : Placed → ℕ
 number_of p = half_of p.side ((key_of p * 11400714819323198485) % 18446744073709551616)
 
@@ -63,8 +67,8 @@ pub record IsFree (entries : List Entry) (links : List ℕ) (q : Placed) (link :
   pub comes : Comes entries links q link
   pub none : slice_get links link ≡ Some 0
 
--- so many links as the entries have; each entry has its position's number, and is found; a link leads to an entry whose own links
--- stand behind it
+-- so many links as the entries have; each entry has its position's number, and is found; a link
+-- leads to an entry whose own links come after it
 pub record IsTree (entries : List Entry) (links : List ℕ) : Type 0 where
   pub wide : length links ≡ first_links + 2 * length entries
   pub numbered : (n : ℕ) (e : Entry) → slice_get entries n ≡ Some e → e.number ≡ number_of e.position

@@ -1,4 +1,4 @@
--- How a line stands.
+-- The state of a game after the moves of a line.
 use Rattle.std.specs.Prelude.{ℕ, ◌⊎◌, List}
 use Rattle.shogi_board.specs.Pieces.{opponent}
 use Rattle.shogi_board.specs.Placed.{Placed}
@@ -18,8 +18,8 @@ abbrev pub PressedAlone : List Placed → ℕ → ℕ → Color → Type 0
 PressedAlone ps first fourth color =
     Pressed ps first fourth color × (Pressed ps first fourth (opponent color) → ⊥)
 
--- that side alone pressed between the first and the fourth place of p, which callers take as the last of ps, where a line's last
--- position stands (law now_stands_last)
+-- that side alone pressed between the first and the fourth place of p, which callers take as the
+-- last of ps, which a line's last position is (law now_stands_last)
 pub record IsPerpetual (ps : List Placed) (p : Placed) (color : Color) : Type 0 where
   pub first : ℕ
   pub fourth : ℕ
@@ -41,7 +41,7 @@ StandsByMoves p NoMove = (InCheck p.material.board p.side → ⊥) × NoLegalMov
 StandsByMoves p Repetition = ⊥
 StandsByMoves p (Perpetual color) = ⊥
 
--- by who pressed, where the position stands for the fourth time; p is taken as in IsPerpetual
+-- by who pressed, if the position occurs for the fourth time; p is taken as in IsPerpetual
 abbrev pub StandsByStretch : List Placed → Placed → Verdict → Type 0
 StandsByStretch ps p Ongoing = ⊥
 StandsByStretch ps p Mate = ⊥

@@ -47,7 +47,7 @@ fn may_promote(color: Color, was: Kind, from: Square, to: Square, kind: Kind) ->
     kind == was || in_zone(color, from) || in_zone(color, to)
 }
 
-// Whether another unpromoted pawn of the side to move stands on the file.
+// Whether the side to move has another unpromoted pawn on the file.
 fn doubles_pawn(position: &Position, to: Square, kind: Kind) -> bool
     ensures { IsTrue result ↔ ((kind ≡ Pawn) × HasPawnOnFile position.now.material.board position.now.side to) }
 {

@@ -28,14 +28,14 @@ pub(crate) fn is_mated(position: &Position) -> bool
     !has_evasion(position, king, checker)
 }
 
-// Whether a move keeps the rules 3 to 10, where the king of the side to move is attacked from the other square.
+// Whether a move keeps the rules 3 to 10, if the king of the side to move is attacked from the
+// other square.
 fn has_evasion(position: &Position, king: Square, checker: Square) -> bool
     requires king { at position.now.material.board king ≡ piece position.now.side King }
     requires check { Attack position.now.material.board position.now.side checker king }
     ensures { IsTrue result ↔ ((m : Move) × Keeps position.now m) }
 {
-    // a clause of `side` says that the position is sound
-    let _side = position.side();
+    position.soundness();
     king_escapes(position, king) || can_stop_check(position, king, checker)
 }
 
@@ -51,7 +51,8 @@ fn king_escapes(position: &Position, king: Square) -> bool
     false
 }
 
-// Whether a move that captures the checking piece, or puts a piece between, keeps the rules 3 to 10.
+// Whether a move that captures the checking piece, or puts a piece between, keeps the rules 3 to
+// 10.
 fn can_stop_check(position: &Position, king: Square, checker: Square) -> bool
     ensures { IsTrue result ↔ ((m : Move) × StopsCheck checker king (target m) × Keeps position.now m) }
 {

@@ -12,8 +12,8 @@ use crate::rule::Rule;
 use crate::search::is_pawn_drop;
 use shogi_board::{Color, Position};
 
-// Makes the position the one after the move, or says which of the rules 3 to 11 the side to move breaks first by it; then the
-// position may be either.
+// Makes the position the one after the move, or says which of the rules 3 to 11 the side to move
+// breaks first by it; then the position may be either.
 pub(crate) fn make_by_side(position: &mut Position, safe: bool, mv: &Move) -> Option<Rule>
     requires { safe ≡ true → InCheck position.old.material.board position.old.side → ⊥ }
     ensures broken { IsFirstBroken (KeptAlone position.old mv.now) move_rules result }
@@ -25,8 +25,8 @@ pub(crate) fn make_by_side(position: &mut Position, safe: bool, mv: &Move) -> Op
     (is_pawn_drop(mv) && is_mated(position)).then_some(Rule::PawnDropMate)
 }
 
-// Whether the move that led to the position is a pawn put down that mates, where it is known whether the side to move is in
-// check.
+// Whether the move that led to the position is a pawn put down that mates, if it is known whether
+// the side to move is in check.
 #[inline(always)]
 pub(crate) fn mates_by_pawn_drop(position: &Position, mv: &Move, in_check: bool) -> bool
     requires { IsTrue in_check ↔ InCheck position.now.material.board position.now.side }
@@ -43,9 +43,10 @@ fn broken_by_side(position: &Position, mv: &Move) -> Option<Rule>
     make_by_side(&mut next, false, mv)
 }
 
-/// The first rule that the move of that side breaks, in the order of their numbers, or None exactly where it is legal.
+/// The first rule that the move of that side breaks, in the order of their numbers, or None exactly
+/// if it is legal.
 ///
-/// The position is taken to stand for the first time, so it never answers RepetitionOver.
+/// The position is taken to occur for the first time, so it never returns RepetitionOver.
 pub fn judge(position: &Position, mover: Color, mv: &Move) -> Option<Rule>
     ensures first { IsFirstBroken (KeptAt position.now mover mv.now) all_rules result }
     ensures once { result ≡ Some RepetitionOver → ⊥ }

@@ -36,14 +36,16 @@ pub fn king_never_taken()
     ensures never { (p : Placed) (from to : Square) (kind : Kind) → IsSound p → HasPiece p (Move.Walk from to kind) → ReachesTarget p (Move.Walk from to kind) → at p.material.board to ≡ piece (opponent p.side) King → ⊥ }
 {}
 
-/// A pawn, a lance and a knight reach no square exactly where they stand beyond the last rank of their kind, whatever else stands.
+/// A pawn, a lance and a knight reach no square exactly if they are beyond the last rank of their
+/// kind, whatever else is on the board.
 pub fn last_ranks()
     ensures pawn { (cells : Cells) (color : Color) (a : Square) → at cells a ≡ piece color Pawn → (rank_for color a < last_rank Pawn) ↔ ((b : Square) → Reach cells a b → ⊥) }
     ensures lance { (cells : Cells) (color : Color) (a : Square) → at cells a ≡ piece color Lance → (rank_for color a < last_rank Lance) ↔ ((b : Square) → Reach cells a b → ⊥) }
     ensures knight { (cells : Cells) (color : Color) (a : Square) → at cells a ≡ piece color Knight → (rank_for color a < last_rank Knight) ↔ ((b : Square) → Reach cells a b → ⊥) }
 {}
 
-/// A legal move leads from a sound position to a sound one, and so does any that keeps the rules 3 to 10.
+/// A legal move leads from a sound position to a sound one, and so does any that keeps the rules 3
+/// to 10.
 pub fn legal_move_keeps_soundness()
     ensures sound { (p : Placed) (m : Move) → IsSound p → Legal p m → IsSound (after p m) }
     ensures kept { (p : Placed) (m : Move) → IsSound p → Keeps p m → IsSound (after p m) }
@@ -54,8 +56,8 @@ pub fn game_keeps_soundness()
     ensures sound { (start : Placed) (moves : List Move) → IsSound start → IsGame start moves → IsSound (position_after start moves) }
 {}
 
-/// A legal move adds no piece and takes none: of each kind, promoted pieces counted with their unpromoted kind, as many stand on
-/// the board and in both hands as before.
+/// A legal move adds no piece and takes none: of each kind, promoted pieces counted with their
+/// unpromoted kind, there are as many on the board and in both hands as before.
 pub fn pieces_stay()
     ensures totals { (p : Placed) (m : Move) (kind : Kind) → IsSound p → Legal p m → total (after p m).material kind ≡ total p.material kind }
 {}
@@ -65,8 +67,9 @@ pub fn mover_not_in_check()
     ensures safe { (p : Placed) (m : Move) → Legal p m → InCheck (after p m).material.board p.side → ⊥ }
 {}
 
-/// In check, a move that keeps the rules 3 to 9, but neither moves the king nor captures the checking piece nor puts one between,
-/// leaves the king where it is and attacked by that piece. So no such move keeps rule 10.
+/// In check, a move that keeps the rules 3 to 9, but neither moves the king nor captures the
+/// checking piece nor puts one between, leaves the king where it is and attacked by that piece. So
+/// no such move keeps rule 10.
 pub fn only_evasions_end_check()
     ensures attacked { (p : Placed) (m : Move) (checker king : Square) → IsSound p → FitsBoard p m
         → at p.material.board king ≡ piece p.side King → Attack p.material.board p.side checker king
@@ -112,14 +115,15 @@ pub fn one_first_legal()
     ensures once { (p : Placed) (m n : Move) → IsFirstLegal p m → IsFirstLegal p n → m ≡ n }
 {}
 
-/// A position counts in a list exactly where it is equal: one in front adds one there, and else nothing.
+/// A position counts in a list exactly if it is equal: one in front adds one then, and else
+/// nothing.
 pub fn times_counts_equal_positions()
     ensures none { (p : Placed) → times [] p ≡ 0 }
     ensures more { (ps : List Placed) (p q : Placed) → (times (p ∷ ps) q ≡ times ps q + 1) ↔ (p ≡ q) }
     ensures same { (ps : List Placed) (p q : Placed) → (p ≡ q → ⊥) → times (p ∷ ps) q ≡ times ps q }
 {}
 
-/// A position stands for the n-th time at one place of a list.
+/// A position occurs for the n-th time at one place of a list.
 pub fn nth_place_once()
     ensures once { (ps : List Placed) (p : Placed) (n i j : ℕ) → IsNth ps p n i → IsNth ps p n j → i ≡ j }
 {}
@@ -140,7 +144,8 @@ pub fn now_stands_last()
     ensures all { (line : Played) → length (all_of line) ≡ length line.moves + 1 }
 {}
 
-/// Of a game's positions only the last can stand for the fourth time, and it does so at the last place.
+/// Of a game's positions only the last can occur for the fourth time, and it does so at the last
+/// place.
 pub fn fourth_stands_last()
     ensures last { (line : Played) (p : Placed) → IsGame line.start line.moves → Over (all_of line) p → p ≡ now_of line }
     ensures place { (line : Played) → IsGame line.start line.moves → Over (all_of line) (now_of line) → IsNth (all_of line) (now_of line) 4 (length line.moves) }

@@ -1,7 +1,8 @@
 ghost use Rattle.std.specs.Prelude.{◌≡◌, ◌≤◌, ◌++◌, [], ◌∷◌, IfOk, OnOk, OnErr, MatchOption, MatchResult, length, ◌⊎◌, ◌↔◌, IsTrue, true, None, Some};
 ghost use Rattle.shogi_board.specs.Reach.{InCheck};
 ghost use Rattle.shogi_rules.specs.Positions.{max_moves, now_of, all_of, IsGame};
-ghost use Rattle.shogi_rules.specs.Play.{Answers, IsOpen};
+ghost use Rattle.shogi_rules.specs.Play.{Answers};
+ghost use Rattle.shogi_rules.specs.Lines.{IsOpen};
 ghost use Rattle.shogi_rules.specs.Repetition.{times, Over};
 ghost use Rattle.shogi_rules.specs.Verdicts.{Stands};
 ghost use Rattle.shogi_rules.specs.declared.line.PlayFault.TheVariants.{OutOfMemory};
@@ -21,18 +22,18 @@ use thiserror::Error;
 /// Why a move was not played.
 #[derive(Clone, Copy, Debug, PartialEq, Eq, PartialOrd, Ord, Error)]
 pub enum PlayFault {
-    /// 10,000 moves stand.
+    /// The line has 10,000 moves.
     #[error("too many moves")]
     TooManyMoves,
     /// The move breaks a rule; this is the first that it breaks.
     #[error("{0}")]
     Broken(Rule),
-    /// A growth of memory was refused.
+    /// An allocation failed.
     #[error("out of memory")]
     OutOfMemory,
 }
 
-/// How a line stands.
+/// The state of a game after the moves of a line.
 #[derive(Clone, Copy, Debug, PartialEq, Eq, PartialOrd, Ord)]
 pub enum Verdict {
     /// The side to move has a legal move.
@@ -41,17 +42,19 @@ pub enum Verdict {
     Mate,
     /// The side to move is not in check and has no legal move.
     NoMove,
-    /// The position stands for the fourth time, and no side alone gave check with each move since the first.
+    /// The position occurs for the fourth time, and no side alone gave check with each move since
+    /// the first time.
     Repetition,
-    /// The position stands for the fourth time, and this side alone gave check with each move since the first: it has
-    /// lost.
+    /// The position occurs for the fourth time, and this side alone gave check with each move since
+    /// the first time: it has lost.
     Perpetual(Color),
 }
 
 /// The most moves that a line has.
 pub const MAX_MOVES: usize = 10_000;
 
-/// A start and legal moves from it, at most 10,000, none of them played where a position stood for the fourth time.
+/// A start and legal moves from it, at most 10,000. None of them was played after a position had
+/// occurred for the fourth time.
 #[derive(Drop)]
 pub struct Line {
     start: Position,
@@ -67,19 +70,20 @@ impl Model for Line {
     ghost use Rattle.std.specs.Prelude.{◌≡◌, ◌↔◌, IsTrue};
     ghost use Rattle.shogi_board.specs.Reach.{InCheck};
     ghost use Rattle.shogi_rules.specs.Counting.{IsSeen};
-    ghost use Rattle.shogi_rules.specs.Positions.{Played, IsLine, positions_of};
+    ghost use Rattle.shogi_rules.specs.Positions.{Played, positions_of};
+    ghost use Rattle.shogi_rules.specs.Lines.{IsLine};
 
     ghost Value = { Played };
 
     ghost view = { λ l. record { start = l.start; moves = l.moves.items } };
 
-    ghost invariant = { (λ l. IsLine l.start l.last l.moves.items (positions_of l.start l.moves.items) × IsSeen (positions_of l.start l.moves.items) l.last l.seen × (IsTrue l.in_check ↔ InCheck l.last.material.board l.last.side)) };
+    ghost invariant = { (λ l. IsLine l.start l.last l.moves.items × IsSeen (positions_of l.start l.moves.items) l.last l.seen × (IsTrue l.in_check ↔ InCheck l.last.material.board l.last.side)) };
 }
 
 impl Line {
     /// A line without a move.
     ///
-    /// Refuses OutOfMemory.
+    /// Returns OutOfMemory if an allocation fails.
     pub fn new(alloc: Global, start: Position) -> Result<Line, shogi_board::OutOfMemory>
         ensures line { IfOk result (λ l. l ≡ record { start = start; moves = [] }) }
     {
@@ -123,16 +127,19 @@ impl Line {
         self.moves.len() >= MAX_MOVES
     }
 
-    // How often the last position stands.
+    // How often the last position occurs.
     fn repeats(&self) -> u32
         ensures { result ≡ times (all_of self.now) (now_of self.now) }
     {
         self.seen.repeats()
     }
 
-    // Whether the position stands for the fourth time.
-    fn is_over(&self) -> bool
-        ensures { IsTrue result ↔ Over (all_of self.now) (now_of self.now) }
+    /// Whether the position that its moves lead to occurs for the fourth time.
+    ///
+    /// Then `play` refuses each move, and `verdict` is Repetition or Perpetual. It takes one look
+    /// at what the line has counted, and searches for no move and no mate.
+    pub fn is_over(&self) -> bool
+        ensures answer { IsTrue result ↔ Over (all_of self.now) (now_of self.now) }
     {
         self.repeats() >= 4
     }
@@ -180,7 +187,7 @@ impl Line {
         make_by_side(&mut next, self.is_safe(), mv).map(PlayFault::Broken)
     }
 
-    // What `play` refuses where there is no room for the move.
+    // What `play` refuses if there is no room for the move.
     fn fault_without_room(&self, mover: Color, mv: &Move) -> PlayFault
         ensures { ((result ≡ OutOfMemory) × Answers self.now mover mv.now None) ⊎ Answers self.now mover mv.now (Some result) }
     {
@@ -189,8 +196,9 @@ impl Line {
 
     /// Plays the move of that side.
     ///
-    /// Refuses, in this order: TooManyMoves where 10,000 moves stand, Broken with the first rule that the move breaks,
-    /// OutOfMemory. A refused call changes nothing.
+    /// Refuses, in this order: TooManyMoves if the line has 10,000 moves; Broken with the first
+    /// rule that the move breaks; OutOfMemory if an allocation fails. A refused call changes
+    /// nothing.
     pub fn play(&mut self, mover: Color, mv: Move) -> Result<(), PlayFault>
         ensures answer { MatchResult result
             (λ _. Answers self.old mover mv None)
@@ -201,8 +209,6 @@ impl Line {
         if let Some(fault) = self.closed(mover) {
             return Err(fault);
         }
-        // a clause of `side` says that the last position is sound
-        let _side = self.last.side();
         let safe = self.is_safe();
         if self.moves.reserve(1).is_err() {
             return Err(self.fault_without_room(mover, &mv));
@@ -231,7 +237,8 @@ impl Line {
         }
     }
 
-    /// How it stands: at a fourth occurrence Repetition or Perpetual, else by check and legal moves.
+    /// The state of the game: at a fourth occurrence Repetition or Perpetual, else by check and
+    /// legal moves.
     pub fn verdict(&self) -> Verdict
         ensures stands { Stands (all_of self.now) (now_of self.now) result }
     {

@@ -21,8 +21,8 @@ pub enum Move {
 }
 
 impl Move {
-    /// The square that the piece goes to.
-    pub fn target(self) -> Square
+    // The square that the piece goes to.
+    pub(crate) fn target(self) -> Square
         ensures value { result ≡ target self }
     {
         match self {
@@ -40,7 +40,7 @@ impl Move {
         }
     }
 
-    // What stands on its squares before it.
+    // What is on its squares before it.
     pub(crate) fn change(self, position: &Position) -> Change
         ensures { IsChangeBy position.now self result }
     {
@@ -57,8 +57,8 @@ impl Move {
         }
     }
 
-    /// The kind of the piece after the move.
-    pub fn kind(self) -> Kind
+    // The kind of the piece after the move.
+    pub(crate) fn kind(self) -> Kind
         ensures value { result ≡ kind_after self }
     {
         match self {

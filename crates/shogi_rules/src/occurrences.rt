@@ -1,3 +1,15 @@
+// How often each position of a line occurs, and where it occurred first.
+//
+// Each position has one entry. A new entry comes after the others, so the entries are in the order
+// of first places. Links lead to them, as in search trees: 256 links, one for each first byte of a
+// number, lead to the roots of 256 trees, and each entry has two links, one to the positions that
+// are less and one to those that are greater. Nothing is turned to balance the trees.
+//
+// Positions are ordered by a number first, and as positions are if their numbers are equal. The
+// number is the key of the board times an odd constant, so that positions that follow each other
+// lie far apart and the trees stay flat. A record made for it could make a tree deep, but 10,000
+// moves bound what a search takes. `docs/DECISIONS.md` has the measurements.
+
 ghost use Rattle.std.specs.Prelude.{◌≡◌, ◌+◌, ◌++◌, ◌<◌, ◌≤◌, [], ◌∷◌, List, MatchResult, Some, OnOk, OnErr, IfOk, length, slice_get};
 ghost use Rattle.shogi_board.specs.Placed.{Placed};
 ghost use Rattle.shogi_rules.specs.Counting.{AreCounts, StandsAt};
@@ -12,14 +24,17 @@ use std::marker::Model;
 // How many entries, turns and moves there is room for from the start: most games have fewer moves.
 pub(crate) const FIRST_ROOM: usize = 256;
 
-// How many links of the search trees there are before an entry comes: one for each first byte of a number.
+// How many links of the search trees there are before there is an entry: one for each first byte of
+// a number.
 const FIRST_LINKS: usize = 256;
 
-// 2^64 over the golden ratio, odd: multiples of it modulo 2^64 lie far apart where what is multiplied differs little.
+// 2^64 over the golden ratio, odd: multiples of it modulo 2^64 lie far apart even if what is
+// multiplied differs little.
 const SPREAD: u64 = 0x9E37_79B9_7F4A_7C15;
 
-// The number by which positions are ordered first: far from that of another board, as a rule, and half of all numbers from that
-// of the same board with the other side to move. It says nothing of the hands.
+// The number by which positions are ordered first: far from that of another board, as a rule, and
+// half of all numbers from that of the same board with the other side to move. It says nothing of
+// the hands.
 fn number_of(position: &Packed) -> u64
     ensures { result ≡ number_of position.now }
 {
@@ -30,7 +45,8 @@ fn number_of(position: &Packed) -> u64
     }
 }
 
-// How positions of one number are ordered. It is seldom asked, and apart, since it takes much room.
+// How positions of one number are ordered. It is seldom called, and not inlined, since it takes
+// much room.
 #[inline(never)]
 fn order_of_one_number(position: &Packed, other: &Packed) -> Ordering
     ensures { result ≡ ⟦<Position as Ord>⟧.cmp position.now other.now }
@@ -38,7 +54,7 @@ fn order_of_one_number(position: &Packed, other: &Packed) -> Ordering
     position.unpacked().cmp(&other.unpacked())
 }
 
-// A position and its number, how often it stands, and how many positions stand before its first place.
+// A position and its number, how often it occurs, and its first place, counted from 0.
 #[derive(Drop)]
 pub(crate) struct Entry {
     pub position: Packed,
@@ -85,7 +101,8 @@ fn search(entries: &[Entry], links: &[u16], number: u64, position: &Packed) -> R
     Err(link)
 }
 
-// An ordered map from each position to how often it stands and where first. A new position comes behind the others.
+// An ordered map from each position to how often it occurs and where first. A new position comes
+// after the others.
 #[derive(Drop)]
 pub(crate) struct Occurrences {
     entries: Vec<Entry>,
@@ -94,6 +111,19 @@ pub(crate) struct Occurrences {
 }
 
 impl Model for Occurrences {
+    // How often each position of a line occurs, and where it occurred first.
+    //
+    // Each position has one entry. A new entry comes after the others, so the entries are in the
+    // order of first places. Links lead to them, as in search trees: 256 links, one for each first
+    // byte of a number, lead to the roots of 256 trees, and each entry has two links, one to the
+    // positions that are less and one to those that are greater. Nothing is turned to balance the
+    // trees.
+    //
+    // Positions are ordered by a number first, and as positions are if their numbers are equal. The
+    // number is the key of the board times an odd constant, so that positions that follow each
+    // other lie far apart and the trees stay flat. A record made for it could make a tree deep, but
+    // 10,000 moves bound what a search takes. `docs/DECISIONS.md` has the measurements.
+
     ghost use Rattle.std.specs.Prelude.{List};
     ghost use Rattle.shogi_rules.specs.Searching.{IsTree};
     ghost use Rattle.shogi_rules.specs.declared.occurrences.Entry.{Entry as Counted};
@@ -125,8 +155,8 @@ impl Occurrences {
         &self.entries[n]
     }
 
-    // Counts the position once more, with so many positions before it, and answers the index of its entry. A refused growth
-    // changes nothing.
+    // Counts the position once more, with so many positions before it, and returns the index of its
+    // entry. If an allocation fails, nothing changes.
     #[inline(always)]
     pub(crate) fn add(&mut self, position: Packed, before: usize) -> Result<usize, AllocError>
         requires counted { (ps : List Placed) × (length ps ≡ before) × AreCounts ps self.old }

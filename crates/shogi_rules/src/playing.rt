@@ -13,15 +13,15 @@ use crate::moves::Move;
 use crate::rule::Rule;
 use shogi_board::{Danger, Kind, Packed, Position, Square, attacked, attacked_from, reaches};
 
-// Where the mover's king may be attacked from after the move, where `safe` says that it is known not to be attacked before. If
-// it was not, then only in the direction of the square that the move leaves, unless it moves itself.
+// Where the mover's king may be attacked from after the move, if `safe` says that it is known not
+// to be attacked before. If it was not, then only in the direction of the square that the move
+// leaves, unless it moves itself.
 fn danger_after(position: &Position, safe: bool, mv: &Move) -> Danger
     requires fits { FitsBoard position.now mv.now }
     requires safe { safe ≡ true → InCheck position.now.material.board position.now.side → ⊥ }
     ensures { (s : Square) → at (board_after position.now mv.now) s ≡ piece position.now.side King → ComesFrom (board_after position.now mv.now) position.now.side s result }
 {
-    // a clause of `side` says that the position is sound
-    let _side = position.side();
+    position.soundness();
     if !safe || mv.kind() == Kind::King {
         return Danger::Anywhere;
     }
@@ -31,8 +31,8 @@ fn danger_after(position: &Position, safe: bool, mv: &Move) -> Danger
     }
 }
 
-// Makes the position the one after a move that fits the board, where it leaves the mover's king safe, and says whether it
-// does; else the position stays as it was.
+// Makes the position the one after a move that fits the board, if it leaves the mover's king safe,
+// and says whether it does; else the position stays as it was.
 #[inline(always)]
 fn make_if_safe(position: &mut Position, safe: bool, mv: &Move) -> bool
     requires fits { FitsBoard position.old mv.now }
@@ -45,7 +45,7 @@ fn make_if_safe(position: &mut Position, safe: bool, mv: &Move) -> bool
     make(position, danger, mv)
 }
 
-// The same, where the danger says where an attack on that king may come from after the move.
+// The same, if the danger says where an attack on that king may come from after the move.
 #[inline(always)]
 fn make(position: &mut Position, danger: Danger, mv: &Move) -> bool
     requires fits { FitsBoard position.old mv.now }
@@ -54,8 +54,7 @@ fn make(position: &mut Position, danger: Danger, mv: &Move) -> bool
     ensures value { result ≡ true → position.new ≡ after position.old mv.now }
     ensures unchanged { result ≡ false → position.new ≡ position.old }
 {
-    // a clause of `side` says that the position is sound
-    let _side = position.side();
+    position.soundness();
     match *mv {
         Move::Walk { from, to, kind } => position.walk(from, to, kind, danger),
         Move::Put { to, kind } => position.drop_piece(to, kind, danger),
@@ -64,7 +63,8 @@ fn make(position: &mut Position, danger: Danger, mv: &Move) -> bool
 
 /// The position after the move of the side to move.
 ///
-/// The move keeps the rules 3 to 10, as each does for which `judge` answers None to the side to move.
+/// The move keeps the rules 3 to 10, as each does for which `judge` returns None to the side to
+/// move.
 pub fn after(position: &Position, mv: &Move) -> Position
     requires kept { Keeps position.now mv.now }
     ensures value { result ≡ after position.now mv.now }
@@ -75,8 +75,9 @@ pub fn after(position: &Position, mv: &Move) -> Position
     next
 }
 
-// Makes the position the one after the move, or says which of the rules 3 to 10 the side to move breaks first by it; then
-// the position stays as it was. The king of that side may be known to be safe before the move.
+// Makes the position the one after the move, or says which of the rules 3 to 10 the side to move
+// breaks first by it; then the position stays as it was. The king of that side may be known to be
+// safe before the move.
 #[inline(always)]
 pub(crate) fn make_if_kept(position: &mut Position, safe: bool, mv: &Move) -> Option<Rule>
     requires { safe ≡ true → InCheck position.old.material.board position.old.side → ⊥ }
@@ -98,7 +99,8 @@ pub(crate) fn make_if_kept(position: &mut Position, safe: bool, mv: &Move) -> Op
     }
 }
 
-// The position after the move, or the first of the rules 3 to 10 that the side to move breaks by it.
+// The position after the move, or the first of the rules 3 to 10 that the side to move breaks by
+// it.
 pub(crate) fn after_if_kept(position: &Position, mv: &Move) -> Result<Position, Rule>
     ensures { MatchResult result
         (λ next. Keeps position.now mv.now × (next ≡ after position.now mv.now))
@@ -137,16 +139,16 @@ pub fn in_check(position: &Position) -> bool
         .is_some_and(|king| attacked(position, side, king))
 }
 
-// Whether the side to move is in check in the position after a move that fits the board of the one before. If its king is
-// attacked, then by the piece that moved, or in the direction of the square that was left.
+// Whether the side to move is in check in the position after a move that fits the board of the one
+// before. If its king is attacked, then by the piece that moved, or in the direction of the square
+// that was left.
 #[inline(always)]
 pub(crate) fn gives_check(last: &Packed, next: &Position, mv: &Move) -> bool
     requires fits { FitsBoard last.now mv.now }
     requires next { next.now ≡ after last.now mv.now }
     ensures { IsTrue result ↔ InCheck next.now.material.board next.now.side }
 {
-    // clauses of `side` say that both positions are sound
-    let _side = last.side();
+    last.soundness();
     let side = next.side();
     let Some(king) = next.king(side) else {
         return false;

@@ -52,7 +52,7 @@ fn presser(turns: &[Turn], first: usize, fourth: usize) -> Option<Color>
     }
 }
 
-// How a line stands whose last position stands for the fourth time.
+// The verdict on a line whose last position occurs for the fourth time.
 pub(crate) fn verdict_of_stretch(seen: &Seen) -> Verdict
     requires { 0 < length seen.now.turns }
     ensures { (ps : List Placed) (p : Placed) → IsSeen ps p seen.now → IsNth ps p 4 (length seen.now.turns - 1) → StandsByStretch ps p result }
@@ -64,7 +64,7 @@ pub(crate) fn verdict_of_stretch(seen: &Seen) -> Verdict
     }
 }
 
-// How a line stands whose last position stands for less than the fourth time.
+// The verdict on a line whose last position has occurred less than four times.
 pub(crate) fn verdict_by_moves(p: &Position) -> Verdict
     ensures { StandsByMoves p.now result }
 {

@@ -6,7 +6,7 @@ pub enum Rule {
     /// The mover is not the side to move.
     #[error("rule 1 WrongSide")]
     WrongSide,
-    /// The position stands for the fourth time, and the game is over.
+    /// The position occurs for the fourth time, and the game is over.
     #[error("rule 2 RepetitionOver")]
     RepetitionOver,
     /// No piece of the mover stands on the square left, or the hand has none of the kind put down.

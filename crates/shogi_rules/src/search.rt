@@ -5,7 +5,8 @@ ghost use Rattle.shogi_board.specs.declared.kind.Kind.{Kind};
 ghost use Rattle.shogi_board.specs.declared.kind.Kind.TheVariants.{Pawn};
 ghost use Rattle.shogi_rules.specs.Evasions.{MovesFrom};
 ghost use Rattle.shogi_rules.specs.Legal.{Legal, IsPawnDrop};
-ghost use Rattle.shogi_rules.specs.Order.{IsFirstLegal, IsFirstOf, NoneOf, IsWalk, IsDrop, IsDropOf, IsWalkBetween};
+ghost use Rattle.shogi_rules.specs.Order.{IsFirstLegal};
+ghost use Rattle.shogi_rules.specs.Trying.{IsFirstOf, NoneOf, IsWalk, IsDrop, IsDropOf, IsWalkBetween};
 ghost use Rattle.shogi_rules.specs.Verdicts.{NoLegalMove};
 
 use crate::board_rules::own_kind_at;
@@ -142,10 +143,11 @@ fn first_drop(position: &Position) -> Option<Move>
     None
 }
 
-/// The first legal move of the side to move, or None where it has none.
+/// The first legal move of the side to move, or None if it has none.
 ///
-/// Walks come before drops. Walks go by the square left, then by the target, in the order 11, 12, .. 19, 21, .. 99, and
-/// the unpromoted form comes first. Drops go by kind, pawn, lance, knight, silver, gold, bishop, rook, then by target.
+/// Walks come before drops. Walks go by the square left, then by the target, in the order 11, 12,
+/// .. 19, 21, .. 99, and the unpromoted form comes first. Drops go by kind, pawn, lance, knight,
+/// silver, gold, bishop, rook, then by target.
 pub fn first_legal(position: &Position) -> Option<Move>
     ensures first { MatchOption result (NoLegalMove position.now) (λ m. IsFirstLegal position.now m) }
 {

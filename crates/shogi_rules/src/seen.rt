@@ -22,8 +22,7 @@ pub(crate) fn packed_after(last: &Packed, mv: &Move, change: &Change, next: &Pos
     requires next { next.now ≡ after last.now mv.now }
     ensures { result ≡ next.now }
 {
-    // a clause of `side` says that the position is sound
-    let _side = last.side();
+    last.soundness();
     last.followed(next, change)
 }
 
@@ -34,8 +33,8 @@ pub(crate) struct Turn {
     pub in_check: bool,
 }
 
-// The positions of a line: each that stands there with how often and where first, which of them is the last one, and the turn
-// of each place.
+// The positions of a line: each of them once, with how often it occurs and where first; which of
+// them is the last one; and the turn of each place.
 #[derive(Drop)]
 pub(crate) struct Seen {
     counts: Occurrences,
@@ -81,14 +80,14 @@ impl Seen {
         &self.counts.entry(self.here).position
     }
 
-    // How often the last position stands.
+    // How often the last position occurs.
     pub(crate) fn repeats(&self) -> u32
         ensures { (ps : List Placed) (p : Placed) → IsSeen ps p self.now → result ≡ times ps p }
     {
         self.counts.entry(self.here).count
     }
 
-    // How many positions stand before the first place of the last one.
+    // How many positions come before the first place of the last one.
     pub(crate) fn first(&self) -> usize
         ensures { (ps : List Placed) (p : Placed) → IsSeen ps p self.now → IsNth ps p 1 result }
     {
@@ -102,7 +101,8 @@ impl Seen {
         self.turns.as_slice()
     }
 
-    // Adds the position, of which it is known whether its side to move is in check. A refused growth changes nothing.
+    // Adds the position, of which it is known whether its side to move is in check. If an
+    // allocation fails, nothing changes.
     #[inline(always)]
     pub(crate) fn push(&mut self, position: Packed, in_check: bool) -> Result<(), AllocError>
         requires seen { (ps : List Placed) × (p : Placed) × (length ps ≤ max_moves) × IsSeen ps p self.old }

@@ -1,4 +1,4 @@
--- When the engine is asked, and what it has left.
+-- When the engine is asked, and how much time it has left.
 use Rattle.std.proofs.Common.{◌≡◌, ◌↔◌, ℕ, ◌+◌, ◌-◌, ◌<◌, List, [], ◌∷◌, ◌++◌, Bool, true, false, IsTrue, not, Option, None, length, map, drop, get_or, arith, refl, sym, ap, ◌∙◌, subst, append_assoc, if◌then◌else◌}
 use Rattle.std.proofs.lemmas.List.{length-map, append-nil, drop_more, get_or-map}
 use Rattle.shogi_board.specs.declared.color.Color.{Color}
@@ -17,7 +17,7 @@ use Rattle.session_lines.specs.Texts.{ended_line, text_of}
 abbrev played_of : Game → Played
 played_of x = record { start = x.start; moves = map move_of x.moves }
 
--- the side to move is the client and there is room: all hangs on the repetition
+-- the side to move is the client's and there is room: all depends on the repetition
 pub may_ask_now : (g : Match) (game : Game) (client side : Color) (l : Played) (over : Bool) → g.client ≡ client → g.game ≡ game → l ≡ played_of game → side ≡ (now_of l).side → side ≡ client → length l.moves < 10000 → (IsTrue over ↔ Over (all_of l) (now_of l)) → (IsTrue (not over) ↔ MayAsk g)
 may_ask_now g game client side l over cl e is s c few told =
     let same : line_of g ≡ l = ap played_of e ∙ sym is in
@@ -36,7 +36,7 @@ may_ask_now g game client side l over cl e is s c few told =
       λ may. refl,
     )
 
--- the position line and the go line, one behind the other
+-- the position line and then the go line
 pub asked_text : (c : Config) (g : Match) (game : Game) (l : Played) (position before middle after : List ℕ) → MayAsk g → g.game ≡ game → l ≡ played_of game → LineText l.start l.moves position → middle ≡ before ++ ended_line position → after ≡ middle ++ ended_line (go_line c g) → (text : List ℕ) × (after ≡ before ++ text) × IsAsked c g true text
 asked_text c g game l position before middle after may e is told first second =
     let same : line_of g ≡ l = ap played_of e ∙ sym is in

@@ -150,7 +150,7 @@ part P (u ∷ us) vs (s ∷ ss) z f =
       back_fits = rest.back_fits;
     }
 
--- 4. A text and what stands behind its line end
+-- 4. A text and what follows its line end
 statements_join : (offset : ℕ) (text rest : List ℕ) (a b : List TextUnit) → Statements offset text a → Statements (offset + length text + 1) rest b
     → Statements offset (text ++ 10 ∷ rest) (a ++ b)
 statements_join offset text rest a b p q = record {
@@ -252,7 +252,7 @@ no_mark bytes (walked color m) h = other_byte bytes _ h (other_move color m)
 no_mark bytes (time t) h = other_byte bytes _ h.1 refl
 no_mark bytes (ending e) h = other_byte bytes _ h refl
 
--- the text that begins with the mark begins with its first byte
+-- a text that begins with the mark begins with the mark's first byte
 both_left : (a b : Bool) → (a && b) ≡ true → a ≡ true
 both_left true b h = refl
 both_left false b h = absurd cc
@@ -299,7 +299,7 @@ none_read P o text (u ∷ us) ss h z =
     let unit = next_marked h.1.gap u.bytes h.0 text h.1.separators h.1.unit h.1.whole in
     spelt_marked u us ss unit.0 unit.1 z
 
--- it is no statement at the start of a further line
+-- the mark is no statement at the start of a later line
 pub marked_unread : (P : Saying → Type 0) (o : ℕ) (text : List ℕ) → Read P o (239 ∷ text) → ⊥
 marked_unread P o text r = none_read P o text r.cut.units r.sayings r.cut.cut (subst (λ us. AllZip IsSpelt us r.sayings) r.cut.kept r.spelt)
 

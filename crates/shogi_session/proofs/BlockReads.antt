@@ -1,4 +1,4 @@
--- What a position block's lines come to, one after another.
+-- What the lines of a position block are so far, one after another.
 use Rattle.std.proofs.Common.{◌≡◌, ℕ, inl, inr, Bool, true, false, List, [], ◌∷◌, ◌++◌, Result, Ok, Err, append_assoc, refl, sym, ap, subst, ◌∙◌}
 use Rattle.std.specs.List.{AllByRecursion}
 use Rattle.std.specs.Prelude.{IfOk}
@@ -32,7 +32,7 @@ position_in text g p = record { statements = p.statements; sayings = p.sayings; 
 any_in : (text : List ℕ) (g : Game) → Tells text g → ReadText Any text
 any_in text g p = record { statements = p.statements; sayings = p.sayings; cut = p.cut; spelt = p.spelt; fit = any_all p.sayings }
 
--- a line behind others, and what comes behind it
+-- a line after others, and what follows it
 behind_line : (front line more : List ℕ) → ((front ++ 10 ∷ []) ++ (line ++ 10 ∷ [])) ++ more ≡ front ++ 10 ∷ (line ++ 10 ∷ more)
 behind_line front line more =
     append_assoc (front ++ 10 ∷ []) (line ++ 10 ∷ []) more

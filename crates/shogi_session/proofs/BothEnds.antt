@@ -1,4 +1,4 @@
--- A bridge's lines of play are the first of those that the host at the other end wrote.
+-- A bridge's lines of play are the first of those that the host at the other end sent.
 use Rattle.std.proofs.Common.{◌≡◌, ℕ, ◌++◌, Bool, true, false, List, [], ◌∷◌, Option, Some, None, refl, sym, ap, subst, ◌∙◌, append_assoc}
 use Rattle.std.specs.List.{filter, cons_option}
 use Rattle.std.proofs.lemmas.List.{append-nil}
@@ -19,7 +19,7 @@ use Rattle.session_peers.proofs.HostGame.{NoStart, none_yet}
 use Rattle.session_peers.proofs.OneStart.{one_start}
 use Rattle.session_table.proofs.Onward.{step, counted_in, counted_out}
 
--- 1. the lines behind START:
+-- 1. the lines after START:
 by_line : (x : Step) (xs : Steps) (o : Option (List ℕ)) (v : Bool) → heard x ≡ o → passes is_start_line o ≡ v
     → server_lines (behind hears_start xs) ≡ behind_start (server_lines xs) → server_lines (behind hears_start (x ∷ xs)) ≡ behind_start (server_lines (x ∷ xs))
 by_line x xs None true e f h = absurd (let g : false ≡ true = f in cc)
@@ -42,7 +42,7 @@ by_agree : (x : Step) (xs : Steps) (v : Bool) → agrees x ≡ v → Front (serv
 by_agree x xs true e h = rw e (front_more (heard x) (server_lines xs) (server_lines xs) ([], refl))
 by_agree x xs false e h = rw e (front_more (heard x) (server_lines xs) (server_lines (behind agrees xs)) h)
 
--- the lines behind AGREE stand at the end
+-- the lines after AGREE are the last
 front_of : (xs : Steps) → Front (server_lines xs) (server_lines (behind agrees xs))
 front_of [] = ([], refl)
 front_of (x ∷ xs) = by_agree x xs (agrees x) refl (front_of xs)
@@ -74,7 +74,7 @@ by_first f fs d x true e more h =
     (behind_start (f ∷ (fs ++ (d ++ x))), ap (λ ls. ls ++ behind_start (f ∷ (fs ++ (d ++ x)))) (sym none))
 by_first f fs d x false e more h = rw e (more (rw e at h))
 
--- where START: stands once at most, the lines behind the one in a part are those behind the one in the whole
+-- if START: occurs at most once, the lines after it in a part are the first of those in the whole
 inner : (fs d x : Lines) → NoStart (behind_start (fs ++ (d ++ x))) → IsPrefix (behind_start d) (behind_start (fs ++ (d ++ x)))
 inner [] d x h = longer d x
 inner (f ∷ fs) d x h = by_first f fs d x (is_start_line f) refl (inner fs d x) h

@@ -1,5 +1,5 @@
 -- How the calls of a bridge keep what they promise.
-use Rattle.std.proofs.Common.{◌≡◌, ℕ, List, Some, None, refl, sym, ap, subst, ◌∙◌}
+use Rattle.std.proofs.Common.{◌≡◌, ℕ, length, List, Some, None, refl, sym, ap, subst, ◌∙◌}
 use Rattle.csa_record.specs.Canon.{canon}
 use Rattle.session_table.specs.declared.config.Config.{Config}
 use Rattle.session_table.specs.declared.event.Out.{Out as Answered}
@@ -12,7 +12,7 @@ use Rattle.shogi_session.specs.declared.phase.Play.{Play as Own}
 use Rattle.session_table.specs.declared.state.EngineState.{EngineState}
 use Rattle.csa_record.specs.Game.{Game}
 use Rattle.session_table.specs.Events.{Event, Out, no_lines, trimmed}
-use Rattle.session_table.specs.GameTold.{game_of}
+use Rattle.session_table.specs.GameTold.{HasMoves, game_of}
 use Rattle.shogi_session.specs.Phases.{IsPhase, Reacts, Stays, client_of, going}
 use Rattle.session_table.specs.Promises.{IsGameText, game_text, no_game, Session, Steps, KeepsGame, before, after}
 use Rattle.session_table.specs.Row.{Row, unnamed}
@@ -43,8 +43,18 @@ pub text_none : (s : State) (x : Phase) → s.client ≡ client_of x → ((o : G
     → IsGameText s None
 text_none s x at h k = no_game (ap game_of at ∙ nothing_told x h k)
 
+pub moves_offered : (client : Client) (x : Phase) (o : GameOffer) (n : ℕ) → client ≡ client_of x → x ≡ phases.Agreeing o → n ≡ length o.game.moves → HasMoves client n
+moves_offered client x o n at is count = (o.game, ap game_of at ∙ ap (λ y. game_of (client_of y)) is, count)
+
+pub moves_told : (client : Client) (x : Phase) (p : Own) (n : ℕ) → client ≡ client_of x → x ≡ phases.InGame p → IsPhase x → n ≡ length p.game.moves → HasMoves client n
+moves_told client x p n at is keeps count = (p.game, ap game_of at ∙ ap (λ y. game_of (client_of y)) is ∙ (subst IsPhase is keeps).game, count)
+
+pub no_moves : (client : Client) (x : Phase) → client ≡ client_of x → ((o : GameOffer) → x ≡ phases.Agreeing o → ⊥) → ((p : Own) → x ≡ phases.InGame p → ⊥)
+    → game_of client ≡ None
+no_moves client x at h k = ap game_of at ∙ nothing_told x h k
+
 -- 2. step
--- the game that is kept does not hang on the status after it
+-- the game that is kept does not depend on the status after it
 lost_game : (c : Config) (engine engine_after : EngineState) (client client_after : Client) (z : Status) (e : Event)
     → KeepsGame c (going engine client) e (going engine_after client_after)
     → KeepsGame c (going engine client) e (record { engine = engine_after; client = client_after; status = z })
@@ -76,7 +86,7 @@ pub server_told : (c : Config) (s t : State) (e : Event) (o out : Out) (text : L
     → Row c s e out t → text ≡ text_of out.to_server
 server_told c s t e o out text row is other = is ∙ ap (λ (x : Out). text_of x.to_server) (row_once c s t t e o out row other).0
 
--- where memory is refused
+-- if an allocation fails
 pub lost : (c : Config) (engine engine_after : EngineState) (client client_after : Client) (z z_after : Status) (old new : Session) (e : Event)
     → old ≡ session c engine client z → z ≡ Going → new ≡ session c engine_after client_after z_after
     → Stays c engine client (trimmed e) engine_after client_after → KeepsGame old.config old.state (trimmed e) new.state

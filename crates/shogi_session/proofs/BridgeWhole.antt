@@ -1,4 +1,4 @@
--- The lines that a bridge gives are whole, and their bytes are cut back into them.
+-- The lines that a bridge sends are whole, and their bytes are cut back into them.
 use Rattle.std.proofs.Common.{◌≡◌, ℕ, ◌≤◌, ◌++◌, inl, inr, List, [], ◌∷◌, Option, Some, None, codes, decimal, arith, refl, sym, subst, append-nil}
 use Rattle.std.specs.List.{AllByRecursion, flat_map}
 use Rattle.shogi_board.specs.declared.color.Color.{Color}
@@ -21,7 +21,8 @@ use Rattle.usi_text.specs.Moves.{UsiMove}
 use Rattle.usi_text.specs.Sfen.{side_text}
 use Rattle.usi_text.specs.SfenText.{both_piles, board_text, hands_text, sfen_text}
 use Rattle.session_lines.specs.LineTexts as texts
-use Rattle.session_lines.specs.ServerLines.{Outcome, win, lose, draw, censored, chudan}
+use Rattle.session_lines.specs.declared.server_words.GameResult.{GameResult}
+use Rattle.session_lines.specs.declared.server_words.GameResult.TheVariants.{Win, Lose, Draw, Censored, Chudan}
 use Rattle.session_lines.specs.Texts.{text_of, without_last_spaces}
 use Rattle.session_peers.proofs.WholeLines.{IsVisible, IsWhole, AllWhole, behind, both, cut_back, decimal_visible, login_word, move_visible, number, plain_visible, text, told_run, unspaced_all, visible_more, visible_run, word}
 use Rattle.session_table.specs.declared.config.Config.{Config}
@@ -129,12 +130,12 @@ login_whole c h =
 move_whole : (color : Color) (m : TheMove) → IsWhole (move_text color m)
 move_whole color m = word (move_text color m) (omega arith) (move_visible color m)
 
-gameover_whole : (o : Outcome) → IsWhole (gameover_line o)
-gameover_whole win = text _ refl refl (omega arith)
-gameover_whole lose = text _ refl refl (omega arith)
-gameover_whole draw = text _ refl refl (omega arith)
-gameover_whole censored = text _ refl refl (omega arith)
-gameover_whole chudan = text _ refl refl (omega arith)
+gameover_whole : (o : GameResult) → IsWhole (gameover_line o)
+gameover_whole Win = text _ refl refl (omega arith)
+gameover_whole Lose = text _ refl refl (omega arith)
+gameover_whole Draw = text _ refl refl (omega arith)
+gameover_whole Censored = text _ refl refl (omega arith)
+gameover_whole Chudan = text _ refl refl (omega arith)
 
 -- 3. Each row
 abbrev Fits : Out → Type 0

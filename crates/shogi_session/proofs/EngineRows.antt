@@ -12,7 +12,7 @@ use Rattle.session_table.specs.declared.event.Out.{Out as Answered}
 use Rattle.session_table.specs.declared.event.Status.{Status}
 use Rattle.session_table.specs.declared.event.Status.TheVariants.{Going, Failed}
 use Rattle.session_table.specs.declared.fault.SessionFault.TheVariants.{EngineGone}
-use Rattle.shogi_session.specs.declared.phase.Answer.{Answer as Given}
+use Rattle.session_table.specs.declared.state.Answer.{Answer as Given}
 use Rattle.shogi_session.specs.declared.phase.Play.{Play as Own}
 use Rattle.shogi_session.specs.declared.phase.Stage.{Stage as OwnStage}
 use Rattle.shogi_session.specs.declared.phase.Stage.TheVariants as stages
@@ -23,7 +23,7 @@ use Rattle.session_table.specs.declared.state.EngineState.TheVariants.{New, Gree
 use Rattle.shogi_session.specs.EngineAnswers.{Answers}
 use Rattle.session_table.specs.Events.{Event, begin, engine_line, engine_end, Out, no_lines, engine}
 use Rattle.session_table.specs.GameTold.{game_of}
-use Rattle.shogi_session.specs.Phases.{Reacts, Stays, Same, answer_of, answer_text, given_for, going, match_in, play_client, slip_with, staged}
+use Rattle.shogi_session.specs.Phases.{Reacts, Stays, Same, answer_text, given_for, going, match_in, play_client, slip_with, staged}
 use Rattle.session_table.specs.Promises.{before}
 use Rattle.session_table.specs.Row.{TableRow, IsUnnamed, in_table, unnamed, IsBestMove, login_line, failed}
 use Rattle.session_table.specs.Row as row
@@ -53,7 +53,7 @@ still c known engine engine_after client client_after e o u at f g h k s =
     subst (λ x. Reacts c engine client e o x client_after) (sym f) (subst (λ x. Reacts c engine client e o engine x) (sym g)
     (by_none c engine client e o (subst (λ x. IsUnnamed c (going x client) e) (sym at) u) h k s))
 
--- nothing has changed for want of memory
+-- nothing has changed, as memory ran out
 pub stays : (c : Config) (engine engine_after : EngineState) (client client_after : Client) (e : Event)
     → Same engine client engine_after client_after → Stays c engine client e engine_after client_after
 stays c engine engine_after client client_after e h =
@@ -80,7 +80,7 @@ readied c engine client line o at ok h k s =
 answered : (c : Config) (engine : EngineState) (client : Client) (g : Match) (line : List ℕ) (a : EngineAnswer) (o : Answered)
     → engine ≡ Thinking → client ≡ playing g → Answers (position_now g) line a
     → o.to_engine ≡ [] → o.to_server ≡ ended_line (answer_text g.client a) → o.status ≡ Going
-    → Reacts c engine client (engine_line line) o Ready (sent (record g { slip = slip_with a g.slip }) (answer_of (given_for a)))
+    → Reacts c engine client (engine_line line) o Ready (sent (record g { slip = slip_with a g.slip }) (given_for a))
 answered c engine client g line (says.Move m) o at here a h k s =
     by_row c engine Ready client _ (engine_line line) o _ Going
     (row.engine_moves g line a.0 m at here refl a.1 (record { word_is = a.2; legal = a.3 }) refl refl) s h (k ∙ one_text (answer_text g.client (says.Move m)))
@@ -98,10 +98,10 @@ answered c engine client g line says.Slip o at here a h k s =
 pub answered_play : (c : Config) (engine : EngineState) (p : Own) (line : List ℕ) (a : EngineAnswer) (o : Answered) (now : Placed) (given : Given) (slip : Bool)
     → engine ≡ Thinking → p.stage ≡ OwnPlaying → now ≡ position_now (match_in p) → Answers now line a → given ≡ given_for a → slip ≡ slip_with a p.slip
     → o.to_engine ≡ [] → o.to_server ≡ ended_line (answer_text p.client a) → o.status ≡ Going
-    → Reacts c engine (play_client p) (engine_line line) o Ready (sent (record (match_in p) { slip = slip }) (answer_of given))
+    → Reacts c engine (play_client p) (engine_line line) o Ready (sent (record (match_in p) { slip = slip }) given)
 answered_play c engine p line a o now given slip at here position says given_is slip_is h k s =
-    subst (λ x. Reacts c engine (play_client p) (engine_line line) o Ready (sent (record (match_in p) { slip = slip }) (answer_of x))) (sym given_is)
-    (subst (λ x. Reacts c engine (play_client p) (engine_line line) o Ready (sent (record (match_in p) { slip = x }) (answer_of (given_for a)))) (sym slip_is)
+    subst (λ x. Reacts c engine (play_client p) (engine_line line) o Ready (sent (record (match_in p) { slip = slip }) x)) (sym given_is)
+    (subst (λ x. Reacts c engine (play_client p) (engine_line line) o Ready (sent (record (match_in p) { slip = x }) (given_for a))) (sym slip_is)
     (answered c engine (play_client p) (match_in p) line a o at (ap (staged (match_in p) p.game) here) (subst (λ x. Answers x line a) position says) h k s))
 
 pub late : (c : Config) (engine : EngineState) (client : Client) (line word : List ℕ) (o : Answered) → engine ≡ Thinking

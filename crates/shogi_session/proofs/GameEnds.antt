@@ -15,10 +15,12 @@ use Rattle.csa_record.specs.Says.{time_items}
 use Rattle.csa_record.specs.Tells.{IsSpelt}
 use Rattle.session_table.specs.GameTold.{ending_of}
 use Rattle.shogi_session.specs.Phases.{kept_of}
-use Rattle.session_lines.specs.ServerLines.{Outcome, Reason, TellsEnding, TellsTimed}
+use Rattle.session_lines.specs.declared.server_words.GameResult.{GameResult}
+use Rattle.session_lines.specs.declared.server_words.EndReason.{EndReason}
+use Rattle.session_lines.specs.ServerLines.{TellsEnding, TellsTimed}
 use Rattle.session_table.specs.State.{game_with}
 
--- 1. the time that a line tells
+-- 1. the time that a line spells
 last_time : (us : List TextUnit) (s : Saying) (o : Option ℕ) → AllZip IsSpelt us (s ∷ time_items o) → IfSome o (λ t. t ≤ 4294967295999)
 last_time us s None h = tt
 last_time [] s (Some t) h = absurd h
@@ -71,9 +73,9 @@ timed_move old first new m time r none e so is =
     ap (λ (ms : List Timed). record old { moves = ms; ending = None }) (with_last old.moves m time) in
     now ∙ (next ∙ (last ∙ ap (λ (x : Option Ended). record old { moves = old.moves ++ record { move = m; time = Some time } ∷ []; ending = x }) (sym none)))
 
--- 3. what was told of an ending
+-- 3. what was said of an ending
 
--- the ending that a game was told, once it has one
-pub kept_again : (client : Color) (k : Option Ended) (why : Option Reason) (o : Outcome) → kept_of (is_some k) (ending_of client k why (Some o)) ≡ k
+-- the ending of a game, once it was sent one
+pub kept_again : (client : Color) (k : Option Ended) (why : Option EndReason) (o : GameResult) → kept_of (is_some k) (ending_of client k why (Some o)) ≡ k
 kept_again client None why o = refl
 kept_again client (Some k) why o = refl

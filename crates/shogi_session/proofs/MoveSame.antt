@@ -1,4 +1,4 @@
--- Moves are equal where their parts are.
+-- Moves are equal if their parts are.
 use Rattle.std.proofs.Common.{rules, ◌≡◌, ◌==◌, true, false, Bool, ◌&&◌, refl, ap, ◌∙◌}
 use Rattle.std.specs.Bool.{Decides}
 use Rattle.std.proofs.lemmas.Bool.Decides.{Decides-eqb}

@@ -1,4 +1,4 @@
--- What a cutter hands out next, as an item.
+-- What a cutter yields next, as an item.
 use Rattle.std.proofs.Common.{◌≡◌, ℕ, ◌≤◌, List, ◌∷◌, length, drop, slice_range, Ok, Err, Some, arith, refl, subst, inr}
 use Rattle.csa_cutting.proofs.Fronts.{length_between}
 use Rattle.csa_cutting.proofs.Runs.{found}
@@ -14,7 +14,7 @@ use Rattle.csa_record.specs.Tells.{IsSpelt}
 use Rattle.shogi_session.specs.NextItems.{StepsOver, IsUnread, unread, Next, FaultAt, EndFault, LastTime}
 use Rattle.session_lines.specs.ServerLines.{another, extra}
 
--- a cutter that handed out a statement
+-- a cutter that yielded a statement
 pub record Handed (c d : Cutting) (number offset : ℕ) (bytes : List ℕ) : Type 0 where
   pub same : d.source ≡ c.source
   pub out : IsHandedOut c d number offset bytes
@@ -37,7 +37,7 @@ pub handed_spelt : (c d : Cutting) (number offset : ℕ) (bytes : List ℕ) (s :
 handed_spelt c d number offset bytes s h spells =
     (handed_short c d number offset bytes h, subst (λ b. Spells b s) h.out.slice spells)
 
--- some statements stand behind it
+-- some statements follow it
 pub handed_first : (c d : Cutting) (number offset : ℕ) (bytes : List ℕ) → Handed c d number offset bytes
     → (behind : List TextUnit) × ToCome c (unit_of c d offset ∷ behind)
 handed_first c d number offset bytes h =
@@ -62,14 +62,14 @@ next_unread c d number offset bytes fault h none e =
     let first = handed_first c d number offset bytes h in
     (unit_of c d offset, first.0, first.1, handed_unread c d number offset bytes fault h none e)
 
--- the next item is another one than is wanted
+-- the next item is another than the expected one
 pub other_item : (old new : Cutting) (item : Item) (Wanted : Saying → Type 0) → Next old (Ok (Some item)) new → (Wanted (saying_of item) → ⊥)
     → FaultAt old Wanted Unknown
 other_item old new item Wanted next unwanted =
     let rest = found new.at (drop new.at new.source) in
     (next.0, rest.0, next.2 rest.0 rest.1, another (saying_of item) next.1 unwanted refl)
 
--- a statement is left where none is wanted
+-- a statement where none is expected
 pub extra_statement : (c d : Cutting) (number offset : ℕ) (bytes : List ℕ) → Handed c d number offset bytes → EndFault c Unknown
 extra_statement c d number offset bytes h =
     let first = handed_first c d number offset bytes h in

@@ -20,7 +20,7 @@ position_named text black white g named p e = record {
   says = subst (Says p.sayings) (sym (ap nameless e)) p.says;
 }
 
--- a game of the only position block, whose names are those that were heard
+-- a game of the only position block, with the names of the summary
 pub offer_told : (h : Heard) (positions : Positions) (g : Game) (o : GameOffer) → h.begun ≡ None → h.positions ≡ ended_blocks positions
     → IsClientTold h.black h.white h.turn o.client → IsGameIn positions (Some g) → IsNamed g h.black h.white o.game → TellsOffer h (offer_in o)
 offer_told h Missing g o whole blocks told game named = absurd game
@@ -46,7 +46,7 @@ none_told h (One text) blocks game o told =
     game o.game (subst (λ x. TellsPosition x o.game) (same_text text told.text (sym blocks ∙ told.one_position)) told.position)
 none_told h Several blocks game o told = let same = sym blocks ∙ told.one_position in absurd cc
 
--- the same of slices of these texts
+-- the same for slices of these texts
 pub client_sliced : (black white turn b w t : List ℕ) (client color : Color) → b ≡ black → w ≡ white → t ≡ turn → color ≡ client
     → IsClientTold b w t client → IsClientTold black white turn color
 client_sliced black white turn b w t client color same-b same-w same-t same told =

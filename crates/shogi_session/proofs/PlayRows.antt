@@ -17,13 +17,11 @@ use Rattle.session_table.specs.declared.event.Out.{Out as Answered}
 use Rattle.session_table.specs.declared.event.Status.TheVariants.{Going, Failed}
 use Rattle.session_table.specs.declared.fault.MoveCause.TheVariants.{Refused, Unsent}
 use Rattle.session_table.specs.declared.fault.SessionFault.TheVariants.{BadServerMove}
-use Rattle.shogi_session.specs.declared.phase.Answer.TheVariants as given
+use Rattle.session_table.specs.declared.state.Answer.TheVariants as given
 use Rattle.shogi_session.specs.declared.phase.Play.{Play as Own}
 use Rattle.shogi_session.specs.declared.phase.Stage.{Stage as OwnStage}
 use Rattle.shogi_session.specs.declared.phase.Stage.TheVariants as stages
 use Rattle.shogi_session.specs.declared.phase.Told.{Told}
-use Rattle.shogi_session.specs.declared.server_words.EndReason.{EndReason}
-use Rattle.shogi_session.specs.declared.server_words.GameResult.{GameResult}
 use Rattle.session_table.specs.declared.state.EngineState.{EngineState}
 use Rattle.session_table.specs.declared.state.EngineState.TheVariants.{Thinking, Ended as EngineEnded}
 use Rattle.shogi_session.specs.Asked.{IsAsked}
@@ -31,13 +29,14 @@ use Rattle.session_table.specs.Asking.{asked, not_asked}
 use Rattle.session_table.specs.Events.{Event, server_line, engine}
 use Rattle.session_table.specs.GameTold.{ending_of, game_of}
 use Rattle.session_lines.specs.MoveLines.{is_move_line}
-use Rattle.shogi_session.specs.Phases.{Confirms, GoesOn, IsAskText, IsOn, IsPlay, KeepsEnding, Reacts, Same, Stays, TellsEnd, closed, finish_of, kept_of, match_in, play_client, reason_of, staged, waiting_in, why_of}
+use Rattle.shogi_session.specs.Phases.{Confirms, GoesOn, IsAskText, IsOn, IsPlay, KeepsEnding, Reacts, Same, Stays, TellsEnd, closed, finish_of, kept_of, match_in, play_client, staged, waiting_in, why_of}
 use Rattle.session_table.specs.Promises.{after}
 use Rattle.session_table.specs.Row.{Play, in_play, before_result, in_table, IsRefused, IsExpected, Judged, gameover_line, with_reason}
 use Rattle.session_table.specs.Row as row
-use Rattle.session_lines.specs.ServerLines.{Outcome, Reason, is_ending_line, is_hash_line, outcome_of, TellsEnding, TellsTimed, FirstTextFault}
+use Rattle.session_lines.specs.declared.server_words.GameResult.{GameResult}
+use Rattle.session_lines.specs.declared.server_words.EndReason.{EndReason}
+use Rattle.session_lines.specs.ServerLines.{is_ending_line, is_hash_line, outcome_of, TellsEnding, TellsTimed, FirstTextFault}
 use Rattle.session_lines.specs.ServerLines as lines
-use Rattle.shogi_session.specs.ServerWords.{outcome, reason as reason_is}
 use Rattle.session_table.specs.State.{Match, Finish, Client, playing, reason, closing, client_state, slip_of, line_of, game_with, with_move}
 use Rattle.session_lines.specs.Texts.{text_of}
 use Rattle.session_table.proofs.AlwaysAsks.{some_ask}
@@ -46,7 +45,7 @@ use Rattle.shogi_session.proofs.GameEnds.{kept_again}
 use Rattle.session_table.proofs.Tied.{may_follow, legal_more}
 use Rattle.shogi_session.proofs.Unnamed.{other_in_play}
 
--- 1. A game that is on
+-- 1. A game in play
 abbrev pub play_of : Own → Play
 play_of p = record { game = match_in p; waiting = waiting_in p.stage }
 
@@ -90,8 +89,8 @@ ending_in (Some g) = g.ending
 no_ending : (p : Own) → IsOn p.stage → IsPlay p → p.game.ending ≡ None
 no_ending p on h = sym (ap ending_in (sym (game_by (match_in p) p.game p.stage on) ∙ h.game))
 
--- 2. What was told of its end
-open_ending : (client : Color) (k : Option Ended) (why : Option Reason) → ending_of client k why None ≡ k
+-- 2. What was said of its end
+open_ending : (client : Color) (k : Option Ended) (why : Option EndReason) → ending_of client k why None ≡ k
 open_ending client None why = refl
 open_ending client (Some k) why = refl
 
@@ -101,7 +100,7 @@ kept_by p stages.Playing told t h = ap (λ (x : Told). kept_of x.ending p.game.e
 kept_by p (stages.Sent a) told t h = ap (λ (x : Told). kept_of x.ending p.game.ending) t ∙ ap ending_in h
 kept_by p (stages.Reason first) told t h =
     ap (λ (x : Told). kept_of x.ending p.game.ending) t
-    ∙ (sym (open_ending p.client (kept_of first.ending p.game.ending) (reason_of first.reason)) ∙ ap ending_in h)
+    ∙ (sym (open_ending p.client (kept_of first.ending p.game.ending) first.reason) ∙ ap ending_in h)
 kept_by p (stages.Closing first end) told t h = absurd t
 kept_by p (stages.Ended first end) told t h = absurd t
 
@@ -115,19 +114,19 @@ before_by g game (stages.Reason first) told t = ap (λ (x : Told). Some (g, fini
 before_by g game (stages.Closing first end) told t = absurd t
 before_by g game (stages.Ended first end) told t = absurd t
 
-abbrev finish : Option Ended → Option Reason → Finish
+abbrev finish : Option Ended → Option EndReason → Finish
 finish kept why = record { kept = kept; reason = why }
 
 -- 3. A reason
 pub reason_row : (c : Config) (engine : EngineState) (p new : Own) (told later : Told) (line : List ℕ) (why : EndReason) (o : Answered)
     → TellsEnd p.stage told → is_hash_line line ≡ true → outcome_of line ≡ None
-    → ((game : Game) → finish_of game later ≡ with_reason (finish_of game told) (reason_is why)) → reason_is why ≡ lines.reason_of line
+    → ((game : Game) → finish_of game later ≡ with_reason (finish_of game told) why) → why ≡ lines.reason_of line
     → new ≡ record p { stage = stages.Reason later }
     → o.to_engine ≡ [] → o.to_server ≡ [] → o.status ≡ Going
     → Reacts c engine (play_client p) (server_line line) o engine (play_client new)
 reason_row c engine p new told later line why o t hash none told_so why_is is h k s =
     let finished : finish_of p.game later ≡ with_reason (finish_of p.game told) (lines.reason_of line) =
-    told_so p.game ∙ ap (λ (x : Reason). with_reason (finish_of p.game told) x) why_is in
+    told_so p.game ∙ ap (λ (x : EndReason). with_reason (finish_of p.game told) x) why_is in
     let now : Reacts c engine (play_client p) (server_line line) o engine (reason (match_in p) (with_reason (finish_of p.game told) (lines.reason_of line))) =
     by_row c engine engine (play_client p) _ (server_line line) o _ Going
     (row.reason_told (match_in p) (finish_of p.game told) line (before_by (match_in p) p.game p.stage told t) refl hash none refl refl) s h k in
@@ -136,29 +135,29 @@ reason_row c engine p new told later line why o t hash none told_so why_is is h 
 
 -- 4. A result
 abbrev ended_play : Own → Option EndReason → Told → GameResult → Own
-ended_play p why later r = record p { game = closed p why (outcome r); stage = stages.Closing later r }
+ended_play p why later r = record p { game = closed p why r; stage = stages.Closing later r }
 
 finish_later : (p : Own) (why : Option EndReason) (later : Told) (r : GameResult) → later.ending ≡ is_some p.game.ending → later.reason ≡ why
-    → finish_of (closed p why (outcome r)) later ≡ finish p.game.ending (reason_of why)
+    → finish_of (closed p why r) later ≡ finish p.game.ending why
 finish_later p why later r has same =
-    let kept : kept_of later.ending (ending_of p.client p.game.ending (reason_of why) (Some (outcome r))) ≡ p.game.ending =
-    ap (λ b. kept_of b (ending_of p.client p.game.ending (reason_of why) (Some (outcome r)))) has
-    ∙ kept_again p.client p.game.ending (reason_of why) (outcome r) in
-    ap (λ x. finish x (reason_of later.reason)) kept ∙ ap (λ x. finish p.game.ending (reason_of x)) same
+    let kept : kept_of later.ending (ending_of p.client p.game.ending why (Some r)) ≡ p.game.ending =
+    ap (λ b. kept_of b (ending_of p.client p.game.ending why (Some r))) has
+    ∙ kept_again p.client p.game.ending why r in
+    ap (λ x. finish x later.reason) kept ∙ ap (λ x. finish p.game.ending x) same
 
 pub result_row : (c : Config) (engine : EngineState) (p new : Own) (told later : Told) (line : List ℕ) (r : GameResult) (o : Answered)
-    → TellsEnd p.stage told → IsPlay p → outcome_of line ≡ Some (outcome r)
+    → TellsEnd p.stage told → IsPlay p → outcome_of line ≡ Some r
     → later.ending ≡ is_some p.game.ending → later.reason ≡ told.reason → new ≡ ended_play p told.reason later r
-    → o.to_engine ≡ text_of (gameover_line (outcome r) ∷ codes "quit" ∷ []) → o.to_server ≡ text_of (codes "LOGOUT" ∷ []) → o.status ≡ Going
+    → o.to_engine ≡ text_of (gameover_line r ∷ codes "quit" ∷ []) → o.to_server ≡ text_of (codes "LOGOUT" ∷ []) → o.status ≡ Going
     → Reacts c engine (play_client p) (server_line line) o EngineEnded (play_client new)
 result_row c engine p new told later line r o t h end has same is to_engine to_server s =
-    let finished : finish_of (closed p told.reason (outcome r)) later ≡ finish_of p.game told =
-    finish_later p told.reason later r has same ∙ ap (λ x. finish x (reason_of told.reason)) (sym (kept_so p told t h)) in
-    let now : Reacts c engine (play_client p) (server_line line) o EngineEnded (closing (match_in p) (finish_of p.game told) (outcome r)) =
+    let finished : finish_of (closed p told.reason r) later ≡ finish_of p.game told =
+    finish_later p told.reason later r has same ∙ ap (λ x. finish x told.reason) (sym (kept_so p told t h)) in
+    let now : Reacts c engine (play_client p) (server_line line) o EngineEnded (closing (match_in p) (finish_of p.game told) r) =
     by_row c engine EngineEnded (play_client p) _ (server_line line) o _ Going
-    (row.result_told (match_in p) (finish_of p.game told) line (outcome r) (before_by (match_in p) p.game p.stage told t) refl end refl refl) s to_engine to_server in
+    (row.result_told (match_in p) (finish_of p.game told) line r (before_by (match_in p) p.game p.stage told t) refl end refl refl) s to_engine to_server in
     subst (λ (x : Own). Reacts c engine (play_client p) (server_line line) o EngineEnded (play_client x)) (sym is)
-    (subst (λ (f : Finish). Reacts c engine (play_client p) (server_line line) o EngineEnded (closing (match_in p) f (outcome r))) (sym finished) now)
+    (subst (λ (f : Finish). Reacts c engine (play_client p) (server_line line) o EngineEnded (closing (match_in p) f r)) (sym finished) now)
 
 -- 5. Asking
 pub open_match : (p : Own) → p.game.ending ≡ None → (match_in p).game ≡ p.game
@@ -182,7 +181,7 @@ goes_on c engine later p before text was_asked o h e to_engine to_server s = rec
 }
 
 -- 6. A move
--- what playing it on the line of the match answers
+-- the result of playing it on the line of the match
 pub answers_so : (g : Match) (played : Played) (color : Color) (m : shogi.Move) (found answer : Option PlayFault) → played ≡ line_of g → found ≡ answer
     → Answers played color m found → Answers (line_of g) color m answer
 answers_so g played color m found answer same is a =

@@ -1,4 +1,4 @@
--- How the text of a position block is gone through.
+-- How the text of a position block is read.
 use Rattle.std.proofs.Common.{◌≡◌, ◌<◌, ◌≤◌, ◌-◌, ◌↔◌, IsTrue, ℕ, Bool, true, false, List, [], ◌∷◌, ◌++◌, length, append_assoc, append-nil, arith, refl, sym, subst}
 use Rattle.std.specs.List.{AllByRecursion, AllZip}
 use Rattle.csa_cutting.proofs.Once.{statements_once}
@@ -13,7 +13,7 @@ use Rattle.session_lines.proofs.OneStatement.{AtStart, whole}
 use Rattle.session_table.proofs.PositionFits.{FitsIn, not_so}
 use Rattle.shogi_session.specs.PositionTexts.{SpellsPosition, IsPositionText}
 
--- the statements that were handed out are of these kinds, and what is still to come stands behind them
+-- the statements so far are of these kinds, and the rest follows them
 pub record HasRead (text : List ℕ) (c : Cutting) : Type 0 where
   pub source : c.source ≡ text
   pub handed : List TextUnit

@@ -1,4 +1,4 @@
--- What a line of the server tells, by what its cutter hands out.
+-- What a line of the server spells, by what its cutter yields.
 use Rattle.std.proofs.Common.{◌≡◌, ◌||◌, ◌==◌, ℕ, true, false, not, filter, List, [], ◌∷◌, ◌++◌, length, Option, Some, None, Ok, Err, ◌⊎◌, inl, inr, arith, refl, ap, subst}
 use Rattle.std.proofs.lemmas.Bool.{cases_Bool}
 use Rattle.std.proofs.lemmas.Bool.Decides.{Decides-eqb}
@@ -39,7 +39,7 @@ later_fault line c d u color m fault start spelt leads (inr at) =
     more u at.0 at.1 at.2 color m at.3 (whole line c (u ∷ at.0 ∷ at.1 ∷ at.2) start (leads (at.0 ∷ at.1 ∷ at.2) at.4)) spelt at.5 at.6
 
 -- 3. No ending
--- a statement with a fault spells nothing that is wanted
+-- a statement with a fault spells nothing that is expected
 not_wanted : (Wanted : Saying → Type 0) (u : TextUnit) (fault : TextFault) (s : Saying) → UnitFault Wanted u fault → Wanted s → IsSpelt u s → ⊥
 not_wanted Wanted u fault s (too_long long e) wanted spelt = let short = spelt.0 in absurd (omega (arith, long, short))
 not_wanted Wanted u fault s (unread short none e) wanted spelt = none s spelt.1
@@ -49,7 +49,7 @@ not_wanted Wanted u fault s (another other is unwanted e) wanted spelt =
 cut_same : (line : List ℕ) (us vs : List TextUnit) → IsCut line us → IsCut line vs → us ≡ vs
 cut_same line us vs a b = statements_once _ _ us vs a b
 
--- the items that the statements of a line spell, where its statements are these
+-- the items that a line spells, if its statements are these
 at_these : (line : List ℕ) (us : List TextUnit) (ss : List Saying) → IsCut line us → IsLineOf line ss → AllZip IsSpelt us ss
 at_these line us ss cut told = subst (λ vs. AllZip IsSpelt vs ss) (cut_same line told.0 us told.1 cut) told.2
 
@@ -61,7 +61,7 @@ no_ending line c fault start at e told =
     let all = at_these line (at.0 ∷ at.1) (ending e.ending ∷ time_items e.time) (whole line c (at.0 ∷ at.1) start at.2) told in
     not_wanted IsEnding at.0 fault (ending e.ending) at.3 (e.ending, refl) all.0
 
--- behind the first statement, the items of a time
+-- after the first statement, the items of a time
 no_time_there : (v : TextUnit) (vs : List TextUnit) (fault : TextFault) (t : Option ℕ) → UnitFault IsTime v fault → AllZip IsSpelt (v ∷ vs) (time_items t) → ⊥
 no_time_there v vs fault None at all = absurd all
 no_time_there v vs fault (Some t) at all = not_wanted IsTime v fault (time t) at (t, refl) all.0
@@ -81,7 +81,7 @@ no_last_time line c d u fault start leads (inr at) e told =
     let all = at_these line (u ∷ at.0 ∷ at.1 ∷ at.2) (ending e.ending ∷ time_items e.time) cut told in
     two_there at.0 at.1 at.2 e.time all.1
 
--- 4. A line from `+` or `-` has a statement
+-- 4. A line that begins with `+` or `-` has a statement
 gap_none : (x : ℕ) (bs gap others : List ℕ) → is_separator x ≡ false → IsGap gap → x ∷ bs ≡ gap ++ others → gap ≡ []
 gap_none x bs [] others s gap e = refl
 gap_none x bs (g ∷ gs) others s gap e = let same : x ≡ g = cc in let separates = rw (← same) at gap.0 in absurd cc

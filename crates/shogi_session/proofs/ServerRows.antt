@@ -14,7 +14,7 @@ use Rattle.shogi_session.specs.declared.phase.Phase.TheVariants as phases
 use Rattle.shogi_session.specs.declared.phase.Stage.{Stage}
 use Rattle.shogi_session.specs.declared.phase.Stage.TheVariants as stages
 use Rattle.shogi_session.specs.declared.phase.Told.{Told}
-use Rattle.shogi_session.specs.declared.server_words.GameResult.{GameResult}
+use Rattle.session_lines.specs.declared.server_words.GameResult.{GameResult}
 use Rattle.session_table.specs.declared.state.ClientState.TheVariants as clients
 use Rattle.session_table.specs.declared.state.EngineState.{EngineState}
 use Rattle.session_table.specs.Asking.{Asks}

@@ -1,4 +1,4 @@
--- Which events no row of the table names.
+-- The events to which no row of the table applies.
 use Rattle.std.proofs.Common.{◌≡◌, ℕ, inl, inr, Bool, true, false, List, Some, None, codes, refl}
 use Rattle.csa_record.specs.Game.{Ended}
 use Rattle.usi_text.specs.declared.engine.EngineWord.TheVariants.{UsiOk, ReadyOk}
@@ -12,7 +12,8 @@ use Rattle.session_table.specs.Events.{Event, begin, engine_line, server_line, e
 use Rattle.session_lines.specs.MoveLines.{is_move_line}
 use Rattle.shogi_session.specs.Phases.{going}
 use Rattle.session_table.specs.Row.{IsUnnamed, IsBestMove, Play, in_play, before_result}
-use Rattle.session_lines.specs.ServerLines.{Outcome, is_login_ok, is_start_line, is_reject_line, is_ending_line, is_hash_line, TellsEnding}
+use Rattle.session_lines.specs.declared.server_words.GameResult.{GameResult}
+use Rattle.session_lines.specs.ServerLines.{is_login_ok, is_start_line, is_reject_line, is_ending_line, is_hash_line, TellsEnding}
 use Rattle.session_table.specs.State.{Match, Finish, Client, idle, logging_in, before_summary, summary, agreeing, playing, sent, reason, closing, ended, State}
 use Rattle.session_table.specs.Summary.{Offer}
 use Rattle.session_table.proofs.RowOnce.{StateRow, PlayRow, refuses, unsent, confirms, tells_end, starts, rejects, HashRow, hash_line, ServerRow, by_state, by_play, by_hash, EngineRow, Thinks, means, no_play, no_result, state_or_play}
@@ -64,13 +65,13 @@ pub engine_over : (c : Config) (client : Client) → IsUnnamed c (going EngineEn
 engine_over c client = λ out t r. (means c (going EngineEnded client) engine_end out t r.1).0 refl
 
 -- 2. the server
-pub server_over : (c : Config) (engine : EngineState) (g : Match) (f : Finish) (o : Outcome) → IsUnnamed c (going engine (ended g f o)) server_end
+pub server_over : (c : Config) (engine : EngineState) (g : Match) (f : Finish) (o : GameResult) → IsUnnamed c (going engine (ended g f o)) server_end
 server_over c engine g f o = λ out t r. means c (going engine (ended g f o)) server_end out t r.1
 
 clash : (b : Bool) → b ≡ false → b ≡ true → ⊥
 clash b e f = cc
 
--- a line of the server that fits the rows neither by the state alone, nor by play, nor by its end
+-- no row applies to a line of the server: neither by the state alone, nor in play, nor at its end
 none_fits : (c : Config) (engine : EngineState) (client : Client) (line : List ℕ)
     → ((out : Out) (t : State) → StateRow c (going engine client) client line out t → ⊥)
     → ((p : Play) (out : Out) (t : State) → in_play client ≡ Some p → PlayRow c (going engine client) p line out t → ⊥)
@@ -84,7 +85,7 @@ none_fits c engine client line state play hash = λ out t r.
       | by_hash g f e h ↦ hash g f out t e h
     ]
 
--- outside of play and its end the state alone counts
+-- outside of play and its end only the state counts
 outside : (c : Config) (engine : EngineState) (client : Client) (line : List ℕ) → in_play client ≡ None → before_result client ≡ None
     → ((out : Out) (t : State) → StateRow c (going engine client) client line out t → ⊥) → IsUnnamed c (going engine client) (server_line line)
 outside c engine client line play result state =
@@ -130,9 +131,9 @@ other_reason c engine g f line hash =
     none_fits c engine (reason g f) line (λ out t h. h) (λ p out t e h. no_play p e)
     (λ y z out t e h. clash (is_hash_line line) hash (hash_line (going engine (reason g f)) y z line out t h))
 
-pub other_closing : (c : Config) (engine : EngineState) (g : Match) (f : Finish) (o : Outcome) (line : List ℕ) → (line ≡ codes "LOGOUT:completed" → ⊥)
+pub other_closing : (c : Config) (engine : EngineState) (g : Match) (f : Finish) (o : GameResult) (line : List ℕ) → (line ≡ codes "LOGOUT:completed" → ⊥)
     → IsUnnamed c (going engine (closing g f o)) (server_line line)
 other_closing c engine g f o line other = outside c engine (closing g f o) line refl refl (λ out t h. other h.0)
 
-pub over_line : (c : Config) (engine : EngineState) (g : Match) (f : Finish) (o : Outcome) (line : List ℕ) → IsUnnamed c (going engine (ended g f o)) (server_line line)
+pub over_line : (c : Config) (engine : EngineState) (g : Match) (f : Finish) (o : GameResult) (line : List ℕ) → IsUnnamed c (going engine (ended g f o)) (server_line line)
 over_line c engine g f o line = outside c engine (ended g f o) line refl refl (λ out t h. h)

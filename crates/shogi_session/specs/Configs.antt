@@ -2,7 +2,7 @@
 use Rattle.session_peers.specs.Host.{IsLoginWord}
 use Rattle.session_table.specs.declared.config.Config.{Config}
 
--- what callers keep of a name and a password
+-- what callers must give as name and password
 pub record IsConfig (c : Config) : Type 0 where
   pub name : IsLoginWord c.name.bytes
   pub password : IsLoginWord c.password.bytes

@@ -1,4 +1,4 @@
--- What the summary reader's own positions are, and where a line stands.
+-- For private functions: what the values of the summary reader mean, and the place of a line.
 use Rattle.std.specs.Prelude.{◌≡◌, ℕ, true, false, List, Option, Some, None, nat_eq, bytes_eq}
 use Rattle.std.specs.List.{starts_with}
 use Rattle.csa_record.specs.Game.{Game}
@@ -18,7 +18,7 @@ ended_blocks Missing = none
 ended_blocks (One text) = one text
 ended_blocks Several = several
 
--- with the text of the block that is the first
+-- with the text of the block if it is the first
 abbrev pub first_block : Positions → List ℕ → PositionBlocks
 first_block Missing text = one text
 first_block (One other) text = several
@@ -52,12 +52,15 @@ IsGameIn (One text) found = IsPositionRead text found
 IsGameIn Several None = Unit {0}
 IsGameIn Several (Some g) = ⊥
 
--- where a line stands, by the title of the block that has not ended
+-- the place of a line, by the title of the block that has not ended
 abbrev pub IsPlace : Option (List ℕ) → List ℕ → Place → Type 0
 IsPlace begun line Begins = (begun ≡ None) × (starts_with nat_eq line texts.begin ≡ true)
 IsPlace begun line Outside = (begun ≡ None) × (starts_with nat_eq line texts.begin ≡ false)
-IsPlace begun line Ends = (title : List ℕ) × (begun ≡ Some title) × (bytes_eq line (end_line title) ≡ true)
+IsPlace begun line Ends =
+    (title : List ℕ) × (begun ≡ Some title) × (bytes_eq line (end_line title) ≡ true)
 IsPlace begun line InPosition =
-    (title : List ℕ) × (begun ≡ Some title) × (bytes_eq line (end_line title) ≡ false) × (is_position title ≡ true)
+    (title : List ℕ) × (begun ≡ Some title)
+    × (bytes_eq line (end_line title) ≡ false) × (is_position title ≡ true)
 IsPlace begun line Skipped =
-    (title : List ℕ) × (begun ≡ Some title) × (bytes_eq line (end_line title) ≡ false) × (is_position title ≡ false)
+    (title : List ℕ) × (begun ≡ Some title)
+    × (bytes_eq line (end_line title) ≡ false) × (is_position title ≡ false)

@@ -1,4 +1,4 @@
--- What the private helpers promise that go through a line statement by statement.
+-- For private functions that go through a line statement by statement.
 use Rattle.std.specs.Prelude.{◌≡◌, ◌<◌, ◌≤◌, ℕ, List, [], ◌∷◌, length, Option, Some, None, Result, Ok, Err, ◌⊎◌}
 use Rattle.csa_cutting.specs.Cut.{TextUnit, statement_bytes, longest_statement}
 use Rattle.csa_cutting.specs.Cutting.{Cutting, ToCome}
@@ -11,7 +11,7 @@ use Rattle.csa_text.specs.declared.item.Item.{Item}
 use Rattle.csa_record.specs.Tells.{IsSpelt}
 use Rattle.session_lines.specs.ServerLines.{IsTime, UnitFault, ExtraFault}
 
--- the first statement that is still to come is this one, and then come those of the new cutter
+-- the next statement is this one, and those of the new cutter follow it
 abbrev pub StepsOver : Cutting → TextUnit → Cutting → Type 0
 StepsOver old u new = (others : List TextUnit) → ToCome new others → ToCome old (u ∷ others)
 
@@ -23,24 +23,28 @@ pub data IsUnread (u : TextUnit) (fault : TextFault) : Type 0 where
       → fault ≡ fault_of_row (statement_bytes u.bytes)
       → IsUnread u fault
 
--- what the next statement says, its fault, or that none is left
+-- what the next statement says, or its fault, or that there is none
 abbrev pub Next : Cutting → Result (Option Item) TextFault → Cutting → Type 0
 Next old (Ok None) new = ToCome old []
 Next old (Ok (Some item)) new = (u : TextUnit) × IsSpelt u (saying_of item) × StepsOver old u new
-Next old (Err fault) new = (u : TextUnit) × (behind : List TextUnit) × ToCome old (u ∷ behind) × IsUnread u fault
+Next old (Err fault) new =
+    (u : TextUnit) × (behind : List TextUnit) × ToCome old (u ∷ behind) × IsUnread u fault
 
--- the next statement is one of these, or it has that fault there
+-- the next statement is one of these, or has that fault there
 abbrev pub FaultAt : Cutting → (Saying → Type 0) → TextFault → Type 0
-FaultAt old Wanted fault = (u : TextUnit) × (behind : List TextUnit) × ToCome old (u ∷ behind) × UnitFault Wanted u fault
+FaultAt old Wanted fault =
+    (u : TextUnit) × (behind : List TextUnit) × ToCome old (u ∷ behind) × UnitFault Wanted u fault
 
 abbrev pub IsEnding : Saying → Type 0
 IsEnding s = (e : Ending) × (s ≡ ending e)
 
--- a statement is left where none is wanted
+-- a statement where none is expected
 abbrev pub EndFault : Cutting → TextFault → Type 0
-EndFault old fault = (u : TextUnit) × (behind : List TextUnit) × ToCome old (u ∷ behind) × ExtraFault u fault
+EndFault old fault =
+    (u : TextUnit) × (behind : List TextUnit) × ToCome old (u ∷ behind) × ExtraFault u fault
 
--- the time that is all that is left, or none, where nothing is; or the first fault of what is left
+-- the time, which is all that is left; or none, if nothing is left; or the first fault of what is
+-- left
 abbrev pub LastTime : Cutting → Result (Option ℕ) TextFault → Type 0
 LastTime old (Ok None) = ToCome old []
 LastTime old (Ok (Some t)) = (u : TextUnit) × IsSpelt u (time t) × ToCome old (u ∷ [])

@@ -1,4 +1,4 @@
--- What a whole summary offers, by its parts.
+-- For private functions: what a whole summary offers, by its parts.
 use Rattle.std.specs.Prelude.{◌≡◌, ℕ, ◌≤◌, List, [], ◌∷◌, length, Option, Some, None}
 use Rattle.csa_record.specs.Game.{Game}
 use Rattle.shogi_board.specs.declared.color.Color.{Color}
@@ -13,9 +13,10 @@ abbrev pub offer_of : Option GameOffer → Option Offer
 offer_of None = None
 offer_of (Some o) = Some (offer_in o)
 
--- the game with these names; an empty one is none
+-- the game with these names; an empty one counts as none
 abbrev pub IsNamed : Game → List ℕ → List ℕ → Game → Type 0
-IsNamed g black white named = named ≡ record g { black = name_given black; white = name_given white }
+IsNamed g black white named =
+    named ≡ record g { black = name_given black; white = name_given white }
 
 -- names that are not too long, and the sign of the client's side
 pub record IsClientTold (black white turn : List ℕ) (client : Color) : Type 0 where
@@ -23,7 +24,7 @@ pub record IsClientTold (black white turn : List ℕ) (client : Color) : Type 0 
   pub white_fits : length white ≤ 4094
   pub sign_is : turn ≡ sign client ∷ []
 
--- what counts of the lines tells this offer, or none
+-- what counts of the lines describes this offer, or none
 abbrev pub IsToldBy : Heard → Option Offer → Type 0
 IsToldBy h None = (o : Offer) → TellsOffer h o → ⊥
 IsToldBy h (Some o) = TellsOffer h o

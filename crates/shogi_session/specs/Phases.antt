@@ -1,4 +1,4 @@
--- A bridge's own states, and what its private helpers promise.
+-- For private functions and fields of `Bridge`: its own states, and what its steps promise.
 use Rattle.std.specs.Prelude.{◌≡◌, ◌++◌, ◌∷◌, ◌⊎◌, ℕ, Bool, true, false, List, [], Option, None, Some, Result, Ok, Err, map}
 use Rattle.shogi_board.specs.declared.color.Color.{Color}
 use Rattle.csa_text.specs.Codes.{move_text}
@@ -17,15 +17,14 @@ use Rattle.shogi_session.specs.declared.engine_answer.EngineAnswer.TheVariants a
 use Rattle.session_table.specs.declared.event.Out.{Out as Answered}
 use Rattle.session_table.specs.declared.event.Status.TheVariants.{Going}
 use Rattle.shogi_session.specs.declared.offer.GameOffer.{GameOffer}
-use Rattle.shogi_session.specs.declared.phase.Answer.{Answer as Given}
-use Rattle.shogi_session.specs.declared.phase.Answer.TheVariants.{Move, Toryo, Kachi}
+use Rattle.session_table.specs.declared.state.Answer.TheVariants.{Move, Toryo, Kachi}
 use Rattle.shogi_session.specs.declared.phase.Phase.{Phase}
 use Rattle.shogi_session.specs.declared.phase.Phase.TheVariants.{Idle, LoggingIn, BeforeSummary, Summary, Agreeing, InGame}
 use Rattle.shogi_session.specs.declared.phase.Play.{Play}
 use Rattle.shogi_session.specs.declared.phase.Stage.{Stage}
 use Rattle.shogi_session.specs.declared.phase.Stage.TheVariants.{Playing, Sent, Reason, Closing, Ended as Over}
 use Rattle.shogi_session.specs.declared.phase.Told.{Told}
-use Rattle.shogi_session.specs.declared.server_words.EndReason.{EndReason}
+use Rattle.session_lines.specs.declared.server_words.EndReason.{EndReason}
 use Rattle.session_table.specs.declared.state.EngineState.{EngineState}
 use Rattle.session_table.specs.Events.{Event, Out}
 use Rattle.session_table.specs.Asking.{Asks}
@@ -35,29 +34,21 @@ use Rattle.shogi_session.specs.Offers.{offer_in}
 use Rattle.session_table.specs.Promises.{KeepsGame}
 use Rattle.session_table.specs.Row.{Row}
 use Rattle.session_lines.specs.ServerLines as lines
-use Rattle.session_lines.specs.ServerLines.{Outcome, TellsEnding}
-use Rattle.shogi_session.specs.ServerWords.{outcome, reason as reason_is}
-use Rattle.session_table.specs.State.{Match, Answer, move, toryo, kachi, Finish, game_with, Client, idle, logging_in, before_summary, summary, agreeing, playing, sent, reason, closing, ended, State, client_state, slip_of}
+use Rattle.session_lines.specs.declared.server_words.GameResult.{GameResult}
+use Rattle.session_lines.specs.ServerLines.{TellsEnding}
+use Rattle.session_table.specs.declared.state.Answer.{Answer}
+use Rattle.session_table.specs.State.{Match, Finish, game_with, Client, idle, logging_in, before_summary, summary, agreeing, playing, sent, reason, closing, ended, State, client_state, slip_of}
 use Rattle.session_table.specs.Summary.{CountsAs}
 use Rattle.session_lines.specs.Texts.{text_of}
 
 -- 1. The states
-abbrev pub answer_of : Given → Answer
-answer_of (Move m) = move m
-answer_of Toryo = toryo
-answer_of Kachi = kachi
-
-abbrev pub reason_of : Option EndReason → Option lines.Reason
-reason_of None = None
-reason_of (Some r) = Some (reason_is r)
-
--- the ending, where it was told
+-- the ending, if the server sent it
 abbrev pub kept_of : Bool → Option Ended → Option Ended
 kept_of true ending = ending
 kept_of false ending = None
 
 abbrev pub finish_of : Game → Told → Finish
-finish_of game told = record { kept = kept_of told.ending game.ending; reason = reason_of told.reason }
+finish_of game told = record { kept = kept_of told.ending game.ending; reason = told.reason }
 
 -- the match has the game without its ending
 abbrev pub match_in : Play → Match
@@ -65,10 +56,10 @@ match_in p = record { client = p.client; game = record p.game { ending = None };
 
 abbrev pub staged : Match → Game → Stage → Client
 staged g game Playing = playing g
-staged g game (Sent a) = sent g (answer_of a)
+staged g game (Sent a) = sent g a
 staged g game (Reason told) = reason g (finish_of game told)
-staged g game (Closing told result) = closing g (finish_of game told) (outcome result)
-staged g game (Over told result) = ended g (finish_of game told) (outcome result)
+staged g game (Closing told result) = closing g (finish_of game told) result
+staged g game (Over told result) = ended g (finish_of game told) result
 
 abbrev pub play_client : Play → Client
 play_client p = staged (match_in p) p.game p.stage
@@ -86,7 +77,7 @@ abbrev pub begun : GameOffer → Play
 begun o = record { client = o.client; game = o.game; slip = false; stage = Playing }
 
 -- 2. What they keep
--- the game has the ending that was told or follows from what was, and its moves are legal
+-- the game has the ending that was sent, or follows from what was, and its moves are legal
 pub record IsPlay (p : Play) : Type 0 where
   pub game : game_of (play_client p) ≡ Some p.game
   pub legal : IsGame p.game.start (map move_of p.game.moves)
@@ -96,7 +87,7 @@ pub record IsOpen (g : Game) : Type 0 where
   pub none : g.ending ≡ None
   pub legal : IsGame g.start (map move_of g.moves)
 
--- what is heard of a summary counts for some lines
+-- what counts of a summary so far is that of some lines
 abbrev pub IsPhase : Phase → Type 0
 IsPhase Idle = Unit {0}
 IsPhase LoggingIn = Unit {0}
@@ -112,11 +103,13 @@ going engine client = record { engine = engine; client = client; status = Going 
 -- the answer is that of a row
 abbrev pub Reacts : Config → EngineState → Client → Event → Answered → EngineState → Client → Type 0
 Reacts c engine client e answered engine_after client_after =
-    (out : Out) × Row c (going engine client) e out (record { engine = engine_after; client = client_after; status = answered.status })
+    (out : Out) × Row c (going engine client) e out
+    (record { engine = engine_after; client = client_after; status = answered.status })
     × (answered.to_engine ≡ text_of out.to_engine) × (answered.to_server ≡ text_of out.to_server)
 
--- for want of memory both states stay, and the game is whole
-pub record Stays (c : Config) (engine : EngineState) (client : Client) (e : Event) (engine_after : EngineState) (client_after : Client) : Type 0 where
+-- if memory runs out, both states stay, and the game is whole
+pub record Stays (c : Config) (engine : EngineState) (client : Client)
+    (e : Event) (engine_after : EngineState) (client_after : Client) : Type 0 where
   pub engine_stays : engine_after ≡ engine
   pub client_stays : client_state client_after ≡ client_state client
   pub slip_stays : slip_of client_after ≡ slip_of client
@@ -127,13 +120,13 @@ abbrev pub Same : EngineState → Client → EngineState → Client → Type 0
 Same engine client engine_after client_after = (engine_after ≡ engine) × (client_after ≡ client)
 
 -- 4. Answers of the engine
-abbrev pub given_for : EngineAnswer → Given
+abbrev pub given_for : EngineAnswer → Answer
 given_for (engine_says.Move m) = Move m
 given_for engine_says.Resign = Toryo
 given_for engine_says.Win = Kachi
 given_for engine_says.Slip = Toryo
 
--- whether the engine has slipped, with this answer
+-- whether the engine has slipped, this answer included
 abbrev pub slip_with : EngineAnswer → Bool → Bool
 slip_with (engine_says.Move m) before = before
 slip_with engine_says.Resign before = before
@@ -147,7 +140,7 @@ answer_text client engine_says.Win = texts.kachi
 answer_text client engine_says.Slip = texts.toryo
 
 -- 5. Lines of the server in a game
--- the game is on: Playing, Sent
+-- the game is in play: Playing, Sent
 abbrev pub IsOn : Stage → Type 0
 IsOn Playing = Unit {0}
 IsOn (Sent a) = Unit {0}
@@ -155,7 +148,7 @@ IsOn (Reason told) = ⊥
 IsOn (Closing told result) = ⊥
 IsOn (Over told result) = ⊥
 
--- the sent move that waits for its confirmation
+-- the sent move that waits for confirmation
 abbrev pub waiting_in : Stage → Option shogi.Move
 waiting_in Playing = None
 waiting_in (Sent (Move m)) = Some m
@@ -168,7 +161,7 @@ waiting_in (Over told result) = None
 abbrev pub no_ending_told : Told
 no_ending_told = record { ending = false; reason = None }
 
--- this stage or, before anything was told, the game, is where that was told
+-- this is what was said of the end in this stage, or nothing, while the game is in play
 abbrev pub TellsEnd : Stage → Told → Type 0
 TellsEnd Playing told = told ≡ no_ending_told
 TellsEnd (Sent a) told = told ≡ no_ending_told
@@ -176,12 +169,14 @@ TellsEnd (Reason before) told = told ≡ before
 TellsEnd (Closing before result) told = ⊥
 TellsEnd (Over before result) told = ⊥
 
--- the lines of this text ask the engine, or nothing does
+-- the lines of this text ask the engine, or the text is empty
 abbrev pub IsAskText : Config → Match → EngineState → List ℕ → EngineState → Type 0
-IsAskText c g engine text engine_after = (lines : List (List ℕ)) × Asks c g engine lines engine_after × (text ≡ text_of lines)
+IsAskText c g engine text engine_after =
+    (lines : List (List ℕ)) × Asks c g engine lines engine_after × (text ≡ text_of lines)
 
--- play goes on, and the engine is asked where its side is to move
-pub record GoesOn (c : Config) (engine : EngineState) (p : Play) (before : List ℕ) (answered : Answered) (engine_after : EngineState) (p_after : Play) : Type 0 where
+-- play goes on, and the engine is asked if its side is to move
+pub record GoesOn (c : Config) (engine : EngineState) (p : Play) (before : List ℕ)
+    (answered : Answered) (engine_after : EngineState) (p_after : Play) : Type 0 where
   pub play : p_after ≡ record p { stage = Playing }
   pub text : List ℕ
   pub asked : IsAskText c (match_in p) engine text engine_after
@@ -189,23 +184,25 @@ pub record GoesOn (c : Config) (engine : EngineState) (p : Play) (before : List 
   pub to_server : answered.to_server ≡ []
   pub status : answered.status ≡ Going
 
--- the line tells an ending, which the game keeps; or none, and nothing changes
+-- the line spells an ending, which the game keeps; or it spells none, and nothing changes
 abbrev pub KeepsEnding : Play → List ℕ → Play → Type 0
 KeepsEnding p line p_after =
     ((k : Ended) × TellsEnding line k
     × (p_after ≡ record p { game = record p.game { ending = Some k }; stage = Reason (record { ending = true; reason = None }) }))
     ⊎ (((k : Ended) → TellsEnding line k → ⊥) × (p_after ≡ p))
 
--- the game with the ending that it has, or else that follows from the reason and the result
-abbrev pub closed : Play → Option EndReason → Outcome → Game
-closed p why result = record p.game { ending = ending_of p.client p.game.ending (reason_of why) (Some result) }
+-- the game with its ending, or else the one that follows from the reason and the result
+abbrev pub closed : Play → Option EndReason → GameResult → Game
+closed p why result = record p.game { ending = ending_of p.client p.game.ending why (Some result) }
 
--- the move is confirmed; for want of memory it is or is not
-abbrev pub Confirms : Config → EngineState → Play → Timed → Result Answered OutOfMemory → EngineState → Play → Type 0
+-- the move is confirmed; if memory runs out it is or is not
+abbrev pub Confirms : Config → EngineState
+    → Play → Timed → Result Answered OutOfMemory → EngineState → Play → Type 0
 Confirms c engine p m (Ok answered) engine_after p_after =
     GoesOn c engine (record p { game = game_with p.game (m ∷ []) }) [] answered engine_after p_after
 Confirms c engine p m (Err fault) engine_after p_after =
-    (engine_after ≡ engine) × ((p_after ≡ p) ⊎ (p_after ≡ record p { game = game_with p.game (m ∷ []) }))
+    (engine_after ≡ engine)
+    × ((p_after ≡ p) ⊎ (p_after ≡ record p { game = game_with p.game (m ∷ []) }))
 
 -- why a move is not played
 abbrev pub why_of : PlayFault → Why

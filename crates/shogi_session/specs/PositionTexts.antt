@@ -1,4 +1,4 @@
--- The text of a position block, apart from what it tells.
+-- For private functions: the text of a position block, apart from its game.
 use Rattle.std.specs.Prelude.{◌≡◌, ◌⊎◌, ◌++◌, ℕ, Bool, true, false, List, [], ◌∷◌, Option, Some, None}
 use Rattle.std.specs.List.{AllByRecursion, AllZip}
 use Rattle.csa_cutting.specs.Cut.{TextUnit, IsCut}
@@ -15,7 +15,7 @@ use Rattle.session_table.specs.Summary.{in_position, TellsPosition}
 abbrev pub SpellsPosition : List ℕ → Type 0
 SpellsPosition bytes = (s : Saying) × Spells bytes s × (in_position s ≡ true)
 
--- the text is statements of these kinds alone
+-- the text has only statements of these kinds
 pub record IsPositionText (text : List ℕ) : Type 0 where
   pub statements : List TextUnit
   pub sayings : List Saying
@@ -23,26 +23,27 @@ pub record IsPositionText (text : List ℕ) : Type 0 where
   pub spelt : AllZip IsSpelt statements sayings
   pub no_others : AllByRecursion (λ s. in_position s ≡ true) sayings
 
--- the game that the text tells, without names; or it tells none
+-- the game that the text spells, without names; or it spells none
 abbrev pub IsPositionRead : List ℕ → Option Game → Type 0
 IsPositionRead text None = (g : Game) → TellsPosition text g → ⊥
 IsPositionRead text (Some g) = TellsPosition text g × (g.black ≡ None) × (g.white ≡ None)
 
--- whatever comes behind it, the text tells no game
+-- whatever follows it, the text spells no game
 abbrev pub TellsNone : List ℕ → Type 0
 TellsNone text = (more : List ℕ) (g : Game) → TellsPosition (text ++ more) g → ⊥
 
--- no line, or the last byte is the end of one
+-- no lines, or the last byte ends one
 abbrev pub IsWhole : List ℕ → Type 0
 IsWhole text = (text ≡ []) ⊎ ((front : List ℕ) × (text ≡ front ++ 10 ∷ []))
 
--- the reader was fed this text, whole lines; where it goes on to tell a record, it is statements of these kinds alone
+-- the reader was fed this text, which is whole lines; if more bytes may make it a record, it has
+-- only statements of these kinds
 pub record IsFed (text : List ℕ) (reader : Reading) : Type 0 where
   pub read : HasRead text reader
   pub whole : IsWhole text
   pub fits : (more : List ℕ) (g : Game) → Tells (text ++ more) g → IsPositionText text
 
--- the reader was fed this text, or that tells no game
+-- the reader was fed this text, or the text spells no game
 abbrev pub IsFedOn : List ℕ → Bool → Reading → Type 0
 IsFedOn text true reader = HasRead text reader
 IsFedOn text false reader = TellsNone text

@@ -7,7 +7,7 @@ use session_table::{Out, SessionFault, Status};
 use shogi_board::OutOfMemory;
 use std::alloc::Global;
 
-// No line, with that status.
+// No lines, and this status.
 pub(crate) fn silent(alloc: Global, status: Status) -> Out
     ensures engine { result.to_engine ≡ [] }
     ensures server { result.to_server ≡ [] }
@@ -20,7 +20,7 @@ pub(crate) fn silent(alloc: Global, status: Status) -> Out
     }
 }
 
-// No line, and the session goes on.
+// No lines; the session goes on.
 pub(crate) fn no_lines(alloc: Global) -> Out
     ensures engine { result.to_engine ≡ [] }
     ensures server { result.to_server ≡ [] }
@@ -29,7 +29,7 @@ pub(crate) fn no_lines(alloc: Global) -> Out
     silent(alloc, Status::Going)
 }
 
-// No line, and the session has failed.
+// No lines; the session has failed.
 pub(crate) fn failed(alloc: Global, fault: SessionFault) -> Out
     ensures engine { result.to_engine ≡ [] }
     ensures server { result.to_server ≡ [] }
@@ -51,7 +51,7 @@ pub(crate) fn to_engine(alloc: Global, lines: Lines) -> Out
     }
 }
 
-// That line to the engine.
+// This line to the engine.
 pub(crate) fn tell_engine(alloc: Global, line: &[u8]) -> Result<Out, OutOfMemory>
     ensures engine { IfOk result (λ out. out.to_engine ≡ ended_line line.now) }
     ensures server { IfOk result (λ out. out.to_server ≡ []) }
@@ -61,7 +61,7 @@ pub(crate) fn tell_engine(alloc: Global, line: &[u8]) -> Result<Out, OutOfMemory
     Ok(to_engine(alloc, lines))
 }
 
-// That line to the server.
+// This line to the server.
 pub(crate) fn tell_server(alloc: Global, line: &[u8]) -> Result<Out, OutOfMemory>
     ensures engine { IfOk result (λ out. out.to_engine ≡ []) }
     ensures server { IfOk result (λ out. out.to_server ≡ ended_line line.now) }

@@ -1,7 +1,5 @@
 ghost use Rattle.std.specs.Prelude.{◌≡◌, ◌↔◌, ◌++◌, ◌-◌, if◌then◌else◌, List, ℕ, IsTrue, IfOk, OnOk, decimal};
 ghost use Rattle.shogi_board.specs.Pieces.{same_color};
-ghost use Rattle.shogi_rules.specs.Positions.{now_of, all_of};
-ghost use Rattle.shogi_rules.specs.Repetition.{Over};
 ghost use Rattle.shogi_session.specs.Asked.{IsAsked};
 ghost use Rattle.session_table.specs.Asking.{MayAsk, left, go_line, thousandths};
 ghost use Rattle.session_table.specs.State.{Match};
@@ -12,11 +10,12 @@ use itoa::Buffer;
 use session_lines::{Lines, texts};
 use session_table::Config;
 use shogi_board::{Color, OutOfMemory};
-use shogi_rules::{Line, MAX_MOVES, Verdict};
+use shogi_rules::MAX_MOVES;
 use std::alloc::Global;
 use usi_text::position_line;
 
-// Adds the lines that ask the engine for the client's move, where it may be asked: whether it is.
+// Adds the lines that ask the engine for the client's move, if it may be asked. Returns whether it
+// is.
 pub(crate) fn ask(
     lines: &mut Lines,
     alloc: Global,
@@ -25,7 +24,8 @@ pub(crate) fn ask(
     game: &Record,
 ) -> Result<bool, OutOfMemory>
     ensures { (g : Match) → g.client ≡ client → g.game ≡ game.now
-        → IfOk result (λ asked. (text : List ℕ) × (lines.new ≡ lines.old ++ text) × IsAsked config.now g asked text) }
+        → IfOk result (λ asked. (text : List ℕ)
+        × (lines.new ≡ lines.old ++ text) × IsAsked config.now g asked text) }
 {
     if !may_ask(client, game) {
         return Ok(false);
@@ -44,22 +44,13 @@ fn may_ask(client: Color, game: &Record) -> bool
     if line.now().side() != client || line.moves().len() >= MAX_MOVES {
         return false;
     }
-    !is_over(line)
-}
-
-// Whether the position stands for the fourth time.
-fn is_over(line: &Line) -> bool
-    ensures { IsTrue result ↔ Over (all_of line.now) (now_of line.now) }
-{
-    match line.verdict() {
-        Verdict::Repetition | Verdict::Perpetual(_) => true,
-        Verdict::Ongoing | Verdict::Mate | Verdict::NoMove => false,
-    }
+    !line.is_over()
 }
 
 // Adds the line `go` with the clocks.
 fn push_go(lines: &mut Lines, config: &Config, game: &Record) -> Result<(), OutOfMemory>
-    ensures { (g : Match) → g.game ≡ game.now → OnOk result (lines.new ≡ lines.old ++ ended_line (go_line config.now g)) }
+    ensures { (g : Match) → g.game ≡ game.now
+        → OnOk result (lines.new ≡ lines.old ++ ended_line (go_line config.now g)) }
 {
     push_number(
         lines,
@@ -80,7 +71,7 @@ fn push_number(lines: &mut Lines, words: &[u8], number: u64) -> Result<(), OutOf
     lines.push_part(buffer.format(number).as_bytes())
 }
 
-// What a side has left of the total, in thousandths of a second, never below 0.
+// What remains of a side's total time, in milliseconds; never below 0.
 fn left(config: &Config, game: &Record, color: Color) -> u64
     ensures { (g : Match) → g.game ≡ game.now → result ≡ left config.now g color }
 {
@@ -93,7 +84,7 @@ fn left(config: &Config, game: &Record, color: Color) -> u64
     left
 }
 
-// What is left of it after the time of a move of that side, if it has one.
+// What remains after the time of a move by `side`, if it has one.
 fn less(left: u64, color: Color, side: Color, time: Option<u64>) -> u64
     ensures { result ≡ left - (if same_color color side then thousandths time else 0) }
 {

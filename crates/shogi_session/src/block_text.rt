@@ -1,11 +1,11 @@
-// The text of a position block, which exists only in proofs: it takes no memory.
+// The text of a position block. It exists in proofs only, and allocates nothing.
 ghost use Rattle.std.specs.Prelude.{◌≡◌, ℕ, List, [], ◌++◌};
 ghost use Rattle.std.specs.Borrow.{ftrue};
 ghost use Rattle.session_lines.specs.Texts.{ended_line};
 
 use std::marker::Model;
 
-// The lines of a block, LF behind each.
+// The lines of a block, each followed by LF.
 #[derive(Drop)]
 pub(crate) struct BlockText {
     ghost bytes: { List ℕ },
@@ -16,14 +16,14 @@ impl Model for BlockText {
 }
 
 impl BlockText {
-    // Of no lines.
+    // The text of no lines.
     pub(crate) fn new() -> BlockText
         ensures { result.bytes ≡ [] }
     {
         BlockText {}
     }
 
-    // With one line more.
+    // This text with one more line.
     pub(crate) fn with(&self, _line: &[u8]) -> BlockText
         ensures { result.bytes ≡ self.now.bytes ++ ended_line _line.now }
     {

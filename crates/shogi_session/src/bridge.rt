@@ -8,6 +8,7 @@ ghost use Rattle.session_table.specs.declared.state.EngineState.TheVariants.{End
 ghost use Rattle.session_table.specs.Events.{Out as Told, begin, engine_end, server_end, trimmed};
 ghost use Rattle.shogi_session.specs.Phases.{IsPhase, Reacts, Stays, client_of, staged};
 ghost use Rattle.shogi_session.specs.Configs.{IsConfig};
+ghost use Rattle.session_table.specs.GameTold.{HasMoves, game_of};
 ghost use Rattle.session_table.specs.Promises.{HoldsLine, IsGameText, KeepsGame, SameStates, StepRow, event_of};
 ghost use Rattle.session_table.specs.State.{Client, Match, client_state, first_state, slip_of, waits_for};
 ghost use Rattle.session_lines.specs.Texts.{text_of};
@@ -23,11 +24,11 @@ use shogi_board::OutOfMemory;
 use std::alloc::Global;
 use std::marker::Model;
 
-/// A client of a game server that plays with an engine.
+/// A client of a CSA server that plays with a USI engine.
 ///
-/// It speaks the CSA server protocol with the server and the USI protocol with the engine, and takes
-/// one line or event a call. Each move that it sends is legal, and none is sent while one is
-/// unanswered.
+/// It speaks the CSA server protocol with the server and USI with the engine, and takes one line or
+/// other event per call. Each move that it sends is legal, and none is sent while one waits for
+/// confirmation.
 #[derive(Drop)]
 pub struct Bridge {
     alloc: Global,
@@ -43,13 +44,16 @@ impl Model for Bridge {
 
     ghost Value = { Session };
 
-    ghost view = { λ b. record { config = b.config; state = record { engine = b.engine; client = client_of b.phase; status = b.status } } };
+    ghost view = { λ b. record {
+      config = b.config;
+      state = record { engine = b.engine; client = client_of b.phase; status = b.status };
+    } };
 
     ghost invariant = { λ b. IsPhase b.phase };
 }
 
 impl Bridge {
-    /// A bridge to which nothing has happened. It takes no memory, and answers Ok.
+    /// A bridge to which nothing has happened. Allocates nothing, and always returns `Ok`.
     pub fn new(alloc: Global, config: &Config) -> Result<Bridge, OutOfMemory>
         requires config { IsConfig config.now }
         ensures made { IsOk result }
@@ -65,25 +69,32 @@ impl Bridge {
         })
     }
 
-    /// Takes an event, whose line comes without its line end; spaces at its end do not count. The
-    /// answer is the lines to send, those to the engine first, and how the bridge stands.
+    /// Takes an event. Its line has no line end; spaces at the end of the line do not count.
+    /// Returns the lines to send, those to the engine first, and the session's status.
     ///
-    /// A fault gives no line, and no event gives one from then on; both states stay as they were.
+    /// After a fault, no lines are sent, then or later; both states stay.
     ///
-    /// Refuses OutOfMemory, and is Lost then: both states stay as they were, and no event gives a line.
-    /// Once the session is over it answers Ok.
+    /// Returns `OutOfMemory` if an allocation fails. The session is `Lost` then: both states stay,
+    /// and no lines are sent later. Once the session is over, every call returns `Ok`.
     pub fn step(&mut self, event: Event<'_>) -> Result<Out, OutOfMemory>
         requires line { HoldsLine (event_of event) }
-        ensures row { IfOk result (λ answered. (out : Told) × StepRow self.old (event_of event.entry) out self.new) }
-        ensures to_engine { IfOk result (λ answered. (out : Told) → StepRow self.old (event_of event.entry) out self.new → answered.to_engine ≡ text_of out.to_engine) }
-        ensures to_server { IfOk result (λ answered. (out : Told) → StepRow self.old (event_of event.entry) out self.new → answered.to_server ≡ text_of out.to_server) }
+        ensures row { IfOk result
+            (λ answered. (out : Told) × StepRow self.old (event_of event.entry) out self.new) }
+        ensures to_engine { IfOk result (λ answered. (out : Told)
+            → StepRow self.old (event_of event.entry) out self.new
+            → answered.to_engine ≡ text_of out.to_engine) }
+        ensures to_server { IfOk result (λ answered. (out : Told)
+            → StepRow self.old (event_of event.entry) out self.new
+            → answered.to_server ≡ text_of out.to_server) }
         ensures status { IfOk result (λ answered. answered.status ≡ self.new.state.status) }
         ensures config { self.new.config ≡ self.old.config }
         ensures going { OnErr result (self.old.state.status ≡ Going) }
         ensures lost { OnErr result (self.new.state.status ≡ Lost) }
         ensures states { OnErr result (SameStates self.old.state self.new.state) }
-        ensures slip { OnErr result (slip_of self.new.state.client ≡ slip_of self.old.state.client) }
-        ensures game { OnErr result (KeepsGame self.old.config self.old.state (trimmed (event_of event.entry)) self.new.state) }
+        ensures slip { OnErr result
+            (slip_of self.new.state.client ≡ slip_of self.old.state.client) }
+        ensures game { OnErr result (KeepsGame self.old.config self.old.state
+            (trimmed (event_of event.entry)) self.new.state) }
     {
         if !is_going(self.status) {
             return Ok(silent(self.alloc, self.status));
@@ -106,7 +117,7 @@ impl Bridge {
         }
     }
 
-    /// Whose line it waits for.
+    /// Which side the bridge waits for.
     pub fn waits_for(&self) -> Waits
         ensures value { result ≡ waits_for self.now.state }
     {
@@ -127,14 +138,14 @@ impl Bridge {
         }
     }
 
-    /// How it stands with its engine.
+    /// How far the bridge is with its engine.
     pub fn engine_state(&self) -> EngineState
         ensures value { result ≡ self.now.state.engine }
     {
         self.engine
     }
 
-    /// How it stands with its server.
+    /// How far the bridge is with its server.
     pub fn client_state(&self) -> ClientState
         ensures value { result ≡ client_state self.now.state.client }
     {
@@ -147,8 +158,8 @@ impl Bridge {
         }
     }
 
-    /// Whether an answer of the engine in the game was no legal move, so that `%TORYO` was sent. It
-    /// stays so.
+    /// Whether an answer of the engine in the game was no legal move, so that `%TORYO` was sent.
+    /// Once true, it stays true.
     pub fn slip(&self) -> bool
         ensures value { result ≡ slip_of self.now.state.client }
     {
@@ -158,14 +169,29 @@ impl Bridge {
         }
     }
 
-    /// The canonical text of the game so far: the names, the start and the confirmed moves, with the
-    /// ending that the server told, or the one that follows from the reason and the result. None before
-    /// a summary was accepted. It is a whole record, also where the session has failed or is lost.
+    /// The number of confirmed moves of the game, or None before a summary was accepted.
+    pub fn moves(&self) -> Option<usize>
+        ensures { MatchOption result (game_of self.now.state.client ≡ None)
+            (HasMoves self.now.state.client) }
+    {
+        match &self.phase {
+            Phase::Agreeing(offer) => Some(offer.game.line().moves().len()),
+            Phase::InGame(play) => Some(play.game.line().moves().len()),
+            _ => None,
+        }
+    }
+
+    /// The canonical text of the game so far, or None before a summary was accepted. It has the
+    /// names, the start, the confirmed moves, and the ending that the server sent or that follows
+    /// from the reason and the result. It is a whole record even if the session has failed or is
+    /// lost.
     ///
-    /// Refuses OutOfMemory.
+    /// Returns `OutOfMemory` if an allocation fails.
     pub fn game_text(&self) -> Result<Option<Vec<u8>>, OutOfMemory>
-        ensures game { IfOk result (λ found. MatchOption found (IsGameText self.now.state None) (λ text. IsGameText self.now.state (Some text.items))) }
-        ensures whole { IfOk result (λ found. IfSome found (λ text. (g : Game) × Tells text.items g)) }
+        ensures game { IfOk result (λ found. MatchOption found (IsGameText self.now.state None)
+            (λ text. IsGameText self.now.state (Some text.items))) }
+        ensures whole { IfOk result (λ found. IfSome found
+            (λ text. (g : Game) × Tells text.items g)) }
     {
         match &self.phase {
             Phase::Agreeing(offer) => Ok(Some(write(self.alloc, &offer.game)?)),
@@ -196,7 +222,7 @@ fn state_of(stage: Stage) -> ClientState
     }
 }
 
-// Answers an event of a session that goes on.
+// Answers an event while the session goes on.
 fn answer(
     alloc: Global,
     config: &Config,
@@ -208,8 +234,10 @@ fn answer(
     requires line { HoldsLine (event_of event) }
     ensures keeps { IsPhase phase.new }
     ensures answer { MatchResult result
-        (λ out. Reacts config.now engine.old (client_of phase.old) (trimmed (event_of event.entry)) out engine.new (client_of phase.new))
-        (λ fault. Stays config.now engine.old (client_of phase.old) (trimmed (event_of event.entry)) engine.new (client_of phase.new)) }
+        (λ out. Reacts config.now engine.old
+        (client_of phase.old) (trimmed (event_of event.entry)) out engine.new (client_of phase.new))
+        (λ fault. Stays config.now engine.old
+        (client_of phase.old) (trimmed (event_of event.entry)) engine.new (client_of phase.new)) }
 {
     match event {
         Event::Begin => begin(alloc, engine),
@@ -266,7 +294,8 @@ fn has_ended(engine: EngineState) -> bool
 
 // The engine is gone.
 fn lose_engine(alloc: Global, engine: EngineState) -> Out
-    ensures { (c : Config) (client : Client) → Reacts c engine client engine_end result engine client }
+    ensures { (c : Config) (client : Client)
+        → Reacts c engine client engine_end result engine client }
 {
     if has_ended(engine) {
         return no_lines(alloc);
@@ -274,11 +303,12 @@ fn lose_engine(alloc: Global, engine: EngineState) -> Out
     failed(alloc, SessionFault::EngineGone)
 }
 
-// The server is gone, which ends a session behind a result.
+// The server is gone, which ends a session that has a result.
 fn lose_server(alloc: Global, phase: &mut Phase) -> Out
     requires phase { IsPhase phase.old }
     ensures keeps { IsPhase phase.new }
-    ensures answer { (c : Config) (engine : EngineState) → Reacts c engine (client_of phase.old) server_end result engine (client_of phase.new) }
+    ensures answer { (c : Config) (engine : EngineState)
+        → Reacts c engine (client_of phase.old) server_end result engine (client_of phase.new) }
 {
     match phase {
         Phase::InGame(play) => match play.stage {

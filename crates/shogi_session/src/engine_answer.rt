@@ -9,7 +9,7 @@ use shogi_board::Position;
 use shogi_rules::{Move, judge};
 use usi_text::{EngineWord, read_engine_line, read_move};
 
-// What an engine answers behind `bestmove`.
+// What an engine answers with `bestmove`.
 #[derive(Clone, Copy, Debug, PartialEq, Eq)]
 pub(crate) enum EngineAnswer {
     // A legal move.
@@ -20,7 +20,7 @@ pub(crate) enum EngineAnswer {
     Slip,
 }
 
-// What the line answers in that position, or None where it is no `bestmove`.
+// The answer that the line gives in that position, or None if it is no `bestmove` line.
 pub(crate) fn read_answer(position: &Position, line: &[u8]) -> Option<EngineAnswer>
     ensures { MatchOption result
         ((word : List ℕ) → IsBestMove line.now word → ⊥)
@@ -37,7 +37,7 @@ pub(crate) fn read_answer(position: &Position, line: &[u8]) -> Option<EngineAnsw
     }
 }
 
-// The legal move that the text is in that position, or None.
+// The move that the text spells, if it is legal in that position.
 fn legal_move(position: &Position, text: &[u8]) -> Option<Move>
     ensures { MatchOption result
         ((m : moves.Move) → UsiMove position.now text.now m → Legal position.now m → ⊥)

@@ -15,15 +15,15 @@ ghost use Rattle.usi_text.specs.Words.{words};
 
 use crate::answers::{no_lines, tell_engine, tell_server};
 use crate::engine_answer::{EngineAnswer, read_answer};
-use crate::phase::{Answer, Phase, Play, Stage};
+use crate::phase::{Phase, Play, Stage};
 use csa_text::csa_move;
 use session_lines::{Lines, texts};
-use session_table::{Config, EngineState, Out, Status};
+use session_table::{Answer, Config, EngineState, Out, Status};
 use shogi_board::{Color, OutOfMemory};
 use std::alloc::Global;
 use usi_text::{EngineWord, read_engine_line};
 
-// Takes a line of the engine, less the spaces at its end.
+// Takes a line of the engine, without the spaces at its end.
 pub(crate) fn hear_engine(
     alloc: Global,
     config: &Config,
@@ -34,7 +34,8 @@ pub(crate) fn hear_engine(
     requires phase { IsPhase phase.old }
     ensures keeps { IsPhase phase.new }
     ensures answer { MatchResult result
-        (λ out. Reacts config.now engine.old (client_of phase.old) (engine_line line.now) out engine.new (client_of phase.new))
+        (λ out. Reacts config.now engine.old
+        (client_of phase.old) (engine_line line.now) out engine.new (client_of phase.new))
         (λ fault. Same engine.old (client_of phase.old) engine.new (client_of phase.new)) }
 {
     match *engine {
@@ -45,7 +46,7 @@ pub(crate) fn hear_engine(
     }
 }
 
-// Waits for `usiok`, and then asks whether it is ready.
+// Waits for `usiok`, and then sends `isready`.
 fn greet(alloc: Global, engine: &mut EngineState, line: &[u8]) -> Result<Out, OutOfMemory>
     requires { engine.old ≡ Greeting }
     ensures { (c : Config) (client : Client) → MatchResult result
@@ -92,7 +93,8 @@ fn log_in(
     requires phase { IsPhase phase.old }
     ensures keeps { IsPhase phase.new }
     ensures answer { MatchResult result
-        (λ out. Reacts config.now engine.old (client_of phase.old) (engine_line line.now) out engine.new (client_of phase.new))
+        (λ out. Reacts config.now engine.old
+        (client_of phase.old) (engine_line line.now) out engine.new (client_of phase.new))
         (λ fault. Same engine.old (client_of phase.old) engine.new (client_of phase.new)) }
 {
     if !is_ready_ok(line) {
@@ -122,8 +124,8 @@ fn login(alloc: Global, config: &Config) -> Result<Out, OutOfMemory>
     })
 }
 
-// Takes a line of an engine that was asked for a move. Where its game is not on any more, it is ready for
-// the next.
+// Takes a line of an engine that was asked for a move. If its game is no longer in play, it is
+// ready for the next.
 fn hear_thinking(
     alloc: Global,
     engine: &mut EngineState,
@@ -134,7 +136,8 @@ fn hear_thinking(
     requires phase { IsPhase phase.old }
     ensures keeps { IsPhase phase.new }
     ensures answer { (c : Config) → MatchResult result
-        (λ out. Reacts c engine.old (client_of phase.old) (engine_line line.now) out engine.new (client_of phase.new))
+        (λ out. Reacts c engine.old (client_of phase.old)
+        (engine_line line.now) out engine.new (client_of phase.new))
         (λ fault. Same engine.old (client_of phase.old) engine.new (client_of phase.new)) }
 {
     match phase {
@@ -162,10 +165,12 @@ fn is_playing(stage: Stage) -> bool
     }
 }
 
-// Takes a line of an engine whose game is not on any more: behind its answer it is ready for the next.
+// Takes a line of an engine whose game is no longer in play: after its answer it is ready for the
+// next.
 fn hear_late(alloc: Global, engine: &mut EngineState, line: &[u8]) -> Out
     requires { engine.old ≡ Thinking }
-    ensures { (c : Config) (client : Client) → (client_state client ≡ clients.Playing → ⊥) → Reacts c engine.old client (engine_line line.now) result engine.new client }
+    ensures { (c : Config) (client : Client) → (client_state client ≡ clients.Playing → ⊥)
+        → Reacts c engine.old client (engine_line line.now) result engine.new client }
 {
     if !is_best_move(line) {
         return no_lines(alloc);
@@ -174,7 +179,7 @@ fn hear_late(alloc: Global, engine: &mut EngineState, line: &[u8]) -> Out
     no_lines(alloc)
 }
 
-// Whether the line is `bestmove`, with whatever stands behind it.
+// Whether the first word of the line is `bestmove`.
 fn is_best_move(line: &[u8]) -> bool
     ensures { IsTrue result ↔ ((word : List ℕ) × IsBestMove line.now word) }
 {
@@ -184,7 +189,7 @@ fn is_best_move(line: &[u8]) -> bool
     }
 }
 
-// Sends the server what the engine answers.
+// Sends the server the engine's answer.
 fn hear_answer(
     alloc: Global,
     engine: &mut EngineState,
@@ -196,7 +201,8 @@ fn hear_answer(
     requires play { IsPlay play.old }
     ensures keeps { IsPlay play.new }
     ensures answer { (c : Config) → MatchResult result
-        (λ out. Reacts c engine.old (play_client play.old) (engine_line line.now) out engine.new (play_client play.new))
+        (λ out. Reacts c engine.old (play_client play.old)
+        (engine_line line.now) out engine.new (play_client play.new))
         (λ fault. Same engine.old (play_client play.old) engine.new (play_client play.new)) }
 {
     let Some(answer) = read_answer(&play.game.line().now(), line) else {
@@ -209,7 +215,7 @@ fn hear_answer(
     Ok(out)
 }
 
-// Sends the server an answer of the engine, which plays that side.
+// Sends the server an answer of the engine, which plays this side.
 fn say(alloc: Global, client: Color, answer: EngineAnswer) -> Result<Out, OutOfMemory>
     ensures engine { IfOk result (λ out. out.to_engine ≡ []) }
     ensures server { IfOk result (λ out. out.to_server ≡ ended_line (answer_text client answer)) }
@@ -233,7 +239,7 @@ fn given_for(answer: EngineAnswer) -> Answer
     }
 }
 
-// Whether the engine has slipped, with this answer.
+// Whether the engine has slipped, this answer included.
 fn slip_with(answer: EngineAnswer, before: bool) -> bool
     ensures { result ≡ slip_with answer before }
 {

@@ -1,19 +1,18 @@
 ghost use Rattle.std.specs.Prelude.{◌≡◌, None, Some};
 ghost use Rattle.session_table.specs.GameTold.{ending_by, ending_of, illegal_action, perpetual_ending, untimed};
-ghost use Rattle.shogi_session.specs.Phases.{reason_of};
-ghost use Rattle.shogi_session.specs.ServerWords.{outcome, reason as reason_is};
 
-use crate::server_words::{EndReason, GameResult};
 use csa_text::Ending;
+use session_lines::server_words::{EndReason, GameResult};
 use shogi_board::Color;
 
-// The ending of a game with no ending told, for a client of that side, by the reason and the result.
+// The ending of a game for which the server sent none, by the reason and the result for a client of
+// this side.
 pub(crate) fn ending_by(
     client: Color,
     reason: Option<EndReason>,
     game_result: GameResult,
 ) -> Option<Ending>
-    ensures { untimed result ≡ ending_of client None (reason_of reason) (Some (outcome game_result)) }
+    ensures { untimed result ≡ ending_of client None reason (Some game_result) }
 {
     match reason {
         Some(reason) => ending_for(client, reason, game_result),
@@ -24,9 +23,9 @@ pub(crate) fn ending_by(
     }
 }
 
-// By a reason that was told.
+// The ending by a reason.
 fn ending_for(client: Color, reason: EndReason, game_result: GameResult) -> Option<Ending>
-    ensures { result ≡ ending_by client (reason_is reason) (outcome game_result) }
+    ensures { result ≡ ending_by client reason game_result }
 {
     match reason {
         EndReason::Resign => Some(Ending::Toryo),
@@ -40,9 +39,9 @@ fn ending_for(client: Color, reason: EndReason, game_result: GameResult) -> Opti
     }
 }
 
-// At a perpetual check, by the result of a client of that side.
+// The ending after a perpetual check, by the result for a client of this side.
 fn perpetual_ending(client: Color, game_result: GameResult) -> Ending
-    ensures { result ≡ perpetual_ending client (outcome game_result) }
+    ensures { result ≡ perpetual_ending client game_result }
 {
     match game_result {
         GameResult::Lose => illegal_action(client),

@@ -6,7 +6,7 @@ ghost use Rattle.session_table.specs.declared.config.Config.{Config};
 ghost use Rattle.session_table.specs.declared.event.Status.TheVariants.{Failed, Going};
 ghost use Rattle.session_table.specs.declared.fault.MoveCause.TheVariants.{Refused};
 ghost use Rattle.session_table.specs.declared.fault.SessionFault.TheVariants.{BadServerMove};
-ghost use Rattle.shogi_session.specs.declared.phase.Answer.TheVariants as given;
+ghost use Rattle.session_table.specs.declared.state.Answer.TheVariants as given;
 ghost use Rattle.shogi_session.specs.declared.phase.Play.{Play};
 ghost use Rattle.shogi_session.specs.declared.phase.Stage.TheVariants.{Playing};
 ghost use Rattle.session_table.specs.declared.state.EngineState.TheVariants.{Thinking};
@@ -16,27 +16,26 @@ ghost use Rattle.session_lines.specs.MoveLines.{is_move_line};
 ghost use Rattle.shogi_session.specs.Phases.{Confirms, GoesOn, IsOn, IsPlay, KeepsEnding, Reacts, Same, Stays, TellsEnd, closed, finish_of, match_in, play_client, waiting_in, why_of};
 ghost use Rattle.session_table.specs.Row.{IsExpected, gameover_line, with_reason};
 ghost use Rattle.session_lines.specs.ServerLines.{is_hash_line};
-ghost use Rattle.shogi_session.specs.ServerWords.{outcome, reason as reason_is};
 ghost use Rattle.session_table.specs.State.{game_with, line_of};
 ghost use Rattle.session_lines.specs.Texts.{text_of};
 
 use crate::answers::{failed, no_lines, to_engine};
 use crate::asking::ask;
 use crate::game_end::ending_by;
-use crate::phase::{Answer, Play, Stage, Told};
+use crate::phase::{Play, Stage, Told};
 use crate::server_lines::{read_server_ending, read_server_move};
-use crate::server_words::{
-    EndReason, GameResult, is_ending_line, is_hash_line, read_reason, read_result,
-};
 use csa_record::{OrderFault, Record, Why};
 use csa_text::Ending;
+use session_lines::server_words::{
+    EndReason, GameResult, is_ending_line, is_hash_line, read_reason, read_result,
+};
 use session_lines::{Lines, is_move_line, texts};
-use session_table::{Config, EngineState, MoveCause, Out, SessionFault, Status};
+use session_table::{Answer, Config, EngineState, MoveCause, Out, SessionFault, Status};
 use shogi_board::{Color, OutOfMemory};
 use shogi_rules::{Move, PlayFault};
 use std::alloc::Global;
 
-// Takes a line of the server while the game is on.
+// Takes a line of the server while the game is in play.
 pub(crate) fn hear_in_play(
     alloc: Global,
     config: &Config,
@@ -48,8 +47,10 @@ pub(crate) fn hear_in_play(
     requires play { IsPlay play.old }
     ensures keeps { IsPlay play.new }
     ensures answer { MatchResult result
-        (λ out. Reacts config.now engine.old (play_client play.old) (server_line line.now) out engine.new (play_client play.new))
-        (λ fault. Stays config.now engine.old (play_client play.old) (server_line line.now) engine.new (play_client play.new)) }
+        (λ out. Reacts config.now engine.old
+        (play_client play.old) (server_line line.now) out engine.new (play_client play.new))
+        (λ fault. Stays config.now engine.old
+        (play_client play.old) (server_line line.now) engine.new (play_client play.new)) }
 {
     if is_move_line(line) {
         return hear_move(alloc, config, engine, play, line);
@@ -68,7 +69,7 @@ pub(crate) fn hear_in_play(
     Ok(no_lines(alloc))
 }
 
-// Keeps the ending that the line tells, if it tells one.
+// Keeps the ending that the line spells, if it spells one.
 fn keep_ending(play: &mut Play, line: &[u8])
     requires { play.old.game.ending ≡ None }
     ensures { KeepsEnding play.old line.now play.new }
@@ -83,11 +84,13 @@ fn keep_ending(play: &mut Play, line: &[u8])
     });
 }
 
-// Gives the game, which has no ending, that one.
+// Adds this ending to the game, which has none.
 fn end_with(play: &mut Play, ending: Ending, time: Option<u64>)
     requires none { play.old.game.ending ≡ None }
     requires time { IfSome time (λ t. t ≤ longest_time) }
-    ensures { play.new ≡ record play.old { game = record play.old.game { ending = Some (record { ending = ending; time = time }) } } }
+    ensures { play.new ≡ record play.old {
+      game = record play.old.game { ending = Some (record { ending = ending; time = time }) };
+    } }
 {
     let _ = play.game.close(ending);
     if let Some(thousandths) = time {
@@ -95,7 +98,7 @@ fn end_with(play: &mut Play, ending: Ending, time: Option<u64>)
     }
 }
 
-// Takes a line from `+` or `-`.
+// Takes a line that begins with `+` or `-`.
 fn hear_move(
     alloc: Global,
     config: &Config,
@@ -108,8 +111,10 @@ fn hear_move(
     requires from_a_sign { is_move_line line.now ≡ true }
     ensures keeps { IsPlay play.new }
     ensures answer { MatchResult result
-        (λ out. Reacts config.now engine.old (play_client play.old) (server_line line.now) out engine.new (play_client play.new))
-        (λ fault. Stays config.now engine.old (play_client play.old) (server_line line.now) engine.new (play_client play.new)) }
+        (λ out. Reacts config.now engine.old
+        (play_client play.old) (server_line line.now) out engine.new (play_client play.new))
+        (λ fault. Stays config.now engine.old
+        (play_client play.old) (server_line line.now) engine.new (play_client play.new)) }
 {
     let (color, mv, time) = match read_server_move(line) {
         Ok(told) => told,
@@ -135,7 +140,7 @@ fn refuse(alloc: Global, why: Why) -> Out
     failed(alloc, SessionFault::BadServerMove(MoveCause::Refused(why)))
 }
 
-// Why a move is not played; no want of memory comes here.
+// Why a move is not played. The fault is never `OutOfMemory`.
 fn why_of(fault: PlayFault) -> Why
     ensures { result ≡ why_of fault }
 {
@@ -146,14 +151,16 @@ fn why_of(fault: PlayFault) -> Why
     }
 }
 
-// Whether the move is of the other side, or the sent one that waits for its confirmation.
+// Whether the move is of the other side, or was sent and waits for confirmation.
 fn is_expected(play: &Play, color: Color, mv: Move) -> bool
-    ensures { (time : Option ℕ) → IsTrue result ↔ IsExpected (record { game = match_in play.now; waiting = waiting_in play.now.stage }) color (record { move = mv; time = time }) }
+    ensures { (time : Option ℕ) → IsTrue result ↔ IsExpected
+        (record { game = match_in play.now; waiting = waiting_in play.now.stage })
+        color (record { move = mv; time = time }) }
 {
     color != play.client || is_waiting(play.stage, mv)
 }
 
-// Whether that move was sent and waits for its confirmation.
+// Whether that move was sent and waits for confirmation.
 fn is_waiting(stage: Stage, mv: Move) -> bool
     ensures { IsTrue result ↔ (waiting_in stage ≡ Some mv) }
 {
@@ -173,14 +180,14 @@ fn is_move(answer: Answer, mv: Move) -> bool
     }
 }
 
-// Whether both are one move.
+// Whether the two moves are the same.
 fn is_same(first: Move, second: Move) -> bool
     ensures { IsTrue result ↔ (first ≡ second) }
 {
     first == second
 }
 
-// Plays the move, which may be played, and asks the engine where its side is to move then.
+// Plays the move, which may be played, and asks the engine if its side is to move then.
 fn confirm(
     alloc: Global,
     config: &Config,
@@ -193,7 +200,8 @@ fn confirm(
     requires none { play.old.game.ending ≡ None }
     requires may { Answers (line_of (match_in play.old)) color mv None }
     requires time { IfSome time (λ t. t ≤ longest_time) }
-    ensures { Confirms config.now engine.old play.old (record { move = mv; time = time }) result engine.new play.new }
+    ensures { Confirms config.now engine.old play.old
+        (record { move = mv; time = time }) result engine.new play.new }
 {
     play_move(&mut play.game, color, mv, time)?;
     let out = ask_engine(
@@ -208,7 +216,7 @@ fn confirm(
     Ok(out)
 }
 
-// Adds the move with its time to the game, where it may be played.
+// Adds the move with its time to the game, if it may be played.
 fn play_move(
     game: &mut Record,
     color: Color,
@@ -216,9 +224,11 @@ fn play_move(
     time: Option<u64>,
 ) -> Result<(), OutOfMemory>
     requires none { game.old.ending ≡ None }
-    requires may { Answers (record { start = game.old.start; moves = map move_of game.old.moves }) color mv None }
+    requires may { Answers (record { start = game.old.start; moves = map move_of game.old.moves })
+        color mv None }
     requires time { IfSome time (λ t. t ≤ longest_time) }
-    ensures ok { OnOk result (game.new ≡ game_with game.old (record { move = mv; time = time } ∷ [])) }
+    ensures ok { OnOk result
+        (game.new ≡ game_with game.old (record { move = mv; time = time } ∷ [])) }
     ensures err { OnErr result (game.new ≡ game.old) }
 {
     if game.play(color, mv).is_err() {
@@ -230,7 +240,7 @@ fn play_move(
     Ok(())
 }
 
-// Asks the engine, behind these lines, where its side is to move and may. Play goes on.
+// Adds to these lines those that ask the engine, if its side is to move and may. Play goes on.
 pub(crate) fn ask_engine(
     alloc: Global,
     config: &Config,
@@ -250,14 +260,14 @@ pub(crate) fn ask_engine(
     Ok(to_engine(alloc, lines))
 }
 
-// How the engine stands once it was asked, or was not.
+// The engine's state after it was asked, or was not.
 fn engine_after(engine: EngineState, asked: bool) -> EngineState
     ensures { result ≡ (if asked then Thinking else engine) }
 {
     if asked { EngineState::Thinking } else { engine }
 }
 
-// Takes a line from `#`, behind what was told before it.
+// Takes a line that begins with `#`, by what the server said of the end before.
 pub(crate) fn hear_end(
     alloc: Global,
     engine: &mut EngineState,
@@ -270,7 +280,8 @@ pub(crate) fn hear_end(
     requires hash { is_hash_line line.now ≡ true }
     ensures keeps { IsPlay play.new }
     ensures answer { (c : Config) → MatchResult result
-        (λ out. Reacts c engine.old (play_client play.old) (server_line line.now) out engine.new (play_client play.new))
+        (λ out. Reacts c engine.old (play_client play.old)
+        (server_line line.now) out engine.new (play_client play.new))
         (λ fault. Same engine.old (play_client play.old) engine.new (play_client play.new)) }
 {
     match read_result(line) {
@@ -288,10 +299,11 @@ pub(crate) fn hear_end(
     }
 }
 
-// The reason, if none stands.
+// Adds the reason, if there is none yet.
 fn with_reason(told: Told, reason: EndReason) -> Told
     ensures ending { result.ending ≡ told.ending }
-    ensures reason { (game : Game) → finish_of game result ≡ with_reason (finish_of game told) (reason_is reason) }
+    ensures reason { (game : Game)
+        → finish_of game result ≡ with_reason (finish_of game told) reason }
 {
     Told {
         ending: told.ending,
@@ -299,7 +311,7 @@ fn with_reason(told: Told, reason: EndReason) -> Told
     }
 }
 
-// What was told: that reason, and the ending that the game has.
+// What the server said of the end: this reason, and the ending that the game has.
 fn told_of(play: &Play, reason: Option<EndReason>) -> Told
     ensures ending { result.ending ≡ is_some play.now.game.ending }
     ensures reason { result.reason ≡ reason }
@@ -310,9 +322,9 @@ fn told_of(play: &Play, reason: Option<EndReason>) -> Told
     }
 }
 
-// Gives the game the ending that follows from the reason and the result, if it has none.
+// Adds to the game the ending that follows from the reason and the result, if it has none.
 fn close(play: &mut Play, reason: Option<EndReason>, game_result: GameResult)
-    ensures { play.new ≡ record play.old { game = closed play.old reason (outcome game_result) } }
+    ensures { play.new ≡ record play.old { game = closed play.old reason game_result } }
 {
     if let Some(ending) = ending_by(play.client, reason, game_result) {
         let _ = play.game.close(ending);
@@ -321,7 +333,8 @@ fn close(play: &mut Play, reason: Option<EndReason>, game_result: GameResult)
 
 // Tells the engine and the server that the game is over.
 fn say_end(alloc: Global, game_result: GameResult) -> Result<Out, OutOfMemory>
-    ensures engine { IfOk result (λ out. out.to_engine ≡ text_of (gameover_line (outcome game_result) ∷ texts.quit ∷ [])) }
+    ensures engine { IfOk result
+        (λ out. out.to_engine ≡ text_of (gameover_line game_result ∷ texts.quit ∷ [])) }
     ensures server { IfOk result (λ out. out.to_server ≡ text_of (texts.logout ∷ [])) }
     ensures status { IfOk result (λ out. out.status ≡ Going) }
 {
@@ -336,7 +349,7 @@ fn say_end(alloc: Global, game_result: GameResult) -> Result<Out, OutOfMemory>
 }
 
 fn gameover_line(game_result: GameResult) -> &'static [u8]
-    ensures { result.now ≡ gameover_line (outcome game_result) }
+    ensures { result.now ≡ gameover_line game_result }
 {
     match game_result {
         GameResult::Win => texts::GAME_WON,

@@ -1,5 +1,5 @@
-//! The laws of the machines: those of the host, of the sample engine and of the table of a bridge, and
-//! that of a bridge with a host. They take and give nothing.
+//! The laws of the machines: those of the host, the sample engine and a bridge's table, and one of
+//! a bridge together with a host. The functions take and give nothing; each law is a clause.
 
 ghost use Rattle.std.specs.Prelude.{◌≡◌, ◌++◌, ℕ, List, [], filter};
 ghost use Rattle.std.specs.List.{AllByRecursion};
@@ -27,22 +27,28 @@ pub use session_table::laws::{
     summary_line_once, thinking_may_ask,
 };
 
-/// Where the lines that a bridge heard from its server, less the spaces at their end, are the first
-/// of those that a host wrote, with any other events between, the lines of play from `+` or `-` are
-/// the first of those that the host wrote behind `START:`.
+/// Let the lines that a bridge received from its server, without the spaces at their end, be the
+/// first of those that a host sent; other events may come between. Then the bridge's lines of play
+/// that begin with `+` or `-` are the first of those that the host sent after `START:`.
 pub fn both_ends()
-    ensures ends { (c : Config) (log : List Step) (s : State) (host : HostConfig) (wrote : List HostStep) (t : HostState)
+    ensures ends { (c : Config) (log : List Step)
+        (s : State) (host : HostConfig) (wrote : List HostStep) (t : HostState)
         → Leads c log s → HostLeads host wrote t → IsPrefix (server_lines log) (written wrote)
-        → (taken rest : List (List ℕ)) → Taken log taken rest → IsPrefix (filter is_move_line taken) (written_moves wrote) }
+        → (taken rest : List (List ℕ))
+        → Taken log taken rest → IsPrefix (filter is_move_line taken) (written_moves wrote) }
 {}
 
-/// The bytes of the lines that a step of a bridge gives its engine, and of those that it gives its
-/// server, are cut back into just these lines, none of which has a space at its end.
+/// The bytes that a step of a bridge sends its engine, and those that it sends its server, are cut
+/// back into exactly the lines that it sends. No line has a space at its end.
 pub fn bridge_lines_whole()
-    ensures engine { (c : Config) (s t : State) (e : Event) (out : Out) → IsConfig c → Row c s e out t
+    ensures engine { (c : Config) (s t : State) (e : Event) (out : Out)
+        → IsConfig c → Row c s e out t
         → Lines (text_of out.to_engine) out.to_engine [] }
-    ensures server { (c : Config) (s t : State) (e : Event) (out : Out) → IsConfig c → Row c s e out t
+    ensures server { (c : Config) (s t : State) (e : Event) (out : Out)
+        → IsConfig c → Row c s e out t
         → Lines (text_of out.to_server) out.to_server [] }
-    ensures unspaced { (c : Config) (s t : State) (e : Event) (out : Out) → IsConfig c → Row c s e out t
-        → AllByRecursion (λ line. without_last_spaces line ≡ line) (out.to_engine ++ out.to_server) }
+    ensures unspaced { (c : Config) (s t : State) (e : Event) (out : Out)
+        → IsConfig c → Row c s e out t
+        → AllByRecursion (λ line. without_last_spaces line ≡ line)
+        (out.to_engine ++ out.to_server) }
 {}

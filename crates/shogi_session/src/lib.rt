@@ -1,9 +1,19 @@
-//! Session machines, which take one line at a call and answer the lines that they send: a bridge,
-//! which is the client of a server and plays with an engine; a host, which plays one game as a server
-//! does; and a sample engine.
+//! Session machines: each call takes one line and returns the lines to send.
 //!
-//! They speak the CSA server protocol and the USI protocol, in the profile of this project:
-//! `docs/SESSIONS.md` has a table of each.
+//! - [`Bridge`] is the client of a CSA server, and plays with a USI engine.
+//! - [`Host`] plays one game as a CSA server does.
+//! - [`Sample`] is a small USI engine.
+//!
+//! They follow the CSA server protocol and USI, in the profile of this project: `docs/SESSIONS.md`
+//! has a table of each. None of them reads or writes; `session_commands` does that.
+//!
+//! ```text
+//! let mut bridge = Bridge::new(alloc, &config)?;
+//! let out = bridge.step(Event::Begin)?;
+//! out.to_engine.bytes()                    // b"usi\n"
+//! let out = bridge.step(Event::EngineLine(b"usiok"))?;
+//! out.to_engine.bytes()                    // b"isready\n"
+//! ```
 #![tactic(auto)]
 
 mod answers;
@@ -22,7 +32,6 @@ mod position_reader;
 mod position_text;
 mod server_lines;
 mod server_side;
-mod server_words;
 mod summary_reader;
 
 pub use bridge::Bridge;

@@ -12,7 +12,7 @@ use session_lines::walked_of;
 use shogi_board::Color;
 use shogi_rules::Move;
 
-// What the next statement says, or None where none is left.
+// What the next statement says, or None if there is none.
 pub(crate) fn next_item<'a>(cutter: &mut Cutter<'a>) -> Result<Option<Item<'a>>, TextFault>
     ensures { Next cutter.old result cutter.new }
 {
@@ -23,7 +23,7 @@ pub(crate) fn next_item<'a>(cutter: &mut Cutter<'a>) -> Result<Option<Item<'a>>,
     }
 }
 
-// The move that the next statement is, with its side. A statement is still to come.
+// The side and the move of the next statement. There is a next statement.
 pub(crate) fn next_move(cutter: &mut Cutter<'_>) -> Result<(Color, Move), TextFault>
     requires { ToCome cutter.old [] → ⊥ }
     ensures { MatchResult result
@@ -39,7 +39,7 @@ pub(crate) fn next_move(cutter: &mut Cutter<'_>) -> Result<(Color, Move), TextFa
     }
 }
 
-// The time that is all that is left of the line, or None where nothing is.
+// The time, which is the only statement that is left, or None if none is left.
 pub(crate) fn last_time(cutter: &mut Cutter<'_>) -> Result<Option<u64>, TextFault>
     ensures { LastTime cutter.old result }
 {
@@ -55,7 +55,7 @@ pub(crate) fn last_time(cutter: &mut Cutter<'_>) -> Result<Option<u64>, TextFaul
     }
 }
 
-// The time that the item is.
+// The time, if the item is one.
 fn time_of(item: Item<'_>) -> Option<u64>
     ensures { MatchOption result
         ((t : ℕ) → saying_of item.entry ≡ time t → ⊥)
@@ -67,7 +67,7 @@ fn time_of(item: Item<'_>) -> Option<u64>
     }
 }
 
-// That nothing is left of the line.
+// Checks that no statement is left.
 fn expect_end(cutter: &mut Cutter<'_>) -> Result<(), TextFault>
     ensures { MatchResult result (λ r. ToCome cutter.old []) (λ fault. EndFault cutter.old fault) }
 {

@@ -11,14 +11,15 @@ use csa_record::Record;
 use session_lines::texts;
 use shogi_board::{Color, OutOfMemory};
 
-// What a whole summary offers: the client's side, and a game, some of whose moves may have been played.
+// What a whole summary offers: the client's side, and a game, some of whose moves may have been
+// played.
 #[derive(Drop)]
 pub(crate) struct GameOffer {
     pub(crate) client: Color,
     pub(crate) game: Record,
 }
 
-// The client's side in a summary with these names and this turn; or None where it can offer no game.
+// The client's side in a summary with these names and this turn, or None if it can offer no game.
 pub(crate) fn read_client(black: &[u8], white: &[u8], turn: &[u8]) -> Option<Color>
     ensures { MatchOption result
         ((color : Color) → IsClientTold black.now white.now turn.now color → ⊥)
@@ -30,7 +31,7 @@ pub(crate) fn read_client(black: &[u8], white: &[u8], turn: &[u8]) -> Option<Col
     color_of(turn)
 }
 
-// The offer of that game, which has no names, with these names.
+// The offer of this game, which has no names, with these names.
 pub(crate) fn name_offer(
     client: Color,
     game: Record,
@@ -43,13 +44,14 @@ pub(crate) fn name_offer(
     requires white_fits { length white.now ≤ 4094 }
     requires no_black { game.black ≡ None }
     requires no_white { game.white ≡ None }
-    ensures { IfOk result (λ offer. (offer.client ≡ client) × IsNamed game black.now white.now offer.game) }
+    ensures { IfOk result
+        (λ offer. (offer.client ≡ client) × IsNamed game black.now white.now offer.game) }
 {
     let game = name_both(game, black, white)?;
     Ok(GameOffer { client, game })
 }
 
-// The side of which this is the sign.
+// The side with this sign.
 fn color_of(turn: &[u8]) -> Option<Color>
     ensures { MatchOption result
         ((color : Color) → turn.now ≡ sign color ∷ [] → ⊥)
@@ -64,7 +66,7 @@ fn color_of(turn: &[u8]) -> Option<Color>
     }
 }
 
-// The game with these names, which has none.
+// This game, which has no names, with these names.
 fn name_both(game: Record, black: &[u8], white: &[u8]) -> Result<Record, OutOfMemory>
     requires black_line { IsOneLine black.now }
     requires white_line { IsOneLine white.now }
@@ -80,11 +82,12 @@ fn name_both(game: Record, black: &[u8], white: &[u8]) -> Result<Record, OutOfMe
     Ok(named)
 }
 
-// Names a side of the game that has no name; only want of memory can refuse that.
+// Names a side of the game that has no name. Fails only if an allocation does.
 fn name_side(game: &mut Record, color: Color, name: &[u8]) -> Result<(), OutOfMemory>
     requires one_line { IsOneLine name.now }
     requires fits { 2 + length name.now ≤ longest_statement }
-    ensures { OnOk result (game.new ≡ with_titled game.old (with_name (titled_of game.old) color name.now)) }
+    ensures { OnOk result
+        (game.new ≡ with_titled game.old (with_name (titled_of game.old) color name.now)) }
 {
     match game.set_name(color, name) {
         Ok(()) => Ok(()),

@@ -1,27 +1,19 @@
 use crate::offer::GameOffer;
-use crate::server_words::{EndReason, GameResult};
 use crate::summary_reader::SummaryReader;
 use csa_record::Record;
+use session_lines::server_words::{EndReason, GameResult};
+use session_table::Answer;
 use shogi_board::Color;
-use shogi_rules::Move;
 
-// What a bridge sent for its engine.
-#[derive(Clone, Copy, Debug, PartialEq, Eq)]
-pub(crate) enum Answer {
-    Move(Move),
-    Toryo,
-    Kachi,
-}
-
-// What the server told of a game's end, but for the ending itself, which the game has.
+// What the server has said of a game's end, apart from the ending, which the game has.
 #[derive(Clone, Copy, Debug, PartialEq, Eq)]
 pub(crate) struct Told {
-    // Whether the ending that the game has was told.
+    // Whether the server sent the game's ending.
     pub(crate) ending: bool,
     pub(crate) reason: Option<EndReason>,
 }
 
-// Where a game stands, from its start on.
+// How far a game is, from its start on.
 #[derive(Clone, Copy, Debug, PartialEq, Eq)]
 pub(crate) enum Stage {
     Playing,
@@ -41,7 +33,7 @@ pub(crate) struct Play {
     pub(crate) stage: Stage,
 }
 
-// How a bridge stands with its server.
+// How far a bridge is with its server.
 #[derive(Drop)]
 pub(crate) enum Phase {
     Idle,

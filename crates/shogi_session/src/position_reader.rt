@@ -15,12 +15,12 @@ const MOST_BYTES: u64 = 9_223_372_036_854_775_808;
 
 const LINE_END: &[u8] = b"\n";
 
-// What the lines of a position block have come to.
+// What the lines of a position block are so far.
 #[derive(Drop)]
 enum Progress {
-    // They may go on to tell a game.
+    // More lines may make them a game.
     Reading(RecordReader),
-    // Whatever comes behind them, they tell none.
+    // No further lines make them a game.
     Failed,
 }
 
@@ -42,7 +42,7 @@ impl Model for PositionReader {
     ghost invariant = { λ r. HasCome r.text.bytes r.progress };
 }
 
-// A position block that has ended: the game that it tells, without names, or that it tells none.
+// A position block that has ended: its game, without names, or that it is none.
 #[derive(Drop)]
 pub(crate) struct EndedPosition {
     text: BlockText,
@@ -61,7 +61,7 @@ impl Model for EndedPosition {
 }
 
 impl PositionReader {
-    // A reader of a block that has no line yet.
+    // A reader of a block without lines.
     pub(crate) fn new(alloc: Global) -> PositionReader
         ensures { result ≡ [] }
     {
@@ -94,7 +94,7 @@ impl PositionReader {
 }
 
 impl EndedPosition {
-    // The game that it tells; or the block again, which tells none.
+    // The block's game; or the block again, if it is none.
     pub(crate) fn into_game(self) -> Result<Record, EndedPosition>
         ensures { MatchResult result
             (λ game. IsPositionRead self (Some game))
@@ -108,9 +108,10 @@ impl EndedPosition {
     }
 }
 
-// What the lines have come to with one more.
+// The progress after one more line.
 fn go_on(progress: Progress, line: &[u8]) -> Result<Progress, OutOfMemory>
-    ensures { (text : List ℕ) → HasCome text progress → IfOk result (HasCome (text ++ ended_line line.now)) }
+    ensures { (text : List ℕ) → HasCome text progress
+        → IfOk result (HasCome (text ++ ended_line line.now)) }
 {
     let Progress::Reading(mut reader) = progress else {
         return Ok(Progress::Failed);
@@ -122,7 +123,7 @@ fn go_on(progress: Progress, line: &[u8]) -> Result<Progress, OutOfMemory>
     }
 }
 
-// The game that the lines tell, or None.
+// The game that the lines are, or None.
 fn game_of(progress: Progress) -> Result<Option<Record>, OutOfMemory>
     ensures { (text : List ℕ) → HasCome text progress → IfOk result (IsPositionRead text) }
 {
@@ -141,9 +142,10 @@ fn game_of(progress: Progress) -> Result<Option<Record>, OutOfMemory>
     }
 }
 
-// Feeds the reader the next line, and answers whether the lines may go on to tell a game.
+// Feeds the reader the next line. Returns whether more lines may make these a game.
 fn take_line(reader: &mut RecordReader, line: &[u8]) -> Result<bool, OutOfMemory>
-    ensures { (text : List ℕ) → IsFed text reader.old → IfOk result (λ may. IsTaken (text ++ ended_line line.now) may reader.new) }
+    ensures { (text : List ℕ) → IsFed text reader.old
+        → IfOk result (λ may. IsTaken (text ++ ended_line line.now) may reader.new) }
 {
     if !is_position_text(line) {
         return Ok(false);
@@ -155,9 +157,10 @@ fn take_line(reader: &mut RecordReader, line: &[u8]) -> Result<bool, OutOfMemory
     }
 }
 
-// Feeds the reader these bytes, and answers whether it has refused none.
+// Feeds the reader these bytes. Returns whether it has refused nothing.
 fn feed(reader: &mut RecordReader, bytes: &[u8]) -> Result<bool, OutOfMemory>
-    ensures { (text : List ℕ) → HasRead text reader.old → IfOk result (λ going. IsFedOn (text ++ bytes.now) going reader.new) }
+    ensures { (text : List ℕ) → HasRead text reader.old
+        → IfOk result (λ going. IsFedOn (text ++ bytes.now) going reader.new) }
 {
     if !has_room(reader, bytes) {
         return Err(OutOfMemory);
@@ -174,7 +177,7 @@ fn feed(reader: &mut RecordReader, bytes: &[u8]) -> Result<bool, OutOfMemory>
     }
 }
 
-// Whether a reader takes so many bytes more; there is memory for no more.
+// Whether a reader takes this many more bytes. There is never memory for more.
 fn has_room(reader: &RecordReader, bytes: &[u8]) -> bool
     ensures { IsTrue result → fed_of reader.now + length bytes.now ≤ 2 ^ 63 }
 {

@@ -6,7 +6,7 @@ ghost use Rattle.session_table.specs.Summary.{in_position};
 use csa_cutting::Cutter;
 use csa_text::{Item, read_item};
 
-// Whether the text is position, side, move and time statements alone.
+// Whether the text has only position, side, move and time statements.
 pub(crate) fn is_position_text(text: &[u8]) -> bool
     ensures { IsTrue result ↔ IsPositionText text.now }
 {
@@ -24,7 +24,7 @@ pub(crate) fn is_position_text(text: &[u8]) -> bool
     }
 }
 
-// Whether the statement is one of these.
+// Whether the bytes are a statement of these kinds.
 fn spells_position(bytes: &[u8]) -> bool
     ensures { IsTrue result ↔ SpellsPosition bytes.now }
 {

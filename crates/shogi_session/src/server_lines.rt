@@ -15,7 +15,8 @@ use csa_text::{Ending, Item, TextFault};
 use shogi_board::Color;
 use shogi_rules::Move;
 
-// The move that a line from `+` or `-` tells, with its side and its time, if it has one; or the line's first text fault.
+// The side, the move and the time, if any, of a line that begins with `+` or `-`; or the line's
+// first text fault.
 pub(crate) fn read_server_move(line: &[u8]) -> Result<(Color, Move, Option<u64>), TextFault>
     requires { is_move_line line.now ≡ true }
     ensures { MatchResult result
@@ -28,7 +29,7 @@ pub(crate) fn read_server_move(line: &[u8]) -> Result<(Color, Move, Option<u64>)
     Ok((color, mv, time))
 }
 
-// The ending that a line tells, with its time, if it has one; or None.
+// The ending and the time, if any, that a line spells; or None.
 pub(crate) fn read_server_ending(line: &[u8]) -> Option<(Ending, Option<u64>)>
     ensures { MatchOption result
         ((e : Ended) → TellsEnding line.now e → ⊥)
@@ -44,7 +45,7 @@ pub(crate) fn read_server_ending(line: &[u8]) -> Option<(Ending, Option<u64>)>
     }
 }
 
-// The ending that the next statement is.
+// The ending that the next statement spells.
 fn next_ending(cutter: &mut Cutter<'_>) -> Result<Ending, TextFault>
     ensures { MatchResult result
         (λ e. (u : TextUnit) × IsSpelt u (ending e) × StepsOver cutter.old u cutter.new)
@@ -59,7 +60,7 @@ fn next_ending(cutter: &mut Cutter<'_>) -> Result<Ending, TextFault>
     }
 }
 
-// The ending that the item is.
+// The ending, if the item is one.
 fn ending_of(item: Item<'_>) -> Option<Ending>
     ensures { MatchOption result
         ((e : Ending) → saying_of item.entry ≡ ending e → ⊥)

@@ -17,8 +17,8 @@ use crate::answers::{failed, no_lines, silent, tell_server};
 use crate::in_play::{ask_engine, hear_end, hear_in_play};
 use crate::offer::GameOffer;
 use crate::phase::{Phase, Play, Stage};
-use crate::server_words::{is_hash_line, is_login_ok, is_reject_line, is_start_line};
 use crate::summary_reader::SummaryReader;
+use session_lines::server_words::{is_hash_line, is_login_ok, is_reject_line, is_start_line};
 use session_lines::texts::is_same;
 use session_lines::{Lines, texts};
 use session_table::{Config, EngineState, Out, SessionFault, Status};
@@ -26,7 +26,7 @@ use shogi_board::OutOfMemory;
 use std::alloc::Global;
 use std::mem;
 
-// Takes a line of the server, less the spaces at its end.
+// Takes a line of the server, without the spaces at its end.
 pub(crate) fn hear_server(
     alloc: Global,
     config: &Config,
@@ -38,8 +38,10 @@ pub(crate) fn hear_server(
     requires line { IsOneLine line.now }
     ensures keeps { IsPhase phase.new }
     ensures answer { MatchResult result
-        (λ out. Reacts config.now engine.old (client_of phase.old) (server_line line.now) out engine.new (client_of phase.new))
-        (λ fault. Stays config.now engine.old (client_of phase.old) (server_line line.now) engine.new (client_of phase.new)) }
+        (λ out. Reacts config.now engine.old
+        (client_of phase.old) (server_line line.now) out engine.new (client_of phase.new))
+        (λ fault. Stays config.now engine.old
+        (client_of phase.old) (server_line line.now) engine.new (client_of phase.new)) }
 {
     match phase {
         Phase::Idle => Ok(no_lines(alloc)),
@@ -68,7 +70,8 @@ pub(crate) fn hear_server(
 fn hear_login(alloc: Global, phase: &mut Phase, line: &[u8]) -> Out
     requires { phase.old ≡ LoggingIn }
     ensures keeps { IsPhase phase.new }
-    ensures answer { (c : Config) (engine : EngineState) → Reacts c engine (client_of phase.old) (server_line line.now) result engine (client_of phase.new) }
+    ensures answer { (c : Config) (engine : EngineState) → Reacts c engine
+        (client_of phase.old) (server_line line.now) result engine (client_of phase.new) }
 {
     if is_login_ok(line) {
         *phase = Phase::BeforeSummary;
@@ -84,7 +87,8 @@ fn hear_login(alloc: Global, phase: &mut Phase, line: &[u8]) -> Out
 fn hear_begin(alloc: Global, phase: &mut Phase, line: &[u8]) -> Out
     requires { phase.old ≡ BeforeSummary }
     ensures keeps { IsPhase phase.new }
-    ensures answer { (c : Config) (engine : EngineState) → Reacts c engine (client_of phase.old) (server_line line.now) result engine (client_of phase.new) }
+    ensures answer { (c : Config) (engine : EngineState) → Reacts c engine
+        (client_of phase.old) (server_line line.now) result engine (client_of phase.new) }
 {
     if !is_same(line, texts::BEGIN_SUMMARY) {
         return no_lines(alloc);
@@ -93,13 +97,14 @@ fn hear_begin(alloc: Global, phase: &mut Phase, line: &[u8]) -> Out
     no_lines(alloc)
 }
 
-// Takes a line of a summary, not its last. Where memory is refused, the lines before it are given up.
+// Takes a line of a summary, not its last. If an allocation fails, the lines before it are lost.
 fn hear_summary(alloc: Global, reader: &mut SummaryReader, line: &[u8]) -> Result<Out, OutOfMemory>
     requires line { IsOneLine line.now }
     requires not_last { line.now ≡ texts.end_summary → ⊥ }
     requires counts { (lines : List (List ℕ)) × CountsAs lines reader.old }
     ensures keeps { (lines : List (List ℕ)) × CountsAs lines reader.new }
-    ensures answer { IfOk result (λ out. (c : Config) (engine : EngineState) → Reacts c engine (state.summary reader.old) (server_line line.now) out engine (state.summary reader.new)) }
+    ensures answer { IfOk result (λ out. (c : Config) (engine : EngineState) → Reacts c engine
+        (state.summary reader.old) (server_line line.now) out engine (state.summary reader.new)) }
 {
     match reader.hear(line) {
         Ok(()) => Ok(no_lines(alloc)),
@@ -110,13 +115,14 @@ fn hear_summary(alloc: Global, reader: &mut SummaryReader, line: &[u8]) -> Resul
     }
 }
 
-// Takes the last line of a summary. Where memory is refused, the lines before it are given up.
+// Takes the last line of a summary. If an allocation fails, the lines before it are lost.
 fn end_summary(alloc: Global, phase: &mut Phase) -> Result<Out, OutOfMemory>
     requires phase { IsPhase phase.old }
     requires summary { (h : Heard) × (client_of phase.old ≡ state.summary h) }
     ensures keeps { IsPhase phase.new }
     ensures answer { (c : Config) (engine : EngineState) → IfOk result
-        (λ out. Reacts c engine (client_of phase.old) (server_line texts.end_summary) out engine (client_of phase.new)) }
+        (λ out. Reacts c engine (client_of phase.old)
+        (server_line texts.end_summary) out engine (client_of phase.new)) }
     ensures given_up { OnErr result (client_of phase.new ≡ state.before_summary) }
 {
     let Phase::Summary(reader) = phase else {
@@ -152,10 +158,11 @@ fn agree(alloc: Global, phase: &mut Phase, offer: GameOffer) -> Result<Out, OutO
     }
 }
 
-// Takes a line behind `AGREE` that does not start the game.
+// Takes a line after `AGREE` that does not start the game.
 fn hear_unstarted(alloc: Global, line: &[u8]) -> Out
     requires { is_start_line line.now ≡ false }
-    ensures { (c : Config) (engine : EngineState) (o : Offer) → Reacts c engine (state.agreeing o) (server_line line.now) result engine (state.agreeing o) }
+    ensures { (c : Config) (engine : EngineState) (o : Offer) → Reacts c engine
+        (state.agreeing o) (server_line line.now) result engine (state.agreeing o) }
 {
     if is_reject_line(line) {
         return failed(alloc, SessionFault::Rejected);
@@ -163,7 +170,7 @@ fn hear_unstarted(alloc: Global, line: &[u8]) -> Out
     no_lines(alloc)
 }
 
-// Tells the engine that a game starts, and asks it where its side is to move and may.
+// Tells the engine that a game starts, and asks it if its side is to move and may.
 fn ask_first(
     alloc: Global,
     config: &Config,
@@ -171,7 +178,8 @@ fn ask_first(
     offer: &GameOffer,
 ) -> Result<Out, OutOfMemory>
     requires { offer.now.game.ending ≡ None }
-    ensures goes_on { IfOk result (λ out. GoesOn config.now engine.old (begun offer.now) (ended_line texts.new_game) out engine.new (begun offer.now)) }
+    ensures goes_on { IfOk result (λ out. GoesOn config.now engine.old
+        (begun offer.now) (ended_line texts.new_game) out engine.new (begun offer.now)) }
     ensures engine { OnErr result (engine.new ≡ engine.old) }
 {
     let lines = Lines::one(alloc, texts::NEW_GAME)?;
@@ -193,7 +201,7 @@ fn start(phase: &mut Phase)
     };
 }
 
-// Takes a line behind the start of the game.
+// Takes a line after the start of the game.
 fn hear_in_game(
     alloc: Global,
     config: &Config,
@@ -204,8 +212,10 @@ fn hear_in_game(
     requires { IsPlay play.old }
     ensures keeps { IsPlay play.new }
     ensures answer { MatchResult result
-        (λ out. Reacts config.now engine.old (play_client play.old) (server_line line.now) out engine.new (play_client play.new))
-        (λ fault. Stays config.now engine.old (play_client play.old) (server_line line.now) engine.new (play_client play.new)) }
+        (λ out. Reacts config.now engine.old
+        (play_client play.old) (server_line line.now) out engine.new (play_client play.new))
+        (λ fault. Stays config.now engine.old
+        (play_client play.old) (server_line line.now) engine.new (play_client play.new)) }
 {
     match play.stage {
         Stage::Playing | Stage::Sent(_) => hear_in_play(alloc, config, engine, play, line),

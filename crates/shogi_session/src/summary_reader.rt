@@ -23,35 +23,35 @@ enum Positions {
     Several,
 }
 
-// The block of a summary that has not ended.
+// The block of a summary that has not ended yet.
 #[derive(Drop)]
 enum Begun {
     // There is none.
     Nothing,
     // The first position block.
     Position(PositionReader),
-    // A further one, of which nothing counts.
+    // A further position block. Its lines do not count.
     Another,
     // Another block, which has this title.
     Other(Vec<u8>),
 }
 
-// Where a line of a summary stands.
+// What a line of a summary is, by its place.
 #[derive(Clone, Copy, Debug, PartialEq, Eq)]
 enum Place {
-    // It begins a block.
+    // The first line of a block.
     Begins,
-    // It stands outside blocks.
+    // A line outside all blocks.
     Outside,
-    // It ends the block.
+    // The last line of a block.
     Ends,
-    // It stands in a position block.
+    // A line in a position block.
     InPosition,
-    // It stands in another block.
+    // A line in another block.
     Skipped,
 }
 
-// What counts of the lines of a game summary so far. Of the others nothing is kept.
+// What counts of the lines of a game summary so far. Nothing else is kept.
 #[derive(Drop)]
 pub(crate) struct SummaryReader {
     alloc: Global,
@@ -69,13 +69,20 @@ impl Model for SummaryReader {
 
     ghost Value = { Heard };
 
-    ghost view = { λ s. record { black = s.black.items; white = s.white.items; turn = s.turn.items; positions = blocks_of s.positions s.begun; begun = title_of s.begun } };
+    ghost view = { λ s. record {
+      black = s.black.items;
+      white = s.white.items;
+      turn = s.turn.items;
+      positions = blocks_of s.positions s.begun;
+      begun = title_of s.begun;
+    } };
 
-    ghost invariant = { λ s. IsOneLine s.black.items × IsOneLine s.white.items × IsFitting s.begun };
+    ghost invariant = { λ s. IsOneLine s.black.items
+        × IsOneLine s.white.items × IsFitting s.begun };
 }
 
 impl SummaryReader {
-    // A reader behind `BEGIN Game_Summary`.
+    // A reader after `BEGIN Game_Summary`.
     pub(crate) fn new(alloc: Global) -> SummaryReader
         ensures { result ≡ nothing_heard }
     {
@@ -103,7 +110,8 @@ impl SummaryReader {
         }
     }
 
-    // What the lines tell as a whole summary; or None where they tell none, and nothing changes.
+    // The offer that the lines make as a whole summary; or None if they make none, and nothing
+    // changes.
     pub(crate) fn finish(&mut self) -> Result<Option<GameOffer>, OutOfMemory>
         ensures told { IfOk result (λ found. IsToldBy self.old (offer_of found)) }
         ensures untold { IfOk result (λ found. found ≡ None → self.new ≡ self.old) }
@@ -122,7 +130,7 @@ impl SummaryReader {
         }
     }
 
-    // Begins a block of that title, outside all.
+    // Begins a block of that title, outside all others.
     fn begin(&mut self, title: &[u8]) -> Result<(), OutOfMemory>
         requires { self.old.begun ≡ None }
         ensures { OnOk result (self.new ≡ opened self.old title.now) }
@@ -137,7 +145,7 @@ impl SummaryReader {
         Ok(())
     }
 
-    // Ends the block that has not ended.
+    // Ends the block that is open.
     fn end(&mut self) -> Result<(), OutOfMemory>
         ensures { OnOk result (self.new ≡ record self.old { begun = None }) }
     {
@@ -155,7 +163,8 @@ impl SummaryReader {
     // Takes a line of a position block.
     fn take_position(&mut self, line: &[u8]) -> Result<(), OutOfMemory>
         requires { self.old.begun ≡ Some texts.position_title }
-        ensures { OnOk result (self.new ≡ record self.old { positions = extended self.old.positions line.now }) }
+        ensures { OnOk result
+            (self.new ≡ record self.old { positions = extended self.old.positions line.now }) }
     {
         self.begun = match mem::replace(&mut self.begun, Begun::Nothing) {
             Begun::Position(reader) => Begun::Position(reader.take(line)?),
@@ -164,7 +173,7 @@ impl SummaryReader {
         Ok(())
     }
 
-    // Keeps what the line tells of a name or of the client's side.
+    // Keeps the name or the client's side, if the line gives one.
     fn take_values(&mut self, line: &[u8]) -> Result<(), OutOfMemory>
         requires { IsOneLine line.now }
         ensures { OnOk result (self.new ≡ outside self.old line.now) }
@@ -175,7 +184,7 @@ impl SummaryReader {
     }
 }
 
-// Where the line stands, by the title of the block that has not ended.
+// The line's place, by the title of the block that has not ended.
 fn place_of(begun: &Begun, line: &[u8]) -> Place
     ensures { IsPlace (title_of begun.now) line.now result }
 {
@@ -221,7 +230,7 @@ fn is_position(title: &[u8]) -> bool
     title == texts::POSITION_TITLE
 }
 
-// Keeps what stands behind the key, where the line begins with it, in place of what stood there.
+// Replaces what is kept by what follows the key, if the line begins with the key.
 fn take_value(kept: &mut Vec<u8>, key: &[u8], line: &[u8]) -> Result<(), OutOfMemory>
     ensures value { OnOk result (kept.new.items ≡ value_or key.now kept.old.items line.now) }
     ensures one_line { IsOneLine kept.old.items → IsOneLine line.now → IsOneLine kept.new.items }
@@ -233,7 +242,7 @@ fn take_value(kept: &mut Vec<u8>, key: &[u8], line: &[u8]) -> Result<(), OutOfMe
     Ok(())
 }
 
-// The next position block, which has no line yet.
+// The next position block, without lines.
 fn begun_position(positions: &Positions, alloc: Global) -> Begun
     ensures fits { IsFitting result }
     ensures title { title_of result ≡ Some texts.position_title }
@@ -255,7 +264,7 @@ fn count_one(positions: &mut Positions, ended: EndedPosition)
     };
 }
 
-// The game that the only position block tells; or None where none does, and nothing changes.
+// The game of the only position block; or None if there is none, and nothing changes.
 fn take_game(positions: &mut Positions) -> Option<Record>
     ensures game { IsGameIn positions.old result }
     ensures kept { result ≡ None → positions.new ≡ positions.old }

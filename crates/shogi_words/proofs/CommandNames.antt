@@ -18,7 +18,7 @@ names_behind : (xs : List Command) (x : Command) → names_in (xs ++ x ∷ []) �
 names_behind [] x = refl
 names_behind (y ∷ ys) x = ap (λ names. (shape_of y).name ∷ names) (names_behind ys x)
 
--- a command comes behind those before it
+-- a command follows those before it
 pub comes_behind : (old sub new : Command) (n : List ℕ) (names : List (List ℕ)) → AddsSubcommand old sub new → (app_of sub).top.name ≡ n
     → subcommand_names old ≡ names → subcommand_names new ≡ names ++ n ∷ []
 comes_behind old sub new n names adds is before =

@@ -7,13 +7,18 @@ use Rattle.shogi_words.specs.declared.request.Request.TheVariants.{Check, Normal
 
 -- the words of the commands, in the order of the help
 abbrev pub commands : List (List ℕ)
-commands = codes "check" ∷ codes "normal" ∷ codes "usi" ∷ codes "csa" ∷ codes "engine" ∷ codes "serve" ∷ codes "play" ∷ []
+commands =
+    codes "check" ∷ codes "normal"
+    ∷ codes "usi" ∷ codes "csa" ∷ codes "engine" ∷ codes "serve" ∷ codes "play" ∷ []
 
 -- none of the commands
 abbrev pub IsNoCommand : Option (List ℕ) → Type 0
-IsNoCommand name = (name ≢ Some (codes "check")) × (name ≢ Some (codes "normal")) × (name ≢ Some (codes "usi")) × (name ≢ Some (codes "csa")) × (name ≢ Some (codes "engine")) × (name ≢ Some (codes "serve")) × (name ≢ Some (codes "play"))
+IsNoCommand name =
+    (name ≢ Some (codes "check")) × (name ≢ Some (codes "normal"))
+    × (name ≢ Some (codes "usi")) × (name ≢ Some (codes "csa"))
+    × (name ≢ Some (codes "engine")) × (name ≢ Some (codes "serve")) × (name ≢ Some (codes "play"))
 
--- the word of what is asked for
+-- the word of the requested command
 abbrev pub word_of : Request → List ℕ
 word_of (Check file) = codes "check"
 word_of (Normal file) = codes "normal"
@@ -23,10 +28,13 @@ word_of Engine = codes "engine"
 word_of (Serve service) = codes "serve"
 word_of (Play game) = codes "play"
 
--- a command of that name whose one word is FILE, which may be absent
+-- a command with this name whose one word is FILE, which may be absent
 abbrev pub takes_file : List ℕ → App
 takes_file name = with_rule (new_app name) (new_rule (codes "FILE"))
 
--- n is the number that an option's word spells in decimal, where it spells one in these bounds; a plus may stand first
+-- n is the number that an option's word spells in decimal, if it spells one within these bounds; a
+-- plus may come first
 abbrev pub IsGiven : Option (List ℕ) → ℕ → ℕ → ℕ → Type 0
-IsGiven word low high n = (text : List ℕ) → word ≡ Some text → IsUnsignedIn low high text → n ≡ digits_value 10 (without_leading_plus text)
+IsGiven word low high n =
+    (text : List ℕ) → word ≡ Some text
+    → IsUnsignedIn low high text → n ≡ digits_value 10 (without_leading_plus text)

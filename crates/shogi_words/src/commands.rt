@@ -1,4 +1,4 @@
-//! The commands, and which of them a command line names.
+//! The commands, and which of them a command line asks for.
 
 ghost use Rattle.std.specs.Prelude.{◌≡◌, ◌≤◌, [], IfOk, IfSome, None, Some};
 ghost use Rattle.shogi_rules.specs.Positions as positions;
@@ -11,7 +11,7 @@ use crate::{play, records, serve, words};
 use clap::{ArgMatches, Command};
 use std::alloc::{AllocError, Global};
 
-/// The program's whole command line.
+/// The command line of the whole program. Returns an error if an allocation fails.
 pub fn all<'a>(alloc: Global) -> Result<Command<'a>, AllocError>
     ensures names { IfOk result (λ c. subcommand_names c ≡ commands) }
 {
@@ -25,21 +25,22 @@ pub fn all<'a>(alloc: Global) -> Result<Command<'a>, AllocError>
         .subcommand(play::command(alloc)?)
 }
 
-// The program, without its commands.
+// The program without its commands.
 fn program<'a>(alloc: Global) -> Command<'a>
     ensures none { subcommand_names result ≡ [] }
 {
     Command::new(alloc, "shogi")
         .about("Reads, checks and rewrites shogi records")
-        .version("0.1.0")
+        .version("0.2.0")
         .propagate_version(true)
         .subcommand_required(true)
 }
 
-/// What the words ask for, or None where they name none of the commands.
+/// The request that the words make, or None if they name no command.
 pub fn request_of<'a>(matches: &ArgMatches<'a>) -> Option<Request<'a>>
     ensures named { IfSome result (λ r. subcommand_name_of matches.now ≡ Some (word_of r)) }
-    ensures within { IfSome result (λ r. (s : Service) → r ≡ Request.Serve s → (1 ≤ s.max_moves) × (s.max_moves ≤ positions.max_moves)) }
+    ensures within { IfSome result (λ r. (s : Service)
+        → r ≡ Request.Serve s → (1 ≤ s.max_moves) × (s.max_moves ≤ positions.max_moves)) }
     ensures unknown { result ≡ None → IsNoCommand (subcommand_name_of matches.now) }
 {
     let (name, words) = matches.subcommand()?;

@@ -1,4 +1,12 @@
-//! The command line of the program `shogi`: its commands, and what the words of one of them ask for.
+//! The command line of the program `shogi`: its commands, and what a command line asks for.
+//!
+//! [`all`] is the command line for `clap`, with its help; [`request_of`] turns what `clap` read
+//! into a [`Request`], with every word already checked.
+//!
+//! ```text
+//! let matches = shogi_words::all(alloc)?.try_get_matches_from(words)?;
+//! shogi_words::request_of(&matches)  // Some(Request::Check(Some("game.csa")))
+//! ```
 #![tactic(auto)]
 
 mod commands;

@@ -1,4 +1,4 @@
-//! `shogi play`: an engine plays one game on a server, and the game's record is kept.
+//! `shogi play`: a USI engine plays one game on a CSA server, and the game's record is kept.
 
 ghost use Rattle.std.specs.Prelude.{◌≡◌, ℕ, List, IfOk, None, Some, codes, false, option_map, true};
 ghost use Rattle.clap.specs.Words.{app_of, first_value, found_of, one_text};
@@ -14,22 +14,23 @@ use std::alloc::{AllocError, Global};
 pub struct Match<'a> {
     /// The CSA server to start.
     pub server: &'a str,
-    /// The most moves of the game, 1 to 10,000.
+    /// The greatest number of moves of the game, 1 to 10,000.
     pub max_moves: u32,
     /// The USI engine to start.
     pub engine: &'a str,
-    /// The one word that the engine is started with, if there is one.
+    /// The one argument of the engine, if any.
     pub engine_word: Option<&'a str>,
-    /// The file that the record is written to.
+    /// The file to write the record to.
     pub out: &'a str,
-    /// Whether no move is to be shown.
+    /// Whether to show no moves.
     pub is_quiet: bool,
 }
 
 /// The command's word.
 pub const NAME: &str = "play";
 
-/// The command, with the programs to start and the file to write.
+/// The command, with the programs to start and the file to write. Returns an error if an allocation
+/// fails.
 pub fn command<'a>(alloc: Global) -> Result<Command<'a>, AllocError>
     ensures name { IfOk result (λ c. (app_of c).top.name ≡ codes "play") }
 {
@@ -82,16 +83,25 @@ fn program<'a>(alloc: Global, name: &'a str, help: &'a str) -> Arg<'a> {
         .required(true)
 }
 
-/// What the words say of the game.
+/// The game that the words ask for.
 pub fn match_of<'a>(matches: &ArgMatches<'a>) -> Match<'a>
-    ensures server { (text : List ℕ) → first_value (found_of matches.now) (codes "server") ≡ Some text → result.server.now ≡ text }
-    ensures engine { (text : List ℕ) → first_value (found_of matches.now) (codes "engine") ≡ Some text → result.engine.now ≡ text }
-    ensures word { option_map (λ s. s.now) result.engine_word ≡ first_value (found_of matches.now) (codes "engine-arg") }
-    ensures out { (text : List ℕ) → first_value (found_of matches.now) (codes "out") ≡ Some text → result.out.now ≡ text }
-    ensures given { IsGiven (one_text (found_of matches.now) (codes "max")) 1 positions.max_moves result.max_moves }
+    ensures server { (text : List ℕ)
+        → first_value (found_of matches.now) (codes "server") ≡ Some text
+        → result.server.now ≡ text }
+    ensures engine { (text : List ℕ)
+        → first_value (found_of matches.now) (codes "engine") ≡ Some text
+        → result.engine.now ≡ text }
+    ensures word { option_map (λ s. s.now) result.engine_word
+        ≡ first_value (found_of matches.now) (codes "engine-arg") }
+    ensures out { (text : List ℕ) → first_value (found_of matches.now) (codes "out") ≡ Some text
+        → result.out.now ≡ text }
+    ensures given { IsGiven (one_text (found_of matches.now) (codes "max"))
+        1 positions.max_moves result.max_moves }
     ensures usual { one_text (found_of matches.now) (codes "max") ≡ None → result.max_moves ≡ 256 }
-    ensures quiet { one_text (found_of matches.now) (codes "quiet") ≡ Some (codes "true") → result.is_quiet ≡ true }
-    ensures shown { one_text (found_of matches.now) (codes "quiet") ≡ Some (codes "false") → result.is_quiet ≡ false }
+    ensures quiet { one_text (found_of matches.now) (codes "quiet") ≡ Some (codes "true")
+        → result.is_quiet ≡ true }
+    ensures shown { one_text (found_of matches.now) (codes "quiet") ≡ Some (codes "false")
+        → result.is_quiet ≡ false }
 {
     Match {
         server: matches.get_str("server").unwrap_or_default(),

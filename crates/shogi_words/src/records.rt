@@ -1,4 +1,4 @@
-//! The commands that read FILE alone, and `engine`, which has no words.
+//! The commands that only read FILE, and `engine`, which has no words.
 
 ghost use Rattle.std.specs.Prelude.{◌≡◌, IfOk, codes};
 ghost use Rattle.clap.specs.Words.{app_of, new_app};
@@ -8,26 +8,27 @@ use crate::words;
 use clap::Command;
 use std::alloc::{AllocError, Global};
 
-/// The word of the command that checks a record.
+/// The word of the command that checks a CSA record.
 pub const CHECK: &str = "check";
 
-/// The word of the command that writes the canonical text of a record.
+/// The word of the command that writes the canonical text of a CSA record.
 pub const NORMAL: &str = "normal";
 
-/// The word of the command that writes the position line of a record.
+/// The word of the command that writes the USI position line of a CSA record.
 pub const USI: &str = "usi";
 
-/// The word of the command that writes the canonical text of a position line.
+/// The word of the command that writes the canonical CSA text of a USI position line.
 pub const CSA: &str = "csa";
 
-/// The word of the command that is an engine.
+/// The word of the command that plays as a USI engine.
 pub const ENGINE: &str = "engine";
 
 const RECORD: &str = "The record; without it, or with -, standard input is read";
 
 const LINE: &str = "The line; without it, or with -, standard input is read";
 
-/// `shogi check [FILE]`: whether a record is accepted, how many moves it has, and how it stands.
+/// `shogi check [FILE]`: whether a record is accepted, its number of moves, and the state of the
+/// game after them.
 pub fn check<'a>(alloc: Global) -> Result<Command<'a>, AllocError>
     ensures name { IfOk result (λ c. (app_of c).top.name ≡ codes "check") }
     ensures word { IfOk result (λ c. app_of c ≡ takes_file (codes "check")) }

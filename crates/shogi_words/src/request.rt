@@ -3,21 +3,22 @@
 use crate::play::Match;
 use crate::serve::Service;
 
-/// A command, with what its words say. A FILE that the words do not have is None.
+/// A command and what its words say. A FILE that is absent is None.
 #[derive(Clone, Copy, Debug)]
 pub enum Request<'a> {
-    /// `check`: whether the record in FILE is accepted, with how many moves, and how it stands.
+    /// `check`: whether the CSA record in FILE is accepted, its number of moves, and the state of
+    /// the game.
     Check(Option<&'a str>),
-    /// `normal`: the canonical text of the record in FILE.
+    /// `normal`: the canonical text of the CSA record in FILE.
     Normal(Option<&'a str>),
-    /// `usi`: the position line of the record in FILE.
+    /// `usi`: the USI position line of the CSA record in FILE.
     Usi(Option<&'a str>),
-    /// `csa`: the canonical text of the position line in FILE.
+    /// `csa`: the canonical CSA text of the USI position line in FILE.
     Csa(Option<&'a str>),
     /// `engine`: a USI engine on standard input and output.
     Engine,
     /// `serve`: a CSA server on localhost for one game.
     Serve(Service),
-    /// `play`: a game of an engine on a server.
+    /// `play`: a game of a USI engine on a CSA server.
     Play(Match<'a>),
 }

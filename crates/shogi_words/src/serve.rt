@@ -1,4 +1,4 @@
-//! `shogi serve`: a server on localhost, which plays one game with one client.
+//! `shogi serve`: a CSA server on localhost, which plays one game with one client.
 
 ghost use Rattle.std.specs.Prelude.{◌≡◌, ◌≤◌, IfOk, None, Some, codes};
 ghost use Rattle.clap.specs.Words.{app_of, found_of, one_text};
@@ -14,23 +14,23 @@ use std::alloc::{AllocError, Global};
 /// Where a server listens, and which game it plays.
 #[derive(Clone, Copy, Debug, PartialEq, Eq)]
 pub struct Service {
-    /// The port to listen on; 0 is any free one.
+    /// The port to listen on; 0 means any free port.
     pub port: u16,
     /// The client's side.
     pub client: Color,
-    /// The most moves of the game, 1 to 10,000.
+    /// The greatest number of moves of the game, 1 to 10,000.
     pub max_moves: u32,
 }
 
 /// The command's word.
 pub const NAME: &str = "serve";
 
-// The most moves that a game may have.
+// The greatest number of moves that a game may have.
 pub(crate) const MOST_MOVES: u32 = MAX_MOVES as u32;
 
 const USUAL_MOVES: u32 = 256;
 
-/// The command, with `--port`, `--max` and `--white`.
+/// The command, with `--port`, `--max` and `--white`. Returns an error if an allocation fails.
 pub fn command<'a>(alloc: Global) -> Result<Command<'a>, AllocError>
     ensures name { IfOk result (λ c. (app_of c).top.name ≡ codes "serve") }
 {
@@ -62,12 +62,15 @@ pub fn command<'a>(alloc: Global) -> Result<Command<'a>, AllocError>
     )
 }
 
-/// What the words say of the server.
+/// The server that the words ask for.
 pub fn service_of(matches: &ArgMatches<'_>) -> Service
-    ensures black { one_text (found_of matches.now) (codes "white") ≡ Some (codes "false") → result.client ≡ Color.Black }
-    ensures white { one_text (found_of matches.now) (codes "white") ≡ Some (codes "true") → result.client ≡ Color.White }
+    ensures black { one_text (found_of matches.now) (codes "white") ≡ Some (codes "false")
+        → result.client ≡ Color.Black }
+    ensures white { one_text (found_of matches.now) (codes "white") ≡ Some (codes "true")
+        → result.client ≡ Color.White }
     ensures within { (1 ≤ result.max_moves) × (result.max_moves ≤ positions.max_moves) }
-    ensures given { IsGiven (one_text (found_of matches.now) (codes "max")) 1 positions.max_moves result.max_moves }
+    ensures given { IsGiven (one_text (found_of matches.now) (codes "max"))
+        1 positions.max_moves result.max_moves }
     ensures usual { one_text (found_of matches.now) (codes "max") ≡ None → result.max_moves ≡ 256 }
     ensures port { IsGiven (one_text (found_of matches.now) (codes "port")) 0 65535 result.port }
     ensures free { one_text (found_of matches.now) (codes "port") ≡ None → result.port ≡ 0 }
@@ -81,8 +84,10 @@ pub fn service_of(matches: &ArgMatches<'_>) -> Service
 
 // The client's side.
 fn client(matches: &ArgMatches<'_>) -> Color
-    ensures black { one_text (found_of matches.now) (codes "white") ≡ Some (codes "false") → result ≡ Color.Black }
-    ensures white { one_text (found_of matches.now) (codes "white") ≡ Some (codes "true") → result ≡ Color.White }
+    ensures black { one_text (found_of matches.now) (codes "white") ≡ Some (codes "false")
+        → result ≡ Color.Black }
+    ensures white { one_text (found_of matches.now) (codes "white") ≡ Some (codes "true")
+        → result ≡ Color.White }
 {
     if matches.get_flag("white") {
         Color::White
@@ -91,10 +96,11 @@ fn client(matches: &ArgMatches<'_>) -> Color
     }
 }
 
-/// How many moves the game may have; the command takes no other numbers.
+/// How many moves the game may have, 1 to 10,000; the command takes no other numbers.
 pub fn max_moves(matches: &ArgMatches<'_>) -> u32
     ensures within { (1 ≤ result) × (result ≤ positions.max_moves) }
-    ensures given { IsGiven (one_text (found_of matches.now) (codes "max")) 1 positions.max_moves result }
+    ensures given { IsGiven (one_text (found_of matches.now) (codes "max"))
+        1 positions.max_moves result }
     ensures usual { one_text (found_of matches.now) (codes "max") ≡ None → result ≡ 256 }
 {
     match matches.get_one::<u32>("max") {

@@ -7,7 +7,7 @@ ghost use Rattle.shogi_words.specs.Words.{takes_file};
 use clap::{Arg, ArgMatches, Command};
 use std::alloc::{AllocError, Global};
 
-/// A command of that name: what it is, and an example of it.
+/// A command with this name, a description and an example.
 pub fn named<'a>(alloc: Global, name: &'a str, about: &'a str, example: &'a str) -> Command<'a>
     ensures name { (app_of result).top.name ≡ name.now }
     ensures no_words { app_of result ≡ new_app name.now }
@@ -15,7 +15,8 @@ pub fn named<'a>(alloc: Global, name: &'a str, about: &'a str, example: &'a str)
     Command::new(alloc, name).about(about).after_help(example)
 }
 
-/// A command that reads FILE, a word that may be absent: what it is, an example of it, and what FILE is.
+/// A command that reads FILE, a word that may be absent: its name, a description, an example, and
+/// what FILE is. Returns an error if an allocation fails.
 pub fn command<'a>(
     alloc: Global,
     name: &'a str,
@@ -29,9 +30,10 @@ pub fn command<'a>(
     named(alloc, name, about, example).arg(Arg::new(alloc, "FILE").help(help))
 }
 
-/// FILE, where the words have it.
+/// FILE, if it is present.
 pub fn file<'a>(matches: &ArgMatches<'a>) -> Option<&'a str>
-    ensures value { option_map (λ s. s.now) result ≡ first_value (found_of matches.now) (codes "FILE") }
+    ensures value { option_map (λ s. s.now) result
+        ≡ first_value (found_of matches.now) (codes "FILE") }
 {
     matches.get_str("FILE")
 }

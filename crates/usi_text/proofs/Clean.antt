@@ -24,7 +24,7 @@ use Rattle.usi_text.specs.Scanning.{run_text}
 abbrev pub Lacks : ℕ → List ℕ → Type 0
 Lacks c text = AllByRecursion (λ b. b ≢ c) text
 
--- split at a byte that the front lacks
+-- split at a byte that the front does not contain
 abbrev parts_at : ℕ → List ℕ → List (List ℕ)
 parts_at c text = slice_split (λ b. b == c) text
 
@@ -65,7 +65,7 @@ words_alone w h some = ap (filter has_bytes) (parts_alone 32 w h) ∙ kept w [] 
 abbrev pub AreWord : List ℕ → Type 0
 AreWord text = AllByRecursion (λ b. 33 ≤ b) text
 
--- and no slash among them
+-- and no slash is among them
 abbrev IsRankByte : ℕ → Type 0
 IsRankByte b = (33 ≤ b) × (b ≢ 47)
 

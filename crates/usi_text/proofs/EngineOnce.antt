@@ -1,4 +1,4 @@
--- A line of an engine says one thing at most.
+-- A line of an engine says at most one thing.
 use Rattle.std.proofs.Common.{◌≡◌, ℕ, List, Some, None, codes, refl, ap, sym, ◌∙◌, arith}
 use Rattle.usi_text.specs.declared.engine.EngineWord.{EngineWord}
 use Rattle.usi_text.specs.declared.engine.EngineWord.TheVariants.{UsiOk, ReadyOk, Best, Resign, Win, Other}

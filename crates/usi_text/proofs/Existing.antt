@@ -1,4 +1,4 @@
--- No words are without an answer: they give a position or a line, or they have a first fault.
+-- All words have an answer: they give a position or a line, or they have a first fault.
 use Rattle.std.proofs.Common.{◌≡◌, ℕ, ◌+◌, ◌<◌, inl, inr, List, [], ◌∷◌, ◌++◌, Option, Some, None, Result, Ok, Err, length, refl, subst}
 use Rattle.std.proofs.lemmas.Bool.{cases_lt}
 use Rattle.shogi_board.specs.declared.color.Color.{Color}
@@ -70,7 +70,7 @@ broken_some kept [] none = none None refl
 broken_some kept (rule ∷ rules) none =
     none (Some rule) (inl (λ k. broken_some kept rules (λ broken h. none broken (inr (k, h))), refl))
 
--- no word is played, or none has a fault but want of memory
+-- no word is played, or none has a fault but lack of memory
 abbrev NotPlayed : Placed → List Move → List ℕ → Type 0
 NotPlayed start before w = (m : Move) → IsPlayed start before w m → ⊥
 

@@ -1,4 +1,5 @@
--- The pieces of a sound position, put and held one after another, meet no refusal.
+-- The pieces of a sound position, placed on the board and in the hands one after another, are not
+-- refused.
 use Rattle.std.proofs.Common.{◌≡◌, ◌≢◌, ℕ, zero, suc, ◌+◌, ◌*◌, ◌-◌, ◌/◌, ◌%◌, ◌<◌, ◌≤◌, ◌==◌, ◌&&◌, nat_lt, nat_le, ◌⊎◌, inl, inr, Bool, true, false, cond, List, [], ◌∷◌, ◌++◌, Option, Some, None, Ok, length, length-append, length-set, get_or, set, replicate, arith, refl, sym, ap, ◌∙◌, subst, count_by, slice_index}
 use Rattle.std.proofs.lemmas.Bool.{cases_eq, cases_lt, lt-leb}
 use Rattle.std.proofs.lemmas.List.{get_or-set_other, get_or-set_same, set-set, set-get_or, ext_get_or, get_or_append_left, get_or-append_right}
@@ -57,7 +58,7 @@ part_less f xs ys none same part =
     let h = tally_less f xs ys none same part in
     omega (arith, h, tally_is f xs, tally_is f ys)
 
--- which square of the text has a place
+-- the place in the text of the square with this index on the board
 abbrev text_place : ℕ → ℕ
 text_place i = (i % 9) * 9 + (8 - i / 9)
 
@@ -70,7 +71,7 @@ text_place-is i h =
 text_place-bound : (i : ℕ) → i < 81 → text_place i < 81
 text_place-bound i h = omega arith
 
--- the first n squares of the text stand as on the board, the others are empty
+-- the first n squares of the text are as on the board, and the others are empty
 pub record Filled (board : Cells) (s : Layout) (n : ℕ) : Type 0 where
   pub free : s.rest_given ≡ false
   pub black : s.material.black ≡ no_pieces
@@ -215,7 +216,7 @@ fill board (Some p ∷ cells) s n size totals kings f whole same =
       filled = r.filled;
     }
 
--- then every square stands as on the board
+-- then every square is as on the board
 pub filled_board : (board : Cells) (s : Layout) → length board ≡ 81 → Filled board s 81 → s.material.board ≡ board
 filled_board board s size f =
     ext_get_or nothing s.material.board board (f.size ∙ sym size) (λ i h.

@@ -1,4 +1,4 @@
--- The first word of a text, and the words behind it.
+-- The first word of a text, and the words after it.
 use Rattle.std.proofs.Common.{◌≡◌, ◌≢◌, ℕ, zero, suc, ◌<◌, ◌≤◌, ◌==◌, cond, List, [], ◌∷◌, ◌++◌, Bool, append_assoc, length, get_or, take, drop, arith, refl, sym, ap, subst, ◌∙◌, inl, inr, true, false}
 use Rattle.std.specs.List.{filter, slice_split, onto_first}
 use Rattle.std.proofs.lemmas.List.{take-append-drop}
@@ -102,7 +102,7 @@ space_or b h =
       | inr other ↦ absurd (h other.0)
     ]
 
--- so many spaces at the front of a text, and what stands behind them
+-- so many spaces at the front of a text, and what follows them
 pub record Spaces (all text : List ℕ) (n : ℕ) : Type 0 where
   pub cut : text ≡ drop n all
   pub within : n ≤ length all

@@ -22,7 +22,7 @@ early_at start before m i d legal low =
     let within : i ≤ length before = omega arith in
     rw (take-append-le i before (m ∷ []) within, get_or_append_left before (m ∷ []) d i low) legal
 
--- each move of a game is legal behind those before it
+-- each move of a game is legal after those before it
 pub legal_at : (start : Placed) (moves : List Move) → IsGame start moves → (i : ℕ) (d : Move) → i < length moves → LegalAt start moves i d
 legal_at start moves begun i d low = absurd (omega arith)
 legal_at start moves (played before m game follow) i d low =

@@ -35,7 +35,7 @@ no_front [] tail all moves e some before has = absurd (omega arith)
 no_front (v ∷ vs) tail [] moves e some before has = cc
 no_front (v ∷ vs) tail (w ∷ ws) moves e some before has = let same : w ≡ v = cc in before.0 (sym same ∙ has.0)
 
--- where no word stands between sfen and moves
+-- if no word is between sfen and moves
 pub sfen_missing : (ws all front moves : List (List ℕ)) → ws ≡ codes "position" ∷ codes "sfen" ∷ all → Split all front moves → front ≡ [] → ((moves : List (List ℕ)) → EvenLine ws moves → ⊥) × ((sfen moves : List (List ℕ)) → SfenLine ws sfen moves → ⊥)
 sfen_missing ws all front moves e split none = (
   λ m l. sizes (codes "sfen") (codes "startpos") (second_of ws all l.0 (codes "position") (codes "sfen") (codes "startpos") e l.1) (omega arith),

@@ -1,4 +1,4 @@
--- A position line that is written is read back as its start and its moves.
+-- A written position line is read back as its start and its moves.
 use Rattle.std.proofs.Common.{◌≡◌, ◌≢◌, ℕ, ◌+◌, ◌<◌, ◌≤◌, inl, inr, List, [], ◌∷◌, ◌++◌, Option, Some, None, Ok, length, length-append, get_or, take, arith, refl, sym, ap, ◌∙◌, subst, append_assoc, codes, lit≤}
 use Rattle.std.specs.List.{AllByRecursion, flat_map}
 use Rattle.std.proofs.lemmas.Bool.{cases_lt}
@@ -109,7 +109,7 @@ moves_match p (m ∷ ms) text h =
     let e : words text ≡ h.0 ∷ words h.1 = ap words h.2 ∙ one_word h.0 h.1 u.0 u.1 (moves_end (after p m) ms h.1 h.4) in
     (h.0, words h.1, e, h.3, moves_match (after p m) ms h.1 h.4)
 
--- what stands behind the start
+-- what follows the start
 record Behind (p : Placed) (ms : List Move) (text : List ℕ) : Type 0 where
   moves : List (List ℕ)
   has : HasMoves (words text) moves

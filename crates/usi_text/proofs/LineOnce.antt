@@ -1,4 +1,4 @@
--- Words are one position line at most, or they have one first fault; memory aside.
+-- Words are at most one position line, or they have one first fault; lack of memory aside.
 use Rattle.std.proofs.Common.{◌≡◌, ◌≢◌, ◌⊎◌, ℕ, inl, inr, List, [], ◌∷◌, ◌++◌, Option, Some, None, Result, Ok, Err, arith, refl, sym, ap, ◌∙◌, subst, codes}
 use Rattle.std.specs.List.{AllByRecursion}
 use Rattle.shogi_board.specs.Placed.{Placed}
@@ -99,7 +99,7 @@ no_fault start before w m (Broken n rule) p h =
     let e = same_move start before w h.1 m h.2 p.0 in
     absurd (played_not_broken start before m rule p.1 (subst (λ x. Judged start before x (Some (play.Broken rule))) e h.3))
 
--- one of the two is want of memory, or they are the same
+-- one of the two is lack of memory, or they are the same
 abbrev Agree : UsiFault → UsiFault → Type 0
 Agree f g = (f ≡ OutOfMemory) ⊎ (g ≡ OutOfMemory) ⊎ (f ≡ g)
 
@@ -131,7 +131,7 @@ word_fault_once start before w (Broken x xr) (Broken y yr) h k =
     let r : xr ≡ yr = cc in
     inr (inr (ap (λ n. Broken n xr) (h.0 ∙ sym k.0) ∙ ap (λ z. Broken y z) r))
 
--- as answers: one of the two is want of memory, or they are the same
+-- as answers: one of the two is lack of memory, or they are the same
 abbrev SameAnswer : Result (List Move) UsiFault → Result (List Move) UsiFault → Type 0
 SameAnswer x y = (x ≡ Err OutOfMemory) ⊎ (y ≡ Err OutOfMemory) ⊎ (x ≡ y)
 

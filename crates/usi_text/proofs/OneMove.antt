@@ -34,7 +34,7 @@ held_by ProSilver h = cc
 held_by Horse h = cc
 held_by Dragon h = cc
 
--- the kinds of a hand are told apart by their letters
+-- the kinds of a hand have different letters
 pub held_letter : (a b : Kind) → is_hand_kind a ≡ true → is_hand_kind b ≡ true → letter a ≡ letter b → a ≡ b
 held_letter a b h k e = sym (held_by a h) ∙ (ap by_letter e ∙ held_by b k)
 
@@ -44,7 +44,7 @@ digit s = 48 + file_of s
 abbrev rank_letter : Square → ℕ
 rank_letter s = 96 + rank_of s
 
--- and squares by their digit and letter
+-- and squares have different texts of a digit and a letter
 pub same_square : (s t : Square) → digit s ≡ digit t → rank_letter s ≡ rank_letter t → s ≡ t
 same_square s t e d = square-same s t (omega arith) (omega arith)
 
@@ -68,7 +68,7 @@ same_walk : (p : Placed) (from to other goal : Square) (k l : Kind) → from ≡
 same_walk p from to other goal k l a b c =
     ap (λ s. Walk s to k) a ∙ (ap (λ s. Walk other s k) b ∙ ap (λ x. Walk other goal x) c)
 
--- the piece on the square left is one
+-- the piece on the square that a walk leaves is one
 same_mover : (p : Placed) (s t : Square) (x y : Piece) → s ≡ t → at p.material.board s ≡ Some x → at p.material.board t ≡ Some y → x.kind ≡ y.kind
 same_mover p s t x y e h k =
     let f : at p.material.board s ≡ at p.material.board t = ap (λ q. at p.material.board q) e in
@@ -108,7 +108,7 @@ drops p text to goal k l m n =
     let c : rank_letter to ≡ rank_letter goal = cc in
     ap (λ s. Put s k) (same_square to goal b c) ∙ ap (λ x. Put goal x) (held_letter k l m.0 n.0 a)
 
--- in one position a text is one move at most
+-- in one position a text is at most one move
 pub one_move : (p : Placed) (text : List ℕ) (m n : Move) → UsiMove p text m → UsiMove p text n → m ≡ n
 one_move p text (Walk from to k) (Walk other goal l) h j = walks p text from to other goal k l h j
 one_move p text (Walk from to k) (Put goal l) h j = absurd (walk_no_drop p text from to goal k l h j)

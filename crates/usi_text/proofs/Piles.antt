@@ -52,7 +52,7 @@ pile count piece = record { count = count; piece = piece }
 regroup : (p : Pile) (x : List ℕ) → pile_text p ++ x ≡ count_text p.count ++ side_letter p.piece ∷ x
 regroup p x = append_assoc (count_text p.count) (side_letter p.piece ∷ []) x
 
--- no pile begins as another
+-- no pile is the front of another
 pub pile_once : (p q : Pile) (x y : List ℕ) → IsPile p → IsPile q → pile_text p ++ x ≡ pile_text q ++ y → (p ≡ q) × (x ≡ y)
 pile_once p q x y h k e =
     let f : count_text p.count ++ side_letter p.piece ∷ x ≡ count_text q.count ++ side_letter q.piece ∷ y = sym (regroup p x) ∙ (e ∙ regroup q y) in

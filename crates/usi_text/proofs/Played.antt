@@ -38,7 +38,7 @@ fault_told start before w m n (play.Broken rule) size spelt h =
 fault_told start before w m n play.OutOfMemory size spelt h =
     (m, (spelt, memory_told (line_of start before) (position_now start before).side m h))
 
--- what a word's move is answered, where each fault of its play is made the word's
+-- the fault of a word's move, if each fault of its play is made the word's
 pub word_told : (line new : Played) (w : List ℕ) (m : Move) (c : Color) (n : ℕ) (played : Result (Unit {0}) PlayFault) (told : Result (Unit {0}) UsiFault) (P : PlayFault → UsiFault → Type 0)
     → n ≡ length line.moves + 1 → UsiMove (now_of line) w m → c ≡ (now_of line).side
     → MatchResult played (λ _. Answers line c m None) (λ fault. ((fault ≡ play.OutOfMemory) × Answers line c m None) ⊎ Answers line c m (Some fault))
@@ -54,7 +54,7 @@ word_told line new w m c n (Err e) (Err f) P size spelt side answer now turned t
     (subst (λ (s : Color). ((e ≡ play.OutOfMemory) × Answers line s m None) ⊎ Answers line s m (Some e)) side answer))
 word_told line new w m c n (Err e) (Ok y) P size spelt side answer now turned turns = absurd turned
 
--- what playing a rest answers is what playing the words answers
+-- playing a rest has the same result as playing the words
 pub record Playing (start : Placed) (words rest : List (List ℕ)) (moves : List Move) : Type 0 where
   pub forward : (answer : Result (List Move) UsiFault) → Plays start moves rest answer → Plays start [] words answer
 

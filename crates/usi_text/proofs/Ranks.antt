@@ -135,7 +135,7 @@ rank_read m n text rest old items h k runs none =
     (λ t. let e = (Decides-eqb m (n + 9)).0 t in omega arith)
     (λ f e. let d : m ≡ n + 9 = omega arith in let t = (Decides-eqb m (n + 9)).1 d in cc)
 
--- of the ranks of a board some were read, and these cells were added
+-- some ranks of a board have been read, and these cells added
 pub record Boards (text : List ℕ) (rest : List (List ℕ)) (items : Cells) (n : ℕ) : Type 0 where
   pub forward : (more : Cells) → SpellsRanks rest more → SpellsRanks (ranks_of text) (items ++ more)
   pub backward : (cells : Cells) → SpellsRanks (ranks_of text) cells → (more : Cells) × SpellsRanks rest more × (cells ≡ items ++ more)

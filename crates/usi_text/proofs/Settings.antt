@@ -54,7 +54,7 @@ putting_fault cells s n x square fault p low here there fails others =
     ∙ (ap (λ c. place_all s (cell_placings n c ++ others)) (cut_here cells n (Some x) low here)
     ∙ ap (λ f. unless f (place_all (placing.placed s (on (board_place n) x)) rest)) found)
 
--- of the piles of a text some are held
+-- some piles of a text are held
 abbrev pub Holding : List ℕ → List ℕ → Layout → Layout → Type 0
 Holding text rest old s =
     (piles : List Pile) → SpellsPiles text piles → (more : List Pile) × SpellsPiles rest more × (hold_pieces old (flat_map pile_pieces piles) ≡ hold_pieces s (flat_map pile_pieces more))
@@ -77,12 +77,12 @@ holding_end text rest old s holding none piles spelt =
     let n = no_pile rest q.0 none q.1 in
     q.2 ∙ ap (λ ps. hold_pieces s (flat_map pile_pieces ps)) n.0
 
--- a text that is no dash is piles
+-- a text that is not a dash is piles
 pub as_piles : (text : List ℕ) (piles : List Pile) → (text ≡ 45 ∷ [] → ⊥) → SpellsHands text piles → SpellsPiles text piles
 as_piles text [] dash s = absurd (dash s)
 as_piles text (p ∷ ps) dash s = s
 
--- a dash is no pile
+-- a dash is not a pile
 pub as_none : (text : List ℕ) (piles : List Pile) → text ≡ 45 ∷ [] → SpellsHands text piles → piles ≡ []
 as_none text [] dash s = refl
 as_none text (p ∷ ps) dash s = absurd (dash_no_pile p (flat_map pile_text ps) s.0.0.0 (sym dash ∙ s.1))

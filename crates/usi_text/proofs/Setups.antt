@@ -69,7 +69,7 @@ unless_after : (here : Option SetupFault) (r : Result Layout SetupFault) (ps : L
 unless_after None r ps = refl
 unless_after (Some fault) r ps = refl
 
--- the squares of a text are apart, so that each of its pieces comes to an empty one
+-- the squares of a text are distinct, so each of its pieces is placed on an empty one
 cells_placed : (cells : Cells) (s : Layout) (n : ℕ) (ps : List Placing) → s.rest_given ≡ false → ((m : ℕ) → n ≤ m → m < 81 → get_or s.material.board (board_place m) nothing ≡ nothing) → n + length cells ≤ 81 → place_all s (cell_placings n cells ++ ps) ≡ placed_after (put_cells s n cells) ps
 cells_placed [] s n ps free empty few = refl
 cells_placed (None ∷ cells) s n ps free empty few = cells_placed cells s (n + 1) ps free (λ m low high. empty m (omega arith) high) (omega arith)

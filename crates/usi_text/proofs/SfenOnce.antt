@@ -55,7 +55,7 @@ finishes_once (Ok s) side (Ok p) (Err f) h k = absurd (h.0 k.0)
 finishes_once (Ok s) side (Err f) (Ok q) h k = absurd (k.0 h.0)
 finishes_once (Ok s) side (Err f) (Err g) h k = ap Err (h.1 ∙ sym k.1)
 
--- one shape, and so one answer of its setup
+-- one shape, and so one result of its setup
 answers_once : (ws : List (List ℕ)) (c d : Cells) (s t : Color) (p q : List Pile) (x y : Result Placed SetupFault) → Shape ws c s p → Shape ws d t q → Finishes (set_up c p) s x → Finishes (set_up d q) t y → x ≡ y
 answers_once ws c d s t p q x y a b f g =
     let e : d ≡ c = ranks_once _ d c b.board.1 a.board.1 in

@@ -1,4 +1,4 @@
--- Parts of a rank and piles of a hand are told apart by their first bytes.
+-- Parts of a rank and piles of a hand are distinguished by their first bytes.
 use Rattle.std.proofs.Common.{◌≡◌, ℕ, ◌+◌, ◌*◌, ◌/◌, ◌%◌, ◌<◌, ◌≤◌, ◌==◌, inl, inr, Bool, true, false, cond, List, [], ◌∷◌, ◌++◌, Option, Some, None, arith, refl, sym, ap, ◌∙◌, lit≤, decimal}
 use Rattle.std.proofs.lemmas.Bool.{cases_lt, cases_Bool}
 use Rattle.std.proofs.lemmas.Fmt.{decimal_digit, decimal_step}
@@ -97,7 +97,7 @@ same_letters White White a b e = (refl, omega arith)
 abbrev made : Color → Kind → Piece
 made c k = record { color = c; kind = k }
 
--- a piece is told by its letter and whether it is promoted
+-- a piece is determined by its letter and whether it is promoted
 pub same_piece : (p q : Piece) → side_letter p ≡ side_letter q → is_promoted p.kind ≡ is_promoted q.kind → p ≡ q
 same_piece p q e d =
     let s = same_letters p.color q.color p.kind q.kind e in
@@ -116,7 +116,7 @@ text_once false false l m x y h k e = (refl, cc, cc)
 piece_is : (p : Piece) → piece_text p ≡ text_of (is_promoted p.kind) (side_letter p)
 piece_is p = elim (cases_Bool (is_promoted p.kind)) [ inl t ↦ rw t refl | inr f ↦ rw f refl ]
 
--- the first byte of a piece is no digit
+-- the first byte of a piece is not a digit
 text_head : (b : Bool) (l n : ℕ) (x y : List ℕ) → 65 ≤ l → 48 ≤ n → n ≤ 57 → n ∷ y ≡ text_of b l ++ x → ⊥
 text_head true l n x y h low high e = let f : n ≡ 43 = cc in omega arith
 text_head false l n x y h low high e = let f : n ≡ l = cc in omega arith
@@ -125,7 +125,7 @@ digit_no_piece : (p : Piece) (n : ℕ) (x y : List ℕ) → 48 ≤ n → n ≤ 5
 digit_no_piece p n x y low high e =
     let f = rw (piece_is p) at e in text_head (is_promoted p.kind) (side_letter p) n x y (side_low p) low high f
 
--- no part begins as another
+-- no part is the front of another
 pub part_once : (p q : Part) (x y : List ℕ) → IsPart p → IsPart q → part_text p ++ x ≡ part_text q ++ y → (p ≡ q) × (x ≡ y)
 part_once (Empty m) (Empty n) x y h k e = let f : 48 + m ≡ 48 + n = cc in let g : m ≡ n = omega arith in (ap Empty g, cc)
 part_once (Empty m) (Stands q) x y h k e = absurd (digit_no_piece q (48 + m) y x (omega arith) (omega arith) e)

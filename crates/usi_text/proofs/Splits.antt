@@ -38,7 +38,7 @@ filter_joined : (xs ys : List (List ℕ)) → filter has_bytes (xs ++ ys) ≡ fi
 filter_joined [] ys = refl
 filter_joined (w ∷ xs) ys = filter_told (has_bytes w) w (filter has_bytes xs) (filter has_bytes ys) (filter has_bytes (xs ++ ys)) (filter_joined xs ys)
 
--- words end where a text is cut at a word's end
+-- words end if a text is cut at a word's end
 pub words_joined : (front behind : List ℕ) → EndsWord behind → words (front ++ behind) ≡ words front ++ words behind
 words_joined front [] h = ap words (append-nil front) ∙ sym (append-nil (words front))
 words_joined front (b ∷ bs) h =

@@ -1,4 +1,4 @@
--- Where the cells of a board's text stand.
+-- On which squares the cells of a board's text are.
 use Rattle.std.proofs.Common.{◌≡◌, ◌≢◌, ℕ, zero, suc, ◌+◌, ◌<◌, ◌≤◌, List, [], ◌∷◌, Option, Some, None, Result, Ok, Err, length, get_or, arith, refl, sym, ap, ◌∙◌}
 use Rattle.std.specs.List.{flat_map}
 use Rattle.std.proofs.lemmas.List.{get_or-set_same, get_or-set_other, length-set}
@@ -64,7 +64,7 @@ cell_stands (Some p ∷ cells) s t n m zero few r h e low =
 cell_stands (Some p ∷ cells) s t n m (suc k) few r h e low =
     cell_stands cells (put s n p) t (n + 1) m k (omega arith) (room_behind s n p (omega arith) r) (goes_on (more_fault s p) _ t h) (omega arith) (omega arith)
 
--- hands leave the board
+-- hands do not change the board
 hand_board : (m : Material) (c : Color) (bag : List ℕ) → (with_bag m c bag).board ≡ m.board
 hand_board m Black bag = refl
 hand_board m White bag = refl

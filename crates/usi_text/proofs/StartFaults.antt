@@ -25,7 +25,7 @@ two_faults true full f h = inl cc
 two_faults false true f h = inr (inl cc)
 two_faults false false f h = cc
 
--- a fault is told here or behind
+-- a fault comes from this piece or a later one
 told_or_on : (here : Option SetupFault) (next : Result Layout SetupFault) (f : SetupFault) → unless here next ≡ Err f → (here ≡ Some f) ⊎ (next ≡ Err f)
 told_or_on None next f h = inr h
 told_or_on (Some g) next f h = inl (let e : g ≡ f = cc in ap Some e)

@@ -1,4 +1,5 @@
--- What a board text spells: nine ranks, the farthest from black first, each from file 9 to file 1.
+-- What a board's text spells: nine ranks, the one farthest from black first, each from file 9 to
+-- file 1.
 use Rattle.std.specs.Prelude.{◌≡◌, ℕ, ◌+◌, ◌≤◌, ◌==◌, List, [], ◌∷◌, ◌++◌, Option, Some, None, length, replicate}
 use Rattle.std.specs.List.{AllByRecursion, flat_map, slice_split}
 use Prim.Native.Char.{code}
@@ -21,10 +22,11 @@ abbrev pub IsPart : Part → Type 0
 IsPart (Empty n) = (1 ≤ n) × (n ≤ 9)
 IsPart (Stands p) = Unit {0}
 
--- the text is parts one behind another, and these are their cells
+-- the text is these parts one after another, and these are their cells
 abbrev pub SpellsCells : List ℕ → List (Option Piece) → Type 0
 SpellsCells text cells =
-    (parts : List Part) × AllByRecursion IsPart parts × (text ≡ flat_map part_text parts) × (cells ≡ flat_map part_cells parts)
+    (parts : List Part) × AllByRecursion IsPart parts × (text ≡ flat_map part_text parts)
+    × (cells ≡ flat_map part_cells parts)
 
 -- each text spells nine cells, and these are all of them in order
 abbrev pub SpellsRanks : List (List ℕ) → List (Option Piece) → Type 0

@@ -8,7 +8,7 @@ use Rattle.shogi_board.specs.Pieces.{is_hand_kind, place_of, same_color}
 use Rattle.usi_text.specs.declared.hands.Pile.{Pile}
 use Rattle.usi_text.specs.Letters.{side_letter}
 
--- the count before the letter, where there is one
+-- the count before the letter, if there is one
 abbrev pub count_text : Option ℕ → List ℕ
 count_text None = []
 count_text (Some n) = decimal n
@@ -16,7 +16,7 @@ count_text (Some n) = decimal n
 abbrev pub pile_text : Pile → List ℕ
 pile_text pile = count_text pile.count ++ side_letter pile.piece ∷ []
 
--- a count is one from 1 to 99
+-- a count, if there is one, is from 1 to 99
 abbrev pub IsCount : Option ℕ → Type 0
 IsCount None = Unit {0}
 IsCount (Some n) = (1 ≤ n) × (n ≤ 99)
@@ -25,16 +25,16 @@ IsCount (Some n) = (1 ≤ n) × (n ≤ 99)
 abbrev pub IsPile : Pile → Type 0
 IsPile pile = IsCount pile.count × (is_hand_kind pile.piece.kind ≡ true)
 
--- the text is the piles one behind another
+-- the text is the piles one after another
 abbrev pub SpellsPiles : List ℕ → List Pile → Type 0
 SpellsPiles text piles = AllByRecursion IsPile piles × (text ≡ flat_map pile_text piles)
 
--- a dash alone where both hands are empty
+-- a dash alone if both hands are empty
 abbrev pub SpellsHands : List ℕ → List Pile → Type 0
 SpellsHands text [] = text ≡ codes "-"
 SpellsHands text (pile ∷ piles) = SpellsPiles text (pile ∷ piles)
 
--- the pieces of a pile; without a count it is one
+-- the pieces of a pile; without a count there is one
 abbrev pub pile_pieces : Pile → List Piece
 pile_pieces pile = replicate (unwrap_or pile.count 1) pile.piece
 
@@ -42,5 +42,6 @@ pile_pieces pile = replicate (unwrap_or pile.count 1) pile.piece
 abbrev pub pile_total : Color → Kind → List Pile → ℕ
 pile_total color wanted [] = 0
 pile_total color wanted (pile ∷ piles) =
-    (if same_color pile.piece.color color && (place_of pile.piece.kind == place_of wanted) then unwrap_or pile.count 1 else 0)
+    (if same_color pile.piece.color color && (place_of pile.piece.kind == place_of wanted)
+    then unwrap_or pile.count 1 else 0)
     + pile_total color wanted piles

@@ -1,4 +1,4 @@
--- How squares and kinds are spelt.
+-- How squares and kinds are spelled.
 use Rattle.std.specs.Prelude.{ℕ, ◌+◌, ◌-◌, List, [], ◌∷◌, ◌++◌, codes, if◌then◌else◌}
 use Prim.Native.Char.{code}
 use Rattle.shogi_board.specs.declared.color.Color.{Color}
@@ -14,7 +14,7 @@ use Rattle.shogi_board.specs.Squares.{file_of, rank_of}
 abbrev pub square_text : Square → List ℕ
 square_text s = (code "0" + file_of s) ∷ (((code "a" - 1) + rank_of s)) ∷ []
 
--- the capital letter's code; a promoted kind has that of its unpromoted one
+-- the code of the capital letter; a promoted kind has that of its unpromoted kind
 abbrev pub letter : Kind → ℕ
 letter Pawn = code "P"
 letter Lance = code "L"
@@ -39,6 +39,6 @@ color_letter White kind = letter kind + (code "a" - code "A")
 abbrev pub side_letter : Piece → ℕ
 side_letter p = color_letter p.color p.kind
 
--- a piece of the board: + before the letter of a promoted one
+-- a piece on the board: + before the letter if it is promoted
 abbrev pub piece_text : Piece → List ℕ
 piece_text p = if is_promoted p.kind then codes "+" ++ (side_letter p ∷ []) else side_letter p ∷ []

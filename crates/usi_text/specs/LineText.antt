@@ -6,21 +6,24 @@ use Rattle.shogi_rules.specs.After.{after}
 use Rattle.usi_text.specs.Moves.{UsiMove}
 use Rattle.usi_text.specs.SfenText.{sfen_text}
 
--- startpos exactly for the even start with black to move, else its SFEN
+-- startpos exactly if the start is the even one with black to move, else its SFEN
 abbrev pub StartText : Placed → List ℕ → Type 0
 StartText p text =
-    ((p ≡ even_start) × (text ≡ codes "startpos")) ⊎ ((p ≢ even_start) × (text ≡ codes "sfen " ++ sfen_text p))
+    ((p ≡ even_start) × (text ≡ codes "startpos"))
+    ⊎ ((p ≢ even_start) × (text ≡ codes "sfen " ++ sfen_text p))
 
 -- a space and the move's text in the position that it is played in, for each move
 abbrev pub MovesText : Placed → List Move → List ℕ → Type 0
 MovesText p [] text = text ≡ []
 MovesText p (m ∷ ms) text =
-    (word : List ℕ) × (rest : List ℕ) × (text ≡ codes " " ++ (word ++ rest)) × UsiMove p word m × MovesText (after p m) ms rest
+    (word : List ℕ) × (rest : List ℕ) × (text ≡ codes " " ++ (word ++ rest)) × UsiMove p word m
+    × MovesText (after p m) ms rest
 
--- the word moves only where there are moves
+-- the word moves only if there are moves
 abbrev pub BehindStart : Placed → List Move → List ℕ → Type 0
 BehindStart p [] text = text ≡ []
-BehindStart p (m ∷ ms) text = (rest : List ℕ) × (text ≡ codes " moves" ++ rest) × MovesText p (m ∷ ms) rest
+BehindStart p (m ∷ ms) text = (rest : List ℕ) × (text ≡ codes " moves" ++ rest)
+    × MovesText p (m ∷ ms) rest
 
 abbrev pub LineText : Placed → List Move → List ℕ → Type 0
 LineText start moves text =

@@ -13,7 +13,7 @@ use Rattle.usi_text.specs.declared.fault.UsiFault.TheVariants as usi
 use Rattle.usi_text.specs.Moves.{UsiMove}
 use Rattle.usi_text.specs.Sfen.{Sfen, FirstFault}
 
--- behind the start nothing, or the word moves and the words of the moves
+-- nothing after the start, or the word moves and the words of the moves
 abbrev pub HasMoves : List (List ℕ) → List (List ℕ) → Type 0
 HasMoves [] moves = moves ≡ []
 HasMoves (w ∷ ws) moves = (w ≡ codes "moves") × (moves ≡ ws)
@@ -43,28 +43,31 @@ line_of start moves = record { start = start; moves = moves }
 abbrev pub position_now : Placed → List Move → Placed
 position_now start moves = now_of (line_of start moves)
 
--- what playing a move of the side to move answers there
+-- what playing a move of the side to move returns there
 abbrev pub Judged : Placed → List Move → Move → Option PlayFault → Type 0
-Judged start before m answer = Answers (line_of start before) (position_now start before).side m answer
+Judged start before m answer =
+    Answers (line_of start before) (position_now start before).side m answer
 
 -- the word is that move, and it may be played
 abbrev pub IsPlayed : Placed → List Move → List ℕ → Move → Type 0
 IsPlayed start before w m = UsiMove (position_now start before) w m × Judged start before m None
 
--- the first fault of a word behind those moves; moves are numbered from 1.
--- Memory is wanting only for a word that may be played
+-- the first fault of a word after those moves; moves are numbered from 1. Memory can be lacking
+-- only for a word that may be played
 abbrev pub WordFault : Placed → List Move → List ℕ → UsiFault → Type 0
 WordFault start before w TooManyMoves = max_moves ≤ length before
 WordFault start before w (BadMoveText n) =
-    (n ≡ length before + 1) × (length before < max_moves) × ((m : Move) → UsiMove (position_now start before) w m → ⊥)
+    (n ≡ length before + 1) × (length before < max_moves)
+    × ((m : Move) → UsiMove (position_now start before) w m → ⊥)
 WordFault start before w (Broken n rule) =
-    (n ≡ length before + 1) × (m : Move) × UsiMove (position_now start before) w m × Judged start before m (Some (play.Broken rule))
+    (n ≡ length before + 1) × (m : Move) × UsiMove (position_now start before) w m
+    × Judged start before m (Some (play.Broken rule))
 WordFault start before w OutOfMemory = (m : Move) × IsPlayed start before w m
 WordFault start before w BadLine = ⊥
 WordFault start before w (usi.Sfen fault) = ⊥
 
--- the words are played as moves, one after another behind those before, and this is the answer: all moves, or the fault
--- of a word behind played ones
+-- the words are played as moves, one after another, after those before, and this is the answer: all
+-- moves, or the fault of a word after those that were played
 abbrev pub Plays : Placed → List Move → List (List ℕ) → Result (List Move) UsiFault → Type 0
 Plays start before [] answer = answer ≡ Ok before
 Plays start before (w ∷ ws) answer =
@@ -73,7 +76,8 @@ Plays start before (w ∷ ws) answer =
 
 -- the words are the position line of that start and these moves
 abbrev pub UsiLine : List (List ℕ) → Placed → List Move → Type 0
-UsiLine ws start moves = (words : List (List ℕ)) × Starts ws start words × Plays start [] words (Ok moves)
+UsiLine ws start moves = (words : List (List ℕ)) × Starts ws start words
+    × Plays start [] words (Ok moves)
 
 -- why the words are not all played
 abbrev pub PlayedFault : Placed → List (List ℕ) → UsiFault → Type 0
@@ -84,20 +88,24 @@ PlayedFault start words (Broken n rule) = Plays start [] words (Err (Broken n ru
 PlayedFault start words TooManyMoves = Plays start [] words (Err TooManyMoves)
 PlayedFault start words OutOfMemory = Plays start [] words (Err OutOfMemory)
 
--- why the words behind the start are not all played; memory is wanting also where there is none
+-- why the words after the start are not all played; memory can also be lacking if there is no word
 abbrev pub StartedFault : Placed → List (List ℕ) → UsiFault → Type 0
-StartedFault start words fault = ((fault ≡ OutOfMemory) × (words ≡ [])) ⊎ PlayedFault start words fault
+StartedFault start words fault = ((fault ≡ OutOfMemory) × (words ≡ []))
+    ⊎ PlayedFault start words fault
 
--- why the words behind the start that the line gives are not all played
+-- why the words after the start that the line gives are not all played
 abbrev pub MovesFault : List (List ℕ) → UsiFault → Type 0
-MovesFault ws fault = (start : Placed) × (words : List (List ℕ)) × Starts ws start words × StartedFault start words fault
+MovesFault ws fault = (start : Placed) × (words : List (List ℕ)) × Starts ws start words
+    × StartedFault start words fault
 
 -- the first fault of a line
 abbrev pub LineFault : List (List ℕ) → UsiFault → Type 0
 LineFault ws BadLine =
-    ((moves : List (List ℕ)) → EvenLine ws moves → ⊥) × ((sfen moves : List (List ℕ)) → SfenLine ws sfen moves → ⊥)
+    ((moves : List (List ℕ)) → EvenLine ws moves → ⊥)
+    × ((sfen moves : List (List ℕ)) → SfenLine ws sfen moves → ⊥)
 LineFault ws (usi.Sfen fault) =
-    (sfen : List (List ℕ)) × (moves : List (List ℕ)) × SfenLine ws sfen moves × FirstFault sfen fault
+    (sfen : List (List ℕ)) × (moves : List (List ℕ)) × SfenLine ws sfen moves
+    × FirstFault sfen fault
 LineFault ws (BadMoveText n) = MovesFault ws (BadMoveText n)
 LineFault ws (Broken n rule) = MovesFault ws (Broken n rule)
 LineFault ws TooManyMoves = MovesFault ws TooManyMoves

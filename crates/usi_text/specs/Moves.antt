@@ -9,12 +9,14 @@ use Rattle.shogi_rules.specs.declared.moves.Move.TheVariants.{Walk, Put}
 use Rattle.shogi_rules.specs.Kinds.{promoted}
 use Rattle.usi_text.specs.Letters.{square_text, letter}
 
--- the text is the move in that position.
--- A walk: the square left, the square reached, and the piece keeps its kind; or + behind them, and it promotes.
--- A drop: the letter of the kind, *, and the square.
+-- the text is the move in that position. A walk: the square that the piece leaves and the square
+-- that it goes to; the piece keeps its kind, or + follows and it promotes. A drop: the letter of
+-- the kind, *, and the square.
 abbrev pub UsiMove : Placed → List ℕ → Move → Type 0
 UsiMove p text (Walk from to kind) =
     (mover : Piece) × (at p.material.board from ≡ Some mover)
     × (((text ≡ square_text from ++ square_text to) × (kind ≡ mover.kind))
-    ⊎ ((text ≡ square_text from ++ square_text to ++ codes "+") × (promoted mover.kind ≡ Some kind)))
-UsiMove p text (Put to kind) = (is_hand_kind kind ≡ true) × (text ≡ letter kind ∷ (codes "*" ++ square_text to))
+    ⊎ ((text ≡ square_text from ++ square_text to ++ codes "+")
+    × (promoted mover.kind ≡ Some kind)))
+UsiMove p text (Put to kind) = (is_hand_kind kind ≡ true)
+    × (text ≡ letter kind ∷ (codes "*" ++ square_text to))

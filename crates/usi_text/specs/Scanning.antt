@@ -1,4 +1,5 @@
--- What private helpers of the readers and writers promise. A reader of the public contracts may skip this file.
+-- What private helpers of the readers and writers promise. A reader of the public contracts may skip
+-- this file.
 use Rattle.std.specs.Prelude.{◌≡◌, ◌≢◌, ℕ, ◌+◌, ◌≤◌, ◌==◌, List, [], ◌∷◌, ◌++◌, Option, Some, None, codes, if◌then◌else◌}
 use Rattle.std.specs.List.{AllByRecursion}
 use Rattle.std.specs.Borrow.{Bor}
@@ -13,12 +14,12 @@ use Rattle.usi_text.specs.Boards.{ranks_of}
 use Rattle.usi_text.specs.Lines.{HasMoves, EvenLine, SfenLine}
 use Rattle.usi_text.specs.Words.{words}
 
--- nothing, or a space first
+-- nothing, or a text that begins with a space
 abbrev pub EndsWord : List ℕ → Type 0
 EndsWord [] = Unit {0}
 EndsWord (b ∷ bs) = b ≡ code " "
 
--- the rest of a text behind a word's end
+-- the rest of a text after a word's end
 abbrev pub IsBehind : List ℕ → List ℕ → Type 0
 IsBehind text rest = (front : List ℕ) × (text ≡ front ++ rest) × EndsWord rest
 
@@ -27,23 +28,24 @@ abbrev pub GivesStart : List (List ℕ) → GivenStart → List (List ℕ) → T
 GivesStart ws Even moves = EvenLine ws moves
 GivesStart ws (Sfen text) moves = SfenLine ws (words text.now) moves
 
--- words split at the first word moves
+-- the words before the first word moves, and those after it
 abbrev pub Split : List (List ℕ) → List (List ℕ) → List (List ℕ) → Type 0
 Split all front moves =
-    (tail : List (List ℕ)) × (all ≡ front ++ tail) × AllByRecursion (λ w. w ≢ codes "moves") front × HasMoves tail moves
+    (tail : List (List ℕ)) × (all ≡ front ++ tail) × AllByRecursion (λ w. w ≢ codes "moves") front
+    × HasMoves tail moves
 
--- what a position line answers where `play` refused its move of that number so
+-- the fault of a position line whose move with that number `play` refused
 abbrev pub word_fault : ℕ → PlayFault → UsiFault
 word_fault n play.TooManyMoves = usi.TooManyMoves
 word_fault n (play.Broken rule) = usi.Broken n rule
 word_fault n play.OutOfMemory = usi.OutOfMemory
 
--- the ranks behind a slash, if there is one
+-- the ranks after a slash, if there is one
 abbrev pub ranks_behind : Option (Bor (List ℕ)) → List (List ℕ)
 ranks_behind None = []
 ranks_behind (Some text) = ranks_of text.now
 
--- the text begins with that digit, and this stands behind it
+-- the text begins with that digit, and this follows it
 abbrev pub IsDigitBefore : List ℕ → ℕ → List ℕ → Type 0
 IsDigitBefore text digit behind = (digit ≤ 9) × (text ≡ (code "0" + digit) ∷ behind)
 

@@ -14,11 +14,12 @@ use Rattle.shogi_board.specs.Setup.{empty_layout, position_of}
 use Rattle.usi_text.specs.declared.hands.Pile.{Pile}
 use Rattle.usi_text.specs.Hands.{pile_pieces}
 
--- where the nth square of a board text stands in the order of squares: rank by rank, each from file 9 to file 1
+-- the place of the nth square of a board's text in the order of squares: rank by rank, each from
+-- file 9 to file 1
 abbrev pub board_place : ℕ → ℕ
 board_place n = (8 - n % 9) * 9 + n / 9
 
--- the pieces of the cells stand on their squares, from the nth square of the text on
+-- the pieces of the cells are on their squares, from the nth square of the text on
 abbrev pub cell_placings : ℕ → List (Option Piece) → List Placing
 cell_placings n [] = []
 cell_placings n (None ∷ cells) = cell_placings (n + 1) cells
@@ -34,8 +35,10 @@ hand_placings piles = map hand_placing (flat_map pile_pieces piles)
 abbrev pub set_up : List (Option Piece) → List Pile → Result Layout SetupFault
 set_up cells piles = place_all empty_layout (cell_placings 0 cells ++ hand_placings piles)
 
--- at last the side to move: the king of the other side may not be attacked
+-- last comes the side to move: the other side's king may not be attacked
 abbrev pub Finishes : Result Layout SetupFault → Color → Result Placed SetupFault → Type 0
 Finishes (Err fault) side answer = answer ≡ Err fault
-Finishes (Ok s) side (Ok p) = (InCheck s.material.board (opponent side) → ⊥) × (p ≡ position_of s side)
-Finishes (Ok s) side (Err fault) = InCheck s.material.board (opponent side) × (fault ≡ OpponentInCheck)
+Finishes (Ok s) side (Ok p) = (InCheck s.material.board (opponent side) → ⊥)
+    × (p ≡ position_of s side)
+Finishes (Ok s) side (Err fault) = InCheck s.material.board (opponent side)
+    × (fault ≡ OpponentInCheck)

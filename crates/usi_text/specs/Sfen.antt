@@ -1,4 +1,4 @@
--- Which words are the SFEN of a position, and else the first fault.
+-- Which words are the SFEN of a position, and the first fault of any others.
 use Rattle.std.specs.Prelude.{◌≡◌, ℕ, ◌≤◌, List, [], Option, Ok, Err, EachIndex, slice_index, codes}
 use Prim.Native.Char.{code}
 use Rattle.shogi_board.specs.declared.color.Color.{Color}
@@ -21,7 +21,7 @@ side_text White = codes "w"
 abbrev pub IsDigit : ℕ → Type 0
 IsDigit b = (code "0" ≤ b) × (b ≤ code "9")
 
--- a word of digits alone, and no word behind it
+-- a word that is all digits, with no word after it
 abbrev pub IsNumber : List ℕ → List ℕ → Type 0
 IsNumber word next = EachIndex word (λ k. IsDigit (slice_index word k)) × (next ≡ [])
 
@@ -30,7 +30,8 @@ abbrev pub HasNumber : List (List ℕ) → Type 0
 HasNumber ws = IsNumber (nth_word ws 3) (nth_word ws 4)
 
 -- the words spell this board, this side and these piles
-pub record Shape (ws : List (List ℕ)) (cells : List (Option Piece)) (side : Color) (piles : List Pile) : Type 0 where
+pub record Shape (ws : List (List ℕ)) (cells : List (Option Piece)) (side : Color)
+    (piles : List Pile) : Type 0 where
   pub board : SpellsBoard (nth_word ws 0) cells
   pub turn : nth_word ws 1 ≡ side_text side
   pub hands : SpellsHands (nth_word ws 2) piles
@@ -52,7 +53,7 @@ HasSide ws = (side : Color) × (nth_word ws 1 ≡ side_text side)
 abbrev pub HasHands : List (List ℕ) → Type 0
 HasHands ws = (piles : List Pile) × SpellsHands (nth_word ws 2) piles
 
--- the first thing that keeps the words from being an SFEN; a missing word is an empty text
+-- the first thing that keeps the words from being an SFEN; a missing word counts as an empty text
 abbrev pub FirstFault : List (List ℕ) → SfenFault → Type 0
 FirstFault ws BadBoard = IsBoard ws → ⊥
 FirstFault ws BadSide = IsBoard ws × (HasSide ws → ⊥)

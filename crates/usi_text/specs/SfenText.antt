@@ -15,7 +15,7 @@ use Rattle.usi_text.specs.Boards.{part_text}
 use Rattle.usi_text.specs.Hands.{pile_text}
 use Rattle.usi_text.specs.Sfen.{side_text}
 
--- what stands on a file and rank
+-- what is on a file and rank
 abbrev pub cell : List (Option Piece) → ℕ → ℕ → Option Piece
 cell board file rank = slice_index_or board ((file - 1) * 9 + (rank - 1)) None
 
@@ -24,19 +24,20 @@ abbrev pub cells_from : List (Option Piece) → ℕ → ℕ → List (Option Pie
 cells_from board rank zero = []
 cells_from board rank (suc n) = cell board (suc n) rank ∷ cells_from board rank n
 
--- one more empty square in front: it joins the count that stands there, or is a count of its own
+-- one more empty square in front: it joins a count that comes first, or is a count of its own
 abbrev pub with_empty : List Part → List Part
 with_empty (Empty n ∷ parts) = Empty (suc n) ∷ parts
 with_empty (Stands p ∷ parts) = Empty 1 ∷ Stands p ∷ parts
 with_empty [] = Empty 1 ∷ []
 
--- the parts that are written for cells: a piece is one, and a whole run of empty squares is one
+-- the parts that are written for cells: each piece is one, and each whole run of empty squares is
+-- one
 abbrev pub parts_of : List (Option Piece) → List Part
 parts_of [] = []
 parts_of (None ∷ cells) = with_empty (parts_of cells)
 parts_of (Some p ∷ cells) = Stands p ∷ parts_of cells
 
--- the parts of a rank, one behind another
+-- the parts of a rank, one after another
 abbrev pub rank_text : List (Option Piece) → ℕ → List ℕ
 rank_text board rank = flat_map part_text (parts_of (cells_from board rank 9))
 
@@ -52,7 +53,7 @@ board_text board = rank_text board 1 ++ ranks_text board 2 8
 abbrev pub written_count : ℕ → Option ℕ
 written_count n = if n == 1 then None else Some n
 
--- so many pieces of a hand; none are not written
+-- so many pieces of a hand; none is not written
 abbrev pub pile_of : Piece → ℕ → List Pile
 pile_of piece n = if n == 0 then [] else record { count = written_count n; piece = piece } ∷ []
 
@@ -77,4 +78,6 @@ hands_text (pile ∷ piles) = flat_map pile_text (pile ∷ piles)
 -- board, side, hands and the number 1, with spaces between
 abbrev pub sfen_text : Placed → List ℕ
 sfen_text p =
-    board_text p.material.board ++ (codes " " ++ (side_text p.side ++ (codes " " ++ (hands_text (both_piles p) ++ codes " 1"))))
+    board_text p.material.board
+    ++ (codes " "
+    ++ (side_text p.side ++ (codes " " ++ (hands_text (both_piles p) ++ codes " 1"))))

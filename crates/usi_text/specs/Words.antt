@@ -7,10 +7,10 @@ abbrev pub has_bytes : List ℕ → Bool
 has_bytes [] = false
 has_bytes (b ∷ bs) = true
 
--- the text split at each space, less the empty parts
+-- the text split at each space, without the empty parts
 abbrev pub words : List ℕ → List (List ℕ)
 words text = filter has_bytes (slice_split (λ b. b == code " ") text)
 
--- the nth word, from 0; the empty text, which is no word, where there are fewer
+-- the nth word, counted from 0; if there are fewer, the empty text, which is not a word
 abbrev pub nth_word : List (List ℕ) → ℕ → List ℕ
 nth_word ws n = slice_index_or ws n []

@@ -33,7 +33,7 @@ pub(crate) fn read_board(text: &[u8]) -> Option<Cells>
     }
 }
 
-// The text before the first slash, or all of it, and what stands behind the slash, if there is one.
+// The text before the first slash, or all of it, and what follows the slash, if there is one.
 fn take_rank(text: &[u8]) -> (&[u8], Option<&[u8]>)
     ensures { ranks_of text.now ≡ result.0.now ∷ ranks_behind result.1 }
 {
@@ -45,11 +45,12 @@ fn take_rank(text: &[u8]) -> (&[u8], Option<&[u8]>)
     (text, None)
 }
 
-// Adds the nine cells that the text spells. Answers false where it does not spell nine.
+// Adds the nine cells that the text spells. Returns false if it does not spell nine.
 fn read_rank(cells: &mut Cells, text: &[u8]) -> bool
     requires room { array_vec_len cells.old + 9 ≤ 81 }
     ensures { MatchBool result
-        ((rank : List (Option Piece)) × SpellsCells text.now rank × (length rank ≡ 9) × (cells.new.items ≡ cells.old.items ++ rank))
+        ((rank : List (Option Piece)) × SpellsCells text.now rank × (length rank ≡ 9)
+        × (cells.new.items ≡ cells.old.items ++ rank))
         ((rank : List (Option Piece)) → SpellsCells text.now rank → length rank ≡ 9 → ⊥) }
 {
     let end = cells.len() + 9;

@@ -3,14 +3,14 @@ ghost use Rattle.usi_text.specs.Words.{words};
 
 use crate::words::take_word;
 
-/// What a line of an engine says. It borrows the line.
+/// What a line of a USI engine says. It borrows from the line.
 #[derive(Clone, Copy, Debug, PartialEq, Eq)]
 pub enum EngineWord<'a> {
     /// `usiok`: the engine speaks USI.
     UsiOk,
     /// `readyok`: it is ready.
     ReadyOk,
-    /// `bestmove` and another word than the two below, which stands here; empty where none follows.
+    /// `bestmove` with any word but the two below. The field is that word, empty if there is none.
     Best(&'a [u8]),
     /// `bestmove resign`: it resigns.
     Resign,
@@ -20,9 +20,10 @@ pub enum EngineWord<'a> {
     Other,
 }
 
-/// What the line says, by its first word, and behind `bestmove` by its second.
+/// Reads what a line from a USI engine says.
 ///
-/// Words are the longest runs without spaces. Words behind those, such as the move to ponder, do not count.
+/// Its first word decides and, after `bestmove`, its second. Words are the longest runs without
+/// spaces. Further words, such as the move to ponder, are ignored.
 pub fn read_engine_line(line: &[u8]) -> EngineWord<'_>
     ensures word { LineSays (words line.now) result }
 {
@@ -39,7 +40,7 @@ pub fn read_engine_line(line: &[u8]) -> EngineWord<'_>
     }
 }
 
-// What stands behind `bestmove`.
+// What the word after `bestmove` says.
 fn best(word: &[u8]) -> EngineWord<'_>
     ensures { BestSays word.now result }
 {

@@ -6,7 +6,7 @@ use shogi_board::SetupFault;
 use shogi_rules::Rule;
 use thiserror::Error;
 
-/// Why a text is no SFEN. Each prints as its number and name, `U1 BadBoard`.
+/// Why a text is not an SFEN. Each fault prints as its number and name, such as `U1 BadBoard`.
 #[derive(Clone, Copy, Debug, PartialEq, Eq, PartialOrd, Ord, Error)]
 pub enum SfenFault {
     /// The first word does not spell nine ranks of nine squares.
@@ -21,7 +21,7 @@ pub enum SfenFault {
     /// The fourth word is not all digits, or there is a fifth.
     #[error("U4 BadNumber")]
     BadNumber,
-    /// The pieces cannot stand so: SecondKing, TooMany or OpponentInCheck.
+    /// The pieces cannot be placed so: SecondKing, TooMany or OpponentInCheck.
     #[error("{0}")]
     Start(SetupFault),
 }
@@ -34,27 +34,28 @@ impl From<SetupFault> for SfenFault {
     }
 }
 
-/// Why a text is no position line whose moves can be played.
+/// Why a text is not a position line with playable moves.
 #[derive(Clone, Copy, Debug, PartialEq, Eq, PartialOrd, Ord, Error)]
 pub enum UsiFault {
-    /// It is neither `position startpos` nor `position sfen` with an SFEN, alone or with `moves` behind it.
+    /// It is neither `position startpos` nor `position sfen` with an SFEN, either alone or followed
+    /// by `moves` and the moves.
     #[error("U5 BadLine")]
     BadLine,
     /// Its SFEN is refused.
     #[error("{0}")]
     Sfen(SfenFault),
-    /// The word is no move in the position that it would be played in. The field is the number of the move, from 1, and
-    /// is not printed.
+    /// The word is not a move in the position that it would be played in. The field is the number
+    /// of the move, counted from 1; it is not printed.
     #[error("U6 BadMoveText")]
     BadMoveText(usize),
-    /// The move breaks that rule, and none before it in the rules' order. The first field is the number of the move,
-    /// from 1, and is not printed.
+    /// The move breaks this rule, and no earlier one in the order of the rules. The first field is
+    /// the number of the move, counted from 1; it is not printed.
     #[error("{1}")]
     Broken(usize, Rule),
-    /// 10,000 moves stand.
+    /// The line already has 10,000 moves.
     #[error("G11 TooManyMoves")]
     TooManyMoves,
-    /// A growth of memory was refused.
+    /// An allocation failed.
     #[error("out of memory")]
     OutOfMemory,
 }

@@ -6,14 +6,14 @@ ghost use Rattle.usi_text.specs.Scanning.{IsDigitBefore, HasNoDigit};
 use crate::letters::piece_of_letter;
 use shogi_board::Piece;
 
-// Pieces of one side and kind in a hand's text, with their count where that is written.
+// Pieces of one side and kind in a hand's text, with their count if it is written.
 #[derive(Clone, Copy, Debug, PartialEq, Eq)]
 pub(crate) struct Pile {
     pub(crate) count: Option<u8>,
     pub(crate) piece: Piece,
 }
 
-// The pile at the front of the text, and what stands behind it.
+// The pile at the front of the text, and what follows it.
 pub(crate) fn read_pile(text: &[u8]) -> Option<(Pile, &[u8])>
     ensures shorter { IfSome result (λ r. length r.1.now < length text.now) }
     ensures pile { MatchOption result
@@ -31,7 +31,7 @@ pub(crate) fn read_pile(text: &[u8]) -> Option<(Pile, &[u8])>
     Some((Pile { count, piece }, behind))
 }
 
-// Whether the text is a dash: no piece is in a hand.
+// Whether the text is a dash, which means that no hand has a piece.
 pub(crate) fn is_dash(text: &[u8]) -> bool
     ensures { IsTrue result ↔ (text.now ≡ codes "-") }
 {
@@ -57,11 +57,12 @@ pub(crate) fn is_hands(text: &[u8]) -> bool
     rest.is_empty()
 }
 
-// The count of one or two digits at the front of the text, if there is one, and what stands behind it.
+// The count of one or two digits at the front of the text, if there is one, and what follows it.
 fn read_count(text: &[u8]) -> (Option<u8>, &[u8])
     ensures read { IsCount result.0 × (text.now ≡ count_text result.0 ++ result.1.now) }
     ensures only { (count : Option ℕ) (letter : ℕ) (behind : List ℕ) → IsCount count → 57 < letter
-        → text.now ≡ count_text count ++ letter ∷ behind → (count ≡ result.0) × (letter ∷ behind ≡ result.1.now) }
+        → text.now ≡ count_text count ++ letter ∷ behind
+        → (count ≡ result.0) × (letter ∷ behind ≡ result.1.now) }
 {
     let Some((tens, rest)) = read_digit(text) else {
         return (None, text);
@@ -75,7 +76,7 @@ fn read_count(text: &[u8]) -> (Option<u8>, &[u8])
     (Some(tens * 10 + ones), behind)
 }
 
-// The digit at the front of the text, and what stands behind it.
+// The digit at the front of the text, and what follows it.
 fn read_digit(text: &[u8]) -> Option<(u8, &[u8])>
     ensures { MatchOption result (HasNoDigit text.now) (λ r. IsDigitBefore text.now r.0 r.1.now) }
 {

@@ -1,4 +1,5 @@
-//! Laws of the definitions that the contracts of this crate cite. They take and give nothing.
+//! Laws of the definitions that this crate's contracts cite. The functions take no arguments and
+//! return nothing: their contracts are what is proved.
 
 ghost use Rattle.std.specs.Prelude.{◌≡◌, ◌≤◌, ◌<◌, ◌⊎◌, ℕ, List, Option, None, length, slice_index_or, true};
 ghost use Rattle.shogi_board.specs.declared.color.Color.TheVariants.{Black, White};
@@ -29,29 +30,32 @@ ghost use Rattle.usi_text.specs.Sfen.{Sfen, FirstFault};
 ghost use Rattle.usi_text.specs.SfenText.{sfen_text};
 ghost use Rattle.usi_text.specs.Words.{words, nth_word};
 
-/// Words are the SFEN of one position at most, and then they have no fault; else they have one first fault at most. They
-/// always have the one or the other.
+/// Words are the SFEN of exactly one position, or they have exactly one first fault, and never
+/// both.
 pub fn sfen_once()
     ensures one { (ws : List (List ℕ)) (p q : Placed) → Sfen ws p → Sfen ws q → p ≡ q }
-    ensures either { (ws : List (List ℕ)) (p : Placed) (fault : SfenFault) → Sfen ws p → FirstFault ws fault → ⊥ }
-    ensures first { (ws : List (List ℕ)) (fault other : SfenFault) → FirstFault ws fault → FirstFault ws other → fault ≡ other }
-    ensures some { (ws : List (List ℕ)) → ((p : Placed) → Sfen ws p → ⊥) → ((fault : SfenFault) → FirstFault ws fault → ⊥) → ⊥ }
+    ensures either { (ws : List (List ℕ)) (p : Placed) (fault : SfenFault) → Sfen ws p
+        → FirstFault ws fault → ⊥ }
+    ensures first { (ws : List (List ℕ)) (fault other : SfenFault) → FirstFault ws fault
+        → FirstFault ws other → fault ≡ other }
+    ensures some { (ws : List (List ℕ)) → ((p : Placed) → Sfen ws p → ⊥)
+        → ((fault : SfenFault) → FirstFault ws fault → ⊥) → ⊥ }
 {}
 
-/// The pieces of an SFEN are refused as SecondKing, TooMany or OpponentInCheck, and in no other way.
+/// The pieces of an SFEN are refused only with SecondKing, TooMany or OpponentInCheck.
 pub fn start_faults()
     ensures three { (ws : List (List ℕ)) (fault : SetupFault) → FirstFault ws (Start fault)
         → (fault ≡ SecondKing) ⊎ (fault ≡ TooMany) ⊎ (fault ≡ OpponentInCheck) }
 {}
 
-/// In the position of an SFEN each cell of the board's text stands on its square.
+/// In the position of an SFEN each cell of the board's text is on its square.
 pub fn board_stands()
     ensures squares { (ws : List (List ℕ)) (p : Placed) (cells : List (Option Piece)) (n : ℕ)
         → Sfen ws p → SpellsBoard (nth_word ws 0) cells → n < 81
         → slice_index_or p.material.board (board_place n) None ≡ slice_index_or cells n None }
 {}
 
-/// In the position of an SFEN each hand has the pieces of that side's piles, and no other.
+/// In the position of an SFEN each hand has the pieces of that side's piles, and no others.
 pub fn hands_held()
     ensures black { (ws : List (List ℕ)) (p : Placed) (piles : List Pile) (kind : Kind)
         → Sfen ws p → SpellsHands (nth_word ws 2) piles → is_hand_kind kind ≡ true
@@ -61,49 +65,56 @@ pub fn hands_held()
         → count_in p.material.white kind ≡ pile_total White kind piles }
 {}
 
-/// The SFEN that is written for a sound position is the SFEN of that position.
+/// The SFEN that is written for a sound position is an SFEN of that position.
 pub fn sfen_again()
     ensures again { (p : Placed) → IsSound p → Sfen (words (sfen_text p)) p }
 {}
 
-/// Words are the position line of one start and one list of moves at most, and then they have no fault but want of
-/// memory; else they have one first fault at most beside it. They always have the one or the other.
+/// Words are the position line of exactly one start and list of moves, or they have exactly one
+/// first fault. Lack of memory is left aside: it may occur beside either.
 pub fn line_once()
     ensures one { (ws : List (List ℕ)) (start other : Placed) (moves others : List Move)
         → UsiLine ws start moves → UsiLine ws other others → (start ≡ other) × (moves ≡ others) }
     ensures either { (ws : List (List ℕ)) (start : Placed) (moves : List Move) (fault : UsiFault)
         → UsiLine ws start moves → LineFault ws fault → fault ≡ OutOfMemory }
     ensures first { (ws : List (List ℕ)) (fault other : UsiFault)
-        → LineFault ws fault → LineFault ws other → (fault ≡ OutOfMemory) ⊎ (other ≡ OutOfMemory) ⊎ (fault ≡ other) }
-    ensures some { (ws : List (List ℕ)) → ((start : Placed) (moves : List Move) → UsiLine ws start moves → ⊥)
+        → LineFault ws fault → LineFault ws other
+        → (fault ≡ OutOfMemory) ⊎ (other ≡ OutOfMemory) ⊎ (fault ≡ other) }
+    ensures some { (ws : List (List ℕ))
+        → ((start : Placed) (moves : List Move) → UsiLine ws start moves → ⊥)
         → ((fault : UsiFault) → LineFault ws fault → fault ≡ OutOfMemory) → ⊥ }
 {}
 
-/// The position line that is written for a start and legal moves from it is the position line of that start and these
-/// moves.
+/// The position line that is written for a start and legal moves from it is a position line of that
+/// start and these moves.
 pub fn line_again()
-    ensures again { (start : Placed) (moves : List Move) (text : List ℕ) → IsSound start → IsGame start moves → length moves ≤ max_moves
+    ensures again { (start : Placed) (moves : List Move) (text : List ℕ) → IsSound start
+        → IsGame start moves → length moves ≤ max_moves
         → LineText start moves text → UsiLine (words text) start moves }
 {}
 
-/// In one position a text is one move at most.
+/// In one position a text is at most one move.
 pub fn one_move()
-    ensures one { (p : Placed) (text : List ℕ) (m n : Move) → UsiMove p text m → UsiMove p text n → m ≡ n }
+    ensures one { (p : Placed) (text : List ℕ) (m n : Move) → UsiMove p text m → UsiMove p text n
+        → m ≡ n }
 {}
 
-/// In one position a move has one text at most.
+/// In one position a move has at most one text.
 pub fn one_text()
-    ensures one { (p : Placed) (text other : List ℕ) (m : Move) → UsiMove p text m → UsiMove p other m → text ≡ other }
+    ensures one { (p : Placed) (text other : List ℕ) (m : Move) → UsiMove p text m
+        → UsiMove p other m → text ≡ other }
 {}
 
-/// A start and moves have one written position line at most.
+/// A start and moves have at most one written position line.
 pub fn one_line_text()
     ensures one { (start : Placed) (moves : List Move) (text other : List ℕ)
         → LineText start moves text → LineText start moves other → text ≡ other }
 {}
 
-/// A line of an engine says one thing at most, and as `Best` one text.
+/// A line of an engine says at most one thing, and as `Best` it has at most one text.
 pub fn one_engine_word()
-    ensures text { (ws : List (List ℕ)) (word other : EngineWord) → LineSays ws word → LineSays ws other → text_in word ≡ text_in other }
-    ensures word { (ws : List (List ℕ)) (word other : EngineWord) → text_in word ≡ None → LineSays ws word → LineSays ws other → other ≡ word }
+    ensures text { (ws : List (List ℕ)) (word other : EngineWord) → LineSays ws word
+        → LineSays ws other → text_in word ≡ text_in other }
+    ensures word { (ws : List (List ℕ)) (word other : EngineWord) → text_in word ≡ None
+        → LineSays ws word → LineSays ws other → other ≡ word }
 {}

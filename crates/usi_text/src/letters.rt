@@ -16,7 +16,7 @@ pub(crate) fn read_square(file: u8, rank: u8) -> Option<Square>
     Square::new(file.checked_sub(b'0')?, rank.checked_sub(b'a' - 1)?)
 }
 
-// The capital letter of a kind; a promoted kind has that of its unpromoted one.
+// The capital letter of a kind. A promoted kind has the letter of its unpromoted kind.
 pub(crate) fn letter(kind: Kind) -> u8
     ensures value { result ≡ letter kind }
     ensures bound { result < 96 }
@@ -33,7 +33,7 @@ pub(crate) fn letter(kind: Kind) -> u8
     }
 }
 
-// The letter of a piece: a capital for black, a small one for white.
+// The letter of a piece: a capital for black, a small letter for white.
 pub(crate) fn side_letter(piece: Piece) -> u8
     ensures { result ≡ side_letter piece }
 {
@@ -43,7 +43,7 @@ pub(crate) fn side_letter(piece: Piece) -> u8
     }
 }
 
-// The unpromoted kind that has this capital letter.
+// The unpromoted kind with this capital letter.
 fn kind_of_letter(byte: u8) -> Option<Kind>
     ensures { MatchOption result
         ((kind : Kind) → is_promoted kind ≡ false → letter kind ≡ byte → ⊥)
@@ -62,7 +62,7 @@ fn kind_of_letter(byte: u8) -> Option<Kind>
     }
 }
 
-// The kind that a hand may hold and that has this capital letter.
+// The kind with this capital letter that a hand may hold.
 pub(crate) fn held_kind(byte: u8) -> Option<Kind>
     ensures { MatchOption result
         ((kind : Kind) → is_hand_kind kind ≡ true → letter kind ≡ byte → ⊥)
@@ -76,7 +76,7 @@ pub(crate) fn held_kind(byte: u8) -> Option<Kind>
     }
 }
 
-// The unpromoted piece that has this letter: a capital for black, a small one for white.
+// The unpromoted piece with this letter: a capital for black, a small letter for white.
 pub(crate) fn piece_of_letter(byte: u8) -> Option<Piece>
     ensures { MatchOption result
         ((piece : Piece) → is_promoted piece.kind ≡ false → side_letter piece ≡ byte → ⊥)
@@ -91,7 +91,7 @@ pub(crate) fn piece_of_letter(byte: u8) -> Option<Piece>
     Some(Piece { color, kind })
 }
 
-// The promoted piece that has this letter.
+// The promoted piece with this letter.
 pub(crate) fn promoted_of_letter(byte: u8) -> Option<Piece>
     ensures { MatchOption result
         ((piece : Piece) → is_promoted piece.kind ≡ true → side_letter piece ≡ byte → ⊥)

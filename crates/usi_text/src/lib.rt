@@ -1,6 +1,15 @@
-//! The language of shogi engines: moves, SFENs, position lines, and lines that an engine writes.
+//! Reads and writes the texts of the USI protocol: moves, SFENs, position lines, and the lines that
+//! an engine sends.
 //!
-//! The forms are those of the USI protocol, in the profile of this project (`docs/USI.md`).
+//! The forms are those of USI, as `docs/USI.md` restricts them. A position line is read into a
+//! `Line` of `shogi_rules`, so each of its moves is legal. Each reader refuses a text with the
+//! first fault in a fixed order.
+//!
+//! ```text
+//! let line = read_position_line(alloc, b"position startpos moves 7g7f".as_slice())?;
+//! let text = position_line(alloc, &line)?;
+//! // text holds the bytes of `position startpos moves 7g7f`
+//! ```
 #![tactic(auto)]
 
 mod boards;

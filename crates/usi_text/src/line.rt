@@ -20,12 +20,14 @@ enum GivenStart<'a> {
     Sfen(&'a [u8]),
 }
 
-/// The line that a position line tells: its start and its moves.
+/// Reads a position line of the USI protocol into its start and its moves.
 ///
-/// Refuses, in this order: BadLine; Sfen with the SFEN's first fault; then for each move in turn TooManyMoves where
-/// 10,000 stand, BadMoveText where its word is no move in the position reached, Broken with the first rule that it
-/// breaks, OutOfMemory where it may be played. Moves are numbered from 1. OutOfMemory may come where there are no moves
-/// too; it comes only where no fault that does not need memory stands before.
+/// Refuses, in this order: `BadLine` if the text does not have the form of a position line; `Sfen`
+/// with the SFEN's first fault; then for each move in turn `TooManyMoves` if the line already has
+/// 10,000 moves, `BadMoveText` if the word is not a move in the position reached, `Broken` with the
+/// first rule that the move breaks, and `OutOfMemory` if an allocation for a legal move fails.
+/// Moves are numbered from 1. A line without moves may be refused with `OutOfMemory` too, but only
+/// after the faults that do not need memory.
 pub fn read_position_line(alloc: Global, text: &[u8]) -> Result<Line, UsiFault>
     ensures told { MatchResult result
         (λ line. UsiLine (words text.now) line.start line.moves)
@@ -35,7 +37,7 @@ pub fn read_position_line(alloc: Global, text: &[u8]) -> Result<Line, UsiFault>
     play_line(alloc, read_start(start)?, moves)
 }
 
-// The line of the words of the text from that start.
+// The line with that start whose moves are the words of the text.
 fn play_line(alloc: Global, start: Position, text: &[u8]) -> Result<Line, UsiFault>
     ensures { MatchResult result
         (λ line. (line.start ≡ start) × Plays start [] (words text.now) (Ok line.moves))
@@ -48,7 +50,7 @@ fn play_line(alloc: Global, start: Position, text: &[u8]) -> Result<Line, UsiFau
     Ok(line)
 }
 
-// Where there is no room for a line: the fault of the first move's word, else want of memory.
+// The fault if there is no memory for a line: that of the first move's word, else lack of memory.
 fn fault_without_room(start: Position, text: &[u8]) -> UsiFault
     ensures { StartedFault start (words text.now) result }
 {
@@ -64,7 +66,7 @@ fn fault_without_room(start: Position, text: &[u8]) -> UsiFault
     }
 }
 
-// How the line gives its start, and what stands behind the word `moves`.
+// How the line gives its start, and what follows the word `moves`.
 fn split_line(text: &[u8]) -> Option<(GivenStart<'_>, &[u8])>
     ensures { MatchOption result
         (LineFault (words text.now) UsiFault.BadLine)
@@ -98,7 +100,7 @@ fn read_start(start: GivenStart<'_>) -> Result<Position, SfenFault>
     }
 }
 
-// What stands behind the word `moves`, or nothing where there is no word.
+// What follows the word `moves`; empty if there is no word at all.
 fn moves_behind(text: &[u8]) -> Option<&[u8]>
     ensures { MatchOption result
         ((moves : List (List ℕ)) → HasMoves (words text.now) moves → ⊥)
@@ -120,7 +122,7 @@ fn same(word: &[u8], wanted: &[u8]) -> bool
     word == wanted
 }
 
-// What stands before the first word `moves`, and behind it.
+// What comes before the first word `moves`, and what follows it.
 fn split_moves(text: &[u8]) -> (&[u8], &[u8])
     ensures { Split (words text.now) (words result.0.now) (words result.1.now) }
 {
@@ -138,7 +140,8 @@ fn split_moves(text: &[u8]) -> (&[u8], &[u8])
 fn play_words(line: &mut Line, text: &[u8]) -> Result<(), UsiFault>
     requires { line.old.moves ≡ [] }
     ensures { MatchResult result
-        (λ _. (line.new.start ≡ line.old.start) × Plays line.old.start [] (words text.now) (Ok line.new.moves))
+        (λ _. (line.new.start ≡ line.old.start)
+        × Plays line.old.start [] (words text.now) (Ok line.new.moves))
         (λ fault. PlayedFault line.old.start (words text.now) fault) }
 {
     let mut rest = text;
@@ -166,7 +169,7 @@ fn play_word(line: &mut Line, word: &[u8]) -> Result<(), UsiFault>
         .map_err(|fault| usi_fault(n + 1, fault))
 }
 
-// What a position line answers where `play` refused its move of that number so.
+// The fault of a position line whose move with that number `play` refused.
 fn usi_fault(number: usize, fault: PlayFault) -> UsiFault
     ensures { result ≡ word_fault number fault }
 {

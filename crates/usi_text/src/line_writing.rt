@@ -11,11 +11,12 @@ use shogi_board::{OutOfMemory, Position};
 use shogi_rules::{Line, Move, after};
 use std::alloc::Global;
 
-/// The position line of a line, with no line end behind it.
+/// Writes the position line of a line as the USI protocol has it, without a line end.
 ///
-/// It is `position startpos` exactly for the even start with black to move, else `position sfen` and the start's SFEN;
-/// then, only if there are moves, `moves` and the moves. Read again, it is the same start and the same moves. Refuses
-/// OutOfMemory.
+/// It is `position startpos` exactly if the start is the even one with black to move, else
+/// `position sfen` and the SFEN of the start. If there are moves, `moves` and their texts follow.
+/// `read_position_line` reads it back as the same start and moves. Returns `OutOfMemory` if an
+/// allocation fails.
 pub fn position_line(alloc: Global, line: &Line) -> Result<Vec<u8>, OutOfMemory>
     ensures text { IfOk result (λ text. LineText line.now.start line.now.moves text.items) }
     ensures again { IfOk result (λ text. UsiLine (words text.items) line.now.start line.now.moves) }
@@ -28,7 +29,9 @@ pub fn position_line(alloc: Global, line: &Line) -> Result<Vec<u8>, OutOfMemory>
 }
 
 fn push_start(text: &mut Vec<u8>, start: &Position) -> Result<(), OutOfMemory>
-    ensures text { OnOk result ((front : List ℕ) × StartText start.now front × (text.new.items ≡ text.old.items ++ front)) }
+    ensures text { OnOk result
+        ((front : List ℕ) × StartText start.now front
+        × (text.new.items ≡ text.old.items ++ front)) }
     ensures sound { OnOk result (IsSound start.now) }
 {
     if *start == Position::even() {
@@ -40,10 +43,12 @@ fn push_start(text: &mut Vec<u8>, start: &Position) -> Result<(), OutOfMemory>
     Ok(())
 }
 
-// The word `moves` and the moves, where there are any.
+// The word `moves` and the moves, if there are any.
 fn push_moves(text: &mut Vec<u8>, start: Position, moves: &[Move]) -> Result<(), OutOfMemory>
     requires { IsGame start moves.now }
-    ensures { OnOk result ((rest : List ℕ) × BehindStart start moves.now rest × (text.new.items ≡ text.old.items ++ rest)) }
+    ensures { OnOk result
+        ((rest : List ℕ) × BehindStart start moves.now rest
+        × (text.new.items ≡ text.old.items ++ rest)) }
 {
     if moves.is_empty() {
         return Ok(());
@@ -56,7 +61,9 @@ fn push_moves(text: &mut Vec<u8>, start: Position, moves: &[Move]) -> Result<(),
 // A space and the text of each move.
 fn push_each(text: &mut Vec<u8>, start: Position, moves: &[Move]) -> Result<(), OutOfMemory>
     requires { IsGame start moves.now }
-    ensures { OnOk result ((rest : List ℕ) × MovesText start moves.now rest × (text.new.items ≡ text.old.items ++ rest)) }
+    ensures { OnOk result
+        ((rest : List ℕ) × MovesText start moves.now rest
+        × (text.new.items ≡ text.old.items ++ rest)) }
 {
     let mut now = start;
     for mv in moves {

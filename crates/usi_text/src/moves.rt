@@ -10,12 +10,15 @@ use arrayvec::ArrayString;
 use shogi_board::{Position, Square};
 use shogi_rules::Move;
 
-/// The move that the text is in that position, or None.
+/// Reads a move of the USI protocol in a position, or returns `None` if the text is not a move
+/// there.
 ///
-/// A walk is the square left and the square reached, each a digit 1 to 9 for the file and a letter a to i for the
-/// rank, with `+` behind them for a piece that promotes (`8h2b+`). A drop is a letter of P L N S G B R, `*` and the
-/// square (`P*5e`). A walk's kind is that of the piece on the square left, or its promoted kind; None where that
-/// square is empty, or `+` stands for a piece without a promoted kind. Whether the move is legal is not asked.
+/// A walk is the square that the piece leaves and the square that it goes to, each a digit 1 to 9
+/// for the file and a letter a to i for the rank; `+` follows them if the piece promotes (`8h2b+`).
+/// A drop is one of the letters P L N S G B R, `*` and the square (`P*5e`). The kind of a walk is
+/// that of the piece on the square that it leaves, or its promoted kind. Returns `None` if that
+/// square is empty, or if `+` follows for a piece that has no promoted kind. Does not ask whether
+/// the move is legal.
 pub fn read_move(position: &Position, text: &[u8]) -> Option<Move>
     ensures told { MatchOption result
         ((mv : Move) → UsiMove position.now text.now mv → ⊥)
@@ -42,7 +45,8 @@ pub fn read_move(position: &Position, text: &[u8]) -> Option<Move>
     }
 }
 
-/// The text of a move that is legal for the side to move. Read in that position, it is that move.
+/// The USI text of a move that is legal for the side to move. In that position, `read_move` reads
+/// it back as the same move.
 pub fn move_text(position: &Position, mv: &Move) -> ArrayString<5>
     requires legal { Legal position.now mv.now }
     ensures again { UsiMove position.now result.bytes mv.now }

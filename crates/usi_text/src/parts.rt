@@ -13,7 +13,7 @@ pub(crate) enum Part {
 }
 
 impl Part {
-    // How many squares it stands for.
+    // How many squares the part covers.
     pub(crate) fn squares(self) -> usize
         ensures { result ≡ length (part_cells self) }
     {
@@ -24,7 +24,7 @@ impl Part {
     }
 }
 
-// The part at the front of the text, and what stands behind it.
+// The part at the front of the text, and what follows it.
 pub(crate) fn read_part(text: &[u8]) -> Option<(Part, &[u8])>
     ensures shorter { IfSome result (λ r. length r.1.now < length text.now) }
     ensures part { MatchOption result

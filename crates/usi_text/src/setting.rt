@@ -10,14 +10,16 @@ ghost use Rattle.usi_text.specs.declared.hands.Pile.{Pile};
 use crate::hands::{Pile, is_dash, read_pile};
 use shogi_board::{Color, Piece, Position, Setup, SetupFault, Square};
 
-// The position with the pieces of these cells, in the order of a board's text, and of the hands that the text spells.
+// The position with the pieces of these cells, in the order of a board's text, and of the hands that
+// the text spells.
 pub(crate) fn set_up_position(
     cells: &[Option<Piece>],
     hands: &[u8],
     side: Color,
 ) -> Result<Position, SetupFault>
     requires board { length cells.now ≡ 81 }
-    ensures { (piles : List Pile) → SpellsHands hands.now piles → Finishes (set_up cells.now piles) side result }
+    ensures { (piles : List Pile) → SpellsHands hands.now piles
+        → Finishes (set_up cells.now piles) side result }
 {
     let mut setup = board_setup(cells)?;
     add_hands(&mut setup, hands)?;
@@ -28,7 +30,8 @@ pub(crate) fn set_up_position(
 fn board_setup(cells: &[Option<Piece>]) -> Result<Setup, SetupFault>
     requires board { length cells.now ≡ 81 }
     ensures { (others : List Placing) → MatchResult result
-        (λ setup. place_all empty_layout (cell_placings 0 cells.now ++ others) ≡ place_all setup others)
+        (λ setup. place_all empty_layout (cell_placings 0 cells.now ++ others)
+        ≡ place_all setup others)
         (λ fault. place_all empty_layout (cell_placings 0 cells.now ++ others) ≡ Err fault) }
 {
     let mut setup = Setup::empty();
@@ -40,7 +43,7 @@ fn board_setup(cells: &[Option<Piece>]) -> Result<Setup, SetupFault>
     Ok(setup)
 }
 
-// The nth square of a board's text, from 0.
+// The nth square of a board's text, counted from 0.
 fn board_square(n: usize) -> Square
     requires { n < 81 }
     ensures { place result ≡ board_place n }
@@ -67,7 +70,8 @@ fn add_hands(setup: &mut Setup, text: &[u8]) -> Result<(), SetupFault>
 
 fn add_pile(setup: &mut Setup, pile: Pile) -> Result<(), SetupFault>
     ensures { (others : List Piece) → MatchResult result
-        (λ _. place_all setup.old (map hand_placing (pile_pieces pile ++ others)) ≡ place_all setup.new (map hand_placing others))
+        (λ _. place_all setup.old (map hand_placing (pile_pieces pile ++ others))
+        ≡ place_all setup.new (map hand_placing others))
         (λ fault. place_all setup.old (map hand_placing (pile_pieces pile ++ others)) ≡ Err fault) }
 {
     for _ in 0..pile.count.unwrap_or(1) {

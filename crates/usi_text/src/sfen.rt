@@ -10,11 +10,13 @@ use crate::setting::set_up_position;
 use crate::words::take_word;
 use shogi_board::{Color, Position};
 
-/// The position whose SFEN the text is.
+/// Reads the position of an SFEN, the notation that USI has for positions.
 ///
-/// Refuses, in this order: BadBoard, BadSide, BadHands, BadNumber by the words of the text, a missing word being an
-/// empty one; then Start with the first refusal of its pieces, which are set up in the order of the text, the squares
-/// first and then the hands: SecondKing or TooMany; then Start(OpponentInCheck).
+/// Refuses, in this order: `BadBoard`, `BadSide`, `BadHands` and `BadNumber`, by the words of the
+/// text, where a missing word counts as an empty one; then `Start` with the first refusal of its
+/// pieces, `SecondKing` or `TooMany`, as they are placed in the order of the text, first on the
+/// squares and then in the hands; then `Start(OpponentInCheck)` if the side to move could take the
+/// other king.
 pub fn read_sfen(text: &[u8]) -> Result<Position, SfenFault>
     ensures told { MatchResult result
         (λ position. Sfen (words text.now) position)
@@ -32,7 +34,7 @@ pub fn read_sfen(text: &[u8]) -> Result<Position, SfenFault>
     Ok(set_up_position(cells.as_slice(), words.hands, side)?)
 }
 
-// The first five words of a text; where there are fewer, the others are empty.
+// The first five words of a text. If there are fewer, the others are empty.
 #[derive(Clone, Copy, Debug)]
 struct SfenWords<'a> {
     board: &'a [u8],
@@ -77,7 +79,7 @@ fn read_side(word: &[u8]) -> Option<Color>
     }
 }
 
-// Whether the word is digits alone, and no word follows.
+// Whether the word is all digits, and no word follows.
 fn is_number(word: &[u8], next: &[u8]) -> bool
     ensures { IsTrue result ↔ IsNumber word.now next.now }
 {

@@ -2,7 +2,7 @@ ghost use Rattle.std.specs.Prelude.{◌≡◌, ◌≢◌, ℕ, ◌≤◌, ◌<�
 ghost use Rattle.usi_text.specs.Words.{words, nth_word};
 ghost use Rattle.usi_text.specs.Scanning.{IsBehind};
 
-// The first word, and what stands behind it; or None where the text has no word.
+// The first word and what follows it, or `None` if the text has no word.
 pub(crate) fn next_word(text: &[u8]) -> Option<(&[u8], &[u8])>
     ensures word { MatchOption result
         (words text.now ≡ [])
@@ -16,7 +16,7 @@ pub(crate) fn next_word(text: &[u8]) -> Option<(&[u8], &[u8])>
     Some(text.split_at(run_length(text, false)))
 }
 
-// The first word, or the empty text where there is none, and what stands behind it.
+// The first word, or the empty text if there is none, and what follows it.
 pub(crate) fn take_word(text: &[u8]) -> (&[u8], &[u8])
     ensures word { result.0.now ≡ nth_word (words text.now) 0 }
     ensures rest { words result.1.now ≡ drop 1 (words text.now) }
@@ -24,7 +24,7 @@ pub(crate) fn take_word(text: &[u8]) -> (&[u8], &[u8])
     next_word(text).unwrap_or((&[], &[]))
 }
 
-// How many bytes at the front of the text are spaces; or how many are none, where `spaces` is false.
+// How many bytes at the front of the text are spaces or, if `spaces` is false, are not.
 fn run_length(text: &[u8], spaces: bool) -> usize
     ensures within { result ≤ length text.now }
     ensures run { (k : ℕ) → k < result → (slice_index text.now k == 32) ≡ spaces }

@@ -13,10 +13,11 @@ use itoa::Buffer;
 use shogi_board::{Color, Hand, Kind, OutOfMemory, Piece, Position, Square};
 use std::alloc::Global;
 
-/// The SFEN of a position. Read again, it is this position.
+/// Writes the SFEN of a position. `read_sfen` reads it back as this position.
 ///
-/// Empty squares are written in one digit, the hands in the order rook, bishop, gold, silver, knight, lance, pawn,
-/// black's first, a count from 2 on before its letter, and the number is 1. Refuses OutOfMemory.
+/// A run of empty squares is one digit. The hands are in the order rook, bishop, gold, silver,
+/// knight, lance, pawn, black's first, with a count before the letter from 2 on. The move number is
+/// 1. Returns `OutOfMemory` if an allocation fails.
 pub fn write_sfen(alloc: Global, position: &Position) -> Result<Vec<u8>, OutOfMemory>
     ensures text { IfOk result (λ text. text.items ≡ sfen_text position.now) }
     ensures again { IfOk result (λ text. Sfen (words text.items) position.now) }
@@ -49,7 +50,8 @@ fn side_byte(side: Color) -> u8
 }
 
 fn push_board(text: &mut Vec<u8>, position: &Position) -> Result<(), OutOfMemory>
-    ensures { OnOk result (text.new.items ≡ text.old.items ++ board_text position.now.material.board) }
+    ensures { OnOk result
+        (text.new.items ≡ text.old.items ++ board_text position.now.material.board) }
 {
     push_rank(text, position, 1)?;
     for rank in 2..10u8 {
@@ -62,7 +64,8 @@ fn push_board(text: &mut Vec<u8>, position: &Position) -> Result<(), OutOfMemory
 // A rank, from file 9 to file 1.
 fn push_rank(text: &mut Vec<u8>, position: &Position, rank: u8) -> Result<(), OutOfMemory>
     requires { (1 ≤ rank) × (rank ≤ 9) }
-    ensures { OnOk result (text.new.items ≡ text.old.items ++ rank_text position.now.material.board rank) }
+    ensures { OnOk result
+        (text.new.items ≡ text.old.items ++ rank_text position.now.material.board rank) }
 {
     let mut empty = 0;
     for right in 0..9u8 {
@@ -78,7 +81,7 @@ fn push_rank(text: &mut Vec<u8>, position: &Position, rank: u8) -> Result<(), Ou
     push_run(text, empty)
 }
 
-// What stands on a file and rank.
+// What is on a file and rank.
 fn cell(position: &Position, file: u8, rank: u8) -> Option<Piece>
     requires { (1 ≤ file) × (file ≤ 9) × (1 ≤ rank) × (rank ≤ 9) }
     ensures { result ≡ cell position.now.material.board file rank }
@@ -107,9 +110,10 @@ fn push_piece(text: &mut Vec<u8>, piece: Piece) -> Result<(), OutOfMemory>
     Ok(())
 }
 
-// Both hands, or a dash where they are empty.
+// Both hands, or a dash if they are empty.
 fn push_hands(text: &mut Vec<u8>, position: &Position) -> Result<(), OutOfMemory>
-    ensures { OnOk result (text.new.items ≡ text.old.items ++ hands_text (both_piles position.now)) }
+    ensures { OnOk result
+        (text.new.items ≡ text.old.items ++ hands_text (both_piles position.now)) }
 {
     let before = text.len();
     push_hand(text, Color::Black, position.hand(Color::Black))?;
@@ -121,7 +125,8 @@ fn push_hands(text: &mut Vec<u8>, position: &Position) -> Result<(), OutOfMemory
 }
 
 fn push_hand(text: &mut Vec<u8>, color: Color, hand: Hand) -> Result<(), OutOfMemory>
-    ensures { OnOk result (text.new.items ≡ text.old.items ++ flat_map pile_text (hand_piles color hand)) }
+    ensures { OnOk result
+        (text.new.items ≡ text.old.items ++ flat_map pile_text (hand_piles color hand)) }
 {
     push_kind(text, color, hand, Kind::Rook)?;
     push_kind(text, color, hand, Kind::Bishop)?;
@@ -135,14 +140,16 @@ fn push_hand(text: &mut Vec<u8>, color: Color, hand: Hand) -> Result<(), OutOfMe
 
 // A hand's pieces of one kind.
 fn push_kind(text: &mut Vec<u8>, color: Color, hand: Hand, kind: Kind) -> Result<(), OutOfMemory>
-    ensures { OnOk result (text.new.items ≡ text.old.items ++ flat_map pile_text (piles_of color hand kind)) }
+    ensures { OnOk result
+        (text.new.items ≡ text.old.items ++ flat_map pile_text (piles_of color hand kind)) }
 {
     push_pile(text, Piece { color, kind }, hand.count(kind))
 }
 
 // So many pieces of a hand: nothing for none, and no count for one.
 fn push_pile(text: &mut Vec<u8>, piece: Piece, count: u8) -> Result<(), OutOfMemory>
-    ensures { OnOk result (text.new.items ≡ text.old.items ++ flat_map pile_text (pile_of piece count)) }
+    ensures { OnOk result
+        (text.new.items ≡ text.old.items ++ flat_map pile_text (pile_of piece count)) }
 {
     if count == 0 {
         return Ok(());

@@ -12,7 +12,7 @@ with_comma false true comma = refl
 with_comma false false true = refl
 with_comma false false false = refl
 
--- where a unit does not take its line, a comma ends it too
+-- if a unit does not take its whole line, a comma ends it too
 ends_alike : (first b : ℕ) → takes_line first ≡ false → is_byte3 13 10 44 b ≡ is_end first b
 ends_alike first b h = rw h (with_comma (b == 13) (b == 10) (b == 44))
 

@@ -13,7 +13,7 @@ without_comma false true comma = refl
 without_comma false false true = refl
 without_comma false false false = refl
 
--- where a unit takes its line, only a line end ends it
+-- if a unit takes its whole line, only a line end ends it
 ends_alike : (first b : ℕ) → takes_line first ≡ true → is_line_end b ≡ is_end first b
 ends_alike first b h = rw h (without_comma (b == 13) (b == 10) (b == 44))
 

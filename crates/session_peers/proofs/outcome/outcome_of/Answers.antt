@@ -1,5 +1,4 @@
-use Rattle.std.proofs.Common.{rules}
 use Rattle.session_peers.proofs.outcome.outcome_of.Goals as goal
 
-pub returns-else-moves-config : goal.returns-else-moves-config
-returns-else-moves-config c = search rules
+pub returns-then-is_over : goal.returns-then-is_over
+returns-then-is_over c = c.outcome_of_repetition.ensures c.args.config.now

@@ -1,5 +1,5 @@
 use Rattle.std.proofs.Common.{◌≡◌, ℕ, ◌-◌, None, get_or, ap, sym, ◌∙◌, arith}
-use Rattle.shogi_board.specs.Packing.{cells_of}
+use Rattle.shogi_board.specs.Numbers.{cells_of}
 use Rattle.shogi_board.proofs.Packing.{cell-further, cell-first}
 use Rattle.shogi_board.proofs.packed.cell.Goals as goal
 

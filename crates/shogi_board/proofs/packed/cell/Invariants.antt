@@ -1,5 +1,5 @@
 use Rattle.std.proofs.Common.{◌≡◌, ◌-◌, None, get_or}
-use Rattle.shogi_board.specs.Packing.{cells_of}
+use Rattle.shogi_board.specs.Numbers.{cells_of}
 use Rattle.shogi_board.proofs.packed.cell.Given as goal
 
 abbrev pub invariant-loop : goal.invariant-loop

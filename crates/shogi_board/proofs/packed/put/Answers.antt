@@ -1,5 +1,6 @@
 use Rattle.std.proofs.Common.{◌≡◌, ◌-◌, ◌+◌, ◌*◌, ℕ, get_or, arith, set, refl, ap, ◌∙◌}
-use Rattle.shogi_board.specs.Packing.{digit_of, shifted, board_of}
+use Rattle.shogi_board.specs.Packing.{digit_of}
+use Rattle.shogi_board.specs.Numbers.{shifted, board_of}
 use Rattle.shogi_board.specs.Squares.{place}
 use Rattle.shogi_board.proofs.Packing.{file-low, put-low, put-number, put-each, put-board}
 use Rattle.shogi_board.proofs.packed.put.Goals as goal

@@ -12,7 +12,7 @@ returns-then-reaches c =
     let next = c.args.next.now in
     let m = c.args.mv.now in
     let reach : Reach next.material.board (target m) c.in-Some.king = subst (λ (t : Square). Reach next.material.board t c.in-Some.king) c.target.ensures.value (c.reaches.ensures.answer.0 c.if-reaches.true) in
-    check-is next c.in-Some.king _ c.side-side-2.ensures.sound (rw c.side-side-2.ensures.value at c.in-Some.ensures.answer) (other-reached p next m c.in-Some.king c.side-side.ensures.sound c.requires.next reach)
+    check-is next c.in-Some.king _ c.side-side.ensures.sound (rw c.side-side.ensures.value at c.in-Some.ensures.answer) (other-reached p next m c.in-Some.king c.soundness.ensures.sound c.requires.next reach)
 
 pub attacked_from-requires : goal.attacked_from-requires
 attacked_from-requires c = record {
@@ -21,15 +21,15 @@ attacked_from-requires c = record {
       let next = c.args.next.now in
       let m = c.args.mv.now in
       let free = unreached next m c.in-Some.king c.target.result c.reaches.result c.target.ensures.value c.if-reaches.false c.reaches.ensures.answer in
-      let here : Attack next.material.board next.side a c.in-Some.king = subst (λ (x : Color). Attack next.material.board x a c.in-Some.king) c.side-side-2.ensures.value attack in
-      other-towards p next m c.in-Some-source.from c.in-Some.king c.side-side.ensures.sound c.requires.next (rw c.side-side-2.ensures.value at c.in-Some.ensures.answer) free (sym c.source.ensures ∙ c.in-Some-source.is) a here;
+      let here : Attack next.material.board next.side a c.in-Some.king = subst (λ (x : Color). Attack next.material.board x a c.in-Some.king) c.side-side.ensures.value attack in
+      other-towards p next m c.in-Some-source.from c.in-Some.king c.soundness.ensures.sound c.requires.next (rw c.side-side.ensures.value at c.in-Some.ensures.answer) free (sym c.source.ensures ∙ c.in-Some-source.is) a here;
 }
 
 pub returns-in-Some-source : goal.returns-in-Some-source
 returns-in-Some-source c =
     let next = c.args.next.now in
-    let answer : IsTrue c.attacked_from.result ↔ Attacked next.material.board next.side c.in-Some.king = rw c.side-side-2.ensures.value at c.attacked_from.ensures.answer in
-    check-is next c.in-Some.king c.attacked_from.result c.side-side-2.ensures.sound (rw c.side-side-2.ensures.value at c.in-Some.ensures.answer) answer
+    let answer : IsTrue c.attacked_from.result ↔ Attacked next.material.board next.side c.in-Some.king = rw c.side-side.ensures.value at c.attacked_from.ensures.answer in
+    check-is next c.in-Some.king c.attacked_from.result c.side-side.ensures.sound (rw c.side-side.ensures.value at c.in-Some.ensures.answer) answer
 
 pub returns-in-None : goal.returns-in-None
 returns-in-None c =
@@ -37,4 +37,4 @@ returns-in-None c =
     let next = c.args.next.now in
     let m = c.args.mv.now in
     let free = unreached next m c.in-Some.king c.target.result c.reaches.result c.target.ensures.value c.if-reaches.false c.reaches.ensures.answer in
-    check-is next c.in-Some.king _ c.side-side-2.ensures.sound (rw c.side-side-2.ensures.value at c.in-Some.ensures.answer) (other-free p next m c.in-Some.king c.side-side.ensures.sound c.requires.next (rw c.side-side-2.ensures.value at c.in-Some.ensures.answer) free (sym c.source.ensures ∙ c.in-None.is))
+    check-is next c.in-Some.king _ c.side-side.ensures.sound (rw c.side-side.ensures.value at c.in-Some.ensures.answer) (other-free p next m c.in-Some.king c.soundness.ensures.sound c.requires.next (rw c.side-side.ensures.value at c.in-Some.ensures.answer) free (sym c.source.ensures ∙ c.in-None.is))

@@ -2,7 +2,7 @@ use Rattle.std.proofs.Common.{◌≡◌, ◌<◌, arith, inl, inr, subst}
 use Rattle.std.proofs.lemmas.Bool.{cases_lt}
 use Rattle.shogi_board.specs.Pieces.{place_of}
 use Rattle.shogi_board.specs.declared.kind.Kind.{Kind}
-use Rattle.shogi_rules.specs.Order.{IsDropOf, NoneOf}
+use Rattle.shogi_rules.specs.Trying.{IsDropOf, NoneOf}
 use Rattle.shogi_rules.proofs.Firsts.{drop-first, kind-none, no-drop}
 use Rattle.shogi_rules.proofs.search.first_drop.Goals as goal
 

@@ -1,7 +1,7 @@
 use Rattle.std.proofs.Common.{◌<◌}
 use Rattle.shogi_board.specs.Pieces.{place_of}
 use Rattle.shogi_board.specs.declared.kind.Kind.{Kind}
-use Rattle.shogi_rules.specs.Order.{IsDropOf, NoneOf}
+use Rattle.shogi_rules.specs.Trying.{IsDropOf, NoneOf}
 use Rattle.shogi_rules.proofs.search.first_drop.Given as goal
 
 abbrev pub invariant-loop-n : goal.invariant-loop-n

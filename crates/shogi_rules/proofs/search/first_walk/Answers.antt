@@ -4,7 +4,7 @@ use Rattle.shogi_board.specs.Squares.{place}
 use Rattle.shogi_board.specs.declared.square.Square.{Square}
 use Rattle.shogi_board.proofs.Squares.{place-bound, place-same}
 use Rattle.shogi_rules.specs.Evasions.{MovesFrom}
-use Rattle.shogi_rules.specs.Order.{NoneOf}
+use Rattle.shogi_rules.specs.Trying.{NoneOf}
 use Rattle.shogi_rules.proofs.Firsts.{no-walk, walk-first}
 use Rattle.shogi_rules.proofs.search.first_walk.Goals as goal
 

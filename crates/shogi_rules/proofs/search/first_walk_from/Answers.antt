@@ -3,7 +3,7 @@ use Rattle.std.proofs.lemmas.Bool.{cases_lt}
 use Rattle.shogi_board.specs.Squares.{place}
 use Rattle.shogi_board.specs.declared.square.Square.{Square}
 use Rattle.shogi_board.proofs.Squares.{place-bound, place-same}
-use Rattle.shogi_rules.specs.Order.{IsWalkBetween, NoneOf}
+use Rattle.shogi_rules.specs.Trying.{IsWalkBetween, NoneOf}
 use Rattle.shogi_rules.proofs.Firsts.{none-from, walk-from-first}
 use Rattle.shogi_rules.proofs.search.first_walk_from.Goals as goal
 

@@ -1,7 +1,7 @@
 use Rattle.std.proofs.Common.{◌<◌}
 use Rattle.shogi_board.specs.Squares.{place}
 use Rattle.shogi_board.specs.declared.square.Square.{Square}
-use Rattle.shogi_rules.specs.Order.{IsWalkBetween, NoneOf}
+use Rattle.shogi_rules.specs.Trying.{IsWalkBetween, NoneOf}
 use Rattle.shogi_rules.proofs.search.first_walk_from.Given as goal
 
 abbrev pub invariant-loop-n : goal.invariant-loop-n

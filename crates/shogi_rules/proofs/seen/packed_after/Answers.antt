@@ -6,11 +6,11 @@ use Rattle.shogi_rules.proofs.seen.packed_after.Goals as goal
 
 pub followed-requires-clause-apart : goal.followed-requires-clause-apart
 followed-requires-clause-apart c =
-    rw (c.requires.change.from, c.requires.change.to) (λ s e. left-apart c.args.last.now c.args.mv.now s c.side-side.ensures.sound c.requires.fits e)
+    rw (c.requires.change.from, c.requires.change.to) (λ s e. left-apart c.args.last.now c.args.mv.now s c.soundness.ensures.sound c.requires.fits e)
 
 pub followed-requires-clause-board : goal.followed-requires-clause-board
 followed-requires-clause-board c =
-    rw (c.requires.change.from, c.requires.change.to, c.requires.next) (board-followed c.args.last.now c.args.mv.now c.side-side.ensures.sound c.requires.fits)
+    rw (c.requires.change.from, c.requires.change.to, c.requires.next) (board-followed c.args.last.now c.args.mv.now c.soundness.ensures.sound c.requires.fits)
 
 pub followed-requires-clause-hands : goal.followed-requires-clause-hands
 followed-requires-clause-hands c = λ some empty color.

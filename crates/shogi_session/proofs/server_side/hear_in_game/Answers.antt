@@ -10,7 +10,7 @@ returns-then-is_hash_line-clause-answer c = or_stays c.hear_end.result _ _ _ _ _
 
 pub returns-else-is_hash_line-clause-answer : goal.returns-else-is_hash_line-clause-answer
 returns-else-is_hash_line-clause-answer c =
-    quiet _ _ _ _ _ _ c.no_lines.result (other_reason _ _ _ _ c.args.line.now (sym c.is_hash_line.ensures ∙ c.if-is_hash_line.false)) (ap (staged (match_in c.args.play.now) c.args.play.now.game) c.in-Reason.is) refl
+    quiet _ _ _ _ _ _ c.no_lines.result (other_reason _ _ _ _ c.args.line.now (sym c.is_hash_line.ensures.value ∙ c.if-is_hash_line.false)) (ap (staged (match_in c.args.play.now) c.args.play.now.game) c.in-Reason.is) refl
     (c.no_lines.ensures.engine, c.no_lines.ensures.server, c.no_lines.ensures.status)
 
 pub returns-then-is_same-clause-answer : goal.returns-then-is_same-clause-answer

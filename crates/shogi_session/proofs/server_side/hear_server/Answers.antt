@@ -29,4 +29,4 @@ returns-then-not-is_start_line-clause-answer c =
 pub returns-in_ok-out-in-Agreeing-clause-answer : goal.returns-in_ok-out-in-Agreeing-clause-answer
 returns-in_ok-out-in-Agreeing-clause-answer c =
     started_from _ _ _ _ _ c.in-Agreeing.offer c.args.line.now c.in_ok-out-in-Agreeing.out c.in-Agreeing.is c.requires.phase
-    (c.start.ensures c.in-Agreeing.offer refl) (sym c.is_start_line.ensures ∙ c.if-not-is_start_line.false) c.in_ok-out-in-Agreeing.ensures.goes_on
+    (c.start.ensures c.in-Agreeing.offer refl) (sym c.is_start_line.ensures.value ∙ c.if-not-is_start_line.false) c.in_ok-out-in-Agreeing.ensures.goes_on

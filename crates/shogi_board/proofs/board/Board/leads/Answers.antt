@@ -1,6 +1,7 @@
 use Rattle.std.proofs.Common.{◌≡◌, refl}
-use Rattle.shogi_board.specs.Between.{Lies}
-use Rattle.shogi_board.specs.Moves.{Goes, turned_for}
+use Rattle.shogi_board.specs.Directions.{Lies}
+use Rattle.shogi_board.specs.Moves.{turned_for}
+use Rattle.shogi_board.specs.Directions.{Goes}
 use Rattle.shogi_board.specs.declared.kind.Kind.TheVariants.{Knight}
 use Rattle.shogi_board.proofs.Goes.{goes-moves, moves-goes, nowhere-none}
 use Rattle.shogi_board.proofs.Same.{kind-eq}

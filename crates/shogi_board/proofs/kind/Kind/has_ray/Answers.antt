@@ -1,5 +1,6 @@
 use Rattle.std.proofs.Common.{◌≡◌, ◌⊎◌, inl, inr, not, refl, ap}
-use Rattle.shogi_board.specs.Moves.{diagonals, orthogonals, rays, is_diagonal, to}
+use Rattle.shogi_board.specs.Moves.{diagonals, orthogonals, rays, to}
+use Rattle.shogi_board.specs.Directions.{is_diagonal}
 use Rattle.shogi_board.specs.declared.kind.Kind.{Kind}
 use Rattle.shogi_board.specs.declared.kind.Kind.TheVariants.{Bishop, Rook, Horse, Dragon}
 use Rattle.shogi_board.proofs.Moves.{member}

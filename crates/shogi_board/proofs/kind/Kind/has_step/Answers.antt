@@ -1,6 +1,7 @@
 use Rattle.std.proofs.Common.{◌≡◌, ◌⊎◌, inl, inr, ◌==◌, ◌||◌, true, false, not, nat_eq, refl, ap}
 use Rattle.std.proofs.lemmas.Bool.{ne_eqb}
-use Rattle.shogi_board.specs.Moves.{diagonals, orthogonals, gold, steps, is_diagonal, to}
+use Rattle.shogi_board.specs.Moves.{diagonals, orthogonals, gold, steps, to}
+use Rattle.shogi_board.specs.Directions.{is_diagonal}
 use Rattle.shogi_board.specs.declared.kind.Kind.{Kind}
 use Rattle.shogi_board.specs.declared.kind.Kind.TheVariants.{Silver, Gold, King, ProPawn, ProLance, ProKnight, ProSilver}
 use Rattle.shogi_board.proofs.Moves.{member}

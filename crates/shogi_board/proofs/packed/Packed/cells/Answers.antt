@@ -10,8 +10,8 @@ loop-n-preserved c =
     let more = cells-more i.files c.loop-n.cells c.loop-n.n c.cell.result c.self.invariant.0.nine (omega arith) long before c.cell.ensures in
     (length-set c.loop-n.cells c.loop-n.n c.cell.result ∙ long, rw (sym c.self.view_is) more)
 
-pub returns : goal.returns
-returns c =
+pub returns-clause-value : goal.returns-clause-value
+returns-clause-value c =
     let i = c.self.inside in
     let each = rw (← c.self.view_is) at c.loop-n.invariant.1 in
     rw (sym c.self.view_is) (cells-all i.files c.loop-n.cells c.loop-n.n c.self.invariant.0.nine c.loop-n.invariant.0 (omega arith) each)

@@ -1,7 +1,7 @@
 use Rattle.std.proofs.Common.{◌≡◌, sym, ap, ◌∙◌}
 use Rattle.shogi_board.specs.declared.color.Color.TheVariants.{Black, White}
 use Rattle.shogi_board.specs.Cells.{Cells, at}
-use Rattle.shogi_board.specs.Packing.{board_of}
+use Rattle.shogi_board.specs.Numbers.{board_of}
 use Rattle.shogi_board.specs.Placed.{Placed}
 use Rattle.shogi_board.proofs.Packing.{goes-to-empty, stands-still}
 use Rattle.shogi_board.proofs.packed.Packed.followed.Goals as goal

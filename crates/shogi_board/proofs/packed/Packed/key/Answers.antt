@@ -1,6 +1,7 @@
 use Rattle.std.proofs.Common.{◌≡◌, ℕ, ap, sym, ◌∙◌}
 use Rattle.shogi_board.specs.Cells.{Cells}
-use Rattle.shogi_board.specs.Packing.{board_of, file_numbers, key_number}
+use Rattle.shogi_board.specs.Packing.{file_numbers, key_number}
+use Rattle.shogi_board.specs.Numbers.{board_of}
 use Rattle.shogi_board.specs.Placed.{Placed}
 use Rattle.shogi_board.proofs.Packing.{files-low, numbers-back}
 use Rattle.shogi_board.proofs.packed.Packed.key.Goals as goal

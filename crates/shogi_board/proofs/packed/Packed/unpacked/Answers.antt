@@ -2,7 +2,7 @@ use Rattle.std.proofs.Common.{rules}
 use Rattle.shogi_board.proofs.packed.Packed.unpacked.Goals as goal
 
 pub of-requires : goal.of-requires
-of-requires c = λ color. rw c.cells.ensures (c.side-side.ensures.sound.within.kings color)
+of-requires c = λ color. rw c.cells.ensures.value (c.cells.ensures.sound.within.kings color)
 
 pub invariant_of-result : goal.invariant_of-result
 invariant_of-result c = search rules

@@ -1,6 +1,6 @@
 use Rattle.std.proofs.Common.{arith, refl, ◌∙◌}
 use Rattle.std.proofs.lemmas.Bool.{eqb-true, eq-eqb}
-use Rattle.shogi_board.specs.Between.{IsInLine}
+use Rattle.shogi_board.specs.Directions.{IsInLine}
 use Rattle.shogi_board.proofs.Between.{as-far, on-diagonal, same-file, same-rank}
 use Rattle.shogi_board.proofs.square.Square.lines_up.Goals as goal
 use Rattle.shogi_board.proofs.square.Square.lines_up.Goals.{then-files-eq0-via-then-files-eq0, then-files-eq0-via-else-files-eq0+then-ranks-eq0}

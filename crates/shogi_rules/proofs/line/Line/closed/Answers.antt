@@ -9,5 +9,5 @@ returns c =
     record {
       few = below _ (length c.args.self.now.moves) max_moves c.is_full.ensures c.if-is_full.false;
       turn = eq ∙ c.side.ensures;
-      not_over = denied _ c.is_over.ensures c.if-is_over.false;
+      not_over = denied _ c.is_over.ensures.answer c.if-is_over.false;
     }

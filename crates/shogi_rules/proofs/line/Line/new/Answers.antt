@@ -6,7 +6,6 @@ pub invariant_of-result : goal.invariant_of-result
 invariant_of-result c = (
   record {
     leads = rw c.in_ok-with_capacity.ensures.items refl;
-    all = refl;
     game = rw c.in_ok-with_capacity.ensures.items begun;
     few = rw c.in_ok-with_capacity.ensures.items (omega arith);
   },

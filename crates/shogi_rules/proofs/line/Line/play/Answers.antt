@@ -7,12 +7,13 @@ use Rattle.shogi_rules.specs.After.{after}
 use Rattle.shogi_rules.specs.Changes.{IsChangeBy}
 use Rattle.shogi_rules.specs.Counting.{IsSeen}
 use Rattle.shogi_rules.specs.Legal.{FitsBoard, IsPawnDrop, Keeps, Mated, NoDropMate}
-use Rattle.shogi_rules.specs.Play.{Answers, Breaks, IsOpen}
+use Rattle.shogi_rules.specs.Play.{Answers, Breaks}
+use Rattle.shogi_rules.specs.Lines.{IsOpen}
 use Rattle.shogi_rules.specs.Positions.{now_of, position_after, positions_of, Played}
 use Rattle.shogi_rules.specs.declared.line.PlayFault.TheVariants.{OutOfMemory}
 use Rattle.shogi_rules.specs.declared.moves.Move.{Move}
 use Rattle.shogi_rules.proofs.Broken.{mate-by-side, no-mate, none-by-side, unkept-by-side}
-use Rattle.shogi_rules.proofs.Games.{breaks-of, line-next, line-room, positions-more}
+use Rattle.shogi_rules.proofs.Games.{breaks-of, line-more, line-room, positions-more}
 use Rattle.shogi_rules.proofs.line.Line.play.Goals as goal
 
 pub returns-in-Some-clause-answer : goal.returns-in-Some-clause-answer
@@ -99,7 +100,7 @@ pub push-requires-clause-seen : goal.push-requires-clause-seen
 push-requires-clause-seen c =
     let i = c.self.inside in
     let few : length i.moves.items < 10000 = rw (← c.self.view_is) at c.in_default.ensures.few in
-    (positions_of i.start i.moves.items, i.last, line-room i.start i.last i.moves.items (positions_of i.start i.moves.items) c.self.invariant.0 few, c.self.invariant.1)
+    (positions_of i.start i.moves.items, i.last, line-room i.start i.moves.items few, c.self.invariant.1)
 
 pub push-requires-clause-check : goal.push-requires-clause-check
 push-requires-clause-check c = rw c.packed_after-packed.ensures c.gives_check-in_check.ensures
@@ -121,7 +122,7 @@ invariant_of-self-in-Ok c =
     let seen : IsSeen (ps ++ c.make_if_kept.new.position ∷ []) c.make_if_kept.new.position c.push.new.self = subst (λ (p : Placed). IsSeen (ps ++ p ∷ []) p c.push.new.self) c.packed_after-packed.ensures packed in
     let all : ps ++ c.make_if_kept.new.position ∷ [] ≡ positions_of i.start c.push_reserved.new.self.items =
     ap (λ (p : Placed). ps ++ p ∷ []) next ∙ (sym (positions-more i.start i.moves.items c.args.mv) ∙ ap (positions_of i.start) (sym pushed)) in (
-      rw (pushed, next) (line-next i.start i.last i.moves.items c.args.mover c.args.mv c.self.invariant.0 may.few none),
+      rw (pushed, next) (line-more i.start i.last i.moves.items c.args.mover c.args.mv c.self.invariant.0 may.few none),
       subst (λ (qs : List Placed). IsSeen qs c.make_if_kept.new.position c.push.new.self) all seen,
       c.gives_check-in_check.ensures,
     )

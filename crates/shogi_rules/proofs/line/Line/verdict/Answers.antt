@@ -12,7 +12,7 @@ returns-then-is_over c =
     let ms = i.moves.items in
     let seen = c.self.invariant.1 in
     let last : i.last ≡ position_after i.start ms = c.self.invariant.0.leads in
-    let over : Over (all_of c.args.self.now) (now_of c.args.self.now) = c.is_over.ensures.0 c.if-is_over.true in
+    let over : Over (all_of c.args.self.now) (now_of c.args.self.now) = c.is_over.ensures.answer.0 c.if-is_over.true in
     let own : Over (positions_of i.start ms) (position_after i.start ms) = rw (sym c.self.view_is) at over in
     let long = seen.turns.long in
     let count = positions-long i.start ms in
@@ -27,7 +27,7 @@ pub returns-else-is_over : goal.returns-else-is_over
 returns-else-is_over c = record {
   stands = let e : c.self.inside.last ≡ now_of c.args.self.now = c.self.invariant.0.leads ∙ ap now_of c.self.view_is in
       let not_over : Over (all_of c.args.self.now) (now_of c.args.self.now) → ⊥ = λ over.
-      let yes = c.is_over.ensures.1 over in
+      let yes = c.is_over.ensures.answer.1 over in
       let no = c.if-is_over.false in
       cc in
       let P : Placed → Type 0 = λ p. StandsByMoves p c.verdict_by_moves.result in

@@ -1,0 +1,4 @@
+pub mod Cutting
+pub mod Hearing
+pub mod Recording
+pub mod Telling

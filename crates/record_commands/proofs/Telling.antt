@@ -1,0 +1,36 @@
+-- The lines that commands print and read.
+use Rattle.std.proofs.Common.{◌≡◌, ◌⊎◌, inr, ◌≤◌, ℕ, List, length, Option, Result, Ok, Err, IfOk, ap, subst, sym, ◌∙◌}
+use Rattle.std.proofs.lemmas.List.{length-map}
+use Rattle.record_game.specs.Game.{Game, move_of}
+use Rattle.record_commands.specs.Incoming.{GivesEnd, GivesLine, GivesLongLine}
+use Rattle.shogi_rules.specs.Positions.{Played, all_of, now_of}
+use Rattle.shogi_rules.specs.Verdicts.{Stands}
+use Rattle.shogi_rules.specs.declared.line.Verdict.{Verdict}
+use Rattle.record_commands.specs.OneLine.{HasLongLine, HasNoLine, HasTwoLines, IsOneLine}
+use Rattle.record_commands.specs.Words.{IsAcceptedLine, accepted_line, line_of}
+
+-- the line of `check` is that of the game
+pub accepted_so : {S E : Type 0} (bytes : S → List ℕ) (g : Game) (line : Played) (moves : ℕ) (verdict : Verdict) (answer : Result S E)
+    → line ≡ line_of g → moves ≡ length line.moves → Stands (all_of line) (now_of line) verdict
+    → IfOk answer (λ text. bytes text ≡ accepted_line moves verdict) → IfOk answer (λ text. IsAcceptedLine g (bytes text))
+accepted_so bytes g line moves verdict (Err e) is count stands told = tt
+accepted_so bytes g line moves verdict (Ok text) is count stands told =
+    let whole : moves ≡ length g.moves = count ∙ ap (λ (l : Played). length l.moves) is ∙ length-map g.moves move_of in
+    (verdict, subst (λ (l : Played). Stands (all_of l) (now_of l) verdict) is stands, told ∙ ap (λ n. accepted_line n verdict) whole)
+
+-- a line came, and then the end
+pub line_alone : (bytes old mid new : Option (List ℕ)) (line shown heard : List ℕ) → old ≡ bytes → line ≡ shown → shown ≡ heard
+    → GivesLine old mid heard → length heard ≤ 65536 → GivesEnd mid new → IsOneLine bytes line
+line_alone bytes old mid new line shown heard is kept lent gives short ended =
+    let same : heard ≡ line = sym (kept ∙ lent) in
+    (mid, subst (λ x. GivesLine x mid line) is (subst (λ x. GivesLine old mid x) same gives), subst (λ x. length x ≤ 65536) same short, (new, ended))
+
+-- and another
+pub line_twice : (bytes old mid new : Option (List ℕ)) (first second : List ℕ) → old ≡ bytes
+    → GivesLine old mid first → GivesLine mid new second → HasNoLine bytes ⊎ HasTwoLines bytes
+line_twice bytes old mid new first second is gives more = inr (first, second, mid, new, subst (λ x. GivesLine x mid first) is gives, more)
+
+-- and one that is too long
+pub line_then_long : (bytes old mid new : Option (List ℕ)) (first : List ℕ) → old ≡ bytes
+    → GivesLine old mid first → GivesLongLine mid new → HasLongLine bytes
+line_then_long bytes old mid new first is gives long = inr (first, mid, new, subst (λ x. GivesLine x mid first) is gives, long)

@@ -1,0 +1,4 @@
+pub mod Faults
+pub mod Incoming
+pub mod OneLine
+pub mod Words

@@ -1,0 +1,218 @@
+//! The lines of a reader, one at a time.
+
+ghost use Rattle.std.specs.Prelude.{◌≡◌, ◌↔◌, ◌⊎◌, ◌<◌, ◌≤◌, ◌++◌, [], ◌∷◌, length, take, None, Some, Ok, IfOk, IsErr, IsErrOf, OnErr, true, false};
+ghost use Rattle.csa_cutting.specs.Lines.{Lines};
+ghost use Rattle.csa_cutting.specs.LineCutting.{BeginsTooLong};
+ghost use Rattle.record_commands.specs.Incoming.{GivesEnd, GivesLine, GivesLongLine, GivesNoLine, IsHearing};
+
+use crate::streams;
+use csa_cutting::{LineCutter, LineFault};
+use csa_record::PIECE;
+use shogi_board::OutOfMemory;
+use std::alloc::Global;
+use std::io::{BufRead, BufReader, ErrorKind, Read};
+use std::marker::Model;
+
+/// What comes next from a reader.
+#[derive(Clone, Copy, Debug, PartialEq, Eq)]
+pub enum Heard {
+    /// A line, which is then in `line`.
+    Line,
+    /// The end.
+    End,
+    /// A line of more than 65,536 bytes.
+    Long,
+    /// Nothing: a read failed, or reading ended before, at a fault or a line that is too long.
+    Failed,
+}
+
+/// A reader whose bytes are cut into lines as they come.
+#[derive(Drop)]
+pub struct Incoming<R: Read + Drop> {
+    alloc: Global,
+    reader: BufReader<R>,
+    cutter: LineCutter,
+    line: Vec<u8>,
+    is_over: bool,
+}
+
+impl<R: Read + Drop> Model for Incoming<R> {
+    ghost use Rattle.std.specs.Prelude.{◌≡◌, false};
+    ghost use Rattle.std.specs.Io.Buffered.{reader_remaining};
+    ghost use Rattle.std.specs.Io.KnownBytes.{prepend_known};
+    ghost use Rattle.record_commands.specs.Incoming.{Coming, IsHearing};
+
+    ghost Value = { Coming };
+
+    ghost view = { λ i. record {
+      bytes = prepend_known i.cutter.held (reader_remaining R.remaining i.reader);
+      line = i.line.items;
+      is_over = i.is_over;
+    } };
+
+    ghost invariant = { λ i. i.is_over ≡ false → IsHearing i.cutter };
+}
+
+impl<R: Read + Drop> Incoming<R> {
+    /// A reader of which nothing is read yet. Returns `OutOfMemory` if an allocation fails.
+    pub fn new(alloc: Global, reader: R) -> Result<Incoming<R>, OutOfMemory>
+        ensures bytes { IfOk result (λ i. i.bytes ≡ R.remaining reader) }
+        ensures open { IfOk result (λ i. i.is_over ≡ false) }
+    {
+        let Ok(reader) = BufReader::with_capacity(alloc, PIECE, reader) else {
+            return Err(OutOfMemory);
+        };
+        Ok(Incoming {
+            alloc,
+            reader,
+            cutter: LineCutter::new(alloc, streams::LONGEST_LINE),
+            line: Vec::new(alloc),
+            is_over: false,
+        })
+    }
+
+    /// Reads up to the next line end. Empty lines are passed over. Bytes at the end without a line
+    /// end are a line. If a read is interrupted, tries again.
+    ///
+    /// Returns `OutOfMemory` if an allocation fails. After that, after `Long` and after `Failed`,
+    /// every call returns `Failed`.
+    pub fn hear(&mut self) -> Result<Heard, OutOfMemory>
+        ensures line { IfOk result (λ heard. heard ≡ Heard.Line
+            → GivesLine self.old.bytes self.new.bytes self.new.line) }
+        ensures short { IfOk result (λ heard. heard ≡ Heard.Line → length self.new.line ≤ 65536) }
+        ensures end { IfOk result (λ heard. heard ≡ Heard.End
+            → GivesEnd self.old.bytes self.new.bytes) }
+        ensures failed { IfOk result (λ heard. heard ≡ Heard.Failed
+            → GivesNoLine self.old.bytes self.new.bytes) }
+        ensures long { IfOk result (λ heard. heard ≡ Heard.Long
+            → GivesLongLine self.old.bytes self.new.bytes) }
+        ensures over { IfOk result (λ heard. (heard ≡ Heard.Long) ⊎ (heard ≡ Heard.Failed)
+            → self.new.is_over ≡ true) }
+        ensures lost { OnErr result (self.new.is_over ≡ true) }
+        ensures stays { self.old.is_over ≡ true
+            → (result ≡ Ok Heard.Failed) × (self.new ≡ self.old) }
+    {
+        for _ in 0..u64::MAX {
+            if let Some(heard) = self.take_piece()? {
+                return Ok(heard);
+            }
+        }
+        self.is_over = true;
+        Ok(Heard::Failed)
+    }
+
+    /// The last line, without its line end.
+    pub fn line(&self) -> &[u8]
+        ensures value { result.now ≡ self.now.line }
+    {
+        self.line.as_slice()
+    }
+
+    // What the bytes up to the next line end come to, or those that are there; None if no line
+    // ended.
+    fn take_piece(&mut self) -> Result<Option<Heard>, OutOfMemory>
+        ensures line { IfOk result (λ heard. heard ≡ Some Heard.Line
+            → GivesLine self.old.bytes self.new.bytes self.new.line) }
+        ensures short { IfOk result (λ heard. heard ≡ Some Heard.Line
+            → length self.new.line ≤ 65536) }
+        ensures end { IfOk result (λ heard. heard ≡ Some Heard.End
+            → GivesEnd self.old.bytes self.new.bytes) }
+        ensures failed { IfOk result (λ heard. heard ≡ Some Heard.Failed
+            → GivesNoLine self.old.bytes self.new.bytes) }
+        ensures long { IfOk result (λ heard. heard ≡ Some Heard.Long
+            → GivesLongLine self.old.bytes self.new.bytes) }
+        ensures none { IfOk result (λ heard. heard ≡ None
+            → GivesNoLine self.old.bytes self.new.bytes) }
+        ensures over { IfOk result (λ heard. (heard ≡ Some Heard.Long) ⊎ (heard ≡ Some Heard.Failed)
+            → self.new.is_over ≡ true) }
+        ensures lost { OnErr result (self.new.is_over ≡ true) }
+        ensures stays { self.old.is_over ≡ true
+            → (result ≡ Ok (Some Heard.Failed)) × (self.new ≡ self.old) }
+    {
+        if self.is_over {
+            return Ok(Some(Heard::Failed));
+        }
+        let piece = match self.reader.fill_buf() {
+            Ok(piece) => piece,
+            Err(error) if error.kind() == ErrorKind::Interrupted => return Ok(None),
+            Err(_) => {
+                self.is_over = true;
+                return Ok(Some(Heard::Failed));
+            }
+        };
+        if piece.is_empty() {
+            match keep_last(self.alloc, &mut self.cutter, &mut self.line) {
+                Ok(true) => return Ok(Some(Heard::Line)),
+                Ok(false) => return Ok(Some(Heard::End)),
+                Err(fault) => {
+                    self.is_over = true;
+                    return heard_of(fault);
+                }
+            }
+        }
+        match cut(self.alloc, &mut self.cutter, &mut self.line, piece) {
+            Ok((used, is_line)) => {
+                self.reader.consume(used);
+                Ok(is_line.then_some(Heard::Line))
+            }
+            Err(fault) => {
+                self.is_over = true;
+                heard_of(fault)
+            }
+        }
+    }
+}
+
+fn heard_of(fault: LineFault) -> Result<Option<Heard>, OutOfMemory>
+    ensures long { (fault ≡ LineFault.TooLong) ↔ (result ≡ Ok (Some Heard.Long)) }
+    ensures memory { (fault ≡ LineFault.OutOfMemory) ↔ IsErr result }
+{
+    match fault {
+        LineFault::TooLong => Ok(Some(Heard::Long)),
+        LineFault::OutOfMemory => Err(OutOfMemory),
+    }
+}
+
+// Cuts the piece up to its first line end. Returns how many bytes were used, and whether a line
+// ended, which is kept.
+fn cut(
+    alloc: Global,
+    cutter: &mut LineCutter,
+    kept: &mut Vec<u8>,
+    piece: &[u8],
+) -> Result<(usize, bool), LineFault>
+    ensures used { IfOk result (λ r. r.0 ≤ length piece.now) }
+    ensures line { IfOk result (λ r. r.1 ≡ true → (cutter.new.held ≡ [])
+        × Lines (cutter.old.held ++ take r.0 piece.now) (kept.new.items ∷ []) []) }
+    ensures none { IfOk result (λ r. r.1 ≡ false
+        → (r.0 ≡ length piece.now) × Lines (cutter.old.held ++ piece.now) [] cutter.new.held) }
+    ensures short { IfOk result (λ r. r.1 ≡ true
+        → IsHearing cutter.old → length kept.new.items ≤ 65536) }
+    ensures keeps { IfOk result (λ r. IsHearing cutter.old → IsHearing cutter.new) }
+    ensures long { IsErrOf result LineFault.TooLong
+        → (cutter.new.held ≡ cutter.old.held) × ((cutter.old.failed ≡ true)
+        ⊎ BeginsTooLong cutter.old.limit (cutter.old.held ++ piece.now)) }
+{
+    let (used, line) = cutter.step(piece)?;
+    let Some(line) = line else {
+        return Ok((used, false));
+    };
+    *kept = Vec::from_slice(alloc, line)?;
+    Ok((used, true))
+}
+
+// Keeps the unfinished line at the end of the bytes. Returns whether there was one.
+fn keep_last(alloc: Global, cutter: &mut LineCutter, kept: &mut Vec<u8>) -> Result<bool, LineFault>
+    ensures line { IfOk result (λ is_line. is_line ≡ true
+        → (kept.new.items ≡ cutter.old.held) × (0 < length cutter.old.held)) }
+    ensures none { IfOk result (λ is_line. is_line ≡ false → cutter.old.held ≡ []) }
+    ensures empty { IfOk result (λ is_line. cutter.new.held ≡ []) }
+    ensures keeps { IfOk result (λ is_line. IsHearing cutter.old → IsHearing cutter.new) }
+    ensures long { IsErrOf result LineFault.TooLong → cutter.old.failed ≡ true }
+{
+    let Some(line) = cutter.finish()? else {
+        return Ok(false);
+    };
+    *kept = Vec::from_slice(alloc, line)?;
+    Ok(true)
+}

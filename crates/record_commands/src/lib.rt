@@ -1,0 +1,22 @@
+//! The commands of the program `shogi` that read a record or a position line and print something
+//! about it: [`check`], [`normal`], [`usi`] and [`csa`]. [`streams`] and [`incoming`] are what they
+//! read from. Nothing here depends on sessions.
+//!
+//! Each command is a module with a function `run` over a runtime; its bounds say which files and
+//! standard streams it may use:
+//!
+//! ```text
+//! record_commands::check::run(&rt, Some("game.csa"))?;  // prints "accepted 2 ongoing"
+//! record_commands::normal::run(&rt, None)?;             // reads standard input
+//! ```
+#![tactic(auto)]
+
+pub mod check;
+pub mod csa;
+mod fault;
+pub mod incoming;
+pub mod normal;
+pub mod streams;
+pub mod usi;
+
+pub use fault::{PositionLineFault, ReadFault, WriteFault};

@@ -1,0 +1,9 @@
+pub mod Coming
+pub mod Keeping
+pub mod Outcomes
+pub mod PlayedLogs
+pub mod Playing
+pub mod Porting
+pub mod Serving
+pub mod Talks
+pub mod Wanting

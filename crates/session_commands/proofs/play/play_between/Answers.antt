@@ -1,0 +1,15 @@
+use Rattle.session_commands.proofs.Outcomes.{came_out}
+use Rattle.session_commands.proofs.play.play_between.Goals as goal
+
+pub returns : goal.returns
+returns g c = record {
+  whole =
+      let loop = c.play-played.ensures in
+      record {
+        outcome = c.play-played.result;
+        came = came_out g.E.Ends.heard g.E.Ends.missed g.E.Ends.told g.E.Ends.gone c.args.ends.now c.args.bridge.now c.play-played.new.ends c.play-played.new.bridge c.play-played.result
+            loop.done loop.failed loop.wanting loop.endless;
+        kept = c.keep_game.ensures.kept;
+        over = c.is_ok.ensures.value;
+      };
+}

@@ -1,0 +1,11 @@
+pub mod Faults
+pub mod Kept
+pub mod Offered
+pub mod PlayedLogs
+pub mod Playing
+pub mod Plays
+pub mod Ports
+pub mod Showing
+pub mod Talks
+pub mod Wanting
+pub mod Words

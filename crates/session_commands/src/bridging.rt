@@ -1,0 +1,296 @@
+//! A bridge, and the lines that pass between it, its engine and its server.
+
+ghost use Rattle.std.specs.Prelude.{◌≡◌, ◌↔◌, [], true, false, IsErrOf, IsTrue, IfOk, OnOk, OnErr};
+ghost use Rattle.csa_cutting.specs.Lines.{HasNoLineEnd};
+ghost use Rattle.session_commands.specs.Plays.{Delivers, HearsNext, IsEndless, Played, Sends, end_of, event_from, seat_for};
+ghost use Rattle.session_commands.specs.PlayedLogs.{PlaysLegally, handed, happened};
+ghost use Rattle.session_commands.specs.Wanting.{GoneWants, HearWants, PlayWants, SendWants};
+ghost use Rattle.session_commands.specs.declared.fault.BridgeFault.{BridgeFault};
+ghost use Rattle.session_table.specs.declared.event.Status.{Status};
+ghost use Rattle.shogi_session.specs.Promises.{HoldsLine, Session, event_of};
+ghost use Rattle.shogi_session.specs.State.{first_state, waits_for};
+ghost use Rattle.session_table.specs.declared.event.Status.TheVariants.{Done, Failed};
+
+use crate::fault::BridgeFault;
+use crate::laws::played_moves_are_legal;
+use crate::progress::Progress;
+use record_commands::incoming::{Heard, Incoming};
+use record_commands::streams;
+use shogi_board::OutOfMemory;
+use shogi_session::{Bridge, Event, Out, SessionFault, Status, Waits};
+use std::io::{Eprint, Read, Write};
+
+/// One of the two peers of a bridge.
+#[derive(Clone, Copy, Debug, PartialEq, Eq)]
+pub enum Seat {
+    /// The engine.
+    Engine,
+    /// The server.
+    Server,
+}
+
+/// Where the lines of a bridge's engine and server come from, and where the bridge's lines go.
+pub trait Ends {
+    ghost use Rattle.std.specs.Prelude.{ℕ, List};
+    ghost use Rattle.session_commands.specs.declared.bridging.Seat.{Seat};
+    ghost use Rattle.shogi_session.specs.Events.{Event as Taken};
+
+    // The last line from that seat.
+    ghost last_line: { Self → Seat → List ℕ };
+
+    // This event came from that seat.
+    ghost heard: { Self → Seat → Taken → Self → Type 0 };
+
+    // An allocation failed for what came from that seat.
+    ghost missed: { Self → Seat → Self → Type 0 };
+
+    // The seat took these lines.
+    ghost told: { Self → Seat → List ℕ → Self → Type 0 };
+
+    // The seat did not take these lines, or only some of them.
+    ghost gone: { Self → Seat → List ℕ → Self → Type 0 };
+
+    /// Reads what comes next from that seat. A line is then in `line`.
+    ///
+    /// Returns `OutOfMemory` if an allocation fails.
+    fn hear(&mut self, seat: Seat) -> Result<Heard, OutOfMemory>
+        ensures heard { IfOk result (λ what. heard self.old seat
+            (event_from seat what (last_line self.new seat)) self.new) }
+        ensures line { IfOk result (λ what. what ≡ Heard.Line
+            → HasNoLineEnd (last_line self.new seat)) }
+        ensures missed { OnErr result (missed self.old seat self.new) };
+
+    /// The last line from that seat, without its line end.
+    fn line(&self, seat: Seat) -> &[u8]
+        ensures value { result.now ≡ last_line self.now seat };
+
+    /// Sends the seat these lines, with their line ends. Returns whether it took them all.
+    fn tell(&mut self, seat: Seat, lines: &[u8]) -> bool
+        ensures told { result ≡ true → told self.old seat lines.now self.new }
+        ensures gone { result ≡ false → gone self.old seat lines.now self.new };
+}
+
+/// The streams of a bridge's engine or server.
+#[derive(Drop)]
+pub struct Side<'a, R: Read + Drop, W: Write + Drop> {
+    /// The lines that come from it.
+    pub lines: &'a mut Incoming<R>,
+    /// The writer for the lines that go to it.
+    pub writer: W,
+}
+
+/// The streams of both.
+#[derive(Drop)]
+pub struct Sides<'a, 'b, ER: Read + Drop, EW: Write + Drop, SR: Read + Drop, SW: Write + Drop> {
+    /// The engine's.
+    pub engine: Side<'a, ER, EW>,
+    /// The server's.
+    pub server: Side<'b, SR, SW>,
+}
+
+// What comes from a side is the next of its reader's bytes. What it takes is added to the bytes of
+// its writer, if these are known. The rest of both sides is unchanged.
+impl<ER: Read + Drop, EW: Write + Drop, SR: Read + Drop, SW: Write + Drop> Ends
+    for Sides<'_, '_, ER, EW, SR, SW> {
+    ghost use Rattle.std.specs.Io.KnownBytes.{Appends};
+    ghost use Rattle.session_commands.specs.Plays.{Comes, OfSeat, line_by_seat};
+    ghost use Rattle.session_commands.specs.declared.bridging.Seat.TheVariants.{Engine, Server};
+
+    ghost last_line = { λ s seat. line_by_seat
+        seat s.engine.lines.now.line s.server.lines.now.line };
+
+    ghost heard = { λ s seat event t. OfSeat seat
+        (Comes Engine s.engine.lines.now t.engine.lines.now event
+        × (t.engine.writer ≡ s.engine.writer) × (t.server ≡ s.server))
+        (Comes Server s.server.lines.now t.server.lines.now event
+        × (t.server.writer ≡ s.server.writer) × (t.engine ≡ s.engine)) };
+
+    ghost missed = { λ s seat t. OfSeat seat
+        ((t.engine.writer ≡ s.engine.writer) × (t.server ≡ s.server))
+        ((t.server.writer ≡ s.server.writer) × (t.engine ≡ s.engine)) };
+
+    ghost told = { λ s seat lines t. OfSeat seat
+        (Appends (EW.contents s.engine.writer) (EW.contents t.engine.writer) lines
+        × (t.engine.lines ≡ s.engine.lines) × (t.server ≡ s.server))
+        (Appends (SW.contents s.server.writer) (SW.contents t.server.writer) lines
+        × (t.server.lines ≡ s.server.lines) × (t.engine ≡ s.engine)) };
+
+    ghost gone = { λ s seat lines t. OfSeat seat
+        ((t.engine.lines ≡ s.engine.lines) × (t.server ≡ s.server))
+        ((t.server.lines ≡ s.server.lines) × (t.engine ≡ s.engine)) };
+
+    fn hear(&mut self, seat: Seat) -> Result<Heard, OutOfMemory> {
+        match seat {
+            Seat::Engine => self.engine.lines.hear(),
+            Seat::Server => self.server.lines.hear(),
+        }
+    }
+
+    fn line(&self, seat: Seat) -> &[u8] {
+        match seat {
+            Seat::Engine => self.engine.lines.line(),
+            Seat::Server => self.server.lines.line(),
+        }
+    }
+
+    fn tell(&mut self, seat: Seat, lines: &[u8]) -> bool {
+        match seat {
+            Seat::Engine => streams::write_all(&mut self.engine.writer, lines).is_ok(),
+            Seat::Server => streams::write_all(&mut self.server.writer, lines).is_ok(),
+        }
+    }
+}
+
+/// Plays a session. The bridge takes each line of the side that it waits for, and its answer is
+/// sent before the next line is read, the engine's part first. A side whose read or write fails is
+/// gone.
+///
+/// Refuses `Session` if the session fails, `OutOfMemory` if an allocation fails, and `Endless` if
+/// the session goes on for 2^64 - 1 rounds.
+pub fn play<R: Eprint + AllocGlobal, E: Ends>(
+    rt: &R,
+    bridge: &mut Bridge,
+    ends: &mut E,
+    progress: &mut Progress,
+) -> Result<(), BridgeFault>
+    ensures done { OnOk result
+        (Played E.heard E.told E.gone ends.old bridge.old ends.new bridge.new Done) }
+    ensures failed { (fault : SessionFault) → IsErrOf result (BridgeFault.Session fault)
+        → Played E.heard E.told E.gone ends.old bridge.old ends.new bridge.new (Failed fault) }
+    ensures wanting { IsErrOf result BridgeFault.OutOfMemory
+        → PlayWants E.heard E.missed E.told E.gone ends.old bridge.old ends.new bridge.new }
+    ensures legal { (f : E) (t : Session) (status : Status)
+        (played : Played E.heard E.told E.gone ends.old bridge.old f t status)
+        → bridge.old.state ≡ first_state
+        → PlaysLegally bridge.old.config (happened played) (handed played) t.state }
+    ensures endless { IsErrOf result BridgeFault.Endless
+        → IsEndless E.heard E.told E.gone ends.old bridge.old }
+{
+    played_moves_are_legal::<E>();
+    let mut out = bridge.step(Event::Begin)?;
+    for _rounds in 0..u64::MAX {
+        match send(bridge, ends, &out)? {
+            Status::Going => {}
+            Status::Done => return Ok(()),
+            Status::Failed(fault) => return Err(BridgeFault::Session(fault)),
+            Status::Lost => return Err(BridgeFault::OutOfMemory),
+        }
+        out = hear_next(rt, bridge, ends, progress)?;
+    }
+    Err(BridgeFault::Endless)
+}
+
+// Sends the answer of a step. Returns the session's status after that.
+#[tactic(auto, using(crate::proofs::Wanting::server_wants))]
+fn send<E: Ends>(bridge: &mut Bridge, ends: &mut E, out: &Out) -> Result<Status, OutOfMemory>
+    ensures sent { IfOk result (λ status. Sends E.told E.gone out.now.to_engine
+        out.now.to_server ends.old bridge.old out.now.status ends.new bridge.new status) }
+    ensures wanting { OnErr result (SendWants E.told E.gone out.now.to_engine
+        out.now.to_server ends.old bridge.old out.now.status ends.new bridge.new) }
+{
+    let status = deliver(
+        bridge,
+        ends,
+        Seat::Engine,
+        out.to_engine.bytes(),
+        out.status,
+    )?;
+    deliver(bridge, ends, Seat::Server, out.to_server.bytes(), status)
+}
+
+// Sends the seat the lines for it, if there are any. Returns the session's status after that. A
+// seat that does not take them is gone.
+fn deliver<E: Ends>(
+    bridge: &mut Bridge,
+    ends: &mut E,
+    seat: Seat,
+    lines: &[u8],
+    status: Status,
+) -> Result<Status, OutOfMemory>
+    ensures delivered { IfOk result (λ after. Delivers
+        E.told E.gone seat lines.now ends.old bridge.old status ends.new bridge.new after) }
+    ensures wanting { OnErr result
+        (GoneWants E.gone seat lines.now ends.old bridge.old ends.new bridge.new) }
+{
+    if is_empty(lines) {
+        return Ok(status);
+    }
+    if ends.tell(seat, lines) {
+        return Ok(status);
+    }
+    Ok(bridge.step(end_event(seat))?.status)
+}
+
+fn is_empty(lines: &[u8]) -> bool
+    ensures { IsTrue result ↔ (lines.now ≡ []) }
+{
+    lines.is_empty()
+}
+
+fn end_event(seat: Seat) -> Event<'static>
+    ensures { event_of result ≡ end_of seat }
+{
+    match seat {
+        Seat::Engine => Event::EngineEnd,
+        Seat::Server => Event::ServerEnd,
+    }
+}
+
+// The step for what comes next from the seat that the bridge waits for.
+fn hear_next<R: Eprint + AllocGlobal, E: Ends>(
+    rt: &R,
+    bridge: &mut Bridge,
+    ends: &mut E,
+    progress: &mut Progress,
+) -> Result<Out, OutOfMemory>
+    ensures heard { IfOk result (λ out. HearsNext
+        E.heard ends.old bridge.old out.to_engine out.to_server out.status ends.new bridge.new) }
+    ensures wanting { OnErr result
+        (HearWants E.heard E.missed ends.old bridge.old ends.new bridge.new) }
+{
+    let seat = seat_of(bridge.waits_for());
+    let heard = ends.hear(seat)?;
+    let line = ends.line(seat);
+    let was_on = progress.is_on(bridge);
+    let out = bridge.step(event(seat, heard, line))?;
+    if was_on && is_shown(seat, heard, out.status) {
+        progress.show(rt, bridge, line);
+    }
+    Ok(out)
+}
+
+fn seat_of(waits: Waits) -> Seat
+    ensures { result ≡ seat_for waits }
+{
+    match waits {
+        Waits::Engine => Seat::Engine,
+        Waits::Server | Waits::Nobody => Seat::Server,
+    }
+}
+
+// What came from the seat, as an event.
+fn event(seat: Seat, heard: Heard, line: &[u8]) -> Event<'_>
+    requires { heard ≡ Heard.Line → HasNoLineEnd line.now }
+    ensures event { event_of result ≡ event_from seat heard line.now }
+    ensures line { HoldsLine (event_of result) }
+{
+    match (seat, heard) {
+        (Seat::Engine, Heard::Line) => Event::EngineLine(line),
+        (Seat::Engine, Heard::End | Heard::Failed) => Event::EngineEnd,
+        (Seat::Engine, Heard::Long) => Event::EngineLong,
+        (Seat::Server, Heard::Line) => Event::ServerLine(line),
+        (Seat::Server, Heard::End | Heard::Failed) => Event::ServerEnd,
+        (Seat::Server, Heard::Long) => Event::ServerLong,
+    }
+}
+
+// Whether what came may be a move that the bridge accepted.
+fn is_shown(seat: Seat, heard: Heard, status: Status) -> bool
+    ensures { IsTrue result ↔ (seat ≡ Seat.Server)
+        × (heard ≡ Heard.Line) × (status ≡ Status.Going) }
+{
+    match (seat, heard, status) {
+        (Seat::Server, Heard::Line, Status::Going) => true,
+        _ => false,
+    }
+}

@@ -1,0 +1,34 @@
+//! A USI engine on standard input and output, which plays the first legal move.
+
+ghost use Rattle.std.specs.Prelude.{◌≡◌, Bool, None, IfErr, OnOk};
+ghost use Rattle.session_commands.specs.Talks.{BreaksOff, HasAnswered};
+ghost use Rattle.shogi_session.specs.Sample.{SampleState, keeps};
+
+use crate::fault::TalkFault;
+use crate::talk;
+use crate::talk::Machine;
+use crate::wire::{Exchange, Wire};
+use shogi_session::Sample;
+use std::alloc::Global;
+use std::io;
+
+/// Answers each line of standard input before the next one is read, until `quit` or the end of the
+/// input.
+///
+/// Refuses as `talk::answer_all` does.
+pub fn run<R: Input + Print + AllocGlobal>(rt: &R) -> Result<(), TalkFault> {
+    let mut wire = Exchange::new(rt.reader(), io::writer(rt));
+    answer(rt.alloc(), &mut wire)
+}
+
+// Answers the lines of the wire, with an engine that keeps no game yet.
+fn answer<X: Wire>(alloc: Global, wire: &mut X) -> Result<(), TalkFault>
+    ensures answered { OnOk result ((over : Bool) × (engine : SampleState)
+        × HasAnswered X.came X.ends X.went
+        ⟦<Sample as Machine>⟧.answers wire.old (keeps None) over wire.new engine) }
+    ensures breaks_off { IfErr result (λ fault. BreaksOff X.came X.ends X.went X.silent X.blocked
+        ⟦<Sample as Machine>⟧.answers wire.old (keeps None) fault wire.new) }
+{
+    talk::answer_all(alloc, &mut Sample::new(alloc), wire)?;
+    Ok(())
+}

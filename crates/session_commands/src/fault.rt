@@ -1,0 +1,206 @@
+//! Why a session did not reach its end.
+
+ghost use Rattle.std.specs.Prelude.{◌≡◌, ◌≢◌};
+ghost use Rattle.session_commands.specs.Faults.{cut_fault_of, match_fault_of, serve_fault_of, talk_fault_of};
+ghost use Rattle.session_commands.specs.declared.fault.BridgeFault.TheVariants as bridge;
+ghost use Rattle.session_commands.specs.declared.fault.MatchFault.TheVariants as game;
+ghost use Rattle.session_commands.specs.declared.fault.ServeFault.TheVariants as serve;
+ghost use Rattle.session_commands.specs.declared.fault.TalkFault.TheVariants as talk;
+
+use csa_cutting::LineFault;
+use record_commands::{ReadFault, WriteFault};
+use shogi_board::OutOfMemory;
+use shogi_session::SessionFault;
+use std::alloc::AllocError;
+use std::io::ErrorKind;
+use thiserror::Error;
+
+/// Why a machine did not answer all of its lines.
+#[derive(Clone, Copy, Debug, PartialEq, Eq, Error)]
+pub enum TalkFault {
+    /// A line has more than 65,536 bytes.
+    #[error("line too long")]
+    LineTooLong,
+    /// A read failed, or the end did not come.
+    #[error("read fault")]
+    Read,
+    /// An answer could not be sent.
+    #[error("write fault")]
+    Write,
+    /// An allocation failed.
+    #[error("out of memory")]
+    OutOfMemory,
+}
+
+/// Why `serve` did not play its game to the end.
+#[derive(Clone, Copy, Debug, PartialEq, Eq, Error)]
+pub enum ServeFault {
+    /// The client ended before the session was over.
+    #[error("client gone")]
+    ClientGone,
+    /// A line of the client has more than 65,536 bytes.
+    #[error("B7 LineTooLong")]
+    LineTooLong,
+    /// There is no socket to listen on, a read failed, or the end did not come.
+    #[error("read fault")]
+    Read,
+    /// A line could not be written to standard output or sent to the client.
+    #[error("write fault")]
+    Write,
+    /// An allocation failed.
+    #[error("out of memory")]
+    OutOfMemory,
+}
+
+/// Why a bridge did not play its session to the end.
+#[derive(Clone, Copy, Debug, PartialEq, Eq, Error)]
+pub enum BridgeFault {
+    /// The session failed.
+    #[error("{0}")]
+    Session(SessionFault),
+    /// The session went on for 2^64 - 1 rounds.
+    #[error("read fault")]
+    Endless,
+    /// An allocation failed.
+    #[error("out of memory")]
+    OutOfMemory,
+}
+
+/// Why `play` did not play a game to its end, or did not keep it.
+#[derive(Clone, Copy, Debug, PartialEq, Eq, Error)]
+pub enum MatchFault {
+    /// The session failed.
+    #[error("{0}")]
+    Session(SessionFault),
+    /// The session went on for 2^64 - 1 rounds.
+    #[error("read fault")]
+    Endless,
+    /// The record could not be written, or the last line could not be printed.
+    #[error("write fault")]
+    Write,
+    /// An allocation failed.
+    #[error("out of memory")]
+    OutOfMemory,
+}
+
+/// `OutOfMemory` for an error of that kind, and otherwise the other fault.
+pub(crate) fn memory_or(kind: ErrorKind, other: MatchFault) -> MatchFault
+    ensures memory { kind ≡ ErrorKind.OutOfMemory → result ≡ MatchFault.OutOfMemory }
+    ensures other { kind ≢ ErrorKind.OutOfMemory → result ≡ other }
+{
+    match kind {
+        ErrorKind::OutOfMemory => MatchFault::OutOfMemory,
+        _ => other,
+    }
+}
+
+impl From<ReadFault> for TalkFault {
+    ghost from_gives = { λ read fault. fault ≡ talk_fault_of read };
+
+    fn from(fault: ReadFault) -> TalkFault {
+        match fault {
+            ReadFault::Failed => TalkFault::Read,
+            ReadFault::OutOfMemory => TalkFault::OutOfMemory,
+        }
+    }
+}
+
+impl From<WriteFault> for TalkFault {
+    ghost from_gives = { λ _ fault. fault ≡ talk.Write };
+
+    fn from(_fault: WriteFault) -> TalkFault {
+        TalkFault::Write
+    }
+}
+
+impl From<LineFault> for TalkFault {
+    ghost from_gives = { λ line fault. fault ≡ cut_fault_of line };
+
+    fn from(fault: LineFault) -> TalkFault {
+        match fault {
+            LineFault::TooLong => TalkFault::LineTooLong,
+            LineFault::OutOfMemory => TalkFault::OutOfMemory,
+        }
+    }
+}
+
+impl From<TalkFault> for ServeFault {
+    ghost from_gives = { λ talk fault. fault ≡ serve_fault_of talk };
+
+    fn from(fault: TalkFault) -> ServeFault {
+        match fault {
+            TalkFault::LineTooLong => ServeFault::LineTooLong,
+            TalkFault::Read => ServeFault::Read,
+            TalkFault::Write => ServeFault::Write,
+            TalkFault::OutOfMemory => ServeFault::OutOfMemory,
+        }
+    }
+}
+
+impl From<WriteFault> for ServeFault {
+    ghost from_gives = { λ _ fault. fault ≡ serve.Write };
+
+    fn from(_fault: WriteFault) -> ServeFault {
+        ServeFault::Write
+    }
+}
+
+impl From<OutOfMemory> for ServeFault {
+    ghost from_gives = { λ _ fault. fault ≡ serve.OutOfMemory };
+
+    fn from(_error: OutOfMemory) -> ServeFault {
+        ServeFault::OutOfMemory
+    }
+}
+
+impl From<AllocError> for ServeFault {
+    ghost from_gives = { λ _ fault. fault ≡ serve.OutOfMemory };
+
+    fn from(_error: AllocError) -> ServeFault {
+        ServeFault::OutOfMemory
+    }
+}
+
+impl From<OutOfMemory> for BridgeFault {
+    ghost from_gives = { λ _ fault. fault ≡ bridge.OutOfMemory };
+
+    fn from(_error: OutOfMemory) -> BridgeFault {
+        BridgeFault::OutOfMemory
+    }
+}
+
+impl From<BridgeFault> for MatchFault {
+    ghost from_gives = { λ bridge fault. fault ≡ match_fault_of bridge };
+
+    fn from(fault: BridgeFault) -> MatchFault {
+        match fault {
+            BridgeFault::Session(why) => MatchFault::Session(why),
+            BridgeFault::Endless => MatchFault::Endless,
+            BridgeFault::OutOfMemory => MatchFault::OutOfMemory,
+        }
+    }
+}
+
+impl From<WriteFault> for MatchFault {
+    ghost from_gives = { λ _ fault. fault ≡ game.Write };
+
+    fn from(_fault: WriteFault) -> MatchFault {
+        MatchFault::Write
+    }
+}
+
+impl From<OutOfMemory> for MatchFault {
+    ghost from_gives = { λ _ fault. fault ≡ game.OutOfMemory };
+
+    fn from(_error: OutOfMemory) -> MatchFault {
+        MatchFault::OutOfMemory
+    }
+}
+
+impl From<AllocError> for MatchFault {
+    ghost from_gives = { λ _ fault. fault ≡ game.OutOfMemory };
+
+    fn from(_error: AllocError) -> MatchFault {
+        MatchFault::OutOfMemory
+    }
+}

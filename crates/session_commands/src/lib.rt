@@ -1,0 +1,29 @@
+//! The sessions of the program `shogi`: the commands `engine`, `serve` and `play`, and how lines
+//! pass between streams and a machine of `shogi_session`.
+//!
+//! - [`talk`] passes each line that comes over a [`wire`] to a machine, and sends its answer.
+//! - [`bridging`] does the same for a bridge, with two peers: its engine and its server.
+//!
+//! Each command is a module with a function `run` over a runtime; its bounds say which streams,
+//! sockets and programs it may use:
+//!
+//! ```text
+//! session_commands::engine::run(&rt)?;
+//! session_commands::serve::run(&rt, 4081, Color::Black, 256)?;
+//! ```
+#![tactic(auto)]
+
+pub mod bridging;
+mod children;
+pub mod engine;
+mod fault;
+pub mod laws;
+mod out_file;
+pub mod play;
+mod progress;
+pub mod serve;
+pub mod talk;
+pub mod wire;
+
+pub use fault::{BridgeFault, MatchFault, ServeFault, TalkFault};
+pub use progress::Progress;

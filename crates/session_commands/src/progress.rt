@@ -1,0 +1,119 @@
+//! A line on standard error for each move of a running game.
+
+ghost use Rattle.std.specs.Prelude.{◌≡◌, ◌⊎◌, ◌↔◌, ◌+◌, ◌<◌, ◌≤◌, ◌^◌, ℕ, length, true, false, None, Some, IsTrue};
+ghost use Rattle.std.specs.List.{position_or_len};
+ghost use Rattle.session_commands.specs.Showing.{IsCountOf, is_quote, without_comment};
+ghost use Rattle.session_lines.specs.MoveLines.{is_move_line};
+ghost use Rattle.shogi_session.specs.State.{client_state};
+
+use session_lines::is_move_line;
+use shogi_session::{Bridge, ClientState};
+use std::io::Eprint;
+use std::marker::Model;
+use std::str;
+
+/// Whether moves are shown, and the number of the last one that was.
+#[derive(Drop)]
+pub struct Progress {
+    is_shown: bool,
+    moves: Option<u64>,
+}
+
+impl Model for Progress {
+    ghost use Rattle.session_commands.specs.Showing.{Showing};
+
+    ghost Value = { Showing };
+
+    ghost view = { λ p. record { is_on = p.is_shown; moves = p.moves } };
+}
+
+impl Progress {
+    /// No move has been shown yet.
+    pub fn new(is_shown: bool) -> Progress
+        ensures on { result.is_on ≡ is_shown }
+        ensures moves { result.moves ≡ None }
+    {
+        Progress {
+            is_shown,
+            moves: None,
+        }
+    }
+
+    /// Whether the bridge's next line may be a move to show.
+    pub fn is_on(&self, bridge: &Bridge) -> bool
+        ensures answer { IsTrue result ↔ (self.now.is_on ≡ true)
+            × ((client_state bridge.now.state.client ≡ ClientState.Playing)
+            ⊎ (client_state bridge.now.state.client ≡ ClientState.Sent)) }
+    {
+        self.is_shown && is_playing(bridge.client_state())
+    }
+
+    /// If the line that the bridge took is a move, shows its number, the move and its time. An
+    /// error of standard error is ignored.
+    pub fn show<R: Eprint>(&mut self, rt: &R, bridge: &Bridge, line: &[u8])
+        ensures on { self.new.is_on ≡ self.old.is_on }
+        ensures counted { (n : ℕ) → is_move_line line.now ≡ true
+            → self.old.moves ≡ Some n → n + 1 < 2 ^ 64 → self.new.moves ≡ Some (n + 1) }
+        ensures first { is_move_line line.now ≡ true → self.old.moves ≡ None
+            → (n : ℕ) × (self.new.moves ≡ Some n) × IsCountOf bridge.now.state.client n }
+        ensures other { is_move_line line.now ≡ false → self.new ≡ self.old }
+    {
+        if !is_move_line(line) {
+            return;
+        }
+        let number = match self.moves {
+            Some(moves) => moves.saturating_add(1),
+            None => first_number(bridge),
+        };
+        self.moves = Some(number);
+        if let Ok(text) = str::from_utf8(without_comment(line)) {
+            let _ = rt.eprintln(format_args!("{number} {text}"));
+        }
+    }
+}
+
+// The number of the last move of the bridge's game, or 0 if it has none.
+fn first_number(bridge: &Bridge) -> u64
+    ensures { IsCountOf bridge.now.state.client result }
+{
+    match bridge.moves() {
+        Some(moves) => moves as u64,
+        None => 0,
+    }
+}
+
+fn is_playing(state: ClientState) -> bool
+    ensures { IsTrue result ↔ ((state ≡ ClientState.Playing) ⊎ (state ≡ ClientState.Sent)) }
+{
+    match state {
+        ClientState::Playing | ClientState::Sent => true,
+        _ => false,
+    }
+}
+
+// The line up to its comment, without the comma before that.
+fn without_comment(line: &[u8]) -> &[u8]
+    ensures { result.now ≡ without_comment line.now }
+{
+    let told = &line[..comment_start(line)];
+    told.strip_suffix(b",".as_slice()).unwrap_or(told)
+}
+
+// The offset of the line's comment, or the line's length.
+fn comment_start(line: &[u8]) -> usize
+    ensures value { result ≡ position_or_len is_quote line.now }
+    ensures within { result ≤ length line.now }
+{
+    for (i, b) in line.iter().enumerate() {
+        if is_quote(*b) {
+            return i;
+        }
+    }
+    line.len()
+}
+
+fn is_quote(b: u8) -> bool
+    ensures { result ≡ is_quote b }
+{
+    b == b'\''
+}

@@ -1,0 +1,179 @@
+//! A machine that answers each line that comes over a wire, before more is received.
+
+ghost use Rattle.std.specs.Prelude.{◌≡◌, ◌<◌, ◌≤◌, ◌↔◌, ℕ, Bool, List, length, IfOk, IfErr, IsTrue};
+ghost use Rattle.session_commands.specs.Talks.{HasAnswered, BreaksOff, IsReply, IsUnsent, TakesNext, TakesPiece, EndsTalk};
+
+use crate::fault::TalkFault;
+use crate::wire::Wire;
+use csa_cutting::LineCutter;
+use csa_record::PIECE;
+use record_commands::streams;
+use shogi_board::OutOfMemory;
+use shogi_session::{Host, HostOut, Lines, Sample, SampleOut};
+use std::alloc::Global;
+
+/// What a machine answers to a line.
+#[derive(Drop)]
+pub struct Reply {
+    /// The lines to send.
+    pub lines: Lines,
+    /// Whether the machine has ended. It answers no line after that.
+    pub ended: bool,
+}
+
+/// What answers lines.
+pub trait Machine {
+    // The machine, a line, the bytes of its answer, whether the machine has ended, and the machine
+    // after it.
+    ghost answers: { Self → List ℕ → List ℕ → Bool → Self → Type 0 };
+
+    /// Answers a line. `line` has no line end. Returns `OutOfMemory` if an allocation fails.
+    fn answer(&mut self, line: &[u8]) -> Result<Reply, OutOfMemory>
+        ensures answer { IfOk result
+            (λ reply. answers self.old line.now reply.lines reply.ended self.new) };
+}
+
+impl Machine for Sample {
+    ghost use Rattle.shogi_session.specs.Requests.{RowText};
+    ghost use Rattle.shogi_session.specs.Sample.{quit};
+
+    ghost answers = { (λ s line text over t. RowText s line text t × (IsTrue over ↔ (t ≡ quit))) };
+
+    fn answer(&mut self, line: &[u8]) -> Result<Reply, OutOfMemory> {
+        let SampleOut { lines, ended } = self.step(line)?;
+        Ok(Reply { lines, ended })
+    }
+}
+
+// Each move of the client counts as 0 seconds.
+impl Machine for Host {
+    ghost use Rattle.shogi_session.specs.Host.{ended};
+    ghost use Rattle.shogi_session.specs.Hosting.{RowText};
+    ghost use Rattle.shogi_session.specs.Texts.{without_last_spaces};
+
+    ghost answers = { (λ s line text over t.
+        RowText s.config s.state (without_last_spaces line) 0 text t.state
+        × (t.config ≡ s.config) × (IsTrue over ↔ (t.state ≡ ended))) };
+
+    fn answer(&mut self, line: &[u8]) -> Result<Reply, OutOfMemory> {
+        let HostOut { to_client, ended } = self.step(line, 0)?;
+        Ok(Reply {
+            lines: to_client,
+            ended,
+        })
+    }
+}
+
+/// Answers each line that comes over the wire before more is received, until the machine ends or
+/// the wire does. Returns whether the machine has ended.
+///
+/// Refuses `LineTooLong` as soon as a line has more than 65,536 bytes, `Read` if no more can be
+/// received or 2^64 - 1 pieces came without an end, `Write` if an answer cannot be sent, and
+/// `OutOfMemory`.
+pub fn answer_all<M: Machine, X: Wire>(
+    alloc: Global,
+    machine: &mut M,
+    wire: &mut X,
+) -> Result<bool, TalkFault>
+    ensures answered { IfOk result (λ ended. HasAnswered
+        X.came X.ends X.went M.answers wire.old machine.old ended wire.new machine.new) }
+    ensures breaks_off { IfErr result (λ fault. BreaksOff
+        X.came X.ends X.went X.silent X.blocked M.answers wire.old machine.old fault wire.new) }
+{
+    let mut cutter = LineCutter::new(alloc, streams::LONGEST_LINE);
+    let mut buffer = [0u8; PIECE];
+    for _pieces in 0..u64::MAX {
+        let taken = wire.receive(&mut buffer)?;
+        if taken == 0 {
+            return answer_last(&mut cutter, machine, wire);
+        }
+        let ended = answer_piece(&mut cutter, machine, wire, &buffer[..taken])?;
+        if ended {
+            return Ok(true);
+        }
+    }
+    Err(TalkFault::Read)
+}
+
+// Answers the unfinished line at the end of what came, if there is one. Returns whether the machine
+// has ended.
+fn answer_last<M: Machine, X: Wire>(
+    cutter: &mut LineCutter,
+    machine: &mut M,
+    wire: &mut X,
+) -> Result<bool, TalkFault>
+    ensures talk { EndsTalk X.came X.ends X.went
+        X.silent X.blocked M.answers cutter.old wire.old machine.old result wire.new machine.new }
+{
+    let last = match cutter.finish() {
+        Ok(last) => last,
+        Err(fault) => return Err(TalkFault::from(fault)),
+    };
+    match last {
+        Some(line) => answer(machine, wire, line),
+        None => Ok(false),
+    }
+}
+
+// Answers the lines that end in the piece. Returns whether the machine has ended.
+fn answer_piece<M: Machine, X: Wire>(
+    cutter: &mut LineCutter,
+    machine: &mut M,
+    wire: &mut X,
+    piece: &[u8],
+) -> Result<bool, TalkFault>
+    ensures talk { TakesPiece X.came X.ends X.went X.silent X.blocked
+        M.answers cutter.old piece.now wire.old machine.old result cutter.new wire.new machine.new }
+{
+    let mut used = 0;
+    while used < piece.len() {
+        let (more, ended) = answer_next(cutter, machine, wire, &piece[used..])?;
+        if ended {
+            return Ok(true);
+        }
+        used += more;
+    }
+    Ok(false)
+}
+
+// Answers the line that ends in the piece, if one does. Returns how many bytes of the piece were
+// used, and whether the machine has ended.
+fn answer_next<M: Machine, X: Wire>(
+    cutter: &mut LineCutter,
+    machine: &mut M,
+    wire: &mut X,
+    piece: &[u8],
+) -> Result<(usize, bool), TalkFault>
+    requires { 0 < length piece.now }
+    ensures used { IfOk result (λ r. (0 < r.0) × (r.0 ≤ length piece.now)) }
+    ensures next { TakesNext X.came X.ends X.went X.silent X.blocked
+        M.answers cutter.old piece.now wire.old machine.old result cutter.new wire.new machine.new }
+{
+    let (used, line) = match cutter.step(piece) {
+        Ok(step) => step,
+        Err(fault) => return Err(TalkFault::from(fault)),
+    };
+    let Some(line) = line else {
+        return Ok((used, false));
+    };
+    let ended = answer(machine, wire, line)?;
+    Ok((used, ended))
+}
+
+// Answers a line. Returns whether the machine has ended.
+fn answer<M: Machine, X: Wire>(
+    machine: &mut M,
+    wire: &mut X,
+    line: &[u8],
+) -> Result<bool, TalkFault>
+    ensures replied { IfOk result (λ ended.
+        IsReply X.went M.answers wire.old machine.old line.now ended wire.new machine.new) }
+    ensures unsent { IfErr result
+        (λ fault. IsUnsent X.blocked M.answers wire.old machine.old line.now wire.new fault) }
+{
+    let Ok(reply) = machine.answer(line) else {
+        return Err(TalkFault::OutOfMemory);
+    };
+    wire.send(reply.lines.bytes())?;
+    Ok(reply.ended)
+}

@@ -1,5 +1,0 @@
-use Rattle.std.proofs.Common.{rules}
-use Rattle.session_loops.proofs.wire.ExchangeWire.send.Goals as goal
-
-pub returns-clause-went : goal.returns-clause-went
-returns-clause-went g c = search rules

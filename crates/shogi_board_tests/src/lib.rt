@@ -1,6 +1,0 @@
-//! The tests of `shogi_board`: its public calls as another crate makes them. They stand apart from it so that it is proved once
-//! and its tests by themselves.
-#![tactic(auto)]
-
-#[cfg(test)]
-mod tests;

@@ -1,3 +1,0 @@
-pub mod Keeping
-pub mod Porting
-pub mod Telling

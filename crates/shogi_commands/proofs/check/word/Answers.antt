@@ -1,5 +1,0 @@
-use Rattle.std.proofs.Common.{rules}
-use Rattle.shogi_commands.proofs.check.word.Goals as goal
-
-pub returns-in-Mate : goal.returns-in-Mate
-returns-in-Mate c = search rules

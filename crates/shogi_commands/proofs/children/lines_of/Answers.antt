@@ -1,5 +1,0 @@
-use Rattle.std.proofs.Common.{rules}
-use Rattle.shogi_commands.proofs.children.lines_of.Goals as goal
-
-pub returns-in-None : goal.returns-in-None
-returns-in-None g c = search rules

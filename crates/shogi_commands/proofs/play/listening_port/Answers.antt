@@ -1,6 +1,0 @@
-use Rattle.shogi_commands.proofs.Telling.{port_came}
-use Rattle.shogi_commands.proofs.play.listening_port.Goals as goal
-
-pub returns-in-Line-clause-first : goal.returns-in-Line-clause-first
-returns-in-Line-clause-first g c =
-    port_came c.args.told.now.bytes c.hear.new.self.bytes c.line.result.now c.hear.new.self.line c.port_of.result c.line.ensures.value (c.in_ok-hear.ensures.line c.in-Line.is) c.port_of.ensures

@@ -1,5 +1,0 @@
-use Rattle.std.proofs.Common.{rules}
-use Rattle.shogi_commands.proofs.serve.served.Goals as goal
-
-pub returns-in-Ok-false-clause-gone : goal.returns-in-Ok-false-clause-gone
-returns-in-Ok-false-clause-gone c = search rules

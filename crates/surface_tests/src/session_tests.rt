@@ -1,0 +1,155 @@
+ghost use Rattle.shogi_session.specs.Promises.{HoldsLine, event_of};
+
+use arrayvec::ArrayString;
+use csa_record::Why;
+use csa_text::TextFault;
+use shogi_board::{Color, OutOfMemory};
+use shogi_session::{
+    Bridge, ClientState, Config, EngineState, Event, Host, HostConfig, HostOut, Lines, MoveCause,
+    Out, Sample, SampleOut, SessionFault, Status, Waits, laws,
+};
+use std::alloc::Global;
+use std::process::Abort;
+use std::test::Fail;
+
+fn bridge(alloc: Global) -> Result<Bridge, Fail> {
+    let config = Config {
+        name: ArrayString::from("bridge")?,
+        password: ArrayString::from("pw")?,
+        total_ms: 600_000,
+        byoyomi_ms: 10_000,
+    };
+    let bridge: Result<Bridge, OutOfMemory> = Bridge::new(alloc, &config);
+    Ok(bridge?)
+}
+
+fn stands_at_the_beginning(rt: &impl Abort, bridge: &Bridge) -> Result<(), Fail> {
+    let engine: EngineState = bridge.engine_state();
+    let client: ClientState = bridge.client_state();
+    let waits: Waits = bridge.waits_for();
+    let slip: bool = bridge.slip();
+    assert!(rt; engine == EngineState::New && client == ClientState::Idle);
+    assert!(rt; waits == Waits::Nobody && !slip);
+    let text: Result<Option<Vec<u8>>, OutOfMemory> = bridge.game_text();
+    assert!(rt; text?.is_none());
+    Ok(())
+}
+
+fn begins(rt: &impl Abort, bridge: &mut Bridge) -> Result<(), Fail> {
+    let out: Out = bridge.step(Event::Begin)?;
+    let to_engine: &Lines = &out.to_engine;
+    let bytes: &[u8] = to_engine.bytes();
+    assert!(rt; bytes == b"usi\n".as_slice() && out.to_server.bytes().is_empty());
+    assert!(rt; out.status == Status::Going);
+    Ok(())
+}
+
+#[test]
+fn calls_of_a_bridge(rt: HostRuntime) -> Result<(), Fail> {
+    let mut bridge = bridge(rt.alloc())?;
+    stands_at_the_beginning(&rt, &bridge)?;
+    begins(&rt, &mut bridge)
+}
+
+// The status of a bridge after one event, the first that happens to it.
+fn status_after(alloc: Global, event: Event<'_>) -> Result<Status, Fail>
+    requires { HoldsLine (event_of event) }
+{
+    let mut bridge = bridge(alloc)?;
+    let out = bridge.step(event)?;
+    Ok(out.status)
+}
+
+#[test]
+fn events_of_a_bridge(rt: HostRuntime) -> Result<(), Fail> {
+    let alloc = rt.alloc();
+    let engine_gone = Status::Failed(SessionFault::EngineGone);
+    let server_gone = Status::Failed(SessionFault::ServerGone);
+    let too_long = Status::Failed(SessionFault::LineTooLong);
+    assert!(rt; status_after(alloc, Event::EngineLine(b"id"))? == Status::Going);
+    assert!(rt; status_after(alloc, Event::ServerLine(b"x"))? == Status::Going);
+    assert!(rt; status_after(alloc, Event::EngineEnd)? == engine_gone);
+    assert!(rt; status_after(alloc, Event::ServerEnd)? == server_gone);
+    assert!(rt; status_after(alloc, Event::EngineLong)? == too_long);
+    assert!(rt; status_after(alloc, Event::ServerLong)? == too_long);
+    Ok(())
+}
+
+#[test]
+fn laws_of_sessions() {
+    laws::sent_legal();
+    laws::sent_once();
+    laws::asked_right();
+    laws::host_game();
+    laws::both_ends();
+}
+
+// The number of the fault, as it is printed, or 0 for a session that has not failed.
+fn number_of(status: Status) -> u32 {
+    match status {
+        Status::Going | Status::Done | Status::Lost => 0,
+        Status::Failed(SessionFault::LoginRefused) => 1,
+        Status::Failed(SessionFault::Rejected) => 2,
+        Status::Failed(SessionFault::BadSummary) => 3,
+        Status::Failed(SessionFault::BadServerMove(MoveCause::Refused(_) | MoveCause::Unsent)) => 4,
+        Status::Failed(SessionFault::EngineGone) => 5,
+        Status::Failed(SessionFault::ServerGone) => 6,
+        Status::Failed(SessionFault::LineTooLong) => 7,
+    }
+}
+
+fn is_on(state: ClientState) -> bool {
+    match state {
+        ClientState::Playing | ClientState::Sent => true,
+        ClientState::Idle | ClientState::LoggingIn | ClientState::Summary | ClientState::Agreeing =>
+            false,
+        ClientState::Reason | ClientState::Closing | ClientState::Ended => false,
+    }
+}
+
+fn is_asked(state: EngineState) -> bool {
+    match state {
+        EngineState::Thinking => true,
+        EngineState::New | EngineState::Greeting | EngineState::Readying => false,
+        EngineState::Ready | EngineState::Ended => false,
+    }
+}
+
+#[test]
+fn states_and_faults(rt: HostRuntime) {
+    let cause = MoveCause::Refused(Why::Text(TextFault::BadMove));
+    let refused = Status::Failed(SessionFault::BadServerMove(cause));
+    assert!(rt; number_of(refused) == 4 && number_of(Status::Lost) == 0);
+    assert!(rt; is_on(ClientState::Sent) && !is_on(ClientState::Agreeing));
+    assert!(rt; is_asked(EngineState::Thinking) && !is_asked(EngineState::Greeting));
+    assert!(rt; Waits::Engine != Waits::Server);
+}
+
+fn host(alloc: Global) -> Result<Host, Fail> {
+    let config = HostConfig {
+        client: Color::White,
+        max_moves: 4,
+        id: ArrayString::from("local")?,
+        name: ArrayString::from("host")?,
+    };
+    let host: Result<Host, OutOfMemory> = Host::new(alloc, &config);
+    Ok(host?)
+}
+
+#[test]
+fn answers_of_a_host(rt: HostRuntime) -> Result<(), Fail> {
+    let mut host = host(rt.alloc())?;
+    let out: Result<HostOut, OutOfMemory> = host.step(b"LOGIN", 0);
+    let out = out?;
+    assert!(rt; out.to_client.bytes() == b"LOGIN:incorrect\n".as_slice() && !out.ended);
+    Ok(())
+}
+
+#[test]
+fn answers_of_the_sample_engine(rt: HostRuntime) -> Result<(), Fail> {
+    let mut engine: Sample = Sample::new(rt.alloc());
+    let out: Result<SampleOut, OutOfMemory> = engine.step(b"isready");
+    let out = out?;
+    assert!(rt; out.lines.bytes() == b"readyok\n".as_slice() && !out.ended);
+    Ok(())
+}

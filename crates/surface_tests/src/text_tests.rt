@@ -1,0 +1,98 @@
+use crate::board_tests::square;
+use crate::rules_tests::pawn_move;
+use arrayvec::ArrayString;
+use csa_text::{
+    Cut, CutFault, Cutter, Ending, Item, LineCutter, LineFault, Moment, Pair, Pairs, PieceCutter,
+    Statement, TextFault, csa_move, read_item, read_moment,
+};
+use shogi_board::{Color, Kind};
+use std::test::Fail;
+
+const TURN: Statement<'static> = Statement {
+    number: 1,
+    offset: 0,
+    bytes: b"+",
+};
+
+#[test]
+fn statements(rt: HostRuntime) {
+    let mut cutter: Cutter<'_> = Cutter::new(b"+");
+    let first: Result<Option<Statement<'_>>, CutFault> = cutter.next_statement();
+    assert!(rt; first == Ok(Some(TURN)));
+    let long = [b'+'; 4097];
+    let fault = CutFault {
+        number: 1,
+        offset: 0,
+    };
+    assert!(rt; Cutter::new(&long).next_statement() == Err(fault));
+}
+
+#[test]
+fn statements_by_piece(rt: HostRuntime) {
+    let mut pieces: PieceCutter = PieceCutter::new();
+    let cut: Result<Cut<'_>, CutFault> = pieces.step(b"+\n");
+    let wanted = Cut {
+        used: 2,
+        statement: Some(TURN),
+    };
+    assert!(rt; cut == Ok(wanted));
+    let fed: u64 = pieces.fed();
+    assert!(rt; fed == 2);
+    let last: Result<Option<Statement<'_>>, CutFault> = pieces.finish();
+    assert!(rt; last == Ok(None));
+}
+
+#[test]
+fn lines(rt: HostRuntime) {
+    let mut cutter: LineCutter = LineCutter::new(rt.alloc(), 4);
+    let step: Result<(usize, Option<&[u8]>), LineFault> = cutter.step(b"usi\n");
+    assert!(rt; step == Ok((4, Some(b"usi".as_slice()))) || step == Err(LineFault::OutOfMemory));
+    assert!(rt; cutter.step(b"quit!") == Err(LineFault::TooLong));
+    let last: Result<Option<&[u8]>, LineFault> = cutter.finish();
+    assert!(rt; last == Err(LineFault::TooLong));
+}
+
+#[test]
+fn items(rt: HostRuntime) -> Result<(), Fail> {
+    let version: Result<Item<'_>, TextFault> = read_item(b"V2.2");
+    assert!(rt; version == Ok(Item::Version));
+    assert!(rt; read_item(b"N-x") == Ok(Item::Name(Color::White, b"x")));
+    assert!(rt; read_item(b"$EVENT:a") == Ok(Item::Header(b"EVENT", b"a")));
+    assert!(rt; read_item(b"P9 *  *  *  *  *  *  *  *  * ") == Ok(Item::Rank(9, [None; 9])));
+    assert!(rt; read_item(b"-") == Ok(Item::Turn(Color::White)));
+    assert!(rt; read_item(b"+7776FU") == Ok(Item::Walked(Color::Black, pawn_move()?)));
+    assert!(rt; read_item(b"T12") == Ok(Item::Time(12_000)));
+    let Ok(Item::Ending(ending)) = read_item(b"%TORYO") else {
+        return Err(Fail::from("no ending"));
+    };
+    let resigned: Ending = ending;
+    assert!(rt; read_item(b"%CHUDAN") != Ok(Item::Ending(resigned)));
+    Ok(())
+}
+
+#[test]
+fn pairs(rt: HostRuntime) -> Result<(), Fail> {
+    let Ok(Item::Even(even)) = read_item(b"PI82HI") else {
+        return Err(Fail::from("no start"));
+    };
+    let rook: Option<Pair> = even.get(0);
+    assert!(rt; rook == Some(Pair::On(square(8, 2)?, Kind::Rook)));
+    let Ok(Item::Pieces(color, pieces)) = read_item(b"P-00FU00AL") else {
+        return Err(Fail::from("no pieces"));
+    };
+    let pairs: Pairs<'_> = pieces;
+    let count: usize = pairs.len();
+    assert!(rt; color == Color::White && count == 2);
+    assert!(rt; pairs.get(0) == Some(Pair::InHand(Kind::Pawn)) && pairs.get(1) == Some(Pair::Rest));
+    Ok(())
+}
+
+#[test]
+fn moments_and_moves(rt: HostRuntime) -> Result<(), Fail> {
+    let moment: Option<Moment> = read_moment(b"2024/2/29 9:05:07");
+    let text: ArrayString<19> = moment.ok_or("no moment")?.text();
+    assert!(rt; text.as_str() == "2024/02/29 09:05:07");
+    let text: ArrayString<7> = csa_move(Color::Black, &pawn_move()?);
+    assert!(rt; text.as_str() == "+7776FU");
+    Ok(())
+}

@@ -1,0 +1,107 @@
+ghost use Rattle.std.specs.Prelude.{◌≤◌};
+
+use csa_cutting::{Cutter, PieceCutter};
+
+// Whether pieces that end at this place, and from there on after each `size` bytes, give what
+// `Cutter` gives of the whole.
+fn same_cut_at(source: &[u8], place: usize, size: usize) -> bool {
+    let mut whole = Cutter::new(source);
+    let mut pieces = PieceCutter::new();
+    let mut at = 0usize;
+    for _ in 0..2_000_000 {
+        if at >= source.len() {
+            break;
+        }
+        let piece = &source[at..piece_end(source.len(), at, place, size)];
+        if pieces.fed() > 2_000_000 || piece.len() > 2_000_000 {
+            return false;
+        }
+        match pieces.step(piece) {
+            Err(fault) => return whole.next_statement() == Err(fault)
+                && pieces.finish() == Err(fault),
+            Ok(cut) => {
+                at += cut.used;
+                if cut.statement.is_some() && whole.next_statement() != Ok(cut.statement) {
+                    return false;
+                }
+            }
+        }
+    }
+    let fed = pieces.fed();
+    match pieces.finish() {
+        Ok(Some(last)) => fed == source.len() as u64
+            && whole.next_statement() == Ok(Some(last))
+            && whole.next_statement() == Ok(None),
+        Ok(None) => fed == source.len() as u64 && whole.next_statement() == Ok(None),
+        Err(_) => false,
+    }
+}
+
+// Where a piece from `at` ends.
+fn piece_end(length: usize, at: usize, place: usize, size: usize) -> usize
+    requires { at ≤ length }
+    ensures { (at ≤ result) × (result ≤ length) }
+{
+    if at < place && place <= length {
+        place
+    } else if length - at < size {
+        length
+    } else {
+        at + size
+    }
+}
+
+// Whether pieces of this size give what `Cutter` gives of the whole.
+pub(crate) fn same(source: &[u8], size: usize) -> bool {
+    same_cut_at(source, 0, size)
+}
+
+#[test]
+fn pieces_of_each_size_give_the_same(rt: HostRuntime) {
+    let table: [&[u8]; 12] = [
+        b"",
+        b"PI\n+\n+7776FU,T12\r\n-3334FU ,\tT6,%TORYO \n",
+        b"'x, y\n'z\nN+a, b \r\n$EVENT:c,'d\n ,,'e\n+ \t",
+        b"\xEF\xBB\xBFPI\n+",
+        b"\xEF\xBB\xBF",
+        b"\xEF\xBB",
+        b"\xEF\xBB\nPI\n",
+        b"\xEF,\xBB\xBFPI\n",
+        b"\xEFx\xBB,+",
+        b"\xEF\xBB\xBF\xEF\xBB\xBF\n+",
+        b"'abc\nPI\n'",
+        b",\r\n \t+\n\n-,",
+    ];
+    for source in table {
+        for size in 1..40usize {
+            assert!(rt; same(source, size), "in pieces of {size}");
+        }
+    }
+}
+
+// How many statements a cutter has handed out after a piece that it uses whole.
+fn count_after(pieces: &mut PieceCutter, piece: &[u8]) -> Option<u64> {
+    if pieces.fed() > 2_000_000 || piece.len() > 2_000_000 {
+        return None;
+    }
+    let used = pieces.step(piece).ok()?.used;
+    if used == piece.len() {
+        Some(pieces.statements())
+    } else {
+        None
+    }
+}
+
+// A comment is no statement, and neither is one that is not closed yet.
+#[test]
+fn counts_statements(rt: HostRuntime) {
+    let mut pieces = PieceCutter::new();
+    for (piece, statements) in [
+        (b"PI\n".as_slice(), 1),
+        (b"'x\n", 1),
+        (b"+77", 1),
+        (b"76FU,", 2),
+    ] {
+        assert!(rt; count_after(&mut pieces, piece) == Some(statements));
+    }
+}

@@ -1,0 +1,12 @@
+ghost use Rattle.std.specs.Prelude.{◌≤◌, ◌/◌, ◌%◌};
+
+use shogi_board::Square;
+
+// The square of a number of two digits, as 55.
+pub(crate) fn square(number: u8) -> Square
+    requires file { (1 ≤ number / 10) × (number / 10 ≤ 9) }
+    requires rank { 1 ≤ number % 10 }
+{
+    let before = (number / 10 - 1) * 9;
+    Square::at_place(usize::from(before + number % 10 - 1))
+}
