@@ -9,28 +9,31 @@ use Rattle.shogi_board.specs.Sound.{IsSound}
 use Rattle.shogi_rules.specs.declared.line.PlayFault.TheVariants as playing
 use Rattle.shogi_rules.specs.declared.line.PlayFault.{PlayFault}
 use Rattle.shogi_rules.specs.declared.moves.Move.{Move}
+use Rattle.shogi_rules.specs.Lines.{IsLine}
 use Rattle.shogi_rules.specs.Play.{Answers}
-use Rattle.shogi_rules.specs.Positions.{Played, IsGame}
+use Rattle.shogi_rules.specs.Positions.{Played, IsGame, position_after}
+use Rattle.shogi_rules.proofs.Games.{line-more}
 use Rattle.csa_record.specs.declared.course.Ended as stored
 use Rattle.record_game.specs.declared.fault.OrderFault.{OrderFault}
 use Rattle.record_game.specs.declared.fault.OrderFault.TheVariants.{AfterEnding, TooManyMoves}
 use Rattle.record_game.specs.declared.fault.Why.{Why}
 use Rattle.record_game.specs.declared.fault.Why.TheVariants.{Rule}
 use Rattle.record_game.specs.Answer.{IsAnswer}
-use Rattle.record_game.specs.Course.{Course, line_of, untimed, play_fault, PlayAnswers, awaits_time, with_time, time_at}
-use Rattle.csa_record.specs.Coursing.{timed, ended, course_of, IsKept, lacks_last, with_last, NotPlayed, played_why}
+use Rattle.record_game.specs.Course.{Course, course_line, untimed, play_fault, PlayAnswers, awaits_time, with_time, time_at}
+use Rattle.csa_record.specs.Coursing.{timed, ended, course_of, IsKept, lacks_last, with_last, NotPlayed}
 use Rattle.record_game.specs.Game.{Timed, Ended}
 use Rattle.record_game.specs.Limits.{EndsInTime}
+use Rattle.record_game.specs.PlayFaults.{why_of}
 use Rattle.shogi_board.specs.Setup.{first_fault}
 use Rattle.record_game.proofs.FitTimes.{AllFit, fit_more, fit_none, fit_last}
 use Rattle.record_game.proofs.PlayAnswered.{after}
 use Rattle.csa_record.proofs.Timing.{moves_timed, times_timed, length_timed, timed_more, timed_none, awaits_timed, timed_last, length_with_last}
 
-pub line_is : (line : Played) (ts : List (Option ℕ)) (e : Option stored.Ended) → length ts ≡ length line.moves → line_of (course_of line ts e) ≡ line
+pub line_is : (line : Played) (ts : List (Option ℕ)) (e : Option stored.Ended) → length ts ≡ length line.moves → course_line (course_of line ts e) ≡ line
 line_is line ts e h = ap (λ (ms : List Move). record line { moves = ms }) (moves_timed line.moves ts h)
 
-pub line_seen : (line : Played) (ts : List (Option ℕ)) (e : Option stored.Ended) (c : Course) → length ts ≡ length line.moves → course_of line ts e ≡ c → line ≡ line_of c
-line_seen line ts e c h v = sym (line_is line ts e h) ∙ ap line_of v
+pub line_seen : (line : Played) (ts : List (Option ℕ)) (e : Option stored.Ended) (c : Course) → length ts ≡ length line.moves → course_of line ts e ≡ c → line ≡ course_line c
+line_seen line ts e c h v = sym (line_is line ts e h) ∙ ap course_line v
 
 pub time_seen : (line : Played) (ts : List (Option ℕ)) (e : Option stored.Ended) (c : Course) (i : ℕ) → length ts ≡ length line.moves → course_of line ts e ≡ c → get_or ts i None ≡ time_at c.moves i
 time_seen line ts e c i h v =
@@ -66,13 +69,17 @@ course_untimed line ts is = rw is (ap (λ (xs : List Timed). course line.start x
     course : Placed → List Timed → Option Ended → Course
     course p xs e = record { start = p; moves = xs; ending = e }
 
-pub kept_more : (line next : Played) (ts us : List (Option ℕ)) (e : Option stored.Ended) (m : Move) → IsKept line ts e → next ≡ record line { moves = line.moves ++ m ∷ [] } → us ≡ ts ++ None ∷ [] → IsGame next.start next.moves → length next.moves ≤ 10000 → IsKept next us e
-kept_more line next ts us e m k is more game few =
+pub kept_more : (line next : Played) (ts us : List (Option ℕ)) (e : Option stored.Ended) (color : Color) (m : Move) → IsKept line ts e → next ≡ record line { moves = line.moves ++ m ∷ [] } → us ≡ ts ++ None ∷ [] → Answers line color m None → IsKept next us e
+kept_more line next ts us e color m k is more played =
     let long = k.long in
+    let few = played.0 in
+    let last = position_after line.start line.moves in
+    let before : IsLine line.start last line.moves = record { leads = refl; game = game_of line ts e k; few = few_of line ts e k } in
+    let game = (line-more line.start last line.moves color m before few played.1).game in
     let a = length-append line.moves (m ∷ []) in
     let b = length-append ts (None ∷ []) in
     rw (is, more) (kept (record line { moves = line.moves ++ m ∷ [] }) (ts ++ None ∷ []) e
-    (omega (arith, a, b, long)) k.course.sound (rw is at game) (rw is at few)
+    (omega (arith, a, b, long)) k.course.sound game (omega (arith, a, few))
     (rw (timed_more line.moves ts m k.long) (fit_more (timed line.moves ts) m k.course.times)) k.course.last_time)
 
 pub course_more : (line next : Played) (ts us : List (Option ℕ)) (e : Option stored.Ended) (m : Move) (c : Course) → length ts ≡ length line.moves → course_of line ts e ≡ c → next ≡ record line { moves = line.moves ++ m ∷ [] } → us ≡ ts ++ None ∷ [] → course_of next us e ≡ record c { moves = c.moves ++ untimed m ∷ [] }
@@ -128,7 +135,7 @@ pub answer_played : (line : Played) (ts : List (Option ℕ)) (e : Option stored.
 answer_played line ts e c color m long v free h =
     (None, after None c color m None free (None, subst (λ (l : Played). Answers l color m None) (line_seen line ts e c long v) h, refl), tt)
 
-answer_why : (line : Played) (c : Course) (color : Color) (m : Move) (why : Why) → line ≡ line_of c → length line.moves < 10000 → play_fault c ≡ None → NotPlayed line color m why → (answer : Option Why) × PlayAnswers c color m answer × IsAnswer answer (Err why)
+answer_why : (line : Played) (c : Course) (color : Color) (m : Move) (why : Why) → line ≡ course_line c → length line.moves < 10000 → play_fault c ≡ None → NotPlayed line color m why → (answer : Option Why) × PlayAnswers c color m answer × IsAnswer answer (Err why)
 answer_why line c color m why is few free (None, h, w) = (None, after None c color m None free (None, subst (λ (l : Played). Answers l color m None) is h, refl), w)
 answer_why line c color m why is few free (Some playing.TooManyMoves, h, w) = absurd (omega (arith, few, h))
 answer_why line c color m why is few free (Some (playing.Broken rule), h, w) = (Some (Rule rule), after None c color m (Some (Rule rule)) free (Some (playing.Broken rule), subst (λ (l : Played). Answers l color m (Some (playing.Broken rule))) is h, refl), w)
@@ -139,6 +146,6 @@ answer_refused line ts e c color m why long v free h =
     answer_why line c color m why (line_seen line ts e c long v) (few_played line ts e c long v free) free h
 
 -- what `Line::play` returns, for a move that is not played
-pub not_played : (line : Played) (color : Color) (m : Move) (fault : PlayFault) → ((fault ≡ playing.OutOfMemory) × Answers line color m None) ⊎ Answers line color m (Some fault) → (why : Why) → why ≡ played_why fault → NotPlayed line color m why
-not_played line color m fault (inl h) why is = (None, h.1, is ∙ ap played_why h.0)
+pub not_played : (line : Played) (color : Color) (m : Move) (fault : PlayFault) → ((fault ≡ playing.OutOfMemory) × Answers line color m None) ⊎ Answers line color m (Some fault) → (why : Why) → why ≡ why_of fault → NotPlayed line color m why
+not_played line color m fault (inl h) why is = (None, h.1, is ∙ ap why_of h.0)
 not_played line color m fault (inr h) why is = (Some fault, h, is)

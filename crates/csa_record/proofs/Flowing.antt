@@ -1,7 +1,8 @@
 -- What passes from a source through a reader to a sink.
-use Rattle.std.proofs.Common.{◌≡◌, ◌≢◌, inl, inr, ℕ, ◌+◌, ◌<◌, ◌≤◌, true, false, List, [], ◌∷◌, ◌++◌, length, Option, Some, None, Result, Ok, Err, refl, sym, ◌∙◌, ap, subst, arith, append-nil, length-append, take}
+use Rattle.std.proofs.Common.{◌≡◌, ◌≢◌, inl, inr, ℕ, ◌+◌, ◌<◌, ◌≤◌, Bool, true, false, List, [], ◌∷◌, ◌++◌, length, Option, Some, None, Result, Ok, Err, refl, sym, ◌∙◌, ap, subst, arith, append-nil, length-append, take}
 use Rattle.std.specs.Io.KnownBytes.{Consumes, IsAtEnd}
 use Rattle.std.proofs.KnownBytes.{Consumes-trans}
+use Rattle.std.proofs.lemmas.Grind.{common_steps}
 use Rattle.shogi_board.specs.declared.color.Color.{Color}
 use Rattle.shogi_board.specs.declared.setup.SetupFault.{SetupFault}
 use Rattle.shogi_board.specs.Layout.{Layout}
@@ -12,12 +13,15 @@ use Rattle.record_game.specs.declared.fault.OrderFault.{OrderFault}
 use Rattle.record_game.specs.declared.fault.Refusal.{Refusal}
 use Rattle.record_game.specs.declared.fault.Why.{Why}
 use Rattle.record_game.specs.declared.fault.Why.TheVariants as why
+use Rattle.csa_record.specs.declared.flow.Fed.TheVariants.{Piece, End}
 use Rattle.csa_record.specs.declared.flow.FlowFault.{FlowFault}
-use Rattle.csa_record.specs.Flow.{fault_by, fault_of, IsRefusedBehind, IsRefusal, StopsAt, IsReadFault, FeedsNext, IsFed, IsFedAll}
+use Rattle.csa_cutting.proofs.Joining.{pieces_closed}
+use Rattle.record_game.specs.Closed.{AreFaultless}
+use Rattle.csa_record.specs.Flow.{after_read, fault_by, fault_of, IsRefusedFrom, IsFaultlessFrom, IsRefusal, StopsAt, IsReadFault, FeedsNext, IsFed, IsFedAll}
 use Rattle.record_game.specs.Order.{order_fault}
 use Rattle.record_game.specs.LaidOut.{laid_out}
 use Rattle.csa_record.specs.Reading.{Reading, HasRead, IsRefusedBy}
-use Rattle.record_game.specs.Refused.{Refused, FaultlessTo, Answers, AnswersAfter, AnswersInOrder, Finishes, IsJudged, start_why}
+use Rattle.record_game.specs.Refused.{Refused, FaultlessTo, AnswersItem, AnswersAfter, AnswersInOrder, Finishes, IsJudged, start_why}
 
 -- ---- no record is refused as `Failed`
 
@@ -56,7 +60,7 @@ never_failed source number offset w (inl at) = λ is. elim at.fault [
   | inl long ↦ let text = long.1 in cc
   | inr rest ↦ elim rest [
     | inl unspelt ↦ let text = unspelt.2 in cc
-    | inr item ↦ after_first (order_fault at.sayings item.0) at.sayings item.0 (subst (λ x. Answers at.sayings item.0 (Some x)) is item.2)
+    | inr item ↦ after_first (order_fault at.sayings item.0) at.sayings item.0 (subst (λ x. AnswersItem at.sayings item.0 (Some x)) is item.2)
   ]
 ]
 never_failed source number offset w (inr at) = λ is. let order = at.why_is in cc
@@ -67,66 +71,89 @@ never_failed_by source r (inr h) = λ is. let want = h.0 in cc
 
 -- ---- a refusal as a fault
 
-behind_first : (new : Option (List ℕ)) (bytes : List ℕ) (r : Refusal) → IsRefusedBehind new bytes r → r.why ≢ why.Failed
-behind_first new bytes r (inl h) = never_failed (bytes ++ []) r.number r.offset r.why (h [])
-behind_first new bytes r (inr h) = never_failed bytes r.number r.offset r.why h.1
+from_first : (new : Option (List ℕ)) (ended : Bool) (bytes : List ℕ) (r : Refusal) → IsRefusedFrom new ended bytes r → r.why ≢ why.Failed
+from_first new ended bytes r (inl h) = never_failed (bytes ++ []) r.number r.offset r.why (h [])
+from_first new ended bytes r (inr h) = never_failed bytes r.number r.offset r.why h.2
 
-refusal_by : (old new : Option (List ℕ)) (bytes : List ℕ) (r : Refusal) → StopsAt bytes → Consumes old new bytes → r.why ≢ why.OutOfMemory → IsRefusedBehind new bytes r → IsRefusal old new r
-refusal_by old new bytes r stopped given no_want refused = record {
+refusal_by : (old new : Option (List ℕ)) (ended : Bool) (bytes : List ℕ) (r : Refusal) → StopsAt bytes → Consumes old new bytes → r.why ≢ why.OutOfMemory → IsRefusedFrom new ended bytes r → IsRefusal old new ended r
+refusal_by old new ended bytes r stopped given no_want refused = record {
   bytes = bytes;
   given = given;
   stopped = stopped;
   refused = refused;
   no_want = no_want;
-  first = behind_first new bytes r refused;
+  first = from_first new ended bytes r refused;
 }
 
-fault_by_why : (old new : Option (List ℕ)) (before after : ℕ) (bytes : List ℕ) (r : Refusal) (w : Why) → StopsAt bytes → r.why ≡ w → Consumes old new bytes → after ≡ before
-    → (r.why ≢ why.OutOfMemory → IsRefusedBehind new bytes r) → (r.why ≡ why.OutOfMemory → FaultlessTo bytes r.number r.offset)
-    → IsReadFault old new before after (fault_by w r)
-fault_by_why old new before after bytes r (why.Text fault) stopped is given quiet refused wanting =
-    let no_want : r.why ≢ why.OutOfMemory = λ h. cc in (refusal_by old new bytes r stopped given no_want (refused no_want), quiet)
-fault_by_why old new before after bytes r (why.Order fault) stopped is given quiet refused wanting =
-    let no_want : r.why ≢ why.OutOfMemory = λ h. cc in (refusal_by old new bytes r stopped given no_want (refused no_want), quiet)
-fault_by_why old new before after bytes r (why.Start fault) stopped is given quiet refused wanting =
-    let no_want : r.why ≢ why.OutOfMemory = λ h. cc in (refusal_by old new bytes r stopped given no_want (refused no_want), quiet)
-fault_by_why old new before after bytes r (why.Rule rule) stopped is given quiet refused wanting =
-    let no_want : r.why ≢ why.OutOfMemory = λ h. cc in (refusal_by old new bytes r stopped given no_want (refused no_want), quiet)
-fault_by_why old new before after bytes r why.OutOfMemory stopped is given quiet refused wanting =
+fault_by_why : (old new : Option (List ℕ)) (ended : Bool) (before after : ℕ) (bytes : List ℕ) (r : Refusal) (w : Why) → StopsAt bytes → r.why ≡ w → Consumes old new bytes → after ≡ before
+    → (r.why ≢ why.OutOfMemory → IsRefusedFrom new ended bytes r) → (r.why ≡ why.OutOfMemory → IsFaultlessFrom new ended bytes r.number r.offset)
+    → IsReadFault old new ended before after (fault_by w r)
+fault_by_why old new ended before after bytes r (why.Text fault) stopped is given quiet refused wanting =
+    let no_want : r.why ≢ why.OutOfMemory = λ h. cc in (refusal_by old new ended bytes r stopped given no_want (refused no_want), quiet)
+fault_by_why old new ended before after bytes r (why.Order fault) stopped is given quiet refused wanting =
+    let no_want : r.why ≢ why.OutOfMemory = λ h. cc in (refusal_by old new ended bytes r stopped given no_want (refused no_want), quiet)
+fault_by_why old new ended before after bytes r (why.Start fault) stopped is given quiet refused wanting =
+    let no_want : r.why ≢ why.OutOfMemory = λ h. cc in (refusal_by old new ended bytes r stopped given no_want (refused no_want), quiet)
+fault_by_why old new ended before after bytes r (why.Rule rule) stopped is given quiet refused wanting =
+    let no_want : r.why ≢ why.OutOfMemory = λ h. cc in (refusal_by old new ended bytes r stopped given no_want (refused no_want), quiet)
+fault_by_why old new ended before after bytes r why.OutOfMemory stopped is given quiet refused wanting =
     (record { bytes = bytes; given = given; number = r.number; offset = r.offset; faultless = wanting is; stopped = stopped }, quiet)
-fault_by_why old new before after bytes r why.Failed stopped is given quiet refused wanting =
-    let no_want : r.why ≢ why.OutOfMemory = λ h. cc in (refusal_by old new bytes r stopped given no_want (refused no_want), quiet)
+fault_by_why old new ended before after bytes r why.Failed stopped is given quiet refused wanting =
+    let no_want : r.why ≢ why.OutOfMemory = λ h. cc in (refusal_by old new ended bytes r stopped given no_want (refused no_want), quiet)
 
-pub fault_tells : (old new : Option (List ℕ)) (before after : ℕ) (bytes : List ℕ) (r : Refusal) (fault : FlowFault) → StopsAt bytes → fault ≡ fault_of r → Consumes old new bytes → after ≡ before
-    → (r.why ≢ why.OutOfMemory → IsRefusedBehind new bytes r) → (r.why ≡ why.OutOfMemory → FaultlessTo bytes r.number r.offset)
-    → IsReadFault old new before after fault
-fault_tells old new before after bytes r fault stopped is given quiet refused wanting =
-    subst (IsReadFault old new before after) (sym is) (fault_by_why old new before after bytes r r.why stopped refl given quiet refused wanting)
+pub fault_tells : (old new : Option (List ℕ)) (ended : Bool) (before after : ℕ) (bytes : List ℕ) (r : Refusal) (fault : FlowFault) → StopsAt bytes → fault ≡ fault_of r → Consumes old new bytes → after ≡ before
+    → (r.why ≢ why.OutOfMemory → IsRefusedFrom new ended bytes r) → (r.why ≡ why.OutOfMemory → IsFaultlessFrom new ended bytes r.number r.offset)
+    → IsReadFault old new ended before after fault
+fault_tells old new ended before after bytes r fault stopped is given quiet refused wanting =
+    subst (IsReadFault old new ended before after) (sym is) (fault_by_why old new ended before after bytes r r.why stopped refl given quiet refused wanting)
 
 -- ---- one piece
 
+-- a reader that was fed bytes has found no fault in their closed statements
+pub read_so_far : (bytes : List ℕ) (reader : Reading) → HasRead bytes reader → AreFaultless bytes
+read_so_far bytes reader read = record {
+  closed = read.taken.closed;
+  sayings = read.taken.sayings;
+  cut = pieces_closed bytes read.taken.closed reader.cutter read.taken.cut.0;
+  faultless = read.taken.faultless;
+}
+
+stops_at : (bytes front piece : List ℕ) (reader : Reading) → bytes ≡ front ++ piece → length piece ≤ 4096 → HasRead front reader → StopsAt bytes
+stops_at bytes front piece reader whole short read = record {
+  front = front;
+  piece = piece;
+  whole = whole;
+  short = short;
+  faultless = read_so_far front reader read;
+}
+
 -- the piece shows a fault
-pub piece_refused : (bytes piece : List ℕ) (old new : Option (List ℕ)) (before after : ℕ) (r : Refusal) (fault : FlowFault) (reader : Reading) → HasRead bytes reader → length piece ≤ 4096 → fault ≡ fault_of r → Consumes old new piece → after ≡ before
+pub piece_refused : (bytes piece : List ℕ) (old new : Option (List ℕ)) (ended : Bool) (before after : ℕ) (r : Refusal) (fault : FlowFault) (reader : Reading) → HasRead bytes reader → length piece ≤ 4096 → fault ≡ fault_of r → Consumes old new piece → after ≡ before
     → ((more : List ℕ) → r.why ≢ why.OutOfMemory → Refused ((bytes ++ piece) ++ more) r.number r.offset r.why)
     → ((more : List ℕ) → r.why ≡ why.OutOfMemory → FaultlessTo ((bytes ++ piece) ++ more) r.number r.offset)
-    → (start : Option (List ℕ)) → Consumes start old bytes → IsReadFault start new before after fault
-piece_refused bytes piece old new before after r fault reader read short is given quiet refused wanting start front =
-    fault_tells start new before after (bytes ++ piece) r fault (record { front = bytes; piece = piece; whole = refl; short = short; reader = reader; read = read }) is (Consumes-trans start old new bytes piece front given) quiet
+    → (start : Option (List ℕ)) → Consumes start old bytes → IsReadFault start new ended before after fault
+piece_refused bytes piece old new ended before after r fault reader read short is given quiet refused wanting start front =
+    fault_tells start new ended before after (bytes ++ piece) r fault (stops_at (bytes ++ piece) bytes piece reader refl short read) is (Consumes-trans start old new bytes piece front given) quiet
     (λ no_want. inl (λ more. refused more no_want))
-    (λ want. subst (λ x. FaultlessTo x r.number r.offset) (append-nil (bytes ++ piece)) (wanting [] want))
+    (λ want. inl (λ more. wanting more want))
+
+-- a read that gives nothing although there is room shows the end
+pub ended_by : (old new : Bool) (taken : ℕ) (buffer : List ℕ) → taken ≡ 0 → 0 < length buffer → new ≡ after_read old taken buffer → new ≡ true
+ended_by true new taken buffer none room is = is
+ended_by false new taken buffer none room is = grind (arith, common_steps)
 
 -- no byte came, so the source is at its end
-pub no_piece : (bytes buffer : List ℕ) (taken : ℕ) (old new : Option (List ℕ)) (before after : ℕ) (r : Reading) → taken ≡ 0 → Consumes old new (take taken buffer) → (taken ≡ 0 → 0 < length buffer → IsAtEnd new)
-    → 0 < length buffer → after ≡ before → HasRead bytes r → FeedsNext bytes old new before after (Ok false) r
-no_piece bytes buffer taken old new before after r none given end room quiet h =
+pub no_piece : (bytes buffer : List ℕ) (taken : ℕ) (old new : Option (List ℕ)) (ended : Bool) (before after : ℕ) (r : Reading) → taken ≡ 0 → Consumes old new (take taken buffer) → (taken ≡ 0 → 0 < length buffer → IsAtEnd new)
+    → 0 < length buffer → ended ≡ true → after ≡ before → HasRead bytes r → FeedsNext bytes old new ended before after (Ok End) r
+no_piece bytes buffer taken old new ended before after r none given end room seen quiet h =
     let nothing : take taken buffer ≡ [] = ap (λ n. take n buffer) none in
-    (subst (Consumes old new) nothing given, end none room, quiet, h)
+    (subst (Consumes old new) nothing given, end none room, seen, quiet, h)
 
 -- ---- piece after piece
 
-pub fed_next : (old mid new : Option (List ℕ)) (before between after reads : ℕ) (r s : Reading) → IsFed old mid before between reads r
-    → ((bytes : List ℕ) → HasRead bytes r → FeedsNext bytes mid new between after (Ok true) s) → IsFed old new before after (reads + 1) s
-fed_next old mid new before between after reads r s h step =
+pub fed_next : (old mid new : Option (List ℕ)) (ended : Bool) (before between after reads : ℕ) (r s : Reading) → IsFed old mid before between reads r
+    → ((bytes : List ℕ) → HasRead bytes r → FeedsNext bytes mid new ended between after (Ok Piece) s) → IsFed old new before after (reads + 1) s
+fed_next old mid new ended before between after reads r s h step =
     let next = step h.bytes h.read in
     let longer : length (h.bytes ++ next.0) ≡ length h.bytes + length next.0 = length-append h.bytes next.0 in
     record {
@@ -138,24 +165,27 @@ fed_next old mid new before between after reads r s h step =
       read = next.5;
     }
 
-pub fed_last : (old mid new : Option (List ℕ)) (before between after reads : ℕ) (r s : Reading) → reads ≤ 16777216 → IsFed old mid before between reads r
-    → ((bytes : List ℕ) → HasRead bytes r → FeedsNext bytes mid new between after (Ok false) s) → IsFedAll old new before after s
-fed_last old mid new before between after reads r s within h step =
+pub fed_last : (old mid new : Option (List ℕ)) (ended : Bool) (before between after reads : ℕ) (r s : Reading) → reads ≤ 16777216 → IsFed old mid before between reads r
+    → ((bytes : List ℕ) → HasRead bytes r → FeedsNext bytes mid new ended between after (Ok End) s) → IsFedAll old new ended before after s
+fed_last old mid new ended before between after reads r s within h step =
     let next = step h.bytes h.read in
     record {
       bytes = h.bytes;
       given = subst (Consumes old new) (append-nil h.bytes) (Consumes-trans old mid new h.bytes [] h.given next.0);
-      ended = next.1;
+      at_end = next.1;
+      seen = next.2;
       few = omega (arith, h.most, within);
-      quiet = next.2 ∙ h.quiet;
-      read = next.3;
+      quiet = next.3 ∙ h.quiet;
+      read = next.4;
     }
 
 -- ---- the record
 
-pub record_refused : (old new : Option (List ℕ)) (before after : ℕ) (r : Reading) (e : Refusal) (fault : FlowFault) → fault ≡ fault_of e → IsFedAll old new before after r
+pub record_refused : (old new : Option (List ℕ)) (ended : Bool) (before after : ℕ) (r : Reading) (e : Refusal) (fault : FlowFault) → fault ≡ fault_of e → IsFedAll old new ended before after r
     → ((source : List ℕ) → HasRead source r → e.why ≢ why.OutOfMemory → Refused source e.number e.offset e.why)
     → ((source : List ℕ) → HasRead source r → e.why ≡ why.OutOfMemory → FaultlessTo source e.number e.offset)
-    → IsReadFault old new before after fault
-record_refused old new before after r e fault is h refused wanting =
-    fault_tells old new before after h.bytes e fault (record { front = h.bytes; piece = []; whole = sym (append-nil h.bytes); short = omega (arith); reader = r; read = h.read }) is h.given h.quiet (λ no_want. inr (h.ended, refused h.bytes h.read no_want)) (wanting h.bytes h.read)
+    → IsReadFault old new ended before after fault
+record_refused old new ended before after r e fault is h refused wanting =
+    fault_tells old new ended before after h.bytes e fault (stops_at h.bytes h.bytes [] r (sym (append-nil h.bytes)) (omega arith) h.read) is h.given h.quiet
+    (λ no_want. inr (h.at_end, h.seen, refused h.bytes h.read no_want))
+    (λ want. inr (h.at_end, h.seen, wanting h.bytes h.read want))

@@ -26,12 +26,13 @@ use Rattle.record_game.specs.declared.fault.Refusal.{Refusal}
 use Rattle.record_game.specs.declared.fault.Why.{Why}
 use Rattle.record_game.specs.declared.fault.Why.TheVariants.{Text, OutOfMemory}
 use Rattle.record_game.specs.Fits.{IsOfStatement}
-use Rattle.record_game.specs.Keeping.{Kept, Keeps}
+use Rattle.record_game.specs.Keeping.{Kept, HasKept}
 use Rattle.record_game.specs.Outcome.{Outcome, IsWritten}
 use Rattle.record_game.specs.Order.{order_fault}
 use Rattle.record_game.specs.LaidOut.{laid_out}
-use Rattle.csa_record.specs.Reading.{Failing, HasRead, HasTaken, HasAll, IsRefusedBy}
-use Rattle.record_game.specs.Refused.{start_why, Finishes, IsJudged, Answers, AnswersAfter, AnswersInOrder, Fault, Faultless, Refused}
+use Rattle.csa_record.specs.declared.record_reader.Failing.{Failing}
+use Rattle.csa_record.specs.Reading.{HasRead, HasTaken, HasAll, IsRefusedBy}
+use Rattle.record_game.specs.Refused.{start_why, Finishes, IsJudged, AnswersItem, AnswersAfter, AnswersInOrder, Fault, Faultless, Refused}
 use Rattle.record_game.specs.Tells.{IsSpelt}
 use Rattle.record_game.proofs.Units.{IsSomeUnit, kept_units, statements_are}
 
@@ -40,12 +41,12 @@ to_come : (p : PieceCutting) (text : List ℕ) → (others : List TextUnit) × T
 to_come p text = found _ _
 
 -- one more without a fault
-faultless_more : (before : List Saying) (us : List TextUnit) (ss : List Saying) (u : TextUnit) (s : Saying) → Faultless before us ss → IsSpelt u s → Answers (before ++ ss) s None → Faultless before (us ++ u ∷ []) (ss ++ s ∷ [])
-faultless_more before [] [] u s h spelt fine = (spelt, subst (λ b. Answers b s None) (append-nil before) fine, tt)
+faultless_more : (before : List Saying) (us : List TextUnit) (ss : List Saying) (u : TextUnit) (s : Saying) → Faultless before us ss → IsSpelt u s → AnswersItem (before ++ ss) s None → Faultless before (us ++ u ∷ []) (ss ++ s ∷ [])
+faultless_more before [] [] u s h spelt fine = (spelt, subst (λ b. AnswersItem b s None) (append-nil before) fine, tt)
 faultless_more before [] (t ∷ ts) u s h spelt fine = absurd h
 faultless_more before (v ∷ vs) [] u s h spelt fine = absurd h
 faultless_more before (v ∷ vs) (t ∷ ts) u s h spelt fine =
-    (h.0, h.1, faultless_more (before ++ t ∷ []) vs ts u s h.2 spelt (subst (λ b. Answers b s None) (sym (append_assoc before (t ∷ []) ts)) fine))
+    (h.0, h.1, faultless_more (before ++ t ∷ []) vs ts u s h.2 spelt (subst (λ b. AnswersItem b s None) (sym (append_assoc before (t ∷ []) ts)) fine))
 
 short_more : (us : List TextUnit) (u : TextUnit) → AreShort us → length u.bytes ≤ 4096 → AreShort (us ++ u ∷ [])
 short_more [] u h k = (k, tt)
@@ -117,8 +118,8 @@ after_never : (fault : Option OrderFault) (before : List Saying) (s : Saying) �
 after_never None before s h = in_order_never before s h
 after_never (Some fault) before s h = cc
 
-never_memory : (before : List Saying) (s : Saying) (why : Why) → Answers before s (Some why) → why ≢ OutOfMemory
-never_memory before s why h e = after_never (order_fault before s) before s (subst (λ w. Answers before s (Some w)) e h)
+never_memory : (before : List Saying) (s : Saying) (why : Why) → AnswersItem before s (Some why) → why ≢ OutOfMemory
+never_memory before s why h e = after_never (order_fault before s) before s (subst (λ w. AnswersItem before s (Some w)) e h)
 
 -- a statement after those without a fault
 record IsNext (source : List ℕ) (handed : List TextUnit) (unit : TextUnit) (sayings : List Saying) (number : ℕ) : Type 0 where
@@ -305,9 +306,9 @@ pub fed_length : (source : List ℕ) (p : PieceCutting) (k : Kept) → HasTaken 
 fed_length source p k h = h.cut.0.took ∙ omega arith
 
 -- nothing yet
-pub nothing_taken : (k : Kept) → Keeps [] k → HasTaken [] fresh k
+pub nothing_taken : (k : Kept) → HasKept [] k → HasTaken [] fresh k
 nothing_taken k h = record { closed = []; sayings = []; cut = nothing_fed; faultless = tt; keeps = h }
 
 -- a reader of no bytes
-pub new_reader : (p : PieceCutting) (k : Kept) (f : Option Failing) → f ≡ None → p ≡ fresh → Keeps [] k → HasRead [] (record { cutter = p; kept = k; failing = f })
+pub new_reader : (p : PieceCutting) (k : Kept) (f : Option Failing) → f ≡ None → p ≡ fresh → HasKept [] k → HasRead [] (record { cutter = p; kept = k; failing = f })
 new_reader p k f going start keeps = record { going = going; taken = subst (λ q. HasTaken [] q k) (sym start) (nothing_taken k keeps) }

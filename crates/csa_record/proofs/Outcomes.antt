@@ -6,13 +6,13 @@ use Rattle.record_game.specs.declared.fault.Why.{Why}
 use Rattle.record_game.specs.Answer.{IsAnswer}
 use Rattle.record_game.specs.Keeping.{Kept, TakenOrRefused}
 use Rattle.record_game.specs.Outcome.{Outcome}
-use Rattle.record_game.specs.Refused.{Answers}
+use Rattle.record_game.specs.Refused.{AnswersItem}
 
-by_answer : (before : List Saying) (bytes : List ℕ) (s : Saying) (why : Why) (new : Kept) (answer : Option Why) → Spells bytes s → Answers before s answer → IsAnswer answer (Err why) → Outcome before bytes (Err why) new
+by_answer : (before : List Saying) (bytes : List ℕ) (s : Saying) (why : Why) (new : Kept) (answer : Option Why) → Spells bytes s → AnswersItem before s answer → IsAnswer answer (Err why) → Outcome before bytes (Err why) new
 by_answer before bytes s why new None spells answers is = inl (is, (s, (spells, answers)))
-by_answer before bytes s why new (Some fault) spells answers is = inr (inr (s, spells, subst (λ w. Answers before s (Some w)) (sym is) answers))
+by_answer before bytes s why new (Some fault) spells answers is = inr (inr (s, spells, subst (λ w. AnswersItem before s (Some w)) (sym is) answers))
 
-taken : (before : List Saying) (s : Saying) (answer : Option Why) → Answers before s answer → IsAnswer answer (Ok tt) → Answers before s None
+taken : (before : List Saying) (s : Saying) (answer : Option Why) → AnswersItem before s answer → IsAnswer answer (Ok tt) → AnswersItem before s None
 taken before s None answers is = answers
 taken before s (Some fault) answers is = absurd is
 

@@ -9,7 +9,8 @@ use Rattle.shogi_board.specs.Placed.{Placed, even_start}
 use Rattle.shogi_board.specs.Totals.{bare_board}
 use Rattle.shogi_rules.specs.declared.moves.Move.TheVariants.{Walk}
 use Rattle.csa_text.specs.declared.ending.Ending.TheVariants.{Toryo}
-use Rattle.record_game.specs.Canon.{canon, time_text}
+use Rattle.csa_text.specs.TimeTexts.{time_text}
+use Rattle.record_game.specs.Canon.{canon}
 use Rattle.record_game.specs.Game.{Game, Timed, Ended}
 use Rattle.record_game.specs.Squares.{square_at}
 

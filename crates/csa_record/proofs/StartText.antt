@@ -1,7 +1,6 @@
 -- The text of a start, piece by piece.
 use Rattle.std.proofs.Common.{◌≡◌, ℕ, zero, suc, ◌+◌, ◌-◌, ◌*◌, ◌<◌, false, List, [], ◌∷◌, ◌++◌, length, drop, get_or, replicate, None, refl, sym, ap, ◌∙◌, append_assoc, arith}
 use Rattle.std.specs.List.{flat_map}
-use Rattle.std.specs.Prelude.{codes}
 use Rattle.std.proofs.lemmas.Grind.{flat_map-append}
 use Rattle.std.proofs.lemmas.List.{append-nil}
 use Rattle.shogi_board.specs.declared.color.Color.{Color}
@@ -13,7 +12,7 @@ use Rattle.shogi_board.specs.Placed.{Placed}
 use Rattle.shogi_board.specs.Squares.{place}
 use Rattle.shogi_board.specs.declared.square.Square.{Square}
 use Rattle.shogi_board.specs.Totals.{count_in}
-use Rattle.csa_text.specs.Codes.{sign, kind_code, square_text, cell_text}
+use Rattle.csa_text.specs.Codes.{sign, square_text, cell_text}
 use Rattle.csa_text.specs.PairTexts.{pair_text, pairs_text}
 use Rattle.csa_text.specs.Saying.{rank, pieces}
 use Rattle.csa_text.specs.declared.pair.Pair.{Pair}
@@ -88,20 +87,20 @@ start_written p old a b c other e f g =
     g ∙ (ap (λ t. t ++ white) (f ∙ ap (λ t. t ++ black) e)
     ∙ (append_assoc (old ++ ranks) black white ∙ (append_assoc old ranks (black ++ white) ∙ ap (λ t. old ++ t) (sym (other_items p other)))))
 
-pub line_written : (old a b c d : List ℕ) (color : Color) (bag : List ℕ) → (length (hand_pairs bag) ≡ 0 → ⊥) → a ≡ old ++ 80 ∷ [] → b ≡ a ++ sign color ∷ [] → c ≡ b ++ pairs_text (hand_pairs bag) → d ≡ c ++ 10 ∷ [] → d ≡ old ++ flat_map ended_line (hand_items color bag)
-line_written old a b c d color bag some e f g h =
+pub line_written : (old b c d : List ℕ) (color : Color) (bag : List ℕ) → (length (hand_pairs bag) ≡ 0 → ⊥) → b ≡ old ++ 80 ∷ sign color ∷ [] → c ≡ b ++ pairs_text (hand_pairs bag) → d ≡ c ++ 10 ∷ [] → d ≡ old ++ flat_map ended_line (hand_items color bag)
+line_written old b c d color bag some f g h =
     let text = pairs_text (hand_pairs bag) in
-    h ∙ (ap (λ t. t ++ 10 ∷ []) (g ∙ (ap (λ t. t ++ text) (f ∙ ap (λ t. t ++ sign color ∷ []) e) ∙ (ap (λ t. t ++ text) (append_assoc old (80 ∷ []) (sign color ∷ [])) ∙ append_assoc old (80 ∷ sign color ∷ []) text)))
+    h ∙ (ap (λ t. t ++ 10 ∷ []) (g ∙ (ap (λ t. t ++ text) f ∙ append_assoc old (80 ∷ sign color ∷ []) text))
     ∙ (append_assoc old (80 ∷ sign color ∷ text) (10 ∷ []) ∙ ap (λ t. old ++ t) (sym (hand_line color bag some))))
 
 replicate_less : (n k : ℕ) (p : Pair) → k < n → replicate (n - k) p ≡ p ∷ replicate (n - (k + 1)) p
 replicate_less n k p low = let e : n - k ≡ suc (n - (k + 1)) = omega arith in ap (λ m. replicate m p) e
 
-pub held_more : (whole now mid next : List ℕ) (kind : Kind) (n k : ℕ) → k < n → now ++ pairs_text (replicate (n - k) (InHand kind)) ≡ whole → mid ≡ now ++ codes "00" → next ≡ mid ++ kind_code kind → next ++ pairs_text (replicate (n - (k + 1)) (InHand kind)) ≡ whole
-held_more whole now mid next kind n k low left e f =
+pub held_more : (whole now next : List ℕ) (kind : Kind) (n k : ℕ) → k < n → now ++ pairs_text (replicate (n - k) (InHand kind)) ≡ whole → next ≡ now ++ pair_text (InHand kind) → next ++ pairs_text (replicate (n - (k + 1)) (InHand kind)) ≡ whole
+held_more whole now next kind n k low left e =
     let rest = pairs_text (replicate (n - (k + 1)) (InHand kind)) in
-    ap (λ t. t ++ rest) (f ∙ (ap (λ t. t ++ kind_code kind) e ∙ append_assoc now (codes "00") (kind_code kind)))
-    ∙ (append_assoc now (codes "00" ++ kind_code kind) rest ∙ (ap (λ ps. now ++ pairs_text ps) (sym (replicate_less n k (InHand kind) low)) ∙ left))
+    ap (λ t. t ++ rest) e
+    ∙ (append_assoc now (pair_text (InHand kind)) rest ∙ (ap (λ ps. now ++ pairs_text ps) (sym (replicate_less n k (InHand kind) low)) ∙ left))
 
 -- one more kind of a hand
 pub kind_more : (old now next done : List ℕ) (bag : List ℕ) (kind : Kind) (n : ℕ) → n ≡ count_in bag kind → now ≡ old ++ done → next ≡ now ++ pairs_text (replicate n (InHand kind)) → next ≡ old ++ (done ++ pairs_text (held bag kind))

@@ -17,9 +17,10 @@ use Rattle.record_game.specs.declared.fault.Why.TheVariants.{Text, Order, OutOfM
 use Rattle.record_game.specs.Fits.{IsOfStatement}
 use Rattle.record_game.specs.Game.{Game}
 use Rattle.record_game.specs.Items.{sides}
-use Rattle.record_game.specs.Keeping.{Kept, Keeps}
+use Rattle.record_game.specs.Keeping.{Kept, HasKept}
 use Rattle.record_game.specs.Outcome.{Outcome, IsWritten}
-use Rattle.csa_record.specs.Reading.{Failing, Reading, HasTaken, HasRead, HasAll, IsRefusedBy, LastTaken}
+use Rattle.csa_record.specs.declared.record_reader.Failing.{Failing}
+use Rattle.csa_record.specs.Reading.{Reading, HasTaken, HasRead, HasAll, IsRefusedBy, LastTaken}
 use Rattle.record_game.specs.Refused.{Refused, FaultlessTo}
 use Rattle.record_game.specs.Says.{Says}
 use Rattle.record_game.specs.Tells.{Tells}
@@ -93,12 +94,12 @@ memory_of source r (inl h) is = absurd (h.0 is)
 memory_of source r (inr h) is = h.1
 
 -- the end, if all statements were taken
-pub told_of : (source : List ℕ) (p : PieceCutting) (k : Kept) (g : Game) → HasAll source p k → ((sayings : List Saying) → Keeps sayings k → AllByRecursion IsWritten sayings → Says sayings g) → Tells source g
+pub told_of : (source : List ℕ) (p : PieceCutting) (k : Kept) (g : Game) → HasAll source p k → ((sayings : List Saying) → HasKept sayings k → AllByRecursion IsWritten sayings → Says sayings g) → Tells source g
 told_of source p k g h says =
     let spelt = all_spelt [] h.statements h.sayings h.faultless in
     record { statements = h.statements; sayings = h.sayings; cut = h.cut; spelt = spelt; says = says h.sayings h.keeps (all_written h.statements h.sayings spelt) }
 
-pub missing_of : (source : List ℕ) (p q : PieceCutting) (k new : Kept) → HasTaken source p k → HasAll source q new → ((sayings : List Saying) → Keeps sayings new → AllByRecursion IsWritten sayings → sides sayings ≡ [])
+pub missing_of : (source : List ℕ) (p q : PieceCutting) (k new : Kept) → HasTaken source p k → HasAll source q new → ((sayings : List Saying) → HasKept sayings new → AllByRecursion IsWritten sayings → sides sayings ≡ [])
     → Refused source (q.number + 1) p.fed (Order MissingTurn)
 missing_of source p q k new taken h none =
     let spelt = all_spelt [] h.statements h.sayings h.faultless in

@@ -4,15 +4,14 @@ use Rattle.std.specs.Prelude.{◌≡◌, ℕ, not, is_some, Bool, false, List, [
 use Rattle.shogi_board.specs.declared.color.Color.{Color}
 use Rattle.shogi_rules.specs.Play.{Answers}
 use Rattle.shogi_rules.specs.declared.line.PlayFault.{PlayFault}
-use Rattle.shogi_rules.specs.declared.line.PlayFault.TheVariants as playing
 use Rattle.shogi_rules.specs.declared.moves.Move.{Move}
 use Rattle.shogi_rules.specs.Positions.{Played}
 use Rattle.csa_record.specs.declared.course.Ended as stored
-use Rattle.record_game.specs.declared.fault.OrderFault.TheVariants.{TooManyMoves}
 use Rattle.record_game.specs.declared.fault.Why.{Why}
-use Rattle.record_game.specs.declared.fault.Why.TheVariants.{Order, Rule, OutOfMemory}
+use Rattle.record_game.specs.declared.fault.Why.TheVariants.{OutOfMemory}
 use Rattle.record_game.specs.Course.{Course, IsCourse}
 use Rattle.record_game.specs.Game.{Timed, Ended}
+use Rattle.record_game.specs.PlayFaults.{why_of}
 
 -- each move with its time
 abbrev pub timed : List Move → List (Option ℕ) → List Timed
@@ -46,16 +45,10 @@ with_last [] time = []
 with_last (t ∷ []) time = Some time ∷ []
 with_last (t ∷ u ∷ ts) time = t ∷ with_last (u ∷ ts) time
 
--- a fault of playing, as the fault of a statement
-abbrev pub played_why : PlayFault → Why
-played_why playing.TooManyMoves = Order TooManyMoves
-played_why (playing.Broken rule) = Rule rule
-played_why playing.OutOfMemory = OutOfMemory
-
 -- a refused move has its fault, or else memory is lacking
 abbrev pub tried_why : Option PlayFault → Why
 tried_why None = OutOfMemory
-tried_why (Some fault) = played_why fault
+tried_why (Some fault) = why_of fault
 
 -- the move is not played, and why
 abbrev pub NotPlayed : Played → Color → Move → Why → Type 0

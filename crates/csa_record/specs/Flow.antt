@@ -1,13 +1,16 @@
 -- A record that comes from a source, and its canonical text that goes to a sink.
-use Rattle.std.specs.Prelude.{◌≡◌, ◌≢◌, ◌⊎◌, ℕ, ◌+◌, ◌*◌, ◌<◌, ◌≤◌, ◌==◌, ◌&&◌, ◌||◌, Bool, true, false, nat_lt, if◌then◌else◌, List, [], ◌++◌, length, take, Option, Result, Ok, Err, MatchResult}
+use Rattle.std.specs.Prelude.{◌≡◌, ◌≢◌, ◌⊎◌, ℕ, ◌+◌, ◌*◌, ◌<◌, ◌≤◌, ◌==◌, ◌&&◌, ◌||◌, Bool, true, nat_lt, if◌then◌else◌, List, [], ◌++◌, length, take, Option, Result, Ok, Err, MatchResult}
 use Rattle.std.specs.Io.KnownBytes.{Keeps, Appends, Consumes, IsAtEnd}
 use Rattle.record_game.specs.declared.fault.Refusal.{Refusal}
 use Rattle.record_game.specs.declared.fault.Why.{Why}
 use Rattle.record_game.specs.declared.fault.Why.TheVariants as why
+use Rattle.csa_record.specs.declared.flow.Fed.{Fed}
+use Rattle.csa_record.specs.declared.flow.Fed.TheVariants.{Piece, End}
 use Rattle.csa_record.specs.declared.flow.FlowFault.{FlowFault}
 use Rattle.csa_record.specs.declared.flow.FlowFault.TheVariants as flow
 use Rattle.record_game.specs.Canon.{canon}
 use Rattle.record_game.specs.Game.{Game}
+use Rattle.record_game.specs.Closed.{AreFaultless}
 use Rattle.csa_record.specs.Reading.{Reading, HasRead}
 use Rattle.record_game.specs.Refused.{Refused, FaultlessTo}
 use Rattle.record_game.specs.Tells.{Tells}
@@ -64,37 +67,43 @@ pub record IsTold (old new : Option (List ℕ)) (g : Game) : Type 0 where
   pub tells : Tells bytes g
 
 -- bytes with this front are refused in this way, whatever follows it; or the source is at its end,
--- and they are refused there
-abbrev pub IsRefusedBehind : Option (List ℕ) → List ℕ → Refusal → Type 0
-IsRefusedBehind new bytes r =
+-- which a read has shown, and they are refused there
+abbrev pub IsRefusedFrom : Option (List ℕ) → Bool → List ℕ → Refusal → Type 0
+IsRefusedFrom new ended bytes r =
     ((more : List ℕ) → Refused (bytes ++ more) r.number r.offset r.why)
-    ⊎ (IsAtEnd new × Refused bytes r.number r.offset r.why)
+    ⊎ (IsAtEnd new × (ended ≡ true) × Refused bytes r.number r.offset r.why)
 
--- all but a last piece of at most 4,096 bytes was read, and no statement that it closes has a fault
+-- but for a last piece of at most 4,096 bytes, no closed statement of these bytes has a fault
 pub record StopsAt (bytes : List ℕ) : Type 0 where
   pub front : List ℕ
   pub piece : List ℕ
   pub whole : bytes ≡ front ++ piece
   pub short : length piece ≤ longest_piece
-  pub reader : Reading
-  pub read : HasRead front reader
+  pub faultless : AreFaultless front
 
 -- the source gave bytes that are refused in this way
-pub record IsRefusal (old new : Option (List ℕ)) (r : Refusal) : Type 0 where
+pub record IsRefusal (old new : Option (List ℕ)) (ended : Bool) (r : Refusal) : Type 0 where
   pub bytes : List ℕ
   pub given : Consumes old new bytes
   pub stopped : StopsAt bytes
-  pub refused : IsRefusedBehind new bytes r
+  pub refused : IsRefusedFrom new ended bytes r
   pub no_want : r.why ≢ why.OutOfMemory
   pub first : r.why ≢ why.Failed
 
+-- the statements up to this one have no fault, whatever follows these bytes; or the source is at
+-- its end, which a read has shown, and they have none there
+abbrev pub IsFaultlessFrom : Option (List ℕ) → Bool → List ℕ → ℕ → ℕ → Type 0
+IsFaultlessFrom new ended bytes number offset =
+    ((more : List ℕ) → FaultlessTo (bytes ++ more) number offset)
+    ⊎ (IsAtEnd new × (ended ≡ true) × FaultlessTo bytes number offset)
+
 -- the source gave bytes whose statements up to some offset have no fault
-pub record IsFaultless (old new : Option (List ℕ)) : Type 0 where
+pub record IsFaultless (old new : Option (List ℕ)) (ended : Bool) : Type 0 where
   pub bytes : List ℕ
   pub given : Consumes old new bytes
   pub number : ℕ
   pub offset : ℕ
-  pub faultless : FaultlessTo bytes number offset
+  pub faultless : IsFaultlessFrom new ended bytes number offset
   pub stopped : StopsAt bytes
 
 -- the source gave at least so many bytes
@@ -109,32 +118,38 @@ FailsRead old new before after = (after ≡ before + 1)
     ⊎ ((after ≡ before) × GaveMany old new most_reads)
 
 -- what the source gave has no fault: so far, or to its end, where it contains a game
-abbrev pub IsWanting : Option (List ℕ) → Option (List ℕ) → Type 0
-IsWanting old new = IsFaultless old new ⊎ ((g : Game) × IsTold old new g)
+abbrev pub IsWanting : Option (List ℕ) → Option (List ℕ) → Bool → Type 0
+IsWanting old new ended = IsFaultless old new ended
+    ⊎ ((ended ≡ true) × ((g : Game) × IsTold old new g))
 
 -- what the source gave if no record was read, and how often it had failed before and after
-abbrev pub IsReadFault : Option (List ℕ) → Option (List ℕ) → ℕ → ℕ → FlowFault → Type 0
-IsReadFault old new before after (flow.Refused r) = IsRefusal old new r × (after ≡ before)
-IsReadFault old new before after flow.ReadFault = FailsRead old new before after
-IsReadFault old new before after flow.WriteFault = ⊥
-IsReadFault old new before after flow.OutOfMemory = IsFaultless old new × (after ≡ before)
+abbrev pub IsReadFault : Option (List ℕ) → Option (List ℕ) → Bool → ℕ → ℕ → FlowFault → Type 0
+IsReadFault old new ended before after (flow.Refused r) =
+    IsRefusal old new ended r × (after ≡ before)
+IsReadFault old new ended before after flow.ReadFault = FailsRead old new before after
+IsReadFault old new ended before after flow.WriteFault = ⊥
+IsReadFault old new ended before after flow.OutOfMemory =
+    IsFaultless old new ended × (after ≡ before)
 
 -- what the source gave, and what was read of it
-abbrev pub ReadsRecord : Option (List ℕ) → Option (List ℕ) → ℕ → ℕ → Result Game FlowFault → Type 0
-ReadsRecord old new before after (Ok g) = IsTold old new g × (after ≡ before)
-ReadsRecord old new before after (Err fault) = IsReadFault old new before after fault
+abbrev pub ReadsRecord : Option (List ℕ) → Option (List ℕ) → Bool → ℕ → ℕ → Result Game FlowFault
+    → Type 0
+ReadsRecord old new ended before after (Ok g) =
+    IsTold old new g × (ended ≡ true) × (after ≡ before)
+ReadsRecord old new ended before after (Err fault) = IsReadFault old new ended before after fault
 
 -- a reader of these bytes was fed the next piece of the source; or the source is at its end; or the
 -- reading stops here
-abbrev pub FeedsNext : List ℕ → Option (List ℕ) → Option (List ℕ) → ℕ → ℕ → Result Bool FlowFault
-    → Reading → Type 0
-FeedsNext bytes old new before after (Ok true) reader =
+abbrev pub FeedsNext : List ℕ → Option (List ℕ) → Option (List ℕ) → Bool → ℕ → ℕ
+    → Result Fed FlowFault → Reading → Type 0
+FeedsNext bytes old new ended before after (Ok Piece) reader =
     (piece : List ℕ) × Consumes old new piece × (0 < length piece) × (length piece ≤ longest_piece)
     × (after ≡ before) × HasRead (bytes ++ piece) reader
-FeedsNext bytes old new before after (Ok false) reader = Consumes old new [] × IsAtEnd new
-    × (after ≡ before) × HasRead bytes reader
-FeedsNext bytes old new before after (Err fault) reader =
-    (start : Option (List ℕ)) → Consumes start old bytes → IsReadFault start new before after fault
+FeedsNext bytes old new ended before after (Ok End) reader = Consumes old new [] × IsAtEnd new
+    × (ended ≡ true) × (after ≡ before) × HasRead bytes reader
+FeedsNext bytes old new ended before after (Err fault) reader =
+    (start : Option (List ℕ)) → Consumes start old bytes
+    → IsReadFault start new ended before after fault
 
 -- a reader was fed what the source gave in so many reads
 pub record IsFed (old new : Option (List ℕ)) (before after reads : ℕ)
@@ -147,25 +162,29 @@ pub record IsFed (old new : Option (List ℕ)) (before after reads : ℕ)
   pub read : HasRead bytes reader
 
 -- a reader was fed all that the source gave up to its end
-pub record IsFedAll (old new : Option (List ℕ)) (before after : ℕ) (reader : Reading) : Type 0 where
+pub record IsFedAll (old new : Option (List ℕ)) (ended : Bool) (before after : ℕ)
+    (reader : Reading) : Type 0 where
   pub bytes : List ℕ
   pub given : Consumes old new bytes
-  pub ended : IsAtEnd new
+  pub at_end : IsAtEnd new
+  pub seen : ended ≡ true
   pub few : length bytes ≤ longest_piece * most_reads
   pub quiet : after ≡ before
   pub read : HasRead bytes reader
 
 -- the source gave a game, and this is its canonical text; or no game was read, or memory was
 -- lacking
-abbrev pub IsTextFault : Option (List ℕ) → Option (List ℕ) → ℕ → ℕ → FlowFault → Type 0
-IsTextFault old new before after (flow.Refused r) = IsRefusal old new r × (after ≡ before)
-IsTextFault old new before after flow.ReadFault = FailsRead old new before after
-IsTextFault old new before after flow.WriteFault = ⊥
-IsTextFault old new before after flow.OutOfMemory = IsWanting old new × (after ≡ before)
+abbrev pub IsTextFault : Option (List ℕ) → Option (List ℕ) → Bool → ℕ → ℕ → FlowFault → Type 0
+IsTextFault old new ended before after (flow.Refused r) =
+    IsRefusal old new ended r × (after ≡ before)
+IsTextFault old new ended before after flow.ReadFault = FailsRead old new before after
+IsTextFault old new ended before after flow.WriteFault = ⊥
+IsTextFault old new ended before after flow.OutOfMemory =
+    IsWanting old new ended × (after ≡ before)
 
-abbrev pub TellsText : Option (List ℕ) → Option (List ℕ) → ℕ → ℕ → List ℕ → Type 0
-TellsText old new before after text = (g : Game) × IsTold old new g × (text ≡ canon g)
-    × (after ≡ before)
+abbrev pub TellsText : Option (List ℕ) → Option (List ℕ) → Bool → ℕ → ℕ → List ℕ → Type 0
+TellsText old new ended before after text = (g : Game) × IsTold old new g × (text ≡ canon g)
+    × (ended ≡ true) × (after ≡ before)
 
 -- the source gave a game, of whose canonical text the sink took all and nothing else
 pub record IsNormal (old new held_old held_new : Option (List ℕ)) : Type 0 where
@@ -181,13 +200,16 @@ pub record IsCutShort (old new held_old held_new : Option (List ℕ)) : Type 0 w
 
 -- what was read and written if the text was not written whole, and how often the source and the
 -- sink had failed before and after
-abbrev pub IsFlowFault : Option (List ℕ) → Option (List ℕ) → Option (List ℕ) → Option (List ℕ) → ℕ
-    → ℕ → ℕ → ℕ → FlowFault → Type 0
-IsFlowFault old new held_old held_new before after sink_before sink_after (flow.Refused r) =
-    IsRefusal old new r × (after ≡ before) × Keeps held_old held_new × (sink_after ≡ sink_before)
-IsFlowFault old new held_old held_new before after sink_before sink_after flow.ReadFault =
+abbrev pub IsFlowFault : Option (List ℕ) → Option (List ℕ) → Bool → Option (List ℕ)
+    → Option (List ℕ) → ℕ → ℕ → ℕ → ℕ → FlowFault → Type 0
+IsFlowFault old new ended held_old held_new before after sink_before sink_after (flow.Refused r) =
+    IsRefusal old new ended r × (after ≡ before) × Keeps held_old held_new
+    × (sink_after ≡ sink_before)
+IsFlowFault old new ended held_old held_new before after sink_before sink_after flow.ReadFault =
     FailsRead old new before after × Keeps held_old held_new × (sink_after ≡ sink_before)
-IsFlowFault old new held_old held_new before after sink_before sink_after flow.WriteFault =
-    IsCutShort old new held_old held_new × (after ≡ before) × (sink_after ≡ sink_before + 1)
-IsFlowFault old new held_old held_new before after sink_before sink_after flow.OutOfMemory =
-    IsWanting old new × (after ≡ before) × Keeps held_old held_new × (sink_after ≡ sink_before)
+IsFlowFault old new ended held_old held_new before after sink_before sink_after flow.WriteFault =
+    IsCutShort old new held_old held_new × (ended ≡ true) × (after ≡ before)
+    × (sink_after ≡ sink_before + 1)
+IsFlowFault old new ended held_old held_new before after sink_before sink_after flow.OutOfMemory =
+    IsWanting old new ended × (after ≡ before) × Keeps held_old held_new
+    × (sink_after ≡ sink_before)

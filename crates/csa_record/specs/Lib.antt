@@ -3,7 +3,6 @@ pub mod Coursing
 pub mod Starting
 pub mod KeptStage
 pub mod Reading
-pub mod FailingOf
 pub mod Flow
 pub mod Bytes
 pub use Rattle.record_game.specs.Answer

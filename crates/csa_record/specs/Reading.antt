@@ -4,16 +4,11 @@ use Rattle.csa_cutting.specs.Cut.{TextUnit, IsCut}
 use Rattle.csa_cutting.specs.PieceCutting.{PieceCutting}
 use Rattle.csa_cutting.specs.TooLong.{HasCutOf}
 use Rattle.csa_text.specs.Saying.{Saying}
+use Rattle.csa_record.specs.declared.record_reader.Failing.{Failing}
 use Rattle.record_game.specs.declared.fault.Refusal.{Refusal}
 use Rattle.record_game.specs.declared.fault.Why.TheVariants.{OutOfMemory}
-use Rattle.record_game.specs.Keeping.{Kept, Keeps}
+use Rattle.record_game.specs.Keeping.{Kept, HasKept}
 use Rattle.record_game.specs.Refused.{Faultless, Refused, FaultlessTo}
-
--- the statement that was refused, and how many bytes had been fed before
-pub record Failing : Type 0 where
-  pub number : ℕ
-  pub offset : ℕ
-  pub fed : ℕ
 
 -- the cutter of its pieces, what is kept of their statements, and where it was refused
 pub record Reading : Type 0 where
@@ -36,7 +31,7 @@ pub record HasTaken (source : List ℕ) (p : PieceCutting) (k : Kept) : Type 0 w
   pub sayings : List Saying
   pub cut : HasCutOf source p closed
   pub faultless : Faultless [] closed sayings
-  pub keeps : Keeps sayings k
+  pub keeps : HasKept sayings k
 
 -- the reader was fed these bytes, whose closed statements have no fault
 pub record HasRead (source : List ℕ) (r : Reading) : Type 0 where
@@ -61,7 +56,7 @@ pub record HasAll (source : List ℕ) (p : PieceCutting) (k : Kept) : Type 0 whe
   pub sayings : List Saying
   pub cut : IsCut source statements
   pub faultless : Faultless [] statements sayings
-  pub keeps : Keeps sayings k
+  pub keeps : HasKept sayings k
   pub counted : p.number ≡ length statements
 
 -- the last statement was taken, if one was unfinished; or the bytes are refused

@@ -1,22 +1,19 @@
 ghost use Rattle.std.specs.Prelude.{◌≡◌, ◌≤◌, ◌<◌, ◌++◌, ◌∷◌, ◌+◌, ◌↔◌, [], IsOk, IfOk, IfErr, OnOk, OnErr, Option, None, length, map};
 ghost use Rattle.std.specs.List.{flat_map};
 ghost use Rattle.shogi_rules.specs.Play.{Answers};
-ghost use Rattle.shogi_rules.specs.Positions.{IsGame, max_moves};
-ghost use Rattle.csa_text.specs.Codes.{kind_code, square_text};
-ghost use Rattle.csa_text.specs.Saying.{time, walked};
+ghost use Rattle.csa_text.specs.Saying.{walked};
 ghost use Rattle.record_game.specs.declared.fault.Why.{Why};
 ghost use Rattle.record_game.specs.Answer.{IsAnswer};
-ghost use Rattle.record_game.specs.Canon.{ended_line, fraction_text};
-ghost use Rattle.record_game.specs.Course.{IsCourse, PlayAnswers, line_of, untimed, play_fault, close_fault, awaits_time, time_fault, with_time, with_ending, time_at, ending_of, ending_time_of};
-ghost use Rattle.csa_record.specs.Coursing.{timed, ended, lacks_last, with_last, played_why, NotPlayed};
+ghost use Rattle.record_game.specs.Canon.{ended_line};
+ghost use Rattle.record_game.specs.Course.{IsCourse, PlayAnswers, course_line, untimed, play_fault, close_fault, awaits_time, time_fault, with_time, with_ending, time_at, ending_of, ending_time_of};
+ghost use Rattle.csa_record.specs.Coursing.{timed, ended, lacks_last, with_last, NotPlayed};
 ghost use Rattle.record_game.specs.Limits.{longest_time};
 ghost use Rattle.record_game.specs.Says.{move_items, time_items, ending_items};
 
-use csa_text::{Ending, kind_text, sign_of};
-use itoa::Buffer;
+use csa_text::{Ending, move_bytes, write_ending, write_time};
 use record_game::{OrderFault, Why};
-use shogi_board::{Color, Kind, OutOfMemory, Position, Square};
-use shogi_rules::{Line, MAX_MOVES, Move, PlayFault};
+use shogi_board::{Color, OutOfMemory, Position};
+use shogi_rules::{Line, MAX_MOVES, Move};
 use std::alloc::Global;
 use std::marker::Model;
 
@@ -55,8 +52,7 @@ impl Course {
     pub(crate) fn new(alloc: Global, start: Position) -> Result<Course, OutOfMemory>
         ensures { IfOk result (λ c. c ≡ record { start = start; moves = []; ending = None }) }
     {
-        // the contract of `side` says that the start is sound
-        let _side = start.side();
+        start.soundness();
         Ok(Course {
             line: Line::new(alloc, start)?,
             times: Vec::with_capacity(alloc, FIRST_ROOM)?,
@@ -75,8 +71,7 @@ impl Course {
             }) }
         ensures err { IfErr result (λ l. l ≡ line) }
     {
-        // the contract of `side` says that the start is sound
-        let _side = line.start().side();
+        line.start().soundness();
         match Vec::from_elem(alloc, None, line.moves().len()) {
             Ok(times) => Ok(Course {
                 line,
@@ -87,9 +82,19 @@ impl Course {
         }
     }
 
+    // Does nothing: its clause says that the course is sound, for callers that do not see its
+    // fields.
+    #[inline(always)]
+    pub(crate) fn soundness(&self)
+        ensures { IsCourse self.now }
+    {
+        // what holds of each course is known once one of its fields is read
+        let _ending = self.ending;
+    }
+
     // The start and the moves.
     pub(crate) fn line(&self) -> &Line
-        ensures { result.now ≡ line_of self.now }
+        ensures { result.now ≡ course_line self.now }
     {
         &self.line
     }
@@ -108,7 +113,7 @@ impl Course {
     // How the game ended, if it has an ending.
     pub(crate) fn ending(&self) -> Option<Ending>
         ensures value { result ≡ ending_of self.now.ending }
-        ensures game { IsCourse self.now }
+        ensures course { IsCourse self.now }
     {
         self.ending.map(|ended| ended.ending)
     }
@@ -141,6 +146,7 @@ impl Course {
         ensures changed { OnOk result
             (self.new ≡ record self.old { moves = self.old.moves ++ untimed mv ∷ [] }) }
         ensures unchanged { OnErr result (self.new ≡ self.old) }
+        ensures course { IsCourse self.new }
     {
         if let Some(fault) = self.play_fault() {
             return Err(Why::Order(fault));
@@ -170,6 +176,7 @@ impl Course {
         ensures answer { IsAnswer (time_fault self.old) result }
         ensures changed { OnOk result (self.new ≡ with_time self.old thousandths) }
         ensures unchanged { OnErr result (self.new ≡ self.old) }
+        ensures course { IsCourse self.new }
     {
         if !self.awaits_time() {
             return Err(Why::Order(OrderFault::LooseTime));
@@ -192,6 +199,7 @@ impl Course {
         ensures answer { IsAnswer (close_fault self.old) result }
         ensures changed { OnOk result (self.new ≡ with_ending self.old ending) }
         ensures unchanged { OnErr result (self.new ≡ self.old) }
+        ensures course { IsCourse self.new }
     {
         if self.ending.is_some() {
             return Err(Why::Order(OrderFault::AfterEnding));
@@ -212,37 +220,22 @@ impl Course {
             self.line.moves(),
             &self.times,
         )?;
-        write_ending(out, self.ending)
+        write_ending_line(out, self.ending)
     }
 }
 
-// Plays the move. The line then is a game.
+// Plays the move.
 #[inline(always)]
 fn play_on(line: &mut Line, color: Color, mv: Move) -> Result<(), Why>
     ensures ok { OnOk result
         (Answers line.old color mv None
         × (line.new ≡ record line.old { moves = line.old.moves ++ mv ∷ [] })) }
-    ensures game { OnOk result
-        (IsGame line.new.start line.new.moves × (length line.new.moves ≤ max_moves)) }
     ensures err { IfErr result (λ why. NotPlayed line.old color mv why) }
     ensures unchanged { OnErr result (line.new ≡ line.old) }
 {
-    if let Err(fault) = line.play(color, mv) {
-        return Err(why_of(fault));
-    }
-    // the contract of `moves` says that they are a game
-    let _moves = line.moves();
-    Ok(())
-}
-
-// A fault of playing, as the fault of a statement.
-fn why_of(fault: PlayFault) -> Why
-    ensures { result ≡ played_why fault }
-{
-    match fault {
-        PlayFault::TooManyMoves => Why::Order(OrderFault::TooManyMoves),
-        PlayFault::Broken(rule) => Why::Rule(rule),
-        PlayFault::OutOfMemory => Why::OutOfMemory,
+    match line.play(color, mv) {
+        Ok(()) => Ok(()),
+        Err(fault) => Err(Why::from(fault)),
     }
 }
 
@@ -251,7 +244,7 @@ fn why_without_room(line: &Line, color: Color, mv: &Move) -> Why
     ensures { NotPlayed line.now color mv.now result }
 {
     match line.fault(color, mv) {
-        Some(fault) => why_of(fault),
+        Some(fault) => Why::from(fault),
         None => Why::OutOfMemory,
     }
 }
@@ -290,139 +283,44 @@ fn write_each(
 {
     let mut color = side;
     for i in 0..moves.len() {
-        write_move(out, color, &moves[i])?;
-        write_time(out, times[i])?;
+        write_move_line(out, color, &moves[i])?;
+        write_time_line(out, times[i])?;
         color = color.opponent();
     }
     Ok(())
 }
 
-// Adds the line of a move of that side: the bytes of `csa_move`, and LF.
+// Adds the line of a move of that side.
 #[inline(always)]
-fn write_move(out: &mut Vec<u8>, color: Color, mv: &Move) -> Result<(), OutOfMemory>
+fn write_move_line(out: &mut Vec<u8>, color: Color, mv: &Move) -> Result<(), OutOfMemory>
     ensures { OnOk result (out.new.items ≡ out.old.items ++ ended_line (walked color mv.now)) }
 {
-    let sign = sign_of(color);
-    match *mv {
-        Move::Walk { from, to, kind } => {
-            let [file, rank] = digits_of(from);
-            let [to_file, to_rank] = digits_of(to);
-            write_squares(out, &[sign, file, rank, to_file, to_rank], kind)
-        }
-        Move::Put { to, kind } => {
-            let [to_file, to_rank] = digits_of(to);
-            write_squares(out, &[sign, b'0', b'0', to_file, to_rank], kind)
-        }
-    }
-}
-
-fn digits_of(square: Square) -> [u8; 2]
-    ensures { result ≡ square_text square }
-{
-    [b'0' + square.file(), b'0' + square.rank()]
-}
-
-// Adds the sign and the squares of a move, its kind, and the end of the line.
-#[inline(always)]
-fn write_squares(out: &mut Vec<u8>, squares: &[u8; 5], kind: Kind) -> Result<(), OutOfMemory>
-    ensures { OnOk result
-        (out.new.items ≡ out.old.items ++ (squares.now ++ (kind_code kind ++ 10 ∷ []))) }
-{
-    let [sign, file, rank, to_file, to_rank] = *squares;
-    let [first, second] = letters_of(kind);
+    // one write for the move and its LF is quicker than two
+    let [sign, file, rank, to_file, to_rank, first, second] = move_bytes(color, mv);
     out.extend_from_slice(&[sign, file, rank, to_file, to_rank, first, second, b'\n'])?;
     Ok(())
 }
 
-// The two letters of `kind_text`.
-fn letters_of(kind: Kind) -> [u8; 2]
-    ensures { result ≡ kind_code kind }
-{
-    let letters = kind_text(kind).as_bytes();
-    [letters[0], letters[1]]
-}
-
-fn write_ending(out: &mut Vec<u8>, ending: Option<Ended>) -> Result<(), OutOfMemory>
+fn write_ending_line(out: &mut Vec<u8>, ending: Option<Ended>) -> Result<(), OutOfMemory>
     ensures { OnOk result
         (out.new.items ≡ out.old.items ++ flat_map ended_line (ending_items (ended ending))) }
 {
     let Some(ended) = ending else {
         return Ok(());
     };
-    out.push(b'%')?;
-    write_line(out, ended.ending.name().as_bytes())?;
-    write_time(out, ended.time)
+    write_ending(out, ended.ending)?;
+    out.push(b'\n')?;
+    write_time_line(out, ended.time)
 }
 
 #[inline(always)]
-fn write_time(out: &mut Vec<u8>, time: Option<u64>) -> Result<(), OutOfMemory>
+fn write_time_line(out: &mut Vec<u8>, time: Option<u64>) -> Result<(), OutOfMemory>
     ensures { OnOk result (out.new.items ≡ out.old.items ++ flat_map ended_line (time_items time)) }
 {
-    match time {
-        Some(thousandths) => write_thousandths(out, thousandths),
-        None => Ok(()),
-    }
-}
-
-#[inline(always)]
-fn write_thousandths(out: &mut Vec<u8>, thousandths: u64) -> Result<(), OutOfMemory>
-    ensures { OnOk result (out.new.items ≡ out.old.items ++ ended_line (time thousandths)) }
-{
-    let seconds = thousandths / 1000;
-    if seconds >= 100 || thousandths % 1000 > 0 {
-        return write_any_time(out, thousandths);
-    }
-    // most moves take whole seconds, and fewer than a hundred
-    if seconds < 10 {
-        out.extend_from_slice(&[b'T', digit(seconds), b'\n'])?;
-    } else {
-        out.extend_from_slice(&[b'T', digit(seconds / 10), digit(seconds % 10), b'\n'])?;
-    }
-    Ok(())
-}
-
-// As `write_time`, for any time.
-#[inline(never)]
-fn write_any_time(out: &mut Vec<u8>, thousandths: u64) -> Result<(), OutOfMemory>
-    ensures { OnOk result (out.new.items ≡ out.old.items ++ ended_line (time thousandths)) }
-{
-    let mut buffer = Buffer::new();
-    out.push(b'T')?;
-    out.extend_from_slice(buffer.format(thousandths / 1000).as_bytes())?;
-    write_fraction(out, thousandths % 1000)?;
-    out.push(b'\n')?;
-    Ok(())
-}
-
-// A point and up to three digits, without trailing zeros; nothing for 0.
-fn write_fraction(out: &mut Vec<u8>, n: u64) -> Result<(), OutOfMemory>
-    requires { n < 1000 }
-    ensures { OnOk result (out.new.items ≡ out.old.items ++ fraction_text n) }
-{
-    if n == 0 {
+    let Some(thousandths) = time else {
         return Ok(());
-    }
-    if n % 100 == 0 {
-        out.extend_from_slice(&[b'.', digit(n / 100)])?;
-    } else if n % 10 == 0 {
-        out.extend_from_slice(&[b'.', digit(n / 100), digit(n / 10 % 10)])?;
-    } else {
-        out.extend_from_slice(&[b'.', digit(n / 100), digit(n / 10 % 10), digit(n % 10)])?;
-    }
-    Ok(())
-}
-
-fn digit(n: u64) -> u8
-    requires { n < 10 }
-    ensures { result ≡ 48 + n }
-{
-    b'0' + n as u8
-}
-
-fn write_line(out: &mut Vec<u8>, line: &[u8]) -> Result<(), OutOfMemory>
-    ensures { OnOk result (out.new.items ≡ out.old.items ++ (line.now ++ 10 ∷ [])) }
-{
-    out.extend_from_slice(line)?;
+    };
+    write_time(out, thousandths)?;
     out.push(b'\n')?;
     Ok(())
 }

@@ -1,4 +1,4 @@
-ghost use Rattle.std.specs.Prelude.{◌≡◌, ◌≢◌, true, ℕ, ◌+◌, ◌-◌, ◌^◌, ◌<◌, ◌≤◌, List, [], IfOk, IfErr, OnOk, OnErr, IsErrOf, IsTrue, MatchResult};
+ghost use Rattle.std.specs.Prelude.{◌≡◌, ◌≢◌, true, ℕ, ◌+◌, ◌-◌, ◌^◌, ◌<◌, ◌≤◌, List, [], IfOk, IfErr, OnOk, OnErr, IsErrOf, MatchResult};
 ghost use Rattle.std.specs.Io.KnownBytes.{Keeps};
 ghost use Rattle.csa_record.specs.declared.flow.FlowFault.{FlowFault};
 ghost use Rattle.csa_record.specs.Flow.{longest_piece, fault_of, IsTold, IsRefusal, IsFaultless, FailsRead, IsReadFault, ReadsRecord, FeedsNext, IsFedAll, IsTextFault, TellsText, IsNormal, IsCutShort, IsFlowFault, IsWanting};
@@ -18,6 +18,15 @@ pub const MOST_READS: u32 = 16_777_216;
 
 /// The most bytes of one read.
 pub const PIECE: usize = 4096;
+
+// What a reader was fed.
+#[derive(Clone, Copy)]
+enum Fed {
+    // The next piece of the source.
+    Piece,
+    // Nothing: the source is at its end.
+    End,
+}
 
 /// Why a record did not get from its source to its sink.
 #[derive(Clone, Copy, Debug, PartialEq, Eq, Error)]
@@ -58,9 +67,11 @@ pub fn read_from<S: Source>(alloc: Global, source: &mut S) -> Result<Record, Flo
     requires countable { S.failed source.old < 2 ^ 64 - 1 }
     // The bytes that the source gave up to its end contain the game.
     ensures told { IfOk result (λ g. IsTold (S.known source.old) (S.known source.new) g) }
+    // A game is returned only after a read has shown the end, in this call or before.
+    ensures ended { IfOk result (λ _. S.ended source.new ≡ true) }
     // A record is refused only if the source's bytes are, whatever follows them.
     ensures refused { (r : Refusal) → IsErrOf result (FlowFault.Refused r)
-        → IsRefusal (S.known source.old) (S.known source.new) r }
+        → IsRefusal (S.known source.old) (S.known source.new) (S.ended source.new) r }
     ensures read_fault { IsErrOf result FlowFault.ReadFault
         → FailsRead (S.known source.old) (S.known source.new)
         (S.failed source.old) (S.failed source.new) }
@@ -69,7 +80,7 @@ pub fn read_from<S: Source>(alloc: Global, source: &mut S) -> Result<Record, Flo
     ensures quiet { (IsErrOf result FlowFault.ReadFault → ⊥)
         → S.failed source.new ≡ S.failed source.old }
     ensures memory { IsErrOf result FlowFault.OutOfMemory
-        → IsFaultless (S.known source.old) (S.known source.new) }
+        → IsFaultless (S.known source.old) (S.known source.new) (S.ended source.new) }
     ensures no_write { IsErrOf result FlowFault.WriteFault → ⊥ }
 {
     read_record(alloc, source)
@@ -90,8 +101,10 @@ pub fn normalise<S: Source, T: Sink>(
     // The sink took the canonical text of the game in the source's bytes, and nothing else.
     ensures accepted { OnOk result
         (IsNormal (S.known source.old) (S.known source.new) (T.held sink.old) (T.held sink.new)) }
+    // The text is written only after a read has shown the end, in this call or before.
+    ensures ended { OnOk result (S.ended source.new ≡ true) }
     ensures refused { (r : Refusal) → IsErrOf result (FlowFault.Refused r)
-        → IsRefusal (S.known source.old) (S.known source.new) r }
+        → IsRefusal (S.known source.old) (S.known source.new) (S.ended source.new) r }
     ensures read_fault { IsErrOf result FlowFault.ReadFault
         → FailsRead (S.known source.old) (S.known source.new)
         (S.failed source.old) (S.failed source.new) }
@@ -103,13 +116,14 @@ pub fn normalise<S: Source, T: Sink>(
     ensures settled { OnOk result (T.settled sink.new ≡ true) }
     // A write fails only if there is a game, and what was written is the front of its text.
     ensures cut_short { IsErrOf result FlowFault.WriteFault
-        → IsCutShort (S.known source.old) (S.known source.new) (T.held sink.old) (T.held sink.new) }
+        → IsCutShort (S.known source.old) (S.known source.new) (T.held sink.old) (T.held sink.new)
+        × (S.ended source.new ≡ true) }
     ensures write_fault { IsErrOf result FlowFault.WriteFault
         → T.failed sink.new ≡ T.failed sink.old + 1 }
     ensures sink_quiet { (IsErrOf result FlowFault.WriteFault → ⊥)
         → T.failed sink.new ≡ T.failed sink.old }
     ensures memory { IsErrOf result FlowFault.OutOfMemory
-        → IsWanting (S.known source.old) (S.known source.new) }
+        → IsWanting (S.known source.old) (S.known source.new) (S.ended source.new) }
     ensures unwritten { IfErr result
         (λ fault. fault ≢ FlowFault.WriteFault → Keeps (T.held sink.old) (T.held sink.new)) }
 {
@@ -121,11 +135,13 @@ fn pass<S: Source, T: Sink>(alloc: Global, source: &mut S, sink: &mut T) -> Resu
     requires sink { T.failed sink.old < 2 ^ 64 - 1 }
     ensures ok { OnOk result
         (IsNormal (S.known source.old) (S.known source.new) (T.held sink.old) (T.held sink.new)) }
+    ensures ended { OnOk result (S.ended source.new ≡ true) }
     ensures quiet { OnOk result (S.failed source.new ≡ S.failed source.old) }
     ensures sink_quiet { OnOk result (T.failed sink.new ≡ T.failed sink.old) }
     ensures settled { OnOk result (T.settled sink.new ≡ true) }
     ensures fault { IfErr result
-        (IsFlowFault (S.known source.old) (S.known source.new) (T.held sink.old) (T.held sink.new)
+        (IsFlowFault (S.known source.old) (S.known source.new) (S.ended source.new)
+        (T.held sink.old) (T.held sink.new)
         (S.failed source.old) (S.failed source.new) (T.failed sink.old) (T.failed sink.new)) }
     ensures unended { IsErrOf result FlowFault.ReadFault → S.ended source.new ≡ S.ended source.old }
 {
@@ -140,10 +156,10 @@ fn pass<S: Source, T: Sink>(alloc: Global, source: &mut S, sink: &mut T) -> Resu
 fn read_text<S: Source>(alloc: Global, source: &mut S) -> Result<Vec<u8>, FlowFault>
     requires { S.failed source.old < 2 ^ 64 - 1 }
     ensures text { IfOk result
-        (λ text. TellsText (S.known source.old) (S.known source.new)
+        (λ text. TellsText (S.known source.old) (S.known source.new) (S.ended source.new)
         (S.failed source.old) (S.failed source.new) text.items) }
     ensures fault { IfErr result
-        (IsTextFault (S.known source.old) (S.known source.new)
+        (IsTextFault (S.known source.old) (S.known source.new) (S.ended source.new)
         (S.failed source.old) (S.failed source.new)) }
     ensures unended { IsErrOf result FlowFault.ReadFault → S.ended source.new ≡ S.ended source.old }
 {
@@ -156,7 +172,7 @@ fn read_text<S: Source>(alloc: Global, source: &mut S) -> Result<Vec<u8>, FlowFa
 
 fn read_record<S: Source>(alloc: Global, source: &mut S) -> Result<Record, FlowFault>
     requires { S.failed source.old < 2 ^ 64 - 1 }
-    ensures read { ReadsRecord (S.known source.old) (S.known source.new)
+    ensures read { ReadsRecord (S.known source.old) (S.known source.new) (S.ended source.new)
         (S.failed source.old) (S.failed source.new) result }
     ensures unended { IsErrOf result FlowFault.ReadFault → S.ended source.new ≡ S.ended source.old }
 {
@@ -173,49 +189,47 @@ fn feed_all<S: Source>(source: &mut S, reader: &mut RecordReader) -> Result<(), 
     requires failed { S.failed source.old < 2 ^ 64 - 1 }
     requires fresh { HasRead [] reader.old }
     ensures fed { OnOk result
-        (IsFedAll (S.known source.old) (S.known source.new)
+        (IsFedAll (S.known source.old) (S.known source.new) (S.ended source.new)
         (S.failed source.old) (S.failed source.new) reader.new) }
     ensures fault { IfErr result
-        (IsReadFault (S.known source.old) (S.known source.new)
+        (IsReadFault (S.known source.old) (S.known source.new) (S.ended source.new)
         (S.failed source.old) (S.failed source.new)) }
     ensures unended { IfErr result (λ _. S.ended source.new ≡ S.ended source.old) }
 {
     let mut buffer = [0u8; PIECE];
     let mut reads = 0;
     while reads < MOST_READS {
-        let more = feed_next(source, reader, &mut buffer)?;
-        if !more {
-            return Ok(());
+        match feed_next(source, reader, &mut buffer)? {
+            Fed::Piece => reads += 1,
+            Fed::End => return Ok(()),
         }
-        reads += 1;
     }
     Err(FlowFault::ReadFault)
 }
 
-// Feeds the reader the next piece that the source gives into the buffer. Returns whether there was
-// one.
+// Feeds the reader the next piece that the source gives into the buffer.
 fn feed_next<S: Source>(
     source: &mut S,
     reader: &mut RecordReader,
     buffer: &mut [u8; PIECE],
-) -> Result<bool, FlowFault>
+) -> Result<Fed, FlowFault>
     requires failed { S.failed source.old < 2 ^ 64 - 1 }
     requires room { fed_of reader.old + longest_piece ≤ 2 ^ 63 }
     ensures fed { (bytes : List ℕ) → HasRead bytes reader.old
-        → FeedsNext bytes (S.known source.old) (S.known source.new)
+        → FeedsNext bytes (S.known source.old) (S.known source.new) (S.ended source.new)
         (S.failed source.old) (S.failed source.new) result reader.new }
     ensures unended { MatchResult result
-        (λ more. IsTrue more → S.ended source.new ≡ S.ended source.old)
+        (λ fed. fed ≡ Fed.Piece → S.ended source.new ≡ S.ended source.old)
         (λ _. S.ended source.new ≡ S.ended source.old) }
 {
     let Ok(taken) = source.read(buffer) else {
         return Err(FlowFault::ReadFault);
     };
     if taken == 0 {
-        return Ok(false);
+        return Ok(Fed::End);
     }
     match reader.feed(&buffer[..taken]) {
-        Ok(()) => Ok(true),
+        Ok(()) => Ok(Fed::Piece),
         Err(refusal) => Err(FlowFault::from(refusal)),
     }
 }

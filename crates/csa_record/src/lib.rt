@@ -15,6 +15,7 @@
 
 mod course;
 mod flow;
+pub mod laws;
 mod laying;
 mod progress;
 mod record;
@@ -27,7 +28,7 @@ mod writer;
 
 pub use flow::{FlowFault, MOST_READS, PIECE, normalise, read_from};
 pub use record::Record;
-pub use record_game::{OrderFault, Refusal, Why, laws};
+pub use record_game::{OrderFault, Refusal, Why};
 pub use record_reader::{RecordReader, read};
 pub use sink::{Sink, Writing};
 pub use source::{Failure, Reading, Source};

@@ -6,7 +6,7 @@ ghost use Rattle.record_game.specs.declared.fault.Why.{Why};
 ghost use Rattle.record_game.specs.Answer.{IsAnswer};
 ghost use Rattle.record_game.specs.Fits.{Fits, IsHeaderLine, IsOfStatement};
 ghost use Rattle.record_game.specs.Items.{sides};
-ghost use Rattle.record_game.specs.Keeping.{Keeps, TakenOrRefused};
+ghost use Rattle.record_game.specs.Keeping.{HasKept, TakenOrRefused};
 ghost use Rattle.record_game.specs.Limits.{IsOneLine, longest_time};
 ghost use Rattle.record_game.specs.Outcome.{Outcome, IsWritten, late};
 ghost use Rattle.record_game.specs.Refused.{Finishes};
@@ -52,7 +52,7 @@ impl Model for Progress {
 impl Progress {
     // The progress before any statement. Allocates nothing.
     pub(crate) fn new(alloc: Global) -> Progress
-        ensures { Keeps [] result }
+        ensures { HasKept [] result }
     {
         Progress {
             alloc,
@@ -64,7 +64,7 @@ impl Progress {
 
     // The record, if the side to move has been given.
     pub(crate) fn finish(self) -> Option<Record>
-        ensures { (sayings : List Saying) → Keeps sayings self → AllByRecursion IsWritten sayings
+        ensures { (sayings : List Saying) → HasKept sayings self → AllByRecursion IsWritten sayings
             → MatchOption result (sides sayings ≡ []) (λ g. Says sayings g) }
     {
         let Progress {
@@ -83,7 +83,7 @@ impl Progress {
     #[inline(always)]
     pub(crate) fn take_bytes(&mut self, bytes: &[u8]) -> Result<(), Why>
         requires { IsOfStatement bytes.now }
-        ensures { (before : List Saying) → Keeps before self.old
+        ensures { (before : List Saying) → HasKept before self.old
             → Outcome before bytes.now result self.new }
     {
         let item = read_item(bytes)?;
@@ -95,7 +95,7 @@ impl Progress {
     #[inline(always)]
     fn take(&mut self, item: Item<'_>) -> Result<(), Why>
         requires { Fits (saying_of item) }
-        ensures { (before : List Saying) → Keeps before self.old
+        ensures { (before : List Saying) → HasKept before self.old
             → TakenOrRefused before (saying_of item.entry) result self.new }
     {
         let taken = match item {
@@ -115,7 +115,7 @@ impl Progress {
     }
 
     fn take_version(&mut self) -> Result<(), Why>
-        ensures { (before : List Saying) → Keeps before self.old
+        ensures { (before : List Saying) → HasKept before self.old
             → TakenOrRefused before version result (record self.new { begun = true }) }
     {
         if self.begun {
@@ -127,7 +127,7 @@ impl Progress {
     fn take_name(&mut self, color: Color, text: &[u8]) -> Result<(), Why>
         requires one_line { IsOneLine text.now }
         requires fits { 2 + length text.now ≤ longest_statement }
-        ensures { (before : List Saying) → Keeps before self.old
+        ensures { (before : List Saying) → HasKept before self.old
             → TakenOrRefused before (name color text.now) result
             (record self.new { begun = true }) }
     {
@@ -136,7 +136,7 @@ impl Progress {
 
     fn take_header(&mut self, key: &[u8], text: &[u8]) -> Result<(), Why>
         requires { IsHeaderLine key.now text.now }
-        ensures { (before : List Saying) → Keeps before self.old
+        ensures { (before : List Saying) → HasKept before self.old
             → TakenOrRefused before (header key.now text.now) result
             (record self.new { begun = true }) }
     {
@@ -144,7 +144,7 @@ impl Progress {
     }
 
     fn take_even(&mut self, pairs: Pairs<'_>) -> Result<(), Why>
-        ensures { (before : List Saying) → Keeps before self.old
+        ensures { (before : List Saying) → HasKept before self.old
             → TakenOrRefused before (even (pairs_of pairs.entry)) result
             (record self.new { begun = true }) }
     {
@@ -157,7 +157,7 @@ impl Progress {
     fn take_rank(&mut self, number: u8, cells: &[Option<Piece>; 9]) -> Result<(), Why>
         requires low { 1 ≤ number }
         requires high { number ≤ 9 }
-        ensures { (before : List Saying) → Keeps before self.old
+        ensures { (before : List Saying) → HasKept before self.old
             → TakenOrRefused before (rank number cells.now) result
             (record self.new { begun = true }) }
     {
@@ -168,7 +168,7 @@ impl Progress {
     }
 
     fn take_pieces(&mut self, color: Color, pairs: Pairs<'_>) -> Result<(), Why>
-        ensures { (before : List Saying) → Keeps before self.old
+        ensures { (before : List Saying) → HasKept before self.old
             → TakenOrRefused before (pieces color (pairs_of pairs.entry)) result
             (record self.new { begun = true }) }
     {
@@ -179,7 +179,7 @@ impl Progress {
     }
 
     fn take_turn(&mut self, color: Color) -> Result<(), Why>
-        ensures { (before : List Saying) → Keeps before self.old
+        ensures { (before : List Saying) → HasKept before self.old
             → TakenOrRefused before (turn color) result (record self.new { begun = true }) }
     {
         let course = match &self.stage {
@@ -192,7 +192,7 @@ impl Progress {
 
     #[inline(always)]
     fn take_move(&mut self, color: Color, mv: Move) -> Result<(), Why>
-        ensures { (before : List Saying) → Keeps before self.old
+        ensures { (before : List Saying) → HasKept before self.old
             → TakenOrRefused before (walked color mv) result (record self.new { begun = true }) }
     {
         match &mut self.stage {
@@ -204,7 +204,7 @@ impl Progress {
     #[inline(always)]
     fn take_time(&mut self, thousandths: u64) -> Result<(), Why>
         requires { thousandths ≤ longest_time }
-        ensures { (before : List Saying) → Keeps before self.old
+        ensures { (before : List Saying) → HasKept before self.old
             → TakenOrRefused before (time thousandths) result (record self.new { begun = true }) }
     {
         match &mut self.stage {
@@ -214,7 +214,7 @@ impl Progress {
     }
 
     fn take_ending(&mut self, how: Ending) -> Result<(), Why>
-        ensures { (before : List Saying) → Keeps before self.old
+        ensures { (before : List Saying) → HasKept before self.old
             → TakenOrRefused before (ending how) result (record self.new { begun = true }) }
     {
         match &mut self.stage {

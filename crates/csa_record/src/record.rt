@@ -66,9 +66,8 @@ impl Record {
         ensures parts { result ≡ game_of titles course }
         ensures game { IsGame result }
     {
-        // the contracts of these say that the parts are sound
-        let _name = titles.name(Color::Black);
-        let _ending = course.ending();
+        titles.soundness();
+        course.soundness();
         Record { titles, course }
     }
 
@@ -86,10 +85,7 @@ impl Record {
             (self.new ≡ with_titled self.old (with_name (titled_of self.old) color text.now)) }
         ensures unchanged { OnErr result (self.new ≡ self.old) }
     {
-        let result = self.titles.set_name(color, text);
-        // the contract of `name` says that the titles are sound
-        let _name = self.titles.name(color);
-        result
+        self.titles.set_name(color, text)
     }
 
     /// That side's name, if it has one. It is not empty and has no CR or LF.
@@ -122,10 +118,7 @@ impl Record {
         ensures rest { self.new ≡ with_titled self.old (titled_of self.new) }
         ensures unchanged { OnErr result (self.new ≡ self.old) }
     {
-        let result = self.titles.set_header(key, text);
-        // the contract of `name` says that the titles are sound
-        let _name = self.titles.name(Color::Black);
-        result
+        self.titles.set_header(key, text)
     }
 
     /// The value of this header, if there is one.
@@ -158,10 +151,7 @@ impl Record {
             (self.new ≡ record self.old { moves = self.old.moves ++ untimed mv ∷ [] }) }
         ensures unchanged { OnErr result (self.new ≡ self.old) }
     {
-        let result = self.course.play(color, mv);
-        // the contract of `ending` says that the course is sound
-        let _ending = self.course.ending();
-        result
+        self.course.play(color, mv)
     }
 
     /// Sets the time that the ending or, if there is none, the last move took, in thousandths of a
@@ -178,10 +168,7 @@ impl Record {
             (self.new ≡ with_course self.old (with_time (course_of self.old) thousandths)) }
         ensures unchanged { OnErr result (self.new ≡ self.old) }
     {
-        let result = self.course.set_time(thousandths);
-        // the contract of `ending` says that the course is sound
-        let _ending = self.course.ending();
-        result
+        self.course.set_time(thousandths)
     }
 
     /// The time that the move with this index took, in thousandths of a second. The index is
@@ -203,10 +190,7 @@ impl Record {
             (self.new ≡ with_course self.old (with_ending (course_of self.old) ending)) }
         ensures unchanged { OnErr result (self.new ≡ self.old) }
     {
-        let result = self.course.close(ending);
-        // the contract of `ending` says that the course is sound
-        let _ending = self.course.ending();
-        result
+        self.course.close(ending)
     }
 
     /// How the game ended, if the record says it.
@@ -233,7 +217,8 @@ impl Record {
 
     // Its start, its moves and its ending.
     pub(crate) fn course(&self) -> &Course
-        ensures { result.now ≡ course_of self.now }
+        ensures value { result.now ≡ course_of self.now }
+        ensures game { IsGame self.now }
     {
         &self.course
     }

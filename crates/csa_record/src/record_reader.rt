@@ -1,7 +1,8 @@
 ghost use Rattle.std.specs.Prelude.{◌≡◌, ◌≢◌, ℕ, ◌+◌, ◌^◌, ◌<◌, ◌≤◌, [], ◌++◌, List, length, Some, None, Ok, Err, IfSome, IfOk, IfErr, OnOk, IsErrOf};
 ghost use Rattle.csa_text.specs.Saying.{Saying};
+ghost use Rattle.record_game.specs.Closed.{ClosedAt};
 ghost use Rattle.record_game.specs.Fits.{IsOfStatement};
-ghost use Rattle.record_game.specs.Keeping.{Keeps};
+ghost use Rattle.record_game.specs.Keeping.{HasKept};
 ghost use Rattle.record_game.specs.Outcome.{Outcome};
 ghost use Rattle.csa_record.specs.Reading.{HasRead, HasTaken, IsRefusedBy, fed_of, NextTaken, LastTaken};
 ghost use Rattle.record_game.specs.Refused.{Refused, FaultlessTo};
@@ -50,14 +51,13 @@ pub struct RecordReader {
 
 impl Model for RecordReader {
     ghost use Rattle.csa_record.specs.Reading as told;
-    ghost use Rattle.csa_record.specs.FailingOf.{failing_of};
 
     ghost Value = { told.Reading };
 
     ghost view = { λ r. record {
       cutter = r.cutter;
       kept = r.progress;
-      failing = failing_of r.failing;
+      failing = r.failing;
     } };
 }
 
@@ -100,6 +100,11 @@ impl RecordReader {
             → IfErr result
             (λ r. r.why ≢ Why.OutOfMemory
             → Refused ((source ++ piece.now) ++ more) r.number r.offset r.why) }
+        // The refused statement is the first with a fault among those that the bytes close.
+        ensures closed { (source : List ℕ) → HasRead source self.old
+            → IfErr result
+            (λ r. r.why ≢ Why.OutOfMemory
+            → ClosedAt (source ++ piece.now) r.number r.offset r.why) }
         ensures memory { (source more : List ℕ) → HasRead source self.old
             → IfErr result
             (λ r. r.why ≡ Why.OutOfMemory
@@ -244,9 +249,9 @@ fn take_last(cutter: &mut PieceCutter, progress: &mut Progress) -> Result<(), Re
 #[inline(always)]
 fn take_statement(progress: &mut Progress, statement: Statement<'_>) -> Result<(), Refusal>
     requires { IsOfStatement statement.bytes.now }
-    ensures taken { (before : List Saying) → Keeps before progress.old
+    ensures taken { (before : List Saying) → HasKept before progress.old
         → OnOk result (Outcome before statement.entry.bytes.now (Ok tt) progress.new) }
-    ensures refused { (before : List Saying) → Keeps before progress.old
+    ensures refused { (before : List Saying) → HasKept before progress.old
         → IfErr result
         (λ r. (r.number ≡ statement.entry.number) × (r.offset ≡ statement.entry.offset)
         × Outcome before statement.entry.bytes.now (Err r.why) progress.new) }

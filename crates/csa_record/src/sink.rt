@@ -98,7 +98,13 @@ impl<W: Write> Sink for Writing<W> {
         }
     }
 
-    fn flush(&mut self) -> Result<(), Failure> {
+    fn flush(&mut self) -> Result<(), Failure>
+        requires countable { self.old.failures < 2 ^ 64 - 1 }
+        ensures bytes { Keeps (W.contents self.old.inner) (W.contents self.new.inner) }
+        ensures count { CountsErrors self.old.failures self.new.failures result }
+        ensures settled { OnOk result (self.new.settled ≡ true) }
+        ensures unsettled { OnErr result (self.new.settled ≡ self.old.settled) }
+    {
         match self.inner.flush() {
             Ok(()) => {
                 self.settled = true;

@@ -1,14 +1,14 @@
 ghost use Rattle.std.specs.Prelude.{◌≡◌, ◌≤◌, ◌++◌, length, replicate, OnOk};
 ghost use Rattle.std.specs.List.{flat_map};
 ghost use Rattle.shogi_board.specs.Cells.{even_cells};
-ghost use Rattle.csa_text.specs.Codes.{sign, kind_code, cell_text};
+ghost use Rattle.csa_text.specs.Codes.{cell_text};
 ghost use Rattle.csa_text.specs.PairTexts.{pairs_text};
 ghost use Rattle.csa_text.specs.Saying.{even, rank};
 ghost use Rattle.csa_text.specs.declared.pair.Pair.TheVariants.{InHand};
 ghost use Rattle.record_game.specs.Canon.{ended_line, start_items, is_from_even, is_part_of, stands_in, missing, rank_cells, rank_items, hand_pairs, hand_items};
 ghost use Rattle.csa_record.specs.Starting.{gone};
 
-use csa_text::{kind_text, sign_of};
+use csa_text::{Pair, cell_bytes, even_head, pair_bytes, pieces_head, rank_head};
 use shogi_board::{Color, Hand, Kind, OutOfMemory, Piece, Position, Square};
 
 // Writes `PI` with the missing pieces of the even board, or else the ranks and the hands that are
@@ -17,14 +17,14 @@ pub(crate) fn write_start(out: &mut Vec<u8>, start: &Position) -> Result<(), Out
     ensures { OnOk result
         (out.new.items ≡ out.old.items ++ flat_map ended_line (start_items start.now)) }
 {
-    // the contract of `side` says that the board has 81 squares
-    let _ = start.side();
+    let black = start.hand(Color::Black);
+    let white = start.hand(Color::White);
     if is_from_even(start) {
         return write_even(out, start);
     }
     write_ranks(out, start)?;
-    write_hand(out, Color::Black, start.hand(Color::Black))?;
-    write_hand(out, Color::White, start.hand(Color::White))?;
+    write_hand(out, Color::Black, black)?;
+    write_hand(out, Color::White, white)?;
     Ok(())
 }
 
@@ -82,7 +82,7 @@ fn write_even(out: &mut Vec<u8>, start: &Position) -> Result<(), OutOfMemory>
         (out.new.items
         ≡ out.old.items ++ ended_line (even (missing 0 even_cells start.now.material.board))) }
 {
-    out.extend_from_slice(b"PI")?;
+    out.extend_from_slice(&even_head())?;
     write_missing(out, start)?;
     out.push(b'\n')?;
     Ok(())
@@ -118,9 +118,8 @@ fn write_gone(
     if other.is_some() {
         return Ok(());
     }
-    out.push(b'0' + square.file())?;
-    out.push(b'0' + square.rank())?;
-    write_kind(out, piece.kind)
+    out.extend_from_slice(&pair_bytes(Pair::On(square, piece.kind)))?;
+    Ok(())
 }
 
 fn write_ranks(out: &mut Vec<u8>, start: &Position) -> Result<(), OutOfMemory>
@@ -141,8 +140,7 @@ fn write_rank(out: &mut Vec<u8>, start: &Position, number: u8) -> Result<(), Out
         (out.new.items
         ≡ out.old.items ++ ended_line (rank number (rank_cells start.now.material.board number))) }
 {
-    out.push(b'P')?;
-    out.push(b'0' + number)?;
+    out.extend_from_slice(&rank_head(number))?;
     write_cells(out, start, number)?;
     out.push(b'\n')?;
     Ok(())
@@ -158,20 +156,9 @@ fn write_cells(out: &mut Vec<u8>, start: &Position, number: u8) -> Result<(), Ou
 {
     for i in 0..9usize {
         let square = Square::at_place((8 - i) * 9 + number as usize - 1);
-        write_cell(out, start.piece_at(square))?;
+        out.extend_from_slice(&cell_bytes(start.piece_at(square)))?;
     }
     Ok(())
-}
-
-fn write_cell(out: &mut Vec<u8>, cell: Option<Piece>) -> Result<(), OutOfMemory>
-    ensures { OnOk result (out.new.items ≡ out.old.items ++ cell_text cell) }
-{
-    let Some(piece) = cell else {
-        out.extend_from_slice(b" * ")?;
-        return Ok(());
-    };
-    out.push(sign_of(piece.color))?;
-    write_kind(out, piece.kind)
 }
 
 // An empty hand has no line.
@@ -182,8 +169,7 @@ fn write_hand(out: &mut Vec<u8>, color: Color, hand: Hand) -> Result<(), OutOfMe
     if count_held(hand) == 0 {
         return Ok(());
     }
-    out.push(b'P')?;
-    out.push(sign_of(color))?;
+    out.extend_from_slice(&pieces_head(color))?;
     write_pairs(out, hand)?;
     out.push(b'\n')?;
     Ok(())
@@ -208,15 +194,7 @@ fn write_held(out: &mut Vec<u8>, kind: Kind, count: u8) -> Result<(), OutOfMemor
         (out.new.items ≡ out.old.items ++ pairs_text (replicate count (InHand kind))) }
 {
     for _ in 0..count {
-        out.extend_from_slice(b"00")?;
-        write_kind(out, kind)?;
+        out.extend_from_slice(&pair_bytes(Pair::InHand(kind)))?;
     }
-    Ok(())
-}
-
-fn write_kind(out: &mut Vec<u8>, kind: Kind) -> Result<(), OutOfMemory>
-    ensures { OnOk result (out.new.items ≡ out.old.items ++ kind_code kind) }
-{
-    out.extend_from_slice(kind_text(kind).as_bytes())?;
     Ok(())
 }

@@ -3,6 +3,8 @@ ghost use Rattle.std.specs.List.{flat_map};
 ghost use Rattle.shogi_board.specs.declared.color.Color.TheVariants.{Black, White};
 ghost use Rattle.csa_text.specs.Fields.{HasNone};
 ghost use Rattle.csa_text.specs.Moment.{CalendarMoment, SpellsMoment, moment_text, moment_of};
+ghost use Rattle.csa_text.specs.Saying.{header};
+ghost use Rattle.csa_text.specs.Statements.{statement_of};
 ghost use Rattle.csa_record.specs.Bytes.{name_bytes};
 ghost use Rattle.record_game.specs.Answer.{IsAnswer};
 ghost use Rattle.record_game.specs.Canon.{ended_line, header_item, name_items, value_text};
@@ -12,7 +14,7 @@ ghost use Rattle.record_game.specs.Titles.{untitled, name_of, under, name_fault,
 ghost use Rattle.csa_record.specs.TitleBytes.{text_of, entry_of, entries_of, shown};
 ghost use Rattle.csa_cutting.specs.Cut.{longest_statement};
 
-use csa_text::{Moment, read_moment, sign_of};
+use csa_text::{Moment, read_moment, write_header, write_name};
 use record_game::{OrderFault, Why};
 use shogi_board::{Color, OutOfMemory};
 use std::alloc::Global;
@@ -91,14 +93,26 @@ impl Titles {
         ensures empty { text.now ≡ [] → IsOk result }
         ensures changed { OnOk result (self.new ≡ with_name self.old color text.now) }
         ensures unchanged { OnErr result (self.new ≡ self.old) }
+        ensures titled { IsTitled self.new }
     {
+        let alloc = self.alloc;
         if text.is_empty() {
             return Ok(());
         }
         match color {
-            Color::Black => fill_name(self.alloc, &mut self.black, text),
-            Color::White => fill_name(self.alloc, &mut self.white, text),
+            Color::Black => fill_name(alloc, &mut self.black, text),
+            Color::White => fill_name(alloc, &mut self.white, text),
         }
+    }
+
+    // Does nothing: its clause says that the titles are sound, for callers that do not see its
+    // fields.
+    #[inline(always)]
+    pub(crate) fn soundness(&self)
+        ensures { IsTitled self.now }
+    {
+        // what holds of all titles is known once one of their fields is read
+        let _alloc = self.alloc;
     }
 
     // That side's name, if it has one.
@@ -107,7 +121,6 @@ impl Titles {
             (name_of self.now color ≡ None)
             (λ name. name_of self.now color ≡ Some name.now) }
         ensures some { IfSome result (λ name. IsName name.now) }
-        ensures titled { IsTitled self.now }
     {
         let name = match color {
             Color::Black => &self.black,
@@ -127,15 +140,17 @@ impl Titles {
         ensures empty { text.now ≡ [] → IsOk result }
         ensures changed { OnOk result (IsWithHeader self.old key.now text.now self.new) }
         ensures unchanged { OnErr result (self.new ≡ self.old) }
+        ensures titled { IsTitled self.new }
     {
+        let alloc = self.alloc;
         if text.is_empty() {
             return Ok(());
         }
         if let Some(fault) = self.order_fault(key) {
             return Err(Why::Order(fault));
         }
-        let value = value_under(self.alloc, key, text)?;
-        let key = copied(self.alloc, key)?;
+        let value = value_under(alloc, key, text)?;
+        let key = copied(alloc, key)?;
         self.put(key, value)
     }
 
@@ -166,6 +181,7 @@ impl Titles {
             ≡ record self.old { headers = with_entry self.old.headers (entry_of key value) }) }
         ensures why { IfErr result (λ why. why ≡ Why.OutOfMemory) }
         ensures unchanged { OnErr result (self.new ≡ self.old) }
+        ensures titled { IsTitled self.new }
     {
         match self.headers.insert(key, value) {
             Ok(_) => Ok(()),
@@ -205,8 +221,7 @@ impl Titles {
         let Some(name) = self.name(color) else {
             return Ok(());
         };
-        out.extend_from_slice(&[b'N', sign_of(color)])?;
-        out.extend_from_slice(name)?;
+        write_name(out, color, name)?;
         out.push(b'\n')?;
         Ok(())
     }
@@ -283,21 +298,19 @@ fn write_entries(out: &mut Vec<u8>, headers: &Headers) -> Result<(), OutOfMemory
         ≡ out.old.items ++ flat_map ended_line (map header_item (entries_of headers.now.entries))) }
 {
     for (key, text) in headers {
-        out.push(b'$')?;
-        out.extend_from_slice(key.as_slice())?;
-        out.push(b':')?;
-        write_text(out, text)?;
+        write_entry(out, key.as_slice(), text)?;
         out.push(b'\n')?;
     }
     Ok(())
 }
 
-fn write_text(out: &mut Vec<u8>, text: &HeaderText) -> Result<(), OutOfMemory>
-    ensures { OnOk result (out.new.items ≡ out.old.items ++ value_text (text_of text.now)) }
+fn write_entry(out: &mut Vec<u8>, key: &[u8], text: &HeaderText) -> Result<(), OutOfMemory>
+    ensures { OnOk result
+        (out.new.items
+        ≡ out.old.items ++ statement_of (header key.now (value_text (text_of text.now)))) }
 {
     match text {
-        HeaderText::Moment(moment) => out.extend_from_slice(moment.text().as_bytes())?,
-        HeaderText::Plain(bytes) => out.extend_from_slice(bytes.as_slice())?,
+        HeaderText::Moment(moment) => write_header(out, key, moment.text().as_bytes()),
+        HeaderText::Plain(bytes) => write_header(out, key, bytes.as_slice()),
     }
-    Ok(())
 }

@@ -7,7 +7,7 @@ ghost use Rattle.record_game.specs.Tells.{Tells};
 
 use crate::record::Record;
 use crate::start_writer::write_start;
-use csa_text::sign_of;
+use csa_text::{write_turn, write_version};
 use shogi_board::{Color, OutOfMemory};
 use std::alloc::Global;
 
@@ -25,11 +25,9 @@ pub fn write(alloc: Global, game: &Record) -> Result<Vec<u8>, OutOfMemory>
     ensures text { IfOk result (λ text. text.items ≡ canon game.now) }
     ensures read_back { IfOk result (λ text. Tells text.items game.now) }
 {
-    let room = FRONT_ROOM + game.line().moves().len() * MOVE_ROOM;
+    let room = FRONT_ROOM + game.course().line().moves().len() * MOVE_ROOM;
     let mut text = Vec::with_capacity(alloc, room)?;
     write_lines(&mut text, game)?;
-    // the contract of `ending` says that it is a game
-    let _ending = game.ending();
     Ok(text)
 }
 
@@ -50,7 +48,8 @@ fn write_titles(text: &mut Vec<u8>, game: &Record) -> Result<(), OutOfMemory>
         ∷ (name_items Black game.now.black
         ++ (name_items White game.now.white ++ map header_item game.now.headers)))) }
 {
-    text.extend_from_slice(b"V2.2\n")?;
+    write_version(text)?;
+    text.push(b'\n')?;
     game.titles().write_names(text)?;
     game.titles().write_headers(text)
 }
@@ -58,6 +57,7 @@ fn write_titles(text: &mut Vec<u8>, game: &Record) -> Result<(), OutOfMemory>
 fn write_side(text: &mut Vec<u8>, side: Color) -> Result<(), OutOfMemory>
     ensures { OnOk result (text.new.items ≡ text.old.items ++ ended_line (turn side)) }
 {
-    text.extend_from_slice(&[sign_of(side), b'\n'])?;
+    write_turn(text, side)?;
+    text.push(b'\n')?;
     Ok(())
 }

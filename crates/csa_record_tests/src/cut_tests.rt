@@ -90,7 +90,7 @@ fn byte_by_byte(alloc: Global, source: &[u8]) -> Result<Record, Refusal> {
     reader.finish()
 }
 
-// Cut in two at any place, the record is read as at once.
+// A record that is cut in two at any place is read like the whole.
 fn reads_in_two(alloc: Global, source: &[u8]) -> Result<bool, Fail> {
     let whole = text_of(alloc, read(alloc, source))?;
     for at in 0..=source.len() {
@@ -102,7 +102,7 @@ fn reads_in_two(alloc: Global, source: &[u8]) -> Result<bool, Fail> {
     Ok(true)
 }
 
-// Cut off at any place, it is read byte by byte as at once.
+// What is left of a record that ends at any place is read byte by byte like the whole.
 fn reads_byte_by_byte(alloc: Global, source: &[u8]) -> Result<bool, Fail> {
     for at in 0..=source.len() {
         let front = &source[..at];
@@ -126,7 +126,7 @@ fn records_cut_anywhere_are_read_alike(rt: HostRuntime) -> Result<(), Fail> {
     Ok(())
 }
 
-// A record of one name of so many bytes.
+// A record of one name with this many bytes.
 fn named(alloc: Global, length: usize) -> Result<Vec<u8>, Fail> {
     let mut source = Vec::new(alloc);
     source.extend_from_slice(b"N+")?;

@@ -6,7 +6,7 @@ const GIVEN: &[u8] = b"V2.2\nPI\n+\n+7776FU,T12\n-3334FU,T6\n%TORYO\n";
 
 const TEXT: &[u8] = b"V2.2\nPI\n+\n+7776FU\nT12\n-3334FU\nT6\n%TORYO\n";
 
-// Reads and writes that fail, are short, or are interrupted: tests/faults.
+// Reads and writes that fail, are short or are interrupted are tested by tests/faults.
 #[test]
 fn normalises_a_reader(rt: HostRuntime) -> Result<(), Fail> {
     let mut source = Reading::new(GIVEN);
@@ -17,7 +17,7 @@ fn normalises_a_reader(rt: HostRuntime) -> Result<(), Fail> {
     Ok(())
 }
 
-// The writer has room for the whole text, so it sends nothing on before it is flushed.
+// The writer has room for the whole text, so it writes nothing before it is flushed.
 #[test]
 fn flushes_the_writer(rt: HostRuntime) -> Result<(), Fail> {
     let mut writer = BufWriter::new(rt.alloc(), Vec::new(rt.alloc()))?;

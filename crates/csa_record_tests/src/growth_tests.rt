@@ -1,4 +1,5 @@
-// Run by tests/growths with each growth refused in turn: the answer is want of memory, and the call made again succeeds.
+// tests/growths runs this with each allocation refused in turn. The answer is out of memory, and a
+// second call succeeds.
 use csa_record::{
     FlowFault, Reading, Record, RecordReader, Refusal, Why, Writing, normalise, read, read_from,
 };
@@ -14,7 +15,7 @@ const OPEN: &[u8] = b"+\n+7776FU";
 
 const TEXT: &[u8] = b"V2.2\nPI\n+\n+7776FU\n";
 
-// Read at once, and again where memory was wanting.
+// Reads the record at once, and once more if the first call is out of memory.
 fn read_at_last(rt: &(impl AllocGlobal + Print + Abort)) -> Result<Record, Fail> {
     match read(rt.alloc(), GIVEN) {
         Ok(record) => Ok(record),
@@ -33,7 +34,7 @@ fn refused_growth_of_read_at_once(rt: HostRuntime) -> Result<(), Fail> {
     Ok(())
 }
 
-// Read from a source, and again from its start where memory was wanting.
+// Reads the record from a source, and once more from its start if the first call is out of memory.
 fn read_from_at_last(rt: &(impl AllocGlobal + Print + Abort)) -> Result<Record, Fail> {
     match read_from(rt.alloc(), &mut Reading::new(GIVEN)) {
         Ok(record) => Ok(record),
@@ -52,7 +53,7 @@ fn refused_growth_of_read_from(rt: HostRuntime) -> Result<(), Fail> {
     Ok(())
 }
 
-// What a refused call wrote would stand before the text.
+// Anything that a refused call wrote would be in front of the text.
 #[test]
 fn refused_growth_of_normalise(rt: HostRuntime) -> Result<(), Fail> {
     let mut room = [0u8; 18];
@@ -66,7 +67,7 @@ fn refused_growth_of_normalise(rt: HostRuntime) -> Result<(), Fail> {
     Ok(())
 }
 
-// Whether a reader that was refused memory stands where it stood, and fails from then on.
+// Whether a reader that was refused memory has read no more than before, and fails from then on.
 fn has_failed(reader: RecordReader, refusal: Refusal) -> bool {
     let failed = Refusal {
         number: refusal.number,
@@ -76,7 +77,7 @@ fn has_failed(reader: RecordReader, refusal: Refusal) -> bool {
     refusal.why == Why::OutOfMemory && reader.fed() == 0 && reader.finish().err() == Some(failed)
 }
 
-// How many bytes a new reader has taken.
+// How many bytes a new reader has been fed.
 fn fed_again(alloc: Global) -> Result<u64, Fail> {
     let mut reader = RecordReader::new(alloc);
     reader.feed(GIVEN)?;
@@ -105,7 +106,7 @@ fn open_reader(alloc: Global) -> Result<RecordReader, Refusal> {
     Ok(reader)
 }
 
-// The same, made again where memory was wanting.
+// The same, once more if the first call is out of memory.
 fn open_reader_at_last(rt: &(impl AllocGlobal + Print)) -> Result<RecordReader, Fail> {
     match open_reader(rt.alloc()) {
         Ok(reader) => Ok(reader),
@@ -116,7 +117,7 @@ fn open_reader_at_last(rt: &(impl AllocGlobal + Print)) -> Result<RecordReader, 
     }
 }
 
-// Its last statement is taken at the end.
+// The last statement is read at the end.
 fn finished_at_last(rt: &(impl AllocGlobal + Print + Abort)) -> Result<Record, Fail> {
     match open_reader_at_last(rt)?.finish() {
         Ok(record) => Ok(record),

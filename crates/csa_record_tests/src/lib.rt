@@ -1,5 +1,5 @@
-//! The tests of `csa_record`: its public calls as another crate makes them. They stand apart from it so that it is proved once
-//! and its tests by themselves.
+//! The tests of `csa_record`: its public calls as another crate makes them. They are a crate of
+//! their own, so that `csa_record` is proved only once.
 #![tactic(auto)]
 
 #[cfg(test)]

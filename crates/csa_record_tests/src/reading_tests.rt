@@ -7,7 +7,7 @@ const SHORT: &[u8] = b"V2.2\nPI\n+\n+7776FU,T12\n-3334FU,T6\n%TORYO\n";
 
 const TEXT: &[u8] = b"V2.2\nPI\n+\n+7776FU\nT12\n-3334FU\nT6\n%TORYO\n";
 
-// Its fourth statement is a pawn drop that mates.
+// The fourth statement is a pawn drop that mates.
 const MATES: &[u8] = b"P+13KI33KE59OU00FU\nP-11OU\n+\n+0012FU\n";
 
 fn record_of_short(rt: &(impl AllocGlobal + Abort)) -> Result<Record, Fail> {
@@ -58,7 +58,7 @@ fn feed_fails_again(rt: HostRuntime) -> Result<(), Fail> {
     Ok(())
 }
 
-// Where `PI`, `+` and a gold's move from 77 are refused.
+// The refusal of `PI`, `+` and a gold's move from 77.
 fn wrong_kind() -> Refusal {
     Refusal {
         number: 3,
@@ -75,6 +75,14 @@ fn an_open_statement_is_refused_at_the_end(rt: HostRuntime) -> Result<(), Fail> 
     Ok(())
 }
 
+// The byte after the move closes its statement, so nothing that follows can change the refusal.
+#[test]
+fn a_closed_statement_is_refused_at_once(rt: HostRuntime) {
+    let mut reader = RecordReader::new(rt.alloc());
+    assert_eq!(rt; reader.feed(b"PI\n+\n+7776KI\n"), Err(wrong_kind()));
+    assert!(rt; reader.fed() == 0);
+}
+
 #[test]
 fn laws_are_called() {
     laws::told_once();
@@ -85,4 +93,8 @@ fn laws_are_called() {
     laws::one_refusal();
     laws::laid_out();
     laws::union_placed();
+    laws::refused_when_closed();
+    laws::moved_headers();
+    laws::cuttings_alike();
+    laws::read_so_far();
 }

@@ -8,7 +8,7 @@ use std::alloc::Global;
 use std::process::Abort;
 use std::test::Fail;
 
-// The square of a number of two digits, as 55.
+// The square of a number with two digits, such as 55.
 fn square(number: u8) -> Square
     requires file { (1 ≤ number / 10) × (number / 10 ≤ 9) }
     requires rank { 1 ≤ number % 10 }
@@ -91,13 +91,13 @@ fn shows_its_parts(rt: HostRuntime) -> Result<(), Fail> {
     shows_what_was_given(&rt, &record)
 }
 
-// Whether a move and an ending are refused as standing behind the ending.
+// Whether a move and an ending are refused because they come after the ending.
 fn is_closed(record: &mut Record, mv: Move) -> bool {
     record.play(Color::Black, mv) == order(OrderFault::AfterEnding)
         && record.close(Ending::Chudan) == order(OrderFault::AfterEnding)
 }
 
-// Only the ending's time.
+// A time of the ending alone.
 fn takes_a_time(rt: &impl Abort, record: &mut Record) -> Result<(), Fail> {
     assert!(rt; is_closed(record, first()));
     record.set_time(5)?;
@@ -155,7 +155,7 @@ fn line_of_one_move(alloc: Global) -> Result<Line, Fail> {
     Ok(line)
 }
 
-// Whether the record is written so.
+// Whether this is the text of the record.
 fn is_written(alloc: Global, record: &Record, wanted: &[u8]) -> Result<bool, Fail> {
     let text = write(alloc, record)?;
     Ok(text.as_slice() == wanted)
@@ -176,7 +176,7 @@ fn keeps_a_line(rt: HostRuntime) -> Result<(), Fail> {
     ends_in_kachi(&rt, &mut record)
 }
 
-// The line of one move. A refused growth is told, and the call made again.
+// A line of one move. If an allocation fails, prints `refused` and tries again.
 fn one_move(rt: &HostRuntime, mv: Move) -> Result<Line, Fail> {
     let mut line = match Line::new(rt.alloc(), Position::even()) {
         Ok(line) => line,
@@ -192,7 +192,7 @@ fn one_move(rt: &HostRuntime, mv: Move) -> Result<Line, Fail> {
     Ok(line)
 }
 
-// A new record, made again where memory was wanting.
+// A new record, made once more if the first call is out of memory.
 fn new_record(rt: &(impl AllocGlobal + Print)) -> Result<Record, Fail> {
     match Record::new(rt.alloc(), Position::even()) {
         Ok(record) => Ok(record),
@@ -203,7 +203,7 @@ fn new_record(rt: &(impl AllocGlobal + Print)) -> Result<Record, Fail> {
     }
 }
 
-// Whether memory was wanting, which is told.
+// Whether the call was out of memory, which is printed.
 fn was_refused(rt: &(impl Print + Abort), answer: Result<(), Why>) -> Result<bool, Fail> {
     let Err(why) = answer else {
         return Ok(false);
@@ -213,7 +213,7 @@ fn was_refused(rt: &(impl Print + Abort), answer: Result<(), Why>) -> Result<boo
     Ok(true)
 }
 
-// Gives the record a name, a header and a move, each again where memory was wanting.
+// Gives the record a name, a header and a move, each once more if the first call is out of memory.
 fn fill(rt: &(impl Print + Abort), record: &mut Record) -> Result<(), Fail> {
     if was_refused(rt, record.set_name(Color::White, b"b"))? {
         record.set_name(Color::White, b"b")?;
@@ -234,15 +234,15 @@ fn filled_at_last(rt: &(impl Print + Abort), record: &mut Record) -> Result<(), 
     Ok(())
 }
 
-// Run by tests/growths with each growth refused in turn: the answer is want of memory, and nothing has changed, so the
-// call made again succeeds.
+// tests/growths runs this with each allocation refused in turn. A refused call changes nothing, so
+// a second one succeeds.
 #[test]
 fn refused_growth_is_told(rt: HostRuntime) -> Result<(), Fail> {
     let mut record = new_record(&rt)?;
     filled_at_last(&rt, &mut record)
 }
 
-// The record of the line, made again where memory was wanting.
+// The record of the line, made once more if the first call is out of memory.
 fn record_of(rt: &(impl AllocGlobal + Print + Abort), line: Line) -> Result<Record, Fail> {
     match Record::from_line(rt.alloc(), line) {
         Ok(record) => Ok(record),
@@ -254,7 +254,7 @@ fn record_of(rt: &(impl AllocGlobal + Print + Abort), line: Line) -> Result<Reco
     }
 }
 
-// Its text, written again where memory was wanting.
+// Its text, written once more if the first call is out of memory.
 fn written(rt: &(impl AllocGlobal + Print), record: &Record) -> Result<Vec<u8>, Fail> {
     match write(rt.alloc(), record) {
         Ok(text) => Ok(text),
@@ -273,7 +273,7 @@ fn ends_in_toryo(rt: &(impl AllocGlobal + Print + Abort), record: &mut Record) -
     Ok(())
 }
 
-// `set_time`, `close` and the accessors take no memory.
+// `set_time`, `close` and the accessors allocate nothing.
 #[test]
 fn refused_growth_of_from_line_and_write(rt: HostRuntime) -> Result<(), Fail> {
     let line = one_move(&rt, first())?;

@@ -8,3 +8,4 @@ pub mod Sayings
 pub mod Decided
 pub mod Codings
 pub mod Moments
+pub mod MoveBytes

@@ -12,8 +12,8 @@ use Rattle.jiff_core.specs.Calendar.{IsCivilDate, days_in_month, is_leap_year}
 use Rattle.jiff_core.specs.declared.civil.date.Date.{Date}
 use Rattle.jiff_core.specs.declared.civil.time.Time.{Time}
 use Rattle.csa_cutting.proofs.LineCutting.{all_joined}
-use Rattle.csa_text.specs.Fields.{IsNumber, HasNone, IsSplit}
-use Rattle.csa_text.specs.Moment.{TimeOfDay, CalendarMoment, AreNumbers, SpellsDate, SpellsTime, SpellsDateAnd, SpellsMoment, two_digits, four_digits, date_text, time_text, behind_date, time_of}
+use Rattle.csa_text.specs.Fields.{IsNumber, two_digits, HasNone, IsSplit}
+use Rattle.csa_text.specs.Moment.{TimeOfDay, CalendarMoment, AreNumbers, SpellsDate, SpellsTime, SpellsDateAnd, SpellsMoment, four_digits, date_text, clock_text, behind_date, time_of}
 use Rattle.csa_cutting.proofs.Once.{same_front}
 
 pub digit_below : (ds : List ℕ) (i : ℕ) → AllDigits 10 ds → i < length ds → digit_value (get_or ds i 0) < 10
@@ -198,7 +198,7 @@ abbrev pub InDay : Option TimeOfDay → Type 0
 InDay None = Unit {0}
 InDay (Some t) = (t.hour ≤ 23) × (t.minute ≤ 59) × (t.second ≤ 59)
 
-time_spelled : (t : TimeOfDay) → (t.hour ≤ 23) × (t.minute ≤ 59) × (t.second ≤ 59) → SpellsTime (time_text t.hour t.minute t.second) t.hour t.minute t.second
+time_spelled : (t : TimeOfDay) → (t.hour ≤ 23) × (t.minute ≤ 59) × (t.second ≤ 59) → SpellsTime (clock_text t.hour t.minute t.second) t.hour t.minute t.second
 time_spelled t h = (
   record {
     front = two_digits t.hour;
@@ -217,7 +217,7 @@ time_spelled t h = (
 pub text_spelled : (t : Option TimeOfDay) (y m d : ℕ) → y < 10000 → IsCivilDate (pos y) m d → InDay t → SpellsDateAnd t (date_text y m d ++ behind_date t) y m d
 text_spelled None y m d few exists h = date_spelled y m d few exists
 text_spelled (Some t) y m d few exists h =
-    (date_text y m d, time_text t.hour t.minute t.second, refl, date_spelled y m d few exists, time_spelled t h)
+    (date_text y m d, clock_text t.hour t.minute t.second, refl, date_spelled y m d few exists, time_spelled t h)
 
 pub not_negative : (y : ℤ) → pos 0 ≤ℤ y → pos (unsigned_abs y) ≡ y
 not_negative (pos n) h = refl

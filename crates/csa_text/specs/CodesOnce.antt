@@ -20,11 +20,14 @@ found_by text (x ∷ xs) bytes =
 -- if each element is found by its text, no two have the same text
 pub text_once : {X : Type 0} (text : X → List ℕ) (xs : List X)
     → ((x : X) → found_by text xs (text x) ≡ Some x) → (a b : X) → text a ≡ text b → a ≡ b
-text_once text xs all a b e = let same : Some a ≡ Some b = sym (all a) ∙ ap (found_by text xs) e ∙ all b in cc
+text_once text xs all a b e =
+    let same : Some a ≡ Some b = sym (all a) ∙ ap (found_by text xs) e ∙ all b in
+    cc
 
 abbrev pub all_kinds : List Kind
 all_kinds =
-    Pawn ∷ Lance ∷ Knight ∷ Silver ∷ Gold ∷ Bishop ∷ Rook ∷ King ∷ ProPawn ∷ ProLance ∷ ProKnight ∷ ProSilver ∷ Horse ∷ Dragon ∷ []
+    Pawn ∷ Lance ∷ Knight ∷ Silver ∷ Gold ∷ Bishop ∷ Rook ∷ King
+    ∷ ProPawn ∷ ProLance ∷ ProKnight ∷ ProSilver ∷ Horse ∷ Dragon ∷ []
 
 -- the code of a kind has two bytes, and the kind is found by it
 kind_read : (k : Kind)
@@ -55,7 +58,9 @@ kind_once a b e = text_once kind_code all_kinds kind_found a b e
 
 -- `AL` is no kind
 pub no_rest_kind : (k : Kind) → kind_code k ≡ codes "AL" → ⊥
-no_rest_kind k e = let none : Some k ≡ None = sym (kind_found k) ∙ ap (found_by kind_code all_kinds) e in cc
+no_rest_kind k e =
+    let none : Some k ≡ None = sym (kind_found k) ∙ ap (found_by kind_code all_kinds) e in
+    cc
 
 pub square_once : (a b : Square) → 48 + file_of a ≡ 48 + file_of b
     → 48 + rank_of a ≡ 48 + rank_of b → a ≡ b

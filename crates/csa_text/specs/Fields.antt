@@ -1,5 +1,5 @@
 -- Numbers in digits, and texts that a mark separates.
-use Rattle.std.specs.Prelude.{◌≡◌, ℕ, ◌≤◌, ◌==◌, false, List, ◌∷◌, ◌++◌, length}
+use Rattle.std.specs.Prelude.{◌≡◌, ℕ, ◌+◌, ◌/◌, ◌%◌, ◌≤◌, ◌==◌, false, List, [], ◌∷◌, ◌++◌, length}
 use Rattle.std.specs.List.{AllByRecursion}
 use Rattle.std.specs.Str.Parse.{AllDigits, digits_value}
 
@@ -9,6 +9,10 @@ pub record IsNumber (fewest most : ℕ) (digits : List ℕ) (value : ℕ) : Type
   pub many : length digits ≤ most
   pub digits_only : AllDigits 10 digits
   pub value_is : value ≡ digits_value 10 digits
+
+-- a number below 100 in two digits
+abbrev pub two_digits : ℕ → List ℕ
+two_digits n = (48 + n / 10) ∷ (48 + n % 10) ∷ []
 
 -- no byte of this value
 abbrev pub HasNone : ℕ → List ℕ → Type 0

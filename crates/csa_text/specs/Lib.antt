@@ -6,5 +6,6 @@ pub mod Endings
 pub mod TimeTexts
 pub mod Saying
 pub mod Spelling
+pub mod Statements
 pub mod Fields
 pub mod Moment

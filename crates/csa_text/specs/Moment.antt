@@ -1,6 +1,6 @@
 -- Moments: a date, or a date and a time of day.
-use Rattle.std.specs.Prelude.{◌≡◌, ℕ, ◌+◌, ◌/◌, ◌%◌, ◌≤◌, List, [], ◌∷◌, ◌++◌, pos, unsigned_abs, Option, Some, None}
-use Rattle.csa_text.specs.Fields.{IsNumber}
+use Rattle.std.specs.Prelude.{◌≡◌, ℕ, ◌/◌, ◌%◌, ◌≤◌, List, [], ◌∷◌, ◌++◌, pos, unsigned_abs, Option, Some, None}
+use Rattle.csa_text.specs.Fields.{IsNumber, two_digits}
 use Rattle.csa_text.specs.declared.calendar.Moment.{Moment}
 use Rattle.jiff_core.specs.Calendar.{IsCivilDate}
 use Rattle.jiff_core.specs.declared.civil.time.Time.{Time}
@@ -47,10 +47,6 @@ SpellsDateAnd (Some t) bytes year month day = (date time : List ℕ) × (bytes �
 abbrev pub SpellsMoment : List ℕ → CalendarMoment → Type 0
 SpellsMoment bytes m = SpellsDateAnd m.time bytes m.year m.month m.day
 
--- a number below 100 in two digits
-abbrev pub two_digits : ℕ → List ℕ
-two_digits n = (48 + n / 10) ∷ (48 + n % 10) ∷ []
-
 -- a number below 10000 in four digits
 abbrev pub four_digits : ℕ → List ℕ
 four_digits n = two_digits (n / 100) ++ two_digits (n % 100)
@@ -58,13 +54,14 @@ four_digits n = two_digits (n / 100) ++ two_digits (n % 100)
 abbrev pub date_text : ℕ → ℕ → ℕ → List ℕ
 date_text year month day = four_digits year ++ 47 ∷ (two_digits month ++ 47 ∷ two_digits day)
 
-abbrev pub time_text : ℕ → ℕ → ℕ → List ℕ
-time_text hour minute second = two_digits hour ++ 58 ∷ (two_digits minute ++ 58 ∷ two_digits second)
+abbrev pub clock_text : ℕ → ℕ → ℕ → List ℕ
+clock_text hour minute second =
+    two_digits hour ++ 58 ∷ (two_digits minute ++ 58 ∷ two_digits second)
 
 -- nothing, or a space and the time
 abbrev pub behind_date : Option TimeOfDay → List ℕ
 behind_date None = []
-behind_date (Some t) = 32 ∷ time_text t.hour t.minute t.second
+behind_date (Some t) = 32 ∷ clock_text t.hour t.minute t.second
 
 -- the canonical text of a moment
 abbrev pub moment_text : CalendarMoment → List ℕ

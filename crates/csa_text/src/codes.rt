@@ -13,6 +13,14 @@ pub fn sign_of(color: Color) -> u8
     }
 }
 
+// The digits of the file and of the rank.
+#[inline(always)]
+pub(crate) fn square_digits(square: Square) -> [u8; 2]
+    ensures { result ≡ square_text square }
+{
+    [b'0' + square.file(), b'0' + square.rank()]
+}
+
 // The side with this sign.
 pub(crate) fn read_sign(byte: u8) -> Option<Color>
     ensures { MatchOption result ((color : Color) → byte ≡ sign color → ⊥)
@@ -64,25 +72,25 @@ pub(crate) fn read_kind(code: &[u8]) -> Option<Kind>
     }
 }
 
-/// The two letters of a kind in CSA V2.2, such as `FU` for a pawn and `RY` for a dragon.
-/// `read_item` reads them back as that kind.
-pub fn kind_text(kind: Kind) -> &'static str
-    ensures code { result.now ≡ kind_code kind }
+// The code of the kind.
+#[inline(always)]
+pub(crate) fn kind_letters(kind: Kind) -> [u8; 2]
+    ensures { result ≡ kind_code kind }
 {
     match kind {
-        Kind::Pawn => "FU",
-        Kind::Lance => "KY",
-        Kind::Knight => "KE",
-        Kind::Silver => "GI",
-        Kind::Gold => "KI",
-        Kind::Bishop => "KA",
-        Kind::Rook => "HI",
-        Kind::King => "OU",
-        Kind::ProPawn => "TO",
-        Kind::ProLance => "NY",
-        Kind::ProKnight => "NK",
-        Kind::ProSilver => "NG",
-        Kind::Horse => "UM",
-        Kind::Dragon => "RY",
+        Kind::Pawn => *b"FU",
+        Kind::Lance => *b"KY",
+        Kind::Knight => *b"KE",
+        Kind::Silver => *b"GI",
+        Kind::Gold => *b"KI",
+        Kind::Bishop => *b"KA",
+        Kind::Rook => *b"HI",
+        Kind::King => *b"OU",
+        Kind::ProPawn => *b"TO",
+        Kind::ProLance => *b"NY",
+        Kind::ProKnight => *b"NK",
+        Kind::ProSilver => *b"NG",
+        Kind::Horse => *b"UM",
+        Kind::Dragon => *b"RY",
     }
 }

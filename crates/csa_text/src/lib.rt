@@ -1,4 +1,4 @@
-//! Reads what the statements of CSA records say, and writes moves and moments in the same form.
+//! Reads what the statements of CSA records say, and writes statements and their parts.
 //!
 //! The grammar is that of CSA V2.2, as `docs/CSA.md` restricts it. `csa_cutting` cuts bytes into
 //! statements, and this crate re-exports its types. `read_item` reads one statement into an `Item`,
@@ -26,14 +26,21 @@ mod pair;
 mod pairs;
 mod rank;
 mod time;
+mod writing;
 
 pub use calendar::Moment;
-pub use codes::{kind_text, sign_of};
+pub use codes::sign_of;
 pub use csa_cutting::{Cut, CutFault, Cutter, LineCutter, LineFault, PieceCutter, Statement};
 pub use ending::Ending;
 pub use fault::TextFault;
 pub use item::{Item, read_item};
 pub use moment::read_moment;
-pub use moved::csa_move;
+pub use moved::{csa_move, move_bytes};
 pub use pair::Pair;
-pub use pairs::Pairs;
+pub use pairs::{Pairs, pair_bytes};
+pub use rank::cell_bytes;
+pub use time::write_time;
+pub use writing::{
+    even_head, pieces_head, rank_head, write_ending, write_header, write_name, write_turn,
+    write_version,
+};

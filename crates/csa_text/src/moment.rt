@@ -2,7 +2,8 @@ ghost use Rattle.std.specs.Char.{digit_value};
 ghost use Rattle.std.specs.Prelude.{◌≡◌, ℕ, ◌+◌, ◌^◌, ◌<◌, ◌≤◌, ◌++◌, ◌↔◌, pos, ◌≤ℤ◌, unsigned_abs, MatchOption, IfSome, IfNone, IsSome};
 ghost use Rattle.jiff_core.specs.Calendar.{IsCivilDate};
 ghost use Rattle.arrayvec.specs.ArrayString.{array_string_len};
-ghost use Rattle.csa_text.specs.Moment.{CalendarMoment, SpellsDate, SpellsTime, SpellsMoment, AreNumbers, date_text, time_text, moment_text, two_digits, moment_of};
+ghost use Rattle.csa_text.specs.Fields.{two_digits};
+ghost use Rattle.csa_text.specs.Moment.{CalendarMoment, SpellsDate, SpellsTime, SpellsMoment, AreNumbers, date_text, clock_text, moment_text, moment_of};
 
 use crate::calendar::Moment;
 use crate::fields::{read_number, split_at_byte};
@@ -131,7 +132,7 @@ fn push_date(text: &mut ArrayString<19>, date: Date)
 
 fn push_time(text: &mut ArrayString<19>, time: Time)
     requires room { array_string_len text.old + 8 ≤ 19 }
-    ensures { text.new.bytes ≡ text.old.bytes ++ time_text time.hour time.minute time.second }
+    ensures { text.new.bytes ≡ text.old.bytes ++ clock_text time.hour time.minute time.second }
 {
     push_two(text, time.hour() as u8);
     text.push(':');

@@ -1,36 +1,54 @@
-ghost use Rattle.std.specs.Prelude.{◌≡◌, ◌++◌, ◌+◌, ◌≤◌, MatchOption};
+ghost use Rattle.std.specs.Prelude.{◌≡◌, ◌<◌, ◌++◌, ◌∷◌, [], MatchOption};
 ghost use Rattle.arrayvec.specs.ArrayString.{array_string_len};
-ghost use Rattle.csa_text.specs.Codes.{sign, square_text, squares_text};
+ghost use Rattle.csa_text.specs.Codes.{squares_text, move_text};
 ghost use Rattle.csa_text.specs.Saying.{walked};
 ghost use Rattle.csa_text.specs.Spelling.{Spells};
 
-use crate::codes::{kind_text, read_kind, read_square, sign_of};
+use crate::codes::{kind_letters, read_kind, read_square, sign_of, square_digits};
 use arrayvec::ArrayString;
-use shogi_board::{Color, Square};
+use shogi_board::Color;
 use shogi_rules::Move;
 
 /// The seven bytes of a move in CSA V2.2: the sign of its side, the square that it leaves or `00`
 /// for a drop, the square that it goes to, and the kind after the move. `read_item` reads them back
 /// as that move.
 #[inline(always)]
+pub fn move_bytes(color: Color, m: &Move) -> [u8; 7]
+    ensures bytes { result ≡ move_text color m.now }
+{
+    let sign = sign_of(color);
+    match *m {
+        Move::Walk { from, to, kind } => {
+            let [file, rank] = square_digits(from);
+            let [to_file, to_rank] = square_digits(to);
+            let [first, second] = kind_letters(kind);
+            [sign, file, rank, to_file, to_rank, first, second]
+        }
+        Move::Put { to, kind } => {
+            let [to_file, to_rank] = square_digits(to);
+            let [first, second] = kind_letters(kind);
+            [sign, b'0', b'0', to_file, to_rank, first, second]
+        }
+    }
+}
+
+/// The text of `move_bytes`.
 pub fn csa_move(color: Color, m: &Move) -> ArrayString<7>
     ensures spells { Spells result.bytes (walked color m.now) }
 {
     let mut text = ArrayString::new();
-    text.push(sign_of(color) as char);
-    match *m {
-        Move::Walk { from, to, kind } => {
-            push_square(&mut text, from);
-            push_square(&mut text, to);
-            text.push_str(kind_text(kind));
-        }
-        Move::Put { to, kind } => {
-            text.push_str("00");
-            push_square(&mut text, to);
-            text.push_str(kind_text(kind));
-        }
+    for byte in move_bytes(color, m) {
+        push_ascii(&mut text, byte);
     }
     text
+}
+
+fn push_ascii(text: &mut ArrayString<7>, byte: u8)
+    requires room { array_string_len text.old < 7 }
+    requires ascii { byte < 128 }
+    ensures { text.new.bytes ≡ text.old.bytes ++ byte ∷ [] }
+{
+    text.push(byte as char);
 }
 
 // The move of these six bytes, which follow the sign.
@@ -51,13 +69,4 @@ pub(crate) fn read_move(bytes: &[u8]) -> Option<Move>
             kind,
         }),
     }
-}
-
-fn push_square(text: &mut ArrayString<7>, square: Square)
-    requires { array_string_len text.old + 2 ≤ 7 }
-    ensures text { text.new.bytes ≡ text.old.bytes ++ square_text square }
-    ensures len { array_string_len text.new ≡ array_string_len text.old + 2 }
-{
-    text.push((b'0' + square.file()) as char);
-    text.push((b'0' + square.rank()) as char);
 }

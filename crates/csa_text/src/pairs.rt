@@ -3,7 +3,7 @@ ghost use Rattle.csa_text.specs.declared.pair.Pair.{Pair};
 ghost use Rattle.csa_text.specs.PairTexts.{pair_text, pairs_text};
 ghost use Rattle.csa_text.specs.PairsOnce.{pairs-prop};
 
-use crate::codes::{read_kind, read_square};
+use crate::codes::{kind_letters, read_kind, read_square, square_digits};
 use crate::pair::Pair;
 
 // The bytes of a pair.
@@ -71,6 +71,25 @@ impl<'a> Pairs<'a> {
             };
         }
         true
+    }
+}
+
+/// The four bytes of a pair: a square and a kind, `00` and a kind, or `00AL`. `read_item` reads
+/// them back as that pair.
+pub fn pair_bytes(pair: Pair) -> [u8; 4]
+    ensures bytes { result ≡ pair_text pair }
+{
+    match pair {
+        Pair::On(square, kind) => {
+            let [file, rank] = square_digits(square);
+            let [first, second] = kind_letters(kind);
+            [file, rank, first, second]
+        }
+        Pair::InHand(kind) => {
+            let [first, second] = kind_letters(kind);
+            [b'0', b'0', first, second]
+        }
+        Pair::Rest => *b"00AL",
     }
 }
 

@@ -2,7 +2,7 @@ ghost use Rattle.std.specs.Prelude.{◌≡◌, ◌++◌, ◌⊎◌, codes, List,
 ghost use Rattle.std.specs.List.{flat_map};
 ghost use Rattle.csa_text.specs.Codes.{cell_text};
 
-use crate::codes::{read_kind, read_sign};
+use crate::codes::{kind_letters, read_kind, read_sign, sign_of};
 use shogi_board::Piece;
 
 // The number of cells in a rank, of bytes in a cell, and of bytes in a rank's cells.
@@ -44,6 +44,18 @@ fn read_cells(bytes: &[u8]) -> Option<[Option<Piece>; CELLS]>
         cells[i] = read_cell(&bytes[CELL * i..CELL * i + CELL])?;
     }
     Some(cells)
+}
+
+/// The three bytes of a cell of a rank: the sign and the kind of its piece, or a star between
+/// spaces. `read_item` reads them back as that cell.
+pub fn cell_bytes(cell: Option<Piece>) -> [u8; 3]
+    ensures bytes { result ≡ cell_text cell }
+{
+    let Some(piece) = cell else {
+        return *b" * ";
+    };
+    let [first, second] = kind_letters(piece.kind);
+    [sign_of(piece.color), first, second]
 }
 
 // What the cell holds, or `None` if the bytes are not a cell.

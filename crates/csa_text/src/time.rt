@@ -1,7 +1,9 @@
-ghost use Rattle.std.specs.Prelude.{ℕ, ◌<◌, MatchOption, IfSome};
-ghost use Rattle.csa_text.specs.TimeTexts.{IsSeconds, IsFraction, IsTime};
+ghost use Rattle.std.specs.Prelude.{◌≡◌, ℕ, ◌+◌, ◌<◌, ◌++◌, codes, MatchOption, IfSome, OnOk};
+ghost use Rattle.csa_text.specs.TimeTexts.{IsSeconds, IsFraction, IsTime, time_text, fraction_text};
 
 use crate::fields::{read_digits, read_number, split_at_byte};
+use itoa::Buffer;
+use shogi_board::OutOfMemory;
 
 // The time that the text after `T` spells, in thousandths of a second: whole seconds up to
 // 4,294,967,295, and optionally a point and one to three digits.
@@ -45,4 +47,64 @@ fn read_fraction(digits: &[u8]) -> Option<u16>
         2 => value * 10,
         _ => value,
     })
+}
+
+/// Adds the statement of a time in thousandths of a second: `T` and the seconds, without leading
+/// zeros in them or trailing zeros after the point.
+///
+/// Returns `OutOfMemory` if an allocation fails.
+#[inline(always)]
+pub fn write_time(out: &mut Vec<u8>, thousandths: u64) -> Result<(), OutOfMemory>
+    ensures added { OnOk result
+        (out.new.items ≡ out.old.items ++ (codes "T" ++ time_text thousandths)) }
+{
+    let seconds = thousandths / 1000;
+    if seconds >= 100 || thousandths % 1000 > 0 {
+        return write_any_time(out, thousandths);
+    }
+    // most moves take whole seconds, and fewer than a hundred
+    if seconds < 10 {
+        out.extend_from_slice(&[b'T', digit(seconds)])?;
+    } else {
+        out.extend_from_slice(&[b'T', digit(seconds / 10), digit(seconds % 10)])?;
+    }
+    Ok(())
+}
+
+// As `write_time`, for any time.
+#[inline(never)]
+fn write_any_time(out: &mut Vec<u8>, thousandths: u64) -> Result<(), OutOfMemory>
+    ensures { OnOk result
+        (out.new.items ≡ out.old.items ++ (codes "T" ++ time_text thousandths)) }
+{
+    let mut buffer = Buffer::new();
+    out.push(b'T')?;
+    out.extend_from_slice(buffer.format(thousandths / 1000).as_bytes())?;
+    write_fraction(out, thousandths % 1000)?;
+    Ok(())
+}
+
+// A point and up to three digits, without trailing zeros; nothing for 0.
+fn write_fraction(out: &mut Vec<u8>, n: u64) -> Result<(), OutOfMemory>
+    requires { n < 1000 }
+    ensures { OnOk result (out.new.items ≡ out.old.items ++ fraction_text n) }
+{
+    if n == 0 {
+        return Ok(());
+    }
+    if n % 100 == 0 {
+        out.extend_from_slice(&[b'.', digit(n / 100)])?;
+    } else if n % 10 == 0 {
+        out.extend_from_slice(&[b'.', digit(n / 100), digit(n / 10 % 10)])?;
+    } else {
+        out.extend_from_slice(&[b'.', digit(n / 100), digit(n / 10 % 10), digit(n % 10)])?;
+    }
+    Ok(())
+}
+
+fn digit(n: u64) -> u8
+    requires { n < 10 }
+    ensures { result ≡ 48 + n }
+{
+    b'0' + n as u8
 }

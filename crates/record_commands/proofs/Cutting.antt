@@ -4,8 +4,8 @@ use Rattle.std.proofs.lemmas.Bool.{cases_lt}
 use Rattle.std.specs.Borrow.{Bor}
 use Rattle.csa_cutting.specs.Lines.{Lines}
 use Rattle.csa_cutting.specs.LineCutting.{LineCutting, BeginsTooLong, LineStep, LinesAfter}
-use Rattle.record_commands.specs.Incoming.{IsHearing}
-use Rattle.record_commands.proofs.Hearing.{rest_run}
+use Rattle.record_commands.specs.Incoming.{IsReading}
+use Rattle.record_commands.proofs.LineReading.{rest_run}
 
 at_most : (a b : ℕ) → (a < b → ⊥) → b ≤ a
 at_most a b h = elim (cases_lt a b) [
@@ -18,11 +18,11 @@ pub parted : (used piece : List ℕ) (k : ℕ) → (used ++ take k piece) ++ dro
 parted used piece k = append_assoc used (take k piece) (drop k piece) ∙ ap (λ xs. used ++ xs) (take-append-drop k piece)
 
 -- a line that has ended at the front is no longer than the limit
-line_short : (limit : ℕ) (bytes front behind line : List ℕ) → bytes ≡ front ++ behind → Lines front (line ∷ []) [] → (BeginsTooLong limit bytes → ⊥) → length line ≤ limit
-line_short limit bytes front behind line is (left, n, others) few = at_most limit (length line) (λ long.
-    let whole : bytes ≡ n.ends ++ (line ++ (left ++ behind)) =
-    is ∙ ap (λ xs. xs ++ behind) n.whole ∙ append_assoc n.ends (line ++ left) behind ∙ ap (λ xs. n.ends ++ xs) (append_assoc line left behind) in
-    few (n.ends, line, left ++ behind, whole, n.skipped, n.run, long))
+line_short : (limit : ℕ) (bytes front after line : List ℕ) → bytes ≡ front ++ after → Lines front (line ∷ []) [] → (BeginsTooLong limit bytes → ⊥) → length line ≤ limit
+line_short limit bytes front after line is (left, n, others) few = at_most limit (length line) (λ long.
+    let whole : bytes ≡ n.ends ++ (line ++ (left ++ after)) =
+    is ∙ ap (λ xs. xs ++ after) n.whole ∙ append_assoc n.ends (line ++ left) after ∙ ap (λ xs. n.ends ++ xs) (append_assoc line left after) in
+    few (n.ends, line, left ++ after, whole, n.skipped, n.run, long))
 
 -- nor is what is held of an unfinished one
 pub held_short : (limit : ℕ) (bytes held : List ℕ) → Lines bytes [] held → (BeginsTooLong limit bytes → ⊥) → length held ≤ limit
@@ -35,19 +35,19 @@ next_short old piece k line limit few step =
     subst (λ j. length line.now ≤ j) limit (line_short old.limit (old.held ++ piece) (old.held ++ take k piece) (drop k piece) line.now (sym (parted old.held piece k)) step.1.1 few)
 
 -- a line that ended has no more bytes than the limit
-pub heard_short : (old : LineCutting) (piece : List ℕ) (r : ℕ × Option (Bor (List ℕ))) (line : Bor (List ℕ))
-    → r.1 ≡ Some line → IsHearing old → (BeginsTooLong old.limit (old.held ++ piece) → ⊥) → LineStep old.held piece r → length line.now ≤ 65536
-heard_short old piece r line is hearing few step =
-    next_short old piece r.0 line hearing.limit few (subst (λ o. LineStep old.held piece (r.0, o)) is step)
+pub ended_short : (old : LineCutting) (piece : List ℕ) (r : ℕ × Option (Bor (List ℕ))) (line : Bor (List ℕ))
+    → r.1 ≡ Some line → IsReading old → (BeginsTooLong old.limit (old.held ++ piece) → ⊥) → LineStep old.held piece r → length line.now ≤ 65536
+ended_short old piece r line is reading few step =
+    next_short old piece r.0 line reading.limit few (subst (λ o. LineStep old.held piece (r.0, o)) is step)
 
 -- nor has one that is unfinished
 pub goes_on : (old new : LineCutting) (piece : List ℕ) (r : ℕ × Option (Bor (List ℕ)))
-    → r.1 ≡ None → IsHearing old → (BeginsTooLong old.limit (old.held ++ piece) → ⊥) → LinesAfter old piece (Ok r) new → IsHearing new
-goes_on old new piece r is hearing few stepped =
+    → r.1 ≡ None → IsReading old → (BeginsTooLong old.limit (old.held ++ piece) → ⊥) → LinesAfter old piece (Ok r) new → IsReading new
+goes_on old new piece r is reading few stepped =
     let after = subst (λ o. LinesAfter old piece (Ok (r.0, o)) new) is stepped in
     record {
-      limit = after.0 ∙ hearing.limit;
+      limit = after.0 ∙ reading.limit;
       run = rest_run (old.held ++ piece) [] new.held after.2;
-      short = subst (λ j. length new.held ≤ j) hearing.limit (held_short old.limit (old.held ++ piece) new.held after.2 few);
+      short = subst (λ j. length new.held ≤ j) reading.limit (held_short old.limit (old.held ++ piece) new.held after.2 few);
       sound = after.1;
     }

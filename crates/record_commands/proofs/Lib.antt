@@ -1,4 +1,4 @@
 pub mod Cutting
-pub mod Hearing
+pub mod LineReading
 pub mod Recording
 pub mod Telling

@@ -7,22 +7,22 @@ use Rattle.shogi_rules.specs.Positions.{Played, all_of, now_of}
 use Rattle.shogi_rules.specs.Verdicts.{Stands}
 use Rattle.shogi_rules.specs.declared.line.Verdict.{Verdict}
 use Rattle.record_commands.specs.OneLine.{HasLongLine, HasNoLine, HasTwoLines, IsOneLine}
-use Rattle.record_commands.specs.Words.{IsAcceptedLine, accepted_line, line_of}
+use Rattle.record_commands.specs.Words.{IsAcceptedLine, accepted_line, game_line}
 
 -- the line of `check` is that of the game
 pub accepted_so : {S E : Type 0} (bytes : S → List ℕ) (g : Game) (line : Played) (moves : ℕ) (verdict : Verdict) (answer : Result S E)
-    → line ≡ line_of g → moves ≡ length line.moves → Stands (all_of line) (now_of line) verdict
+    → line ≡ game_line g → moves ≡ length line.moves → Stands (all_of line) (now_of line) verdict
     → IfOk answer (λ text. bytes text ≡ accepted_line moves verdict) → IfOk answer (λ text. IsAcceptedLine g (bytes text))
-accepted_so bytes g line moves verdict (Err e) is count stands told = tt
-accepted_so bytes g line moves verdict (Ok text) is count stands told =
+accepted_so bytes g line moves verdict (Err e) is count stands is_line = tt
+accepted_so bytes g line moves verdict (Ok text) is count stands is_line =
     let whole : moves ≡ length g.moves = count ∙ ap (λ (l : Played). length l.moves) is ∙ length-map g.moves move_of in
-    (verdict, subst (λ (l : Played). Stands (all_of l) (now_of l) verdict) is stands, told ∙ ap (λ n. accepted_line n verdict) whole)
+    (verdict, subst (λ (l : Played). Stands (all_of l) (now_of l) verdict) is stands, is_line ∙ ap (λ n. accepted_line n verdict) whole)
 
 -- a line came, and then the end
-pub line_alone : (bytes old mid new : Option (List ℕ)) (line shown heard : List ℕ) → old ≡ bytes → line ≡ shown → shown ≡ heard
-    → GivesLine old mid heard → length heard ≤ 65536 → GivesEnd mid new → IsOneLine bytes line
-line_alone bytes old mid new line shown heard is kept lent gives short ended =
-    let same : heard ≡ line = sym (kept ∙ lent) in
+pub line_alone : (bytes old mid new : Option (List ℕ)) (line shown read : List ℕ) → old ≡ bytes → line ≡ shown → shown ≡ read
+    → GivesLine old mid read → length read ≤ 65536 → GivesEnd mid new → IsOneLine bytes line
+line_alone bytes old mid new line shown read is kept lent gives short ended =
+    let same : read ≡ line = sym (kept ∙ lent) in
     (mid, subst (λ x. GivesLine x mid line) is (subst (λ x. GivesLine old mid x) same gives), subst (λ x. length x ≤ 65536) same short, (new, ended))
 
 -- and another

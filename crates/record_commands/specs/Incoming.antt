@@ -33,7 +33,7 @@ abbrev pub GivesLongLine : Option (List ℕ) → Option (List ℕ) → Type 0
 GivesLongLine old new = GivesNoLine old new × IfSome old (BeginsTooLong 65536)
 
 -- the cutter of a reader that goes on
-pub record IsHearing (cutter : LineCutting) : Type 0 where
+pub record IsReading (cutter : LineCutting) : Type 0 where
   pub limit : cutter.limit ≡ 65536
   pub run : HasNoLineEnd cutter.held
   pub short : length cutter.held ≤ 65536

@@ -9,18 +9,18 @@ HasNoLine bytes = (none : Option (List ℕ)) × GivesEnd bytes none
 -- this line comes, of at most 65,536 bytes, and then the end
 abbrev pub IsOneLine : Option (List ℕ) → List ℕ → Type 0
 IsOneLine bytes line =
-    (behind : Option (List ℕ)) × GivesLine bytes behind line
-    × (length line ≤ 65536) × HasNoLine behind
+    (rest : Option (List ℕ)) × GivesLine bytes rest line
+    × (length line ≤ 65536) × HasNoLine rest
 
 -- two lines come
 abbrev pub HasTwoLines : Option (List ℕ) → Type 0
 HasTwoLines bytes =
-    (first second : List ℕ) × (behind rest : Option (List ℕ))
-    × GivesLine bytes behind first × GivesLine behind rest second
+    (first second : List ℕ) × (rest last : Option (List ℕ))
+    × GivesLine bytes rest first × GivesLine rest last second
 
 -- the first line that comes, or the second, has more than 65,536 bytes
 abbrev pub HasLongLine : Option (List ℕ) → Type 0
 HasLongLine bytes =
-    ((rest : Option (List ℕ)) × GivesLongLine bytes rest)
-    ⊎ ((first : List ℕ) × (behind rest : Option (List ℕ))
-    × GivesLine bytes behind first × GivesLongLine behind rest)
+    ((last : Option (List ℕ)) × GivesLongLine bytes last)
+    ⊎ ((first : List ℕ) × (rest last : Option (List ℕ))
+    × GivesLine bytes rest first × GivesLongLine rest last)

@@ -18,8 +18,8 @@ word_of (Perpetual Black) = codes "perpetual+"
 word_of (Perpetual White) = codes "perpetual-"
 
 -- the start of a game, and its moves
-abbrev pub line_of : Game → Played
-line_of g = record { start = g.start; moves = map move_of g.moves }
+abbrev pub game_line : Game → Played
+game_line g = record { start = g.start; moves = map move_of g.moves }
 
 -- the line of `check`: the number of moves, a space, and the word for the state
 abbrev pub accepted_line : ℕ → Verdict → List ℕ
@@ -29,5 +29,5 @@ accepted_line moves verdict =
 -- this is the line for the game: for all its moves, and the state after them
 abbrev pub IsAcceptedLine : Game → List ℕ → Type 0
 IsAcceptedLine g line =
-    (verdict : Verdict) × Stands (all_of (line_of g)) (now_of (line_of g)) verdict
+    (verdict : Verdict) × Stands (all_of (game_line g)) (now_of (game_line g)) verdict
     × (line ≡ accepted_line (length g.moves) verdict)

@@ -6,7 +6,7 @@ ghost use Rattle.record_commands.specs.declared.fault.PositionLineFault.{Positio
 ghost use Rattle.usi_text.specs.declared.fault.UsiFault.{UsiFault};
 
 use crate::fault::PositionLineFault;
-use crate::incoming::{Heard, Incoming};
+use crate::incoming::{Incoming, LineEvent};
 use crate::streams;
 use csa_record::Record;
 use std::alloc::Global;
@@ -44,7 +44,7 @@ pub fn run<R: Files + Input + Print + AllocGlobal>(
 
 // The only line of the reader.
 fn one_line<R: Read + Drop>(alloc: Global, reader: R) -> Result<Vec<u8>, PositionLineFault>
-    ensures told { IfOk result (λ text. IsOneLine (R.remaining reader) text.items) }
+    ensures line { IfOk result (λ text. IsOneLine (R.remaining reader) text.items) }
     ensures bad { IsErrOf result (PositionLineFault.Refused UsiFault.BadLine)
         → HasNoLine (R.remaining reader) ⊎ HasTwoLines (R.remaining reader) }
     ensures long { IsErrOf result PositionLineFault.TooLong → HasLongLine (R.remaining reader) }
@@ -53,17 +53,17 @@ fn one_line<R: Read + Drop>(alloc: Global, reader: R) -> Result<Vec<u8>, Positio
     ensures unwritten { IsErrOf result PositionLineFault.Write → ⊥ }
 {
     let mut lines = Incoming::new(alloc, reader)?;
-    match lines.hear()? {
-        Heard::Line => {}
-        Heard::End => return Err(PositionLineFault::Refused(UsiFault::BadLine)),
-        Heard::Long => return Err(PositionLineFault::TooLong),
-        Heard::Failed => return Err(PositionLineFault::Read),
+    match lines.read_line()? {
+        LineEvent::Line => {}
+        LineEvent::End => return Err(PositionLineFault::Refused(UsiFault::BadLine)),
+        LineEvent::Long => return Err(PositionLineFault::TooLong),
+        LineEvent::Failed => return Err(PositionLineFault::Read),
     }
     let line = Vec::from_slice(alloc, lines.line())?;
-    match lines.hear()? {
-        Heard::End => Ok(line),
-        Heard::Line => Err(PositionLineFault::Refused(UsiFault::BadLine)),
-        Heard::Long => Err(PositionLineFault::TooLong),
-        Heard::Failed => Err(PositionLineFault::Read),
+    match lines.read_line()? {
+        LineEvent::End => Ok(line),
+        LineEvent::Line => Err(PositionLineFault::Refused(UsiFault::BadLine)),
+        LineEvent::Long => Err(PositionLineFault::TooLong),
+        LineEvent::Failed => Err(PositionLineFault::Read),
     }
 }

@@ -1,9 +1,9 @@
 //! The lines of a reader, one at a time.
 
-ghost use Rattle.std.specs.Prelude.{◌≡◌, ◌↔◌, ◌⊎◌, ◌<◌, ◌≤◌, ◌++◌, [], ◌∷◌, length, take, None, Some, Ok, IfOk, IsErr, IsErrOf, OnErr, true, false};
+ghost use Rattle.std.specs.Prelude.{◌≡◌, ◌↔◌, ◌⊎◌, ◌<◌, ◌≤◌, ◌++◌, [], ◌∷◌, length, take, None, Some, Ok, IfOk, IfSome, IsErr, IsErrOf, OnErr, true, false};
 ghost use Rattle.csa_cutting.specs.Lines.{Lines};
 ghost use Rattle.csa_cutting.specs.LineCutting.{BeginsTooLong};
-ghost use Rattle.record_commands.specs.Incoming.{GivesEnd, GivesLine, GivesLongLine, GivesNoLine, IsHearing};
+ghost use Rattle.record_commands.specs.Incoming.{GivesEnd, GivesLine, GivesLongLine, GivesNoLine, IsReading};
 
 use crate::streams;
 use csa_cutting::{LineCutter, LineFault};
@@ -15,7 +15,7 @@ use std::marker::Model;
 
 /// What comes next from a reader.
 #[derive(Clone, Copy, Debug, PartialEq, Eq)]
-pub enum Heard {
+pub enum LineEvent {
     /// A line, which is then in `line`.
     Line,
     /// The end.
@@ -40,7 +40,7 @@ impl<R: Read + Drop> Model for Incoming<R> {
     ghost use Rattle.std.specs.Prelude.{◌≡◌, false};
     ghost use Rattle.std.specs.Io.Buffered.{reader_remaining};
     ghost use Rattle.std.specs.Io.KnownBytes.{prepend_known};
-    ghost use Rattle.record_commands.specs.Incoming.{Coming, IsHearing};
+    ghost use Rattle.record_commands.specs.Incoming.{Coming, IsReading};
 
     ghost Value = { Coming };
 
@@ -50,7 +50,7 @@ impl<R: Read + Drop> Model for Incoming<R> {
       is_over = i.is_over;
     } };
 
-    ghost invariant = { λ i. i.is_over ≡ false → IsHearing i.cutter };
+    ghost invariant = { λ i. i.is_over ≡ false → IsReading i.cutter };
 }
 
 impl<R: Read + Drop> Incoming<R> {
@@ -76,29 +76,30 @@ impl<R: Read + Drop> Incoming<R> {
     ///
     /// Returns `OutOfMemory` if an allocation fails. After that, after `Long` and after `Failed`,
     /// every call returns `Failed`.
-    pub fn hear(&mut self) -> Result<Heard, OutOfMemory>
-        ensures line { IfOk result (λ heard. heard ≡ Heard.Line
+    pub fn read_line(&mut self) -> Result<LineEvent, OutOfMemory>
+        ensures line { IfOk result (λ event. event ≡ LineEvent.Line
             → GivesLine self.old.bytes self.new.bytes self.new.line) }
-        ensures short { IfOk result (λ heard. heard ≡ Heard.Line → length self.new.line ≤ 65536) }
-        ensures end { IfOk result (λ heard. heard ≡ Heard.End
+        ensures short { IfOk result (λ event. event ≡ LineEvent.Line
+            → length self.new.line ≤ 65536) }
+        ensures end { IfOk result (λ event. event ≡ LineEvent.End
             → GivesEnd self.old.bytes self.new.bytes) }
-        ensures failed { IfOk result (λ heard. heard ≡ Heard.Failed
+        ensures failed { IfOk result (λ event. event ≡ LineEvent.Failed
             → GivesNoLine self.old.bytes self.new.bytes) }
-        ensures long { IfOk result (λ heard. heard ≡ Heard.Long
+        ensures long { IfOk result (λ event. event ≡ LineEvent.Long
             → GivesLongLine self.old.bytes self.new.bytes) }
-        ensures over { IfOk result (λ heard. (heard ≡ Heard.Long) ⊎ (heard ≡ Heard.Failed)
+        ensures over { IfOk result (λ event. (event ≡ LineEvent.Long) ⊎ (event ≡ LineEvent.Failed)
             → self.new.is_over ≡ true) }
         ensures lost { OnErr result (self.new.is_over ≡ true) }
         ensures stays { self.old.is_over ≡ true
-            → (result ≡ Ok Heard.Failed) × (self.new ≡ self.old) }
+            → (result ≡ Ok LineEvent.Failed) × (self.new ≡ self.old) }
     {
         for _ in 0..u64::MAX {
-            if let Some(heard) = self.take_piece()? {
-                return Ok(heard);
+            if let Some(event) = self.take_piece()? {
+                return Ok(event);
             }
         }
         self.is_over = true;
-        Ok(Heard::Failed)
+        Ok(LineEvent::Failed)
     }
 
     /// The last line, without its line end.
@@ -110,95 +111,101 @@ impl<R: Read + Drop> Incoming<R> {
 
     // What the bytes up to the next line end come to, or those that are there; None if no line
     // ended.
-    fn take_piece(&mut self) -> Result<Option<Heard>, OutOfMemory>
-        ensures line { IfOk result (λ heard. heard ≡ Some Heard.Line
+    fn take_piece(&mut self) -> Result<Option<LineEvent>, OutOfMemory>
+        ensures line { IfOk result (λ event. event ≡ Some LineEvent.Line
             → GivesLine self.old.bytes self.new.bytes self.new.line) }
-        ensures short { IfOk result (λ heard. heard ≡ Some Heard.Line
+        ensures short { IfOk result (λ event. event ≡ Some LineEvent.Line
             → length self.new.line ≤ 65536) }
-        ensures end { IfOk result (λ heard. heard ≡ Some Heard.End
+        ensures end { IfOk result (λ event. event ≡ Some LineEvent.End
             → GivesEnd self.old.bytes self.new.bytes) }
-        ensures failed { IfOk result (λ heard. heard ≡ Some Heard.Failed
+        ensures failed { IfOk result (λ event. event ≡ Some LineEvent.Failed
             → GivesNoLine self.old.bytes self.new.bytes) }
-        ensures long { IfOk result (λ heard. heard ≡ Some Heard.Long
+        ensures long { IfOk result (λ event. event ≡ Some LineEvent.Long
             → GivesLongLine self.old.bytes self.new.bytes) }
-        ensures none { IfOk result (λ heard. heard ≡ None
+        ensures none { IfOk result (λ event. event ≡ None
             → GivesNoLine self.old.bytes self.new.bytes) }
-        ensures over { IfOk result (λ heard. (heard ≡ Some Heard.Long) ⊎ (heard ≡ Some Heard.Failed)
+        ensures over { IfOk result (λ event.
+            (event ≡ Some LineEvent.Long) ⊎ (event ≡ Some LineEvent.Failed)
             → self.new.is_over ≡ true) }
         ensures lost { OnErr result (self.new.is_over ≡ true) }
         ensures stays { self.old.is_over ≡ true
-            → (result ≡ Ok (Some Heard.Failed)) × (self.new ≡ self.old) }
+            → (result ≡ Ok (Some LineEvent.Failed)) × (self.new ≡ self.old) }
     {
         if self.is_over {
-            return Ok(Some(Heard::Failed));
+            return Ok(Some(LineEvent::Failed));
         }
         let piece = match self.reader.fill_buf() {
             Ok(piece) => piece,
             Err(error) if error.kind() == ErrorKind::Interrupted => return Ok(None),
             Err(_) => {
                 self.is_over = true;
-                return Ok(Some(Heard::Failed));
+                return Ok(Some(LineEvent::Failed));
             }
         };
         if piece.is_empty() {
             match keep_last(self.alloc, &mut self.cutter, &mut self.line) {
-                Ok(true) => return Ok(Some(Heard::Line)),
-                Ok(false) => return Ok(Some(Heard::End)),
+                Ok(true) => return Ok(Some(LineEvent::Line)),
+                Ok(false) => return Ok(Some(LineEvent::End)),
                 Err(fault) => {
                     self.is_over = true;
-                    return heard_of(fault);
+                    return event_of(fault);
                 }
             }
         }
-        match cut(self.alloc, &mut self.cutter, &mut self.line, piece) {
-            Ok((used, is_line)) => {
-                self.reader.consume(used);
-                Ok(is_line.then_some(Heard::Line))
-            }
+        let found = match cut(self.alloc, &mut self.cutter, &mut self.line, piece) {
+            Ok(found) => found,
             Err(fault) => {
                 self.is_over = true;
-                heard_of(fault)
+                return event_of(fault);
             }
-        }
+        };
+        let Some(used) = found else {
+            let all = piece.len();
+            self.reader.consume(all);
+            return Ok(None);
+        };
+        self.reader.consume(used);
+        Ok(Some(LineEvent::Line))
     }
 }
 
-fn heard_of(fault: LineFault) -> Result<Option<Heard>, OutOfMemory>
-    ensures long { (fault ≡ LineFault.TooLong) ↔ (result ≡ Ok (Some Heard.Long)) }
+// What a fault of the cutter comes to.
+fn event_of(fault: LineFault) -> Result<Option<LineEvent>, OutOfMemory>
+    ensures long { (fault ≡ LineFault.TooLong) ↔ (result ≡ Ok (Some LineEvent.Long)) }
     ensures memory { (fault ≡ LineFault.OutOfMemory) ↔ IsErr result }
 {
     match fault {
-        LineFault::TooLong => Ok(Some(Heard::Long)),
+        LineFault::TooLong => Ok(Some(LineEvent::Long)),
         LineFault::OutOfMemory => Err(OutOfMemory),
     }
 }
 
-// Cuts the piece up to its first line end. Returns how many bytes were used, and whether a line
-// ended, which is kept.
+// Cuts the piece up to its first line end, and keeps the line that ended there. Returns how many
+// bytes that used, or None if no line ended in the piece.
 fn cut(
     alloc: Global,
     cutter: &mut LineCutter,
     kept: &mut Vec<u8>,
     piece: &[u8],
-) -> Result<(usize, bool), LineFault>
-    ensures used { IfOk result (λ r. r.0 ≤ length piece.now) }
-    ensures line { IfOk result (λ r. r.1 ≡ true → (cutter.new.held ≡ [])
-        × Lines (cutter.old.held ++ take r.0 piece.now) (kept.new.items ∷ []) []) }
-    ensures none { IfOk result (λ r. r.1 ≡ false
-        → (r.0 ≡ length piece.now) × Lines (cutter.old.held ++ piece.now) [] cutter.new.held) }
-    ensures short { IfOk result (λ r. r.1 ≡ true
-        → IsHearing cutter.old → length kept.new.items ≤ 65536) }
-    ensures keeps { IfOk result (λ r. IsHearing cutter.old → IsHearing cutter.new) }
+) -> Result<Option<usize>, LineFault>
+    ensures line { IfOk result (λ r. IfSome r (λ used. (used ≤ length piece.now)
+        × (cutter.new.held ≡ [])
+        × Lines (cutter.old.held ++ take used piece.now) (kept.new.items ∷ []) [])) }
+    ensures none { IfOk result (λ r. r ≡ None
+        → Lines (cutter.old.held ++ piece.now) [] cutter.new.held) }
+    ensures short { IfOk result (λ r. IfSome r (λ used.
+        IsReading cutter.old → length kept.new.items ≤ 65536)) }
+    ensures keeps { IfOk result (λ r. IsReading cutter.old → IsReading cutter.new) }
     ensures long { IsErrOf result LineFault.TooLong
         → (cutter.new.held ≡ cutter.old.held) × ((cutter.old.failed ≡ true)
         ⊎ BeginsTooLong cutter.old.limit (cutter.old.held ++ piece.now)) }
 {
     let (used, line) = cutter.step(piece)?;
     let Some(line) = line else {
-        return Ok((used, false));
+        return Ok(None);
     };
     *kept = Vec::from_slice(alloc, line)?;
-    Ok((used, true))
+    Ok(Some(used))
 }
 
 // Keeps the unfinished line at the end of the bytes. Returns whether there was one.
@@ -207,7 +214,7 @@ fn keep_last(alloc: Global, cutter: &mut LineCutter, kept: &mut Vec<u8>) -> Resu
         → (kept.new.items ≡ cutter.old.held) × (0 < length cutter.old.held)) }
     ensures none { IfOk result (λ is_line. is_line ≡ false → cutter.old.held ≡ []) }
     ensures empty { IfOk result (λ is_line. cutter.new.held ≡ []) }
-    ensures keeps { IfOk result (λ is_line. IsHearing cutter.old → IsHearing cutter.new) }
+    ensures keeps { IfOk result (λ is_line. IsReading cutter.old → IsReading cutter.new) }
     ensures long { IsErrOf result LineFault.TooLong → cutter.old.failed ≡ true }
 {
     let Some(line) = cutter.finish()? else {

@@ -33,7 +33,7 @@ pub fn record<R: Files + Input + AllocGlobal>(
     rt: &R,
     file: Option<&str>,
 ) -> Result<Record, FlowFault>
-    ensures told { IfOk result (λ g. (bytes : List ℕ) × Tells bytes g) }
+    ensures game { IfOk result (λ g. (bytes : List ℕ) × Tells bytes g) }
     ensures refused { (r : Refusal) → IsErrOf result (FlowFault.Refused r)
         → (bytes : List ℕ) × Refused bytes r.number r.offset r.why }
     ensures no_write { IsErrOf result FlowFault.WriteFault → ⊥ }

@@ -25,25 +25,25 @@ use Rattle.record_game.specs.declared.fault.OrderFault.TheVariants.{VersionOutOf
 use Rattle.record_game.specs.declared.fault.Why.{Why}
 use Rattle.record_game.specs.declared.fault.Why.TheVariants.{Order}
 use Rattle.record_game.specs.Answer.{IsAnswer}
-use Rattle.record_game.specs.Course.{Course, line_of, play_fault, PlayAnswers, PlayAnswersAfter, close_fault, time_fault, with_time, awaits_time}
+use Rattle.record_game.specs.Course.{Course, course_line, play_fault, PlayAnswers, PlayAnswersAfter, close_fault, time_fault, with_time, awaits_time}
 use Rattle.record_game.specs.Game.{Ended, move_of}
 use Rattle.record_game.specs.Items.{names, headers, is_even, ranks, positions, sides, moves, body}
-use Rattle.record_game.specs.Keeping.{laying, playing, Kept, Keeps, KeepsStage, TakenOrRefused}
+use Rattle.record_game.specs.Keeping.{laying, playing, Kept, HasKept, KeepsStage, TakenOrRefused}
 use Rattle.record_game.specs.Laying.{Laid, Lays, LaidOrRefused}
 use Rattle.record_game.specs.Order as ordered
 use Rattle.record_game.specs.Order.{stands, order_fault, order_faults, endings}
 use Rattle.record_game.specs.Outcome.{late}
-use Rattle.record_game.specs.Refused.{Answers, AnswersAfter, AnswersInOrder, Finishes, IsLineOf, IsJudged}
+use Rattle.record_game.specs.Refused.{AnswersItem, AnswersAfter, AnswersInOrder, Finishes, IsLineOf, IsJudged}
 use Rattle.record_game.specs.Titles.{Titled, name_of, name_fault, header_fault, with_name, IsWithHeader, under}
 use Rattle.record_game.proofs.Headers.{as_many, same_keys}
 use Rattle.record_game.proofs.Keeping.{with_version, with_name_kept, with_no_name, with_no_header, with_header, with_even, with_rank, with_pieces, with_turn, with_walked, with_ending, with_time_kept}
 use Rattle.record_game.proofs.Played.{laying_body, playing_body, IsLaying, IsPlaying}
 
 -- an item in order is answered by this, any other by the first order fault
-in_order : (before : List Saying) (s : Saying) (answer : Option Why) → order_fault before s ≡ None → AnswersInOrder before s answer → Answers before s answer
+in_order : (before : List Saying) (s : Saying) (answer : Option Why) → order_fault before s ≡ None → AnswersInOrder before s answer → AnswersItem before s answer
 in_order before s answer none h = subst (λ f. AnswersAfter f before s answer) (sym none) h
 
-out_of_order : (before : List Saying) (s : Saying) (fault : OrderFault) → order_fault before s ≡ Some fault → Answers before s (Some (Order fault))
+out_of_order : (before : List Saying) (s : Saying) (fault : OrderFault) → order_fault before s ≡ Some fault → AnswersItem before s (Some (Order fault))
 out_of_order before s fault is = subst (λ f. AnswersAfter f before s (Some (Order fault))) (sym is) refl
 
 taken_by : (before : List Saying) (s : Saying) (fault : Option OrderFault) → AnswersAfter fault before s None → fault ≡ None
@@ -51,7 +51,7 @@ taken_by before s None h = refl
 taken_by before s (Some fault) h = cc
 
 -- what is taken has no order fault
-pub taken_in_order : (before : List Saying) (s : Saying) → Answers before s None → order_fault before s ≡ None
+pub taken_in_order : (before : List Saying) (s : Saying) → AnswersItem before s None → order_fault before s ≡ None
 taken_in_order before s h = taken_by before s (order_fault before s) h
 
 none_first : (b : Bool) (fault : OrderFault) (rest : List (OrderFault × Bool)) → first_fault ((fault, b) ∷ rest) ≡ None → (b ≡ false) × (first_fault rest ≡ None)
@@ -67,12 +67,12 @@ refused : (before : List Saying) (s : Saying) (fault : OrderFault) (new : Kept) 
 refused before s fault new is = (Some (Order fault), out_of_order before s fault is, refl, tt)
 
 -- versions
-pub version_taken : (before : List Saying) (k : Kept) → Keeps before k → k.begun ≡ false → TakenOrRefused before version (Ok tt) (record k { begun = true })
+pub version_taken : (before : List Saying) (k : Kept) → HasKept before k → k.begun ≡ false → TakenOrRefused before version (Ok tt) (record k { begun = true })
 version_taken before k h none =
     let first : stands before ≡ false = sym h.begun ∙ none in
     (None, in_order before version None (rw first refl) refl, tt, with_version before k first h)
 
-pub version_refused : (before : List Saying) (k new : Kept) → Keeps before k → k.begun ≡ true → TakenOrRefused before version (Err (Order VersionOutOfPlace)) new
+pub version_refused : (before : List Saying) (k new : Kept) → HasKept before k → k.begun ≡ true → TakenOrRefused before version (Err (Order VersionOutOfPlace)) new
 version_refused before k new h some = refused before version VersionOutOfPlace new (rw (sym h.begun ∙ some) refl)
 
 -- names
@@ -80,18 +80,18 @@ names_stand : (ns : List (List ℕ)) (o : Option (List ℕ)) → ns ≡ option_t
 names_stand ns None h = ap stands h
 names_stand ns (Some t) h = ap stands h
 
-has_name : (before : List Saying) (k : Kept) (color : Color) → Keeps before k → stands (names color before) ≡ is_some (name_of k.titles color)
+has_name : (before : List Saying) (k : Kept) (color : Color) → HasKept before k → stands (names color before) ≡ is_some (name_of k.titles color)
 has_name before k Black h = names_stand (names Black before) k.titles.black h.black
 has_name before k White h = names_stand (names White before) k.titles.white h.white
 
 -- one test
-by_one : (b c : Bool) (fault : OrderFault) (before : List Saying) (s : Saying) → order_fault before s ≡ first_fault ((fault, b) ∷ []) → b ≡ c → AnswersInOrder before s None → Answers before s (if c then Some (Order fault) else None)
+by_one : (b c : Bool) (fault : OrderFault) (before : List Saying) (s : Saying) → order_fault before s ≡ first_fault ((fault, b) ∷ []) → b ≡ c → AnswersInOrder before s None → AnswersItem before s (if c then Some (Order fault) else None)
 by_one true true fault before s is same h = out_of_order before s fault is
 by_one true false fault before s is same h = cc
 by_one false true fault before s is same h = cc
 by_one false false fault before s is same h = in_order before s None is h
 
-name_kept : (before : List Saying) (k : Kept) (color : Color) (text : List ℕ) (b : ℕ) (bs : List ℕ) → text ≡ b ∷ bs → is_some (name_of k.titles color) ≡ false → Keeps before k → Keeps (before ++ name color text ∷ []) (record k { begun = true; titles = with_name k.titles color text })
+name_kept : (before : List Saying) (k : Kept) (color : Color) (text : List ℕ) (b : ℕ) (bs : List ℕ) → text ≡ b ∷ bs → is_some (name_of k.titles color) ≡ false → HasKept before k → HasKept (before ++ name color text ∷ []) (record k { begun = true; titles = with_name k.titles color text })
 name_kept before k Black text b bs is none h = with_name_kept before k Black text b bs is (λ _. none) (λ e. cc) h
 name_kept before k White text b bs is none h = with_name_kept before k White text b bs is (λ e. cc) (λ _. none) h
 
@@ -104,16 +104,16 @@ test_fails : (b : Bool) (why : Why) → (if b then Some why else None) ≡ None 
 test_fails true why h = cc
 test_fails false why h = refl
 
-pub name_step : (before : List Saying) (k new : Kept) (color : Color) (text : List ℕ) (result : Result (Unit {0}) Why) → Keeps before k → IsAnswer (name_fault k.titles color text) result
+pub name_step : (before : List Saying) (k new : Kept) (color : Color) (text : List ℕ) (result : Result (Unit {0}) Why) → HasKept before k → IsAnswer (name_fault k.titles color text) result
     → OnOk result (new ≡ record k { begun = true; titles = with_name k.titles color text }) → TakenOrRefused before (name color text) result new
-name_step before k new color [] (Ok u) h answer is = (None, refl, tt, subst (Keeps (before ++ name color [] ∷ [])) (sym is) (with_no_name before k color h))
+name_step before k new color [] (Ok u) h answer is = (None, refl, tt, subst (HasKept (before ++ name color [] ∷ [])) (sym is) (with_no_name before k color h))
 name_step before k new color [] (Err why) h answer is = (None, refl, answer, tt)
 name_step before k new color (b ∷ bs) (Ok u) h answer is =
     let none = test_fails (is_some (name_of k.titles color)) (Order RepeatedName) (no_fault (name_fault k.titles color (b ∷ bs)) answer) in (
       name_fault k.titles color (b ∷ bs),
       by_one (stands (names color before)) (is_some (name_of k.titles color)) RepeatedName before (name color (b ∷ bs)) refl (has_name before k color h) refl,
       answer,
-      subst (Keeps (before ++ name color (b ∷ bs) ∷ [])) (sym is) (name_kept before k color (b ∷ bs) b bs refl none h),
+      subst (HasKept (before ++ name color (b ∷ bs) ∷ [])) (sym is) (name_kept before k color (b ∷ bs) b bs refl none h),
     )
 name_step before k new color (b ∷ bs) (Err why) h answer is = (
   name_fault k.titles color (b ∷ bs),
@@ -124,66 +124,66 @@ name_step before k new color (b ∷ bs) (Err why) h answer is = (
 
 -- headers
 by_two : (a b c d : Bool) (f g : OrderFault) (before : List Saying) (s : Saying) → order_fault before s ≡ first_fault ((f, a) ∷ (g, b) ∷ []) → a ≡ c → b ≡ d → AnswersInOrder before s None
-    → Answers before s (if c then Some (Order f) else if d then Some (Order g) else None)
+    → AnswersItem before s (if c then Some (Order f) else if d then Some (Order g) else None)
 by_two true b true d f g before s is same other h = out_of_order before s f is
 by_two true b false d f g before s is same other h = cc
 by_two false b true d f g before s is same other h = cc
 by_two false b false d f g before s is same other h = by_one b d g before s is other h
 
-header_answers : (before : List Saying) (k : Kept) (key : List ℕ) (b : ℕ) (bs : List ℕ) → Keeps before k → Answers before (header key (b ∷ bs)) (header_fault k.titles key (b ∷ bs))
+header_answers : (before : List Saying) (k : Kept) (key : List ℕ) (b : ℕ) (bs : List ℕ) → HasKept before k → AnswersItem before (header key (b ∷ bs)) (header_fault k.titles key (b ∷ bs))
 header_answers before k key b bs h =
     by_two _ _ (stands (under key k.titles.headers)) (nat_le 64 (length k.titles.headers)) RepeatedHeader TooManyHeaders before (header key (b ∷ bs)) refl
     (same_keys key (headers before) k.titles.headers h.headers) (ap (nat_le 64) (as_many (headers before) k.titles.headers h.headers)) refl
 
-pub header_step : (before : List Saying) (k new : Kept) (key text : List ℕ) (result : Result (Unit {0}) Why) → Keeps before k → IsAnswer (header_fault k.titles key text) result
+pub header_step : (before : List Saying) (k new : Kept) (key text : List ℕ) (result : Result (Unit {0}) Why) → HasKept before k → IsAnswer (header_fault k.titles key text) result
     → OnOk result ((t : Titled) × IsWithHeader k.titles key text t × (new ≡ record k { begun = true; titles = t })) → TakenOrRefused before (header key text) result new
 header_step before k new key [] (Ok u) h answer (t, same, is) =
-    (None, refl, tt, subst (Keeps (before ++ header key [] ∷ [])) (sym (is ∙ ap (λ (x : Titled). record k { begun = true; titles = x }) same)) (with_no_header before k key h))
+    (None, refl, tt, subst (HasKept (before ++ header key [] ∷ [])) (sym (is ∙ ap (λ (x : Titled). record k { begun = true; titles = x }) same)) (with_no_header before k key h))
 header_step before k new key [] (Err why) h answer is = (None, refl, answer, tt)
 header_step before k new key (b ∷ bs) (Ok u) h answer (t, with, is) = (
   header_fault k.titles key (b ∷ bs),
   header_answers before k key b bs h,
   answer,
-  subst (Keeps (before ++ header key (b ∷ bs) ∷ [])) (sym is) (with_header before k key b bs t with h),
+  subst (HasKept (before ++ header key (b ∷ bs) ∷ [])) (sym is) (with_header before k key b bs t with h),
 )
 header_step before k new key (b ∷ bs) (Err why) h answer is = (header_fault k.titles key (b ∷ bs), header_answers before k key b bs h, answer, tt)
 
 -- position statements, while the start is laid out
-pub even_step : (before : List Saying) (k new : Kept) (l m : Laid) (pairs : List Pair) (result : Result (Unit {0}) Why) → Keeps before k → k.stage ≡ laying l → LaidOrRefused before (even pairs) result m
+pub even_step : (before : List Saying) (k new : Kept) (l m : Laid) (pairs : List Pair) (result : Result (Unit {0}) Why) → HasKept before k → k.stage ≡ laying l → LaidOrRefused before (even pairs) result m
     → OnOk result (new ≡ record k { begun = true; stage = laying m }) → TakenOrRefused before (even pairs) result new
 even_step before k new l m pairs (Err why) h is (answer, answers, is_answer, lays) same = (answer, answers, is_answer, tt)
 even_step before k new l m pairs (Ok u) h is (answer, answers, is_answer, lays) same =
-    let none = taken_in_order before (even pairs) (subst (Answers before (even pairs)) (no_fault answer is_answer) answers) in
+    let none = taken_in_order before (even pairs) (subst (AnswersItem before (even pairs)) (no_fault answer is_answer) answers) in
     let all = none_hold (order_faults before (even pairs)) none in
-    (answer, answers, is_answer, subst (Keeps (before ++ even pairs ∷ [])) (sym same) (with_even before pairs k l m is all.1.1.0 lays h))
+    (answer, answers, is_answer, subst (HasKept (before ++ even pairs ∷ [])) (sym same) (with_even before pairs k l m is all.1.1.0 lays h))
 
-pub rank_step : (before : List Saying) (k new : Kept) (l m : Laid) (number : ℕ) (cells : List (Option Piece)) (result : Result (Unit {0}) Why) → Keeps before k → k.stage ≡ laying l → LaidOrRefused before (rank number cells) result m
+pub rank_step : (before : List Saying) (k new : Kept) (l m : Laid) (number : ℕ) (cells : List (Option Piece)) (result : Result (Unit {0}) Why) → HasKept before k → k.stage ≡ laying l → LaidOrRefused before (rank number cells) result m
     → OnOk result (new ≡ record k { begun = true; stage = laying m }) → TakenOrRefused before (rank number cells) result new
 rank_step before k new l m number cells (Err why) h is (answer, answers, is_answer, lays) same = (answer, answers, is_answer, tt)
 rank_step before k new l m number cells (Ok u) h is (answer, answers, is_answer, lays) same =
-    let none = taken_in_order before (rank number cells) (subst (Answers before (rank number cells)) (no_fault answer is_answer) answers) in
+    let none = taken_in_order before (rank number cells) (subst (AnswersItem before (rank number cells)) (no_fault answer is_answer) answers) in
     let all = none_hold (order_faults before (rank number cells)) none in (
       answer,
       answers,
       is_answer,
-      subst (Keeps (before ++ rank number cells ∷ [])) (sym same)
+      subst (HasKept (before ++ rank number cells ∷ [])) (sym same)
           (with_rank before number cells k l m is all.1.1.0 all.1.1.1.0 (λ other hit. eqb-true number other hit) lays h),
     )
 
-pub pieces_step : (before : List Saying) (k new : Kept) (l m : Laid) (color : Color) (pairs : List Pair) (result : Result (Unit {0}) Why) → Keeps before k → k.stage ≡ laying l → LaidOrRefused before (pieces color pairs) result m
+pub pieces_step : (before : List Saying) (k new : Kept) (l m : Laid) (color : Color) (pairs : List Pair) (result : Result (Unit {0}) Why) → HasKept before k → k.stage ≡ laying l → LaidOrRefused before (pieces color pairs) result m
     → OnOk result (new ≡ record k { begun = true; stage = laying m }) → TakenOrRefused before (pieces color pairs) result new
 pieces_step before k new l m color pairs (Err why) h is (answer, answers, is_answer, lays) same = (answer, answers, is_answer, tt)
 pieces_step before k new l m color pairs (Ok u) h is (answer, answers, is_answer, lays) same =
-    (answer, answers, is_answer, subst (Keeps (before ++ pieces color pairs ∷ [])) (sym same) (with_pieces before color pairs k l m is lays h))
+    (answer, answers, is_answer, subst (HasKept (before ++ pieces color pairs ∷ [])) (sym same) (with_pieces before color pairs k l m is lays h))
 
 -- the items while the start is laid out, and from the side to move on
-pub is_laying : (before : List Saying) (k : Kept) (l : Laid) → Keeps before k → k.stage ≡ laying l → IsLaying before
+pub is_laying : (before : List Saying) (k : Kept) (l : Laid) → HasKept before k → k.stage ≡ laying l → IsLaying before
 is_laying before k l h is = let now : KeepsStage before (laying l) = subst (KeepsStage before) is h.stage in laying_body before now.1
 
-pub lays_now : (before : List Saying) (k : Kept) (l : Laid) → Keeps before k → k.stage ≡ laying l → Lays before l
+pub lays_now : (before : List Saying) (k : Kept) (l : Laid) → HasKept before k → k.stage ≡ laying l → Lays before l
 lays_now before k l h is = let now : KeepsStage before (laying l) = subst (KeepsStage before) is h.stage in now.0
 
-is_playing : (before : List Saying) (k : Kept) (c : Course) → Keeps before k → k.stage ≡ playing c → IsPlaying before c.start.side c.moves c.ending
+is_playing : (before : List Saying) (k : Kept) (c : Course) → HasKept before k → k.stage ≡ playing c → IsPlaying before c.start.side c.moves c.ending
 is_playing before k c h is = let now : KeepsStage before (playing c) = subst (KeepsStage before) is h.stage in playing_body before c.start.side c.moves c.ending now.3
 
 -- a position statement or a side after a side
@@ -191,55 +191,55 @@ first_late : (e : Option Ended) (a b : Bool) (fault : OrderFault) (rest : Option
 first_late None a b fault rest p q = rw (p, q) refl
 first_late (Some e) a b fault rest p q = rw p refl
 
-side_stands : (before : List Saying) (k : Kept) (c : Course) → Keeps before k → k.stage ≡ playing c → stands (sides before) ≡ true
+side_stands : (before : List Saying) (k : Kept) (c : Course) → HasKept before k → k.stage ≡ playing c → stands (sides before) ≡ true
 side_stands before k c h is = ap stands (is_playing before k c h is).sides
 
-is_late : (before : List Saying) (k : Kept) (c : Course) (fault : OrderFault) (rest : List (OrderFault × Bool)) → Keeps before k → k.stage ≡ playing c → first_fault ((AfterEnding, stands (endings before)) ∷ (fault, stands (sides before)) ∷ rest) ≡ Some (late c.ending fault)
+is_late : (before : List Saying) (k : Kept) (c : Course) (fault : OrderFault) (rest : List (OrderFault × Bool)) → HasKept before k → k.stage ≡ playing c → first_fault ((AfterEnding, stands (endings before)) ∷ (fault, stands (sides before)) ∷ rest) ≡ Some (late c.ending fault)
 is_late before k c fault rest h is = first_late c.ending (stands (endings before)) (stands (sides before)) fault (first_fault rest) (is_playing before k c h is).endings (side_stands before k c h is)
 
-pub even_late : (before : List Saying) (k new : Kept) (c : Course) (pairs : List Pair) → Keeps before k → k.stage ≡ playing c → TakenOrRefused before (even pairs) (Err (Order (late c.ending PositionLate))) new
+pub even_late : (before : List Saying) (k new : Kept) (c : Course) (pairs : List Pair) → HasKept before k → k.stage ≡ playing c → TakenOrRefused before (even pairs) (Err (Order (late c.ending PositionLate))) new
 even_late before k new c pairs h is = refused before (even pairs) _ new (is_late before k c PositionLate ((MixedStart, stands (positions before)) ∷ []) h is)
 
-pub rank_late : (before : List Saying) (k new : Kept) (c : Course) (number : ℕ) (cells : List (Option Piece)) → Keeps before k → k.stage ≡ playing c → TakenOrRefused before (rank number cells) (Err (Order (late c.ending PositionLate))) new
+pub rank_late : (before : List Saying) (k new : Kept) (c : Course) (number : ℕ) (cells : List (Option Piece)) → HasKept before k → k.stage ≡ playing c → TakenOrRefused before (rank number cells) (Err (Order (late c.ending PositionLate))) new
 rank_late before k new c number cells h is = refused before (rank number cells) _ new (is_late before k c PositionLate ((MixedStart, stands (filter is_even before)) ∷ (MixedStart, stands (filter (λ n. n == number) (ranks before))) ∷ []) h is)
 
-pub pieces_late : (before : List Saying) (k new : Kept) (c : Course) (color : Color) (pairs : List Pair) → Keeps before k → k.stage ≡ playing c → TakenOrRefused before (pieces color pairs) (Err (Order (late c.ending PositionLate))) new
+pub pieces_late : (before : List Saying) (k new : Kept) (c : Course) (color : Color) (pairs : List Pair) → HasKept before k → k.stage ≡ playing c → TakenOrRefused before (pieces color pairs) (Err (Order (late c.ending PositionLate))) new
 pieces_late before k new c color pairs h is = refused before (pieces color pairs) _ new (is_late before k c PositionLate [] h is)
 
-pub turn_late : (before : List Saying) (k new : Kept) (c : Course) (color : Color) → Keeps before k → k.stage ≡ playing c → TakenOrRefused before (turn color) (Err (Order (late c.ending RepeatedTurn))) new
+pub turn_late : (before : List Saying) (k new : Kept) (c : Course) (color : Color) → HasKept before k → k.stage ≡ playing c → TakenOrRefused before (turn color) (Err (Order (late c.ending RepeatedTurn))) new
 turn_late before k new c color h is = refused before (turn color) _ new (is_late before k c RepeatedTurn [] h is)
 
 -- the side to move
-turn_in_order : (before : List Saying) (k : Kept) (l : Laid) (color : Color) → Keeps before k → k.stage ≡ laying l → order_fault before (turn color) ≡ None
+turn_in_order : (before : List Saying) (k : Kept) (l : Laid) (color : Color) → HasKept before k → k.stage ≡ laying l → order_fault before (turn color) ≡ None
 turn_in_order before k l color h is = let none = is_laying before k l h is in rw (none.endings, none.sides) refl
 
-pub turn_answers : (before : List Saying) (k : Kept) (l : Laid) (color : Color) (answer : Option Why) → Keeps before k → k.stage ≡ laying l → Finishes (Ok l.layout) color answer → Answers before (turn color) answer
+pub turn_answers : (before : List Saying) (k : Kept) (l : Laid) (color : Color) (answer : Option Why) → HasKept before k → k.stage ≡ laying l → Finishes (Ok l.layout) color answer → AnswersItem before (turn color) answer
 turn_answers before k l color answer h is finishes =
     in_order before (turn color) answer (turn_in_order before k l color h is) (subst (λ laid. Finishes laid color answer) (sym (lays_now before k l h is).laid) finishes)
 
-pub turn_taken : (before : List Saying) (k new : Kept) (l : Laid) (c : Course) (color : Color) → Keeps before k → k.stage ≡ laying l → Finishes (Ok l.layout) color None
+pub turn_taken : (before : List Saying) (k new : Kept) (l : Laid) (c : Course) (color : Color) → HasKept before k → k.stage ≡ laying l → Finishes (Ok l.layout) color None
     → c ≡ record { start = position_of l.layout color; moves = []; ending = None } → new ≡ record k { begun = true; stage = playing c } → TakenOrRefused before (turn color) (Ok tt) new
 turn_taken before k new l c color h is finishes is_course same =
-    (None, turn_answers before k l color None h is finishes, tt, subst (Keeps (before ++ turn color ∷ [])) (sym same) (with_turn before color k l c is is_course h))
+    (None, turn_answers before k l color None h is finishes, tt, subst (HasKept (before ++ turn color ∷ [])) (sym same) (with_turn before color k l c is is_course h))
 
-pub turn_refused : (before : List Saying) (k new : Kept) (l : Laid) (color : Color) (answer : Option Why) (why : Why) → Keeps before k → k.stage ≡ laying l → Finishes (Ok l.layout) color answer → IsAnswer answer (Err why) → TakenOrRefused before (turn color) (Err why) new
+pub turn_refused : (before : List Saying) (k new : Kept) (l : Laid) (color : Color) (answer : Option Why) (why : Why) → HasKept before k → k.stage ≡ laying l → Finishes (Ok l.layout) color answer → IsAnswer answer (Err why) → TakenOrRefused before (turn color) (Err why) new
 turn_refused before k new l color answer why h is finishes is_answer = (answer, turn_answers before k l color answer h is finishes, is_answer, tt)
 
 -- moves and endings before the side to move
-pub move_early : (before : List Saying) (k new : Kept) (l : Laid) (color : Color) (m : Move) → Keeps before k → k.stage ≡ laying l → TakenOrRefused before (walked color m) (Err (Order MoveBeforeTurn)) new
+pub move_early : (before : List Saying) (k new : Kept) (l : Laid) (color : Color) (m : Move) → HasKept before k → k.stage ≡ laying l → TakenOrRefused before (walked color m) (Err (Order MoveBeforeTurn)) new
 move_early before k new l color m h is = let none = is_laying before k l h is in refused before (walked color m) MoveBeforeTurn new (rw (none.endings, none.sides) refl)
 
-pub ending_early : (before : List Saying) (k new : Kept) (l : Laid) (e : Ending) → Keeps before k → k.stage ≡ laying l → TakenOrRefused before (ending e) (Err (Order MoveBeforeTurn)) new
+pub ending_early : (before : List Saying) (k new : Kept) (l : Laid) (e : Ending) → HasKept before k → k.stage ≡ laying l → TakenOrRefused before (ending e) (Err (Order MoveBeforeTurn)) new
 ending_early before k new l e h is = let none = is_laying before k l h is in refused before (ending e) MoveBeforeTurn new (rw (none.endings, none.sides) refl)
 
-pub time_early : (before : List Saying) (k new : Kept) (l : Laid) (n : ℕ) → Keeps before k → k.stage ≡ laying l → TakenOrRefused before (time n) (Err (Order LooseTime)) new
+pub time_early : (before : List Saying) (k new : Kept) (l : Laid) (n : ℕ) → HasKept before k → k.stage ≡ laying l → TakenOrRefused before (time n) (Err (Order LooseTime)) new
 time_early before k new l n h is = let none = is_laying before k l h is in refused before (time n) LooseTime new (rw none.awaits refl)
 
 -- times
-time_answers : (before : List Saying) (k : Kept) (c : Course) (n : ℕ) → Keeps before k → k.stage ≡ playing c → Answers before (time n) (time_fault c)
+time_answers : (before : List Saying) (k : Kept) (c : Course) (n : ℕ) → HasKept before k → k.stage ≡ playing c → AnswersItem before (time n) (time_fault c)
 time_answers before k c n h is = by_awaits (awaits_time c) (is_playing before k c h is).awaits
   where
-    by_awaits : (b : Bool) → ordered.awaits_time (body before) ≡ b → Answers before (time n) (if b then None else Some (Order LooseTime))
+    by_awaits : (b : Bool) → ordered.awaits_time (body before) ≡ b → AnswersItem before (time n) (if b then None else Some (Order LooseTime))
     by_awaits true e = in_order before (time n) None (rw e refl) refl
     by_awaits false e = out_of_order before (time n) LooseTime (rw e refl)
 
@@ -247,18 +247,18 @@ test_holds : (b : Bool) (why : Why) → (if b then None else Some why) ≡ None 
 test_holds true why h = refl
 test_holds false why h = cc
 
-pub time_step : (before : List Saying) (k new : Kept) (c : Course) (n : ℕ) (result : Result (Unit {0}) Why) → Keeps before k → k.stage ≡ playing c → IsAnswer (time_fault c) result
+pub time_step : (before : List Saying) (k new : Kept) (c : Course) (n : ℕ) (result : Result (Unit {0}) Why) → HasKept before k → k.stage ≡ playing c → IsAnswer (time_fault c) result
     → OnOk result (new ≡ record k { begun = true; stage = playing (with_time c n) }) → TakenOrRefused before (time n) result new
 time_step before k new c n (Ok u) h is answer same =
     let can = test_holds (awaits_time c) (Order LooseTime) (no_fault (time_fault c) answer) in
-    (time_fault c, time_answers before k c n h is, answer, subst (Keeps (before ++ time n ∷ [])) (sym same) (with_time_kept before n k c is can h))
+    (time_fault c, time_answers before k c n h is, answer, subst (HasKept (before ++ time n ∷ [])) (sym same) (with_time_kept before n k c is can h))
 time_step before k new c n (Err why) h is answer same = (time_fault c, time_answers before k c n h is, answer, tt)
 
 -- endings
-ending_answers : (before : List Saying) (k : Kept) (c : Course) (e : Ending) → Keeps before k → k.stage ≡ playing c → Answers before (ending e) (close_fault c)
+ending_answers : (before : List Saying) (k : Kept) (c : Course) (e : Ending) → HasKept before k → k.stage ≡ playing c → AnswersItem before (ending e) (close_fault c)
 ending_answers before k c e h is = by_ending (is_some c.ending) (is_playing before k c h is).endings
   where
-    by_ending : (b : Bool) → stands (endings before) ≡ b → Answers before (ending e) (if b then Some (Order AfterEnding) else None)
+    by_ending : (b : Bool) → stands (endings before) ≡ b → AnswersItem before (ending e) (if b then Some (Order AfterEnding) else None)
     by_ending true p = out_of_order before (ending e) AfterEnding (rw p refl)
     by_ending false p = in_order before (ending e) None (rw (p, side_stands before k c h is) refl) refl
 
@@ -266,31 +266,31 @@ unended : (o : Option Ended) → is_some o ≡ false → o ≡ None
 unended None h = refl
 unended (Some e) h = cc
 
-pub ending_step : (before : List Saying) (k new : Kept) (c : Course) (e : Ending) (result : Result (Unit {0}) Why) → Keeps before k → k.stage ≡ playing c → IsAnswer (close_fault c) result
+pub ending_step : (before : List Saying) (k new : Kept) (c : Course) (e : Ending) (result : Result (Unit {0}) Why) → HasKept before k → k.stage ≡ playing c → IsAnswer (close_fault c) result
     → OnOk result (new ≡ record k { begun = true; stage = playing (record c { ending = Some (record { ending = e; time = None }) }) }) → TakenOrRefused before (ending e) result new
 ending_step before k new c e (Ok u) h is answer same =
     let none = unended c.ending (test_fails (is_some c.ending) (Order AfterEnding) (no_fault (close_fault c) answer)) in
-    (close_fault c, ending_answers before k c e h is, answer, subst (Keeps (before ++ ending e ∷ [])) (sym same) (with_ending before e k c is none h))
+    (close_fault c, ending_answers before k c e h is, answer, subst (HasKept (before ++ ending e ∷ [])) (sym same) (with_ending before e k c is none h))
 ending_step before k new c e (Err why) h is answer same = (close_fault c, ending_answers before k c e h is, answer, tt)
 
 -- moves
-play_in_order : (before : List Saying) (k : Kept) (c : Course) (color : Color) (m : Move) → Keeps before k → k.stage ≡ playing c → order_fault before (walked color m) ≡ play_fault c
+play_in_order : (before : List Saying) (k : Kept) (c : Course) (color : Color) (m : Move) → HasKept before k → k.stage ≡ playing c → order_fault before (walked color m) ≡ play_fault c
 play_in_order before k c color m h is =
     let now = is_playing before k c h is in
     let as_many : length (moves before) ≡ length c.moves = ap length now.moves ∙ length-map c.moves move_of in
     rw (now.endings, now.sides, as_many) refl
 
-play_answers_by : (before : List Saying) (c : Course) (color : Color) (m : Move) (answer : Option Why) (fault : Option OrderFault) → (line : IsLineOf before (line_of c)) → PlayAnswersAfter fault c color m answer → AnswersAfter fault before (walked color m) answer
+play_answers_by : (before : List Saying) (c : Course) (color : Color) (m : Move) (answer : Option Why) (fault : Option OrderFault) → (line : IsLineOf before (course_line c)) → PlayAnswersAfter fault c color m answer → AnswersAfter fault before (walked color m) answer
 play_answers_by before c color m answer (Some fault) line h = h
-play_answers_by before c color m answer None line (played, answers, judged) = (line_of c, line, played, answers, judged)
+play_answers_by before c color m answer None line (played, answers, judged) = (course_line c, line, played, answers, judged)
 
-line_now : (before : List Saying) (k : Kept) (c : Course) → Keeps before k → k.stage ≡ playing c → IsLineOf before (line_of c)
+line_now : (before : List Saying) (k : Kept) (c : Course) → HasKept before k → k.stage ≡ playing c → IsLineOf before (course_line c)
 line_now before k c h is =
     let stage : KeepsStage before (playing c) = subst (KeepsStage before) is h.stage in
     let now = is_playing before k c h is in
     record { layout = stage.0; side = c.start.side; laid = stage.1; side_is = now.sides; start = stage.2; moves_are = sym now.moves }
 
-move_answers : (before : List Saying) (k : Kept) (c : Course) (color : Color) (m : Move) (answer : Option Why) → Keeps before k → k.stage ≡ playing c → PlayAnswers c color m answer → Answers before (walked color m) answer
+move_answers : (before : List Saying) (k : Kept) (c : Course) (color : Color) (m : Move) (answer : Option Why) → HasKept before k → k.stage ≡ playing c → PlayAnswers c color m answer → AnswersItem before (walked color m) answer
 move_answers before k c color m answer h is answers =
     subst (λ f. AnswersAfter f before (walked color m) answer) (sym (play_in_order before k c color m h is))
     (play_answers_by before c color m answer (play_fault c) (line_now before k c h is) answers)
@@ -300,8 +300,8 @@ mover_first : (ps : List Placed) (p : Placed) (color : Color) (m : Move) → IsF
 mover_first ps p color m (inl broken) = cc
 mover_first ps p color m (inr both) = both.0
 
-mover_by : (c : Course) (color : Color) (m : Move) (played : Option PlayFault) → plays.Answers (line_of c) color m played → IsJudged played None → color ≡ (position_after c.start (map move_of c.moves)).side
-mover_by c color m None answers judged = mover_first (all_of (line_of c)) (now_of (line_of c)) color m answers.1
+mover_by : (c : Course) (color : Color) (m : Move) (played : Option PlayFault) → plays.Answers (course_line c) color m played → IsJudged played None → color ≡ (position_after c.start (map move_of c.moves)).side
+mover_by c color m None answers judged = mover_first (all_of (course_line c)) (now_of (course_line c)) color m answers.1
 mover_by c color m (Some (faults.Broken rule)) answers judged = cc
 mover_by c color m (Some faults.TooManyMoves) answers judged = absurd judged
 mover_by c color m (Some faults.OutOfMemory) answers judged = absurd judged
@@ -313,13 +313,13 @@ play_of None c color m (played, answers, judged) = (refl, mover_by c color m pla
 no_ending : (c : Course) → play_fault c ≡ None → c.ending ≡ None
 no_ending c h = unended c.ending (none_hold ((AfterEnding, is_some c.ending) ∷ (TooManyMoves, nat_le 10000 (length c.moves)) ∷ []) h).0
 
-pub move_step : (before : List Saying) (k new : Kept) (c : Course) (color : Color) (m : Move) (answer : Option Why) (result : Result (Unit {0}) Why) → Keeps before k → k.stage ≡ playing c → PlayAnswers c color m answer → IsAnswer answer result
+pub move_step : (before : List Saying) (k new : Kept) (c : Course) (color : Color) (m : Move) (answer : Option Why) (result : Result (Unit {0}) Why) → HasKept before k → k.stage ≡ playing c → PlayAnswers c color m answer → IsAnswer answer result
     → OnOk result (new ≡ record k { begun = true; stage = playing (record c { moves = c.moves ++ record { move = m; time = None } ∷ [] }) }) → TakenOrRefused before (walked color m) result new
 move_step before k new c color m answer (Ok u) h is answers is_answer same =
     let played = play_of (play_fault c) c color m (subst (PlayAnswers c color m) (no_fault answer is_answer) answers) in (
       answer,
       move_answers before k c color m answer h is answers,
       is_answer,
-      subst (Keeps (before ++ walked color m ∷ [])) (sym same) (with_walked before color m k c is (no_ending c played.0) played.1 h),
+      subst (HasKept (before ++ walked color m ∷ [])) (sym same) (with_walked before color m k c is (no_ending c played.0) played.1 h),
     )
 move_step before k new c color m answer (Err why) h is answers is_answer same = (answer, move_answers before k c color m answer h is answers, is_answer, tt)

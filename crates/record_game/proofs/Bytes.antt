@@ -30,12 +30,12 @@ all_weaker P Q f [] h = tt
 all_weaker P Q f (x ∷ xs) h = (f x h.0, all_weaker P Q f xs h.1)
 
 -- no CR, LF or comma
-abbrev pub GoesOn : ℕ → Type 0
-GoesOn b = (b ≢ 13) × (b ≢ 10) × (b ≢ 44)
+abbrev pub EndsNothing : ℕ → Type 0
+EndsNothing b = (b ≢ 13) × (b ≢ 10) × (b ≢ 44)
 
 -- nor a blank
 abbrev pub IsSolid : ℕ → Type 0
-IsSolid b = GoesOn b × (b ≢ 32) × (b ≢ 9)
+IsSolid b = EndsNothing b × (b ≢ 32) × (b ≢ 9)
 
 pub solid : (b : ℕ) → 44 < b → IsSolid b
 solid b h = (((λ e. omega (arith, e, h)), (λ e. omega (arith, e, h)), (λ e. omega (arith, e, h))), (λ e. omega (arith, e, h)), (λ e. omega (arith, e, h)))
@@ -88,7 +88,7 @@ solid_squares (Put to k) =
     all_joined IsSolid (48 ∷ 48 ∷ []) (square_text to ++ kind_code k) solid_zeros
     (all_joined IsSolid (square_text to) (kind_code k) (solid_square to) (solid_kind k))
 
-goes_star : AllByRecursion GoesOn (32 ∷ 42 ∷ 32 ∷ [])
+goes_star : AllByRecursion EndsNothing (32 ∷ 42 ∷ 32 ∷ [])
 goes_star = (
   ((λ e. omega (arith, e)), (λ e. omega (arith, e)), (λ e. omega (arith, e))),
   (
@@ -97,15 +97,15 @@ goes_star = (
   ),
 )
 
-pub goes_cell : (c : Option Piece) → AllByRecursion GoesOn (cell_text c)
+pub goes_cell : (c : Option Piece) → AllByRecursion EndsNothing (cell_text c)
 goes_cell None = goes_star
-goes_cell (Some p) = ((solid_sign p.color).0, all_weaker IsSolid GoesOn (λ b h. h.0) (kind_code p.kind) (solid_kind p.kind))
+goes_cell (Some p) = ((solid_sign p.color).0, all_weaker IsSolid EndsNothing (λ b h. h.0) (kind_code p.kind) (solid_kind p.kind))
 
-pub no_end : (b : ℕ) → GoesOn b → (b == 13 || b == 10 || (b == 44 && true)) ≡ false
+pub no_end : (b : ℕ) → EndsNothing b → (b == 13 || b == 10 || (b == 44 && true)) ≡ false
 no_end b h = rw (ne_eqb b 13 h.0, ne_eqb b 10 h.1, ne_eqb b 44 h.2) refl
 
-pub no_ends : (bytes : List ℕ) → AllByRecursion GoesOn bytes → AllByRecursion (λ b. (b == 13 || b == 10 || (b == 44 && true)) ≡ false) bytes
-no_ends bytes h = all_weaker GoesOn (λ b. (b == 13 || b == 10 || (b == 44 && true)) ≡ false) no_end bytes h
+pub no_ends : (bytes : List ℕ) → AllByRecursion EndsNothing bytes → AllByRecursion (λ b. (b == 13 || b == 10 || (b == 44 && true)) ≡ false) bytes
+no_ends bytes h = all_weaker EndsNothing (λ b. (b == 13 || b == 10 || (b == 44 && true)) ≡ false) no_end bytes h
 
 pub no_blank : (b : ℕ) → IsSolid b → is_blank b ≡ false
 no_blank b h = rw (ne_eqb b 32 h.1, ne_eqb b 9 h.2) refl

@@ -30,10 +30,10 @@ use Rattle.shogi_rules.proofs.Decided.{decide-kept, some-broken}
 use Rattle.csa_text.specs.declared.ending.Ending.{Ending}
 use Rattle.csa_text.specs.declared.pair.Pair.{Pair}
 use Rattle.csa_text.specs.Saying.{Saying, version, name, header, even, rank, pieces, turn, walked, time, ending}
-use Rattle.record_game.specs.Course.{Course, line_of, awaits_behind}
+use Rattle.record_game.specs.Course.{Course, course_line, awaits_behind}
 use Rattle.record_game.specs.Game.{Game, Timed, Ended, Entry, move_of}
 use Rattle.record_game.specs.Items.{is_version, name_given, names, header_given, headers, is_even, rank_given, ranks, is_position, positions, sides, moves, is_body, body, AtMostOne}
-use Rattle.record_game.specs.Keeping.{Stage, laying, playing, Kept, Keeps, KeepsStage}
+use Rattle.record_game.specs.Keeping.{Stage, laying, playing, Kept, HasKept, KeepsStage}
 use Rattle.record_game.specs.Laying.{Laid}
 use Rattle.record_game.specs.Limits.{is_below, Rising}
 use Rattle.record_game.specs.Order as ordered
@@ -41,7 +41,7 @@ use Rattle.record_game.specs.Order.{stands, endings, order_fault}
 use Rattle.shogi_board.specs.Placing.{place_all, board_alone}
 use Rattle.record_game.specs.LaidOut.{laid_out}
 use Rattle.record_game.specs.Placings.{placings_of, placings}
-use Rattle.record_game.specs.Refused.{Answers, AnswersAfter, AnswersInOrder, Finishes, IsLineOf, start_why}
+use Rattle.record_game.specs.Refused.{AnswersItem, AnswersAfter, AnswersInOrder, Finishes, IsLineOf, start_why}
 use Rattle.record_game.specs.Says.{Says, AreEntries, time_items, move_items, ending_items, played_items}
 use Rattle.record_game.specs.Titles.{under}
 use Rattle.record_game.specs.Union.{first_board, rest_given, with_rest_given}
@@ -84,11 +84,11 @@ first_only p (x ∷ xs) ys s is h =
     let hit : filter p (s ∷ ys) ≡ s ∷ filter p ys = rw is refl in
     absurd (not_empty (filter p xs) (filter p ys) s (ap (λ zs. filter p xs ++ zs) (sym hit) ∙ (sym (filter-append p xs (s ∷ ys)) ∙ h)))
 
-in_order : (before : List Saying) (s : Saying) → order_fault before s ≡ None → AnswersInOrder before s None → Answers before s None
+in_order : (before : List Saying) (s : Saying) → order_fault before s ≡ None → AnswersInOrder before s None → AnswersItem before s None
 in_order before s none h = subst (λ f. AnswersAfter f before s None) (sym none) h
 
 -- versions
-version_follows : (fs bs : List Saying) (g : Game) → Says (fs ++ version ∷ bs) g → Answers fs version None
+version_follows : (fs bs : List Saying) (g : Game) → Says (fs ++ version ∷ bs) g → AnswersItem fs version None
 version_follows fs bs g says =
     let first = first_only is_version fs bs version refl says.version_first in
     in_order fs version (rw first refl) refl
@@ -100,7 +100,7 @@ name_first fs bs Black b text o h =
 name_first fs bs White b text o h =
     only_last (names White fs) (names White bs) (b ∷ text) (subst (λ (ns : List (List ℕ)). AtMostOne ns) (sym h ∙ filter_map-append (name_given White) fs (name White (b ∷ text) ∷ bs)) (at_most o))
 
-name_follows : (fs bs : List Saying) (color : Color) (text : List ℕ) (g : Game) → Says (fs ++ name color text ∷ bs) g → Answers fs (name color text) None
+name_follows : (fs bs : List Saying) (color : Color) (text : List ℕ) (g : Game) → Says (fs ++ name color text ∷ bs) g → AnswersItem fs (name color text) None
 name_follows fs bs color [] g says = refl
 name_follows fs bs Black (b ∷ text) g says = let none = name_first fs bs Black b text g.black says.black in in_order fs (name Black (b ∷ text)) (rw none refl) refl
 name_follows fs bs White (b ∷ text) g says = let none = name_first fs bs White b text g.white says.white in in_order fs (name White (b ∷ text)) (rw none refl) refl
@@ -147,7 +147,7 @@ key_once (x ∷ xs) h ys es (front, e, behind, all, key_is, value, others) risin
       | inr miss ↦ rw miss later
     ]
 
-header_follows : (fs bs : List Saying) (key text : List ℕ) (g : Game) → Says (fs ++ header key text ∷ bs) g → Answers fs (header key text) None
+header_follows : (fs bs : List Saying) (key text : List ℕ) (g : Game) → Says (fs ++ header key text ∷ bs) g → AnswersItem fs (header key text) None
 header_follows fs bs key [] g says = refl
 header_follows fs bs key (b ∷ text) g says =
     let all : AreEntries (headers fs ++ (key, b ∷ text) ∷ headers bs) g.headers = subst (λ hs. AreEntries hs g.headers) (filter_map-append header_given fs (header key (b ∷ text) ∷ bs)) says.headers in
@@ -390,7 +390,7 @@ unbroken : (kept : Rule → Type 0) → AllKept kept all_rules → (answer : Opt
 unbroken kept all None h = h
 unbroken kept all (Some r) h = absurd (broken-not-kept kept all_rules r h all)
 
-may_play : (c : Course) (color : Color) (m : Move) → length (map move_of c.moves) < 10000 → color ≡ (position_after c.start (map move_of c.moves)).side → MayFollow c.start (map move_of c.moves) m → plays.Answers (line_of c) color m None
+may_play : (c : Course) (color : Color) (m : Move) → length (map move_of c.moves) < 10000 → color ≡ (position_after c.start (map move_of c.moves)).side → MayFollow c.start (map move_of c.moves) m → plays.Answers (course_line c) color m None
 may_play c color m few side f =
     let ps = positions_of c.start (map move_of c.moves) in
     let now = position_after c.start (map move_of c.moves) in
@@ -398,13 +398,13 @@ may_play c color m few side f =
     (few, unbroken (rules.Kept ps now color m) (all_kept c color m side f) answer.0 answer.1)
 
 -- the stage
-now_playing : (fs : List Saying) (k : Kept) (c : Course) → Keeps fs k → k.stage ≡ playing c → KeepsStage fs (playing c)
+now_playing : (fs : List Saying) (k : Kept) (c : Course) → HasKept fs k → k.stage ≡ playing c → KeepsStage fs (playing c)
 now_playing fs k c h is = subst (KeepsStage fs) is h.stage
 
-is_playing : (fs : List Saying) (k : Kept) (c : Course) → Keeps fs k → k.stage ≡ playing c → IsPlaying fs c.start.side c.moves c.ending
+is_playing : (fs : List Saying) (k : Kept) (c : Course) → HasKept fs k → k.stage ≡ playing c → IsPlaying fs c.start.side c.moves c.ending
 is_playing fs k c h is = playing_body fs c.start.side c.moves c.ending (now_playing fs k c h is).3
 
-same_start : (fs : List Saying) (s : Saying) (bs : List Saying) (k : Kept) (c : Course) (g : Game) → Keeps fs k → k.stage ≡ playing c → AllByRecursion IsWritten (fs ++ s ∷ bs) → Says (fs ++ s ∷ bs) g → BodyPlaying fs s bs c g → c.start ≡ g.start
+same_start : (fs : List Saying) (s : Saying) (bs : List Saying) (k : Kept) (c : Course) (g : Game) → HasKept fs k → k.stage ≡ playing c → AllByRecursion IsWritten (fs ++ s ∷ bs) → Says (fs ++ s ∷ bs) g → BodyPlaying fs s bs c g → c.start ≡ g.start
 same_start fs s bs k c g h is written says b =
     let now = now_playing fs k c h is in
     let whole = whole_laid (fs ++ s ∷ bs) g written says in
@@ -413,7 +413,7 @@ same_start fs s bs k c g h is written says b =
     let layouts : now.0 ≡ whole.layout = cc in
     now.2 ∙ (ap (λ (l : Layout). position_of l c.start.side) layouts ∙ (ap (λ (d : Color). position_of whole.layout d) b.side ∙ sym whole.start))
 
-body_goes : (fs : List Saying) (s : Saying) (bs : List Saying) (k : Kept) (c : Course) (g : Game) → is_body s ≡ true → Keeps fs k → k.stage ≡ playing c → AllByRecursion IsWritten (fs ++ s ∷ bs) → Says (fs ++ s ∷ bs) g → Goes c.start c.moves c.ending g.moves s
+body_goes : (fs : List Saying) (s : Saying) (bs : List Saying) (k : Kept) (c : Course) (g : Game) → is_body s ≡ true → HasKept fs k → k.stage ≡ playing c → AllByRecursion IsWritten (fs ++ s ∷ bs) → Says (fs ++ s ∷ bs) g → Goes c.start c.moves c.ending g.moves s
 body_goes fs s bs k c g of_body h is written says =
     let b = body_playing fs s bs c g (now_playing fs k c h is).3 says in
     let hit : body (s ∷ bs) ≡ s ∷ body bs = rw of_body refl in
@@ -424,7 +424,7 @@ no_ending : (o : Option Ended) → o ≡ None → is_some o ≡ false
 no_ending o h = ap is_some h
 
 -- position statements
-even_follows : (fs bs : List Saying) (pairs : List Pair) (k : Kept) (g : Game) (stage : Stage) → k.stage ≡ stage → Keeps fs k → AllByRecursion IsWritten (fs ++ even pairs ∷ bs) → Says (fs ++ even pairs ∷ bs) g → Answers fs (even pairs) None
+even_follows : (fs bs : List Saying) (pairs : List Pair) (k : Kept) (g : Game) (stage : Stage) → k.stage ≡ stage → HasKept fs k → AllByRecursion IsWritten (fs ++ even pairs ∷ bs) → Says (fs ++ even pairs ∷ bs) g → AnswersItem fs (even pairs) None
 even_follows fs bs pairs k g (playing c) is h written says =
     let b = body_playing fs (even pairs) bs c g (now_playing fs k c h is).3 says in
     let clash : even pairs ∷ positions bs ≡ [] = b.no_positions in
@@ -447,7 +447,7 @@ no_rank fs bs number cells one =
     let split = ap (filter (λ n. n == number)) (filter_map-append rank_given fs (rank number cells ∷ bs)) ∙ (filter-append (λ n. n == number) (ranks fs) (number ∷ ranks bs) ∙ ap (λ ns. filter (λ n. n == number) (ranks fs) ++ ns) hit) in
     only_last (filter (λ n. n == number) (ranks fs)) (filter (λ n. n == number) (ranks bs)) number (subst (λ (ns : List ℕ). AtMostOne ns) split one)
 
-rank_follows : (fs bs : List Saying) (number : ℕ) (cells : List (Option Piece)) (k : Kept) (g : Game) (stage : Stage) → k.stage ≡ stage → Keeps fs k → AllByRecursion IsWritten (fs ++ rank number cells ∷ bs) → Says (fs ++ rank number cells ∷ bs) g → Answers fs (rank number cells) None
+rank_follows : (fs bs : List Saying) (number : ℕ) (cells : List (Option Piece)) (k : Kept) (g : Game) (stage : Stage) → k.stage ≡ stage → HasKept fs k → AllByRecursion IsWritten (fs ++ rank number cells ∷ bs) → Says (fs ++ rank number cells ∷ bs) g → AnswersItem fs (rank number cells) None
 rank_follows fs bs number cells k g (playing c) is h written says =
     let b = body_playing fs (rank number cells) bs c g (now_playing fs k c h is).3 says in
     let clash : rank number cells ∷ positions bs ≡ [] = b.no_positions in
@@ -458,7 +458,7 @@ rank_follows fs bs number cells k g (laying l) is h written says =
     let twice = no_rank fs bs number cells (says.ranks_once number) in
     in_order fs (rank number cells) (rw (none.endings, none.sides, evens, twice) refl) (front_laid fs (rank number cells) bs g refl written says)
 
-pieces_follows : (fs bs : List Saying) (color : Color) (pairs : List Pair) (k : Kept) (g : Game) (stage : Stage) → k.stage ≡ stage → Keeps fs k → AllByRecursion IsWritten (fs ++ pieces color pairs ∷ bs) → Says (fs ++ pieces color pairs ∷ bs) g → Answers fs (pieces color pairs) None
+pieces_follows : (fs bs : List Saying) (color : Color) (pairs : List Pair) (k : Kept) (g : Game) (stage : Stage) → k.stage ≡ stage → HasKept fs k → AllByRecursion IsWritten (fs ++ pieces color pairs ∷ bs) → Says (fs ++ pieces color pairs ∷ bs) g → AnswersItem fs (pieces color pairs) None
 pieces_follows fs bs color pairs k g (playing c) is h written says =
     let b = body_playing fs (pieces color pairs) bs c g (now_playing fs k c h is).3 says in
     let clash : pieces color pairs ∷ positions bs ≡ [] = b.no_positions in
@@ -468,7 +468,7 @@ pieces_follows fs bs color pairs k g (laying l) is h written says =
     in_order fs (pieces color pairs) (rw (none.endings, none.sides) refl) (front_laid fs (pieces color pairs) bs g refl written says)
 
 -- the side to move
-turn_follows : (fs bs : List Saying) (color : Color) (k : Kept) (g : Game) (stage : Stage) → k.stage ≡ stage → Keeps fs k → AllByRecursion IsWritten (fs ++ turn color ∷ bs) → Says (fs ++ turn color ∷ bs) g → Answers fs (turn color) None
+turn_follows : (fs bs : List Saying) (color : Color) (k : Kept) (g : Game) (stage : Stage) → k.stage ≡ stage → HasKept fs k → AllByRecursion IsWritten (fs ++ turn color ∷ bs) → Says (fs ++ turn color ∷ bs) g → AnswersItem fs (turn color) None
 turn_follows fs bs color k g (playing c) is h written says = absurd (body_goes fs (turn color) bs k c g refl h is written says)
 turn_follows fs bs color k g (laying l) is h written says =
     let none = is_laying fs k l h is in
@@ -489,13 +489,13 @@ turn_follows fs bs color k g (laying l) is h written says =
     (λ check. says.game.sound.safe (subst (λ (d : Color). InCheck g.start.material.board (opponent d)) side (subst (λ cells. InCheck cells (opponent color)) boards check))))
 
 -- moves
-line_now : (fs : List Saying) (k : Kept) (c : Course) → Keeps fs k → k.stage ≡ playing c → IsLineOf fs (line_of c)
+line_now : (fs : List Saying) (k : Kept) (c : Course) → HasKept fs k → k.stage ≡ playing c → IsLineOf fs (course_line c)
 line_now fs k c h is =
     let stage = now_playing fs k c h is in
     let now = is_playing fs k c h is in
     record { layout = stage.0; side = c.start.side; laid = stage.1; side_is = now.sides; start = stage.2; moves_are = sym now.moves }
 
-not_laying : (fs bs : List Saying) (s : Saying) (k : Kept) (l : Laid) (g : Game) → is_body s ≡ true → starts s ≡ false → is_position s ≡ false → k.stage ≡ laying l → Keeps fs k → Says (fs ++ s ∷ bs) g → ⊥
+not_laying : (fs bs : List Saying) (s : Saying) (k : Kept) (l : Laid) (g : Game) → is_body s ≡ true → starts s ≡ false → is_position s ≡ false → k.stage ≡ laying l → HasKept fs k → Says (fs ++ s ∷ bs) g → ⊥
 not_laying fs bs s k l g of_body other no_position is h says =
     let stage : KeepsStage fs (laying l) = subst (KeepsStage fs) is h.stage in
     let all = body_laying fs s bs g stage.1 says in
@@ -503,7 +503,7 @@ not_laying fs bs s k l g of_body other no_position is h says =
     let miss : positions (s ∷ bs) ≡ positions bs = rw no_position refl in
     false≢true (sym other ∙ head_starts bs s (body bs) g.start.side (played_items g) (sym hit ∙ (all ∙ ap (λ xs. xs ++ turn g.start.side ∷ played_items g) miss)))
 
-walked_follows : (fs bs : List Saying) (color : Color) (m : Move) (k : Kept) (g : Game) (stage : Stage) → k.stage ≡ stage → Keeps fs k → AllByRecursion IsWritten (fs ++ walked color m ∷ bs) → Says (fs ++ walked color m ∷ bs) g → Answers fs (walked color m) None
+walked_follows : (fs bs : List Saying) (color : Color) (m : Move) (k : Kept) (g : Game) (stage : Stage) → k.stage ≡ stage → HasKept fs k → AllByRecursion IsWritten (fs ++ walked color m ∷ bs) → Says (fs ++ walked color m ∷ bs) g → AnswersItem fs (walked color m) None
 unfolding starts
 walked_follows fs bs color m k g (laying l) is h written says = absurd (not_laying fs bs (walked color m) k l g refl refl refl is h says)
 walked_follows fs bs color m k g (playing c) is h written says =
@@ -521,10 +521,10 @@ walked_follows fs bs color m k g (playing c) is h written says =
     let not_many : nat_le 10000 (length (moves fs)) ≡ false = ap (λ (ms : List Move). nat_le 10000 (length ms)) now.moves ∙ lt-leb 10000 (length (map move_of c.moves)) few in
     let open_yet : stands (endings fs) ≡ false = now.endings ∙ no_ending c.ending on.0 in
     let sided : stands (sides fs) ≡ true = ap stands now.sides in
-    in_order fs (walked color m) (rw (open_yet, sided, not_many) refl) (line_of c, line_now fs k c h is, None, may_play c color m few on.1 follows, refl)
+    in_order fs (walked color m) (rw (open_yet, sided, not_many) refl) (course_line c, line_now fs k c h is, None, may_play c color m few on.1 follows, refl)
 
 -- times
-time_follows : (fs bs : List Saying) (n : ℕ) (k : Kept) (g : Game) (stage : Stage) → k.stage ≡ stage → Keeps fs k → AllByRecursion IsWritten (fs ++ time n ∷ bs) → Says (fs ++ time n ∷ bs) g → Answers fs (time n) None
+time_follows : (fs bs : List Saying) (n : ℕ) (k : Kept) (g : Game) (stage : Stage) → k.stage ≡ stage → HasKept fs k → AllByRecursion IsWritten (fs ++ time n ∷ bs) → Says (fs ++ time n ∷ bs) g → AnswersItem fs (time n) None
 unfolding starts
 time_follows fs bs n k g (laying l) is h written says = absurd (not_laying fs bs (time n) k l g refl refl refl is h says)
 time_follows fs bs n k g (playing c) is h written says =
@@ -533,7 +533,7 @@ time_follows fs bs n k g (playing c) is h written says =
     in_order fs (time n) (rw awaited refl) refl
 
 -- endings
-ending_follows : (fs bs : List Saying) (e : Ending) (k : Kept) (g : Game) (stage : Stage) → k.stage ≡ stage → Keeps fs k → AllByRecursion IsWritten (fs ++ ending e ∷ bs) → Says (fs ++ ending e ∷ bs) g → Answers fs (ending e) None
+ending_follows : (fs bs : List Saying) (e : Ending) (k : Kept) (g : Game) (stage : Stage) → k.stage ≡ stage → HasKept fs k → AllByRecursion IsWritten (fs ++ ending e ∷ bs) → Says (fs ++ ending e ∷ bs) g → AnswersItem fs (ending e) None
 unfolding starts
 ending_follows fs bs e k g (laying l) is h written says = absurd (not_laying fs bs (ending e) k l g refl refl refl is h says)
 ending_follows fs bs e k g (playing c) is h written says =
@@ -544,7 +544,7 @@ ending_follows fs bs e k g (playing c) is h written says =
     in_order fs (ending e) (rw (open_yet, sided) refl) refl
 
 -- an item of those that say a game is taken after those before it
-pub follows : (fs : List Saying) (s : Saying) (bs : List Saying) (k : Kept) (g : Game) → Keeps fs k → AllByRecursion IsWritten (fs ++ s ∷ bs) → Says (fs ++ s ∷ bs) g → Answers fs s None
+pub follows : (fs : List Saying) (s : Saying) (bs : List Saying) (k : Kept) (g : Game) → HasKept fs k → AllByRecursion IsWritten (fs ++ s ∷ bs) → Says (fs ++ s ∷ bs) g → AnswersItem fs s None
 follows fs version bs k g h written says = version_follows fs bs g says
 follows fs (name color text) bs k g h written says = name_follows fs bs color text g says
 follows fs (header key text) bs k g h written says = header_follows fs bs key text g says

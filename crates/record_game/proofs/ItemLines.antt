@@ -28,7 +28,7 @@ use Rattle.csa_text.proofs.Texts.{texts_length}
 use Rattle.record_game.specs.Game.{Entry, HeaderText, moment, plain}
 use Rattle.record_game.specs.Limits.{IsName, IsOneLine, IsEntry, IsMomentKey, MayStandUnder}
 use Rattle.record_game.specs.Canon.{header_item, value_text}
-use Rattle.record_game.proofs.Bytes.{GoesOn, IsSolid, all_joined, all_weaker, solid, solid_sign, solid_digit, solid_pairs, solid_squares, goes_cell, all_flat, no_ends, solid_whole}
+use Rattle.record_game.proofs.Bytes.{EndsNothing, IsSolid, all_joined, all_weaker, solid, solid_sign, solid_digit, solid_pairs, solid_squares, goes_cell, all_flat, no_ends, solid_whole}
 use Rattle.record_game.proofs.Lined.{IsItemLine}
 
 pub version_line : IsItemLine version
@@ -163,7 +163,7 @@ even_line ps on_board few =
     let all : AllByRecursion IsSolid (80 ∷ 73 ∷ pairs_text ps) = (solid 80 (omega arith), (solid 73 (omega arith), parts)) in
     let same : without_last_blanks (80 ∷ 73 ∷ pairs_text ps) ≡ 80 ∷ 73 ∷ pairs_text ps = solid_whole (80 ∷ 73 ∷ pairs_text ps) all in
     record {
-      unit = (refl, no_ends (73 ∷ pairs_text ps) (all_weaker IsSolid GoesOn (λ b h. h.0) (73 ∷ pairs_text ps) all.1), refl);
+      unit = (refl, no_ends (73 ∷ pairs_text ps) (all_weaker IsSolid EndsNothing (λ b h. h.0) (73 ∷ pairs_text ps) all.1), refl);
       spoken = refl;
       fits = omega (arith, few, texts_length pair_text 4 pair_length ps);
       spells = (same, on_board);
@@ -175,7 +175,7 @@ pieces_line color ps few =
     let all : AllByRecursion IsSolid (80 ∷ sign color ∷ pairs_text ps) = (solid 80 (omega arith), (solid_sign color, parts)) in
     let same : without_last_blanks (80 ∷ sign color ∷ pairs_text ps) ≡ 80 ∷ sign color ∷ pairs_text ps = solid_whole (80 ∷ sign color ∷ pairs_text ps) all in
     record {
-      unit = (refl, no_ends (sign color ∷ pairs_text ps) (all_weaker IsSolid GoesOn (λ b h. h.0) (sign color ∷ pairs_text ps) all.1), refl);
+      unit = (refl, no_ends (sign color ∷ pairs_text ps) (all_weaker IsSolid EndsNothing (λ b h. h.0) (sign color ∷ pairs_text ps) all.1), refl);
       spoken = refl;
       fits = omega (arith, few, texts_length pair_text 4 pair_length ps);
       spells = same;
@@ -230,8 +230,8 @@ some_cells : (front : List ℕ) (cs : List (Option Piece)) → length cs ≡ 9 �
 some_cells front [] h = absurd (omega (arith, h))
 some_cells front (c ∷ cs) h = cells_end front c cs
 
-goes_cells : (cs : List (Option Piece)) → AllByRecursion GoesOn (flat_map cell_text cs)
-goes_cells cs = all_flat GoesOn cell_text goes_cell cs
+goes_cells : (cs : List (Option Piece)) → AllByRecursion EndsNothing (flat_map cell_text cs)
+goes_cells cs = all_flat EndsNothing cell_text goes_cell cs
 
 pub rank_line : (number : ℕ) (cells : List (Option Piece)) → 1 ≤ number → number ≤ 9 → length cells ≡ 9 → IsItemLine (rank number cells)
 rank_line number cells low high nine = record {
@@ -243,7 +243,7 @@ rank_line number cells low high nine = record {
 
 -- a statement that is solid
 solid_unit : (first : ℕ) (bytes : List ℕ) → AllByRecursion IsSolid bytes → AllByRecursion (λ b. (b == 13 || b == 10 || (b == 44 && true)) ≡ false) bytes
-solid_unit first bytes h = no_ends bytes (all_weaker IsSolid GoesOn (λ b h. h.0) bytes h)
+solid_unit first bytes h = no_ends bytes (all_weaker IsSolid EndsNothing (λ b h. h.0) bytes h)
 
 move_length : (m : Move) → length (squares_text m) ≡ 6
 move_length (Walk from to k) = omega (arith, kind_length k)

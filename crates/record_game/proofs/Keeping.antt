@@ -17,7 +17,7 @@ use Rattle.csa_text.specs.Saying.{Saying, version, name, header, even, rank, pie
 use Rattle.record_game.specs.Course.{Course, awaits_time, awaits_behind, with_time, with_last_time}
 use Rattle.record_game.specs.Game.{Ended, Entry, move_of}
 use Rattle.record_game.specs.Items.{is_version, name_given, names, header_given, headers, is_even, rank_given, ranks, is_position, positions, is_body, body, AtMostOne}
-use Rattle.record_game.specs.Keeping.{Stage, laying, playing, Kept, Keeps, KeepsStage}
+use Rattle.record_game.specs.Keeping.{Stage, laying, playing, Kept, HasKept, KeepsStage}
 use Rattle.record_game.specs.Laying.{Laid, Lays}
 use Rattle.record_game.specs.Order.{stands}
 use Rattle.shogi_board.specs.Placing.{place_all, board_alone}
@@ -90,7 +90,7 @@ same_stage before s (playing c) off none (layout, laid, start, all) =
 -- one more version, name or header
 with_head : (before : List Saying) (s : Saying) (k : Kept) (t : Titled) → IsNoPosition s → body (s ∷ []) ≡ [] → filter is_version (drop 1 (before ++ s ∷ [])) ≡ []
     → names Black (before ++ s ∷ []) ≡ option_to_list t.black → names White (before ++ s ∷ []) ≡ option_to_list t.white → AreEntries (headers (before ++ s ∷ [])) t.headers
-    → Keeps before k → Keeps (before ++ s ∷ []) (record { begun = true; titles = t; stage = k.stage })
+    → HasKept before k → HasKept (before ++ s ∷ []) (record { begun = true; titles = t; stage = k.stage })
 with_head before s k t off none first black white entries h =
     let ps = kept_filter is_position before s off.positions in
     let es = kept_filter is_even before s off.evens in
@@ -107,7 +107,7 @@ with_head before s k t off none first black white entries h =
       stage = same_stage before s k.stage off none h.stage;
     }
 
-pub with_version : (before : List Saying) (k : Kept) → stands before ≡ false → Keeps before k → Keeps (before ++ version ∷ []) (record k { begun = true })
+pub with_version : (before : List Saying) (k : Kept) → stands before ≡ false → HasKept before k → HasKept (before ++ version ∷ []) (record k { begun = true })
 with_version before k none h =
     let empty = nothing_stands before none in
     with_head before version k k.titles (record { positions = refl; evens = refl; ranks = refl }) refl
@@ -122,7 +122,7 @@ one_name before s side (Some t) text h none given = cc
 
 pub with_name_kept : (before : List Saying) (k : Kept) (color : Color) (text : List ℕ) (b : ℕ) (bs : List ℕ) → text ≡ b ∷ bs
     → (color ≡ Black → is_some k.titles.black ≡ false) → (color ≡ White → is_some k.titles.white ≡ false)
-    → Keeps before k → Keeps (before ++ name color text ∷ []) (record k { begun = true; titles = with_name k.titles color text })
+    → HasKept before k → HasKept (before ++ name color text ∷ []) (record k { begun = true; titles = with_name k.titles color text })
 with_name_kept before k Black [] b bs is one other h = cc
 with_name_kept before k White [] b bs is one other h = cc
 with_name_kept before k Black (c ∷ cs) b bs is one other h =
@@ -138,7 +138,7 @@ with_name_kept before k White (c ∷ cs) b bs is one other h =
     (kept_choice (name_given Black) before s refl ∙ h.black) (one_name before s White k.titles.white (c ∷ cs) h.white (other refl) refl)
     (subst (λ hs. AreEntries hs k.titles.headers) (sym (kept_choice header_given before s refl)) h.headers) h
 
-pub with_no_name : (before : List Saying) (k : Kept) (color : Color) → Keeps before k → Keeps (before ++ name color [] ∷ []) (record k { begun = true })
+pub with_no_name : (before : List Saying) (k : Kept) (color : Color) → HasKept before k → HasKept (before ++ name color [] ∷ []) (record k { begun = true })
 with_no_name before k color h =
     let s = name color [] in
     with_head before s k k.titles (record { positions = refl; evens = refl; ranks = refl }) refl
@@ -146,7 +146,7 @@ with_no_name before k color h =
     (kept_choice (name_given Black) before s refl ∙ h.black) (kept_choice (name_given White) before s refl ∙ h.white)
     (subst (λ hs. AreEntries hs k.titles.headers) (sym (kept_choice header_given before s refl)) h.headers) h
 
-pub with_no_header : (before : List Saying) (k : Kept) (key : List ℕ) → Keeps before k → Keeps (before ++ header key [] ∷ []) (record k { begun = true })
+pub with_no_header : (before : List Saying) (k : Kept) (key : List ℕ) → HasKept before k → HasKept (before ++ header key [] ∷ []) (record k { begun = true })
 with_no_header before k key h =
     let s = header key [] in
     with_head before s k k.titles (record { positions = refl; evens = refl; ranks = refl }) refl
@@ -154,7 +154,7 @@ with_no_header before k key h =
     (kept_choice (name_given Black) before s refl ∙ h.black) (kept_choice (name_given White) before s refl ∙ h.white)
     (subst (λ hs. AreEntries hs k.titles.headers) (sym (kept_choice header_given before s refl)) h.headers) h
 
-pub with_header : (before : List Saying) (k : Kept) (key : List ℕ) (b : ℕ) (bs : List ℕ) (t : Titled) → IsWithHeader k.titles key (b ∷ bs) t → Keeps before k → Keeps (before ++ header key (b ∷ bs) ∷ []) (record k { begun = true; titles = t })
+pub with_header : (before : List Saying) (k : Kept) (key : List ℕ) (b : ℕ) (bs : List ℕ) (t : Titled) → IsWithHeader k.titles key (b ∷ bs) t → HasKept before k → HasKept (before ++ header key (b ∷ bs) ∷ []) (record k { begun = true; titles = t })
 with_header before k key b bs t (value, is_value, is) h =
     let s = header key (b ∷ bs) in
     let e : Entry = record { key = key; text = value } in
@@ -169,7 +169,7 @@ with_header before k key b bs t (value, is_value, is) h =
 -- one more item of the body
 with_body : (before : List Saying) (s : Saying) (k : Kept) (g : Stage) → IsOfBody s → filter is_even (drop 1 (positions (before ++ s ∷ []))) ≡ []
     → (filter is_even (before ++ s ∷ []) ≡ []) ⊎ (ranks (before ++ s ∷ []) ≡ []) → RanksOnce (before ++ s ∷ []) → KeepsStage (before ++ s ∷ []) g
-    → Keeps before k → Keeps (before ++ s ∷ []) (record { begun = true; titles = k.titles; stage = g })
+    → HasKept before k → HasKept (before ++ s ∷ []) (record { begun = true; titles = k.titles; stage = g })
 with_body before s k g of_body first either once stage h = record {
   begun = stands_more before s;
   version_first = first_more is_version before s h.version_first of_body.version;
@@ -188,7 +188,7 @@ body_more before s of_body = filter-append is_body before (s ∷ []) ∙ ap (λ 
 -- position statements
 with_laid : (before : List Saying) (s : Saying) (k : Kept) (l m : Laid) → k.stage ≡ laying l → IsOfBody s → positions (s ∷ []) ≡ s ∷ [] → filter is_even (drop 1 (positions (before ++ s ∷ []))) ≡ []
     → (filter is_even (before ++ s ∷ []) ≡ []) ⊎ (ranks (before ++ s ∷ []) ≡ []) → RanksOnce (before ++ s ∷ []) → Lays (before ++ s ∷ []) m
-    → Keeps before k → Keeps (before ++ s ∷ []) (record k { begun = true; stage = laying m })
+    → HasKept before k → HasKept (before ++ s ∷ []) (record k { begun = true; stage = laying m })
 with_laid before s k l m is of_body of_start first either once lays h =
     let now : KeepsStage before (laying l) = subst (KeepsStage before) is h.stage in
     let ps : positions (before ++ s ∷ []) ≡ positions before ++ s ∷ [] = filter-append is_position before (s ∷ []) ∙ ap (λ ys. positions before ++ ys) of_start in
@@ -221,7 +221,7 @@ no_ranks_in (walked c m ∷ ss) h = no_ranks_in ss h
 no_ranks_in (time t ∷ ss) h = no_ranks_in ss h
 no_ranks_in (ending e ∷ ss) h = no_ranks_in ss h
 
-pub with_even : (before : List Saying) (pairs : List Pair) (k : Kept) (l m : Laid) → k.stage ≡ laying l → stands (positions before) ≡ false → Lays (before ++ even pairs ∷ []) m → Keeps before k → Keeps (before ++ even pairs ∷ []) (record k { begun = true; stage = laying m })
+pub with_even : (before : List Saying) (pairs : List Pair) (k : Kept) (l m : Laid) → k.stage ≡ laying l → stands (positions before) ≡ false → Lays (before ++ even pairs ∷ []) m → HasKept before k → HasKept (before ++ even pairs ∷ []) (record k { begun = true; stage = laying m })
 with_even before pairs k l m is none lays h =
     let s = even pairs in
     let empty : positions before ≡ [] = nothing_stands (positions before) none in
@@ -242,7 +242,7 @@ once_by ns number other false is once none = rw is (subst AtMostOne (sym (append
 
 pub with_rank : (before : List Saying) (number : ℕ) (cells : List (Option Piece)) (k : Kept) (l m : Laid) → k.stage ≡ laying l → stands (filter is_even before) ≡ false
     → stands (filter (λ n. n == number) (ranks before)) ≡ false → ((other : ℕ) → (number == other) ≡ true → number ≡ other)
-    → Lays (before ++ rank number cells ∷ []) m → Keeps before k → Keeps (before ++ rank number cells ∷ []) (record k { begun = true; stage = laying m })
+    → Lays (before ++ rank number cells ∷ []) m → HasKept before k → HasKept (before ++ rank number cells ∷ []) (record k { begun = true; stage = laying m })
 with_rank before number cells k l m is none new same lays h =
     let s = rank number cells in
     let es : filter is_even (before ++ s ∷ []) ≡ [] = kept_filter is_even before s refl ∙ nothing_stands (filter is_even before) none in
@@ -254,7 +254,7 @@ with_rank before number cells k l m is none new same lays h =
     (λ hit. subst (λ x. filter (λ n. n == x) (ranks before) ≡ []) (same other hit) (nothing_stands (filter (λ n. n == number) (ranks before)) new)))))
     lays h
 
-pub with_pieces : (before : List Saying) (color : Color) (pairs : List Pair) (k : Kept) (l m : Laid) → k.stage ≡ laying l → Lays (before ++ pieces color pairs ∷ []) m → Keeps before k → Keeps (before ++ pieces color pairs ∷ []) (record k { begun = true; stage = laying m })
+pub with_pieces : (before : List Saying) (color : Color) (pairs : List Pair) (k : Kept) (l m : Laid) → k.stage ≡ laying l → Lays (before ++ pieces color pairs ∷ []) m → HasKept before k → HasKept (before ++ pieces color pairs ∷ []) (record k { begun = true; stage = laying m })
 with_pieces before color pairs k l m is lays h =
     let s = pieces color pairs in
     let es = kept_filter is_even before s refl in
@@ -265,7 +265,7 @@ with_pieces before color pairs k l m is lays h =
     (λ number. subst (λ ns. AtMostOne (filter (λ n. n == number) ns)) (sym rs) (h.ranks_once number)) lays h
 
 -- from the side to move on
-behind_start : (before : List Saying) (s : Saying) (k : Kept) (c : Course) → IsOfBody s → IsNoPosition s → KeepsStage (before ++ s ∷ []) (playing c) → Keeps before k → Keeps (before ++ s ∷ []) (record k { begun = true; stage = playing c })
+behind_start : (before : List Saying) (s : Saying) (k : Kept) (c : Course) → IsOfBody s → IsNoPosition s → KeepsStage (before ++ s ∷ []) (playing c) → HasKept before k → HasKept (before ++ s ∷ []) (record k { begun = true; stage = playing c })
 behind_start before s k c of_body off stage h =
     let ps = kept_filter is_position before s off.positions in
     let es = kept_filter is_even before s off.evens in
@@ -275,7 +275,7 @@ behind_start before s k c of_body off stage h =
     (subst (λ xs. (xs ≡ []) ⊎ (ranks (before ++ s ∷ []) ≡ [])) (sym es) (subst (λ ns. (filter is_even before ≡ []) ⊎ (ns ≡ [])) (sym rs) h.even_or_ranks))
     (λ number. subst (λ ns. AtMostOne (filter (λ n. n == number) ns)) (sym rs) (h.ranks_once number)) stage h
 
-pub with_turn : (before : List Saying) (color : Color) (k : Kept) (l : Laid) (c : Course) → k.stage ≡ laying l → c ≡ record { start = position_of l.layout color; moves = []; ending = None } → Keeps before k → Keeps (before ++ turn color ∷ []) (record k { begun = true; stage = playing c })
+pub with_turn : (before : List Saying) (color : Color) (k : Kept) (l : Laid) (c : Course) → k.stage ≡ laying l → c ≡ record { start = position_of l.layout color; moves = []; ending = None } → HasKept before k → HasKept (before ++ turn color ∷ []) (record k { begun = true; stage = playing c })
 with_turn before color k l c is is_course h =
     let s = turn color in
     let now : KeepsStage before (laying l) = subst (KeepsStage before) is h.stage in
@@ -293,7 +293,7 @@ with_turn before color k l c is is_course h =
 -- one more item of what is played
 played_more : (before : List Saying) (s : Saying) (k : Kept) (c d : Course) → k.stage ≡ playing c → IsOfBody s → IsNoPosition s → d.start ≡ c.start
     → move_items c.start.side d.moves ++ ending_items d.ending ≡ (move_items c.start.side c.moves ++ ending_items c.ending) ++ s ∷ []
-    → Keeps before k → Keeps (before ++ s ∷ []) (record k { begun = true; stage = playing d })
+    → HasKept before k → HasKept (before ++ s ∷ []) (record k { begun = true; stage = playing d })
 played_more before s k c d is of_body off start items h =
     let now : KeepsStage before (playing c) = subst (KeepsStage before) is h.stage in
     let ps = kept_filter is_position before s off.positions in
@@ -309,7 +309,7 @@ played_more before s k c d is of_body off start items h =
     ) h
 
 pub with_walked : (before : List Saying) (color : Color) (m : Move) (k : Kept) (c : Course) → k.stage ≡ playing c → c.ending ≡ None → color ≡ (position_after c.start (map move_of c.moves)).side
-    → Keeps before k → Keeps (before ++ walked color m ∷ []) (record k { begun = true; stage = playing (record c { moves = c.moves ++ record { move = m; time = None } ∷ [] }) })
+    → HasKept before k → HasKept (before ++ walked color m ∷ []) (record k { begun = true; stage = playing (record c { moves = c.moves ++ record { move = m; time = None } ∷ [] }) })
 with_walked before color m k c is unended mover h =
     let d : Course = record c { moves = c.moves ++ record { move = m; time = None } ∷ [] } in
     let none : ending_items c.ending ≡ [] = ap ending_items unended in
@@ -318,7 +318,7 @@ with_walked before color m k c is unended mover h =
     ∙ (ap (λ side. move_items c.start.side c.moves ++ walked side m ∷ []) (sym mover)
     ∙ ap (λ es. es ++ walked color m ∷ []) (sym (ap (λ es. move_items c.start.side c.moves ++ es) none ∙ append-nil (move_items c.start.side c.moves))))))) h
 
-pub with_ending : (before : List Saying) (e : Ending) (k : Kept) (c : Course) → k.stage ≡ playing c → c.ending ≡ None → Keeps before k → Keeps (before ++ ending e ∷ []) (record k { begun = true; stage = playing (record c { ending = Some (record { ending = e; time = None }) }) })
+pub with_ending : (before : List Saying) (e : Ending) (k : Kept) (c : Course) → k.stage ≡ playing c → c.ending ≡ None → HasKept before k → HasKept (before ++ ending e ∷ []) (record k { begun = true; stage = playing (record c { ending = Some (record { ending = e; time = None }) }) })
 with_ending before e k c is unended h =
     let none : ending_items c.ending ≡ [] = ap ending_items unended in
     played_more before (ending e) k c (record c { ending = Some (record { ending = e; time = None }) }) is (record { version = refl; names = λ side. refl; headers = refl; body = refl }) (record { positions = refl; evens = refl; ranks = refl }) refl
@@ -336,11 +336,11 @@ same_start : (c : Course) (o : Option Ended) (n : ℕ) → c.ending ≡ o → (w
 same_start c None n is = rw is refl
 same_start c (Some e) n is = rw is refl
 
-pub with_time_kept : (before : List Saying) (n : ℕ) (k : Kept) (c : Course) → k.stage ≡ playing c → awaits_time c ≡ true → Keeps before k → Keeps (before ++ time n ∷ []) (record k { begun = true; stage = playing (with_time c n) })
+pub with_time_kept : (before : List Saying) (n : ℕ) (k : Kept) (c : Course) → k.stage ≡ playing c → awaits_time c ≡ true → HasKept before k → HasKept (before ++ time n ∷ []) (record k { begun = true; stage = playing (with_time c n) })
 with_time_kept before n k c is can h =
     played_more before (time n) k c (with_time c n) is (record { version = refl; names = λ side. refl; headers = refl; body = refl }) (record { positions = refl; evens = refl; ranks = refl })
     (same_start c c.ending n refl) (time_items_by c.start.side c c.ending n refl can) h
 
 -- before the first item
-pub nothing_kept : (l : Laid) → Lays [] l → Keeps [] (record { begun = false; titles = record { black = None; white = None; headers = [] }; stage = laying l })
+pub nothing_kept : (l : Laid) → Lays [] l → HasKept [] (record { begun = false; titles = record { black = None; white = None; headers = [] }; stage = laying l })
 nothing_kept l h = record { begun = refl; version_first = refl; black = refl; white = refl; headers = refl; even_first = refl; even_or_ranks = inl refl; ranks_once = λ number. tt; stage = (h, refl) }

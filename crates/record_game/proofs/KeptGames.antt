@@ -5,7 +5,7 @@ use Rattle.csa_text.specs.Saying.{Saying}
 use Rattle.record_game.specs.Building.{game_of}
 use Rattle.record_game.specs.Course.{Course, IsCourse}
 use Rattle.record_game.specs.Items.{positions, sides}
-use Rattle.record_game.specs.Keeping.{Kept, laying, playing, Keeps, KeepsStage}
+use Rattle.record_game.specs.Keeping.{Kept, laying, playing, HasKept, KeepsStage}
 use Rattle.record_game.specs.Laying.{Laid}
 use Rattle.record_game.specs.Limits.{IsGame}
 use Rattle.record_game.specs.Outcome.{IsWritten}
@@ -30,7 +30,7 @@ game_of_titled t c titled course = record {
   last_time = course.last_time;
 }
 
-pub says_of_kept : (sayings : List Saying) (k : Kept) (c : Course) → AllByRecursion IsWritten sayings → Keeps sayings k → k.stage ≡ playing c → IsGame (game_of k.titles c) → Says sayings (game_of k.titles c)
+pub says_of_kept : (sayings : List Saying) (k : Kept) (c : Course) → AllByRecursion IsWritten sayings → HasKept sayings k → k.stage ≡ playing c → IsGame (game_of k.titles c) → Says sayings (game_of k.titles c)
 says_of_kept sayings k c written h is game =
     let now : KeepsStage sayings (playing c) = subst (KeepsStage sayings) is h.stage in
     record {
@@ -46,5 +46,5 @@ says_of_kept sayings k c written h is game =
       game = game;
     }
 
-pub no_side_of_kept : (sayings : List Saying) (b : Bool) (t : Titled) (l : Laid) → Keeps sayings (kept b t (laying l)) → sides sayings ≡ []
+pub no_side_of_kept : (sayings : List Saying) (b : Bool) (t : Titled) (l : Laid) → HasKept sayings (kept b t (laying l)) → sides sayings ≡ []
 no_side_of_kept sayings b t l h = (laying_body sayings h.stage.1).sides

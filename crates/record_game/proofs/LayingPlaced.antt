@@ -80,7 +80,7 @@ at_square number cells now i x square low here e =
     ∙ (ap (λ n. place_all now (on n x ∷ cells_placings (9 - i - 1) number (drop (i + 1) cells))) (sym e)
     ∙ ap (λ file. place_all now (on (place square) x ∷ cells_placings file number (drop (i + 1) cells))) (less_file i))
 
-pub cells_some : (number : ℕ) (cells : List (Option Piece)) (start now next : Layout) (i : ℕ) (x : Piece) (square : Square) → CellsLeft number cells start now i → i < length cells → get_or cells i None ≡ Some x → place square ≡ (9 - i - 1) * 9 + (number - 1) → setup.place_fault now x.color square x.kind ≡ None → next ≡ setup.placed now x.color square x.kind → CellsLeft number cells start next (i + 1)
+pub cells_some : (number : ℕ) (cells : List (Option Piece)) (start now next : Layout) (i : ℕ) (x : Piece) (square : Square) → CellsLeft number cells start now i → i < length cells → get_or cells i None ≡ Some x → place square ≡ (9 - i - 1) * 9 + (number - 1) → setup.place_fault now x.color square x.kind ≡ None → next ≡ setup.with_piece now x.color square x.kind → CellsLeft number cells start next (i + 1)
 cells_some number cells start now next i x square left low here e fits is =
     let rest = cells_placings (9 - (i + 1)) number (drop (i + 1) cells) in
     left ∙ (at_square number cells now i x square low here e

@@ -37,3 +37,5 @@ pub mod Next
 pub mod Following
 pub mod Told
 pub mod RefusedClosed
+pub mod Moved
+pub mod Cuttings

@@ -28,17 +28,17 @@ use Rattle.record_game.specs.declared.fault.OrderFault.TheVariants.{VersionOutOf
 use Rattle.record_game.specs.declared.fault.Why.{Why}
 use Rattle.record_game.specs.declared.fault.Why.TheVariants.{Order, Start, Rule, OutOfMemory}
 use Rattle.record_game.specs.Answer.{IsAnswer}
-use Rattle.record_game.specs.Course.{Course, IsCourse, line_of, untimed, play_fault, PlayAnswers, PlayAnswersAfter, close_fault, awaits_time, time_fault, with_last_time, with_time, with_time_behind, with_ending}
+use Rattle.record_game.specs.Course.{Course, IsCourse, course_line, untimed, play_fault, PlayAnswers, PlayAnswersAfter, close_fault, awaits_time, time_fault, with_last_time, with_time, with_time_behind, with_ending}
 use Rattle.record_game.specs.Fits.{Fits, IsHeaderLine}
 use Rattle.record_game.specs.Game.{Timed, Ended, Entry, move_of}
 use Rattle.record_game.specs.Items.{is_even, is_position, sides}
-use Rattle.record_game.specs.Keeping.{Stage, laying, playing, Kept, Keeps, TakenOrRefused}
+use Rattle.record_game.specs.Keeping.{Stage, laying, playing, Kept, HasKept, TakenOrRefused}
 use Rattle.record_game.specs.Laying.{Laid, Lays}
 use Rattle.record_game.specs.Limits.{IsOneLine}
 use Rattle.record_game.specs.Order.{stands, endings, order_fault}
 use Rattle.shogi_board.specs.Placing.{place_all}
 use Rattle.record_game.specs.Placings.{placings_of}
-use Rattle.record_game.specs.Refused.{Answers}
+use Rattle.record_game.specs.Refused.{AnswersItem}
 use Rattle.record_game.specs.Titles.{Titled, IsTitled, name_fault, header_fault, with_name, with_entry, under}
 use Rattle.record_game.proofs.Answering as answers
 use Rattle.record_game.proofs.PlayAnswered.{answer_fault}
@@ -61,13 +61,13 @@ IsWell k = IsTitled k.titles × IsWellStage k.stage
 
 pub record Takes (before : List Saying) (s : Saying) : Type 0 where
   pub kept : Kept
-  pub answer : Answers before s None
-  pub keeps : Keeps (before ++ s ∷ []) kept
+  pub answer : AnswersItem before s None
+  pub keeps : HasKept (before ++ s ∷ []) kept
   pub well : IsWell kept
 
 -- refused, or taken
 abbrev pub Next : List Saying → Saying → Type 0
-Next before s = ((why : Why) × Answers before s (Some why)) ⊎ Takes before s
+Next before s = ((why : Why) × AnswersItem before s (Some why)) ⊎ Takes before s
 
 taken_so : (before : List Saying) (s : Saying) (new : Kept) → TakenOrRefused before s (Ok tt) new → IsWell new → Next before s
 taken_so before s new (None, answer, is, keeps) well = inr (record { kept = new; answer = answer; keeps = keeps; well = well })
@@ -105,7 +105,7 @@ header_why t key (b ∷ bs) w h =
     ]
 
 -- versions
-version_next : (before : List Saying) (k : Kept) → Keeps before k → IsWell k → Next before version
+version_next : (before : List Saying) (k : Kept) → HasKept before k → IsWell k → Next before version
 version_next before k h well =
     elim (cases_Bool k.begun) [
       | inl some ↦ refused_so before version (Order VersionOutOfPlace) k (answers.version_refused before k k h some) (order_only _ _ refl)
@@ -131,7 +131,7 @@ titled_name t White (b ∷ bs) line few h = record {
   few_headers = h.few_headers;
 }
 
-name_by : (before : List Saying) (k : Kept) (color : Color) (text : List ℕ) (fault : Option Why) → name_fault k.titles color text ≡ fault → Fits (name color text) → Keeps before k → IsWell k → Next before (name color text)
+name_by : (before : List Saying) (k : Kept) (color : Color) (text : List ℕ) (fault : Option Why) → name_fault k.titles color text ≡ fault → Fits (name color text) → HasKept before k → IsWell k → Next before (name color text)
 name_by before k color text None e fits h well =
     taken_so before (name color text) (kept true (with_name k.titles color text) k.stage)
     (take_name before k (with_name k.titles color text) color text (Ok tt) h (subst (λ f. IsAnswer f (Ok tt)) (sym e) tt) refl)
@@ -146,7 +146,7 @@ no_fault true b v w h = cc
 no_fault false true v w h = cc
 no_fault false false v w h = (refl, refl)
 
-header_by : (before : List Saying) (k : Kept) (key text : List ℕ) (fault : Option Why) → header_fault k.titles key text ≡ fault → IsHeaderLine key text → Keeps before k → IsWell k → Next before (header key text)
+header_by : (before : List Saying) (k : Kept) (key text : List ℕ) (fault : Option Why) → header_fault k.titles key text ≡ fault → IsHeaderLine key text → HasKept before k → IsWell k → Next before (header key text)
 header_by before k key [] None e fits h well =
     taken_so before (header key []) (kept true k.titles k.stage)
     (take_header before k k.titles key [] (Ok tt) h tt refl) well
@@ -195,7 +195,7 @@ mixed_so before k l s late take =
     refused_so before s (Order MixedStart) (kept true k.titles (laying l))
     (take l (Err (Order MixedStart)) (λ b lays sides_none endings_none. laid.mixed b s l (late b lays sides_none endings_none))) (order_only _ _ refl)
 
-even_laying : (before : List Saying) (k : Kept) (l : Laid) (pairs : List Pair) → k.stage ≡ laying l → Keeps before k → IsTitled k.titles → IsWellStage (laying l) → Next before (even pairs)
+even_laying : (before : List Saying) (k : Kept) (l : Laid) (pairs : List Pair) → k.stage ≡ laying l → HasKept before k → IsTitled k.titles → IsWellStage (laying l) → Next before (even pairs)
 even_laying before k l pairs is h titled w =
     elim (cases_Bool l.positioned) [
       | inl stood ↦ mixed_so before k l (even pairs) (λ b lays s e. laid.even_late b l pairs lays s e stood) (λ m result next. take_even before k l m pairs result h is next)
@@ -210,7 +210,7 @@ even_laying before k l pairs is h titled w =
           }) refl tt w.0 titled
     ]
 
-rank_laying : (before : List Saying) (k : Kept) (l : Laid) (number : ℕ) (cells : List (Option Piece)) → k.stage ≡ laying l → 1 ≤ number → number ≤ 9 → Keeps before k → IsTitled k.titles → IsWellStage (laying l) → Next before (rank number cells)
+rank_laying : (before : List Saying) (k : Kept) (l : Laid) (number : ℕ) (cells : List (Option Piece)) → k.stage ≡ laying l → 1 ≤ number → number ≤ 9 → HasKept before k → IsTitled k.titles → IsWellStage (laying l) → Next before (rank number cells)
 rank_laying before k l number cells is low high h titled w =
     elim (cases_Bool l.even) [
       | inl stood ↦ mixed_so before k l (rank number cells) (λ b lays s e. laid.rank_beside_even b l number cells lays s e stood) (λ m result next. take_rank before k l m number cells result h is next)
@@ -228,7 +228,7 @@ rank_laying before k l number cells is low high h titled w =
       ]
     ]
 
-pieces_laying : (before : List Saying) (k : Kept) (l : Laid) (color : Color) (pairs : List Pair) → k.stage ≡ laying l → Keeps before k → IsTitled k.titles → IsWellStage (laying l) → Next before (pieces color pairs)
+pieces_laying : (before : List Saying) (k : Kept) (l : Laid) (color : Color) (pairs : List Pair) → k.stage ≡ laying l → HasKept before k → IsTitled k.titles → IsWellStage (laying l) → Next before (pieces color pairs)
 pieces_laying before k l color pairs is h titled w =
     lay_by before k l (pieces color pairs) l.even l.ranks _
     (record {
@@ -241,7 +241,7 @@ pieces_laying before k l color pairs is h titled w =
     }) refl tt w.0 titled
 
 -- the side to move
-turn_laying : (before : List Saying) (k : Kept) (l : Laid) (color : Color) → k.stage ≡ laying l → Keeps before k → IsTitled k.titles → IsWellStage (laying l) → Next before (turn color)
+turn_laying : (before : List Saying) (k : Kept) (l : Laid) (color : Color) → k.stage ≡ laying l → HasKept before k → IsTitled k.titles → IsWellStage (laying l) → Next before (turn color)
 turn_laying before k l color is h titled w =
     elim (decide-in_check l.layout.material.board (opponent color)) [
       | inl check ↦ refused_so before (turn color) (Start OpponentInCheck) k
@@ -265,7 +265,7 @@ moves_more : (ts : List Timed) (m : Move) → map move_of (ts ++ untimed m ∷ [
 moves_more [] m = refl
 moves_more (t ∷ ts) m = ap (λ (ms : List Move). t.move ∷ ms) (moves_more ts m)
 
-course_more : (c : Course) (color : Color) (m : Move) → IsCourse c → plays.Answers (line_of c) color m None → IsCourse (record c { moves = c.moves ++ untimed m ∷ [] })
+course_more : (c : Course) (color : Color) (m : Move) → IsCourse c → plays.Answers (course_line c) color m None → IsCourse (record c { moves = c.moves ++ untimed m ∷ [] })
 course_more c color m h (few, none) =
     let as_long : length (map move_of c.moves) ≡ length c.moves = length-map c.moves move_of in
     let limit = h.few_moves in
@@ -288,7 +288,7 @@ free_ones false false h = (refl, refl)
 judged_so : (c : Course) (color : Color) (m : Move) (answer : Option Why) → play_fault c ≡ None → PlayAnswersAfter None c color m answer → PlayAnswers c color m answer
 judged_so c color m answer e h = subst (λ f. PlayAnswersAfter f c color m answer) (sym e) h
 
-walked_by : (before : List Saying) (k : Kept) (c : Course) (color : Color) (m : Move) (played : Option PlayFault) → plays.Answers (line_of c) color m played → play_fault c ≡ None → k.stage ≡ playing c → Keeps before k → IsTitled k.titles → IsCourse c → Next before (walked color m)
+walked_by : (before : List Saying) (k : Kept) (c : Course) (color : Color) (m : Move) (played : Option PlayFault) → plays.Answers (course_line c) color m played → play_fault c ≡ None → k.stage ≡ playing c → HasKept before k → IsTitled k.titles → IsCourse c → Next before (walked color m)
 walked_by before k c color m None a e is h titled course =
     let d : Course = record c { moves = c.moves ++ untimed m ∷ [] } in
     taken_so before (walked color m) (kept true k.titles (playing d))
@@ -303,12 +303,12 @@ walked_by before k c color m (Some faults.TooManyMoves) a e is h titled course =
     absurd (omega (arith, few, as_long, a))
 walked_by before k c color m (Some faults.OutOfMemory) a e is h titled course = absurd a
 
-walked_playing : (before : List Saying) (k : Kept) (c : Course) (color : Color) (m : Move) (fault : Option OrderFault) → play_fault c ≡ fault → k.stage ≡ playing c → Keeps before k → IsTitled k.titles → IsCourse c → Next before (walked color m)
+walked_playing : (before : List Saying) (k : Kept) (c : Course) (color : Color) (m : Move) (fault : Option OrderFault) → play_fault c ≡ fault → k.stage ≡ playing c → HasKept before k → IsTitled k.titles → IsCourse c → Next before (walked color m)
 walked_playing before k c color m (Some fault) e is h titled course =
     refused_so before (walked color m) (Order fault) (kept true k.titles (playing c))
     (take_move before k c c color m (Err (Order fault)) h is (answer_fault c color m fault e) tt) (order_only _ _ refl)
 walked_playing before k c color m None e is h titled course =
-    let answer = some-answer (line_of c) color m in
+    let answer = some-answer (course_line c) color m in
     walked_by before k c color m answer.0 answer.1 e is h titled course
 
 -- times
@@ -332,7 +332,7 @@ course_timed None c n small h = record {
 }
 course_timed (Some e) c n small h = record { sound = h.sound; line = h.line; few_moves = h.few_moves; times = h.times; last_time = small }
 
-time_playing : (before : List Saying) (k : Kept) (c : Course) (n : ℕ) → n ≤ 4294967295999 → k.stage ≡ playing c → Keeps before k → IsTitled k.titles → IsCourse c → Next before (time n)
+time_playing : (before : List Saying) (k : Kept) (c : Course) (n : ℕ) → n ≤ 4294967295999 → k.stage ≡ playing c → HasKept before k → IsTitled k.titles → IsCourse c → Next before (time n)
 time_playing before k c n small is h titled course =
     elim (cases_Bool (awaits_time c)) [
       | inl can ↦
@@ -347,7 +347,7 @@ time_playing before k c n small is h titled course =
     ]
 
 -- endings
-ending_playing : (before : List Saying) (k : Kept) (c : Course) (e : Ending) → k.stage ≡ playing c → Keeps before k → IsTitled k.titles → IsCourse c → Next before (ending e)
+ending_playing : (before : List Saying) (k : Kept) (c : Course) (e : Ending) → k.stage ≡ playing c → HasKept before k → IsTitled k.titles → IsCourse c → Next before (ending e)
 ending_playing before k c e is h titled course =
     elim (cases_Bool (is_some c.ending)) [
       | inl some ↦
@@ -361,7 +361,7 @@ ending_playing before k c e is h titled course =
           (titled, record { sound = course.sound; line = course.line; few_moves = course.few_moves; times = course.times; last_time = tt })
     ]
 
-by_stage : (before : List Saying) (k : Kept) (s : Saying) (g : Stage) → k.stage ≡ g → Fits s → Keeps before k → IsTitled k.titles → IsWellStage g → IsWell k → Next before s
+by_stage : (before : List Saying) (k : Kept) (s : Saying) (g : Stage) → k.stage ≡ g → Fits s → HasKept before k → IsTitled k.titles → IsWellStage g → IsWell k → Next before s
 by_stage before k version g is fits h titled w well = version_next before k h well
 by_stage before k (name color text) g is fits h titled w well = name_by before k color text _ refl fits h well
 by_stage before k (header key text) g is fits h titled w well = header_by before k key text _ refl fits h well
@@ -381,5 +381,5 @@ by_stage before k (ending e) (laying l) is fits h titled w well = refused_so bef
 by_stage before k (ending e) (playing c) is fits h titled w well = ending_playing before k c e is h titled w
 
 -- each item that fits is taken or refused after those of which this is kept
-pub next_item : (before : List Saying) (k : Kept) (s : Saying) → Fits s → Keeps before k → IsWell k → Next before s
+pub next_item : (before : List Saying) (k : Kept) (s : Saying) → Fits s → HasKept before k → IsWell k → Next before s
 next_item before k s fits h well = by_stage before k s k.stage refl fits h well.0 well.1 well

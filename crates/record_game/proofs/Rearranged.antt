@@ -153,7 +153,7 @@ position_first (walked c m) ss = refl
 position_first (time t) ss = refl
 position_first (ending e) ss = refl
 
-positions_body : (ss : List Saying) → positions (body ss) ≡ positions ss
+pub positions_body : (ss : List Saying) → positions (body ss) ≡ positions ss
 positions_body [] = refl
 positions_body (s ∷ ss) =
     position_of_body s ss ∙ (ap (λ xs. positions (s ∷ []) ++ xs) (positions_body ss) ∙ sym (position_first s ss))

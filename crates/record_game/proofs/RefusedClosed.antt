@@ -1,6 +1,6 @@
 -- What is refused whatever follows it is refused at a closed statement: after an open one 4,097 As
 -- would make it too long.
-use Rattle.std.proofs.Common.{◌≡◌, ℕ, zero, suc, ◌+◌, ◌<◌, ◌≤◌, ◌||◌, Bool, true, false, nat_lt, List, [], ◌∷◌, ◌++◌, filter, length, Option, Some, None, Result, Ok, Err, refl, sym, ap, ◌∙◌, subst, arith, inl, inr, replicate, length-append, if◌then◌else◌}
+use Rattle.std.proofs.Common.{◌≡◌, ℕ, ◌+◌, ◌<◌, ◌≤◌, Bool, true, false, List, [], ◌∷◌, ◌++◌, filter, length, Option, Some, None, Result, Ok, Err, refl, sym, ◌∙◌, subst, arith, inl, inr, replicate, length-append, if◌then◌else◌}
 use Rattle.std.proofs.lemmas.Bool.{cases_Bool}
 use Rattle.std.proofs.lemmas.Bool.Decides.{nat_tests}
 use Rattle.std.proofs.lemmas.List.{append-nil, length-replicate}
@@ -9,7 +9,7 @@ use Rattle.shogi_board.specs.declared.color.Color.{Color}
 use Rattle.shogi_board.specs.declared.setup.SetupFault.{SetupFault}
 use Rattle.shogi_rules.specs.declared.line.PlayFault.{PlayFault}
 use Rattle.shogi_rules.specs.declared.line.PlayFault.TheVariants as playing
-use Rattle.csa_cutting.specs.Cut.{TextUnit, IsCut, statement_bytes}
+use Rattle.csa_cutting.specs.Cut.{TextUnit, statement_bytes}
 use Rattle.csa_cutting.specs.PieceCutting.{is_closed}
 use Rattle.csa_cutting.proofs.Joining.{filter_joined}
 use Rattle.csa_cutting.proofs.Once.{statements_once}

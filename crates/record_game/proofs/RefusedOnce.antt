@@ -20,7 +20,7 @@ use Rattle.record_game.specs.declared.fault.OrderFault.{OrderFault}
 use Rattle.record_game.specs.declared.fault.Why.{Why}
 use Rattle.record_game.specs.Order.{order_fault}
 use Rattle.record_game.specs.LaidOut.{laid_out}
-use Rattle.record_game.specs.Refused.{Finishes, IsLineOf, IsJudged, AnswersInOrder, AnswersAfter, Answers, Fault, Faultless, Refused, RefusedAt}
+use Rattle.record_game.specs.Refused.{Finishes, IsLineOf, IsJudged, AnswersInOrder, AnswersAfter, AnswersItem, Fault, Faultless, Refused, RefusedAt}
 use Rattle.record_game.specs.Tells.{IsSpelt}
 
 -- an item is answered in one way
@@ -70,11 +70,11 @@ after_once : (fault : Option OrderFault) (before : List Saying) (s : Saying) (a 
 after_once None before s a b p q = in_order_once before s a b p q
 after_once (Some fault) before s a b p q = p ∙ sym q
 
-pub answers_once : (before : List Saying) (s : Saying) (a b : Option Why) → Answers before s a → Answers before s b → a ≡ b
+pub answers_once : (before : List Saying) (s : Saying) (a b : Option Why) → AnswersItem before s a → AnswersItem before s b → a ≡ b
 answers_once before s a b p q = after_once (order_fault before s) before s a b p q
 
 -- what has a fault is not taken
-fault_or_fine : (before : List Saying) (u : TextUnit) (why : Why) (s : Saying) → Fault before u why → IsSpelt u s → Answers before s None → ⊥
+fault_or_fine : (before : List Saying) (u : TextUnit) (why : Why) (s : Saying) → Fault before u why → IsSpelt u s → AnswersItem before s None → ⊥
 fault_or_fine before u why s fault spelt fine =
     elim fault [
       | inl long ↦ let few = spelt.0 in let many = long.0 in omega arith
@@ -82,7 +82,7 @@ fault_or_fine before u why s fault spelt fine =
         | inl unspelt ↦ unspelt.1 s spelt.1
         | inr late ↦
             let same : late.0 ≡ s = same_saying (statement_bytes u.bytes) late.0 s late.1.1 spelt.1 in
-            let some : Answers before s (Some why) = rw same at late.2 in
+            let some : AnswersItem before s (Some why) = rw same at late.2 in
             let clash : None ≡ Some why = answers_once before s None (Some why) fine some in
             cc
       ]
@@ -112,7 +112,7 @@ fault_once before u a b p q =
             | inl unspelt ↦ absurd (unspelt.1 late.0 late.1.1)
             | inr too ↦
                 let same : late.0 ≡ too.0 = same_saying (statement_bytes u.bytes) late.0 too.0 late.1.1 too.1.1 in
-                let some : Answers before late.0 (Some b) = rw same too.2 in
+                let some : AnswersItem before late.0 (Some b) = rw same too.2 in
                 let both : Some a ≡ Some b = answers_once before late.0 (Some a) (Some b) late.2 some in
                 cc
           ]

@@ -6,13 +6,11 @@ use Rattle.std.specs.Str.Parse.{AllDigits}
 use Rattle.std.proofs.lemmas.Bool.{cases_Bool, eqb-true}
 use Rattle.std.proofs.lemmas.Fmt.{decimal_is_IsNumeral_wide, length-decimal-le_wide}
 use Rattle.std.proofs.lemmas.List.{append-nil, length-append}
-use Rattle.csa_text.specs.Fields.{IsNumber}
-use Rattle.csa_text.specs.Moment.{two_digits}
+use Rattle.csa_text.specs.Fields.{IsNumber, two_digits}
 use Rattle.csa_text.specs.Saying.{time}
-use Rattle.csa_text.specs.TimeTexts.{IsSeconds, IsFraction, IsTime}
+use Rattle.csa_text.specs.TimeTexts.{IsSeconds, IsFraction, IsTime, time_text, fraction_text}
 use Rattle.csa_text.proofs.Moments.{digit_of, two_number}
-use Rattle.record_game.specs.Canon.{time_text, fraction_text}
-use Rattle.record_game.proofs.Bytes.{GoesOn, IsSolid, all_joined, all_weaker, solid, solid_digit, no_ends, solid_whole}
+use Rattle.record_game.proofs.Bytes.{EndsNothing, IsSolid, all_joined, all_weaker, solid, solid_digit, no_ends, solid_whole}
 use Rattle.record_game.proofs.Lined.{IsItemLine}
 
 not_from : (c b : ℕ) → (digit_value c < 10 → ⊥) → digit_value b < 10 → b ≢ c
@@ -145,7 +143,7 @@ time_line t h =
     let c = clock t (t / 1000) (t % 1000) refl refl h in
     let same = solid_whole (84 ∷ time_text t) (solid 84 (omega arith), c.solid_all) in
     record {
-      unit = (refl, no_ends (time_text t) (all_weaker IsSolid GoesOn (λ b h. h.0) (time_text t) c.solid_all), refl);
+      unit = (refl, no_ends (time_text t) (all_weaker IsSolid EndsNothing (λ b h. h.0) (time_text t) c.solid_all), refl);
       spoken = refl;
       fits = omega (arith, c.few);
       spells = (time_text t, same, c.spelt);

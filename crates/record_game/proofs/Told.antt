@@ -19,10 +19,10 @@ use Rattle.record_game.specs.Course.{IsCourse}
 use Rattle.record_game.specs.Fits.{IsOfStatement}
 use Rattle.record_game.specs.Game.{Game}
 use Rattle.record_game.specs.Items.{sides}
-use Rattle.record_game.specs.Keeping.{Stage, laying, playing, Kept, Keeps}
+use Rattle.record_game.specs.Keeping.{Stage, laying, playing, Kept, HasKept}
 use Rattle.record_game.specs.Laying.{Laid}
 use Rattle.shogi_board.specs.Placing.{board_alone}
-use Rattle.record_game.specs.Refused.{Answers, Fault, Faultless, Refused, RefusedAt, RefusedAtEnd, ToldAlone, RefusedAlone}
+use Rattle.record_game.specs.Refused.{AnswersItem, Fault, Faultless, Refused, RefusedAt, RefusedAtEnd, ToldAlone, RefusedAlone}
 use Rattle.record_game.specs.Says.{Says}
 use Rattle.record_game.specs.Tells.{Tells, IsSpelt}
 use Rattle.record_game.specs.Titles.{untitled}
@@ -43,7 +43,7 @@ of_unit : (u : TextUnit) → IsSomeUnit u → length u.bytes ≤ 4096 → IsOfSt
 of_unit u is short = record { unit = u.bytes; behind = is.0; is_unit = is.1; short = short; whole = refl }
 
 -- the next statement has a fault, or its item is taken
-faulty_or_fine : (before : List Saying) (k : Kept) (u : TextUnit) → IsSomeUnit u → Keeps before k → IsWell k → ((why : Why) × Fault before u why) ⊎ ((s : Saying) × IsSpelt u s × Takes before s)
+faulty_or_fine : (before : List Saying) (k : Kept) (u : TextUnit) → IsSomeUnit u → HasKept before k → IsWell k → ((why : Why) × Fault before u why) ⊎ ((s : Saying) × IsSpelt u s × Takes before s)
 faulty_or_fine before k u is_unit h well =
     elim (cases_lt 4096 (length u.bytes)) [
       | inl long ↦ inl (Text StatementTooLong, inl (long, refl))
@@ -72,10 +72,10 @@ record NoFault (before : List Saying) (us : List TextUnit) : Type 0 where
   sayings : List Saying
   faultless : Faultless before us sayings
   kept : Kept
-  keeps : Keeps (before ++ sayings) kept
+  keeps : HasKept (before ++ sayings) kept
   well : IsWell kept
 
-fault_next : (before : List Saying) (u : TextUnit) (us : List TextUnit) (s : Saying) → IsSpelt u s → Answers before s None → FirstFault (before ++ s ∷ []) us → FirstFault before (u ∷ us)
+fault_next : (before : List Saying) (u : TextUnit) (us : List TextUnit) (s : Saying) → IsSpelt u s → AnswersItem before s None → FirstFault (before ++ s ∷ []) us → FirstFault before (u ∷ us)
 fault_next before u us s spelt fine f = record {
   front = u ∷ f.front;
   unit = f.unit;
@@ -87,21 +87,21 @@ fault_next before u us s spelt fine f = record {
   fault = subst (λ b. Fault b f.unit f.why) (append_assoc before (s ∷ []) f.sayings) f.fault;
 }
 
-fine_next : (before : List Saying) (u : TextUnit) (us : List TextUnit) (s : Saying) → IsSpelt u s → Answers before s None → NoFault (before ++ s ∷ []) us → NoFault before (u ∷ us)
+fine_next : (before : List Saying) (u : TextUnit) (us : List TextUnit) (s : Saying) → IsSpelt u s → AnswersItem before s None → NoFault (before ++ s ∷ []) us → NoFault before (u ∷ us)
 fine_next before u us s spelt fine f = record {
   sayings = s ∷ f.sayings;
   faultless = (spelt, fine, f.faultless);
   kept = f.kept;
-  keeps = subst (λ b. Keeps b f.kept) (append_assoc before (s ∷ []) f.sayings) f.keeps;
+  keeps = subst (λ b. HasKept b f.kept) (append_assoc before (s ∷ []) f.sayings) f.keeps;
   well = f.well;
 }
 
-no_fault_or_first : (before : List Saying) (k : Kept) (us : List TextUnit) → AllByRecursion IsSomeUnit us → Keeps before k → IsWell k → NoFault before us ⊎ FirstFault before us
+no_fault_or_first : (before : List Saying) (k : Kept) (us : List TextUnit) → AllByRecursion IsSomeUnit us → HasKept before k → IsWell k → NoFault before us ⊎ FirstFault before us
 no_fault_or_first before k [] units h well = inl (record {
   sayings = [];
   faultless = tt;
   kept = k;
-  keeps = subst (λ b. Keeps b k) (sym (append-nil before)) h;
+  keeps = subst (λ b. HasKept b k) (sym (append-nil before)) h;
   well = well;
 })
 no_fault_or_first before k (u ∷ us) units h well =
@@ -134,7 +134,7 @@ first_laid = laid_as (board_alone even_cells) false false (replicate 9 false)
 first_kept : Kept
 first_kept = record { begun = false; titles = untitled; stage = laying first_laid }
 
-first_keeps : Keeps [] first_kept
+first_keeps : HasKept [] first_kept
 unfolding first_kept first_laid
 first_keeps = nothing_kept first_laid (record { laid = refl; positioned = refl; even = refl; ranks = λ number low high. no_flag 9 (number - 1) })
 
@@ -178,11 +178,11 @@ front_units (v ∷ vs) u behind h = (h.0, front_units vs u behind h.1)
 -- something is kept of statements without a fault
 record KeptOf (sayings : List Saying) : Type 0 where
   kept : Kept
-  keeps : Keeps sayings kept
+  keeps : HasKept sayings kept
   well : IsWell kept
 
-kept_along : (before : List Saying) (k : Kept) (us : List TextUnit) (ss : List Saying) → AllByRecursion IsSomeUnit us → Faultless before us ss → Keeps before k → IsWell k → KeptOf (before ++ ss)
-kept_along before k [] [] units f h well = record { kept = k; keeps = subst (λ b. Keeps b k) (sym (append-nil before)) h; well = well }
+kept_along : (before : List Saying) (k : Kept) (us : List TextUnit) (ss : List Saying) → AllByRecursion IsSomeUnit us → Faultless before us ss → HasKept before k → IsWell k → KeptOf (before ++ ss)
+kept_along before k [] [] units f h well = record { kept = k; keeps = subst (λ b. HasKept b k) (sym (append-nil before)) h; well = well }
 kept_along before k [] (s ∷ ss) units f h well = absurd f
 kept_along before k (u ∷ us) [] units f h well = absurd f
 kept_along before k (u ∷ us) (s ∷ ss) units f h well =
@@ -192,12 +192,12 @@ kept_along before k (u ∷ us) (s ∷ ss) units f h well =
     ]
 
 -- what has a fault is not taken
-fault_or_taken : (before : List Saying) (u : TextUnit) (why : Why) (s : Saying) → Fault before u why → IsSpelt u s → Answers before s None → ⊥
+fault_or_taken : (before : List Saying) (u : TextUnit) (why : Why) (s : Saying) → Fault before u why → IsSpelt u s → AnswersItem before s None → ⊥
 fault_or_taken before u why s (inl long) spelt fine = let few = spelt.0 in let many = long.0 in omega (arith, few, many)
 fault_or_taken before u why s (inr (inl unspelt)) spelt fine = unspelt.1 s spelt.1
 fault_or_taken before u why s (inr (inr late)) spelt fine =
     let same : late.0 ≡ s = same_saying (statement_bytes u.bytes) late.0 s late.1.1 spelt.1 in
-    let some : Answers before s (Some why) = subst (λ t. Answers before t (Some why)) same late.2 in
+    let some : AnswersItem before s (Some why) = subst (λ t. AnswersItem before t (Some why)) same late.2 in
     let clash : None ≡ Some why = answers_once before s None (Some why) fine some in
     cc
 

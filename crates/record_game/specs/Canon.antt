@@ -1,6 +1,5 @@
 -- The canonical text of a game.
-use Rattle.std.specs.Prelude.{ℕ, ◌+◌, ◌-◌, ◌/◌, ◌%◌, ◌==◌, ◌&&◌, Bool, true, false, List, [], ◌∷◌, ◌++◌, map, replicate, Option, Some, None, slice_index_or, codes, if◌then◌else◌}
-use Rattle.std.specs.Fmt.{decimal}
+use Rattle.std.specs.Prelude.{ℕ, ◌+◌, ◌-◌, ◌&&◌, Bool, true, false, List, [], ◌∷◌, ◌++◌, map, replicate, Option, Some, None, slice_index_or, if◌then◌else◌}
 use Rattle.std.specs.List.{flat_map}
 use Rattle.shogi_board.specs.declared.color.Color.{Color}
 use Rattle.shogi_board.specs.declared.color.Color.TheVariants.{Black, White}
@@ -10,42 +9,14 @@ use Rattle.shogi_board.specs.Cells.{Cells, even_cells}
 use Rattle.shogi_board.specs.Pieces.{same_color, same_kind}
 use Rattle.shogi_board.specs.Placed.{Placed}
 use Rattle.shogi_board.specs.Totals.{count_in}
-use Rattle.csa_text.specs.Codes.{sign, move_text}
-use Rattle.csa_text.specs.Endings.{ending_name}
-use Rattle.csa_text.specs.Moment.{two_digits, moment_text}
-use Rattle.csa_text.specs.PairTexts.{pairs_text}
+use Rattle.csa_text.specs.Moment.{moment_text}
 use Rattle.csa_text.specs.declared.pair.Pair.{Pair}
 use Rattle.csa_text.specs.declared.pair.Pair.TheVariants.{On, InHand}
-use Rattle.csa_text.specs.Saying.{Saying, version, name, header, even, rank, pieces, turn, walked, time, ending}
-use Rattle.csa_text.specs.Spelling.{rank_text}
+use Rattle.csa_text.specs.Saying.{Saying, version, name, header, even, rank, pieces, turn}
+use Rattle.csa_text.specs.Statements.{statement_of}
 use Rattle.record_game.specs.Game.{Game, Entry, HeaderText, moment, plain}
 use Rattle.record_game.specs.Says.{played_items}
 use Rattle.record_game.specs.Squares.{square_at}
-
--- a point and up to three digits, without trailing zeros; zero thousandths give no text
-abbrev pub fraction_text : ℕ → List ℕ
-fraction_text n =
-    if n == 0 then []
-    else if n % 100 == 0 then 46 ∷ (48 + n / 100) ∷ []
-    else if n % 10 == 0 then 46 ∷ two_digits (n / 10)
-    else 46 ∷ (48 + n / 100) ∷ two_digits (n % 100)
-
--- the seconds without leading zeros, and then the thousandths
-abbrev pub time_text : ℕ → List ℕ
-time_text t = decimal (t / 1000) ++ fraction_text (t % 1000)
-
--- the line of an item
-abbrev pub line_of : Saying → List ℕ
-line_of version = codes "V2.2"
-line_of (name color text) = codes "N" ++ sign color ∷ text
-line_of (header key text) = codes "$" ++ (key ++ 58 ∷ text)
-line_of (even pairs) = codes "PI" ++ pairs_text pairs
-line_of (rank number cells) = rank_text number cells
-line_of (pieces color pairs) = codes "P" ++ sign color ∷ pairs_text pairs
-line_of (turn color) = sign color ∷ []
-line_of (walked color m) = move_text color m
-line_of (time t) = codes "T" ++ time_text t
-line_of (ending e) = codes "%" ++ ending_name e
 
 abbrev pub name_items : Color → Option (List ℕ) → List Saying
 name_items color None = []
@@ -129,7 +100,7 @@ canon_items g =
 
 -- an item's line, and LF
 abbrev pub ended_line : Saying → List ℕ
-ended_line s = line_of s ++ 10 ∷ []
+ended_line s = statement_of s ++ 10 ∷ []
 
 abbrev pub canon : Game → List ℕ
 canon g = flat_map ended_line (canon_items g)

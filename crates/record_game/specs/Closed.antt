@@ -17,3 +17,10 @@ pub record ClosedAt (source : List ℕ) (number offset : ℕ) (why : Why) : Type
   pub fault : Fault sayings unit why
   pub number_is : number ≡ length front + 1
   pub place : offset ≡ unit.offset
+
+-- none of the closed statements of these bytes has a fault, so none is too long
+pub record AreFaultless (source : List ℕ) : Type 0 where
+  pub closed : List TextUnit
+  pub sayings : List Saying
+  pub cut : Closed source closed
+  pub faultless : Faultless [] closed sayings

@@ -25,8 +25,8 @@ pub record Course : Type 0 where
   pub ending : Option Ended
 
 -- the line of the moves
-abbrev pub line_of : Course → rules.Played
-line_of c = record { start = c.start; moves = map move_of c.moves }
+abbrev pub course_line : Course → rules.Played
+course_line c = record { start = c.start; moves = map move_of c.moves }
 
 -- a move without a time
 abbrev pub untimed : Move → Timed
@@ -41,7 +41,8 @@ play_fault c =
 abbrev pub PlayAnswersAfter : Option OrderFault → Course → Color → Move → Option Why → Type 0
 PlayAnswersAfter (Some fault) c color m answer = answer ≡ Some (Order fault)
 PlayAnswersAfter None c color m answer =
-    (played : Option PlayFault) × plays.Answers (line_of c) color m played × IsJudged played answer
+    (played : Option PlayFault) × plays.Answers (course_line c) color m played
+    × IsJudged played answer
 
 -- why a move is refused, or None
 abbrev pub PlayAnswers : Course → Color → Move → Option Why → Type 0

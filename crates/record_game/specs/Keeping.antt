@@ -12,7 +12,7 @@ use Rattle.record_game.specs.Items.{is_version, names, headers, is_even, ranks, 
 use Rattle.record_game.specs.Laying.{Laid, Lays}
 use Rattle.record_game.specs.Order.{stands}
 use Rattle.record_game.specs.LaidOut.{laid_out}
-use Rattle.record_game.specs.Refused.{Answers}
+use Rattle.record_game.specs.Refused.{AnswersItem}
 use Rattle.record_game.specs.Says.{AreEntries, RanksOnce, move_items, ending_items}
 use Rattle.record_game.specs.Titles.{Titled}
 
@@ -37,7 +37,7 @@ KeepsStage before (playing c) =
     ++ turn c.start.side ∷ (move_items c.start.side c.moves ++ ending_items c.ending))
 
 -- what a reader keeps of the items so far
-pub record Keeps (before : List Saying) (k : Kept) : Type 0 where
+pub record HasKept (before : List Saying) (k : Kept) : Type 0 where
   pub begun : k.begun ≡ stands before
   pub version_first : filter is_version (drop 1 before) ≡ []
   pub black : names Black before ≡ option_to_list k.titles.black
@@ -51,5 +51,5 @@ pub record Keeps (before : List Saying) (k : Kept) : Type 0 where
 -- the next item was taken, or refused for the first fault that it has after the items before it
 abbrev pub TakenOrRefused : List Saying → Saying → Result (Unit {0}) Why → Kept → Type 0
 TakenOrRefused before s result new =
-    (answer : Option Why) × Answers before s answer × IsAnswer answer result
-    × OnOk result (Keeps (before ++ s ∷ []) new)
+    (answer : Option Why) × AnswersItem before s answer × IsAnswer answer result
+    × OnOk result (HasKept (before ++ s ∷ []) new)

@@ -9,7 +9,7 @@ use Rattle.record_game.specs.Items.{is_even, ranks, positions}
 use Rattle.record_game.specs.Order.{stands}
 use Rattle.shogi_board.specs.Placing.{Placing, place_all}
 use Rattle.record_game.specs.LaidOut.{laid_out}
-use Rattle.record_game.specs.Refused.{Answers}
+use Rattle.record_game.specs.Refused.{AnswersItem}
 
 -- the board and the hands that are laid out; whether there has been a position statement, whether
 -- there has been `PI`, and which ranks
@@ -31,7 +31,7 @@ pub record Lays (before : List Saying) (l : Laid) : Type 0 where
 -- the next item was taken, or refused for the first fault that it has after the items before it
 abbrev pub LaidOrRefused : List Saying → Saying → Result (Unit {0}) Why → Laid → Type 0
 LaidOrRefused before s result new =
-    (answer : Option Why) × Answers before s answer × IsAnswer answer result
+    (answer : Option Why) × AnswersItem before s answer × IsAnswer answer result
     × OnOk result (Lays (before ++ s ∷ []) new)
 
 -- all of these are placed, or the fault is that of the first that cannot be

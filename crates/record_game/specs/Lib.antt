@@ -12,6 +12,7 @@ pub mod Refused
 pub mod Squares
 pub mod Canon
 pub mod Answer
+pub mod PlayFaults
 pub mod Titles
 pub mod Course
 pub mod Laying
@@ -20,3 +21,4 @@ pub mod Keeping
 pub mod Fits
 pub mod Outcome
 pub mod Closed
+pub mod Pieces

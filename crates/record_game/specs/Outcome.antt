@@ -8,8 +8,8 @@ use Rattle.record_game.specs.declared.fault.OrderFault.TheVariants.{AfterEnding}
 use Rattle.record_game.specs.declared.fault.Why.{Why}
 use Rattle.record_game.specs.declared.fault.Why.TheVariants.{Text, OutOfMemory}
 use Rattle.record_game.specs.Game.{Ended}
-use Rattle.record_game.specs.Keeping.{Kept, Keeps}
-use Rattle.record_game.specs.Refused.{Answers}
+use Rattle.record_game.specs.Keeping.{Kept, HasKept}
+use Rattle.record_game.specs.Refused.{AnswersItem}
 
 -- some bytes spell this item
 abbrev pub IsWritten : Saying → Type 0
@@ -21,17 +21,17 @@ SpellNothing bytes why = ((s : Saying) → Spells bytes s → ⊥) × (why ≡ T
 
 -- the item that they spell is refused after those before it
 abbrev pub SpellRefused : List Saying → List ℕ → Why → Type 0
-SpellRefused before bytes why = (s : Saying) × Spells bytes s × Answers before s (Some why)
+SpellRefused before bytes why = (s : Saying) × Spells bytes s × AnswersItem before s (Some why)
 
 -- the item that they spell has no fault
 abbrev pub SpellTaken : List Saying → List ℕ → Saying → Type 0
-SpellTaken before bytes s = Spells bytes s × Answers before s None
+SpellTaken before bytes s = Spells bytes s × AnswersItem before s None
 
 -- the item that the bytes spell was taken; or it could be, and an allocation failed; or the bytes
 -- are refused
 abbrev pub Outcome : List Saying → List ℕ → Result (Unit {0}) Why → Kept → Type 0
 Outcome before bytes (Ok u) new = (s : Saying) × SpellTaken before bytes s
-    × Keeps (before ++ s ∷ []) new
+    × HasKept (before ++ s ∷ []) new
 Outcome before bytes (Err why) new =
     ((why ≡ OutOfMemory) × ((s : Saying) × SpellTaken before bytes s))
     ⊎ (SpellNothing bytes why ⊎ SpellRefused before bytes why)

@@ -75,8 +75,8 @@ AnswersAfter (Some fault) before saying answer = answer ≡ Some (Order fault)
 AnswersAfter None before saying answer = AnswersInOrder before saying answer
 
 -- why the next item is refused after the items before it, order faults first; None if it is taken
-abbrev pub Answers : List Saying → Saying → Option Why → Type 0
-Answers before saying answer = AnswersAfter (order_fault before saying) before saying answer
+abbrev pub AnswersItem : List Saying → Saying → Option Why → Type 0
+AnswersItem before saying answer = AnswersAfter (order_fault before saying) before saying answer
 
 abbrev pub IsTooLong : TextUnit → Why → Type 0
 IsTooLong unit why = (longest_statement < length unit.bytes) × (why ≡ Text StatementTooLong)
@@ -90,7 +90,7 @@ IsUnspelt unit why =
 
 abbrev pub IsRefusedItem : List Saying → TextUnit → Why → Type 0
 IsRefusedItem before unit why = (saying : Saying) × IsSpelt unit saying
-    × Answers before saying (Some why)
+    × AnswersItem before saying (Some why)
 
 -- why the next statement is refused after these items
 abbrev pub Fault : List Saying → TextUnit → Why → Type 0
@@ -101,7 +101,7 @@ abbrev pub Faultless : List Saying → List TextUnit → List Saying → Type 0
 Faultless before [] [] = Unit {0}
 Faultless before [] (s ∷ ss) = ⊥
 Faultless before (u ∷ us) [] = ⊥
-Faultless before (u ∷ us) (s ∷ ss) = IsSpelt u s × Answers before s None
+Faultless before (u ∷ us) (s ∷ ss) = IsSpelt u s × AnswersItem before s None
     × Faultless (before ++ s ∷ []) us ss
 
 -- the first statement with a fault is this one

@@ -1,11 +1,12 @@
 ghost use Rattle.std.specs.Prelude.{◌≡◌};
+ghost use Rattle.record_game.specs.PlayFaults.{why_of};
 ghost use Rattle.record_game.specs.declared.fault.Why.TheVariants.{Text, Order, OutOfMemory};
 ghost use Rattle.csa_text.specs.declared.fault.TextFault.TheVariants.{StatementTooLong};
 
 use csa_cutting::CutFault;
 use csa_text::TextFault;
 use shogi_board::SetupFault;
-use shogi_rules::Rule;
+use shogi_rules::{PlayFault, Rule};
 use std::alloc::AllocError;
 use thiserror::Error;
 
@@ -87,6 +88,18 @@ impl From<OrderFault> for Why {
 
     fn from(fault: OrderFault) -> Why {
         Why::Order(fault)
+    }
+}
+
+impl From<PlayFault> for Why {
+    ghost from_gives = { λ fault why. why ≡ why_of fault };
+
+    fn from(fault: PlayFault) -> Why {
+        match fault {
+            PlayFault::TooManyMoves => Why::Order(OrderFault::TooManyMoves),
+            PlayFault::Broken(rule) => Why::Rule(rule),
+            PlayFault::OutOfMemory => Why::OutOfMemory,
+        }
     }
 }
 

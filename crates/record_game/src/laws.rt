@@ -1,25 +1,28 @@
 //! Laws of the definitions that this crate's contracts cite. The functions take no arguments and
 //! return nothing: their contracts are what is proved.
 
-ghost use Rattle.std.specs.Prelude.{◌≤◌, ◌++◌, length, ◌≡◌, ◌⊎◌, ◌↔◌, ℕ, List, [], Ok, drop, filter};
+ghost use Rattle.std.specs.Prelude.{◌≤◌, ◌++◌, length, ◌≡◌, ◌⊎◌, ◌↔◌, ℕ, List, [], Ok, Result, drop, filter};
 ghost use Rattle.record_game.specs.Closed.{ClosedAt};
 ghost use Rattle.record_game.specs.Canon.{canon};
 ghost use Rattle.record_game.specs.Game.{Game};
 ghost use Rattle.record_game.specs.Items.{is_even, positions};
 ghost use Rattle.record_game.specs.Limits.{IsGame};
 ghost use Rattle.record_game.specs.LaidOut as starts;
+ghost use Rattle.record_game.specs.Pieces.{joined, ReadsPieces};
 ghost use Rattle.record_game.specs.Placings.{placings};
-ghost use Rattle.record_game.specs.Rearranged.{IsRearranged};
+ghost use Rattle.record_game.specs.Rearranged.{IsRearranged, AreMoved};
 ghost use Rattle.record_game.specs.Refused.{Refused, ToldAlone, RefusedAlone};
-ghost use Rattle.record_game.specs.Tells.{Tells};
+ghost use Rattle.record_game.specs.Tells.{Tells, IsSpelt};
 ghost use Rattle.record_game.specs.Union.{GiveStart, IsUnion, first_board, rest_given, with_rest_given};
+ghost use Rattle.csa_cutting.specs.Cut.{TextUnit, IsCut};
 ghost use Rattle.csa_text.specs.Saying.{Saying};
 ghost use Rattle.csa_text.specs.Spelling.{Spells};
 ghost use Rattle.shogi_board.specs.Layout.{Layout};
 ghost use Rattle.shogi_board.specs.Setup.{position_of};
 ghost use Rattle.shogi_board.specs.Totals.{IsWithinTotals};
 ghost use Rattle.shogi_board.specs.declared.color.Color.{Color};
-ghost use Rattle.std.specs.List.{AllByRecursion, filter_map};
+ghost use Rattle.std.specs.List.{AllByRecursion, AllZip, filter_map};
+ghost use Rattle.record_game.specs.declared.fault.Refusal.{Refusal};
 ghost use Rattle.record_game.specs.declared.fault.Why.{Why};
 
 /// All bytes contain exactly one game or are refused in exactly one way, and never both.
@@ -52,6 +55,15 @@ pub fn headers_anywhere()
     ensures text { (source other : List ℕ) (g h : Game) (told : Tells source g)
         (again : Tells other h)
         → IsRearranged told.sayings again.sayings → canon g ≡ canon h }
+{}
+
+/// A record stays accepted, with the same game, if its names and headers are moved. The version is
+/// the first item if there is one.
+pub fn moved_headers()
+    ensures accepted { (source other : List ℕ) (g : Game) (told : Tells source g)
+        (statements : List TextUnit) (sayings : List Saying)
+        → IsCut other statements → AllZip IsSpelt statements sayings
+        → AreMoved told.sayings sayings → Tells other g }
 {}
 
 /// Bytes are refused in at most one way: at one statement, at one offset, for one reason.
@@ -89,4 +101,11 @@ pub fn refused_when_closed()
     ensures closed { (source : List ℕ) (number offset : ℕ) (why : Why)
         → ((more : List ℕ) → Refused (source ++ more) number offset why)
         → ClosedAt source number offset why }
+{}
+
+/// However a record is cut into pieces, `feed` and `finish` together return the same: the game, or
+/// the number, the offset and the reason of the refusal. Memory is not considered.
+pub fn cuttings_alike()
+    ensures same { (pieces others : List (List ℕ)) (a b : Result Game Refusal)
+        → joined pieces ≡ joined others → ReadsPieces pieces a → ReadsPieces others b → a ≡ b }
 {}

@@ -5,7 +5,7 @@ use Rattle.shogi_board.specs.Layout.{Layout}
 use Rattle.shogi_board.specs.Material.{Material, bag_of, with_bag}
 use Rattle.shogi_board.specs.Moved.{after_walk, after_drop, with_captured}
 use Rattle.shogi_board.specs.Placed.{Placed}
-use Rattle.shogi_board.specs.Setup.{layout_of, placed, taken_off, taken}
+use Rattle.shogi_board.specs.Setup.{layout_of, with_piece, taken_off, taken}
 use Rattle.shogi_board.specs.Totals.{IsWithinTotals}
 use Rattle.shogi_board.specs.declared.color.Color.{Color}
 use Rattle.shogi_board.specs.declared.color.Color.TheVariants.{Black, White}
@@ -23,16 +23,16 @@ calm m Black cells None e h = h
 calm m White cells None e h = h
 calm m c cells (Some p) e h = cc
 
-pub walk-fits : (p : Placed) (from to : Square) (k : Kind) (laid : Layout) → laid ≡ placed (taken_off (layout_of p) from) p.side to k → at p.material.board to ≡ None → IsWithinTotals laid.material → IsWithinTotals (after_walk p from to k).material
+pub walk-fits : (p : Placed) (from to : Square) (k : Kind) (laid : Layout) → laid ≡ with_piece (taken_off (layout_of p) from) p.side to k → at p.material.board to ≡ None → IsWithinTotals laid.material → IsWithinTotals (after_walk p from to k).material
 walk-fits p from to k laid e free within =
-    let fits : IsWithinTotals (placed (taken_off (layout_of p) from) p.side to k).material = subst (λ (s : Layout). IsWithinTotals s.material) e within in
+    let fits : IsWithinTotals (with_piece (taken_off (layout_of p) from) p.side to k).material = subst (λ (s : Layout). IsWithinTotals s.material) e within in
     calm p.material p.side _ _ free fits
 
 taken-down : (m : Material) (c : Color) (bag : List ℕ) (i : ℕ) (cell : Option Piece) → IsWithinTotals (record (with_bag m c bag) { board = set (with_bag m c bag).board i cell }) → IsWithinTotals (record (with_bag m c bag) { board = set m.board i cell })
 taken-down m Black bag i cell h = h
 taken-down m White bag i cell h = h
 
-pub drop-fits : (p : Placed) (to : Square) (k : Kind) (laid : Layout) → laid ≡ placed (taken (layout_of p) p.side k) p.side to k → IsWithinTotals laid.material → IsWithinTotals (after_drop p to k).material
+pub drop-fits : (p : Placed) (to : Square) (k : Kind) (laid : Layout) → laid ≡ with_piece (taken (layout_of p) p.side k) p.side to k → IsWithinTotals laid.material → IsWithinTotals (after_drop p to k).material
 drop-fits p to k laid e within =
-    let fits : IsWithinTotals (placed (taken (layout_of p) p.side k) p.side to k).material = subst (λ (s : Layout). IsWithinTotals s.material) e within in
+    let fits : IsWithinTotals (with_piece (taken (layout_of p) p.side k) p.side to k).material = subst (λ (s : Layout). IsWithinTotals s.material) e within in
     taken-down p.material p.side _ _ _ fits

@@ -22,7 +22,7 @@ const KINDS: [Kind; 14] = [
     Kind::Dragon,
 ];
 
-// The walks from each of 81 squares, and the drops, to each square and of each kind.
+// The moves from each of the 81 squares and the drops, to each square and of each kind.
 const EVERY_MOVE: usize = 92_988;
 
 // The square at a place from 0, or None past the last.
@@ -41,8 +41,7 @@ fn nth_move(n: usize) -> Option<Move> {
     })
 }
 
-// How many lines of that many legal moves there are: at each step, of every move, those that
-// `judge` lets through.
+// How many lines of this many legal moves there are. At each step every move is tried with `judge`.
 fn count_lines(p: &Position, depth: usize) -> usize {
     if depth == 0 {
         return 1;
@@ -81,14 +80,14 @@ fn counts_legal_moves(rt: HostRuntime) -> Result<(), Fail> {
     Ok(())
 }
 
-// The first legal move of those whose numbers are from one on and below another.
+// The first legal move whose number is in this range.
 fn first_between(p: &Position, from: usize, to: usize) -> Option<Move> {
     (from..to)
         .filter_map(nth_move)
         .find(|mv| judge(p, p.side(), mv).is_none())
 }
 
-// The position after the first legal move by number, counted round from this one.
+// The position after the first legal move from this number on, or else from 0 on.
 fn next_from(p: &Position, begin: usize) -> Option<Position> {
     let mv = first_between(p, begin, EVERY_MOVE).or_else(|| first_between(p, 0, begin))?;
     match judge(p, p.side(), &mv) {
@@ -97,7 +96,7 @@ fn next_from(p: &Position, begin: usize) -> Option<Position> {
     }
 }
 
-// The number of a move, or the number of all where there is none.
+// The number of a move, or the count of all numbers if there is no move.
 fn number_of(mv: Option<Move>) -> u64 {
     (0..EVERY_MOVE)
         .position(|n| nth_move(n) == mv)
@@ -110,9 +109,8 @@ fn mixed(state: u64, value: u64) -> u64 {
         .wrapping_add(value)
 }
 
-// What a game of random moves shows: of each position how many moves `judge` lets through and which
-// is the first legal one, mixed. The next move is the one that `next_from` finds from where chance
-// begins.
+// A digest of a game of random moves: for each position, how many moves are legal by `judge` and
+// which one is the first. The next move is the one that `next_from` finds from a random number.
 fn shown(start: Position, seed: u64, most: usize) -> u64 {
     let mut p = start;
     let mut chance = seed;
@@ -129,7 +127,7 @@ fn shown(start: Position, seed: u64, most: usize) -> u64 {
     shown
 }
 
-// Plays the games, and looks whether they show what the table has of them.
+// Plays the games, and compares their digests with those of the table.
 fn play_games(rt: &impl Abort, games: &[(&str, u64, usize, u64)]) -> Result<(), Fail> {
     for game in games {
         let (pieces, seed, most, wanted) = *game;
@@ -142,10 +140,10 @@ fn play_games(rt: &impl Abort, games: &[(&str, u64, usize, u64)]) -> Result<(), 
     Ok(())
 }
 
-// Some thousand positions of random play: in each, the number of moves that `judge` lets through and
-// the move that `first_legal` gives must be those of the rules of tests/random_play, which are said
-// plainly. One number is compared for each game. It takes four to five times as long as the counts
-// above.
+// Thousands of positions of random play. In each, the number of moves that are legal by `judge` and
+// the move of `first_legal` must be those of tests/random_play, which states the rules a second
+// time and plainly. One number is compared for each game. It takes four to five times as long as
+// the counts above.
 #[test]
 fn random_play_is_judged(rt: HostRuntime) -> Result<(), Fail> {
     play_games(&rt, &GAMES)?;

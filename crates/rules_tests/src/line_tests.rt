@@ -7,8 +7,8 @@ use std::alloc::AllocGlobal;
 use std::process::Abort;
 use std::test::Fail;
 
-// Nothing is played after a repetition, whatever else is wrong with the move; only the side is named
-// before it.
+// Nothing is played after a repetition, whatever else is wrong with the move. Only the wrong side
+// comes before it.
 fn plays_no_more(rt: &impl Abort, line: &mut Line) -> Result<(), Fail> {
     let (color, mv) = read(b"+7776FU")?;
     // the pawn does not reach the square, a later rule
@@ -41,7 +41,7 @@ fn refuses_to_play_on(rt: HostRuntime) -> Result<(), Fail> {
     repeats_the_start(&rt, &mut line)
 }
 
-// The square of a king that goes round on two ranks, from file 1 of the first.
+// The square of a king that walks in a circle on two ranks, from file 1 of the first.
 fn on_ring(n: usize, first: u8, second: u8) -> Result<Square, Fail>
     requires { n < 18 }
 {
@@ -53,8 +53,8 @@ fn on_ring(n: usize, first: u8, second: u8) -> Result<Square, Fail>
     Ok(square.ok_or("no square")?)
 }
 
-// The n-th move of two kings that go round, black's in 18 steps and white's in 17, so that no
-// position occurs twice in 612.
+// The n-th move of two kings that walk in circles, black's in 18 steps and white's in 17, so that
+// no position of 612 occurs twice.
 fn king_move(n: usize) -> Result<(Color, Move), Fail> {
     let step = n / 2;
     let (color, from, to) = if n % 2 == 0 {
@@ -95,7 +95,7 @@ fn play_at_last(rt: &(impl Abort + Print), line: &mut Line, n: usize) -> Result<
     Ok(())
 }
 
-// Plays more moves than there is room for from the start.
+// Plays more moves than a line has room for when it is made.
 fn play_each(rt: &(impl Abort + Print), line: &mut Line) -> Result<(), Fail> {
     for n in 0..300usize {
         play_at_last(rt, line, n)?;
@@ -104,8 +104,8 @@ fn play_each(rt: &(impl Abort + Print), line: &mut Line) -> Result<(), Fail> {
     Ok(())
 }
 
-// Run by tests/growths with each growth refused in turn: a refused call changes nothing, and made
-// again it succeeds.
+// tests/growths runs this with each allocation refused in turn. A refused call changes nothing, and
+// a second one succeeds.
 #[test]
 fn refused_growth_changes_nothing(rt: HostRuntime) -> Result<(), Fail> {
     let mut line = line_at_last(&rt, position(Color::Black, "+19OU -11OU ")?)?;

@@ -2,8 +2,8 @@ use crate::words::{on, position};
 use shogi_board::{Change, Color, Danger, Kind, Packed, Position, Setup, Square};
 use std::test::Fail;
 
-// Has the side to move walk to an empty square, and says whether its king is safe then. None if a
-// setup does not let the piece be taken off and put down there.
+// Moves a piece of the side to move to an empty square, and returns whether its king is safe then.
+// None if a setup refuses to take the piece off or to put it there.
 fn walk_as_laid(position: &mut Position, from: Square, to: Square, kind: Kind) -> Option<bool> {
     let side = position.side();
     let left = position.piece_at(from)?;
@@ -18,9 +18,9 @@ fn walk_as_laid(position: &mut Position, from: Square, to: Square, kind: Kind) -
     Some(position.walk(from, to, kind, Danger::Anywhere))
 }
 
-// Has the side to move put a piece on an empty square. Says whether its king is safe then, and packs
-// the new position by what is packed before. None if a setup does not let the piece be taken from
-// the hand and put down there.
+// Drops a piece of the side to move on an empty square. Returns whether its king is safe then, and
+// packs the new position by the change from the old one. None if a setup refuses to take the piece
+// from the hand or to put it there.
 fn drop_as_laid(position: &mut Position, to: Square, kind: Kind) -> Option<(bool, Packed)> {
     let side = position.side();
     let mut laid = position.setup();

@@ -30,8 +30,8 @@ fn parts_of_a_bare_position(rt: HostRuntime) -> Result<(), Fail> {
     Ok(())
 }
 
-// Positions that differ in one cell, in one hand and in the side to move; what is packed is the same
-// position when unpacked.
+// Positions that differ in one cell, in one hand and in the side to move. A packed position is the
+// same position once it is unpacked.
 #[test]
 fn packs_positions(rt: HostRuntime) -> Result<(), Fail> {
     let even = Position::even();

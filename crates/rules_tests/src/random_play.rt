@@ -1,7 +1,8 @@
-//! Games of random moves, which tests/random_play wrote.
+//! Games of random moves, written by tests/random_play.
 
-// Of each the pieces of its start, of the even start none, its seed, how many positions it has at most, and what these
-// show by the rules that stand there a second time, said plainly. With those below they have 3,946 positions.
+// For each game: the pieces of its start (none for the even start), its seed, how many positions it
+// has at most, and their digest by the rules of that script. With the games below they have 3,946
+// positions.
 pub(crate) const GAMES: [(&str, u64, usize, u64); 90] = [
     ("", 0, 60, 12318797663968366474),
     ("", 1, 60, 2289570241991097683),
@@ -385,7 +386,8 @@ pub(crate) const GAMES: [(&str, u64, usize, u64); 90] = [
     ),
 ];
 
-// The same of starts where only pieces put down are legal, and of those where a pawn put down would mate but for a piece.
+// The same from starts where only drops are legal, and from starts where a pawn drop would mate but
+// for one piece.
 pub(crate) const DROP_GAMES: [(&str, u64, usize, u64); 47] = [
     (
         "+11OU -13OU -31TO -21KA -23KI +00KI +00KY +00FU -00KE -00KE -00FU ",

@@ -2,7 +2,7 @@ use crate::words::{on, position, square_of};
 use shogi_board::{Color, Danger, Position, Square, attacked, attacked_from, attacker, reaches};
 use std::test::Fail;
 
-// The square of a word's first two digits after its sign.
+// The square of the two digits after a word's sign.
 fn first_square(pieces: &str) -> Result<Square, Fail> {
     match pieces.as_bytes() {
         [_, file, rank, ..] => {
@@ -13,7 +13,7 @@ fn first_square(pieces: &str) -> Result<Square, Fail> {
     }
 }
 
-// Whether the first piece reaches the squares of these numbers, as `54 53`, and no others.
+// Whether the first piece reaches the squares with these numbers, such as `54 53`, and no others.
 fn reaches_just(pieces: &str, numbers: &str) -> Result<bool, Fail> {
     let from = first_square(pieces)?;
     let position = position(Color::Black, pieces)?;
@@ -32,8 +32,8 @@ fn reaches_just(pieces: &str, numbers: &str) -> Result<bool, Fail> {
     Ok(true)
 }
 
-// Pieces, and after the space the squares that the first of them reaches: alone in the middle and in
-// corners, and between other pieces.
+// Pieces, and the squares that the first of them reaches: alone in the middle and in corners, and
+// between other pieces.
 const REACHES: &str = "\
     +55FU 54;\
     -55FU 56;\

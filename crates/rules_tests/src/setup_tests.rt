@@ -2,7 +2,7 @@ use crate::words::{on, position};
 use shogi_board::{Color, Hand, Kind, Setup, SetupFault};
 use std::test::Fail;
 
-// What a refused call leaves, and what is left where all is taken out again.
+// A refused call changes nothing, and nothing is left after all is taken out again.
 #[test]
 fn refused_calls_change_nothing(rt: HostRuntime) -> Result<(), Fail> {
     let mut setup = Setup::empty();
@@ -41,7 +41,7 @@ fn calls_add_and_take_one(rt: HostRuntime) -> Result<(), Fail> {
     Ok(())
 }
 
-// How many of each kind that a hand may hold there are, pawns first.
+// How many pieces of each kind a hand holds, pawns first.
 fn counts(hand: Hand) -> [u8; 7] {
     [
         hand.count(Kind::Pawn),
@@ -72,7 +72,7 @@ fn nothing_follows_the_rest(rt: HostRuntime) -> Result<(), Fail> {
     Ok(())
 }
 
-// A horse and a bishop are both of the two bishops, and so with the other promoted kinds.
+// A horse counts as one of the two bishops, and so on for the other promoted kinds.
 #[test]
 fn promoted_kinds_count_with_their_own(rt: HostRuntime) -> Result<(), Fail> {
     let table = [

@@ -5,7 +5,7 @@ use shogi_board::{Color, Kind, Position, Setup, Square};
 use shogi_rules::{Line, Move, after, judge};
 use std::test::Fail;
 
-// The square of a number of two digits, as 55.
+// The square of a number with two digits, such as 55.
 pub(crate) fn on(number: u8) -> Square
     requires file { (1 ≤ number / 10) × (number / 10 ≤ 9) }
     requires rank { 1 ≤ number % 10 }
@@ -47,8 +47,8 @@ pub(crate) fn square_of(file: u8, rank: u8) -> Option<Square> {
     Square::new(file.wrapping_sub(b'0'), rank.wrapping_sub(b'0'))
 }
 
-// Pieces like `+59OU -00FU `, with one byte between two. Square 00 is the hand, and `00AL` all pieces
-// that remain.
+// Pieces such as `+59OU -00FU `, one byte apart. Square 00 is the hand, and `00AL` is all remaining
+// pieces.
 pub(crate) fn position(side: Color, pieces: &str) -> Result<Position, Fail> {
     let mut setup = Setup::empty();
     for word in pieces.as_bytes().chunks(6) {
@@ -64,7 +64,7 @@ pub(crate) fn position(side: Color, pieces: &str) -> Result<Position, Fail> {
     Ok(setup.finish(side)?)
 }
 
-// A move like `+7776FU`, with its side; a drop leaves 00.
+// A move such as `+7776FU`, with its side. A drop begins with 00.
 pub(crate) fn read(word: &[u8]) -> Result<(Color, Move), Fail> {
     if let [sign, f, r, file, rank, a, b, ..] = word {
         let to = square_of(*file, *rank).ok_or("no square")?;
@@ -78,7 +78,7 @@ pub(crate) fn read(word: &[u8]) -> Result<(Color, Move), Fail> {
     Err(Fail::from("no move"))
 }
 
-// Plays moves like `+7776FU -3334FU `, each of eight bytes.
+// Plays moves such as `+7776FU -3334FU `, of eight bytes each.
 pub(crate) fn play_all(line: &mut Line, moves: &str) -> Result<(), Fail> {
     for word in moves.as_bytes().chunks(8) {
         let (color, mv) = read(word)?;

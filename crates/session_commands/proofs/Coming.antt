@@ -3,12 +3,12 @@ use Rattle.std.proofs.Common.{◌≡◌, ◌⊎◌, inl, inr, ◌≤◌, true, l
 use Rattle.session_commands.specs.declared.bridging.Seat.{Seat}
 use Rattle.session_commands.specs.declared.bridging.Seat.TheVariants.{Engine, Server}
 use Rattle.shogi_board.specs.declared.memory.OutOfMemory.{OutOfMemory}
-use Rattle.record_commands.specs.declared.incoming.Heard.{Heard}
-use Rattle.record_commands.specs.declared.incoming.Heard.TheVariants.{Line, End, Long, Failed}
+use Rattle.record_commands.specs.declared.incoming.LineEvent.{LineEvent}
+use Rattle.record_commands.specs.declared.incoming.LineEvent.TheVariants.{Line, End, Long, Failed}
 use Rattle.record_commands.specs.Incoming.{Coming, GivesEnd, GivesLine, GivesLongLine, GivesNoLine}
 use Rattle.session_commands.specs.Plays.{Comes, event_from}
 
-comes : (old new : Coming) (seat : Seat) (what : Heard)
+comes : (old new : Coming) (seat : Seat) (what : LineEvent)
     → (what ≡ Line → GivesLine old.bytes new.bytes new.line) → (what ≡ Line → length new.line ≤ 65536)
     → (what ≡ End → GivesEnd old.bytes new.bytes) → (what ≡ Failed → GivesNoLine old.bytes new.bytes) → (what ≡ Long → GivesLongLine old.bytes new.bytes)
     → ((what ≡ Long) ⊎ (what ≡ Failed) → new.is_over ≡ true)
@@ -23,11 +23,11 @@ comes old new Server Failed gives short end none long over = inr (none refl, ove
 comes old new Server Long gives short end none long over = long refl
 
 -- and the rest is unchanged
-pub side-heard : {A B : Type 0} (old new : Coming) (seat : Seat) (answer : Result Heard OutOfMemory)
+pub side-came : {A B : Type 0} (old new : Coming) (seat : Seat) (answer : Result LineEvent OutOfMemory)
     → IfOk answer (λ what. what ≡ Line → GivesLine old.bytes new.bytes new.line) → IfOk answer (λ what. what ≡ Line → length new.line ≤ 65536)
     → IfOk answer (λ what. what ≡ End → GivesEnd old.bytes new.bytes) → IfOk answer (λ what. what ≡ Failed → GivesNoLine old.bytes new.bytes) → IfOk answer (λ what. what ≡ Long → GivesLongLine old.bytes new.bytes)
     → IfOk answer (λ what. (what ≡ Long) ⊎ (what ≡ Failed) → new.is_over ≡ true) → A → B
     → IfOk answer (λ what. Comes seat old new (event_from seat what new.line) × A × B)
-side-heard old new seat (Ok what) gives short end none long over first second =
+side-came old new seat (Ok what) gives short end none long over first second =
     (comes old new seat what gives short end none long over, first, second)
-side-heard old new seat (Err fault) gives short end none long over first second = tt
+side-came old new seat (Err fault) gives short end none long over first second = tt

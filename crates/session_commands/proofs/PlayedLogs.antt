@@ -2,9 +2,9 @@
 use Rattle.std.proofs.Common.{◌≡◌, ◌⊎◌, inl, inr, ℕ, ◌++◌, true, List, [], ◌∷◌, map, refl, sym, ap, subst, ◌∙◌, append-nil, append_assoc}
 use Rattle.std.specs.List.{AllByRecursion, flat_map, list_any}
 use Rattle.csa_record.specs.Items.{AtMostOne}
-use Rattle.session_table.specs.declared.config.Config.{Config}
-use Rattle.session_table.specs.declared.event.Status.{Status}
-use Rattle.session_table.specs.declared.event.Status.TheVariants.{Going}
+use Rattle.bridge_table.specs.declared.config.Config.{Config}
+use Rattle.bridge_table.specs.declared.event.Status.{Status}
+use Rattle.bridge_table.specs.declared.event.Status.TheVariants.{Going}
 use Rattle.shogi_session.specs.Events.{Event, Out, begin, engine_end, no_lines as silence, server_end, trimmed}
 use Rattle.shogi_session.specs.Logs.{Leads, Step, event_in, is_answer, new, next, sent_lines}
 use Rattle.shogi_session.specs.Promises.{Session, Steps}
@@ -14,7 +14,7 @@ use Rattle.shogi_session.specs.State.{State, first_state}
 use Rattle.shogi_session.specs.Texts.{ended_line, text_of}
 use Rattle.session_commands.specs.declared.bridging.Seat.{Seat}
 use Rattle.session_commands.specs.declared.bridging.Seat.TheVariants.{Engine, Server}
-use Rattle.session_commands.specs.Plays.{Delivers, no_lines, taken, lost, Hears, Played, begun, goes_on, Round, Tells, end_of}
+use Rattle.session_commands.specs.Plays.{Delivers, no_lines, taken, lost, Gives, Played, begun, goes_on, Round, Takes, end_of}
 use Rattle.session_commands.specs.PlayedLogs.{AllAnswerWell, AnswersWell, IsLogOf, PlaysLegally, handed, happened, happened_in, lost_of}
 
 -- ---- the laws of the table that are called
@@ -84,47 +84,47 @@ end_silent silent Server s to_engine to_server status t step =
 stays_logged : (c : Config) (events : List Event) (bytes : List ℕ) (s t : Session) → Logged c events bytes s → t ≡ s → Logged c (events ++ []) bytes t
 stays_logged c events bytes s t l kept = subst (λ es. Logged c es bytes t) (sym (append-nil events)) (subst (Logged c events bytes) (sym kept) l)
 
-delivered_logged : {E : Type 0} → EndsSilent → (told gone : Tells E) (seat : Seat) (lines : List ℕ) (e : E) (s : Session) (status : Status) (f : E) (t : Session) (after : Status) (c : Config) (events : List Event) (bytes : List ℕ)
-    → Logged c events bytes s → (delivers : Delivers told gone seat lines e s status f t after) → Logged c (events ++ lost_of seat delivers) bytes t
-delivered_logged silent told gone seat lines e s status f t after c events bytes l (no_lines none same kept) = stays_logged c events bytes s t l kept
-delivered_logged silent told gone seat lines e s status f t after c events bytes l (taken took kept) = stays_logged c events bytes s t l kept
-delivered_logged silent told gone seat lines e s status f t after c events bytes l (lost to_engine to_server last missed step) =
+delivered_logged : {E : Type 0} → EndsSilent → (went gone : Takes E) (seat : Seat) (lines : List ℕ) (e : E) (s : Session) (status : Status) (f : E) (t : Session) (after : Status) (c : Config) (events : List Event) (bytes : List ℕ)
+    → Logged c events bytes s → (delivers : Delivers went gone seat lines e s status f t after) → Logged c (events ++ lost_of seat delivers) bytes t
+delivered_logged silent went gone seat lines e s status f t after c events bytes l (no_lines none same kept) = stays_logged c events bytes s t l kept
+delivered_logged silent went gone seat lines e s status f t after c events bytes l (taken took kept) = stays_logged c events bytes s t l kept
+delivered_logged silent went gone seat lines e s status f t after c events bytes l (lost to_engine to_server last missed step) =
     subst (λ bs. Logged c (events ++ end_of seat ∷ []) bs t) (ap (λ bs. bytes ++ bs) (end_silent silent seat s to_engine to_server last t step) ∙ append-nil bytes)
     (step_logged c events bytes s (end_of seat) to_engine to_server last t l step)
 
-round_logged : {E : Type 0} → EndsSilent → (told gone : Tells E) (event : Event) (e : E) (s : Session) (f : E) (t : Session) (status : Status) (c : Config) (events : List Event) (bytes : List ℕ)
-    → Logged c events bytes s → (round : Round told gone event e s f t status) → Logged c (events ++ happened_in event round) (bytes ++ round.to_server) t
-round_logged silent told gone event e s f t status c events bytes l round =
+round_logged : {E : Type 0} → EndsSilent → (went gone : Takes E) (event : Event) (e : E) (s : Session) (f : E) (t : Session) (status : Status) (c : Config) (events : List Event) (bytes : List ℕ)
+    → Logged c events bytes s → (round : Round went gone event e s f t status) → Logged c (events ++ happened_in event round) (bytes ++ round.to_server) t
+round_logged silent went gone event e s f t status c events bytes l round =
     let sent = round.sent in
     let more = bytes ++ round.to_server in
     let engine_lost = lost_of Engine sent.first in
     let server_lost = lost_of Server sent.second in
     let stepped = step_logged c events bytes s event round.to_engine round.to_server round.stepped round.session l round.step in
-    let first = delivered_logged silent told gone Engine round.to_engine e round.session round.stepped sent.between sent.session sent.then_status c (events ++ event ∷ []) more stepped sent.first in
-    let second = delivered_logged silent told gone Server round.to_server sent.between sent.session sent.then_status f t status c ((events ++ event ∷ []) ++ engine_lost) more first sent.second in
+    let first = delivered_logged silent went gone Engine round.to_engine e round.session round.stepped sent.between sent.session sent.then_status c (events ++ event ∷ []) more stepped sent.first in
+    let second = delivered_logged silent went gone Server round.to_server sent.between sent.session sent.then_status f t status c ((events ++ event ∷ []) ++ engine_lost) more first sent.second in
     subst (λ es. Logged c es more t) (append_assoc (events ++ event ∷ []) engine_lost server_lost ∙ append_assoc events (event ∷ []) (engine_lost ++ server_lost)) second
 
-played_logged : {E : Type 0} → EndsSilent → (heard : Hears E) (told gone : Tells E) (e : E) (s : Session) (f : E) (t : Session) (status : Status)
-    → s.state ≡ first_state → (played : Played heard told gone e s f t status) → Logged s.config (happened played) (handed played) t
-played_logged silent heard told gone e s f t status is (begun g u now round) = round_logged silent told gone begin e s g u now s.config [] [] (no_log s is) round
-played_logged silent heard told gone e s f t status is (goes_on g h k u v event now played came round) =
-    round_logged silent told gone event h u k v now s.config (happened played) (handed played) (played_logged silent heard told gone e s g u Going is played) round
+played_logged : {E : Type 0} → EndsSilent → (came : Gives E) (went gone : Takes E) (e : E) (s : Session) (f : E) (t : Session) (status : Status)
+    → s.state ≡ first_state → (played : Played came went gone e s f t status) → Logged s.config (happened played) (handed played) t
+played_logged silent came went gone e s f t status is (begun g u now round) = round_logged silent went gone begin e s g u now s.config [] [] (no_log s is) round
+played_logged silent came went gone e s f t status is (goes_on g h k u v event now played arrived round) =
+    round_logged silent went gone event h u k v now s.config (happened played) (handed played) (played_logged silent came went gone e s g u Going is played) round
 
 -- ---- each step of a log is a row after the log before it
 
-none_behind : (bs after : List Step) (y : Step) → [] ≡ bs ++ y ∷ after → ⊥
-none_behind [] after y e = absurd cc
-none_behind (b ∷ bs) after y e = absurd cc
+none_after : (bs after : List Step) (y : Step) → [] ≡ bs ++ y ∷ after → ⊥
+none_after [] after y e = absurd cc
+none_after (b ∷ bs) after y e = absurd cc
 
-splits : (log before behind : List Step) (x y : Step) → log ++ x ∷ [] ≡ before ++ y ∷ behind
+splits : (log before later : List Step) (x y : Step) → log ++ x ∷ [] ≡ before ++ y ∷ later
     → ((log ≡ before) × (x ≡ y)) ⊎ ((rest : List Step) × (log ≡ before ++ y ∷ rest))
-splits [] [] behind x y e = let same : x ≡ y = cc in inl (refl, same)
-splits [] (b ∷ bs) behind x y e = let none : [] ≡ bs ++ y ∷ behind = cc in absurd (none_behind bs behind y none)
-splits (z ∷ zs) [] behind x y e = let first : z ≡ y = cc in inr (zs, ap (λ w. w ∷ zs) first)
-splits (z ∷ zs) (b ∷ bs) behind x y e =
+splits [] [] later x y e = let same : x ≡ y = cc in inl (refl, same)
+splits [] (b ∷ bs) later x y e = let none : [] ≡ bs ++ y ∷ later = cc in absurd (none_after bs later y none)
+splits (z ∷ zs) [] later x y e = let first : z ≡ y = cc in inr (zs, ap (λ w. w ∷ zs) first)
+splits (z ∷ zs) (b ∷ bs) later x y e =
     let first : z ≡ b = cc in
-    let rest : zs ++ x ∷ [] ≡ bs ++ y ∷ behind = cc in
-    elim (splits zs bs behind x y rest) [
+    let rest : zs ++ x ∷ [] ≡ bs ++ y ∷ later = cc in
+    elim (splits zs bs later x y rest) [
       | inl h ↦ inl (ap (λ w. w ∷ zs) first ∙ ap (λ ws. b ∷ ws) h.0, h.1)
       | inr h ↦ inr (h.0, ap (λ w. w ∷ zs) first ∙ ap (λ ws. b ∷ ws) h.1)
     ]
@@ -134,15 +134,15 @@ row_well : SentLegal → SentOnce → (c : Config) (before : List Step) (s t : S
 row_well legal once c before s t e out status leads row = record { legal = legal c before s t e out leads row; alone = once c before s t e out leads row }
 
 all_well : SentLegal → SentOnce → (c : Config) (log : List Step) (t : State) → Leads c log t → AllAnswerWell log
-all_well legal once c log t new before behind y e = absurd (none_behind before behind y e)
-all_well legal once c log t (next front s event out u leads row) before behind y e =
-    elim (splits front before behind (record { event = event; out = out; status = u.status }) y e) [
+all_well legal once c log t new before later y e = absurd (none_after before later y e)
+all_well legal once c log t (next front s event out u leads row) before later y e =
+    elim (splits front before later (record { event = event; out = out; status = u.status }) y e) [
       | inl h ↦ subst (AnswersWell before) h.1 (subst (λ xs. AnswersWell xs (record { event = event; out = out; status = u.status })) h.0 (row_well legal once c front s u event out u.status leads row))
       | inr h ↦ all_well legal once c front s leads before h.0 y h.1
     ]
 
-pub played_moves_are_legal : {E : Type 0} → EndsSilent → SentLegal → SentOnce → (heard : Hears E) (told gone : Tells E) (e : E) (s : Session) (f : E) (t : Session) (status : Status)
-    (played : Played heard told gone e s f t status) → s.state ≡ first_state → PlaysLegally s.config (happened played) (handed played) t.state
-played_moves_are_legal silent legal once heard told gone e s f t status played is =
-    let l = played_logged silent heard told gone e s f t status is played in
+pub played_moves_are_legal : {E : Type 0} → EndsSilent → SentLegal → SentOnce → (came : Gives E) (went gone : Takes E) (e : E) (s : Session) (f : E) (t : Session) (status : Status)
+    (played : Played came went gone e s f t status) → s.state ≡ first_state → PlaysLegally s.config (happened played) (handed played) t.state
+played_moves_are_legal silent legal once came went gone e s f t status played is =
+    let l = played_logged silent came went gone e s f t status is played in
     record { log = l.log; log_of = l.log_of; answers_well = all_well legal once s.config l.log t.state l.log_of.leads }

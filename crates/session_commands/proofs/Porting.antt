@@ -10,8 +10,8 @@ use Rattle.std.specs.Str.Parse.{ParsesUnsigned}
 use Rattle.record_commands.specs.Incoming.{GivesLine}
 use Rattle.session_commands.specs.Ports.{IsPort, IsPortLine}
 
-pub same_behind : (front line rest found : List ℕ) → found ≡ drop (length front) line → line ≡ front ++ rest → found ≡ rest
-same_behind front line rest found at whole = at ∙ ap (drop (length front)) whole ∙ drop-append_seam front rest
+pub rest_after : (front line rest found : List ℕ) → found ≡ drop (length front) line → line ≡ front ++ rest → found ≡ rest
+rest_after front line rest found at whole = at ∙ ap (drop (length front)) whole ∙ drop-append_seam front rest
 
 -- the digits of a port are a text
 pub port_is_text : (port : ℕ) (digits : List ℕ) → IsPort port → digits ≡ decimal port → ¬ (IsUtf8 digits) → ⊥
@@ -35,14 +35,14 @@ same_number n m read one other = cc
 
 pub read_same : {E : Type 0} (port : ℕ) (digits text : List ℕ) (read : Result ℕ E) (n : ℕ) → read ≡ Ok n → IsPort port → digits ≡ decimal port → text ≡ digits
     → ParsesUnsigned 16 10 text read → n ≡ port
-read_same port digits text read n told is same at parsed = same_number n port read told (port_is_read port digits text read is same at parsed)
+read_same port digits text read n given is same at parsed = same_number n port read given (port_is_read port digits text read is same at parsed)
 
 pub not_zero : (port n : ℕ) → IsPort port → n ≡ port → n ≡ 0 → ⊥
 not_zero port n is same zero = absurd (omega (arith, is.0, same, zero))
 
 -- and it is written so again
 pub written_so : (port : ℕ) (digits text found : List ℕ) (n : ℕ) → n ≡ port → digits ≡ decimal port → text ≡ digits → found ≡ decimal n → found ≡ text
-written_so port digits text found n is same at told = told ∙ ap decimal is ∙ sym same ∙ sym at
+written_so port digits text found n is same at given = given ∙ ap decimal is ∙ sym same ∙ sym at
 
 pub not_other : (found text : List ℕ) → true ≡ not (bytes_eq found text) → found ≡ text → ⊥
 not_other found text other same =
@@ -50,8 +50,8 @@ not_other found text other same =
     absurd cc
 
 -- the port is that of the line that came
-pub port_came : (old new : Option (List ℕ)) (heard line : List ℕ) (found : Option ℕ)
-    → heard ≡ line → GivesLine old new line → MatchOption found ((port : ℕ) → IsPortLine heard port → ⊥) (IsPortLine heard)
+pub port_came : (old new : Option (List ℕ)) (shown line : List ℕ) (found : Option ℕ)
+    → shown ≡ line → GivesLine old new line → MatchOption found ((port : ℕ) → IsPortLine shown port → ⊥) (IsPortLine shown)
     → IfSome found (λ port. (x : List ℕ) × GivesLine old new x × IsPortLine x port)
-port_came old new heard line None same gives told = tt
-port_came old new heard line (Some port) same gives told = (heard, subst (λ x. GivesLine old new x) (sym same) gives, told)
+port_came old new shown line None same gives given = tt
+port_came old new shown line (Some port) same gives given = (shown, subst (λ x. GivesLine old new x) (sym same) gives, given)

@@ -1,37 +1,15 @@
 -- What became of the client of `serve`, by how the answering of its lines ended.
 use Rattle.std.proofs.Common.{◌≡◌, Bool, true, false, Result, Ok, Err, IfOk, IfErr, IsOk, IsErrOf, OnOk, refl, subst}
 use Rattle.std.specs.Bool.{⊤}
-use Rattle.session_commands.specs.Faults.{serve_fault_of}
 use Rattle.session_commands.specs.declared.fault.ServeFault.{ServeFault}
 use Rattle.session_commands.specs.declared.fault.ServeFault.TheVariants as serve
 use Rattle.session_commands.specs.declared.fault.TalkFault.{TalkFault}
-use Rattle.session_commands.specs.declared.fault.TalkFault.TheVariants as talk
 
--- different faults stay different
-same_talk : (f g : TalkFault) → serve_fault_of f ≡ serve_fault_of g → f ≡ g
-same_talk talk.LineTooLong talk.LineTooLong same = refl
-same_talk talk.LineTooLong talk.Read same = absurd cc
-same_talk talk.LineTooLong talk.Write same = absurd cc
-same_talk talk.LineTooLong talk.OutOfMemory same = absurd cc
-same_talk talk.Read talk.LineTooLong same = absurd cc
-same_talk talk.Read talk.Read same = refl
-same_talk talk.Read talk.Write same = absurd cc
-same_talk talk.Read talk.OutOfMemory same = absurd cc
-same_talk talk.Write talk.LineTooLong same = absurd cc
-same_talk talk.Write talk.Read same = absurd cc
-same_talk talk.Write talk.Write same = refl
-same_talk talk.Write talk.OutOfMemory same = absurd cc
-same_talk talk.OutOfMemory talk.LineTooLong same = absurd cc
-same_talk talk.OutOfMemory talk.Read same = absurd cc
-same_talk talk.OutOfMemory talk.Write same = absurd cc
-same_talk talk.OutOfMemory talk.OutOfMemory same = refl
+same_talk : (f g : TalkFault) → serve.Talk f ≡ serve.Talk g → f ≡ g
+same_talk f g same = cc
 
--- and none is that the client went
-not_gone : (f : TalkFault) → serve_fault_of f ≡ serve.ClientGone → ⊥
-not_gone talk.LineTooLong same = absurd cc
-not_gone talk.Read same = absurd cc
-not_gone talk.Write same = absurd cc
-not_gone talk.OutOfMemory same = absurd cc
+not_gone : (f : TalkFault) → serve.Talk f ≡ serve.ClientGone → ⊥
+not_gone f same = absurd cc
 
 one_fault : (e f : ServeFault) (result : Result ⊤ ServeFault) → IsErrOf result e → IsErrOf result f → e ≡ f
 one_fault e f result one other = cc
@@ -45,31 +23,31 @@ well_no_fault (Err e) f is fault = absurd cc
 
 -- the session is over
 pub served_over : (Has : Bool → Type 0) (G : Type 0) (answered : Result Bool TalkFault) (result : Result ⊤ ServeFault)
-    → (answered ≡ Ok false → IsErrOf result serve.ClientGone) → ((fault : TalkFault) → answered ≡ Err fault → IsErrOf result (serve_fault_of fault))
+    → (answered ≡ Ok false → IsErrOf result serve.ClientGone) → ((fault : TalkFault) → answered ≡ Err fault → IsErrOf result (serve.Talk fault))
     → IfOk answered Has → (Has true → G) → OnOk result G
 served_over Has G (Ok true) (Ok x) gone broken has wrap = wrap has
 served_over Has G (Ok true) (Err e) gone broken has wrap = tt
 served_over Has G (Ok false) (Ok x) gone broken has wrap = absurd (no_fault x serve.ClientGone (gone refl))
 served_over Has G (Ok false) (Err e) gone broken has wrap = tt
-served_over Has G (Err f) (Ok x) gone broken has wrap = absurd (no_fault x (serve_fault_of f) (broken f refl))
+served_over Has G (Err f) (Ok x) gone broken has wrap = absurd (no_fault x (serve.Talk f) (broken f refl))
 served_over Has G (Err f) (Err e) gone broken has wrap = tt
 
 -- the client went before that
 pub served_gone : (Has : Bool → Type 0) (G : Type 0) (answered : Result Bool TalkFault) (result : Result ⊤ ServeFault)
-    → (answered ≡ Ok true → IsOk result) → ((fault : TalkFault) → answered ≡ Err fault → IsErrOf result (serve_fault_of fault))
+    → (answered ≡ Ok true → IsOk result) → ((fault : TalkFault) → answered ≡ Err fault → IsErrOf result (serve.Talk fault))
     → IfOk answered Has → (Has false → G) → IsErrOf result serve.ClientGone → G
 served_gone Has G (Ok true) result over broken has wrap is = absurd (well_no_fault result serve.ClientGone (over refl) is)
 served_gone Has G (Ok false) result over broken has wrap is = wrap has
 served_gone Has G (Err f) result over broken has wrap is =
-    absurd (not_gone f (one_fault (serve_fault_of f) serve.ClientGone result (broken f refl) is))
+    absurd (not_gone f (one_fault (serve.Talk f) serve.ClientGone result (broken f refl) is))
 
 -- the answering broke off
 pub served_broken : (Breaks : TalkFault → Type 0) (G : Type 0) (answered : Result Bool TalkFault) (result : Result ⊤ ServeFault) (fault : TalkFault)
     → (answered ≡ Ok true → IsOk result) → (answered ≡ Ok false → IsErrOf result serve.ClientGone)
-    → ((f : TalkFault) → answered ≡ Err f → IsErrOf result (serve_fault_of f))
-    → IfErr answered Breaks → (Breaks fault → G) → IsErrOf result (serve_fault_of fault) → G
-served_broken Breaks G (Ok true) result fault over gone broken has wrap is = absurd (well_no_fault result (serve_fault_of fault) (over refl) is)
+    → ((f : TalkFault) → answered ≡ Err f → IsErrOf result (serve.Talk f))
+    → IfErr answered Breaks → (Breaks fault → G) → IsErrOf result (serve.Talk fault) → G
+served_broken Breaks G (Ok true) result fault over gone broken has wrap is = absurd (well_no_fault result (serve.Talk fault) (over refl) is)
 served_broken Breaks G (Ok false) result fault over gone broken has wrap is =
-    absurd (not_gone fault (one_fault (serve_fault_of fault) serve.ClientGone result is (gone refl)))
+    absurd (not_gone fault (one_fault (serve.Talk fault) serve.ClientGone result is (gone refl)))
 served_broken Breaks G (Err f) result fault over gone broken has wrap is =
-    wrap (subst Breaks (same_talk f fault (one_fault (serve_fault_of f) (serve_fault_of fault) result (broken f refl) is)) has)
+    wrap (subst Breaks (same_talk f fault (one_fault (serve.Talk f) (serve.Talk fault) result (broken f refl) is)) has)

@@ -12,10 +12,11 @@ use Rattle.session_commands.specs.Faults.{cut_fault_of, talk_fault_of}
 use Rattle.csa_cutting.specs.LineCutting.{LineCutting, BeginsTooLong, LineStep, LinesAfter, LastLine}
 use Rattle.csa_cutting.proofs.LinesOnce.{lines_joined}
 use Rattle.record_commands.proofs.Cutting.{held_short, next_short, parted}
-use Rattle.record_commands.proofs.Hearing.{rest_run}
+use Rattle.record_commands.proofs.LineReading.{rest_run}
 use Rattle.session_commands.specs.declared.fault.TalkFault.{TalkFault}
 use Rattle.session_commands.specs.declared.fault.TalkFault.TheVariants.{LineTooLong, Read, OutOfMemory}
-use Rattle.session_commands.specs.Talks.{Calls, Passes, Answers, IsLongNext, Talked, nothing, bytes_came, end_came, line_answered, IsEnded, IsAnswered, IsReply, IsUnsent, line_too_long, not_received, endless, not_answered, not_cut, Breaks, BreaksOff, Talking, GoesOn, Finishes, Stops, TakesNext, TakesPiece, EndsTalk, HasAnswered}
+use Rattle.session_commands.specs.Talking.{IsReply, Talking, TalkGoesOn, Finishes, Stops, TakesNext, TakesPiece, EndsTalk}
+use Rattle.session_commands.specs.Talks.{Calls, Passes, MachineRow, IsLongNext, Talked, nothing, bytes_came, end_came, line_answered, IsEnded, IsAnswered, IsUnsent, line_too_long, not_received, endless, not_answered, not_cut, Breaks, BreaksOff, HasAnswered}
 
 -- ---- lines
 
@@ -28,7 +29,7 @@ ended_line held run some = (10 ∷ [], record { ends = []; whole = refl; skipped
 
 -- ---- a talk begins, and goes on
 
-pub talk_begins : {W M : Type 0} (came : Passes W) (ends : Calls W) (went : Passes W) (answers : Answers M) (wire : W) (machine : M) (cutter : LineCutting)
+pub talk_begins : {W M : Type 0} (came : Passes W) (ends : Calls W) (went : Passes W) (answers : MachineRow M) (wire : W) (machine : M) (cutter : LineCutting)
     → cutter.held ≡ [] → cutter.limit ≡ 65536 → cutter.failed ≡ false → Talking came ends went answers wire machine 0 cutter [] wire machine
 talk_begins came ends went answers wire machine cutter held limit sound = record {
   used = [];
@@ -41,7 +42,7 @@ talk_begins came ends went answers wire machine cutter held limit sound = record
   short = rw held (omega arith);
 }
 
-pub piece_came : {W M : Type 0} (came : Passes W) (ends : Calls W) (went : Passes W) (answers : Answers M) (wire : W) (machine : M) (pieces : ℕ) (cutter : LineCutting) (piece : List ℕ) (u v : W) (m : M)
+pub piece_came : {W M : Type 0} (came : Passes W) (ends : Calls W) (went : Passes W) (answers : MachineRow M) (wire : W) (machine : M) (pieces : ℕ) (cutter : LineCutting) (piece : List ℕ) (u v : W) (m : M)
     → Talking came ends went answers wire machine pieces cutter [] u m → came u piece v → 0 < length piece
     → Talking came ends went answers wire machine (pieces + 1) cutter piece v m
 piece_came came ends went answers wire machine pieces cutter piece u v m t is some = record {
@@ -57,7 +58,7 @@ piece_came came ends went answers wire machine pieces cutter piece u v m t is so
 }
 
 -- no line ended in what was left
-pub none_ended : {W M : Type 0} (came : Passes W) (ends : Calls W) (went : Passes W) (answers : Answers M) (wire : W) (machine : M) (pieces : ℕ) (old new : LineCutting) (piece : List ℕ) (k : ℕ) (u : W) (m : M)
+pub none_ended : {W M : Type 0} (came : Passes W) (ends : Calls W) (went : Passes W) (answers : MachineRow M) (wire : W) (machine : M) (pieces : ℕ) (old new : LineCutting) (piece : List ℕ) (k : ℕ) (u : W) (m : M)
     → Talking came ends went answers wire machine pieces old piece u m → (BeginsTooLong old.limit (old.held ++ piece) → ⊥)
     → LineStep old.held piece (k, None) → LinesAfter old piece (Ok (k, None)) new
     → Talking came ends went answers wire machine pieces new (drop k piece) u m
@@ -79,13 +80,13 @@ none_ended came ends went answers wire machine pieces old new piece k u m t few 
 
 -- ---- a line ended in what was left
 
-pub next_of : {W M : Type 0} (came : Passes W) (ends : Calls W) (went : Passes W) (answers : Answers M) (wire : W) (machine : M) (pieces : ℕ) (old : LineCutting) (piece : List ℕ) (k : ℕ) (line : Bor (List ℕ)) (u : W) (m : M)
+pub next_of : {W M : Type 0} (came : Passes W) (ends : Calls W) (went : Passes W) (answers : MachineRow M) (wire : W) (machine : M) (pieces : ℕ) (old : LineCutting) (piece : List ℕ) (k : ℕ) (line : Bor (List ℕ)) (u : W) (m : M)
     (t : Talking came ends went answers wire machine pieces old piece u m) → LineStep old.held piece (k, Some line)
     → Lines (t.used ++ take k piece) (t.lines ++ line.now ∷ []) []
 next_of came ends went answers wire machine pieces old piece k line u m t step =
     lines_joined t.used (take k piece) t.lines (line.now ∷ []) old.held [] t.cut step.1.1
 
-pub line_ended : {W M : Type 0} (came : Passes W) (ends : Calls W) (went : Passes W) (answers : Answers M) (wire : W) (machine : M) (pieces : ℕ) (old new : LineCutting) (piece : List ℕ) (k : ℕ) (line : Bor (List ℕ)) (u v : W) (m n : M)
+pub line_ended : {W M : Type 0} (came : Passes W) (ends : Calls W) (went : Passes W) (answers : MachineRow M) (wire : W) (machine : M) (pieces : ℕ) (old new : LineCutting) (piece : List ℕ) (k : ℕ) (line : Bor (List ℕ)) (u v : W) (m n : M)
     → Talking came ends went answers wire machine pieces old piece u m → (BeginsTooLong old.limit (old.held ++ piece) → ⊥)
     → LineStep old.held piece (k, Some line) → LinesAfter old piece (Ok (k, Some line)) new
     → IsReply went answers u m line.now false v n
@@ -107,7 +108,7 @@ line_ended came ends went answers wire machine pieces old new piece k line u v m
       short = rw empty (omega arith);
     }
 
-pub machine_ended : {W M : Type 0} (came : Passes W) (ends : Calls W) (went : Passes W) (answers : Answers M) (wire : W) (machine : M) (pieces : ℕ) (old : LineCutting) (piece : List ℕ) (k : ℕ) (line : Bor (List ℕ)) (u v : W) (m n : M)
+pub machine_ended : {W M : Type 0} (came : Passes W) (ends : Calls W) (went : Passes W) (answers : MachineRow M) (wire : W) (machine : M) (pieces : ℕ) (old : LineCutting) (piece : List ℕ) (k : ℕ) (line : Bor (List ℕ)) (u v : W) (m n : M)
     → Talking came ends went answers wire machine pieces old piece u m → (BeginsTooLong old.limit (old.held ++ piece) → ⊥)
     → LineStep old.held piece (k, Some line)
     → IsReply went answers u m line.now true v n
@@ -129,13 +130,13 @@ machine_ended came ends went answers wire machine pieces old piece k line u v m 
 
 -- ---- a talk breaks off
 
-breaks_at : {W M : Type 0} (came : Passes W) (ends : Calls W) (went : Passes W) (silent : Calls W) (blocked : Passes W) (answers : Answers M) (wire : W) (machine : M) (pieces : ℕ) (old : LineCutting) (left : List ℕ) (u v : W) (m : M) (fault : TalkFault)
+breaks_at : {W M : Type 0} (came : Passes W) (ends : Calls W) (went : Passes W) (silent : Calls W) (blocked : Passes W) (answers : MachineRow M) (wire : W) (machine : M) (pieces : ℕ) (old : LineCutting) (left : List ℕ) (u v : W) (m : M) (fault : TalkFault)
     (t : Talking came ends went answers wire machine pieces old left u m) → Breaks silent blocked answers (t.used ++ left) false t.lines u m v fault
     → BreaksOff came ends went silent blocked answers wire machine fault v
 breaks_at came ends went silent blocked answers wire machine pieces old left u v m fault t breaks =
     record { bytes = t.used ++ left; over = false; lines = t.lines; before = u; last = m; talked = t.talked; breaks = breaks }
 
-pub not_replied : {W M : Type 0} (came : Passes W) (ends : Calls W) (went : Passes W) (silent : Calls W) (blocked : Passes W) (answers : Answers M) (wire : W) (machine : M) (pieces : ℕ) (old : LineCutting) (piece : List ℕ) (k : ℕ) (line : Bor (List ℕ)) (u v : W) (m : M) (fault : TalkFault)
+pub not_replied : {W M : Type 0} (came : Passes W) (ends : Calls W) (went : Passes W) (silent : Calls W) (blocked : Passes W) (answers : MachineRow M) (wire : W) (machine : M) (pieces : ℕ) (old : LineCutting) (piece : List ℕ) (k : ℕ) (line : Bor (List ℕ)) (u v : W) (m : M) (fault : TalkFault)
     → Talking came ends went answers wire machine pieces old piece u m → LineStep old.held piece (k, Some line)
     → IsUnsent blocked answers u m line.now v fault
     → BreaksOff came ends went silent blocked answers wire machine fault v
@@ -148,14 +149,14 @@ long_next used piece lines old cut limit sound (inl failed) = absurd cc
 long_next used piece lines old cut limit sound (inr long) =
     (used, piece, old.held, refl, cut, subst (λ j. BeginsTooLong j (old.held ++ piece)) limit long)
 
-pub line_long : {W M : Type 0} (came : Passes W) (ends : Calls W) (went : Passes W) (silent : Calls W) (blocked : Passes W) (answers : Answers M) (wire : W) (machine : M) (pieces : ℕ) (old : LineCutting) (piece : List ℕ) (u : W) (m : M)
+pub line_long : {W M : Type 0} (came : Passes W) (ends : Calls W) (went : Passes W) (silent : Calls W) (blocked : Passes W) (answers : MachineRow M) (wire : W) (machine : M) (pieces : ℕ) (old : LineCutting) (piece : List ℕ) (u : W) (m : M)
     → Talking came ends went answers wire machine pieces old piece u m
     → (old.failed ≡ true) ⊎ BeginsTooLong old.limit (old.held ++ piece)
     → BreaksOff came ends went silent blocked answers wire machine LineTooLong u
 line_long came ends went silent blocked answers wire machine pieces old piece u m t long =
     breaks_at came ends went silent blocked answers wire machine pieces old piece u u m LineTooLong t (line_too_long (long_next t.used piece t.lines old t.cut t.limit t.sound long) refl)
 
-pub line_uncut : {W M : Type 0} (came : Passes W) (ends : Calls W) (went : Passes W) (silent : Calls W) (blocked : Passes W) (answers : Answers M) (wire : W) (machine : M) (pieces : ℕ) (old : LineCutting) (piece : List ℕ) (u : W) (m : M)
+pub line_uncut : {W M : Type 0} (came : Passes W) (ends : Calls W) (went : Passes W) (silent : Calls W) (blocked : Passes W) (answers : MachineRow M) (wire : W) (machine : M) (pieces : ℕ) (old : LineCutting) (piece : List ℕ) (u : W) (m : M)
     → Talking came ends went answers wire machine pieces old piece u m
     → BreaksOff came ends went silent blocked answers wire machine OutOfMemory u
 line_uncut came ends went silent blocked answers wire machine pieces old piece u m t =
@@ -165,13 +166,13 @@ pub read_fault : (why : ReadFault) → (talk_fault_of why ≡ Read) ⊎ (talk_fa
 read_fault failing.Failed = inl refl
 read_fault failing.OutOfMemory = inr refl
 
-pub fell_silent : {W M : Type 0} (came : Passes W) (ends : Calls W) (went : Passes W) (silent : Calls W) (blocked : Passes W) (answers : Answers M) (wire : W) (machine : M) (pieces : ℕ) (old : LineCutting) (u v : W) (m : M) (fault : TalkFault)
+pub fell_silent : {W M : Type 0} (came : Passes W) (ends : Calls W) (went : Passes W) (silent : Calls W) (blocked : Passes W) (answers : MachineRow M) (wire : W) (machine : M) (pieces : ℕ) (old : LineCutting) (u v : W) (m : M) (fault : TalkFault)
     → (fault ≡ Read) ⊎ (fault ≡ OutOfMemory) → Talking came ends went answers wire machine pieces old [] u m → silent u v
     → BreaksOff came ends went silent blocked answers wire machine fault v
 fell_silent came ends went silent blocked answers wire machine pieces old u v m fault why t is =
     breaks_at came ends went silent blocked answers wire machine pieces old [] u v m fault t (not_received old.held fault why (subst (λ xs. Lines xs t.lines old.held) (sym (append-nil t.used)) t.cut) is)
 
-pub never_ends : {W M : Type 0} (came : Passes W) (ends : Calls W) (went : Passes W) (silent : Calls W) (blocked : Passes W) (answers : Answers M) (wire : W) (machine : M) (pieces : ℕ) (old : LineCutting) (u : W) (m : M)
+pub never_ends : {W M : Type 0} (came : Passes W) (ends : Calls W) (went : Passes W) (silent : Calls W) (blocked : Passes W) (answers : MachineRow M) (wire : W) (machine : M) (pieces : ℕ) (old : LineCutting) (u : W) (m : M)
     → Talking came ends went answers wire machine pieces old [] u m → 2 ^ 64 - 1 ≤ pieces
     → BreaksOff came ends went silent blocked answers wire machine Read u
 never_ends came ends went silent blocked answers wire machine pieces old u m t many =
@@ -179,13 +180,13 @@ never_ends came ends went silent blocked answers wire machine pieces old u m t m
 
 -- ---- the end
 
-end_talked : {W M : Type 0} (came : Passes W) (ends : Calls W) (went : Passes W) (answers : Answers M) (wire : W) (machine : M) (pieces : ℕ) (old : LineCutting) (u v : W) (m : M)
+end_talked : {W M : Type 0} (came : Passes W) (ends : Calls W) (went : Passes W) (answers : MachineRow M) (wire : W) (machine : M) (pieces : ℕ) (old : LineCutting) (u v : W) (m : M)
     (t : Talking came ends went answers wire machine pieces old [] u m) → ends u v
     → Talked came ends went answers wire machine (t.used ++ 10 ∷ []) true t.lines v m
 end_talked came ends went answers wire machine pieces old u v m t is =
     end_came t.used old.held t.lines u v m (subst (λ xs. Talked came ends went answers wire machine xs false t.lines u m) (append-nil t.used) t.talked) t.cut is
 
-pub all_answered : {W M : Type 0} (came : Passes W) (ends : Calls W) (went : Passes W) (answers : Answers M) (wire : W) (machine : M) (pieces : ℕ) (old : LineCutting) (u v : W) (m : M)
+pub all_answered : {W M : Type 0} (came : Passes W) (ends : Calls W) (went : Passes W) (answers : MachineRow M) (wire : W) (machine : M) (pieces : ℕ) (old : LineCutting) (u v : W) (m : M)
     → Talking came ends went answers wire machine pieces old [] u m → ends u v → old.held ≡ []
     → IsAnswered came ends went answers wire machine v m
 all_answered came ends went answers wire machine pieces old u v m t is empty =
@@ -198,7 +199,7 @@ all_answered came ends went answers wire machine pieces old u v m t is empty =
       all = subst (λ ls. Lines (t.used ++ 10 ∷ []) ls []) (append-nil t.lines) joined;
     }
 
-pub last_next : {W M : Type 0} (came : Passes W) (ends : Calls W) (went : Passes W) (answers : Answers M) (wire : W) (machine : M) (pieces : ℕ) (old : LineCutting) (line : List ℕ) (u : W) (m : M)
+pub last_next : {W M : Type 0} (came : Passes W) (ends : Calls W) (went : Passes W) (answers : MachineRow M) (wire : W) (machine : M) (pieces : ℕ) (old : LineCutting) (line : List ℕ) (u : W) (m : M)
     (t : Talking came ends went answers wire machine pieces old [] u m) → line ≡ old.held → 0 < length old.held
     → Lines (t.used ++ 10 ∷ []) (t.lines ++ line ∷ []) []
 last_next came ends went answers wire machine pieces old line u m t is some =
@@ -207,7 +208,7 @@ last_next came ends went answers wire machine pieces old line u m t is some =
 ends_whole : (xs : List ℕ) → xs ≡ xs ++ []
 ends_whole xs = sym (append-nil xs)
 
-pub last_answered : {W M : Type 0} (came : Passes W) (ends : Calls W) (went : Passes W) (answers : Answers M) (wire : W) (machine : M) (pieces : ℕ) (old : LineCutting) (line : List ℕ) (u v x : W) (m n : M)
+pub last_answered : {W M : Type 0} (came : Passes W) (ends : Calls W) (went : Passes W) (answers : MachineRow M) (wire : W) (machine : M) (pieces : ℕ) (old : LineCutting) (line : List ℕ) (u v x : W) (m n : M)
     → Talking came ends went answers wire machine pieces old [] u m → ends u v → line ≡ old.held → 0 < length old.held
     → IsReply went answers v m line false x n
     → IsAnswered came ends went answers wire machine x n
@@ -221,7 +222,7 @@ last_answered came ends went answers wire machine pieces old line u v x m n t is
       all = all;
     }
 
-pub last_ended : {W M : Type 0} (came : Passes W) (ends : Calls W) (went : Passes W) (answers : Answers M) (wire : W) (machine : M) (pieces : ℕ) (old : LineCutting) (line : List ℕ) (u v x : W) (m n : M)
+pub last_ended : {W M : Type 0} (came : Passes W) (ends : Calls W) (went : Passes W) (answers : MachineRow M) (wire : W) (machine : M) (pieces : ℕ) (old : LineCutting) (line : List ℕ) (u v x : W) (m n : M)
     → Talking came ends went answers wire machine pieces old [] u m → ends u v → line ≡ old.held → 0 < length old.held
     → IsReply went answers v m line true x n
     → IsEnded came ends went answers wire machine x n
@@ -240,7 +241,7 @@ last_ended came ends went answers wire machine pieces old line u v x m n t is sa
   sent = reply.2;
 }
 
-pub last_not_replied : {W M : Type 0} (came : Passes W) (ends : Calls W) (went : Passes W) (silent : Calls W) (blocked : Passes W) (answers : Answers M) (wire : W) (machine : M) (pieces : ℕ) (old : LineCutting) (line : List ℕ) (u v x : W) (m : M) (fault : TalkFault)
+pub last_not_replied : {W M : Type 0} (came : Passes W) (ends : Calls W) (went : Passes W) (silent : Calls W) (blocked : Passes W) (answers : MachineRow M) (wire : W) (machine : M) (pieces : ℕ) (old : LineCutting) (line : List ℕ) (u v x : W) (m : M) (fault : TalkFault)
     → Talking came ends went answers wire machine pieces old [] u m → ends u v → line ≡ old.held → 0 < length old.held
     → IsUnsent blocked answers v m line x fault
     → BreaksOff came ends went silent blocked answers wire machine fault x
@@ -262,29 +263,36 @@ step_as held piece (k, o) found is step = subst (λ x. LineStep held piece (k, x
 after_as : (old : LineCutting) (piece : List ℕ) (r : ℕ × Option (Bor (List ℕ))) (found : Option (Bor (List ℕ))) (new : LineCutting) → r.1 ≡ found → LinesAfter old piece (Ok r) new → LinesAfter old piece (Ok (r.0, found)) new
 after_as old piece (k, o) found new is after = subst (λ x. LinesAfter old piece (Ok (k, x)) new) is after
 
-pub next_none : {W M : Type 0} (came : Passes W) (ends : Calls W) (went : Passes W) (answers : Answers M) (old new : LineCutting) (piece : List ℕ) (r : ℕ × Option (Bor (List ℕ))) (u : W) (m : M)
+pub next_none : {W M : Type 0} (came : Passes W) (ends : Calls W) (went : Passes W) (answers : MachineRow M) (old new : LineCutting) (piece : List ℕ) (r : ℕ × Option (Bor (List ℕ))) (u : W) (m : M)
     → r.1 ≡ None → ((old.failed ≡ true) ⊎ BeginsTooLong old.limit (old.held ++ piece) → ⊥)
     → LineStep old.held piece r → LinesAfter old piece (Ok r) new
-    → GoesOn came ends went answers old piece u m new (drop r.0 piece) u m
+    → TalkGoesOn came ends went answers old piece u m new (drop r.0 piece) u m
 next_none came ends went answers old new piece r u m is few step after = λ wire machine pieces t.
     none_ended came ends went answers wire machine pieces old new piece r.0 u m t (λ long. few (inr long)) (step_as old.held piece r None is step) (after_as old piece r None new is after)
 
-pub next_answered : {W M : Type 0} (came : Passes W) (ends : Calls W) (went : Passes W) (silent : Calls W) (blocked : Passes W) (answers : Answers M) (old new : LineCutting) (piece : List ℕ) (r : ℕ × Option (Bor (List ℕ))) (line : Bor (List ℕ)) (u v : W) (m n : M) (ended : Bool)
-    → r.1 ≡ Some line → ((old.failed ≡ true) ⊎ BeginsTooLong old.limit (old.held ++ piece) → ⊥)
+pub next_answered : {W M : Type 0} (came : Passes W) (ends : Calls W) (went : Passes W) (answers : MachineRow M) (old new : LineCutting) (piece : List ℕ) (r : ℕ × Option (Bor (List ℕ))) (line : Bor (List ℕ)) (u v : W) (m n : M) (ended : Bool)
+    → ended ≡ false → r.1 ≡ Some line → ((old.failed ≡ true) ⊎ BeginsTooLong old.limit (old.held ++ piece) → ⊥)
     → LineStep old.held piece r → LinesAfter old piece (Ok r) new → IsReply went answers u m line.now ended v n
-    → TakesNext came ends went silent blocked answers old piece u m (Ok (r.0, ended)) new v n
-next_answered came ends went silent blocked answers old new piece r line u v m n false is few step after reply = λ wire machine pieces t.
-    line_ended came ends went answers wire machine pieces old new piece r.0 line u v m n t (λ long. few (inr long)) (step_as old.held piece r (Some line) is step) (after_as old piece r (Some line) new is after) reply
-next_answered came ends went silent blocked answers old new piece r line u v m n true is few step after reply = λ wire machine pieces t.
-    machine_ended came ends went answers wire machine pieces old piece r.0 line u v m n t (λ long. few (inr long)) (step_as old.held piece r (Some line) is step) reply
+    → TalkGoesOn came ends went answers old piece u m new (drop r.0 piece) v n
+next_answered came ends went answers old new piece r line u v m n ended is_false is few step after reply = λ wire machine pieces t.
+    line_ended came ends went answers wire machine pieces old new piece r.0 line u v m n t (λ long. few (inr long)) (step_as old.held piece r (Some line) is step) (after_as old piece r (Some line) new is after)
+    (subst (λ b. IsReply went answers u m line.now b v n) is_false reply)
 
-pub next_unanswered : {W M : Type 0} (came : Passes W) (ends : Calls W) (went : Passes W) (silent : Calls W) (blocked : Passes W) (answers : Answers M) (old : LineCutting) (piece : List ℕ) (r : ℕ × Option (Bor (List ℕ))) (line : Bor (List ℕ)) (u v : W) (m : M) (fault : TalkFault)
+pub next_finishes : {W M : Type 0} (came : Passes W) (ends : Calls W) (went : Passes W) (answers : MachineRow M) (old : LineCutting) (piece : List ℕ) (r : ℕ × Option (Bor (List ℕ))) (line : Bor (List ℕ)) (u v : W) (m n : M) (ended : Bool)
+    → ended ≡ true → r.1 ≡ Some line → ((old.failed ≡ true) ⊎ BeginsTooLong old.limit (old.held ++ piece) → ⊥)
+    → LineStep old.held piece r → IsReply went answers u m line.now ended v n
+    → Finishes came ends went answers old piece u m v n
+next_finishes came ends went answers old piece r line u v m n ended is_true is few step reply = λ wire machine pieces t.
+    machine_ended came ends went answers wire machine pieces old piece r.0 line u v m n t (λ long. few (inr long)) (step_as old.held piece r (Some line) is step)
+    (subst (λ b. IsReply went answers u m line.now b v n) is_true reply)
+
+pub next_unanswered : {W M : Type 0} (came : Passes W) (ends : Calls W) (went : Passes W) (silent : Calls W) (blocked : Passes W) (answers : MachineRow M) (old : LineCutting) (piece : List ℕ) (r : ℕ × Option (Bor (List ℕ))) (line : Bor (List ℕ)) (u v : W) (m : M) (fault : TalkFault)
     → r.1 ≡ Some line → LineStep old.held piece r → IsUnsent blocked answers u m line.now v fault
     → Stops came ends went silent blocked answers old piece u m fault v
 next_unanswered came ends went silent blocked answers old piece r line u v m fault is step unsent = λ wire machine pieces t.
     not_replied came ends went silent blocked answers wire machine pieces old piece r.0 line u v m fault t (step_as old.held piece r (Some line) is step) unsent
 
-pub next_uncut : {W M : Type 0} (came : Passes W) (ends : Calls W) (went : Passes W) (silent : Calls W) (blocked : Passes W) (answers : Answers M) (old : LineCutting) (piece : List ℕ) (u : W) (m : M) (why : LineFault) (fault : TalkFault)
+pub next_uncut : {W M : Type 0} (came : Passes W) (ends : Calls W) (went : Passes W) (silent : Calls W) (blocked : Passes W) (answers : MachineRow M) (old : LineCutting) (piece : List ℕ) (u : W) (m : M) (why : LineFault) (fault : TalkFault)
     → fault ≡ cut_fault_of why → (why ≡ faulty.TooLong → (old.failed ≡ true) ⊎ BeginsTooLong old.limit (old.held ++ piece))
     → Stops came ends went silent blocked answers old piece u m fault u
 next_uncut came ends went silent blocked answers old piece u m faulty.TooLong fault is long = λ wire machine pieces t.
@@ -292,20 +300,20 @@ next_uncut came ends went silent blocked answers old piece u m faulty.TooLong fa
 next_uncut came ends went silent blocked answers old piece u m faulty.OutOfMemory fault is long = λ wire machine pieces t.
     rw is (line_uncut came ends went silent blocked answers wire machine pieces old piece u m t)
 
-pub finishes_at : {W M : Type 0} (came : Passes W) (ends : Calls W) (went : Passes W) (silent : Calls W) (blocked : Passes W) (answers : Answers M) (old new : LineCutting) (piece : List ℕ) (k : ℕ) (ended : Bool) (u v : W) (m n : M)
-    → ended ≡ true → TakesNext came ends went silent blocked answers old piece u m (Ok (k, ended)) new v n
+pub finishes_at : {W M : Type 0} (came : Passes W) (ends : Calls W) (went : Passes W) (silent : Calls W) (blocked : Passes W) (answers : MachineRow M) (old new : LineCutting) (piece : List ℕ) (found : Option ℕ) (u v : W) (m n : M)
+    → found ≡ None → TakesNext came ends went silent blocked answers old piece u m (Ok found) new v n
     → Finishes came ends went answers old piece u m v n
-finishes_at came ends went silent blocked answers old new piece k ended u v m n is next =
-    subst (λ b. TakesNext came ends went silent blocked answers old piece u m (Ok (k, b)) new v n) is next
+finishes_at came ends went silent blocked answers old new piece found u v m n is next =
+    subst (λ o. TakesNext came ends went silent blocked answers old piece u m (Ok o) new v n) is next
 
-pub ends_none : {W M : Type 0} (came : Passes W) (ends : Calls W) (went : Passes W) (answers : Answers M) (old : LineCutting) (u : W) (m : M) (last : Option (Bor (List ℕ)))
+pub ends_none : {W M : Type 0} (came : Passes W) (ends : Calls W) (went : Passes W) (answers : MachineRow M) (old : LineCutting) (u : W) (m : M) (last : Option (Bor (List ℕ)))
     → last ≡ None → LastLine old.held last
     → (wire : W) (machine : M) (pieces : ℕ) (before : W) → Talking came ends went answers wire machine pieces old [] before m → ends before u
     → IsAnswered came ends went answers wire machine u m
 ends_none came ends went answers old u m last is found = λ wire machine pieces before t over.
     all_answered came ends went answers wire machine pieces old before u m t over (subst (LastLine old.held) is found)
 
-pub ends_some : {W M : Type 0} (came : Passes W) (ends : Calls W) (went : Passes W) (silent : Calls W) (blocked : Passes W) (answers : Answers M) (old : LineCutting) (u v : W) (m n : M) (last : Option (Bor (List ℕ))) (line : Bor (List ℕ)) (r : Result Bool TalkFault)
+pub ends_some : {W M : Type 0} (came : Passes W) (ends : Calls W) (went : Passes W) (silent : Calls W) (blocked : Passes W) (answers : MachineRow M) (old : LineCutting) (u v : W) (m n : M) (last : Option (Bor (List ℕ))) (line : Bor (List ℕ)) (r : Result Bool TalkFault)
     → last ≡ Some line → LastLine old.held last
     → IfOk r (λ ended. IsReply went answers u m line.now ended v n)
     → IfErr r (λ fault. IsUnsent blocked answers u m line.now v fault)
@@ -320,7 +328,7 @@ ends_some came ends went silent blocked answers old u v m n last line (Err fault
     let whole : LastLine old.held (Some line) = subst (LastLine old.held) is found in
     last_not_replied came ends went silent blocked answers wire machine pieces old line.now before u v m fault t over whole.0 whole.1 unsent
 
-pub talk_ends : {W M : Type 0} (came : Passes W) (ends : Calls W) (went : Passes W) (silent : Calls W) (blocked : Passes W) (answers : Answers M) (old : LineCutting) (u v : W) (m n : M) (r : Result Bool TalkFault) (wire : W) (machine : M) (pieces : ℕ) (before : W)
+pub talk_ends : {W M : Type 0} (came : Passes W) (ends : Calls W) (went : Passes W) (silent : Calls W) (blocked : Passes W) (answers : MachineRow M) (old : LineCutting) (u v : W) (m n : M) (r : Result Bool TalkFault) (wire : W) (machine : M) (pieces : ℕ) (before : W)
     → EndsTalk came ends went silent blocked answers old u m r v n
     → Talking came ends went answers wire machine pieces old [] before m → ends before u
     → IfOk r (λ ended. HasAnswered came ends went answers wire machine ended v n)
@@ -328,14 +336,14 @@ pub talk_ends : {W M : Type 0} (came : Passes W) (ends : Calls W) (went : Passes
 talk_ends came ends went silent blocked answers old u v m n (Ok ended) wire machine pieces before h t over = (h wire machine pieces before t over, tt)
 talk_ends came ends went silent blocked answers old u v m n (Err fault) wire machine pieces before h t over = (tt, h wire machine pieces before t over)
 
-pub piece_finishes : {W M : Type 0} (came : Passes W) (ends : Calls W) (went : Passes W) (silent : Calls W) (blocked : Passes W) (answers : Answers M) (old new : LineCutting) (piece : List ℕ) (ended : Bool) (u v : W) (m n : M)
+pub piece_finishes : {W M : Type 0} (came : Passes W) (ends : Calls W) (went : Passes W) (silent : Calls W) (blocked : Passes W) (answers : MachineRow M) (old new : LineCutting) (piece : List ℕ) (ended : Bool) (u v : W) (m n : M)
     → ended ≡ true → TakesPiece came ends went silent blocked answers old piece u m (Ok ended) new v n
     → Finishes came ends went answers old piece u m v n
 piece_finishes came ends went silent blocked answers old new piece ended u v m n is next =
     subst (λ b. TakesPiece came ends went silent blocked answers old piece u m (Ok b) new v n) is next
 
-pub piece_goes_on : {W M : Type 0} (came : Passes W) (ends : Calls W) (went : Passes W) (silent : Calls W) (blocked : Passes W) (answers : Answers M) (old new : LineCutting) (piece : List ℕ) (ended : Bool) (u v : W) (m n : M)
+pub piece_goes_on : {W M : Type 0} (came : Passes W) (ends : Calls W) (went : Passes W) (silent : Calls W) (blocked : Passes W) (answers : MachineRow M) (old new : LineCutting) (piece : List ℕ) (ended : Bool) (u v : W) (m n : M)
     → ended ≡ false → TakesPiece came ends went silent blocked answers old piece u m (Ok ended) new v n
-    → GoesOn came ends went answers old piece u m new [] v n
+    → TalkGoesOn came ends went answers old piece u m new [] v n
 piece_goes_on came ends went silent blocked answers old new piece ended u v m n is next =
     subst (λ b. TakesPiece came ends went silent blocked answers old piece u m (Ok b) new v n) is next

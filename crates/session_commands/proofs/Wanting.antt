@@ -1,16 +1,16 @@
 -- A bridge in a session in which an allocation fails.
 use Rattle.std.proofs.Common.{◌≡◌, ℕ, List, Result, Ok, Err, OnErr, ap, subst, ◌∙◌}
-use Rattle.session_table.specs.declared.event.Status.{Status}
-use Rattle.session_table.specs.declared.event.Status.TheVariants.{Going, Lost}
-use Rattle.session_table.specs.declared.state.Waits.{Waits}
+use Rattle.bridge_table.specs.declared.event.Status.{Status}
+use Rattle.bridge_table.specs.declared.event.Status.TheVariants.{Going, Lost}
+use Rattle.bridge_table.specs.declared.state.Waits.{Waits}
 use Rattle.shogi_session.specs.Events.{Event, trimmed}
 use Rattle.shogi_session.specs.Promises.{KeepsGame, SameStates, Session}
 use Rattle.shogi_session.specs.State.{slip_of, waits_for}
 use Rattle.session_commands.specs.declared.bridging.Seat.{Seat}
 use Rattle.shogi_board.specs.declared.memory.OutOfMemory.{OutOfMemory}
 use Rattle.session_commands.specs.declared.bridging.Seat.TheVariants.{Engine, Server}
-use Rattle.session_commands.specs.Plays.{Delivers, Hears, Misses, Tells, seat_for}
-use Rattle.session_commands.specs.Wanting.{GoneWants, HearWants, not_stepped, PlayWants, SendWants, server_gone, StepWants, first_unsent, later_unsent, no_next}
+use Rattle.session_commands.specs.Plays.{Delivers, Gives, Misses, Takes, seat_for}
+use Rattle.session_commands.specs.Wanting.{GoneWants, NextWants, not_stepped, PlayWants, SendWants, server_gone, StepWants, first_unsent, later_unsent, no_next}
 use Rattle.session_commands.proofs.Playing.{Answered, Rounds, first, later}
 
 -- what holds anyway holds at an error
@@ -27,30 +27,30 @@ step_wants old e f new same going lost config states slip game =
     subst (λ x. StepWants old x new) same (record { going = going; lost = lost; config = config; states = states; slip = slip; game = game })
 
 -- what came from it has no step
-pub seat_not_stepped : {E : Type 0} (heard : Hears E) (missed : Misses E) (e : E) (s : Session) (seat : Seat) (waits : Waits) (event : Event) (f : E) (t : Session)
-    → seat ≡ seat_for waits → waits ≡ waits_for s.state → heard e seat event f → StepWants s event t → HearWants heard missed e s f t
-seat_not_stepped heard missed e s seat waits event f t is_seat is_waits came wants =
-    not_stepped event (subst (λ x. heard e x event f) (is_seat ∙ ap seat_for is_waits) came) wants
+pub seat_not_stepped : {E : Type 0} (came : Gives E) (missed : Misses E) (e : E) (s : Session) (seat : Seat) (waits : Waits) (event : Event) (f : E) (t : Session)
+    → seat ≡ seat_for waits → waits ≡ waits_for s.state → came e seat event f → StepWants s event t → NextWants came missed e s f t
+seat_not_stepped came missed e s seat waits event f t is_seat is_waits arrived wants =
+    not_stepped event (subst (λ x. came e x event f) (is_seat ∙ ap seat_for is_waits) arrived) wants
 
 -- the engine's lines were delivered, and the server did not take its own
-pub server_wants : {E : Type 0} (told gone : Tells E) (to_engine to_server engine_lines server_lines : List ℕ) (e : E) (s : Session) (status : Status) (g : E) (u : Session) (after : Status) (f : E) (t : Session) (answer : Result Status OutOfMemory)
+pub server_wants : {E : Type 0} (went gone : Takes E) (to_engine to_server engine_lines server_lines : List ℕ) (e : E) (s : Session) (status : Status) (g : E) (u : Session) (after : Status) (f : E) (t : Session) (answer : Result Status OutOfMemory)
     → engine_lines ≡ to_engine → server_lines ≡ to_server
-    → Delivers told gone Engine engine_lines e s status g u after → OnErr answer (GoneWants gone Server server_lines g u f t)
-    → OnErr answer (SendWants told gone to_engine to_server e s status f t)
-server_wants told gone to_engine to_server engine_lines server_lines e s status g u after f t (Ok x) is_engine is_server delivered wants = tt
-server_wants told gone to_engine to_server engine_lines server_lines e s status g u after f t (Err x) is_engine is_server delivered wants =
-    server_gone g u after (subst (λ x. Delivers told gone Engine x e s status g u after) is_engine delivered) (subst (λ x. GoneWants gone Server x g u f t) is_server wants)
+    → Delivers went gone Engine engine_lines e s status g u after → OnErr answer (GoneWants gone Server server_lines g u f t)
+    → OnErr answer (SendWants went gone to_engine to_server e s status f t)
+server_wants went gone to_engine to_server engine_lines server_lines e s status g u after f t (Ok x) is_engine is_server delivered wants = tt
+server_wants went gone to_engine to_server engine_lines server_lines e s status g u after f t (Err x) is_engine is_server delivered wants =
+    server_gone g u after (subst (λ x. Delivers went gone Engine x e s status g u after) is_engine delivered) (subst (λ x. GoneWants gone Server x g u f t) is_server wants)
 
 -- the lines of a step were not all sent
-pub unsent : {E : Type 0} (heard : Hears E) (missed : Misses E) (told gone : Tells E) (e : E) (s : Session) (to_engine to_server : List ℕ) (status : Status) (count : ℕ) (f : E) (t : Session) (g : E) (u : Session)
-    → Answered heard told gone e s to_engine to_server status count f t → SendWants told gone to_engine to_server f t status g u
-    → PlayWants heard missed told gone e s g u
-unsent heard missed told gone e s to_engine to_server status count f t g u (first t' step) wants =
+pub unsent : {E : Type 0} (came : Gives E) (missed : Misses E) (went gone : Takes E) (e : E) (s : Session) (to_engine to_server : List ℕ) (status : Status) (count : ℕ) (f : E) (t : Session) (g : E) (u : Session)
+    → Answered came went gone e s to_engine to_server status count f t → SendWants went gone to_engine to_server f t status g u
+    → PlayWants came missed went gone e s g u
+unsent came missed went gone e s to_engine to_server status count f t g u (first t' step) wants =
     first_unsent (record { to_engine = to_engine; to_server = to_server; stepped = status; session = t; step = step; unsent = wants })
-unsent heard missed told gone e s to_engine to_server status count f t g u (later f' g' t' u' event played came step) wants =
-    later_unsent f' f t' event played came (record { to_engine = to_engine; to_server = to_server; stepped = status; session = t; step = step; unsent = wants })
+unsent came missed went gone e s to_engine to_server status count f t g u (later f' g' t' u' event played arrived step) wants =
+    later_unsent f' f t' event played arrived (record { to_engine = to_engine; to_server = to_server; stepped = status; session = t; step = step; unsent = wants })
 
 -- nothing came after the rounds that passed
-pub not_next : {E : Type 0} (heard : Hears E) (missed : Misses E) (told gone : Tells E) (e : E) (s : Session) (count : ℕ) (f : E) (t : Session) (g : E) (u : Session)
-    → Rounds heard told gone e s count f t Going → HearWants heard missed f t g u → PlayWants heard missed told gone e s g u
-not_next heard missed told gone e s count f t g u rounds wants = no_next f t rounds.played wants
+pub not_next : {E : Type 0} (came : Gives E) (missed : Misses E) (went gone : Takes E) (e : E) (s : Session) (count : ℕ) (f : E) (t : Session) (g : E) (u : Session)
+    → Rounds came went gone e s count f t Going → NextWants came missed f t g u → PlayWants came missed went gone e s g u
+not_next came missed went gone e s count f t g u rounds wants = no_next f t rounds.played wants

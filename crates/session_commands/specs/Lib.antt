@@ -1,3 +1,4 @@
+pub mod Comments
 pub mod Faults
 pub mod Kept
 pub mod Offered
@@ -6,6 +7,7 @@ pub mod Playing
 pub mod Plays
 pub mod Ports
 pub mod Showing
+pub mod Talking
 pub mod Talks
 pub mod Wanting
 pub mod Words

@@ -2,8 +2,8 @@
 use Rattle.std.specs.Prelude.{◌≡◌, ℕ, ◌++◌, true, List, [], ◌∷◌, map}
 use Rattle.std.specs.List.{AllByRecursion, flat_map, list_any}
 use Rattle.csa_record.specs.Items.{AtMostOne}
-use Rattle.session_table.specs.declared.config.Config.{Config}
-use Rattle.session_table.specs.declared.event.Status.{Status}
+use Rattle.bridge_table.specs.declared.config.Config.{Config}
+use Rattle.bridge_table.specs.declared.event.Status.{Status}
 use Rattle.shogi_session.specs.Events.{Event, begin, trimmed}
 use Rattle.shogi_session.specs.Logs.{Leads, Step, event_in, is_answer, sent_lines}
 use Rattle.shogi_session.specs.Promises.{Session}
@@ -12,34 +12,34 @@ use Rattle.shogi_session.specs.State.{State}
 use Rattle.shogi_session.specs.Texts.{text_of}
 use Rattle.session_commands.specs.declared.bridging.Seat.{Seat}
 use Rattle.session_commands.specs.declared.bridging.Seat.TheVariants.{Engine, Server}
-use Rattle.session_commands.specs.Plays.{Delivers, no_lines, taken, lost, Hears, Played, begun, goes_on, Round, Tells, end_of}
+use Rattle.session_commands.specs.Plays.{Delivers, no_lines, taken, lost, Gives, Played, begun, goes_on, Round, Takes, end_of}
 
 -- a seat that did not take its lines is gone
-abbrev pub lost_of : {E : Type 0} {told gone : Tells E} (seat : Seat) {lines : List ℕ} {e : E}
+abbrev pub lost_of : {E : Type 0} {went gone : Takes E} (seat : Seat) {lines : List ℕ} {e : E}
     {s : Session} {status : Status} {f : E} {t : Session} {after : Status}
-    → Delivers told gone seat lines e s status f t after → List Event
+    → Delivers went gone seat lines e s status f t after → List Event
 lost_of seat (no_lines none same kept) = []
 lost_of seat (taken took kept) = []
 lost_of seat (lost to_engine to_server after missed step) = end_of seat ∷ []
 
 -- what happened to the bridge in a round: its event, and which seats were gone
-abbrev pub happened_in : {E : Type 0} {told gone : Tells E} (event : Event) {e : E} {s : Session}
-    {f : E} {t : Session} {status : Status} → Round told gone event e s f t status → List Event
+abbrev pub happened_in : {E : Type 0} {went gone : Takes E} (event : Event) {e : E} {s : Session}
+    {f : E} {t : Session} {status : Status} → Round went gone event e s f t status → List Event
 happened_in event round =
     event ∷ (lost_of Engine round.sent.first ++ lost_of Server round.sent.second)
 
 -- what happened to it, in order
-abbrev pub happened : {E : Type 0} {heard : Hears E} {told gone : Tells E} {e : E} {s : Session}
-    {f : E} {t : Session} {status : Status} → Played heard told gone e s f t status → List Event
+abbrev pub happened : {E : Type 0} {came : Gives E} {went gone : Takes E} {e : E} {s : Session}
+    {f : E} {t : Session} {status : Status} → Played came went gone e s f t status → List Event
 happened (begun f t status round) = happened_in begin round
-happened (goes_on f g h t u event status played came round) =
+happened (goes_on f g h t u event status played arrived round) =
     happened played ++ happened_in event round
 
 -- the bytes that were sent to the server, in order
-abbrev pub handed : {E : Type 0} {heard : Hears E} {told gone : Tells E} {e : E} {s : Session}
-    {f : E} {t : Session} {status : Status} → Played heard told gone e s f t status → List ℕ
+abbrev pub handed : {E : Type 0} {came : Gives E} {went gone : Takes E} {e : E} {s : Session}
+    {f : E} {t : Session} {status : Status} → Played came went gone e s f t status → List ℕ
 handed (begun f t status round) = round.to_server
-handed (goes_on f g h t u event status played came round) = handed played ++ round.to_server
+handed (goes_on f g h t u event status played arrived round) = handed played ++ round.to_server
 
 -- a log from the first state on: exactly this happened, and these bytes are its lines to the server
 pub record IsLogOf (c : Config)
@@ -60,8 +60,8 @@ pub record AnswersWell (before : List Step) (step : Step) : Type 0 where
 -- this holds for each step of the log
 abbrev pub AllAnswerWell : List Step → Type 0
 AllAnswerWell log =
-    (before behind : List Step) (step : Step)
-    → log ≡ before ++ step ∷ behind → AnswersWell before step
+    (before later : List Step) (step : Step)
+    → log ≡ before ++ step ∷ later → AnswersWell before step
 
 -- what happened and what was sent to the server is a log that only answers so
 pub record PlaysLegally (c : Config)

@@ -1,37 +1,44 @@
 -- For private functions: what `play` does between two ends, and with the game that was played.
 use Rattle.std.specs.Prelude.{◌≡◌, ⊤, ℕ, Bool, false, List, Result, Ok, Err, codes, is_ok}
-use Rattle.session_commands.specs.declared.fault.BridgeFault.{BridgeFault}
-use Rattle.session_commands.specs.declared.fault.BridgeFault.TheVariants.{OutOfMemory, Endless, Session as SessionFailed}
+use Rattle.session_commands.specs.declared.fault.MatchFault.TheVariants.{OutOfMemory, Endless, Session as SessionFailed}
 use Rattle.session_commands.specs.declared.fault.MatchFault.{MatchFault}
-use Rattle.session_commands.specs.declared.fault.MatchFault.TheVariants as game
-use Rattle.session_commands.specs.Plays.{Hears, IsEndless, Misses, Played, Tells}
+use Rattle.session_commands.specs.Plays.{Gives, IsEndless, Misses, Played, Takes, seat_for}
 use Rattle.session_commands.specs.Wanting.{PlayWants}
-use Rattle.session_table.specs.declared.event.Status.TheVariants.{Done, Failed}
-use Rattle.session_table.specs.declared.fault.SessionFault.{SessionFault}
+use Rattle.bridge_table.specs.declared.event.Status.{Status}
+use Rattle.bridge_table.specs.declared.event.Status.TheVariants.{Done, Failed}
+use Rattle.bridge_table.specs.declared.fault.SessionFault.{SessionFault}
 use Rattle.shogi_session.specs.GameTold.{game_of}
-use Rattle.shogi_session.specs.Promises.{Session}
-use Rattle.shogi_session.specs.State.{first_state}
-use Rattle.session_commands.specs.Kept.{Keeps}
-use Rattle.session_commands.specs.declared.play.Plan.{Plan}
+use Rattle.shogi_session.specs.Events.{Event}
+use Rattle.shogi_session.specs.Promises.{Session, Steps}
+use Rattle.shogi_session.specs.State.{first_state, waits_for}
+use Rattle.session_commands.specs.Kept.{KeepsRecord}
+use Rattle.shogi_words.specs.declared.play.Plan.{Plan}
+
+-- what comes from the seat that the bridge waits for is one step
+pub record ComesNext {E : Type 0} (came : Gives E) (e : E) (s : Session)
+    (to_engine to_server : List ℕ) (status : Status) (f : E) (t : Session) : Type 0 where
+  pub event : Event
+  pub arrived : came e (seat_for (waits_for s.state)) event f
+  pub step : Steps s event to_engine to_server status t
 
 -- the outcome of a session that took both ends and the bridge from these states to those
-pub data CameOut {E : Type 0} (heard : Hears E) (missed : Misses E) (told gone : Tells E)
-    (e : E) (s : Session) (f : E) (t : Session) : Result ⊤ BridgeFault → Type 0 where
-  done : (over : ⊤) → Played heard told gone e s f t Done
-      → CameOut heard missed told gone e s f t (Ok over)
-  failed : (why : SessionFault) → Played heard told gone e s f t (Failed why)
-      → CameOut heard missed told gone e s f t (Err (SessionFailed why))
-  wanting : PlayWants heard missed told gone e s f t
-      → CameOut heard missed told gone e s f t (Err OutOfMemory)
-  endless : IsEndless heard told gone e s → CameOut heard missed told gone e s f t (Err Endless)
+pub data CameOut {E : Type 0} (came : Gives E) (missed : Misses E) (went gone : Takes E)
+    (e : E) (s : Session) (f : E) (t : Session) : Result ⊤ MatchFault → Type 0 where
+  done : (over : ⊤) → Played came went gone e s f t Done
+      → CameOut came missed went gone e s f t (Ok over)
+  failed : (why : SessionFault) → Played came went gone e s f t (Failed why)
+      → CameOut came missed went gone e s f t (Err (SessionFailed why))
+  wanting : PlayWants came missed went gone e s f t
+      → CameOut came missed went gone e s f t (Err OutOfMemory)
+  endless : IsEndless came went gone e s → CameOut came missed went gone e s f t (Err Endless)
 
 -- a session was played to its outcome and its game was kept; the result says whether it ended well
-pub record PlaysAndKeeps {E P : Type 0} (heard : Hears E) (missed : Misses E)
-    (told gone : Tells E) (took refused : P → List ℕ → P → Type 0) (e : E) (s : Session) (p : P)
+pub record PlaysAndKeeps {E P : Type 0} (came : Gives E) (missed : Misses E)
+    (went gone : Takes E) (took refused : P → List ℕ → P → Type 0) (e : E) (s : Session) (p : P)
     (f : E) (t : Session) (q : P) (is_over : Bool) (answer : Result ℕ MatchFault) : Type 0 where
-  pub outcome : Result ⊤ BridgeFault
-  pub came : CameOut heard missed told gone e s f t outcome
-  pub kept : Keeps took refused (game_of t.state.client) outcome p q answer
+  pub outcome : Result ⊤ MatchFault
+  pub reached : CameOut came missed went gone e s f t outcome
+  pub kept : KeepsRecord took refused (game_of t.state.client) outcome p q answer
   pub over : is_over ≡ is_ok outcome
 
 -- a bridge to which nothing has happened, as `play` configures it
@@ -44,18 +51,18 @@ pub record IsFirst (s : Session) : Type 0 where
 -- again, well or not; or it did not open, and shut
 pub data Met {H E P : Type 0} (opened : H → Plan → E → H → Type 0)
     (unopened : H → Plan → H → Type 0) (shut : H → Bool → H → Type 0)
-    (heard : Hears E) (missed : Misses E) (told gone : Tells E)
+    (came : Gives E) (missed : Misses E) (went gone : Takes E)
     (took refused : P → List ℕ → P → Type 0)
     (plan : Plan) (h : H) (p : P) (k : H) (q : P) : Result ℕ MatchFault → Type 0 where
   met : (between : H) (ends over : E)
       (first last : Session) (is_well : Bool) (answer : Result ℕ MatchFault)
       → opened h plan ends between → IsFirst first
-      → PlaysAndKeeps heard missed told gone took refused ends first p over last q is_well answer
+      → PlaysAndKeeps came missed went gone took refused ends first p over last q is_well answer
       → shut between is_well k
-      → Met opened unopened shut heard missed told gone took refused plan h p k q answer
+      → Met opened unopened shut came missed went gone took refused plan h p k q answer
   not_met : (between : H) (fault : MatchFault)
       → unopened h plan between → q ≡ p → shut between false k
-      → Met opened unopened shut heard missed told gone took refused plan h p k q (Err fault)
+      → Met opened unopened shut came missed went gone took refused plan h p k q (Err fault)
   no_bridge : (between : H) (ends : E) → opened h plan ends between → q ≡ p → shut between false k
-      → Met opened unopened shut heard missed told gone took refused plan h p k q
-      (Err game.OutOfMemory)
+      → Met opened unopened shut came missed went gone took refused plan h p k q
+      (Err OutOfMemory)

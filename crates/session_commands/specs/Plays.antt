@@ -1,32 +1,32 @@
 -- A bridge that plays between its engine and its server.
 use Rattle.std.specs.Prelude.{◌≡◌, ◌⊎◌, ◌≤◌, ◌+◌, ◌-◌, ◌^◌, ℕ, true, List, [], length}
-use Rattle.session_table.specs.declared.event.Status.{Status}
-use Rattle.session_table.specs.declared.event.Status.TheVariants.{Going}
-use Rattle.session_table.specs.declared.state.Waits.{Waits}
-use Rattle.session_table.specs.declared.state.Waits.TheVariants as waits
+use Rattle.bridge_table.specs.declared.event.Status.{Status}
+use Rattle.bridge_table.specs.declared.event.Status.TheVariants.{Going}
+use Rattle.bridge_table.specs.declared.state.Waits.{Waits}
+use Rattle.bridge_table.specs.declared.state.Waits.TheVariants as waits
 use Rattle.shogi_session.specs.Events.{Event, begin, engine_line, server_line, engine_end, server_end, engine_long, server_long}
 use Rattle.shogi_session.specs.Promises.{Session, Steps}
 use Rattle.shogi_session.specs.State.{waits_for}
 use Rattle.record_commands.specs.Incoming.{Coming, GivesEnd, GivesLine, GivesLongLine, GivesNoLine}
-use Rattle.record_commands.specs.declared.incoming.Heard.{Heard}
-use Rattle.record_commands.specs.declared.incoming.Heard.TheVariants.{Line, End, Long, Failed}
+use Rattle.record_commands.specs.declared.incoming.LineEvent.{LineEvent}
+use Rattle.record_commands.specs.declared.incoming.LineEvent.TheVariants.{Line, End, Long, Failed}
 use Rattle.session_commands.specs.declared.bridging.Seat.{Seat}
 use Rattle.session_commands.specs.declared.bridging.Seat.TheVariants.{Engine, Server}
 
 -- reading from a seat led from one state of both sides to another
-abbrev pub Hears : Type 0 → Type 1
-Hears E = E → Seat → Event → E → Type 0
+abbrev pub Gives : Type 0 → Type 1
+Gives E = E → Seat → Event → E → Type 0
 
 -- sending these lines to a seat did
-abbrev pub Tells : Type 0 → Type 1
-Tells E = E → Seat → List ℕ → E → Type 0
+abbrev pub Takes : Type 0 → Type 1
+Takes E = E → Seat → List ℕ → E → Type 0
 
 -- an allocation that failed while reading from a seat did
 abbrev pub Misses : Type 0 → Type 1
 Misses E = E → Seat → E → Type 0
 
 -- what came from a seat, as an event of the bridge
-abbrev pub event_from : Seat → Heard → List ℕ → Event
+abbrev pub event_from : Seat → LineEvent → List ℕ → Event
 event_from Engine Line line = engine_line line
 event_from Engine End line = engine_end
 event_from Engine Long line = engine_long
@@ -85,62 +85,55 @@ seat_for waits.Nobody = Server
 
 -- the lines for a seat: there are none, or it takes them, or it is gone, which is an event that the
 -- bridge takes
-pub data Delivers {E : Type 0} (told gone : Tells E) (seat : Seat) (lines : List ℕ)
+pub data Delivers {E : Type 0} (went gone : Takes E) (seat : Seat) (lines : List ℕ)
     (e : E) (s : Session) (status : Status) (f : E) (t : Session) : Status → Type 0 where
-  no_lines : lines ≡ [] → f ≡ e → t ≡ s → Delivers told gone seat lines e s status f t status
-  taken : told e seat lines f → t ≡ s → Delivers told gone seat lines e s status f t status
+  no_lines : lines ≡ [] → f ≡ e → t ≡ s → Delivers went gone seat lines e s status f t status
+  taken : went e seat lines f → t ≡ s → Delivers went gone seat lines e s status f t status
   lost : (to_engine to_server : List ℕ) (after : Status)
       → gone e seat lines f → Steps s (end_of seat) to_engine to_server after t
-      → Delivers told gone seat lines e s status f t after
+      → Delivers went gone seat lines e s status f t after
 
 -- the lines of a step: those to the engine first
-pub record Sends {E : Type 0} (told gone : Tells E) (to_engine to_server : List ℕ)
+pub record Sends {E : Type 0} (went gone : Takes E) (to_engine to_server : List ℕ)
     (e : E) (s : Session) (status : Status) (f : E) (t : Session) (after : Status) : Type 0 where
   pub between : E
   pub session : Session
   pub then_status : Status
-  pub first : Delivers told gone Engine to_engine e s status between session then_status
-  pub second : Delivers told gone Server to_server between session then_status f t after
+  pub first : Delivers went gone Engine to_engine e s status between session then_status
+  pub second : Delivers went gone Server to_server between session then_status f t after
 
 -- an event is one step, and the lines of that step are sent
-pub record Round {E : Type 0} (told gone : Tells E)
+pub record Round {E : Type 0} (went gone : Takes E)
     (event : Event) (e : E) (s : Session) (f : E) (t : Session) (status : Status) : Type 0 where
   pub to_engine : List ℕ
   pub to_server : List ℕ
   pub stepped : Status
   pub session : Session
   pub step : Steps s event to_engine to_server stepped session
-  pub sent : Sends told gone to_engine to_server e session stepped f t status
+  pub sent : Sends went gone to_engine to_server e session stepped f t status
 
 -- what passed from the first session on: its beginning, and then, while it goes on, what comes from
 -- the seat that it waits for, one event for each round
-pub data Played {E : Type 0} (heard : Hears E) (told gone : Tells E) (e : E) (s : Session)
+pub data Played {E : Type 0} (came : Gives E) (went gone : Takes E) (e : E) (s : Session)
     : E → Session → Status → Type 0 where
   begun : (f : E) (t : Session) (status : Status)
-      → Round told gone begin e s f t status → Played heard told gone e s f t status
+      → Round went gone begin e s f t status → Played came went gone e s f t status
   goes_on : (f g h : E) (t u : Session) (event : Event) (status : Status)
-      → Played heard told gone e s f t Going
-      → heard f (seat_for (waits_for t.state)) event g
-      → Round told gone event g t h u status
-      → Played heard told gone e s h u status
+      → Played came went gone e s f t Going
+      → came f (seat_for (waits_for t.state)) event g
+      → Round went gone event g t h u status
+      → Played came went gone e s h u status
 
 -- how many rounds passed
-abbrev pub rounds : {E : Type 0} {heard : Hears E} {told gone : Tells E} {e : E} {s : Session}
-    {f : E} {t : Session} {status : Status} → Played heard told gone e s f t status → ℕ
+abbrev pub rounds : {E : Type 0} {came : Gives E} {went gone : Takes E} {e : E} {s : Session}
+    {f : E} {t : Session} {status : Status} → Played came went gone e s f t status → ℕ
 rounds (begun f t status round) = 1
-rounds (goes_on f g h t u event status played came round) = rounds played + 1
+rounds (goes_on f g h t u event status played arrived round) = rounds played + 1
 
 -- the session went on for 2 ^ 64 - 1 rounds
 pub record IsEndless {E : Type 0}
-    (heard : Hears E) (told gone : Tells E) (e : E) (s : Session) : Type 0 where
+    (came : Gives E) (went gone : Takes E) (e : E) (s : Session) : Type 0 where
   pub ends : E
   pub session : Session
-  pub played : Played heard told gone e s ends session Going
+  pub played : Played came went gone e s ends session Going
   pub many : 2 ^ 64 - 1 ≤ rounds played
-
--- what comes from the seat that the bridge waits for is one step
-pub record HearsNext {E : Type 0} (heard : Hears E) (e : E) (s : Session)
-    (to_engine to_server : List ℕ) (status : Status) (f : E) (t : Session) : Type 0 where
-  pub event : Event
-  pub came : heard e (seat_for (waits_for s.state)) event f
-  pub step : Steps s event to_engine to_server status t

@@ -1,7 +1,7 @@
 -- A machine that answers the lines that come over a wire.
-use Rattle.std.specs.Prelude.{◌≡◌, ◌⊎◌, ℕ, ◌-◌, ◌^◌, ◌≤◌, Bool, true, false, List, [], ◌∷◌, ◌++◌, length, drop, Option, Result, Ok, Err}
+use Rattle.std.specs.Prelude.{◌≡◌, ◌⊎◌, ℕ, ◌-◌, ◌^◌, ◌≤◌, Bool, true, false, List, [], ◌∷◌, ◌++◌, length, Option}
 use Rattle.csa_cutting.specs.Lines.{Lines}
-use Rattle.csa_cutting.specs.LineCutting.{LineCutting, BeginsTooLong}
+use Rattle.csa_cutting.specs.LineCutting.{BeginsTooLong}
 use Rattle.session_commands.specs.declared.fault.TalkFault.{TalkFault}
 use Rattle.session_commands.specs.declared.fault.TalkFault.TheVariants.{LineTooLong, Read, Write, OutOfMemory}
 
@@ -19,24 +19,24 @@ abbrev pub Passes : Type 0 → Type 1
 Passes W = W → List ℕ → W → Type 0
 
 -- a machine, a line, the bytes of its answer, whether the machine has ended, and its next state
-abbrev pub Answers : Type 0 → Type 1
-Answers M = M → List ℕ → List ℕ → Bool → M → Type 0
+abbrev pub MachineRow : Type 0 → Type 1
+MachineRow M = M → List ℕ → List ℕ → Bool → M → Type 0
 
 -- after these lines of the bytes, this one is next, and has ended
 abbrev pub IsNextOf : List ℕ → List (List ℕ) → List ℕ → Type 0
 IsNextOf bytes lines line =
-    (front behind : List ℕ) × (bytes ≡ front ++ behind) × Lines front (lines ++ line ∷ []) []
+    (front after : List ℕ) × (bytes ≡ front ++ after) × Lines front (lines ++ line ∷ []) []
 
 -- after these lines of the bytes, the next one has more than 65,536 bytes
 abbrev pub IsLongNext : List ℕ → List (List ℕ) → Type 0
 IsLongNext bytes lines =
-    (front behind rest : List ℕ) × (bytes ≡ front ++ behind)
-    × Lines front lines rest × BeginsTooLong 65536 (rest ++ behind)
+    (front after rest : List ℕ) × (bytes ≡ front ++ after)
+    × Lines front lines rest × BeginsTooLong 65536 (rest ++ after)
 
 -- what passed from the first wire and machine on: the bytes that came; whether the end did, which
 -- ends a line as LF does; and the lines that were answered
 pub data Talked {W M : Type 0} (came : Passes W) (ends : Calls W) (went : Passes W)
-    (answers : Answers M) (wire : W) (machine : M)
+    (answers : MachineRow M) (wire : W) (machine : M)
     : List ℕ → Bool → List (List ℕ) → W → M → Type 0 where
   nothing : Talked came ends went answers wire machine [] false [] wire machine
   -- more bytes come only once each line that has ended was answered
@@ -58,8 +58,8 @@ pub data Talked {W M : Type 0} (came : Passes W) (ends : Calls W) (went : Passes
       → Talked came ends went answers wire machine bytes over (lines ++ line ∷ []) u n
 
 -- the next line was answered, which ended the machine, and its answer was sent
-pub record IsEnded {W M : Type 0} (came : Passes W) (ends : Calls W)
-    (went : Passes W) (answers : Answers M) (wire : W) (machine : M) (v : W) (m : M) : Type 0 where
+pub record IsEnded {W M : Type 0} (came : Passes W) (ends : Calls W) (went : Passes W)
+    (answers : MachineRow M) (wire : W) (machine : M) (v : W) (m : M) : Type 0 where
   pub bytes : List ℕ
   pub over : Bool
   pub lines : List (List ℕ)
@@ -74,8 +74,8 @@ pub record IsEnded {W M : Type 0} (came : Passes W) (ends : Calls W)
   pub sent : went before text v
 
 -- each line was answered up to the end, and none ended the machine
-pub record IsAnswered {W M : Type 0} (came : Passes W) (ends : Calls W)
-    (went : Passes W) (answers : Answers M) (wire : W) (machine : M) (v : W) (m : M) : Type 0 where
+pub record IsAnswered {W M : Type 0} (came : Passes W) (ends : Calls W) (went : Passes W)
+    (answers : MachineRow M) (wire : W) (machine : M) (v : W) (m : M) : Type 0 where
   pub bytes : List ℕ
   pub lines : List (List ℕ)
   pub talked : Talked came ends went answers wire machine bytes true lines v m
@@ -83,26 +83,21 @@ pub record IsAnswered {W M : Type 0} (came : Passes W) (ends : Calls W)
 
 -- the machine has answered each line, or those up to the one that ended it
 abbrev pub HasAnswered : {W M : Type 0}
-    → Passes W → Calls W → Passes W → Answers M → W → M → Bool → W → M → Type 0
+    → Passes W → Calls W → Passes W → MachineRow M → W → M → Bool → W → M → Type 0
 HasAnswered came ends went answers wire machine true v m =
     IsEnded came ends went answers wire machine v m
 HasAnswered came ends went answers wire machine false v m =
     IsAnswered came ends went answers wire machine v m
 
--- a line was answered, and its answer was sent
-abbrev pub IsReply : {W M : Type 0} → Passes W → Answers M → W → M → List ℕ → Bool → W → M → Type 0
-IsReply {W} {M} went answers u n line ended v m =
-    (text : List ℕ) × answers n line text ended m × went u text v
-
 -- a line has no answer, as memory ran out, or its answer was not sent
 pub data IsUnsent {W M : Type 0} (blocked : Passes W)
-    (answers : Answers M) (u : W) (n : M) (line : List ℕ) (v : W) : TalkFault → Type 0 where
+    (answers : MachineRow M) (u : W) (n : M) (line : List ℕ) (v : W) : TalkFault → Type 0 where
   no_answer : v ≡ u → IsUnsent blocked answers u n line v OutOfMemory
   not_sent : (text : List ℕ) (ended : Bool) (m : M) → answers n line text ended m → blocked u text v
       → IsUnsent blocked answers u n line v Write
 
 -- why a talk went no further than this wire and machine, and the wire after it
-pub data Breaks {W M : Type 0} (silent : Calls W) (blocked : Passes W) (answers : Answers M)
+pub data Breaks {W M : Type 0} (silent : Calls W) (blocked : Passes W) (answers : MachineRow M)
     (bytes : List ℕ) (over : Bool) (lines : List (List ℕ)) (u : W) (n : M) (v : W)
     : TalkFault → Type 0 where
   -- the next line is too long
@@ -125,7 +120,7 @@ pub data Breaks {W M : Type 0} (silent : Calls W) (blocked : Passes W) (answers 
 -- the lines up to a fault were answered
 pub record BreaksOff {W M : Type 0}
     (came : Passes W) (ends : Calls W) (went : Passes W) (silent : Calls W) (blocked : Passes W)
-    (answers : Answers M) (wire : W) (machine : M) (fault : TalkFault) (v : W) : Type 0 where
+    (answers : MachineRow M) (wire : W) (machine : M) (fault : TalkFault) (v : W) : Type 0 where
   pub bytes : List ℕ
   pub over : Bool
   pub lines : List (List ℕ)
@@ -133,73 +128,3 @@ pub record BreaksOff {W M : Type 0}
   pub last : M
   pub talked : Talked came ends went answers wire machine bytes over lines before last
   pub breaks : Breaks silent blocked answers bytes over lines before last v fault
-
--- a talk that is going on, after this number of pieces: what came is cut, except for what is left,
--- and the lines so far were answered
-pub record Talking {W M : Type 0}
-    (came : Passes W) (ends : Calls W) (went : Passes W) (answers : Answers M) (wire : W)
-    (machine : M) (pieces : ℕ) (cutter : LineCutting) (left : List ℕ) (v : W) (m : M) : Type 0 where
-  pub used : List ℕ
-  pub lines : List (List ℕ)
-  pub talked : Talked came ends went answers wire machine (used ++ left) false lines v m
-  pub cut : Lines used lines cutter.held
-  pub least : pieces ≤ length (used ++ left)
-  pub limit : cutter.limit ≡ 65536
-  pub sound : cutter.failed ≡ false
-  pub short : length cutter.held ≤ 65536
-
--- wherever a talk began, it goes on
-abbrev pub GoesOn : {W M : Type 0} → Passes W → Calls W
-    → Passes W → Answers M → LineCutting → List ℕ → W → M → LineCutting → List ℕ → W → M → Type 0
-GoesOn {W} {M} came ends went answers old piece u n new left v m =
-    (wire : W) (machine : M) (pieces : ℕ)
-    → Talking came ends went answers wire machine pieces old piece u n
-    → Talking came ends went answers wire machine pieces new left v m
-
--- wherever a talk began, the machine ends it
-abbrev pub Finishes : {W M : Type 0}
-    → Passes W → Calls W → Passes W → Answers M → LineCutting → List ℕ → W → M → W → M → Type 0
-Finishes {W} {M} came ends went answers old piece u n v m =
-    (wire : W) (machine : M) (pieces : ℕ)
-    → Talking came ends went answers wire machine pieces old piece u n
-    → IsEnded came ends went answers wire machine v m
-
--- wherever a talk began, it breaks off
-abbrev pub Stops : {W M : Type 0} → Passes W → Calls W → Passes W
-    → Calls W → Passes W → Answers M → LineCutting → List ℕ → W → M → TalkFault → W → Type 0
-Stops {W} {M} came ends went silent blocked answers old piece u n fault v =
-    (wire : W) (machine : M) (pieces : ℕ)
-    → Talking came ends went answers wire machine pieces old piece u n
-    → BreaksOff came ends went silent blocked answers wire machine fault v
-
-abbrev pub TakesNext : {W M : Type 0}
-    → Passes W → Calls W → Passes W → Calls W → Passes W → Answers M
-    → LineCutting → List ℕ → W → M → Result (ℕ × Bool) TalkFault → LineCutting → W → M → Type 0
-TakesNext came ends went silent blocked answers old piece u n (Ok (used, false)) new v m =
-    GoesOn came ends went answers old piece u n new (drop used piece) v m
-TakesNext came ends went silent blocked answers old piece u n (Ok (used, true)) new v m =
-    Finishes came ends went answers old piece u n v m
-TakesNext came ends went silent blocked answers old piece u n (Err fault) new v m =
-    Stops came ends went silent blocked answers old piece u n fault v
-
-abbrev pub TakesPiece : {W M : Type 0}
-    → Passes W → Calls W → Passes W → Calls W → Passes W → Answers M
-    → LineCutting → List ℕ → W → M → Result Bool TalkFault → LineCutting → W → M → Type 0
-TakesPiece came ends went silent blocked answers old piece u n (Ok false) new v m =
-    GoesOn came ends went answers old piece u n new [] v m
-TakesPiece came ends went silent blocked answers old piece u n (Ok true) new v m =
-    Finishes came ends went answers old piece u n v m
-TakesPiece came ends went silent blocked answers old piece u n (Err fault) new v m =
-    Stops came ends went silent blocked answers old piece u n fault v
-
--- the end came, and the unfinished line was answered
-abbrev pub EndsTalk : {W M : Type 0} → Passes W → Calls W → Passes W
-    → Calls W → Passes W → Answers M → LineCutting → W → M → Result Bool TalkFault → W → M → Type 0
-EndsTalk {W} {M} came ends went silent blocked answers old u n (Ok ended) v m =
-    (wire : W) (machine : M) (pieces : ℕ) (before : W)
-    → Talking came ends went answers wire machine pieces old [] before n → ends before u
-    → HasAnswered came ends went answers wire machine ended v m
-EndsTalk {W} {M} came ends went silent blocked answers old u n (Err fault) v m =
-    (wire : W) (machine : M) (pieces : ℕ) (before : W)
-    → Talking came ends went answers wire machine pieces old [] before n → ends before u
-    → BreaksOff came ends went silent blocked answers wire machine fault v

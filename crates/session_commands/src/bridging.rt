@@ -1,21 +1,22 @@
 //! A bridge, and the lines that pass between it, its engine and its server.
 
-ghost use Rattle.std.specs.Prelude.{◌≡◌, ◌↔◌, [], true, false, IsErrOf, IsTrue, IfOk, OnOk, OnErr};
+ghost use Rattle.std.specs.Prelude.{◌≡◌, ◌↔◌, IsErrOf, IsTrue, IfOk, OnOk, OnErr};
 ghost use Rattle.csa_cutting.specs.Lines.{HasNoLineEnd};
-ghost use Rattle.session_commands.specs.Plays.{Delivers, HearsNext, IsEndless, Played, Sends, end_of, event_from, seat_for};
+ghost use Rattle.session_commands.specs.Playing.{ComesNext};
+ghost use Rattle.session_commands.specs.Plays.{Delivers, IsEndless, Played, Sends, end_of, event_from, seat_for};
 ghost use Rattle.session_commands.specs.PlayedLogs.{PlaysLegally, handed, happened};
-ghost use Rattle.session_commands.specs.Wanting.{GoneWants, HearWants, PlayWants, SendWants};
-ghost use Rattle.session_commands.specs.declared.fault.BridgeFault.{BridgeFault};
-ghost use Rattle.session_table.specs.declared.event.Status.{Status};
+ghost use Rattle.session_commands.specs.Wanting.{GoneWants, NextWants, PlayWants, SendWants};
+ghost use Rattle.session_commands.specs.declared.fault.MatchFault.{MatchFault};
+ghost use Rattle.bridge_table.specs.declared.event.Status.{Status};
 ghost use Rattle.shogi_session.specs.Promises.{HoldsLine, Session, event_of};
 ghost use Rattle.shogi_session.specs.State.{first_state, waits_for};
-ghost use Rattle.session_table.specs.declared.event.Status.TheVariants.{Done, Failed};
+ghost use Rattle.bridge_table.specs.declared.event.Status.TheVariants.{Done, Failed};
 
-use crate::fault::BridgeFault;
+use crate::fault::MatchFault;
 use crate::laws::played_moves_are_legal;
 use crate::progress::Progress;
-use record_commands::incoming::{Heard, Incoming};
-use record_commands::streams;
+use record_commands::incoming::{Incoming, LineEvent};
+use record_commands::{WriteFault, streams};
 use shogi_board::OutOfMemory;
 use shogi_session::{Bridge, Event, Out, SessionFault, Status, Waits};
 use std::io::{Eprint, Read, Write};
@@ -39,13 +40,13 @@ pub trait Ends {
     ghost last_line: { Self → Seat → List ℕ };
 
     // This event came from that seat.
-    ghost heard: { Self → Seat → Taken → Self → Type 0 };
+    ghost came: { Self → Seat → Taken → Self → Type 0 };
 
     // An allocation failed for what came from that seat.
     ghost missed: { Self → Seat → Self → Type 0 };
 
     // The seat took these lines.
-    ghost told: { Self → Seat → List ℕ → Self → Type 0 };
+    ghost went: { Self → Seat → List ℕ → Self → Type 0 };
 
     // The seat did not take these lines, or only some of them.
     ghost gone: { Self → Seat → List ℕ → Self → Type 0 };
@@ -53,10 +54,10 @@ pub trait Ends {
     /// Reads what comes next from that seat. A line is then in `line`.
     ///
     /// Returns `OutOfMemory` if an allocation fails.
-    fn hear(&mut self, seat: Seat) -> Result<Heard, OutOfMemory>
-        ensures heard { IfOk result (λ what. heard self.old seat
+    fn receive(&mut self, seat: Seat) -> Result<LineEvent, OutOfMemory>
+        ensures came { IfOk result (λ what. came self.old seat
             (event_from seat what (last_line self.new seat)) self.new) }
-        ensures line { IfOk result (λ what. what ≡ Heard.Line
+        ensures line { IfOk result (λ what. what ≡ LineEvent.Line
             → HasNoLineEnd (last_line self.new seat)) }
         ensures missed { OnErr result (missed self.old seat self.new) };
 
@@ -64,10 +65,11 @@ pub trait Ends {
     fn line(&self, seat: Seat) -> &[u8]
         ensures value { result.now ≡ last_line self.now seat };
 
-    /// Sends the seat these lines, with their line ends. Returns whether it took them all.
-    fn tell(&mut self, seat: Seat, lines: &[u8]) -> bool
-        ensures told { result ≡ true → told self.old seat lines.now self.new }
-        ensures gone { result ≡ false → gone self.old seat lines.now self.new };
+    /// Sends the seat these lines, with their line ends. Refuses `WriteFault` if it did not take
+    /// them all.
+    fn send(&mut self, seat: Seat, lines: &[u8]) -> Result<(), WriteFault>
+        ensures went { OnOk result (went self.old seat lines.now self.new) }
+        ensures gone { OnErr result (gone self.old seat lines.now self.new) };
 }
 
 /// The streams of a bridge's engine or server.
@@ -99,7 +101,7 @@ impl<ER: Read + Drop, EW: Write + Drop, SR: Read + Drop, SW: Write + Drop> Ends
     ghost last_line = { λ s seat. line_by_seat
         seat s.engine.lines.now.line s.server.lines.now.line };
 
-    ghost heard = { λ s seat event t. OfSeat seat
+    ghost came = { λ s seat event t. OfSeat seat
         (Comes Engine s.engine.lines.now t.engine.lines.now event
         × (t.engine.writer ≡ s.engine.writer) × (t.server ≡ s.server))
         (Comes Server s.server.lines.now t.server.lines.now event
@@ -109,7 +111,7 @@ impl<ER: Read + Drop, EW: Write + Drop, SR: Read + Drop, SW: Write + Drop> Ends
         ((t.engine.writer ≡ s.engine.writer) × (t.server ≡ s.server))
         ((t.server.writer ≡ s.server.writer) × (t.engine ≡ s.engine)) };
 
-    ghost told = { λ s seat lines t. OfSeat seat
+    ghost went = { λ s seat lines t. OfSeat seat
         (Appends (EW.contents s.engine.writer) (EW.contents t.engine.writer) lines
         × (t.engine.lines ≡ s.engine.lines) × (t.server ≡ s.server))
         (Appends (SW.contents s.server.writer) (SW.contents t.server.writer) lines
@@ -119,10 +121,10 @@ impl<ER: Read + Drop, EW: Write + Drop, SR: Read + Drop, SW: Write + Drop> Ends
         ((t.engine.lines ≡ s.engine.lines) × (t.server ≡ s.server))
         ((t.server.lines ≡ s.server.lines) × (t.engine ≡ s.engine)) };
 
-    fn hear(&mut self, seat: Seat) -> Result<Heard, OutOfMemory> {
+    fn receive(&mut self, seat: Seat) -> Result<LineEvent, OutOfMemory> {
         match seat {
-            Seat::Engine => self.engine.lines.hear(),
-            Seat::Server => self.server.lines.hear(),
+            Seat::Engine => self.engine.lines.read_line(),
+            Seat::Server => self.server.lines.read_line(),
         }
     }
 
@@ -133,10 +135,10 @@ impl<ER: Read + Drop, EW: Write + Drop, SR: Read + Drop, SW: Write + Drop> Ends
         }
     }
 
-    fn tell(&mut self, seat: Seat, lines: &[u8]) -> bool {
+    fn send(&mut self, seat: Seat, lines: &[u8]) -> Result<(), WriteFault> {
         match seat {
-            Seat::Engine => streams::write_all(&mut self.engine.writer, lines).is_ok(),
-            Seat::Server => streams::write_all(&mut self.server.writer, lines).is_ok(),
+            Seat::Engine => streams::write_all(&mut self.engine.writer, lines),
+            Seat::Server => streams::write_all(&mut self.server.writer, lines),
         }
     }
 }
@@ -152,19 +154,20 @@ pub fn play<R: Eprint + AllocGlobal, E: Ends>(
     bridge: &mut Bridge,
     ends: &mut E,
     progress: &mut Progress,
-) -> Result<(), BridgeFault>
+) -> Result<(), MatchFault>
     ensures done { OnOk result
-        (Played E.heard E.told E.gone ends.old bridge.old ends.new bridge.new Done) }
-    ensures failed { (fault : SessionFault) → IsErrOf result (BridgeFault.Session fault)
-        → Played E.heard E.told E.gone ends.old bridge.old ends.new bridge.new (Failed fault) }
-    ensures wanting { IsErrOf result BridgeFault.OutOfMemory
-        → PlayWants E.heard E.missed E.told E.gone ends.old bridge.old ends.new bridge.new }
+        (Played E.came E.went E.gone ends.old bridge.old ends.new bridge.new Done) }
+    ensures failed { (fault : SessionFault) → IsErrOf result (MatchFault.Session fault)
+        → Played E.came E.went E.gone ends.old bridge.old ends.new bridge.new (Failed fault) }
+    ensures wanting { IsErrOf result MatchFault.OutOfMemory
+        → PlayWants E.came E.missed E.went E.gone ends.old bridge.old ends.new bridge.new }
     ensures legal { (f : E) (t : Session) (status : Status)
-        (played : Played E.heard E.told E.gone ends.old bridge.old f t status)
+        (played : Played E.came E.went E.gone ends.old bridge.old f t status)
         → bridge.old.state ≡ first_state
         → PlaysLegally bridge.old.config (happened played) (handed played) t.state }
-    ensures endless { IsErrOf result BridgeFault.Endless
-        → IsEndless E.heard E.told E.gone ends.old bridge.old }
+    ensures unwritten { IsErrOf result MatchFault.Write → ⊥ }
+    ensures endless { IsErrOf result MatchFault.Endless
+        → IsEndless E.came E.went E.gone ends.old bridge.old }
 {
     played_moves_are_legal::<E>();
     let mut out = bridge.step(Event::Begin)?;
@@ -172,20 +175,20 @@ pub fn play<R: Eprint + AllocGlobal, E: Ends>(
         match send(bridge, ends, &out)? {
             Status::Going => {}
             Status::Done => return Ok(()),
-            Status::Failed(fault) => return Err(BridgeFault::Session(fault)),
-            Status::Lost => return Err(BridgeFault::OutOfMemory),
+            Status::Failed(fault) => return Err(MatchFault::Session(fault)),
+            Status::Lost => return Err(MatchFault::OutOfMemory),
         }
-        out = hear_next(rt, bridge, ends, progress)?;
+        out = step_next(rt, bridge, ends, progress)?;
     }
-    Err(BridgeFault::Endless)
+    Err(MatchFault::Endless)
 }
 
 // Sends the answer of a step. Returns the session's status after that.
 #[tactic(auto, using(crate::proofs::Wanting::server_wants))]
 fn send<E: Ends>(bridge: &mut Bridge, ends: &mut E, out: &Out) -> Result<Status, OutOfMemory>
-    ensures sent { IfOk result (λ status. Sends E.told E.gone out.now.to_engine
+    ensures sent { IfOk result (λ status. Sends E.went E.gone out.now.to_engine
         out.now.to_server ends.old bridge.old out.now.status ends.new bridge.new status) }
-    ensures wanting { OnErr result (SendWants E.told E.gone out.now.to_engine
+    ensures wanting { OnErr result (SendWants E.went E.gone out.now.to_engine
         out.now.to_server ends.old bridge.old out.now.status ends.new bridge.new) }
 {
     let status = deliver(
@@ -208,23 +211,17 @@ fn deliver<E: Ends>(
     status: Status,
 ) -> Result<Status, OutOfMemory>
     ensures delivered { IfOk result (λ after. Delivers
-        E.told E.gone seat lines.now ends.old bridge.old status ends.new bridge.new after) }
+        E.went E.gone seat lines.now ends.old bridge.old status ends.new bridge.new after) }
     ensures wanting { OnErr result
         (GoneWants E.gone seat lines.now ends.old bridge.old ends.new bridge.new) }
 {
-    if is_empty(lines) {
+    if lines.is_empty() {
         return Ok(status);
     }
-    if ends.tell(seat, lines) {
-        return Ok(status);
+    match ends.send(seat, lines) {
+        Ok(()) => Ok(status),
+        Err(WriteFault) => Ok(bridge.step(end_event(seat))?.status),
     }
-    Ok(bridge.step(end_event(seat))?.status)
-}
-
-fn is_empty(lines: &[u8]) -> bool
-    ensures { IsTrue result ↔ (lines.now ≡ []) }
-{
-    lines.is_empty()
 }
 
 fn end_event(seat: Seat) -> Event<'static>
@@ -237,23 +234,23 @@ fn end_event(seat: Seat) -> Event<'static>
 }
 
 // The step for what comes next from the seat that the bridge waits for.
-fn hear_next<R: Eprint + AllocGlobal, E: Ends>(
+fn step_next<R: Eprint + AllocGlobal, E: Ends>(
     rt: &R,
     bridge: &mut Bridge,
     ends: &mut E,
     progress: &mut Progress,
 ) -> Result<Out, OutOfMemory>
-    ensures heard { IfOk result (λ out. HearsNext
-        E.heard ends.old bridge.old out.to_engine out.to_server out.status ends.new bridge.new) }
+    ensures came { IfOk result (λ out. ComesNext
+        E.came ends.old bridge.old out.to_engine out.to_server out.status ends.new bridge.new) }
     ensures wanting { OnErr result
-        (HearWants E.heard E.missed ends.old bridge.old ends.new bridge.new) }
+        (NextWants E.came E.missed ends.old bridge.old ends.new bridge.new) }
 {
     let seat = seat_of(bridge.waits_for());
-    let heard = ends.hear(seat)?;
+    let read = ends.receive(seat)?;
     let line = ends.line(seat);
     let was_on = progress.is_on(bridge);
-    let out = bridge.step(event(seat, heard, line))?;
-    if was_on && is_shown(seat, heard, out.status) {
+    let out = bridge.step(event(seat, read, line))?;
+    if was_on && is_shown(seat, read, out.status) {
         progress.show(rt, bridge, line);
     }
     Ok(out)
@@ -269,28 +266,28 @@ fn seat_of(waits: Waits) -> Seat
 }
 
 // What came from the seat, as an event.
-fn event(seat: Seat, heard: Heard, line: &[u8]) -> Event<'_>
-    requires { heard ≡ Heard.Line → HasNoLineEnd line.now }
-    ensures event { event_of result ≡ event_from seat heard line.now }
+fn event(seat: Seat, read: LineEvent, line: &[u8]) -> Event<'_>
+    requires { read ≡ LineEvent.Line → HasNoLineEnd line.now }
+    ensures event { event_of result ≡ event_from seat read line.now }
     ensures line { HoldsLine (event_of result) }
 {
-    match (seat, heard) {
-        (Seat::Engine, Heard::Line) => Event::EngineLine(line),
-        (Seat::Engine, Heard::End | Heard::Failed) => Event::EngineEnd,
-        (Seat::Engine, Heard::Long) => Event::EngineLong,
-        (Seat::Server, Heard::Line) => Event::ServerLine(line),
-        (Seat::Server, Heard::End | Heard::Failed) => Event::ServerEnd,
-        (Seat::Server, Heard::Long) => Event::ServerLong,
+    match (seat, read) {
+        (Seat::Engine, LineEvent::Line) => Event::EngineLine(line),
+        (Seat::Engine, LineEvent::End | LineEvent::Failed) => Event::EngineEnd,
+        (Seat::Engine, LineEvent::Long) => Event::EngineLong,
+        (Seat::Server, LineEvent::Line) => Event::ServerLine(line),
+        (Seat::Server, LineEvent::End | LineEvent::Failed) => Event::ServerEnd,
+        (Seat::Server, LineEvent::Long) => Event::ServerLong,
     }
 }
 
 // Whether what came may be a move that the bridge accepted.
-fn is_shown(seat: Seat, heard: Heard, status: Status) -> bool
+fn is_shown(seat: Seat, read: LineEvent, status: Status) -> bool
     ensures { IsTrue result ↔ (seat ≡ Seat.Server)
-        × (heard ≡ Heard.Line) × (status ≡ Status.Going) }
+        × (read ≡ LineEvent.Line) × (status ≡ Status.Going) }
 {
-    match (seat, heard, status) {
-        (Seat::Server, Heard::Line, Status::Going) => true,
+    match (seat, read, status) {
+        (Seat::Server, LineEvent::Line, Status::Going) => true,
         _ => false,
     }
 }

@@ -1,8 +1,7 @@
 //! Why a session did not reach its end.
 
 ghost use Rattle.std.specs.Prelude.{◌≡◌, ◌≢◌};
-ghost use Rattle.session_commands.specs.Faults.{cut_fault_of, match_fault_of, serve_fault_of, talk_fault_of};
-ghost use Rattle.session_commands.specs.declared.fault.BridgeFault.TheVariants as bridge;
+ghost use Rattle.session_commands.specs.Faults.{cut_fault_of, talk_fault_of};
 ghost use Rattle.session_commands.specs.declared.fault.MatchFault.TheVariants as game;
 ghost use Rattle.session_commands.specs.declared.fault.ServeFault.TheVariants as serve;
 ghost use Rattle.session_commands.specs.declared.fault.TalkFault.TheVariants as talk;
@@ -38,32 +37,10 @@ pub enum ServeFault {
     /// The client ended before the session was over.
     #[error("client gone")]
     ClientGone,
-    /// A line of the client has more than 65,536 bytes.
-    #[error("B7 LineTooLong")]
-    LineTooLong,
-    /// There is no socket to listen on, a read failed, or the end did not come.
-    #[error("read fault")]
-    Read,
-    /// A line could not be written to standard output or sent to the client.
-    #[error("write fault")]
-    Write,
-    /// An allocation failed.
-    #[error("out of memory")]
-    OutOfMemory,
-}
-
-/// Why a bridge did not play its session to the end.
-#[derive(Clone, Copy, Debug, PartialEq, Eq, Error)]
-pub enum BridgeFault {
-    /// The session failed.
+    /// There is no socket to listen on, the port could not be printed, or not all lines of the
+    /// client were answered.
     #[error("{0}")]
-    Session(SessionFault),
-    /// The session went on for 2^64 - 1 rounds.
-    #[error("read fault")]
-    Endless,
-    /// An allocation failed.
-    #[error("out of memory")]
-    OutOfMemory,
+    Talk(TalkFault),
 }
 
 /// Why `play` did not play a game to its end, or did not keep it.
@@ -124,60 +101,27 @@ impl From<LineFault> for TalkFault {
     }
 }
 
-impl From<TalkFault> for ServeFault {
-    ghost from_gives = { λ talk fault. fault ≡ serve_fault_of talk };
+impl From<AllocError> for TalkFault {
+    ghost from_gives = { λ _ fault. fault ≡ talk.OutOfMemory };
 
-    fn from(fault: TalkFault) -> ServeFault {
-        match fault {
-            TalkFault::LineTooLong => ServeFault::LineTooLong,
-            TalkFault::Read => ServeFault::Read,
-            TalkFault::Write => ServeFault::Write,
-            TalkFault::OutOfMemory => ServeFault::OutOfMemory,
-        }
+    fn from(_error: AllocError) -> TalkFault {
+        TalkFault::OutOfMemory
     }
 }
 
-impl From<WriteFault> for ServeFault {
-    ghost from_gives = { λ _ fault. fault ≡ serve.Write };
+impl From<TalkFault> for ServeFault {
+    ghost from_gives = { λ why fault. fault ≡ serve.Talk why };
 
-    fn from(_fault: WriteFault) -> ServeFault {
-        ServeFault::Write
+    fn from(fault: TalkFault) -> ServeFault {
+        ServeFault::Talk(fault)
     }
 }
 
 impl From<OutOfMemory> for ServeFault {
-    ghost from_gives = { λ _ fault. fault ≡ serve.OutOfMemory };
+    ghost from_gives = { λ _ fault. fault ≡ serve.Talk talk.OutOfMemory };
 
     fn from(_error: OutOfMemory) -> ServeFault {
-        ServeFault::OutOfMemory
-    }
-}
-
-impl From<AllocError> for ServeFault {
-    ghost from_gives = { λ _ fault. fault ≡ serve.OutOfMemory };
-
-    fn from(_error: AllocError) -> ServeFault {
-        ServeFault::OutOfMemory
-    }
-}
-
-impl From<OutOfMemory> for BridgeFault {
-    ghost from_gives = { λ _ fault. fault ≡ bridge.OutOfMemory };
-
-    fn from(_error: OutOfMemory) -> BridgeFault {
-        BridgeFault::OutOfMemory
-    }
-}
-
-impl From<BridgeFault> for MatchFault {
-    ghost from_gives = { λ bridge fault. fault ≡ match_fault_of bridge };
-
-    fn from(fault: BridgeFault) -> MatchFault {
-        match fault {
-            BridgeFault::Session(why) => MatchFault::Session(why),
-            BridgeFault::Endless => MatchFault::Endless,
-            BridgeFault::OutOfMemory => MatchFault::OutOfMemory,
-        }
+        ServeFault::Talk(TalkFault::OutOfMemory)
     }
 }
 

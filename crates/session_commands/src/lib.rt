@@ -9,7 +9,8 @@
 //!
 //! ```text
 //! session_commands::engine::run(&rt)?;
-//! session_commands::serve::run(&rt, 4081, Color::Black, 256)?;
+//! let service = Service { port: 4081, client: Color::Black, max_moves: 256 };
+//! session_commands::serve::run(&rt, service)?;
 //! ```
 #![tactic(auto)]
 
@@ -25,5 +26,5 @@ pub mod serve;
 pub mod talk;
 pub mod wire;
 
-pub use fault::{BridgeFault, MatchFault, ServeFault, TalkFault};
+pub use fault::{MatchFault, ServeFault, TalkFault};
 pub use progress::Progress;

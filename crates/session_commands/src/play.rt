@@ -2,7 +2,7 @@
 
 ghost use Rattle.std.specs.Prelude.{◌≡◌, ◌↔◌, ℕ, List, Ok, true, IfOk, IfSome, IsTrue, MatchOption, OnErr, codes, decimal, string_bytes};
 ghost use Rattle.record_commands.specs.Incoming.{GivesLine};
-ghost use Rattle.session_commands.specs.Kept.{Keeps, told_of};
+ghost use Rattle.session_commands.specs.Kept.{KeepsRecord, report_of};
 ghost use Rattle.session_commands.specs.Playing.{Met, PlaysAndKeeps};
 ghost use Rattle.session_commands.specs.declared.play.Kept.{Kept as Game};
 ghost use Rattle.session_commands.specs.Ports.{IsPort, IsPortLine};
@@ -13,15 +13,16 @@ ghost use Rattle.shogi_session.specs.State.{first_state};
 use crate::bridging::{Ends, Side, Sides, play};
 use crate::children;
 use crate::children::{ENGINE_GONE, SERVER_GONE};
-use crate::fault::{BridgeFault, MatchFault};
+use crate::fault::MatchFault;
 use crate::out_file::{Named, Place};
 use crate::progress::Progress;
 use arrayvec::ArrayString;
 use itoa::Buffer;
-use record_commands::incoming::{Heard, Incoming};
+use record_commands::incoming::{Incoming, LineEvent};
 use record_commands::streams;
 use shogi_board::OutOfMemory;
 use shogi_session::{Bridge, Config};
+use shogi_words::Plan;
 use std::alloc::{AllocError, Global};
 use std::io::{Eprint, Read, Write};
 use std::net::{Net, TcpListener, TcpStream};
@@ -33,23 +34,6 @@ use std::{io, str};
 const TOTAL_MS: u32 = 600_000;
 
 const BYOYOMI_MS: u32 = 10_000;
-
-/// Which programs play, how long, and where their record goes.
-#[derive(Clone, Copy, Debug)]
-pub struct Plan<'a> {
-    /// The CSA server to start, with the words `serve --port 0 --max N`.
-    pub server: &'a str,
-    /// N, the greatest number of moves of the server's game.
-    pub max_moves: u32,
-    /// The USI engine to start.
-    pub engine: &'a str,
-    /// The one argument of the engine, if any.
-    pub engine_word: Option<&'a str>,
-    /// The file to write the record to.
-    pub out: &'a str,
-    /// Whether moves are shown on standard error.
-    pub is_shown: bool,
-}
 
 /// Starts the server and then the engine, plays their game, writes its record, and prints `played`
 /// and the number of its moves. If a game was offered, its record is written even if the session
@@ -67,9 +51,9 @@ pub fn run<
         + AllocGlobal,
 >(rt: &R, plan: &Plan<'_>) -> Result<(), MatchFault> {
     let mut server = children::start_server(rt, plan.server, plan.max_moves)?;
-    let mut told = children::lines_of(rt.alloc(), &mut server, SERVER_GONE);
-    let game = match &mut told {
-        Ok(told) => play_on(rt, plan, told),
+    let mut lines = children::lines_of(rt.alloc(), &mut server, SERVER_GONE);
+    let game = match &mut lines {
+        Ok(lines) => play_on(rt, plan, lines),
         Err(fault) => Err(*fault),
     };
     let _ = children::end(rt, &mut server, ended_well(&game));
@@ -104,8 +88,8 @@ fn play_on<
         + Eprint
         + AllocGlobal,
     T: Read + Drop,
->(rt: &R, plan: &Plan<'_>, told: &mut Incoming<T>) -> Result<Kept, MatchFault> {
-    let Some(port) = listening_port(told)? else {
+>(rt: &R, plan: &Plan<'_>, server_lines: &mut Incoming<T>) -> Result<Kept, MatchFault> {
+    let Some(port) = listening_port(server_lines)? else {
         return Err(SERVER_GONE);
     };
     let Ok(stream) = TcpStream::connect(rt, ("127.0.0.1", port)) else {
@@ -123,13 +107,13 @@ fn play_on<
 }
 
 // The port in the server's first line, or None if that is another line.
-fn listening_port<T: Read + Drop>(told: &mut Incoming<T>) -> Result<Option<u16>, OutOfMemory>
+fn listening_port<T: Read + Drop>(lines: &mut Incoming<T>) -> Result<Option<u16>, OutOfMemory>
     ensures first { IfOk result (λ found. IfSome found (λ port. (line : List ℕ)
-        × GivesLine told.old.bytes told.new.bytes line × IsPortLine line port)) }
+        × GivesLine lines.old.bytes lines.new.bytes line × IsPortLine line port)) }
 {
-    match told.hear()? {
-        Heard::Line => Ok(port_of(told.line())),
-        Heard::End | Heard::Long | Heard::Failed => Ok(None),
+    match lines.read_line()? {
+        LineEvent::Line => Ok(port_of(lines.line())),
+        LineEvent::End | LineEvent::Long | LineEvent::Failed => Ok(None),
     }
 }
 
@@ -172,14 +156,14 @@ fn play_with<R: Files + Eprint + AllocGlobal, T: Read + Drop, W: Write + Drop>(
     engine: (&mut Incoming<T>, W),
 ) -> Result<Kept, MatchFault> {
     let (lines, input) = engine;
-    let mut told = Incoming::new(rt.alloc(), stream)?;
+    let mut server_lines = Incoming::new(rt.alloc(), stream)?;
     let mut sides = Sides {
         engine: Side {
             lines,
             writer: input,
         },
         server: Side {
-            lines: &mut told,
+            lines: &mut server_lines,
             writer: stream,
         },
     };
@@ -191,7 +175,7 @@ fn play_with<R: Files + Eprint + AllocGlobal, T: Read + Drop, W: Write + Drop>(
 /// What starts and ends the programs of a game.
 pub trait House {
     ghost use Rattle.std.specs.Prelude.{Bool};
-    ghost use Rattle.session_commands.specs.declared.play.Plan.{Plan as Planned};
+    ghost use Rattle.shogi_words.specs.declared.play.Plan.{Plan as Planned};
 
     type Both: Ends + Drop;
 
@@ -224,7 +208,7 @@ fn meet<R: Eprint + AllocGlobal, H: House, P: Place>(
     plan: &Plan<'_>,
 ) -> Result<usize, MatchFault>
     ensures met { Met H.opened H.unopened
-        H.shut H.Both.Ends.heard H.Both.Ends.missed H.Both.Ends.told
+        H.shut H.Both.Ends.came H.Both.Ends.missed H.Both.Ends.went
         H.Both.Ends.gone P.took P.refused plan.now house.old place.old house.new place.new result }
 {
     let mut both = match house.open(plan) {
@@ -263,7 +247,7 @@ fn play_between<R: Eprint + AllocGlobal, E: Ends, P: Place>(
     place: &mut P,
     is_shown: bool,
 ) -> Kept
-    ensures whole { PlaysAndKeeps E.heard E.missed E.told E.gone P.took P.refused
+    ensures whole { PlaysAndKeeps E.came E.missed E.went E.gone P.took P.refused
         ends.old bridge.old place.old ends.new bridge.new place.new result.ended_well result.moves }
 {
     let mut progress = Progress::new(is_shown);
@@ -279,9 +263,9 @@ fn play_between<R: Eprint + AllocGlobal, E: Ends, P: Place>(
 fn keep_game<P: Place>(
     place: &mut P,
     bridge: &Bridge,
-    played: Result<(), BridgeFault>,
+    played: Result<(), MatchFault>,
 ) -> Result<usize, MatchFault>
-    ensures kept { Keeps P.took P.refused
+    ensures kept { KeepsRecord P.took P.refused
         (game_of bridge.now.state.client) played place.old place.new result }
 {
     let found = match bridge.game_text() {
@@ -289,15 +273,15 @@ fn keep_game<P: Place>(
         Err(_) => return Err(MatchFault::OutOfMemory),
     };
     let Some(text) = found else {
-        return told_of(played, 0);
+        return report_of(played, 0);
     };
     place.replace(text.as_slice())?;
-    told_of(played, bridge.moves().unwrap_or(0))
+    report_of(played, bridge.moves().unwrap_or(0))
 }
 
 // The fault of the session, or else this number of moves.
-fn told_of(played: Result<(), BridgeFault>, moves: usize) -> Result<usize, MatchFault>
-    ensures { result ≡ told_of played moves }
+fn report_of(played: Result<(), MatchFault>, moves: usize) -> Result<usize, MatchFault>
+    ensures { result ≡ report_of played moves }
 {
     played?;
     Ok(moves)

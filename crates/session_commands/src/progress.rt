@@ -2,7 +2,8 @@
 
 ghost use Rattle.std.specs.Prelude.{◌≡◌, ◌⊎◌, ◌↔◌, ◌+◌, ◌<◌, ◌≤◌, ◌^◌, ℕ, length, true, false, None, Some, IsTrue};
 ghost use Rattle.std.specs.List.{position_or_len};
-ghost use Rattle.session_commands.specs.Showing.{IsCountOf, is_quote, without_comment};
+ghost use Rattle.session_commands.specs.Comments.{is_quote, without_comment};
+ghost use Rattle.session_commands.specs.Showing.{IsCountOf};
 ghost use Rattle.session_lines.specs.MoveLines.{is_move_line};
 ghost use Rattle.shogi_session.specs.State.{client_state};
 
@@ -95,8 +96,8 @@ fn is_playing(state: ClientState) -> bool
 fn without_comment(line: &[u8]) -> &[u8]
     ensures { result.now ≡ without_comment line.now }
 {
-    let told = &line[..comment_start(line)];
-    told.strip_suffix(b",".as_slice()).unwrap_or(told)
+    let shown = &line[..comment_start(line)];
+    shown.strip_suffix(b",".as_slice()).unwrap_or(shown)
 }
 
 // The offset of the line's comment, or the line's length.

@@ -1,7 +1,6 @@
 //! A CSA server on localhost, which plays one game with one client.
 
 ghost use Rattle.std.specs.Prelude.{◌≡◌, ◌≢◌, ◌≤◌, ◌++◌, ◌∷◌, [], true, false, Ok, Err, IfErr, IfOk, IsOk, IsErrOf, OnOk, string_bytes};
-ghost use Rattle.session_commands.specs.Faults.{serve_fault_of};
 ghost use Rattle.session_commands.specs.declared.fault.ServeFault.{ServeFault};
 ghost use Rattle.session_commands.specs.declared.fault.TalkFault.{TalkFault};
 ghost use Rattle.session_commands.specs.Talks.{BreaksOff, HasAnswered, Passing};
@@ -16,62 +15,55 @@ use crate::talk::Machine;
 use crate::wire::{Exchange, Wire};
 use arrayvec::ArrayString;
 use record_commands::streams;
-use shogi_board::{Color, OutOfMemory};
+use shogi_board::OutOfMemory;
 use shogi_session::{Host, HostConfig};
+use shogi_words::Service;
 use std::alloc::{AllocError, Global};
 use std::io;
 use std::io::ErrorKind;
 use std::net::{Net, TcpListener, TcpStream};
 
-/// Plays one game as a CSA server on that port of localhost; port 0 means any free port. Prints
-/// `listening` and the port, and answers each line of the first client before the next one is read,
-/// until the session is over. The client has the side `client`, the game at most `max_moves` moves,
-/// 1 to 10,000. Each move of the client counts as 0 seconds.
+/// Plays one game as a CSA server on localhost. Prints `listening` and the port, and answers each
+/// line of the first client before the next one is read, until the session is over. Each move of
+/// the client counts as 0 seconds.
 ///
-/// Refuses `Read` if there is no socket to listen on or a read fails, `ClientGone` if the client
-/// ends before the session, `LineTooLong` as soon as a line has more than 65,536 bytes, `Write` if
-/// a line cannot be sent, and `OutOfMemory`.
+/// Refuses `ClientGone` if the client ends before the session. With `Talk` it refuses `Read` if
+/// there is no socket to listen on or a read fails, `LineTooLong` as soon as a line has more than
+/// 65,536 bytes, `Write` if a line cannot be printed or sent, and `OutOfMemory`.
 pub fn run<R: Net<Listener = TcpListener, Stream = TcpStream> + Print + AllocGlobal>(
     rt: &R,
-    port: u16,
-    client: Color,
-    max_moves: u32,
+    service: Service,
 ) -> Result<(), ServeFault>
-    requires moves { (1 ≤ max_moves) × (max_moves ≤ positions.max_moves) }
+    requires moves { (1 ≤ service.max_moves) × (service.max_moves ≤ positions.max_moves) }
     ensures over { OnOk result
-        ((before after : Passing) × (old new : HostSession) × IsOffered client max_moves old
+        ((before after : Passing) × (old new : HostSession) × IsOffered service old
         × HasAnswered ⟦<Exchange<&'static TcpStream, &'static TcpStream> as Wire>⟧.came
         ⟦<Exchange<&'static TcpStream, &'static TcpStream> as Wire>⟧.ends
         ⟦<Exchange<&'static TcpStream, &'static TcpStream> as Wire>⟧.went
         ⟦<Host as Machine>⟧.answers before old true after new) }
 {
-    let stream = accept(rt, port)?;
+    let stream = accept(rt, service.port)?;
     let mut wire = Exchange::new(&stream, &stream);
-    play(rt.alloc(), client, max_moves, &mut wire)
+    play(rt.alloc(), service, &mut wire)
 }
 
 // Plays a game with the client on the wire, until the session is over.
-fn play<X: Wire>(
-    alloc: Global,
-    client: Color,
-    max_moves: u32,
-    wire: &mut X,
-) -> Result<(), ServeFault>
-    requires { (1 ≤ max_moves) × (max_moves ≤ positions.max_moves) }
-    ensures over { OnOk result ((old new : HostSession) × IsOffered client max_moves old
+fn play<X: Wire>(alloc: Global, service: Service, wire: &mut X) -> Result<(), ServeFault>
+    requires { (1 ≤ service.max_moves) × (service.max_moves ≤ positions.max_moves) }
+    ensures over { OnOk result ((old new : HostSession) × IsOffered service old
         × HasAnswered X.came X.ends X.went
         ⟦<Host as Machine>⟧.answers wire.old old true wire.new new) }
     ensures gone { IsErrOf result ServeFault.ClientGone
-        → (old new : HostSession) × IsOffered client max_moves old
+        → (old new : HostSession) × IsOffered service old
         × HasAnswered X.came X.ends X.went
         ⟦<Host as Machine>⟧.answers wire.old old false wire.new new }
     ensures broken { (fault : TalkFault)
-        → fault ≢ TalkFault.OutOfMemory → IsErrOf result (serve_fault_of fault)
-        → (old : HostSession) × IsOffered client max_moves old
+        → fault ≢ TalkFault.OutOfMemory → IsErrOf result (ServeFault.Talk fault)
+        → (old : HostSession) × IsOffered service old
         × BreaksOff X.came X.ends X.went X.silent X.blocked
         ⟦<Host as Machine>⟧.answers wire.old old fault wire.new }
 {
-    let mut host = host_of(alloc, client, max_moves)?;
+    let mut host = host_of(alloc, service)?;
     served(talk::answer_all(alloc, &mut host, wire))
 }
 
@@ -80,12 +72,12 @@ fn served(answered: Result<bool, TalkFault>) -> Result<(), ServeFault>
     ensures over { answered ≡ Ok true → IsOk result }
     ensures gone { answered ≡ Ok false → IsErrOf result ServeFault.ClientGone }
     ensures broken { (fault : TalkFault)
-        → answered ≡ Err fault → IsErrOf result (serve_fault_of fault) }
+        → answered ≡ Err fault → IsErrOf result (ServeFault.Talk fault) }
 {
     match answered {
         Ok(true) => Ok(()),
         Ok(false) => Err(ServeFault::ClientGone),
-        Err(fault) => Err(ServeFault::from(fault)),
+        Err(fault) => Err(ServeFault::Talk(fault)),
     }
 }
 
@@ -93,22 +85,21 @@ fn served(answered: Result<bool, TalkFault>) -> Result<(), ServeFault>
 fn accept<R: Net<Listener = TcpListener, Stream = TcpStream> + Print + AllocGlobal>(
     rt: &R,
     port: u16,
-) -> Result<TcpStream, ServeFault>
-    ensures waiting { IfErr result (λ fault.
-        (fault ≢ ServeFault.ClientGone) × (fault ≢ ServeFault.LineTooLong)) }
+) -> Result<TcpStream, TalkFault>
+    ensures waiting { IfErr result (λ fault. fault ≢ TalkFault.LineTooLong) }
 {
     let Ok(listener) = TcpListener::bind(rt, ("127.0.0.1", port)) else {
-        return Err(ServeFault::Read);
+        return Err(TalkFault::Read);
     };
     let Ok(address) = listener.local_addr() else {
-        return Err(ServeFault::Read);
+        return Err(TalkFault::Read);
     };
     let line = listening(rt.alloc(), address.port())?;
     streams::write_all(&mut io::writer(rt), line.as_bytes())?;
     match listener.accept() {
         Ok((client, _)) => Ok(client),
-        Err(error) if error.kind() == ErrorKind::OutOfMemory => Err(ServeFault::OutOfMemory),
-        Err(_) => Err(ServeFault::Read),
+        Err(error) if error.kind() == ErrorKind::OutOfMemory => Err(TalkFault::OutOfMemory),
+        Err(_) => Err(TalkFault::Read),
     }
 }
 
@@ -120,13 +111,13 @@ fn listening(alloc: Global, port: u16) -> Result<String, AllocError>
 }
 
 // A host before login.
-fn host_of(alloc: Global, client: Color, max_moves: u32) -> Result<Host, OutOfMemory>
-    requires { (1 ≤ max_moves) × (max_moves ≤ positions.max_moves) }
-    ensures host { IfOk result (IsOffered client max_moves) }
+fn host_of(alloc: Global, service: Service) -> Result<Host, OutOfMemory>
+    requires { (1 ≤ service.max_moves) × (service.max_moves ≤ positions.max_moves) }
+    ensures host { IfOk result (IsOffered service) }
 {
     let config = HostConfig {
-        client,
-        max_moves,
+        client: service.client,
+        max_moves: service.max_moves,
         id: ArrayString::from("local").unwrap(),
         name: ArrayString::from("host").unwrap(),
     };

@@ -1,7 +1,8 @@
 //! A machine that answers each line that comes over a wire, before more is received.
 
-ghost use Rattle.std.specs.Prelude.{◌≡◌, ◌<◌, ◌≤◌, ◌↔◌, ℕ, Bool, List, length, IfOk, IfErr, IsTrue};
-ghost use Rattle.session_commands.specs.Talks.{HasAnswered, BreaksOff, IsReply, IsUnsent, TakesNext, TakesPiece, EndsTalk};
+ghost use Rattle.std.specs.Prelude.{◌≡◌, ◌<◌, ◌≤◌, ◌↔◌, ℕ, Bool, List, length, IfOk, IfErr, IfSome, IsTrue};
+ghost use Rattle.session_commands.specs.Talking.{EndsTalk, IsReply, TakesNext, TakesPiece};
+ghost use Rattle.session_commands.specs.Talks.{BreaksOff, HasAnswered, IsUnsent};
 
 use crate::fault::TalkFault;
 use crate::wire::Wire;
@@ -12,7 +13,8 @@ use shogi_board::OutOfMemory;
 use shogi_session::{Host, HostOut, Lines, Sample, SampleOut};
 use std::alloc::Global;
 
-/// What a machine answers to a line.
+/// What a machine answers to a line. It is one type for the answers of the host and of the sample
+/// engine, each of which has a type of its own.
 #[derive(Drop)]
 pub struct Reply {
     /// The lines to send.
@@ -127,25 +129,24 @@ fn answer_piece<M: Machine, X: Wire>(
 {
     let mut used = 0;
     while used < piece.len() {
-        let (more, ended) = answer_next(cutter, machine, wire, &piece[used..])?;
-        if ended {
+        let Some(more) = answer_next(cutter, machine, wire, &piece[used..])? else {
             return Ok(true);
-        }
+        };
         used += more;
     }
     Ok(false)
 }
 
 // Answers the line that ends in the piece, if one does. Returns how many bytes of the piece were
-// used, and whether the machine has ended.
+// used, or None if the machine has ended.
 fn answer_next<M: Machine, X: Wire>(
     cutter: &mut LineCutter,
     machine: &mut M,
     wire: &mut X,
     piece: &[u8],
-) -> Result<(usize, bool), TalkFault>
+) -> Result<Option<usize>, TalkFault>
     requires { 0 < length piece.now }
-    ensures used { IfOk result (λ r. (0 < r.0) × (r.0 ≤ length piece.now)) }
+    ensures used { IfOk result (λ r. IfSome r (λ used. (0 < used) × (used ≤ length piece.now))) }
     ensures next { TakesNext X.came X.ends X.went X.silent X.blocked
         M.answers cutter.old piece.now wire.old machine.old result cutter.new wire.new machine.new }
 {
@@ -154,10 +155,13 @@ fn answer_next<M: Machine, X: Wire>(
         Err(fault) => return Err(TalkFault::from(fault)),
     };
     let Some(line) = line else {
-        return Ok((used, false));
+        return Ok(Some(used));
     };
     let ended = answer(machine, wire, line)?;
-    Ok((used, ended))
+    if ended {
+        return Ok(None);
+    }
+    Ok(Some(used))
 }
 
 // Answers a line. Returns whether the machine has ended.

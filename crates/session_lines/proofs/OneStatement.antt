@@ -43,8 +43,8 @@ long_statement line c number offset s h u alone =
 two_units : (line : List ℕ) (c d : Cutting) (offset : ℕ) (v : TextUnit) (vs : List TextUnit)
     → AtStart line c → d.source ≡ c.source → IsFirstStatement c.source c.at offset d.at → ToCome d (v ∷ vs)
     → (u : TextUnit) → IsAlone line u → ⊥
-two_units line c d offset v vs s same first behind u alone =
-    let there : Statements d.at (drop d.at c.source) (v ∷ vs) = subst (λ x. Statements d.at (drop d.at x) (v ∷ vs)) same behind in
+two_units line c d offset v vs s same first rest u alone =
+    let there : Statements d.at (drop d.at c.source) (v ∷ vs) = subst (λ x. Statements d.at (drop d.at x) (v ∷ vs)) same rest in
     let all = told_first c.source c.at offset d.at (v ∷ vs) first there in
     let e = ap length (one_unit line (unit_between c.source offset d.at ∷ v ∷ vs) u (whole line c (unit_between c.source offset d.at ∷ v ∷ vs) s all) alone) in
     absurd (omega (arith, e))
@@ -70,7 +70,7 @@ one_of line s (u ∷ v ∷ us) cut h = absurd h.1
 pub only_one : (line : List ℕ) (c d : Cutting) (s : Statement) → AtStart line c → d.source ≡ c.source
     → IsHandedOut c d s.number s.offset s.bytes.now → ToCome d []
     → (u : TextUnit) × IsAlone line u × (s.bytes.now ≡ statement_bytes u.bytes)
-only_one line c d s start same out behind =
+only_one line c d s start same out rest =
     let at : c.at ≡ mark_length c.source = start.at ∙ ap mark_length (sym start.source) in
-    let all = whole_cut (s ∷ []) c d at start.number (d, same, out, refl) behind in
+    let all = whole_cut (s ∷ []) c d at start.number (d, same, out, refl) rest in
     one_of line s all.0 (subst (λ l. IsCut l all.0) start.source all.1) all.2

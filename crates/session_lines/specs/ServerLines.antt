@@ -72,14 +72,14 @@ pub data ExtraFault (u : TextUnit) (fault : TextFault) : Type 0 where
 -- the first text fault: of the first statement, where a move is expected; of the second, where a
 -- time is; or of the third
 pub data FirstTextFault (line : List ℕ) (fault : TextFault) : Type 0 where
-  no_move : (u : TextUnit) (behind : List TextUnit)
-      → IsCut line (u ∷ behind) → UnitFault IsMove u fault
+  no_move : (u : TextUnit) (rest : List TextUnit)
+      → IsCut line (u ∷ rest) → UnitFault IsMove u fault
       → FirstTextFault line fault
-  no_time : (u v : TextUnit) (behind : List TextUnit) (color : Color) (m : Move)
-      → IsCut line (u ∷ v ∷ behind) → IsSpelt u (walked color m) → UnitFault IsTime v fault
+  no_time : (u v : TextUnit) (rest : List TextUnit) (color : Color) (m : Move)
+      → IsCut line (u ∷ v ∷ rest) → IsSpelt u (walked color m) → UnitFault IsTime v fault
       → FirstTextFault line fault
-  more : (u v w : TextUnit) (behind : List TextUnit) (color : Color) (m : Move) (t : ℕ)
-      → IsCut line (u ∷ v ∷ w ∷ behind)
+  more : (u v w : TextUnit) (rest : List TextUnit) (color : Color) (m : Move) (t : ℕ)
+      → IsCut line (u ∷ v ∷ w ∷ rest)
       → IsSpelt u (walked color m) → IsSpelt v (time t) → ExtraFault w fault
       → FirstTextFault line fault
 

@@ -3,8 +3,7 @@
 //! - [`Lines`] collects the lines to send, each with its line end;
 //! - [`read_move_line`] reads the move that a line of the CSA server protocol spells;
 //! - [`server_words`] says what the server's other lines mean;
-//! - [`texts`] has every text that a machine compares with or sends, of the CSA server protocol and
-//!   of USI.
+//! - [`texts`] has every text of the CSA server protocol that a machine compares with or sends.
 //!
 //! ```text
 //! let mut lines = Lines::new(alloc);

@@ -16,7 +16,8 @@ abbrev pub IsStopOf : Request → Stop → Type 0
 IsStopOf (Check file) stop = (fault : FlowFault) × (stop ≡ stop_of_record fault)
 IsStopOf (Normal file) stop = (fault : FlowFault) × (stop ≡ stop_of_record fault)
 IsStopOf (Usi file) stop = (fault : FlowFault) × (stop ≡ stop_of_record fault)
-IsStopOf (Csa file) stop = (fault : PositionLineFault) × (fault ≢ Refused OutOfMemory) × (stop ≡ stop_of_line fault)
+IsStopOf (Csa file) stop =
+    (fault : PositionLineFault) × (fault ≢ Refused OutOfMemory) × (stop ≡ stop_of_line fault)
 IsStopOf Engine stop = (fault : TalkFault) × (stop ≡ stop_of_talk fault)
 IsStopOf (Serve service) stop = (fault : ServeFault) × (stop ≡ stop_of_serve fault)
 IsStopOf (Play game) stop = (fault : MatchFault) × (stop ≡ stop_of_match fault)

@@ -29,18 +29,18 @@ status_of OutOfMemory = 5
 
 -- the line, if it is one fixed text; that of a refusal or of a session ends with the words of its
 -- fault
-abbrev pub line_of : Stop → Option (List ℕ)
-line_of WordsNotText = Some (codes "error: a word of the command line is not UTF-8")
-line_of UnknownCommand = Some (codes "error: there is no such command")
-line_of (Refused refusal) = None
-line_of (LineRefused fault) = None
-line_of LineTooLong = Some (codes "refused: line too long")
-line_of Read = Some (codes "read fault")
-line_of Write = Some (codes "write fault")
-line_of ClientGone = Some (codes "fault: client gone")
-line_of ClientLineTooLong = Some (codes "fault: B7 LineTooLong")
-line_of (Session fault) = None
-line_of OutOfMemory = Some (codes "out of memory")
+abbrev pub stop_line : Stop → Option (List ℕ)
+stop_line WordsNotText = Some (codes "error: a word of the command line is not UTF-8")
+stop_line UnknownCommand = Some (codes "error: there is no such command")
+stop_line (Refused refusal) = None
+stop_line (LineRefused fault) = None
+stop_line LineTooLong = Some (codes "refused: line too long")
+stop_line Read = Some (codes "read fault")
+stop_line Write = Some (codes "write fault")
+stop_line ClientGone = Some (codes "fault: client gone")
+stop_line ClientLineTooLong = Some (codes "fault: B7 LineTooLong")
+stop_line (Session fault) = None
+stop_line OutOfMemory = Some (codes "out of memory")
 
 -- of check, normal and usi
 abbrev pub stop_of_record : FlowFault → Stop
@@ -67,10 +67,10 @@ stop_of_talk talk_fault.OutOfMemory = OutOfMemory
 -- of serve
 abbrev pub stop_of_serve : ServeFault → Stop
 stop_of_serve serve_fault.ClientGone = ClientGone
-stop_of_serve serve_fault.LineTooLong = ClientLineTooLong
-stop_of_serve serve_fault.Read = Read
-stop_of_serve serve_fault.Write = Write
-stop_of_serve serve_fault.OutOfMemory = OutOfMemory
+stop_of_serve (serve_fault.Talk talk_fault.LineTooLong) = ClientLineTooLong
+stop_of_serve (serve_fault.Talk talk_fault.Read) = Read
+stop_of_serve (serve_fault.Talk talk_fault.Write) = Write
+stop_of_serve (serve_fault.Talk talk_fault.OutOfMemory) = OutOfMemory
 
 -- of play
 abbrev pub stop_of_match : MatchFault → Stop

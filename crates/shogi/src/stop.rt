@@ -2,7 +2,7 @@
 
 ghost use Rattle.std.specs.Prelude.{◌≡◌, ◌≢◌};
 ghost use Rattle.std.specs.IoError.{error_kind};
-ghost use Rattle.shogi.specs.Stops.{line_of, status_of, stop_of_line, stop_of_match, stop_of_record, stop_of_serve, stop_of_talk};
+ghost use Rattle.shogi.specs.Stops.{stop_line, status_of, stop_of_line, stop_of_match, stop_of_record, stop_of_serve, stop_of_talk};
 
 use csa_record::{FlowFault, Refusal};
 use record_commands::PositionLineFault;
@@ -70,7 +70,7 @@ impl Stop {
 
 // The line on standard error, without its line end.
 impl fmt::Display for Stop {
-    ghost output = { line_of };
+    ghost output = { stop_line };
 
     fn fmt<W: fmt::Write>(&self, f: &mut fmt::Formatter<W>) -> fmt::Result {
         match self {
@@ -143,10 +143,10 @@ impl From<ServeFault> for Stop {
     fn from(fault: ServeFault) -> Stop {
         match fault {
             ServeFault::ClientGone => Stop::ClientGone,
-            ServeFault::LineTooLong => Stop::ClientLineTooLong,
-            ServeFault::Read => Stop::Read,
-            ServeFault::Write => Stop::Write,
-            ServeFault::OutOfMemory => Stop::OutOfMemory,
+            ServeFault::Talk(TalkFault::LineTooLong) => Stop::ClientLineTooLong,
+            ServeFault::Talk(TalkFault::Read) => Stop::Read,
+            ServeFault::Talk(TalkFault::Write) => Stop::Write,
+            ServeFault::Talk(TalkFault::OutOfMemory) => Stop::OutOfMemory,
         }
     }
 }

@@ -19,7 +19,9 @@ abbrev pub AttackAcross : Cells → Color → Square → Direction → Type 0
 AttackAcross cells color s d = (a : Square) × IsAway s d 1 a × Attack cells color a s
 
 abbrev pub IsAttackedInLine : Cells → Color → Square → Type 0
-IsAttackedInLine cells color s = Any (λ d. AttackInSight cells color s (turned_for color d)) (steps King)
+IsAttackedInLine cells color s =
+    Any (λ d. AttackInSight cells color s (turned_for color d)) (steps King)
 
 abbrev pub IsAttackedByJump : Cells → Color → Square → Type 0
-IsAttackedByJump cells color s = Any (λ d. AttackAcross cells color s (turned_for color d)) (steps Knight)
+IsAttackedByJump cells color s =
+    Any (λ d. AttackAcross cells color s (turned_for color d)) (steps Knight)

@@ -20,7 +20,8 @@ at cells s = slice_index_or cells (place s) None
 
 -- an unpromoted pawn of that colour is on the square's file
 abbrev pub HasPawnOnFile : Cells → Color → Square → Type 0
-HasPawnOnFile cells color s = (t : Square) × (file_of t ≡ file_of s) × (at cells t ≡ piece color Pawn)
+HasPawnOnFile cells color s = (t : Square) × (file_of t ≡ file_of s)
+    × (at cells t ≡ piece color Pawn)
 
 -- the empty board
 abbrev pub no_cells : Cells
@@ -29,7 +30,8 @@ no_cells = replicate 81 None
 -- one file of the even board: the two back pieces, what is on the ranks 2 and 8, and the pawns
 abbrev pub even_file : Kind → Option Piece → Option Piece → Cells
 even_file back second eighth =
-    piece White back ∷ second ∷ piece White Pawn ∷ None ∷ None ∷ None ∷ piece Black Pawn ∷ eighth ∷ piece Black back ∷ []
+    piece White back ∷ second ∷ piece White Pawn ∷ None ∷ None ∷ None ∷ piece Black Pawn ∷ eighth
+    ∷ piece Black back ∷ []
 
 -- the even board, from file 1 to file 9
 abbrev pub even_cells : Cells

@@ -22,5 +22,6 @@ pub record SeenTowards (cells : Cells) (s t a : Square) : Type 0 where
 -- whoever attacks the square does so from there
 abbrev pub ComesFrom : Cells → Color → Square → Danger → Type 0
 ComesFrom cells color s Anywhere = Unit {0}
-ComesFrom cells color s (Towards t) = (a : Square) → Attack cells color a s → SeenTowards cells s t a
+ComesFrom cells color s (Towards t) = (a : Square) → Attack cells color a s
+    → SeenTowards cells s t a
 ComesFrom cells color s Nowhere = Attacked cells color s → ⊥

@@ -22,7 +22,8 @@ is_pawn_of color (Some p) = same_color p.color color && same_kind p.kind Pawn
 -- how many unpromoted pawns of that colour stand on each of so many files
 abbrev pub pawn_counts : Color → ℕ → Cells → List ℕ
 pawn_counts color zero cells = []
-pawn_counts color (suc files) cells = count_by (is_pawn_of color) (take 9 cells) ∷ pawn_counts color files (drop 9 cells)
+pawn_counts color (suc files) cells =
+    count_by (is_pawn_of color) (take 9 cells) ∷ pawn_counts color files (drop 9 cells)
 
 -- the landmarks of that side
 pub record AreLandmarks (cells : Cells) (color : Color) (marks : Landmarks) : Type 0 where
@@ -30,7 +31,8 @@ pub record AreLandmarks (cells : Cells) (color : Color) (marks : Landmarks) : Ty
   pub pawns : marks.pawns ≡ pawn_counts color 9 cells
 
 -- the square at a place
-pub on_board : (n : ℕ) → (1 ≤ n / 9 % 9 + 1) × (n / 9 % 9 + 1 ≤ 9) × (1 ≤ n % 9 + 1) × (n % 9 + 1 ≤ 9)
+pub on_board : (n : ℕ) → (1 ≤ n / 9 % 9 + 1) × (n / 9 % 9 + 1 ≤ 9) × (1 ≤ n % 9 + 1)
+    × (n % 9 + 1 ≤ 9)
 on_board n = (omega arith, omega arith, omega arith, omega arith)
 
 abbrev pub square_at : ℕ → Square
@@ -43,10 +45,12 @@ chosen false here later = later
 -- where the first king of that colour stands in a list of cells that begins at place n
 abbrev pub king_from : Color → ℕ → Cells → Option Square
 king_from color n [] = None
-king_from color n (cell ∷ cells) = chosen (is_king_of color cell) (Some (square_at n)) (king_from color (suc n) cells)
+king_from color n (cell ∷ cells) =
+    chosen (is_king_of color cell) (Some (square_at n)) (king_from color (suc n) cells)
 
 abbrev pub landmarks_of : Cells → Color → Landmarks
-landmarks_of cells color = record { king = king_from color 0 cells; pawns = pawn_counts color 9 cells }
+landmarks_of cells color =
+    record { king = king_from color 0 cells; pawns = pawn_counts color 9 cells }
 
 -- each side has one king at most, so that its landmarks are what a board has
 pub record HasLandmarks (cells : Cells) (black white : Landmarks) : Type 0 where

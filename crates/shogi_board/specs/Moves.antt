@@ -86,4 +86,5 @@ turned_for White d = to (4 - d.files) (4 - d.ranks)
 
 -- at most one file and one rank, and not both none
 abbrev pub IsRay : Direction → Type 0
-IsRay d = (1 ≤ d.files) × (d.files ≤ 3) × (1 ≤ d.ranks) × (d.ranks ≤ 3) × (d.files ≡ 2 → d.ranks ≡ 2 → ⊥)
+IsRay d = (1 ≤ d.files) × (d.files ≤ 3) × (1 ≤ d.ranks) × (d.ranks ≤ 3)
+    × (d.files ≡ 2 → d.ranks ≡ 2 → ⊥)

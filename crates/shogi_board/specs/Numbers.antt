@@ -13,8 +13,10 @@ use Rattle.shogi_board.specs.Packing.{number_of}
 -- the cells of one side that a digit may stand for
 abbrev pub cells_of_side : Color → Cells
 cells_of_side c =
-    piece c Pawn ∷ piece c Lance ∷ piece c Knight ∷ piece c Silver ∷ piece c Gold ∷ piece c Bishop ∷ piece c Rook ∷ piece c King
-    ∷ piece c ProPawn ∷ piece c ProLance ∷ piece c ProKnight ∷ piece c ProSilver ∷ piece c Horse ∷ piece c Dragon ∷ []
+    piece c Pawn ∷ piece c Lance ∷ piece c Knight ∷ piece c Silver ∷ piece c Gold ∷ piece c Bishop
+    ∷ piece c Rook ∷ piece c King
+    ∷ piece c ProPawn ∷ piece c ProLance ∷ piece c ProKnight ∷ piece c ProSilver ∷ piece c Horse
+    ∷ piece c Dragon ∷ []
 
 -- the cell of each digit: the empty one, black's pieces, white's
 abbrev pub digit_cells : Cells

@@ -55,19 +55,21 @@ put_fault s n p =
 
 -- with that on the square of that place
 abbrev pub with_at : Layout → ℕ → Option Piece → Layout
-with_at s n cell = record s { material = record s.material { board = slice_set s.material.board n cell } }
+with_at s n cell =
+    record s { material = record s.material { board = slice_set s.material.board n cell } }
 
 -- why a piece may not be placed
 abbrev pub place_fault : Layout → Color → Square → Kind → Option SetupFault
 place_fault s color square kind = put_fault s (place square) (record { color = color; kind = kind })
 
-abbrev pub placed : Layout → Color → Square → Kind → Layout
-placed s color square kind = with_at s (place square) (piece color kind)
+abbrev pub with_piece : Layout → Color → Square → Kind → Layout
+with_piece s color square kind = with_at s (place square) (piece color kind)
 
 -- why a piece may not be added to a hand
 abbrev pub add_fault : Layout → Kind → Option SetupFault
 add_fault s kind =
-    first_fault ((AfterRest, s.rest_given) ∷ (NotForHand, not (is_hand_kind kind)) ∷ (TooMany, is_full s kind) ∷ [])
+    first_fault ((AfterRest, s.rest_given) ∷ (NotForHand, not (is_hand_kind kind))
+    ∷ (TooMany, is_full s kind) ∷ [])
 
 -- one more of a kind in a bag
 abbrev pub one_more : List ℕ → Kind → List ℕ
@@ -78,12 +80,14 @@ one_less bag kind = slice_set bag (place_of kind) (count_in bag kind - 1)
 
 -- with one more of a kind in a hand
 abbrev pub added : Layout → Color → Kind → Layout
-added s color kind = record s { material = with_bag s.material color (one_more (bag_of s.material color) kind) }
+added s color kind =
+    record s { material = with_bag s.material color (one_more (bag_of s.material color) kind) }
 
 -- why a piece may not be taken off the square of that place
 abbrev pub off_fault : Layout → ℕ → Kind → Option SetupFault
 off_fault s n kind =
-    first_fault ((AfterRest, s.rest_given) ∷ (NotThere, not (holds kind (slice_index_or s.material.board n None))) ∷ [])
+    first_fault ((AfterRest, s.rest_given)
+    ∷ (NotThere, not (holds kind (slice_index_or s.material.board n None))) ∷ [])
 
 -- why a piece may not be taken off the board
 abbrev pub take_off_fault : Layout → Square → Kind → Option SetupFault
@@ -95,11 +99,13 @@ taken_off s square = with_at s (place square) None
 -- why a piece may not be taken out of a hand
 abbrev pub take_hand_fault : Layout → Color → Kind → Option SetupFault
 take_hand_fault s color kind =
-    first_fault ((AfterRest, s.rest_given) ∷ (NotThere, nat_eq (count_in (bag_of s.material color) kind) 0) ∷ [])
+    first_fault ((AfterRest, s.rest_given)
+    ∷ (NotThere, nat_eq (count_in (bag_of s.material color) kind) 0) ∷ [])
 
 -- with one less of a kind in a hand
 abbrev pub taken : Layout → Color → Kind → Layout
-taken s color kind = record s { material = with_bag s.material color (one_less (bag_of s.material color) kind) }
+taken s color kind =
+    record s { material = with_bag s.material color (one_less (bag_of s.material color) kind) }
 
 abbrev pub rest_fault : Layout → Option SetupFault
 rest_fault s = first_fault ((AfterRest, s.rest_given) ∷ [])
@@ -113,4 +119,8 @@ with_rest s bag = map (count_with_rest s bag) hand_kinds
 
 -- that side's hand has all that remains of the totals, kings not
 abbrev pub rest_to : Layout → Color → Layout
-rest_to s color = record { material = with_bag s.material color (with_rest s (bag_of s.material color)); rest_given = true }
+rest_to s color =
+    record {
+      material = with_bag s.material color (with_rest s (bag_of s.material color));
+      rest_given = true;
+    }

@@ -32,7 +32,8 @@ is_of wanted (Some p) = place_of p.kind == place_of wanted
 -- a king's place lies after the end of a bag, where none is counted
 abbrev pub total : Material → Kind → ℕ
 total m kind =
-    count_by (is_of kind) m.board + slice_index m.black (place_of kind) + slice_index m.white (place_of kind)
+    count_by (is_of kind) m.board
+    + slice_index m.black (place_of kind) + slice_index m.white (place_of kind)
 
 -- how many there may be; of kings one a side
 abbrev pub limit : Kind → ℕ

@@ -49,9 +49,17 @@ impl Model for Board {
 
     ghost invariant = { λ b. HasLandmarks b.cells b.black b.white };
 
-    ghost inverse = { λ d. record { cells = d; black = landmarks_of d Black; white = landmarks_of d White } };
+    ghost inverse = { λ d. record {
+      cells = d;
+      black = landmarks_of d Black;
+      white = landmarks_of d White;
+    } };
 
-    ghost inverse_ok = { λ b h i. record { cells = b.cells; black = h.black_marks i; white = h.white_marks i } };
+    ghost inverse_ok = { λ b h i. record {
+      cells = b.cells;
+      black = h.black_marks i;
+      white = h.white_marks i;
+    } };
 }
 
 impl Board {
@@ -136,7 +144,8 @@ impl Board {
     #[inline(always)]
     fn stand(&mut self, square: Square, piece: Piece)
         requires empty { at self.old square ≡ None }
-        requires one_king { (color : Color) → kings_of (slice_set self.old (place square) (Some piece)) color ≤ 1 }
+        requires one_king { (color : Color)
+            → kings_of (slice_set self.old (place square) (Some piece)) color ≤ 1 }
         ensures { self.new ≡ slice_set self.old (place square) (Some piece) }
     {
         self.cells[square.place()] = Some(piece);
@@ -251,7 +260,8 @@ impl Board {
     // The same, if such a piece is in sight in the direction in which the other square lies.
     #[inline(always)]
     fn attacked_towards(&self, color: Color, square: Square, other: Square) -> bool
-        requires { (a : Square) → Attack self.now color a square → SeenTowards self.now square other a }
+        requires { (a : Square) → Attack self.now color a square
+            → SeenTowards self.now square other a }
         ensures { IsTrue result ↔ Attacked self.now color square }
     {
         match square.towards(other) {
@@ -262,7 +272,9 @@ impl Board {
 
     // The square of an enemy piece of that colour that reaches the square.
     pub(crate) fn attacker(&self, color: Color, square: Square) -> Option<Square>
-        ensures { MatchOption result (Attacked self.now color square → ⊥) (λ a. Attack self.now color a square) }
+        ensures { MatchOption result
+            (Attacked self.now color square → ⊥)
+            (λ a. Attack self.now color a square) }
     {
         match self.attacker_by_jump(color, square) {
             Some(from) => Some(from),
@@ -360,7 +372,8 @@ impl Board {
     // The same, if it is known where such an attack may come from.
     #[inline(always)]
     pub(crate) fn king_is_attacked(&self, color: Color, danger: Danger) -> bool
-        requires { (s : Square) → at self.now s ≡ piece color King → ComesFrom self.now color s danger }
+        requires { (s : Square) → at self.now s ≡ piece color King
+            → ComesFrom self.now color s danger }
         ensures { IsTrue result ↔ InCheck self.now color }
     {
         match self.king(color) {
@@ -394,7 +407,8 @@ fn jumps_to(color: Color, from: Square, to: Square) -> bool
 // one.
 fn is_attacker(piece: Piece, color: Color, direction: Direction, distance: u8) -> bool
     requires { IsRay direction }
-    ensures { IsTrue result ↔ ((piece.color ≡ opponent color) × Goes piece.kind (turned_for color direction) distance) }
+    ensures { IsTrue result ↔ ((piece.color ≡ opponent color)
+        × Goes piece.kind (turned_for color direction) distance) }
 {
     piece.color == color.opponent() && piece.kind.goes(direction.turned_for(color), distance)
 }

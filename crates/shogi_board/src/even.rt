@@ -25,17 +25,19 @@ macro_rules! white {
 pub(crate) use black;
 pub(crate) use white;
 
-// The even board, a file in each row of nine.
+// The even board, file by file, from rank 1 to rank 9.
 #[rattlefmt::skip]
 static EVEN: [Option<Piece>; 81] = [
     white!(Lance), None, white!(Pawn), None, None, None, black!(Pawn), None, black!(Lance),
-    white!(Knight), white!(Bishop), white!(Pawn), None, None, None, black!(Pawn), black!(Rook), black!(Knight),
+    white!(Knight), white!(Bishop), white!(Pawn),
+    None, None, None, black!(Pawn), black!(Rook), black!(Knight),
     white!(Silver), None, white!(Pawn), None, None, None, black!(Pawn), None, black!(Silver),
     white!(Gold), None, white!(Pawn), None, None, None, black!(Pawn), None, black!(Gold),
     white!(King), None, white!(Pawn), None, None, None, black!(Pawn), None, black!(King),
     white!(Gold), None, white!(Pawn), None, None, None, black!(Pawn), None, black!(Gold),
     white!(Silver), None, white!(Pawn), None, None, None, black!(Pawn), None, black!(Silver),
-    white!(Knight), white!(Rook), white!(Pawn), None, None, None, black!(Pawn), black!(Bishop), black!(Knight),
+    white!(Knight), white!(Rook), white!(Pawn),
+    None, None, None, black!(Pawn), black!(Bishop), black!(Knight),
     white!(Lance), None, white!(Pawn), None, None, None, black!(Pawn), None, black!(Lance),
 ];
 

@@ -35,7 +35,8 @@ impl Landmarks {
     // Whether an unpromoted pawn is on the file of the square.
     pub(crate) fn has_pawn_on_file(&self, square: Square) -> bool
         requires { length self.now.pawns ≡ 9 }
-        ensures { (cells : Cells) (color : Color) → length cells ≡ 81 → AreLandmarks cells color self.now → IsTrue result ↔ HasPawnOnFile cells color square }
+        ensures { (cells : Cells) (color : Color) → length cells ≡ 81
+            → AreLandmarks cells color self.now → IsTrue result ↔ HasPawnOnFile cells color square }
     {
         self.pawns[square.file() as usize - 1] > 0
     }
@@ -44,7 +45,9 @@ impl Landmarks {
     pub(crate) fn lose(&mut self, kind: Kind, square: Square)
         requires nine { length self.old.pawns ≡ 9 }
         requires some { kind ≡ Pawn → 0 < slice_index self.old.pawns (file_of square - 1) }
-        ensures { (cells : Cells) (color : Color) → length cells ≡ 81 → kings_of cells color ≤ 1 → at cells square ≡ piece color kind → AreLandmarks cells color self.old → AreLandmarks (slice_set cells (place square) None) color self.new }
+        ensures { (cells : Cells) (color : Color) → length cells ≡ 81 → kings_of cells color ≤ 1
+            → at cells square ≡ piece color kind → AreLandmarks cells color self.old
+            → AreLandmarks (slice_set cells (place square) None) color self.new }
     {
         match kind {
             Kind::King => self.king = None,
@@ -57,7 +60,9 @@ impl Landmarks {
     pub(crate) fn gain(&mut self, kind: Kind, square: Square)
         requires nine { length self.old.pawns ≡ 9 }
         requires room { slice_index self.old.pawns (file_of square - 1) < 255 }
-        ensures { (cells : Cells) (color : Color) → length cells ≡ 81 → at cells square ≡ None → AreLandmarks cells color self.old → AreLandmarks (slice_set cells (place square) (piece color kind)) color self.new }
+        ensures { (cells : Cells) (color : Color) → length cells ≡ 81 → at cells square ≡ None
+            → AreLandmarks cells color self.old
+            → AreLandmarks (slice_set cells (place square) (piece color kind)) color self.new }
     {
         match kind {
             Kind::King => self.king = Some(square),

@@ -36,23 +36,28 @@ use crate::square::Square;
 /// A piece reaches a square exactly if, all turned round, the other side's piece reaches the square
 /// turned round.
 pub fn reach_turned()
-    ensures same { (cells : Cells) (a b c d : Square) → length cells ≡ 81 → IsTurned a c → IsTurned b d → Reach cells a b ↔ Reach (turned cells) c d }
+    ensures same { (cells : Cells) (a b c d : Square) → length cells ≡ 81 → IsTurned a c
+        → IsTurned b d → Reach cells a b ↔ Reach (turned cells) c d }
 {}
 
 /// A gold of black reaches its six squares and no other.
 pub fn gold_reaches_six()
-    ensures six { (cells : Cells) (a b : Square) → at cells a ≡ piece Black Gold → Reach cells a b ↔ IsAmong (gold_squares a) b }
+    ensures six { (cells : Cells) (a b : Square) → at cells a ≡ piece Black Gold → Reach cells a b
+        ↔ IsAmong (gold_squares a) b }
 {}
 
 /// A horse reaches what a bishop in its place reaches, and the four squares beside it.
 pub fn horse_reaches()
-    ensures reach { (cells : Cells) (color : Color) (a b : Square) → length cells ≡ 81 → Reach (with_cell cells a (piece color Horse)) a b ↔ (Reach (with_cell cells a (piece color Bishop)) a b ⊎ IsAmong (beside a) b) }
+    ensures reach { (cells : Cells) (color : Color) (a b : Square) → length cells ≡ 81
+        → Reach (with_cell cells a (piece color Horse)) a b
+        ↔ (Reach (with_cell cells a (piece color Bishop)) a b ⊎ IsAmong (beside a) b) }
 {}
 
 /// A knight of black on one of the two ranks farthest from black reaches nothing, whatever else is
 /// on the board.
 pub fn knight_without_move()
-    ensures none { (cells : Cells) (a b : Square) → at cells a ≡ piece Black Knight → rank_of a ≤ 2 → Reach cells a b → ⊥ }
+    ensures none { (cells : Cells) (a b : Square) → at cells a ≡ piece Black Knight → rank_of a ≤ 2
+        → Reach cells a b → ⊥ }
 {}
 
 /// The even position is sound, no king in it is attacked, and the even setup finishes as it.
@@ -91,16 +96,24 @@ pub fn equal_setups()
 pub fn ordered_positions()
     ensures total { IsTotalOrder ⟦<Position as Ord>⟧.cmp }
     ensures exact { (p q : Placed) → (⟦<Position as Ord>⟧.cmp p q ≡ Equal) ↔ (p ≡ q) }
-    ensures by_parts { (p q : Placed) → ⟦<Position as Ord>⟧.cmp p q ≡ ordering_then (slice_cmp (option_cmp ⟦<Piece as Ord>⟧.cmp) p.material.board q.material.board) (ordering_then (slice_cmp nat_cmp p.material.black q.material.black) (ordering_then (slice_cmp nat_cmp p.material.white q.material.white) (⟦<Color as Ord>⟧.cmp p.side q.side))) }
+    ensures by_parts { (p q : Placed) → ⟦<Position as Ord>⟧.cmp p q
+        ≡ ordering_then
+        (slice_cmp (option_cmp ⟦<Piece as Ord>⟧.cmp) p.material.board q.material.board)
+        (ordering_then (slice_cmp nat_cmp p.material.black q.material.black)
+        (ordering_then (slice_cmp nat_cmp p.material.white q.material.white)
+        (⟦<Color as Ord>⟧.cmp p.side q.side))) }
 {}
 
 /// Pieces are in a total order: by their sides, black's first, and then by their kinds, in the
 /// order of `Kind`.
 pub fn ordered_pieces()
     ensures total { IsTotalOrder ⟦<Piece as Ord>⟧.cmp }
-    ensures by_parts { (p q : Piece) → ⟦<Piece as Ord>⟧.cmp p q ≡ ordering_then (⟦<Color as Ord>⟧.cmp p.color q.color) (⟦<Kind as Ord>⟧.cmp p.kind q.kind) }
+    ensures by_parts { (p q : Piece) → ⟦<Piece as Ord>⟧.cmp p q
+        ≡ ordering_then (⟦<Color as Ord>⟧.cmp p.color q.color) (⟦<Kind as Ord>⟧.cmp p.kind q.kind) }
     ensures sides { ⟦<Color as Ord>⟧.cmp Black White ≡ Less }
-    ensures kinds { IsStrictlySortedBy ⟦<Kind as Ord>⟧.cmp (hand_kinds ++ King ∷ ProPawn ∷ ProLance ∷ ProKnight ∷ ProSilver ∷ Horse ∷ Dragon ∷ []) }
+    ensures kinds { IsStrictlySortedBy ⟦<Kind as Ord>⟧.cmp
+        (hand_kinds
+        ++ King ∷ ProPawn ∷ ProLance ∷ ProKnight ∷ ProSilver ∷ Horse ∷ Dragon ∷ []) }
 {}
 
 /// Squares are in a total order, that of their files and then of their ranks.

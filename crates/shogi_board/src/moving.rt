@@ -31,9 +31,13 @@ impl Position {
     pub fn walk(&mut self, from: Square, to: Square, kind: Kind, danger: Danger) -> bool
         requires apart { place from ≢ place to }
         requires totals { IsWithinTotals (after_walk self.old from to kind).material }
-        requires captured { (x : Piece) → at self.old.material.board to ≡ Some x → is_hand_kind (unpromoted x.kind) ≡ true }
-        requires danger { (s : Square) → at (after_walk self.old from to kind).material.board s ≡ piece self.old.side King → ComesFrom (after_walk self.old from to kind).material.board self.old.side s danger }
-        ensures answer { IsTrue result ↔ (InCheck (after_walk self.old from to kind).material.board self.old.side → ⊥) }
+        requires captured { (x : Piece) → at self.old.material.board to ≡ Some x
+            → is_hand_kind (unpromoted x.kind) ≡ true }
+        requires danger { (s : Square)
+            → at (after_walk self.old from to kind).material.board s ≡ piece self.old.side King
+            → ComesFrom (after_walk self.old from to kind).material.board self.old.side s danger }
+        ensures answer { IsTrue result
+            ↔ (InCheck (after_walk self.old from to kind).material.board self.old.side → ⊥) }
         ensures value { result ≡ true → self.new ≡ after_walk self.old from to kind }
         ensures unchanged { result ≡ false → self.new ≡ self.old }
     {
@@ -66,8 +70,11 @@ impl Position {
         requires held { 0 < count_in (bag_of self.old.material self.old.side) kind }
         requires empty { at self.old.material.board to ≡ None }
         requires totals { IsWithinTotals (after_drop self.old to kind).material }
-        requires danger { (s : Square) → at (after_drop self.old to kind).material.board s ≡ piece self.old.side King → ComesFrom (after_drop self.old to kind).material.board self.old.side s danger }
-        ensures answer { IsTrue result ↔ (InCheck (after_drop self.old to kind).material.board self.old.side → ⊥) }
+        requires danger { (s : Square)
+            → at (after_drop self.old to kind).material.board s ≡ piece self.old.side King
+            → ComesFrom (after_drop self.old to kind).material.board self.old.side s danger }
+        ensures answer { IsTrue result
+            ↔ (InCheck (after_drop self.old to kind).material.board self.old.side → ⊥) }
         ensures value { result ≡ true → self.new ≡ after_drop self.old to kind }
         ensures unchanged { result ≡ false → self.new ≡ self.old }
     {

@@ -24,10 +24,14 @@ use std::marker::Model;
 #[rattlefmt::skip]
 static DIGIT_CELLS: [Option<Piece>; 29] = [
     None,
-    black!(Pawn), black!(Lance), black!(Knight), black!(Silver), black!(Gold), black!(Bishop), black!(Rook), black!(King),
-    black!(ProPawn), black!(ProLance), black!(ProKnight), black!(ProSilver), black!(Horse), black!(Dragon),
-    white!(Pawn), white!(Lance), white!(Knight), white!(Silver), white!(Gold), white!(Bishop), white!(Rook), white!(King),
-    white!(ProPawn), white!(ProLance), white!(ProKnight), white!(ProSilver), white!(Horse), white!(Dragon),
+    black!(Pawn), black!(Lance), black!(Knight), black!(Silver), black!(Gold), black!(Bishop),
+    black!(Rook), black!(King),
+    black!(ProPawn), black!(ProLance), black!(ProKnight), black!(ProSilver),
+    black!(Horse), black!(Dragon),
+    white!(Pawn), white!(Lance), white!(Knight), white!(Silver), white!(Gold), white!(Bishop),
+    white!(Rook), white!(King),
+    white!(ProPawn), white!(ProLance), white!(ProKnight), white!(ProSilver),
+    white!(Horse), white!(Dragon),
 ];
 
 // What a digit of each rank counts in the number of a file.
@@ -61,9 +65,24 @@ impl Model for Packed {
 
     ghost Value = { Placed };
 
-    ghost view = { λ p. record { material = record { board = board_of p.files; black = counts_of 7 p.black; white = counts_of 7 p.white }; side = p.side } };
+    ghost view = { λ p. record {
+      material = record {
+        board = board_of p.files;
+        black = counts_of 7 p.black;
+        white = counts_of 7 p.white;
+      };
+      side = p.side;
+    } };
 
-    ghost invariant = { λ p. ArePacked p.files p.black p.white × IsSound (record { material = record { board = board_of p.files; black = counts_of 7 p.black; white = counts_of 7 p.white }; side = p.side }) };
+    ghost invariant = { λ p. ArePacked p.files p.black p.white
+        × IsSound (record {
+          material = record {
+            board = board_of p.files;
+            black = counts_of 7 p.black;
+            white = counts_of 7 p.white;
+          };
+          side = p.side;
+        }) };
 }
 
 impl Packed {
@@ -151,8 +170,11 @@ impl Packed {
     pub fn followed(&self, next: &Position, change: &Change) -> Packed
         requires before { IsChange self.now.material.board change.now }
         requires apart { (s : Square) → change.now.from ≡ Some s → place s ≢ place change.now.to }
-        requires board { next.now.material.board ≡ slice_set (emptied self.now.material.board change.now.from) (place change.now.to) (at next.now.material.board change.now.to) }
-        requires hands { IsSome change.now.from → change.now.there ≡ None → (c : Color) → bag_of next.now.material c ≡ bag_of self.now.material c }
+        requires board { next.now.material.board
+            ≡ slice_set (emptied self.now.material.board change.now.from) (place change.now.to)
+            (at next.now.material.board change.now.to) }
+        requires hands { IsSome change.now.from → change.now.there ≡ None → (c : Color)
+            → bag_of next.now.material c ≡ bag_of self.now.material c }
         ensures value { result ≡ next.now }
     {
         let mut files = self.files;

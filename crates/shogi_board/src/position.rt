@@ -39,11 +39,22 @@ impl Model for Position {
 
     ghost Value = { Placed };
 
-    ghost view = { λ p. record { material = record { board = p.board; black = p.black; white = p.white }; side = p.side } };
+    ghost view = { λ p. record {
+      material = record { board = p.board; black = p.black; white = p.white };
+      side = p.side;
+    } };
 
-    ghost invariant = { λ p. IsSound (record { material = record { board = p.board; black = p.black; white = p.white }; side = p.side }) };
+    ghost invariant = { λ p. IsSound (record {
+      material = record { board = p.board; black = p.black; white = p.white };
+      side = p.side;
+    }) };
 
-    ghost inverse = { λ d. record { board = d.material.board; black = d.material.black; white = d.material.white; side = d.side } };
+    ghost inverse = { λ d. record {
+      board = d.material.board;
+      black = d.material.black;
+      white = d.material.white;
+      side = d.side;
+    } };
 }
 
 impl Position {

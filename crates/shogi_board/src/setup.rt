@@ -5,7 +5,7 @@ ghost use Rattle.shogi_board.specs.Pieces.{opponent};
 ghost use Rattle.shogi_board.specs.Sound.{IsSound};
 ghost use Rattle.shogi_board.specs.Totals.{total, limit, IsWithinTotals};
 ghost use Rattle.shogi_board.specs.Reach.{InCheck};
-ghost use Rattle.shogi_board.specs.Setup.{board_alone, empty_layout, position_of, is_full, place_fault, placed, add_fault, take_off_fault, taken_off, take_hand_fault, rest_fault, with_rest, count_with_rest, rest_to, added, taken};
+ghost use Rattle.shogi_board.specs.Setup.{board_alone, empty_layout, position_of, is_full, place_fault, with_piece, add_fault, take_off_fault, taken_off, take_hand_fault, rest_fault, with_rest, count_with_rest, rest_to, added, taken};
 ghost use Rattle.shogi_board.specs.declared.setup.SetupFault.TheVariants.{OpponentInCheck};
 
 use crate::board::Board;
@@ -58,11 +58,20 @@ impl Model for Setup {
 
     ghost Value = { Layout };
 
-    ghost view = { λ s. record { material = record { board = s.board; black = s.black; white = s.white }; rest_given = s.rest_given } };
+    ghost view = { λ s. record {
+      material = record { board = s.board; black = s.black; white = s.white };
+      rest_given = s.rest_given;
+    } };
 
-    ghost invariant = { λ s. IsWithinTotals (record { board = s.board; black = s.black; white = s.white }) };
+    ghost invariant = { λ s. IsWithinTotals
+        (record { board = s.board; black = s.black; white = s.white }) };
 
-    ghost inverse = { λ d. record { board = d.material.board; black = d.material.black; white = d.material.white; rest_given = d.rest_given } };
+    ghost inverse = { λ d. record {
+      board = d.material.board;
+      black = d.material.black;
+      white = d.material.white;
+      rest_given = d.rest_given;
+    } };
 }
 
 impl Setup {
@@ -100,7 +109,7 @@ impl Setup {
         ensures answer { MatchResult result
             (λ _. place_fault self.old color square kind ≡ None)
             (λ fault. place_fault self.old color square kind ≡ Some fault) }
-        ensures changed { OnOk result (self.new ≡ placed self.old color square kind) }
+        ensures changed { OnOk result (self.new ≡ with_piece self.old color square kind) }
         ensures unchanged { OnErr result (self.new ≡ self.old) }
     {
         if self.rest_given {
@@ -122,7 +131,7 @@ impl Setup {
     // Places a piece if it is known that `place` would not refuse it.
     fn put(&mut self, color: Color, square: Square, kind: Kind)
         requires fits { place_fault self.old color square kind ≡ None }
-        ensures changed { self.new ≡ placed self.old color square kind }
+        ensures changed { self.new ≡ with_piece self.old color square kind }
     {
         self.board.put(square, Some(Piece { color, kind }));
     }

@@ -107,8 +107,10 @@ impl Square {
 
     // The direction in which the other square lies, if that is on its rank, file or diagonal.
     fn direction_to(self, other: Square) -> Direction
-        ensures bounds { (1 ≤ result.files) × (result.files ≤ 3) × (1 ≤ result.ranks) × (result.ranks ≤ 3) }
-        ensures still { result.files ≡ 2 → result.ranks ≡ 2 → (file_of self ≡ file_of other) × (rank_of self ≡ rank_of other) }
+        ensures bounds { (1 ≤ result.files) × (result.files ≤ 3) × (1 ≤ result.ranks)
+            × (result.ranks ≤ 3) }
+        ensures still { result.files ≡ 2 → result.ranks ≡ 2
+            → (file_of self ≡ file_of other) × (rank_of self ≡ rank_of other) }
         ensures only { IsDirection self other result }
     {
         Direction {
@@ -170,7 +172,8 @@ impl Square {
 fn step(from: u8, to: u8) -> u8
     ensures bounds { (1 ≤ result) × (result ≤ 3) }
     ensures still { result ≡ 2 → from ≡ to }
-    ensures only { (times step : ℕ) → 1 ≤ step → step ≤ 3 → 1 ≤ times → to + times * 2 ≡ from + times * step → result ≡ step }
+    ensures only { (times step : ℕ) → 1 ≤ step → step ≤ 3 → 1 ≤ times
+        → to + times * 2 ≡ from + times * step → result ≡ step }
 {
     if to < from {
         1

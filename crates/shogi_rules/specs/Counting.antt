@@ -16,15 +16,19 @@ StandsAt entries n p = (e : Entry) → slice_get entries n ≡ Some e → e.posi
 -- each position of the list has one entry, with how often it occurs there and where for the first
 -- time; there are no more entries than positions
 pub record AreCounts (ps : List Placed) (entries : List Entry) : Type 0 where
-  pub each : (i : ℕ) (e : Entry) → slice_get entries i ≡ Some e → (e.count ≡ times ps e.position) × IsNth ps e.position 1 e.first
-  pub once : (i j : ℕ) (d e : Entry) → slice_get entries i ≡ Some d → slice_get entries j ≡ Some e → d.position ≡ e.position → i ≡ j
+  pub each : (i : ℕ) (e : Entry) → slice_get entries i ≡ Some e
+      → (e.count ≡ times ps e.position) × IsNth ps e.position 1 e.first
+  pub once : (i j : ℕ) (d e : Entry) → slice_get entries i ≡ Some d → slice_get entries j ≡ Some e
+      → d.position ≡ e.position → i ≡ j
   pub all : (q : Placed) → times (keys entries) q ≡ 0 → times ps q ≡ 0
   pub few : length entries ≤ length ps
 
 -- each place has its turn: the side to move, and whether it is in check
 pub record AreTurns (ps : List Placed) (turns : List Turn) : Type 0 where
   pub long : length turns ≡ length ps
-  pub each : (i : ℕ) (p : Placed) (turn : Turn) → slice_get ps i ≡ Some p → slice_get turns i ≡ Some turn → (turn.side ≡ p.side) × (IsTrue turn.in_check ↔ InCheck p.material.board p.side)
+  pub each : (i : ℕ) (p : Placed) (turn : Turn) → slice_get ps i ≡ Some p
+      → slice_get turns i ≡ Some turn → (turn.side ≡ p.side)
+      × (IsTrue turn.in_check ↔ InCheck p.material.board p.side)
 
 -- what is kept of the positions of a line
 pub record Seeing : Type 0 where

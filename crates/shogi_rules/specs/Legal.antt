@@ -35,7 +35,8 @@ HasPiece p (Put to kind) = 0 < count_in (bag_of p.material p.side) kind
 -- the own piece on the square left is of that kind, or promotes to it
 abbrev pub KindFits : Placed → Move → Type 0
 KindFits p (Walk from to kind) =
-    (was : Kind) × (at p.material.board from ≡ piece p.side was) × ((kind ≡ was) ⊎ (promoted was ≡ Some kind))
+    (was : Kind) × (at p.material.board from ≡ piece p.side was)
+    × ((kind ≡ was) ⊎ (promoted was ≡ Some kind))
 KindFits p (Put to _) = Unit {0}
 
 -- no own piece stands on the target; for a drop, no piece
@@ -50,7 +51,8 @@ ReachesTarget p (Put to _) = Unit {0}
 
 -- a walk keeps the kind, or leaves or enters the last three ranks
 abbrev pub MayPromote : Placed → Move → Type 0
-MayPromote p (Walk from to kind) = (at p.material.board from ≡ piece p.side kind) ⊎ InZone p.side from ⊎ InZone p.side to
+MayPromote p (Walk from to kind) = (at p.material.board from ≡ piece p.side kind)
+    ⊎ InZone p.side from ⊎ InZone p.side to
 MayPromote p (Put to _) = Unit {0}
 
 -- the piece stands where its kind still has a move

@@ -11,7 +11,8 @@ use Rattle.shogi_rules.specs.Legal.{Legal}
 -- by kind, then target
 abbrev pub IsBefore : Move → Move → Type 0
 IsBefore (Walk f t k) (Walk g u l) =
-    (place f < place g) ⊎ ((f ≡ g) × ((place t < place u) ⊎ ((t ≡ u) × (is_promoted k ≡ false) × (is_promoted l ≡ true))))
+    (place f < place g) ⊎ ((f ≡ g) × ((place t < place u)
+    ⊎ ((t ≡ u) × (is_promoted k ≡ false) × (is_promoted l ≡ true))))
 IsBefore (Walk f t k) (Put u l) = Unit {0}
 IsBefore (Put t k) (Walk g u l) = ⊥
 IsBefore (Put t k) (Put u l) = (place_of k < place_of l) ⊎ ((k ≡ l) × (place t < place u))

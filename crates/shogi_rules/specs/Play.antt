@@ -16,5 +16,6 @@ Breaks line color m rule = IsFirstBroken (Kept (all_of line) (now_of line) color
 abbrev pub Answers : Played → Color → Move → Option PlayFault → Type 0
 Answers line color m None = (length line.moves < max_moves) × Breaks line color m None
 Answers line color m (Some TooManyMoves) = max_moves ≤ length line.moves
-Answers line color m (Some (Broken rule)) = (length line.moves < max_moves) × Breaks line color m (Some rule)
+Answers line color m (Some (Broken rule)) = (length line.moves < max_moves)
+    × Breaks line color m (Some rule)
 Answers line color m (Some OutOfMemory) = ⊥

@@ -39,4 +39,5 @@ pub record MayFollow (start : Placed) (before : List Move) (m : Move) : Type 0 w
 -- a game: moves each of which may follow those before it
 pub data IsGame (start : Placed) : List Move → Type 0 where
   begun : IsGame start []
-  played : (before : List Move) (m : Move) → IsGame start before → MayFollow start before m → IsGame start (before ++ m ∷ [])
+  played : (before : List Move) (m : Move) → IsGame start before → MayFollow start before m
+      → IsGame start (before ++ m ∷ [])

@@ -27,8 +27,10 @@ pub record IsStretch (ps : List Placed) (p : Placed) (first fourth : ℕ) : Type
 -- if the side moved from that place, the other was in check afterwards
 abbrev pub PressedAt : List Placed → Color → ℕ → Type 0
 PressedAt ps color place =
-    (p q : Placed) → slice_get ps place ≡ Some p → slice_get ps (place + 1) ≡ Some q → p.side ≡ color → InCheck q.material.board q.side
+    (p q : Placed) → slice_get ps place ≡ Some p → slice_get ps (place + 1) ≡ Some q
+    → p.side ≡ color → InCheck q.material.board q.side
 
 -- each move of that side in the stretch gave check
 abbrev pub Pressed : List Placed → ℕ → ℕ → Color → Type 0
-Pressed ps first fourth color = (place : ℕ) → first ≤ place → place < fourth → PressedAt ps color place
+Pressed ps first fourth color = (place : ℕ) → first ≤ place → place < fourth
+    → PressedAt ps color place

@@ -32,7 +32,8 @@ KeptAlone p m = KeptAt p p.side m
 
 -- the rules that a look at the board before the move decides
 abbrev pub board_rules : List Rule
-board_rules = NoPiece ∷ WrongKind ∷ Occupied ∷ CannotReach ∷ BadPromotion ∷ MustPromote ∷ DoubledPawn ∷ []
+board_rules = NoPiece ∷ WrongKind ∷ Occupied ∷ CannotReach ∷ BadPromotion ∷ MustPromote
+    ∷ DoubledPawn ∷ []
 
 -- the rules 3 to 10
 abbrev pub keeping_rules : List Rule

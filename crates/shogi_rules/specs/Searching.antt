@@ -49,18 +49,23 @@ pub record LeadsTo (entries : List Entry) (links : List ℕ) (link n : ℕ) (e :
 
 -- the search for a position goes on from one link to another
 pub data GoesOn (entries : List Entry) (links : List ℕ) (q : Placed) (from to : ℕ) : Type 0 where
-  less : (n : ℕ) (e : Entry) → LeadsTo entries links from n e → order q e.position ≡ Less → to ≡ first_links + 2 * n → GoesOn entries links q from to
-  greater : (n : ℕ) (e : Entry) → LeadsTo entries links from n e → order q e.position ≡ Greater → to ≡ first_links + 2 * n + 1 → GoesOn entries links q from to
+  less : (n : ℕ) (e : Entry) → LeadsTo entries links from n e → order q e.position ≡ Less
+      → to ≡ first_links + 2 * n → GoesOn entries links q from to
+  greater : (n : ℕ) (e : Entry) → LeadsTo entries links from n e → order q e.position ≡ Greater
+      → to ≡ first_links + 2 * n + 1 → GoesOn entries links q from to
 
 -- the search that is at the link finds the position
 pub data Finds (entries : List Entry) (links : List ℕ) (q : Placed) : ℕ → Type 0 where
-  here : (link n : ℕ) (e : Entry) → LeadsTo entries links link n e → order q e.position ≡ Equal → Finds entries links q link
-  on : (from to : ℕ) → GoesOn entries links q from to → Finds entries links q to → Finds entries links q from
+  here : (link n : ℕ) (e : Entry) → LeadsTo entries links link n e → order q e.position ≡ Equal
+      → Finds entries links q link
+  on : (from to : ℕ) → GoesOn entries links q from to → Finds entries links q to
+      → Finds entries links q from
 
 -- the search comes to the link
 pub data Comes (entries : List Entry) (links : List ℕ) (q : Placed) : ℕ → Type 0 where
   begins : Comes entries links q (first_link q)
-  on : (from to : ℕ) → Comes entries links q from → GoesOn entries links q from to → Comes entries links q to
+  on : (from to : ℕ) → Comes entries links q from → GoesOn entries links q from to
+      → Comes entries links q to
 
 -- the search ends at the link, which leads to no entry
 pub record IsFree (entries : List Entry) (links : List ℕ) (q : Placed) (link : ℕ) : Type 0 where
@@ -71,6 +76,9 @@ pub record IsFree (entries : List Entry) (links : List ℕ) (q : Placed) (link :
 -- leads to an entry whose own links come after it
 pub record IsTree (entries : List Entry) (links : List ℕ) : Type 0 where
   pub wide : length links ≡ first_links + 2 * length entries
-  pub numbered : (n : ℕ) (e : Entry) → slice_get entries n ≡ Some e → e.number ≡ number_of e.position
-  pub later : (link n : ℕ) → slice_get links link ≡ Some (n + 1) → (n < length entries) × (link < first_links + 2 * n)
-  pub found : (n : ℕ) (e : Entry) → slice_get entries n ≡ Some e → Finds entries links e.position (first_link e.position)
+  pub numbered : (n : ℕ) (e : Entry) → slice_get entries n ≡ Some e
+      → e.number ≡ number_of e.position
+  pub later : (link n : ℕ) → slice_get links link ≡ Some (n + 1)
+      → (n < length entries) × (link < first_links + 2 * n)
+  pub found : (n : ℕ) (e : Entry) → slice_get entries n ≡ Some e
+      → Finds entries links e.position (first_link e.position)

@@ -49,7 +49,8 @@ fn may_promote(color: Color, was: Kind, from: Square, to: Square, kind: Kind) ->
 
 // Whether the side to move has another unpromoted pawn on the file.
 fn doubles_pawn(position: &Position, to: Square, kind: Kind) -> bool
-    ensures { IsTrue result ↔ ((kind ≡ Pawn) × HasPawnOnFile position.now.material.board position.now.side to) }
+    ensures { IsTrue result
+        ↔ ((kind ≡ Pawn) × HasPawnOnFile position.now.material.board position.now.side to) }
 {
     kind == Kind::Pawn && position.pawn_on_file(position.side(), to)
 }
@@ -69,7 +70,8 @@ pub(crate) fn broken_on_board(position: &Position, mv: &Move) -> Option<Rule>
 // The same of a walk.
 #[inline(always)]
 fn broken_by_walk(position: &Position, from: Square, to: Square, kind: Kind) -> Option<Rule>
-    ensures first { IsFirstBroken (KeptAlone position.now (Move.Walk from to kind)) board_rules result }
+    ensures first { IsFirstBroken
+        (KeptAlone position.now (Move.Walk from to kind)) board_rules result }
     ensures fits { IfNone result (FitsBoard position.now (Move.Walk from to kind)) }
 {
     let side = position.side();

@@ -41,7 +41,8 @@ fn has_evasion(position: &Position, king: Square, checker: Square) -> bool
 
 // Whether a walk of the king keeps the rules 3 to 10.
 fn king_escapes(position: &Position, king: Square) -> bool
-    ensures { IsTrue result ↔ ((to : Square) × (kind : Kind) × Keeps position.now (Move.Walk king to kind)) }
+    ensures { IsTrue result ↔ ((to : Square) × (kind : Kind)
+        × Keeps position.now (Move.Walk king to kind)) }
 {
     for n in 0..81usize {
         if keeps_walk(position, king, Square::at_place(n)) {
@@ -54,7 +55,8 @@ fn king_escapes(position: &Position, king: Square) -> bool
 // Whether a move that captures the checking piece, or puts a piece between, keeps the rules 3 to
 // 10.
 fn can_stop_check(position: &Position, king: Square, checker: Square) -> bool
-    ensures { IsTrue result ↔ ((m : Move) × StopsCheck checker king (target m) × Keeps position.now m) }
+    ensures { IsTrue result ↔ ((m : Move) × StopsCheck checker king (target m)
+        × Keeps position.now m) }
 {
     for n in 0..81usize {
         if can_stop_on(position, king, checker, Square::at_place(n)) {
@@ -66,7 +68,8 @@ fn can_stop_check(position: &Position, king: Square, checker: Square) -> bool
 
 // The same of the moves to one square.
 fn can_stop_on(position: &Position, king: Square, checker: Square, to: Square) -> bool
-    ensures { IsTrue result ↔ ((m : Move) × (target m ≡ to) × StopsCheck checker king to × Keeps position.now m) }
+    ensures { IsTrue result ↔ ((m : Move) × (target m ≡ to) × StopsCheck checker king to
+        × Keeps position.now m) }
 {
     stops_check(checker, king, to) && has_kept_move_to(position, to)
 }
@@ -84,7 +87,8 @@ fn has_kept_move_to(position: &Position, to: Square) -> bool
 }
 
 fn has_kept_walk_to(position: &Position, to: Square) -> bool
-    ensures { IsTrue result ↔ ((from : Square) × (kind : Kind) × Keeps position.now (Move.Walk from to kind)) }
+    ensures { IsTrue result ↔ ((from : Square) × (kind : Kind)
+        × Keeps position.now (Move.Walk from to kind)) }
 {
     for n in 0..81usize {
         if keeps_walk(position, Square::at_place(n), to) {

@@ -33,15 +33,20 @@ use crate::rule::Rule;
 
 /// In a sound position no walk of an own piece that reaches its target lands on the enemy king.
 pub fn king_never_taken()
-    ensures never { (p : Placed) (from to : Square) (kind : Kind) → IsSound p → HasPiece p (Move.Walk from to kind) → ReachesTarget p (Move.Walk from to kind) → at p.material.board to ≡ piece (opponent p.side) King → ⊥ }
+    ensures never { (p : Placed) (from to : Square) (kind : Kind) → IsSound p
+        → HasPiece p (Move.Walk from to kind) → ReachesTarget p (Move.Walk from to kind)
+        → at p.material.board to ≡ piece (opponent p.side) King → ⊥ }
 {}
 
 /// A pawn, a lance and a knight reach no square exactly if they are beyond the last rank of their
 /// kind, whatever else is on the board.
 pub fn last_ranks()
-    ensures pawn { (cells : Cells) (color : Color) (a : Square) → at cells a ≡ piece color Pawn → (rank_for color a < last_rank Pawn) ↔ ((b : Square) → Reach cells a b → ⊥) }
-    ensures lance { (cells : Cells) (color : Color) (a : Square) → at cells a ≡ piece color Lance → (rank_for color a < last_rank Lance) ↔ ((b : Square) → Reach cells a b → ⊥) }
-    ensures knight { (cells : Cells) (color : Color) (a : Square) → at cells a ≡ piece color Knight → (rank_for color a < last_rank Knight) ↔ ((b : Square) → Reach cells a b → ⊥) }
+    ensures pawn { (cells : Cells) (color : Color) (a : Square) → at cells a ≡ piece color Pawn
+        → (rank_for color a < last_rank Pawn) ↔ ((b : Square) → Reach cells a b → ⊥) }
+    ensures lance { (cells : Cells) (color : Color) (a : Square) → at cells a ≡ piece color Lance
+        → (rank_for color a < last_rank Lance) ↔ ((b : Square) → Reach cells a b → ⊥) }
+    ensures knight { (cells : Cells) (color : Color) (a : Square) → at cells a ≡ piece color Knight
+        → (rank_for color a < last_rank Knight) ↔ ((b : Square) → Reach cells a b → ⊥) }
 {}
 
 /// A legal move leads from a sound position to a sound one, and so does any that keeps the rules 3
@@ -53,18 +58,21 @@ pub fn legal_move_keeps_soundness()
 
 /// So does a game.
 pub fn game_keeps_soundness()
-    ensures sound { (start : Placed) (moves : List Move) → IsSound start → IsGame start moves → IsSound (position_after start moves) }
+    ensures sound { (start : Placed) (moves : List Move) → IsSound start → IsGame start moves
+        → IsSound (position_after start moves) }
 {}
 
 /// A legal move adds no piece and takes none: of each kind, promoted pieces counted with their
 /// unpromoted kind, there are as many on the board and in both hands as before.
 pub fn pieces_stay()
-    ensures totals { (p : Placed) (m : Move) (kind : Kind) → IsSound p → Legal p m → total (after p m).material kind ≡ total p.material kind }
+    ensures totals { (p : Placed) (m : Move) (kind : Kind) → IsSound p → Legal p m
+        → total (after p m).material kind ≡ total p.material kind }
 {}
 
 /// A legal move leaves its mover's king safe.
 pub fn mover_not_in_check()
-    ensures safe { (p : Placed) (m : Move) → Legal p m → InCheck (after p m).material.board p.side → ⊥ }
+    ensures safe { (p : Placed) (m : Move) → Legal p m → InCheck (after p m).material.board p.side
+        → ⊥ }
 {}
 
 /// In check, a move that keeps the rules 3 to 9, but neither moves the king nor captures the
@@ -74,7 +82,8 @@ pub fn only_evasions_end_check()
     ensures attacked { (p : Placed) (m : Move) (checker king : Square) → IsSound p → FitsBoard p m
         → at p.material.board king ≡ piece p.side King → Attack p.material.board p.side checker king
         → (MovesFrom king m → ⊥) → (StopsCheck checker king (target m) → ⊥)
-        → (at (after p m).material.board king ≡ piece p.side King) × Attack (after p m).material.board p.side checker king }
+        → (at (after p m).material.board king ≡ piece p.side King)
+        × Attack (after p m).material.board p.side checker king }
     ensures refused { (p : Placed) (m : Move) (checker king : Square) → IsSound p → Keeps p m
         → at p.material.board king ≡ piece p.side King → Attack p.material.board p.side checker king
         → (MovesFrom king m → ⊥) → (StopsCheck checker king (target m) → ⊥) → ⊥ }
@@ -87,22 +96,27 @@ pub fn other_side_moves()
 
 /// One rule, or none, is the first that a move breaks.
 pub fn one_first_broken_rule()
-    ensures once { (ps : List Placed) (p : Placed) (color : Color) (m : Move) (a b : Option Rule) → IsFirstBroken (Kept ps p color m) all_rules a → IsFirstBroken (Kept ps p color m) all_rules b → a ≡ b }
+    ensures once { (ps : List Placed) (p : Placed) (color : Color) (m : Move) (a b : Option Rule)
+        → IsFirstBroken (Kept ps p color m) all_rules a
+        → IsFirstBroken (Kept ps p color m) all_rules b → a ≡ b }
 {}
 
 /// Each move of a side has an answer: some rule, or none, is the first that it breaks.
 pub fn some_first_broken_rule()
-    ensures answer { (ps : List Placed) (p : Placed) (color : Color) (m : Move) → (answer : Option Rule) × IsFirstBroken (Kept ps p color m) all_rules answer }
+    ensures answer { (ps : List Placed) (p : Placed) (color : Color) (m : Move)
+        → (answer : Option Rule) × IsFirstBroken (Kept ps p color m) all_rules answer }
 {}
 
 /// Memory aside, one answer to a move that is to be played holds.
 pub fn one_answer()
-    ensures once { (line : Played) (color : Color) (m : Move) (a b : Option PlayFault) → Answers line color m a → Answers line color m b → a ≡ b }
+    ensures once { (line : Played) (color : Color) (m : Move) (a b : Option PlayFault)
+        → Answers line color m a → Answers line color m b → a ≡ b }
 {}
 
 /// Memory aside, each move that is to be played has an answer.
 pub fn some_answer()
-    ensures answer { (line : Played) (color : Color) (m : Move) → (answer : Option PlayFault) × Answers line color m answer }
+    ensures answer { (line : Played) (color : Color) (m : Move)
+        → (answer : Option PlayFault) × Answers line color m answer }
 {}
 
 /// Rules are in the order in which the first broken one is named.
@@ -119,18 +133,21 @@ pub fn one_first_legal()
 /// nothing.
 pub fn times_counts_equal_positions()
     ensures none { (p : Placed) → times [] p ≡ 0 }
-    ensures more { (ps : List Placed) (p q : Placed) → (times (p ∷ ps) q ≡ times ps q + 1) ↔ (p ≡ q) }
+    ensures more { (ps : List Placed) (p q : Placed)
+        → (times (p ∷ ps) q ≡ times ps q + 1) ↔ (p ≡ q) }
     ensures same { (ps : List Placed) (p q : Placed) → (p ≡ q → ⊥) → times (p ∷ ps) q ≡ times ps q }
 {}
 
 /// A position occurs for the n-th time at one place of a list.
 pub fn nth_place_once()
-    ensures once { (ps : List Placed) (p : Placed) (n i j : ℕ) → IsNth ps p n i → IsNth ps p n j → i ≡ j }
+    ensures once { (ps : List Placed) (p : Placed) (n i j : ℕ) → IsNth ps p n i → IsNth ps p n j
+        → i ≡ j }
 {}
 
 /// No two verdicts hold together.
 pub fn one_verdict()
-    ensures once { (ps : List Placed) (p : Placed) (u v : Verdict) → Stands ps p u → Stands ps p v → u ≡ v }
+    ensures once { (ps : List Placed) (p : Placed) (u v : Verdict) → Stands ps p u → Stands ps p v
+        → u ≡ v }
 {}
 
 /// Each position has a verdict, whatever positions it is looked for in.
@@ -140,13 +157,17 @@ pub fn some_verdict()
 
 /// The position that a line's moves lead to is the last of its positions.
 pub fn now_stands_last()
-    ensures last { (line : Played) → slice_get (all_of line) (length line.moves) ≡ Some (now_of line) }
+    ensures last { (line : Played)
+        → slice_get (all_of line) (length line.moves) ≡ Some (now_of line) }
     ensures all { (line : Played) → length (all_of line) ≡ length line.moves + 1 }
 {}
 
 /// Of a game's positions only the last can occur for the fourth time, and it does so at the last
 /// place.
 pub fn fourth_stands_last()
-    ensures last { (line : Played) (p : Placed) → IsGame line.start line.moves → Over (all_of line) p → p ≡ now_of line }
-    ensures place { (line : Played) → IsGame line.start line.moves → Over (all_of line) (now_of line) → IsNth (all_of line) (now_of line) 4 (length line.moves) }
+    ensures last { (line : Played) (p : Placed) → IsGame line.start line.moves
+        → Over (all_of line) p → p ≡ now_of line }
+    ensures place { (line : Played) → IsGame line.start line.moves
+        → Over (all_of line) (now_of line)
+        → IsNth (all_of line) (now_of line) 4 (length line.moves) }
 {}

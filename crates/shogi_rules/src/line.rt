@@ -77,7 +77,9 @@ impl Model for Line {
 
     ghost view = { λ l. record { start = l.start; moves = l.moves.items } };
 
-    ghost invariant = { (λ l. IsLine l.start l.last l.moves.items × IsSeen (positions_of l.start l.moves.items) l.last l.seen × (IsTrue l.in_check ↔ InCheck l.last.material.board l.last.side)) };
+    ghost invariant = { (λ l. IsLine l.start l.last l.moves.items
+        × IsSeen (positions_of l.start l.moves.items) l.last l.seen
+        × (IsTrue l.in_check ↔ InCheck l.last.material.board l.last.side)) };
 }
 
 impl Line {
@@ -153,7 +155,8 @@ impl Line {
 
     // Whether the side to move is not in check.
     fn is_safe(&self) -> bool
-        ensures { result ≡ true → InCheck (now_of self.now).material.board (now_of self.now).side → ⊥ }
+        ensures { result ≡ true → InCheck (now_of self.now).material.board (now_of self.now).side
+            → ⊥ }
     {
         !self.in_check
     }
@@ -189,7 +192,8 @@ impl Line {
 
     // What `play` refuses if there is no room for the move.
     fn fault_without_room(&self, mover: Color, mv: &Move) -> PlayFault
-        ensures { ((result ≡ OutOfMemory) × Answers self.now mover mv.now None) ⊎ Answers self.now mover mv.now (Some result) }
+        ensures { ((result ≡ OutOfMemory) × Answers self.now mover mv.now None)
+            ⊎ Answers self.now mover mv.now (Some result) }
     {
         self.fault(mover, mv).unwrap_or(PlayFault::OutOfMemory)
     }
@@ -202,8 +206,10 @@ impl Line {
     pub fn play(&mut self, mover: Color, mv: Move) -> Result<(), PlayFault>
         ensures answer { MatchResult result
             (λ _. Answers self.old mover mv None)
-            (λ fault. ((fault ≡ OutOfMemory) × Answers self.old mover mv None) ⊎ Answers self.old mover mv (Some fault)) }
-        ensures played { OnOk result (self.new ≡ record self.old { moves = self.old.moves ++ mv ∷ [] }) }
+            (λ fault. ((fault ≡ OutOfMemory) × Answers self.old mover mv None)
+            ⊎ Answers self.old mover mv (Some fault)) }
+        ensures played { OnOk result
+            (self.new ≡ record self.old { moves = self.old.moves ++ mv ∷ [] }) }
         ensures unchanged { OnErr result (self.new ≡ self.old) }
     {
         if let Some(fault) = self.closed(mover) {

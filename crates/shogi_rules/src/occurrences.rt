@@ -161,7 +161,8 @@ impl Occurrences {
     pub(crate) fn add(&mut self, position: Packed, before: usize) -> Result<usize, AllocError>
         requires counted { (ps : List Placed) × (length ps ≡ before) × AreCounts ps self.old }
         requires few { before ≤ max_moves }
-        ensures ok { OnOk result ((ps : List Placed) → length ps ≡ before → AreCounts ps self.old → AreCounts (ps ++ position ∷ []) self.new) }
+        ensures ok { OnOk result ((ps : List Placed) → length ps ≡ before → AreCounts ps self.old
+            → AreCounts (ps ++ position ∷ []) self.new) }
         ensures place { IfOk result (λ n. (n < length self.new) × StandsAt self.new n position) }
         ensures err { OnErr result (self.new ≡ self.old) }
     {

@@ -19,7 +19,8 @@ use shogi_board::{Danger, Kind, Packed, Position, Square, attacked, attacked_fro
 fn danger_after(position: &Position, safe: bool, mv: &Move) -> Danger
     requires fits { FitsBoard position.now mv.now }
     requires safe { safe ≡ true → InCheck position.now.material.board position.now.side → ⊥ }
-    ensures { (s : Square) → at (board_after position.now mv.now) s ≡ piece position.now.side King → ComesFrom (board_after position.now mv.now) position.now.side s result }
+    ensures { (s : Square) → at (board_after position.now mv.now) s ≡ piece position.now.side King
+        → ComesFrom (board_after position.now mv.now) position.now.side s result }
 {
     position.soundness();
     if !safe || mv.kind() == Kind::King {
@@ -49,7 +50,9 @@ fn make_if_safe(position: &mut Position, safe: bool, mv: &Move) -> bool
 #[inline(always)]
 fn make(position: &mut Position, danger: Danger, mv: &Move) -> bool
     requires fits { FitsBoard position.old mv.now }
-    requires danger { (s : Square) → at (board_after position.old mv.now) s ≡ piece position.old.side King → ComesFrom (board_after position.old mv.now) position.old.side s danger }
+    requires danger { (s : Square)
+        → at (board_after position.old mv.now) s ≡ piece position.old.side King
+        → ComesFrom (board_after position.old mv.now) position.old.side s danger }
     ensures safe { IsTrue result ↔ KingSafe position.old mv.now }
     ensures value { result ≡ true → position.new ≡ after position.old mv.now }
     ensures unchanged { result ≡ false → position.new ≡ position.old }
@@ -83,7 +86,8 @@ pub(crate) fn make_if_kept(position: &mut Position, safe: bool, mv: &Move) -> Op
     requires { safe ≡ true → InCheck position.old.material.board position.old.side → ⊥ }
     ensures kept { MatchOption result
         (Keeps position.old mv.now)
-        (λ rule. (Keeps position.old mv.now → ⊥) × IsFirstBroken (KeptAlone position.old mv.now) keeping_rules (Some rule)) }
+        (λ rule. (Keeps position.old mv.now → ⊥)
+        × IsFirstBroken (KeptAlone position.old mv.now) keeping_rules (Some rule)) }
     ensures value { result ≡ None → position.new ≡ after position.old mv.now }
     ensures unchanged { IfSome result (λ _. position.new ≡ position.old) }
 {
@@ -104,7 +108,8 @@ pub(crate) fn make_if_kept(position: &mut Position, safe: bool, mv: &Move) -> Op
 pub(crate) fn after_if_kept(position: &Position, mv: &Move) -> Result<Position, Rule>
     ensures { MatchResult result
         (λ next. Keeps position.now mv.now × (next ≡ after position.now mv.now))
-        (λ rule. (Keeps position.now mv.now → ⊥) × IsFirstBroken (KeptAlone position.now mv.now) keeping_rules (Some rule)) }
+        (λ rule. (Keeps position.now mv.now → ⊥)
+        × IsFirstBroken (KeptAlone position.now mv.now) keeping_rules (Some rule)) }
 {
     let mut next = *position;
     match make_if_kept(&mut next, false, mv) {

@@ -15,7 +15,8 @@ use shogi_board::{Color, Position};
 // Whether the move from the place gave check, if it is one of that side.
 fn gave_check(turns: &[Turn], place: usize, color: Color) -> bool
     requires { place + 1 < length turns.now }
-    ensures { (ps : List Placed) → AreTurns ps turns.now → IsTrue result ↔ PressedAt ps color place }
+    ensures { (ps : List Placed) → AreTurns ps turns.now
+        → IsTrue result ↔ PressedAt ps color place }
 {
     if turns[place].side != color {
         return true;
@@ -26,7 +27,8 @@ fn gave_check(turns: &[Turn], place: usize, color: Color) -> bool
 // Whether each move of that side between the two places gave check.
 fn pressed(turns: &[Turn], first: usize, fourth: usize, color: Color) -> bool
     requires { fourth < length turns.now }
-    ensures { (ps : List Placed) → AreTurns ps turns.now → IsTrue result ↔ Pressed ps first fourth color }
+    ensures { (ps : List Placed) → AreTurns ps turns.now
+        → IsTrue result ↔ Pressed ps first fourth color }
 {
     for place in first..fourth {
         if !gave_check(turns, place, color) {
@@ -55,7 +57,8 @@ fn presser(turns: &[Turn], first: usize, fourth: usize) -> Option<Color>
 // The verdict on a line whose last position occurs for the fourth time.
 pub(crate) fn verdict_of_stretch(seen: &Seen) -> Verdict
     requires { 0 < length seen.now.turns }
-    ensures { (ps : List Placed) (p : Placed) → IsSeen ps p seen.now → IsNth ps p 4 (length seen.now.turns - 1) → StandsByStretch ps p result }
+    ensures { (ps : List Placed) (p : Placed) → IsSeen ps p seen.now
+        → IsNth ps p 4 (length seen.now.turns - 1) → StandsByStretch ps p result }
 {
     let turns = seen.turns();
     match presser(turns, seen.first(), turns.len() - 1) {

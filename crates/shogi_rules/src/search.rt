@@ -53,7 +53,8 @@ fn is_legal(position: &Position, mv: &Move) -> bool
 
 // The move, if it is legal.
 fn if_legal(position: &Position, mv: Move) -> Option<Move>
-    ensures { MatchOption result (Legal position.now mv → ⊥) (λ m. (m ≡ mv) × Legal position.now m) }
+    ensures { MatchOption result (Legal position.now mv → ⊥)
+        (λ m. (m ≡ mv) × Legal position.now m) }
 {
     if is_legal(position, &mv) {
         Some(mv)
@@ -104,7 +105,8 @@ fn first_walk_from(position: &Position, from: Square) -> Option<Move>
 }
 
 fn first_walk(position: &Position) -> Option<Move>
-    ensures { MatchOption result (NoneOf position.now IsWalk) (λ m. IsFirstOf position.now IsWalk m) }
+    ensures { MatchOption result (NoneOf position.now IsWalk)
+        (λ m. IsFirstOf position.now IsWalk m) }
 {
     for n in 0..81usize {
         if let Some(mv) = first_walk_from(position, Square::at_place(n)) {
@@ -133,7 +135,8 @@ fn first_drop_of(position: &Position, kind: Kind) -> Option<Move>
 }
 
 fn first_drop(position: &Position) -> Option<Move>
-    ensures { MatchOption result (NoneOf position.now IsDrop) (λ m. IsFirstOf position.now IsDrop m) }
+    ensures { MatchOption result (NoneOf position.now IsDrop)
+        (λ m. IsFirstOf position.now IsDrop m) }
 {
     for n in 0..7usize {
         if let Some(mv) = first_drop_of(position, hand_kind(n)) {
@@ -149,7 +152,8 @@ fn first_drop(position: &Position) -> Option<Move>
 /// .. 19, 21, .. 99, and the unpromoted form comes first. Drops go by kind, pawn, lance, knight,
 /// silver, gold, bishop, rook, then by target.
 pub fn first_legal(position: &Position) -> Option<Move>
-    ensures first { MatchOption result (NoLegalMove position.now) (λ m. IsFirstLegal position.now m) }
+    ensures first { MatchOption result (NoLegalMove position.now)
+        (λ m. IsFirstLegal position.now m) }
 {
     first_walk(position).or_else(|| first_drop(position))
 }

@@ -105,9 +105,11 @@ impl Seen {
     // allocation fails, nothing changes.
     #[inline(always)]
     pub(crate) fn push(&mut self, position: Packed, in_check: bool) -> Result<(), AllocError>
-        requires seen { (ps : List Placed) × (p : Placed) × (length ps ≤ max_moves) × IsSeen ps p self.old }
+        requires seen { (ps : List Placed) × (p : Placed) × (length ps ≤ max_moves)
+            × IsSeen ps p self.old }
         requires check { IsTrue in_check ↔ InCheck position.material.board position.side }
-        ensures ok { OnOk result ((ps : List Placed) (p : Placed) → IsSeen ps p self.old → IsSeen (ps ++ position ∷ []) position self.new) }
+        ensures ok { OnOk result ((ps : List Placed) (p : Placed) → IsSeen ps p self.old
+            → IsSeen (ps ++ position ∷ []) position self.new) }
         ensures err { OnErr result (self.new ≡ self.old) }
     {
         let side = position.side();

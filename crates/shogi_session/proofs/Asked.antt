@@ -8,10 +8,10 @@ use Rattle.shogi_rules.specs.Repetition.{Over}
 use Rattle.usi_text.specs.LineText.{LineText}
 use Rattle.csa_record.specs.Course.{time_at, time_of}
 use Rattle.csa_record.specs.Game.{Game, Timed, move_of}
-use Rattle.session_table.specs.declared.config.Config.{Config}
+use Rattle.bridge_table.specs.declared.config.Config.{Config}
 use Rattle.shogi_session.specs.Asked.{IsAsked}
-use Rattle.session_table.specs.Asking.{MayAsk, go_line, thousandths, used}
-use Rattle.session_table.specs.State.{Match, line_of}
+use Rattle.bridge_table.specs.Asking.{MayAsk, go_line, thousandths, used}
+use Rattle.bridge_table.specs.State.{Match, match_line}
 use Rattle.session_lines.specs.Texts.{ended_line, text_of}
 
 abbrev played_of : Game → Played
@@ -20,12 +20,12 @@ played_of x = record { start = x.start; moves = map move_of x.moves }
 -- the side to move is the client's and there is room: all depends on the repetition
 pub may_ask_now : (g : Match) (game : Game) (client side : Color) (l : Played) (over : Bool) → g.client ≡ client → g.game ≡ game → l ≡ played_of game → side ≡ (now_of l).side → side ≡ client → length l.moves < 10000 → (IsTrue over ↔ Over (all_of l) (now_of l)) → (IsTrue (not over) ↔ MayAsk g)
 may_ask_now g game client side l over cl e is s c few told =
-    let same : line_of g ≡ l = ap played_of e ∙ sym is in
+    let same : match_line g ≡ l = ap played_of e ∙ sym is in
     let moves : length l.moves ≡ length g.game.moves = ap (λ (t : Played). length t.moves) (sym same) ∙ length-map g.game.moves move_of in
-    let turn : (now_of (line_of g)).side ≡ g.client = ap (λ t. (now_of t).side) same ∙ (sym s ∙ (c ∙ sym cl)) in
+    let turn : (now_of (match_line g)).side ≡ g.client = ap (λ t. (now_of t).side) same ∙ (sym s ∙ (c ∙ sym cl)) in
     may_ask_by over told same turn (omega (arith, few, moves))
   where
-    may_ask_by : (b : Bool) → (IsTrue b ↔ Over (all_of l) (now_of l)) → line_of g ≡ l → (now_of (line_of g)).side ≡ g.client → length g.game.moves < 10000 → (IsTrue (not b) ↔ MayAsk g)
+    may_ask_by : (b : Bool) → (IsTrue b ↔ Over (all_of l) (now_of l)) → match_line g ≡ l → (now_of (match_line g)).side ≡ g.client → length g.game.moves < 10000 → (IsTrue (not b) ↔ MayAsk g)
     may_ask_by true told same turn room = (λ h. cc, λ (may : MayAsk g). absurd (may.not_over (subst (λ t. Over (all_of t) (now_of t)) (sym same) (told.0 refl))))
     may_ask_by false told same turn room = (
       λ h. record {
@@ -39,7 +39,7 @@ may_ask_now g game client side l over cl e is s c few told =
 -- the position line and then the go line
 pub asked_text : (c : Config) (g : Match) (game : Game) (l : Played) (position before middle after : List ℕ) → MayAsk g → g.game ≡ game → l ≡ played_of game → LineText l.start l.moves position → middle ≡ before ++ ended_line position → after ≡ middle ++ ended_line (go_line c g) → (text : List ℕ) × (after ≡ before ++ text) × IsAsked c g true text
 asked_text c g game l position before middle after may e is told first second =
-    let same : line_of g ≡ l = ap played_of e ∙ sym is in
+    let same : match_line g ≡ l = ap played_of e ∙ sym is in
     let lines : List (List ℕ) = position ∷ go_line c g ∷ [] in
     let both : text_of lines ≡ ended_line position ++ ended_line (go_line c g) = ap (λ t. ended_line position ++ t) (append-nil (ended_line (go_line c g))) in (
       text_of lines,

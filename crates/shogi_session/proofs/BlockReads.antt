@@ -8,8 +8,8 @@ use Rattle.csa_record.specs.Reading.{Reading, HasRead}
 use Rattle.csa_record.specs.Tells.{Tells}
 use Rattle.csa_text.specs.Saying.{Saying}
 use Rattle.session_lines.specs.Texts.{ended_line}
-use Rattle.session_table.proofs.PositionFits.{FitsIn}
-use Rattle.session_table.specs.Summary.{TellsPosition}
+use Rattle.bridge_table.proofs.PositionFits.{FitsIn}
+use Rattle.bridge_table.specs.Summary.{TellsPosition}
 use Rattle.shogi_session.proofs.BlockLines.{ReadText, read_join, read_part, read_nothing, text_join, text_part, unmarked, unmarked_or}
 use Rattle.shogi_session.specs.PositionTexts.{IsFed, IsFedOn, IsPositionText, IsTaken, IsWhole, TellsNone}
 
@@ -47,8 +47,8 @@ first_none line none = λ more g p.
 later_none : (front line : List ℕ) → (IsPositionText line → ⊥) → TellsNone ((front ++ 10 ∷ []) ++ ended_line line)
 later_none front line none = λ more g p.
     let r = subst (ReadText FitsIn) (behind_line front line more) (position_in _ g p) in
-    let behind = (text_part FitsIn front (line ++ 10 ∷ more) r).1 in
-    none (position_read line (unmarked FitsIn line (read_part FitsIn 0 line more behind).0))
+    let rest = (text_part FitsIn front (line ++ 10 ∷ more) r).1 in
+    none (position_read line (unmarked FitsIn line (read_part FitsIn 0 line more rest).0))
 
 pub another_line : (text line : List ℕ) (reader : Reading) → IsFed text reader → (IsPositionText line → ⊥) → TellsNone (text ++ ended_line line)
 another_line text line reader fed none =

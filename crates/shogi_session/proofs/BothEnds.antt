@@ -3,21 +3,21 @@ use Rattle.std.proofs.Common.{◌≡◌, ℕ, ◌++◌, Bool, true, false, List,
 use Rattle.std.specs.List.{filter, cons_option}
 use Rattle.std.proofs.lemmas.List.{append-nil}
 use Rattle.std.proofs.lemmas.List.Elements.{filter-append, filter_map-append}
-use Rattle.session_table.specs.declared.config.Config.{Config}
-use Rattle.session_peers.specs.declared.config.HostConfig.{HostConfig}
-use Rattle.session_table.specs.Events.{Event, Out}
-use Rattle.session_peers.specs.Host.{HostState}
-use Rattle.session_peers.specs.HostLogs.{HostStep, HostLeads, written, written_moves, behind_start}
-use Rattle.session_table.specs.Logs.{Step, Leads, new, next, heard, server_lines, passes, behind, counted, Taken, is_sound}
+use Rattle.bridge_table.specs.declared.config.Config.{Config}
+use Rattle.host_and_sample.specs.declared.config.HostConfig.{HostConfig}
+use Rattle.bridge_table.specs.Events.{Event, Out}
+use Rattle.host_and_sample.specs.Host.{HostState}
+use Rattle.host_and_sample.specs.HostLogs.{HostStep, HostLeads, written, written_moves, behind_start}
+use Rattle.bridge_table.specs.Logs.{Step, Leads, new, next, heard, server_lines, passes, behind, counted, Taken, is_sound}
 use Rattle.session_lines.specs.MoveLines.{is_move_line}
-use Rattle.session_table.specs.Row.{Row, in_table, unnamed}
-use Rattle.session_table.specs.Sending.{IsPrefix}
+use Rattle.bridge_table.specs.Row.{Row, in_table, unnamed}
+use Rattle.bridge_table.specs.Sending.{IsPrefix}
 use Rattle.session_lines.specs.ServerLines.{is_start_line}
-use Rattle.session_table.specs.State.{State}
-use Rattle.session_table.proofs.Courses.{Steps, Lines, agrees, hears_start}
-use Rattle.session_peers.proofs.HostGame.{NoStart, none_yet}
-use Rattle.session_peers.proofs.OneStart.{one_start}
-use Rattle.session_table.proofs.Onward.{step, counted_in, counted_out}
+use Rattle.bridge_table.specs.State.{State}
+use Rattle.bridge_table.proofs.Courses.{Steps, Lines, agrees, hears_start}
+use Rattle.host_and_sample.proofs.HostGame.{NoStart, none_yet}
+use Rattle.host_and_sample.proofs.OneStart.{one_start}
+use Rattle.bridge_table.proofs.Onward.{step, counted_in, counted_out}
 
 -- 1. the lines after START:
 by_line : (x : Step) (xs : Steps) (o : Option (List ℕ)) (v : Bool) → heard x ≡ o → passes is_start_line o ≡ v

@@ -1,24 +1,24 @@
 -- How the calls of a bridge keep what they promise.
 use Rattle.std.proofs.Common.{◌≡◌, ℕ, length, List, Some, None, refl, sym, ap, subst, ◌∙◌}
 use Rattle.csa_record.specs.Canon.{canon}
-use Rattle.session_table.specs.declared.config.Config.{Config}
-use Rattle.session_table.specs.declared.event.Out.{Out as Answered}
-use Rattle.session_table.specs.declared.event.Status.{Status}
-use Rattle.session_table.specs.declared.event.Status.TheVariants.{Going}
+use Rattle.bridge_table.specs.declared.config.Config.{Config}
+use Rattle.bridge_table.specs.declared.event.Out.{Out as Answered}
+use Rattle.bridge_table.specs.declared.event.Status.{Status}
+use Rattle.bridge_table.specs.declared.event.Status.TheVariants.{Going}
 use Rattle.shogi_session.specs.declared.phase.Phase.{Phase}
 use Rattle.shogi_session.specs.declared.phase.Phase.TheVariants as phases
 use Rattle.shogi_session.specs.declared.offer.GameOffer.{GameOffer}
 use Rattle.shogi_session.specs.declared.phase.Play.{Play as Own}
-use Rattle.session_table.specs.declared.state.EngineState.{EngineState}
+use Rattle.bridge_table.specs.declared.state.EngineState.{EngineState}
 use Rattle.csa_record.specs.Game.{Game}
-use Rattle.session_table.specs.Events.{Event, Out, no_lines, trimmed}
-use Rattle.session_table.specs.GameTold.{HasMoves, game_of}
+use Rattle.bridge_table.specs.Events.{Event, Out, no_lines, trimmed}
+use Rattle.bridge_table.specs.GameTold.{HasMoves, game_of}
 use Rattle.shogi_session.specs.Phases.{IsPhase, Reacts, Stays, client_of, going}
-use Rattle.session_table.specs.Promises.{IsGameText, game_text, no_game, Session, Steps, KeepsGame, before, after}
-use Rattle.session_table.specs.Row.{Row, unnamed}
-use Rattle.session_table.specs.State.{Client, State}
+use Rattle.bridge_table.specs.Promises.{IsGameText, game_text, no_game, Session, Steps, KeepsGame, before, after}
+use Rattle.bridge_table.specs.Row.{Row, unnamed}
+use Rattle.bridge_table.specs.State.{Client, State}
 use Rattle.session_lines.specs.Texts.{text_of}
-use Rattle.session_table.proofs.RowOnce.{row_once}
+use Rattle.bridge_table.proofs.RowOnce.{row_once}
 use Rattle.shogi_session.proofs.Unnamed.{stopped}
 
 -- 1. game_text

@@ -21,17 +21,18 @@ use Rattle.usi_text.specs.Moves.{UsiMove}
 use Rattle.usi_text.specs.Sfen.{side_text}
 use Rattle.usi_text.specs.SfenText.{both_piles, board_text, hands_text, sfen_text}
 use Rattle.session_lines.specs.LineTexts as texts
+use Rattle.usi_text.specs.EngineTexts as usi_texts
 use Rattle.session_lines.specs.declared.server_words.GameResult.{GameResult}
 use Rattle.session_lines.specs.declared.server_words.GameResult.TheVariants.{Win, Lose, Draw, Censored, Chudan}
 use Rattle.session_lines.specs.Texts.{text_of, without_last_spaces}
-use Rattle.session_peers.proofs.WholeLines.{IsVisible, IsWhole, AllWhole, behind, both, cut_back, decimal_visible, login_word, move_visible, number, plain_visible, text, told_run, unspaced_all, visible_more, visible_run, word}
-use Rattle.session_table.specs.declared.config.Config.{Config}
-use Rattle.session_table.specs.declared.state.EngineState.{EngineState}
-use Rattle.session_table.specs.Asking.{Asks, asked, go_line, left, not_asked}
-use Rattle.session_table.specs.Events.{Event, Out, no_lines}
-use Rattle.session_table.specs.Row.{Row, TableRow, answer_line, gameover_line, in_table, login_line, unnamed}
-use Rattle.session_table.specs.Row as row
-use Rattle.session_table.specs.State.{Match, State}
+use Rattle.host_and_sample.proofs.WholeLines.{IsVisible, IsWhole, AllWhole, behind, both, cut_back, decimal_visible, login_word, move_visible, number, plain_visible, text, told_run, unspaced_all, visible_more, visible_run, word}
+use Rattle.bridge_table.specs.declared.config.Config.{Config}
+use Rattle.bridge_table.specs.declared.state.EngineState.{EngineState}
+use Rattle.bridge_table.specs.Asking.{Asks, asked, go_line, left, not_asked}
+use Rattle.bridge_table.specs.Events.{Event, Out, no_lines}
+use Rattle.bridge_table.specs.Row.{Row, TableRow, answer_line, gameover_line, in_table, login_line, unnamed}
+use Rattle.bridge_table.specs.Row as row
+use Rattle.bridge_table.specs.State.{Match, State}
 use Rattle.shogi_session.specs.Configs.{IsConfig}
 
 -- 1. Parts of a position line
@@ -111,9 +112,9 @@ go_whole : (c : Config) (g : Match) → IsWhole (go_line c g)
 go_whole c g =
     let black = decimal (left c g Black) in
     let white = decimal (left c g White) in
-    let last = behind texts.byoyomi (decimal c.byoyomi_ms) (told_run texts.byoyomi refl) (number c.byoyomi_ms) in
-    let whites = behind texts.white_time _ (told_run texts.white_time refl) (behind white _ (number (left c g White)).run last) in
-    behind texts.go_black_time _ (told_run texts.go_black_time refl) (behind black _ (number (left c g Black)).run whites)
+    let last = behind usi_texts.byoyomi (decimal c.byoyomi_ms) (told_run usi_texts.byoyomi refl) (number c.byoyomi_ms) in
+    let whites = behind usi_texts.white_time _ (told_run usi_texts.white_time refl) (behind white _ (number (left c g White)).run last) in
+    behind usi_texts.go_black_time _ (told_run usi_texts.go_black_time refl) (behind black _ (number (left c g Black)).run whites)
 
 asks_whole : (c : Config) (g : Match) (old : EngineState) (lines : List (List ℕ)) (now : EngineState) → Asks c g old lines now → AllWhole lines
 asks_whole c g old lines now a =
@@ -147,8 +148,8 @@ silent out e = subst Fits (sym e) (tt, tt)
 table_row : (c : Config) (s : State) (e : Event) (out : Out) (t : State) → IsConfig c → TableRow c s e out t → Fits out
 table_row c s e out t h r =
     elim r [
-      | row.begins a b o n ↦ subst Fits (sym o) ((text texts.usi refl refl (omega arith), tt), tt)
-      | row.greeted line a b l o n ↦ subst Fits (sym o) ((text texts.is_ready refl refl (omega arith), tt), tt)
+      | row.begins a b o n ↦ subst Fits (sym o) ((text usi_texts.usi refl refl (omega arith), tt), tt)
+      | row.greeted line a b l o n ↦ subst Fits (sym o) ((text usi_texts.is_ready refl refl (omega arith), tt), tt)
       | row.readied line a b l o n ↦ subst Fits (sym o) (tt, (login_whole c h, tt))
       | row.login_taken line a b l o n ↦ silent out o
       | row.login_refused a b o n ↦ silent out o
@@ -156,7 +157,7 @@ table_row c s e out t h r =
       | row.summary_line lines line k new a b l m q o n ↦ silent out o
       | row.summary_ends k offer a b l o n ↦ subst Fits (sym o) (tt, (text texts.agree refl refl (omega arith), tt))
       | row.summary_fails k a b l o n ↦ silent out o
-      | row.started offer line lines now a b l q o n ↦ subst Fits (sym o) ((text texts.new_game refl refl (omega arith), asks_whole c _ _ lines now q), tt)
+      | row.started offer line lines now a b l q o n ↦ subst Fits (sym o) ((text usi_texts.new_game refl refl (omega arith), asks_whole c _ _ lines now q), tt)
       | row.rejected offer line a b l o n ↦ silent out o
       | row.engine_moves g line bytes m a b k l q o n ↦ subst Fits (sym o) (tt, (move_whole g.client m, tt))
       | row.engine_resigns g line a b k l o n ↦ subst Fits (sym o) (tt, (text texts.toryo refl refl (omega arith), tt))
@@ -169,7 +170,7 @@ table_row c s e out t h r =
       | row.ending_told p line kept a b l q o n ↦ silent out o
       | row.reason_told g f line a b l q o n ↦ silent out o
       | row.result_told g f line result a b l o n ↦
-          subst Fits (sym o) ((gameover_whole result, (text texts.quit refl refl (omega arith), tt)), (text texts.logout refl refl (omega arith), tt))
+          subst Fits (sym o) ((gameover_whole result, (text usi_texts.quit refl refl (omega arith), tt)), (text texts.logout refl refl (omega arith), tt))
       | row.closes g f result a b o n ↦ silent out o
       | row.engine_gone a b o n ↦ silent out o
       | row.server_gone a b k o n ↦ silent out o

@@ -5,29 +5,30 @@ use Rattle.usi_text.specs.declared.engine.EngineWord.TheVariants.{UsiOk, ReadyOk
 use Rattle.usi_text.specs.Engine.{LineSays}
 use Rattle.usi_text.specs.Words.{words}
 use Rattle.csa_record.specs.Game.{Game}
-use Rattle.session_table.specs.declared.config.Config.{Config}
-use Rattle.shogi_session.specs.declared.engine_answer.EngineAnswer.{EngineAnswer}
-use Rattle.shogi_session.specs.declared.engine_answer.EngineAnswer.TheVariants as says
-use Rattle.session_table.specs.declared.event.Out.{Out as Answered}
-use Rattle.session_table.specs.declared.event.Status.{Status}
-use Rattle.session_table.specs.declared.event.Status.TheVariants.{Going, Failed}
-use Rattle.session_table.specs.declared.fault.SessionFault.TheVariants.{EngineGone}
-use Rattle.session_table.specs.declared.state.Answer.{Answer as Given}
+use Rattle.bridge_table.specs.declared.config.Config.{Config}
+use Rattle.shogi_session.specs.declared.best_move.BestMove.{BestMove}
+use Rattle.shogi_session.specs.declared.best_move.BestMove.TheVariants as best
+use Rattle.bridge_table.specs.declared.event.Out.{Out as Answered}
+use Rattle.bridge_table.specs.declared.event.Status.{Status}
+use Rattle.bridge_table.specs.declared.event.Status.TheVariants.{Going, Failed}
+use Rattle.bridge_table.specs.declared.fault.SessionFault.TheVariants.{EngineGone}
+use Rattle.bridge_table.specs.declared.state.Answer.{Answer}
+use Rattle.bridge_table.specs.declared.state.Answer.TheVariants.{Move, Toryo, Kachi}
 use Rattle.shogi_session.specs.declared.phase.Play.{Play as Own}
-use Rattle.shogi_session.specs.declared.phase.Stage.{Stage as OwnStage}
-use Rattle.shogi_session.specs.declared.phase.Stage.TheVariants as stages
-use Rattle.shogi_session.specs.declared.phase.Stage.TheVariants.{Playing as OwnPlaying}
-use Rattle.session_table.specs.declared.state.ClientState.TheVariants as clients
-use Rattle.session_table.specs.declared.state.EngineState.{EngineState}
-use Rattle.session_table.specs.declared.state.EngineState.TheVariants.{New, Greeting, Readying, Ready, Thinking, Ended as EngineEnded}
-use Rattle.shogi_session.specs.EngineAnswers.{Answers}
-use Rattle.session_table.specs.Events.{Event, begin, engine_line, engine_end, Out, no_lines, engine}
-use Rattle.session_table.specs.GameTold.{game_of}
-use Rattle.shogi_session.specs.Phases.{Reacts, Stays, Same, answer_text, given_for, going, match_in, play_client, slip_with, staged}
-use Rattle.session_table.specs.Promises.{before}
-use Rattle.session_table.specs.Row.{TableRow, IsUnnamed, in_table, unnamed, IsBestMove, login_line, failed}
-use Rattle.session_table.specs.Row as row
-use Rattle.session_table.specs.State.{Match, Client, playing, sent, logging_in, State, client_state, position_now, slip_of}
+use Rattle.shogi_session.specs.declared.phase.GameStage.{GameStage as OwnStage}
+use Rattle.shogi_session.specs.declared.phase.GameStage.TheVariants as stages
+use Rattle.shogi_session.specs.declared.phase.GameStage.TheVariants.{Playing as OwnPlaying}
+use Rattle.bridge_table.specs.declared.state.ClientState.TheVariants as clients
+use Rattle.bridge_table.specs.declared.state.EngineState.{EngineState}
+use Rattle.bridge_table.specs.declared.state.EngineState.TheVariants.{New, Greeting, Readying, Ready, Thinking, Ended as EngineEnded}
+use Rattle.shogi_session.specs.BestMoves.{TellsBestMove}
+use Rattle.bridge_table.specs.Events.{Event, begin, engine_line, engine_end, Out, no_lines, engine}
+use Rattle.bridge_table.specs.GameTold.{game_of}
+use Rattle.shogi_session.specs.Phases.{Reacts, Stays, Same, answer_for, going, match_in, play_client, slip_with, staged}
+use Rattle.bridge_table.specs.Promises.{before}
+use Rattle.bridge_table.specs.Row.{TableRow, IsUnnamed, in_table, unnamed, IsBestMove, answer_text, login_line, failed}
+use Rattle.bridge_table.specs.Row as row
+use Rattle.bridge_table.specs.State.{Match, Client, playing, sent, logging_in, State, client_state, position_now, slip_of}
 use Rattle.session_lines.specs.Texts.{text_of, ended_line}
 use Rattle.session_lines.proofs.OneLine.{one_text}
 use Rattle.shogi_session.proofs.Unnamed.{engine_deaf, engine_over}
@@ -77,32 +78,33 @@ readied c engine client line o at ok h k s =
     by_row c engine Ready client logging_in (engine_line line) o _ Going (row.readied line at refl ok refl refl) s h (k ∙ one_text (login_line c))
 
 -- 3. Answers to `go`
-answered : (c : Config) (engine : EngineState) (client : Client) (g : Match) (line : List ℕ) (a : EngineAnswer) (o : Answered)
-    → engine ≡ Thinking → client ≡ playing g → Answers (position_now g) line a
-    → o.to_engine ≡ [] → o.to_server ≡ ended_line (answer_text g.client a) → o.status ≡ Going
-    → Reacts c engine client (engine_line line) o Ready (sent (record g { slip = slip_with a g.slip }) (given_for a))
-answered c engine client g line (says.Move m) o at here a h k s =
+answered : (c : Config) (engine : EngineState) (client : Client) (g : Match) (line : List ℕ) (b : BestMove) (o : Answered)
+    → engine ≡ Thinking → client ≡ playing g → TellsBestMove (position_now g) line b
+    → o.to_engine ≡ [] → o.to_server ≡ ended_line (answer_text g.client (answer_for b)) → o.status ≡ Going
+    → Reacts c engine client (engine_line line) o Ready (sent (record g { slip = slip_with b g.slip }) (answer_for b))
+answered c engine client g line (best.Answer (Move m)) o at here a h k s =
     by_row c engine Ready client _ (engine_line line) o _ Going
-    (row.engine_moves g line a.0 m at here refl a.1 (record { word_is = a.2; legal = a.3 }) refl refl) s h (k ∙ one_text (answer_text g.client (says.Move m)))
-answered c engine client g line says.Resign o at here a h k s =
+    (row.engine_moves g line a.0 m at here refl a.1 (record { word_is = a.2; legal = a.3 }) refl refl) s h (k ∙ one_text (answer_text g.client (Move m)))
+answered c engine client g line (best.Answer Toryo) o at here a h k s =
     by_row c engine Ready client _ (engine_line line) o _ Going (row.engine_resigns g line at here refl a refl refl) s h
-    (k ∙ one_text (answer_text g.client says.Resign))
-answered c engine client g line says.Win o at here a h k s =
+    (k ∙ one_text (answer_text g.client Toryo))
+answered c engine client g line (best.Answer Kachi) o at here a h k s =
     by_row c engine Ready client _ (engine_line line) o _ Going (row.engine_wins g line at here refl a refl refl) s h
-    (k ∙ one_text (answer_text g.client says.Win))
-answered c engine client g line says.Slip o at here a h k s =
+    (k ∙ one_text (answer_text g.client Kachi))
+answered c engine client g line best.Slip o at here a h k s =
     by_row c engine Ready client _ (engine_line line) o _ Going
     (row.engine_slips g line a.0 at here refl a.1 (record { no_move = λ m l. a.2 m l.word_is l.legal; not_resign = a.3; not_win = a.4 }) refl refl) s h
-    (k ∙ one_text (answer_text g.client says.Slip))
+    (k ∙ one_text (answer_text g.client Toryo))
 
-pub answered_play : (c : Config) (engine : EngineState) (p : Own) (line : List ℕ) (a : EngineAnswer) (o : Answered) (now : Placed) (given : Given) (slip : Bool)
-    → engine ≡ Thinking → p.stage ≡ OwnPlaying → now ≡ position_now (match_in p) → Answers now line a → given ≡ given_for a → slip ≡ slip_with a p.slip
-    → o.to_engine ≡ [] → o.to_server ≡ ended_line (answer_text p.client a) → o.status ≡ Going
-    → Reacts c engine (play_client p) (engine_line line) o Ready (sent (record (match_in p) { slip = slip }) given)
-answered_play c engine p line a o now given slip at here position says given_is slip_is h k s =
-    subst (λ x. Reacts c engine (play_client p) (engine_line line) o Ready (sent (record (match_in p) { slip = slip }) x)) (sym given_is)
-    (subst (λ x. Reacts c engine (play_client p) (engine_line line) o Ready (sent (record (match_in p) { slip = x }) (given_for a))) (sym slip_is)
-    (answered c engine (play_client p) (match_in p) line a o at (ap (staged (match_in p) p.game) here) (subst (λ x. Answers x line a) position says) h k s))
+pub answered_play : (c : Config) (engine : EngineState) (p : Own) (line : List ℕ) (b : BestMove) (o : Answered) (now : Placed) (answer : Answer) (slip : Bool)
+    → engine ≡ Thinking → p.stage ≡ OwnPlaying → now ≡ position_now (match_in p) → TellsBestMove now line b → answer ≡ answer_for b → slip ≡ slip_with b p.slip
+    → o.to_engine ≡ [] → o.to_server ≡ ended_line (answer_text p.client answer) → o.status ≡ Going
+    → Reacts c engine (play_client p) (engine_line line) o Ready (sent (record (match_in p) { slip = slip }) answer)
+answered_play c engine p line b o now answer slip at here position says answer_is slip_is h k s =
+    subst (λ x. Reacts c engine (play_client p) (engine_line line) o Ready (sent (record (match_in p) { slip = slip }) x)) (sym answer_is)
+    (subst (λ x. Reacts c engine (play_client p) (engine_line line) o Ready (sent (record (match_in p) { slip = x }) (answer_for b))) (sym slip_is)
+    (answered c engine (play_client p) (match_in p) line b o at (ap (staged (match_in p) p.game) here) (subst (λ x. TellsBestMove x line b) position says) h
+    (subst (λ x. o.to_server ≡ ended_line (answer_text p.client x)) answer_is k) s))
 
 pub late : (c : Config) (engine : EngineState) (client : Client) (line word : List ℕ) (o : Answered) → engine ≡ Thinking
     → (client_state client ≡ clients.Playing → ⊥) → IsBestMove line word

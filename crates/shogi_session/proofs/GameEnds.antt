@@ -8,17 +8,16 @@ use Rattle.csa_text.specs.Saying.{Saying, ending, walked}
 use Rattle.record_game.proofs.Fits.{time_fits}
 use Rattle.record_game.specs.declared.fault.Why.{Why}
 use Rattle.csa_record.specs.Building.{course_of, with_course}
-use Rattle.csa_record.specs.Course as course
 use Rattle.csa_record.specs.Course.{untimed, awaits, with_last_time, with_time, time_fault}
 use Rattle.csa_record.specs.Game.{Game, Timed, Ended}
 use Rattle.csa_record.specs.Says.{time_items}
 use Rattle.csa_record.specs.Tells.{IsSpelt}
-use Rattle.session_table.specs.GameTold.{ending_of}
+use Rattle.bridge_table.specs.GameTold.{ending_of}
 use Rattle.shogi_session.specs.Phases.{kept_of}
 use Rattle.session_lines.specs.declared.server_words.GameResult.{GameResult}
 use Rattle.session_lines.specs.declared.server_words.EndReason.{EndReason}
 use Rattle.session_lines.specs.ServerLines.{TellsEnding, TellsTimed}
-use Rattle.session_table.specs.State.{game_with}
+use Rattle.bridge_table.specs.State.{game_with}
 
 -- 1. the time that a line spells
 last_time : (us : List TextUnit) (s : Saying) (o : Option ℕ) → AllZip IsSpelt us (s ∷ time_items o) → IfSome o (λ t. t ≤ 4294967295999)

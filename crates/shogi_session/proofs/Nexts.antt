@@ -23,8 +23,8 @@ abbrev pub unit_of : Cutting → Cutting → ℕ → TextUnit
 unit_of c d offset = unit_between c.source offset d.at
 
 pub handed_steps : (c d : Cutting) (number offset : ℕ) (bytes : List ℕ) → Handed c d number offset bytes → StepsOver c (unit_of c d offset) d
-handed_steps c d number offset bytes h others behind =
-    told_first c.source c.at offset d.at others h.out.first (subst (λ x. Statements d.at (drop d.at x) others) h.same behind)
+handed_steps c d number offset bytes h others rest =
+    told_first c.source c.at offset d.at others h.out.first (subst (λ x. Statements d.at (drop d.at x) others) h.same rest)
 
 pub handed_short : (c d : Cutting) (number offset : ℕ) (bytes : List ℕ) → Handed c d number offset bytes → length (slice_range c.source offset d.at) ≤ 4096
 handed_short c d number offset bytes h =

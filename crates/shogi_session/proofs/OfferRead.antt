@@ -3,7 +3,7 @@ use Rattle.std.proofs.Common.{◌≡◌, ℕ, List, Some, None, ap, sym, subst, 
 use Rattle.csa_record.specs.Game.{Game}
 use Rattle.csa_record.specs.Says.{Says}
 use Rattle.shogi_board.specs.declared.color.Color.{Color}
-use Rattle.session_table.specs.Summary.{Heard, one, Offer, TellsPosition, TellsOffer, nameless}
+use Rattle.bridge_table.specs.Summary.{Heard, one, Offer, TellsPosition, TellsOffer, nameless}
 use Rattle.shogi_session.specs.HearingStage.{IsGameIn, ended_blocks}
 use Rattle.shogi_session.specs.Offers.{IsClientTold, IsNamed, offer_in}
 use Rattle.shogi_session.specs.declared.offer.GameOffer.{GameOffer}

@@ -12,37 +12,38 @@ use Rattle.csa_text.specs.declared.fault.TextFault.{TextFault}
 use Rattle.record_game.specs.declared.fault.Why.{Why}
 use Rattle.record_game.specs.declared.fault.Why.TheVariants as causes
 use Rattle.csa_record.specs.Game.{Game, Timed, Ended}
-use Rattle.session_table.specs.declared.config.Config.{Config}
-use Rattle.session_table.specs.declared.event.Out.{Out as Answered}
-use Rattle.session_table.specs.declared.event.Status.TheVariants.{Going, Failed}
-use Rattle.session_table.specs.declared.fault.MoveCause.TheVariants.{Refused, Unsent}
-use Rattle.session_table.specs.declared.fault.SessionFault.TheVariants.{BadServerMove}
-use Rattle.session_table.specs.declared.state.Answer.TheVariants as given
+use Rattle.bridge_table.specs.declared.config.Config.{Config}
+use Rattle.bridge_table.specs.declared.event.Out.{Out as Answered}
+use Rattle.bridge_table.specs.declared.event.Status.TheVariants.{Going, Failed}
+use Rattle.bridge_table.specs.declared.fault.MoveCause.TheVariants.{Refused, Unsent}
+use Rattle.bridge_table.specs.declared.fault.SessionFault.TheVariants.{BadServerMove}
+use Rattle.bridge_table.specs.declared.state.Answer.TheVariants as given
 use Rattle.shogi_session.specs.declared.phase.Play.{Play as Own}
-use Rattle.shogi_session.specs.declared.phase.Stage.{Stage as OwnStage}
-use Rattle.shogi_session.specs.declared.phase.Stage.TheVariants as stages
+use Rattle.shogi_session.specs.declared.phase.GameStage.{GameStage as OwnStage}
+use Rattle.shogi_session.specs.declared.phase.GameStage.TheVariants as stages
 use Rattle.shogi_session.specs.declared.phase.Told.{Told}
-use Rattle.session_table.specs.declared.state.EngineState.{EngineState}
-use Rattle.session_table.specs.declared.state.EngineState.TheVariants.{Thinking, Ended as EngineEnded}
+use Rattle.bridge_table.specs.declared.state.EngineState.{EngineState}
+use Rattle.bridge_table.specs.declared.state.EngineState.TheVariants.{Thinking, Ended as EngineEnded}
 use Rattle.shogi_session.specs.Asked.{IsAsked}
-use Rattle.session_table.specs.Asking.{asked, not_asked}
-use Rattle.session_table.specs.Events.{Event, server_line, engine}
-use Rattle.session_table.specs.GameTold.{ending_of, game_of}
+use Rattle.bridge_table.specs.Asking.{asked, not_asked}
+use Rattle.bridge_table.specs.Events.{Event, server_line, engine}
+use Rattle.bridge_table.specs.GameTold.{ending_of, game_of}
 use Rattle.session_lines.specs.MoveLines.{is_move_line}
-use Rattle.shogi_session.specs.Phases.{Confirms, GoesOn, IsAskText, IsOn, IsPlay, KeepsEnding, Reacts, Same, Stays, TellsEnd, closed, finish_of, kept_of, match_in, play_client, staged, waiting_in, why_of}
-use Rattle.session_table.specs.Promises.{after}
-use Rattle.session_table.specs.Row.{Play, in_play, before_result, in_table, IsRefused, IsExpected, Judged, gameover_line, with_reason}
-use Rattle.session_table.specs.Row as row
+use Rattle.record_game.specs.PlayFaults.{why_of}
+use Rattle.shogi_session.specs.Phases.{Confirms, PlayGoesOn, IsAskText, IsOn, IsPlay, KeepsEnding, Reacts, Same, Stays, TellsEnd, closed, finish_of, kept_of, match_in, play_client, staged, waiting_in}
+use Rattle.bridge_table.specs.Promises.{after}
+use Rattle.bridge_table.specs.Row.{Play, in_play, before_result, in_table, IsRefused, IsExpected, Judged, gameover_line, with_reason}
+use Rattle.bridge_table.specs.Row as row
 use Rattle.session_lines.specs.declared.server_words.GameResult.{GameResult}
 use Rattle.session_lines.specs.declared.server_words.EndReason.{EndReason}
 use Rattle.session_lines.specs.ServerLines.{is_ending_line, is_hash_line, outcome_of, TellsEnding, TellsTimed, FirstTextFault}
 use Rattle.session_lines.specs.ServerLines as lines
-use Rattle.session_table.specs.State.{Match, Finish, Client, playing, reason, closing, client_state, slip_of, line_of, game_with, with_move}
+use Rattle.bridge_table.specs.State.{Match, Finish, Client, playing, reason, closing, client_state, slip_of, match_line, game_with, with_move}
 use Rattle.session_lines.specs.Texts.{text_of}
-use Rattle.session_table.proofs.AlwaysAsks.{some_ask}
+use Rattle.bridge_table.proofs.AlwaysAsks.{some_ask}
 use Rattle.shogi_session.proofs.EngineRows.{by_row, state, still, stays}
 use Rattle.shogi_session.proofs.GameEnds.{kept_again}
-use Rattle.session_table.proofs.Tied.{may_follow, legal_more}
+use Rattle.bridge_table.proofs.Tied.{may_follow, legal_more}
 use Rattle.shogi_session.proofs.Unnamed.{other_in_play}
 
 -- 1. A game in play
@@ -170,7 +171,7 @@ ask_text c g engine later false text h e = ([], not_asked h.0 refl e, h.1)
 
 pub goes_on : (c : Config) (engine later : EngineState) (p : Own) (before text : List ℕ) (was_asked : Bool) (o : Answered)
     → IsAsked c (match_in p) was_asked text → later ≡ (if was_asked then Thinking else engine)
-    → o.to_engine ≡ before ++ text → o.to_server ≡ [] → o.status ≡ Going → GoesOn c engine p before o later (record p { stage = stages.Playing })
+    → o.to_engine ≡ before ++ text → o.to_server ≡ [] → o.status ≡ Going → PlayGoesOn c engine p before o later (record p { stage = stages.Playing })
 goes_on c engine later p before text was_asked o h e to_engine to_server s = record {
   play = refl;
   text = text;
@@ -182,10 +183,10 @@ goes_on c engine later p before text was_asked o h e to_engine to_server s = rec
 
 -- 6. A move
 -- the result of playing it on the line of the match
-pub answers_so : (g : Match) (played : Played) (color : Color) (m : shogi.Move) (found answer : Option PlayFault) → played ≡ line_of g → found ≡ answer
-    → Answers played color m found → Answers (line_of g) color m answer
+pub answers_so : (g : Match) (played : Played) (color : Color) (m : shogi.Move) (found answer : Option PlayFault) → played ≡ match_line g → found ≡ answer
+    → Answers played color m found → Answers (match_line g) color m answer
 answers_so g played color m found answer same is a =
-    subst (λ (x : Option PlayFault). Answers (line_of g) color m x) is (subst (λ (x : Played). Answers x color m found) same a)
+    subst (λ (x : Option PlayFault). Answers (match_line g) color m x) is (subst (λ (x : Played). Answers x color m found) same a)
 
 refused_row : (c : Config) (engine : EngineState) (p : Own) (line : List ℕ) (why : Why) (o : Answered) → IsOn p.stage → is_move_line line ≡ true
     → IsRefused (match_in p) line why → o.to_engine ≡ [] → o.to_server ≡ [] → o.status ≡ Failed (BadServerMove (Refused why))
@@ -205,7 +206,7 @@ refused_by g line color m (play.Broken rule) j = row.breaks color m rule j refl
 refused_by g line color m play.OutOfMemory j = absurd j.answers
 
 pub move_refused : (c : Config) (engine : EngineState) (p : Own) (line : List ℕ) (color : Color) (m : Timed) (fault : PlayFault) (why : Why) (o : Answered) → IsOn p.stage
-    → is_move_line line ≡ true → TellsTimed line color m → Answers (line_of (match_in p)) color m.move (Some fault) → why ≡ why_of fault
+    → is_move_line line ≡ true → TellsTimed line color m → Answers (match_line (match_in p)) color m.move (Some fault) → why ≡ why_of fault
     → o.to_engine ≡ [] → o.to_server ≡ [] → o.status ≡ Failed (BadServerMove (Refused why))
     → Reacts c engine (play_client p) (server_line line) o engine (play_client p)
 move_refused c engine p line color m fault why o on sign tells a is h k s =
@@ -213,7 +214,7 @@ move_refused c engine p line color m fault why o on sign tells a is h k s =
     (subst (λ (w : Why). IsRefused (match_in p) line w) (sym is) (refused_by (match_in p) line color m fault (record { told = tells; answers = a }))) h k s
 
 pub move_unsent : (c : Config) (engine : EngineState) (p : Own) (line : List ℕ) (color : Color) (m : Timed) (o : Answered) → IsOn p.stage → is_move_line line ≡ true
-    → TellsTimed line color m → Answers (line_of (match_in p)) color m.move None → (IsExpected (play_of p) color m → ⊥)
+    → TellsTimed line color m → Answers (match_line (match_in p)) color m.move None → (IsExpected (play_of p) color m → ⊥)
     → o.to_engine ≡ [] → o.to_server ≡ [] → o.status ≡ Failed (BadServerMove Unsent)
     → Reacts c engine (play_client p) (server_line line) o engine (play_client p)
 move_unsent c engine p line color m o on sign tells a other h k s =
@@ -224,7 +225,7 @@ move_unsent c engine p line color m o on sign tells a other h k s =
 abbrev moved : Own → Timed → Own
 moved p m = record p { game = game_with p.game (m ∷ []) }
 
-keeps_moved : (p : Own) (color : Color) (m : Timed) (stage : OwnStage) → IsOn stage → IsOn p.stage → IsPlay p → Answers (line_of (match_in p)) color m.move None
+keeps_moved : (p : Own) (color : Color) (m : Timed) (stage : OwnStage) → IsOn stage → IsOn p.stage → IsPlay p → Answers (match_line (match_in p)) color m.move None
     → IsPlay (record (moved p m) { stage = stage })
 keeps_moved p color m stage on was h a = record {
   game = game_by (match_in (moved p m)) (game_with p.game (m ∷ [])) stage on
@@ -233,7 +234,7 @@ keeps_moved p color m stage on was h a = record {
 }
 
 confirmed_row : (c : Config) (old later : EngineState) (p new : Own) (line : List ℕ) (color : Color) (m : Timed) (o : Answered) → IsOn p.stage → is_move_line line ≡ true
-    → Judged (match_in p) line color m None → IsExpected (play_of p) color m → GoesOn c old (moved p m) [] o later new
+    → Judged (match_in p) line color m None → IsExpected (play_of p) color m → PlayGoesOn c old (moved p m) [] o later new
     → Reacts c old (play_client p) (server_line line) o later (play_client new)
 confirmed_row c old later p new line color m o on sign j own h =
     let asking = h.asked in
@@ -267,7 +268,7 @@ stays_so c old later p new line color m on h sign j own same (inr e) =
     (subst (λ (x : Own). Stays c old (play_client p) (server_line line) old (play_client x)) (sym e) (stays_moved c old p line color m on h sign j own))
 
 pub confirmed : (c : Config) (old later : EngineState) (p new : Own) (line : List ℕ) (color : Color) (m : Timed) (r : Result Answered OutOfMemory) → IsOn p.stage → IsPlay p
-    → is_move_line line ≡ true → TellsTimed line color m → Answers (line_of (match_in p)) color m.move None → IsExpected (play_of p) color m → Confirms c old p m r later new
+    → is_move_line line ≡ true → TellsTimed line color m → Answers (match_line (match_in p)) color m.move None → IsExpected (play_of p) color m → Confirms c old p m r later new
     → MatchResult r (λ out. Reacts c old (play_client p) (server_line line) out later (play_client new))
     (λ fault. Stays c old (play_client p) (server_line line) later (play_client new))
 confirmed c old later p new line color m (Ok o) on h sign tells a own k = confirmed_row c old later p new line color m o on sign (record { told = tells; answers = a }) own k
@@ -275,7 +276,7 @@ confirmed c old later p new line color m (Err fault) on h sign tells a own k =
     stays_so c old later p new line color m on h sign (record { told = tells; answers = a }) own k.0 k.1
 
 pub keeps_confirmed : (c : Config) (old later : EngineState) (p new : Own) (color : Color) (m : Timed) (r : Result Answered OutOfMemory) → IsOn p.stage → IsPlay p
-    → Answers (line_of (match_in p)) color m.move None → Confirms c old p m r later new → IsPlay new
+    → Answers (match_line (match_in p)) color m.move None → Confirms c old p m r later new → IsPlay new
 keeps_confirmed c old later p new color m (Ok o) on h a k = subst IsPlay (sym k.play) (keeps_moved p color m stages.Playing tt on h a)
 keeps_confirmed c old later p new color m (Err fault) on h a k =
     elim k.1 [

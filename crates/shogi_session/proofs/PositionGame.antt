@@ -14,9 +14,9 @@ use Rattle.csa_cutting.proofs.Once.{statements_once}
 use Rattle.csa_text.specs.Saying.{Saying, version, name, header, even, rank, pieces, turn, walked, time, ending}
 use Rattle.shogi_board.specs.declared.color.Color.{Color}
 use Rattle.shogi_board.specs.declared.color.Color.TheVariants.{Black, White}
-use Rattle.session_table.proofs.PositionFits.{FitsIn, not_so}
+use Rattle.bridge_table.proofs.PositionFits.{FitsIn, not_so}
 use Rattle.shogi_session.specs.PositionTexts.{IsPositionText}
-use Rattle.session_table.specs.Summary.{TellsPosition, nameless}
+use Rattle.bridge_table.specs.Summary.{TellsPosition, nameless}
 
 -- none of these statements is a name
 no_names : (side : Color) (ss : List Saying) → AllByRecursion FitsIn ss → names side ss ≡ []

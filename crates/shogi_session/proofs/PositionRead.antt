@@ -10,7 +10,7 @@ use Rattle.csa_text.specs.Spelling.{Spells}
 use Rattle.csa_record.specs.Tells.{IsSpelt}
 use Rattle.shogi_session.proofs.Nexts.{Handed, unit_of, handed_steps, handed_first, handed_spelt}
 use Rattle.session_lines.proofs.OneStatement.{AtStart, whole}
-use Rattle.session_table.proofs.PositionFits.{FitsIn, not_so}
+use Rattle.bridge_table.proofs.PositionFits.{FitsIn, not_so}
 use Rattle.shogi_session.specs.PositionTexts.{SpellsPosition, IsPositionText}
 
 -- the statements so far are of these kinds, and the rest follows them
@@ -24,7 +24,7 @@ pub record HasRead (text : List ℕ) (c : Cutting) : Type 0 where
 
 pub start_read : (text : List ℕ) (c : Cutting) → AtStart text c → HasRead text c
 start_read text c start =
-    record { source = start.source; handed = []; sayings = []; spelt = tt; fit = tt; whole = λ others behind. whole text c others start behind }
+    record { source = start.source; handed = []; sayings = []; spelt = tt; fit = tt; whole = λ others rest. whole text c others start rest }
 
 spelt_behind : (us : List TextUnit) (ss : List Saying) (u : TextUnit) (s : Saying) → AllZip IsSpelt us ss → IsSpelt u s
     → AllZip IsSpelt (us ++ u ∷ []) (ss ++ s ∷ [])
@@ -47,7 +47,7 @@ read_on text c d number offset bytes h out says =
       sayings = h.sayings ++ says.0 ∷ [];
       spelt = spelt_behind h.handed h.sayings u says.0 h.spelt (handed_spelt c d number offset bytes says.0 out says.1);
       fit = fit_behind h.sayings says.0 h.fit says.2;
-      whole = λ others behind. rw (append_assoc) (h.whole (u ∷ others) (handed_steps c d number offset bytes out others behind));
+      whole = λ others rest. rw (append_assoc) (h.whole (u ∷ others) (handed_steps c d number offset bytes out others rest));
     }
 
 pub read_less : (text : List ℕ) (c d : Cutting) (number offset : ℕ) (bytes : List ℕ) → HasRead text c → Handed c d number offset bytes
@@ -69,18 +69,18 @@ all_read text c h end =
     }
 
 -- the item of a statement among others
-spelt_there : (us : List TextUnit) (u : TextUnit) (behind : List TextUnit) (ss : List Saying) → AllZip IsSpelt (us ++ u ∷ behind) ss
+spelt_there : (us : List TextUnit) (u : TextUnit) (rest : List TextUnit) (ss : List Saying) → AllZip IsSpelt (us ++ u ∷ rest) ss
     → AllByRecursion FitsIn ss → (s : Saying) × IsSpelt u s × FitsIn s
-spelt_there [] u behind [] all fit = absurd all
-spelt_there [] u behind (s ∷ ss) all fit = (s, all.0, fit.0)
-spelt_there (v ∷ vs) u behind [] all fit = absurd all
-spelt_there (v ∷ vs) u behind (s ∷ ss) all fit = spelt_there vs u behind ss all.1 fit.1
+spelt_there [] u rest [] all fit = absurd all
+spelt_there [] u rest (s ∷ ss) all fit = (s, all.0, fit.0)
+spelt_there (v ∷ vs) u rest [] all fit = absurd all
+spelt_there (v ∷ vs) u rest (s ∷ ss) all fit = spelt_there vs u rest ss all.1 fit.1
 
-there : (text : List ℕ) (c : Cutting) (u : TextUnit) (behind : List TextUnit) → HasRead text c → ToCome c (u ∷ behind) → IsPositionText text
+there : (text : List ℕ) (c : Cutting) (u : TextUnit) (rest : List TextUnit) → HasRead text c → ToCome c (u ∷ rest) → IsPositionText text
     → (s : Saying) × IsSpelt u s × FitsIn s
-there text c u behind h come p =
-    let same = statements_once _ _ p.statements (h.handed ++ u ∷ behind) p.cut (h.whole (u ∷ behind) come) in
-    spelt_there h.handed u behind p.sayings (subst (λ us. AllZip IsSpelt us p.sayings) same p.spelt) p.no_others
+there text c u rest h come p =
+    let same = statements_once _ _ p.statements (h.handed ++ u ∷ rest) p.cut (h.whole (u ∷ rest) come) in
+    spelt_there h.handed u rest p.sayings (subst (λ us. AllZip IsSpelt us p.sayings) same p.spelt) p.no_others
 
 pub another_read : (text : List ℕ) (c d : Cutting) (number offset : ℕ) (bytes : List ℕ) → HasRead text c → Handed c d number offset bytes
     → (SpellsPosition bytes → ⊥) → IsPositionText text → ⊥

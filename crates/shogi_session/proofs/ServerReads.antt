@@ -86,9 +86,9 @@ gap_none : (x : ℕ) (bs gap others : List ℕ) → is_separator x ≡ false →
 gap_none x bs [] others s gap e = refl
 gap_none x bs (g ∷ gs) others s gap e = let same : x ≡ g = cc in let separates = rw (← same) at gap.0 in absurd cc
 
-unit_says : (x : ℕ) (bs bytes behind : List ℕ) → (x == 39) ≡ false → IsUnit bytes behind → x ∷ bs ≡ bytes ++ behind → not (begins_with 39 bytes) ≡ true
-unit_says x bs [] behind n unit e = absurd unit
-unit_says x bs (b ∷ bytes) behind n unit e = let same : x ≡ b = cc in rw (← same, n) refl
+unit_says : (x : ℕ) (bs bytes rest : List ℕ) → (x == 39) ≡ false → IsUnit bytes rest → x ∷ bs ≡ bytes ++ rest → not (begins_with 39 bytes) ≡ true
+unit_says x bs [] rest n unit e = absurd unit
+unit_says x bs (b ∷ bytes) rest n unit e = let same : x ≡ b = cc in rw (← same, n) refl
 
 none_said : (x : ℕ) (bs : List ℕ) (units : List TextUnit) → is_separator x ≡ false → (x == 39) ≡ false → Units 0 (x ∷ bs) units → [] ≡ filter is_statement units → ⊥
 none_said x bs [] s n cut kept = let separates = cut.0 in absurd cc

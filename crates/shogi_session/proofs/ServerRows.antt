@@ -2,37 +2,37 @@
 use Rattle.std.proofs.Common.{◌≡◌, ℕ, ◌++◌, ◌⊎◌, inl, inr, Result, Ok, Err, true, false, List, [], ◌∷◌, Option, None, codes, refl, sym, ap, subst, ◌∙◌}
 use Rattle.std.specs.Prelude.{IfOk, OnOk, OnErr, MatchResult}
 use Rattle.csa_record.specs.Game.{Game, Ended}
-use Rattle.session_table.specs.declared.config.Config.{Config}
-use Rattle.session_table.specs.declared.event.Out.{Out as Answered}
-use Rattle.session_table.specs.declared.event.Status.{Status}
-use Rattle.session_table.specs.declared.event.Status.TheVariants.{Going, Done, Failed}
-use Rattle.session_table.specs.declared.fault.SessionFault.TheVariants.{LoginRefused, Rejected, BadSummary, ServerGone, LineTooLong}
+use Rattle.bridge_table.specs.declared.config.Config.{Config}
+use Rattle.bridge_table.specs.declared.event.Out.{Out as Answered}
+use Rattle.bridge_table.specs.declared.event.Status.{Status}
+use Rattle.bridge_table.specs.declared.event.Status.TheVariants.{Going, Done, Failed}
+use Rattle.bridge_table.specs.declared.fault.SessionFault.TheVariants.{LoginRefused, Rejected, BadSummary, ServerGone, LineTooLong}
 use Rattle.shogi_session.specs.declared.offer.GameOffer.{GameOffer}
 use Rattle.shogi_session.specs.declared.phase.Play.{Play as Own}
 use Rattle.shogi_session.specs.declared.phase.Phase.{Phase}
 use Rattle.shogi_session.specs.declared.phase.Phase.TheVariants as phases
-use Rattle.shogi_session.specs.declared.phase.Stage.{Stage}
-use Rattle.shogi_session.specs.declared.phase.Stage.TheVariants as stages
+use Rattle.shogi_session.specs.declared.phase.GameStage.{GameStage}
+use Rattle.shogi_session.specs.declared.phase.GameStage.TheVariants as stages
 use Rattle.shogi_session.specs.declared.phase.Told.{Told}
 use Rattle.session_lines.specs.declared.server_words.GameResult.{GameResult}
-use Rattle.session_table.specs.declared.state.ClientState.TheVariants as clients
-use Rattle.session_table.specs.declared.state.EngineState.{EngineState}
-use Rattle.session_table.specs.Asking.{Asks}
-use Rattle.session_table.specs.Events.{Event, begin, server_line, server_end, engine_long, server_long}
-use Rattle.session_table.specs.GameTold.{game_of}
-use Rattle.session_table.specs.Hearing.{heard_after}
+use Rattle.bridge_table.specs.declared.state.ClientState.TheVariants as clients
+use Rattle.bridge_table.specs.declared.state.EngineState.{EngineState}
+use Rattle.bridge_table.specs.Asking.{Asks}
+use Rattle.bridge_table.specs.Events.{Event, begin, server_line, server_end, engine_long, server_long}
+use Rattle.bridge_table.specs.GameTold.{game_of}
+use Rattle.bridge_table.specs.Hearing.{heard_after}
 use Rattle.shogi_session.specs.Offers.{offer_in}
-use Rattle.shogi_session.specs.Phases.{Reacts, Stays, Same, GoesOn, IsOpen, IsPhase, begun, client_of, going, match_in, play_client, staged}
-use Rattle.session_table.specs.Promises.{before}
-use Rattle.session_table.specs.Row.{IsUnnamed}
-use Rattle.session_table.specs.Row as row
+use Rattle.shogi_session.specs.Phases.{Reacts, Stays, Same, PlayGoesOn, IsOpen, IsPhase, begun, client_of, going, match_in, play_client, staged}
+use Rattle.bridge_table.specs.Promises.{before}
+use Rattle.bridge_table.specs.Row.{IsUnnamed}
+use Rattle.bridge_table.specs.Row as row
 use Rattle.session_lines.specs.ServerLines.{is_login_ok, is_start_line, is_reject_line}
-use Rattle.session_table.specs.State.{Match, Client, logging_in, before_summary, summary, agreeing, playing, client_state, slip_of, match_of}
-use Rattle.session_table.specs.Summary.{Heard, nothing_heard, CountsAs, Offer, TellsOffer}
+use Rattle.bridge_table.specs.State.{Match, Client, logging_in, before_summary, summary, agreeing, playing, client_state, slip_of, match_of}
+use Rattle.bridge_table.specs.Summary.{Heard, nothing_heard, CountsAs, Offer, TellsOffer}
 use Rattle.session_lines.specs.Texts.{ended_line}
-use Rattle.session_table.proofs.AlwaysAsks.{offer_plain, offer_legal}
+use Rattle.bridge_table.proofs.AlwaysAsks.{offer_plain, offer_legal}
 use Rattle.session_lines.proofs.OneLine.{one_text}
-use Rattle.session_table.proofs.Counting.{counts_more}
+use Rattle.bridge_table.proofs.Counting.{counts_more}
 use Rattle.shogi_session.proofs.EngineRows.{by_row, by_none, stays}
 
 abbrev pub Silent : Answered → Status → Type 0
@@ -107,7 +107,7 @@ begun_match : (o : GameOffer) → IsOpen o.game → match_in (begun o) ≡ match
 begun_match o i = ap (λ (x : Game). record { client = o.client; game = x; slip = false }) (unended o.game o.game.ending i.none refl)
 
 pub started : (c : Config) (engine engine_after : EngineState) (o : GameOffer) (line : List ℕ) (out : Answered) → IsOpen o.game
-    → is_start_line line ≡ true → GoesOn c engine (begun o) (ended_line (codes "usinewgame")) out engine_after (begun o)
+    → is_start_line line ≡ true → PlayGoesOn c engine (begun o) (ended_line (codes "usinewgame")) out engine_after (begun o)
     → Reacts c engine (agreeing (offer_in o)) (server_line line) out engine_after (play_client (begun o))
 started c engine engine_after o line out i start g =
     let same = begun_match o i in
@@ -118,7 +118,7 @@ started c engine engine_after o line out i start g =
     g.status (g.to_engine ∙ (ap (λ x. ended_line (codes "usinewgame") ++ x) g.asked.2 ∙ refl)) g.to_server)
 
 pub started_from : (c : Config) (engine engine_after : EngineState) (x after : Phase) (o : GameOffer) (line : List ℕ) (out : Answered) → x ≡ phases.Agreeing o → IsPhase x
-    → after ≡ phases.InGame (begun o) → is_start_line line ≡ true → GoesOn c engine (begun o) (ended_line (codes "usinewgame")) out engine_after (begun o)
+    → after ≡ phases.InGame (begun o) → is_start_line line ≡ true → PlayGoesOn c engine (begun o) (ended_line (codes "usinewgame")) out engine_after (begun o)
     → Reacts c engine (client_of x) (server_line line) out engine_after (client_of after)
 started_from c engine engine_after x after o line out at keeps is start g =
     subst (λ y. Reacts c engine (client_of y) (server_line line) out engine_after (client_of after)) (sym at)
@@ -126,10 +126,10 @@ started_from c engine engine_after x after o line out at keeps is start g =
     (started c engine engine_after o line out (subst IsPhase at keeps) start g))
 
 pub first_asked : {E : Type 0} (r : Result Answered E) (c : Config) (engine engine_after : EngineState) (p : Own) (lines whole : List ℕ) → lines ≡ whole
-    → IfOk r (λ o. (q : Own) → q.client ≡ p.client → q.game ≡ p.game → GoesOn c engine q lines o engine_after (record q { stage = stages.Playing }))
-    → IfOk r (λ o. GoesOn c engine p whole o engine_after (record p { stage = stages.Playing }))
+    → IfOk r (λ o. (q : Own) → q.client ≡ p.client → q.game ≡ p.game → PlayGoesOn c engine q lines o engine_after (record q { stage = stages.Playing }))
+    → IfOk r (λ o. PlayGoesOn c engine p whole o engine_after (record p { stage = stages.Playing }))
 first_asked (Ok o) c engine engine_after p lines whole same h =
-    subst (λ x. GoesOn c engine p x o engine_after (record p { stage = stages.Playing })) same (h p refl refl)
+    subst (λ x. PlayGoesOn c engine p x o engine_after (record p { stage = stages.Playing })) same (h p refl refl)
 first_asked (Err f) c engine engine_after p lines whole same h = h
 
 -- 5. the end
@@ -164,7 +164,7 @@ pub too_long : (c : Config) (engine : EngineState) (client : Client) (e : Event)
 too_long c engine client e o long h =
     by_row c engine engine client client e o _ (Failed LineTooLong) (row.line_too_long long refl refl) h.2 h.0 h.1
 
-stage_not_over : (g : Match) (game : Game) (stage : Stage) → ((t : Told) (r : GameResult) → stage ≡ stages.Closing t r → ⊥)
+stage_not_over : (g : Match) (game : Game) (stage : GameStage) → ((t : Told) (r : GameResult) → stage ≡ stages.Closing t r → ⊥)
     → ((t : Told) (r : GameResult) → stage ≡ stages.Ended t r → ⊥)
     → (client_state (staged g game stage) ≡ clients.Closing → ⊥) × (client_state (staged g game stage) ≡ clients.Ended → ⊥)
 stage_not_over g game stages.Playing h k = (λ e. cc, λ e. cc)

@@ -4,19 +4,19 @@ use Rattle.csa_record.specs.Game.{Ended}
 use Rattle.usi_text.specs.declared.engine.EngineWord.TheVariants.{UsiOk, ReadyOk}
 use Rattle.usi_text.specs.Engine.{LineSays}
 use Rattle.usi_text.specs.Words.{words}
-use Rattle.session_table.specs.declared.config.Config.{Config}
-use Rattle.session_table.specs.declared.event.Status.TheVariants.{Going}
-use Rattle.session_table.specs.declared.state.EngineState.{EngineState}
-use Rattle.session_table.specs.declared.state.EngineState.TheVariants.{New, Greeting, Readying, Ready, Thinking, Ended as EngineEnded}
-use Rattle.session_table.specs.Events.{Event, begin, engine_line, server_line, engine_end, server_end, Out}
+use Rattle.bridge_table.specs.declared.config.Config.{Config}
+use Rattle.bridge_table.specs.declared.event.Status.TheVariants.{Going}
+use Rattle.bridge_table.specs.declared.state.EngineState.{EngineState}
+use Rattle.bridge_table.specs.declared.state.EngineState.TheVariants.{New, Greeting, Readying, Ready, Thinking, Ended as EngineEnded}
+use Rattle.bridge_table.specs.Events.{Event, begin, engine_line, server_line, engine_end, server_end, Out}
 use Rattle.session_lines.specs.MoveLines.{is_move_line}
 use Rattle.shogi_session.specs.Phases.{going}
-use Rattle.session_table.specs.Row.{IsUnnamed, IsBestMove, Play, in_play, before_result}
+use Rattle.bridge_table.specs.Row.{IsUnnamed, IsBestMove, Play, in_play, before_result}
 use Rattle.session_lines.specs.declared.server_words.GameResult.{GameResult}
 use Rattle.session_lines.specs.ServerLines.{is_login_ok, is_start_line, is_reject_line, is_ending_line, is_hash_line, TellsEnding}
-use Rattle.session_table.specs.State.{Match, Finish, Client, idle, logging_in, before_summary, summary, agreeing, playing, sent, reason, closing, ended, State}
-use Rattle.session_table.specs.Summary.{Offer}
-use Rattle.session_table.proofs.RowOnce.{StateRow, PlayRow, refuses, unsent, confirms, tells_end, starts, rejects, HashRow, hash_line, ServerRow, by_state, by_play, by_hash, EngineRow, Thinks, means, no_play, no_result, state_or_play}
+use Rattle.bridge_table.specs.State.{Match, Finish, Client, idle, logging_in, before_summary, summary, agreeing, playing, sent, reason, closing, ended, State}
+use Rattle.bridge_table.specs.Summary.{Offer}
+use Rattle.bridge_table.proofs.RowOnce.{StateRow, PlayRow, refuses, unsent, confirms, tells_end, starts, rejects, HashRow, hash_line, ServerRow, by_state, by_play, by_hash, EngineRow, Thinks, means, no_play, no_result, state_or_play}
 
 pub stopped : (c : Config) (s : State) (e : Event) → (s.status ≡ Going → ⊥) → IsUnnamed c s e
 stopped c s e other = λ out t r. other r.0

@@ -1,6 +1,6 @@
 -- How a bridge is configured.
-use Rattle.session_peers.specs.Host.{IsLoginWord}
-use Rattle.session_table.specs.declared.config.Config.{Config}
+use Rattle.host_and_sample.specs.Host.{IsLoginWord}
+use Rattle.bridge_table.specs.declared.config.Config.{Config}
 
 -- what callers must give as name and password
 pub record IsConfig (c : Config) : Type 0 where

@@ -5,12 +5,12 @@ use Rattle.csa_record.specs.Game.{Game}
 use Rattle.shogi_session.specs.PositionTexts.{IsPositionRead}
 use Rattle.shogi_session.specs.declared.summary_reader.Begun.{Begun}
 use Rattle.shogi_session.specs.declared.summary_reader.Begun.TheVariants.{Nothing, Position, Another, Other}
-use Rattle.shogi_session.specs.declared.summary_reader.Place.{Place}
-use Rattle.shogi_session.specs.declared.summary_reader.Place.TheVariants.{Begins, Outside, Ends, InPosition, Skipped}
+use Rattle.shogi_session.specs.declared.summary_reader.SummaryPlace.{SummaryPlace}
+use Rattle.shogi_session.specs.declared.summary_reader.SummaryPlace.TheVariants.{Begins, Outside, Ends, InPosition, Skipped}
 use Rattle.shogi_session.specs.declared.summary_reader.Positions.{Positions}
 use Rattle.shogi_session.specs.declared.summary_reader.Positions.TheVariants.{Missing, One, Several}
 use Rattle.session_lines.specs.LineTexts as texts
-use Rattle.session_table.specs.Summary.{PositionBlocks, none, one, several, end_line, is_position}
+use Rattle.bridge_table.specs.Summary.{PositionBlocks, none, one, several, end_line, is_position}
 
 -- the position blocks that have ended
 abbrev pub ended_blocks : Positions → PositionBlocks
@@ -53,7 +53,7 @@ IsGameIn Several None = Unit {0}
 IsGameIn Several (Some g) = ⊥
 
 -- the place of a line, by the title of the block that has not ended
-abbrev pub IsPlace : Option (List ℕ) → List ℕ → Place → Type 0
+abbrev pub IsPlace : Option (List ℕ) → List ℕ → SummaryPlace → Type 0
 IsPlace begun line Begins = (begun ≡ None) × (starts_with nat_eq line texts.begin ≡ true)
 IsPlace begun line Outside = (begun ≡ None) × (starts_with nat_eq line texts.begin ≡ false)
 IsPlace begun line Ends =

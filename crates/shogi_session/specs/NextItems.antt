@@ -28,12 +28,12 @@ abbrev pub Next : Cutting → Result (Option Item) TextFault → Cutting → Typ
 Next old (Ok None) new = ToCome old []
 Next old (Ok (Some item)) new = (u : TextUnit) × IsSpelt u (saying_of item) × StepsOver old u new
 Next old (Err fault) new =
-    (u : TextUnit) × (behind : List TextUnit) × ToCome old (u ∷ behind) × IsUnread u fault
+    (u : TextUnit) × (rest : List TextUnit) × ToCome old (u ∷ rest) × IsUnread u fault
 
 -- the next statement is one of these, or has that fault there
 abbrev pub FaultAt : Cutting → (Saying → Type 0) → TextFault → Type 0
 FaultAt old Wanted fault =
-    (u : TextUnit) × (behind : List TextUnit) × ToCome old (u ∷ behind) × UnitFault Wanted u fault
+    (u : TextUnit) × (rest : List TextUnit) × ToCome old (u ∷ rest) × UnitFault Wanted u fault
 
 abbrev pub IsEnding : Saying → Type 0
 IsEnding s = (e : Ending) × (s ≡ ending e)
@@ -41,7 +41,7 @@ IsEnding s = (e : Ending) × (s ≡ ending e)
 -- a statement where none is expected
 abbrev pub EndFault : Cutting → TextFault → Type 0
 EndFault old fault =
-    (u : TextUnit) × (behind : List TextUnit) × ToCome old (u ∷ behind) × ExtraFault u fault
+    (u : TextUnit) × (rest : List TextUnit) × ToCome old (u ∷ rest) × ExtraFault u fault
 
 -- the time, which is all that is left; or none, if nothing is left; or the first fault of what is
 -- left
@@ -49,5 +49,5 @@ abbrev pub LastTime : Cutting → Result (Option ℕ) TextFault → Type 0
 LastTime old (Ok None) = ToCome old []
 LastTime old (Ok (Some t)) = (u : TextUnit) × IsSpelt u (time t) × ToCome old (u ∷ [])
 LastTime old (Err fault) = FaultAt old IsTime fault ⊎ (
-    (u v : TextUnit) × (behind : List TextUnit) × (t : ℕ)
-    × ToCome old (u ∷ v ∷ behind) × IsSpelt u (time t) × ExtraFault v fault)
+    (u v : TextUnit) × (rest : List TextUnit) × (t : ℕ)
+    × ToCome old (u ∷ v ∷ rest) × IsSpelt u (time t) × ExtraFault v fault)

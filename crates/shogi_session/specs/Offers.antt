@@ -4,7 +4,7 @@ use Rattle.csa_record.specs.Game.{Game}
 use Rattle.shogi_board.specs.declared.color.Color.{Color}
 use Rattle.csa_text.specs.Codes.{sign}
 use Rattle.shogi_session.specs.declared.offer.GameOffer.{GameOffer}
-use Rattle.session_table.specs.Summary.{Heard, Offer, TellsOffer, name_given}
+use Rattle.bridge_table.specs.Summary.{Heard, Offer, TellsOffer, name_given}
 
 abbrev pub offer_in : GameOffer → Offer
 offer_in o = record { client = o.client; game = o.game }

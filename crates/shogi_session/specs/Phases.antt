@@ -1,44 +1,35 @@
 -- For private functions and fields of `Bridge`: its own states, and what its steps promise.
 use Rattle.std.specs.Prelude.{◌≡◌, ◌++◌, ◌∷◌, ◌⊎◌, ℕ, Bool, true, false, List, [], Option, None, Some, Result, Ok, Err, map}
-use Rattle.shogi_board.specs.declared.color.Color.{Color}
-use Rattle.csa_text.specs.Codes.{move_text}
 use Rattle.shogi_board.specs.declared.memory.OutOfMemory.{OutOfMemory}
-use Rattle.shogi_rules.specs.declared.line.PlayFault.{PlayFault}
-use Rattle.shogi_rules.specs.declared.line.PlayFault.TheVariants as play
 use Rattle.shogi_rules.specs.declared.moves.Move as shogi
-use Rattle.record_game.specs.declared.fault.OrderFault.TheVariants as order
-use Rattle.record_game.specs.declared.fault.Why.{Why}
-use Rattle.record_game.specs.declared.fault.Why.TheVariants as why
 use Rattle.shogi_rules.specs.Positions.{IsGame}
 use Rattle.csa_record.specs.Game.{Game, Timed, Ended, move_of}
-use Rattle.session_table.specs.declared.config.Config.{Config}
-use Rattle.shogi_session.specs.declared.engine_answer.EngineAnswer.{EngineAnswer}
-use Rattle.shogi_session.specs.declared.engine_answer.EngineAnswer.TheVariants as engine_says
-use Rattle.session_table.specs.declared.event.Out.{Out as Answered}
-use Rattle.session_table.specs.declared.event.Status.TheVariants.{Going}
+use Rattle.bridge_table.specs.declared.config.Config.{Config}
+use Rattle.shogi_session.specs.declared.best_move.BestMove.{BestMove}
+use Rattle.shogi_session.specs.declared.best_move.BestMove.TheVariants as best
+use Rattle.bridge_table.specs.declared.event.Out.{Out as Answered}
+use Rattle.bridge_table.specs.declared.event.Status.TheVariants.{Going}
 use Rattle.shogi_session.specs.declared.offer.GameOffer.{GameOffer}
-use Rattle.session_table.specs.declared.state.Answer.TheVariants.{Move, Toryo, Kachi}
+use Rattle.bridge_table.specs.declared.state.Answer.TheVariants.{Move, Toryo, Kachi}
 use Rattle.shogi_session.specs.declared.phase.Phase.{Phase}
 use Rattle.shogi_session.specs.declared.phase.Phase.TheVariants.{Idle, LoggingIn, BeforeSummary, Summary, Agreeing, InGame}
 use Rattle.shogi_session.specs.declared.phase.Play.{Play}
-use Rattle.shogi_session.specs.declared.phase.Stage.{Stage}
-use Rattle.shogi_session.specs.declared.phase.Stage.TheVariants.{Playing, Sent, Reason, Closing, Ended as Over}
+use Rattle.shogi_session.specs.declared.phase.GameStage.{GameStage}
+use Rattle.shogi_session.specs.declared.phase.GameStage.TheVariants.{Playing, Sent, Reason, Closing, Ended as Over}
 use Rattle.shogi_session.specs.declared.phase.Told.{Told}
 use Rattle.session_lines.specs.declared.server_words.EndReason.{EndReason}
-use Rattle.session_table.specs.declared.state.EngineState.{EngineState}
-use Rattle.session_table.specs.Events.{Event, Out}
-use Rattle.session_table.specs.Asking.{Asks}
-use Rattle.session_table.specs.GameTold.{ending_of, game_of}
-use Rattle.session_lines.specs.LineTexts as texts
+use Rattle.bridge_table.specs.declared.state.EngineState.{EngineState}
+use Rattle.bridge_table.specs.Events.{Event, Out}
+use Rattle.bridge_table.specs.Asking.{Asks}
+use Rattle.bridge_table.specs.GameTold.{ending_of, game_of}
 use Rattle.shogi_session.specs.Offers.{offer_in}
-use Rattle.session_table.specs.Promises.{KeepsGame}
-use Rattle.session_table.specs.Row.{Row}
-use Rattle.session_lines.specs.ServerLines as lines
+use Rattle.bridge_table.specs.Promises.{KeepsGame}
+use Rattle.bridge_table.specs.Row.{Row}
 use Rattle.session_lines.specs.declared.server_words.GameResult.{GameResult}
 use Rattle.session_lines.specs.ServerLines.{TellsEnding}
-use Rattle.session_table.specs.declared.state.Answer.{Answer}
-use Rattle.session_table.specs.State.{Match, Finish, game_with, Client, idle, logging_in, before_summary, summary, agreeing, playing, sent, reason, closing, ended, State, client_state, slip_of}
-use Rattle.session_table.specs.Summary.{CountsAs}
+use Rattle.bridge_table.specs.declared.state.Answer.{Answer}
+use Rattle.bridge_table.specs.State.{Match, Finish, game_with, Client, idle, logging_in, before_summary, summary, agreeing, playing, sent, reason, closing, ended, State, client_state, slip_of}
+use Rattle.bridge_table.specs.Summary.{CountsAs}
 use Rattle.session_lines.specs.Texts.{text_of}
 
 -- 1. The states
@@ -54,7 +45,7 @@ finish_of game told = record { kept = kept_of told.ending game.ending; reason = 
 abbrev pub match_in : Play → Match
 match_in p = record { client = p.client; game = record p.game { ending = None }; slip = p.slip }
 
-abbrev pub staged : Match → Game → Stage → Client
+abbrev pub staged : Match → Game → GameStage → Client
 staged g game Playing = playing g
 staged g game (Sent a) = sent g a
 staged g game (Reason told) = reason g (finish_of game told)
@@ -120,28 +111,19 @@ abbrev pub Same : EngineState → Client → EngineState → Client → Type 0
 Same engine client engine_after client_after = (engine_after ≡ engine) × (client_after ≡ client)
 
 -- 4. Answers of the engine
-abbrev pub given_for : EngineAnswer → Answer
-given_for (engine_says.Move m) = Move m
-given_for engine_says.Resign = Toryo
-given_for engine_says.Win = Kachi
-given_for engine_says.Slip = Toryo
+-- a slip resigns
+abbrev pub answer_for : BestMove → Answer
+answer_for (best.Answer answer) = answer
+answer_for best.Slip = Toryo
 
--- whether the engine has slipped, this answer included
-abbrev pub slip_with : EngineAnswer → Bool → Bool
-slip_with (engine_says.Move m) before = before
-slip_with engine_says.Resign before = before
-slip_with engine_says.Win before = before
-slip_with engine_says.Slip before = true
-
-abbrev pub answer_text : Color → EngineAnswer → List ℕ
-answer_text client (engine_says.Move m) = move_text client m
-answer_text client engine_says.Resign = texts.toryo
-answer_text client engine_says.Win = texts.kachi
-answer_text client engine_says.Slip = texts.toryo
+-- whether the engine has slipped, this time included
+abbrev pub slip_with : BestMove → Bool → Bool
+slip_with (best.Answer answer) before = before
+slip_with best.Slip before = true
 
 -- 5. Lines of the server in a game
 -- the game is in play: Playing, Sent
-abbrev pub IsOn : Stage → Type 0
+abbrev pub IsOn : GameStage → Type 0
 IsOn Playing = Unit {0}
 IsOn (Sent a) = Unit {0}
 IsOn (Reason told) = ⊥
@@ -149,7 +131,7 @@ IsOn (Closing told result) = ⊥
 IsOn (Over told result) = ⊥
 
 -- the sent move that waits for confirmation
-abbrev pub waiting_in : Stage → Option shogi.Move
+abbrev pub waiting_in : GameStage → Option shogi.Move
 waiting_in Playing = None
 waiting_in (Sent (Move m)) = Some m
 waiting_in (Sent Toryo) = None
@@ -162,7 +144,7 @@ abbrev pub no_ending_told : Told
 no_ending_told = record { ending = false; reason = None }
 
 -- this is what was said of the end in this stage, or nothing, while the game is in play
-abbrev pub TellsEnd : Stage → Told → Type 0
+abbrev pub TellsEnd : GameStage → Told → Type 0
 TellsEnd Playing told = told ≡ no_ending_told
 TellsEnd (Sent a) told = told ≡ no_ending_told
 TellsEnd (Reason before) told = told ≡ before
@@ -175,7 +157,7 @@ IsAskText c g engine text engine_after =
     (lines : List (List ℕ)) × Asks c g engine lines engine_after × (text ≡ text_of lines)
 
 -- play goes on, and the engine is asked if its side is to move
-pub record GoesOn (c : Config) (engine : EngineState) (p : Play) (before : List ℕ)
+pub record PlayGoesOn (c : Config) (engine : EngineState) (p : Play) (before : List ℕ)
     (answered : Answered) (engine_after : EngineState) (p_after : Play) : Type 0 where
   pub play : p_after ≡ record p { stage = Playing }
   pub text : List ℕ
@@ -188,7 +170,10 @@ pub record GoesOn (c : Config) (engine : EngineState) (p : Play) (before : List 
 abbrev pub KeepsEnding : Play → List ℕ → Play → Type 0
 KeepsEnding p line p_after =
     ((k : Ended) × TellsEnding line k
-    × (p_after ≡ record p { game = record p.game { ending = Some k }; stage = Reason (record { ending = true; reason = None }) }))
+    × (p_after ≡ record p {
+      game = record p.game { ending = Some k };
+      stage = Reason (record { ending = true; reason = None });
+    }))
     ⊎ (((k : Ended) → TellsEnding line k → ⊥) × (p_after ≡ p))
 
 -- the game with its ending, or else the one that follows from the reason and the result
@@ -199,13 +184,8 @@ closed p why result = record p.game { ending = ending_of p.client p.game.ending 
 abbrev pub Confirms : Config → EngineState
     → Play → Timed → Result Answered OutOfMemory → EngineState → Play → Type 0
 Confirms c engine p m (Ok answered) engine_after p_after =
-    GoesOn c engine (record p { game = game_with p.game (m ∷ []) }) [] answered engine_after p_after
+    PlayGoesOn c engine (record p { game = game_with p.game (m ∷ []) })
+    [] answered engine_after p_after
 Confirms c engine p m (Err fault) engine_after p_after =
     (engine_after ≡ engine)
     × ((p_after ≡ p) ⊎ (p_after ≡ record p { game = game_with p.game (m ∷ []) }))
-
--- why a move is not played
-abbrev pub why_of : PlayFault → Why
-why_of play.TooManyMoves = why.Order order.TooManyMoves
-why_of (play.Broken rule) = why.Rule rule
-why_of play.OutOfMemory = why.OutOfMemory

@@ -7,9 +7,9 @@ use Rattle.csa_text.specs.Spelling.{Spells}
 use Rattle.csa_record.specs.Game.{Game}
 use Rattle.csa_record.specs.Reading.{Reading, HasRead}
 use Rattle.csa_record.specs.Tells.{IsSpelt, Tells}
-use Rattle.shogi_session.specs.declared.position_reader.Progress.{Progress}
-use Rattle.shogi_session.specs.declared.position_reader.Progress.TheVariants.{Reading as going, Failed}
-use Rattle.session_table.specs.Summary.{in_position, TellsPosition}
+use Rattle.shogi_session.specs.declared.position_reader.BlockState.{BlockState}
+use Rattle.shogi_session.specs.declared.position_reader.BlockState.TheVariants.{Reading as going, Failed}
+use Rattle.bridge_table.specs.Summary.{in_position, TellsPosition}
 
 -- the bytes spell a position, side, move or time statement
 abbrev pub SpellsPosition : List ℕ → Type 0
@@ -52,6 +52,6 @@ abbrev pub IsTaken : List ℕ → Bool → Reading → Type 0
 IsTaken text true reader = IsFed text reader
 IsTaken text false reader = TellsNone text
 
-abbrev pub HasCome : List ℕ → Progress → Type 0
+abbrev pub HasCome : List ℕ → BlockState → Type 0
 HasCome text (going reader) = IsFed text reader
 HasCome text Failed = TellsNone text

@@ -1,9 +1,9 @@
 ghost use Rattle.std.specs.Prelude.{◌≡◌, [], IfOk};
-ghost use Rattle.session_table.specs.declared.event.Status.TheVariants.{Failed, Going};
+ghost use Rattle.bridge_table.specs.declared.event.Status.TheVariants.{Failed, Going};
 ghost use Rattle.session_lines.specs.Texts.{ended_line};
 
+use bridge_table::{Out, SessionFault, Status};
 use session_lines::Lines;
-use session_table::{Out, SessionFault, Status};
 use shogi_board::OutOfMemory;
 use std::alloc::Global;
 

@@ -1,18 +1,18 @@
 ghost use Rattle.std.specs.Prelude.{◌≡◌, ◌↔◌, ◌++◌, ◌-◌, if◌then◌else◌, List, ℕ, IsTrue, IfOk, OnOk, decimal};
 ghost use Rattle.shogi_board.specs.Pieces.{same_color};
 ghost use Rattle.shogi_session.specs.Asked.{IsAsked};
-ghost use Rattle.session_table.specs.Asking.{MayAsk, left, go_line, thousandths};
-ghost use Rattle.session_table.specs.State.{Match};
+ghost use Rattle.bridge_table.specs.Asking.{MayAsk, left, go_line, thousandths};
+ghost use Rattle.bridge_table.specs.State.{Match};
 ghost use Rattle.session_lines.specs.Texts.{ended_line};
 
+use bridge_table::Config;
 use csa_record::Record;
 use itoa::Buffer;
-use session_lines::{Lines, texts};
-use session_table::Config;
+use session_lines::Lines;
 use shogi_board::{Color, OutOfMemory};
 use shogi_rules::MAX_MOVES;
 use std::alloc::Global;
-use usi_text::position_line;
+use usi_text::{position_line, texts as usi_texts};
 
 // Adds the lines that ask the engine for the client's move, if it may be asked. Returns whether it
 // is.
@@ -54,11 +54,15 @@ fn push_go(lines: &mut Lines, config: &Config, game: &Record) -> Result<(), OutO
 {
     push_number(
         lines,
-        texts::GO_BLACK_TIME,
+        usi_texts::GO_BLACK_TIME,
         left(config, game, Color::Black),
     )?;
-    push_number(lines, texts::WHITE_TIME, left(config, game, Color::White))?;
-    push_number(lines, texts::BYOYOMI, u64::from(config.byoyomi_ms))?;
+    push_number(
+        lines,
+        usi_texts::WHITE_TIME,
+        left(config, game, Color::White),
+    )?;
+    push_number(lines, usi_texts::BYOYOMI, u64::from(config.byoyomi_ms))?;
     lines.end_line()
 }
 

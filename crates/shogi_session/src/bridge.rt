@@ -1,28 +1,29 @@
 ghost use Rattle.std.specs.Prelude.{◌≡◌, ◌↔◌, Some, None, IsOk, IsTrue, IfOk, IfSome, OnErr, MatchOption, MatchResult};
 ghost use Rattle.csa_record.specs.Game.{Game};
 ghost use Rattle.csa_record.specs.Tells.{Tells};
-ghost use Rattle.session_table.specs.declared.config.Config.{Config};
-ghost use Rattle.session_table.specs.declared.event.Status.TheVariants.{Going, Lost};
-ghost use Rattle.session_table.specs.declared.state.EngineState.{EngineState};
-ghost use Rattle.session_table.specs.declared.state.EngineState.TheVariants.{Ended, New};
-ghost use Rattle.session_table.specs.Events.{Out as Told, begin, engine_end, server_end, trimmed};
+ghost use Rattle.bridge_table.specs.declared.config.Config.{Config};
+ghost use Rattle.bridge_table.specs.declared.event.Status.TheVariants.{Going, Lost};
+ghost use Rattle.bridge_table.specs.declared.state.EngineState.{EngineState};
+ghost use Rattle.bridge_table.specs.declared.state.EngineState.TheVariants.{Ended, New};
+ghost use Rattle.bridge_table.specs.Events.{Out as Told, begin, engine_end, server_end, trimmed};
 ghost use Rattle.shogi_session.specs.Phases.{IsPhase, Reacts, Stays, client_of, staged};
 ghost use Rattle.shogi_session.specs.Configs.{IsConfig};
-ghost use Rattle.session_table.specs.GameTold.{HasMoves, game_of};
-ghost use Rattle.session_table.specs.Promises.{HoldsLine, IsGameText, KeepsGame, SameStates, StepRow, event_of};
-ghost use Rattle.session_table.specs.State.{Client, Match, client_state, first_state, slip_of, waits_for};
+ghost use Rattle.bridge_table.specs.GameTold.{HasMoves, game_of};
+ghost use Rattle.bridge_table.specs.Promises.{HoldsLine, IsGameText, KeepsGame, SameStates, StepRow, event_of};
+ghost use Rattle.bridge_table.specs.State.{Client, Match, client_state, first_state, slip_of, waits_for};
 ghost use Rattle.session_lines.specs.Texts.{text_of};
 
 use crate::answers::{failed, no_lines, silent, tell_engine};
 use crate::engine_side::hear_engine;
-use crate::phase::{Phase, Stage};
+use crate::phase::{GameStage, Phase};
 use crate::server_side::hear_server;
+use bridge_table::{ClientState, Config, EngineState, Event, Out, SessionFault, Status, Waits};
 use csa_record::write;
-use session_lines::{texts, without_last_spaces};
-use session_table::{ClientState, Config, EngineState, Event, Out, SessionFault, Status, Waits};
+use session_lines::without_last_spaces;
 use shogi_board::OutOfMemory;
 use std::alloc::Global;
 use std::marker::Model;
+use usi_text::texts as usi_texts;
 
 /// A client of a CSA server that plays with a USI engine.
 ///
@@ -40,7 +41,7 @@ pub struct Bridge {
 
 impl Model for Bridge {
     ghost use Rattle.shogi_session.specs.Phases.{IsPhase, client_of};
-    ghost use Rattle.session_table.specs.Promises.{Session};
+    ghost use Rattle.bridge_table.specs.Promises.{Session};
 
     ghost Value = { Session };
 
@@ -210,15 +211,15 @@ fn is_going(status: Status) -> bool
     }
 }
 
-fn state_of(stage: Stage) -> ClientState
+fn state_of(stage: GameStage) -> ClientState
     ensures { (g : Match) (game : Game) → result ≡ client_state (staged g game stage) }
 {
     match stage {
-        Stage::Playing => ClientState::Playing,
-        Stage::Sent(_) => ClientState::Sent,
-        Stage::Reason(_) => ClientState::Reason,
-        Stage::Closing(_, _) => ClientState::Closing,
-        Stage::Ended(_, _) => ClientState::Ended,
+        GameStage::Playing => ClientState::Playing,
+        GameStage::Sent(_) => ClientState::Sent,
+        GameStage::Reason(_) => ClientState::Reason,
+        GameStage::Closing(_, _) => ClientState::Closing,
+        GameStage::Ended(_, _) => ClientState::Ended,
     }
 }
 
@@ -269,7 +270,7 @@ fn begin(alloc: Global, engine: &mut EngineState) -> Result<Out, OutOfMemory>
     if !is_new(*engine) {
         return Ok(no_lines(alloc));
     }
-    let out = tell_engine(alloc, texts::USI)?;
+    let out = tell_engine(alloc, usi_texts::USI)?;
     *engine = EngineState::Greeting;
     Ok(out)
 }
@@ -312,11 +313,11 @@ fn lose_server(alloc: Global, phase: &mut Phase) -> Out
 {
     match phase {
         Phase::InGame(play) => match play.stage {
-            Stage::Closing(told, game_result) => {
-                play.stage = Stage::Ended(told, game_result);
+            GameStage::Closing(told, game_result) => {
+                play.stage = GameStage::Ended(told, game_result);
                 silent(alloc, Status::Done)
             }
-            Stage::Ended(_, _) => no_lines(alloc),
+            GameStage::Ended(_, _) => no_lines(alloc),
             _ => failed(alloc, SessionFault::ServerGone),
         },
         _ => failed(alloc, SessionFault::ServerGone),

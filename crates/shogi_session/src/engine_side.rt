@@ -1,27 +1,27 @@
 ghost use Rattle.std.specs.Prelude.{◌≡◌, ◌↔◌, ℕ, List, [], IfOk, IsTrue, MatchResult};
-ghost use Rattle.session_table.specs.declared.config.Config.{Config};
-ghost use Rattle.session_table.specs.declared.event.Status.TheVariants.{Going};
-ghost use Rattle.shogi_session.specs.declared.phase.Stage.TheVariants.{Playing};
-ghost use Rattle.session_table.specs.declared.state.EngineState.TheVariants.{Greeting, Readying, Thinking};
-ghost use Rattle.session_table.specs.Events.{engine_line};
-ghost use Rattle.shogi_session.specs.Phases.{IsPhase, IsPlay, Reacts, Same, answer_text, client_of, given_for, play_client, slip_with};
-ghost use Rattle.session_table.specs.Row.{IsBestMove, login_line};
-ghost use Rattle.session_table.specs.State.{Client, client_state};
-ghost use Rattle.session_table.specs.declared.state.ClientState.TheVariants as clients;
+ghost use Rattle.bridge_table.specs.declared.config.Config.{Config};
+ghost use Rattle.bridge_table.specs.declared.event.Status.TheVariants.{Going};
+ghost use Rattle.shogi_session.specs.declared.phase.GameStage.TheVariants.{Playing};
+ghost use Rattle.bridge_table.specs.declared.state.EngineState.TheVariants.{Greeting, Readying, Thinking};
+ghost use Rattle.bridge_table.specs.Events.{engine_line};
+ghost use Rattle.shogi_session.specs.Phases.{IsPhase, IsPlay, Reacts, Same, answer_for, client_of, play_client, slip_with};
+ghost use Rattle.bridge_table.specs.Row.{IsBestMove, answer_text, login_line};
+ghost use Rattle.bridge_table.specs.State.{Client, client_state};
+ghost use Rattle.bridge_table.specs.declared.state.ClientState.TheVariants as clients;
 ghost use Rattle.session_lines.specs.Texts.{ended_line};
 ghost use Rattle.usi_text.specs.declared.engine.EngineWord.TheVariants.{ReadyOk, UsiOk};
 ghost use Rattle.usi_text.specs.Engine.{LineSays};
 ghost use Rattle.usi_text.specs.Words.{words};
 
 use crate::answers::{no_lines, tell_engine, tell_server};
-use crate::engine_answer::{EngineAnswer, read_answer};
-use crate::phase::{Phase, Play, Stage};
+use crate::best_move::{BestMove, read_best_move};
+use crate::phase::{GameStage, Phase, Play};
+use bridge_table::{Answer, Config, EngineState, Out, Status};
 use csa_text::csa_move;
 use session_lines::{Lines, texts};
-use session_table::{Answer, Config, EngineState, Out, Status};
 use shogi_board::{Color, OutOfMemory};
 use std::alloc::Global;
-use usi_text::{EngineWord, read_engine_line};
+use usi_text::{EngineWord, read_engine_line, texts as usi_texts};
 
 // Takes a line of the engine, without the spaces at its end.
 pub(crate) fn hear_engine(
@@ -56,7 +56,7 @@ fn greet(alloc: Global, engine: &mut EngineState, line: &[u8]) -> Result<Out, Ou
     if !is_usi_ok(line) {
         return Ok(no_lines(alloc));
     }
-    let out = tell_engine(alloc, texts::IS_READY)?;
+    let out = tell_engine(alloc, usi_texts::IS_READY)?;
     *engine = EngineState::Readying;
     Ok(out)
 }
@@ -156,11 +156,11 @@ fn hear_thinking(
     }
 }
 
-fn is_playing(stage: Stage) -> bool
+fn is_playing(stage: GameStage) -> bool
     ensures { IsTrue result ↔ (stage ≡ Playing) }
 {
     match stage {
-        Stage::Playing => true,
+        GameStage::Playing => true,
         _ => false,
     }
 }
@@ -205,46 +205,46 @@ fn hear_answer(
         (engine_line line.now) out engine.new (play_client play.new))
         (λ fault. Same engine.old (play_client play.old) engine.new (play_client play.new)) }
 {
-    let Some(answer) = read_answer(&play.game.line().now(), line) else {
+    let Some(best) = read_best_move(&play.game.line().now(), line) else {
         return Ok(no_lines(alloc));
     };
+    let answer = answer_for(best);
     let out = say(alloc, play.client, answer)?;
-    play.slip = slip_with(answer, play.slip);
-    play.stage = Stage::Sent(given_for(answer));
+    play.slip = slip_with(best, play.slip);
+    play.stage = GameStage::Sent(answer);
     *engine = EngineState::Ready;
     Ok(out)
 }
 
 // Sends the server an answer of the engine, which plays this side.
-fn say(alloc: Global, client: Color, answer: EngineAnswer) -> Result<Out, OutOfMemory>
+fn say(alloc: Global, client: Color, answer: Answer) -> Result<Out, OutOfMemory>
     ensures engine { IfOk result (λ out. out.to_engine ≡ []) }
     ensures server { IfOk result (λ out. out.to_server ≡ ended_line (answer_text client answer)) }
     ensures status { IfOk result (λ out. out.status ≡ Going) }
 {
     match answer {
-        EngineAnswer::Move(mv) => tell_server(alloc, csa_move(client, &mv).as_str().as_bytes()),
-        EngineAnswer::Resign | EngineAnswer::Slip => tell_server(alloc, texts::TORYO),
-        EngineAnswer::Win => tell_server(alloc, texts::KACHI),
+        Answer::Move(mv) => tell_server(alloc, csa_move(client, &mv).as_str().as_bytes()),
+        Answer::Toryo => tell_server(alloc, texts::TORYO),
+        Answer::Kachi => tell_server(alloc, texts::KACHI),
     }
 }
 
-// What is sent for an answer of the engine.
-fn given_for(answer: EngineAnswer) -> Answer
-    ensures { result ≡ given_for answer }
+// What is sent for what the engine says. A slip resigns.
+fn answer_for(best: BestMove) -> Answer
+    ensures { result ≡ answer_for best }
 {
-    match answer {
-        EngineAnswer::Move(mv) => Answer::Move(mv),
-        EngineAnswer::Resign | EngineAnswer::Slip => Answer::Toryo,
-        EngineAnswer::Win => Answer::Kachi,
+    match best {
+        BestMove::Answer(answer) => answer,
+        BestMove::Slip => Answer::Toryo,
     }
 }
 
-// Whether the engine has slipped, this answer included.
-fn slip_with(answer: EngineAnswer, before: bool) -> bool
-    ensures { result ≡ slip_with answer before }
+// Whether the engine has slipped, this time included.
+fn slip_with(best: BestMove, before: bool) -> bool
+    ensures { result ≡ slip_with best before }
 {
-    match answer {
-        EngineAnswer::Slip => true,
-        EngineAnswer::Move(_) | EngineAnswer::Resign | EngineAnswer::Win => before,
+    match best {
+        BestMove::Answer(_) => before,
+        BestMove::Slip => true,
     }
 }

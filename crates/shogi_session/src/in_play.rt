@@ -1,39 +1,63 @@
+// A game that has started: what the server's lines do to it.
+//
+// `server_side::hear_in_game` passes each line on by the stage of the game. While the game is in
+// play (`Playing`, `Sent`), `hear_in_play` takes it, by its first byte:
+//
+// | Byte | Function | What it does |
+// | --- | --- | --- |
+// | `+`, `-` | `hear_move` | plays the move, and play goes on; or the session fails |
+// | `%` | `keep_ending` | keeps the ending if the line spells one, and goes to `Reason` |
+// | `#` | `hear_end` | keeps a reason and goes to `Reason`; or takes a result, to `Closing` |
+//
+// In `Reason` only lines that begin with `#` count, and `hear_end` takes them too. The engine's
+// answers are not here: `engine_side::hear_answer` sends them, and goes to `Sent`.
+//
+// A move is read (`read_server_move`), judged by the game (`Line::fault`) and compared with the one
+// that was sent (`is_expected`), in this order; the first that fails names the fault. After that
+// `confirm` plays it, and asks the engine if its side is to move and may (`ask_engine`, which also
+// does so at the start of a game).
+//
+// The stage and the engine's state change after the lines to send are made, so both stay if memory
+// is refused. Only the move is played before: the engine is asked about the position after it.
+
 ghost use Rattle.std.specs.Prelude.{◌≡◌, ◌↔◌, ◌≤◌, if◌then◌else◌, ℕ, true, Option, None, Some, is_some, [], ◌∷◌, map, IsTrue, IfOk, IfSome, OnOk, OnErr, MatchResult};
 ghost use Rattle.csa_record.specs.Limits.{longest_time};
 ghost use Rattle.csa_record.specs.Game.{Game, move_of};
 ghost use Rattle.shogi_rules.specs.Play.{Answers};
-ghost use Rattle.session_table.specs.declared.config.Config.{Config};
-ghost use Rattle.session_table.specs.declared.event.Status.TheVariants.{Failed, Going};
-ghost use Rattle.session_table.specs.declared.fault.MoveCause.TheVariants.{Refused};
-ghost use Rattle.session_table.specs.declared.fault.SessionFault.TheVariants.{BadServerMove};
-ghost use Rattle.session_table.specs.declared.state.Answer.TheVariants as given;
+ghost use Rattle.bridge_table.specs.declared.config.Config.{Config};
+ghost use Rattle.bridge_table.specs.declared.event.Status.TheVariants.{Failed, Going};
+ghost use Rattle.bridge_table.specs.declared.fault.MoveCause.TheVariants.{Refused};
+ghost use Rattle.bridge_table.specs.declared.fault.SessionFault.TheVariants.{BadServerMove};
+ghost use Rattle.bridge_table.specs.declared.state.Answer.TheVariants as given;
 ghost use Rattle.shogi_session.specs.declared.phase.Play.{Play};
-ghost use Rattle.shogi_session.specs.declared.phase.Stage.TheVariants.{Playing};
-ghost use Rattle.session_table.specs.declared.state.EngineState.TheVariants.{Thinking};
-ghost use Rattle.session_table.specs.Events.{server_line};
+ghost use Rattle.shogi_session.specs.declared.phase.GameStage.TheVariants.{Playing};
+ghost use Rattle.bridge_table.specs.declared.state.EngineState.TheVariants.{Thinking};
+ghost use Rattle.bridge_table.specs.Events.{server_line};
 ghost use Rattle.session_lines.specs.LineTexts as texts;
+ghost use Rattle.usi_text.specs.EngineTexts as usi_texts;
 ghost use Rattle.session_lines.specs.MoveLines.{is_move_line};
-ghost use Rattle.shogi_session.specs.Phases.{Confirms, GoesOn, IsOn, IsPlay, KeepsEnding, Reacts, Same, Stays, TellsEnd, closed, finish_of, match_in, play_client, waiting_in, why_of};
-ghost use Rattle.session_table.specs.Row.{IsExpected, gameover_line, with_reason};
+ghost use Rattle.shogi_session.specs.Phases.{Confirms, PlayGoesOn, IsOn, IsPlay, KeepsEnding, Reacts, Same, Stays, TellsEnd, closed, finish_of, match_in, play_client, waiting_in};
+ghost use Rattle.bridge_table.specs.Row.{IsExpected, gameover_line, with_reason};
 ghost use Rattle.session_lines.specs.ServerLines.{is_hash_line};
-ghost use Rattle.session_table.specs.State.{game_with, line_of};
+ghost use Rattle.bridge_table.specs.State.{game_with, match_line};
 ghost use Rattle.session_lines.specs.Texts.{text_of};
 
 use crate::answers::{failed, no_lines, to_engine};
 use crate::asking::ask;
 use crate::game_end::ending_by;
-use crate::phase::{Play, Stage, Told};
+use crate::phase::{GameStage, Play, Told};
 use crate::server_lines::{read_server_ending, read_server_move};
-use csa_record::{OrderFault, Record, Why};
+use bridge_table::{Answer, Config, EngineState, MoveCause, Out, SessionFault, Status};
+use csa_record::{Record, Why};
 use csa_text::Ending;
 use session_lines::server_words::{
     EndReason, GameResult, is_ending_line, is_hash_line, read_reason, read_result,
 };
 use session_lines::{Lines, is_move_line, texts};
-use session_table::{Answer, Config, EngineState, MoveCause, Out, SessionFault, Status};
 use shogi_board::{Color, OutOfMemory};
-use shogi_rules::{Move, PlayFault};
+use shogi_rules::Move;
 use std::alloc::Global;
+use usi_text::texts as usi_texts;
 
 // Takes a line of the server while the game is in play.
 pub(crate) fn hear_in_play(
@@ -78,7 +102,7 @@ fn keep_ending(play: &mut Play, line: &[u8])
         return;
     };
     end_with(play, ending, time);
-    play.stage = Stage::Reason(Told {
+    play.stage = GameStage::Reason(Told {
         ending: true,
         reason: None,
     });
@@ -121,7 +145,7 @@ fn hear_move(
         Err(fault) => return Ok(refuse(alloc, Why::Text(fault))),
     };
     match play.game.line().fault(color, &mv) {
-        Some(fault) => Ok(refuse(alloc, why_of(fault))),
+        Some(fault) => Ok(refuse(alloc, Why::from(fault))),
         None => {
             if is_expected(play, color, mv) {
                 confirm(alloc, config, engine, play, color, mv, time)
@@ -140,17 +164,6 @@ fn refuse(alloc: Global, why: Why) -> Out
     failed(alloc, SessionFault::BadServerMove(MoveCause::Refused(why)))
 }
 
-// Why a move is not played. The fault is never `OutOfMemory`.
-fn why_of(fault: PlayFault) -> Why
-    ensures { result ≡ why_of fault }
-{
-    match fault {
-        PlayFault::TooManyMoves => Why::Order(OrderFault::TooManyMoves),
-        PlayFault::Broken(rule) => Why::Rule(rule),
-        PlayFault::OutOfMemory => Why::OutOfMemory,
-    }
-}
-
 // Whether the move is of the other side, or was sent and waits for confirmation.
 fn is_expected(play: &Play, color: Color, mv: Move) -> bool
     ensures { (time : Option ℕ) → IsTrue result ↔ IsExpected
@@ -161,12 +174,15 @@ fn is_expected(play: &Play, color: Color, mv: Move) -> bool
 }
 
 // Whether that move was sent and waits for confirmation.
-fn is_waiting(stage: Stage, mv: Move) -> bool
+fn is_waiting(stage: GameStage, mv: Move) -> bool
     ensures { IsTrue result ↔ (waiting_in stage ≡ Some mv) }
 {
     match stage {
-        Stage::Sent(answer) => is_move(answer, mv),
-        Stage::Playing | Stage::Reason(_) | Stage::Closing(_, _) | Stage::Ended(_, _) => false,
+        GameStage::Sent(answer) => is_move(answer, mv),
+        GameStage::Playing
+        | GameStage::Reason(_)
+        | GameStage::Closing(_, _)
+        | GameStage::Ended(_, _) => false,
     }
 }
 
@@ -198,7 +214,7 @@ fn confirm(
     time: Option<u64>,
 ) -> Result<Out, OutOfMemory>
     requires none { play.old.game.ending ≡ None }
-    requires may { Answers (line_of (match_in play.old)) color mv None }
+    requires may { Answers (match_line (match_in play.old)) color mv None }
     requires time { IfSome time (λ t. t ≤ longest_time) }
     ensures { Confirms config.now engine.old play.old
         (record { move = mv; time = time }) result engine.new play.new }
@@ -212,7 +228,7 @@ fn confirm(
         &play.game,
         Lines::new(alloc),
     )?;
-    play.stage = Stage::Playing;
+    play.stage = GameStage::Playing;
     Ok(out)
 }
 
@@ -251,7 +267,7 @@ pub(crate) fn ask_engine(
 ) -> Result<Out, OutOfMemory>
     requires { game.now.ending ≡ None }
     ensures goes_on { IfOk result (λ out. (p : Play) → p.client ≡ client → p.game ≡ game.now
-        → GoesOn config.now engine.old p lines out engine.new (record p { stage = Playing })) }
+        → PlayGoesOn config.now engine.old p lines out engine.new (record p { stage = Playing })) }
     ensures engine { OnErr result (engine.new ≡ engine.old) }
 {
     let mut lines = lines;
@@ -287,13 +303,13 @@ pub(crate) fn hear_end(
     match read_result(line) {
         Some(game_result) => {
             let out = say_end(alloc, game_result)?;
-            play.stage = Stage::Closing(told_of(play, told.reason), game_result);
+            play.stage = GameStage::Closing(told_of(play, told.reason), game_result);
             close(play, told.reason, game_result);
             *engine = EngineState::Ended;
             Ok(out)
         }
         None => {
-            play.stage = Stage::Reason(with_reason(told, read_reason(line)));
+            play.stage = GameStage::Reason(with_reason(told, read_reason(line)));
             Ok(no_lines(alloc))
         }
     }
@@ -334,12 +350,12 @@ fn close(play: &mut Play, reason: Option<EndReason>, game_result: GameResult)
 // Tells the engine and the server that the game is over.
 fn say_end(alloc: Global, game_result: GameResult) -> Result<Out, OutOfMemory>
     ensures engine { IfOk result
-        (λ out. out.to_engine ≡ text_of (gameover_line game_result ∷ texts.quit ∷ [])) }
+        (λ out. out.to_engine ≡ text_of (gameover_line game_result ∷ usi_texts.quit ∷ [])) }
     ensures server { IfOk result (λ out. out.to_server ≡ text_of (texts.logout ∷ [])) }
     ensures status { IfOk result (λ out. out.status ≡ Going) }
 {
     let mut to_engine = Lines::one(alloc, gameover_line(game_result))?;
-    to_engine.push(texts::QUIT)?;
+    to_engine.push(usi_texts::QUIT)?;
     let to_server = Lines::one(alloc, texts::LOGOUT)?;
     Ok(Out {
         to_engine,
@@ -352,8 +368,8 @@ fn gameover_line(game_result: GameResult) -> &'static [u8]
     ensures { result.now ≡ gameover_line game_result }
 {
     match game_result {
-        GameResult::Win => texts::GAME_WON,
-        GameResult::Lose => texts::GAME_LOST,
-        GameResult::Draw | GameResult::Censored | GameResult::Chudan => texts::GAME_DRAWN,
+        GameResult::Win => usi_texts::GAME_WON,
+        GameResult::Lose => usi_texts::GAME_LOST,
+        GameResult::Draw | GameResult::Censored | GameResult::Chudan => usi_texts::GAME_DRAWN,
     }
 }

@@ -4,27 +4,27 @@
 ghost use Rattle.std.specs.Prelude.{◌≡◌, ◌++◌, ℕ, List, [], filter};
 ghost use Rattle.std.specs.List.{AllByRecursion};
 ghost use Rattle.csa_cutting.specs.Lines.{Lines};
-ghost use Rattle.session_table.specs.declared.config.Config.{Config};
-ghost use Rattle.session_peers.specs.declared.config.HostConfig.{HostConfig};
-ghost use Rattle.session_peers.specs.Host.{HostState};
-ghost use Rattle.session_peers.specs.HostLogs.{HostLeads, HostStep, written, written_moves};
-ghost use Rattle.session_table.specs.Events.{Event, Out};
-ghost use Rattle.session_table.specs.Logs.{Leads, Step, Taken, server_lines};
+ghost use Rattle.bridge_table.specs.declared.config.Config.{Config};
+ghost use Rattle.host_and_sample.specs.declared.config.HostConfig.{HostConfig};
+ghost use Rattle.host_and_sample.specs.Host.{HostState};
+ghost use Rattle.host_and_sample.specs.HostLogs.{HostLeads, HostStep, written, written_moves};
+ghost use Rattle.bridge_table.specs.Events.{Event, Out};
+ghost use Rattle.bridge_table.specs.Logs.{Leads, Step, Taken, server_lines};
 ghost use Rattle.session_lines.specs.MoveLines.{is_move_line};
-ghost use Rattle.session_table.specs.Row.{Row};
-ghost use Rattle.session_table.specs.Sending.{IsPrefix};
-ghost use Rattle.session_table.specs.State.{State};
+ghost use Rattle.bridge_table.specs.Row.{Row};
+ghost use Rattle.bridge_table.specs.Sending.{IsPrefix};
+ghost use Rattle.bridge_table.specs.State.{State};
 ghost use Rattle.session_lines.specs.Texts.{text_of, without_last_spaces};
 ghost use Rattle.shogi_session.specs.Configs.{IsConfig};
 
-pub use session_peers::laws::{
-    host_game, host_lines_whole, host_row_once, host_step_whole, host_waits_for_its_client,
-    sample_row_once, sample_step_whole,
-};
-pub use session_table::laws::{
+pub use bridge_table::laws::{
     asked_right, asking_has_a_position, confirmed_once, ends_are_silent, game_told, log_instanced,
     moves_instanced, row_once, sent_legal, sent_once, silent_when_over, step_whole,
     summary_line_once, thinking_may_ask,
+};
+pub use host_and_sample::laws::{
+    host_game, host_lines_whole, host_row_once, host_step_whole, host_waits_for_its_client,
+    sample_row_once, sample_step_whole,
 };
 
 /// Let the lines that a bridge received from its server, without the spaces at their end, be the

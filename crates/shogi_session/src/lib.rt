@@ -18,9 +18,9 @@
 
 mod answers;
 mod asking;
+mod best_move;
 mod block_text;
 mod bridge;
-mod engine_answer;
 mod engine_side;
 mod game_end;
 mod in_play;
@@ -35,8 +35,8 @@ mod server_side;
 mod summary_reader;
 
 pub use bridge::Bridge;
-pub use session_lines::Lines;
-pub use session_peers::{Host, HostConfig, HostOut, Sample, SampleOut};
-pub use session_table::{
+pub use bridge_table::{
     ClientState, Config, EngineState, Event, MoveCause, Out, SessionFault, Status, Waits,
 };
+pub use host_and_sample::{Host, HostConfig, HostOut, Sample, SampleOut};
+pub use session_lines::Lines;

@@ -1,8 +1,8 @@
 use crate::offer::GameOffer;
 use crate::summary_reader::SummaryReader;
+use bridge_table::Answer;
 use csa_record::Record;
 use session_lines::server_words::{EndReason, GameResult};
-use session_table::Answer;
 use shogi_board::Color;
 
 // What the server has said of a game's end, apart from the ending, which the game has.
@@ -15,7 +15,7 @@ pub(crate) struct Told {
 
 // How far a game is, from its start on.
 #[derive(Clone, Copy, Debug, PartialEq, Eq)]
-pub(crate) enum Stage {
+pub(crate) enum GameStage {
     Playing,
     Sent(Answer),
     Reason(Told),
@@ -30,7 +30,7 @@ pub(crate) struct Play {
     pub(crate) client: Color,
     pub(crate) game: Record,
     pub(crate) slip: bool,
-    pub(crate) stage: Stage,
+    pub(crate) stage: GameStage,
 }
 
 // How far a bridge is with its server.

@@ -17,7 +17,7 @@ const LINE_END: &[u8] = b"\n";
 
 // What the lines of a position block are so far.
 #[derive(Drop)]
-enum Progress {
+enum BlockState {
     // More lines may make them a game.
     Reading(RecordReader),
     // No further lines make them a game.
@@ -28,7 +28,7 @@ enum Progress {
 #[derive(Drop)]
 pub(crate) struct PositionReader {
     text: BlockText,
-    progress: Progress,
+    state: BlockState,
 }
 
 impl Model for PositionReader {
@@ -39,7 +39,7 @@ impl Model for PositionReader {
 
     ghost view = { λ r. r.text.bytes };
 
-    ghost invariant = { λ r. HasCome r.text.bytes r.progress };
+    ghost invariant = { λ r. HasCome r.text.bytes r.state };
 }
 
 // A position block that has ended: its game, without names, or that it is none.
@@ -67,7 +67,7 @@ impl PositionReader {
     {
         PositionReader {
             text: BlockText::new(),
-            progress: Progress::Reading(RecordReader::new(alloc)),
+            state: BlockState::Reading(RecordReader::new(alloc)),
         }
     }
 
@@ -75,11 +75,11 @@ impl PositionReader {
     pub(crate) fn take(self, line: &[u8]) -> Result<PositionReader, OutOfMemory>
         ensures { IfOk result (λ taken. taken ≡ self ++ ended_line line.now) }
     {
-        let PositionReader { text, progress } = self;
-        let progress = go_on(progress, line)?;
+        let PositionReader { text, state } = self;
+        let state = go_on(state, line)?;
         Ok(PositionReader {
             text: text.with(line),
-            progress,
+            state,
         })
     }
 
@@ -87,8 +87,8 @@ impl PositionReader {
     pub(crate) fn finish(self) -> Result<EndedPosition, OutOfMemory>
         ensures { IfOk result (λ ended. ended ≡ self) }
     {
-        let PositionReader { text, progress } = self;
-        let game = game_of(progress)?;
+        let PositionReader { text, state } = self;
+        let game = game_of(state)?;
         Ok(EndedPosition { text, game })
     }
 }
@@ -108,26 +108,26 @@ impl EndedPosition {
     }
 }
 
-// The progress after one more line.
-fn go_on(progress: Progress, line: &[u8]) -> Result<Progress, OutOfMemory>
-    ensures { (text : List ℕ) → HasCome text progress
+// The state of the block after one more line.
+fn go_on(state: BlockState, line: &[u8]) -> Result<BlockState, OutOfMemory>
+    ensures { (text : List ℕ) → HasCome text state
         → IfOk result (HasCome (text ++ ended_line line.now)) }
 {
-    let Progress::Reading(mut reader) = progress else {
-        return Ok(Progress::Failed);
+    let BlockState::Reading(mut reader) = state else {
+        return Ok(BlockState::Failed);
     };
     if take_line(&mut reader, line)? {
-        Ok(Progress::Reading(reader))
+        Ok(BlockState::Reading(reader))
     } else {
-        Ok(Progress::Failed)
+        Ok(BlockState::Failed)
     }
 }
 
 // The game that the lines are, or None.
-fn game_of(progress: Progress) -> Result<Option<Record>, OutOfMemory>
-    ensures { (text : List ℕ) → HasCome text progress → IfOk result (IsPositionRead text) }
+fn game_of(state: BlockState) -> Result<Option<Record>, OutOfMemory>
+    ensures { (text : List ℕ) → HasCome text state → IfOk result (IsPositionRead text) }
 {
-    let Progress::Reading(reader) = progress else {
+    let BlockState::Reading(reader) = state else {
         return Ok(None);
     };
     match reader.finish() {

@@ -1,7 +1,7 @@
 ghost use Rattle.std.specs.Prelude.{◌≡◌, ◌↔◌, IsTrue};
 ghost use Rattle.csa_text.specs.Saying.{saying_of};
 ghost use Rattle.shogi_session.specs.PositionTexts.{IsPositionText, SpellsPosition};
-ghost use Rattle.session_table.specs.Summary.{in_position};
+ghost use Rattle.bridge_table.specs.Summary.{in_position};
 
 use csa_cutting::Cutter;
 use csa_text::{Item, read_item};

@@ -1,30 +1,32 @@
 ghost use Rattle.std.specs.Prelude.{◌≡◌, ℕ, List, [], false, None, IfOk, OnErr, OnOk, MatchResult};
 ghost use Rattle.csa_record.specs.Limits.{IsOneLine};
-ghost use Rattle.session_table.specs.declared.config.Config.{Config};
+ghost use Rattle.bridge_table.specs.declared.config.Config.{Config};
 ghost use Rattle.shogi_session.specs.declared.offer.GameOffer.{GameOffer};
 ghost use Rattle.shogi_session.specs.declared.phase.Phase.TheVariants.{Agreeing, BeforeSummary, InGame, LoggingIn};
-ghost use Rattle.session_table.specs.declared.state.EngineState.{EngineState};
-ghost use Rattle.session_table.specs.declared.event.Status.TheVariants.{Going};
-ghost use Rattle.session_table.specs.Events.{server_line};
+ghost use Rattle.bridge_table.specs.declared.state.EngineState.{EngineState};
+ghost use Rattle.bridge_table.specs.declared.event.Status.TheVariants.{Going};
+ghost use Rattle.bridge_table.specs.Events.{server_line};
 ghost use Rattle.session_lines.specs.LineTexts as texts;
-ghost use Rattle.shogi_session.specs.Phases.{GoesOn, IsPhase, IsPlay, Reacts, Stays, begun, client_of, play_client};
-ghost use Rattle.session_table.specs.State as state;
+ghost use Rattle.usi_text.specs.EngineTexts as usi_texts;
+ghost use Rattle.shogi_session.specs.Phases.{PlayGoesOn, IsPhase, IsPlay, Reacts, Stays, begun, client_of, play_client};
+ghost use Rattle.bridge_table.specs.State as state;
 ghost use Rattle.session_lines.specs.ServerLines.{is_start_line};
-ghost use Rattle.session_table.specs.Summary.{CountsAs, Heard, Offer};
+ghost use Rattle.bridge_table.specs.Summary.{CountsAs, Heard, Offer};
 ghost use Rattle.session_lines.specs.Texts.{ended_line};
 
 use crate::answers::{failed, no_lines, silent, tell_server};
 use crate::in_play::{ask_engine, hear_end, hear_in_play};
 use crate::offer::GameOffer;
-use crate::phase::{Phase, Play, Stage};
+use crate::phase::{GameStage, Phase, Play};
 use crate::summary_reader::SummaryReader;
+use bridge_table::{Config, EngineState, Out, SessionFault, Status};
 use session_lines::server_words::{is_hash_line, is_login_ok, is_reject_line, is_start_line};
 use session_lines::texts::is_same;
 use session_lines::{Lines, texts};
-use session_table::{Config, EngineState, Out, SessionFault, Status};
 use shogi_board::OutOfMemory;
 use std::alloc::Global;
 use std::mem;
+use usi_text::texts as usi_texts;
 
 // Takes a line of the server, without the spaces at its end.
 pub(crate) fn hear_server(
@@ -178,11 +180,11 @@ fn ask_first(
     offer: &GameOffer,
 ) -> Result<Out, OutOfMemory>
     requires { offer.now.game.ending ≡ None }
-    ensures goes_on { IfOk result (λ out. GoesOn config.now engine.old
-        (begun offer.now) (ended_line texts.new_game) out engine.new (begun offer.now)) }
+    ensures goes_on { IfOk result (λ out. PlayGoesOn config.now engine.old
+        (begun offer.now) (ended_line usi_texts.new_game) out engine.new (begun offer.now)) }
     ensures engine { OnErr result (engine.new ≡ engine.old) }
 {
-    let lines = Lines::one(alloc, texts::NEW_GAME)?;
+    let lines = Lines::one(alloc, usi_texts::NEW_GAME)?;
     ask_engine(alloc, config, engine, offer.client, &offer.game, lines)
 }
 
@@ -195,7 +197,7 @@ fn start(phase: &mut Phase)
             client: offer.client,
             game: offer.game,
             slip: false,
-            stage: Stage::Playing,
+            stage: GameStage::Playing,
         }),
         other => other,
     };
@@ -218,22 +220,22 @@ fn hear_in_game(
         (play_client play.old) (server_line line.now) engine.new (play_client play.new)) }
 {
     match play.stage {
-        Stage::Playing | Stage::Sent(_) => hear_in_play(alloc, config, engine, play, line),
-        Stage::Reason(told) => {
+        GameStage::Playing | GameStage::Sent(_) => hear_in_play(alloc, config, engine, play, line),
+        GameStage::Reason(told) => {
             if is_hash_line(line) {
                 hear_end(alloc, engine, play, told, line)
             } else {
                 Ok(no_lines(alloc))
             }
         }
-        Stage::Closing(told, game_result) => {
+        GameStage::Closing(told, game_result) => {
             if is_same(line, texts::LOGOUT_COMPLETED) {
-                play.stage = Stage::Ended(told, game_result);
+                play.stage = GameStage::Ended(told, game_result);
                 Ok(silent(alloc, Status::Done))
             } else {
                 Ok(no_lines(alloc))
             }
         }
-        Stage::Ended(_, _) => Ok(no_lines(alloc)),
+        GameStage::Ended(_, _) => Ok(no_lines(alloc)),
     }
 }

@@ -2,9 +2,9 @@ ghost use Rattle.std.specs.Prelude.{◌≡◌, None, Some, IfOk, OnOk, bytes_eq}
 ghost use Rattle.csa_record.specs.Limits.{IsOneLine};
 ghost use Rattle.shogi_session.specs.HearingStage.{IsFitting, IsGameIn, IsPlace, blocks_of, ended_blocks, first_block, title_of};
 ghost use Rattle.session_lines.specs.LineTexts as texts;
-ghost use Rattle.session_table.specs.Hearing.{extended, heard_after, one_more, opened, outside, value_or};
+ghost use Rattle.bridge_table.specs.Hearing.{extended, heard_after, one_more, opened, outside, value_or};
 ghost use Rattle.shogi_session.specs.Offers.{IsToldBy, offer_of};
-ghost use Rattle.session_table.specs.Summary.{end_line, is_position, nothing_heard};
+ghost use Rattle.bridge_table.specs.Summary.{end_line, is_position, nothing_heard};
 
 use crate::offer::{GameOffer, name_offer, read_client};
 use crate::position_reader::{EndedPosition, PositionReader};
@@ -38,7 +38,7 @@ enum Begun {
 
 // What a line of a summary is, by its place.
 #[derive(Clone, Copy, Debug, PartialEq, Eq)]
-enum Place {
+enum SummaryPlace {
     // The first line of a block.
     Begins,
     // A line outside all blocks.
@@ -65,7 +65,7 @@ pub(crate) struct SummaryReader {
 impl Model for SummaryReader {
     ghost use Rattle.csa_record.specs.Limits.{IsOneLine};
     ghost use Rattle.shogi_session.specs.HearingStage.{IsFitting, blocks_of, title_of};
-    ghost use Rattle.session_table.specs.Summary.{Heard};
+    ghost use Rattle.bridge_table.specs.Summary.{Heard};
 
     ghost Value = { Heard };
 
@@ -102,11 +102,11 @@ impl SummaryReader {
         ensures { OnOk result (self.new ≡ heard_after self.old line.now) }
     {
         match place_of(&self.begun, line) {
-            Place::Begins => self.begin(&line[texts::BEGIN.len()..]),
-            Place::Outside => self.take_values(line),
-            Place::Ends => self.end(),
-            Place::InPosition => self.take_position(line),
-            Place::Skipped => Ok(()),
+            SummaryPlace::Begins => self.begin(&line[texts::BEGIN.len()..]),
+            SummaryPlace::Outside => self.take_values(line),
+            SummaryPlace::Ends => self.end(),
+            SummaryPlace::InPosition => self.take_position(line),
+            SummaryPlace::Skipped => Ok(()),
         }
     }
 
@@ -185,7 +185,7 @@ impl SummaryReader {
 }
 
 // The line's place, by the title of the block that has not ended.
-fn place_of(begun: &Begun, line: &[u8]) -> Place
+fn place_of(begun: &Begun, line: &[u8]) -> SummaryPlace
     ensures { IsPlace (title_of begun.now) line.now result }
 {
     match begun {
@@ -195,25 +195,25 @@ fn place_of(begun: &Begun, line: &[u8]) -> Place
     }
 }
 
-fn place_outside(line: &[u8]) -> Place
+fn place_outside(line: &[u8]) -> SummaryPlace
     ensures { IsPlace None line.now result }
 {
     if line.starts_with(texts::BEGIN) {
-        Place::Begins
+        SummaryPlace::Begins
     } else {
-        Place::Outside
+        SummaryPlace::Outside
     }
 }
 
-fn place_within(title: &[u8], line: &[u8]) -> Place
+fn place_within(title: &[u8], line: &[u8]) -> SummaryPlace
     ensures { IsPlace (Some title.now) line.now result }
 {
     if is_end_of(title, line) {
-        Place::Ends
+        SummaryPlace::Ends
     } else if is_position(title) {
-        Place::InPosition
+        SummaryPlace::InPosition
     } else {
-        Place::Skipped
+        SummaryPlace::Skipped
     }
 }
 

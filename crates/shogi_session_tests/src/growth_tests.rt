@@ -1,5 +1,6 @@
-// Run by tests/growths with each growth refused in turn: the answer is want of memory. A host has ended then, the sample
-// engine keeps no game, and a bridge is lost with both states and a whole game.
+// tests/growths runs this with each allocation refused in turn. The answer is out of memory. Then a
+// host has ended, the sample engine keeps no position, and a bridge has failed with its states
+// unchanged and a whole game.
 ghost use Rattle.std.specs.Prelude.{IfOk, IsTrue};
 ghost use Rattle.csa_cutting.specs.Lines.{HasNoLineEnd};
 ghost use Rattle.shogi_session.specs.Promises.{HoldsLine, event_of};
@@ -12,7 +13,7 @@ use std::alloc::Global;
 use std::process::Abort;
 use std::test::Fail;
 
-// A host of the game `local`, which plays as `host`.
+// A host of the game `local` that plays as `host`.
 fn host(alloc: Global, client: Color, max_moves: u32) -> Result<Host, Fail> {
     if !(1..=MAX_MOVES as u32).contains(&max_moves) {
         return Err(Fail::from("a host's game has 1 to 10,000 moves"));
@@ -26,7 +27,7 @@ fn host(alloc: Global, client: Color, max_moves: u32) -> Result<Host, Fail> {
     Ok(Host::new(alloc, &config)?)
 }
 
-// A bridge with name `bridge`, password `pw`, 600,000 and 10,000 milliseconds.
+// A bridge with the name `bridge`, the password `pw`, 600,000 milliseconds and 10,000 for byoyomi.
 fn bridge(alloc: Global) -> Result<Bridge, Fail> {
     let config = Config {
         name: ArrayString::from("bridge")?,
@@ -43,8 +44,9 @@ fn is_line(line: &[u8]) -> bool
     line.iter().all(|b| !(*b == b'\r' || *b == b'\n'))
 }
 
-// The event of a row: `E` or `S` and a line of the engine or of the server; and by their first letters `engine ends`,
-// `server ends`, `long line of the engine`, `too long line of the server`, and anything else for the beginning.
+// The event of a row. `E` or `S` and a line: a line of the engine or of the server. Otherwise the
+// first letter decides: `engine ends`, `server ends`, `long line of the engine`, `too long line of
+// the server`; anything else is the beginning.
 fn read_row(row: &[u8]) -> Result<Event<'_>, Fail>
     ensures { IfOk result (λ event. HoldsLine (event_of event)) }
 {
@@ -65,7 +67,7 @@ fn read_row(row: &[u8]) -> Result<Event<'_>, Fail>
     }
 }
 
-// A new host takes no memory.
+// A new host allocates nothing.
 #[test]
 fn refused_growth_of_a_host(rt: HostRuntime) -> Result<(), Fail> {
     let mut host = host(rt.alloc(), Color::White, 4)?;
@@ -105,7 +107,7 @@ fn is_silent<R: Abort>(rt: &R, host: &mut Host) -> Result<(), Fail> {
     Ok(())
 }
 
-// A new engine takes no memory.
+// A new engine allocates nothing.
 #[test]
 fn refused_growth_of_the_sample_engine(rt: HostRuntime) -> Result<(), Fail> {
     let mut engine = Sample::new(rt.alloc());
@@ -135,7 +137,8 @@ fn answer_as_engine<R: Abort + Print>(rt: &R, engine: &mut Sample) -> Result<(),
     Ok(())
 }
 
-// Hands the bridge the event of a row: whether its growth was granted. Where it was not, both states are as they were.
+// Gives the bridge the event of a row, and returns whether it had enough memory. If not, both
+// states are unchanged.
 fn hand_or_lose<R: Abort + Print>(rt: &R, bridge: &mut Bridge, row: &str) -> Result<bool, Fail> {
     let states = (bridge.engine_state(), bridge.client_state());
     match bridge.step(read_row(row.as_bytes())?) {
@@ -154,8 +157,8 @@ fn hand_or_lose<R: Abort + Print>(rt: &R, bridge: &mut Bridge, row: &str) -> Res
     }
 }
 
-// Hands the bridge the rows, with a bar between two, up to the first whose growth is refused: how many stand before it, if
-// there is one.
+// Gives the bridge the rows, separated by bars, up to the first that is out of memory. Returns how
+// many there are before it, if there is one.
 fn first_refused<R: Abort + Print>(
     rt: &R,
     bridge: &mut Bridge,
@@ -171,13 +174,14 @@ fn first_refused<R: Abort + Print>(
     Ok(None)
 }
 
-// Hands a new bridge the rows.
+// Gives a new bridge the rows.
 fn hand_each<R: Abort + Print + AllocGlobal>(rt: &R, rows: &str) -> Result<(), Fail> {
     let mut bridge = bridge(rt.alloc())?;
     hand_or_stop(rt, &mut bridge, rows)
 }
 
-// Hands the bridge the rows. At the first whose growth is refused the session is lost, with a whole game.
+// Gives the bridge the rows. At the first that is out of memory the session fails, with a whole
+// game.
 fn hand_or_stop<R: Abort + Print + AllocGlobal>(
     rt: &R,
     bridge: &mut Bridge,
@@ -190,7 +194,7 @@ fn hand_or_stop<R: Abort + Print + AllocGlobal>(
     has_game(rt, bridge, rows, count)
 }
 
-// No event gives a line.
+// No event after that sends a line.
 fn is_lost<R: Abort>(rt: &R, bridge: &mut Bridge) -> Result<(), Fail> {
     for row in [
         "begin",
@@ -207,7 +211,7 @@ fn is_lost<R: Abort>(rt: &R, bridge: &mut Bridge) -> Result<(), Fail> {
     Ok(())
 }
 
-// The game is that before the row which so many came before, or that behind it.
+// The game is the one before the row with this number, or the one after it.
 fn has_game<R: Abort + AllocGlobal>(
     rt: &R,
     bridge: &Bridge,
@@ -221,7 +225,7 @@ fn has_game<R: Abort + AllocGlobal>(
     Ok(())
 }
 
-// The game text of a bridge that was handed so many of the rows.
+// The game text of a bridge that was given this many of the rows.
 fn text_behind(alloc: Global, rows: &str, count: usize) -> Result<Option<Vec<u8>>, Fail> {
     let mut bridge = bridge(alloc)?;
     text_of(&mut bridge, rows, count)

@@ -1,5 +1,5 @@
-//! The tests of refused growths of `shogi_session`, and a call of each of its laws. What its machines answer is in the rows of
-//! `session_rows`.
+//! The tests of `shogi_session` with allocations refused, and a call of each of its laws. The
+//! answers of its machines are in the rows of `session_rows`.
 #![tactic(auto)]
 
 #[cfg(test)]

@@ -14,20 +14,20 @@ pub adds_name : {E : Type 0} (r : Result Command E) (old : Command) (a : Arg) (n
 adds_name (Ok new) old a n adds is = keeps_name old new a n adds is
 adds_name (Err fault) old a n adds is = adds
 
-names_behind : (xs : List Command) (x : Command) → names_in (xs ++ x ∷ []) ≡ names_in xs ++ (shape_of x).name ∷ []
-names_behind [] x = refl
-names_behind (y ∷ ys) x = ap (λ names. (shape_of y).name ∷ names) (names_behind ys x)
+names_append : (xs : List Command) (x : Command) → names_in (xs ++ x ∷ []) ≡ names_in xs ++ (shape_of x).name ∷ []
+names_append [] x = refl
+names_append (y ∷ ys) x = ap (λ names. (shape_of y).name ∷ names) (names_append ys x)
 
 -- a command follows those before it
-pub comes_behind : (old sub new : Command) (n : List ℕ) (names : List (List ℕ)) → AddsSubcommand old sub new → (app_of sub).top.name ≡ n
+pub adds_command : (old sub new : Command) (n : List ℕ) (names : List (List ℕ)) → AddsSubcommand old sub new → (app_of sub).top.name ≡ n
     → subcommand_names old ≡ names → subcommand_names new ≡ names ++ n ∷ []
-comes_behind old sub new n names adds is before =
+adds_command old sub new n names adds is before =
     ap names_in adds.subcommands
-    ∙ (names_behind _ adds.added
+    ∙ (names_append _ adds.added
     ∙ (ap (λ m. subcommand_names old ++ m.now ∷ []) adds.name
     ∙ (ap (λ m. subcommand_names old ++ m ∷ []) is ∙ ap (λ ms. ms ++ n ∷ []) before)))
 
-pub come_behind : {E : Type 0} (r : Result Command E) (old sub : Command) (n : List ℕ) (names : List (List ℕ)) → IfOk r (λ new. AddsSubcommand old sub new)
+pub adds_last_command : {E : Type 0} (r : Result Command E) (old sub : Command) (n : List ℕ) (names : List (List ℕ)) → IfOk r (λ new. AddsSubcommand old sub new)
     → (app_of sub).top.name ≡ n → subcommand_names old ≡ names → IfOk r (λ new. subcommand_names new ≡ names ++ n ∷ [])
-come_behind (Ok new) old sub n names adds is before = comes_behind old sub new n names adds is before
-come_behind (Err fault) old sub n names adds is before = adds
+adds_last_command (Ok new) old sub n names adds is before = adds_command old sub new n names adds is before
+adds_last_command (Err fault) old sub n names adds is before = adds

@@ -1,7 +1,5 @@
--- The words of the commands.
-use Rattle.std.specs.Prelude.{◌≡◌, ◌≢◌, ℕ, List, [], ◌∷◌, Option, Some, codes}
-use Rattle.std.specs.Str.Parse.{digits_value, without_leading_plus}
-use Rattle.clap.specs.Words.{App, IsUnsignedIn, new_app, new_rule, with_rule}
+-- The words that name the commands.
+use Rattle.std.specs.Prelude.{◌≢◌, ℕ, List, [], ◌∷◌, Option, Some, codes}
 use Rattle.shogi_words.specs.declared.request.Request.{Request}
 use Rattle.shogi_words.specs.declared.request.Request.TheVariants.{Check, Normal, Usi, Csa, Engine, Serve, Play}
 
@@ -27,14 +25,3 @@ word_of (Csa file) = codes "csa"
 word_of Engine = codes "engine"
 word_of (Serve service) = codes "serve"
 word_of (Play game) = codes "play"
-
--- a command with this name whose one word is FILE, which may be absent
-abbrev pub takes_file : List ℕ → App
-takes_file name = with_rule (new_app name) (new_rule (codes "FILE"))
-
--- n is the number that an option's word spells in decimal, if it spells one within these bounds; a
--- plus may come first
-abbrev pub IsGiven : Option (List ℕ) → ℕ → ℕ → ℕ → Type 0
-IsGiven word low high n =
-    (text : List ℕ) → word ≡ Some text
-    → IsUnsignedIn low high text → n ≡ digits_value 10 (without_leading_plus text)

@@ -36,8 +36,9 @@ fn program<'a>(alloc: Global) -> Command<'a>
         .subcommand_required(true)
 }
 
-/// The request that the words make, or None if they name no command.
-pub fn request_of<'a>(matches: &ArgMatches<'a>) -> Option<Request<'a>>
+/// The request that the words make, or None if they name no command; `is_terminal` says whether
+/// standard error is a terminal.
+pub fn request_of<'a>(matches: &ArgMatches<'a>, is_terminal: bool) -> Option<Request<'a>>
     ensures named { IfSome result (λ r. subcommand_name_of matches.now ≡ Some (word_of r)) }
     ensures within { IfSome result (λ r. (s : Service)
         → r ≡ Request.Serve s → (1 ≤ s.max_moves) × (s.max_moves ≤ positions.max_moves)) }
@@ -51,7 +52,7 @@ pub fn request_of<'a>(matches: &ArgMatches<'a>) -> Option<Request<'a>>
         records::CSA => Some(Request::Csa(words::file(words))),
         records::ENGINE => Some(Request::Engine),
         serve::NAME => Some(Request::Serve(serve::service_of(words))),
-        play::NAME => Some(Request::Play(play::match_of(words))),
+        play::NAME => Some(Request::Play(play::plan_of(words, is_terminal))),
         _ => None,
     }
 }

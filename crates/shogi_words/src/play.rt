@@ -3,7 +3,7 @@
 ghost use Rattle.std.specs.Prelude.{◌≡◌, ℕ, List, IfOk, None, Some, codes, false, option_map, true};
 ghost use Rattle.clap.specs.Words.{app_of, first_value, found_of, one_text};
 ghost use Rattle.shogi_rules.specs.Positions as positions;
-ghost use Rattle.shogi_words.specs.Words.{IsGiven};
+ghost use Rattle.shogi_words.specs.Options.{IsGiven};
 
 use crate::{serve, words};
 use clap::{Arg, ArgAction, ArgMatches, Command, value_parser};
@@ -11,10 +11,10 @@ use std::alloc::{AllocError, Global};
 
 /// Which programs play a game, how long it may be, and where its record goes.
 #[derive(Clone, Copy, Debug)]
-pub struct Match<'a> {
-    /// The CSA server to start.
+pub struct Plan<'a> {
+    /// The CSA server to start, with the words `serve --port 0 --max N`.
     pub server: &'a str,
-    /// The greatest number of moves of the game, 1 to 10,000.
+    /// N, the greatest number of moves of the server's game, 1 to 10,000.
     pub max_moves: u32,
     /// The USI engine to start.
     pub engine: &'a str,
@@ -22,8 +22,8 @@ pub struct Match<'a> {
     pub engine_word: Option<&'a str>,
     /// The file to write the record to.
     pub out: &'a str,
-    /// Whether to show no moves.
-    pub is_quiet: bool,
+    /// Whether moves are shown on standard error.
+    pub is_shown: bool,
 }
 
 /// The command's word.
@@ -83,8 +83,9 @@ fn program<'a>(alloc: Global, name: &'a str, help: &'a str) -> Arg<'a> {
         .required(true)
 }
 
-/// The game that the words ask for.
-pub fn match_of<'a>(matches: &ArgMatches<'a>) -> Match<'a>
+/// The game that the words ask for. Moves are shown if standard error is a terminal and the words
+/// do not contain `--quiet`.
+pub fn plan_of<'a>(matches: &ArgMatches<'a>, is_terminal: bool) -> Plan<'a>
     ensures server { (text : List ℕ)
         → first_value (found_of matches.now) (codes "server") ≡ Some text
         → result.server.now ≡ text }
@@ -99,16 +100,17 @@ pub fn match_of<'a>(matches: &ArgMatches<'a>) -> Match<'a>
         1 positions.max_moves result.max_moves }
     ensures usual { one_text (found_of matches.now) (codes "max") ≡ None → result.max_moves ≡ 256 }
     ensures quiet { one_text (found_of matches.now) (codes "quiet") ≡ Some (codes "true")
-        → result.is_quiet ≡ true }
+        → result.is_shown ≡ false }
     ensures shown { one_text (found_of matches.now) (codes "quiet") ≡ Some (codes "false")
-        → result.is_quiet ≡ false }
+        → result.is_shown ≡ is_terminal }
+    ensures terminal { is_terminal ≡ false → result.is_shown ≡ false }
 {
-    Match {
+    Plan {
         server: matches.get_str("server").unwrap_or_default(),
         max_moves: serve::max_moves(matches),
         engine: matches.get_str("engine").unwrap_or_default(),
         engine_word: matches.get_str("engine-arg"),
         out: matches.get_str("out").unwrap_or_default(),
-        is_quiet: matches.get_flag("quiet"),
+        is_shown: is_terminal && !matches.get_flag("quiet"),
     }
 }

@@ -2,7 +2,7 @@
 
 ghost use Rattle.std.specs.Prelude.{◌≡◌, IfOk, codes};
 ghost use Rattle.clap.specs.Words.{app_of, new_app};
-ghost use Rattle.shogi_words.specs.Words.{takes_file};
+ghost use Rattle.shogi_words.specs.Options.{takes_file};
 
 use crate::words;
 use clap::Command;

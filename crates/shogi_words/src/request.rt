@@ -1,6 +1,6 @@
 //! What a command line asks for.
 
-use crate::play::Match;
+use crate::play::Plan;
 use crate::serve::Service;
 
 /// A command and what its words say. A FILE that is absent is None.
@@ -20,5 +20,5 @@ pub enum Request<'a> {
     /// `serve`: a CSA server on localhost for one game.
     Serve(Service),
     /// `play`: a game of a USI engine on a CSA server.
-    Play(Match<'a>),
+    Play(Plan<'a>),
 }

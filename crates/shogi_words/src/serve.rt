@@ -3,7 +3,7 @@
 ghost use Rattle.std.specs.Prelude.{◌≡◌, ◌≤◌, IfOk, None, Some, codes};
 ghost use Rattle.clap.specs.Words.{app_of, found_of, one_text};
 ghost use Rattle.shogi_rules.specs.Positions as positions;
-ghost use Rattle.shogi_words.specs.Words.{IsGiven};
+ghost use Rattle.shogi_words.specs.Options.{IsGiven};
 
 use crate::words;
 use clap::{Arg, ArgAction, ArgMatches, Command, value_parser};

@@ -2,7 +2,7 @@
 
 ghost use Rattle.std.specs.Prelude.{◌≡◌, IfOk, codes, option_map};
 ghost use Rattle.clap.specs.Words.{app_of, first_value, found_of, new_app};
-ghost use Rattle.shogi_words.specs.Words.{takes_file};
+ghost use Rattle.shogi_words.specs.Options.{takes_file};
 
 use clap::{Arg, ArgMatches, Command};
 use std::alloc::{AllocError, Global};

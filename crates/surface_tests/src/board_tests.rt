@@ -4,7 +4,7 @@ use shogi_board::{
 use std::cmp::Ordering;
 use std::test::Fail;
 
-// Each kind, and how many of it a hand holds that was given all pieces.
+// Each kind, and how many of it a hand with all pieces holds.
 const KINDS: [(Kind, u8); 14] = [
     (Kind::Pawn, 18),
     (Kind::Lance, 4),
@@ -68,7 +68,7 @@ fn positions(rt: HostRuntime) -> Result<(), Fail> {
     Ok(())
 }
 
-// Each refusal of a setup, of those that a call of its own brings.
+// Each refusal of a setup.
 #[test]
 fn setups(rt: HostRuntime) -> Result<(), Fail> {
     let mut setup = Setup::empty();

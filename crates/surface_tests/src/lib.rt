@@ -1,6 +1,6 @@
 //! A call of each public item that other programs rely on, by its path and at its signature, so
-//! that no move of code between crates can lose one. Of most items it asks little: what an item
-//! promises is proved where it is defined.
+//! that none is lost when code moves between crates. Most items are hardly tested here: what an
+//! item promises is proved where it is defined.
 #![tactic(auto)]
 
 #[cfg(test)]

@@ -115,7 +115,7 @@ fn streams(rt: HostRuntime) {
     assert!(rt; room == [b'+', b'\n']);
 }
 
-// A sink with room for seven bytes fails after these.
+// A sink that fails after seven bytes.
 #[test]
 fn normalised(rt: HostRuntime) -> Result<(), Fail> {
     let record: Result<Record, FlowFault> = read_from(rt.alloc(), &mut Reading::new(GIVEN));

@@ -1,4 +1,4 @@
-//! Each fault of a record, by the refusal that names it.
+//! Each fault of a record, by a record with that fault.
 use csa_record::{OrderFault, RecordReader, Refusal, Why, read};
 use csa_text::TextFault;
 use shogi_board::SetupFault;
@@ -7,7 +7,7 @@ use std::alloc::Global;
 use std::process::Abort;
 use std::test::Fail;
 
-// Why the record is refused, and at which statement and offset.
+// The reason for which the record is refused, with the statement's number and offset.
 fn refused(rt: &(impl AllocGlobal + Abort), source: &[u8], number: u64, offset: u64, why: Why) {
     assert!(rt; source.len() < 10_000);
     let refusal = Refusal {

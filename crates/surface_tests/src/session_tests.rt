@@ -51,7 +51,7 @@ fn calls_of_a_bridge(rt: HostRuntime) -> Result<(), Fail> {
     begins(&rt, &mut bridge)
 }
 
-// The status of a bridge after one event, the first that happens to it.
+// The status of a new bridge after one event.
 fn status_after(alloc: Global, event: Event<'_>) -> Result<Status, Fail>
     requires { HoldsLine (event_of event) }
 {
@@ -84,7 +84,7 @@ fn laws_of_sessions() {
     laws::both_ends();
 }
 
-// The number of the fault, as it is printed, or 0 for a session that has not failed.
+// The number that is printed for the fault, or 0 if the session has not failed.
 fn number_of(status: Status) -> u32 {
     match status {
         Status::Going | Status::Done | Status::Lost => 0,

@@ -3,9 +3,11 @@ use crate::rules_tests::pawn_move;
 use arrayvec::ArrayString;
 use csa_text::{
     Cut, CutFault, Cutter, Ending, Item, LineCutter, LineFault, Moment, Pair, Pairs, PieceCutter,
-    Statement, TextFault, csa_move, read_item, read_moment,
+    Statement, TextFault, cell_bytes, csa_move, even_head, move_bytes, pair_bytes, pieces_head,
+    rank_head, read_item, read_moment, write_ending, write_header, write_name, write_time,
+    write_turn, write_version,
 };
-use shogi_board::{Color, Kind};
+use shogi_board::{Color, Kind, OutOfMemory};
 use std::test::Fail;
 
 const TURN: Statement<'static> = Statement {
@@ -94,5 +96,38 @@ fn moments_and_moves(rt: HostRuntime) -> Result<(), Fail> {
     assert!(rt; text.as_str() == "2024/02/29 09:05:07");
     let text: ArrayString<7> = csa_move(Color::Black, &pawn_move()?);
     assert!(rt; text.as_str() == "+7776FU");
+    Ok(())
+}
+
+#[test]
+fn parts_of_statements(rt: HostRuntime) -> Result<(), Fail> {
+    let bytes: [u8; 7] = move_bytes(Color::Black, &pawn_move()?);
+    assert!(rt; bytes == *b"+7776FU");
+    let cell: [u8; 3] = cell_bytes(None);
+    let pair: [u8; 4] = pair_bytes(Pair::Rest);
+    assert!(rt; cell == *b" * " && pair == *b"00AL");
+    let even: [u8; 2] = even_head();
+    let rank: [u8; 2] = rank_head(1);
+    let pieces: [u8; 2] = pieces_head(Color::Black);
+    assert!(rt; even == *b"PI" && rank == *b"P1" && pieces == *b"P+");
+    Ok(())
+}
+
+#[test]
+fn written_statements(rt: HostRuntime) -> Result<(), Fail> {
+    let mut out = Vec::new(rt.alloc());
+    let version: Result<(), OutOfMemory> = write_version(&mut out);
+    let name: Result<(), OutOfMemory> = write_name(&mut out, Color::Black, b"a");
+    let header: Result<(), OutOfMemory> = write_header(&mut out, b"EVENT", b"b");
+    version?;
+    name?;
+    header?;
+    let turn: Result<(), OutOfMemory> = write_turn(&mut out, Color::Black);
+    let time: Result<(), OutOfMemory> = write_time(&mut out, 1500);
+    let ending: Result<(), OutOfMemory> = write_ending(&mut out, Ending::Toryo);
+    turn?;
+    time?;
+    ending?;
+    assert!(rt; out.as_slice() == b"V2.2N+a$EVENT:b+T1.5%TORYO".as_slice());
     Ok(())
 }

@@ -4,8 +4,8 @@ use shogi_board::{OutOfMemory, Position, SetupFault};
 use shogi_rules::{Line, Move, Rule, judge};
 use std::test::Fail;
 use usi_text::{
-    EngineWord, SfenFault, UsiFault, move_text, position_line, read_engine_line, read_move,
-    read_position_line, read_sfen, write_sfen,
+    EngineWord, SfenFault, UsiFault, move_text, next_word, position_line, read_engine_line,
+    read_move, read_position_line, read_sfen, write_sfen,
 };
 
 const EVEN: &[u8] = b"lnsgkgsnl/1r5b1/ppppppppp/9/9/9/PPPPPPPPP/1B5R1/LNSGKGSNL b - 1";
@@ -93,4 +93,11 @@ fn engine_words(rt: HostRuntime) {
         let word: EngineWord<'_> = read_engine_line(line);
         assert!(rt; word == wanted);
     }
+}
+
+#[test]
+fn words(rt: HostRuntime) {
+    let first: Option<(&[u8], &[u8])> = next_word(b"  go btime");
+    assert!(rt; first == Some((b"go".as_slice(), b" btime".as_slice())));
+    assert!(rt; next_word(b"  ").is_none());
 }

@@ -24,8 +24,8 @@ fn fill_with_comments(
     Ok(())
 }
 
-// A statement among comments of each length up to 300 bytes, more than 4,096 bytes of them after
-// it, whole and in pieces in which a comment goes on from the piece before.
+// A statement between comments of each length up to 300 bytes, with more than 4,096 bytes of them
+// after it: whole, and in pieces that cut a comment in two.
 #[test]
 fn statement_among_comments(rt: HostRuntime) -> Result<(), AllocError> {
     let table: [&[u8]; 7] = [

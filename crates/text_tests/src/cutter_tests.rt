@@ -29,8 +29,8 @@ fn cuts_a_source(rt: HostRuntime) {
     laws::lines_run();
 }
 
-// A statement of 4,096 bytes is handed out, and one of 4,097 is refused again and again; blanks at
-// its end are counted.
+// A statement of 4,096 bytes is accepted. One of 4,097 is refused, at each call; blanks at its end
+// count.
 #[test]
 fn limits_a_statement(rt: HostRuntime) {
     let mut source = [b' '; 4100];

@@ -1,14 +1,14 @@
 use crate::squares::square;
 use csa_text::{
     Cut, CutFault, Cutter, Ending, Item, LineCutter, LineFault, Pair, PieceCutter, Statement,
-    TextFault, csa_move, kind_text, laws, read_item, sign_of,
+    TextFault, cell_bytes, csa_move, laws, move_bytes, pair_bytes, read_item, sign_of,
 };
-use shogi_board::{Color, Kind};
+use shogi_board::{Color, Kind, Piece};
 use shogi_rules::Move;
 use std::test::Fail;
 
-// One of each kind of item that holds no more than its text. More of these, and statements that
-// spell no item, are in tests/tables.
+// One item of each kind that holds only its text. More of these, and statements that are no item,
+// are in tests/tables.
 #[test]
 fn reads_items(rt: HostRuntime) {
     assert!(rt; read_item(b"V2.1") == Ok(Item::Version));
@@ -23,6 +23,7 @@ fn reads_items(rt: HostRuntime) {
 fn reads_and_writes(text: &str, color: Color, mv: Move) -> bool {
     read_item(text.as_bytes()) == Ok(Item::Walked(color, mv))
         && csa_move(color, &mv).as_str() == text
+        && move_bytes(color, &mv).as_slice() == text.as_bytes()
 }
 
 #[test]
@@ -50,10 +51,13 @@ fn reads_pairs(rt: HostRuntime) -> Result<(), Fail> {
     assert!(rt; pairs.get(1) == Some(Pair::InHand(Kind::Pawn)));
     assert!(rt; pairs.get(2) == Some(Pair::Rest));
     assert!(rt; pairs.get(3).is_none() && pairs.get(usize::MAX).is_none());
+    assert!(rt; pair_bytes(Pair::On(square(13), Kind::Gold)) == *b"13KI");
+    assert!(rt; pair_bytes(Pair::InHand(Kind::Pawn)) == *b"00FU");
+    assert!(rt; pair_bytes(Pair::Rest) == *b"00AL");
     Ok(())
 }
 
-// The endings that are read, in the order of their names here.
+// All endings, in the order of the names below.
 const ENDINGS: [Ending; 15] = [
     Ending::Toryo,
     Ending::Chudan,
@@ -84,7 +88,7 @@ fn reads_endings(rt: HostRuntime) {
     }
 }
 
-// What each first byte is refused as, with a letter after it.
+// The fault of each first byte when a letter follows it.
 #[test]
 fn goes_by_the_first_byte(rt: HostRuntime) {
     for first in 0..=255u8 {
@@ -120,13 +124,21 @@ fn letters_of_the_kinds(rt: HostRuntime) {
         (Kind::Dragon, "RY"),
     ];
     for (kind, letters) in table {
-        assert!(rt; kind_text(kind) == letters, "{letters}");
+        let cell = Some(Piece {
+            color: Color::Black,
+            kind,
+        });
+        assert!(rt;
+            cell_bytes(cell)[1..] == letters.as_bytes()[..],
+            "{letters}"
+        );
     }
+    assert!(rt; cell_bytes(None) == *b" * ");
     assert!(rt; sign_of(Color::Black) == b'+');
     assert!(rt; sign_of(Color::White) == b'-');
 }
 
-// The types that cut, by the names that this crate hands on.
+// The types of `csa_cutting` that this crate re-exports.
 #[test]
 fn hands_on_what_cuts(rt: HostRuntime) {
     let statement = Statement {

@@ -1,4 +1,5 @@
-//! The tests of `csa_cutting`, `csa_text` and `usi_text`: their public calls as another crate makes them.
+//! The tests of `csa_cutting`, `csa_text` and `usi_text`: their public calls as another crate makes
+//! them.
 #![tactic(auto)]
 
 #[cfg(test)]
@@ -17,3 +18,5 @@ mod piece_tests;
 mod squares;
 #[cfg(test)]
 mod usi_tests;
+#[cfg(test)]
+mod writing_tests;

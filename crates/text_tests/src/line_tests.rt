@@ -52,7 +52,7 @@ fn lines_in_pieces_of_each_size(rt: HostRuntime) -> Result<(), LineFault> {
     Ok(())
 }
 
-// A line over the limit is too long, and from then on each answer is that.
+// A line over the limit is refused as too long, and so is each step after it.
 #[test]
 fn lines_too_long(rt: HostRuntime) {
     let mut cutter = LineCutter::new(rt.alloc(), 2);
@@ -61,7 +61,8 @@ fn lines_too_long(rt: HostRuntime) {
     assert!(rt; cutter.finish().err() == Some(LineFault::TooLong));
 }
 
-// Takes a piece, again where memory was wanting: it is used whole, and gives that line.
+// Takes a piece, once more if the first call is out of memory. It is used whole, and gives this
+// line.
 fn take_at_last(
     rt: &(impl Print + Abort),
     cutter: &mut LineCutter,
@@ -94,8 +95,8 @@ fn take_pieces_at_last(rt: &(impl Print + Abort), cutter: &mut LineCutter) -> Re
     Ok(())
 }
 
-// Run by tests/growths with each growth refused in turn: a refused step changes nothing, and made
-// again it succeeds.
+// tests/growths runs this with each allocation refused in turn. A refused step changes nothing, and
+// a second one succeeds.
 #[test]
 fn refused_growth_changes_nothing(rt: HostRuntime) -> Result<(), Fail> {
     let mut cutter = LineCutter::new(rt.alloc(), 4096);

@@ -2,8 +2,8 @@ ghost use Rattle.std.specs.Prelude.{◌≤◌};
 
 use csa_cutting::{Cutter, PieceCutter};
 
-// Whether pieces that end at this place, and from there on after each `size` bytes, give what
-// `Cutter` gives of the whole.
+// Whether `PieceCutter` gives the same statements as `Cutter`, if the pieces end at this place and
+// then after each `size` bytes.
 fn same_cut_at(source: &[u8], place: usize, size: usize) -> bool {
     let mut whole = Cutter::new(source);
     let mut pieces = PieceCutter::new();
@@ -37,7 +37,7 @@ fn same_cut_at(source: &[u8], place: usize, size: usize) -> bool {
     }
 }
 
-// Where a piece from `at` ends.
+// Where the piece that begins at `at` ends.
 fn piece_end(length: usize, at: usize, place: usize, size: usize) -> usize
     requires { at ≤ length }
     ensures { (at ≤ result) × (result ≤ length) }
@@ -51,7 +51,7 @@ fn piece_end(length: usize, at: usize, place: usize, size: usize) -> usize
     }
 }
 
-// Whether pieces of this size give what `Cutter` gives of the whole.
+// Whether `PieceCutter` gives the same statements as `Cutter`, in pieces of this size.
 pub(crate) fn same(source: &[u8], size: usize) -> bool {
     same_cut_at(source, 0, size)
 }
@@ -79,7 +79,7 @@ fn pieces_of_each_size_give_the_same(rt: HostRuntime) {
     }
 }
 
-// How many statements a cutter has handed out after a piece that it uses whole.
+// How many statements a cutter has given after a piece that it uses whole.
 fn count_after(pieces: &mut PieceCutter, piece: &[u8]) -> Option<u64> {
     if pieces.fed() > 2_000_000 || piece.len() > 2_000_000 {
         return None;
@@ -92,7 +92,7 @@ fn count_after(pieces: &mut PieceCutter, piece: &[u8]) -> Option<u64> {
     }
 }
 
-// A comment is no statement, and neither is one that is not closed yet.
+// A comment is no statement, and neither is an unfinished one.
 #[test]
 fn counts_statements(rt: HostRuntime) {
     let mut pieces = PieceCutter::new();

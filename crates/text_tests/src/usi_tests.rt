@@ -18,7 +18,7 @@ fn first_move() -> Move {
     }
 }
 
-// The text of a move that breaks no rule.
+// The text of a legal move.
 fn text_of(position: &Position, mv: &Move) -> Result<ArrayString<5>, Fail> {
     match judge(position, position.side(), mv) {
         None => Ok(move_text(position, mv)),
@@ -73,7 +73,7 @@ fn laws_are_called() {
 
 const EVEN: &str = "lnsgkgsnl/1r5b1/ppppppppp/9/9/9/PPPPPPPPP/1B5R1/LNSGKGSNL b - 1";
 
-// The last position of a line, as an SFEN.
+// The SFEN of the last position of a line.
 #[test]
 fn last_position_of_a_line(rt: HostRuntime) -> Result<(), Fail> {
     let line = read_position_line(rt.alloc(), b"position startpos moves 7g7f 3c3d 8h2b+ 3a2b")?;
@@ -85,7 +85,7 @@ fn last_position_of_a_line(rt: HostRuntime) -> Result<(), Fail> {
     Ok(())
 }
 
-// A king, a pawn and a gold, and the rest in white's hand.
+// A king, a pawn and a gold; the rest is in white's hand.
 fn with_the_rest() -> Result<Position, Fail> {
     let mut setup = Setup::empty();
     setup.place(Color::White, square(51), Kind::King)?;
@@ -100,7 +100,7 @@ const REST: &str = "4k4/9/4P4/9/9/9/9/9/9 b G2r2b3g4s4n4l17p 1";
 const FOUR_MOVES: &str =
     "position sfen lnsgkgsnl/9/ppppppppp/9/9/9/PPPPPPPPP/1B5R1/LNSGKGSNL w - 1 moves 3c3d 7g7f 4a3b 2g2f";
 
-// Texts whose fault needs no memory: it is named also if the growth before the first move is refused.
+// Texts whose fault is found without memory, even if the allocation before the first move fails.
 fn faults_without_memory(rt: &(impl AllocGlobal + Abort)) {
     let table = [
         ("position", UsiFault::BadLine),
@@ -137,7 +137,7 @@ fn calls_without_memory(rt: &impl Abort) -> Result<(), Fail> {
     Ok(())
 }
 
-// The line of the text, read again where memory was wanting.
+// The line of the text, read once more if the first call is out of memory.
 fn line_at_last(rt: &(impl AllocGlobal + Abort + Print), text: &str) -> Result<Line, Fail> {
     match read_position_line(rt.alloc(), text.as_bytes()) {
         Ok(line) => Ok(line),
@@ -149,7 +149,7 @@ fn line_at_last(rt: &(impl AllocGlobal + Abort + Print), text: &str) -> Result<L
     }
 }
 
-// The SFEN of the position, written again where memory was wanting.
+// The SFEN of the position, written once more if the first call is out of memory.
 fn sfen_at_last(rt: &(impl AllocGlobal + Print), position: &Position) -> Result<Vec<u8>, Fail> {
     match write_sfen(rt.alloc(), position) {
         Ok(text) => Ok(text),
@@ -160,7 +160,7 @@ fn sfen_at_last(rt: &(impl AllocGlobal + Print), position: &Position) -> Result<
     }
 }
 
-// The text of the line, written again where memory was wanting.
+// The text of the line, written once more if the first call is out of memory.
 fn text_at_last(rt: &(impl AllocGlobal + Print), line: &Line) -> Result<Vec<u8>, Fail> {
     match position_line(rt.alloc(), line) {
         Ok(text) => Ok(text),
@@ -171,7 +171,7 @@ fn text_at_last(rt: &(impl AllocGlobal + Print), line: &Line) -> Result<Vec<u8>,
     }
 }
 
-// Whether one of the next growths is refused, and so none before them was.
+// Whether one of the next allocations is refused, and so none before them was.
 fn is_refused_later(rt: &impl AllocGlobal) -> bool {
     for _ in 0..100u8 {
         let mut text: Vec<u8> = Vec::new(rt.alloc());
@@ -201,15 +201,15 @@ fn rest_written_at_last(rt: &(impl AllocGlobal + Abort + Print)) -> Result<(), F
     Ok(())
 }
 
-// Run by tests/growths with each growth refused in turn: the answer is the fault found before it, or
-// out of memory, and then the call made again succeeds.
+// tests/growths runs this with each allocation refused in turn. The answer is the fault found
+// before that, or out of memory, and then a second call succeeds.
 #[test]
 fn refused_growth_is_told(rt: HostRuntime) -> Result<(), Fail> {
     faults_without_memory(&rt);
     calls_without_memory(&rt)?;
     line_and_text_at_last(&rt)?;
     rest_written_at_last(&rt)?;
-    // the growths of faults_without_memory are refused in silence
+    // faults_without_memory prints nothing for its refused allocations
     if !is_refused_later(&rt) {
         println!(rt; "refused")?;
     }

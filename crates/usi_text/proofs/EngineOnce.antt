@@ -1,32 +1,33 @@
 -- A line of an engine says at most one thing.
-use Rattle.std.proofs.Common.{◌≡◌, ℕ, List, Some, None, codes, refl, ap, sym, ◌∙◌, arith}
+use Rattle.std.proofs.Common.{◌≡◌, ℕ, List, Some, None, refl, ap, sym, ◌∙◌, arith}
 use Rattle.usi_text.specs.declared.engine.EngineWord.{EngineWord}
 use Rattle.usi_text.specs.declared.engine.EngineWord.TheVariants.{UsiOk, ReadyOk, Best, Resign, Win, Other}
 use Rattle.usi_text.specs.Engine.{LineSays, text_in}
+use Rattle.usi_text.specs.EngineTexts as texts
 use Rattle.usi_text.proofs.Heads.{sizes}
 
 pub says_once : (ws : List (List ℕ)) (word other : EngineWord) → text_in word ≡ None → LineSays ws word → LineSays ws other → other ≡ word
 says_once ws UsiOk UsiOk plain h k = refl
-says_once ws UsiOk ReadyOk plain h k = absurd (sizes (codes "usiok") (codes "readyok") (sym h ∙ k) (omega arith))
-says_once ws UsiOk Resign plain h k = absurd (sizes (codes "usiok") (codes "bestmove") (sym h ∙ k.0) (omega arith))
-says_once ws UsiOk Win plain h k = absurd (sizes (codes "usiok") (codes "bestmove") (sym h ∙ k.0) (omega arith))
+says_once ws UsiOk ReadyOk plain h k = absurd (sizes texts.usi_ok texts.ready_ok (sym h ∙ k) (omega arith))
+says_once ws UsiOk Resign plain h k = absurd (sizes texts.usi_ok texts.best_move_word (sym h ∙ k.0) (omega arith))
+says_once ws UsiOk Win plain h k = absurd (sizes texts.usi_ok texts.best_move_word (sym h ∙ k.0) (omega arith))
 says_once ws UsiOk Other plain h k = absurd (k.0 h)
-says_once ws UsiOk (Best u) plain h k = absurd (sizes (codes "usiok") (codes "bestmove") (sym h ∙ k.0) (omega arith))
-says_once ws ReadyOk UsiOk plain h k = absurd (sizes (codes "readyok") (codes "usiok") (sym h ∙ k) (omega arith))
+says_once ws UsiOk (Best u) plain h k = absurd (sizes texts.usi_ok texts.best_move_word (sym h ∙ k.0) (omega arith))
+says_once ws ReadyOk UsiOk plain h k = absurd (sizes texts.ready_ok texts.usi_ok (sym h ∙ k) (omega arith))
 says_once ws ReadyOk ReadyOk plain h k = refl
-says_once ws ReadyOk Resign plain h k = absurd (sizes (codes "readyok") (codes "bestmove") (sym h ∙ k.0) (omega arith))
-says_once ws ReadyOk Win plain h k = absurd (sizes (codes "readyok") (codes "bestmove") (sym h ∙ k.0) (omega arith))
+says_once ws ReadyOk Resign plain h k = absurd (sizes texts.ready_ok texts.best_move_word (sym h ∙ k.0) (omega arith))
+says_once ws ReadyOk Win plain h k = absurd (sizes texts.ready_ok texts.best_move_word (sym h ∙ k.0) (omega arith))
 says_once ws ReadyOk Other plain h k = absurd (k.1 h)
-says_once ws ReadyOk (Best u) plain h k = absurd (sizes (codes "readyok") (codes "bestmove") (sym h ∙ k.0) (omega arith))
-says_once ws Resign UsiOk plain h k = absurd (sizes (codes "bestmove") (codes "usiok") (sym (h.0) ∙ k) (omega arith))
-says_once ws Resign ReadyOk plain h k = absurd (sizes (codes "bestmove") (codes "readyok") (sym (h.0) ∙ k) (omega arith))
+says_once ws ReadyOk (Best u) plain h k = absurd (sizes texts.ready_ok texts.best_move_word (sym h ∙ k.0) (omega arith))
+says_once ws Resign UsiOk plain h k = absurd (sizes texts.best_move_word texts.usi_ok (sym (h.0) ∙ k) (omega arith))
+says_once ws Resign ReadyOk plain h k = absurd (sizes texts.best_move_word texts.ready_ok (sym (h.0) ∙ k) (omega arith))
 says_once ws Resign Resign plain h k = refl
-says_once ws Resign Win plain h k = absurd (sizes (codes "resign") (codes "win") (sym (h.1) ∙ k.1) (omega arith))
+says_once ws Resign Win plain h k = absurd (sizes texts.engine_resigns texts.engine_wins (sym (h.1) ∙ k.1) (omega arith))
 says_once ws Resign Other plain h k = absurd (k.2 h.0)
 says_once ws Resign (Best u) plain h k = absurd (k.1.1 h.1)
-says_once ws Win UsiOk plain h k = absurd (sizes (codes "bestmove") (codes "usiok") (sym (h.0) ∙ k) (omega arith))
-says_once ws Win ReadyOk plain h k = absurd (sizes (codes "bestmove") (codes "readyok") (sym (h.0) ∙ k) (omega arith))
-says_once ws Win Resign plain h k = absurd (sizes (codes "win") (codes "resign") (sym (h.1) ∙ k.1) (omega arith))
+says_once ws Win UsiOk plain h k = absurd (sizes texts.best_move_word texts.usi_ok (sym (h.0) ∙ k) (omega arith))
+says_once ws Win ReadyOk plain h k = absurd (sizes texts.best_move_word texts.ready_ok (sym (h.0) ∙ k) (omega arith))
+says_once ws Win Resign plain h k = absurd (sizes texts.engine_wins texts.engine_resigns (sym (h.1) ∙ k.1) (omega arith))
 says_once ws Win Win plain h k = refl
 says_once ws Win Other plain h k = absurd (k.2 h.0)
 says_once ws Win (Best u) plain h k = absurd (k.1.2 h.1)

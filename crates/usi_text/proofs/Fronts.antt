@@ -3,8 +3,7 @@ use Rattle.std.proofs.Common.{◌≡◌, ◌≢◌, ℕ, zero, suc, ◌<◌, ◌
 use Rattle.std.specs.List.{filter, slice_split, onto_first}
 use Rattle.std.proofs.lemmas.List.{take-append-drop}
 use Rattle.std.proofs.lemmas.Bool.Decides.{eqb_tells, Decides-eqb}
-use Rattle.usi_text.specs.Words.{words, has_bytes}
-use Rattle.usi_text.specs.Scanning.{EndsWord, IsBehind}
+use Rattle.usi_text.specs.Words.{EndsWord, IsBehind, words, has_bytes}
 
 abbrev split : List ℕ → List (List ℕ)
 split text = slice_split (λ b. b == 32) text

@@ -24,14 +24,13 @@ use Rattle.usi_text.specs.Lines.{HasMoves, Starts, Judged, Plays, UsiLine}
 use Rattle.usi_text.specs.Moves.{UsiMove}
 use Rattle.usi_text.specs.Sfen.{side_text}
 use Rattle.usi_text.specs.SfenText.{sfen_text, board_text, hands_text, both_piles}
-use Rattle.usi_text.specs.Words.{words}
+use Rattle.usi_text.specs.Words.{EndsWord, words}
 use Rattle.usi_text.proofs.Again.{again, sfen_words, hands_spelt, both_fit}
 use Rattle.usi_text.proofs.Clean.{AreWord, no_space, word_joined, words_front, words_alone, board_spelt}
 use Rattle.usi_text.proofs.Games.{after_more}
 use Rattle.usi_text.proofs.Heads.{sizes}
 use Rattle.usi_text.proofs.Splits.{words_joined}
 use Rattle.usi_text.proofs.Spelt.{letter_low, leads}
-use Rattle.usi_text.specs.Scanning.{EndsWord}
 
 abbrev Follows : Placed → List Move → ℕ → Move → Type 0
 Follows start moves i d = MayFollow start (take i moves) (get_or moves i d)

@@ -8,7 +8,7 @@ use Rattle.shogi_board.specs.declared.square.Square.{Square}
 use Rattle.shogi_board.specs.Layout.{Layout}
 use Rattle.shogi_board.specs.Placing as placing
 use Rattle.shogi_board.specs.Placing.{Placing, on, placing_fault, unless, place_all}
-use Rattle.shogi_board.specs.Setup.{empty_layout, place_fault, placed, add_fault}
+use Rattle.shogi_board.specs.Setup.{empty_layout, place_fault, with_piece, add_fault}
 use Rattle.shogi_board.specs.Squares.{place}
 use Rattle.usi_text.specs.declared.hands.Pile.{Pile}
 use Rattle.usi_text.specs.Hands.{SpellsPiles, SpellsHands, IsPile, pile_text, pile_pieces}
@@ -34,7 +34,7 @@ putting_none cells s n p low here = record {
   whole = λ others. p.whole others ∙ ap (λ c. place_all s (cell_placings n c ++ others)) (cut_here cells n None low here);
 }
 
-pub putting_some : (cells : Cells) (s next : Layout) (n : ℕ) (x : Piece) (square : Square) → Putting cells s n → n < length cells → get_or cells n None ≡ Some x → place square ≡ board_place n → place_fault s x.color square x.kind ≡ None → next ≡ placed s x.color square x.kind → Putting cells next (n + 1)
+pub putting_some : (cells : Cells) (s next : Layout) (n : ℕ) (x : Piece) (square : Square) → Putting cells s n → n < length cells → get_or cells n None ≡ Some x → place square ≡ board_place n → place_fault s x.color square x.kind ≡ None → next ≡ with_piece s x.color square x.kind → Putting cells next (n + 1)
 putting_some cells s next n x square p low here there fits e =
     let free : placing_fault s (on (board_place n) x) ≡ None = sym (same_fault s square (board_place n) x there) ∙ fits in
     let same : next ≡ placing.placed s (on (board_place n) x) = e ∙ ap (λ i. record s { material = record s.material { board = set s.material.board i (Some x) } }) there in

@@ -2,8 +2,8 @@
 use Rattle.std.proofs.Common.{◌≡◌, ◌≢◌, ℕ, ◌<◌, ◌-◌, ◌==◌, Bool, true, false, cond, List, [], ◌∷◌, ◌++◌, length, length-append, take, arith, refl, sym, ap, ◌∙◌, append_assoc, codes}
 use Rattle.std.specs.List.{AllByRecursion, filter, slice_split, onto_first}
 use Rattle.std.proofs.lemmas.List.{append-nil, append_cancel_right, take_at}
-use Rattle.usi_text.specs.Words.{words, has_bytes}
-use Rattle.usi_text.specs.Scanning.{Split, EndsWord, IsBehind}
+use Rattle.usi_text.specs.Words.{EndsWord, IsBehind, words, has_bytes}
+use Rattle.usi_text.specs.Scanning.{Split}
 
 abbrev split : List ℕ → List (List ℕ)
 split text = slice_split (λ b. b == 32) text

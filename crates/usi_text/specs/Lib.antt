@@ -1,5 +1,6 @@
 pub mod Boards
 pub mod Engine
+pub mod EngineTexts
 pub mod Hands
 pub mod Letters
 pub mod LineText

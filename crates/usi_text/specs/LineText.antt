@@ -3,6 +3,7 @@ use Rattle.std.specs.Prelude.{◌≡◌, ◌≢◌, ℕ, ◌⊎◌, List, [], �
 use Rattle.shogi_board.specs.Placed.{Placed, even_start}
 use Rattle.shogi_rules.specs.declared.moves.Move.{Move}
 use Rattle.shogi_rules.specs.After.{after}
+use Rattle.usi_text.specs.EngineTexts as texts
 use Rattle.usi_text.specs.Moves.{UsiMove}
 use Rattle.usi_text.specs.SfenText.{sfen_text}
 
@@ -27,5 +28,5 @@ BehindStart p (m ∷ ms) text = (rest : List ℕ) × (text ≡ codes " moves" ++
 
 abbrev pub LineText : Placed → List Move → List ℕ → Type 0
 LineText start moves text =
-    (front : List ℕ) × (rest : List ℕ) × (text ≡ codes "position " ++ (front ++ rest))
+    (front : List ℕ) × (rest : List ℕ) × (text ≡ texts.position_front ++ (front ++ rest))
     × StartText start front × BehindStart start moves rest

@@ -10,6 +10,7 @@ use Rattle.shogi_rules.specs.Positions.{Played, max_moves, now_of}
 use Rattle.usi_text.specs.declared.fault.UsiFault.{UsiFault}
 use Rattle.usi_text.specs.declared.fault.UsiFault.TheVariants.{BadLine, BadMoveText, Broken, TooManyMoves, OutOfMemory}
 use Rattle.usi_text.specs.declared.fault.UsiFault.TheVariants as usi
+use Rattle.usi_text.specs.EngineTexts as texts
 use Rattle.usi_text.specs.Moves.{UsiMove}
 use Rattle.usi_text.specs.Sfen.{Sfen, FirstFault}
 
@@ -21,12 +22,12 @@ HasMoves (w ∷ ws) moves = (w ≡ codes "moves") × (moves ≡ ws)
 -- position startpos
 abbrev pub EvenLine : List (List ℕ) → List (List ℕ) → Type 0
 EvenLine ws moves =
-    (tail : List (List ℕ)) × (ws ≡ codes "position" ∷ codes "startpos" ∷ tail) × HasMoves tail moves
+    (tail : List (List ℕ)) × (ws ≡ texts.position ∷ codes "startpos" ∷ tail) × HasMoves tail moves
 
 -- position sfen, and at least one word before the word moves
 pub record SfenLine (ws sfen moves : List (List ℕ)) : Type 0 where
   pub tail : List (List ℕ)
-  pub whole : ws ≡ codes "position" ∷ codes "sfen" ∷ (sfen ++ tail)
+  pub whole : ws ≡ texts.position ∷ codes "sfen" ∷ (sfen ++ tail)
   pub some : 0 < length sfen
   pub before : AllByRecursion (λ w. w ≢ codes "moves") sfen
   pub behind : HasMoves tail moves

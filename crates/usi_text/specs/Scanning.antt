@@ -1,5 +1,5 @@
--- What private helpers of the readers and writers promise. A reader of the public contracts may skip
--- this file.
+-- What private helpers of the readers and writers promise. A reader of the public contracts may
+-- skip this file.
 use Rattle.std.specs.Prelude.{◌≡◌, ◌≢◌, ℕ, ◌+◌, ◌≤◌, ◌==◌, List, [], ◌∷◌, ◌++◌, Option, Some, None, codes, if◌then◌else◌}
 use Rattle.std.specs.List.{AllByRecursion}
 use Rattle.std.specs.Borrow.{Bor}
@@ -13,15 +13,6 @@ use Rattle.usi_text.specs.declared.line.GivenStart.TheVariants.{Even, Sfen}
 use Rattle.usi_text.specs.Boards.{ranks_of}
 use Rattle.usi_text.specs.Lines.{HasMoves, EvenLine, SfenLine}
 use Rattle.usi_text.specs.Words.{words}
-
--- nothing, or a text that begins with a space
-abbrev pub EndsWord : List ℕ → Type 0
-EndsWord [] = Unit {0}
-EndsWord (b ∷ bs) = b ≡ code " "
-
--- the rest of a text after a word's end
-abbrev pub IsBehind : List ℕ → List ℕ → Type 0
-IsBehind text rest = (front : List ℕ) × (text ≡ front ++ rest) × EndsWord rest
 
 -- how the words of a line give its start, and the words of the moves
 abbrev pub GivesStart : List (List ℕ) → GivenStart → List (List ℕ) → Type 0

@@ -1,6 +1,7 @@
 ghost use Rattle.usi_text.specs.Engine.{LineSays, BestSays};
 ghost use Rattle.usi_text.specs.Words.{words};
 
+use crate::texts;
 use crate::words::take_word;
 
 /// What a line of a USI engine says. It borrows from the line.
@@ -29,11 +30,11 @@ pub fn read_engine_line(line: &[u8]) -> EngineWord<'_>
 {
     let (first, rest) = take_word(line);
     let (second, _) = take_word(rest);
-    if first == b"usiok".as_slice() {
+    if first == texts::USI_OK {
         EngineWord::UsiOk
-    } else if first == b"readyok".as_slice() {
+    } else if first == texts::READY_OK {
         EngineWord::ReadyOk
-    } else if first == b"bestmove".as_slice() {
+    } else if first == texts::BEST_MOVE_WORD {
         best(second)
     } else {
         EngineWord::Other
@@ -44,9 +45,9 @@ pub fn read_engine_line(line: &[u8]) -> EngineWord<'_>
 fn best(word: &[u8]) -> EngineWord<'_>
     ensures { BestSays word.now result }
 {
-    if word == b"resign".as_slice() {
+    if word == texts::ENGINE_RESIGNS {
         EngineWord::Resign
-    } else if word == b"win".as_slice() {
+    } else if word == texts::ENGINE_WINS {
         EngineWord::Win
     } else {
         EngineWord::Best(word)

@@ -24,6 +24,7 @@ mod moves;
 mod parts;
 mod setting;
 mod sfen;
+pub mod texts;
 mod words;
 mod writing;
 
@@ -33,4 +34,5 @@ pub use line::read_position_line;
 pub use line_writing::position_line;
 pub use moves::{move_text, read_move};
 pub use sfen::read_sfen;
+pub use words::next_word;
 pub use writing::write_sfen;

@@ -7,6 +7,7 @@ ghost use Rattle.usi_text.specs.Scanning.{GivesStart, Split, word_fault};
 use crate::fault::{SfenFault, UsiFault};
 use crate::moves::read_move;
 use crate::sfen::read_sfen;
+use crate::texts;
 use crate::words::{next_word, take_word};
 use shogi_board::Position;
 use shogi_rules::{Line, MAX_MOVES, PlayFault, judge};
@@ -74,7 +75,7 @@ fn split_line(text: &[u8]) -> Option<(GivenStart<'_>, &[u8])>
 {
     let (first, rest) = take_word(text);
     let (second, rest) = take_word(rest);
-    if !same(first, b"position") {
+    if !same(first, texts::POSITION) {
         return None;
     }
     if same(second, b"startpos") {

@@ -6,6 +6,7 @@ ghost use Rattle.usi_text.specs.Lines.{UsiLine};
 ghost use Rattle.usi_text.specs.Words.{words};
 
 use crate::moves::move_text;
+use crate::texts;
 use crate::writing::push_sfen;
 use shogi_board::{OutOfMemory, Position};
 use shogi_rules::{Line, Move, after};
@@ -22,7 +23,7 @@ pub fn position_line(alloc: Global, line: &Line) -> Result<Vec<u8>, OutOfMemory>
     ensures again { IfOk result (λ text. UsiLine (words text.items) line.now.start line.now.moves) }
 {
     let start = line.start();
-    let mut text = Vec::from_slice(alloc, b"position ")?;
+    let mut text = Vec::from_slice(alloc, texts::POSITION_FRONT)?;
     push_start(&mut text, &start)?;
     push_moves(&mut text, start, line.moves())?;
     Ok(text)

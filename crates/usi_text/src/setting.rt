@@ -10,8 +10,8 @@ ghost use Rattle.usi_text.specs.declared.hands.Pile.{Pile};
 use crate::hands::{Pile, is_dash, read_pile};
 use shogi_board::{Color, Piece, Position, Setup, SetupFault, Square};
 
-// The position with the pieces of these cells, in the order of a board's text, and of the hands that
-// the text spells.
+// The position with the pieces of these cells, in the order of a board's text, and of the hands
+// that the text spells.
 pub(crate) fn set_up_position(
     cells: &[Option<Piece>],
     hands: &[u8],

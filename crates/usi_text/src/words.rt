@@ -1,9 +1,9 @@
 ghost use Rattle.std.specs.Prelude.{◌≡◌, ◌≢◌, ℕ, ◌≤◌, ◌<◌, ◌==◌, [], ◌∷◌, drop, length, slice_index, IfSome, MatchOption};
-ghost use Rattle.usi_text.specs.Words.{words, nth_word};
-ghost use Rattle.usi_text.specs.Scanning.{IsBehind};
+ghost use Rattle.usi_text.specs.Words.{IsBehind, words, nth_word};
 
-// The first word and what follows it, or `None` if the text has no word.
-pub(crate) fn next_word(text: &[u8]) -> Option<(&[u8], &[u8])>
+/// The first word and what follows it, or `None` if the text has no word. Words are the longest
+/// runs of bytes without spaces.
+pub fn next_word(text: &[u8]) -> Option<(&[u8], &[u8])>
     ensures word { MatchOption result
         (words text.now ≡ [])
         (λ r. words text.now ≡ r.0.now ∷ words r.1.now) }

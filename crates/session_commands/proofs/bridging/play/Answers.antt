@@ -1,5 +1,5 @@
 use Rattle.shogi_session.specs.Events.{begin}
-use Rattle.session_table.specs.declared.event.Status.TheVariants.{Done, Failed, Going, Lost}
+use Rattle.bridge_table.specs.declared.event.Status.TheVariants.{Done, Failed, Going, Lost}
 use Rattle.std.proofs.Common.{ap, ◌∙◌}
 use Rattle.session_commands.proofs.Playing.{first, round_begun, round_sent, same_session_fault, steps_of}
 use Rattle.session_commands.proofs.Wanting.{not_next, unsent}
@@ -15,32 +15,32 @@ loop-rounds-init g c =
 pub returns-in-Done-clause-done : goal.returns-in-Done-clause-done
 returns-in-Done-clause-done g c =
     let l = c.loop-rounds in
-    (round_sent g.E.Ends.heard g.E.Ends.told g.E.Ends.gone c.args.ends.now c.args.bridge.now l.out.to_engine l.out.to_server l.out.status l._rounds l.ends l.bridge c.send.new.ends c.send.new.bridge c.in_ok-send.field-0 Done c.in-Done.is l.invariant c.in_ok-send.ensures.sent).played
+    (round_sent g.E.Ends.came g.E.Ends.went g.E.Ends.gone c.args.ends.now c.args.bridge.now l.out.to_engine l.out.to_server l.out.status l._rounds l.ends l.bridge c.send.new.ends c.send.new.bridge c.in_ok-send.field-0 Done c.in-Done.is l.invariant c.in_ok-send.ensures.sent).played
 
 pub returns-in-Failed-clause-failed : goal.returns-in-Failed-clause-failed
 returns-in-Failed-clause-failed g c = λ fault same.
     let l = c.loop-rounds in
-    (round_sent g.E.Ends.heard g.E.Ends.told g.E.Ends.gone c.args.ends.now c.args.bridge.now l.out.to_engine l.out.to_server l.out.status l._rounds l.ends l.bridge c.send.new.ends c.send.new.bridge c.in_ok-send.field-0 (Failed fault) (c.in-Failed.is ∙ ap Failed (same_session_fault c.in-Failed.fault fault same)) l.invariant c.in_ok-send.ensures.sent).played
+    (round_sent g.E.Ends.came g.E.Ends.went g.E.Ends.gone c.args.ends.now c.args.bridge.now l.out.to_engine l.out.to_server l.out.status l._rounds l.ends l.bridge c.send.new.ends c.send.new.bridge c.in_ok-send.field-0 (Failed fault) (c.in-Failed.is ∙ ap Failed (same_session_fault c.in-Failed.fault fault same)) l.invariant c.in_ok-send.ensures.sent).played
 
 pub loop-rounds-preserved : goal.loop-rounds-preserved
 loop-rounds-preserved g c =
     let l = c.loop-rounds in
-    let played = round_sent g.E.Ends.heard g.E.Ends.told g.E.Ends.gone c.args.ends.now c.args.bridge.now l.out.to_engine l.out.to_server l.out.status l._rounds l.ends l.bridge c.send.new.ends c.send.new.bridge c.in_ok-send.field-0 Going c.in-Going.is l.invariant c.in_ok-send.ensures.sent in
+    let played = round_sent g.E.Ends.came g.E.Ends.went g.E.Ends.gone c.args.ends.now c.args.bridge.now l.out.to_engine l.out.to_server l.out.status l._rounds l.ends l.bridge c.send.new.ends c.send.new.bridge c.in_ok-send.field-0 Going c.in-Going.is l.invariant c.in_ok-send.ensures.sent in
     let out = c.in_ok-out-2.out in
-    round_begun g.E.Ends.heard g.E.Ends.told g.E.Ends.gone c.args.ends.now c.args.bridge.now c.loop-rounds._rounds c.send.new.ends c.send.new.bridge out.to_engine out.to_server out.status c.hear_next.new.ends c.hear_next.new.bridge played c.in_ok-out-2.ensures.heard
+    round_begun g.E.Ends.came g.E.Ends.went g.E.Ends.gone c.args.ends.now c.args.bridge.now c.loop-rounds._rounds c.send.new.ends c.send.new.bridge out.to_engine out.to_server out.status c.step_next.new.ends c.step_next.new.bridge played c.in_ok-out-2.ensures.came
 
 pub returns-in_err-send-clause-wanting : goal.returns-in_err-send-clause-wanting
 returns-in_err-send-clause-wanting g c = λ is.
     let l = c.loop-rounds in
-    unsent g.E.Ends.heard g.E.Ends.missed g.E.Ends.told g.E.Ends.gone c.args.ends.now c.args.bridge.now l.out.to_engine l.out.to_server l.out.status l._rounds l.ends l.bridge c.send.new.ends c.send.new.bridge l.invariant c.in_err-send.ensures.wanting
+    unsent g.E.Ends.came g.E.Ends.missed g.E.Ends.went g.E.Ends.gone c.args.ends.now c.args.bridge.now l.out.to_engine l.out.to_server l.out.status l._rounds l.ends l.bridge c.send.new.ends c.send.new.bridge l.invariant c.in_err-send.ensures.wanting
 
 pub returns-in-Lost-clause-wanting : goal.returns-in-Lost-clause-wanting
 returns-in-Lost-clause-wanting g c = λ is.
     let l = c.loop-rounds in
-    lost_before (round_sent g.E.Ends.heard g.E.Ends.told g.E.Ends.gone c.args.ends.now c.args.bridge.now l.out.to_engine l.out.to_server l.out.status l._rounds l.ends l.bridge c.send.new.ends c.send.new.bridge c.in_ok-send.field-0 Lost c.in-Lost.is l.invariant c.in_ok-send.ensures.sent).played
+    lost_before (round_sent g.E.Ends.came g.E.Ends.went g.E.Ends.gone c.args.ends.now c.args.bridge.now l.out.to_engine l.out.to_server l.out.status l._rounds l.ends l.bridge c.send.new.ends c.send.new.bridge c.in_ok-send.field-0 Lost c.in-Lost.is l.invariant c.in_ok-send.ensures.sent).played
 
 pub returns-in_err-out-2-clause-wanting : goal.returns-in_err-out-2-clause-wanting
 returns-in_err-out-2-clause-wanting g c = λ is.
     let l = c.loop-rounds in
-    let played = round_sent g.E.Ends.heard g.E.Ends.told g.E.Ends.gone c.args.ends.now c.args.bridge.now l.out.to_engine l.out.to_server l.out.status l._rounds l.ends l.bridge c.send.new.ends c.send.new.bridge c.in_ok-send.field-0 Going c.in-Going.is l.invariant c.in_ok-send.ensures.sent in
-    not_next g.E.Ends.heard g.E.Ends.missed g.E.Ends.told g.E.Ends.gone c.args.ends.now c.args.bridge.now l._rounds c.send.new.ends c.send.new.bridge c.hear_next.new.ends c.hear_next.new.bridge played c.in_err-out-2.ensures.wanting
+    let played = round_sent g.E.Ends.came g.E.Ends.went g.E.Ends.gone c.args.ends.now c.args.bridge.now l.out.to_engine l.out.to_server l.out.status l._rounds l.ends l.bridge c.send.new.ends c.send.new.bridge c.in_ok-send.field-0 Going c.in-Going.is l.invariant c.in_ok-send.ensures.sent in
+    not_next g.E.Ends.came g.E.Ends.missed g.E.Ends.went g.E.Ends.gone c.args.ends.now c.args.bridge.now l._rounds c.send.new.ends c.send.new.bridge c.step_next.new.ends c.step_next.new.bridge played c.in_err-out-2.ensures.wanting

@@ -2,4 +2,4 @@ use Rattle.session_commands.proofs.PlayedLogs.{played_moves_are_legal}
 use Rattle.session_commands.proofs.laws.played_moves_are_legal.Goals as goal
 
 pub returns : goal.returns
-returns g c = record { legal = played_moves_are_legal c.ends_are_silent.ensures.silent c.sent_legal.ensures.legal c.sent_once.ensures.answers g.E.Ends.heard g.E.Ends.told g.E.Ends.gone }
+returns g c = record { legal = played_moves_are_legal c.ends_are_silent.ensures.silent c.sent_legal.ensures.legal c.sent_once.ensures.answers g.E.Ends.came g.E.Ends.went g.E.Ends.gone }

@@ -16,7 +16,7 @@ returns-in_default g c = record {
   kept =
       let s = c.args.bridge.now.state in
       let none = subst (λ o. MatchOption o (IsGameText s None) (λ t. IsGameText s (Some t.items))) c.in_default.is c.in-Ok.ensures.game in
-      none_kept g.P.Place.took g.P.Place.refused s c.args.played c.args.place.now c.told_of.result none (sym c.told_of.ensures);
+      none_kept g.P.Place.took g.P.Place.refused s c.args.played c.args.place.now c.report_of.result none (sym c.report_of.ensures);
 }
 
 pub returns-in_err-replace : goal.returns-in_err-replace
@@ -38,6 +38,6 @@ returns g c = record {
       let text = c.in-Some.text.items in
       let some = subst (λ o. MatchOption o (IsGameText s None) (λ t. IsGameText s (Some t.items))) c.in-Some.is c.in-Ok.ensures.game in
       let took = subst (λ x. g.P.Place.took c.args.place.now x c.replace.new.self) c.as_slice.ensures.value c.in_ok-replace.ensures.took in
-      text_taken g.P.Place.took g.P.Place.refused s text c.args.played c.args.place.now c.replace.new.self c.told_of-2.result c.moves.result c.unwrap_or.result
-      some took c.moves.ensures c.unwrap_or.ensures c.told_of-2.ensures;
+      text_taken g.P.Place.took g.P.Place.refused s text c.args.played c.args.place.now c.replace.new.self c.report_of-2.result c.moves.result c.unwrap_or.result
+      some took c.moves.ensures c.unwrap_or.ensures c.report_of-2.ensures;
 }

@@ -4,5 +4,5 @@ use Rattle.session_commands.proofs.play.listening_port.Goals as goal
 pub returns-in-Line : goal.returns-in-Line
 returns-in-Line g c = record {
   first =
-      port_came c.args.told.now.bytes c.hear.new.self.bytes c.line.result.now c.hear.new.self.line c.port_of.result c.line.ensures.value (c.in_ok-hear.ensures.line c.in-Line.is) c.port_of.ensures;
+      port_came c.args.lines.now.bytes c.read_line.new.self.bytes c.line.result.now c.read_line.new.self.line c.port_of.result c.line.ensures.value (c.in_ok-read_line.ensures.line c.in-Line.is) c.port_of.ensures;
 }

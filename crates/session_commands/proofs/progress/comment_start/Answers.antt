@@ -1,6 +1,6 @@
 use Rattle.std.proofs.Common.{length, not, sym, ap, ◌∙◌, arith}
 use Rattle.std.proofs.lemmas.List.Sums.{prefix_len_is}
-use Rattle.session_commands.specs.Showing.{is_quote}
+use Rattle.session_commands.specs.Comments.{is_quote}
 use Rattle.session_commands.proofs.progress.comment_start.Goals as goal
 
 pub returns-then-is_quote-clause-value : goal.returns-then-is_quote-clause-value

@@ -1,5 +1,5 @@
 use Rattle.std.proofs.Common.{◌≡◌, ℕ, ◌<◌, false, get_or}
-use Rattle.session_commands.specs.Showing.{is_quote}
+use Rattle.session_commands.specs.Comments.{is_quote}
 use Rattle.session_commands.proofs.progress.comment_start.Given as goal
 
 abbrev pub invariant-loop-i : goal.invariant-loop-i

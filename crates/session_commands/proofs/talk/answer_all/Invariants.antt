@@ -1,5 +1,5 @@
 use Rattle.std.proofs.Common.{[]}
-use Rattle.session_commands.specs.Talks.{Talking}
+use Rattle.session_commands.specs.Talking.{Talking}
 use Rattle.session_commands.proofs.talk.answer_all.Given as goal
 
 abbrev pub invariant-loop-pieces : goal.invariant-loop-pieces

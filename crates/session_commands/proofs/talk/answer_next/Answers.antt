@@ -1,7 +1,7 @@
 use Rattle.std.proofs.Common.{ap, Err, subst}
 use Rattle.std.proofs.lemmas.Result.{err_from_is_err_and}
 use Rattle.csa_cutting.specs.LineCutting.{LinesAfter}
-use Rattle.session_commands.proofs.Talks.{next_none, next_answered, next_unanswered, next_uncut}
+use Rattle.session_commands.proofs.Talks.{next_none, next_answered, next_finishes, next_unanswered, next_uncut}
 use Rattle.session_commands.proofs.talk.answer_next.Goals as goal
 
 pub returns-in-Err-clause-next : goal.returns-in-Err-clause-next
@@ -13,9 +13,14 @@ returns-in_default-clause-next g c =
     next_none g.X.Wire.came g.X.Wire.ends g.X.Wire.went g.M.Machine.answers c.args.cutter.now c.step.follows.lender-at-none c.args.piece.now c.in-Ok.step c.args.wire.now c.args.machine.now c.in_default.is (λ h. let long = c.in-Ok.ensures.long.1 h in cc) c.in-Ok.ensures.lines
     (subst (λ r. LinesAfter c.args.cutter.now c.args.piece.now r c.step.follows.lender-at-none) c.in-Ok.is c.step.follows.holds-at-none)
 
+pub returns-then-ended-clause-next : goal.returns-then-ended-clause-next
+returns-then-ended-clause-next g c =
+    next_finishes g.X.Wire.came g.X.Wire.ends g.X.Wire.went g.M.Machine.answers c.args.cutter.now c.args.piece.now c.in-Ok.step c.in-Some.line c.args.wire.now c.answer.new.wire c.args.machine.now c.answer.new.machine c.in_ok-ended.ended c.if-ended.true c.in-Some.is (λ h. let long = c.in-Ok.ensures.long.1 h in cc) c.in-Ok.ensures.lines
+    c.in_ok-ended.ensures.replied
+
 pub returns-clause-next : goal.returns-clause-next
 returns-clause-next g c =
-    next_answered g.X.Wire.came g.X.Wire.ends g.X.Wire.went g.X.Wire.silent g.X.Wire.blocked g.M.Machine.answers c.args.cutter.now c.step.follows.lender-at-none c.args.piece.now c.in-Ok.step c.in-Some.line c.args.wire.now c.answer.new.wire c.args.machine.now c.answer.new.machine c.in_ok-ended.ended c.in-Some.is (λ h. let long = c.in-Ok.ensures.long.1 h in cc) c.in-Ok.ensures.lines
+    next_answered g.X.Wire.came g.X.Wire.ends g.X.Wire.went g.M.Machine.answers c.args.cutter.now c.step.follows.lender-at-none c.args.piece.now c.in-Ok.step c.in-Some.line c.args.wire.now c.answer.new.wire c.args.machine.now c.answer.new.machine c.in_ok-ended.ended c.if-ended.false c.in-Some.is (λ h. let long = c.in-Ok.ensures.long.1 h in cc) c.in-Ok.ensures.lines
     (subst (λ r. LinesAfter c.args.cutter.now c.args.piece.now r c.step.follows.lender-at-none) c.in-Ok.is c.step.follows.holds-at-none) c.in_ok-ended.ensures.replied
 
 pub returns-in_err-ended-clause-next : goal.returns-in_err-ended-clause-next

@@ -1,5 +1,5 @@
 use Rattle.std.proofs.Common.{◌≡◌, ◌-◌, drop}
-use Rattle.session_table.specs.Asking.{used}
+use Rattle.bridge_table.specs.Asking.{used}
 use Rattle.shogi_session.proofs.asking.left.Given as goal
 
 abbrev pub invariant-loop-i : goal.invariant-loop-i

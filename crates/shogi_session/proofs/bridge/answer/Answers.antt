@@ -1,10 +1,10 @@
 use Rattle.std.proofs.Common.{inl, inr, ap, subst, sym}
 use Rattle.std.specs.Prelude.{MatchResult}
 use Rattle.csa_record.specs.Limits.{IsOneLine}
-use Rattle.session_table.specs.Events.{trimmed}
+use Rattle.bridge_table.specs.Events.{trimmed}
 use Rattle.shogi_session.specs.Phases.{Reacts, Stays, client_of}
-use Rattle.session_table.specs.Promises.{HoldsLine, event_of}
-use Rattle.session_table.proofs.AlwaysAsks.{trimmed_line}
+use Rattle.bridge_table.specs.Promises.{HoldsLine, event_of}
+use Rattle.bridge_table.proofs.AlwaysAsks.{trimmed_line}
 use Rattle.shogi_session.proofs.ServerRows.{begun_or, too_long}
 use Rattle.shogi_session.proofs.bridge.answer.Goals as goal
 

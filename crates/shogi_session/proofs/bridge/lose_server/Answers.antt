@@ -1,7 +1,7 @@
 use Rattle.std.proofs.Common.{refl, sym, ap, subst, ◌∙◌}
-use Rattle.shogi_session.specs.declared.phase.Stage.TheVariants as stages
+use Rattle.shogi_session.specs.declared.phase.GameStage.TheVariants as stages
 use Rattle.shogi_session.specs.Phases.{IsPhase, Reacts, client_of, match_in, play_client, staged}
-use Rattle.session_table.specs.Events.{server_end}
+use Rattle.bridge_table.specs.Events.{server_end}
 use Rattle.shogi_session.proofs.ServerRows.{hung_up, phase_not_over, play_not_over, quiet, server_gone}
 use Rattle.shogi_session.proofs.Unnamed.{server_over}
 use Rattle.shogi_session.proofs.bridge.lose_server.Goals as goal

@@ -1,6 +1,6 @@
 use Rattle.std.proofs.Common.{sym, subst}
 use Rattle.std.specs.Prelude.{MatchResult}
-use Rattle.session_table.specs.Events.{engine_line}
+use Rattle.bridge_table.specs.Events.{engine_line}
 use Rattle.shogi_session.specs.Phases.{Reacts, Same, client_of, play_client}
 use Rattle.shogi_session.proofs.EngineRows.{not_playing}
 use Rattle.shogi_session.proofs.PositionRead.{otherwise}

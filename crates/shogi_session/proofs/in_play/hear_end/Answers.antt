@@ -1,5 +1,5 @@
 use Rattle.std.proofs.Common.{refl}
-use Rattle.shogi_session.specs.declared.phase.Stage.TheVariants as stages
+use Rattle.shogi_session.specs.declared.phase.GameStage.TheVariants as stages
 use Rattle.shogi_session.proofs.PlayRows.{reason_row, result_row}
 use Rattle.shogi_session.proofs.in_play.hear_end.Goals as goal
 

@@ -19,10 +19,10 @@ confirm-requires-clause-time c = move_time c.args.line.now c.in-Ok.told.0 (recor
 
 pub returns-in-Some-clause-answer : goal.returns-in-Some-clause-answer
 returns-in-Some-clause-answer c =
-    move_refused _ _ c.args.play.now c.args.line.now c.in-Ok.told.0 (record { move = c.in-Ok.told.1; time = c.in-Ok.told.2 }) c.in-Some.fault c.why_of.result
+    move_refused _ _ c.args.play.now c.args.line.now c.in-Ok.told.0 (record { move = c.in-Ok.told.1; time = c.in-Ok.told.2 }) c.in-Some.fault c.from.result
     c.refuse-in-Some.result c.requires.on c.requires.from_a_sign c.in-Ok.ensures
     (answers_so (match_in c.args.play.now) c.line.result.now c.in-Ok.told.0 c.in-Ok.told.1 c.fault.result _ c.line.ensures.value c.in-Some.is c.fault.ensures.answer)
-    c.why_of.ensures c.refuse-in-Some.ensures.engine c.refuse-in-Some.ensures.server c.refuse-in-Some.ensures.status
+    c.from.ensures c.refuse-in-Some.ensures.engine c.refuse-in-Some.ensures.server c.refuse-in-Some.ensures.status
 
 pub returns-then-is_expected-clause-keeps : goal.returns-then-is_expected-clause-keeps
 returns-then-is_expected-clause-keeps c =

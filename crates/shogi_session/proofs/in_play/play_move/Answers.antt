@@ -1,5 +1,5 @@
 use Rattle.std.proofs.Common.{◌≡◌, [], ◌∷◌, sym, subst}
-use Rattle.session_table.specs.State.{game_with}
+use Rattle.bridge_table.specs.State.{game_with}
 use Rattle.shogi_session.proofs.GameEnds.{timed_move, taken}
 use Rattle.shogi_session.proofs.in_play.play_move.Goals as goal
 

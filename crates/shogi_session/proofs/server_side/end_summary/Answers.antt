@@ -1,7 +1,7 @@
 use Rattle.std.proofs.Common.{ap, subst, sym, ◌∙◌}
 use Rattle.shogi_session.specs.Offers.{IsToldBy, offer_of}
 use Rattle.shogi_session.specs.Phases.{client_of}
-use Rattle.session_table.specs.State.{summary}
+use Rattle.bridge_table.specs.State.{summary}
 use Rattle.shogi_session.proofs.ServerRows.{agreed_phase, offered, summary_agreed, summary_failed}
 use Rattle.shogi_session.proofs.server_side.end_summary.Goals as goal
 

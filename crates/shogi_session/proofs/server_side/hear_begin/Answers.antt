@@ -2,8 +2,8 @@ use Rattle.std.proofs.Common.{refl, sym, ap}
 use Rattle.shogi_session.specs.Phases.{client_of}
 use Rattle.shogi_session.proofs.PositionRead.{otherwise}
 use Rattle.std.proofs.Common.{subst, []}
-use Rattle.session_table.proofs.Counting.{counts_first}
-use Rattle.session_table.specs.Summary.{CountsAs}
+use Rattle.bridge_table.proofs.Counting.{counts_first}
+use Rattle.bridge_table.specs.Summary.{CountsAs}
 use Rattle.shogi_session.proofs.ServerRows.{quiet, summary_begun}
 use Rattle.shogi_session.proofs.Unnamed.{other_begin}
 use Rattle.shogi_session.proofs.server_side.hear_begin.Goals as goal

@@ -1,7 +1,7 @@
 use Rattle.std.proofs.Common.{refl, ap, subst, sym, ◌∙◌}
-use Rattle.session_table.specs.Events.{server_line}
+use Rattle.bridge_table.specs.Events.{server_line}
 use Rattle.shogi_session.specs.Offers.{offer_in}
-use Rattle.session_table.specs.State.{agreeing}
+use Rattle.bridge_table.specs.State.{agreeing}
 use Rattle.shogi_session.specs.Phases.{Reacts, client_of}
 use Rattle.shogi_session.proofs.ServerRows.{ended_or, heard_or, quiet, started_from}
 use Rattle.shogi_session.proofs.Unnamed.{idle_line}

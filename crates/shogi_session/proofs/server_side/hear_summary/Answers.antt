@@ -1,6 +1,6 @@
 use Rattle.std.proofs.Common.{subst, sym, []}
-use Rattle.session_table.proofs.Counting.{counts_first}
-use Rattle.session_table.specs.Summary.{CountsAs}
+use Rattle.bridge_table.proofs.Counting.{counts_first}
+use Rattle.bridge_table.specs.Summary.{CountsAs}
 use Rattle.shogi_session.proofs.ServerRows.{counts_after, summary_heard}
 use Rattle.shogi_session.proofs.server_side.hear_summary.Goals as goal
 

@@ -1,14 +1,14 @@
-use Rattle.shogi_words.proofs.CommandNames.{come_behind, comes_behind}
+use Rattle.shogi_words.proofs.CommandNames.{adds_last_command, adds_command}
 use Rattle.shogi_words.proofs.commands.all.Goals as goal
 
 pub returns : goal.returns
 returns c = record {
   names =
-      let names-1 = comes_behind _ _ _ _ _ c.in_ok-subcommand.ensures c.in_ok-check.ensures.name c.program.ensures.none in
-      let names-2 = comes_behind _ _ _ _ _ c.in_ok-subcommand-2.ensures c.in_ok-normal.ensures.name names-1 in
-      let names-3 = comes_behind _ _ _ _ _ c.in_ok-subcommand-3.ensures c.in_ok-usi.ensures.name names-2 in
-      let names-4 = comes_behind _ _ _ _ _ c.in_ok-subcommand-4.ensures c.in_ok-csa.ensures.name names-3 in
-      let names-5 = comes_behind _ _ _ _ _ c.in_ok-subcommand-5.ensures c.engine.ensures.name names-4 in
-      let names-6 = comes_behind _ _ _ _ _ c.in_ok-subcommand-6.ensures c.in_ok-command.ensures.name names-5 in
-      come_behind c.subcommand-7.result _ _ _ _ c.subcommand-7.ensures c.in_ok-command-2.ensures.name names-6;
+      let names-1 = adds_command _ _ _ _ _ c.in_ok-subcommand.ensures c.in_ok-check.ensures.name c.program.ensures.none in
+      let names-2 = adds_command _ _ _ _ _ c.in_ok-subcommand-2.ensures c.in_ok-normal.ensures.name names-1 in
+      let names-3 = adds_command _ _ _ _ _ c.in_ok-subcommand-3.ensures c.in_ok-usi.ensures.name names-2 in
+      let names-4 = adds_command _ _ _ _ _ c.in_ok-subcommand-4.ensures c.in_ok-csa.ensures.name names-3 in
+      let names-5 = adds_command _ _ _ _ _ c.in_ok-subcommand-5.ensures c.engine.ensures.name names-4 in
+      let names-6 = adds_command _ _ _ _ _ c.in_ok-subcommand-6.ensures c.in_ok-command.ensures.name names-5 in
+      adds_last_command c.subcommand-7.result _ _ _ _ c.subcommand-7.ensures c.in_ok-command-2.ensures.name names-6;
 }

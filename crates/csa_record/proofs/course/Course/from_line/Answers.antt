@@ -13,7 +13,7 @@ all_none c =
 
 pub invariant_of-result : goal.invariant_of-result
 invariant_of-result c =
-    let sound : IsSound c.args.line.start = subst (λ (p : Placed). IsSound p) c.start.ensures.value c.side-side.ensures.sound in
+    let sound : IsSound c.args.line.start = subst (λ (p : Placed). IsSound p) c.start.ensures.value c.soundness.ensures.sound in
     kept_untimed c.args.line c.in-Ok.times.items (all_none c) sound c.moves.ensures.game c.moves.ensures.few
 
 pub returns-in-Ok-clause-ok : goal.returns-in-Ok-clause-ok

@@ -18,8 +18,8 @@ returns-then-is_err-clause-answer c =
 pub invariant_of-self-2 : goal.invariant_of-self-2
 invariant_of-self-2 c =
     let pushed : c.push_reserved.new.self.items ≡ c.self.inside.times.items ++ None ∷ [] = grind (arith, common_steps) in
-    kept_more c.self.inside.line c.play_on.new.line c.self.inside.times.items c.push_reserved.new.self.items c.self.inside.ending c.args.mv
-    c.self.invariant c.in_ok-play_on.ensures.ok.1 pushed c.in_ok-play_on.ensures.game.0 c.in_ok-play_on.ensures.game.1
+    kept_more c.self.inside.line c.play_on.new.line c.self.inside.times.items c.push_reserved.new.self.items c.self.inside.ending c.args.color c.args.mv
+    c.self.invariant c.in_ok-play_on.ensures.ok.1 pushed c.in_ok-play_on.ensures.ok.0
 
 pub returns-clause-answer : goal.returns-clause-answer
 returns-clause-answer c =
@@ -39,3 +39,10 @@ returns-in_err-play_on-clause-answer c =
     rw (p.1, p.2)
     (answer_refused c.self.inside.line c.self.inside.times.items c.self.inside.ending c.args.self.now c.args.color c.args.mv c.in_err-play_on.field-0.0
     c.self.invariant.long c.self.view_is free c.in_err-play_on.ensures.err)
+
+pub returns-clause-course : goal.returns-clause-course
+returns-clause-course c =
+    let pushed : c.push_reserved.new.self.items ≡ c.self.inside.times.items ++ None ∷ [] = grind (arith, common_steps) in
+    let kept = kept_more c.self.inside.line c.play_on.new.line c.self.inside.times.items c.push_reserved.new.self.items c.self.inside.ending c.args.color c.args.mv
+    c.self.invariant c.in_ok-play_on.ensures.ok.1 pushed c.in_ok-play_on.ensures.ok.0 in
+    kept.course

@@ -14,3 +14,9 @@ returns-in-None-clause-changed c =
     ap (course_of c.self.inside.line c.set_last.new.times.items) c.in-None.is
     ∙ course_last c.self.inside.line c.self.inside.times.items c.set_last.new.times.items c.args.thousandths c.args.self.now
     c.self.invariant.long seen c.set_last.ensures
+
+pub returns-in-None-clause-course : goal.returns-in-None-clause-course
+returns-in-None-clause-course c =
+    let kept = kept_last c.self.inside.line c.self.inside.times.items c.set_last.new.times.items c.self.inside.ending c.args.thousandths
+    c.self.invariant c.set_last.ensures c.requires in
+    kept.course

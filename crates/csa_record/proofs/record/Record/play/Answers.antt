@@ -8,4 +8,4 @@ use Rattle.csa_record.proofs.record.Record.play.Goals as goal
 
 pub returns-clause-answer : goal.returns-clause-answer
 returns-clause-answer c =
-    subst (λ (g : Game). (x : Option Why) × PlayAnswers (course_of g) c.args.color c.args.mv x × IsAnswer x c.play-result.result) c.self.view_is c.play-result.ensures.answer
+    subst (λ (g : Game). (x : Option Why) × PlayAnswers (course_of g) c.args.color c.args.mv x × IsAnswer x c.play.result) c.self.view_is c.play.ensures.answer

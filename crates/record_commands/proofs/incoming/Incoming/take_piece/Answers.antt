@@ -1,8 +1,7 @@
-use Rattle.std.proofs.Common.{arith, rules, Some, Err, length, ap, subst, ◌≡◌}
+use Rattle.std.proofs.Common.{arith, rules, Some, Err, length, ap, refl, subst, ◌≡◌}
 use Rattle.std.specs.Io.Buffered.{reader_buffer, reader_remaining}
 use Rattle.std.specs.Io.BufRead.{FillKeeps}
-use Rattle.record_commands.specs.declared.incoming.Heard.TheVariants.{Line}
-use Rattle.record_commands.proofs.Hearing.{begins_long, end_alone, end_line, long_heard, none_is, none_over, piece_line, piece_long, piece_none, some_is}
+use Rattle.record_commands.proofs.LineReading.{begins_long, end_alone, end_line, long_event, none_over, piece_line, piece_long, piece_none, some_of}
 use Rattle.record_commands.proofs.incoming.Incoming.take_piece.Goals as goal
 
 pub returns-in-Ok-true-clause-line : goal.returns-in-Ok-true-clause-line
@@ -33,35 +32,33 @@ returns-in-Ok-false-clause-end g c = λ is.
     let gives = end_alone (remaining c.self.inside.reader) (remaining c.fill_buf.follows.lender-at-none) cutter.held c.keep_last.new.cutter.held (none_over old c.in-Ok.piece.now c.in-Ok.ensures.end none) kept.0 (c.in-Ok-false.ensures.none c.in-Ok-false.field-0-test) c.in-Ok-false.ensures.empty in
     rw (← c.self.view_is) gives
 
-pub returns-in-Ok-cut-clause-short : goal.returns-in-Ok-cut-clause-short
-returns-in-Ok-cut-clause-short g c = λ is.
-    c.in-Ok-cut.ensures.short (some_is c.in-Ok-cut.is_line Line c.then_some.result c.then_some.ensures is) (c.self.invariant c.if-self.false)
+pub returns-clause-short : goal.returns-clause-short
+returns-clause-short g c = λ is. some_of _ _ _ c.in-Some.is c.in-Ok-cut.ensures.short (c.self.invariant c.if-self.false)
 
-pub returns-in-Ok-cut-clause-line : goal.returns-in-Ok-cut-clause-line
-returns-in-Ok-cut-clause-line g c = λ is.
+pub returns-clause-line : goal.returns-clause-line
+returns-clause-line g c = λ is.
     let remaining = reader_remaining g.R.Read.remaining in
     let old = remaining c.self.inside.reader in
     let lender = c.fill_buf.follows.lender-at-none in
     let kept = subst (λ r. FillKeeps old (remaining lender) (Some (length (reader_buffer lender))) r) c.in-Ok.is c.fill_buf.follows.holds-at-none in
-    let line = c.in-Ok-cut.ensures.line (some_is c.in-Ok-cut.is_line Line c.then_some.result c.then_some.ensures is) in
-    let gives = piece_line old (remaining lender) (remaining c.consume.new.self) c.in-Ok.piece.now c.self.inside.cutter.held c.cut.new.kept.items c.in-Ok-cut.used (length (reader_buffer lender))
-    c.in-Ok.ensures.front kept.0 kept.1 c.consume.ensures.bytes c.in-Ok-cut.ensures.used line.1 in
-    rw (← c.self.view_is, line.0) gives
+    let line = some_of _ _ _ c.in-Some.is c.in-Ok-cut.ensures.line in
+    let gives = piece_line old (remaining lender) (remaining c.consume-2.new.self) c.in-Ok.piece.now c.self.inside.cutter.held c.cut.new.kept.items c.in-Some.used (length (reader_buffer lender))
+    c.in-Ok.ensures.front kept.0 kept.1 c.consume-2.ensures.bytes line.0 line.2 in
+    rw (← c.self.view_is, line.1) gives
 
-pub returns-in-Ok-cut-clause-none : goal.returns-in-Ok-cut-clause-none
-returns-in-Ok-cut-clause-none g c = λ is.
+pub returns-in_default-clause-none : goal.returns-in_default-clause-none
+returns-in_default-clause-none g c = λ is.
     let remaining = reader_remaining g.R.Read.remaining in
     let old = remaining c.self.inside.reader in
     let lender = c.fill_buf.follows.lender-at-none in
     let kept = subst (λ r. FillKeeps old (remaining lender) (Some (length (reader_buffer lender))) r) c.in-Ok.is c.fill_buf.follows.holds-at-none in
-    let none = c.in-Ok-cut.ensures.none (none_is c.in-Ok-cut.is_line Line c.then_some.result c.then_some.ensures is) in
-    let gives = piece_none old (remaining lender) (remaining c.consume.new.self) c.in-Ok.piece.now c.self.inside.cutter.held c.cut.new.cutter.held c.in-Ok-cut.used (length (reader_buffer lender))
-    c.in-Ok.ensures.front kept.0 kept.1 c.consume.ensures.bytes none.0 none.1 in
+    let gives = piece_none old (remaining lender) (remaining c.consume.new.self) c.in-Ok.piece.now c.self.inside.cutter.held c.cut.new.cutter.held (length c.in-Ok.piece.now) (length (reader_buffer lender))
+    c.in-Ok.ensures.front kept.0 kept.1 c.consume.ensures.bytes refl (c.in-Ok-cut.ensures.none c.in_default.is) in
     rw (← c.self.view_is) gives
 
 pub returns-in-Err-cut-clause-long : goal.returns-in-Err-cut-clause-long
 returns-in-Err-cut-clause-long g c =
-    long_heard _ c.in-Err-cut.fault c.heard_of-in-Err-cut.result c.heard_of-in-Err-cut.ensures.long (λ is.
+    long_event _ c.in-Err-cut.fault c.event_of-in-Err-cut.result c.event_of-in-Err-cut.ensures.long (λ is.
     let remaining = reader_remaining g.R.Read.remaining in
     let old = remaining c.self.inside.reader in
     let lender = c.fill_buf.follows.lender-at-none in

@@ -1,5 +1,5 @@
 use Rattle.std.proofs.Common.{ap, sym}
-use Rattle.session_table.specs.Promises.{Session}
+use Rattle.bridge_table.specs.Promises.{Session}
 use Rattle.shogi_session.proofs.BridgeRows.{text_none, text_offered, text_told}
 use Rattle.shogi_session.proofs.bridge.Bridge.game_text.Goals as goal
 

@@ -2,7 +2,7 @@ use Rattle.std.proofs.Common.{length, ap, sym, ◌∙◌}
 use Rattle.std.proofs.lemmas.List.{length-map}
 use Rattle.record_game.specs.Game.{move_of}
 use Rattle.shogi_rules.specs.Positions.{Played}
-use Rattle.session_table.specs.Promises.{Session}
+use Rattle.bridge_table.specs.Promises.{Session}
 use Rattle.shogi_session.proofs.BridgeRows.{moves_offered, moves_told, no_moves}
 use Rattle.shogi_session.proofs.bridge.Bridge.moves.Goals as goal
 

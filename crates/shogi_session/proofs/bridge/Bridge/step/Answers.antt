@@ -1,6 +1,6 @@
 use Rattle.std.proofs.Common.{◌∙◌, ap, refl, sym}
-use Rattle.session_table.specs.Events.{no_lines, trimmed}
-use Rattle.session_table.specs.Promises.{Session, event_of}
+use Rattle.bridge_table.specs.Events.{no_lines, trimmed}
+use Rattle.bridge_table.specs.Promises.{Session, event_of}
 use Rattle.shogi_session.proofs.BridgeRows.{engine_told, lost, over_row, server_told, stepped}
 use Rattle.shogi_session.proofs.PositionRead.{otherwise}
 use Rattle.shogi_session.proofs.bridge.Bridge.step.Goals as goal

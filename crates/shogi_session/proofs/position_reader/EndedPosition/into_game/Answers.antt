@@ -1,5 +1,5 @@
 use Rattle.std.proofs.Common.{subst, sym}
-use Rattle.session_table.specs.Summary.{TellsPosition}
+use Rattle.bridge_table.specs.Summary.{TellsPosition}
 use Rattle.shogi_session.specs.PositionTexts.{IsPositionRead}
 use Rattle.shogi_session.proofs.position_reader.EndedPosition.into_game.Goals as goal
 

@@ -4,4 +4,4 @@ use Rattle.shogi_session.proofs.position_reader.PositionReader.take.Goals as goa
 
 pub invariant_of-result : goal.invariant_of-result
 invariant_of-result c =
-    subst (λ text. HasCome text c.in_ok-progress.progress) (sym c.with.ensures) (c.in_ok-progress.ensures c.self.inside.text.bytes c.self.invariant)
+    subst (λ text. HasCome text c.in_ok-state.state) (sym c.with.ensures) (c.in_ok-state.ensures c.self.inside.text.bytes c.self.invariant)

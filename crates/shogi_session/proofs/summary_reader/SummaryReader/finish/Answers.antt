@@ -1,6 +1,6 @@
 use Rattle.std.proofs.Common.{Some, None, ap, sym, subst}
 use Rattle.std.specs.Prelude.{IfOk}
-use Rattle.session_table.specs.Summary.{Heard}
+use Rattle.bridge_table.specs.Summary.{Heard}
 use Rattle.shogi_session.specs.HearingStage.{blocks_of, title_of}
 use Rattle.shogi_session.specs.Offers.{IsToldBy, offer_in, offer_of}
 use Rattle.shogi_session.proofs.OfferRead.{client_sliced, named_sliced, none_told, offer_told}

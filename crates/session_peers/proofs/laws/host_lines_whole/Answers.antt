@@ -1,8 +1,0 @@
-use Rattle.session_peers.proofs.HostWhole.{lines_cut, lines_unspaced}
-use Rattle.session_peers.proofs.laws.host_lines_whole.Goals as goal
-
-pub returns-clause-cut : goal.returns-clause-cut
-returns-clause-cut c = lines_cut
-
-pub returns-clause-unspaced : goal.returns-clause-unspaced
-returns-clause-unspaced c = lines_unspaced

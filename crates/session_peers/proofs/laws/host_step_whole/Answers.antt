@@ -1,4 +1,0 @@
-use Rattle.session_peers.proofs.laws.host_step_whole.Goals as goal
-
-pub returns : goal.returns
-returns c = record { whole = λ old new line seconds text found bytes. (found.0, found.1, bytes found.0 found.1) }

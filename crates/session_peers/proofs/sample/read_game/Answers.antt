@@ -1,7 +1,0 @@
-use Rattle.session_peers.proofs.Answering.{tells_none}
-use Rattle.session_peers.proofs.sample.read_game.Goals as goal
-
-pub returns-else-wants_memory : goal.returns-else-wants_memory
-returns-else-wants_memory c =
-    tells_none c.args.line.now c.in-Err.fault c.in-Err.ensures.told
-    (λ e. let t = c.wants_memory.ensures.1 e in let f = c.if-wants_memory.false in cc)

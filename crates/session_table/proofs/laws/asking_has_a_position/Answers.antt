@@ -1,5 +1,0 @@
-use Rattle.session_table.proofs.AlwaysAsks.{asks_by_position}
-use Rattle.session_table.proofs.laws.asking_has_a_position.Goals as goal
-
-pub returns : goal.returns
-returns c = record { position = asks_by_position }

@@ -1,5 +1,0 @@
-use Rattle.session_table.proofs.ConfirmedOnce.{confirmed_once}
-use Rattle.session_table.proofs.laws.confirmed_once.Goals as goal
-
-pub returns : goal.returns
-returns c = record { once = confirmed_once }

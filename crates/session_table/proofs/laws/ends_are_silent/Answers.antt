@@ -1,5 +1,0 @@
-use Rattle.session_table.proofs.Ends.{end_lines}
-use Rattle.session_table.proofs.laws.ends_are_silent.Goals as goal
-
-pub returns : goal.returns
-returns c = record { silent = end_lines }

@@ -1,5 +1,0 @@
-use Rattle.session_table.proofs.Fitting.{log_fits, thinks_may_ask}
-use Rattle.session_table.proofs.laws.thinking_may_ask.Goals as goal
-
-pub returns : goal.returns
-returns c = record { asked = λ config log s g leads thinks plays. thinks_may_ask s g (log_fits config log s leads) thinks plays }
