@@ -7,8 +7,8 @@ use Rattle.std.proofs.lemmas.Bool.Decides.{Decides-eqb}
 use Rattle.std.proofs.lemmas.Slice.Eq.{slice_eq-Decides}
 use Rattle.shogi_board.proofs.Decided.{Decision, decide-as, decide-both, decide-not, decide-color}
 use Rattle.shogi_rules.proofs.Decided.{decide-lt, decide-over}
-use Rattle.shogi_rules.specs.Positions.{IsGame, all_of}
-use Rattle.shogi_rules.specs.Repetition.{Over}
+use Rattle.shogi_rules.specs.Positions.{IsGame}
+use Rattle.shogi_rules.specs.Positions.{Over}
 use Rattle.csa_cutting.specs.Lines.{is_line_end, HasNoLineEnd}
 use Rattle.csa_text.specs.Saying.{Saying, version, name, header, even, rank, pieces, turn, walked, time, ending}
 use Rattle.record_game.specs.Game.{Game, Ended, move_of}
@@ -30,7 +30,7 @@ use Rattle.bridge_table.proofs.PositionFits.{FitsIn, not_so}
 may_ask : (g : Match) → Decision (MayAsk g)
 may_ask g =
     let side = decide-color (position_now g).side g.client in
-    let over = decide-not (Over (all_of (match_line g)) (position_now g)) (decide-over (all_of (match_line g)) (position_now g)) in
+    let over = decide-not (Over (match_line g)) (decide-over (match_line g)) in
     let few = decide-lt (length g.game.moves) 10000 in
     decide-as _ (MayAsk g)
     (λ h. record { to_move = h.0; not_over = h.1.0; few = h.1.1 })

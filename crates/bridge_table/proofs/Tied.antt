@@ -8,7 +8,7 @@ use Rattle.shogi_board.specs.Pieces.{same_color}
 use Rattle.shogi_rules.specs.declared.moves.Move.{Move}
 use Rattle.shogi_rules.proofs.Games.{all-of-none, legal-of-none}
 use Rattle.shogi_rules.specs.Play.{Answers}
-use Rattle.shogi_rules.specs.Positions.{IsGame, MayFollow, played, now_of, all_of}
+use Rattle.shogi_rules.specs.Positions.{IsGame, MayFollow, played}
 use Rattle.shogi_rules.specs.Rules.{Kept, all_rules}
 use Rattle.csa_text.specs.Codes.{move_text}
 use Rattle.record_game.specs.Game.{Game, Timed, move_of}
@@ -260,8 +260,8 @@ confirmed_texts p w o color m h side turn own same =
 
 pub may_follow : (g : Match) (color : Color) (m : Move) → Answers (match_line g) color m None → MayFollow g.game.start (map move_of g.game.moves) m
 may_follow g color m a =
-    let all = all-of-none (Kept (all_of (match_line g)) (now_of (match_line g)) color m) all_rules a.1 in
-    record { legal = legal-of-none (all_of (match_line g)) (now_of (match_line g)) color m a.1; not_over = all.1.0 }
+    let all = all-of-none (Kept (match_line g) color m) all_rules a.1 in
+    record { legal = legal-of-none (match_line g) color m a.1; not_over = all.1.0 }
 
 pub legal_more : (g : Game) (m : Timed) → IsGame g.start (map move_of g.moves) → MayFollow g.start (map move_of g.moves) m.move
     → IsGame g.start (map move_of (g.moves ++ m ∷ []))

@@ -3,8 +3,8 @@ use Rattle.std.specs.Prelude.{◌≡◌, ℕ, ◌+◌, ◌-◌, ◌<◌, ◌++�
 use Rattle.shogi_board.specs.declared.color.Color.{Color}
 use Rattle.shogi_board.specs.declared.color.Color.TheVariants.{Black, White}
 use Rattle.shogi_board.specs.Pieces.{opponent, same_color}
-use Rattle.shogi_rules.specs.Positions.{all_of, max_moves}
-use Rattle.shogi_rules.specs.Repetition.{Over}
+use Rattle.shogi_rules.specs.Positions.{max_moves}
+use Rattle.shogi_rules.specs.Positions.{Over}
 use Rattle.usi_text.specs.LineText.{LineText}
 use Rattle.record_game.specs.Game.{Timed, move_of}
 use Rattle.bridge_table.specs.declared.config.Config.{Config}
@@ -17,7 +17,7 @@ use Rattle.bridge_table.specs.State.{Match, match_line, position_now}
 -- moves
 pub record MayAsk (g : Match) : Type 0 where
   pub to_move : (position_now g).side ≡ g.client
-  pub not_over : Over (all_of (match_line g)) (position_now g) → ⊥
+  pub not_over : Over (match_line g) → ⊥
   pub few : length g.game.moves < max_moves
 
 abbrev pub thousandths : Option ℕ → ℕ

@@ -8,3 +8,4 @@ pub mod Outcomes
 pub mod Steps
 pub mod Written
 pub mod Flowing
+pub mod PiecesRead

@@ -1,7 +1,7 @@
 -- What private fields hold: the stage of a reader. A reader of the public contracts may skip this
 -- file.
-use Rattle.csa_record.specs.declared.progress.Stage.{Stage}
-use Rattle.csa_record.specs.declared.progress.Stage.TheVariants as stages
+use Rattle.csa_record.specs.declared.builder.Stage.{Stage}
+use Rattle.csa_record.specs.declared.builder.Stage.TheVariants as stages
 use Rattle.record_game.specs.Keeping as kept
 use Rattle.record_game.specs.Keeping.{laying, playing}
 

@@ -1,5 +1,6 @@
 -- A reader of a record that arrives in pieces.
-use Rattle.std.specs.Prelude.{◌≡◌, ◌≢◌, ◌⊎◌, ℕ, List, [], ◌++◌, length, take, Option, Some, None, Result, Ok, Err}
+use Rattle.std.specs.Prelude.{◌≡◌, ◌≢◌, ◌⊎◌, ℕ, List, [], ◌∷◌, ◌++◌, length, take, Option, Some, None, Result, Ok, Err}
+use Rattle.std.specs.Borrow.{Bor}
 use Rattle.csa_cutting.specs.Cut.{TextUnit, IsCut}
 use Rattle.csa_cutting.specs.PieceCutting.{PieceCutting}
 use Rattle.csa_cutting.specs.TooLong.{HasCutOf}
@@ -63,3 +64,8 @@ pub record HasAll (source : List ℕ) (p : PieceCutting) (k : Kept) : Type 0 whe
 abbrev pub LastTaken : List ℕ → Result (Unit {0}) Refusal → PieceCutting → Kept → Type 0
 LastTaken source (Ok u) p k = HasAll source p k
 LastTaken source (Err r) p k = IsRefusedBy source r
+
+-- the bytes of each piece
+abbrev pub bytes_of : List (Bor (List ℕ)) → List (List ℕ)
+bytes_of [] = []
+bytes_of (piece ∷ pieces) = piece.now ∷ bytes_of pieces

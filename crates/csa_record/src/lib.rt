@@ -13,11 +13,12 @@
 //! ```
 #![tactic(auto)]
 
+mod builder;
 mod course;
 mod flow;
 pub mod laws;
 mod laying;
-mod progress;
+mod pieces;
 mod record;
 mod record_reader;
 mod sink;
@@ -27,6 +28,7 @@ mod titles;
 mod writer;
 
 pub use flow::{FlowFault, MOST_READS, PIECE, normalise, read_from};
+pub use pieces::read_pieces;
 pub use record::Record;
 pub use record_game::{OrderFault, Refusal, Why};
 pub use record_reader::{RecordReader, read};

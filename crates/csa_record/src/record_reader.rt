@@ -8,7 +8,7 @@ ghost use Rattle.csa_record.specs.Reading.{HasRead, HasTaken, IsRefusedBy, fed_o
 ghost use Rattle.record_game.specs.Refused.{Refused, FaultlessTo};
 ghost use Rattle.record_game.specs.Tells.{Tells};
 
-use crate::progress::Progress;
+use crate::builder::RecordBuilder;
 use crate::record::Record;
 use csa_cutting::{PieceCutter, Statement};
 use record_game::{OrderFault, Refusal, Why};
@@ -45,7 +45,7 @@ impl Failing {
 #[derive(Drop)]
 pub struct RecordReader {
     cutter: PieceCutter,
-    progress: Progress,
+    builder: RecordBuilder,
     failing: Option<Failing>,
 }
 
@@ -56,7 +56,7 @@ impl Model for RecordReader {
 
     ghost view = { λ r. record {
       cutter = r.cutter;
-      kept = r.progress;
+      kept = r.builder;
       failing = r.failing;
     } };
 }
@@ -69,7 +69,7 @@ impl RecordReader {
     {
         RecordReader {
             cutter: PieceCutter::new(),
-            progress: Progress::new(alloc),
+            builder: RecordBuilder::new(alloc),
             failing: None,
         }
     }
@@ -169,7 +169,7 @@ impl RecordReader {
         let Some(statement) = cut.statement else {
             return Ok(cut.used);
         };
-        take_statement(&mut self.progress, statement)?;
+        take_statement(&mut self.builder, statement)?;
         Ok(cut.used)
     }
 
@@ -195,12 +195,12 @@ impl RecordReader {
         }
         let RecordReader {
             mut cutter,
-            mut progress,
+            mut builder,
             failing: _,
         } = self;
         let length = cutter.fed();
-        take_last(&mut cutter, &mut progress)?;
-        match progress.finish() {
+        take_last(&mut cutter, &mut builder)?;
+        match builder.finish() {
             Some(record) => Ok(record),
             None => Err(Refusal {
                 number: cutter.statements() + 1,
@@ -231,32 +231,32 @@ pub fn read(alloc: Global, source: &[u8]) -> Result<Record, Refusal>
 }
 
 // Takes the statement that is unfinished at the end of the bytes, if there is one.
-fn take_last(cutter: &mut PieceCutter, progress: &mut Progress) -> Result<(), Refusal>
-    ensures { (source : List ℕ) → HasTaken source cutter.old progress.old
-        → LastTaken source result cutter.new progress.new }
+fn take_last(cutter: &mut PieceCutter, builder: &mut RecordBuilder) -> Result<(), Refusal>
+    ensures { (source : List ℕ) → HasTaken source cutter.old builder.old
+        → LastTaken source result cutter.new builder.new }
 {
     let last = match cutter.finish() {
         Ok(last) => last,
         Err(fault) => return Err(Refusal::from(fault)),
     };
     match last {
-        Some(statement) => take_statement(progress, statement),
+        Some(statement) => take_statement(builder, statement),
         None => Ok(()),
     }
 }
 
 // Takes the next statement, or says why it is refused.
 #[inline(always)]
-fn take_statement(progress: &mut Progress, statement: Statement<'_>) -> Result<(), Refusal>
+fn take_statement(builder: &mut RecordBuilder, statement: Statement<'_>) -> Result<(), Refusal>
     requires { IsOfStatement statement.bytes.now }
-    ensures taken { (before : List Saying) → HasKept before progress.old
-        → OnOk result (Outcome before statement.entry.bytes.now (Ok tt) progress.new) }
-    ensures refused { (before : List Saying) → HasKept before progress.old
+    ensures taken { (before : List Saying) → HasKept before builder.old
+        → OnOk result (Outcome before statement.entry.bytes.now (Ok tt) builder.new) }
+    ensures refused { (before : List Saying) → HasKept before builder.old
         → IfErr result
         (λ r. (r.number ≡ statement.entry.number) × (r.offset ≡ statement.entry.offset)
-        × Outcome before statement.entry.bytes.now (Err r.why) progress.new) }
+        × Outcome before statement.entry.bytes.now (Err r.why) builder.new) }
 {
-    match progress.take_bytes(statement.bytes) {
+    match builder.take_bytes(statement.bytes) {
         Ok(()) => Ok(()),
         Err(why) => Err(Refusal {
             number: statement.number,

@@ -52,6 +52,38 @@ const RECORDS: &str = "PI\n+\n;\
     PI\n+\n-\n;\
     PI\n+\nT1\n;\
     PI\n+\n%TORYO\n+7776FU\n;\
+    PI\n+\n-3334FU\n;\
+    PI\n+\n+5554FU\n;\
+    PI\n+\n+7776KI\n;\
+    PI\n+\n+8877KA\n;\
+    PI\n+\n+7775FU\n;\
+    PI\n+\n+7776TO\n;\
+    PI\n+\nP5 *  *  *  *  *  *  *  *  * \n;\
+    PI\n+\n%TORYO\nP+00FU\n;\
+    PI\n+\n%TORYO\nP5 *  *  *  *  *  *  *  *  * \n;\
+    P-51OU\nP+53FU00KI\nP-00AL\nP5 *  *  *  * +KI *  *  *  * \n+\n;\
+    PI\n+\n+7776FU\nT0\n;\
+    PI\n+\n+7776FU\nT4294967295\n;\
+    \u{FEFF}V2.2\nPI\n+\n;\
+    V2.2\n-\n;\
+    N-b\nN+a\n+\n;\
+    N+\n+\n;\
+    +\nPI\n;\
+    PI\n+\n+7776FU\n;\
+    P+59OU00FU00FU00FU\nP-51OU\n+\n+0052FU\n-5152OU\n+5958OU\n-5241OU\n+5859OU\n-4151OU\n+0052FU\n-5152OU\n+5958OU\n-5241OU\n+5859OU\n-4151OU\n+0052FU\n-5152OU\n+5958OU\n-5241OU\n+5859OU\n-4151OU\n;\
+    P+59OU\nP-51OU\n+\n+5958OU\n-5141OU\n+5849OU\n-4151OU\n+4959OU\n-5141OU\n+5958OU\n-4152OU\n+5859OU\n-5251OU\n+5958OU\n-5141OU\n+5849OU\n-4151OU\n+4959OU\n-5141OU\n+5958OU\n-4152OU\n+5859OU\n-5251OU\n;\
+    P+58HI99OU\nP-31OU\n+\n+5859HI\n-3141OU\n+5949HI\n-4151OU\n+4959HI\n-5141OU\n+5949HI\n-4151OU\n+4959HI\n-5141OU\n+5949HI\n-4151OU\n+4959HI\n-5141OU\n;\
+    P+15TO\nP-91OU\n+\n+1514TO\n;\
+    P+14FU00FU\nP-51OU\n+\n+1413TO\n-5141OU\n+0015FU\n;\
+    PI82HI\nP+00HI\n+\n;\
+    PI\n+\n+7776FU\nT012.500\n;\
+    PI\n+\n+7776FU\nT12.0\n;\
+    PI\n+\n+7776FU\nT0.0\n;\
+    PI\n+\n+7776FU\nT0.050\n;\
+    PI\n+\n+7776FU\nT12.\n;\
+    PI\n+\n+7776FU\nT.5\n;\
+    PI\n+\n+7776FU\nT1.2345\n;\
+    PI\n+\n+7776FU\nT4294967296.0\n;\
     \u{FEFF}V2.2\r\nPI\r\n'a,b\r\n+\r\n+7776FU,T0.050\r\n%TORYO,T3;\
     P1-KY-KE-GI-KI-OU-KI-GI-KE-KY\r\nP2 * -HI *  *  *  *  * -KA *\r\nP3-FU-FU-FU-FU-FU-FU-FU-FU-FU\r\nP4 *  *  *  *  *  *  *  *  *\r\nP5 *  *  *  *  *  *  *  *  *\r\nP6 *  *  *  *  *  *  *  *  *\r\nP7+FU+FU+FU+FU+FU+FU+FU+FU+FU\r\nP8 * +KA *  *  *  *  * +HI *\r\nP9+KY+KE+GI+KI+OU+KI+GI+KE+KY\r\nP+\r\nP-\r\n+\r\n;\
     $aa:x\n$ab:x\n$ac:x\n$ad:x\n$ae:x\n$af:x\n$ag:x\n$ah:x\n$ai:x\n$aj:x\n$ak:x\n$al:x\n$am:x\n$an:x\n$ao:x\n$ap:x\n$aq:x\n$ar:x\n$as:x\n$at:x\n$au:x\n$av:x\n$aw:x\n$ax:x\n$ay:x\n$az:x\n$ba:x\n$bb:x\n$bc:x\n$bd:x\n$be:x\n$bf:x\n$bg:x\n$bh:x\n$bi:x\n$bj:x\n$bk:x\n$bl:x\n$bm:x\n$bn:x\n$bo:x\n$bp:x\n$bq:x\n$br:x\n$bs:x\n$bt:x\n$bu:x\n$bv:x\n$bw:x\n$bx:x\n$by:x\n$bz:x\n$ca:x\n$cb:x\n$cc:x\n$cd:x\n$ce:x\n$cf:x\n$cg:x\n$ch:x\n$ci:x\n$cj:x\n$ck:x\n$cl:x\n$cm:x\n+\n";
@@ -82,9 +114,12 @@ fn in_two(alloc: Global, front: &[u8], behind: &[u8]) -> Result<Record, Refusal>
     reader.finish()
 }
 
-fn byte_by_byte(alloc: Global, source: &[u8]) -> Result<Record, Refusal> {
+// Feeds so many of the last bytes one by one, and those before them at once.
+fn byte_by_byte(alloc: Global, source: &[u8], count: usize) -> Result<Record, Refusal> {
     let mut reader = RecordReader::new(alloc);
-    for at in 0..source.len() {
+    let first = source.len().saturating_sub(count);
+    feed(&mut reader, &source[..first])?;
+    for at in first..source.len() {
         feed(&mut reader, &source[at..=at])?;
     }
     reader.finish()
@@ -102,12 +137,16 @@ fn reads_in_two(alloc: Global, source: &[u8]) -> Result<bool, Fail> {
     Ok(true)
 }
 
+// A record whose last bytes come one by one is read like the whole.
+fn is_read_alike(alloc: Global, source: &[u8], count: usize) -> Result<bool, Fail> {
+    let whole = text_of(alloc, read(alloc, source))?;
+    Ok(text_of(alloc, byte_by_byte(alloc, source, count))? == whole)
+}
+
 // What is left of a record that ends at any place is read byte by byte like the whole.
-fn reads_byte_by_byte(alloc: Global, source: &[u8]) -> Result<bool, Fail> {
+fn reads_byte_by_byte(alloc: Global, source: &[u8], count: usize) -> Result<bool, Fail> {
     for at in 0..=source.len() {
-        let front = &source[..at];
-        let whole = text_of(alloc, read(alloc, front))?;
-        if text_of(alloc, byte_by_byte(alloc, front))? != whole {
+        if !is_read_alike(alloc, &source[..at], count)? {
             return Ok(false);
         }
     }
@@ -119,7 +158,7 @@ fn records_cut_anywhere_are_read_alike(rt: HostRuntime) -> Result<(), Fail> {
     for record in RECORDS.split(';') {
         assert!(rt; reads_in_two(rt.alloc(), record.as_bytes())?, "{record}");
         assert!(rt;
-            reads_byte_by_byte(rt.alloc(), record.as_bytes())?,
+            reads_byte_by_byte(rt.alloc(), record.as_bytes(), usize::MAX)?,
             "{record}"
         );
     }
@@ -142,6 +181,8 @@ fn long_names_cut_anywhere_are_read_alike(rt: HostRuntime) -> Result<(), Fail> {
     for length in [4094, 4095] {
         let source = named(rt.alloc(), length)?;
         assert!(rt; reads_in_two(rt.alloc(), source.as_slice())?);
+        assert!(rt; reads_byte_by_byte(rt.alloc(), source.as_slice(), 16)?);
+        assert!(rt; is_read_alike(rt.alloc(), source.as_slice(), usize::MAX)?);
     }
     Ok(())
 }

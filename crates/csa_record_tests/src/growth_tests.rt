@@ -1,5 +1,6 @@
 // tests/growths runs this with each allocation refused in turn. The answer is out of memory, and a
 // second call succeeds.
+use crate::tests::is_written_at_last;
 use csa_record::{
     FlowFault, Reading, Record, RecordReader, Refusal, Why, Writing, normalise, read, read_from,
 };
@@ -8,6 +9,8 @@ use std::process::Abort;
 use std::test::Fail;
 
 const GIVEN: &[u8] = b"N+a\n$EVENT:b\nPI\n+\n+7776FU,T1\n%TORYO\n";
+
+const GIVEN_TEXT: &[u8] = b"V2.2\nN+a\n$EVENT:b\nPI\n+\n+7776FU\nT1\n%TORYO\n";
 
 const SHORT: &[u8] = b"+\n+7776FU\n";
 
@@ -30,8 +33,7 @@ fn read_at_last(rt: &(impl AllocGlobal + Print + Abort)) -> Result<Record, Fail>
 #[test]
 fn refused_growth_of_read_at_once(rt: HostRuntime) -> Result<(), Fail> {
     let record = read_at_last(&rt)?;
-    assert_eq!(rt; record.line().moves().len(), 1);
-    Ok(())
+    is_written_at_last(&rt, &record, GIVEN_TEXT)
 }
 
 // Reads the record from a source, and once more from its start if the first call is out of memory.
@@ -49,8 +51,7 @@ fn read_from_at_last(rt: &(impl AllocGlobal + Print + Abort)) -> Result<Record, 
 #[test]
 fn refused_growth_of_read_from(rt: HostRuntime) -> Result<(), Fail> {
     let record = read_from_at_last(&rt)?;
-    assert_eq!(rt; record.line().moves().len(), 1);
-    Ok(())
+    is_written_at_last(&rt, &record, GIVEN_TEXT)
 }
 
 // Anything that a refused call wrote would be in front of the text.
@@ -137,6 +138,5 @@ fn finished_at_last(rt: &(impl AllocGlobal + Print + Abort)) -> Result<Record, F
 #[test]
 fn refused_growth_of_finish(rt: HostRuntime) -> Result<(), Fail> {
     let record = finished_at_last(&rt)?;
-    assert_eq!(rt; record.line().moves().len(), 1);
-    Ok(())
+    is_written_at_last(&rt, &record, TEXT)
 }

@@ -1,6 +1,6 @@
 ghost use Rattle.std.specs.Prelude.{◌≤◌, ◌/◌, ◌%◌};
 
-use csa_record::{HeaderValue, OrderFault, Record, Why, write};
+use csa_record::{HeaderValue, OrderFault, Record, Why, read, write};
 use csa_text::Ending;
 use shogi_board::{Color, Kind, OutOfMemory, Position, Square};
 use shogi_rules::{Line, Move};
@@ -65,13 +65,24 @@ fn closed(alloc: Global) -> Result<Record, Fail> {
     Ok(record)
 }
 
+// The text of the same game, spelt otherwise.
+const RESPELT: &[u8] =
+    b"V2\n$SITE:b\nN+a,b\n$EVENT:a\n'x\nPI\n+\n+7776FU,T012\n-3334FU,T6.0\n%TORYO\n";
+
+// Writes what the source says.
+fn respelt(alloc: Global, source: &[u8]) -> Result<Vec<u8>, Fail> {
+    let record = read(alloc, source)?;
+    Ok(write(alloc, &record)?)
+}
+
 #[test]
 fn builds_and_writes(rt: HostRuntime) -> Result<(), Fail> {
     let record = closed(rt.alloc())?;
-    let text = write(rt.alloc(), &record)?;
     let wanted =
         b"V2.2\nN+a,b\n$EVENT:a\n$SITE:b\nPI\n+\n+7776FU\nT12\n-3334FU\nT6\n%TORYO\n".as_slice();
-    assert!(rt; text.as_slice() == wanted);
+    assert!(rt; is_written(rt.alloc(), &record, wanted)?);
+    assert!(rt; respelt(rt.alloc(), RESPELT)?.as_slice() == wanted);
+    assert!(rt; respelt(rt.alloc(), wanted)?.as_slice() == wanted);
     Ok(())
 }
 
@@ -216,22 +227,26 @@ fn was_refused(rt: &(impl Print + Abort), answer: Result<(), Why>) -> Result<boo
 // Gives the record a name, a header and a move, each once more if the first call is out of memory.
 fn fill(rt: &(impl Print + Abort), record: &mut Record) -> Result<(), Fail> {
     if was_refused(rt, record.set_name(Color::White, b"b"))? {
+        assert!(rt; record.name(Color::White).is_none());
         record.set_name(Color::White, b"b")?;
     }
     if was_refused(rt, record.set_header(b"EVENT", b"a"))? {
+        assert!(rt; record.header(b"EVENT").is_none());
         record.set_header(b"EVENT", b"a")?;
     }
     if was_refused(rt, record.play(Color::Black, first()))? {
+        assert!(rt; record.line().moves().is_empty() && record.line().now() == Position::even());
         record.play(Color::Black, first())?;
     }
     Ok(())
 }
 
-fn filled_at_last(rt: &(impl Print + Abort), record: &mut Record) -> Result<(), Fail> {
+fn filled_at_last(
+    rt: &(impl AllocGlobal + Print + Abort),
+    record: &mut Record,
+) -> Result<(), Fail> {
     fill(rt, record)?;
-    assert!(rt; record.name(Color::White) == Some(b"b".as_slice()));
-    assert!(rt; record.header(b"EVENT") == Some(HeaderValue::Plain(b"a")));
-    Ok(())
+    is_written_at_last(rt, record, b"V2.2\nN-b\n$EVENT:a\nPI\n+\n+7776FU\n")
 }
 
 // tests/growths runs this with each allocation refused in turn. A refused call changes nothing, so
@@ -265,12 +280,25 @@ fn written(rt: &(impl AllocGlobal + Print), record: &Record) -> Result<Vec<u8>, 
     }
 }
 
+// This is the text of the record, which may take two calls.
+pub(crate) fn is_written_at_last(
+    rt: &(impl AllocGlobal + Print + Abort),
+    record: &Record,
+    wanted: &[u8],
+) -> Result<(), Fail> {
+    let text = written(rt, record)?;
+    assert!(rt; text.as_slice() == wanted);
+    Ok(())
+}
+
 fn ends_in_toryo(rt: &(impl AllocGlobal + Print + Abort), record: &mut Record) -> Result<(), Fail> {
     close(record, 1, Ending::Toryo, 2)?;
     assert!(rt; record.time(0) == Some(1) && record.ending_time() == Some(2));
-    let text = written(rt, record)?;
-    assert!(rt; text.as_slice() == b"V2.2\nPI\n+\n+7776FU\nT0.001\n%TORYO\nT0.002\n".as_slice());
-    Ok(())
+    is_written_at_last(
+        rt,
+        record,
+        b"V2.2\nPI\n+\n+7776FU\nT0.001\n%TORYO\nT0.002\n",
+    )
 }
 
 // `set_time`, `close` and the accessors allocate nothing.

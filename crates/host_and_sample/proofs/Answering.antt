@@ -1,8 +1,8 @@
 -- How the sample engine's answers are rows of its table.
-use Rattle.std.proofs.Common.{◌≡◌, ℕ, ◌++◌, ◌⊎◌, inl, List, [], ◌∷◌, Option, Some, None, Result, Ok, Err, IfOk, MatchOption, refl, sym, subst, ◌∙◌, append_assoc}
+use Rattle.std.proofs.Common.{◌≡◌, ℕ, ◌++◌, ◌⊎◌, inl, inr, List, [], ◌∷◌, Option, Some, None, Result, Ok, Err, IfOk, MatchOption, refl, sym, subst, ◌∙◌, append_assoc}
 use Rattle.shogi_board.specs.Placed.{Placed}
-use Rattle.shogi_rules.specs.Positions.{Played, now_of, all_of}
-use Rattle.shogi_rules.specs.Repetition.{Over}
+use Rattle.shogi_rules.specs.Positions.{Played, now_of}
+use Rattle.shogi_rules.specs.Positions.{Over}
 use Rattle.shogi_rules.specs.Verdicts.{NoLegalMove}
 use Rattle.arrayvec.specs.ArrayString.{ArrayString}
 use Rattle.shogi_rules.specs.declared.moves.Move.{Move}
@@ -10,7 +10,7 @@ use Rattle.shogi_rules.specs.Order.{IsFirstLegal}
 use Rattle.usi_text.proofs.LineOnce.{line_no_fault}
 use Rattle.usi_text.specs.declared.fault.UsiFault.{UsiFault}
 use Rattle.usi_text.specs.declared.fault.UsiFault.TheVariants.{OutOfMemory}
-use Rattle.usi_text.specs.Lines.{UsiLine, LineFault}
+use Rattle.usi_text.specs.Lines.{UsiLine, LineFault, LineNeedsMemory}
 use Rattle.usi_text.specs.Moves.{UsiMove}
 use Rattle.usi_text.specs.Words.{words}
 use Rattle.session_lines.proofs.OneLine.{one_text}
@@ -24,17 +24,18 @@ abbrev pub FirstMove : Placed → ArrayString → Type 0
 FirstMove p word = (best : Move) × IsFirstLegal p best × UsiMove p word.bytes best
 
 pub best_of : (answer : Option ArrayString) (g : Played) (p : Placed)
-    → p ≡ now_of g → (Over (all_of g) (now_of g) → ⊥) → MatchOption answer (NoLegalMove p) (FirstMove p)
-    → MatchOption answer (NoLegalMove (now_of g) ⊎ Over (all_of g) (now_of g)) (λ word. IsBest g word.bytes)
+    → p ≡ now_of g → (Over g → ⊥) → MatchOption answer (NoLegalMove p) (FirstMove p)
+    → MatchOption answer (NoLegalMove (now_of g) ⊎ Over g) (λ word. IsBest g word.bytes)
 best_of None g p e not_over none = inl (subst NoLegalMove e none)
 best_of (Some word) g p e not_over found =
     let there = subst (λ q. FirstMove q word) e found in
     record { best = there.0; first = there.1; not_over = not_over; text = there.2 }
 
 -- a line that is refused, and not for lack of memory, spells no game
-pub tells_none : (line : List ℕ) (fault : UsiFault) → LineFault (words line) fault → (fault ≡ OutOfMemory → ⊥)
-    → (g : Played) → UsiLine (words line) g.start g.moves → ⊥
-tells_none line fault refused memory g told = memory (line_no_fault (words line) g.start g.moves fault told refused)
+pub tells_none : (line : List ℕ) (fault : UsiFault) → ((fault ≡ OutOfMemory) × LineNeedsMemory (words line)) ⊎ LineFault (words line) fault
+    → (fault ≡ OutOfMemory → ⊥) → (g : Played) → UsiLine (words line) g.start g.moves → ⊥
+tells_none line fault (inl wanting) memory g told = memory wanting.0
+tells_none line fault (inr refused) memory g told = line_no_fault (words line) g.start g.moves fault told refused
 
 pub two_parts : (front back : List ℕ) → front ++ ended_line back ≡ text_of ((front ++ back) ∷ [])
 two_parts front back = sym (append_assoc front back (10 ∷ [])) ∙ one_text (front ++ back)

@@ -12,8 +12,8 @@ use Rattle.shogi_rules.proofs.Games.{all-of-none, legal-of-none}
 use Rattle.shogi_rules.specs.declared.moves.Move.{Move}
 use Rattle.shogi_rules.specs.After.{after}
 use Rattle.shogi_rules.specs.Play.{Answers}
-use Rattle.shogi_rules.specs.Positions.{Played, MayFollow, IsGame, begun, played, position_after, now_of, all_of}
-use Rattle.shogi_rules.specs.Repetition.{Over}
+use Rattle.shogi_rules.specs.Positions.{Played, MayFollow, IsGame, begun, played, position_after, now_of}
+use Rattle.shogi_rules.specs.Positions.{Over}
 use Rattle.shogi_rules.specs.Rules.{Kept, all_rules}
 use Rattle.csa_text.specs.Codes.{move_text}
 use Rattle.host_and_sample.specs.declared.config.HostConfig.{HostConfig}
@@ -160,7 +160,7 @@ regroup : (w : Lines) (l : List ℕ) (ls : Lines) → (w ++ l ∷ []) ++ ls ≡ 
 regroup w l ls = append_assoc w (l ∷ []) ls
 
 host_moves : (c : HostConfig) (w : Lines) (ms : List Timed) (more : Lines) (t : HostState) → Told c.max_moves w ms → length ms < c.max_moves
-    → (Over (all_of (game_of ms)) (now_of (game_of ms)) → ⊥) → HostMoves c (game_of ms) more t → Holds c (w ++ more) t
+    → (Over (game_of ms) → ⊥) → HostMoves c (game_of ms) more t → Holds c (w ++ more) t
 host_moves c w ms more t told room goes r =
     elim r [
       | row.moves m first after l e ↦
@@ -208,8 +208,8 @@ after_summary c w n line lines t kept none r =
 may_follow : (ms : List Timed) (color : Color) (m : Move) → Answers (game_of ms) color m None → MayFollow even_start (map move_of ms) m
 may_follow ms color m a =
     let g = game_of ms in
-    let all = all-of-none (Kept (all_of g) (now_of g) color m) all_rules a.1 in
-    record { legal = legal-of-none (all_of g) (now_of g) color m a.1; not_over = all.1.0 }
+    let all = all-of-none (Kept g color m) all_rules a.1 in
+    record { legal = legal-of-none g color m a.1; not_over = all.1.0 }
 
 in_play : (c : HostConfig) (w : Lines) (ms : List Timed) (line : List ℕ) (seconds : ℕ) (lines : Lines) (t : HostState)
     → Told c.max_moves w ms → length ms < c.max_moves → IsSeconds seconds → InPlay c (game_of ms) line seconds lines t → Holds c (w ++ lines) t

@@ -7,8 +7,8 @@ use Rattle.shogi_rules.proofs.Stretches.{one-verdict}
 use Rattle.shogi_rules.specs.declared.line.Verdict.{Verdict}
 use Rattle.shogi_rules.specs.declared.line.Verdict.TheVariants as verdict
 use Rattle.shogi_rules.specs.declared.moves.Move.{Move}
-use Rattle.shogi_rules.specs.Positions.{Played, now_of, all_of}
-use Rattle.shogi_rules.specs.Repetition.{Over}
+use Rattle.shogi_rules.specs.Positions.{Played, now_of}
+use Rattle.shogi_rules.specs.Positions.{Over}
 use Rattle.shogi_rules.specs.Verdicts.{Stands}
 use Rattle.usi_text.specs.Words.{words, nth_word}
 use Rattle.host_and_sample.specs.declared.config.HostConfig.{HostConfig}
@@ -34,18 +34,18 @@ back lines others t u h = (sym h.0, sym h.1)
 
 -- 1. what ends a game after a move
 over_of : (g : Played) (v : Verdict) → (v ≡ verdict.Repetition) ⊎ ((color : Color) × (v ≡ verdict.Perpetual color))
-    → Stands (all_of g) (now_of g) v → Over (all_of g) (now_of g)
+    → Stands g v → Over g
 over_of g v (inl e) s = elim (rw e at s) [ inl h ↦ h.0 | inr h ↦ absurd h.1 ]
 over_of g v (inr e) s = elim (rw e.1 at s) [ inl h ↦ h.0 | inr h ↦ absurd h.1 ]
 
-repeated : (g : Played) → Stands (all_of g) (now_of g) verdict.Repetition → Over (all_of g) (now_of g)
+repeated : (g : Played) → Stands g verdict.Repetition → Over g
 repeated g s = over_of g verdict.Repetition (inl refl) s
 
-pressed : (g : Played) (color : Color) → Stands (all_of g) (now_of g) (verdict.Perpetual color) → Over (all_of g) (now_of g)
+pressed : (g : Played) (color : Color) → Stands g (verdict.Perpetual color) → Over g
 pressed g color s = over_of g (verdict.Perpetual color) (inr (color, refl)) s
 
-verdict_once : (g : Played) (u v : Verdict) → Stands (all_of g) (now_of g) u → Stands (all_of g) (now_of g) v → u ≡ v
-verdict_once g u v h k = one-verdict (all_of g) (now_of g) u v h k
+verdict_once : (g : Played) (u v : Verdict) → Stands g u → Stands g v → u ≡ v
+verdict_once g u v h k = one-verdict g u v h k
 
 other_verdict : (color : Color) → verdict.Repetition ≡ verdict.Perpetual color → ⊥
 other_verdict color e = cc

@@ -13,8 +13,8 @@ use Rattle.shogi_rules.specs.declared.rule.Rule.{Rule}
 use Rattle.shogi_rules.specs.Legal.{Legal}
 use Rattle.shogi_rules.specs.Order.{IsFirstLegal}
 use Rattle.shogi_rules.specs.Play.{Answers}
-use Rattle.shogi_rules.specs.Positions.{Played, now_of, all_of}
-use Rattle.shogi_rules.specs.Repetition.{Over}
+use Rattle.shogi_rules.specs.Positions.{Played, now_of}
+use Rattle.shogi_rules.specs.Positions.{Over}
 use Rattle.csa_text.specs.Codes.{move_text}
 use Rattle.usi_text.specs.Words.{words, nth_word}
 use Rattle.host_and_sample.specs.declared.config.HostConfig.{HostConfig}
@@ -100,7 +100,7 @@ unnamed_offered c n line seconds stays agree reject lines t r =
     ]
 
 -- 4. moves
-pub even_goes_on : Over (all_of even_game) (now_of even_game) → ⊥
+pub even_goes_on : Over even_game → ⊥
 even_goes_on = not-over-alone even_start
 
 keeps_side : (g : Played) (color : Color) (m : Move) → Answers g color m None → color ≡ (now_of g).side
@@ -121,7 +121,7 @@ not_played g color m fault memory a none =
       | inr h ↦ let e = one-answer g color m (Some fault) None h none in cc
     ]
 
-broken : (g : Played) (m : Move) (rule : Rule) → (Over (all_of g) (now_of g) → ⊥) → Legal (now_of g) m
+broken : (g : Played) (m : Move) (rule : Rule) → (Over g → ⊥) → Legal (now_of g) m
     → Answers g (now_of g).side m (Some (play.Broken rule)) → ⊥
 broken g m rule goes legal a =
     elim a.1 [
@@ -133,14 +133,14 @@ broken g m rule goes legal a =
           ]
     ]
 
-legal_fault : (g : Played) (m : Move) (fault : PlayFault) → length g.moves < 10000 → (Over (all_of g) (now_of g) → ⊥) → Legal (now_of g) m
+legal_fault : (g : Played) (m : Move) (fault : PlayFault) → length g.moves < 10000 → (Over g → ⊥) → Legal (now_of g) m
     → Answers g (now_of g).side m (Some fault) → ⊥
 legal_fault g m play.TooManyMoves room goes legal a = absurd (omega (arith, room, a))
 legal_fault g m (play.Broken rule) room goes legal a = broken g m rule goes legal a
 legal_fault g m play.OutOfMemory room goes legal a = a
 
 pub always_played : (g : Played) (side : Color) (p : Placed) (m : Move) (fault : PlayFault) → p ≡ now_of g → side ≡ p.side
-    → length g.moves < 10000 → (Over (all_of g) (now_of g) → ⊥) → Legal (now_of g) m → (fault ≡ play.OutOfMemory → ⊥) → Answered g side m fault → ⊥
+    → length g.moves < 10000 → (Over g → ⊥) → Legal (now_of g) m → (fault ≡ play.OutOfMemory → ⊥) → Answered g side m fault → ⊥
 always_played g side p m fault now same room goes legal memory a =
     let e : side ≡ (now_of g).side = same ∙ ap (λ (q : Placed). q.side) now in
     elim a [

@@ -9,8 +9,8 @@ use Rattle.shogi_rules.specs.declared.line.Verdict.TheVariants as verdict
 use Rattle.shogi_rules.specs.declared.moves.Move.{Move}
 use Rattle.shogi_rules.specs.Order.{IsFirstLegal}
 use Rattle.shogi_rules.specs.Play.{Answers}
-use Rattle.shogi_rules.specs.Positions.{Played, now_of, all_of, max_moves}
-use Rattle.shogi_rules.specs.Repetition.{Over}
+use Rattle.shogi_rules.specs.Positions.{Played, now_of, max_moves}
+use Rattle.shogi_rules.specs.Positions.{Over}
 use Rattle.shogi_rules.specs.Verdicts.{NoLegalMove, Stands}
 use Rattle.csa_text.specs.Codes.{sign, move_text}
 use Rattle.usi_text.specs.Words.{words, nth_word}
@@ -87,10 +87,10 @@ moved_line g m seconds = with_time (move_text (now_of g).side m) seconds
 
 -- after a move: what ends the game, or nothing, and it goes on
 abbrev pub AfterMove : HostConfig → Played → Option Outcome → Type 0
-AfterMove c g (Some Repetition) = Stands (all_of g) (now_of g) verdict.Repetition
-AfterMove c g (Some (Perpetual loser)) = Stands (all_of g) (now_of g) (verdict.Perpetual loser)
-AfterMove c g (Some MaxMoves) = (Over (all_of g) (now_of g) → ⊥) × (c.max_moves ≤ length g.moves)
-AfterMove c g None = (Over (all_of g) (now_of g) → ⊥) × (length g.moves < c.max_moves)
+AfterMove c g (Some Repetition) = Stands g verdict.Repetition
+AfterMove c g (Some (Perpetual loser)) = Stands g (verdict.Perpetual loser)
+AfterMove c g (Some MaxMoves) = (Over g → ⊥) × (c.max_moves ≤ length g.moves)
+AfterMove c g None = (Over g → ⊥) × (length g.moves < c.max_moves)
 
 -- the reason, and the result for the client
 abbrev pub outcome_lines : HostConfig → Outcome → List (List ℕ)

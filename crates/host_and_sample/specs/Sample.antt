@@ -2,8 +2,8 @@
 use Rattle.std.specs.Prelude.{◌≡◌, ℕ, ◌++◌, ◌⊎◌, List, [], ◌∷◌, Option, Some, None}
 use Rattle.shogi_rules.specs.declared.moves.Move.{Move}
 use Rattle.shogi_rules.specs.Order.{IsFirstLegal}
-use Rattle.shogi_rules.specs.Positions.{Played, now_of, all_of}
-use Rattle.shogi_rules.specs.Repetition.{Over}
+use Rattle.shogi_rules.specs.Positions.{Played, now_of}
+use Rattle.shogi_rules.specs.Positions.{Over}
 use Rattle.shogi_rules.specs.Verdicts.{NoLegalMove}
 use Rattle.usi_text.specs.Lines.{UsiLine}
 use Rattle.usi_text.specs.Moves.{UsiMove}
@@ -18,13 +18,13 @@ pub data SampleState : Type 0 where
 -- it has no move: no game is kept, there is no legal move, or the position has occurred four times
 abbrev pub HasNoMove : Option Played → Type 0
 HasNoMove None = Unit {0}
-HasNoMove (Some g) = NoLegalMove (now_of g) ⊎ Over (all_of g) (now_of g)
+HasNoMove (Some g) = NoLegalMove (now_of g) ⊎ Over g
 
 -- the word is the first legal move of a position that has not occurred four times
 pub record IsBest (g : Played) (word : List ℕ) : Type 0 where
   pub best : Move
   pub first : IsFirstLegal (now_of g) best
-  pub not_over : Over (all_of g) (now_of g) → ⊥
+  pub not_over : Over g → ⊥
   pub text : UsiMove (now_of g) word best
 
 -- the line is that one word

@@ -1,6 +1,5 @@
 ghost use Rattle.std.specs.Prelude.{◌≡◌, ◌++◌, OnOk, Some};
-ghost use Rattle.shogi_rules.specs.Positions.{all_of, now_of};
-ghost use Rattle.shogi_rules.specs.Repetition.{Over};
+ghost use Rattle.shogi_rules.specs.Positions.{Over};
 ghost use Rattle.host_and_sample.specs.declared.config.HostConfig.{HostConfig};
 ghost use Rattle.host_and_sample.specs.Host.{AfterMove, outcome_lines};
 ghost use Rattle.session_lines.specs.Texts.{text_of};
@@ -33,7 +32,7 @@ pub(crate) fn outcome_of(config: &HostConfig, game: &Line) -> Option<Outcome>
 }
 
 fn outcome_of_repetition(game: &Line) -> Outcome
-    requires { Over (all_of game.now) (now_of game.now) }
+    requires { Over game.now }
     ensures { (c : HostConfig) → AfterMove c game.now (Some result) }
 {
     match game.verdict() {

@@ -1,8 +1,8 @@
 ghost use Rattle.std.specs.Prelude.{◌≡◌, ◌++◌, ◌<◌, ◌≤◌, ◌∷◌, [], length, true, ◌↔◌, IsTrue, IfOk, OnOk};
 ghost use Rattle.shogi_rules.specs.Legal.{Legal};
 ghost use Rattle.shogi_rules.specs.Order.{IsFirstLegal};
-ghost use Rattle.shogi_rules.specs.Positions.{now_of, all_of, max_moves};
-ghost use Rattle.shogi_rules.specs.Repetition.{Over};
+ghost use Rattle.shogi_rules.specs.Positions.{now_of, max_moves};
+ghost use Rattle.shogi_rules.specs.Positions.{Over};
 ghost use Rattle.csa_text.specs.Codes.{move_text};
 ghost use Rattle.host_and_sample.specs.Host.{playing, decided, outcome_lines, with_move};
 ghost use Rattle.host_and_sample.specs.Hosting.{Follows, RowText, Rests, Tries, MovesBehind, state_of};
@@ -181,7 +181,7 @@ pub(crate) fn move_host(
 ) -> Result<HostReply, OutOfMemory>
     requires few { config.now.max_moves ≤ max_moves }
     requires room { length game.moves < max_moves }
-    requires goes_on { Over (all_of game) (now_of game) → ⊥ }
+    requires goes_on { Over game → ⊥ }
     ensures { IfOk result (λ r. MovesBehind config.now game lines r.lines (state_of r.stage)) }
 {
     match first_legal(&game.now()) {
@@ -212,7 +212,7 @@ fn play_host(
 ) -> Result<HostReply, OutOfMemory>
     requires few { config.now.max_moves ≤ max_moves }
     requires room { length game.moves < max_moves }
-    requires goes_on { Over (all_of game) (now_of game) → ⊥ }
+    requires goes_on { Over game → ⊥ }
     requires first { IsFirstLegal (now_of game) mv }
     ensures { IfOk result (λ r. MovesBehind config.now game lines r.lines (state_of r.stage)) }
 {
@@ -224,7 +224,7 @@ fn play_host(
 // The game with that move, which is legal.
 fn play_legal(game: Line, mv: Move) -> Result<Line, OutOfMemory>
     requires room { length game.moves < max_moves }
-    requires goes_on { Over (all_of game) (now_of game) → ⊥ }
+    requires goes_on { Over game → ⊥ }
     requires legal { Legal (now_of game) mv }
     ensures { IfOk result (λ played. played ≡ with_move game mv) }
 {

@@ -1,8 +1,8 @@
 ghost use Rattle.std.specs.Prelude.{◌≡◌, ◌⊎◌, ◌∷◌, [], ℕ, List, ◌↔◌, IsTrue, IsOk, IfOk, OnErr, None, MatchOption};
 ghost use Rattle.shogi_rules.specs.declared.moves.Move.{Move};
 ghost use Rattle.shogi_rules.specs.Order.{IsFirstLegal};
-ghost use Rattle.shogi_rules.specs.Positions.{now_of, all_of};
-ghost use Rattle.shogi_rules.specs.Repetition.{Over};
+ghost use Rattle.shogi_rules.specs.Positions.{now_of};
+ghost use Rattle.shogi_rules.specs.Positions.{Over};
 ghost use Rattle.shogi_rules.specs.Verdicts.{NoLegalMove};
 ghost use Rattle.usi_text.specs.EngineTexts as usi_texts;
 ghost use Rattle.host_and_sample.specs.Requests.{Asks, RowText, IsGoText};
@@ -217,7 +217,7 @@ fn best_line(alloc: Global, kept: &Option<Line>) -> Result<Lines, OutOfMemory>
 // The first legal move, or None if the engine resigns.
 fn best_move(game: &Line) -> Option<ArrayString<5>>
     ensures { MatchOption result
-        (NoLegalMove (now_of game.now) ⊎ Over (all_of game.now) (now_of game.now))
+        (NoLegalMove (now_of game.now) ⊎ Over game.now)
         (λ word. IsBest game.now word.bytes) }
 {
     if game.is_over() {

@@ -3,7 +3,7 @@ use Rattle.std.proofs.Common.{◌≡◌, ◌⊎◌, inr, ◌≤◌, ℕ, List, l
 use Rattle.std.proofs.lemmas.List.{length-map}
 use Rattle.record_game.specs.Game.{Game, move_of}
 use Rattle.record_commands.specs.Incoming.{GivesEnd, GivesLine, GivesLongLine}
-use Rattle.shogi_rules.specs.Positions.{Played, all_of, now_of}
+use Rattle.shogi_rules.specs.Positions.{Played}
 use Rattle.shogi_rules.specs.Verdicts.{Stands}
 use Rattle.shogi_rules.specs.declared.line.Verdict.{Verdict}
 use Rattle.record_commands.specs.OneLine.{HasLongLine, HasNoLine, HasTwoLines, IsOneLine}
@@ -11,12 +11,12 @@ use Rattle.record_commands.specs.Words.{IsAcceptedLine, accepted_line, game_line
 
 -- the line of `check` is that of the game
 pub accepted_so : {S E : Type 0} (bytes : S → List ℕ) (g : Game) (line : Played) (moves : ℕ) (verdict : Verdict) (answer : Result S E)
-    → line ≡ game_line g → moves ≡ length line.moves → Stands (all_of line) (now_of line) verdict
+    → line ≡ game_line g → moves ≡ length line.moves → Stands line verdict
     → IfOk answer (λ text. bytes text ≡ accepted_line moves verdict) → IfOk answer (λ text. IsAcceptedLine g (bytes text))
 accepted_so bytes g line moves verdict (Err e) is count stands is_line = tt
 accepted_so bytes g line moves verdict (Ok text) is count stands is_line =
     let whole : moves ≡ length g.moves = count ∙ ap (λ (l : Played). length l.moves) is ∙ length-map g.moves move_of in
-    (verdict, subst (λ (l : Played). Stands (all_of l) (now_of l) verdict) is stands, is_line ∙ ap (λ n. accepted_line n verdict) whole)
+    (verdict, subst (λ (l : Played). Stands l verdict) is stands, is_line ∙ ap (λ n. accepted_line n verdict) whole)
 
 -- a line came, and then the end
 pub line_alone : (bytes old mid new : Option (List ℕ)) (line shown read : List ℕ) → old ≡ bytes → line ≡ shown → shown ≡ read

@@ -1,16 +1,20 @@
 //! Whether a record is accepted, how many moves it has, and the state of the game after them.
 
-ghost use Rattle.std.specs.Prelude.{◌≡◌, ℕ, List, string_bytes, IfOk, IsErrOf};
+ghost use Rattle.std.specs.Prelude.{◌≡◌, ℕ, List, string_bytes, IfOk, IsErrOf, OnOk};
 ghost use Rattle.csa_record.specs.declared.flow.FlowFault.{FlowFault};
 ghost use Rattle.record_game.specs.Refused.{Refused};
+ghost use Rattle.record_commands.specs.Inputs.{path_of};
+ghost use Rattle.record_commands.specs.Reports.{Refuses, Reports};
 ghost use Rattle.record_commands.specs.Words.{IsAcceptedLine, accepted_line, word_of};
 
+use crate::inputs::{Inputs, RuntimeInputs};
 use crate::streams;
 use csa_record::{FlowFault, Record, Refusal};
 use shogi_board::Color;
 use shogi_rules::Verdict;
 use std::alloc::{AllocError, Global};
 use std::io;
+use std::io::Write;
 use std::rt::Files;
 
 /// Prints `accepted N V`: the number of moves of the CSA V2.2 record in the file, and the word for
@@ -26,11 +30,33 @@ pub fn run<R: Files + Input + Print + AllocGlobal>(
     ensures refused { (r : Refusal) → IsErrOf result (FlowFault.Refused r)
         → (bytes : List ℕ) × Refused bytes r.number r.offset r.why }
 {
-    let record = streams::record(rt, file)?;
-    let Ok(line) = accepted(rt.alloc(), &record) else {
+    check(
+        rt.alloc(),
+        &RuntimeInputs::new(rt),
+        file,
+        &mut io::writer(rt),
+    )
+}
+
+// Prints that line about the record of the file, or of standard input.
+fn check<I: Inputs, W: Write>(
+    alloc: Global,
+    inputs: &I,
+    file: Option<&str>,
+    out: &mut W,
+) -> Result<(), FlowFault>
+    ensures accepted { OnOk result
+        (Reports (I.opens inputs.now (path_of file.entry)) I.Input.Read.remaining
+        IsAcceptedLine (W.contents out.old) (W.contents out.new)) }
+    ensures refused { (r : Refusal) → IsErrOf result (FlowFault.Refused r)
+        → Refuses (I.opens inputs.now (path_of file.entry)) I.Input.Read.remaining r
+        × (out.new ≡ out.old) }
+{
+    let record = streams::record(alloc, inputs, file)?;
+    let Ok(line) = accepted(alloc, &record) else {
         return Err(FlowFault::OutOfMemory);
     };
-    streams::write_all(&mut io::writer(rt), line.as_bytes())?;
+    streams::write_all(out, line.as_bytes())?;
     Ok(())
 }
 

@@ -1,17 +1,19 @@
 //! The canonical text of a USI position line.
 
-ghost use Rattle.std.specs.Prelude.{◌≡◌, ◌≢◌, ◌⊎◌, IfOk, IsErrOf};
-ghost use Rattle.record_commands.specs.OneLine.{HasLongLine, HasNoLine, HasTwoLines, IsOneLine};
+ghost use Rattle.std.specs.Prelude.{◌≡◌, ◌≢◌, ◌⊎◌, true, IfOk, IsErrOf, OnOk};
+ghost use Rattle.record_commands.specs.Inputs.{path_of};
+ghost use Rattle.record_commands.specs.OneLine.{Converts, HasLongLine, HasNoLine, HasTwoLines, IsOneLine};
 ghost use Rattle.record_commands.specs.declared.fault.PositionLineFault.{PositionLineFault};
 ghost use Rattle.usi_text.specs.declared.fault.UsiFault.{UsiFault};
 
 use crate::fault::PositionLineFault;
 use crate::incoming::{Incoming, LineEvent};
+use crate::inputs::{Inputs, RuntimeInputs};
 use crate::streams;
 use csa_record::Record;
 use std::alloc::Global;
 use std::io;
-use std::io::Read;
+use std::io::{Read, Write};
 use std::rt::Files;
 use usi_text::UsiFault;
 
@@ -29,30 +31,52 @@ pub fn run<R: Files + Input + Print + AllocGlobal>(
     ensures refused { (fault : UsiFault)
         → IsErrOf result (PositionLineFault.Refused fault) → fault ≢ UsiFault.OutOfMemory }
 {
-    let text = match file {
-        None | Some("-") => one_line(rt.alloc(), rt.reader())?,
-        Some(path) => one_line(rt.alloc(), streams::open(rt, path)?)?,
-    };
-    let line = usi_text::read_position_line(rt.alloc(), text.as_slice())?;
-    let Ok(record) = Record::from_line(rt.alloc(), line) else {
+    csa(
+        rt.alloc(),
+        &RuntimeInputs::new(rt),
+        file,
+        &mut io::writer(rt),
+    )
+}
+
+// Prints that text of the one line of the file, or of standard input.
+fn csa<I: Inputs, W: Write>(
+    alloc: Global,
+    inputs: &I,
+    file: Option<&str>,
+    out: &mut W,
+) -> Result<(), PositionLineFault>
+    ensures accepted { OnOk result
+        (Converts (I.opens inputs.now (path_of file.entry)) I.Input.Read.remaining
+        (W.contents out.old) (W.contents out.new)) }
+    ensures refused { (fault : UsiFault)
+        → IsErrOf result (PositionLineFault.Refused fault) → fault ≢ UsiFault.OutOfMemory }
+{
+    let mut lines = Incoming::new(alloc, inputs.open(file)?)?;
+    let text = one_line(alloc, &mut lines)?;
+    let line = usi_text::read_position_line(alloc, text.as_slice())?;
+    let Ok(record) = Record::from_line(alloc, line) else {
         return Err(PositionLineFault::OutOfMemory);
     };
-    let text = csa_record::write(rt.alloc(), &record)?;
-    streams::write_all(&mut io::writer(rt), text.as_slice())?;
+    let text = csa_record::write(alloc, &record)?;
+    streams::write_all(out, text.as_slice())?;
     Ok(())
 }
 
-// The only line of the reader.
-fn one_line<R: Read + Drop>(alloc: Global, reader: R) -> Result<Vec<u8>, PositionLineFault>
-    ensures line { IfOk result (λ text. IsOneLine (R.remaining reader) text.items) }
+// The only line of the reader. Refuses `Read` only if the reading broke off.
+fn one_line<R: Read + Drop>(
+    alloc: Global,
+    lines: &mut Incoming<R>,
+) -> Result<Vec<u8>, PositionLineFault>
+    ensures line { IfOk result (λ text. IsOneLine lines.old.bytes text.items) }
     ensures bad { IsErrOf result (PositionLineFault.Refused UsiFault.BadLine)
-        → HasNoLine (R.remaining reader) ⊎ HasTwoLines (R.remaining reader) }
-    ensures long { IsErrOf result PositionLineFault.TooLong → HasLongLine (R.remaining reader) }
+        → HasNoLine lines.old.bytes ⊎ HasTwoLines lines.old.bytes }
+    ensures long { IsErrOf result PositionLineFault.TooLong → HasLongLine lines.old.bytes }
+    ensures read { IsErrOf result PositionLineFault.Read → lines.new.is_over ≡ true }
     ensures refused { (fault : UsiFault)
         → IsErrOf result (PositionLineFault.Refused fault) → fault ≡ UsiFault.BadLine }
     ensures unwritten { IsErrOf result PositionLineFault.Write → ⊥ }
 {
-    let mut lines = Incoming::new(alloc, reader)?;
     match lines.read_line()? {
         LineEvent::Line => {}
         LineEvent::End => return Err(PositionLineFault::Refused(UsiFault::BadLine)),

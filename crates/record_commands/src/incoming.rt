@@ -89,6 +89,8 @@ impl<R: Read + Drop> Incoming<R> {
             → GivesLongLine self.old.bytes self.new.bytes) }
         ensures over { IfOk result (λ event. (event ≡ LineEvent.Long) ⊎ (event ≡ LineEvent.Failed)
             → self.new.is_over ≡ true) }
+        ensures open { IfOk result (λ event. (event ≡ LineEvent.Line) ⊎ (event ≡ LineEvent.End)
+            → self.new.is_over ≡ false) }
         ensures lost { OnErr result (self.new.is_over ≡ true) }
         ensures stays { self.old.is_over ≡ true
             → (result ≡ Ok LineEvent.Failed) × (self.new ≡ self.old) }
@@ -127,6 +129,8 @@ impl<R: Read + Drop> Incoming<R> {
         ensures over { IfOk result (λ event.
             (event ≡ Some LineEvent.Long) ⊎ (event ≡ Some LineEvent.Failed)
             → self.new.is_over ≡ true) }
+        ensures open { IfOk result (λ event. (event ≡ Some LineEvent.Line)
+            ⊎ (event ≡ Some LineEvent.End) ⊎ (event ≡ None) → self.new.is_over ≡ false) }
         ensures lost { OnErr result (self.new.is_over ≡ true) }
         ensures stays { self.old.is_over ≡ true
             → (result ≡ Ok (Some LineEvent.Failed)) × (self.new ≡ self.old) }

@@ -15,8 +15,10 @@ pub mod check;
 pub mod csa;
 mod fault;
 pub mod incoming;
+mod inputs;
 pub mod normal;
 pub mod streams;
 pub mod usi;
 
 pub use fault::{PositionLineFault, ReadFault, WriteFault};
+pub use inputs::{Input, Inputs, RuntimeInputs};

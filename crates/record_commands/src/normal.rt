@@ -1,11 +1,16 @@
 //! The canonical text of a record.
 
-ghost use Rattle.std.specs.Prelude.{◌≡◌, ℕ, List, IsErrOf};
+ghost use Rattle.std.specs.Prelude.{◌≡◌, ℕ, ◌-◌, ◌^◌, ◌<◌, List, IsErrOf, OnOk};
+ghost use Rattle.std.specs.Io.KnownBytes.{Keeps};
 ghost use Rattle.csa_record.specs.declared.flow.FlowFault.{FlowFault};
+ghost use Rattle.record_commands.specs.Inputs.{path_of};
+ghost use Rattle.record_commands.specs.Reports.{Refuses, Reports};
+ghost use Rattle.record_commands.specs.Words.{IsCanonical};
 ghost use Rattle.record_game.specs.Refused.{Refused};
 
-use crate::streams;
-use csa_record::{FlowFault, Reading, Refusal, Writing};
+use crate::inputs::{Inputs, RuntimeInputs};
+use csa_record::{FlowFault, Reading, Refusal, Sink, Writing};
+use std::alloc::Global;
 use std::io;
 use std::rt::Files;
 
@@ -20,14 +25,29 @@ pub fn run<R: Files + Input + Print + AllocGlobal>(
     ensures refused { (r : Refusal) → IsErrOf result (FlowFault.Refused r)
         → (bytes : List ℕ) × Refused bytes r.number r.offset r.why }
 {
-    let mut sink = Writing::new(io::writer(rt));
-    match file {
-        None | Some("-") => {
-            csa_record::normalise(rt.alloc(), &mut Reading::new(rt.reader()), &mut sink)
-        }
-        Some(path) => {
-            let file = streams::open(rt, path)?;
-            csa_record::normalise(rt.alloc(), &mut Reading::new(file), &mut sink)
-        }
-    }
+    normal(
+        rt.alloc(),
+        &RuntimeInputs::new(rt),
+        file,
+        &mut Writing::new(io::writer(rt)),
+    )
+}
+
+// Writes that text of the record of the file, or of standard input, to the sink.
+fn normal<I: Inputs, T: Sink>(
+    alloc: Global,
+    inputs: &I,
+    file: Option<&str>,
+    sink: &mut T,
+) -> Result<(), FlowFault>
+    requires countable { T.failed sink.old < 2 ^ 64 - 1 }
+    ensures accepted { OnOk result
+        (Reports (I.opens inputs.now (path_of file.entry)) I.Input.Read.remaining
+        IsCanonical (T.held sink.old) (T.held sink.new)) }
+    ensures refused { (r : Refusal) → IsErrOf result (FlowFault.Refused r)
+        → Refuses (I.opens inputs.now (path_of file.entry)) I.Input.Read.remaining r
+        × Keeps (T.held sink.old) (T.held sink.new) }
+{
+    let input = inputs.open(file)?;
+    csa_record::normalise(alloc, &mut Reading::new(input), sink)
 }

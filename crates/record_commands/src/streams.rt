@@ -1,47 +1,33 @@
 //! What the commands read from and write to.
 
-ghost use Rattle.std.specs.Prelude.{◌≡◌, ℕ, List, IfOk, IsErrOf, OnOk};
+ghost use Rattle.std.specs.Prelude.{◌≡◌, IfOk, IsErrOf, OnOk};
 ghost use Rattle.std.specs.Io.KnownBytes.{Appends};
 ghost use Rattle.csa_record.specs.declared.flow.FlowFault.{FlowFault};
-ghost use Rattle.record_game.specs.Refused.{Refused};
-ghost use Rattle.record_game.specs.Tells.{Tells};
+ghost use Rattle.record_commands.specs.Inputs.{path_of};
+ghost use Rattle.record_commands.specs.Reports.{HasRecord, Refuses};
 
-use crate::fault::{ReadFault, WriteFault};
+use crate::fault::WriteFault;
+use crate::inputs::Inputs;
 use csa_record::{FlowFault, Reading, Record, Refusal, read_from};
-use std::fs;
+use std::alloc::Global;
 use std::io::Write;
-use std::rt::Files;
 
 /// The greatest number of bytes in a line, without its line end.
 pub const LONGEST_LINE: usize = 65_536;
-
-/// Opens a file, to be read from its start.
-///
-/// Refuses `Failed` if it cannot be opened, and `OutOfMemory`.
-pub(crate) fn open<R: Files>(rt: &R, path: &str) -> Result<R::File, ReadFault> {
-    match fs::open(rt, path) {
-        Ok(file) => Ok(file),
-        Err(error) => Err(ReadFault::of(&error)),
-    }
-}
 
 /// Reads the CSA V2.2 record in the file of that name, or on standard input if there is no name or
 /// it is `-`.
 ///
 /// Refuses `ReadFault` if the file cannot be opened, and then as `csa_record::read_from` does.
-pub fn record<R: Files + Input + AllocGlobal>(
-    rt: &R,
-    file: Option<&str>,
-) -> Result<Record, FlowFault>
-    ensures game { IfOk result (λ g. (bytes : List ℕ) × Tells bytes g) }
+pub fn record<I: Inputs>(alloc: Global, inputs: &I, file: Option<&str>) -> Result<Record, FlowFault>
+    ensures game { IfOk result
+        (HasRecord (I.opens inputs.now (path_of file.entry)) I.Input.Read.remaining) }
     ensures refused { (r : Refusal) → IsErrOf result (FlowFault.Refused r)
-        → (bytes : List ℕ) × Refused bytes r.number r.offset r.why }
+        → Refuses (I.opens inputs.now (path_of file.entry)) I.Input.Read.remaining r }
     ensures no_write { IsErrOf result FlowFault.WriteFault → ⊥ }
 {
-    match file {
-        None | Some("-") => read_from(rt.alloc(), &mut Reading::new(rt.reader())),
-        Some(path) => read_from(rt.alloc(), &mut Reading::new(open(rt, path)?)),
-    }
+    let input = inputs.open(file)?;
+    read_from(alloc, &mut Reading::new(input))
 }
 
 /// Writes all of the bytes and flushes the writer.

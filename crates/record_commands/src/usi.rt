@@ -1,16 +1,19 @@
 //! The position line of a record.
 
-ghost use Rattle.std.specs.Prelude.{◌≡◌, ◌++◌, ◌∷◌, [], ℕ, List, map, IfOk, IsErrOf};
+ghost use Rattle.std.specs.Prelude.{◌≡◌, ℕ, List, IfOk, IsErrOf, OnOk};
 ghost use Rattle.csa_record.specs.declared.flow.FlowFault.{FlowFault};
-ghost use Rattle.record_game.specs.Game.{move_of};
+ghost use Rattle.record_commands.specs.Inputs.{path_of};
+ghost use Rattle.record_commands.specs.Reports.{Refuses, Reports};
+ghost use Rattle.record_commands.specs.Words.{IsPositionText};
 ghost use Rattle.record_game.specs.Refused.{Refused};
-ghost use Rattle.usi_text.specs.LineText.{LineText};
 
+use crate::inputs::{Inputs, RuntimeInputs};
 use crate::streams;
 use csa_record::{FlowFault, Record, Refusal};
 use shogi_board::OutOfMemory;
 use std::alloc::Global;
 use std::io;
+use std::io::Write;
 use std::rt::Files;
 
 /// Prints the USI position line of the start and the moves of the CSA V2.2 record in the file, and
@@ -25,19 +28,39 @@ pub fn run<R: Files + Input + Print + AllocGlobal>(
     ensures refused { (r : Refusal) → IsErrOf result (FlowFault.Refused r)
         → (bytes : List ℕ) × Refused bytes r.number r.offset r.why }
 {
-    let record = streams::record(rt, file)?;
-    let Ok(text) = position_text(rt.alloc(), &record) else {
+    usi(
+        rt.alloc(),
+        &RuntimeInputs::new(rt),
+        file,
+        &mut io::writer(rt),
+    )
+}
+
+// Prints that line of the record of the file, or of standard input.
+fn usi<I: Inputs, W: Write>(
+    alloc: Global,
+    inputs: &I,
+    file: Option<&str>,
+    out: &mut W,
+) -> Result<(), FlowFault>
+    ensures accepted { OnOk result
+        (Reports (I.opens inputs.now (path_of file.entry)) I.Input.Read.remaining
+        IsPositionText (W.contents out.old) (W.contents out.new)) }
+    ensures refused { (r : Refusal) → IsErrOf result (FlowFault.Refused r)
+        → Refuses (I.opens inputs.now (path_of file.entry)) I.Input.Read.remaining r
+        × (out.new ≡ out.old) }
+{
+    let record = streams::record(alloc, inputs, file)?;
+    let Ok(text) = position_text(alloc, &record) else {
         return Err(FlowFault::OutOfMemory);
     };
-    streams::write_all(&mut io::writer(rt), text.as_slice())?;
+    streams::write_all(out, text.as_slice())?;
     Ok(())
 }
 
 // The position line of the game's start and moves, and LF.
 fn position_text(alloc: Global, game: &Record) -> Result<Vec<u8>, OutOfMemory>
-    ensures { IfOk result (λ text. (line : List ℕ)
-        × LineText game.now.start (map move_of game.now.moves) line
-        × (text.items ≡ line ++ 10 ∷ [])) }
+    ensures { IfOk result (λ text. IsPositionText game.now text.items) }
 {
     let mut line = usi_text::position_line(alloc, game.line())?;
     line.push(b'\n')?;

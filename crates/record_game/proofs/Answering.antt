@@ -14,7 +14,7 @@ use Rattle.shogi_board.specs.Placed.{Placed}
 use Rattle.shogi_rules.specs.declared.line.PlayFault.{PlayFault}
 use Rattle.shogi_rules.specs.declared.line.PlayFault.TheVariants as faults
 use Rattle.shogi_rules.specs.Play as plays
-use Rattle.shogi_rules.specs.Positions.{position_after, all_of, now_of}
+use Rattle.shogi_rules.specs.Positions.{Played, position_after, now_of}
 use Rattle.shogi_rules.specs.Rules as rules
 use Rattle.shogi_rules.specs.Rules.{all_rules, IsFirstBroken}
 use Rattle.csa_text.specs.declared.ending.Ending.{Ending}
@@ -296,12 +296,12 @@ move_answers before k c color m answer h is answers =
     (play_answers_by before c color m answer (play_fault c) (line_now before k c h is) answers)
 
 -- a move that is played belongs to the side to move
-mover_first : (ps : List Placed) (p : Placed) (color : Color) (m : Move) → IsFirstBroken (rules.Kept ps p color m) all_rules None → color ≡ p.side
-mover_first ps p color m (inl broken) = cc
-mover_first ps p color m (inr both) = both.0
+mover_first : (line : Played) (color : Color) (m : Move) → IsFirstBroken (rules.Kept line color m) all_rules None → color ≡ (now_of line).side
+mover_first line color m (inl broken) = cc
+mover_first line color m (inr both) = both.0
 
 mover_by : (c : Course) (color : Color) (m : Move) (played : Option PlayFault) → plays.Answers (course_line c) color m played → IsJudged played None → color ≡ (position_after c.start (map move_of c.moves)).side
-mover_by c color m None answers judged = mover_first (all_of (course_line c)) (now_of (course_line c)) color m answers.1
+mover_by c color m None answers judged = mover_first (course_line c) color m answers.1
 mover_by c color m (Some (faults.Broken rule)) answers judged = cc
 mover_by c color m (Some faults.TooManyMoves) answers judged = absurd judged
 mover_by c color m (Some faults.OutOfMemory) answers judged = absurd judged

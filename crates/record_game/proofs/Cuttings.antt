@@ -10,12 +10,12 @@ use Rattle.record_game.proofs.Told.{told_or_refused}
 use Rattle.record_game.proofs.SaysOnce.{tells_once}
 use Rattle.record_game.proofs.RefusedOnce.{refused_once}
 
-joined_both : (front others : List (List ℕ)) → joined (front ++ others) ≡ joined front ++ joined others
+pub joined_both : (front others : List (List ℕ)) → joined (front ++ others) ≡ joined front ++ joined others
 joined_both [] others = refl
 joined_both (piece ∷ front) others =
     ap (λ xs. piece ++ xs) (joined_both front others) ∙ sym (append_assoc piece (joined front) (joined others))
 
-joined_at : (front : List (List ℕ)) (piece : List ℕ) (others : List (List ℕ))
+pub joined_at : (front : List (List ℕ)) (piece : List ℕ) (others : List (List ℕ))
     → joined (front ++ piece ∷ others) ≡ (joined front ++ piece) ++ joined others
 joined_at front piece others =
     joined_both front (piece ∷ others) ∙ sym (append_assoc (joined front) piece (joined others))

@@ -21,7 +21,7 @@ use Rattle.shogi_board.specs.Totals.{IsWithinTotals}
 use Rattle.shogi_rules.specs.declared.moves.Move.{Move}
 use Rattle.shogi_rules.specs.After.{after}
 use Rattle.shogi_rules.specs.Play as plays
-use Rattle.shogi_rules.specs.Positions.{position_after, positions_of, IsGame, begun, played, MayFollow}
+use Rattle.shogi_rules.specs.Positions.{position_after, IsGame, begun, played, MayFollow}
 use Rattle.shogi_rules.specs.Rules as rules
 use Rattle.shogi_rules.specs.Rules.{all_rules, IsFirstBroken}
 use Rattle.shogi_rules.specs.declared.rule.Rule.{Rule}
@@ -381,7 +381,7 @@ move_follows start _ (played before n game follows) ms m more h =
     ]
 
 all_kept : (c : Course) (color : Color) (m : Move) → color ≡ (position_after c.start (map move_of c.moves)).side → MayFollow c.start (map move_of c.moves) m
-    → AllKept (rules.Kept (positions_of c.start (map move_of c.moves)) (position_after c.start (map move_of c.moves)) color m) all_rules
+    → AllKept (rules.Kept (course_line c) color m) all_rules
 all_kept c color m side f =
     let fits = f.legal.keeps.fits in
     (side, (f.not_over, (fits.has_piece, (fits.kind_fits, (fits.target_free, (fits.reaches, (fits.may_promote, (fits.further_move, (fits.lone_pawn, (f.legal.keeps.king_safe, (f.legal.no_drop_mate, tt)))))))))))
@@ -392,10 +392,9 @@ unbroken kept all (Some r) h = absurd (broken-not-kept kept all_rules r h all)
 
 may_play : (c : Course) (color : Color) (m : Move) → length (map move_of c.moves) < 10000 → color ≡ (position_after c.start (map move_of c.moves)).side → MayFollow c.start (map move_of c.moves) m → plays.Answers (course_line c) color m None
 may_play c color m few side f =
-    let ps = positions_of c.start (map move_of c.moves) in
-    let now = position_after c.start (map move_of c.moves) in
-    let answer = some-broken (rules.Kept ps now color m) all_rules (decide-kept ps now color m) in
-    (few, unbroken (rules.Kept ps now color m) (all_kept c color m side f) answer.0 answer.1)
+    let line = course_line c in
+    let answer = some-broken (rules.Kept line color m) all_rules (decide-kept line color m) in
+    (few, unbroken (rules.Kept line color m) (all_kept c color m side f) answer.0 answer.1)
 
 -- the stage
 now_playing : (fs : List Saying) (k : Kept) (c : Course) → HasKept fs k → k.stage ≡ playing c → KeepsStage fs (playing c)

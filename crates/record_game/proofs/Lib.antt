@@ -37,5 +37,4 @@ pub mod Next
 pub mod Following
 pub mod Told
 pub mod RefusedClosed
-pub mod Moved
 pub mod Cuttings

@@ -1,133 +1,127 @@
--- Items say the same game wherever names and headers are among them.
-use Rattle.std.proofs.Common.{◌≡◌, ◌⊎◌, ℕ, zero, suc, ◌<◌, true, List, [], ◌∷◌, ◌++◌, length, refl, sym, ap, subst, ◌∙◌, arith, inl, inr}
-use Rattle.std.specs.Prelude.{Contains, slice_index_or}
+-- Moving names and headers leads from items that say a game to others that say it.
+use Rattle.std.proofs.Common.{◌≡◌, ◌⊎◌, ℕ, ◌==◌, List, [], ◌∷◌, ◌++◌, filter, drop, refl, sym, ap, subst, ◌∙◌, append_assoc, inl, inr}
 use Rattle.csa_text.specs.Saying.{Saying, version, name, header, even, rank, pieces, turn, walked, time, ending}
 use Rattle.record_game.specs.Game.{Game, Entry}
-use Rattle.record_game.specs.Items.{headers, positions, body}
-use Rattle.record_game.specs.Limits.{is_below, Rising}
-use Rattle.record_game.specs.Rearranged.{IsRearranged}
+use Rattle.record_game.specs.Items.{headers, is_even, ranks, positions, body, AtMostOne}
+use Rattle.record_game.specs.Rearranged.{Reordered, IsRearranged, IsVersionFirst}
 use Rattle.record_game.specs.Says.{Says, IsValue, AreEntries, played_items}
 use Rattle.record_game.specs.Union.{GiveStart}
-use Rattle.record_game.proofs.SaysOnce.{turned, before_later, rising_without, entries_once, says_once}
+use Rattle.record_game.proofs.SaysOnce.{says_once}
 
--- ---- an element of a list
+-- ---- where an element of two joined lists is
 
-abbrev In : {X : Type 0} → List X → X → Type 0
-In [] x = ⊥
-In (y ∷ ys) x = (y ≡ x) ⊎ In ys x
+record InFront {X : Type 0} (f b f2 : List X) (e : X) (b2 : List X) : Type 0 where
+  middle : List X
+  front_is : f ≡ f2 ++ e ∷ middle
+  behind_is : b2 ≡ middle ++ b
 
-in_contains : {X : Type 0} (xs : List X) (x : X) → In xs x → Contains xs x
-in_contains [] x i = absurd i
-in_contains (y ∷ ys) x (inl same) = (0, omega arith, same)
-in_contains (y ∷ ys) x (inr later) =
-    let more = in_contains ys x later in
-    (suc more.0, omega (arith, more.1), more.2)
+record InBack {X : Type 0} (f b f2 : List X) (e : X) (b2 : List X) : Type 0 where
+  middle : List X
+  back_is : b ≡ middle ++ e ∷ b2
+  front_is : f2 ≡ f ++ middle
 
-contains_in : {X : Type 0} (xs : List X) (x : X) (k : ℕ) → k < length xs → slice_index_or xs k x ≡ x → In xs x
-contains_in [] x k less is = absurd (omega (arith, less))
-contains_in (y ∷ ys) x zero less is = inl is
-contains_in (y ∷ ys) x (suc k) less is = inr (contains_in ys x k (omega (arith, less)) is)
+head_is : {X : Type 0} (x y : X) (xs ys : List X) → x ∷ xs ≡ y ∷ ys → x ≡ y
+head_is x y xs ys h = cc
 
-in_middle : {X : Type 0} (front : List X) (y : X) (behind : List X) (x : X) → In (front ++ y ∷ behind) x → (y ≡ x) ⊎ In (front ++ behind) x
-in_middle [] y behind x i = i
-in_middle (z ∷ front) y behind x (inl same) = inr (inl same)
-in_middle (z ∷ front) y behind x (inr later) = elim (in_middle front y behind x later) [
-  | inl same ↦ inl same
-  | inr other ↦ inr (inr other)
-]
+tail_is : {X : Type 0} (x y : X) (xs ys : List X) → x ∷ xs ≡ y ∷ ys → xs ≡ ys
+tail_is x y xs ys h = cc
 
-middle_in : {X : Type 0} (front : List X) (y : X) (behind : List X) → In (front ++ y ∷ behind) y
-middle_in [] y behind = inl refl
-middle_in (z ∷ front) y behind = inr (middle_in front y behind)
-
-others_in : {X : Type 0} (front : List X) (y : X) (behind : List X) (x : X) → In (front ++ behind) x → In (front ++ y ∷ behind) x
-others_in [] y behind x i = inr i
-others_in (z ∷ front) y behind x (inl same) = inl same
-others_in (z ∷ front) y behind x (inr later) = inr (others_in front y behind x later)
-
-record Splits {X : Type 0} (xs : List X) (x : X) : Type 0 where
-  front : List X
-  behind : List X
-  whole : xs ≡ front ++ x ∷ behind
-
-splits : {X : Type 0} (xs : List X) (x : X) → In xs x → Splits xs x
-splits [] x i = absurd i
-splits (y ∷ ys) x (inl same) = record { front = []; behind = ys; whole = ap (λ z. z ∷ ys) same }
-splits (y ∷ ys) x (inr later) =
-    let s = splits ys x later in
-    record { front = y ∷ s.front; behind = s.behind; whole = ap (λ zs. y ∷ zs) s.whole }
-
--- ---- the entries of the same headers
-
--- a header of these, and its entry
-record Pairs (hs : List (List ℕ × List ℕ)) (es : List Entry) (h : List ℕ × List ℕ) (e : Entry) : Type 0 where
-  header_in : In hs h
-  entry_in : In es e
-  key : e.key ≡ h.0
-  text : IsValue h.0 h.1 e.text
-
-header_of : (hs : List (List ℕ × List ℕ)) (es : List Entry) (e : Entry) → AreEntries hs es → In es e → (h : List ℕ × List ℕ) × Pairs hs es h e
-header_of [] es e a i = absurd (subst (λ xs. In xs e) a i)
-header_of (h ∷ hs) es e (f, y, b, whole, key_is, value_is, rest) i =
-    elim (in_middle f y b e (subst (λ xs. In xs e) whole i)) [
-      | inl same ↦ (h, record { header_in = inl refl; entry_in = i; key = rw (← same) key_is; text = rw (← same) value_is })
-      | inr other ↦
-          let m = header_of hs (f ++ b) e rest other in
-          (m.0, record { header_in = inr m.1.header_in; entry_in = i; key = m.1.key; text = m.1.text })
+split : {X : Type 0} (f b f2 : List X) (e : X) (b2 : List X) → f ++ b ≡ f2 ++ e ∷ b2
+    → InFront f b f2 e b2 ⊎ InBack f b f2 e b2
+split [] b f2 e b2 h = inr (record { middle = f2; back_is = h; front_is = refl })
+split (x ∷ f) b [] e b2 h =
+    inl (record {
+      middle = f;
+      front_is = ap (λ y. y ∷ f) (head_is x e (f ++ b) b2 h);
+      behind_is = sym (tail_is x e (f ++ b) b2 h);
+    })
+split (x ∷ f) b (y ∷ f2) e b2 h =
+    let same = head_is x y (f ++ b) (f2 ++ e ∷ b2) h in
+    elim (split f b f2 e b2 (tail_is x y (f ++ b) (f2 ++ e ∷ b2) h)) [
+      | inl s ↦ inl (record {
+        middle = s.middle;
+        front_is = ap (λ z. z ∷ f) same ∙ ap (λ zs. y ∷ zs) s.front_is;
+        behind_is = s.behind_is;
+      })
+      | inr s ↦ inr (record {
+        middle = s.middle;
+        back_is = s.back_is;
+        front_is = ap (λ z. z ∷ f2) (sym same) ∙ ap (λ zs. x ∷ zs) s.front_is;
+      })
     ]
 
-entry_of : (hs : List (List ℕ × List ℕ)) (es : List Entry) (h : List ℕ × List ℕ) → AreEntries hs es → In hs h → (e : Entry) × Pairs hs es h e
-entry_of [] es h a i = absurd i
-entry_of (g ∷ hs) es h (f, y, b, whole, key_is, value_is, rest) (inl same) =
-    (y, record { header_in = inl same; entry_in = subst (λ xs. In xs y) (sym whole) (middle_in f y b); key = rw (← same) key_is; text = rw (← same) value_is })
-entry_of (g ∷ hs) es h (f, y, b, whole, key_is, value_is, rest) (inr later) =
-    let m = entry_of hs (f ++ b) h rest later in
-    (m.0, record { header_in = inr later; entry_in = subst (λ xs. In xs m.0) (sym whole) (others_in f y b m.0 m.1.entry_in); key = m.1.key; text = m.1.text })
+-- ---- one header more, wherever it is among them
 
-same_entry : (h : List ℕ × List ℕ) (e f : Entry) → e.key ≡ h.0 → IsValue h.0 h.1 e.text → f.key ≡ h.0 → IsValue h.0 h.1 f.text → e ≡ f
-same_entry h e f p v q w =
-    let alike : e ∷ [] ≡ f ∷ [] = entries_once (h ∷ []) (e ∷ []) (f ∷ []) ([], e, [], refl, p, v, refl) ([], f, [], refl, q, w, refl) tt tt in
-    cc
+more_entries : (hs front behind : List (List ℕ × List ℕ)) (h : List ℕ × List ℕ) (f : List Entry) (e : Entry) (b : List Entry)
+    → hs ≡ front ++ behind → AreEntries hs (f ++ b) → e.key ≡ h.0 → IsValue h.0 h.1 e.text → AreEntries (front ++ h ∷ behind) (f ++ e ∷ b)
+more_entries hs [] behind h f e b is all key value = (f, e, b, refl, key, value, subst (λ xs. AreEntries xs (f ++ b)) is all)
+more_entries [] (k ∷ front) behind h f e b is all key value = cc
+more_entries (j ∷ hs) (k ∷ front) behind h f e b is (f2, x, b2, whole, key_is, value_is, rest) key value =
+    let same : j ≡ k = head_is j k hs (front ++ behind) is in
+    let others : hs ≡ front ++ behind = tail_is j k hs (front ++ behind) is in
+    let key_k : x.key ≡ k.0 = key_is ∙ ap (λ (z : List ℕ × List ℕ). z.0) same in
+    let value_k : IsValue k.0 k.1 x.text = subst (λ (z : List ℕ × List ℕ). IsValue z.0 z.1 x.text) same value_is in
+    elim (split f b f2 x b2 whole) [
+      | inl s ↦
+          let there : f2 ++ b2 ≡ (f2 ++ s.middle) ++ b = ap (λ xs. f2 ++ xs) s.behind_is ∙ sym (append_assoc f2 s.middle b) in
+          let more : AreEntries (front ++ h ∷ behind) ((f2 ++ s.middle) ++ e ∷ b) =
+          more_entries hs front behind h (f2 ++ s.middle) e b others (subst (λ es. AreEntries hs es) there rest) key value in (
+            f2,
+            x,
+            s.middle ++ e ∷ b,
+            ap (λ xs. xs ++ e ∷ b) s.front_is ∙ append_assoc f2 (x ∷ s.middle) (e ∷ b),
+            key_k,
+            value_k,
+            subst (λ es. AreEntries (front ++ h ∷ behind) es) (append_assoc f2 s.middle (e ∷ b)) more,
+          )
+      | inr s ↦
+          let there : f2 ++ b2 ≡ f ++ (s.middle ++ b2) = ap (λ xs. xs ++ b2) s.front_is ∙ append_assoc f s.middle b2 in
+          let more : AreEntries (front ++ h ∷ behind) (f ++ e ∷ (s.middle ++ b2)) =
+          more_entries hs front behind h f e (s.middle ++ b2) others (subst (λ es. AreEntries hs es) there rest) key value in (
+            f ++ e ∷ s.middle,
+            x,
+            b2,
+            ap (λ xs. f ++ e ∷ xs) s.back_is ∙ sym (append_assoc f (e ∷ s.middle) (x ∷ b2)),
+            key_k,
+            value_k,
+            subst (λ es. AreEntries (front ++ h ∷ behind) es) (sym (append_assoc f (e ∷ s.middle) b2)) more,
+          )
+    ]
 
-kept : (hs ks : List (List ℕ × List ℕ)) (es fs : List Entry) → AreEntries hs es → AreEntries ks fs
-    → ((h : List ℕ × List ℕ) → Contains hs h → Contains ks h) → (e : Entry) → In es e → In fs e
-kept hs ks es fs a b into e i =
-    let m = header_of hs es e a i in
-    let there = into m.0 (in_contains hs m.0 m.1.header_in) in
-    let n = entry_of ks fs m.0 b (contains_in ks m.0 there.0 there.1 there.2) in
-    subst (λ x. In fs x) (same_entry m.0 n.0 e n.1.key n.1.text m.1.key m.1.text) n.1.entry_in
+entries_moved : (hs ks : List (List ℕ × List ℕ)) (es : List Entry) → Reordered hs ks → AreEntries hs es → AreEntries ks es
+entries_moved [] ks es is all = subst (λ xs. AreEntries xs es) (sym is) all
+entries_moved (h ∷ hs) ks es (front, behind, is, others) (f, e, b, whole, key, value, rest) =
+    let more : AreEntries (front ++ h ∷ behind) (f ++ e ∷ b) =
+    more_entries (front ++ behind) front behind h f e b refl (entries_moved hs (front ++ behind) (f ++ b) others rest) key value in
+    subst (λ xs. AreEntries xs es) (sym is) (subst (λ ys. AreEntries (front ++ h ∷ behind) ys) (sym whole) more)
 
--- ---- rising entries of the same elements
+-- ---- what is read off the body
 
-first_below : (e : Entry) (es : List Entry) (x : Entry) → Rising (e ∷ es) → In es x → is_below e.key x.key ≡ true
-first_below e es x r i =
-    let s = splits es x i in
-    before_later e s.front x s.behind (subst (λ xs. Rising (e ∷ xs)) s.whole r)
+even_body : (ss : List Saying) → filter is_even (body ss) ≡ filter is_even ss
+even_body [] = refl
+even_body (version ∷ ss) = even_body ss
+even_body (name c t ∷ ss) = even_body ss
+even_body (header k t ∷ ss) = even_body ss
+even_body (even ps ∷ ss) = ap (λ xs. even ps ∷ xs) (even_body ss)
+even_body (rank n cs ∷ ss) = even_body ss
+even_body (pieces c ps ∷ ss) = even_body ss
+even_body (turn c ∷ ss) = even_body ss
+even_body (walked c m ∷ ss) = even_body ss
+even_body (time t ∷ ss) = even_body ss
+even_body (ending e ∷ ss) = even_body ss
 
-not_twice : (e : Entry) (es : List Entry) → Rising (e ∷ es) → In es e → ⊥
-not_twice e es r i = let low = first_below e es e r i in turned e.key e.key low low
-
-same_heads : (e f : Entry) (es fs : List Entry) → Rising (e ∷ es) → Rising (f ∷ fs) → In (f ∷ fs) e → In (e ∷ es) f → e ≡ f
-same_heads e f es fs r s (inl same) back = sym same
-same_heads e f es fs r s (inr later) (inl same) = same
-same_heads e f es fs r s (inr later) (inr after) = absurd (turned e.key f.key (first_below e es f r after) (first_below f fs e s later))
-
-tail_in : (e f : Entry) (es fs : List Entry) → e ≡ f → Rising (e ∷ es) → ((x : Entry) → In (e ∷ es) x → In (f ∷ fs) x) → (x : Entry) → In es x → In fs x
-tail_in e f es fs same r into x i = elim (into x (inr i)) [
-  | inl is ↦ absurd (not_twice e es r (subst (λ y. In es y) (sym is ∙ sym same) i))
-  | inr later ↦ later
-]
-
-same_rising : (es fs : List Entry) → Rising es → Rising fs → ((x : Entry) → In es x → In fs x) → ((x : Entry) → In fs x → In es x) → es ≡ fs
-same_rising [] [] r s into back = refl
-same_rising [] (f ∷ fs) r s into back = absurd (back f (inl refl))
-same_rising (e ∷ es) [] r s into back = absurd (into e (inl refl))
-same_rising (e ∷ es) (f ∷ fs) r s into back =
-    let same = same_heads e f es fs r s (into e (inl refl)) (back f (inl refl)) in
-    let tails = same_rising es fs (rising_without [] e es r) (rising_without [] f fs s) (tail_in e f es fs same r into) (tail_in f e fs es (sym same) s back) in
-    ap (λ x. x ∷ es) same ∙ ap (λ xs. f ∷ xs) tails
-
--- ---- the game
+ranks_body : (ss : List Saying) → ranks (body ss) ≡ ranks ss
+ranks_body [] = refl
+ranks_body (version ∷ ss) = ranks_body ss
+ranks_body (name c t ∷ ss) = ranks_body ss
+ranks_body (header k t ∷ ss) = ranks_body ss
+ranks_body (even ps ∷ ss) = ranks_body ss
+ranks_body (rank n cs ∷ ss) = ap (λ xs. n ∷ xs) (ranks_body ss)
+ranks_body (pieces c ps ∷ ss) = ranks_body ss
+ranks_body (turn c ∷ ss) = ranks_body ss
+ranks_body (walked c m ∷ ss) = ranks_body ss
+ranks_body (time t ∷ ss) = ranks_body ss
+ranks_body (ending e ∷ ss) = ranks_body ss
 
 position_of_body : (s : Saying) (ss : List Saying) → positions (body (s ∷ ss)) ≡ positions (s ∷ []) ++ positions (body ss)
 position_of_body version ss = refl
@@ -153,30 +147,30 @@ position_first (walked c m) ss = refl
 position_first (time t) ss = refl
 position_first (ending e) ss = refl
 
-pub positions_body : (ss : List Saying) → positions (body ss) ≡ positions ss
+positions_body : (ss : List Saying) → positions (body ss) ≡ positions ss
 positions_body [] = refl
 positions_body (s ∷ ss) =
     position_of_body s ss ∙ (ap (λ xs. positions (s ∷ []) ++ xs) (positions_body ss) ∙ sym (position_first s ss))
 
--- what the items say, they say rearranged
-says_other : (ss ts : List Saying) (g h : Game) → Says ss g → Says ts h → IsRearranged ss ts → Says ss h
-says_other ss ts g h p q r =
-    let places : positions ts ≡ positions ss = sym (positions_body ts) ∙ (ap positions (sym r.same_body) ∙ positions_body ss) in
-    let entries : g.headers ≡ h.headers = same_rising g.headers h.headers p.game.rising q.game.rising
-    (kept (headers ss) (headers ts) g.headers h.headers p.headers q.headers (λ x. (r.same_headers x).0))
-    (kept (headers ts) (headers ss) h.headers g.headers q.headers p.headers (λ x. (r.same_headers x).1)) in
+-- ---- the game
+
+pub says_moved : (ss ts : List Saying) (g : Game) → Says ss g → IsVersionFirst ts → IsRearranged ss ts → Says ts g
+says_moved ss ts g p first m =
+    let places : positions ss ≡ positions ts = sym (positions_body ss) ∙ (ap positions m.same_body ∙ positions_body ts) in
+    let evens : filter is_even ss ≡ filter is_even ts = sym (even_body ss) ∙ (ap (λ xs. filter is_even xs) m.same_body ∙ even_body ts) in
+    let numbers : ranks ss ≡ ranks ts = sym (ranks_body ss) ∙ (ap ranks m.same_body ∙ ranks_body ts) in
     record {
-      version_first = p.version_first;
-      black = r.black ∙ q.black;
-      white = r.white ∙ q.white;
-      headers = subst (λ es. AreEntries (headers ss) es) entries p.headers;
-      even_first = p.even_first;
-      even_or_ranks = p.even_or_ranks;
-      ranks_once = p.ranks_once;
-      start = subst (λ xs. GiveStart xs h.start) places q.start;
-      in_order = r.same_body ∙ (q.in_order ∙ ap (λ xs. xs ++ turn h.start.side ∷ played_items h) places);
-      game = q.game;
+      version_first = first;
+      black = sym m.black ∙ p.black;
+      white = sym m.white ∙ p.white;
+      headers = entries_moved (headers ss) (headers ts) g.headers m.same_headers p.headers;
+      even_first = subst (λ xs. filter is_even (drop 1 xs) ≡ []) places p.even_first;
+      even_or_ranks = subst (λ (xs : List Saying). (xs ≡ []) ⊎ (ranks ts ≡ [])) evens (subst (λ (ns : List ℕ). (filter is_even ss ≡ []) ⊎ (ns ≡ [])) numbers p.even_or_ranks);
+      ranks_once = subst (λ (ns : List ℕ). (number : ℕ) → AtMostOne (filter (λ n. n == number) ns)) numbers p.ranks_once;
+      start = subst (λ xs. GiveStart xs g.start) places p.start;
+      in_order = sym m.same_body ∙ (p.in_order ∙ ap (λ xs. xs ++ turn g.start.side ∷ played_items g) places);
+      game = p.game;
     }
 
 pub said_anywhere : (ss ts : List Saying) (g h : Game) → Says ss g → Says ts h → IsRearranged ss ts → g ≡ h
-said_anywhere ss ts g h p q r = says_once ss g h p (says_other ss ts g h p q r)
+said_anywhere ss ts g h p q r = says_once ts g h (says_moved ss ts g p q.version_first r) q

@@ -10,9 +10,9 @@ abbrev pub joined : List (List ℕ) → List ℕ
 joined [] = []
 joined (piece ∷ pieces) = piece ++ joined pieces
 
--- by the contracts of `feed` and `finish`, a reader that is fed these pieces one after another
--- returns this: the game; the refusal of a piece, which is that of the bytes so far, whatever
--- follows; or the refusal at the end. Memory is not considered
+-- what a reader returns that is fed these pieces one after another (contract of
+-- `csa_record::read_pieces`): the game; the refusal of a piece, which is that of the bytes so far,
+-- whatever follows; or the refusal at the end. Memory is not considered
 pub data ReadsPieces (pieces : List (List ℕ)) : Result Game Refusal → Type 0 where
   accepted : (g : Game) → Tells (joined pieces) g → ReadsPieces pieces (Ok g)
   refused : (front : List (List ℕ)) (piece : List ℕ) (others : List (List ℕ)) (r : Refusal)

@@ -10,7 +10,7 @@ ghost use Rattle.record_game.specs.Limits.{IsGame};
 ghost use Rattle.record_game.specs.LaidOut as starts;
 ghost use Rattle.record_game.specs.Pieces.{joined, ReadsPieces};
 ghost use Rattle.record_game.specs.Placings.{placings};
-ghost use Rattle.record_game.specs.Rearranged.{IsRearranged, AreMoved};
+ghost use Rattle.record_game.specs.Rearranged.{IsRearranged, IsVersionFirst};
 ghost use Rattle.record_game.specs.Refused.{Refused, ToldAlone, RefusedAlone};
 ghost use Rattle.record_game.specs.Tells.{Tells, IsSpelt};
 ghost use Rattle.record_game.specs.Union.{GiveStart, IsUnion, first_board, rest_given, with_rest_given};
@@ -63,7 +63,7 @@ pub fn moved_headers()
     ensures accepted { (source other : List ℕ) (g : Game) (told : Tells source g)
         (statements : List TextUnit) (sayings : List Saying)
         → IsCut other statements → AllZip IsSpelt statements sayings
-        → AreMoved told.sayings sayings → Tells other g }
+        → IsVersionFirst sayings → IsRearranged told.sayings sayings → Tells other g }
 {}
 
 /// Bytes are refused in at most one way: at one statement, at one offset, for one reason.
@@ -103,8 +103,8 @@ pub fn refused_when_closed()
         → ClosedAt source number offset why }
 {}
 
-/// However a record is cut into pieces, `feed` and `finish` together return the same: the game, or
-/// the number, the offset and the reason of the refusal. Memory is not considered.
+/// However a record is cut into pieces, what is read is the same: the game, or the number, the
+/// offset and the reason of the refusal. Memory is not considered.
 pub fn cuttings_alike()
     ensures same { (pieces others : List (List ℕ)) (a b : Result Game Refusal)
         → joined pieces ≡ joined others → ReadsPieces pieces a → ReadsPieces others b → a ≡ b }

@@ -1,4 +1,5 @@
 pub mod Coming
+pub mod Holding
 pub mod Keeping
 pub mod Outcomes
 pub mod PlayedLogs

@@ -4,7 +4,7 @@ use Rattle.std.specs.List.{AllByRecursion, flat_map, list_any}
 use Rattle.csa_record.specs.Items.{AtMostOne}
 use Rattle.bridge_table.specs.declared.config.Config.{Config}
 use Rattle.bridge_table.specs.declared.event.Status.{Status}
-use Rattle.bridge_table.specs.declared.event.Status.TheVariants.{Going}
+use Rattle.bridge_table.specs.declared.event.Status.TheVariants.{Going, Lost}
 use Rattle.shogi_session.specs.Events.{Event, Out, begin, engine_end, no_lines as silence, server_end, trimmed}
 use Rattle.shogi_session.specs.Logs.{Leads, Step, event_in, is_answer, new, next, sent_lines}
 use Rattle.shogi_session.specs.Promises.{Session, Steps}
@@ -14,8 +14,10 @@ use Rattle.shogi_session.specs.State.{State, first_state}
 use Rattle.shogi_session.specs.Texts.{ended_line, text_of}
 use Rattle.session_commands.specs.declared.bridging.Seat.{Seat}
 use Rattle.session_commands.specs.declared.bridging.Seat.TheVariants.{Engine, Server}
-use Rattle.session_commands.specs.Plays.{Delivers, no_lines, taken, lost, Gives, Played, begun, goes_on, Round, Takes, end_of}
+use Rattle.session_commands.specs.Plays.{Delivers, no_lines, taken, lost, Gives, Misses, Played, begun, goes_on, Round, Takes, end_of}
 use Rattle.session_commands.specs.PlayedLogs.{AllAnswerWell, AnswersWell, IsLogOf, PlaysLegally, handed, happened, happened_in, lost_of}
+use Rattle.session_commands.specs.WantedLogs.{Sent, SentLegally, nothing_sent, sent_before, sent_in, sent_with}
+use Rattle.session_commands.specs.Wanting.{PlayWants, SendWants, engine_gone, server_gone, lost_before, not_begun, first_unsent, no_next, later_unsent}
 
 -- ---- the laws of the table that are called
 
@@ -105,10 +107,10 @@ round_logged silent went gone event e s f t status c events bytes l round =
     subst (λ es. Logged c es more t) (append_assoc (events ++ event ∷ []) engine_lost server_lost ∙ append_assoc events (event ∷ []) (engine_lost ++ server_lost)) second
 
 played_logged : {E : Type 0} → EndsSilent → (came : Gives E) (went gone : Takes E) (e : E) (s : Session) (f : E) (t : Session) (status : Status)
-    → s.state ≡ first_state → (played : Played came went gone e s f t status) → Logged s.config (happened played) (handed played) t
+    → s.state ≡ first_state → (played : Played came went gone e s f t status) → Logged s.config (happened played) (handed Server played) t
 played_logged silent came went gone e s f t status is (begun g u now round) = round_logged silent went gone begin e s g u now s.config [] [] (no_log s is) round
 played_logged silent came went gone e s f t status is (goes_on g h k u v event now played arrived round) =
-    round_logged silent went gone event h u k v now s.config (happened played) (handed played) (played_logged silent came went gone e s g u Going is played) round
+    round_logged silent went gone event h u k v now s.config (happened played) (handed Server played) (played_logged silent came went gone e s g u Going is played) round
 
 -- ---- each step of a log is a row after the log before it
 
@@ -141,8 +143,34 @@ all_well legal once c log t (next front s event out u leads row) before later y 
       | inr h ↦ all_well legal once c front s leads before h.0 y h.1
     ]
 
+legal_of : SentLegal → SentOnce → (c : Config) (events : List Event) (bytes : List ℕ) (s : Session) → Logged c events bytes s → PlaysLegally c events bytes s.state
+legal_of legal once c events bytes s l = record { log = l.log; log_of = l.log_of; answers_well = all_well legal once c l.log s.state l.log_of.leads }
+
 pub played_moves_are_legal : {E : Type 0} → EndsSilent → SentLegal → SentOnce → (came : Gives E) (went gone : Takes E) (e : E) (s : Session) (f : E) (t : Session) (status : Status)
-    (played : Played came went gone e s f t status) → s.state ≡ first_state → PlaysLegally s.config (happened played) (handed played) t.state
+    (played : Played came went gone e s f t status) → s.state ≡ first_state → PlaysLegally s.config (happened played) (handed Server played) t.state
 played_moves_are_legal silent legal once came went gone e s f t status played is =
-    let l = played_logged silent came went gone e s f t status is played in
-    record { log = l.log; log_of = l.log_of; answers_well = all_well legal once s.config l.log t.state l.log_of.leads }
+    legal_of legal once s.config (happened played) (handed Server played) t (played_logged silent came went gone e s f t status is played)
+
+-- ---- and of a session in which an allocation fails
+
+unsent_legal : {E : Type 0} → EndsSilent → SentLegal → SentOnce → (went gone : Takes E) (event : Event) (to_engine to_server : List ℕ) (e : E) (s u : Session) (status : Status) (f : E) (t : Session)
+    (c : Config) (before : Sent) → Logged c before.events before.bytes s → before.state ≡ s.state → Steps s event to_engine to_server status u
+    → (wants : SendWants went gone to_engine to_server e u status f t) → SentLegally c (sent_with before event to_server wants)
+unsent_legal silent legal once went gone event to_engine to_server e s u status f t c before l same step (engine_gone wants) =
+    subst (λ state. PlaysLegally c before.events before.bytes state) (sym same) (legal_of legal once c before.events before.bytes s l)
+unsent_legal silent legal once went gone event to_engine to_server e s u status f t c before l same step (server_gone g v after delivered wants) =
+    let stepped = step_logged c before.events before.bytes s event to_engine to_server status u l step in
+    let sent = delivered_logged silent went gone Engine to_engine e u status g v after c (before.events ++ event ∷ []) (before.bytes ++ to_server) stepped delivered in
+    legal_of legal once c (before.events ++ event ∷ lost_of Engine delivered) (before.bytes ++ to_server) v
+    (subst (λ es. Logged c es (before.bytes ++ to_server) v) (append_assoc before.events (event ∷ []) (lost_of Engine delivered)) sent)
+
+pub sent_moves_are_legal : {E : Type 0} → EndsSilent → SentLegal → SentOnce → (came : Gives E) (missed : Misses E) (went gone : Takes E) (e : E) (s : Session) (f : E) (t : Session)
+    (wants : PlayWants came missed went gone e s f t) → s.state ≡ first_state → SentLegally s.config (sent_before s t wants)
+sent_moves_are_legal silent legal once came missed went gone e s f t (lost_before played) is = played_moves_are_legal silent legal once came went gone e s f t Lost played is
+sent_moves_are_legal silent legal once came missed went gone e s f t (not_begun same wants) is = legal_of legal once s.config [] [] s (no_log s is)
+sent_moves_are_legal silent legal once came missed went gone e s f t (first_unsent round) is =
+    unsent_legal silent legal once went gone begin round.to_engine round.to_server e s round.session round.stepped f t s.config (nothing_sent s) (no_log s is) refl round.step round.unsent
+sent_moves_are_legal silent legal once came missed went gone e s f t (no_next g u played wants) is = played_moves_are_legal silent legal once came went gone e s g u Going played is
+sent_moves_are_legal silent legal once came missed went gone e s f t (later_unsent g h u event played arrived round) is =
+    unsent_legal silent legal once went gone event round.to_engine round.to_server h u round.session round.stepped f t s.config (sent_in u played)
+    (played_logged silent came went gone e s g u Going is played) refl round.step round.unsent

@@ -1,5 +1,7 @@
 pub mod Comments
 pub mod Faults
+pub mod Holding
+pub mod Housing
 pub mod Kept
 pub mod Offered
 pub mod PlayedLogs
@@ -7,7 +9,9 @@ pub mod Playing
 pub mod Plays
 pub mod Ports
 pub mod Showing
+pub mod SideLaws
 pub mod Talking
 pub mod Talks
+pub mod WantedLogs
 pub mod Wanting
 pub mod Words

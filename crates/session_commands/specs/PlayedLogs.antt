@@ -35,11 +35,18 @@ happened (begun f t status round) = happened_in begin round
 happened (goes_on f g h t u event status played arrived round) =
     happened played ++ happened_in event round
 
--- the bytes that were sent to the server, in order
+-- the bytes that a round sends a seat
+abbrev pub sent_to : {E : Type 0} {went gone : Takes E} {event : Event} {e : E} {s : Session}
+    {f : E} {t : Session} {status : Status} → Seat → Round went gone event e s f t status → List ℕ
+sent_to Engine round = round.to_engine
+sent_to Server round = round.to_server
+
+-- the bytes that were sent to a seat, in order
 abbrev pub handed : {E : Type 0} {came : Gives E} {went gone : Takes E} {e : E} {s : Session}
-    {f : E} {t : Session} {status : Status} → Played came went gone e s f t status → List ℕ
-handed (begun f t status round) = round.to_server
-handed (goes_on f g h t u event status played arrived round) = handed played ++ round.to_server
+    {f : E} {t : Session} {status : Status} → Seat → Played came went gone e s f t status → List ℕ
+handed seat (begun f t status round) = sent_to seat round
+handed seat (goes_on f g h t u event status played arrived round) =
+    handed seat played ++ sent_to seat round
 
 -- a log from the first state on: exactly this happened, and these bytes are its lines to the server
 pub record IsLogOf (c : Config)

@@ -46,23 +46,25 @@ pub record IsFirst (s : Session) : Type 0 where
   pub state : s.state ≡ first_state
   pub name : s.config.name.bytes ≡ codes "bridge"
   pub password : s.config.password.bytes ≡ codes "pw"
+  pub total : s.config.total_ms ≡ 600000
+  pub byoyomi : s.config.byoyomi_ms ≡ 10000
 
--- a game in a house: it opened with these ends, a session was played between them, and it shut
--- again, well or not; or it did not open, and shut
-pub data Met {H E P : Type 0} (opened : H → Plan → E → H → Type 0)
-    (unopened : H → Plan → H → Type 0) (shut : H → Bool → H → Type 0)
+-- a game in a house: it opened with these ends and running programs, a session was played between
+-- the ends, and it shut again, well or not; or it did not open
+pub data Met {H E P R : Type 0} (opened : H → Plan → E → R → H → Type 0)
+    (unopened : H → Plan → H → Type 0) (shut : H → E → R → Bool → H → Type 0)
     (came : Gives E) (missed : Misses E) (went gone : Takes E)
     (took refused : P → List ℕ → P → Type 0)
     (plan : Plan) (h : H) (p : P) (k : H) (q : P) : Result ℕ MatchFault → Type 0 where
-  met : (between : H) (ends over : E)
+  met : (between : H) (ends over : E) (running : R)
       (first last : Session) (is_well : Bool) (answer : Result ℕ MatchFault)
-      → opened h plan ends between → IsFirst first
+      → opened h plan ends running between → IsFirst first
       → PlaysAndKeeps came missed went gone took refused ends first p over last q is_well answer
-      → shut between is_well k
+      → shut between over running is_well k
       → Met opened unopened shut came missed went gone took refused plan h p k q answer
-  not_met : (between : H) (fault : MatchFault)
-      → unopened h plan between → q ≡ p → shut between false k
+  not_met : (fault : MatchFault) → unopened h plan k → q ≡ p
       → Met opened unopened shut came missed went gone took refused plan h p k q (Err fault)
-  no_bridge : (between : H) (ends : E) → opened h plan ends between → q ≡ p → shut between false k
+  no_bridge : (between : H) (ends : E) (running : R)
+      → opened h plan ends running between → q ≡ p → shut between ends running false k
       → Met opened unopened shut came missed went gone took refused plan h p k q
       (Err OutOfMemory)

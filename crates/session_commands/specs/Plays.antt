@@ -67,10 +67,10 @@ abbrev pub OfSeat : Seat → Type 0 → Type 0 → Type 0
 OfSeat Engine engine server = engine
 OfSeat Server engine server = server
 
--- of one line for each seat, the one for this seat
-abbrev pub line_by_seat : Seat → List ℕ → List ℕ → List ℕ
-line_by_seat Engine engine server = engine
-line_by_seat Server engine server = server
+-- of one value for each seat, the one for this seat
+abbrev pub by_seat : {A : Type 0} → Seat → A → A → A
+by_seat Engine engine server = engine
+by_seat Server engine server = server
 
 -- a seat is gone
 abbrev pub end_of : Seat → Event

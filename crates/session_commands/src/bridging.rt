@@ -4,8 +4,12 @@ ghost use Rattle.std.specs.Prelude.{◌≡◌, ◌↔◌, IsErrOf, IsTrue, IfOk,
 ghost use Rattle.csa_cutting.specs.Lines.{HasNoLineEnd};
 ghost use Rattle.session_commands.specs.Playing.{ComesNext};
 ghost use Rattle.session_commands.specs.Plays.{Delivers, IsEndless, Played, Sends, end_of, event_from, seat_for};
+ghost use Rattle.session_commands.specs.Holding.{TookAll};
 ghost use Rattle.session_commands.specs.PlayedLogs.{PlaysLegally, handed, happened};
+ghost use Rattle.session_commands.specs.WantedLogs.{SentLegally, sent_before};
 ghost use Rattle.session_commands.specs.Wanting.{GoneWants, NextWants, PlayWants, SendWants};
+ghost use Rattle.std.specs.Io.KnownBytes.{Appends};
+ghost use Rattle.session_commands.specs.declared.bridging.Seat.{Seat};
 ghost use Rattle.session_commands.specs.declared.fault.MatchFault.{MatchFault};
 ghost use Rattle.bridge_table.specs.declared.event.Status.{Status};
 ghost use Rattle.shogi_session.specs.Promises.{HoldsLine, Session, event_of};
@@ -13,7 +17,7 @@ ghost use Rattle.shogi_session.specs.State.{first_state, waits_for};
 ghost use Rattle.bridge_table.specs.declared.event.Status.TheVariants.{Done, Failed};
 
 use crate::fault::MatchFault;
-use crate::laws::played_moves_are_legal;
+use crate::laws::{played_moves_are_legal, sent_lines_are_held};
 use crate::progress::Progress;
 use record_commands::incoming::{Incoming, LineEvent};
 use record_commands::{WriteFault, streams};
@@ -32,12 +36,16 @@ pub enum Seat {
 
 /// Where the lines of a bridge's engine and server come from, and where the bridge's lines go.
 pub trait Ends {
-    ghost use Rattle.std.specs.Prelude.{ℕ, List};
+    ghost use Rattle.std.specs.Prelude.{ℕ, List, Option};
+    ghost use Rattle.session_commands.specs.Holding.{KeepsBoth, KeepsOther, TakesLines};
     ghost use Rattle.session_commands.specs.declared.bridging.Seat.{Seat};
     ghost use Rattle.shogi_session.specs.Events.{Event as Taken};
 
     // The last line from that seat.
     ghost last_line: { Self → Seat → List ℕ };
+
+    // What the writer for that seat holds, if it is known.
+    ghost held: { Self → Seat → Option (List ℕ) };
 
     // This event came from that seat.
     ghost came: { Self → Seat → Taken → Self → Type 0 };
@@ -70,41 +78,55 @@ pub trait Ends {
     fn send(&mut self, seat: Seat, lines: &[u8]) -> Result<(), WriteFault>
         ensures went { OnOk result (went self.old seat lines.now self.new) }
         ensures gone { OnErr result (gone self.old seat lines.now self.new) };
+
+    // A writer holds the lines that its seat takes, and nothing else is added to it, unless the
+    // seat does not take its lines.
+    ghost takes_lines: { TakesLines held went };
+
+    ghost went_keeps: { KeepsOther held went };
+
+    ghost gone_keeps: { KeepsOther held gone };
+
+    ghost came_keeps: { KeepsBoth held came };
 }
 
 /// The streams of a bridge's engine or server.
 #[derive(Drop)]
-pub struct Side<'a, R: Read + Drop, W: Write + Drop> {
+pub struct Side<R: Read + Drop, W: Write + Drop> {
     /// The lines that come from it.
-    pub lines: &'a mut Incoming<R>,
+    pub lines: Incoming<R>,
     /// The writer for the lines that go to it.
     pub writer: W,
 }
 
 /// The streams of both.
 #[derive(Drop)]
-pub struct Sides<'a, 'b, ER: Read + Drop, EW: Write + Drop, SR: Read + Drop, SW: Write + Drop> {
+pub struct Sides<ER: Read + Drop, EW: Write + Drop, SR: Read + Drop, SW: Write + Drop> {
     /// The engine's.
-    pub engine: Side<'a, ER, EW>,
+    pub engine: Side<ER, EW>,
     /// The server's.
-    pub server: Side<'b, SR, SW>,
+    pub server: Side<SR, SW>,
 }
 
 // What comes from a side is the next of its reader's bytes. What it takes is added to the bytes of
 // its writer, if these are known. The rest of both sides is unchanged.
 impl<ER: Read + Drop, EW: Write + Drop, SR: Read + Drop, SW: Write + Drop> Ends
-    for Sides<'_, '_, ER, EW, SR, SW> {
+    for Sides<ER, EW, SR, SW> {
     ghost use Rattle.std.specs.Io.KnownBytes.{Appends};
-    ghost use Rattle.session_commands.specs.Plays.{Comes, OfSeat, line_by_seat};
+    ghost use Rattle.session_commands.specs.SideLaws.{last_of_three, last_of_two, other_side, side_read, side_takes};
+    ghost use Rattle.session_commands.specs.Plays.{Comes, OfSeat, by_seat};
     ghost use Rattle.session_commands.specs.declared.bridging.Seat.TheVariants.{Engine, Server};
+    ghost use Rattle.std.specs.Prelude.{◌≡◌};
 
-    ghost last_line = { λ s seat. line_by_seat
-        seat s.engine.lines.now.line s.server.lines.now.line };
+    ghost last_line = { λ s seat. by_seat seat s.engine.lines.line s.server.lines.line };
+
+    ghost held = { λ s seat. by_seat seat (EW.contents s.engine.writer)
+        (SW.contents s.server.writer) };
 
     ghost came = { λ s seat event t. OfSeat seat
-        (Comes Engine s.engine.lines.now t.engine.lines.now event
+        (Comes Engine s.engine.lines t.engine.lines event
         × (t.engine.writer ≡ s.engine.writer) × (t.server ≡ s.server))
-        (Comes Server s.server.lines.now t.server.lines.now event
+        (Comes Server s.server.lines t.server.lines event
         × (t.server.writer ≡ s.server.writer) × (t.engine ≡ s.engine)) };
 
     ghost missed = { λ s seat t. OfSeat seat
@@ -141,6 +163,33 @@ impl<ER: Read + Drop, EW: Write + Drop, SR: Read + Drop, SW: Write + Drop> Ends
             Seat::Server => streams::write_all(&mut self.server.writer, lines),
         }
     }
+
+    ghost takes_lines = { λ s t seat lines. side_takes
+        (t.engine.lines ≡ s.engine.lines) (t.server ≡ s.server)
+        (t.server.lines ≡ s.server.lines) (t.engine ≡ s.engine)
+        (EW.contents s.engine.writer) (EW.contents t.engine.writer)
+        (SW.contents s.server.writer) (SW.contents t.server.writer) lines seat };
+
+    ghost went_keeps = { λ s t seat other lines went. other_side
+        s.engine t.engine s.server t.server
+        (λ side. EW.contents side.writer) (λ side. SW.contents side.writer) seat other
+        (last_of_three
+        (Appends (EW.contents s.engine.writer) (EW.contents t.engine.writer) lines)
+        (t.engine.lines ≡ s.engine.lines) (t.server ≡ s.server)
+        (Appends (SW.contents s.server.writer) (SW.contents t.server.writer) lines)
+        (t.server.lines ≡ s.server.lines) (t.engine ≡ s.engine) seat went) };
+
+    ghost gone_keeps = { λ s t seat other lines gone. other_side
+        s.engine t.engine s.server t.server
+        (λ side. EW.contents side.writer) (λ side. SW.contents side.writer) seat other
+        (last_of_two (t.engine.lines ≡ s.engine.lines) (t.server ≡ s.server)
+        (t.server.lines ≡ s.server.lines) (t.engine ≡ s.engine) seat gone) };
+
+    ghost came_keeps = { λ s t seat other event. side_read
+        (Comes Engine s.engine.lines t.engine.lines event)
+        (Comes Server s.server.lines t.server.lines event)
+        s.engine t.engine s.server t.server (λ side. side.writer) (λ side. side.writer)
+        EW.contents SW.contents seat other };
 }
 
 /// Plays a session. The bridge takes each line of the side that it waits for, and its answer is
@@ -164,12 +213,21 @@ pub fn play<R: Eprint + AllocGlobal, E: Ends>(
     ensures legal { (f : E) (t : Session) (status : Status)
         (played : Played E.came E.went E.gone ends.old bridge.old f t status)
         → bridge.old.state ≡ first_state
-        → PlaysLegally bridge.old.config (happened played) (handed played) t.state }
+        → PlaysLegally bridge.old.config (happened played) (handed Seat.Server played) t.state }
+    ensures legal_wanting { (f : E) (t : Session)
+        (wants : PlayWants E.came E.missed E.went E.gone ends.old bridge.old f t)
+        → bridge.old.state ≡ first_state
+        → SentLegally bridge.old.config (sent_before bridge.old t wants) }
+    ensures held { (seat : Seat) (f : E) (t : Session) (status : Status)
+        (played : Played E.came E.went E.gone ends.old bridge.old f t status)
+        → TookAll seat played
+        → Appends (E.held ends.old seat) (E.held f seat) (handed seat played) }
     ensures unwritten { IsErrOf result MatchFault.Write → ⊥ }
     ensures endless { IsErrOf result MatchFault.Endless
         → IsEndless E.came E.went E.gone ends.old bridge.old }
 {
     played_moves_are_legal::<E>();
+    sent_lines_are_held::<E>();
     let mut out = bridge.step(Event::Begin)?;
     for _rounds in 0..u64::MAX {
         match send(bridge, ends, &out)? {

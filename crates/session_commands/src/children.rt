@@ -1,13 +1,16 @@
-//! The programs that `play` starts.
+//! The programs that `play` starts, and its connection to a server.
 
-ghost use Rattle.std.specs.Prelude.{◌≡◌, ◌⊎◌, [], ◌∷◌, IfErr, IfOk, MatchOption, codes, decimal, is_some, true};
+ghost use Rattle.std.specs.Prelude.{◌≡◌, ◌⊎◌, IfErr, IfOk, OnErr, is_some, true};
 ghost use Rattle.std.specs.Process.{child_status, command_args, command_program};
+ghost use Rattle.session_commands.specs.Housing.{engine_words, serve_words};
 
+use crate::bridging::Side;
 use crate::fault::{MatchFault, memory_or};
 use record_commands::incoming::Incoming;
 use shogi_session::SessionFault;
 use std::alloc::{AllocError, Global};
-use std::io::ErrorKind;
+use std::io::{Read, Write};
+use std::net::{Net, TcpListener, TcpStream};
 use std::process::{Child, Command, OpenProcess, Processes, Stdio};
 use std::thread;
 use std::time::{Clock, Duration};
@@ -24,37 +27,201 @@ const LOOKS: u32 = 1000;
 
 const REST_MS: u64 = 10;
 
-/// Starts the CSA server with the words `serve --port 0 --max N`: one game of at most `max_moves`
-/// moves, on a port of its choice.
-///
-/// Refuses `B6 ServerGone` if it cannot be started, and `OutOfMemory`.
-pub fn start_server<R: Processes + AllocGlobal>(
+/// What starts and ends the programs of a game, and connects to servers.
+pub trait Programs {
+    ghost use Rattle.std.specs.Prelude.{ℕ, Bool, List};
+    ghost use Rattle.record_commands.specs.Incoming.{Coming};
+
+    /// A program that was started.
+    type Child: Drop;
+
+    /// The standard input of one.
+    type Input: Write + Drop;
+
+    /// The standard output of one.
+    type Output: Read + Drop;
+
+    /// What is read from a connection.
+    type Reader: Read + Drop;
+
+    /// What is written to a connection.
+    type Writer: Write + Drop;
+
+    // A server was started, this program with these words. These lines come from its output.
+    ghost serves: { Self → List ℕ → List (List ℕ) → Self.Child → Coming → Self → Type 0 };
+
+    ghost serves_not: { Self → List ℕ → List (List ℕ) → Self → Type 0 };
+
+    // An engine was started, this program with these words. These lines come from its output, and
+    // its input is written to by this.
+    ghost thinks: { Self → List ℕ → List (List ℕ) → Self.Child → Coming → Self.Input → Self
+        → Type 0 };
+
+    ghost thinks_not: { Self → List ℕ → List (List ℕ) → Self → Type 0 };
+
+    // There is a connection to this port. These lines come from it, and it is written to by this.
+    ghost connects: { Self → ℕ → Coming → Self.Writer → Self → Type 0 };
+
+    ghost connects_not: { Self → ℕ → Self → Type 0 };
+
+    // The child was ended. If it was given time, it may have ended by itself.
+    ghost ended: { Self → Self.Child → Bool → Self → Type 0 };
+
+    /// Starts a server. Refuses `B6 ServerGone` if it cannot be started, and `OutOfMemory`.
+    fn start_server(
+        &mut self,
+        command: &mut Command<Global>,
+    ) -> Result<(Self::Child, Incoming<Self::Output>), MatchFault>
+        ensures serves { IfOk result (λ r. serves self.old (command_program command.old)
+            (command_args command.old) r.0 r.1 self.new) }
+        ensures serves_not { OnErr result (serves_not self.old (command_program command.old)
+            (command_args command.old) self.new) }
+        ensures server_gone { IfErr result
+            (λ fault. (fault ≡ MatchFault.Session SessionFault.ServerGone)
+            ⊎ (fault ≡ MatchFault.OutOfMemory)) };
+
+    /// Starts an engine. Refuses `B5 EngineGone` if it cannot be started, and `OutOfMemory`.
+    fn start_engine(
+        &mut self,
+        command: &mut Command<Global>,
+    ) -> Result<(Self::Child, Side<Self::Output, Self::Input>), MatchFault>
+        ensures thinks { IfOk result (λ r. thinks self.old (command_program command.old)
+            (command_args command.old) r.0 r.1.lines r.1.writer self.new) }
+        ensures thinks_not { OnErr result (thinks_not self.old (command_program command.old)
+            (command_args command.old) self.new) }
+        ensures engine_gone { IfErr result
+            (λ fault. (fault ≡ MatchFault.Session SessionFault.EngineGone)
+            ⊎ (fault ≡ MatchFault.OutOfMemory)) };
+
+    /// Connects to a port of this machine. Refuses `B6 ServerGone` if there is no connection, and
+    /// `OutOfMemory`.
+    fn connect(&mut self, port: u16) -> Result<Side<Self::Reader, Self::Writer>, MatchFault>
+        ensures connects { IfOk result
+            (λ side. connects self.old port side.lines side.writer self.new) }
+        ensures connects_not { OnErr result (connects_not self.old port self.new) }
+        ensures server_gone { IfErr result
+            (λ fault. (fault ≡ MatchFault.Session SessionFault.ServerGone)
+            ⊎ (fault ≡ MatchFault.OutOfMemory)) };
+
+    /// Ends a child. If `is_well`, it has time to end by itself.
+    fn end(&mut self, child: Self::Child, is_well: bool)
+        ensures ended { ended self.old child is_well self.new };
+}
+
+/// Programs and connections of a runtime.
+#[derive(Drop)]
+pub struct System<'a, R> {
+    rt: &'a R,
+}
+
+impl<'a, R> System<'a, R> {
+    /// Those of this runtime.
+    pub fn new(rt: &'a R) -> System<'a, R> {
+        System { rt }
+    }
+}
+
+// No contract can say what a started program is.
+impl<R: Net<Listener = TcpListener, Stream = TcpStream> + Processes + Clock + AllocGlobal> Programs
+    for System<'_, R> {
+    ghost use Rattle.std.specs.Prelude.{⊤};
+
+    type Child = Child<R::Started>;
+
+    type Input = <R::Started as OpenProcess>::Stdin;
+
+    type Output = <R::Started as OpenProcess>::Stdout;
+
+    type Reader = TcpStream;
+
+    type Writer = TcpStream;
+
+    ghost serves = { λ p program words child lines q. ⊤ };
+
+    ghost serves_not = { λ p program words q. ⊤ };
+
+    ghost thinks = { λ p program words child lines input q. ⊤ };
+
+    ghost thinks_not = { λ p program words q. ⊤ };
+
+    ghost connects = { λ p port lines writer q. ⊤ };
+
+    ghost connects_not = { λ p port q. ⊤ };
+
+    ghost ended = { λ p child is_well q. ⊤ };
+
+    fn start_server(
+        &mut self,
+        command: &mut Command<Global>,
+    ) -> Result<(Self::Child, Incoming<Self::Output>), MatchFault> {
+        command.stdin(Stdio::null());
+        let mut child = start(self.rt, command, SERVER_GONE)?;
+        match lines_of(self.rt.alloc(), &mut child, SERVER_GONE) {
+            Ok(lines) => Ok((child, lines)),
+            Err(fault) => {
+                let _ = end_child(self.rt, &mut child, false);
+                Err(fault)
+            }
+        }
+    }
+
+    fn start_engine(
+        &mut self,
+        command: &mut Command<Global>,
+    ) -> Result<(Self::Child, Side<Self::Output, Self::Input>), MatchFault> {
+        command.stdin(Stdio::piped());
+        let mut child = start(self.rt, command, ENGINE_GONE)?;
+        match side_of(self.rt.alloc(), &mut child) {
+            Ok(side) => Ok((child, side)),
+            Err(fault) => {
+                let _ = end_child(self.rt, &mut child, false);
+                Err(fault)
+            }
+        }
+    }
+
+    fn connect(&mut self, port: u16) -> Result<Side<TcpStream, TcpStream>, MatchFault> {
+        let Ok(writer) = TcpStream::connect(self.rt, ("127.0.0.1", port)) else {
+            return Err(SERVER_GONE);
+        };
+        let Ok(reader) = writer.try_clone() else {
+            return Err(SERVER_GONE);
+        };
+        let lines = Incoming::new(self.rt.alloc(), reader)?;
+        Ok(Side { lines, writer })
+    }
+
+    fn end(&mut self, child: Self::Child, is_well: bool) {
+        let mut child = child;
+        let _ = end_child(self.rt, &mut child, is_well);
+    }
+}
+
+// Starts a program whose output is read, and whose errors are not.
+fn start<R: Processes>(
     rt: &R,
-    program: &str,
-    max_moves: u32,
+    command: &mut Command<Global>,
+    gone: MatchFault,
 ) -> Result<Child<R::Started>, MatchFault>
-    ensures faults { IfErr result (λ fault. (fault ≡ MatchFault.Session SessionFault.ServerGone)
-        ⊎ (fault ≡ MatchFault.OutOfMemory)) }
+    ensures faults { IfErr result (λ fault. (fault ≡ gone) ⊎ (fault ≡ MatchFault.OutOfMemory)) }
 {
-    let mut command = server_command(rt.alloc(), program, max_moves)?;
-    command.stdin(Stdio::null());
     command.stdout(Stdio::piped());
     command.stderr(Stdio::null());
     match command.spawn(rt) {
         Ok(child) => Ok(child),
-        Err(error) => Err(memory_or(error.kind(), SERVER_GONE)),
+        Err(error) => Err(memory_or(error.kind(), gone)),
     }
 }
 
-// The server and its words.
-fn server_command(
+/// A server and its words: `serve --port 0 --max N`, one game of at most `max_moves` moves on a
+/// port of its choice.
+pub fn server_command(
     alloc: Global,
     program: &str,
     max_moves: u32,
 ) -> Result<Command<Global>, AllocError>
     ensures program { IfOk result (λ c. command_program c ≡ program.now) }
-    ensures words { IfOk result (λ c. command_args c
-        ≡ codes "serve" ∷ codes "--port" ∷ codes "0" ∷ codes "--max" ∷ decimal max_moves ∷ []) }
+    ensures words { IfOk result (λ c. command_args c ≡ serve_words max_moves) }
 {
     let mut command = Command::new(alloc, program)?;
     let max_moves = format!(in alloc; "{max_moves}")?;
@@ -66,36 +233,14 @@ fn server_command(
     Ok(command)
 }
 
-/// Starts the USI engine, with the one argument if there is one.
-///
-/// Refuses `B5 EngineGone` if it cannot be started, and `OutOfMemory`.
-pub fn start_engine<R: Processes + AllocGlobal>(
-    rt: &R,
-    program: &str,
-    word: Option<&str>,
-) -> Result<Child<R::Started>, MatchFault>
-    ensures faults { IfErr result (λ fault. (fault ≡ MatchFault.Session SessionFault.EngineGone)
-        ⊎ (fault ≡ MatchFault.OutOfMemory)) }
-{
-    let mut command = engine_command(rt.alloc(), program, word)?;
-    command.stdin(Stdio::piped());
-    command.stdout(Stdio::piped());
-    command.stderr(Stdio::null());
-    match command.spawn(rt) {
-        Ok(child) => Ok(child),
-        Err(error) => Err(memory_or(error.kind(), ENGINE_GONE)),
-    }
-}
-
-// The engine and its one argument, if any.
-fn engine_command(
+/// An engine and its one argument, if any.
+pub fn engine_command(
     alloc: Global,
     program: &str,
     word: Option<&str>,
 ) -> Result<Command<Global>, AllocError>
     ensures program { IfOk result (λ c. command_program c ≡ program.now) }
-    ensures words { IfOk result (λ c. MatchOption word.entry
-        (command_args c ≡ []) (λ w. command_args c ≡ w.now ∷ [])) }
+    ensures words { IfOk result (λ c. command_args c ≡ engine_words word.entry) }
 {
     let mut command = Command::new(alloc, program)?;
     if let Some(word) = word {
@@ -104,9 +249,9 @@ fn engine_command(
     Ok(command)
 }
 
-/// The lines of the child's standard output. Refuses `fault` if that is not captured, and
-/// `OutOfMemory`.
-pub fn lines_of<P: OpenProcess + Drop>(
+// The lines of the child's standard output. Refuses `fault` if that is not captured, and
+// `OutOfMemory`.
+fn lines_of<P: OpenProcess + Drop>(
     alloc: Global,
     child: &mut Child<P>,
     fault: MatchFault,
@@ -119,9 +264,24 @@ pub fn lines_of<P: OpenProcess + Drop>(
     }
 }
 
-/// Ends a child, so that none outlives the program. After a session that ended well it has ten
-/// seconds to end by itself; any other child is ended at once. Returns whether it has ended.
-pub fn end<R: Clock, P: OpenProcess + Drop>(rt: &R, child: &mut Child<P>, is_well: bool) -> bool
+// The lines of the engine's standard output, and its standard input.
+fn side_of<P: OpenProcess + Drop>(
+    alloc: Global,
+    child: &mut Child<P>,
+) -> Result<Side<P::Stdout, P::Stdin>, MatchFault>
+    ensures faults { IfErr result (λ f. (f ≡ MatchFault.Session SessionFault.EngineGone)
+        ⊎ (f ≡ MatchFault.OutOfMemory)) }
+{
+    let lines = lines_of(alloc, child, ENGINE_GONE)?;
+    match child.stdin.take() {
+        Some(writer) => Ok(Side { lines, writer }),
+        None => Err(ENGINE_GONE),
+    }
+}
+
+// Ends a child, so that none outlives the program. After a session that ended well it has ten
+// seconds to end by itself; any other child is ended at once. Returns whether it has ended.
+fn end_child<R: Clock, P: OpenProcess + Drop>(rt: &R, child: &mut Child<P>, is_well: bool) -> bool
     ensures ended { result ≡ true → is_some (child_status child.new) ≡ true }
 {
     if is_well && has_ended(rt, child) {

@@ -3,10 +3,15 @@
 
 ghost use Rattle.std.specs.Prelude.{◌≡◌};
 ghost use Rattle.bridge_table.specs.declared.event.Status.{Status};
+ghost use Rattle.session_commands.specs.Holding.{TookAll};
 ghost use Rattle.session_commands.specs.PlayedLogs.{PlaysLegally, handed, happened};
 ghost use Rattle.session_commands.specs.Plays.{Played};
+ghost use Rattle.session_commands.specs.WantedLogs.{SentLegally, sent_before};
+ghost use Rattle.session_commands.specs.Wanting.{PlayWants};
+ghost use Rattle.session_commands.specs.declared.bridging.Seat.{Seat};
 ghost use Rattle.shogi_session.specs.Promises.{Session};
 ghost use Rattle.shogi_session.specs.State.{first_state};
+ghost use Rattle.std.specs.Io.KnownBytes.{Appends};
 
 use crate::bridging::Ends;
 use bridge_table::laws::{ends_are_silent, sent_legal, sent_once};
@@ -14,13 +19,26 @@ use bridge_table::laws::{ends_are_silent, sent_legal, sent_once};
 /// What passes between a bridge, its engine and its server is a log from the bridge's first state
 /// on. So each answer that is sent to the server is a legal move of the client's side in the game
 /// that the server confirmed, or `%TORYO`, or `%KACHI`. None is sent while another waits for
-/// confirmation.
+/// confirmation. If an allocation fails, this holds of all that was sent before.
 pub fn played_moves_are_legal<E: Ends>()
     ensures legal { (e : E) (s : Session) (f : E) (t : Session) (status : Status)
         (played : Played E.came E.went E.gone e s f t status)
-        → s.state ≡ first_state → PlaysLegally s.config (happened played) (handed played) t.state }
+        → s.state ≡ first_state
+        → PlaysLegally s.config (happened played) (handed Seat.Server played) t.state }
+    ensures wanting { (e : E) (s : Session) (f : E) (t : Session)
+        (wants : PlayWants E.came E.missed E.went E.gone e s f t)
+        → s.state ≡ first_state → SentLegally s.config (sent_before s t wants) }
 {
     ends_are_silent();
     sent_legal();
     sent_once();
 }
+
+/// If a seat takes all lines that are sent to it, its writer holds exactly these more, if what it
+/// holds is known.
+pub fn sent_lines_are_held<E: Ends>()
+    ensures held { (seat : Seat) (e : E) (s : Session) (f : E) (t : Session) (status : Status)
+        (played : Played E.came E.went E.gone e s f t status)
+        → TookAll seat played
+        → Appends (E.held e seat) (E.held f seat) (handed seat played) }
+{}

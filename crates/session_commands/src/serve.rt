@@ -4,7 +4,7 @@ ghost use Rattle.std.specs.Prelude.{◌≡◌, ◌≢◌, ◌≤◌, ◌++◌, �
 ghost use Rattle.session_commands.specs.declared.fault.ServeFault.{ServeFault};
 ghost use Rattle.session_commands.specs.declared.fault.TalkFault.{TalkFault};
 ghost use Rattle.session_commands.specs.Talks.{BreaksOff, HasAnswered, Passing};
-ghost use Rattle.session_commands.specs.Offered.{IsOffered};
+ghost use Rattle.session_commands.specs.Offered.{HasServed, IsOffered};
 ghost use Rattle.session_commands.specs.Ports.{port_line};
 ghost use Rattle.shogi_session.specs.Hosting.{HostSession};
 ghost use Rattle.shogi_rules.specs.Positions as positions;
@@ -50,18 +50,8 @@ pub fn run<R: Net<Listener = TcpListener, Stream = TcpStream> + Print + AllocGlo
 // Plays a game with the client on the wire, until the session is over.
 fn play<X: Wire>(alloc: Global, service: Service, wire: &mut X) -> Result<(), ServeFault>
     requires { (1 ≤ service.max_moves) × (service.max_moves ≤ positions.max_moves) }
-    ensures over { OnOk result ((old new : HostSession) × IsOffered service old
-        × HasAnswered X.came X.ends X.went
-        ⟦<Host as Machine>⟧.answers wire.old old true wire.new new) }
-    ensures gone { IsErrOf result ServeFault.ClientGone
-        → (old new : HostSession) × IsOffered service old
-        × HasAnswered X.came X.ends X.went
-        ⟦<Host as Machine>⟧.answers wire.old old false wire.new new }
-    ensures broken { (fault : TalkFault)
-        → fault ≢ TalkFault.OutOfMemory → IsErrOf result (ServeFault.Talk fault)
-        → (old : HostSession) × IsOffered service old
-        × BreaksOff X.came X.ends X.went X.silent X.blocked
-        ⟦<Host as Machine>⟧.answers wire.old old fault wire.new }
+    ensures { HasServed X.came X.ends X.went X.silent X.blocked
+        ⟦<Host as Machine>⟧.answers service wire.old wire.new result }
 {
     let mut host = host_of(alloc, service)?;
     served(talk::answer_all(alloc, &mut host, wire))

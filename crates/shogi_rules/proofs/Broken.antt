@@ -4,6 +4,7 @@ use Rattle.shogi_board.specs.Placed.{Placed}
 use Rattle.shogi_board.specs.declared.color.Color.{Color}
 use Rattle.shogi_rules.specs.After.{after}
 use Rattle.shogi_rules.specs.Legal.{IsPawnDrop, Keeps, Mated, NoDropMate}
+use Rattle.shogi_rules.specs.Positions.{Played, alone, now_of}
 use Rattle.shogi_rules.specs.Rules.{Kept, KeptAlone, keeping_rules, move_rules, IsFirstBroken}
 use Rattle.shogi_rules.specs.declared.moves.Move.{Move}
 use Rattle.shogi_rules.specs.declared.rule.Rule.{Rule}
@@ -29,19 +30,19 @@ broken-not-kept kept [] r h all = cc
 broken-not-kept kept (x ∷ xs) r (inl h) all = h.0 all.0
 broken-not-kept kept (x ∷ xs) r (inr h) all = broken-not-kept kept xs r h.1 all.1
 
-pub all-kept : (ps : List Placed) (p : Placed) (c : Color) (m : Move) → Keeps p m → AllKept (Kept ps p c m) keeping_rules
-all-kept ps p c m k =
+pub all-kept : (line : Played) (c : Color) (m : Move) → Keeps (now_of line) m → AllKept (Kept line c m) keeping_rules
+all-kept line c m k =
     let f = k.fits in
     (f.has_piece, (f.kind_fits, (f.target_free, (f.reaches, (f.may_promote, (f.further_move, (f.lone_pawn, (k.king_safe, tt))))))))
 
 -- who keeps the rules 3 to 10 breaks at most the last
 pub none-by-side : (p : Placed) (m : Move) → Keeps p m → NoDropMate p m → IsFirstBroken (KeptAlone p m) move_rules None
 none-by-side p m keeps free =
-    none-broken (KeptAlone p m) keeping_rules (PawnDropMate ∷ []) None (all-kept (p ∷ []) p p.side m keeps) (inr (free, refl))
+    none-broken (KeptAlone p m) keeping_rules (PawnDropMate ∷ []) None (all-kept (alone p) p.side m keeps) (inr (free, refl))
 
 pub mate-by-side : (p : Placed) (m : Move) → Keeps p m → IsPawnDrop m → Mated (after p m) → IsFirstBroken (KeptAlone p m) move_rules (Some PawnDropMate)
 mate-by-side p m keeps drop mated =
-    none-broken (KeptAlone p m) keeping_rules (PawnDropMate ∷ []) (Some PawnDropMate) (all-kept (p ∷ []) p p.side m keeps) (inl ((λ free. free drop mated), refl))
+    none-broken (KeptAlone p m) keeping_rules (PawnDropMate ∷ []) (Some PawnDropMate) (all-kept (alone p) p.side m keeps) (inl ((λ free. free drop mated), refl))
 
 -- the first of the rules 3 to 10 that is broken is the first of all
 pub unkept-by-side : (p : Placed) (m : Move) (r : Rule) → IsFirstBroken (KeptAlone p m) keeping_rules (Some r) → IsFirstBroken (KeptAlone p m) move_rules (Some r)

@@ -15,7 +15,8 @@ use Rattle.shogi_board.proofs.Decided.{Decision, decide-as, decide-both, decide-
 use Rattle.shogi_rules.specs.After.{after}
 use Rattle.shogi_rules.specs.Kinds.{promoted, rank_for, last_rank}
 use Rattle.shogi_rules.specs.Legal.{target, kind_after, HasPiece, KindFits, TargetFree, ReachesTarget, MayPromote, HasFurtherMove, LonePawn, KingSafe, FitsBoard, Keeps, Mated, IsPawnDrop, NoDropMate, Legal}
-use Rattle.shogi_rules.specs.Repetition.{times, Over}
+use Rattle.shogi_rules.specs.Positions.{Played, Over, all_of, now_of}
+use Rattle.shogi_rules.specs.Repetition.{times}
 use Rattle.shogi_rules.specs.Rules.{Kept, IsFirstBroken}
 use Rattle.shogi_rules.specs.declared.moves.Move.{Move}
 use Rattle.shogi_rules.specs.declared.moves.Move.TheVariants.{Walk, Put}
@@ -154,23 +155,23 @@ decide-legal p m =
     (λ h. (h.keeps, h.no_drop_mate))
     (decide-both _ _ (decide-keeps p m) (decide-no_drop_mate p m))
 
--- whether a position occurs for the fourth time
-pub decide-over : (ps : List Placed) (p : Placed) → Decision (Over ps p)
-decide-over ps p = decide-le 4 (times ps p)
+-- whether the last position occurs for the fourth time
+pub decide-over : (line : Played) → Decision (Over line)
+decide-over line = decide-le 4 (times (all_of line) (now_of line))
 
 -- whether a side's move keeps a rule
-pub decide-kept : (ps : List Placed) (p : Placed) (color : Color) (m : Move) (rule : Rule) → Decision (Kept ps p color m rule)
-decide-kept ps p color m WrongSide = decide-color color p.side
-decide-kept ps p color m RepetitionOver = decide-not _ (decide-over ps p)
-decide-kept ps p color m NoPiece = decide-has_piece p m
-decide-kept ps p color m WrongKind = decide-kind_fits p m
-decide-kept ps p color m Occupied = decide-target_free p m
-decide-kept ps p color m CannotReach = decide-reaches p m
-decide-kept ps p color m BadPromotion = decide-may_promote p m
-decide-kept ps p color m MustPromote = decide-further_move p m
-decide-kept ps p color m DoubledPawn = decide-lone_pawn p m
-decide-kept ps p color m LeavesKing = decide-king_safe p m
-decide-kept ps p color m PawnDropMate = decide-no_drop_mate p m
+pub decide-kept : (line : Played) (color : Color) (m : Move) (rule : Rule) → Decision (Kept line color m rule)
+decide-kept line color m WrongSide = decide-color color (now_of line).side
+decide-kept line color m RepetitionOver = decide-not _ (decide-over line)
+decide-kept line color m NoPiece = decide-has_piece (now_of line) m
+decide-kept line color m WrongKind = decide-kind_fits (now_of line) m
+decide-kept line color m Occupied = decide-target_free (now_of line) m
+decide-kept line color m CannotReach = decide-reaches (now_of line) m
+decide-kept line color m BadPromotion = decide-may_promote (now_of line) m
+decide-kept line color m MustPromote = decide-further_move (now_of line) m
+decide-kept line color m DoubledPawn = decide-lone_pawn (now_of line) m
+decide-kept line color m LeavesKing = decide-king_safe (now_of line) m
+decide-kept line color m PawnDropMate = decide-no_drop_mate (now_of line) m
 
 -- of each list of rules some rule, or none, is the first that is not kept
 pub some-broken : (kept : Rule → Type 0) (rules : List Rule) → ((rule : Rule) → Decision (kept rule)) → (answer : Option Rule) × IsFirstBroken kept rules answer

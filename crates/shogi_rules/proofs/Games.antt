@@ -8,9 +8,9 @@ use Rattle.shogi_rules.specs.After.{after}
 use Rattle.shogi_rules.specs.Legal.{Legal}
 use Rattle.shogi_rules.specs.Play.{Answers, Breaks}
 use Rattle.shogi_rules.specs.Lines.{IsOpen}
-use Rattle.shogi_rules.specs.Positions.{Played, max_moves, now_of, position_after, positions_of, played, begun, IsGame}
+use Rattle.shogi_rules.specs.Positions.{Played, Over, alone, line_of, max_moves, now_of, position_after, positions_of, played, begun, IsGame}
 use Rattle.shogi_rules.specs.Lines.{IsLine}
-use Rattle.shogi_rules.specs.Repetition.{times, Over, IsNth}
+use Rattle.shogi_rules.specs.Repetition.{times, IsNth}
 use Rattle.shogi_rules.specs.Rules.{Kept, KeptAlone, move_rules, all_rules, IsFirstBroken}
 use Rattle.shogi_rules.specs.declared.line.PlayFault.{PlayFault}
 use Rattle.shogi_rules.specs.declared.line.PlayFault.TheVariants.{Broken}
@@ -27,8 +27,8 @@ all-of-none kept [] h = tt
 all-of-none kept (x ∷ xs) (inl h) = let e = h.1 in cc
 all-of-none kept (x ∷ xs) (inr h) = (h.0, all-of-none kept xs h.1)
 
-legal-of-moves : (ps : List Placed) (p : Placed) (c : Color) (m : Move) → AllKept (Kept ps p c m) move_rules → Legal p m
-legal-of-moves ps p c m all =
+legal-of-moves : (line : Played) (c : Color) (m : Move) → AllKept (Kept line c m) move_rules → Legal (now_of line) m
+legal-of-moves line c m all =
     let r3 = all.1 in
     let r4 = r3.1 in
     let r5 = r4.1 in
@@ -59,20 +59,20 @@ none-of-all kept [] answer all h = h
 none-of-all kept (x ∷ xs) answer all (inl h) = absurd (h.0 all.0)
 none-of-all kept (x ∷ xs) answer all (inr h) = none-of-all kept xs answer all.1 h.1
 
-moves-of-legal : (ps : List Placed) (p : Placed) (c : Color) (m : Move) → Legal p m → AllKept (Kept ps p c m) move_rules
-moves-of-legal ps p c m l =
+moves-of-legal : (line : Played) (c : Color) (m : Move) → Legal (now_of line) m → AllKept (Kept line c m) move_rules
+moves-of-legal line c m l =
     let f = l.keeps.fits in
     (f.has_piece, (f.kind_fits, (f.target_free, (f.reaches, (f.may_promote, (f.further_move, (f.lone_pawn, (l.keeps.king_safe, (l.no_drop_mate, tt)))))))))
 
 -- of the side to move, no rule is broken exactly where the move is legal
-pub none-legal : (p : Placed) (c : Color) (m : Move) (answer : Option Rule) → c ≡ p.side → IsFirstBroken (Kept (p ∷ []) p p.side m) move_rules answer → (answer ≡ None) ↔ ((c ≡ p.side) × Legal p m)
+pub none-legal : (p : Placed) (c : Color) (m : Move) (answer : Option Rule) → c ≡ p.side → IsFirstBroken (Kept (alone p) p.side m) move_rules answer → (answer ≡ None) ↔ ((c ≡ p.side) × Legal p m)
 none-legal p c m answer same h = (
-  λ e. (same, let none : IsFirstBroken (Kept (p ∷ []) p p.side m) move_rules None = rw e at h in legal-of-moves (p ∷ []) p p.side m (all-of-none (Kept (p ∷ []) p p.side m) move_rules none)),
-  λ l. none-of-all (Kept (p ∷ []) p p.side m) move_rules answer (moves-of-legal (p ∷ []) p p.side m l.1) h,
+  λ e. (same, let none : IsFirstBroken (Kept (alone p) p.side m) move_rules None = rw e at h in legal-of-moves (alone p) p.side m (all-of-none (Kept (alone p) p.side m) move_rules none)),
+  λ l. none-of-all (Kept (alone p) p.side m) move_rules answer (moves-of-legal (alone p) p.side m l.1) h,
 )
 
-pub legal-of-none : (ps : List Placed) (p : Placed) (c : Color) (m : Move) → IsFirstBroken (Kept ps p c m) all_rules None → Legal p m
-legal-of-none ps p c m h = let all = all-of-none (Kept ps p c m) all_rules h in let rest = all.1 in legal-of-moves ps p c m rest.1
+pub legal-of-none : (line : Played) (c : Color) (m : Move) → IsFirstBroken (Kept line c m) all_rules None → Legal (now_of line) m
+legal-of-none line c m h = let all = all-of-none (Kept line c m) all_rules h in let rest = all.1 in legal-of-moves line c m rest.1
 
 pub position-more : (s : Placed) (ms : List Move) (m : Move) → position_after s (ms ++ m ∷ []) ≡ after (position_after s ms) m
 position-more s [] m = refl
@@ -90,13 +90,13 @@ positions-long s (m ∷ ms) = let h = positions-long (after s m) ms in omega (ar
 pub line-room : (start : Placed) (moves : List Move) → length moves < 10000 → length (positions_of start moves) ≤ 10000
 line-room start moves few = let h = positions-long start moves in omega (arith, h, few)
 
-pub line-more : (start last : Placed) (moves : List Move) (c : Color) (m : Move) → IsLine start last moves → length moves < 10000 → IsFirstBroken (Kept (positions_of start moves) (position_after start moves) c m) all_rules None → IsLine start (after (position_after start moves) m) (moves ++ m ∷ [])
+pub line-more : (start last : Placed) (moves : List Move) (c : Color) (m : Move) → IsLine start last moves → length moves < 10000 → IsFirstBroken (Kept (line_of start moves) c m) all_rules None → IsLine start (after (position_after start moves) m) (moves ++ m ∷ [])
 line-more start last moves c m line few none = record {
   leads = sym (position-more start moves m);
   game =
-      let kept = all-of-none (Kept (positions_of start moves) (position_after start moves) c m) all_rules none in
+      let kept = all-of-none (Kept (line_of start moves) c m) all_rules none in
       let rest = kept.1 in
-      played moves m line.game (record { legal = legal-of-none (positions_of start moves) (position_after start moves) c m none; not_over = rest.0 });
+      played moves m line.game (record { legal = legal-of-none (line_of start moves) c m none; not_over = rest.0 });
   few = omega (arith, length-append moves (m ∷ []));
 }
 
@@ -108,7 +108,7 @@ denied b says off holds = let yes = says.1 holds in cc
 pub below : (b : Bool) (n m : ℕ) → IsTrue b ↔ (m ≤ n) → b ≡ false → n < m
 below b n m says off = elim (cases_lt n m) [ inl low ↦ low | inr full ↦ absurd (denied b says off full) ]
 
-few-by : (ps : List Placed) (p q : Placed) (b : Bool) → same_position p q ≡ b → times ps q ≤ 3 → (Over (ps ++ p ∷ []) p → ⊥) → times (ps ++ p ∷ []) q ≤ 3
+few-by : (ps : List Placed) (p q : Placed) (b : Bool) → same_position p q ≡ b → times ps q ≤ 3 → ((4 ≤ times (ps ++ p ∷ []) p) → ⊥) → times (ps ++ p ∷ []) q ≤ 3
 few-by ps p q false e low going = let same = times-apart ps p q (λ is. let yes = (position-same p q).1 is in cc) in omega (arith, same, low)
 few-by ps p q true e low going =
     let is : p ≡ q = (position-same p q).0 e in
@@ -116,25 +116,25 @@ few-by ps p q true e low going =
     subst (λ (x : Placed). times (ps ++ p ∷ []) x ≤ 3) is last
 
 -- while a game goes on no position occurs for the fourth time
-game-few : (start : Placed) (ms : List Move) → IsGame start ms → (Over (positions_of start ms) (position_after start ms) → ⊥) → (q : Placed) → times (positions_of start ms) q ≤ 3
+game-few : (start : Placed) (ms : List Move) → IsGame start ms → (Over (line_of start ms) → ⊥) → (q : Placed) → times (positions_of start ms) q ≤ 3
 game-few start _ begun going q = let low = times-low (start ∷ []) q in omega (arith, low)
 game-few start _ (played before m game may) going q =
     let ps = positions_of start before in
     let p = after (position_after start before) m in
     let all = positions-more start before m in
     let last = position-more start before m in
-    let still : Over (ps ++ p ∷ []) p → ⊥ = rw (all, last) at going in
+    let still : (4 ≤ times (ps ++ p ∷ []) p) → ⊥ = rw (all, last) at going in
     rw all (few-by ps p q (same_position p q) refl (game-few start before game may.not_over q) still)
 
 -- a position that occurs for the fourth time does so at the last place
-pub game-fourth : (start : Placed) (ms : List Move) → IsGame start ms → Over (positions_of start ms) (position_after start ms) → IsNth (positions_of start ms) (position_after start ms) 4 (length ms)
+pub game-fourth : (start : Placed) (ms : List Move) → IsGame start ms → Over (line_of start ms) → IsNth (positions_of start ms) (position_after start ms) 4 (length ms)
 game-fourth start _ begun over = let low = times-low (start ∷ []) start in absurd (omega (arith, low, over))
 game-fourth start _ (played before m game may) over =
     let ps = positions_of start before in
     let p = after (position_after start before) m in
     let all = positions-more start before m in
     let last = position-more start before m in
-    let stands : Over (ps ++ p ∷ []) p = rw (all, last) at over in
+    let stands : 4 ≤ times (ps ++ p ∷ []) p = rw (all, last) at over in
     let few = game-few start before game may.not_over p in
     let more = times-last ps p in
     let long = positions-long start before in
@@ -144,17 +144,17 @@ game-fourth start _ (played before m game may) over =
     let whole = times-whole ps (length ps) p (omega arith) in
     rw (all, last, place) (record { stands = get-behind ps p (length ps) refl; before = omega (arith, kept, whole, more, few, stands) })
 
-last-by : (ps : List Placed) (p q : Placed) (b : Bool) → same_position p q ≡ b → times ps q ≤ 3 → Over (ps ++ p ∷ []) q → q ≡ p
+last-by : (ps : List Placed) (p q : Placed) (b : Bool) → same_position p q ≡ b → times ps q ≤ 3 → 4 ≤ times (ps ++ p ∷ []) q → q ≡ p
 last-by ps p q true e low over = sym ((position-same p q).0 e)
 last-by ps p q false e low over = let same = times-apart ps p q (λ is. let yes = (position-same p q).1 is in cc) in absurd (omega (arith, same, low, over))
 
 -- and it is the last one
-pub game-last : (start : Placed) (ms : List Move) → IsGame start ms → (q : Placed) → Over (positions_of start ms) q → q ≡ position_after start ms
+pub game-last : (start : Placed) (ms : List Move) → IsGame start ms → (q : Placed) → 4 ≤ times (positions_of start ms) q → q ≡ position_after start ms
 game-last start _ begun q over = let low = times-low (start ∷ []) q in absurd (omega (arith, low, over))
 game-last start _ (played before m game may) q over =
     let ps = positions_of start before in
     let p = after (position_after start before) m in
-    let stands : Over (ps ++ p ∷ []) q = rw (positions-more start before m) at over in
+    let stands : 4 ≤ times (ps ++ p ∷ []) q = rw (positions-more start before m) at over in
     last-by ps p q (same_position p q) refl (game-few start before game may.not_over q) stands ∙ sym (position-more start before m)
 
 -- the answer that a first broken rule gives, where no limit is met

@@ -4,7 +4,7 @@ use Rattle.shogi_board.specs.Placed.{Placed}
 use Rattle.shogi_board.specs.declared.color.Color.{Color}
 use Rattle.shogi_rules.specs.Order.{IsFirstLegal}
 use Rattle.shogi_rules.specs.Play.{Answers}
-use Rattle.shogi_rules.specs.Positions.{Played, now_of, all_of}
+use Rattle.shogi_rules.specs.Positions.{Played}
 use Rattle.shogi_rules.specs.Rules.{Kept, all_rules, IsFirstBroken}
 use Rattle.shogi_rules.specs.declared.line.PlayFault.{PlayFault}
 use Rattle.shogi_rules.specs.declared.line.PlayFault.TheVariants.{TooManyMoves, Broken, OutOfMemory}
@@ -19,8 +19,8 @@ one-broken kept (x ∷ xs) a b (inl h) (inr k) = absurd (h.0 k.0)
 one-broken kept (x ∷ xs) a b (inr h) (inl k) = absurd (k.0 h.0)
 one-broken kept (x ∷ xs) a b (inr h) (inr k) = one-broken kept xs a b h.1 k.1
 
-broken-once : (line : Played) (color : Color) (m : Move) (a b : Option Rule) → IsFirstBroken (Kept (all_of line) (now_of line) color m) all_rules a → IsFirstBroken (Kept (all_of line) (now_of line) color m) all_rules b → a ≡ b
-broken-once line color m a b h k = one-broken (Kept (all_of line) (now_of line) color m) all_rules a b h k
+broken-once : (line : Played) (color : Color) (m : Move) (a b : Option Rule) → IsFirstBroken (Kept line color m) all_rules a → IsFirstBroken (Kept line color m) all_rules b → a ≡ b
+broken-once line color m a b h k = one-broken (Kept line color m) all_rules a b h k
 
 some-rule : (a b : Rule) → Some a ≡ Some b → a ≡ b
 some-rule a b e = cc

@@ -1,4 +1,4 @@
--- Each list of positions and each position has a verdict.
+-- Each line has a verdict.
 use Rattle.std.proofs.Common.{◌≡◌, ℕ, zero, suc, ◌+◌, ◌<◌, ◌≤◌, inl, inr, Bool, true, false, cond, List, [], ◌∷◌, Option, Some, None, length, take, slice_get, arith, refl, ap, sym, ◌∙◌}
 use Rattle.std.proofs.lemmas.Bool.{cases_lt}
 use Rattle.shogi_board.specs.Pieces.{opponent}
@@ -11,10 +11,10 @@ use Rattle.shogi_board.proofs.Decided.{Decision, Below, decide-as, decide-both, 
 use Rattle.shogi_board.proofs.Same.{position-same}
 use Rattle.shogi_rules.specs.Legal.{Legal}
 use Rattle.shogi_rules.specs.Play.{Answers}
-use Rattle.shogi_rules.specs.Positions.{Played, now_of, all_of}
-use Rattle.shogi_rules.specs.Repetition.{times, Over, IsNth, IsStretch, PressedAt, Pressed}
+use Rattle.shogi_rules.specs.Positions.{Played, Over, now_of, all_of}
+use Rattle.shogi_rules.specs.Repetition.{times, IsNth, PressedAt, Pressed}
 use Rattle.shogi_rules.specs.Rules.{Kept, all_rules, IsFirstBroken}
-use Rattle.shogi_rules.specs.Verdicts.{PressedAlone, StandsByMoves, StandsByStretch, Stands}
+use Rattle.shogi_rules.specs.Verdicts.{IsStretch, PressedAlone, StandsByMoves, StandsByStretch, Stands}
 use Rattle.shogi_rules.specs.declared.line.PlayFault.{PlayFault}
 use Rattle.shogi_rules.specs.declared.line.PlayFault.TheVariants.{TooManyMoves, Broken}
 use Rattle.shogi_rules.specs.declared.line.Verdict.{Verdict}
@@ -27,14 +27,14 @@ use Rattle.shogi_rules.proofs.Decided.{decide-kept, decide-le, decide-legal, dec
 full-of : (n : ℕ) → (n < 10000 → ⊥) → 10000 ≤ n
 full-of n full = elim (cases_lt n 10000) [ inl few ↦ absurd (full few) | inr le ↦ le ]
 
-answer-of : (line : Played) (color : Color) (m : Move) → length line.moves < 10000 → (rule : Option Rule) × IsFirstBroken (Kept (all_of line) (now_of line) color m) all_rules rule → (answer : Option PlayFault) × Answers line color m answer
+answer-of : (line : Played) (color : Color) (m : Move) → length line.moves < 10000 → (rule : Option Rule) × IsFirstBroken (Kept line color m) all_rules rule → (answer : Option PlayFault) × Answers line color m answer
 answer-of line color m few (None, none) = (None, (few, none))
 answer-of line color m few (Some rule, broken) = (Some (Broken rule), (few, broken))
 
 pub some-answer : (line : Played) (color : Color) (m : Move) → (answer : Option PlayFault) × Answers line color m answer
 some-answer line color m =
     elim (decide-lt (length line.moves) 10000) [
-      | inl few ↦ answer-of line color m few (some-broken (Kept (all_of line) (now_of line) color m) all_rules (decide-kept (all_of line) (now_of line) color m))
+      | inl few ↦ answer-of line color m few (some-broken (Kept line color m) all_rules (decide-kept line color m))
       | inr full ↦ (Some TooManyMoves, full-of (length line.moves) full)
     ]
 
@@ -97,28 +97,30 @@ nobody : (ps : List Placed) (start fourth : ℕ) → (PressedAlone ps start four
 nobody ps start fourth b w Black = b
 nobody ps start fourth b w White = w
 
-by-stretch : (ps : List Placed) (p : Placed) (start fourth : ℕ) → IsStretch ps p start fourth → Decision (PressedAlone ps start fourth Black) → Decision (PressedAlone ps start fourth White) → (verdict : Verdict) × StandsByStretch ps p verdict
-by-stretch ps p start fourth stretch (inl alone) d = (Perpetual Black, record { first = start; fourth = fourth; stretch = stretch; alone = alone })
-by-stretch ps p start fourth stretch (inr nor) (inl alone) = (Perpetual White, record { first = start; fourth = fourth; stretch = stretch; alone = alone })
-by-stretch ps p start fourth stretch (inr nor) (inr none) =
-    (Repetition, record { first = start; fourth = fourth; stretch = stretch; nobody_alone = nobody ps start fourth nor none })
+by-stretch : (line : Played) (start fourth : ℕ) → IsStretch line start fourth → Decision (PressedAlone (all_of line) start fourth Black) → Decision (PressedAlone (all_of line) start fourth White) → (verdict : Verdict) × StandsByStretch line verdict
+by-stretch line start fourth stretch (inl alone) d = (Perpetual Black, record { first = start; fourth = fourth; stretch = stretch; alone = alone })
+by-stretch line start fourth stretch (inr nor) (inl alone) = (Perpetual White, record { first = start; fourth = fourth; stretch = stretch; alone = alone })
+by-stretch line start fourth stretch (inr nor) (inr none) =
+    (Repetition, record { first = start; fourth = fourth; stretch = stretch; nobody_alone = nobody (all_of line) start fourth nor none })
 
-stretch-of : (ps : List Placed) (p : Placed) → Over ps p → (verdict : Verdict) × StandsByStretch ps p verdict
-stretch-of ps p over =
-    let a = some-place ps p 0 (omega (arith, over)) in
-    let b = some-place ps p 3 (omega (arith, over)) in
-    by-stretch ps p a.0 b.0 (record { begins = a.1; ends = b.1 }) (decide-alone ps a.0 b.0 Black) (decide-alone ps a.0 b.0 White)
+stretch-of : (line : Played) → Over line → (verdict : Verdict) × StandsByStretch line verdict
+stretch-of line over =
+    let ps = all_of line in
+    let a = some-place ps (now_of line) 0 (omega (arith, over)) in
+    let b = some-place ps (now_of line) 3 (omega (arith, over)) in
+    by-stretch line a.0 b.0 (record { begins = a.1; ends = b.1 }) (decide-alone ps a.0 b.0 Black) (decide-alone ps a.0 b.0 White)
 
 by-moves : (p : Placed) → Decision ((m : Move) × Legal p m) → Decision (InCheck p.material.board p.side) → (verdict : Verdict) × StandsByMoves p verdict
 by-moves p (inl some) d = (Ongoing, some)
 by-moves p (inr none) (inl check) = (Mate, (check, λ m legal. none (m, legal)))
 by-moves p (inr none) (inr safe) = (NoMove, (safe, λ m legal. none (m, legal)))
 
-verdict-of : (ps : List Placed) (p : Placed) → Decision (Over ps p) → (verdict : Verdict) × Stands ps p verdict
-verdict-of ps p (inl over) = let v = stretch-of ps p over in (v.0, inl (over, v.1))
-verdict-of ps p (inr not_over) =
+verdict-of : (line : Played) → Decision (Over line) → (verdict : Verdict) × Stands line verdict
+verdict-of line (inl over) = let v = stretch-of line over in (v.0, inl (over, v.1))
+verdict-of line (inr not_over) =
+    let p = now_of line in
     let v = by-moves p (decide-move (Legal p) (decide-legal p)) (decide-in_check p.material.board p.side) in
     (v.0, inr (not_over, v.1))
 
-pub some-verdict : (ps : List Placed) (p : Placed) → (verdict : Verdict) × Stands ps p verdict
-some-verdict ps p = verdict-of ps p (decide-over ps p)
+pub some-verdict : (line : Played) → (verdict : Verdict) × Stands line verdict
+some-verdict line = verdict-of line (decide-over line)

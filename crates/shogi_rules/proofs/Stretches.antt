@@ -9,8 +9,9 @@ use Rattle.shogi_board.specs.Same.{same_position}
 use Rattle.shogi_board.specs.declared.color.Color.{Color}
 use Rattle.shogi_board.specs.declared.color.Color.TheVariants.{Black, White}
 use Rattle.shogi_board.proofs.Same.{position-same}
-use Rattle.shogi_rules.specs.Repetition.{times, IsNth, IsStretch}
-use Rattle.shogi_rules.specs.Verdicts.{PressedAlone, IsPerpetual, IsRepetition, StandsByMoves, StandsByStretch, Stands}
+use Rattle.shogi_rules.specs.Positions.{Played, all_of, now_of}
+use Rattle.shogi_rules.specs.Repetition.{times, IsNth}
+use Rattle.shogi_rules.specs.Verdicts.{IsStretch, PressedAlone, IsPerpetual, IsRepetition, StandsByMoves, StandsByStretch, Stands}
 use Rattle.shogi_rules.specs.declared.line.Verdict.{Verdict}
 use Rattle.shogi_rules.specs.declared.line.Verdict.TheVariants.{Ongoing, Mate, NoMove, Repetition, Perpetual}
 
@@ -33,8 +34,8 @@ nth-once ps p n i j a b =
       | inr (inr high) ↦ let l = later ps p j i b.stands high in absurd (omega (arith, l, a.before, b.before))
     ]
 
-pub stretch-once : (ps : List Placed) (p : Placed) (f l f2 l2 : ℕ) → IsStretch ps p f l → IsStretch ps p f2 l2 → (f ≡ f2) × (l ≡ l2)
-stretch-once ps p f l f2 l2 a b = (nth-once ps p 1 f f2 a.begins b.begins, nth-once ps p 4 l l2 a.ends b.ends)
+pub stretch-once : (line : Played) (f l f2 l2 : ℕ) → IsStretch line f l → IsStretch line f2 l2 → (f ≡ f2) × (l ≡ l2)
+stretch-once line f l f2 l2 a b = (nth-once (all_of line) (now_of line) 1 f f2 a.begins b.begins, nth-once (all_of line) (now_of line) 4 l l2 a.ends b.ends)
 
 alone-once : (ps : List Placed) (first fourth : ℕ) (c d : Color) → PressedAlone ps first fourth c → PressedAlone ps first fourth d → c ≡ d
 alone-once ps first fourth Black Black a b = refl
@@ -42,16 +43,16 @@ alone-once ps first fourth Black White a b = absurd (a.1 b.0)
 alone-once ps first fourth White Black a b = absurd (a.1 b.0)
 alone-once ps first fourth White White a b = refl
 
-perpetual-once : (ps : List Placed) (p : Placed) (c d : Color) → IsPerpetual ps p c → IsPerpetual ps p d → c ≡ d
-perpetual-once ps p c d a b =
-    let same = stretch-once ps p a.first a.fourth b.first b.fourth a.stretch b.stretch in
-    let there : PressedAlone ps b.first b.fourth c = rw (same.0, same.1) at a.alone in
-    alone-once ps b.first b.fourth c d there b.alone
+perpetual-once : (line : Played) (c d : Color) → IsPerpetual line c → IsPerpetual line d → c ≡ d
+perpetual-once line c d a b =
+    let same = stretch-once line a.first a.fourth b.first b.fourth a.stretch b.stretch in
+    let there : PressedAlone (all_of line) b.first b.fourth c = rw (same.0, same.1) at a.alone in
+    alone-once (all_of line) b.first b.fourth c d there b.alone
 
-perpetual-or-not : (ps : List Placed) (p : Placed) (c : Color) → IsPerpetual ps p c → IsRepetition ps p → ⊥
-perpetual-or-not ps p c a b =
-    let same = stretch-once ps p a.first a.fourth b.first b.fourth a.stretch b.stretch in
-    let there : PressedAlone ps b.first b.fourth c = rw (same.0, same.1) at a.alone in
+perpetual-or-not : (line : Played) (c : Color) → IsPerpetual line c → IsRepetition line → ⊥
+perpetual-or-not line c a b =
+    let same = stretch-once line a.first a.fourth b.first b.fourth a.stretch b.stretch in
+    let there : PressedAlone (all_of line) b.first b.fourth c = rw (same.0, same.1) at a.alone in
     b.nobody_alone c there
 
 one-by-moves : (p : Placed) (u v : Verdict) → StandsByMoves p u → StandsByMoves p v → u ≡ v
@@ -73,23 +74,23 @@ one-by-moves p Mate (Perpetual c) a b = absurd b
 one-by-moves p NoMove Repetition a b = absurd b
 one-by-moves p NoMove (Perpetual c) a b = absurd b
 
-one-by-stretch : (ps : List Placed) (p : Placed) (u v : Verdict) → StandsByStretch ps p u → StandsByStretch ps p v → u ≡ v
-one-by-stretch ps p Repetition Repetition a b = refl
-one-by-stretch ps p Repetition (Perpetual c) a b = absurd (perpetual-or-not ps p c b a)
-one-by-stretch ps p (Perpetual c) Repetition a b = absurd (perpetual-or-not ps p c a b)
-one-by-stretch ps p (Perpetual c) (Perpetual d) a b = ap Perpetual (perpetual-once ps p c d a b)
-one-by-stretch ps p Ongoing v a b = absurd a
-one-by-stretch ps p Mate v a b = absurd a
-one-by-stretch ps p NoMove v a b = absurd a
-one-by-stretch ps p Repetition Ongoing a b = absurd b
-one-by-stretch ps p Repetition Mate a b = absurd b
-one-by-stretch ps p Repetition NoMove a b = absurd b
-one-by-stretch ps p (Perpetual c) Ongoing a b = absurd b
-one-by-stretch ps p (Perpetual c) Mate a b = absurd b
-one-by-stretch ps p (Perpetual c) NoMove a b = absurd b
+one-by-stretch : (line : Played) (u v : Verdict) → StandsByStretch line u → StandsByStretch line v → u ≡ v
+one-by-stretch line Repetition Repetition a b = refl
+one-by-stretch line Repetition (Perpetual c) a b = absurd (perpetual-or-not line c b a)
+one-by-stretch line (Perpetual c) Repetition a b = absurd (perpetual-or-not line c a b)
+one-by-stretch line (Perpetual c) (Perpetual d) a b = ap Perpetual (perpetual-once line c d a b)
+one-by-stretch line Ongoing v a b = absurd a
+one-by-stretch line Mate v a b = absurd a
+one-by-stretch line NoMove v a b = absurd a
+one-by-stretch line Repetition Ongoing a b = absurd b
+one-by-stretch line Repetition Mate a b = absurd b
+one-by-stretch line Repetition NoMove a b = absurd b
+one-by-stretch line (Perpetual c) Ongoing a b = absurd b
+one-by-stretch line (Perpetual c) Mate a b = absurd b
+one-by-stretch line (Perpetual c) NoMove a b = absurd b
 
-pub one-verdict : (ps : List Placed) (p : Placed) (u v : Verdict) → Stands ps p u → Stands ps p v → u ≡ v
-one-verdict ps p u v (inl a) (inl b) = one-by-stretch ps p u v a.1 b.1
-one-verdict ps p u v (inl a) (inr b) = absurd (b.0 a.0)
-one-verdict ps p u v (inr a) (inl b) = absurd (a.0 b.0)
-one-verdict ps p u v (inr a) (inr b) = one-by-moves p u v a.1 b.1
+pub one-verdict : (line : Played) (u v : Verdict) → Stands line u → Stands line v → u ≡ v
+one-verdict line u v (inl a) (inl b) = one-by-stretch line u v a.1 b.1
+one-verdict line u v (inl a) (inr b) = absurd (b.0 a.0)
+one-verdict line u v (inr a) (inl b) = absurd (a.0 b.0)
+one-verdict line u v (inr a) (inr b) = one-by-moves (now_of line) u v a.1 b.1

@@ -4,14 +4,13 @@ use Rattle.std.specs.Prelude.{◌≡◌, ◌<◌, ◌≤◌, List, length}
 use Rattle.shogi_board.specs.Placed.{Placed}
 use Rattle.shogi_board.specs.declared.color.Color.{Color}
 use Rattle.shogi_rules.specs.declared.moves.Move.{Move}
-use Rattle.shogi_rules.specs.Positions.{Played, IsGame, all_of, max_moves, now_of, position_after}
-use Rattle.shogi_rules.specs.Repetition.{Over}
+use Rattle.shogi_rules.specs.Positions.{Played, IsGame, Over, max_moves, now_of, position_after}
 
 -- that side may play, if it has a legal move
 pub record IsOpen (line : Played) (color : Color) : Type 0 where
   pub few : length line.moves < max_moves
   pub turn : color ≡ (now_of line).side
-  pub not_over : Over (all_of line) (now_of line) → ⊥
+  pub not_over : Over line → ⊥
 
 -- a start, what its moves lead to, and the moves
 pub record IsLine (start now : Placed) (moves : List Move) : Type 0 where

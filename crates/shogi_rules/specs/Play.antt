@@ -5,12 +5,12 @@ use Rattle.shogi_rules.specs.declared.line.PlayFault.{PlayFault}
 use Rattle.shogi_rules.specs.declared.line.PlayFault.TheVariants.{TooManyMoves, Broken, OutOfMemory}
 use Rattle.shogi_rules.specs.declared.moves.Move.{Move}
 use Rattle.shogi_rules.specs.declared.rule.Rule.{Rule}
-use Rattle.shogi_rules.specs.Positions.{Played, max_moves, now_of, all_of}
+use Rattle.shogi_rules.specs.Positions.{Played, max_moves}
 use Rattle.shogi_rules.specs.Rules.{Kept, all_rules, IsFirstBroken}
 
 -- the first rule that the move breaks, over all positions of the line
 abbrev pub Breaks : Played → Color → Move → Option Rule → Type 0
-Breaks line color m rule = IsFirstBroken (Kept (all_of line) (now_of line) color m) all_rules rule
+Breaks line color m rule = IsFirstBroken (Kept line color m) all_rules rule
 
 -- memory aside: too many moves, else the first broken rule, else none
 abbrev pub Answers : Played → Color → Move → Option PlayFault → Type 0

@@ -1,10 +1,10 @@
 -- A line: a start and the moves from it.
-use Rattle.std.specs.Prelude.{◌++◌, ℕ, List, [], ◌∷◌}
+use Rattle.std.specs.Prelude.{◌++◌, ℕ, ◌≤◌, List, [], ◌∷◌}
 use Rattle.shogi_board.specs.Placed.{Placed}
 use Rattle.shogi_rules.specs.declared.moves.Move.{Move}
 use Rattle.shogi_rules.specs.After.{after}
 use Rattle.shogi_rules.specs.Legal.{Legal}
-use Rattle.shogi_rules.specs.Repetition.{Over}
+use Rattle.shogi_rules.specs.Repetition.{times}
 
 pub record Played : Type 0 where
   pub start : Placed
@@ -30,11 +30,22 @@ now_of line = position_after line.start line.moves
 abbrev pub all_of : Played → List Placed
 all_of line = positions_of line.start line.moves
 
--- the move is legal in the position that those before it lead to, and that position, the last so
--- far (law now_stands_last), does not occur for the fourth time
+abbrev pub line_of : Placed → List Move → Played
+line_of start moves = record { start = start; moves = moves }
+
+-- the position without any moves
+abbrev pub alone : Placed → Played
+alone p = line_of p []
+
+-- the last position occurs for the fourth time
+abbrev pub Over : Played → Type 0
+Over line = 4 ≤ times (all_of line) (now_of line)
+
+-- the move is legal in the position that those before it lead to, and that position does not occur
+-- for the fourth time
 pub record MayFollow (start : Placed) (before : List Move) (m : Move) : Type 0 where
   pub legal : Legal (position_after start before) m
-  pub not_over : Over (positions_of start before) (position_after start before) → ⊥
+  pub not_over : Over (line_of start before) → ⊥
 
 -- a game: moves each of which may follow those before it
 pub data IsGame (start : Placed) : List Move → Type 0 where

@@ -1,4 +1,4 @@
--- When a position occurs for the fourth time, and who gave check all the while.
+-- How often a position occurs in a list of positions, and who gave check all the while.
 use Rattle.std.specs.Prelude.{◌≡◌, ℕ, ◌+◌, ◌<◌, ◌≤◌, List, Some, take, count_by, slice_get}
 use Rattle.shogi_board.specs.declared.color.Color.{Color}
 use Rattle.shogi_board.specs.Placed.{Placed}
@@ -9,20 +9,10 @@ use Rattle.shogi_board.specs.Same.{same_position}
 abbrev pub times : List Placed → Placed → ℕ
 times ps p = count_by (λ q. same_position q p) ps
 
--- it occurs for the fourth time; callers take p as the last of ps, which a line's last position is
--- (law now_stands_last)
-abbrev pub Over : List Placed → Placed → Type 0
-Over ps p = 4 ≤ times ps p
-
 -- it is at that place, and occurs fewer times before
 pub record IsNth (ps : List Placed) (p : Placed) (n place : ℕ) : Type 0 where
   pub stands : slice_get ps place ≡ Some p
   pub before : times (take place ps) p + 1 ≡ n
-
--- the moves from its first place to its fourth
-pub record IsStretch (ps : List Placed) (p : Placed) (first fourth : ℕ) : Type 0 where
-  pub begins : IsNth ps p 1 first
-  pub ends : IsNth ps p 4 fourth
 
 -- if the side moved from that place, the other was in check afterwards
 abbrev pub PressedAt : List Placed → Color → ℕ → Type 0

@@ -6,25 +6,25 @@ use Rattle.shogi_rules.specs.declared.moves.Move.{Move}
 use Rattle.shogi_rules.specs.declared.rule.Rule.{Rule}
 use Rattle.shogi_rules.specs.declared.rule.Rule.TheVariants.{WrongSide, RepetitionOver, NoPiece, WrongKind, Occupied, CannotReach, BadPromotion, MustPromote, DoubledPawn, LeavesKing, PawnDropMate}
 use Rattle.shogi_rules.specs.Legal.{HasPiece, KindFits, TargetFree, ReachesTarget, MayPromote, HasFurtherMove, LonePawn, KingSafe, NoDropMate}
-use Rattle.shogi_rules.specs.Repetition.{Over}
+use Rattle.shogi_rules.specs.Positions.{Played, Over, alone, now_of}
 
--- a side's move keeps a rule; p is the position to judge, which callers take as the last of ps
-abbrev pub Kept : List Placed → Placed → Color → Move → Rule → Type 0
-Kept ps p color m WrongSide = color ≡ p.side
-Kept ps p color m RepetitionOver = Over ps p → ⊥
-Kept ps p color m NoPiece = HasPiece p m
-Kept ps p color m WrongKind = KindFits p m
-Kept ps p color m Occupied = TargetFree p m
-Kept ps p color m CannotReach = ReachesTarget p m
-Kept ps p color m BadPromotion = MayPromote p m
-Kept ps p color m MustPromote = HasFurtherMove p m
-Kept ps p color m DoubledPawn = LonePawn p m
-Kept ps p color m LeavesKing = KingSafe p m
-Kept ps p color m PawnDropMate = NoDropMate p m
+-- a side's move keeps a rule after the moves of the line
+abbrev pub Kept : Played → Color → Move → Rule → Type 0
+Kept line color m WrongSide = color ≡ (now_of line).side
+Kept line color m RepetitionOver = Over line → ⊥
+Kept line color m NoPiece = HasPiece (now_of line) m
+Kept line color m WrongKind = KindFits (now_of line) m
+Kept line color m Occupied = TargetFree (now_of line) m
+Kept line color m CannotReach = ReachesTarget (now_of line) m
+Kept line color m BadPromotion = MayPromote (now_of line) m
+Kept line color m MustPromote = HasFurtherMove (now_of line) m
+Kept line color m DoubledPawn = LonePawn (now_of line) m
+Kept line color m LeavesKing = KingSafe (now_of line) m
+Kept line color m PawnDropMate = NoDropMate (now_of line) m
 
--- a side's move keeps a rule if the position occurs for the first time
+-- a side's move keeps a rule in the position, which occurs for the first time
 abbrev pub KeptAt : Placed → Color → Move → Rule → Type 0
-KeptAt p color m = Kept (p ∷ []) p color m
+KeptAt p = Kept (alone p)
 
 -- the side to move keeps a rule there
 abbrev pub KeptAlone : Placed → Move → Rule → Type 0

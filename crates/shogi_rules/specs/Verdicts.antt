@@ -8,7 +8,8 @@ use Rattle.shogi_rules.specs.declared.line.Verdict.{Verdict}
 use Rattle.shogi_rules.specs.declared.line.Verdict.TheVariants.{Ongoing, Mate, NoMove, Repetition, Perpetual}
 use Rattle.shogi_rules.specs.declared.moves.Move.{Move}
 use Rattle.shogi_rules.specs.Legal.{Legal}
-use Rattle.shogi_rules.specs.Repetition.{Over, IsStretch, Pressed}
+use Rattle.shogi_rules.specs.Positions.{Played, Over, all_of, now_of}
+use Rattle.shogi_rules.specs.Repetition.{IsNth, Pressed}
 
 abbrev pub NoLegalMove : Placed → Type 0
 NoLegalMove p = (m : Move) → Legal p m → ⊥
@@ -18,20 +19,24 @@ abbrev pub PressedAlone : List Placed → ℕ → ℕ → Color → Type 0
 PressedAlone ps first fourth color =
     Pressed ps first fourth color × (Pressed ps first fourth (opponent color) → ⊥)
 
--- that side alone pressed between the first and the fourth place of p, which callers take as the
--- last of ps, which a line's last position is (law now_stands_last)
-pub record IsPerpetual (ps : List Placed) (p : Placed) (color : Color) : Type 0 where
-  pub first : ℕ
-  pub fourth : ℕ
-  pub stretch : IsStretch ps p first fourth
-  pub alone : PressedAlone ps first fourth color
+-- the moves from the first place of the last position to its fourth
+pub record IsStretch (line : Played) (first fourth : ℕ) : Type 0 where
+  pub begins : IsNth (all_of line) (now_of line) 1 first
+  pub ends : IsNth (all_of line) (now_of line) 4 fourth
 
--- neither side alone pressed there; p is taken as in IsPerpetual
-pub record IsRepetition (ps : List Placed) (p : Placed) : Type 0 where
+-- that side alone pressed in the stretch
+pub record IsPerpetual (line : Played) (color : Color) : Type 0 where
   pub first : ℕ
   pub fourth : ℕ
-  pub stretch : IsStretch ps p first fourth
-  pub nobody_alone : (color : Color) → PressedAlone ps first fourth color → ⊥
+  pub stretch : IsStretch line first fourth
+  pub alone : PressedAlone (all_of line) first fourth color
+
+-- neither side alone pressed in the stretch
+pub record IsRepetition (line : Played) : Type 0 where
+  pub first : ℕ
+  pub fourth : ℕ
+  pub stretch : IsStretch line first fourth
+  pub nobody_alone : (color : Color) → PressedAlone (all_of line) first fourth color → ⊥
 
 -- by check and the legal moves of the side to move
 abbrev pub StandsByMoves : Placed → Verdict → Type 0
@@ -41,15 +46,16 @@ StandsByMoves p NoMove = (InCheck p.material.board p.side → ⊥) × NoLegalMov
 StandsByMoves p Repetition = ⊥
 StandsByMoves p (Perpetual color) = ⊥
 
--- by who pressed, if the position occurs for the fourth time; p is taken as in IsPerpetual
-abbrev pub StandsByStretch : List Placed → Placed → Verdict → Type 0
-StandsByStretch ps p Ongoing = ⊥
-StandsByStretch ps p Mate = ⊥
-StandsByStretch ps p NoMove = ⊥
-StandsByStretch ps p Repetition = IsRepetition ps p
-StandsByStretch ps p (Perpetual color) = IsPerpetual ps p color
+-- by who pressed, if the last position occurs for the fourth time
+abbrev pub StandsByStretch : Played → Verdict → Type 0
+StandsByStretch line Ongoing = ⊥
+StandsByStretch line Mate = ⊥
+StandsByStretch line NoMove = ⊥
+StandsByStretch line Repetition = IsRepetition line
+StandsByStretch line (Perpetual color) = IsPerpetual line color
 
--- of the positions of a line, and the last of them, p
-abbrev pub Stands : List Placed → Placed → Verdict → Type 0
-Stands ps p verdict =
-    (Over ps p × StandsByStretch ps p verdict) ⊎ ((Over ps p → ⊥) × StandsByMoves p verdict)
+-- the state of the game after the moves of the line
+abbrev pub Stands : Played → Verdict → Type 0
+Stands line verdict =
+    (Over line × StandsByStretch line verdict)
+    ⊎ ((Over line → ⊥) × StandsByMoves (now_of line) verdict)

@@ -2,7 +2,7 @@
 //!
 //! A law is a function that does nothing: its contract is the law.
 
-ghost use Rattle.std.specs.Prelude.{◌≡◌, ℕ, ◌+◌, ◌<◌, ◌↔◌, List, [], ◌∷◌, Option, Some, slice_get, length};
+ghost use Rattle.std.specs.Prelude.{◌≡◌, ℕ, ◌+◌, ◌<◌, ◌≤◌, ◌↔◌, List, [], ◌∷◌, Option, Some, slice_get, length};
 ghost use Rattle.std.specs.List.Sorted.{IsStrictlySortedBy};
 ghost use Rattle.shogi_board.specs.Cells.{Cells, at, piece};
 ghost use Rattle.shogi_board.specs.Pieces.{opponent};
@@ -20,8 +20,8 @@ ghost use Rattle.shogi_rules.specs.Kinds.{rank_for, last_rank};
 ghost use Rattle.shogi_rules.specs.Legal.{FitsBoard, HasPiece, Keeps, ReachesTarget, Legal, target};
 ghost use Rattle.shogi_rules.specs.Order.{IsFirstLegal};
 ghost use Rattle.shogi_rules.specs.Play.{Answers};
-ghost use Rattle.shogi_rules.specs.Positions.{Played, position_after, IsGame, now_of, all_of};
-ghost use Rattle.shogi_rules.specs.Repetition.{times, IsNth, Over};
+ghost use Rattle.shogi_rules.specs.Positions.{Played, Over, position_after, IsGame, now_of, all_of};
+ghost use Rattle.shogi_rules.specs.Repetition.{times, IsNth};
 ghost use Rattle.shogi_rules.specs.Rules.{Kept, all_rules, IsFirstBroken};
 ghost use Rattle.shogi_rules.specs.Verdicts.{Stands};
 ghost use Rattle.shogi_rules.specs.declared.line.PlayFault.{PlayFault};
@@ -96,15 +96,15 @@ pub fn other_side_moves()
 
 /// One rule, or none, is the first that a move breaks.
 pub fn one_first_broken_rule()
-    ensures once { (ps : List Placed) (p : Placed) (color : Color) (m : Move) (a b : Option Rule)
-        → IsFirstBroken (Kept ps p color m) all_rules a
-        → IsFirstBroken (Kept ps p color m) all_rules b → a ≡ b }
+    ensures once { (line : Played) (color : Color) (m : Move) (a b : Option Rule)
+        → IsFirstBroken (Kept line color m) all_rules a
+        → IsFirstBroken (Kept line color m) all_rules b → a ≡ b }
 {}
 
 /// Each move of a side has an answer: some rule, or none, is the first that it breaks.
 pub fn some_first_broken_rule()
-    ensures answer { (ps : List Placed) (p : Placed) (color : Color) (m : Move)
-        → (answer : Option Rule) × IsFirstBroken (Kept ps p color m) all_rules answer }
+    ensures answer { (line : Played) (color : Color) (m : Move)
+        → (answer : Option Rule) × IsFirstBroken (Kept line color m) all_rules answer }
 {}
 
 /// Memory aside, one answer to a move that is to be played holds.
@@ -146,13 +146,12 @@ pub fn nth_place_once()
 
 /// No two verdicts hold together.
 pub fn one_verdict()
-    ensures once { (ps : List Placed) (p : Placed) (u v : Verdict) → Stands ps p u → Stands ps p v
-        → u ≡ v }
+    ensures once { (line : Played) (u v : Verdict) → Stands line u → Stands line v → u ≡ v }
 {}
 
-/// Each position has a verdict, whatever positions it is looked for in.
+/// Each line has a verdict.
 pub fn some_verdict()
-    ensures verdict { (ps : List Placed) (p : Placed) → (verdict : Verdict) × Stands ps p verdict }
+    ensures verdict { (line : Played) → (verdict : Verdict) × Stands line verdict }
 {}
 
 /// The position that a line's moves lead to is the last of its positions.
@@ -166,8 +165,8 @@ pub fn now_stands_last()
 /// place.
 pub fn fourth_stands_last()
     ensures last { (line : Played) (p : Placed) → IsGame line.start line.moves
-        → Over (all_of line) p → p ≡ now_of line }
+        → 4 ≤ times (all_of line) p → p ≡ now_of line }
     ensures place { (line : Played) → IsGame line.start line.moves
-        → Over (all_of line) (now_of line)
+        → Over line
         → IsNth (all_of line) (now_of line) 4 (length line.moves) }
 {}

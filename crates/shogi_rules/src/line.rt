@@ -1,9 +1,9 @@
 ghost use Rattle.std.specs.Prelude.{◌≡◌, ◌≤◌, ◌++◌, [], ◌∷◌, IfOk, OnOk, OnErr, MatchOption, MatchResult, length, ◌⊎◌, ◌↔◌, IsTrue, true, None, Some};
 ghost use Rattle.shogi_board.specs.Reach.{InCheck};
-ghost use Rattle.shogi_rules.specs.Positions.{max_moves, now_of, all_of, IsGame};
+ghost use Rattle.shogi_rules.specs.Positions.{Over, max_moves, now_of, all_of, IsGame};
 ghost use Rattle.shogi_rules.specs.Play.{Answers};
 ghost use Rattle.shogi_rules.specs.Lines.{IsOpen};
-ghost use Rattle.shogi_rules.specs.Repetition.{times, Over};
+ghost use Rattle.shogi_rules.specs.Repetition.{times};
 ghost use Rattle.shogi_rules.specs.Verdicts.{Stands};
 ghost use Rattle.shogi_rules.specs.declared.line.PlayFault.TheVariants.{OutOfMemory};
 
@@ -141,7 +141,7 @@ impl Line {
     /// Then `play` refuses each move, and `verdict` is Repetition or Perpetual. It takes one look
     /// at what the line has counted, and searches for no move and no mate.
     pub fn is_over(&self) -> bool
-        ensures answer { IsTrue result ↔ Over (all_of self.now) (now_of self.now) }
+        ensures answer { IsTrue result ↔ Over self.now }
     {
         self.repeats() >= 4
     }
@@ -246,7 +246,7 @@ impl Line {
     /// The state of the game: at a fourth occurrence Repetition or Perpetual, else by check and
     /// legal moves.
     pub fn verdict(&self) -> Verdict
-        ensures stands { Stands (all_of self.now) (now_of self.now) result }
+        ensures stands { Stands self.now result }
     {
         if self.is_over() {
             verdict_of_stretch(&self.seen)

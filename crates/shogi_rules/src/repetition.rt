@@ -2,6 +2,7 @@ ghost use Rattle.std.specs.Prelude.{◌≡◌, ◌+◌, ◌-◌, ◌<◌, ◌≤
 ghost use Rattle.shogi_board.specs.Placed.{Placed};
 ghost use Rattle.shogi_board.specs.declared.color.Color.{Color};
 ghost use Rattle.shogi_rules.specs.Counting.{AreTurns, IsSeen};
+ghost use Rattle.shogi_rules.specs.Positions.{Played, all_of, now_of};
 ghost use Rattle.shogi_rules.specs.Repetition.{IsNth, PressedAt, Pressed};
 ghost use Rattle.shogi_rules.specs.Verdicts.{PressedAlone, StandsByMoves, StandsByStretch};
 
@@ -57,8 +58,9 @@ fn presser(turns: &[Turn], first: usize, fourth: usize) -> Option<Color>
 // The verdict on a line whose last position occurs for the fourth time.
 pub(crate) fn verdict_of_stretch(seen: &Seen) -> Verdict
     requires { 0 < length seen.now.turns }
-    ensures { (ps : List Placed) (p : Placed) → IsSeen ps p seen.now
-        → IsNth ps p 4 (length seen.now.turns - 1) → StandsByStretch ps p result }
+    ensures { (line : Played) → IsSeen (all_of line) (now_of line) seen.now
+        → IsNth (all_of line) (now_of line) 4 (length seen.now.turns - 1)
+        → StandsByStretch line result }
 {
     let turns = seen.turns();
     match presser(turns, seen.first(), turns.len() - 1) {

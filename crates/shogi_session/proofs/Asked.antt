@@ -3,8 +3,8 @@ use Rattle.std.proofs.Common.{◌≡◌, ◌↔◌, ℕ, ◌+◌, ◌-◌, ◌<�
 use Rattle.std.proofs.lemmas.List.{length-map, append-nil, drop_more, get_or-map}
 use Rattle.shogi_board.specs.declared.color.Color.{Color}
 use Rattle.shogi_board.specs.Pieces.{opponent, same_color}
-use Rattle.shogi_rules.specs.Positions.{Played, now_of, all_of}
-use Rattle.shogi_rules.specs.Repetition.{Over}
+use Rattle.shogi_rules.specs.Positions.{Played, now_of}
+use Rattle.shogi_rules.specs.Positions.{Over}
 use Rattle.usi_text.specs.LineText.{LineText}
 use Rattle.csa_record.specs.Course.{time_at, time_of}
 use Rattle.csa_record.specs.Game.{Game, Timed, move_of}
@@ -18,19 +18,19 @@ abbrev played_of : Game → Played
 played_of x = record { start = x.start; moves = map move_of x.moves }
 
 -- the side to move is the client's and there is room: all depends on the repetition
-pub may_ask_now : (g : Match) (game : Game) (client side : Color) (l : Played) (over : Bool) → g.client ≡ client → g.game ≡ game → l ≡ played_of game → side ≡ (now_of l).side → side ≡ client → length l.moves < 10000 → (IsTrue over ↔ Over (all_of l) (now_of l)) → (IsTrue (not over) ↔ MayAsk g)
+pub may_ask_now : (g : Match) (game : Game) (client side : Color) (l : Played) (over : Bool) → g.client ≡ client → g.game ≡ game → l ≡ played_of game → side ≡ (now_of l).side → side ≡ client → length l.moves < 10000 → (IsTrue over ↔ Over l) → (IsTrue (not over) ↔ MayAsk g)
 may_ask_now g game client side l over cl e is s c few told =
     let same : match_line g ≡ l = ap played_of e ∙ sym is in
     let moves : length l.moves ≡ length g.game.moves = ap (λ (t : Played). length t.moves) (sym same) ∙ length-map g.game.moves move_of in
     let turn : (now_of (match_line g)).side ≡ g.client = ap (λ t. (now_of t).side) same ∙ (sym s ∙ (c ∙ sym cl)) in
     may_ask_by over told same turn (omega (arith, few, moves))
   where
-    may_ask_by : (b : Bool) → (IsTrue b ↔ Over (all_of l) (now_of l)) → match_line g ≡ l → (now_of (match_line g)).side ≡ g.client → length g.game.moves < 10000 → (IsTrue (not b) ↔ MayAsk g)
-    may_ask_by true told same turn room = (λ h. cc, λ (may : MayAsk g). absurd (may.not_over (subst (λ t. Over (all_of t) (now_of t)) (sym same) (told.0 refl))))
+    may_ask_by : (b : Bool) → (IsTrue b ↔ Over l) → match_line g ≡ l → (now_of (match_line g)).side ≡ g.client → length g.game.moves < 10000 → (IsTrue (not b) ↔ MayAsk g)
+    may_ask_by true told same turn room = (λ h. cc, λ (may : MayAsk g). absurd (may.not_over (subst (λ t. Over t) (sym same) (told.0 refl))))
     may_ask_by false told same turn room = (
       λ h. record {
         to_move = turn;
-        not_over = λ o. let x = told.1 (subst (λ t. Over (all_of t) (now_of t)) same o) in cc;
+        not_over = λ o. let x = told.1 (subst (λ t. Over t) same o) in cc;
         few = room;
       },
       λ may. refl,

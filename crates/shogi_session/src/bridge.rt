@@ -75,8 +75,9 @@ impl Bridge {
     ///
     /// After a fault, no lines are sent, then or later; both states stay.
     ///
-    /// Returns `OutOfMemory` if an allocation fails. The session is `Lost` then: both states stay,
-    /// and no lines are sent later. Once the session is over, every call returns `Ok`.
+    /// Returns `OutOfMemory` if an allocation fails, or if the lines of a position block come to
+    /// more than 2^63 bytes. The session is `Lost` then: both states stay, and no lines are sent
+    /// later. Once the session is over, every call returns `Ok`.
     pub fn step(&mut self, event: Event<'_>) -> Result<Out, OutOfMemory>
         requires line { HoldsLine (event_of event) }
         ensures row { IfOk result

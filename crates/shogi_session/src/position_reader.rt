@@ -157,7 +157,8 @@ fn take_line(reader: &mut RecordReader, line: &[u8]) -> Result<bool, OutOfMemory
     }
 }
 
-// Feeds the reader these bytes. Returns whether it has refused nothing.
+// Feeds the reader these bytes. Returns whether it has refused nothing. Returns `OutOfMemory` if an
+// allocation fails, or if the block has more bytes than a reader takes.
 fn feed(reader: &mut RecordReader, bytes: &[u8]) -> Result<bool, OutOfMemory>
     ensures { (text : List ℕ) → HasRead text reader.old
         → IfOk result (λ going. IsFedOn (text ++ bytes.now) going reader.new) }
@@ -177,7 +178,7 @@ fn feed(reader: &mut RecordReader, bytes: &[u8]) -> Result<bool, OutOfMemory>
     }
 }
 
-// Whether a reader takes this many more bytes. There is never memory for more.
+// Whether a reader takes this many more bytes: at most 2^63 in all.
 fn has_room(reader: &RecordReader, bytes: &[u8]) -> bool
     ensures { IsTrue result → fed_of reader.now + length bytes.now ≤ 2 ^ 63 }
 {

@@ -44,17 +44,21 @@ fn is_line(line: &[u8]) -> bool
     line.iter().all(|b| !(*b == b'\r' || *b == b'\n'))
 }
 
-// The event of a row. `E` or `S` and a line: a line of the engine or of the server. Otherwise the
+// An event; the lines that the bridge sends to its engine and to its server; and the game's text
+// from then on, which is empty if there is no game yet.
+type Row = (&'static str, &'static str, &'static str, &'static str);
+
+// The event's text. `E` or `S` and a line: a line of the engine or of the server. Otherwise the
 // first letter decides: `engine ends`, `server ends`, `long line of the engine`, `too long line of
 // the server`; anything else is the beginning.
-fn read_row(row: &[u8]) -> Result<Event<'_>, Fail>
+fn read_event(text: &[u8]) -> Result<Event<'_>, Fail>
     ensures { IfOk result (λ event. HoldsLine (event_of event)) }
 {
-    let Some((first, line)) = row.split_first() else {
+    let Some((first, line)) = text.split_first() else {
         return Ok(Event::Begin);
     };
     if !is_line(line) {
-        return Err(Fail::from("a row holds a line end"));
+        return Err(Fail::from("an event holds a line end"));
     }
     match first {
         b'E' => Ok(Event::EngineLine(line)),
@@ -137,66 +141,67 @@ fn answer_as_engine<R: Abort + Print>(rt: &R, engine: &mut Sample) -> Result<(),
     Ok(())
 }
 
-// Gives the bridge the event of a row, and returns whether it had enough memory. If not, both
-// states are unchanged.
-fn hand_or_lose<R: Abort + Print>(rt: &R, bridge: &mut Bridge, row: &str) -> Result<bool, Fail> {
+// Gives the bridge the event of a row, and returns whether it had enough memory. If so, it sends the
+// row's lines. If not, both states are unchanged.
+fn hand_or_lose<R: Abort + Print>(rt: &R, bridge: &mut Bridge, row: &Row) -> Result<bool, Fail> {
+    let (event, to_engine, to_server, _) = *row;
     let states = (bridge.engine_state(), bridge.client_state());
-    match bridge.step(read_row(row.as_bytes())?) {
+    match bridge.step(read_event(event.as_bytes())?) {
         Ok(out) => {
-            assert!(rt; out.status == Status::Going, "{row}");
+            assert!(rt; out.status == Status::Going, "{event}");
+            assert!(rt; out.to_engine.bytes() == to_engine.as_bytes(), "{event}");
+            assert!(rt; out.to_server.bytes() == to_server.as_bytes(), "{event}");
             Ok(true)
         }
         Err(OutOfMemory) => {
             println!(rt; "refused")?;
             assert!(rt;
                 states == (bridge.engine_state(), bridge.client_state()),
-                "{row}"
+                "{event}"
             );
             Ok(false)
         }
     }
 }
 
-// Gives the bridge the rows, separated by bars, up to the first that is out of memory. Returns how
-// many there are before it, if there is one.
+// Gives the bridge the rows, up to the first that is out of memory. Returns the game's text before
+// that row and after it, if there is one.
 fn first_refused<R: Abort + Print>(
     rt: &R,
     bridge: &mut Bridge,
-    rows: &str,
-) -> Result<Option<usize>, Fail> {
-    let mut count = 0usize;
-    for row in rows.split('|') {
+    rows: &[Row],
+) -> Result<Option<(&'static str, &'static str)>, Fail> {
+    let mut before = "";
+    for row in rows {
         if !hand_or_lose(rt, bridge, row)? {
-            return Ok(Some(count));
+            return Ok(Some((before, row.3)));
         }
-        count = count.saturating_add(1);
+        before = row.3;
     }
     Ok(None)
 }
 
 // Gives a new bridge the rows.
-fn hand_each<R: Abort + Print + AllocGlobal>(rt: &R, rows: &str) -> Result<(), Fail> {
+fn hand_each<R: Abort + Print + AllocGlobal>(rt: &R, rows: &[Row]) -> Result<(), Fail> {
     let mut bridge = bridge(rt.alloc())?;
     hand_or_stop(rt, &mut bridge, rows)
 }
 
-// Gives the bridge the rows. At the first that is out of memory the session fails, with a whole
-// game.
-fn hand_or_stop<R: Abort + Print + AllocGlobal>(
-    rt: &R,
-    bridge: &mut Bridge,
-    rows: &str,
-) -> Result<(), Fail> {
-    let Some(count) = first_refused(rt, bridge, rows)? else {
+// Gives the bridge the rows. At the first that is out of memory the session fails, with the game
+// before it or the game after it. After the last it has that row's game.
+fn hand_or_stop<R: Abort + Print>(rt: &R, bridge: &mut Bridge, rows: &[Row]) -> Result<(), Fail> {
+    if let Some((before, after)) = first_refused(rt, bridge, rows)? {
+        is_lost(rt, bridge)?;
+        assert!(rt; has_game(bridge, before)? || has_game(bridge, after)?);
         return Ok(());
-    };
-    is_lost(rt, bridge)?;
-    has_game(rt, bridge, rows, count)
+    }
+    let last = rows.last().ok_or("no rows")?;
+    has_game_at_last(rt, bridge, last.3)
 }
 
 // No event after that sends a line.
 fn is_lost<R: Abort>(rt: &R, bridge: &mut Bridge) -> Result<(), Fail> {
-    for row in [
+    for event in [
         "begin",
         "Eusiok",
         "SSTART:g",
@@ -205,37 +210,35 @@ fn is_lost<R: Abort>(rt: &R, bridge: &mut Bridge) -> Result<(), Fail> {
         "server ends",
         "long",
     ] {
-        let out = bridge.step(read_row(row.as_bytes())?)?;
-        assert!(rt; is_silent_and_lost(&out), "{row}");
+        let out = bridge.step(read_event(event.as_bytes())?)?;
+        assert!(rt; is_silent_and_lost(&out), "{event}");
     }
     Ok(())
 }
 
-// The game is the one before the row with this number, or the one after it.
-fn has_game<R: Abort + AllocGlobal>(
-    rt: &R,
-    bridge: &Bridge,
-    rows: &str,
-    count: usize,
-) -> Result<(), Fail> {
-    let text = bridge.game_text()?;
-    let before = text_behind(rt.alloc(), rows, count)?;
-    let after = text_behind(rt.alloc(), rows, count.saturating_add(1))?;
-    assert!(rt; text == before || text == after);
-    Ok(())
+// Whether this is the game's text.
+fn has_game(bridge: &Bridge, wanted: &str) -> Result<bool, Fail> {
+    Ok(is_text(&bridge.game_text()?, wanted))
 }
 
-// The game text of a bridge that was given this many of the rows.
-fn text_behind(alloc: Global, rows: &str, count: usize) -> Result<Option<Vec<u8>>, Fail> {
-    let mut bridge = bridge(alloc)?;
-    text_of(&mut bridge, rows, count)
-}
-
-fn text_of(bridge: &mut Bridge, rows: &str, count: usize) -> Result<Option<Vec<u8>>, Fail> {
-    for row in rows.split('|').take(count) {
-        bridge.step(read_row(row.as_bytes())?)?;
+fn is_text(text: &Option<Vec<u8>>, wanted: &str) -> bool {
+    match text {
+        Some(text) => text.as_slice() == wanted.as_bytes(),
+        None => wanted.is_empty(),
     }
-    Ok(bridge.game_text()?)
+}
+
+// This is the game's text, which may take two calls.
+fn has_game_at_last<R: Abort + Print>(rt: &R, bridge: &Bridge, wanted: &str) -> Result<(), Fail> {
+    let text = match bridge.game_text() {
+        Ok(text) => text,
+        Err(OutOfMemory) => {
+            println!(rt; "refused")?;
+            bridge.game_text()?
+        }
+    };
+    assert!(rt; is_text(&text, wanted));
+    Ok(())
 }
 
 fn is_silent_and_lost(out: &Out) -> bool {
@@ -244,52 +247,77 @@ fn is_silent_and_lost(out: &Out) -> bool {
         && out.status == Status::Lost
 }
 
+const ASKED: &str = "usinewgame\nposition startpos\ngo btime 600000 wtime 600000 byoyomi 10000\n";
+
+const ASKED_AGAIN: &str =
+    "position startpos moves 7g7f 3c3d\ngo btime 588000 wtime 594000 byoyomi 10000\n";
+
 #[test]
 fn refused_growth_of_names(rt: HostRuntime) -> Result<(), Fail> {
-    hand_each(
-        &rt,
-        "begin|Eusiok|Ereadyok|SLOGIN:x OK|SBEGIN Game_Summary|\
-         SName+:bridge|SName-:host|SBEGIN Time|SEND Time",
-    )
+    let rows: [Row; 9] = [
+        ("begin", "usi\n", "", ""),
+        ("Eusiok", "isready\n", "", ""),
+        ("Ereadyok", "", "LOGIN bridge pw\n", ""),
+        ("SLOGIN:x OK", "", "", ""),
+        ("SBEGIN Game_Summary", "", "", ""),
+        ("SName+:bridge", "", "", ""),
+        ("SName-:host", "", "", ""),
+        ("SBEGIN Time", "", "", ""),
+        ("SEND Time", "", "", ""),
+    ];
+    hand_each(&rt, &rows)
 }
+
+const NAMED: &str = "V2.2\nN-x\nPI\n+\n";
 
 #[test]
 fn refused_growth_of_moves(rt: HostRuntime) -> Result<(), Fail> {
-    hand_each(
-        &rt,
-        "begin|Eusiok|Ereadyok|SLOGIN:x OK|SBEGIN Game_Summary|SYour_Turn:+|SBEGIN Position|S+|\
-         SEND Position|SEND Game_Summary|SSTART:g|Ebestmove 7g7f|S+7776FU,T12|S-3334FU,T6",
-    )
+    let rows: [Row; 15] = [
+        ("begin", "usi\n", "", ""),
+        ("Eusiok", "isready\n", "", ""),
+        ("Ereadyok", "", "LOGIN bridge pw\n", ""),
+        ("SLOGIN:x OK", "", "", ""),
+        ("SBEGIN Game_Summary", "", "", ""),
+        ("SName-:x", "", "", ""),
+        ("SYour_Turn:+", "", "", ""),
+        ("SBEGIN Position", "", "", ""),
+        ("S+", "", "", ""),
+        ("SEND Position", "", "", ""),
+        ("SEND Game_Summary", "", "AGREE\n", NAMED),
+        ("SSTART:g", ASKED, "", NAMED),
+        ("Ebestmove 7g7f", "", "+7776FU\n", NAMED),
+        ("S+7776FU,T12", "", "", "V2.2\nN-x\nPI\n+\n+7776FU\nT12\n"),
+        (
+            "S-3334FU,T6",
+            ASKED_AGAIN,
+            "",
+            "V2.2\nN-x\nPI\n+\n+7776FU\nT12\n-3334FU\nT6\n",
+        ),
+    ];
+    hand_each(&rt, &rows)
 }
+
+const BARE: &str = "V2.2\nPI\n+\n";
+
+const RESIGNED: &str = "V2.2\nPI\n+\n%TORYO\n";
 
 #[test]
 fn refused_growth_of_a_result(rt: HostRuntime) -> Result<(), Fail> {
-    hand_each(
-        &rt,
-        "begin|Eusiok|Ereadyok|SLOGIN:x OK|SBEGIN Game_Summary|SYour_Turn:+|SBEGIN Position|S+|\
-         SEND Position|SEND Game_Summary|SSTART:g|S%TORYO|S#RESIGN|S#LOSE",
-    )
-}
-
-#[test]
-fn refused_growth_of_a_game_text(rt: HostRuntime) -> Result<(), Fail> {
-    let rows = "begin|Eusiok|Ereadyok|SLOGIN:x OK|SBEGIN Game_Summary|SYour_Turn:+|\
-                SBEGIN Position|S+|SEND Position|SEND Game_Summary";
-    let mut bridge = bridge(rt.alloc())?;
-    tell_text(&rt, &mut bridge, rows)
-}
-
-fn tell_text<R: Abort + Print>(rt: &R, bridge: &mut Bridge, rows: &str) -> Result<(), Fail> {
-    if first_refused(rt, bridge, rows)?.is_some() {
-        return Ok(());
-    }
-    let text = match bridge.game_text() {
-        Ok(text) => text,
-        Err(OutOfMemory) => {
-            println!(rt; "refused")?;
-            bridge.game_text()?
-        }
-    };
-    assert!(rt; text.ok_or("no game")?.as_slice() == b"V2.2\nPI\n+\n".as_slice());
-    Ok(())
+    let rows: [Row; 14] = [
+        ("begin", "usi\n", "", ""),
+        ("Eusiok", "isready\n", "", ""),
+        ("Ereadyok", "", "LOGIN bridge pw\n", ""),
+        ("SLOGIN:x OK", "", "", ""),
+        ("SBEGIN Game_Summary", "", "", ""),
+        ("SYour_Turn:+", "", "", ""),
+        ("SBEGIN Position", "", "", ""),
+        ("S+", "", "", ""),
+        ("SEND Position", "", "", ""),
+        ("SEND Game_Summary", "", "AGREE\n", BARE),
+        ("SSTART:g", ASKED, "", BARE),
+        ("S%TORYO", "", "", RESIGNED),
+        ("S#RESIGN", "", "", RESIGNED),
+        ("S#LOSE", "gameover lose\nquit\n", "LOGOUT\n", RESIGNED),
+    ];
+    hand_each(&rt, &rows)
 }

@@ -1,7 +1,9 @@
+use crate::memory::{refuse_all, refuse_no_more};
 use shogi_board::{
     Color, Hand, Kind, OutOfMemory, Piece, Position, Setup, SetupFault, Square, attacked, reaches,
 };
 use std::cmp::Ordering;
+use std::process::Abort;
 use std::test::Fail;
 
 // Each kind, and how many of it a hand with all pieces holds.
@@ -27,8 +29,7 @@ pub(crate) fn square(file: u8, rank: u8) -> Result<Square, Fail> {
     Ok(square.ok_or("no square")?)
 }
 
-#[test]
-fn squares_and_hands(rt: HostRuntime) -> Result<(), Fail> {
+fn squares_and_hands(rt: &impl Abort) -> Result<(), Fail> {
     let rook = square(2, 8)?;
     let (file, rank): (u8, u8) = (rook.file(), rook.rank());
     assert!(rt; file == 2 && rank == 8 && Square::new(0, 1).is_none());
@@ -44,8 +45,7 @@ fn squares_and_hands(rt: HostRuntime) -> Result<(), Fail> {
     Ok(())
 }
 
-#[test]
-fn positions(rt: HostRuntime) -> Result<(), Fail> {
+fn positions(rt: &impl Abort) -> Result<(), Fail> {
     let even: Position = Position::even();
     let copy = even;
     assert!(rt; copy == even && copy.cmp(&even) == Ordering::Equal);
@@ -69,8 +69,7 @@ fn positions(rt: HostRuntime) -> Result<(), Fail> {
 }
 
 // Each refusal of a setup.
-#[test]
-fn setups(rt: HostRuntime) -> Result<(), Fail> {
+fn setups(rt: &impl Abort) -> Result<(), Fail> {
     let mut setup = Setup::empty();
     let placed: Result<(), SetupFault> = setup.place(Color::White, square(5, 1)?, Kind::King);
     assert!(rt; placed == Ok(()));
@@ -81,6 +80,16 @@ fn setups(rt: HostRuntime) -> Result<(), Fail> {
     let taken_off: Result<(), SetupFault> = setup.take_off(square(5, 1)?, Kind::King);
     assert!(rt; taken_off == Ok(()) && setup == Setup::empty());
     Ok(())
+}
+
+// No call of `shogi_board` allocates.
+#[test]
+fn needs_no_memory(rt: HostRuntime) -> Result<(), Fail> {
+    refuse_all(&rt);
+    squares_and_hands(&rt)?;
+    positions(&rt)?;
+    setups(&rt)?;
+    refuse_no_more(&rt)
 }
 
 #[test]

@@ -1,9 +1,10 @@
 ghost use Rattle.std.specs.Prelude.{None, false};
 
+use crate::memory::{refuse_all, refuse_no_more};
 use crate::rules_tests::pawn_move;
 use csa_record::{
     Failure, FlowFault, HeaderValue, Reading, Record, RecordReader, Refusal, Sink, Source, Why,
-    Writing, laws, normalise, read, read_from, write,
+    Writing, laws, normalise, read, read_from, read_pieces, write,
 };
 use csa_text::{Ending, Item, read_item, read_moment};
 use shogi_board::{Color, OutOfMemory, Position};
@@ -34,11 +35,10 @@ fn has_titles(rt: &impl Abort, record: &Record) -> Result<(), Fail> {
 }
 
 #[test]
-fn titles_of_a_record(rt: HostRuntime) -> Result<(), Fail> {
+fn new_record(rt: HostRuntime) -> Result<(), Fail> {
     let record: Result<Record, OutOfMemory> = Record::new(rt.alloc(), Position::even());
-    let mut record = record?;
-    give_titles(&rt, &mut record)?;
-    has_titles(&rt, &record)
+    assert!(rt; record?.line().moves().is_empty());
+    Ok(())
 }
 
 fn resigned() -> Result<Ending, Fail> {
@@ -48,11 +48,16 @@ fn resigned() -> Result<Ending, Fail> {
     }
 }
 
-fn give_moves(rt: &impl Abort, record: &mut Record) -> Result<(), Fail> {
+fn give_move(rt: &impl Abort, record: &mut Record) -> Result<(), Fail> {
     let played: Result<(), Why> = record.play(Color::Black, pawn_move()?);
+    assert!(rt; played == Ok(()));
+    Ok(())
+}
+
+fn give_times(rt: &impl Abort, record: &mut Record) -> Result<(), Fail> {
     let timed: Result<(), Why> = record.set_time(12_000);
     let closed: Result<(), Why> = record.close(resigned()?);
-    assert!(rt; played == Ok(()) && timed == Ok(()) && closed == Ok(()));
+    assert!(rt; timed == Ok(()) && closed == Ok(()));
     record.set_time(500)?;
     Ok(())
 }
@@ -70,13 +75,42 @@ fn has_moves(rt: &impl Abort, record: &Record) -> Result<(), Fail> {
     Ok(())
 }
 
+// A reader, a source and a sink that are new.
+fn streams_of_nothing(rt: &(impl Abort + AllocGlobal)) {
+    let reader: RecordReader = RecordReader::new(rt.alloc());
+    let source: Reading<&[u8]> = Reading::new(b"+\n".as_slice());
+    let sink: Writing<Vec<u8>> = Writing::new(Vec::new(rt.alloc()));
+    assert!(rt; reader.fed() == 0 && source.failures() == 0 && sink.failures() == 0);
+}
+
+fn laws_of_records() {
+    laws::told_once();
+    laws::canon_tells();
+    laws::canon_equal();
+}
+
+fn made_without_memory(
+    rt: &(impl Abort + AllocGlobal + Print),
+    record: &mut Record,
+) -> Result<(), Fail> {
+    give_titles(rt, record)?;
+    give_move(rt, record)?;
+    refuse_all(rt);
+    give_times(rt, record)?;
+    has_titles(rt, record)?;
+    has_moves(rt, record)?;
+    streams_of_nothing(rt);
+    laws_of_records();
+    refuse_no_more(rt)
+}
+
+// The times and the ending of a record have their room before they are set.
 #[test]
-fn course_of_a_record(rt: HostRuntime) -> Result<(), Fail> {
+fn needs_no_memory(rt: HostRuntime) -> Result<(), Fail> {
     let line = Line::new(rt.alloc(), Position::even())?;
     let record: Result<Record, Line> = Record::from_line(rt.alloc(), line);
     let mut record = record.ok().ok_or("out of memory")?;
-    give_moves(&rt, &mut record)?;
-    has_moves(&rt, &record)
+    made_without_memory(&rt, &mut record)
 }
 
 #[test]
@@ -84,9 +118,6 @@ fn read_and_written(rt: HostRuntime) -> Result<(), Fail> {
     let record: Result<Record, Refusal> = read(rt.alloc(), GIVEN);
     let text: Result<Vec<u8>, OutOfMemory> = write(rt.alloc(), &record?);
     assert!(rt; text?.as_slice() == TEXT);
-    laws::told_once();
-    laws::canon_tells();
-    laws::canon_equal();
     Ok(())
 }
 
@@ -99,6 +130,13 @@ fn read_by_piece(rt: HostRuntime) -> Result<(), Fail> {
     assert!(rt; fed == 40);
     let record: Result<Record, Refusal> = reader.finish();
     assert!(rt; record?.line().moves().len() == 2);
+    Ok(())
+}
+
+#[test]
+fn read_in_pieces(rt: HostRuntime) -> Result<(), Fail> {
+    let record: Result<Record, Refusal> = read_pieces(rt.alloc(), &[b"PI\n+", b"\n+7776", b"FU"]);
+    assert!(rt; record?.line().moves().len() == 1);
     Ok(())
 }
 

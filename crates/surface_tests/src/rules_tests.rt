@@ -1,4 +1,5 @@
 use crate::board_tests::square;
+use crate::memory::{refuse_all, refuse_no_more};
 use csa_record::read;
 use shogi_board::{Color, Kind, OutOfMemory, Position};
 use shogi_rules::{Line, Move, PlayFault, Rule, Verdict, after, first_legal, in_check, judge};
@@ -23,8 +24,7 @@ fn followed(position: &Position, mv: &Move) -> Result<Position, Fail> {
     }
 }
 
-#[test]
-fn judged_moves(rt: HostRuntime) -> Result<(), Fail> {
+fn judged_moves(rt: &impl Abort) -> Result<(), Fail> {
     let even = Position::even();
     let mv = pawn_move()?;
     assert!(rt; judge(&even, Color::White, &mv) == Some(Rule::WrongSide));
@@ -47,12 +47,17 @@ fn judged_moves(rt: HostRuntime) -> Result<(), Fail> {
 }
 
 fn play_once(rt: &impl Abort, line: &mut Line) -> Result<(), Fail> {
+    let played: Result<(), PlayFault> = line.play(Color::Black, pawn_move()?);
+    assert!(rt; played == Ok(()));
+    Ok(())
+}
+
+// After that move.
+fn shows_a_line(rt: &impl Abort, line: &Line) -> Result<(), Fail> {
     let mv = pawn_move()?;
-    let fault: Option<PlayFault> = line.fault(Color::White, &mv);
+    let fault: Option<PlayFault> = line.fault(Color::Black, &mv);
     assert!(rt; fault == Some(PlayFault::Broken(Rule::WrongSide)));
     assert!(rt; fault != Some(PlayFault::TooManyMoves) && fault != Some(PlayFault::OutOfMemory));
-    let played: Result<(), PlayFault> = line.play(Color::Black, mv);
-    assert!(rt; played == Ok(()));
     let moves: &[Move] = line.moves();
     assert!(rt; moves == [mv].as_slice());
     let (start, now): (Position, Position) = (line.start(), line.now());
@@ -62,10 +67,22 @@ fn play_once(rt: &impl Abort, line: &mut Line) -> Result<(), Fail> {
     Ok(())
 }
 
+fn made_without_memory(
+    rt: &(impl Abort + AllocGlobal + Print),
+    line: &mut Line,
+) -> Result<(), Fail> {
+    play_once(rt, line)?;
+    refuse_all(rt);
+    judged_moves(rt)?;
+    shows_a_line(rt, line)?;
+    refuse_no_more(rt)
+}
+
+// Of the calls of `shogi_rules` only `Line::new` and `Line::play` allocate.
 #[test]
-fn lines_of_moves(rt: HostRuntime) -> Result<(), Fail> {
+fn needs_no_memory(rt: HostRuntime) -> Result<(), Fail> {
     let line: Result<Line, OutOfMemory> = Line::new(rt.alloc(), Position::even());
-    play_once(&rt, &mut line?)
+    made_without_memory(&rt, &mut line?)
 }
 
 const REPETITION: &[u8] = b"PI\n+\n\

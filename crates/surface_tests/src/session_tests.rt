@@ -1,5 +1,6 @@
 ghost use Rattle.shogi_session.specs.Promises.{HoldsLine, event_of};
 
+use crate::memory::{refuse_all, refuse_no_more};
 use arrayvec::ArrayString;
 use csa_record::Why;
 use csa_text::TextFault;
@@ -23,32 +24,55 @@ fn bridge(alloc: Global) -> Result<Bridge, Fail> {
     Ok(bridge?)
 }
 
-fn stands_at_the_beginning(rt: &impl Abort, bridge: &Bridge) -> Result<(), Fail> {
+fn stands_at_the_beginning(rt: &impl Abort, bridge: &Bridge) {
     let engine: EngineState = bridge.engine_state();
     let client: ClientState = bridge.client_state();
     let waits: Waits = bridge.waits_for();
     let slip: bool = bridge.slip();
     assert!(rt; engine == EngineState::New && client == ClientState::Idle);
     assert!(rt; waits == Waits::Nobody && !slip);
+}
+
+fn has_no_game(rt: &impl Abort, bridge: &Bridge) -> Result<(), Fail> {
     let text: Result<Option<Vec<u8>>, OutOfMemory> = bridge.game_text();
     assert!(rt; text?.is_none());
     Ok(())
 }
 
-fn begins(rt: &impl Abort, bridge: &mut Bridge) -> Result<(), Fail> {
-    let out: Out = bridge.step(Event::Begin)?;
+fn has_begun(rt: &impl Abort, out: &Out) {
     let to_engine: &Lines = &out.to_engine;
     let bytes: &[u8] = to_engine.bytes();
     assert!(rt; bytes == b"usi\n".as_slice() && out.to_server.bytes().is_empty());
     assert!(rt; out.status == Status::Going);
-    Ok(())
+}
+
+fn laws_of_sessions() {
+    laws::sent_legal();
+    laws::sent_once();
+    laws::asked_right();
+    laws::host_game();
+    laws::both_ends();
+}
+
+fn made_without_memory(
+    rt: &(impl Abort + AllocGlobal + Print),
+    bridge: &mut Bridge,
+) -> Result<(), Fail> {
+    has_no_game(rt, bridge)?;
+    refuse_all(rt);
+    stands_at_the_beginning(rt, bridge);
+    refuse_no_more(rt)?;
+    let out: Out = bridge.step(Event::Begin)?;
+    refuse_all(rt);
+    has_begun(rt, &out);
+    laws_of_sessions();
+    refuse_no_more(rt)
 }
 
 #[test]
-fn calls_of_a_bridge(rt: HostRuntime) -> Result<(), Fail> {
+fn needs_no_memory_in_a_bridge(rt: HostRuntime) -> Result<(), Fail> {
     let mut bridge = bridge(rt.alloc())?;
-    stands_at_the_beginning(&rt, &bridge)?;
-    begins(&rt, &mut bridge)
+    made_without_memory(&rt, &mut bridge)
 }
 
 // The status of a new bridge after one event.
@@ -73,15 +97,6 @@ fn events_of_a_bridge(rt: HostRuntime) -> Result<(), Fail> {
     assert!(rt; status_after(alloc, Event::EngineLong)? == too_long);
     assert!(rt; status_after(alloc, Event::ServerLong)? == too_long);
     Ok(())
-}
-
-#[test]
-fn laws_of_sessions() {
-    laws::sent_legal();
-    laws::sent_once();
-    laws::asked_right();
-    laws::host_game();
-    laws::both_ends();
 }
 
 // The number that is printed for the fault, or 0 if the session has not failed.
@@ -146,8 +161,10 @@ fn answers_of_a_host(rt: HostRuntime) -> Result<(), Fail> {
 }
 
 #[test]
-fn answers_of_the_sample_engine(rt: HostRuntime) -> Result<(), Fail> {
+fn needs_no_memory_for_a_new_engine(rt: HostRuntime) -> Result<(), Fail> {
+    refuse_all(&rt);
     let mut engine: Sample = Sample::new(rt.alloc());
+    refuse_no_more(&rt)?;
     let out: Result<SampleOut, OutOfMemory> = engine.step(b"isready");
     let out = out?;
     assert!(rt; out.lines.bytes() == b"readyok\n".as_slice() && !out.ended);

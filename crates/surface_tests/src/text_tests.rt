@@ -1,4 +1,5 @@
 use crate::board_tests::square;
+use crate::memory::{refuse_all, refuse_no_more};
 use crate::rules_tests::pawn_move;
 use arrayvec::ArrayString;
 use csa_text::{
@@ -8,6 +9,7 @@ use csa_text::{
     write_turn, write_version,
 };
 use shogi_board::{Color, Kind, OutOfMemory};
+use std::process::Abort;
 use std::test::Fail;
 
 const TURN: Statement<'static> = Statement {
@@ -16,8 +18,7 @@ const TURN: Statement<'static> = Statement {
     bytes: b"+",
 };
 
-#[test]
-fn statements(rt: HostRuntime) {
+fn statements(rt: &impl Abort) {
     let mut cutter: Cutter<'_> = Cutter::new(b"+");
     let first: Result<Option<Statement<'_>>, CutFault> = cutter.next_statement();
     assert!(rt; first == Ok(Some(TURN)));
@@ -29,8 +30,7 @@ fn statements(rt: HostRuntime) {
     assert!(rt; Cutter::new(&long).next_statement() == Err(fault));
 }
 
-#[test]
-fn statements_by_piece(rt: HostRuntime) {
+fn statements_by_piece(rt: &impl Abort) {
     let mut pieces: PieceCutter = PieceCutter::new();
     let cut: Result<Cut<'_>, CutFault> = pieces.step(b"+\n");
     let wanted = Cut {
@@ -54,8 +54,7 @@ fn lines(rt: HostRuntime) {
     assert!(rt; last == Err(LineFault::TooLong));
 }
 
-#[test]
-fn items(rt: HostRuntime) -> Result<(), Fail> {
+fn items(rt: &impl Abort) -> Result<(), Fail> {
     let version: Result<Item<'_>, TextFault> = read_item(b"V2.2");
     assert!(rt; version == Ok(Item::Version));
     assert!(rt; read_item(b"N-x") == Ok(Item::Name(Color::White, b"x")));
@@ -72,8 +71,7 @@ fn items(rt: HostRuntime) -> Result<(), Fail> {
     Ok(())
 }
 
-#[test]
-fn pairs(rt: HostRuntime) -> Result<(), Fail> {
+fn pairs(rt: &impl Abort) -> Result<(), Fail> {
     let Ok(Item::Even(even)) = read_item(b"PI82HI") else {
         return Err(Fail::from("no start"));
     };
@@ -89,8 +87,7 @@ fn pairs(rt: HostRuntime) -> Result<(), Fail> {
     Ok(())
 }
 
-#[test]
-fn moments_and_moves(rt: HostRuntime) -> Result<(), Fail> {
+fn moments_and_moves(rt: &impl Abort) -> Result<(), Fail> {
     let moment: Option<Moment> = read_moment(b"2024/2/29 9:05:07");
     let text: ArrayString<19> = moment.ok_or("no moment")?.text();
     assert!(rt; text.as_str() == "2024/02/29 09:05:07");
@@ -99,8 +96,7 @@ fn moments_and_moves(rt: HostRuntime) -> Result<(), Fail> {
     Ok(())
 }
 
-#[test]
-fn parts_of_statements(rt: HostRuntime) -> Result<(), Fail> {
+fn parts_of_statements(rt: &impl Abort) -> Result<(), Fail> {
     let bytes: [u8; 7] = move_bytes(Color::Black, &pawn_move()?);
     assert!(rt; bytes == *b"+7776FU");
     let cell: [u8; 3] = cell_bytes(None);
@@ -111,6 +107,35 @@ fn parts_of_statements(rt: HostRuntime) -> Result<(), Fail> {
     let pieces: [u8; 2] = pieces_head(Color::Black);
     assert!(rt; even == *b"PI" && rank == *b"P1" && pieces == *b"P+");
     Ok(())
+}
+
+// The last line of a cutter that has been given the front of one.
+fn finished_line(rt: &impl Abort, cutter: &mut LineCutter) {
+    let last: Result<Option<&[u8]>, LineFault> = cutter.finish();
+    assert!(rt; last == Ok(Some(b"usi".as_slice())));
+}
+
+fn made_without_memory(
+    rt: &(impl Abort + AllocGlobal + Print),
+    cutter: &mut LineCutter,
+) -> Result<(), Fail> {
+    assert!(rt; cutter.step(b"usi") == Ok((3, None)));
+    refuse_all(rt);
+    statements(rt);
+    statements_by_piece(rt);
+    items(rt)?;
+    pairs(rt)?;
+    moments_and_moves(rt)?;
+    parts_of_statements(rt)?;
+    finished_line(rt, cutter);
+    refuse_no_more(rt)
+}
+
+// Of the calls of `csa_text` that read, only `LineCutter::step` allocates.
+#[test]
+fn needs_no_memory(rt: HostRuntime) -> Result<(), Fail> {
+    let mut cutter = LineCutter::new(rt.alloc(), 4);
+    made_without_memory(&rt, &mut cutter)
 }
 
 #[test]

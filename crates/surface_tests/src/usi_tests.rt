@@ -1,7 +1,9 @@
+use crate::memory::{refuse_all, refuse_no_more};
 use crate::rules_tests::pawn_move;
 use arrayvec::ArrayString;
 use shogi_board::{OutOfMemory, Position, SetupFault};
 use shogi_rules::{Line, Move, Rule, judge};
+use std::process::Abort;
 use std::test::Fail;
 use usi_text::{
     EngineWord, SfenFault, UsiFault, move_text, next_word, position_line, read_engine_line,
@@ -10,8 +12,7 @@ use usi_text::{
 
 const EVEN: &[u8] = b"lnsgkgsnl/1r5b1/ppppppppp/9/9/9/PPPPPPPPP/1B5R1/LNSGKGSNL b - 1";
 
-#[test]
-fn sfens(rt: HostRuntime) -> Result<(), Fail> {
+fn sfens(rt: &impl Abort) {
     let even: Result<Position, SfenFault> = read_sfen(EVEN);
     assert!(rt; even == Ok(Position::even()));
     let table = [
@@ -27,6 +28,10 @@ fn sfens(rt: HostRuntime) -> Result<(), Fail> {
     for (text, fault) in table {
         assert!(rt; read_sfen(text) == Err(fault));
     }
+}
+
+#[test]
+fn written_sfen(rt: HostRuntime) -> Result<(), Fail> {
     let written: Result<Vec<u8>, OutOfMemory> = write_sfen(rt.alloc(), &Position::even());
     assert!(rt; written?.as_slice() == EVEN);
     Ok(())
@@ -40,8 +45,7 @@ fn text_of(position: &Position, mv: &Move) -> Result<ArrayString<5>, Fail> {
     }
 }
 
-#[test]
-fn moves(rt: HostRuntime) -> Result<(), Fail> {
+fn moves(rt: &impl Abort) -> Result<(), Fail> {
     let even = Position::even();
     let mv: Option<Move> = read_move(&even, b"7g7f");
     assert!(rt; mv == Some(pawn_move()?));
@@ -79,8 +83,7 @@ fn refused_position_lines(rt: HostRuntime) {
     }
 }
 
-#[test]
-fn engine_words(rt: HostRuntime) {
+fn engine_words(rt: &impl Abort) {
     let table = [
         (b"usiok".as_slice(), EngineWord::UsiOk),
         (b"readyok", EngineWord::ReadyOk),
@@ -95,9 +98,19 @@ fn engine_words(rt: HostRuntime) {
     }
 }
 
-#[test]
-fn words(rt: HostRuntime) {
+fn words(rt: &impl Abort) {
     let first: Option<(&[u8], &[u8])> = next_word(b"  go btime");
     assert!(rt; first == Some((b"go".as_slice(), b" btime".as_slice())));
     assert!(rt; next_word(b"  ").is_none());
+}
+
+// Only what writes a text or makes a line allocates.
+#[test]
+fn needs_no_memory(rt: HostRuntime) -> Result<(), Fail> {
+    refuse_all(&rt);
+    sfens(&rt);
+    moves(&rt)?;
+    engine_words(&rt);
+    words(&rt);
+    refuse_no_more(&rt)
 }

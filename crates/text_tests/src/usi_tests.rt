@@ -62,6 +62,8 @@ fn laws_are_called() {
     laws::start_faults();
     laws::board_stands();
     laws::hands_held();
+    laws::sfen_stands();
+    laws::first_excess();
     laws::sfen_again();
     laws::line_once();
     laws::line_again();

@@ -14,8 +14,7 @@ use Rattle.shogi_board.specs.Placed.{Placed}
 use Rattle.shogi_board.specs.Sound.{IsSound}
 use Rattle.shogi_board.specs.Setup.{empty_layout}
 use Rattle.shogi_board.specs.Totals.{limit, is_of, no_pieces, count_in}
-use Rattle.usi_text.specs.declared.hands.Pile.{Pile}
-use Rattle.usi_text.specs.Hands.{IsPile, SpellsHands, pile_pieces}
+use Rattle.usi_text.specs.Hands.{Pile, IsPile, SpellsHands, pile_pieces}
 use Rattle.usi_text.specs.SfenText.{written_count, pile_of, piles_of, hand_piles, both_piles, hands_text, board_text, sfen_text}
 use Rattle.usi_text.specs.Setting.{board_place, set_up}
 use Rattle.usi_text.specs.Sfen.{Sfen, Shape, IsDigit, side_text}
@@ -29,7 +28,7 @@ use Rattle.usi_text.proofs.Written.{flat_map-append}
 abbrev Cells : Type 0
 Cells = List (Option Piece)
 
-abbrev lay : Cells → List ℕ → List ℕ → Layout
+abbrev pub lay : Cells → List ℕ → List ℕ → Layout
 lay b black white = record { material = record { board = b; black = black; white = white }; rest_given = false }
 
 abbrev made : Color → Kind → Piece
@@ -203,7 +202,7 @@ sfen_words p s =
     ∙ (ap (λ t. board ∷ side ∷ t) (words_front hands last (no_space hands (hands_word (both_piles p) fit)) (hands_some hands (both_piles p) (hands_spelt (both_piles p) fit)))
     ∙ ap (λ t. board ∷ side ∷ hands ∷ t) (words_alone last (no_space last (lit≤ tt, tt)) (lit≤ tt))))
 
-same_layout : (s : Layout) (b : Cells) (black white : List ℕ) → s.material.board ≡ b → s.material.black ≡ black → s.material.white ≡ white → s.rest_given ≡ false → s ≡ lay b black white
+pub same_layout : (s : Layout) (b : Cells) (black white : List ℕ) → s.material.board ≡ b → s.material.black ≡ black → s.material.white ≡ white → s.rest_given ≡ false → s ≡ lay b black white
 same_layout s b black white p q r f =
     ap (λ x. record s { material = record s.material { board = x } }) p
     ∙ (ap (λ x. record s { material = record s.material { board = b; black = x } }) q
@@ -216,7 +215,7 @@ one_digit (suc k) h = absurd (omega arith)
 abbrev nothing : Option Piece
 nothing = None
 
-from_zero : (k : ℕ) → k ≡ 0 + k
+pub from_zero : (k : ℕ) → k ≡ 0 + k
 from_zero k = omega arith
 
 cells_put : (p : Placed) → IsSound p → put_cells empty_layout 0 (board_cells p.material.board 1 9) ≡ Ok (lay p.material.board no_pieces no_pieces)

@@ -8,10 +8,8 @@ use Rattle.shogi_board.specs.declared.color.Color.{Color}
 use Rattle.shogi_board.specs.declared.color.Color.TheVariants.{Black, White}
 use Rattle.shogi_board.specs.declared.kind.Piece.{Piece}
 use Rattle.shogi_board.specs.Pieces.{is_promoted}
-use Rattle.usi_text.specs.declared.hands.Pile.{Pile}
-use Rattle.usi_text.specs.declared.parts.Part.TheVariants.{Empty, Stands}
-use Rattle.usi_text.specs.Boards.{SpellsCells, SpellsRanks, SpellsBoard, ranks_of}
-use Rattle.usi_text.specs.Hands.{IsPile, IsCount, count_text, pile_text}
+use Rattle.usi_text.specs.Boards.{empty_squares, one_piece, SpellsCells, SpellsRanks, SpellsBoard, ranks_of}
+use Rattle.usi_text.specs.Hands.{Pile, IsPile, IsCount, count_text, pile_text}
 use Rattle.usi_text.specs.Letters.{piece_text, side_letter}
 use Rattle.usi_text.specs.Sfen.{side_text}
 use Rattle.usi_text.specs.SfenText.{cells_from, rank_text, ranks_text, board_text, hands_text}
@@ -157,7 +155,7 @@ nothing = None
 
 spells_run : (n : ℕ) (rest : List ℕ) (more : Cells) → n ≤ 9 → SpellsCells rest more → SpellsCells (run_text n ++ rest) (replicate n nothing ++ more)
 spells_run zero rest more h s = s
-spells_run (suc n) rest more h s = rw (run_some n) (part_before (Empty (suc n)) rest more (omega arith, h) s)
+spells_run (suc n) rest more h s = rw (run_some n) (part_before (empty_squares (suc n)) rest more (omega arith, h) s)
 
 none_moved : (n : ℕ) (cells : Cells) → replicate (n + 1) nothing ++ cells ≡ replicate n nothing ++ nothing ∷ cells
 none_moved n cells = ap (λ c. c ++ cells) (sym (replicate_more n nothing)) ∙ append_assoc (replicate n nothing) (nothing ∷ []) cells
@@ -168,7 +166,7 @@ spells_after n [] h =
 spells_after n (None ∷ cells) h =
     subst (λ c. SpellsCells (text_after (n + 1) cells) c) (none_moved n cells) (spells_after (n + 1) cells (omega arith))
 spells_after n (Some p ∷ cells) h =
-    spells_run n (piece_text p ++ text_after 0 cells) (Some p ∷ cells) (omega arith) (part_before (Stands p) (text_after 0 cells) cells tt (spells_after 0 cells (omega arith)))
+    spells_run n (piece_text p ++ text_after 0 cells) (Some p ∷ cells) (omega arith) (part_before (one_piece p) (text_after 0 cells) cells tt (spells_after 0 cells (omega arith)))
 
 cells_count : (board : Cells) (r n : ℕ) → length (cells_from board r n) ≡ n
 cells_count board r zero = refl

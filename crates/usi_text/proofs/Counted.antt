@@ -16,8 +16,8 @@ use Rattle.shogi_board.specs.Pieces.{is_hand_kind, place_of, same_color}
 use Rattle.shogi_board.specs.Placed.{Placed}
 use Rattle.shogi_board.specs.Setup.{empty_layout, add_fault, one_more, added, position_of}
 use Rattle.shogi_board.specs.Totals.{count_in, no_pieces}
-use Rattle.usi_text.specs.declared.hands.Pile.{Pile}
-use Rattle.usi_text.specs.Hands.{SpellsHands, pile_pieces, pile_total}
+use Rattle.usi_text.specs.Contents.{HasPiles}
+use Rattle.usi_text.specs.Hands.{Pile, SpellsHands, pile_pieces, pile_total}
 use Rattle.usi_text.specs.Setting.{set_up, Finishes}
 use Rattle.usi_text.proofs.Setups.{more_fault, put, put_cells, held, hold_pieces, hold_after, set_up_is, board_size}
 use Rattle.usi_text.specs.Sfen.{Sfen}
@@ -25,10 +25,10 @@ use Rattle.usi_text.specs.Words.{nth_word}
 use Rattle.usi_text.proofs.SfenOnce.{hands_once}
 use Rattle.usi_text.proofs.StartFaults.{goes_on, hands_held, InHand}
 
-abbrev is_one : Color → Kind → Piece → Bool
+abbrev pub is_one : Color → Kind → Piece → Bool
 is_one color kind p = same_color p.color color && (place_of p.kind == place_of kind)
 
-abbrev pieces_total : Color → Kind → List Piece → ℕ
+abbrev pub pieces_total : Color → Kind → List Piece → ℕ
 pieces_total color wanted [] = 0
 pieces_total color wanted (p ∷ ps) = cond (is_one color wanted p) 1 0 + pieces_total color wanted ps
 
@@ -48,7 +48,7 @@ held_place ProSilver h = cc
 held_place Horse h = cc
 held_place Dragon h = cc
 
-count_there : (bag : List ℕ) (k : Kind) → is_hand_kind k ≡ true → count_in bag k ≡ get_or bag (place_of k) 0
+pub count_there : (bag : List ℕ) (k : Kind) → is_hand_kind k ≡ true → count_in bag k ≡ get_or bag (place_of k) 0
 count_there bag k h = ap (λ b. cond b (get_or bag (place_of k) 0) 0) h
 
 one_counted : (bag : List ℕ) (k kind : Kind) → length bag ≡ 7 → is_hand_kind k ≡ true → is_hand_kind kind ≡ true → count_in (one_more bag k) kind ≡ count_in bag kind + cond (place_of k == place_of kind) 1 0
@@ -66,7 +66,7 @@ one_counted bag k kind size h j =
           count_there more kind j ∙ (there ∙ (sym (count_there bag kind j) ∙ (old ∙ ap (λ b. count_in bag kind + cond b 1 0) (sym other.0))))
     ]
 
-nothing_more : (n : ℕ) → n ≡ n + 0
+pub nothing_more : (n : ℕ) → n ≡ n + 0
 nothing_more n = omega arith
 
 held_counted : (s : Layout) (c color : Color) (k kind : Kind) → length (bag_of s.material c) ≡ 7 → is_hand_kind k ≡ true → is_hand_kind kind ≡ true → count_in (bag_of (added s c k).material color) kind ≡ count_in (bag_of s.material color) kind + cond (same_color c color && (place_of k == place_of kind)) 1 0
@@ -75,7 +75,7 @@ held_counted s Black White k kind size h j = nothing_more (count_in s.material.w
 held_counted s White Black k kind size h j = nothing_more (count_in s.material.black kind)
 held_counted s White White k kind size h j = one_counted s.material.white k kind size h j
 
-held_size : (s : Layout) (c color : Color) (k : Kind) → length (bag_of s.material color) ≡ 7 → length (bag_of (added s c k).material color) ≡ 7
+pub held_size : (s : Layout) (c color : Color) (k : Kind) → length (bag_of s.material color) ≡ 7 → length (bag_of (added s c k).material color) ≡ 7
 held_size s Black Black k h = length-set s.material.black (place_of k) (count_in s.material.black k + 1) ∙ h
 held_size s Black White k h = h
 held_size s White Black k h = h
@@ -84,7 +84,7 @@ held_size s White White k h = length-set s.material.white (place_of k) (count_in
 adds : (a b c d e : ℕ) → a ≡ b + c → b ≡ d + e → a ≡ d + (e + c)
 adds a b c d e h j = omega (arith, h, j)
 
-pieces_counted : (ps : List Piece) (s t : Layout) (color : Color) (kind : Kind) → ((c : Color) → length (bag_of s.material c) ≡ 7) → AllByRecursion InHand ps → is_hand_kind kind ≡ true → hold_pieces s ps ≡ Ok t → count_in (bag_of t.material color) kind ≡ count_in (bag_of s.material color) kind + pieces_total color kind ps
+pub pieces_counted : (ps : List Piece) (s t : Layout) (color : Color) (kind : Kind) → ((c : Color) → length (bag_of s.material c) ≡ 7) → AllByRecursion InHand ps → is_hand_kind kind ≡ true → hold_pieces s ps ≡ Ok t → count_in (bag_of t.material color) kind ≡ count_in (bag_of s.material color) kind + pieces_total color kind ps
 pieces_counted [] s t color kind size all j h =
     let e : t ≡ s = cc in
     ap (λ (l : Layout). count_in (bag_of l.material color) kind) e ∙ nothing_more (count_in (bag_of s.material color) kind)
@@ -107,7 +107,7 @@ pile_counted zero p ps color kind = none_at_all (is_one color kind p) (pieces_to
 pile_counted (suc n) p ps color kind =
     ap (λ x. cond (is_one color kind p) 1 0 + x) (pile_counted n p ps color kind) ∙ one_by_one (is_one color kind p) n (pieces_total color kind ps)
 
-piles_counted : (piles : List Pile) (color : Color) (kind : Kind) → pieces_total color kind (flat_map pile_pieces piles) ≡ pile_total color kind piles
+pub piles_counted : (piles : List Pile) (color : Color) (kind : Kind) → pieces_total color kind (flat_map pile_pieces piles) ≡ pile_total color kind piles
 piles_counted [] color wanted = refl
 piles_counted (pile ∷ piles) color wanted =
     let n = unwrap_or pile.count 1 in
@@ -123,7 +123,7 @@ bare_size : (s : Layout) → ((c : Color) → bag_of s.material c ≡ bag_of emp
 bare_size s h Black = ap length (h Black)
 bare_size s h White = ap length (h White)
 
-none_held : (k : Kind) → count_in no_pieces k ≡ 0
+pub none_held : (k : Kind) → count_in no_pieces k ≡ 0
 none_held Pawn = refl
 none_held Lance = refl
 none_held Knight = refl
@@ -163,14 +163,8 @@ all_counted cells piles t text color kind size spelt j h =
     let count = pieces_counted ps g.0 t color kind (bare_size g.0 bare) (hands_held text piles spelt) j g.2 in
     from_none _ _ _ count (ap (λ b. count_in b kind) (bare color) ∙ bare_count color kind) ∙ piles_counted piles color kind
 
-pub black_counted : (ws : List (List ℕ)) (p : Placed) (piles : List Pile) (kind : Kind) → Sfen ws p → SpellsHands (nth_word ws 2) piles → is_hand_kind kind ≡ true → count_in p.material.black kind ≡ pile_total Black kind piles
-black_counted ws p piles kind s h j =
+pub hands_counted : (ws : List (List ℕ)) (p : Placed) (piles : List Pile) → Sfen ws p → SpellsHands (nth_word ws 2) piles → HasPiles p piles
+hands_counted ws p piles s h color kind j =
     let f = finished (set_up s.cells s.piles) p.side p s.stands in
-    ap (λ (q : Placed). count_in q.material.black kind) f.2
-    ∙ (all_counted s.cells s.piles f.0 (nth_word ws 2) Black kind (board_size (nth_word ws 0) s.cells s.shape.board) s.shape.hands j f.1 ∙ ap (λ ps. pile_total Black kind ps) (hands_once (nth_word ws 2) s.piles piles s.shape.hands h))
-
-pub white_counted : (ws : List (List ℕ)) (p : Placed) (piles : List Pile) (kind : Kind) → Sfen ws p → SpellsHands (nth_word ws 2) piles → is_hand_kind kind ≡ true → count_in p.material.white kind ≡ pile_total White kind piles
-white_counted ws p piles kind s h j =
-    let f = finished (set_up s.cells s.piles) p.side p s.stands in
-    ap (λ (q : Placed). count_in q.material.white kind) f.2
-    ∙ (all_counted s.cells s.piles f.0 (nth_word ws 2) White kind (board_size (nth_word ws 0) s.cells s.shape.board) s.shape.hands j f.1 ∙ ap (λ ps. pile_total White kind ps) (hands_once (nth_word ws 2) s.piles piles s.shape.hands h))
+    ap (λ (q : Placed). count_in (bag_of q.material color) kind) f.2
+    ∙ (all_counted s.cells s.piles f.0 (nth_word ws 2) color kind (board_size (nth_word ws 0) s.cells s.shape.board) s.shape.hands j f.1 ∙ ap (λ ps. pile_total color kind ps) (hands_once (nth_word ws 2) s.piles piles s.shape.hands h))

@@ -10,21 +10,22 @@ use Rattle.shogi_board.specs.Pieces.{opponent}
 use Rattle.shogi_board.specs.Placed.{Placed, even_start}
 use Rattle.shogi_board.specs.Reach.{InCheck}
 use Rattle.shogi_board.specs.Setup.{position_of}
-use Rattle.shogi_rules.specs.Positions.{all_of, now_of, max_moves}
+use Rattle.shogi_rules.specs.Positions.{max_moves, line_of}
 use Rattle.shogi_rules.specs.Rules.{Kept, all_rules, IsFirstBroken}
 use Rattle.shogi_rules.specs.declared.moves.Move.{Move}
 use Rattle.shogi_rules.specs.declared.rule.Rule.{Rule}
+use Rattle.usi_text.specs.Hands.{Pile}
 use Rattle.usi_text.specs.declared.fault.SfenFault.{SfenFault}
 use Rattle.usi_text.specs.declared.fault.SfenFault.TheVariants.{BadBoard, BadSide, BadHands, BadNumber, Start}
 use Rattle.usi_text.specs.declared.fault.UsiFault.{UsiFault}
 use Rattle.usi_text.specs.declared.fault.UsiFault.TheVariants.{BadLine, BadMoveText, Broken, TooManyMoves, OutOfMemory}
 use Rattle.usi_text.specs.declared.fault.UsiFault.TheVariants as usi
-use Rattle.usi_text.specs.declared.hands.Pile.{Pile}
-use Rattle.usi_text.specs.Lines.{EvenLine, SfenLine, Starts, IsPlayed, WordFault, Plays, UsiLine, LineFault, line_of, position_now}
+use Rattle.usi_text.specs.Lines.{EvenLine, SfenLine, Starts, IsPlayed, WordFault, Plays, UsiLine, LineFault, position_now}
 use Rattle.usi_text.specs.Moves.{UsiMove}
 use Rattle.usi_text.specs.Setting.{set_up, Finishes}
 use Rattle.usi_text.specs.Sfen.{Shape, Sfen, FirstFault}
 use Rattle.usi_text.proofs.LineOnce.{Breaking}
+use Rattle.usi_text.proofs.Played.{OfWord, fault_of_line}
 
 abbrev Words : Type 0
 Words = List (List ℕ)
@@ -70,37 +71,32 @@ broken_some kept [] none = none None refl
 broken_some kept (rule ∷ rules) none =
     none (Some rule) (inl (λ k. broken_some kept rules (λ broken h. none broken (inr (k, h))), refl))
 
--- no word is played, or none has a fault but lack of memory
+-- the word is no move that is played, or it has no fault
 abbrev NotPlayed : Placed → List Move → List ℕ → Type 0
 NotPlayed start before w = (m : Move) → IsPlayed start before w m → ⊥
 
 abbrev NoWordFault : Placed → List Move → List ℕ → Type 0
-NoWordFault start before w = (fault : UsiFault) → WordFault start before w fault → fault ≡ OutOfMemory
+NoWordFault start before w = (fault : UsiFault) → WordFault start before w fault → ⊥
 
 judged : (start : Placed) (before : List Move) (w : List ℕ) (m : Move) (broken : Option Rule) → length before < max_moves → UsiMove (position_now start before) w m
     → Breaking start before m broken → NotPlayed start before w → NoWordFault start before w → ⊥
 judged start before w m None few spelt h none sound = none m (spelt, (few, h))
-judged start before w m (Some rule) few spelt h none sound =
-    let e : Broken (length before + 1) rule ≡ OutOfMemory = sound (Broken (length before + 1) rule) (refl, m, spelt, (few, h)) in cc
+judged start before w m (Some rule) few spelt h none sound = sound (Broken (length before + 1) rule) (refl, m, spelt, (few, h))
 
 spelt_some : (start : Placed) (before : List Move) (w : List ℕ) (m : Move) → length before < max_moves → UsiMove (position_now start before) w m → NotPlayed start before w → NoWordFault start before w → ⊥
 spelt_some start before w m few spelt none sound =
     let line = line_of start before in
-    broken_some (Kept (all_of line) (now_of line) (position_now start before).side m) all_rules (λ broken h. judged start before w m broken few spelt h none sound)
+    broken_some (Kept line (position_now start before).side m) all_rules (λ broken h. judged start before w m broken few spelt h none sound)
 
 word_some : (start : Placed) (before : List Move) (w : List ℕ) → NotPlayed start before w → NoWordFault start before w → ⊥
 word_some start before w none sound =
     elim (cases_lt (length before) max_moves) [
-      | inl few ↦ let e : BadMoveText (length before + 1) ≡ OutOfMemory = sound (BadMoveText (length before + 1)) (refl, few, λ m spelt. spelt_some start before w m few spelt none sound) in cc
-      | inr full ↦ let e : TooManyMoves ≡ OutOfMemory = sound TooManyMoves full in cc
+      | inl few ↦ sound (BadMoveText (length before + 1)) (refl, few, λ m spelt. spelt_some start before w m few spelt none sound)
+      | inr full ↦ sound TooManyMoves full
     ]
 
--- the fault of some word
-abbrev OfWord : Placed → UsiFault → Type 0
-OfWord start fault = (before : List Move) × (w : List ℕ) × WordFault start before w fault
-
 plays_some : (start : Placed) (before : List Move) (ws : Words) → ((moves : List Move) → Plays start before ws (Ok moves) → ⊥)
-    → ((fault : UsiFault) → OfWord start fault → Plays start before ws (Err fault) → fault ≡ OutOfMemory) → ⊥
+    → ((fault : UsiFault) → OfWord start fault → Plays start before ws (Err fault) → ⊥) → ⊥
 plays_some start before [] none sound = none before refl
 plays_some start before (w ∷ ws) none sound =
     word_some start before w
@@ -111,25 +107,14 @@ abbrev NoLine : Words → Type 0
 NoLine ws = (start : Placed) (moves : List Move) → UsiLine ws start moves → ⊥
 
 abbrev NoLineFault : Words → Type 0
-NoLineFault ws = (fault : UsiFault) → LineFault ws fault → fault ≡ OutOfMemory
-
-fault_of_line : (ws : Words) (start : Placed) (words : Words) (fault : UsiFault) → Starts ws start words → OfWord start fault → Plays start [] words (Err fault) → LineFault ws fault
-fault_of_line ws start words BadLine s of h = absurd of.2
-fault_of_line ws start words (usi.Sfen fault) s of h = absurd of.2
-fault_of_line ws start words OutOfMemory s of h = (start, words, s, inr h)
-fault_of_line ws start words TooManyMoves s of h = (start, words, s, inr h)
-fault_of_line ws start words (BadMoveText n) s of h = (start, words, s, inr h)
-fault_of_line ws start words (Broken n rule) s of h = (start, words, s, inr h)
+NoLineFault ws = (fault : UsiFault) → LineFault ws fault → ⊥
 
 started_some : (ws : Words) (start : Placed) (words : Words) → Starts ws start words → NoLine ws → NoLineFault ws → ⊥
 started_some ws start words s none sound =
     plays_some start [] words (λ moves h. none start moves (words, s, h)) (λ fault of h. sound fault (fault_of_line ws start words fault s of h))
 
-not_memory : (fault : SfenFault) → usi.Sfen fault ≡ OutOfMemory → ⊥
-not_memory fault e = cc
-
 pub line_some : (ws : Words) → NoLine ws → NoLineFault ws → ⊥
 line_some ws none sound =
     let even : (moves : Words) → EvenLine ws moves → ⊥ = λ moves line. started_some ws even_start moves (inl (line, refl)) none sound in
-    let by_sfen : (sfen moves : Words) → SfenLine ws sfen moves → ⊥ = λ sfen moves line. sfen_some sfen (λ p s. started_some ws p moves (inr (sfen, line, s)) none sound) (λ fault f. not_memory fault (sound (usi.Sfen fault) (sfen, moves, line, f))) in
-    let e : BadLine ≡ OutOfMemory = sound BadLine (even, by_sfen) in cc
+    let by_sfen : (sfen moves : Words) → SfenLine ws sfen moves → ⊥ = λ sfen moves line. sfen_some sfen (λ p s. started_some ws p moves (inr (sfen, line, s)) none sound) (λ fault f. sound (usi.Sfen fault) (sfen, moves, line, f)) in
+    sound BadLine (even, by_sfen)

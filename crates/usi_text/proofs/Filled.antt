@@ -92,7 +92,7 @@ filled_part board s n size f = λ i h.
     let low : i < 81 = omega arith in
     subst (So s.material.board board) (text_place-is i low) (so_far board s n (text_place i) f (text_place-bound i low))
 
-no_pieces_at : (k : Kind) → slice_index no_pieces (place_of k) ≡ 0
+pub no_pieces_at : (k : Kind) → slice_index no_pieces (place_of k) ≡ 0
 no_pieces_at Pawn = refl
 no_pieces_at Lance = refl
 no_pieces_at Knight = refl
@@ -108,7 +108,7 @@ no_pieces_at ProSilver = refl
 no_pieces_at Horse = refl
 no_pieces_at Dragon = refl
 
-put-kings : (cells : Cells) (i : ℕ) (p : Piece) (c : Color) → i < length cells → get_or cells i nothing ≡ nothing → kings_of (set cells i (Some p)) c ≡ kings_of cells c + cond (same_color p.color c && is_king p.kind) 1 0
+pub put-kings : (cells : Cells) (i : ℕ) (p : Piece) (c : Color) → i < length cells → get_or cells i nothing ≡ nothing → kings_of (set cells i (Some p)) c ≡ kings_of cells c + cond (same_color p.color c && is_king p.kind) 1 0
 put-kings cells i p c low empty =
     let step = sum_by-set (λ x. cond (is_king_of c x) 1 0) cells i (Some p) None low in
     let e : kings_of (set cells i (Some p)) c + 0 ≡ kings_of cells c + cond (same_color p.color c && is_king p.kind) 1 0 = rw empty at step in

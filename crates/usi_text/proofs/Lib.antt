@@ -1,5 +1,6 @@
 pub mod Again
 pub mod Clean
+pub mod Contents
 pub mod Counted
 pub mod EngineOnce
 pub mod Existing
@@ -11,6 +12,7 @@ pub mod LineAgain
 pub mod LineOnce
 pub mod OneMove
 pub mod OneText
+pub mod Outcomes
 pub mod Piles
 pub mod Played
 pub mod Ranks
@@ -22,4 +24,5 @@ pub mod Spelt
 pub mod Splits
 pub mod Standing
 pub mod StartFaults
+pub mod Tallies
 pub mod Written

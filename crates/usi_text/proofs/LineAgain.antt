@@ -15,9 +15,8 @@ use Rattle.shogi_rules.specs.After.{after}
 use Rattle.shogi_rules.specs.Positions.{position_after, MayFollow, IsGame, begun, played}
 use Rattle.shogi_rules.specs.declared.moves.Move.{Move}
 use Rattle.shogi_rules.specs.declared.moves.Move.TheVariants.{Walk, Put}
-use Rattle.usi_text.specs.declared.hands.Pile.{Pile}
 use Rattle.usi_text.specs.Boards.{ranks_of}
-use Rattle.usi_text.specs.Hands.{IsCount, SpellsHands, count_text, pile_text}
+use Rattle.usi_text.specs.Hands.{Pile, IsCount, SpellsHands, count_text, pile_text}
 use Rattle.usi_text.specs.Letters.{color_letter, side_letter, square_text}
 use Rattle.usi_text.specs.LineText.{StartText, MovesText, BehindStart, LineText}
 use Rattle.usi_text.specs.Lines.{HasMoves, Starts, Judged, Plays, UsiLine}

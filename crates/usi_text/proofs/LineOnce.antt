@@ -1,9 +1,9 @@
--- Words are at most one position line, or they have one first fault; lack of memory aside.
-use Rattle.std.proofs.Common.{◌≡◌, ◌≢◌, ◌⊎◌, ℕ, inl, inr, List, [], ◌∷◌, ◌++◌, Option, Some, None, Result, Ok, Err, arith, refl, sym, ap, ◌∙◌, subst, codes}
+-- Words are at most one position line, or they have one first fault.
+use Rattle.std.proofs.Common.{◌≡◌, ◌≢◌, ℕ, inl, inr, List, [], ◌∷◌, ◌++◌, Option, Some, None, Result, Ok, Err, arith, refl, sym, ap, ◌∙◌, subst, codes}
 use Rattle.std.specs.List.{AllByRecursion}
 use Rattle.shogi_board.specs.Placed.{Placed}
 use Rattle.shogi_rules.specs.Play.{Breaks}
-use Rattle.shogi_rules.specs.Positions.{all_of, now_of}
+use Rattle.shogi_rules.specs.Positions.{line_of}
 use Rattle.shogi_rules.specs.Rules.{Kept, all_rules, IsFirstBroken}
 use Rattle.shogi_rules.specs.declared.line.PlayFault.TheVariants as play
 use Rattle.shogi_rules.specs.declared.moves.Move.{Move}
@@ -12,7 +12,7 @@ use Rattle.usi_text.specs.declared.fault.SfenFault.{SfenFault}
 use Rattle.usi_text.specs.declared.fault.UsiFault.{UsiFault}
 use Rattle.usi_text.specs.declared.fault.UsiFault.TheVariants.{BadLine, BadMoveText, Broken, TooManyMoves, OutOfMemory}
 use Rattle.usi_text.specs.declared.fault.UsiFault.TheVariants as usi
-use Rattle.usi_text.specs.Lines.{HasMoves, EvenLine, SfenLine, Starts, Judged, IsPlayed, WordFault, Plays, UsiLine, LineFault, line_of, position_now}
+use Rattle.usi_text.specs.Lines.{HasMoves, EvenLine, SfenLine, Starts, Judged, IsPlayed, WordFault, Plays, UsiLine, MovesFault, LineFault, position_now}
 use Rattle.usi_text.specs.Moves.{UsiMove}
 use Rattle.usi_text.specs.Sfen.{Sfen, FirstFault}
 use Rattle.usi_text.proofs.Heads.{same_tail, second_of, sizes}
@@ -81,7 +81,7 @@ Breaking start before m rule = Breaks (line_of start before) (position_now start
 breaks_once : (start : Placed) (before : List Move) (m : Move) (a b : Option Rule) → Breaking start before m a → Breaking start before m b → a ≡ b
 breaks_once start before m a b h k =
     let line = line_of start before in
-    broken_once (Kept (all_of line) (now_of line) (position_now start before).side m) all_rules a b h k
+    broken_once (Kept line (position_now start before).side m) all_rules a b h k
 
 played_not_broken : (start : Placed) (before : List Move) (m : Move) (rule : Rule) → Judged start before m None → Judged start before m (Some (play.Broken rule)) → ⊥
 played_not_broken start before m rule h k = let e : None ≡ Some rule = breaks_once start before m None (Some rule) h.1 k.1 in cc
@@ -89,39 +89,35 @@ played_not_broken start before m rule h k = let e : None ≡ Some rule = breaks_
 same_move : (start : Placed) (before : List Move) (w : List ℕ) (m n : Move) → UsiMove (position_now start before) w m → UsiMove (position_now start before) w n → m ≡ n
 same_move start before w m n h k = one_move (position_now start before) w m n h k
 
-no_fault : (start : Placed) (before : List Move) (w : List ℕ) (m : Move) (f : UsiFault) → IsPlayed start before w m → WordFault start before w f → f ≡ OutOfMemory
-no_fault start before w m BadLine p h = absurd h
-no_fault start before w m (usi.Sfen f) p h = absurd h
-no_fault start before w m OutOfMemory p h = refl
-no_fault start before w m TooManyMoves p h = let few = p.1.0 in absurd (omega arith)
-no_fault start before w m (BadMoveText n) p h = absurd (h.2 m p.0)
+no_fault : (start : Placed) (before : List Move) (w : List ℕ) (m : Move) (f : UsiFault) → IsPlayed start before w m → WordFault start before w f → ⊥
+no_fault start before w m BadLine p h = h
+no_fault start before w m (usi.Sfen f) p h = h
+no_fault start before w m OutOfMemory p h = h
+no_fault start before w m TooManyMoves p h = let few = p.1.0 in omega arith
+no_fault start before w m (BadMoveText n) p h = h.2 m p.0
 no_fault start before w m (Broken n rule) p h =
     let e = same_move start before w h.1 m h.2 p.0 in
-    absurd (played_not_broken start before m rule p.1 (subst (λ x. Judged start before x (Some (play.Broken rule))) e h.3))
+    played_not_broken start before m rule p.1 (subst (λ x. Judged start before x (Some (play.Broken rule))) e h.3)
 
--- one of the two is lack of memory, or they are the same
-abbrev Agree : UsiFault → UsiFault → Type 0
-Agree f g = (f ≡ OutOfMemory) ⊎ (g ≡ OutOfMemory) ⊎ (f ≡ g)
-
-word_fault_once : (start : Placed) (before : List Move) (w : List ℕ) (f g : UsiFault) → WordFault start before w f → WordFault start before w g → Agree f g
+word_fault_once : (start : Placed) (before : List Move) (w : List ℕ) (f g : UsiFault) → WordFault start before w f → WordFault start before w g → f ≡ g
 word_fault_once start before w BadLine g h k = absurd h
 word_fault_once start before w (usi.Sfen x) g h k = absurd h
-word_fault_once start before w OutOfMemory g h k = inl refl
+word_fault_once start before w OutOfMemory g h k = absurd h
 word_fault_once start before w TooManyMoves BadLine h k = absurd k
 word_fault_once start before w TooManyMoves (usi.Sfen y) h k = absurd k
-word_fault_once start before w TooManyMoves OutOfMemory h k = inr (inl refl)
-word_fault_once start before w TooManyMoves TooManyMoves h k = inr (inr refl)
+word_fault_once start before w TooManyMoves OutOfMemory h k = absurd k
+word_fault_once start before w TooManyMoves TooManyMoves h k = refl
 word_fault_once start before w TooManyMoves (BadMoveText y) h k = let few = k.1 in absurd (omega arith)
 word_fault_once start before w TooManyMoves (Broken y yr) h k = let few = k.3.0 in absurd (omega arith)
 word_fault_once start before w (BadMoveText x) BadLine h k = absurd k
 word_fault_once start before w (BadMoveText x) (usi.Sfen y) h k = absurd k
-word_fault_once start before w (BadMoveText x) OutOfMemory h k = inr (inl refl)
+word_fault_once start before w (BadMoveText x) OutOfMemory h k = absurd k
 word_fault_once start before w (BadMoveText x) TooManyMoves h k = let few = h.1 in absurd (omega arith)
-word_fault_once start before w (BadMoveText x) (BadMoveText y) h k = inr (inr (ap BadMoveText (h.0 ∙ sym k.0)))
+word_fault_once start before w (BadMoveText x) (BadMoveText y) h k = ap BadMoveText (h.0 ∙ sym k.0)
 word_fault_once start before w (BadMoveText x) (Broken y yr) h k = absurd (h.2 k.1 k.2)
 word_fault_once start before w (Broken x xr) BadLine h k = absurd k
 word_fault_once start before w (Broken x xr) (usi.Sfen y) h k = absurd k
-word_fault_once start before w (Broken x xr) OutOfMemory h k = inr (inl refl)
+word_fault_once start before w (Broken x xr) OutOfMemory h k = absurd k
 word_fault_once start before w (Broken x xr) TooManyMoves h k = let few = h.3.0 in absurd (omega arith)
 word_fault_once start before w (Broken x xr) (BadMoveText y) h k = absurd (k.2 h.1 h.2)
 word_fault_once start before w (Broken x xr) (Broken y yr) h k =
@@ -129,22 +125,13 @@ word_fault_once start before w (Broken x xr) (Broken y yr) h k =
     let j = subst (λ m. Judged start before m (Some (play.Broken xr))) e h.3 in
     let s : Some xr ≡ Some yr = breaks_once start before k.1 (Some xr) (Some yr) j.1 k.3.1 in
     let r : xr ≡ yr = cc in
-    inr (inr (ap (λ n. Broken n xr) (h.0 ∙ sym k.0) ∙ ap (λ z. Broken y z) r))
+    ap (λ n. Broken n xr) (h.0 ∙ sym k.0) ∙ ap (λ z. Broken y z) r
 
--- as answers: one of the two is lack of memory, or they are the same
-abbrev SameAnswer : Result (List Move) UsiFault → Result (List Move) UsiFault → Type 0
-SameAnswer x y = (x ≡ Err OutOfMemory) ⊎ (y ≡ Err OutOfMemory) ⊎ (x ≡ y)
-
-same_fault : (x y : Result (List Move) UsiFault) (f g : UsiFault) → x ≡ Err f → y ≡ Err g → Agree f g → SameAnswer x y
-same_fault x y f g d e (inl h) = inl (d ∙ ap Err h)
-same_fault x y f g d e (inr (inl h)) = inr (inl (e ∙ ap Err h))
-same_fault x y f g d e (inr (inr h)) = inr (inr (d ∙ (ap Err h ∙ sym e)))
-
-plays_once : (start : Placed) (before : List Move) (ws : Words) (x y : Result (List Move) UsiFault) → Plays start before ws x → Plays start before ws y → SameAnswer x y
-plays_once start before [] x y h k = inr (inr (h ∙ sym k))
-plays_once start before (w ∷ ws) x y (inl h) (inl k) = same_fault x y h.0 k.0 h.2 k.2 (word_fault_once start before w h.0 k.0 h.1 k.1)
-plays_once start before (w ∷ ws) x y (inl h) (inr k) = inl (h.2 ∙ ap Err (no_fault start before w k.0 h.0 k.1 h.1))
-plays_once start before (w ∷ ws) x y (inr h) (inl k) = inr (inl (k.2 ∙ ap Err (no_fault start before w h.0 k.0 h.1 k.1)))
+plays_once : (start : Placed) (before : List Move) (ws : Words) (x y : Result (List Move) UsiFault) → Plays start before ws x → Plays start before ws y → x ≡ y
+plays_once start before [] x y h k = h ∙ sym k
+plays_once start before (w ∷ ws) x y (inl h) (inl k) = h.2 ∙ (ap Err (word_fault_once start before w h.0 k.0 h.1 k.1) ∙ sym k.2)
+plays_once start before (w ∷ ws) x y (inl h) (inr k) = absurd (no_fault start before w k.0 h.0 k.1 h.1)
+plays_once start before (w ∷ ws) x y (inr h) (inl k) = absurd (no_fault start before w h.0 k.0 h.1 k.1)
 plays_once start before (w ∷ ws) x y (inr h) (inr k) =
     let e = same_move start before w h.0 k.0 h.1.0 k.1.0 in
     plays_once start (before ++ k.0 ∷ []) ws x y (subst (λ m. Plays start (before ++ m ∷ []) ws x) e h.2) k.2
@@ -153,45 +140,25 @@ plays_once start before (w ∷ ws) x y (inr h) (inr k) =
 abbrev Told : Words → Placed → Result (List Move) UsiFault → Type 0
 Told ws start answer = (words : Words) × Starts ws start words × Plays start [] words answer
 
-told_once : (ws : Words) (p q : Placed) (x y : Result (List Move) UsiFault) → Told ws p x → Told ws q y → (p ≡ q) × SameAnswer x y
+told_once : (ws : Words) (p q : Placed) (x y : Result (List Move) UsiFault) → Told ws p x → Told ws q y → (p ≡ q) × (x ≡ y)
 told_once ws p q x y h k =
     let s = starts_once ws p q h.0 k.0 h.1 k.1 in
     let a = subst (λ z. Plays p [] z x) s.1 h.2 in
     let b = subst (λ z. Plays z [] k.0 x) s.0 a in
     (s.0, plays_once q [] k.0 x y b k.2)
 
-same_moves : (a b : List Move) → SameAnswer (Ok a) (Ok b) → a ≡ b
-same_moves a b (inl h) = cc
-same_moves a b (inr (inl h)) = cc
-same_moves a b (inr (inr h)) = cc
-
-moves_or_fault : (a : List Move) (f : UsiFault) → SameAnswer (Ok a) (Err f) → f ≡ OutOfMemory
-moves_or_fault a f (inl h) = cc
-moves_or_fault a f (inr (inl h)) = cc
-moves_or_fault a f (inr (inr h)) = cc
-
-faults_agree : (f g : UsiFault) → SameAnswer (Err f) (Err g) → Agree f g
-faults_agree f g (inl h) = let e : f ≡ OutOfMemory = cc in inl e
-faults_agree f g (inr (inl h)) = let e : g ≡ OutOfMemory = cc in inr (inl e)
-faults_agree f g (inr (inr h)) = let e : f ≡ g = cc in inr (inr e)
-
 pub line_once : (ws : Words) (p q : Placed) (a b : List Move) → UsiLine ws p a → UsiLine ws q b → (p ≡ q) × (a ≡ b)
 line_once ws p q a b h k =
     let r = told_once ws p q (Ok a) (Ok b) h k in
-    (r.0, same_moves a b r.1)
+    let e : Ok a ≡ Ok b = r.1 in
+    (r.0, let same : a ≡ b = cc in same)
 
--- the fault of a line whose start is read
-abbrev Stops : Words → UsiFault → Type 0
-Stops ws f = (start : Placed) × (words : Words) × Starts ws start words × (((f ≡ OutOfMemory) × (words ≡ [])) ⊎ Plays start [] words (Err f))
+no_line : (ws : Words) (p : Placed) (a : List Move) (f : UsiFault) → UsiLine ws p a → MovesFault ws f → ⊥
+no_line ws p a f h (q, words, s, k) = let e : Ok a ≡ Err f = (told_once ws p q (Ok a) (Err f) h (words, s, k)).1 in cc
 
-no_line : (ws : Words) (p : Placed) (a : List Move) (f : UsiFault) → UsiLine ws p a → Stops ws f → f ≡ OutOfMemory
-no_line ws p a f h (q, words, s, inl e) = e.0
-no_line ws p a f h (q, words, s, inr k) = moves_or_fault a f (told_once ws p q (Ok a) (Err f) h (words, s, k)).1
-
-stops_once : (ws : Words) (f g : UsiFault) → Stops ws f → Stops ws g → Agree f g
-stops_once ws f g (p, words, s, inl e) k = inl e.0
-stops_once ws f g h (q, others, t, inl e) = inr (inl e.0)
-stops_once ws f g (p, words, s, inr h) (q, others, t, inr k) = faults_agree f g (told_once ws p q (Err f) (Err g) (words, s, h) (others, t, k)).1
+moves_fault_once : (ws : Words) (f g : UsiFault) → MovesFault ws f → MovesFault ws g → f ≡ g
+moves_fault_once ws f g (p, words, s, h) (q, others, t, k) =
+    let e : Err f ≡ Err g = (told_once ws p q (Err f) (Err g) (words, s, h) (others, t, k)).1 in cc
 
 bad_line : (ws : Words) (p : Placed) (moves : Words) → Starts ws p moves → LineFault ws BadLine → ⊥
 bad_line ws p moves (inl h) f = f.0 moves h.0
@@ -203,10 +170,10 @@ bad_sfen ws p moves fault (inr h) f =
     let r = lines_once ws h.0 f.0 moves f.1 h.1 f.2 in
     sfen_no_fault f.0 p fault (subst (λ z. Sfen z p) r.sfen h.2) f.3
 
-pub line_no_fault : (ws : Words) (p : Placed) (a : List Move) (fault : UsiFault) → UsiLine ws p a → LineFault ws fault → fault ≡ OutOfMemory
-line_no_fault ws p a BadLine h f = absurd (bad_line ws p h.0 h.1 f)
-line_no_fault ws p a (usi.Sfen x) h f = absurd (bad_sfen ws p h.0 x h.1 f)
-line_no_fault ws p a OutOfMemory h f = refl
+pub line_no_fault : (ws : Words) (p : Placed) (a : List Move) (fault : UsiFault) → UsiLine ws p a → LineFault ws fault → ⊥
+line_no_fault ws p a BadLine h f = bad_line ws p h.0 h.1 f
+line_no_fault ws p a (usi.Sfen x) h f = bad_sfen ws p h.0 x h.1 f
+line_no_fault ws p a OutOfMemory h f = f
 line_no_fault ws p a TooManyMoves h f = no_line ws p a TooManyMoves h f
 line_no_fault ws p a (BadMoveText n) h f = no_line ws p a (BadMoveText n) h f
 line_no_fault ws p a (Broken n r) h f = no_line ws p a (Broken n r) h f
@@ -216,35 +183,35 @@ sfens_agree ws x y h k =
     let r = lines_once ws h.0 k.0 h.1 k.1 h.2 k.2 in
     fault_once k.0 x y (subst (λ z. FirstFault z x) r.sfen h.3) k.3
 
-pub line_fault_once : (ws : Words) (f g : UsiFault) → LineFault ws f → LineFault ws g → Agree f g
-line_fault_once ws OutOfMemory g h k = inl refl
-line_fault_once ws BadLine OutOfMemory h k = inr (inl refl)
-line_fault_once ws BadLine BadLine h k = inr (inr refl)
+pub line_fault_once : (ws : Words) (f g : UsiFault) → LineFault ws f → LineFault ws g → f ≡ g
+line_fault_once ws OutOfMemory g h k = absurd h
+line_fault_once ws BadLine OutOfMemory h k = absurd k
+line_fault_once ws BadLine BadLine h k = refl
 line_fault_once ws BadLine (usi.Sfen y) h k = absurd (h.1 k.0 k.1 k.2)
 line_fault_once ws BadLine TooManyMoves h k = absurd (bad_line ws k.0 k.1 k.2 h)
 line_fault_once ws BadLine (BadMoveText i) h k = absurd (bad_line ws k.0 k.1 k.2 h)
 line_fault_once ws BadLine (Broken i q) h k = absurd (bad_line ws k.0 k.1 k.2 h)
-line_fault_once ws (usi.Sfen x) OutOfMemory h k = inr (inl refl)
+line_fault_once ws (usi.Sfen x) OutOfMemory h k = absurd k
 line_fault_once ws (usi.Sfen x) BadLine h k = absurd (k.1 h.0 h.1 h.2)
-line_fault_once ws (usi.Sfen x) (usi.Sfen y) h k = inr (inr (ap usi.Sfen (sfens_agree ws x y h k)))
+line_fault_once ws (usi.Sfen x) (usi.Sfen y) h k = ap usi.Sfen (sfens_agree ws x y h k)
 line_fault_once ws (usi.Sfen x) TooManyMoves h k = absurd (bad_sfen ws k.0 k.1 x k.2 h)
 line_fault_once ws (usi.Sfen x) (BadMoveText i) h k = absurd (bad_sfen ws k.0 k.1 x k.2 h)
 line_fault_once ws (usi.Sfen x) (Broken i q) h k = absurd (bad_sfen ws k.0 k.1 x k.2 h)
-line_fault_once ws TooManyMoves OutOfMemory h k = inr (inl refl)
+line_fault_once ws TooManyMoves OutOfMemory h k = absurd k
 line_fault_once ws TooManyMoves BadLine h k = absurd (bad_line ws h.0 h.1 h.2 k)
 line_fault_once ws TooManyMoves (usi.Sfen y) h k = absurd (bad_sfen ws h.0 h.1 y h.2 k)
-line_fault_once ws TooManyMoves TooManyMoves h k = stops_once ws TooManyMoves TooManyMoves h k
-line_fault_once ws TooManyMoves (BadMoveText i) h k = stops_once ws TooManyMoves (BadMoveText i) h k
-line_fault_once ws TooManyMoves (Broken i q) h k = stops_once ws TooManyMoves (Broken i q) h k
-line_fault_once ws (BadMoveText n) OutOfMemory h k = inr (inl refl)
+line_fault_once ws TooManyMoves TooManyMoves h k = moves_fault_once ws TooManyMoves TooManyMoves h k
+line_fault_once ws TooManyMoves (BadMoveText i) h k = moves_fault_once ws TooManyMoves (BadMoveText i) h k
+line_fault_once ws TooManyMoves (Broken i q) h k = moves_fault_once ws TooManyMoves (Broken i q) h k
+line_fault_once ws (BadMoveText n) OutOfMemory h k = absurd k
 line_fault_once ws (BadMoveText n) BadLine h k = absurd (bad_line ws h.0 h.1 h.2 k)
 line_fault_once ws (BadMoveText n) (usi.Sfen y) h k = absurd (bad_sfen ws h.0 h.1 y h.2 k)
-line_fault_once ws (BadMoveText n) TooManyMoves h k = stops_once ws (BadMoveText n) TooManyMoves h k
-line_fault_once ws (BadMoveText n) (BadMoveText i) h k = stops_once ws (BadMoveText n) (BadMoveText i) h k
-line_fault_once ws (BadMoveText n) (Broken i q) h k = stops_once ws (BadMoveText n) (Broken i q) h k
-line_fault_once ws (Broken n r) OutOfMemory h k = inr (inl refl)
+line_fault_once ws (BadMoveText n) TooManyMoves h k = moves_fault_once ws (BadMoveText n) TooManyMoves h k
+line_fault_once ws (BadMoveText n) (BadMoveText i) h k = moves_fault_once ws (BadMoveText n) (BadMoveText i) h k
+line_fault_once ws (BadMoveText n) (Broken i q) h k = moves_fault_once ws (BadMoveText n) (Broken i q) h k
+line_fault_once ws (Broken n r) OutOfMemory h k = absurd k
 line_fault_once ws (Broken n r) BadLine h k = absurd (bad_line ws h.0 h.1 h.2 k)
 line_fault_once ws (Broken n r) (usi.Sfen y) h k = absurd (bad_sfen ws h.0 h.1 y h.2 k)
-line_fault_once ws (Broken n r) TooManyMoves h k = stops_once ws (Broken n r) TooManyMoves h k
-line_fault_once ws (Broken n r) (BadMoveText i) h k = stops_once ws (Broken n r) (BadMoveText i) h k
-line_fault_once ws (Broken n r) (Broken i q) h k = stops_once ws (Broken n r) (Broken i q) h k
+line_fault_once ws (Broken n r) TooManyMoves h k = moves_fault_once ws (Broken n r) TooManyMoves h k
+line_fault_once ws (Broken n r) (BadMoveText i) h k = moves_fault_once ws (Broken n r) (BadMoveText i) h k
+line_fault_once ws (Broken n r) (Broken i q) h k = moves_fault_once ws (Broken n r) (Broken i q) h k

@@ -6,8 +6,7 @@ use Rattle.shogi_board.specs.declared.kind.Kind.{Kind}
 use Rattle.shogi_board.specs.declared.kind.Kind.TheVariants.{Pawn, Lance, Knight, Silver, Gold, Bishop, Rook, King, ProPawn, ProLance, ProKnight, ProSilver, Horse, Dragon}
 use Rattle.shogi_board.specs.declared.kind.Piece.{Piece}
 use Rattle.shogi_board.specs.Pieces.{is_promoted, is_hand_kind}
-use Rattle.usi_text.specs.declared.hands.Pile.{Pile}
-use Rattle.usi_text.specs.Hands.{IsPile, IsCount, SpellsPiles, SpellsHands, count_text, pile_text}
+use Rattle.usi_text.specs.Hands.{Pile, IsPile, IsCount, SpellsPiles, SpellsHands, count_text, pile_text}
 use Rattle.usi_text.specs.Letters.{side_letter}
 use Rattle.usi_text.proofs.Ranks.{no_bytes, empty_is, some_are}
 use Rattle.usi_text.proofs.Spelt.{leads, Only, only_none, only_one, only_two, one_digit, two_digits, side_low, same_piece}

@@ -5,10 +5,8 @@ use Rattle.std.proofs.lemmas.Bool.Decides.{eqb_tells, Decides-eqb}
 use Rattle.std.proofs.lemmas.List.{append-nil}
 use Rattle.shogi_board.specs.declared.kind.Piece.{Piece}
 use Rattle.shogi_board.specs.Pieces.{is_promoted}
-use Rattle.usi_text.specs.declared.parts.Part.{Part}
-use Rattle.usi_text.specs.declared.parts.Part.TheVariants.{Empty, Stands}
 use Rattle.usi_text.specs.Letters.{piece_text, side_letter}
-use Rattle.usi_text.specs.Boards.{IsPart, part_text, part_cells, SpellsCells, SpellsRanks, SpellsBoard, ranks_of}
+use Rattle.usi_text.specs.Boards.{Part, empty_squares, one_piece, IsPart, part_text, part_cells, SpellsCells, SpellsRanks, SpellsBoard, ranks_of}
 use Rattle.usi_text.proofs.Spelt.{part_once}
 
 slash_first : (x : ℕ) (xs : List ℕ) → x ≡ 47 → ranks_of (x ∷ xs) ≡ [] ∷ ranks_of xs
@@ -43,8 +41,8 @@ piece_some : (p : Piece) (x : List ℕ) → 0 ≡ length (piece_text p ++ x) →
 piece_some p x e = longer (is_promoted p.kind) (side_letter p) x e
 
 pub part_some : (part : Part) (x : List ℕ) → [] ≡ part_text part ++ x → ⊥
-part_some (Empty n) x e = cc
-part_some (Stands p) x e = let f = ap length e in absurd (piece_some p x f)
+part_some (empty_squares n) x e = cc
+part_some (one_piece p) x e = let f = ap length e in absurd (piece_some p x f)
 
 pub part_before : (part : Part) (behind : List ℕ) (cells : Cells) → IsPart part → SpellsCells behind cells → SpellsCells (part_text part ++ behind) (part_cells part ++ cells)
 part_before part behind cells h (parts, each, text, spelt) =

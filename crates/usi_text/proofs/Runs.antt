@@ -3,11 +3,9 @@ use Rattle.std.proofs.Common.{◌≡◌, ℕ, zero, suc, ◌+◌, List, [], ◌�
 use Rattle.std.specs.List.{flat_map}
 use Rattle.std.proofs.lemmas.Bool.Decides.{eqb_tells}
 use Rattle.shogi_board.specs.declared.kind.Piece.{Piece}
-use Rattle.usi_text.specs.Boards.{part_text}
+use Rattle.usi_text.specs.Boards.{Part, empty_squares, one_piece, part_text}
 use Rattle.usi_text.specs.Letters.{piece_text}
 use Rattle.usi_text.specs.SfenText.{with_empty, parts_of}
-use Rattle.usi_text.specs.declared.parts.Part.{Part}
-use Rattle.usi_text.specs.declared.parts.Part.TheVariants.{Empty, Stands}
 use Rattle.usi_text.specs.Scanning.{run_text}
 
 -- n empty squares, and then these cells
@@ -30,11 +28,11 @@ run_moved n parts =
     let e : suc n ≡ n + 1 = omega arith in
     subst (λ m. with_run m parts ≡ with_run n (with_empty parts)) e (run_pushed n parts)
 
-run_alone : (n : ℕ) → with_run (suc n) [] ≡ Empty (suc n) ∷ []
+run_alone : (n : ℕ) → with_run (suc n) [] ≡ empty_squares (suc n) ∷ []
 run_alone zero = refl
 run_alone (suc n) = ap with_empty (run_alone n)
 
-run_piece : (n : ℕ) (p : Piece) (parts : List Part) → with_run (suc n) (Stands p ∷ parts) ≡ Empty (suc n) ∷ Stands p ∷ parts
+run_piece : (n : ℕ) (p : Piece) (parts : List Part) → with_run (suc n) (one_piece p ∷ parts) ≡ empty_squares (suc n) ∷ one_piece p ∷ parts
 run_piece zero p parts = refl
 run_piece (suc n) p parts = ap with_empty (run_piece n p parts)
 

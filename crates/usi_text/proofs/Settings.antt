@@ -10,8 +10,7 @@ use Rattle.shogi_board.specs.Placing as placing
 use Rattle.shogi_board.specs.Placing.{Placing, on, placing_fault, unless, place_all}
 use Rattle.shogi_board.specs.Setup.{empty_layout, place_fault, with_piece, add_fault}
 use Rattle.shogi_board.specs.Squares.{place}
-use Rattle.usi_text.specs.declared.hands.Pile.{Pile}
-use Rattle.usi_text.specs.Hands.{SpellsPiles, SpellsHands, IsPile, pile_text, pile_pieces}
+use Rattle.usi_text.specs.Hands.{Pile, SpellsPiles, SpellsHands, IsPile, pile_text, pile_pieces}
 use Rattle.usi_text.specs.Setting.{board_place, cell_placings}
 use Rattle.usi_text.proofs.Piles.{pile_first, no_pile, dash_no_pile}
 use Rattle.usi_text.proofs.Setups.{Cells, held, hold_pieces}

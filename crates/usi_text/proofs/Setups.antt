@@ -11,9 +11,8 @@ use Rattle.shogi_board.specs.Pieces.{is_king}
 use Rattle.shogi_board.specs.Placing.{Placing, on, placing_fault, placed, unless, place_all}
 use Rattle.shogi_board.specs.Setup.{empty_layout, first_fault, is_full}
 use Rattle.shogi_board.specs.Totals.{kings_of}
-use Rattle.usi_text.specs.declared.hands.Pile.{Pile}
 use Rattle.usi_text.specs.Boards.{SpellsRanks, SpellsBoard}
-use Rattle.usi_text.specs.Hands.{pile_pieces}
+use Rattle.usi_text.specs.Hands.{Pile, pile_pieces}
 use Rattle.usi_text.specs.Setting.{board_place, cell_placings, hand_placing, hand_placings, set_up}
 
 abbrev pub Cells : Type 0

@@ -9,9 +9,8 @@ use Rattle.shogi_board.specs.Layout.{Layout}
 use Rattle.shogi_board.specs.Placed.{Placed}
 use Rattle.usi_text.specs.declared.fault.SfenFault.{SfenFault}
 use Rattle.usi_text.specs.declared.fault.SfenFault.TheVariants.{BadBoard, BadSide, BadHands, BadNumber, Start}
-use Rattle.usi_text.specs.declared.hands.Pile.{Pile}
 use Rattle.usi_text.specs.Boards.{SpellsRanks}
-use Rattle.usi_text.specs.Hands.{SpellsPiles, SpellsHands, pile_text}
+use Rattle.usi_text.specs.Hands.{Pile, SpellsPiles, SpellsHands, pile_text}
 use Rattle.usi_text.specs.Setting.{set_up, Finishes}
 use Rattle.usi_text.specs.Sfen.{Shape, Sfen, FirstFault, IsBoard, side_text}
 use Rattle.usi_text.specs.Words.{nth_word}

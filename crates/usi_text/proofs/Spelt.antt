@@ -9,9 +9,7 @@ use Rattle.shogi_board.specs.declared.kind.Kind.TheVariants.{Pawn, Lance, Knight
 use Rattle.shogi_board.specs.declared.kind.Piece.{Piece}
 use Rattle.shogi_board.specs.Pieces.{is_promoted}
 use Rattle.shogi_rules.specs.Kinds.{unpromoted}
-use Rattle.usi_text.specs.declared.parts.Part.{Part}
-use Rattle.usi_text.specs.declared.parts.Part.TheVariants.{Empty, Stands}
-use Rattle.usi_text.specs.Boards.{IsPart, part_text}
+use Rattle.usi_text.specs.Boards.{Part, empty_squares, one_piece, IsPart, part_text}
 use Rattle.usi_text.specs.Hands.{IsCount, count_text}
 use Rattle.usi_text.specs.Letters.{letter, color_letter, side_letter, piece_text}
 use Rattle.usi_text.specs.Scanning.{HasNoDigit}
@@ -127,13 +125,13 @@ digit_no_piece p n x y low high e =
 
 -- no part is the front of another
 pub part_once : (p q : Part) (x y : List ℕ) → IsPart p → IsPart q → part_text p ++ x ≡ part_text q ++ y → (p ≡ q) × (x ≡ y)
-part_once (Empty m) (Empty n) x y h k e = let f : 48 + m ≡ 48 + n = cc in let g : m ≡ n = omega arith in (ap Empty g, cc)
-part_once (Empty m) (Stands q) x y h k e = absurd (digit_no_piece q (48 + m) y x (omega arith) (omega arith) e)
-part_once (Stands p) (Empty n) x y h k e = absurd (digit_no_piece p (48 + n) x y (omega arith) (omega arith) (sym e))
-part_once (Stands p) (Stands q) x y h k e =
+part_once (empty_squares m) (empty_squares n) x y h k e = let f : 48 + m ≡ 48 + n = cc in let g : m ≡ n = omega arith in (ap empty_squares g, cc)
+part_once (empty_squares m) (one_piece q) x y h k e = absurd (digit_no_piece q (48 + m) y x (omega arith) (omega arith) e)
+part_once (one_piece p) (empty_squares n) x y h k e = absurd (digit_no_piece p (48 + n) x y (omega arith) (omega arith) (sym e))
+part_once (one_piece p) (one_piece q) x y h k e =
     let f = rw (piece_is p, piece_is q) at e in
     let s = text_once (is_promoted p.kind) (is_promoted q.kind) (side_letter p) (side_letter q) x y (side_low p) (side_low q) f in
-    (ap Stands (same_piece p q s.1 s.0), s.2)
+    (ap one_piece (same_piece p q s.1 s.0), s.2)
 
 letter_same : (k : Kind) → letter (unpromoted k) ≡ letter k
 letter_same Pawn = refl

@@ -11,6 +11,7 @@ use Rattle.shogi_board.specs.Material.{Material, bag_of, with_bag}
 use Rattle.shogi_board.specs.Placed.{Placed}
 use Rattle.shogi_board.specs.Setup.{empty_layout, add_fault, one_more}
 use Rattle.usi_text.specs.Boards.{SpellsBoard}
+use Rattle.usi_text.specs.Contents.{HasCells}
 use Rattle.usi_text.specs.Hands.{pile_pieces}
 use Rattle.usi_text.specs.Setting.{board_place, set_up, Finishes}
 use Rattle.usi_text.specs.Sfen.{Sfen}
@@ -65,11 +66,11 @@ cell_stands (Some p ∷ cells) s t n m (suc k) few r h e low =
     cell_stands cells (put s n p) t (n + 1) m k (omega arith) (room_behind s n p (omega arith) r) (goes_on (more_fault s p) _ t h) (omega arith) (omega arith)
 
 -- hands do not change the board
-hand_board : (m : Material) (c : Color) (bag : List ℕ) → (with_bag m c bag).board ≡ m.board
+pub hand_board : (m : Material) (c : Color) (bag : List ℕ) → (with_bag m c bag).board ≡ m.board
 hand_board m Black bag = refl
 hand_board m White bag = refl
 
-hold_board : (ps : List Piece) (s t : Layout) → hold_pieces s ps ≡ Ok t → t.material.board ≡ s.material.board
+pub hold_board : (ps : List Piece) (s t : Layout) → hold_pieces s ps ≡ Ok t → t.material.board ≡ s.material.board
 hold_board [] s t h = let e : t ≡ s = cc in ap (λ (l : Layout). l.material.board) e
 hold_board (p ∷ ps) s t h =
     hold_board ps (held s p) t (goes_on (add_fault s p.kind) _ t h) ∙ hand_board s.material p.color (one_more (bag_of s.material p.color) p.kind)
@@ -91,8 +92,8 @@ finished : (r : Result Layout SetupFault) (side : Color) (p : Placed) → Finish
 finished (Ok t) side p h = (t, refl, ap (λ (q : Placed). q.material.board) h.1)
 finished (Err f) side p h = cc
 
-pub board_stands : (ws : List (List ℕ)) (p : Placed) (cells : Cells) (n : ℕ) → Sfen ws p → SpellsBoard (nth_word ws 0) cells → n < 81 → stands p.material.board n ≡ get_or cells n None
-board_stands ws p cells n s h low =
+pub board_stands : (ws : List (List ℕ)) (p : Placed) (cells : Cells) → Sfen ws p → SpellsBoard (nth_word ws 0) cells → HasCells p cells
+board_stands ws p cells s h n low =
     let same = ranks_once _ s.cells cells s.shape.board.1 h.1 in
     let t = finished (set_up s.cells s.piles) p.side p s.stands in
     let size = board_size (nth_word ws 0) s.cells s.shape.board in

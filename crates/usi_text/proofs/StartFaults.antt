@@ -10,8 +10,7 @@ use Rattle.shogi_board.specs.Pieces.{is_hand_kind}
 use Rattle.shogi_board.specs.Placing.{unless}
 use Rattle.shogi_board.specs.Setup.{empty_layout, first_fault, add_fault}
 use Rattle.usi_text.specs.declared.fault.SfenFault.TheVariants.{Start}
-use Rattle.usi_text.specs.declared.hands.Pile.{Pile}
-use Rattle.usi_text.specs.Hands.{IsPile, SpellsHands, pile_pieces}
+use Rattle.usi_text.specs.Hands.{Pile, IsPile, SpellsHands, pile_pieces}
 use Rattle.usi_text.specs.Setting.{Finishes}
 use Rattle.usi_text.specs.Sfen.{FirstFault}
 use Rattle.usi_text.specs.Words.{nth_word}

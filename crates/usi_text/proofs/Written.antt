@@ -3,8 +3,7 @@ use Rattle.std.proofs.Common.{◌≡◌, ◌≢◌, ℕ, suc, ◌+◌, List, [],
 use Rattle.std.specs.List.{flat_map}
 use Rattle.std.proofs.lemmas.List.{append-nil}
 use Rattle.shogi_board.specs.declared.kind.Piece.{Piece}
-use Rattle.usi_text.specs.declared.hands.Pile.{Pile}
-use Rattle.usi_text.specs.Hands.{pile_text}
+use Rattle.usi_text.specs.Hands.{Pile, pile_text}
 use Rattle.usi_text.specs.Letters.{piece_text}
 use Rattle.usi_text.specs.SfenText.{cell, cells_from, rank_text, ranks_text, hands_text}
 use Rattle.usi_text.proofs.Runs.{text_after}

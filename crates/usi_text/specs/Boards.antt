@@ -4,23 +4,26 @@ use Rattle.std.specs.Prelude.{◌≡◌, ℕ, ◌+◌, ◌≤◌, ◌==◌, List
 use Rattle.std.specs.List.{AllByRecursion, flat_map, slice_split}
 use Prim.Native.Char.{code}
 use Rattle.shogi_board.specs.declared.kind.Piece.{Piece}
-use Rattle.usi_text.specs.declared.parts.Part.{Part}
-use Rattle.usi_text.specs.declared.parts.Part.TheVariants.{Empty, Stands}
 use Rattle.usi_text.specs.Letters.{piece_text}
 
--- a part of a rank is a digit, which counts empty squares, or a piece
+-- a part of a rank: so many empty squares, or a piece
+pub data Part : Type 0 where
+  empty_squares : ℕ → Part
+  one_piece : Piece → Part
+
+-- empty squares are counted by a digit
 abbrev pub part_text : Part → List ℕ
-part_text (Empty n) = (code "0" + n) ∷ []
-part_text (Stands p) = piece_text p
+part_text (empty_squares n) = (code "0" + n) ∷ []
+part_text (one_piece p) = piece_text p
 
 abbrev pub part_cells : Part → List (Option Piece)
-part_cells (Empty n) = replicate n None
-part_cells (Stands p) = Some p ∷ []
+part_cells (empty_squares n) = replicate n None
+part_cells (one_piece p) = Some p ∷ []
 
 -- the digits are 1 to 9
 abbrev pub IsPart : Part → Type 0
-IsPart (Empty n) = (1 ≤ n) × (n ≤ 9)
-IsPart (Stands p) = Unit {0}
+IsPart (empty_squares n) = (1 ≤ n) × (n ≤ 9)
+IsPart (one_piece p) = Unit {0}
 
 -- the text is these parts one after another, and these are their cells
 abbrev pub SpellsCells : List ℕ → List (Option Piece) → Type 0

@@ -5,8 +5,12 @@ use Rattle.shogi_board.specs.declared.color.Color.{Color}
 use Rattle.shogi_board.specs.declared.kind.Kind.{Kind}
 use Rattle.shogi_board.specs.declared.kind.Piece.{Piece}
 use Rattle.shogi_board.specs.Pieces.{is_hand_kind, place_of, same_color}
-use Rattle.usi_text.specs.declared.hands.Pile.{Pile}
 use Rattle.usi_text.specs.Letters.{side_letter}
+
+-- pieces of one side and kind, with their count if it is written
+pub record Pile : Type 0 where
+  pub count : Option ℕ
+  pub piece : Piece
 
 -- the count before the letter, if there is one
 abbrev pub count_text : Option ℕ → List ℕ

@@ -1,4 +1,5 @@
 pub mod Boards
+pub mod Contents
 pub mod Engine
 pub mod EngineTexts
 pub mod Hands

@@ -6,7 +6,7 @@ use Rattle.shogi_rules.specs.declared.line.PlayFault.{PlayFault}
 use Rattle.shogi_rules.specs.declared.line.PlayFault.TheVariants as play
 use Rattle.shogi_rules.specs.declared.moves.Move.{Move}
 use Rattle.shogi_rules.specs.Play.{Answers}
-use Rattle.shogi_rules.specs.Positions.{Played, max_moves, now_of}
+use Rattle.shogi_rules.specs.Positions.{line_of, max_moves, now_of}
 use Rattle.usi_text.specs.declared.fault.UsiFault.{UsiFault}
 use Rattle.usi_text.specs.declared.fault.UsiFault.TheVariants.{BadLine, BadMoveText, Broken, TooManyMoves, OutOfMemory}
 use Rattle.usi_text.specs.declared.fault.UsiFault.TheVariants as usi
@@ -38,9 +38,6 @@ Starts ws start moves =
     (EvenLine ws moves × (start ≡ even_start))
     ⊎ ((sfen : List (List ℕ)) × SfenLine ws sfen moves × Sfen sfen start)
 
-abbrev pub line_of : Placed → List Move → Played
-line_of start moves = record { start = start; moves = moves }
-
 abbrev pub position_now : Placed → List Move → Placed
 position_now start moves = now_of (line_of start moves)
 
@@ -53,8 +50,7 @@ Judged start before m answer =
 abbrev pub IsPlayed : Placed → List Move → List ℕ → Move → Type 0
 IsPlayed start before w m = UsiMove (position_now start before) w m × Judged start before m None
 
--- the first fault of a word after those moves; moves are numbered from 1. Memory can be lacking
--- only for a word that may be played
+-- the first fault of a word after those moves; moves are numbered from 1
 abbrev pub WordFault : Placed → List Move → List ℕ → UsiFault → Type 0
 WordFault start before w TooManyMoves = max_moves ≤ length before
 WordFault start before w (BadMoveText n) =
@@ -63,9 +59,9 @@ WordFault start before w (BadMoveText n) =
 WordFault start before w (Broken n rule) =
     (n ≡ length before + 1) × (m : Move) × UsiMove (position_now start before) w m
     × Judged start before m (Some (play.Broken rule))
-WordFault start before w OutOfMemory = (m : Move) × IsPlayed start before w m
 WordFault start before w BadLine = ⊥
 WordFault start before w (usi.Sfen fault) = ⊥
+WordFault start before w OutOfMemory = ⊥
 
 -- the words are played as moves, one after another, after those before, and this is the answer: all
 -- moves, or the fault of a word after those that were played
@@ -80,26 +76,12 @@ abbrev pub UsiLine : List (List ℕ) → Placed → List Move → Type 0
 UsiLine ws start moves = (words : List (List ℕ)) × Starts ws start words
     × Plays start [] words (Ok moves)
 
--- why the words are not all played
-abbrev pub PlayedFault : Placed → List (List ℕ) → UsiFault → Type 0
-PlayedFault start words BadLine = ⊥
-PlayedFault start words (usi.Sfen fault) = ⊥
-PlayedFault start words (BadMoveText n) = Plays start [] words (Err (BadMoveText n))
-PlayedFault start words (Broken n rule) = Plays start [] words (Err (Broken n rule))
-PlayedFault start words TooManyMoves = Plays start [] words (Err TooManyMoves)
-PlayedFault start words OutOfMemory = Plays start [] words (Err OutOfMemory)
-
--- why the words after the start are not all played; memory can also be lacking if there is no word
-abbrev pub StartedFault : Placed → List (List ℕ) → UsiFault → Type 0
-StartedFault start words fault = ((fault ≡ OutOfMemory) × (words ≡ []))
-    ⊎ PlayedFault start words fault
-
--- why the words after the start that the line gives are not all played
+-- the first fault of the words after the start that the line gives
 abbrev pub MovesFault : List (List ℕ) → UsiFault → Type 0
 MovesFault ws fault = (start : Placed) × (words : List (List ℕ)) × Starts ws start words
-    × StartedFault start words fault
+    × Plays start [] words (Err fault)
 
--- the first fault of a line
+-- the first fault of a line, memory aside
 abbrev pub LineFault : List (List ℕ) → UsiFault → Type 0
 LineFault ws BadLine =
     ((moves : List (List ℕ)) → EvenLine ws moves → ⊥)
@@ -110,4 +92,24 @@ LineFault ws (usi.Sfen fault) =
 LineFault ws (BadMoveText n) = MovesFault ws (BadMoveText n)
 LineFault ws (Broken n rule) = MovesFault ws (Broken n rule)
 LineFault ws TooManyMoves = MovesFault ws TooManyMoves
-LineFault ws OutOfMemory = MovesFault ws OutOfMemory
+LineFault ws OutOfMemory = ⊥
+
+-- the words before this one are played, and this one may be played as this move
+pub record MayPlayOn (start : Placed) (words : List (List ℕ)) : Type 0 where
+  pub front : List (List ℕ)
+  pub word : List ℕ
+  pub rest : List (List ℕ)
+  pub whole : words ≡ front ++ word ∷ rest
+  pub before : List Move
+  pub played : Plays start [] front (Ok before)
+  pub mv : Move
+  pub allowed : IsPlayed start before word mv
+
+-- memory can be lacking for a word that may be played, or if there is no word
+abbrev pub NeedsMemory : Placed → List (List ℕ) → Type 0
+NeedsMemory start words = (words ≡ []) ⊎ MayPlayOn start words
+
+-- memory can be lacking for the words after the start that the line gives
+abbrev pub LineNeedsMemory : List (List ℕ) → Type 0
+LineNeedsMemory ws = (start : Placed) × (words : List (List ℕ)) × Starts ws start words
+    × NeedsMemory start words

@@ -11,8 +11,7 @@ use Rattle.shogi_board.specs.Placed.{Placed}
 use Rattle.shogi_board.specs.Placing.{Placing, on, in_hand, place_all}
 use Rattle.shogi_board.specs.Reach.{InCheck}
 use Rattle.shogi_board.specs.Setup.{empty_layout, position_of}
-use Rattle.usi_text.specs.declared.hands.Pile.{Pile}
-use Rattle.usi_text.specs.Hands.{pile_pieces}
+use Rattle.usi_text.specs.Hands.{Pile, pile_pieces}
 
 -- the place of the nth square of a board's text in the order of squares: rank by rank, each from
 -- file 9 to file 1

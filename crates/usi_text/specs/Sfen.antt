@@ -7,9 +7,8 @@ use Rattle.shogi_board.specs.declared.kind.Piece.{Piece}
 use Rattle.shogi_board.specs.Placed.{Placed}
 use Rattle.usi_text.specs.declared.fault.SfenFault.{SfenFault}
 use Rattle.usi_text.specs.declared.fault.SfenFault.TheVariants.{BadBoard, BadSide, BadHands, BadNumber, Start}
-use Rattle.usi_text.specs.declared.hands.Pile.{Pile}
 use Rattle.usi_text.specs.Boards.{SpellsBoard}
-use Rattle.usi_text.specs.Hands.{SpellsHands}
+use Rattle.usi_text.specs.Hands.{Pile, SpellsHands}
 use Rattle.usi_text.specs.Setting.{set_up, Finishes}
 use Rattle.usi_text.specs.Words.{nth_word}
 

@@ -8,11 +8,8 @@ use Rattle.shogi_board.specs.declared.kind.Kind.TheVariants.{Pawn, Lance, Knight
 use Rattle.shogi_board.specs.declared.kind.Piece.{Piece}
 use Rattle.shogi_board.specs.Placed.{Placed}
 use Rattle.shogi_board.specs.Totals.{count_in}
-use Rattle.usi_text.specs.declared.hands.Pile.{Pile}
-use Rattle.usi_text.specs.declared.parts.Part.{Part}
-use Rattle.usi_text.specs.declared.parts.Part.TheVariants.{Empty, Stands}
-use Rattle.usi_text.specs.Boards.{part_text}
-use Rattle.usi_text.specs.Hands.{pile_text}
+use Rattle.usi_text.specs.Boards.{Part, empty_squares, one_piece, part_text}
+use Rattle.usi_text.specs.Hands.{Pile, pile_text}
 use Rattle.usi_text.specs.Sfen.{side_text}
 
 -- what is on a file and rank
@@ -26,16 +23,16 @@ cells_from board rank (suc n) = cell board (suc n) rank ∷ cells_from board ran
 
 -- one more empty square in front: it joins a count that comes first, or is a count of its own
 abbrev pub with_empty : List Part → List Part
-with_empty (Empty n ∷ parts) = Empty (suc n) ∷ parts
-with_empty (Stands p ∷ parts) = Empty 1 ∷ Stands p ∷ parts
-with_empty [] = Empty 1 ∷ []
+with_empty (empty_squares n ∷ parts) = empty_squares (suc n) ∷ parts
+with_empty (one_piece p ∷ parts) = empty_squares 1 ∷ one_piece p ∷ parts
+with_empty [] = empty_squares 1 ∷ []
 
 -- the parts that are written for cells: each piece is one, and each whole run of empty squares is
 -- one
 abbrev pub parts_of : List (Option Piece) → List Part
 parts_of [] = []
 parts_of (None ∷ cells) = with_empty (parts_of cells)
-parts_of (Some p ∷ cells) = Stands p ∷ parts_of cells
+parts_of (Some p ∷ cells) = one_piece p ∷ parts_of cells
 
 -- the parts of a rank, one after another
 abbrev pub rank_text : List (Option Piece) → ℕ → List ℕ

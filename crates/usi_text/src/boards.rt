@@ -1,10 +1,10 @@
-ghost use Rattle.std.specs.Prelude.{◌≡◌, ◌≤◌, ◌+◌, ◌++◌, ◌∷◌, List, Option, None, IfSome, MatchBool, MatchOption, length, replicate};
+ghost use Rattle.std.specs.Prelude.{◌≡◌, ◌≤◌, ◌<◌, ◌+◌, ◌++◌, ◌∷◌, ℕ, List, Option, IfSome, MatchBool, MatchOption, length, replicate};
 ghost use Rattle.arrayvec.specs.ArrayVec.{array_vec_len};
 ghost use Rattle.shogi_board.specs.declared.kind.Piece.{Piece};
-ghost use Rattle.usi_text.specs.Boards.{SpellsBoard, SpellsCells, part_cells, ranks_of};
+ghost use Rattle.usi_text.specs.Boards.{Part, SpellsBoard, SpellsCells, IsPart, part_text, part_cells, ranks_of};
 ghost use Rattle.usi_text.specs.Scanning.{ranks_behind};
 
-use crate::parts::{Part, read_part};
+use crate::letters::{piece_of_letter, promoted_of_letter};
 use arrayvec::ArrayVec;
 use shogi_board::Piece;
 
@@ -56,33 +56,41 @@ fn read_rank(cells: &mut Cells, text: &[u8]) -> bool
     let end = cells.len() + 9;
     let mut rest = text;
     while !rest.is_empty() {
-        let Some((part, behind)) = read_part(rest) else {
+        let Some((cell, squares, behind)) = read_part(rest) else {
             return false;
         };
-        if end - cells.len() < part.squares() {
+        if end - cells.len() < squares as usize {
             return false;
         }
-        push_part(cells, part);
+        push_squares(cells, cell, squares);
         rest = behind;
     }
     cells.len() == end
 }
 
-fn push_part(cells: &mut Cells, part: Part)
-    requires room { array_vec_len cells.old + length (part_cells part) ≤ 81 }
-    ensures { cells.new.items ≡ cells.old.items ++ part_cells part }
+// The part at the front of the text: what is on each of its squares, how many squares they are, and
+// what follows it.
+fn read_part(text: &[u8]) -> Option<(Option<Piece>, u8, &[u8])>
+    ensures shorter { IfSome result (λ r. length r.2.now < length text.now) }
+    ensures part { MatchOption result
+        ((part : Part) (behind : List ℕ) → IsPart part → text.now ≡ part_text part ++ behind → ⊥)
+        (λ r. (part : Part) × IsPart part × (part_cells part ≡ replicate r.1 r.0)
+        × (text.now ≡ part_text part ++ r.2.now)) }
 {
-    match part {
-        Part::Empty(n) => push_empty(cells, n),
-        Part::Stands(piece) => cells.push(Some(piece)),
+    match text {
+        [digit @ b'1'..=b'9', behind @ ..] => Some((None, *digit - b'0', behind)),
+        [b'+', letter, behind @ ..] => Some((Some(promoted_of_letter(*letter)?), 1, behind)),
+        [letter, behind @ ..] => Some((Some(piece_of_letter(*letter)?), 1, behind)),
+        [] => None,
     }
 }
 
-fn push_empty(cells: &mut Cells, n: u8)
-    requires room { array_vec_len cells.old + n ≤ 81 }
-    ensures { cells.new.items ≡ cells.old.items ++ replicate n None }
+// Adds so many cells, all alike.
+fn push_squares(cells: &mut Cells, cell: Option<Piece>, squares: u8)
+    requires room { array_vec_len cells.old + squares ≤ 81 }
+    ensures { cells.new.items ≡ cells.old.items ++ replicate squares cell }
 {
-    for _ in 0..n {
-        cells.push(None);
+    for _ in 0..squares {
+        cells.push(cell);
     }
 }

@@ -1,24 +1,17 @@
-ghost use Rattle.std.specs.Prelude.{◌≡◌, ◌↔◌, IsTrue, codes, ◌<◌, ◌++◌, ◌∷◌, ℕ, List, Option, IfSome, MatchBool, MatchOption, length};
-ghost use Rattle.usi_text.specs.Hands.{SpellsHands, IsPile, IsCount, count_text, pile_text};
-ghost use Rattle.usi_text.specs.declared.hands.Pile.{Pile};
+ghost use Rattle.std.specs.Prelude.{◌≡◌, ◌↔◌, IsTrue, codes, ◌<◌, ◌++◌, ◌∷◌, ℕ, List, Option, IfSome, MatchBool, MatchOption, length, replicate};
+ghost use Rattle.usi_text.specs.Hands.{Pile, SpellsHands, IsPile, IsCount, count_text, pile_text, pile_pieces};
 ghost use Rattle.usi_text.specs.Scanning.{IsDigitBefore, HasNoDigit};
 
 use crate::letters::piece_of_letter;
 use shogi_board::Piece;
 
-// Pieces of one side and kind in a hand's text, with their count if it is written.
-#[derive(Clone, Copy, Debug, PartialEq, Eq)]
-pub(crate) struct Pile {
-    pub(crate) count: Option<u8>,
-    pub(crate) piece: Piece,
-}
-
-// The pile at the front of the text, and what follows it.
-pub(crate) fn read_pile(text: &[u8]) -> Option<(Pile, &[u8])>
-    ensures shorter { IfSome result (λ r. length r.1.now < length text.now) }
+// The pile at the front of the text: its piece, how many there are, and what follows it.
+pub(crate) fn read_pile(text: &[u8]) -> Option<(Piece, u8, &[u8])>
+    ensures shorter { IfSome result (λ r. length r.2.now < length text.now) }
     ensures pile { MatchOption result
         ((pile : Pile) (behind : List ℕ) → IsPile pile → text.now ≡ pile_text pile ++ behind → ⊥)
-        (λ r. IsPile r.0 × (text.now ≡ pile_text r.0 ++ r.1.now)) }
+        (λ r. (pile : Pile) × IsPile pile × (pile_pieces pile ≡ replicate r.1 r.0)
+        × (text.now ≡ pile_text pile ++ r.2.now)) }
 {
     let (count, rest) = read_count(text);
     let [letter, behind @ ..] = rest else {
@@ -28,7 +21,7 @@ pub(crate) fn read_pile(text: &[u8]) -> Option<(Pile, &[u8])>
     if !piece.kind.is_hand_kind() {
         return None;
     }
-    Some((Pile { count, piece }, behind))
+    Some((piece, count.unwrap_or(1), behind))
 }
 
 // Whether the text is a dash, which means that no hand has a piece.
@@ -51,7 +44,7 @@ pub(crate) fn is_hands(text: &[u8]) -> bool
         return false;
     }
     let mut rest = text;
-    while let Some((_, behind)) = read_pile(rest) {
+    while let Some((_, _, behind)) = read_pile(rest) {
         rest = behind;
     }
     rest.is_empty()

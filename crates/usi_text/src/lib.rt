@@ -21,7 +21,6 @@ mod letters;
 mod line;
 mod line_writing;
 mod moves;
-mod parts;
 mod setting;
 mod sfen;
 pub mod texts;

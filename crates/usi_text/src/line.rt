@@ -1,8 +1,9 @@
-ghost use Rattle.std.specs.Prelude.{◌≡◌, ◌++◌, ◌∷◌, [], Ok, ◌↔◌, ℕ, List, IsTrue, MatchOption, MatchResult};
+ghost use Rattle.std.specs.Prelude.{◌≡◌, ◌++◌, ◌∷◌, ◌⊎◌, [], Ok, ◌↔◌, ℕ, List, IsTrue, MatchOption, MatchResult};
 ghost use Rattle.shogi_rules.specs.declared.moves.Move.{Move};
-ghost use Rattle.usi_text.specs.Lines.{UsiLine, LineFault, Starts, Plays, HasMoves, IsPlayed, WordFault, PlayedFault, StartedFault, line_of};
+ghost use Rattle.shogi_rules.specs.Positions.{line_of};
+ghost use Rattle.usi_text.specs.Lines.{UsiLine, LineFault, LineNeedsMemory, Starts, Plays, HasMoves, IsPlayed};
 ghost use Rattle.usi_text.specs.Words.{words};
-ghost use Rattle.usi_text.specs.Scanning.{GivesStart, Split, word_fault};
+ghost use Rattle.usi_text.specs.Scanning.{GivesStart, Split, Stops, WordStops, word_fault};
 
 use crate::fault::{SfenFault, UsiFault};
 use crate::moves::read_move;
@@ -32,7 +33,8 @@ enum GivenStart<'a> {
 pub fn read_position_line(alloc: Global, text: &[u8]) -> Result<Line, UsiFault>
     ensures told { MatchResult result
         (λ line. UsiLine (words text.now) line.start line.moves)
-        (λ fault. LineFault (words text.now) fault) }
+        (λ fault. ((fault ≡ UsiFault.OutOfMemory) × LineNeedsMemory (words text.now))
+        ⊎ LineFault (words text.now) fault) }
 {
     let (start, moves) = split_line(text).ok_or(UsiFault::BadLine)?;
     play_line(alloc, read_start(start)?, moves)
@@ -42,7 +44,7 @@ pub fn read_position_line(alloc: Global, text: &[u8]) -> Result<Line, UsiFault>
 fn play_line(alloc: Global, start: Position, text: &[u8]) -> Result<Line, UsiFault>
     ensures { MatchResult result
         (λ line. (line.start ≡ start) × Plays start [] (words text.now) (Ok line.moves))
-        (λ fault. StartedFault start (words text.now) fault) }
+        (λ fault. Stops start (words text.now) fault) }
 {
     let Ok(mut line) = Line::new(alloc, start) else {
         return Err(fault_without_room(start, text));
@@ -53,7 +55,7 @@ fn play_line(alloc: Global, start: Position, text: &[u8]) -> Result<Line, UsiFau
 
 // The fault if there is no memory for a line: that of the first move's word, else lack of memory.
 fn fault_without_room(start: Position, text: &[u8]) -> UsiFault
-    ensures { StartedFault start (words text.now) result }
+    ensures { Stops start (words text.now) result }
 {
     let Some((word, _)) = next_word(text) else {
         return UsiFault::OutOfMemory;
@@ -143,7 +145,7 @@ fn play_words(line: &mut Line, text: &[u8]) -> Result<(), UsiFault>
     ensures { MatchResult result
         (λ _. (line.new.start ≡ line.old.start)
         × Plays line.old.start [] (words text.now) (Ok line.new.moves))
-        (λ fault. PlayedFault line.old.start (words text.now) fault) }
+        (λ fault. Stops line.old.start (words text.now) fault) }
 {
     let mut rest = text;
     while let Some((word, behind)) = next_word(rest) {
@@ -158,7 +160,7 @@ fn play_word(line: &mut Line, word: &[u8]) -> Result<(), UsiFault>
     ensures { MatchResult result
         (λ _. (m : Move) × IsPlayed line.old.start line.old.moves word.now m
         × (line.new ≡ line_of line.old.start (line.old.moves ++ m ∷ [])))
-        (λ fault. WordFault line.old.start line.old.moves word.now fault) }
+        (λ fault. WordStops line.old.start line.old.moves word.now fault) }
 {
     let n = line.moves().len();
     if n >= MAX_MOVES {

@@ -1,13 +1,12 @@
-ghost use Rattle.std.specs.Prelude.{◌≡◌, ◌<◌, ◌++◌, List, Ok, Err, MatchResult, length, map};
+ghost use Rattle.std.specs.Prelude.{◌≡◌, ◌<◌, ◌++◌, List, Ok, Err, MatchResult, length, map, replicate};
 ghost use Rattle.shogi_board.specs.declared.kind.Piece.{Piece};
 ghost use Rattle.shogi_board.specs.Placing.{Placing, place_all};
 ghost use Rattle.shogi_board.specs.Setup.{empty_layout};
 ghost use Rattle.shogi_board.specs.Squares.{place};
-ghost use Rattle.usi_text.specs.Hands.{SpellsHands, pile_pieces};
+ghost use Rattle.usi_text.specs.Hands.{Pile, SpellsHands};
 ghost use Rattle.usi_text.specs.Setting.{board_place, cell_placings, hand_placing, hand_placings, set_up, Finishes};
-ghost use Rattle.usi_text.specs.declared.hands.Pile.{Pile};
 
-use crate::hands::{Pile, is_dash, read_pile};
+use crate::hands::{is_dash, read_pile};
 use shogi_board::{Color, Piece, Position, Setup, SetupFault, Square};
 
 // The position with the pieces of these cells, in the order of a board's text, and of the hands
@@ -61,21 +60,23 @@ fn add_hands(setup: &mut Setup, text: &[u8]) -> Result<(), SetupFault>
         return Ok(());
     }
     let mut rest = text;
-    while let Some((pile, behind)) = read_pile(rest) {
-        add_pile(setup, pile)?;
+    while let Some((piece, count, behind)) = read_pile(rest) {
+        add_pieces(setup, piece, count)?;
         rest = behind;
     }
     Ok(())
 }
 
-fn add_pile(setup: &mut Setup, pile: Pile) -> Result<(), SetupFault>
+// Adds so many of the piece to the hand of its side.
+fn add_pieces(setup: &mut Setup, piece: Piece, count: u8) -> Result<(), SetupFault>
     ensures { (others : List Piece) → MatchResult result
-        (λ _. place_all setup.old (map hand_placing (pile_pieces pile ++ others))
+        (λ _. place_all setup.old (map hand_placing (replicate count piece ++ others))
         ≡ place_all setup.new (map hand_placing others))
-        (λ fault. place_all setup.old (map hand_placing (pile_pieces pile ++ others)) ≡ Err fault) }
+        (λ fault. place_all setup.old (map hand_placing (replicate count piece ++ others))
+        ≡ Err fault) }
 {
-    for _ in 0..pile.count.unwrap_or(1) {
-        setup.add_hand(pile.piece.color, pile.piece.kind)?;
+    for _ in 0..count {
+        setup.add_hand(piece.color, piece.kind)?;
     }
     Ok(())
 }

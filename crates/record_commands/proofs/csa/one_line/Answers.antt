@@ -1,22 +1,22 @@
-use Rattle.std.proofs.Common.{rules}
+use Rattle.std.proofs.Common.{rules, refl}
 use Rattle.record_commands.proofs.Telling.{line_alone, line_then_long, line_twice}
 use Rattle.record_commands.proofs.csa.one_line.Goals as goal
 
 pub returns-in-End-2-clause-line : goal.returns-in-End-2-clause-line
 returns-in-End-2-clause-line g c =
-    line_alone (g.R.Read.remaining c.args.reader) c.in_ok-lines.lines.bytes c.read_line.new.self.bytes c.read_line-2.new.self.bytes c.in_ok-line.line.items c.line.result.now c.read_line.new.self.line
-    c.in_ok-lines.ensures.bytes c.in_ok-line.ensures.items c.line.ensures.value
+    line_alone c.args.lines.now.bytes c.args.lines.now.bytes c.read_line.new.self.bytes c.read_line-2.new.self.bytes c.in_ok-line.line.items c.line.result.now c.read_line.new.self.line
+    refl c.in_ok-line.ensures.items c.line.ensures.value
     (c.in_ok-read_line.ensures.line c.in-Line.is) (c.in_ok-read_line.ensures.short c.in-Line.is) (c.in_ok-read_line-2.ensures.end c.in-End-2.is)
 
 pub returns-in-Line-2-clause-bad : goal.returns-in-Line-2-clause-bad
 returns-in-Line-2-clause-bad g c = λ is.
-    line_twice (g.R.Read.remaining c.args.reader) c.in_ok-lines.lines.bytes c.read_line.new.self.bytes c.read_line-2.new.self.bytes c.read_line.new.self.line c.read_line-2.new.self.line
-    c.in_ok-lines.ensures.bytes (c.in_ok-read_line.ensures.line c.in-Line.is) (c.in_ok-read_line-2.ensures.line c.in-Line-2.is)
+    line_twice c.args.lines.now.bytes c.args.lines.now.bytes c.read_line.new.self.bytes c.read_line-2.new.self.bytes c.read_line.new.self.line c.read_line-2.new.self.line
+    refl (c.in_ok-read_line.ensures.line c.in-Line.is) (c.in_ok-read_line-2.ensures.line c.in-Line-2.is)
 
 pub returns-in-Long-2-clause-long : goal.returns-in-Long-2-clause-long
 returns-in-Long-2-clause-long g c = λ is.
-    line_then_long (g.R.Read.remaining c.args.reader) c.in_ok-lines.lines.bytes c.read_line.new.self.bytes c.read_line-2.new.self.bytes c.read_line.new.self.line
-    c.in_ok-lines.ensures.bytes (c.in_ok-read_line.ensures.line c.in-Line.is) (c.in_ok-read_line-2.ensures.long c.in-Long-2.is)
+    line_then_long c.args.lines.now.bytes c.args.lines.now.bytes c.read_line.new.self.bytes c.read_line-2.new.self.bytes c.read_line.new.self.line
+    refl (c.in_ok-read_line.ensures.line c.in-Line.is) (c.in_ok-read_line-2.ensures.long c.in-Long-2.is)
 
 pub returns-in-Line-2-clause-line : goal.returns-in-Line-2-clause-line
 returns-in-Line-2-clause-line g c = search rules

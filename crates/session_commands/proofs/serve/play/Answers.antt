@@ -1,17 +1,16 @@
-use Rattle.session_commands.proofs.Serving.{served_broken, served_gone, served_over}
+use Rattle.std.proofs.Common.{refl}
+use Rattle.std.proofs.lemmas.Result.{err_from_is_err_and}
+use Rattle.session_commands.specs.Offered.{no_host}
+use Rattle.session_commands.proofs.Serving.{has_served}
 use Rattle.session_commands.proofs.serve.play.Goals as goal
 
-pub returns-clause-over : goal.returns-clause-over
-returns-clause-over g c =
-    served_over _ _ c.answer_all.result c.served.result c.served.ensures.gone c.served.ensures.broken c.answer_all.ensures.answered
-    (λ has. (c.in_ok-host.host, c.answer_all.new.machine, c.in_ok-host.ensures.host, has))
+pub returns-in_err-host : goal.returns-in_err-host
+returns-in_err-host g c =
+    let p = err_from_is_err_and c.from_residual.result c.from_residual.ensures.1 in
+    rw (p.1, p.2) (no_host refl)
 
-pub returns-clause-gone : goal.returns-clause-gone
-returns-clause-gone g c =
-    served_gone _ _ c.answer_all.result c.served.result c.served.ensures.over c.served.ensures.broken c.answer_all.ensures.answered
-    (λ has. (c.in_ok-host.host, c.answer_all.new.machine, c.in_ok-host.ensures.host, has))
-
-pub returns-clause-broken : goal.returns-clause-broken
-returns-clause-broken g c = λ fault not_memory.
-    served_broken _ _ c.answer_all.result c.served.result fault c.served.ensures.over c.served.ensures.gone c.served.ensures.broken c.answer_all.ensures.breaks_off
-    (λ breaks. (c.in_ok-host.host, c.in_ok-host.ensures.host, breaks))
+pub returns : goal.returns
+returns g c =
+    has_served g.X.Wire.came g.X.Wire.ends g.X.Wire.went g.X.Wire.silent g.X.Wire.blocked _ c.args.service c.args.wire.now c.answer_all.new.wire
+    c.in_ok-host.host c.answer_all.new.machine c.answer_all.result c.served.result c.served.ensures.over c.served.ensures.gone c.served.ensures.broken
+    c.in_ok-host.ensures.host c.answer_all.ensures.answered c.answer_all.ensures.breaks_off

@@ -4,5 +4,5 @@ use Rattle.shogi_rules.proofs.laws.one_first_broken_rule.Goals as goal
 
 pub returns : goal.returns
 returns c = record {
-  once = λ ps p color m a b h k. one-broken (Kept ps p color m) all_rules a b h k;
+  once = λ line color m a b h k. one-broken (Kept line color m) all_rules a b h k;
 }

@@ -3,4 +3,4 @@ use Rattle.shogi_rules.proofs.Decided.{decide-kept, some-broken}
 use Rattle.shogi_rules.proofs.laws.some_first_broken_rule.Goals as goal
 
 pub returns : goal.returns
-returns c = record { answer = λ ps p color m. some-broken (Kept ps p color m) all_rules (decide-kept ps p color m) }
+returns c = record { answer = λ line color m. some-broken (Kept line color m) all_rules (decide-kept line color m) }

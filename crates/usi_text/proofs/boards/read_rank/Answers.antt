@@ -1,5 +1,5 @@
-use Rattle.std.proofs.Common.{length, arith, ap, length-append}
-use Rattle.usi_text.specs.Boards.{part_cells}
+use Rattle.std.proofs.Common.{◌∙◌, ◌++◌, length, arith, ap, sym, replicate, length-append}
+use Rattle.std.proofs.lemmas.List.{length-replicate}
 use Rattle.usi_text.proofs.Ranks.{runs_start, runs_more, runs_no_part, runs_too_many, rank_read, empty_is, some_are}
 use Rattle.usi_text.proofs.boards.read_rank.Goals as goal
 
@@ -12,13 +12,18 @@ returns-in_default c = λ rank s nine.
 
 pub returns-then-end-len : goal.returns-then-end-len
 returns-then-end-len c = λ rank s nine.
-    runs_too_many c.args.text.now c.loop-rest.rest.now c.in-Some.behind.now c.args.cells.now.items c.loop-rest.cells.items c.in-Some.part c.loop-rest.invariant.runs c.in-Some.ensures.part.0 c.in-Some.ensures.part.1 (omega arith) rank s nine
+    let q = c.in-Some.ensures.part in
+    let size = ap length q.2 ∙ length-replicate c.in-Some.squares c.in-Some.cell in
+    runs_too_many c.args.text.now c.loop-rest.rest.now c.in-Some.behind.now c.args.cells.now.items c.loop-rest.cells.items q.0 c.loop-rest.invariant.runs q.1 q.3 (omega (arith, size)) rank s nine
 
 pub loop-rest-preserved : goal.loop-rest-preserved
-loop-rest-preserved c = record {
-  runs = runs_more c.args.text.now c.loop-rest.rest.now c.in-Some.behind.now c.args.cells.now.items c.loop-rest.cells.items c.push_part.new.cells.items c.in-Some.part c.loop-rest.invariant.runs c.in-Some.ensures.part.0 c.in-Some.ensures.part.1 c.push_part.ensures;
-  within = let l = ap length c.push_part.ensures in omega (arith, l, length-append c.loop-rest.cells.items (part_cells c.in-Some.part));
-}
+loop-rest-preserved c =
+    let q = c.in-Some.ensures.part in
+    let pushed = c.push_squares.ensures in
+    record {
+      runs = runs_more c.args.text.now c.loop-rest.rest.now c.in-Some.behind.now c.args.cells.now.items c.loop-rest.cells.items c.push_squares.new.cells.items q.0 c.loop-rest.invariant.runs q.1 q.3 (pushed ∙ ap (λ x. c.loop-rest.cells.items ++ x) (sym q.2));
+      within = let l = ap length pushed in omega (arith, l, length-append c.loop-rest.cells.items (replicate c.in-Some.squares c.in-Some.cell), length-replicate c.in-Some.squares c.in-Some.cell);
+    }
 
 pub returns : goal.returns
 returns c =

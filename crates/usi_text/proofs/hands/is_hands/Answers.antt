@@ -8,7 +8,8 @@ loop-behind-init c = reads_start c.args.text.now
 
 pub loop-behind-preserved : goal.loop-behind-preserved
 loop-behind-preserved c =
-    reads_more c.args.text.now c.loop-behind.rest.now c.in-Some.behind.now c.in-Some.field-0-0 c.loop-behind.invariant c.in-Some.ensures.pile.0 c.in-Some.ensures.pile.1
+    let q = c.in-Some.ensures.pile in
+    reads_more c.args.text.now c.loop-behind.rest.now c.in-Some.behind.now q.0 c.loop-behind.invariant q.1 q.3
 
 pub returns-then-is_empty : goal.returns-then-is_empty
 returns-then-is_empty c =

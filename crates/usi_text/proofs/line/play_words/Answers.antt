@@ -2,9 +2,10 @@ use Rattle.std.proofs.Common.{rules, ◌∙◌, ap, length, arith, subst}
 use Rattle.std.proofs.lemmas.Result.{err_from_is_err_and}
 use Rattle.shogi_board.specs.Placed.{Placed}
 use Rattle.shogi_rules.specs.Positions.{Played}
-use Rattle.usi_text.specs.Lines.{IsPlayed, WordFault}
+use Rattle.usi_text.specs.Lines.{IsPlayed}
+use Rattle.usi_text.specs.Scanning.{WordStops}
 use Rattle.usi_text.specs.Words.{words}
-use Rattle.usi_text.proofs.Played.{playing_start, playing_more, playing_end, playing_fault}
+use Rattle.usi_text.proofs.Played.{playing_start, playing_more, playing_end, playing_stops}
 use Rattle.usi_text.proofs.line.play_words.Goals as goal
 
 pub loop-word-init : goal.loop-word-init
@@ -39,5 +40,5 @@ returns-in_err-play_word c =
     let w = c.in-Some.word.now in
     let fault = c.in_err-play_word.field-0.0 in
     let first = c.in-Some.ensures.word in
-    let f = subst (λ (q : Placed). WordFault q line.moves w fault) i.start (c.in_err-play_word.ensures {u = tt}) in
-    rw (p.1, p.2) (playing_fault c.args.line.now.start (words c.args.text.now) (words c.loop-word.rest.now) (words c.in-Some.behind.now) line.moves w fault i.playing first f)
+    let f = subst (λ (q : Placed). WordStops q line.moves w fault) i.start (c.in_err-play_word.ensures {u = tt}) in
+    rw (p.1, p.2) (playing_stops c.args.line.now.start (words c.args.text.now) (words c.loop-word.rest.now) (words c.in-Some.behind.now) line.moves w fault i.playing first f)

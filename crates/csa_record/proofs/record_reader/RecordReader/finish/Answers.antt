@@ -20,13 +20,13 @@ returns-in_err-take_last-clause-memory c = λ source h.
 pub returns-in-Some-finish-clause-told : goal.returns-in-Some-finish-clause-told
 returns-in-Some-finish-clause-told c = λ source h.
     let before = subst (HasRead source) (sym c.self.view_is) h in
-    told_of source c.take_last.new.cutter c.take_last.new.progress c.in-Some-finish.record (c.in_ok-take_last.ensures source before.taken) c.in-Some-finish.ensures
+    told_of source c.take_last.new.cutter c.take_last.new.builder c.in-Some-finish.record (c.in_ok-take_last.ensures source before.taken) c.in-Some-finish.ensures
 
 pub returns-in-None-clause-refused : goal.returns-in-None-clause-refused
 returns-in-None-clause-refused c = λ source h some.
     let before = subst (HasRead source) (sym c.self.view_is) h in
     rw (c.statements.ensures.count, c.fed-length.ensures.count)
-    (missing_of source c.self.inside.cutter c.take_last.new.cutter c.self.inside.progress c.take_last.new.progress before.taken (c.in_ok-take_last.ensures source before.taken) c.in-None.ensures)
+    (missing_of source c.self.inside.cutter c.take_last.new.cutter c.self.inside.builder c.take_last.new.builder before.taken (c.in_ok-take_last.ensures source before.taken) c.in-None.ensures)
 
 pub returns-in_err-take_last-clause-first : goal.returns-in_err-take_last-clause-first
 returns-in_err-take_last-clause-first c = λ source h.

@@ -1,0 +1,81 @@
+//! Where a command reads from: the file that its words name, or standard input.
+
+ghost use Rattle.std.specs.Prelude.{IfOk};
+ghost use Rattle.record_commands.specs.Inputs.{path_of};
+
+use crate::fault::ReadFault;
+use std::fs;
+use std::io::Read;
+use std::rt::Files;
+
+/// What the commands may read from.
+pub trait Inputs {
+    ghost use Rattle.std.specs.Prelude.{ℕ, List, Option};
+
+    /// What is read.
+    type Input: Read + Drop;
+
+    // This is the file of that name, or standard input if there is no name or it is `-`, to be read
+    // from its start.
+    ghost opens: { Self → Option (List ℕ) → Self.Input → Type 0 };
+
+    /// Opens the file of that name, or standard input if there is no name or it is `-`.
+    ///
+    /// Refuses `Failed` if the file cannot be opened, and `OutOfMemory`.
+    fn open(&self, file: Option<&str>) -> Result<Self::Input, ReadFault>
+        ensures opened { IfOk result (opens self.now (path_of file.entry)) };
+}
+
+/// Standard input, or a file.
+#[derive(Drop)]
+pub enum Input<S: Drop, F: Drop> {
+    /// Standard input.
+    Standard(S),
+    /// A file.
+    File(F),
+}
+
+impl<S: Read + Drop, F: Read + Drop> Read for Input<S, F> {
+    ghost use Rattle.record_commands.specs.Inputs.{rest_of};
+
+    ghost remaining = { rest_of S.remaining F.remaining };
+
+    fn read(&mut self, buf: &mut [u8]) -> std::io::Result<usize> {
+        match self {
+            Input::Standard(reader) => reader.read(buf),
+            Input::File(reader) => reader.read(buf),
+        }
+    }
+}
+
+/// The files and the standard input of a runtime.
+#[derive(Drop)]
+pub struct RuntimeInputs<'a, R> {
+    rt: &'a R,
+}
+
+impl<'a, R> RuntimeInputs<'a, R> {
+    /// What the commands read from in that runtime.
+    pub fn new(rt: &'a R) -> RuntimeInputs<'a, R> {
+        RuntimeInputs { rt }
+    }
+}
+
+// No contract can say what is in a file, nor which file it is.
+impl<R: Files + std::io::Input> Inputs for RuntimeInputs<'_, R> {
+    ghost use Rattle.record_commands.specs.Inputs.{IsPicked};
+
+    type Input = Input<R::Reader, R::File>;
+
+    ghost opens = { λ inputs path input. IsPicked path input };
+
+    fn open(&self, file: Option<&str>) -> Result<Self::Input, ReadFault> {
+        match file {
+            None | Some("-") => Ok(Input::Standard(self.rt.reader())),
+            Some(path) => match fs::open(self.rt, path) {
+                Ok(file) => Ok(Input::File(file)),
+                Err(error) => Err(ReadFault::of(&error)),
+            },
+        }
+    }
+}

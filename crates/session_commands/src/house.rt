@@ -1,0 +1,142 @@
+//! The server and the engine of a game: started, joined to a bridge, and ended.
+
+ghost use Rattle.std.specs.Prelude.{IfOk, OnErr};
+ghost use Rattle.session_commands.specs.Housing.{IsApart, IsJoined};
+
+use crate::bridging::{Ends, Side, Sides};
+use crate::children::{Programs, SERVER_GONE, engine_command, server_command};
+use crate::fault::MatchFault;
+use crate::port_line::listening_port;
+use record_commands::incoming::Incoming;
+use shogi_words::Plan;
+use std::alloc::Global;
+
+/// What starts and ends the programs of a game.
+pub trait House {
+    ghost use Rattle.std.specs.Prelude.{Bool};
+    ghost use Rattle.shogi_words.specs.declared.play.Plan.{Plan as Planned};
+
+    /// The two ends of the game.
+    type Both: Ends + Drop;
+
+    /// The programs that run.
+    type Running: Drop;
+
+    // It has these ends, and these programs run: the plan's engine and server.
+    ghost opened: { Self → Planned → Self.Both → Self.Running → Self → Type 0 };
+
+    // There is no game, and no program runs.
+    ghost unopened: { Self → Planned → Self → Type 0 };
+
+    // Each of the programs has ended. After a session that ended well it had time to end by itself.
+    ghost shut: { Self → Self.Both → Self.Running → Bool → Self → Type 0 };
+
+    /// Starts both programs. If one of them cannot be started, the other is ended.
+    fn open(&mut self, plan: &Plan<'_>) -> Result<(Self::Both, Self::Running), MatchFault>
+        ensures opened { IfOk result (λ r. opened self.old plan.now r.0 r.1 self.new) }
+        ensures unopened { OnErr result (unopened self.old plan.now self.new) };
+
+    /// Ends both programs.
+    fn shut(&mut self, both: Self::Both, running: Self::Running, is_well: bool)
+        ensures shut { shut self.old both running is_well self.new };
+}
+
+/// A server and an engine of this machine.
+#[derive(Drop)]
+pub struct Local<P: Programs + Drop> {
+    alloc: Global,
+    programs: P,
+}
+
+/// The two programs, and the output of the server.
+#[derive(Drop)]
+pub struct Running<P: Programs> {
+    server: P::Child,
+    server_lines: Incoming<P::Output>,
+    engine: P::Child,
+}
+
+impl<P: Programs + Drop> Local<P> {
+    /// Nothing is started yet.
+    pub fn new(alloc: Global, programs: P) -> Local<P> {
+        Local { alloc, programs }
+    }
+}
+
+impl<P: Programs + Drop> House for Local<P> {
+    ghost use Rattle.session_commands.specs.Housing.{IsOpened, IsShut, IsUnopened};
+
+    type Both = Sides<P::Output, P::Input, P::Reader, P::Writer>;
+
+    type Running = Running<P>;
+
+    ghost opened = { λ h plan both running k. IsOpened P.serves P.thinks P.connects
+        plan h.programs running.server running.engine both.engine.lines both.engine.writer
+        both.server.lines both.server.writer k.programs };
+
+    ghost unopened = { λ h plan k. IsUnopened P.serves P.serves_not P.connects P.connects_not
+        P.thinks_not P.ended plan h.programs k.programs };
+
+    ghost shut = { λ h both running is_well k.
+        IsShut P.ended h.programs running.server running.engine is_well k.programs };
+
+    fn open(&mut self, plan: &Plan<'_>) -> Result<(Self::Both, Self::Running), MatchFault> {
+        let mut command = server_command(self.alloc, plan.server, plan.max_moves)?;
+        let (server, mut server_lines) = self.programs.start_server(&mut command)?;
+        match join(self.alloc, &mut self.programs, plan, &mut server_lines) {
+            Ok((sides, engine)) => Ok((
+                sides,
+                Running {
+                    server,
+                    server_lines,
+                    engine,
+                },
+            )),
+            Err(fault) => {
+                self.programs.end(server, false);
+                Err(fault)
+            }
+        }
+    }
+
+    // Each program finds its input at an end before it is waited for. What it writes is not read
+    // then, but there is a reader until it has ended.
+    fn shut(&mut self, both: Self::Both, running: Self::Running, is_well: bool) {
+        let Sides { engine, server } = both;
+        let Side {
+            lines: _engine_lines,
+            writer,
+        } = engine;
+        let Running {
+            server: server_child,
+            server_lines: _server_lines,
+            engine: engine_child,
+        } = running;
+        drop(writer);
+        self.programs.end(engine_child, is_well);
+        drop(server);
+        self.programs.end(server_child, is_well);
+    }
+}
+
+// Connects to the server that says its port, and starts the engine.
+fn join<P: Programs>(
+    alloc: Global,
+    programs: &mut P,
+    plan: &Plan<'_>,
+    server_lines: &mut Incoming<P::Output>,
+) -> Result<(Sides<P::Output, P::Input, P::Reader, P::Writer>, P::Child), MatchFault>
+    ensures joined { IfOk result (λ r. IsJoined P.thinks P.connects
+        plan.now programs.old server_lines.old r.1 r.0.engine.lines r.0.engine.writer
+        r.0.server.lines r.0.server.writer programs.new) }
+    ensures apart { OnErr result (IsApart P.connects P.connects_not P.thinks_not
+        plan.now programs.old programs.new) }
+{
+    let Some(port) = listening_port(server_lines)? else {
+        return Err(SERVER_GONE);
+    };
+    let server = programs.connect(port)?;
+    let mut command = engine_command(alloc, plan.engine, plan.engine_word)?;
+    let (child, engine) = programs.start_engine(&mut command)?;
+    Ok((Sides { engine, server }, child))
+}
