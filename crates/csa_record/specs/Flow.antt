@@ -14,6 +14,7 @@ use Rattle.record_game.specs.Closed.{AreFaultless}
 use Rattle.csa_record.specs.Reading.{Reading, HasRead}
 use Rattle.record_game.specs.Refused.{Refused, FaultlessTo}
 use Rattle.record_game.specs.Tells.{Tells}
+use Rattle.sha2.specs.Sha256.{sha256}
 
 -- the most bytes of a read, and how often a source is read before its end must have been reached
 abbrev pub longest_piece : ℕ
@@ -185,6 +186,10 @@ IsTextFault old new ended before after flow.OutOfMemory =
 abbrev pub TellsText : Option (List ℕ) → Option (List ℕ) → Bool → ℕ → ℕ → List ℕ → Type 0
 TellsText old new ended before after text = (g : Game) × IsTold old new g × (text ≡ canon g)
     × (ended ≡ true) × (after ≡ before)
+
+-- the source gave a game, and this is the SHA-256 of its canonical text
+abbrev pub IsDigest : Option (List ℕ) → Option (List ℕ) → List ℕ → Type 0
+IsDigest old new digest = (g : Game) × IsTold old new g × (digest ≡ sha256 (canon g))
 
 -- the source gave a game, of whose canonical text the sink took all and nothing else
 pub record IsNormal (old new held_old held_new : Option (List ℕ)) : Type 0 where

@@ -1,7 +1,7 @@
 ghost use Rattle.std.specs.Prelude.{◌≡◌, ◌≢◌, true, ℕ, ◌+◌, ◌-◌, ◌^◌, ◌<◌, ◌≤◌, List, [], IfOk, IfErr, OnOk, OnErr, IsErrOf, MatchResult};
 ghost use Rattle.std.specs.Io.KnownBytes.{Keeps};
 ghost use Rattle.csa_record.specs.declared.flow.FlowFault.{FlowFault};
-ghost use Rattle.csa_record.specs.Flow.{longest_piece, fault_of, IsTold, IsRefusal, IsFaultless, FailsRead, IsReadFault, ReadsRecord, FeedsNext, IsFedAll, IsTextFault, TellsText, IsNormal, IsCutShort, IsFlowFault, IsWanting};
+ghost use Rattle.csa_record.specs.Flow.{longest_piece, fault_of, IsTold, IsRefusal, IsFaultless, FailsRead, IsReadFault, ReadsRecord, FeedsNext, IsFedAll, IsTextFault, TellsText, IsNormal, IsCutShort, IsDigest, IsFlowFault, IsWanting};
 ghost use Rattle.csa_record.specs.Reading.{HasRead, fed_of};
 
 use crate::record::Record;
@@ -10,6 +10,7 @@ use crate::sink::{Sink, send};
 use crate::source::Source;
 use crate::writer::write;
 use record_game::{Refusal, Why};
+use sha2::{Digest, Sha256};
 use std::alloc::Global;
 use thiserror::Error;
 
@@ -128,6 +129,32 @@ pub fn normalise<S: Source, T: Sink>(
         (λ fault. fault ≢ FlowFault.WriteFault → Keeps (T.held sink.old) (T.held sink.new)) }
 {
     pass(alloc, source, sink)
+}
+
+/// Returns the SHA-256 of the canonical text of the record that a source gives.
+///
+/// Refuses as `read_from` does, and then `OutOfMemory` if there is no memory for the text. Only to
+/// be called if the source has failed fewer than 2^64 - 1 times so far.
+pub fn digest<S: Source>(alloc: Global, source: &mut S) -> Result<[u8; 32], FlowFault>
+    requires countable { S.failed source.old < 2 ^ 64 - 1 }
+    // The bytes that the source gave up to its end contain a game, and this is its digest.
+    ensures told { IfOk result (IsDigest (S.known source.old) (S.known source.new)) }
+    ensures ended { IfOk result (λ _. S.ended source.new ≡ true) }
+    ensures refused { (r : Refusal) → IsErrOf result (FlowFault.Refused r)
+        → IsRefusal (S.known source.old) (S.known source.new) (S.ended source.new) r }
+    ensures read_fault { IsErrOf result FlowFault.ReadFault
+        → FailsRead (S.known source.old) (S.known source.new)
+        (S.failed source.old) (S.failed source.new) }
+    // Reaching the end is not a read fault.
+    ensures unended { IsErrOf result FlowFault.ReadFault → S.ended source.new ≡ S.ended source.old }
+    ensures quiet { (IsErrOf result FlowFault.ReadFault → ⊥)
+        → S.failed source.new ≡ S.failed source.old }
+    ensures memory { IsErrOf result FlowFault.OutOfMemory
+        → IsWanting (S.known source.old) (S.known source.new) (S.ended source.new) }
+    ensures no_write { IsErrOf result FlowFault.WriteFault → ⊥ }
+{
+    let canonical = read_text(alloc, source)?;
+    Ok(Sha256::digest(canonical.as_slice()))
 }
 
 fn pass<S: Source, T: Sink>(alloc: Global, source: &mut S, sink: &mut T) -> Result<(), FlowFault>

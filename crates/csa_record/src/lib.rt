@@ -27,12 +27,12 @@ mod start_writer;
 mod titles;
 mod writer;
 
-pub use flow::{FlowFault, MOST_READS, PIECE, normalise, read_from};
+pub use flow::{FlowFault, MOST_READS, PIECE, digest, normalise, read_from};
 pub use pieces::read_pieces;
 pub use record::Record;
 pub use record_game::{OrderFault, Refusal, Why};
 pub use record_reader::{RecordReader, read};
 pub use sink::{Sink, Writing};
-pub use source::{Failure, Reading, Source};
+pub use source::{Failure, Reading, Source, read_uninterrupted};
 pub use titles::{HeaderValue, MAX_HEADERS};
 pub use writer::write;

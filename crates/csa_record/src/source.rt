@@ -2,6 +2,7 @@ ghost use Rattle.std.specs.Prelude.{◌≡◌, Bool, false, ℕ, ◌-◌, ◌^�
 ghost use Rattle.std.specs.Io.KnownBytes.{ReadConsumes};
 ghost use Rattle.csa_record.specs.Flow.{CountsErrors, MarksEnd};
 
+use std::io;
 use std::io::{ErrorKind, Read};
 use thiserror::Error;
 
@@ -76,7 +77,7 @@ impl<R: Read> Source for Reading<R> {
                 self.ended = self.ended || (taken == 0 && !buffer.is_empty());
                 Ok(taken)
             }
-            Err(Failure) => {
+            Err(_) => {
                 self.failures += 1;
                 Err(Failure)
             }
@@ -88,8 +89,11 @@ impl<R: Read> Source for Reading<R> {
     }
 }
 
-// Reads, and tries again whenever it is interrupted.
-fn read_uninterrupted<R: Read>(reader: &mut R, buffer: &mut [u8]) -> Result<usize, Failure>
+/// Puts the next bytes of the reader at the front of the buffer and returns how many. A read that is
+/// interrupted is tried again.
+///
+/// Returns the error of a read that fails in another way, or `Interrupted` after 2^64 - 1 tries.
+pub fn read_uninterrupted<R: Read>(reader: &mut R, buffer: &mut [u8]) -> io::Result<usize>
     ensures within { IfOk result (λ taken. taken ≤ length buffer.new) }
     ensures bytes { ReadConsumes
         (R.remaining reader.old) (R.remaining reader.new) result buffer.new }
@@ -98,8 +102,8 @@ fn read_uninterrupted<R: Read>(reader: &mut R, buffer: &mut [u8]) -> Result<usiz
         match reader.read(buffer) {
             Ok(taken) => return Ok(taken),
             Err(error) if error.kind() == ErrorKind::Interrupted => {}
-            Err(_) => return Err(Failure),
+            Err(error) => return Err(error),
         }
     }
-    Err(Failure)
+    Err(io::Error::from(ErrorKind::Interrupted))
 }

@@ -2,7 +2,8 @@
 // second call succeeds.
 use crate::tests::is_written_at_last;
 use csa_record::{
-    FlowFault, Reading, Record, RecordReader, Refusal, Why, Writing, normalise, read, read_from,
+    FlowFault, Reading, Record, RecordReader, Refusal, Why, Writing, digest, normalise, read,
+    read_from,
 };
 use std::alloc::Global;
 use std::process::Abort;
@@ -65,6 +66,26 @@ fn refused_growth_of_normalise(rt: HostRuntime) -> Result<(), Fail> {
         normalise(rt.alloc(), &mut Reading::new(SHORT), &mut sink)?;
     }
     assert_eq!(rt; room.as_slice(), TEXT);
+    Ok(())
+}
+
+// What `sha256sum` prints of `TEXT`.
+const DIGEST: [u8; 32] = [
+    0xe5, 0xa9, 0xc9, 0x69, 0xaa, 0xfc, 0x03, 0x93, 0x4e, 0x37, 0x70, 0xac, 0x57, 0x26, 0x4a, 0xcb,
+    0x87, 0xe9, 0x8b, 0x94, 0x9a, 0xb4, 0x7b, 0x0f, 0x18, 0xa4, 0x51, 0x96, 0x40, 0x9e, 0x2b, 0x1f,
+];
+
+#[test]
+fn refused_growth_of_digest(rt: HostRuntime) -> Result<(), Fail> {
+    let found = match digest(rt.alloc(), &mut Reading::new(SHORT)) {
+        Ok(found) => found,
+        Err(fault) => {
+            println!(rt; "refused")?;
+            assert_eq!(rt; fault, FlowFault::OutOfMemory);
+            digest(rt.alloc(), &mut Reading::new(SHORT))?
+        }
+    };
+    assert!(rt; found == DIGEST);
     Ok(())
 }
 

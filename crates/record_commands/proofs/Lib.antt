@@ -1,4 +1,6 @@
+mod Converting
 pub mod Cutting
 pub mod LineReading
+pub mod ManyFiles
 pub mod Recording
 pub mod Telling

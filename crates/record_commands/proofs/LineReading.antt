@@ -1,5 +1,5 @@
 -- A reader whose bytes are cut into lines.
-use Rattle.std.proofs.Common.{◌≡◌, ◌⊎◌, inl, inr, ℕ, ◌<◌, ◌≤◌, true, List, [], ◌∷◌, ◌++◌, length, take, drop, Option, None, Some, IfSome, Result, Ok, Err, IfOk, ◌↔◌, refl, sym, ◌∙◌, ap, subst, append-nil, append_assoc, take-append-drop, arith}
+use Rattle.std.proofs.Common.{◌≡◌, ◌⊎◌, inl, inr, ℕ, ◌<◌, ◌≤◌, true, is_some, List, [], ◌∷◌, ◌++◌, length, take, drop, Option, None, Some, IfSome, Result, Ok, Err, IfOk, ◌↔◌, refl, sym, ◌∙◌, ap, subst, append-nil, append_assoc, take-append-drop, arith}
 use Rattle.std.proofs.Math.Seq.{take-length}
 use Rattle.std.proofs.lemmas.List.{take-take}
 use Rattle.std.specs.Io.{StartsWith}
@@ -14,7 +14,9 @@ use Rattle.csa_cutting.specs.declared.line.LineFault.TheVariants as faulty
 use Rattle.shogi_board.specs.declared.memory.OutOfMemory.{OutOfMemory}
 use Rattle.record_commands.specs.declared.incoming.LineEvent.{LineEvent}
 use Rattle.record_commands.specs.declared.incoming.LineEvent.TheVariants.{Failed, Long}
-use Rattle.record_commands.specs.Incoming.{IsReading, GivesEnd, GivesLine, ended, last, GivesNoLine, GivesLongLine}
+use Rattle.record_commands.specs.declared.incoming.Stop.{Stop}
+use Rattle.record_commands.specs.declared.incoming.Stop.TheVariants as stops
+use Rattle.record_commands.specs.Incoming.{IsReading, GivesEnd, GivesLine, ended, last, GivesNoLine, GivesLongLine, stop_after}
 
 pub rest_run : (bytes : List ℕ) (lines : List (List ℕ)) (rest : List ℕ) → Lines bytes lines rest → HasNoLineEnd rest
 rest_run bytes [] rest (ends, whole, skipped, run) = run
@@ -163,3 +165,15 @@ none_over (Some xs) piece over empty = over empty
 
 pub event_failed : (answer : Result (Option LineEvent) OutOfMemory) (event : Option LineEvent) → answer ≡ Ok (Some Failed) → answer ≡ Ok event → event ≡ None → ⊥
 event_failed answer event failed is none = cc
+
+-- ---- why no more is read
+
+-- after a failed read something did
+pub stopped_after : (old new : Option Stop) → new ≡ stop_after old Failed → is_some new ≡ true
+stopped_after None new is = ap is_some is
+stopped_after (Some stop) new is = ap is_some is
+
+-- the pieces did not end, so that there was more than the first, and nothing had stopped the reader
+pub failed_at_last : (old : Option Stop) (pieces : ℕ) → (is_some old ≡ true → pieces ≡ 0) → 0 < pieces → Some stops.Failed ≡ stop_after old Failed
+failed_at_last None pieces none more = refl
+failed_at_last (Some stop) pieces none more = absurd (omega (arith, none refl, more))

@@ -1,15 +1,27 @@
 -- The lines of a reader.
-use Rattle.std.specs.Prelude.{◌≡◌, ℕ, ◌<◌, ◌≤◌, Bool, false, List, [], ◌∷◌, length, Option, IfSome}
+use Rattle.std.specs.Prelude.{◌≡◌, ℕ, ◌<◌, ◌≤◌, false, List, [], ◌∷◌, length, Option, Some, None, IfSome}
 use Rattle.std.specs.Io.KnownBytes.{Consumes}
 use Rattle.csa_cutting.specs.Lines.{Lines, HasNoLineEnd}
 use Rattle.csa_cutting.specs.LineCutting.{LineCutting, BeginsTooLong}
+use Rattle.record_commands.specs.declared.incoming.LineEvent.{LineEvent}
+use Rattle.record_commands.specs.declared.incoming.LineEvent.TheVariants.{Line, End, Long, Failed}
+use Rattle.record_commands.specs.declared.incoming.Stop.{Stop}
+use Rattle.record_commands.specs.declared.incoming.Stop.TheVariants as stops
 
 -- the bytes that will still come, those of an unfinished line first, if they are known; the last
--- line; and whether no more is read
+-- line; and why no more is read, if so
 pub record Coming : Type 0 where
   pub bytes : Option (List ℕ)
   pub line : List ℕ
-  pub is_over : Bool
+  pub stop : Option Stop
+
+-- why no more is read after this event, if so; what stopped the reader before still does
+abbrev pub stop_after : Option Stop → LineEvent → Option Stop
+stop_after (Some stop) event = Some stop
+stop_after None Line = None
+stop_after None End = None
+stop_after None Long = Some stops.TooLong
+stop_after None Failed = Some stops.Failed
 
 -- the next line, followed by a line end or the end
 pub data GivesLine (old new : Option (List ℕ)) (line : List ℕ) : Type 0 where

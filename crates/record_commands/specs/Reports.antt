@@ -1,33 +1,36 @@
 -- What a command has read and printed, as far as bytes are known.
-use Rattle.std.specs.Prelude.{ℕ, List, Option, Bool}
+use Rattle.std.specs.Prelude.{◌≡◌, ◌⊎◌, ℕ, List, Bool, Option, Result, Ok, Err}
 use Rattle.std.specs.Io.KnownBytes.{Appends}
-use Rattle.csa_record.specs.Flow.{IsRefusal, IsTold}
+use Rattle.csa_record.specs.Flow.{ReadsRecord}
+use Rattle.csa_record.specs.declared.flow.FlowFault.{FlowFault}
+use Rattle.csa_record.specs.declared.flow.FlowFault.TheVariants.{Refused, ReadFault, WriteFault, OutOfMemory}
 use Rattle.record_game.specs.Game.{Game}
-use Rattle.record_game.specs.declared.fault.Refusal.{Refusal}
 
--- an input was opened, and its bytes contain this game
-pub record HasRecord {Input : Type 0} (Opened : Input → Type 0)
-    (bytes : Input → Option (List ℕ)) (game : Game) : Type 0 where
-  pub input : Input
-  pub rest : Option (List ℕ)
-  pub opened : Opened input
-  pub told : IsTold (bytes input) rest game
+-- the input could not be opened, or there was no memory to open it; or it was opened, and this was
+-- read of its record
+pub data GetsRecord {Input : Type 0} (Unopened : Type 0) (Opened : Input → Type 0)
+    (bytes : Input → Option (List ℕ)) (result : Result Game FlowFault) : Type 0 where
+  unopened : Unopened → result ≡ Err ReadFault → GetsRecord Unopened Opened bytes result
+  no_memory : result ≡ Err OutOfMemory → GetsRecord Unopened Opened bytes result
+  read : (input after : Input) (ended : Bool) (failures : ℕ) → Opened input
+      → ReadsRecord (bytes input) (bytes after) ended 0 failures result
+      → GetsRecord Unopened Opened bytes result
 
--- an input was opened, and the record in it is refused so
-pub record Refuses {Input : Type 0} (Opened : Input → Type 0)
-    (bytes : Input → Option (List ℕ)) (r : Refusal) : Type 0 where
-  pub input : Input
-  pub rest : Option (List ℕ)
-  pub ended : Bool
-  pub opened : Opened input
-  pub refusal : IsRefusal (bytes input) rest ended r
-
--- an input was opened, its bytes contain a game, and what was printed is a text that fits the game
-pub record Reports {Input : Type 0} (Opened : Input → Type 0)
-    (bytes : Input → Option (List ℕ)) (Fits : Game → List ℕ → Type 0)
+-- a game was read, and what was printed is a text that fits it
+pub record Reports (Reads : Result Game FlowFault → Type 0) (Fits : Game → List ℕ → Type 0)
     (before after : Option (List ℕ)) : Type 0 where
   pub game : Game
   pub text : List ℕ
-  pub read : HasRecord Opened bytes game
+  pub read : Reads (Ok game)
   pub fits : Fits game text
   pub printed : Appends before after text
+
+-- why no text was printed about what was read, or not all of it
+abbrev pub FailsToReport : (Result Game FlowFault → Type 0) → (Game → List ℕ → Type 0)
+    → FlowFault → Type 0
+FailsToReport Reads Fits (Refused r) = Reads (Err (Refused r))
+FailsToReport Reads Fits ReadFault = Reads (Err ReadFault)
+FailsToReport Reads Fits WriteFault =
+    (game : Game) × (text : List ℕ) × Reads (Ok game) × Fits game text
+FailsToReport Reads Fits OutOfMemory =
+    Reads (Err OutOfMemory) ⊎ ((game : Game) × Reads (Ok game))

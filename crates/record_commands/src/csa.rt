@@ -1,14 +1,14 @@
 //! The canonical text of a USI position line.
 
-ghost use Rattle.std.specs.Prelude.{◌≡◌, ◌≢◌, ◌⊎◌, true, IfOk, IsErrOf, OnOk};
-ghost use Rattle.record_commands.specs.Inputs.{path_of};
-ghost use Rattle.record_commands.specs.OneLine.{Converts, HasLongLine, HasNoLine, HasTwoLines, IsOneLine};
+ghost use Rattle.std.specs.Prelude.{◌≡◌, ◌≢◌, ◌⊎◌, None, IfErr, IfOk, IsErrOf, OnOk};
+ghost use Rattle.record_commands.specs.Inputs.{IsPicked, NamesFile, path_of};
+ghost use Rattle.record_commands.specs.OneLine.{BreaksOff, Converts, FailsToConvert, HasLongLine, HasNoLine, HasTwoLines, IsOneLine};
 ghost use Rattle.record_commands.specs.declared.fault.PositionLineFault.{PositionLineFault};
 ghost use Rattle.usi_text.specs.declared.fault.UsiFault.{UsiFault};
 
 use crate::fault::PositionLineFault;
 use crate::incoming::{Incoming, LineEvent};
-use crate::inputs::{Inputs, RuntimeInputs};
+use crate::inputs::{self, Inputs, RuntimeInputs};
 use crate::streams;
 use csa_record::Record;
 use std::alloc::Global;
@@ -30,6 +30,9 @@ pub fn run<R: Files + Input + Print + AllocGlobal>(
 ) -> Result<(), PositionLineFault>
     ensures refused { (fault : UsiFault)
         → IsErrOf result (PositionLineFault.Refused fault) → fault ≢ UsiFault.OutOfMemory }
+    ensures fails { IfErr result (FailsToConvert
+        (NamesFile (path_of file.entry)) (IsPicked (path_of file.entry))
+        ⟦<inputs::Input<R::Reader, R::File> as io::Read>⟧.remaining) }
 {
     csa(
         rt.alloc(),
@@ -49,8 +52,10 @@ fn csa<I: Inputs, W: Write>(
     ensures accepted { OnOk result
         (Converts (I.opens inputs.now (path_of file.entry)) I.Input.Read.remaining
         (W.contents out.old) (W.contents out.new)) }
-    ensures refused { (fault : UsiFault)
-        → IsErrOf result (PositionLineFault.Refused fault) → fault ≢ UsiFault.OutOfMemory }
+    ensures fails { IfErr result (FailsToConvert (I.opens_not inputs.now (path_of file.entry))
+        (I.opens inputs.now (path_of file.entry)) I.Input.Read.remaining) }
+    ensures unwritten { IfErr result
+        (λ fault. fault ≢ PositionLineFault.Write → out.new ≡ out.old) }
 {
     let mut lines = Incoming::new(alloc, inputs.open(file)?)?;
     let text = one_line(alloc, &mut lines)?;
@@ -72,7 +77,8 @@ fn one_line<R: Read + Drop>(
     ensures bad { IsErrOf result (PositionLineFault.Refused UsiFault.BadLine)
         → HasNoLine lines.old.bytes ⊎ HasTwoLines lines.old.bytes }
     ensures long { IsErrOf result PositionLineFault.TooLong → HasLongLine lines.old.bytes }
-    ensures read { IsErrOf result PositionLineFault.Read → lines.new.is_over ≡ true }
+    ensures read { lines.old.stop ≡ None → IsErrOf result PositionLineFault.Read
+        → BreaksOff lines.old.bytes lines.new }
     ensures refused { (fault : UsiFault)
         → IsErrOf result (PositionLineFault.Refused fault) → fault ≡ UsiFault.BadLine }
     ensures unwritten { IsErrOf result PositionLineFault.Write → ⊥ }

@@ -1,9 +1,9 @@
 //! The lines of a reader, one at a time.
 
-ghost use Rattle.std.specs.Prelude.{◌≡◌, ◌↔◌, ◌⊎◌, ◌<◌, ◌≤◌, ◌++◌, [], ◌∷◌, length, take, None, Some, Ok, IfOk, IfSome, IsErr, IsErrOf, OnErr, true, false};
+ghost use Rattle.std.specs.Prelude.{◌≡◌, ◌↔◌, ◌⊎◌, ◌<◌, ◌≤◌, ◌++◌, [], ◌∷◌, length, take, is_some, None, Some, Ok, IfOk, IfSome, IsErr, IsErrOf, OnErr, true, false};
 ghost use Rattle.csa_cutting.specs.Lines.{Lines};
 ghost use Rattle.csa_cutting.specs.LineCutting.{BeginsTooLong};
-ghost use Rattle.record_commands.specs.Incoming.{GivesEnd, GivesLine, GivesLongLine, GivesNoLine, IsReading};
+ghost use Rattle.record_commands.specs.Incoming.{GivesEnd, GivesLine, GivesLongLine, GivesNoLine, IsReading, stop_after};
 
 use crate::streams;
 use csa_cutting::{LineCutter, LineFault};
@@ -26,6 +26,17 @@ pub enum LineEvent {
     Failed,
 }
 
+/// Why no more is read.
+#[derive(Clone, Copy, Debug, PartialEq, Eq)]
+pub enum Stop {
+    /// A line has more than 65,536 bytes.
+    TooLong,
+    /// A read failed.
+    Failed,
+    /// An allocation failed.
+    OutOfMemory,
+}
+
 /// A reader whose bytes are cut into lines as they come.
 #[derive(Drop)]
 pub struct Incoming<R: Read + Drop> {
@@ -33,11 +44,11 @@ pub struct Incoming<R: Read + Drop> {
     reader: BufReader<R>,
     cutter: LineCutter,
     line: Vec<u8>,
-    is_over: bool,
+    stop: Option<Stop>,
 }
 
 impl<R: Read + Drop> Model for Incoming<R> {
-    ghost use Rattle.std.specs.Prelude.{◌≡◌, false};
+    ghost use Rattle.std.specs.Prelude.{◌≡◌, is_some, false};
     ghost use Rattle.std.specs.Io.Buffered.{reader_remaining};
     ghost use Rattle.std.specs.Io.KnownBytes.{prepend_known};
     ghost use Rattle.record_commands.specs.Incoming.{Coming, IsReading};
@@ -47,17 +58,17 @@ impl<R: Read + Drop> Model for Incoming<R> {
     ghost view = { λ i. record {
       bytes = prepend_known i.cutter.held (reader_remaining R.remaining i.reader);
       line = i.line.items;
-      is_over = i.is_over;
+      stop = i.stop;
     } };
 
-    ghost invariant = { λ i. i.is_over ≡ false → IsReading i.cutter };
+    ghost invariant = { λ i. is_some i.stop ≡ false → IsReading i.cutter };
 }
 
 impl<R: Read + Drop> Incoming<R> {
     /// A reader of which nothing is read yet. Returns `OutOfMemory` if an allocation fails.
     pub fn new(alloc: Global, reader: R) -> Result<Incoming<R>, OutOfMemory>
         ensures bytes { IfOk result (λ i. i.bytes ≡ R.remaining reader) }
-        ensures open { IfOk result (λ i. i.is_over ≡ false) }
+        ensures open { IfOk result (λ i. i.stop ≡ None) }
     {
         let Ok(reader) = BufReader::with_capacity(alloc, PIECE, reader) else {
             return Err(OutOfMemory);
@@ -67,7 +78,7 @@ impl<R: Read + Drop> Incoming<R> {
             reader,
             cutter: LineCutter::new(alloc, streams::LONGEST_LINE),
             line: Vec::new(alloc),
-            is_over: false,
+            stop: None,
         })
     }
 
@@ -87,20 +98,17 @@ impl<R: Read + Drop> Incoming<R> {
             → GivesNoLine self.old.bytes self.new.bytes) }
         ensures long { IfOk result (λ event. event ≡ LineEvent.Long
             → GivesLongLine self.old.bytes self.new.bytes) }
-        ensures over { IfOk result (λ event. (event ≡ LineEvent.Long) ⊎ (event ≡ LineEvent.Failed)
-            → self.new.is_over ≡ true) }
-        ensures open { IfOk result (λ event. (event ≡ LineEvent.Line) ⊎ (event ≡ LineEvent.End)
-            → self.new.is_over ≡ false) }
-        ensures lost { OnErr result (self.new.is_over ≡ true) }
-        ensures stays { self.old.is_over ≡ true
+        ensures over { IfOk result (λ event. self.new.stop ≡ stop_after self.old.stop event) }
+        ensures lost { OnErr result (self.new.stop ≡ Some Stop.OutOfMemory) }
+        ensures stays { is_some self.old.stop ≡ true
             → (result ≡ Ok LineEvent.Failed) × (self.new ≡ self.old) }
     {
-        for _ in 0..u64::MAX {
+        for _pieces in 0..u64::MAX {
             if let Some(event) = self.take_piece()? {
                 return Ok(event);
             }
         }
-        self.is_over = true;
+        self.stop = Some(Stop::Failed);
         Ok(LineEvent::Failed)
     }
 
@@ -126,23 +134,21 @@ impl<R: Read + Drop> Incoming<R> {
             → GivesLongLine self.old.bytes self.new.bytes) }
         ensures none { IfOk result (λ event. event ≡ None
             → GivesNoLine self.old.bytes self.new.bytes) }
-        ensures over { IfOk result (λ event.
-            (event ≡ Some LineEvent.Long) ⊎ (event ≡ Some LineEvent.Failed)
-            → self.new.is_over ≡ true) }
-        ensures open { IfOk result (λ event. (event ≡ Some LineEvent.Line)
-            ⊎ (event ≡ Some LineEvent.End) ⊎ (event ≡ None) → self.new.is_over ≡ false) }
-        ensures lost { OnErr result (self.new.is_over ≡ true) }
-        ensures stays { self.old.is_over ≡ true
+        ensures over { IfOk result (λ event. IfSome event
+            (λ e. self.new.stop ≡ stop_after self.old.stop e)) }
+        ensures still { IfOk result (λ event. event ≡ None → self.new.stop ≡ self.old.stop) }
+        ensures lost { OnErr result (self.new.stop ≡ Some Stop.OutOfMemory) }
+        ensures stays { is_some self.old.stop ≡ true
             → (result ≡ Ok (Some LineEvent.Failed)) × (self.new ≡ self.old) }
     {
-        if self.is_over {
+        if self.stop.is_some() {
             return Ok(Some(LineEvent::Failed));
         }
         let piece = match self.reader.fill_buf() {
             Ok(piece) => piece,
             Err(error) if error.kind() == ErrorKind::Interrupted => return Ok(None),
             Err(_) => {
-                self.is_over = true;
+                self.stop = Some(Stop::Failed);
                 return Ok(Some(LineEvent::Failed));
             }
         };
@@ -151,7 +157,7 @@ impl<R: Read + Drop> Incoming<R> {
                 Ok(true) => return Ok(Some(LineEvent::Line)),
                 Ok(false) => return Ok(Some(LineEvent::End)),
                 Err(fault) => {
-                    self.is_over = true;
+                    self.stop = Some(stop_of(fault));
                     return event_of(fault);
                 }
             }
@@ -159,7 +165,7 @@ impl<R: Read + Drop> Incoming<R> {
         let found = match cut(self.alloc, &mut self.cutter, &mut self.line, piece) {
             Ok(found) => found,
             Err(fault) => {
-                self.is_over = true;
+                self.stop = Some(stop_of(fault));
                 return event_of(fault);
             }
         };
@@ -181,6 +187,17 @@ fn event_of(fault: LineFault) -> Result<Option<LineEvent>, OutOfMemory>
     match fault {
         LineFault::TooLong => Ok(Some(LineEvent::Long)),
         LineFault::OutOfMemory => Err(OutOfMemory),
+    }
+}
+
+// Why no more is read after a fault of the cutter.
+fn stop_of(fault: LineFault) -> Stop
+    ensures long { fault ≡ LineFault.TooLong → result ≡ Stop.TooLong }
+    ensures memory { fault ≡ LineFault.OutOfMemory → result ≡ Stop.OutOfMemory }
+{
+    match fault {
+        LineFault::TooLong => Stop::TooLong,
+        LineFault::OutOfMemory => Stop::OutOfMemory,
     }
 }
 

@@ -1,7 +1,8 @@
 //! Where a command reads from: the file that its words name, or standard input.
 
-ghost use Rattle.std.specs.Prelude.{IfOk};
+ghost use Rattle.std.specs.Prelude.{IfOk, IsErrOf};
 ghost use Rattle.record_commands.specs.Inputs.{path_of};
+ghost use Rattle.record_commands.specs.declared.fault.ReadFault.{ReadFault};
 
 use crate::fault::ReadFault;
 use std::fs;
@@ -19,11 +20,16 @@ pub trait Inputs {
     // from its start.
     ghost opens: { Self → Option (List ℕ) → Self.Input → Type 0 };
 
+    // That file, or standard input, cannot be opened.
+    ghost opens_not: { Self → Option (List ℕ) → Type 0 };
+
     /// Opens the file of that name, or standard input if there is no name or it is `-`.
     ///
     /// Refuses `Failed` if the file cannot be opened, and `OutOfMemory`.
     fn open(&self, file: Option<&str>) -> Result<Self::Input, ReadFault>
-        ensures opened { IfOk result (opens self.now (path_of file.entry)) };
+        ensures opened { IfOk result (opens self.now (path_of file.entry)) }
+        ensures failed { IsErrOf result ReadFault.Failed
+            → opens_not self.now (path_of file.entry) };
 }
 
 /// Standard input, or a file.
@@ -61,13 +67,16 @@ impl<'a, R> RuntimeInputs<'a, R> {
     }
 }
 
-// No contract can say what is in a file, nor which file it is.
+// No contract can say what is in a file, which file it is, or when it cannot be opened. Standard
+// input can always be opened.
 impl<R: Files + std::io::Input> Inputs for RuntimeInputs<'_, R> {
-    ghost use Rattle.record_commands.specs.Inputs.{IsPicked};
+    ghost use Rattle.record_commands.specs.Inputs.{IsPicked, NamesFile};
 
     type Input = Input<R::Reader, R::File>;
 
     ghost opens = { λ inputs path input. IsPicked path input };
+
+    ghost opens_not = { λ inputs path. NamesFile path };
 
     fn open(&self, file: Option<&str>) -> Result<Self::Input, ReadFault> {
         match file {

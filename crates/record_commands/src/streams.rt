@@ -1,14 +1,13 @@
 //! What the commands read from and write to.
 
-ghost use Rattle.std.specs.Prelude.{◌≡◌, IfOk, IsErrOf, OnOk};
+ghost use Rattle.std.specs.Prelude.{OnOk};
 ghost use Rattle.std.specs.Io.KnownBytes.{Appends};
-ghost use Rattle.csa_record.specs.declared.flow.FlowFault.{FlowFault};
 ghost use Rattle.record_commands.specs.Inputs.{path_of};
-ghost use Rattle.record_commands.specs.Reports.{HasRecord, Refuses};
+ghost use Rattle.record_commands.specs.Reports.{GetsRecord};
 
 use crate::fault::WriteFault;
 use crate::inputs::Inputs;
-use csa_record::{FlowFault, Reading, Record, Refusal, read_from};
+use csa_record::{FlowFault, Reading, Record, read_from};
 use std::alloc::Global;
 use std::io::Write;
 
@@ -20,11 +19,8 @@ pub const LONGEST_LINE: usize = 65_536;
 ///
 /// Refuses `ReadFault` if the file cannot be opened, and then as `csa_record::read_from` does.
 pub fn record<I: Inputs>(alloc: Global, inputs: &I, file: Option<&str>) -> Result<Record, FlowFault>
-    ensures game { IfOk result
-        (HasRecord (I.opens inputs.now (path_of file.entry)) I.Input.Read.remaining) }
-    ensures refused { (r : Refusal) → IsErrOf result (FlowFault.Refused r)
-        → Refuses (I.opens inputs.now (path_of file.entry)) I.Input.Read.remaining r }
-    ensures no_write { IsErrOf result FlowFault.WriteFault → ⊥ }
+    ensures { GetsRecord (I.opens_not inputs.now (path_of file.entry))
+        (I.opens inputs.now (path_of file.entry)) I.Input.Read.remaining result }
 {
     let input = inputs.open(file)?;
     read_from(alloc, &mut Reading::new(input))

@@ -1,15 +1,16 @@
 //! The position line of a record.
 
-ghost use Rattle.std.specs.Prelude.{◌≡◌, ℕ, List, IfOk, IsErrOf, OnOk};
+ghost use Rattle.std.specs.Prelude.{◌≡◌, ◌≢◌, ◌-◌, ◌^◌, ◌<◌, ℕ, List, IfErr, IfOk, IsErrOf, OnOk};
+ghost use Rattle.csa_record.specs.Flow.{ReadsRecord};
 ghost use Rattle.csa_record.specs.declared.flow.FlowFault.{FlowFault};
-ghost use Rattle.record_commands.specs.Inputs.{path_of};
-ghost use Rattle.record_commands.specs.Reports.{Refuses, Reports};
+ghost use Rattle.record_commands.specs.Inputs.{IsPicked, NamesFile, path_of};
+ghost use Rattle.record_commands.specs.Reports.{FailsToReport, GetsRecord, Reports};
 ghost use Rattle.record_commands.specs.Words.{IsPositionText};
 ghost use Rattle.record_game.specs.Refused.{Refused};
 
-use crate::inputs::{Inputs, RuntimeInputs};
+use crate::inputs::{self, Inputs, RuntimeInputs};
 use crate::streams;
-use csa_record::{FlowFault, Record, Refusal};
+use csa_record::{FlowFault, Reading, Record, Refusal, Source, read_from};
 use shogi_board::OutOfMemory;
 use std::alloc::Global;
 use std::io;
@@ -27,6 +28,10 @@ pub fn run<R: Files + Input + Print + AllocGlobal>(
 ) -> Result<(), FlowFault>
     ensures refused { (r : Refusal) → IsErrOf result (FlowFault.Refused r)
         → (bytes : List ℕ) × Refused bytes r.number r.offset r.why }
+    ensures fails { IfErr result (FailsToReport
+        (GetsRecord (NamesFile (path_of file.entry)) (IsPicked (path_of file.entry))
+        ⟦<inputs::Input<R::Reader, R::File> as io::Read>⟧.remaining)
+        IsPositionText) }
 {
     usi(
         rt.alloc(),
@@ -44,13 +49,37 @@ fn usi<I: Inputs, W: Write>(
     out: &mut W,
 ) -> Result<(), FlowFault>
     ensures accepted { OnOk result
-        (Reports (I.opens inputs.now (path_of file.entry)) I.Input.Read.remaining
+        (Reports (GetsRecord (I.opens_not inputs.now (path_of file.entry))
+        (I.opens inputs.now (path_of file.entry)) I.Input.Read.remaining)
         IsPositionText (W.contents out.old) (W.contents out.new)) }
-    ensures refused { (r : Refusal) → IsErrOf result (FlowFault.Refused r)
-        → Refuses (I.opens inputs.now (path_of file.entry)) I.Input.Read.remaining r
-        × (out.new ≡ out.old) }
+    ensures fails { IfErr result (FailsToReport
+        (GetsRecord (I.opens_not inputs.now (path_of file.entry))
+        (I.opens inputs.now (path_of file.entry)) I.Input.Read.remaining)
+        IsPositionText) }
+    ensures unwritten { IfErr result (λ fault. fault ≢ FlowFault.WriteFault → out.new ≡ out.old) }
 {
-    let record = streams::record(alloc, inputs, file)?;
+    let mut source = Reading::new(inputs.open(file)?);
+    usi_source(alloc, &mut source, out)
+}
+
+// Prints that line of the record that the source gives.
+fn usi_source<S: Source, W: Write>(
+    alloc: Global,
+    source: &mut S,
+    out: &mut W,
+) -> Result<(), FlowFault>
+    requires { S.failed source.old < 2 ^ 64 - 1 }
+    ensures accepted { OnOk result (Reports (ReadsRecord
+        (S.known source.old) (S.known source.new) (S.ended source.new)
+        (S.failed source.old) (S.failed source.new))
+        IsPositionText (W.contents out.old) (W.contents out.new)) }
+    ensures fails { IfErr result (FailsToReport (ReadsRecord
+        (S.known source.old) (S.known source.new) (S.ended source.new)
+        (S.failed source.old) (S.failed source.new))
+        IsPositionText) }
+    ensures unwritten { IfErr result (λ fault. fault ≢ FlowFault.WriteFault → out.new ≡ out.old) }
+{
+    let record = read_from(alloc, source)?;
     let Ok(text) = position_text(alloc, &record) else {
         return Err(FlowFault::OutOfMemory);
     };

@@ -1,5 +1,5 @@
 -- What the writers for a bridge's engine and server hold.
-use Rattle.std.proofs.Common.{◌≡◌, ◌≢◌, ◌++◌, ℕ, List, Option, [], ap, refl, subst, sym}
+use Rattle.std.proofs.Common.{◌≡◌, ◌≢◌, ℕ, List, [], ap, subst, sym}
 use Rattle.std.specs.Io.KnownBytes.{Appends}
 use Rattle.std.proofs.KnownBytes.{Appends-nil, Appends-trans}
 use Rattle.bridge_table.specs.declared.event.Status.{Status}
@@ -10,7 +10,7 @@ use Rattle.session_commands.specs.declared.bridging.Seat.{Seat}
 use Rattle.session_commands.specs.declared.bridging.Seat.TheVariants.{Engine, Server}
 use Rattle.session_commands.specs.Holding.{Holds, IsTaken, KeepsBoth, KeepsOther, TakesLines, TookAll, TookRound}
 use Rattle.session_commands.specs.PlayedLogs.{handed, sent_to}
-use Rattle.session_commands.specs.Plays.{Delivers, Gives, Played, Round, Takes, begun, goes_on, lost, no_lines, taken}
+use Rattle.session_commands.specs.Plays.{Delivers, Gives, History, Round, Takes, begun, goes_on, lost, no_lines, taken}
 
 engine_is_not_server : Engine ≡ Server → ⊥
 engine_is_not_server same = absurd cc
@@ -48,7 +48,7 @@ round_held held went gone takes went_keeps gone_keeps Server event e s f t statu
     subst (λ bytes. Appends bytes (held f Server) round.to_server) same own
 
 pub handed_is_held : {E : Type 0} (held : Holds E) (came : Gives E) (went gone : Takes E) → TakesLines held went → KeepsOther held went → KeepsOther held gone → KeepsBoth held came
-    → (seat : Seat) (e : E) (s : Session) (f : E) (t : Session) (status : Status) (played : Played came went gone e s f t status)
+    → (seat : Seat) (e : E) (s : Session) (f : E) (t : Session) (status : Status) (played : History came went gone e s f t status)
     → TookAll seat played → Appends (held e seat) (held f seat) (handed seat played)
 handed_is_held held came went gone takes went_keeps gone_keeps came_keeps seat e s f t status (begun g u now round) took =
     round_held held went gone takes went_keeps gone_keeps seat begin e s g u now round took

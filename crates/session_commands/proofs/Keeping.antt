@@ -1,16 +1,15 @@
 -- What becomes of the record of a game.
-use Rattle.std.proofs.Common.{◌≡◌, ◌⊎◌, ℕ, List, length, Option, None, Some, Result, Err, MatchOption, refl, ap, sym, subst, ◌∙◌}
+use Rattle.std.proofs.Common.{◌≡◌, ℕ, List, length, Option, None, Some, Result, Err, MatchOption, refl, ap, sym, subst, ◌∙◌}
 use Rattle.std.specs.Bool.{⊤}
 use Rattle.std.specs.Prelude.{unwrap_or}
 use Rattle.record_game.specs.Canon.{canon}
 use Rattle.record_game.specs.Game.{Game}
 use Rattle.session_commands.specs.declared.fault.MatchFault.{MatchFault}
-use Rattle.session_commands.specs.declared.fault.MatchFault.TheVariants as faults
+use Rattle.session_commands.specs.Faults.{IsFileFault}
 use Rattle.shogi_session.specs.GameTold.{HasMoves, game_of}
 use Rattle.shogi_session.specs.Promises.{IsGameText, game_text, no_game}
 use Rattle.shogi_session.specs.State.{State}
-use Rattle.session_commands.specs.Kept as kept
-use Rattle.session_commands.specs.Kept.{KeepsRecord, report_of}
+use Rattle.session_commands.specs.Kept.{KeepsRecord, RefusesText, TakesText, no_game as keeps_no_game, not_taken, report_of, taken}
 
 same_some : (a b : List ℕ) → Some a ≡ Some b → a ≡ b
 same_some a b same = cc
@@ -23,10 +22,10 @@ none_has_no_game s found is (no_game none) = none
 none_has_no_game s found is (game_text g some) = absurd cc
 
 -- there is no game
-pub none_kept : {P : Type 0} (took refused : P → List ℕ → P → Type 0) (s : State) (played : Result ⊤ MatchFault) (p : P) (answer : Result ℕ MatchFault)
+pub none_kept : {P : Type 0} (took : TakesText P) (refused : RefusesText P) (s : State) (played : Result ⊤ MatchFault) (p : P) (answer : Result ℕ MatchFault)
     → IsGameText s None → report_of played 0 ≡ answer → KeepsRecord took refused (game_of s.client) played p p answer
 none_kept took refused s played p answer none is =
-    subst (λ a. KeepsRecord took refused (game_of s.client) played p p a) is (kept.no_game (none_has_no_game s None refl none) refl)
+    subst (λ a. KeepsRecord took refused (game_of s.client) played p p a) is (keeps_no_game (none_has_no_game s None refl none) refl)
 
 -- the text is that of the game
 pub record HasText (s : State) (text : List ℕ) : Type 0 where
@@ -41,12 +40,12 @@ has_text_of s found text is (game_text g some) = record { game = g; is = some; t
 pub has_text : (s : State) (text : List ℕ) → IsGameText s (Some text) → HasText s text
 has_text s text is = has_text_of s (Some text) text refl is
 
-pub text_refused : {P : Type 0} (took refused : P → List ℕ → P → Type 0) (s : State) (text : List ℕ) (played : Result ⊤ MatchFault) (p q : P) (fault : MatchFault)
-    → IsGameText s (Some text) → refused p text q → (fault ≡ faults.Write) ⊎ (fault ≡ faults.OutOfMemory)
+pub text_refused : {P : Type 0} (took : TakesText P) (refused : RefusesText P) (s : State) (text : List ℕ) (played : Result ⊤ MatchFault) (p q : P) (fault : MatchFault)
+    → IsGameText s (Some text) → refused p text fault q → IsFileFault fault
     → KeepsRecord took refused (game_of s.client) played p q (Err fault)
 text_refused took refused s text played p q fault is gone why =
     let has = has_text s text is in
-    kept.not_taken has.game fault has.is (subst (λ t. refused p t q) (sym has.text_is) gone) why
+    not_taken has.game fault has.is (subst (λ t. refused p t fault q) (sym has.text_is) gone) why
 
 -- the game has as many moves as the bridge says
 counted : (s : State) (g : Game) (moves : Option ℕ) (n : ℕ) → game_of s.client ≡ Some g → MatchOption moves (game_of s.client ≡ None) (HasMoves s.client)
@@ -54,7 +53,7 @@ counted : (s : State) (g : Game) (moves : Option ℕ) (n : ℕ) → game_of s.cl
 counted s g None n is none many = absurd cc
 counted s g (Some m) n is (h, has, count) many = many ∙ count ∙ ap (λ (x : Game). length x.moves) (same_game h g (sym has ∙ is))
 
-pub text_taken : {P : Type 0} (took refused : P → List ℕ → P → Type 0) (s : State) (text : List ℕ) (played : Result ⊤ MatchFault) (p q : P) (answer : Result ℕ MatchFault) (moves : Option ℕ) (n : ℕ)
+pub text_taken : {P : Type 0} (took : TakesText P) (refused : RefusesText P) (s : State) (text : List ℕ) (played : Result ⊤ MatchFault) (p q : P) (answer : Result ℕ MatchFault) (moves : Option ℕ) (n : ℕ)
     → IsGameText s (Some text) → took p text q → MatchOption moves (game_of s.client ≡ None) (HasMoves s.client)
     → n ≡ unwrap_or moves 0 → answer ≡ report_of played n
     → KeepsRecord took refused (game_of s.client) played p q answer
@@ -62,4 +61,4 @@ text_taken took refused s text played p q answer moves n is gone counts many is_
     let has = has_text s text is in
     let whole = counted s has.game moves n has.is counts many in
     subst (λ a. KeepsRecord took refused (game_of s.client) played p q a) (sym (is_answer ∙ ap (report_of played) whole))
-    (kept.taken has.game has.is (subst (λ t. took p t q) (sym has.text_is) gone))
+    (taken has.game has.is (subst (λ t. took p t q) (sym has.text_is) gone))

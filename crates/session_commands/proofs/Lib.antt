@@ -5,6 +5,7 @@ pub mod Outcomes
 pub mod PlayedLogs
 pub mod Playing
 pub mod Porting
+pub mod Replacing
 pub mod Serving
 pub mod Talks
 pub mod Wanting

@@ -14,7 +14,7 @@ use Rattle.shogi_session.specs.State.{State, first_state}
 use Rattle.shogi_session.specs.Texts.{ended_line, text_of}
 use Rattle.session_commands.specs.declared.bridging.Seat.{Seat}
 use Rattle.session_commands.specs.declared.bridging.Seat.TheVariants.{Engine, Server}
-use Rattle.session_commands.specs.Plays.{Delivers, no_lines, taken, lost, Gives, Misses, Played, begun, goes_on, Round, Takes, end_of}
+use Rattle.session_commands.specs.Plays.{Delivers, no_lines, taken, lost, Gives, Misses, History, begun, goes_on, Round, Takes, end_of}
 use Rattle.session_commands.specs.PlayedLogs.{AllAnswerWell, AnswersWell, IsLogOf, PlaysLegally, handed, happened, happened_in, lost_of}
 use Rattle.session_commands.specs.WantedLogs.{Sent, SentLegally, nothing_sent, sent_before, sent_in, sent_with}
 use Rattle.session_commands.specs.Wanting.{PlayWants, SendWants, engine_gone, server_gone, lost_before, not_begun, first_unsent, no_next, later_unsent}
@@ -107,7 +107,7 @@ round_logged silent went gone event e s f t status c events bytes l round =
     subst (λ es. Logged c es more t) (append_assoc (events ++ event ∷ []) engine_lost server_lost ∙ append_assoc events (event ∷ []) (engine_lost ++ server_lost)) second
 
 played_logged : {E : Type 0} → EndsSilent → (came : Gives E) (went gone : Takes E) (e : E) (s : Session) (f : E) (t : Session) (status : Status)
-    → s.state ≡ first_state → (played : Played came went gone e s f t status) → Logged s.config (happened played) (handed Server played) t
+    → s.state ≡ first_state → (played : History came went gone e s f t status) → Logged s.config (happened played) (handed Server played) t
 played_logged silent came went gone e s f t status is (begun g u now round) = round_logged silent went gone begin e s g u now s.config [] [] (no_log s is) round
 played_logged silent came went gone e s f t status is (goes_on g h k u v event now played arrived round) =
     round_logged silent went gone event h u k v now s.config (happened played) (handed Server played) (played_logged silent came went gone e s g u Going is played) round
@@ -147,7 +147,7 @@ legal_of : SentLegal → SentOnce → (c : Config) (events : List Event) (bytes 
 legal_of legal once c events bytes s l = record { log = l.log; log_of = l.log_of; answers_well = all_well legal once c l.log s.state l.log_of.leads }
 
 pub played_moves_are_legal : {E : Type 0} → EndsSilent → SentLegal → SentOnce → (came : Gives E) (went gone : Takes E) (e : E) (s : Session) (f : E) (t : Session) (status : Status)
-    (played : Played came went gone e s f t status) → s.state ≡ first_state → PlaysLegally s.config (happened played) (handed Server played) t.state
+    (played : History came went gone e s f t status) → s.state ≡ first_state → PlaysLegally s.config (happened played) (handed Server played) t.state
 played_moves_are_legal silent legal once came went gone e s f t status played is =
     legal_of legal once s.config (happened played) (handed Server played) t (played_logged silent came went gone e s f t status is played)
 

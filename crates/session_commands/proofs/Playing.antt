@@ -13,13 +13,13 @@ use Rattle.session_commands.specs.declared.fault.MatchFault.{MatchFault}
 use Rattle.session_commands.specs.declared.fault.MatchFault.TheVariants as fault
 use Rattle.record_commands.specs.declared.incoming.LineEvent.{LineEvent}
 use Rattle.session_commands.specs.Playing.{ComesNext}
-use Rattle.session_commands.specs.Plays.{Gives, Played, Sends, Takes, event_from, rounds, seat_for, begun, goes_on}
+use Rattle.session_commands.specs.Plays.{Gives, History, Sends, Takes, event_from, rounds, seat_for, begun, goes_on}
 
 -- a step whose lines are not sent yet, after this number of rounds
 pub data Answered {E : Type 0} (came : Gives E) (went gone : Takes E) (e : E) (s : Session) (to_engine to_server : List ℕ) (status : Status) : ℕ → E → Session → Type 0 where
   first : (t : Session) → Steps s begin to_engine to_server status t → Answered came went gone e s to_engine to_server status 0 e t
   later : (f g : E) (t u : Session) (event : Event)
-      → (played : Played came went gone e s f t Going)
+      → (played : History came went gone e s f t Going)
       → came f (seat_for (waits_for t.state)) event g
       → Steps t event to_engine to_server status u
       → Answered came went gone e s to_engine to_server status (rounds played) g u
@@ -49,7 +49,7 @@ comes_next came e s seat waits what line f to_engine to_server status t is_seat 
 
 -- the rounds that passed, one more with this one
 pub record Rounds {E : Type 0} (came : Gives E) (went gone : Takes E) (e : E) (s : Session) (count : ℕ) (f : E) (t : Session) (status : Status) : Type 0 where
-  pub played : Played came went gone e s f t status
+  pub played : History came went gone e s f t status
   pub counted : rounds played ≡ count + 1
 
 -- the lines of a step are sent, which ends its round

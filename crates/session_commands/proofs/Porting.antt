@@ -1,5 +1,5 @@
 -- The line with which a server says its port.
-use Rattle.std.proofs.Common.{◌≡◌, ◌⊎◌, inl, inr, ◌++◌, ◌∙◌, ◌<◌, ◌≤◌, ◌^◌, ℕ, true, not, List, length, drop, Option, None, Some, IfSome, MatchOption, Result, Ok, Err, ap, refl, sym, subst, arith}
+use Rattle.std.proofs.Common.{◌≡◌, inl, inr, ◌++◌, ◌∙◌, ◌<◌, ◌≤◌, ◌^◌, ℕ, true, not, List, length, drop, Option, None, Some, IfSome, MatchOption, Result, Ok, Err, ap, refl, sym, subst, arith}
 use Rattle.std.proofs.Math.Seq.{drop-append_seam}
 use Rattle.std.proofs.lemmas.Fmt.{IsAscii-decimal, parse-decimal}
 use Rattle.std.proofs.lemmas.Slice.Eq.{bytes_eq-Decides}
@@ -7,7 +7,8 @@ use Rattle.std.proofs.lemmas.Str.{IsUtf8-from_ascii}
 use Rattle.std.specs.Fmt.{decimal}
 use Rattle.std.specs.Str.{IsUtf8, bytes_eq}
 use Rattle.std.specs.Str.Parse.{ParsesUnsigned}
-use Rattle.record_commands.specs.Incoming.{Coming, GivesEnd, GivesLine, GivesLongLine, GivesNoLine}
+use Rattle.record_commands.proofs.LineReading.{stopped_after}
+use Rattle.record_commands.specs.Incoming.{Coming, GivesEnd, GivesLine, GivesLongLine, GivesNoLine, stop_after}
 use Rattle.record_commands.specs.declared.incoming.LineEvent.{LineEvent}
 use Rattle.record_commands.specs.declared.incoming.LineEvent.TheVariants as events
 use Rattle.session_commands.specs.Ports.{IsPort, IsPortLine, SaysNoPort, ended, other_line, too_long}
@@ -71,8 +72,8 @@ no_port_came old new shown line (Some port) same gives short none is = absurd cc
 pub no_line_came : (old new : Coming) (what : LineEvent) → (what ≡ events.Line → ⊥)
     → (what ≡ events.End → GivesEnd old.bytes new.bytes) → (what ≡ events.Failed → GivesNoLine old.bytes new.bytes)
     → (what ≡ events.Long → GivesLongLine old.bytes new.bytes)
-    → ((what ≡ events.Long) ⊎ (what ≡ events.Failed) → new.is_over ≡ true) → SaysNoPort old new
+    → new.stop ≡ stop_after old.stop what → SaysNoPort old new
 no_line_came old new events.Line not_line end none long over = absurd (not_line refl)
 no_line_came old new events.End not_line end none long over = ended (inl (end refl))
-no_line_came old new events.Failed not_line end none long over = ended (inr (none refl, over (inr refl)))
+no_line_came old new events.Failed not_line end none long over = ended (inr (none refl, stopped_after old.stop new.stop over))
 no_line_came old new events.Long not_line end none long over = too_long (long refl)

@@ -3,6 +3,7 @@ use Rattle.std.proofs.Common.{◌≡◌, Bool, true, false, Result, Ok, Err, IfO
 use Rattle.std.specs.Bool.{⊤}
 use Rattle.shogi_session.specs.Hosting.{HostSession}
 use Rattle.shogi_words.specs.declared.serve.Service.{Service}
+use Rattle.session_commands.specs.Door.{Contents, Enters, EntersNot, HasHosted, Listens, ListensNot, nobody_came, not_announced, not_listening, served}
 use Rattle.session_commands.specs.Offered.{HasServed, IsOffered, session_over, client_gone, broke_off, no_host}
 use Rattle.session_commands.specs.Talks.{BreaksOff, Calls, HasAnswered, MachineRow, Passes}
 use Rattle.session_commands.specs.declared.fault.ServeFault.{ServeFault}
@@ -34,3 +35,15 @@ whole_session came ends went silent blocked answers service wire last result (se
 whole_session came ends went silent blocked answers service wire last result (client_gone old new offered has) = tt
 whole_session came ends went silent blocked answers service wire last result (broke_off old fault offered breaks) = tt
 whole_session came ends went silent blocked answers service wire last result (no_host same) = tt
+
+-- and of one who came in at a door
+pub hosted_session : {D L W O : Type 0} (listens : Listens D L) (listens_not : ListensNot D) (enters : Enters D L W) (enters_not : EntersNot D L) (contents : Contents O)
+    (came : Passes W) (ends : Calls W) (went : Passes W) (silent : Calls W) (blocked : Passes W) (answers : MachineRow HostSession)
+    (service : Service) (door last : D) (out after : O) (result : Result ⊤ ServeFault)
+    → HasHosted listens listens_not enters enters_not contents came ends went silent blocked answers service door last out after result
+    → OnOk result ((before over : W) × (old new : HostSession) × IsOffered service old × HasAnswered came ends went answers before old true over new)
+hosted_session listens listens_not enters enters_not contents came ends went silent blocked answers service door last out after result (served listener between wire over answer announced entered has) =
+    whole_session came ends went silent blocked answers service wire over result has
+hosted_session listens listens_not enters enters_not contents came ends went silent blocked answers service door last out after result (nobody_came listener between fault announced none is) = tt
+hosted_session listens listens_not enters enters_not contents came ends went silent blocked answers service door last out after result (not_listening fault none same is) = tt
+hosted_session listens listens_not enters enters_not contents came ends went silent blocked answers service door last out after result (not_announced listener port fault listening unprinted) = tt

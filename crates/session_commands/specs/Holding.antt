@@ -6,7 +6,7 @@ use Rattle.shogi_session.specs.Events.{Event}
 use Rattle.shogi_session.specs.Promises.{Session}
 use Rattle.session_commands.specs.declared.bridging.Seat.{Seat}
 use Rattle.session_commands.specs.declared.bridging.Seat.TheVariants.{Engine, Server}
-use Rattle.session_commands.specs.Plays.{Delivers, Gives, Played, Round, Takes, begun, goes_on, lost, no_lines, taken}
+use Rattle.session_commands.specs.Plays.{Delivers, Gives, History, Round, Takes, begun, goes_on, lost, no_lines, taken}
 
 -- the bytes that the writer for a seat holds, if they are known
 abbrev pub Holds : Type 0 → Type 0
@@ -46,7 +46,7 @@ TookRound Server round = IsTaken round.sent.second
 
 -- the seat took all lines that were sent to it
 abbrev pub TookAll : {E : Type 0} {came : Gives E} {went gone : Takes E} {e : E} {s : Session}
-    {f : E} {t : Session} {status : Status} → Seat → Played came went gone e s f t status → Type 0
+    {f : E} {t : Session} {status : Status} → Seat → History came went gone e s f t status → Type 0
 TookAll seat (begun f t status round) = TookRound seat round
 TookAll seat (goes_on f g h t u event status played arrived round) =
     TookAll seat played × TookRound seat round

@@ -1,4 +1,6 @@
 pub mod Comments
+pub mod Disk
+pub mod Door
 pub mod Faults
 pub mod Holding
 pub mod Housing

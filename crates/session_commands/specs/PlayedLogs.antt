@@ -12,7 +12,7 @@ use Rattle.shogi_session.specs.State.{State}
 use Rattle.shogi_session.specs.Texts.{text_of}
 use Rattle.session_commands.specs.declared.bridging.Seat.{Seat}
 use Rattle.session_commands.specs.declared.bridging.Seat.TheVariants.{Engine, Server}
-use Rattle.session_commands.specs.Plays.{Delivers, no_lines, taken, lost, Gives, Played, begun, goes_on, Round, Takes, end_of}
+use Rattle.session_commands.specs.Plays.{Delivers, no_lines, taken, lost, Gives, History, begun, goes_on, Round, Takes, end_of}
 
 -- a seat that did not take its lines is gone
 abbrev pub lost_of : {E : Type 0} {went gone : Takes E} (seat : Seat) {lines : List ℕ} {e : E}
@@ -30,7 +30,7 @@ happened_in event round =
 
 -- what happened to it, in order
 abbrev pub happened : {E : Type 0} {came : Gives E} {went gone : Takes E} {e : E} {s : Session}
-    {f : E} {t : Session} {status : Status} → Played came went gone e s f t status → List Event
+    {f : E} {t : Session} {status : Status} → History came went gone e s f t status → List Event
 happened (begun f t status round) = happened_in begin round
 happened (goes_on f g h t u event status played arrived round) =
     happened played ++ happened_in event round
@@ -43,7 +43,7 @@ sent_to Server round = round.to_server
 
 -- the bytes that were sent to a seat, in order
 abbrev pub handed : {E : Type 0} {came : Gives E} {went gone : Takes E} {e : E} {s : Session}
-    {f : E} {t : Session} {status : Status} → Seat → Played came went gone e s f t status → List ℕ
+    {f : E} {t : Session} {status : Status} → Seat → History came went gone e s f t status → List ℕ
 handed seat (begun f t status round) = sent_to seat round
 handed seat (goes_on f g h t u event status played arrived round) =
     handed seat played ++ sent_to seat round

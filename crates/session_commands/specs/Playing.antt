@@ -1,8 +1,9 @@
 -- For private functions: what `play` does between two ends, and with the game that was played.
-use Rattle.std.specs.Prelude.{◌≡◌, ⊤, ℕ, Bool, false, List, Result, Ok, Err, codes, is_ok}
-use Rattle.session_commands.specs.declared.fault.MatchFault.TheVariants.{OutOfMemory, Endless, Session as SessionFailed}
+use Rattle.std.specs.Prelude.{◌≡◌, ◌⊎◌, ⊤, ℕ, Bool, false, List, Option, Result, Ok, Err, codes, is_ok}
+use Rattle.std.specs.Io.KnownBytes.{Appends}
+use Rattle.session_commands.specs.declared.fault.MatchFault.TheVariants.{OutOfMemory, Endless, Write, Session as SessionFailed}
 use Rattle.session_commands.specs.declared.fault.MatchFault.{MatchFault}
-use Rattle.session_commands.specs.Plays.{Gives, IsEndless, Misses, Played, Takes, seat_for}
+use Rattle.session_commands.specs.Plays.{Gives, IsEndless, Misses, History, Takes, seat_for}
 use Rattle.session_commands.specs.Wanting.{PlayWants}
 use Rattle.bridge_table.specs.declared.event.Status.{Status}
 use Rattle.bridge_table.specs.declared.event.Status.TheVariants.{Done, Failed}
@@ -11,7 +12,8 @@ use Rattle.shogi_session.specs.GameTold.{game_of}
 use Rattle.shogi_session.specs.Events.{Event}
 use Rattle.shogi_session.specs.Promises.{Session, Steps}
 use Rattle.shogi_session.specs.State.{first_state, waits_for}
-use Rattle.session_commands.specs.Kept.{KeepsRecord}
+use Rattle.session_commands.specs.Kept.{KeepsRecord, RefusesText, TakesText}
+use Rattle.session_commands.specs.Words.{played_line}
 use Rattle.shogi_words.specs.declared.play.Plan.{Plan}
 
 -- what comes from the seat that the bridge waits for is one step
@@ -24,9 +26,9 @@ pub record ComesNext {E : Type 0} (came : Gives E) (e : E) (s : Session)
 -- the outcome of a session that took both ends and the bridge from these states to those
 pub data CameOut {E : Type 0} (came : Gives E) (missed : Misses E) (went gone : Takes E)
     (e : E) (s : Session) (f : E) (t : Session) : Result ⊤ MatchFault → Type 0 where
-  done : (over : ⊤) → Played came went gone e s f t Done
+  done : (over : ⊤) → History came went gone e s f t Done
       → CameOut came missed went gone e s f t (Ok over)
-  failed : (why : SessionFault) → Played came went gone e s f t (Failed why)
+  failed : (why : SessionFault) → History came went gone e s f t (Failed why)
       → CameOut came missed went gone e s f t (Err (SessionFailed why))
   wanting : PlayWants came missed went gone e s f t
       → CameOut came missed went gone e s f t (Err OutOfMemory)
@@ -34,8 +36,9 @@ pub data CameOut {E : Type 0} (came : Gives E) (missed : Misses E) (went gone : 
 
 -- a session was played to its outcome and its game was kept; the result says whether it ended well
 pub record PlaysAndKeeps {E P : Type 0} (came : Gives E) (missed : Misses E)
-    (went gone : Takes E) (took refused : P → List ℕ → P → Type 0) (e : E) (s : Session) (p : P)
-    (f : E) (t : Session) (q : P) (is_over : Bool) (answer : Result ℕ MatchFault) : Type 0 where
+    (went gone : Takes E) (took : TakesText P) (refused : RefusesText P)
+    (e : E) (s : Session) (p : P) (f : E) (t : Session) (q : P)
+    (is_over : Bool) (answer : Result ℕ MatchFault) : Type 0 where
   pub outcome : Result ⊤ MatchFault
   pub reached : CameOut came missed went gone e s f t outcome
   pub kept : KeepsRecord took refused (game_of t.state.client) outcome p q answer
@@ -50,21 +53,37 @@ pub record IsFirst (s : Session) : Type 0 where
   pub byoyomi : s.config.byoyomi_ms ≡ 10000
 
 -- a game in a house: it opened with these ends and running programs, a session was played between
--- the ends, and it shut again, well or not; or it did not open
-pub data Met {H E P R : Type 0} (opened : H → Plan → E → R → H → Type 0)
-    (unopened : H → Plan → H → Type 0) (shut : H → E → R → Bool → H → Type 0)
+-- the ends, and it shut again, well or not; or it did not open, and its fault is reported
+pub data PlaysIn {H E P R : Type 0} (opened : H → Plan → E → R → H → Type 0)
+    (unopened : H → Plan → MatchFault → H → Type 0) (shut : H → E → R → Bool → H → Type 0)
     (came : Gives E) (missed : Misses E) (went gone : Takes E)
-    (took refused : P → List ℕ → P → Type 0)
+    (took : TakesText P) (refused : RefusesText P)
     (plan : Plan) (h : H) (p : P) (k : H) (q : P) : Result ℕ MatchFault → Type 0 where
-  met : (between : H) (ends over : E) (running : R)
+  played_in : (between : H) (ends over : E) (running : R)
       (first last : Session) (is_well : Bool) (answer : Result ℕ MatchFault)
       → opened h plan ends running between → IsFirst first
       → PlaysAndKeeps came missed went gone took refused ends first p over last q is_well answer
       → shut between over running is_well k
-      → Met opened unopened shut came missed went gone took refused plan h p k q answer
-  not_met : (fault : MatchFault) → unopened h plan k → q ≡ p
-      → Met opened unopened shut came missed went gone took refused plan h p k q (Err fault)
+      → PlaysIn opened unopened shut came missed went gone took refused plan h p k q answer
+  not_opened : (fault : MatchFault) → unopened h plan fault k → q ≡ p
+      → PlaysIn opened unopened shut came missed went gone took refused plan h p k q (Err fault)
   no_bridge : (between : H) (ends : E) (running : R)
       → opened h plan ends running between → q ≡ p → shut between ends running false k
-      → Met opened unopened shut came missed went gone took refused plan h p k q
+      → PlaysIn opened unopened shut came missed went gone took refused plan h p k q
       (Err OutOfMemory)
+
+-- a line was not printed whole, or there was not enough memory for it
+abbrev pub IsUnreported : {O : Type 0} → O → O → MatchFault → Type 0
+IsUnreported out after fault = (fault ≡ Write) ⊎ ((fault ≡ OutOfMemory) × (after ≡ out))
+
+-- a game was played, with a number of moves, and exactly the line with it was printed, or it was not
+-- printed; or a fault came of it, and nothing was printed
+pub data IsReported {O : Type 0} (played_with : Result ℕ MatchFault → Type 0)
+    (contents : O → Option (List ℕ)) (out after : O) : Result ⊤ MatchFault → Type 0 where
+  reported : (done : ⊤) (moves : ℕ) → played_with (Ok moves)
+      → Appends (contents out) (contents after) (played_line moves)
+      → IsReported played_with contents out after (Ok done)
+  not_reported : (moves : ℕ) (fault : MatchFault) → played_with (Ok moves)
+      → IsUnreported out after fault → IsReported played_with contents out after (Err fault)
+  not_played : (fault : MatchFault) → played_with (Err fault) → after ≡ out
+      → IsReported played_with contents out after (Err fault)

@@ -1,5 +1,5 @@
 -- A bridge that plays between its engine and its server.
-use Rattle.std.specs.Prelude.{◌≡◌, ◌⊎◌, ◌≤◌, ◌+◌, ◌-◌, ◌^◌, ℕ, true, List, [], length}
+use Rattle.std.specs.Prelude.{◌≡◌, ◌⊎◌, ◌≤◌, ◌+◌, ◌-◌, ◌^◌, ℕ, true, List, [], length, is_some}
 use Rattle.bridge_table.specs.declared.event.Status.{Status}
 use Rattle.bridge_table.specs.declared.event.Status.TheVariants.{Going}
 use Rattle.bridge_table.specs.declared.state.Waits.{Waits}
@@ -43,7 +43,7 @@ ComesLine old new line = GivesLine old.bytes new.bytes line × (length line ≤ 
 -- the end came; or no line, and no more is read
 abbrev pub ComesEnd : Coming → Coming → Type 0
 ComesEnd old new =
-    GivesEnd old.bytes new.bytes ⊎ (GivesNoLine old.bytes new.bytes × (new.is_over ≡ true))
+    GivesEnd old.bytes new.bytes ⊎ (GivesNoLine old.bytes new.bytes × (is_some new.stop ≡ true))
 
 -- what came from a seat, as an event of the bridge: from the engine only events of the engine, and
 -- from the server only its own
@@ -114,19 +114,19 @@ pub record Round {E : Type 0} (went gone : Takes E)
 
 -- what passed from the first session on: its beginning, and then, while it goes on, what comes from
 -- the seat that it waits for, one event for each round
-pub data Played {E : Type 0} (came : Gives E) (went gone : Takes E) (e : E) (s : Session)
+pub data History {E : Type 0} (came : Gives E) (went gone : Takes E) (e : E) (s : Session)
     : E → Session → Status → Type 0 where
   begun : (f : E) (t : Session) (status : Status)
-      → Round went gone begin e s f t status → Played came went gone e s f t status
+      → Round went gone begin e s f t status → History came went gone e s f t status
   goes_on : (f g h : E) (t u : Session) (event : Event) (status : Status)
-      → Played came went gone e s f t Going
+      → History came went gone e s f t Going
       → came f (seat_for (waits_for t.state)) event g
       → Round went gone event g t h u status
-      → Played came went gone e s h u status
+      → History came went gone e s h u status
 
 -- how many rounds passed
 abbrev pub rounds : {E : Type 0} {came : Gives E} {went gone : Takes E} {e : E} {s : Session}
-    {f : E} {t : Session} {status : Status} → Played came went gone e s f t status → ℕ
+    {f : E} {t : Session} {status : Status} → History came went gone e s f t status → ℕ
 rounds (begun f t status round) = 1
 rounds (goes_on f g h t u event status played arrived round) = rounds played + 1
 
@@ -135,5 +135,5 @@ pub record IsEndless {E : Type 0}
     (came : Gives E) (went gone : Takes E) (e : E) (s : Session) : Type 0 where
   pub ends : E
   pub session : Session
-  pub played : Played came went gone e s ends session Going
+  pub played : History came went gone e s ends session Going
   pub many : 2 ^ 64 - 1 ≤ rounds played

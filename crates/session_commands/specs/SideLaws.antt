@@ -14,14 +14,14 @@ side_takes A B C D a b c d lines Engine p = p.0
 side_takes A B C D a b c d lines Server p = p.0
 
 -- a side that is read keeps its writer, and the other is unchanged
-pub side_read : {S T X Y : Type 0} (A B : Type 0) (s t : S) (u v : T) (x : S → X) (y : T → Y)
+pub side_read : {S T X Y : Type 0} (s t : S) (u v : T) (x : S → X) (y : T → Y)
     (f : X → Option (List ℕ)) (g : Y → Option (List ℕ)) (seat other : Seat)
-    → OfSeat seat (A × (x t ≡ x s) × (v ≡ u)) (B × (y v ≡ y u) × (t ≡ s))
+    → OfSeat seat ((x t ≡ x s) × (v ≡ u)) ((y v ≡ y u) × (t ≡ s))
     → by_seat other (f (x t)) (g (y v)) ≡ by_seat other (f (x s)) (g (y u))
-side_read A B s t u v x y f g Engine Engine p = ap f p.1
-side_read A B s t u v x y f g Engine Server p = ap (λ z. g (y z)) p.2
-side_read A B s t u v x y f g Server Engine p = ap (λ z. f (x z)) p.2
-side_read A B s t u v x y f g Server Server p = ap g p.1
+side_read s t u v x y f g Engine Engine p = ap f p.0
+side_read s t u v x y f g Engine Server p = ap (λ z. g (y z)) p.1
+side_read s t u v x y f g Server Engine p = ap (λ z. f (x z)) p.1
+side_read s t u v x y f g Server Server p = ap g p.0
 
 -- the other side is unchanged
 pub other_side : {S T : Type 0} (s t : S) (u v : T)
@@ -37,6 +37,11 @@ pub last_of_three : (A B C D E F : Type 0) (seat : Seat)
     → OfSeat seat (A × B × C) (D × E × F) → OfSeat seat C F
 last_of_three A B C D E F Engine p = p.2
 last_of_three A B C D E F Server p = p.2
+
+pub last_two_of_three : (A B C D E F : Type 0) (seat : Seat)
+    → OfSeat seat (A × B × C) (D × E × F) → OfSeat seat (B × C) (E × F)
+last_two_of_three A B C D E F Engine p = (p.1, p.2)
+last_two_of_three A B C D E F Server p = (p.1, p.2)
 
 pub last_of_two : (A B C D : Type 0) (seat : Seat) → OfSeat seat (A × B) (C × D) → OfSeat seat B D
 last_of_two A B C D Engine p = p.1

@@ -1,7 +1,8 @@
 -- A machine that answers the lines that come over a wire.
-use Rattle.std.specs.Prelude.{◌≡◌, ◌⊎◌, ℕ, ◌-◌, ◌^◌, ◌≤◌, Bool, true, false, List, [], ◌∷◌, ◌++◌, length, Option}
+use Rattle.std.specs.Prelude.{◌≡◌, ℕ, ◌-◌, ◌^◌, ◌≤◌, Bool, true, false, List, [], ◌∷◌, ◌++◌, length, Option}
 use Rattle.csa_cutting.specs.Lines.{Lines}
 use Rattle.csa_cutting.specs.LineCutting.{BeginsTooLong}
+use Rattle.session_commands.specs.Faults.{IsReadFault}
 use Rattle.session_commands.specs.declared.fault.TalkFault.{TalkFault}
 use Rattle.session_commands.specs.declared.fault.TalkFault.TheVariants.{LineTooLong, Read, Write, OutOfMemory}
 
@@ -105,7 +106,7 @@ pub data Breaks {W M : Type 0} (silent : Calls W) (blocked : Passes W) (answers 
       → v ≡ u → Breaks silent blocked answers bytes over lines u n v LineTooLong
   -- no more could be received
   not_received : (rest : List ℕ) (fault : TalkFault)
-      → (fault ≡ Read) ⊎ (fault ≡ OutOfMemory) → Lines bytes lines rest → silent u v
+      → IsReadFault fault → Lines bytes lines rest → silent u v
       → Breaks silent blocked answers bytes over lines u n v fault
   -- the end has not come
   endless : (rest : List ℕ) → Lines bytes lines rest → 2 ^ 64 - 1 ≤ length bytes → v ≡ u

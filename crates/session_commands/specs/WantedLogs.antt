@@ -1,5 +1,5 @@
 -- What was sent to the server in a session in which an allocation fails, as a log of the bridge.
-use Rattle.std.specs.Prelude.{◌≡◌, ℕ, ◌++◌, List, [], ◌∷◌}
+use Rattle.std.specs.Prelude.{ℕ, ◌++◌, List, [], ◌∷◌}
 use Rattle.bridge_table.specs.declared.config.Config.{Config}
 use Rattle.bridge_table.specs.declared.event.Status.{Status}
 use Rattle.shogi_session.specs.Events.{Event, begin}
@@ -7,8 +7,8 @@ use Rattle.shogi_session.specs.Promises.{Session}
 use Rattle.shogi_session.specs.State.{State}
 use Rattle.session_commands.specs.declared.bridging.Seat.TheVariants.{Engine, Server}
 use Rattle.session_commands.specs.PlayedLogs.{PlaysLegally, handed, happened, lost_of}
-use Rattle.session_commands.specs.Plays.{Gives, Misses, Played, Takes}
-use Rattle.session_commands.specs.Wanting.{PlayWants, RoundWants, SendWants, engine_gone, server_gone, lost_before, not_begun, first_unsent, no_next, later_unsent}
+use Rattle.session_commands.specs.Plays.{Gives, Misses, History, Takes}
+use Rattle.session_commands.specs.Wanting.{PlayWants, SendWants, engine_gone, server_gone, lost_before, not_begun, first_unsent, no_next, later_unsent}
 
 -- what happened in steps that were not refused, the bytes that were sent to the server, in order,
 -- and the state after the last of these steps
@@ -21,7 +21,7 @@ abbrev pub nothing_sent : Session → Sent
 nothing_sent s = record { events = []; bytes = []; state = s.state }
 
 abbrev pub sent_in : {E : Type 0} {came : Gives E} {went gone : Takes E} {e : E} {s : Session}
-    {f : E} {status : Status} (t : Session) → Played came went gone e s f t status → Sent
+    {f : E} {status : Status} (t : Session) → History came went gone e s f t status → Sent
 sent_in t played =
     record { events = happened played; bytes = handed Server played; state = t.state }
 

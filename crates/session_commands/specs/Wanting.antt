@@ -7,7 +7,7 @@ use Rattle.shogi_session.specs.Promises.{KeepsGame, SameStates, Session, Steps}
 use Rattle.shogi_session.specs.State.{slip_of, waits_for}
 use Rattle.session_commands.specs.declared.bridging.Seat.{Seat}
 use Rattle.session_commands.specs.declared.bridging.Seat.TheVariants.{Engine, Server}
-use Rattle.session_commands.specs.Plays.{Delivers, Gives, Misses, Played, Takes, end_of, seat_for}
+use Rattle.session_commands.specs.Plays.{Delivers, Gives, Misses, History, Takes, end_of, seat_for}
 
 -- in a step: the bridge is lost, both states stay, and its game is that before the event or with it
 pub record StepWants (s : Session) (event : Event) (t : Session) : Type 0 where
@@ -52,11 +52,11 @@ pub data NextWants {E : Type 0}
 -- in the beginning, or in what comes while the session goes on; or the bridge was lost before
 pub data PlayWants {E : Type 0} (came : Gives E) (missed : Misses E)
     (went gone : Takes E) (e : E) (s : Session) (f : E) (t : Session) : Type 0 where
-  lost_before : Played came went gone e s f t Lost → PlayWants came missed went gone e s f t
+  lost_before : History came went gone e s f t Lost → PlayWants came missed went gone e s f t
   not_begun : f ≡ e → StepWants s begin t → PlayWants came missed went gone e s f t
   first_unsent : RoundWants went gone begin e s f t → PlayWants came missed went gone e s f t
-  no_next : (g : E) (u : Session) → Played came went gone e s g u Going
+  no_next : (g : E) (u : Session) → History came went gone e s g u Going
       → NextWants came missed g u f t → PlayWants came missed went gone e s f t
-  later_unsent : (g h : E) (u : Session) (event : Event) → Played came went gone e s g u Going
+  later_unsent : (g h : E) (u : Session) (event : Event) → History came went gone e s g u Going
       → came g (seat_for (waits_for u.state)) event h
       → RoundWants went gone event h u f t → PlayWants came missed went gone e s f t

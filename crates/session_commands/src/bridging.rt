@@ -3,7 +3,7 @@
 ghost use Rattle.std.specs.Prelude.{◌≡◌, ◌↔◌, IsErrOf, IsTrue, IfOk, OnOk, OnErr};
 ghost use Rattle.csa_cutting.specs.Lines.{HasNoLineEnd};
 ghost use Rattle.session_commands.specs.Playing.{ComesNext};
-ghost use Rattle.session_commands.specs.Plays.{Delivers, IsEndless, Played, Sends, end_of, event_from, seat_for};
+ghost use Rattle.session_commands.specs.Plays.{Delivers, IsEndless, History, Sends, end_of, event_from, seat_for};
 ghost use Rattle.session_commands.specs.Holding.{TookAll};
 ghost use Rattle.session_commands.specs.PlayedLogs.{PlaysLegally, handed, happened};
 ghost use Rattle.session_commands.specs.WantedLogs.{SentLegally, sent_before};
@@ -88,6 +88,8 @@ pub trait Ends {
     ghost gone_keeps: { KeepsOther held gone };
 
     ghost came_keeps: { KeepsBoth held came };
+
+    ghost missed_keeps: { KeepsBoth held (λ e seat _ f. missed e seat f) };
 }
 
 /// The streams of a bridge's engine or server.
@@ -113,7 +115,7 @@ pub struct Sides<ER: Read + Drop, EW: Write + Drop, SR: Read + Drop, SW: Write +
 impl<ER: Read + Drop, EW: Write + Drop, SR: Read + Drop, SW: Write + Drop> Ends
     for Sides<ER, EW, SR, SW> {
     ghost use Rattle.std.specs.Io.KnownBytes.{Appends};
-    ghost use Rattle.session_commands.specs.SideLaws.{last_of_three, last_of_two, other_side, side_read, side_takes};
+    ghost use Rattle.session_commands.specs.SideLaws.{last_of_three, last_of_two, last_two_of_three, other_side, side_read, side_takes};
     ghost use Rattle.session_commands.specs.Plays.{Comes, OfSeat, by_seat};
     ghost use Rattle.session_commands.specs.declared.bridging.Seat.TheVariants.{Engine, Server};
     ghost use Rattle.std.specs.Prelude.{◌≡◌};
@@ -185,11 +187,17 @@ impl<ER: Read + Drop, EW: Write + Drop, SR: Read + Drop, SW: Write + Drop> Ends
         (last_of_two (t.engine.lines ≡ s.engine.lines) (t.server ≡ s.server)
         (t.server.lines ≡ s.server.lines) (t.engine ≡ s.engine) seat gone) };
 
-    ghost came_keeps = { λ s t seat other event. side_read
-        (Comes Engine s.engine.lines t.engine.lines event)
-        (Comes Server s.server.lines t.server.lines event)
+    ghost came_keeps = { λ s t seat other event came. side_read
         s.engine t.engine s.server t.server (λ side. side.writer) (λ side. side.writer)
-        EW.contents SW.contents seat other };
+        EW.contents SW.contents seat other
+        (last_two_of_three (Comes Engine s.engine.lines t.engine.lines event)
+        (t.engine.writer ≡ s.engine.writer) (t.server ≡ s.server)
+        (Comes Server s.server.lines t.server.lines event)
+        (t.server.writer ≡ s.server.writer) (t.engine ≡ s.engine) seat came) };
+
+    ghost missed_keeps = { λ s t seat other event missed. side_read
+        s.engine t.engine s.server t.server (λ side. side.writer) (λ side. side.writer)
+        EW.contents SW.contents seat other missed };
 }
 
 /// Plays a session. The bridge takes each line of the side that it waits for, and its answer is
@@ -205,13 +213,13 @@ pub fn play<R: Eprint + AllocGlobal, E: Ends>(
     progress: &mut Progress,
 ) -> Result<(), MatchFault>
     ensures done { OnOk result
-        (Played E.came E.went E.gone ends.old bridge.old ends.new bridge.new Done) }
+        (History E.came E.went E.gone ends.old bridge.old ends.new bridge.new Done) }
     ensures failed { (fault : SessionFault) → IsErrOf result (MatchFault.Session fault)
-        → Played E.came E.went E.gone ends.old bridge.old ends.new bridge.new (Failed fault) }
+        → History E.came E.went E.gone ends.old bridge.old ends.new bridge.new (Failed fault) }
     ensures wanting { IsErrOf result MatchFault.OutOfMemory
         → PlayWants E.came E.missed E.went E.gone ends.old bridge.old ends.new bridge.new }
     ensures legal { (f : E) (t : Session) (status : Status)
-        (played : Played E.came E.went E.gone ends.old bridge.old f t status)
+        (played : History E.came E.went E.gone ends.old bridge.old f t status)
         → bridge.old.state ≡ first_state
         → PlaysLegally bridge.old.config (happened played) (handed Seat.Server played) t.state }
     ensures legal_wanting { (f : E) (t : Session)
@@ -219,7 +227,7 @@ pub fn play<R: Eprint + AllocGlobal, E: Ends>(
         → bridge.old.state ≡ first_state
         → SentLegally bridge.old.config (sent_before bridge.old t wants) }
     ensures held { (seat : Seat) (f : E) (t : Session) (status : Status)
-        (played : Played E.came E.went E.gone ends.old bridge.old f t status)
+        (played : History E.came E.went E.gone ends.old bridge.old f t status)
         → TookAll seat played
         → Appends (E.held ends.old seat) (E.held f seat) (handed seat played) }
     ensures unwritten { IsErrOf result MatchFault.Write → ⊥ }

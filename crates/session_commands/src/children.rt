@@ -2,6 +2,7 @@
 
 ghost use Rattle.std.specs.Prelude.{◌≡◌, ◌⊎◌, IfErr, IfOk, OnErr, is_some, true};
 ghost use Rattle.std.specs.Process.{child_status, command_args, command_program};
+ghost use Rattle.session_commands.specs.Faults.{IsEngineFault};
 ghost use Rattle.session_commands.specs.Housing.{engine_words, serve_words};
 
 use crate::bridging::Side;
@@ -31,6 +32,7 @@ const REST_MS: u64 = 10;
 pub trait Programs {
     ghost use Rattle.std.specs.Prelude.{ℕ, Bool, List};
     ghost use Rattle.record_commands.specs.Incoming.{Coming};
+    ghost use Rattle.session_commands.specs.Faults.{IsEngineFault, IsServerFault};
 
     /// A program that was started.
     type Child: Drop;
@@ -76,9 +78,7 @@ pub trait Programs {
             (command_args command.old) r.0 r.1 self.new) }
         ensures serves_not { OnErr result (serves_not self.old (command_program command.old)
             (command_args command.old) self.new) }
-        ensures server_gone { IfErr result
-            (λ fault. (fault ≡ MatchFault.Session SessionFault.ServerGone)
-            ⊎ (fault ≡ MatchFault.OutOfMemory)) };
+        ensures server_gone { IfErr result IsServerFault };
 
     /// Starts an engine. Refuses `B5 EngineGone` if it cannot be started, and `OutOfMemory`.
     fn start_engine(
@@ -89,9 +89,7 @@ pub trait Programs {
             (command_args command.old) r.0 r.1.lines r.1.writer self.new) }
         ensures thinks_not { OnErr result (thinks_not self.old (command_program command.old)
             (command_args command.old) self.new) }
-        ensures engine_gone { IfErr result
-            (λ fault. (fault ≡ MatchFault.Session SessionFault.EngineGone)
-            ⊎ (fault ≡ MatchFault.OutOfMemory)) };
+        ensures engine_gone { IfErr result IsEngineFault };
 
     /// Connects to a port of this machine. Refuses `B6 ServerGone` if there is no connection, and
     /// `OutOfMemory`.
@@ -99,9 +97,7 @@ pub trait Programs {
         ensures connects { IfOk result
             (λ side. connects self.old port side.lines side.writer self.new) }
         ensures connects_not { OnErr result (connects_not self.old port self.new) }
-        ensures server_gone { IfErr result
-            (λ fault. (fault ≡ MatchFault.Session SessionFault.ServerGone)
-            ⊎ (fault ≡ MatchFault.OutOfMemory)) };
+        ensures server_gone { IfErr result IsServerFault };
 
     /// Ends a child. If `is_well`, it has time to end by itself.
     fn end(&mut self, child: Self::Child, is_well: bool)
@@ -269,8 +265,7 @@ fn side_of<P: OpenProcess + Drop>(
     alloc: Global,
     child: &mut Child<P>,
 ) -> Result<Side<P::Stdout, P::Stdin>, MatchFault>
-    ensures faults { IfErr result (λ f. (f ≡ MatchFault.Session SessionFault.EngineGone)
-        ⊎ (f ≡ MatchFault.OutOfMemory)) }
+    ensures faults { IfErr result IsEngineFault }
 {
     let lines = lines_of(alloc, child, ENGINE_GONE)?;
     match child.stdin.take() {

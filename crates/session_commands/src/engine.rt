@@ -5,8 +5,7 @@ ghost use Rattle.session_commands.specs.Talks.{BreaksOff, HasAnswered};
 ghost use Rattle.shogi_session.specs.Sample.{SampleState, keeps};
 
 use crate::fault::TalkFault;
-use crate::talk;
-use crate::talk::Machine;
+use crate::talk::{self, Machine};
 use crate::wire::{Exchange, Wire};
 use shogi_session::Sample;
 use std::alloc::Global;

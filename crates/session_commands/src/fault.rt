@@ -20,10 +20,10 @@ pub enum TalkFault {
     /// A line has more than 65,536 bytes.
     #[error("line too long")]
     LineTooLong,
-    /// A read failed, or the end did not come.
+    /// A read failed, or the end did not come. For `serve` also: there was no socket or no client.
     #[error("read fault")]
     Read,
-    /// An answer could not be sent.
+    /// An answer could not be sent. For `serve` also: its port could not be printed.
     #[error("write fault")]
     Write,
     /// An allocation failed.

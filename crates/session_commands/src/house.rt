@@ -1,6 +1,6 @@
 //! The server and the engine of a game: started, joined to a bridge, and ended.
 
-ghost use Rattle.std.specs.Prelude.{IfOk, OnErr};
+ghost use Rattle.std.specs.Prelude.{IfErr, IfOk};
 ghost use Rattle.session_commands.specs.Housing.{IsApart, IsJoined};
 
 use crate::bridging::{Ends, Side, Sides};
@@ -14,6 +14,7 @@ use std::alloc::Global;
 /// What starts and ends the programs of a game.
 pub trait House {
     ghost use Rattle.std.specs.Prelude.{Bool};
+    ghost use Rattle.session_commands.specs.declared.fault.MatchFault.{MatchFault as Fault};
     ghost use Rattle.shogi_words.specs.declared.play.Plan.{Plan as Planned};
 
     /// The two ends of the game.
@@ -25,16 +26,19 @@ pub trait House {
     // It has these ends, and these programs run: the plan's engine and server.
     ghost opened: { Self → Planned → Self.Both → Self.Running → Self → Type 0 };
 
-    // There is no game, and no program runs.
-    ghost unopened: { Self → Planned → Self → Type 0 };
+    // There is no game for this reason, and no program runs.
+    ghost unopened: { Self → Planned → Fault → Self → Type 0 };
 
     // Each of the programs has ended. After a session that ended well it had time to end by itself.
     ghost shut: { Self → Self.Both → Self.Running → Bool → Self → Type 0 };
 
     /// Starts both programs. If one of them cannot be started, the other is ended.
+    ///
+    /// Refuses `B6 ServerGone` if the server cannot be started, says no port or cannot be connected
+    /// to, `B5 EngineGone` if the engine cannot be started, and `OutOfMemory`.
     fn open(&mut self, plan: &Plan<'_>) -> Result<(Self::Both, Self::Running), MatchFault>
         ensures opened { IfOk result (λ r. opened self.old plan.now r.0 r.1 self.new) }
-        ensures unopened { OnErr result (unopened self.old plan.now self.new) };
+        ensures unopened { IfErr result (λ fault. unopened self.old plan.now fault self.new) };
 
     /// Ends both programs.
     fn shut(&mut self, both: Self::Both, running: Self::Running, is_well: bool)
@@ -74,8 +78,8 @@ impl<P: Programs + Drop> House for Local<P> {
         plan h.programs running.server running.engine both.engine.lines both.engine.writer
         both.server.lines both.server.writer k.programs };
 
-    ghost unopened = { λ h plan k. IsUnopened P.serves P.serves_not P.connects P.connects_not
-        P.thinks_not P.ended plan h.programs k.programs };
+    ghost unopened = { λ h plan fault k. IsUnopened P.serves P.serves_not P.connects
+        P.connects_not P.thinks_not P.ended plan h.programs k.programs fault };
 
     ghost shut = { λ h both running is_well k.
         IsShut P.ended h.programs running.server running.engine is_well k.programs };
@@ -129,8 +133,8 @@ fn join<P: Programs>(
     ensures joined { IfOk result (λ r. IsJoined P.thinks P.connects
         plan.now programs.old server_lines.old r.1 r.0.engine.lines r.0.engine.writer
         r.0.server.lines r.0.server.writer programs.new) }
-    ensures apart { OnErr result (IsApart P.connects P.connects_not P.thinks_not
-        plan.now programs.old programs.new) }
+    ensures apart { IfErr result (IsApart P.connects P.connects_not P.thinks_not
+        plan.now programs.old server_lines.old server_lines.new programs.new) }
 {
     let Some(port) = listening_port(server_lines)? else {
         return Err(SERVER_GONE);

@@ -5,7 +5,7 @@ ghost use Rattle.std.specs.Prelude.{◌≡◌};
 ghost use Rattle.bridge_table.specs.declared.event.Status.{Status};
 ghost use Rattle.session_commands.specs.Holding.{TookAll};
 ghost use Rattle.session_commands.specs.PlayedLogs.{PlaysLegally, handed, happened};
-ghost use Rattle.session_commands.specs.Plays.{Played};
+ghost use Rattle.session_commands.specs.Plays.{History};
 ghost use Rattle.session_commands.specs.WantedLogs.{SentLegally, sent_before};
 ghost use Rattle.session_commands.specs.Wanting.{PlayWants};
 ghost use Rattle.session_commands.specs.declared.bridging.Seat.{Seat};
@@ -22,7 +22,7 @@ use bridge_table::laws::{ends_are_silent, sent_legal, sent_once};
 /// confirmation. If an allocation fails, this holds of all that was sent before.
 pub fn played_moves_are_legal<E: Ends>()
     ensures legal { (e : E) (s : Session) (f : E) (t : Session) (status : Status)
-        (played : Played E.came E.went E.gone e s f t status)
+        (played : History E.came E.went E.gone e s f t status)
         → s.state ≡ first_state
         → PlaysLegally s.config (happened played) (handed Seat.Server played) t.state }
     ensures wanting { (e : E) (s : Session) (f : E) (t : Session)
@@ -38,7 +38,7 @@ pub fn played_moves_are_legal<E: Ends>()
 /// holds is known.
 pub fn sent_lines_are_held<E: Ends>()
     ensures held { (seat : Seat) (e : E) (s : Session) (f : E) (t : Session) (status : Status)
-        (played : Played E.came E.went E.gone e s f t status)
+        (played : History E.came E.went E.gone e s f t status)
         → TookAll seat played
         → Appends (E.held e seat) (E.held f seat) (handed seat played) }
 {}

@@ -16,6 +16,8 @@
 
 pub mod bridging;
 mod children;
+mod disk;
+mod door;
 pub mod engine;
 mod fault;
 mod house;

@@ -1,14 +1,16 @@
 //! Plays one game of a USI engine on a CSA server, and writes its record.
 
-ghost use Rattle.std.specs.Prelude.{◌≡◌, IfOk, codes, string_bytes};
+ghost use Rattle.std.specs.Prelude.{◌≡◌, IfErr, IfOk, OnOk, codes, string_bytes};
+ghost use Rattle.std.specs.Io.KnownBytes.{Appends};
 ghost use Rattle.session_commands.specs.Kept.{KeepsRecord, report_of};
-ghost use Rattle.session_commands.specs.Playing.{Met, PlaysAndKeeps};
+ghost use Rattle.session_commands.specs.Playing.{IsReported, IsUnreported, PlaysIn, PlaysAndKeeps};
 ghost use Rattle.session_commands.specs.Words.{played_line};
 ghost use Rattle.shogi_session.specs.GameTold.{game_of};
 ghost use Rattle.shogi_session.specs.State.{first_state};
 
 use crate::bridging::{Ends, play};
 use crate::children::System;
+use crate::disk::LocalDisk;
 use crate::fault::MatchFault;
 use crate::house::{House, Local};
 use crate::out_file::{Named, Place};
@@ -19,8 +21,7 @@ use shogi_board::OutOfMemory;
 use shogi_session::{Bridge, Config};
 use shogi_words::Plan;
 use std::alloc::{AllocError, Global};
-use std::io;
-use std::io::Eprint;
+use std::io::{self, Eprint, Write};
 use std::net::{Net, TcpListener, TcpStream};
 use std::process::Processes;
 use std::rt::Files;
@@ -46,10 +47,35 @@ pub fn run<
         + AllocGlobal,
 >(rt: &R, plan: &Plan<'_>) -> Result<(), MatchFault> {
     let mut house = Local::new(rt.alloc(), System::new(rt));
-    let mut place = Named::new(rt, plan.out);
-    let moves = meet(rt, &mut house, &mut place, plan)?;
-    let line = played_line(rt.alloc(), moves)?;
-    streams::write_all(&mut io::writer(rt), line.as_bytes())?;
+    let mut place = Named::new(rt.alloc(), LocalDisk::new(rt), plan.out);
+    report(rt, &mut house, &mut place, &mut io::writer(rt), plan)
+}
+
+// Plays the planned game in the house, and prints the number of its moves.
+fn report<R: Eprint + AllocGlobal, H: House, P: Place, W: Write>(
+    rt: &R,
+    house: &mut H,
+    place: &mut P,
+    out: &mut W,
+    plan: &Plan<'_>,
+) -> Result<(), MatchFault>
+    ensures { IsReported (PlaysIn H.opened H.unopened
+        H.shut H.Both.Ends.came H.Both.Ends.missed H.Both.Ends.went H.Both.Ends.gone
+        P.took P.refused plan.now house.old place.old house.new place.new)
+        W.contents out.old out.new result }
+{
+    let moves = play_in(rt, house, place, plan)?;
+    print_moves(rt.alloc(), out, moves)
+}
+
+// Prints the line with the number of moves.
+fn print_moves<W: Write>(alloc: Global, out: &mut W, moves: usize) -> Result<(), MatchFault>
+    ensures printed { OnOk result
+        (Appends (W.contents out.old) (W.contents out.new) (played_line moves)) }
+    ensures unprinted { IfErr result (IsUnreported out.old out.new) }
+{
+    let line = played_line(alloc, moves)?;
+    streams::write_all(out, line.as_bytes())?;
     Ok(())
 }
 
@@ -61,13 +87,13 @@ fn played_line(alloc: Global, moves: usize) -> Result<String, AllocError>
 }
 
 // Plays the planned game in the house. Returns the number of moves of the game.
-fn meet<R: Eprint + AllocGlobal, H: House, P: Place>(
+fn play_in<R: Eprint + AllocGlobal, H: House, P: Place>(
     rt: &R,
     house: &mut H,
     place: &mut P,
     plan: &Plan<'_>,
 ) -> Result<usize, MatchFault>
-    ensures met { Met H.opened H.unopened
+    ensures played { PlaysIn H.opened H.unopened
         H.shut H.Both.Ends.came H.Both.Ends.missed H.Both.Ends.went
         H.Both.Ends.gone P.took P.refused plan.now house.old place.old house.new place.new result }
 {

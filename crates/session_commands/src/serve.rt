@@ -1,17 +1,19 @@
 //! A CSA server on localhost, which plays one game with one client.
 
-ghost use Rattle.std.specs.Prelude.{◌≡◌, ◌≢◌, ◌≤◌, ◌++◌, ◌∷◌, [], true, false, Ok, Err, IfErr, IfOk, IsOk, IsErrOf, OnOk, string_bytes};
+ghost use Rattle.std.specs.Prelude.{◌≡◌, ◌≤◌, ◌++◌, ◌∷◌, [], true, false, Ok, Err, IfErr, IfOk, IsOk, IsErrOf, OnOk, string_bytes};
 ghost use Rattle.session_commands.specs.declared.fault.ServeFault.{ServeFault};
 ghost use Rattle.session_commands.specs.declared.fault.TalkFault.{TalkFault};
-ghost use Rattle.session_commands.specs.Talks.{BreaksOff, HasAnswered, Passing};
+ghost use Rattle.std.specs.Io.KnownBytes.{Appends};
+ghost use Rattle.session_commands.specs.Door.{HasHosted, IsUnprinted};
 ghost use Rattle.session_commands.specs.Offered.{HasServed, IsOffered};
 ghost use Rattle.session_commands.specs.Ports.{port_line};
+ghost use Rattle.session_commands.specs.Talks.{HasAnswered, Passing};
 ghost use Rattle.shogi_session.specs.Hosting.{HostSession};
 ghost use Rattle.shogi_rules.specs.Positions as positions;
 
+use crate::door::{Door, LocalDoor};
 use crate::fault::{ServeFault, TalkFault};
-use crate::talk;
-use crate::talk::Machine;
+use crate::talk::{self, Machine};
 use crate::wire::{Exchange, Wire};
 use arrayvec::ArrayString;
 use record_commands::streams;
@@ -19,8 +21,7 @@ use shogi_board::OutOfMemory;
 use shogi_session::{Host, HostConfig};
 use shogi_words::Service;
 use std::alloc::{AllocError, Global};
-use std::io;
-use std::io::ErrorKind;
+use std::io::{self, Write};
 use std::net::{Net, TcpListener, TcpStream};
 
 /// Plays one game as a CSA server on localhost. Prints `listening` and the port, and answers each
@@ -37,14 +38,32 @@ pub fn run<R: Net<Listener = TcpListener, Stream = TcpStream> + Print + AllocGlo
     requires moves { (1 ≤ service.max_moves) × (service.max_moves ≤ positions.max_moves) }
     ensures over { OnOk result
         ((before after : Passing) × (old new : HostSession) × IsOffered service old
-        × HasAnswered ⟦<Exchange<&'static TcpStream, &'static TcpStream> as Wire>⟧.came
-        ⟦<Exchange<&'static TcpStream, &'static TcpStream> as Wire>⟧.ends
-        ⟦<Exchange<&'static TcpStream, &'static TcpStream> as Wire>⟧.went
+        × HasAnswered ⟦<Exchange<TcpStream, TcpStream> as Wire>⟧.came
+        ⟦<Exchange<TcpStream, TcpStream> as Wire>⟧.ends
+        ⟦<Exchange<TcpStream, TcpStream> as Wire>⟧.went
         ⟦<Host as Machine>⟧.answers before old true after new) }
 {
-    let stream = accept(rt, service.port)?;
-    let mut wire = Exchange::new(&stream, &stream);
-    play(rt.alloc(), service, &mut wire)
+    let mut door = LocalDoor::new(rt);
+    serve(rt.alloc(), &mut door, &mut io::writer(rt), service)
+}
+
+// Prints the port that it listens on, and plays a game with the first client.
+fn serve<D: Door, W: Write>(
+    alloc: Global,
+    door: &mut D,
+    out: &mut W,
+    service: Service,
+) -> Result<(), ServeFault>
+    requires { (1 ≤ service.max_moves) × (service.max_moves ≤ positions.max_moves) }
+    ensures { HasHosted D.listens D.listens_not D.enters D.enters_not W.contents
+        D.Client.Wire.came D.Client.Wire.ends D.Client.Wire.went D.Client.Wire.silent
+        D.Client.Wire.blocked ⟦<Host as Machine>⟧.answers service
+        door.old door.new out.old out.new result }
+{
+    let (listener, port) = door.listen(service.port)?;
+    announce(alloc, out, port)?;
+    let mut wire = door.accept(listener)?;
+    play(alloc, service, &mut wire)
 }
 
 // Plays a game with the client on the wire, until the session is over.
@@ -71,26 +90,15 @@ fn served(answered: Result<bool, TalkFault>) -> Result<(), ServeFault>
     }
 }
 
-// Prints the port that it listens on, and waits for the first client.
-fn accept<R: Net<Listener = TcpListener, Stream = TcpStream> + Print + AllocGlobal>(
-    rt: &R,
-    port: u16,
-) -> Result<TcpStream, TalkFault>
-    ensures waiting { IfErr result (λ fault. fault ≢ TalkFault.LineTooLong) }
+// Prints the line with the port.
+fn announce<W: Write>(alloc: Global, out: &mut W, port: u16) -> Result<(), TalkFault>
+    ensures printed { OnOk result
+        (Appends (W.contents out.old) (W.contents out.new) (port_line port ++ 10 ∷ [])) }
+    ensures unprinted { IfErr result (IsUnprinted out.old out.new) }
 {
-    let Ok(listener) = TcpListener::bind(rt, ("127.0.0.1", port)) else {
-        return Err(TalkFault::Read);
-    };
-    let Ok(address) = listener.local_addr() else {
-        return Err(TalkFault::Read);
-    };
-    let line = listening(rt.alloc(), address.port())?;
-    streams::write_all(&mut io::writer(rt), line.as_bytes())?;
-    match listener.accept() {
-        Ok((client, _)) => Ok(client),
-        Err(error) if error.kind() == ErrorKind::OutOfMemory => Err(TalkFault::OutOfMemory),
-        Err(_) => Err(TalkFault::Read),
-    }
+    let line = listening(alloc, port)?;
+    streams::write_all(out, line.as_bytes())?;
+    Ok(())
 }
 
 // The line with the port, and LF.

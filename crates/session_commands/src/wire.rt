@@ -3,8 +3,9 @@
 ghost use Rattle.std.specs.Prelude.{◌≡◌, ℕ, ◌<◌, ◌≤◌, List, [], length, take, IfOk, OnOk, OnErr};
 ghost use Rattle.std.specs.Io.KnownBytes.{Appends, Consumes, IsAtEnd, Keeps, ReadConsumes};
 
+use csa_record::read_uninterrupted;
 use record_commands::{ReadFault, WriteFault, streams};
-use std::io::{ErrorKind, Read, Write};
+use std::io::{Read, Write};
 use std::marker::Model;
 
 /// Where bytes come from and go to. In contracts each call is a step from one state to the next.
@@ -82,27 +83,13 @@ impl<R: Read + Drop, W: Write + Drop> Wire for Exchange<R, W> {
     ghost blocked = { λ s bytes t. t.coming ≡ s.coming };
 
     fn receive(&mut self, buffer: &mut [u8]) -> Result<usize, ReadFault> {
-        read(&mut self.reader, buffer)
+        match read_uninterrupted(&mut self.reader, buffer) {
+            Ok(taken) => Ok(taken),
+            Err(error) => Err(ReadFault::of(&error)),
+        }
     }
 
     fn send(&mut self, bytes: &[u8]) -> Result<(), WriteFault> {
         streams::write_all(&mut self.writer, bytes)
     }
-}
-
-// Reads the next bytes. Returns their number, which is 0 only at the end. If a read is interrupted,
-// tries again.
-fn read<R: Read>(reader: &mut R, buffer: &mut [u8]) -> Result<usize, ReadFault>
-    ensures within { IfOk result (λ taken. taken ≤ length buffer.new) }
-    ensures bytes { ReadConsumes (R.remaining reader.old)
-        (R.remaining reader.new) result buffer.new }
-{
-    for _ in 0..u64::MAX {
-        match reader.read(buffer) {
-            Ok(taken) => return Ok(taken),
-            Err(error) if error.kind() == ErrorKind::Interrupted => {}
-            Err(error) => return Err(ReadFault::of(&error)),
-        }
-    }
-    Err(ReadFault::Failed)
 }

@@ -1,9 +1,10 @@
 -- What the program reports if it ends early.
-use Rattle.std.specs.Prelude.{ℕ, List, Option, None, Some, codes}
+use Rattle.std.specs.Prelude.{ℕ, List, Option, None, Some, codes, nat_lt, if◌then◌else◌}
 use Rattle.csa_record.specs.declared.flow.FlowFault.{FlowFault}
 use Rattle.csa_record.specs.declared.flow.FlowFault.TheVariants as record_fault
 use Rattle.record_commands.specs.declared.fault.PositionLineFault.{PositionLineFault}
 use Rattle.record_commands.specs.declared.fault.PositionLineFault.TheVariants as line_fault
+use Rattle.record_commands.specs.Many.{tally_line}
 use Rattle.session_commands.specs.declared.fault.MatchFault.{MatchFault}
 use Rattle.session_commands.specs.declared.fault.MatchFault.TheVariants as match_fault
 use Rattle.session_commands.specs.declared.fault.ServeFault.{ServeFault}
@@ -11,13 +12,14 @@ use Rattle.session_commands.specs.declared.fault.ServeFault.TheVariants as serve
 use Rattle.session_commands.specs.declared.fault.TalkFault.{TalkFault}
 use Rattle.session_commands.specs.declared.fault.TalkFault.TheVariants as talk_fault
 use Rattle.shogi.specs.declared.stop.Stop.{Stop}
-use Rattle.shogi.specs.declared.stop.Stop.TheVariants.{WordsNotText, UnknownCommand, Refused, LineRefused, LineTooLong, Read, Write, ClientGone, ClientLineTooLong, Session, OutOfMemory}
+use Rattle.shogi.specs.declared.stop.Stop.TheVariants.{WordsNotText, UnknownCommand, Refused, NotAll, LineRefused, LineTooLong, Read, Write, ClientGone, ClientLineTooLong, Session, OutOfMemory}
 
 -- the status that the program ends with
 abbrev pub status_of : Stop → ℕ
 status_of WordsNotText = 2
 status_of UnknownCommand = 2
 status_of (Refused refusal) = 1
+status_of (NotAll tally) = if nat_lt 0 tally.unreadable then 3 else 1
 status_of (LineRefused fault) = 1
 status_of LineTooLong = 1
 status_of Read = 3
@@ -33,6 +35,7 @@ abbrev pub stop_line : Stop → Option (List ℕ)
 stop_line WordsNotText = Some (codes "error: a word of the command line is not UTF-8")
 stop_line UnknownCommand = Some (codes "error: there is no such command")
 stop_line (Refused refusal) = None
+stop_line (NotAll tally) = Some (tally_line tally)
 stop_line (LineRefused fault) = None
 stop_line LineTooLong = Some (codes "refused: line too long")
 stop_line Read = Some (codes "read fault")
@@ -42,7 +45,7 @@ stop_line ClientLineTooLong = Some (codes "fault: B7 LineTooLong")
 stop_line (Session fault) = None
 stop_line OutOfMemory = Some (codes "out of memory")
 
--- of check, normal and usi
+-- of check, digest, normal and usi
 abbrev pub stop_of_record : FlowFault → Stop
 stop_of_record (record_fault.Refused refusal) = Refused refusal
 stop_of_record record_fault.ReadFault = Read

@@ -50,7 +50,8 @@ fn run<
     };
     match commands.try_get_matches_from(words.as_slice()) {
         Ok(matches) => {
-            requests::meet(rt, &requests::requested(&matches, is_terminal)?)?;
+            let request = requests::requested(&matches, is_terminal)?;
+            requests::meet(rt, &request, is_terminal)?;
             Ok(ExitCode::SUCCESS)
         }
         Err(error) => Ok(usage::answer(rt, &error)?),

@@ -5,7 +5,7 @@ ghost use Rattle.std.specs.IoError.{error_kind};
 ghost use Rattle.shogi.specs.Stops.{stop_line, status_of, stop_of_line, stop_of_match, stop_of_record, stop_of_serve, stop_of_talk};
 
 use csa_record::{FlowFault, Refusal};
-use record_commands::PositionLineFault;
+use record_commands::{PositionLineFault, Tally};
 use session_commands::{MatchFault, ServeFault, TalkFault};
 use shogi_session::SessionFault;
 use std::io::ErrorKind;
@@ -21,6 +21,8 @@ pub enum Stop {
     UnknownCommand,
     /// The record was refused.
     Refused(Refusal),
+    /// Of several records, some were refused or could not be read.
+    NotAll(Tally),
     /// The position line was refused.
     LineRefused(UsiFault),
     /// A line has more than 65,536 bytes.
@@ -51,6 +53,7 @@ impl Stop {
             Stop::Refused(_) | Stop::LineRefused(_) | Stop::LineTooLong => 1,
             Stop::WordsNotText | Stop::UnknownCommand => USAGE,
             Stop::Read | Stop::Write => 3,
+            Stop::NotAll(tally) => { if tally.unreadable > 0 { 3 } else { 1 } }
             Stop::ClientGone | Stop::ClientLineTooLong | Stop::Session(_) => 4,
             Stop::OutOfMemory => 5,
         }
@@ -77,6 +80,7 @@ impl fmt::Display for Stop {
             Stop::WordsNotText => f.write_str("error: a word of the command line is not UTF-8"),
             Stop::UnknownCommand => f.write_str("error: there is no such command"),
             Stop::Refused(refusal) => write!(f, "refused: {refusal}"),
+            Stop::NotAll(tally) => write!(f, "{tally}"),
             Stop::LineRefused(UsiFault::BadMoveText(number)) => write!(
                 f,
                 "refused: move {number}: U6 BadMoveText"

@@ -3,8 +3,7 @@ use Rattle.std.proofs.Common.{◌≡◌, ℕ, ◌+◌, ◌-◌, ◌*◌, ◌<◌
 use Rattle.std.proofs.lemmas.Bool.{cases_eq, cases_lt}
 use Rattle.shogi_board.specs.Directions.{IsDirection, IsInLine}
 use Rattle.shogi_board.specs.Moves.{IsRay, to}
-use Rattle.shogi_board.specs.Squares.{IsAway}
-use Rattle.shogi_board.specs.declared.direction.Direction.{Direction}
+use Rattle.shogi_board.specs.Squares.{Direction, IsAway}
 use Rattle.shogi_board.specs.declared.square.Square.{Square}
 
 -- where a number stands n steps on

@@ -7,9 +7,8 @@ use Rattle.shogi_board.specs.Cells.{Cells, at, piece, HasPawnOnFile}
 use Rattle.shogi_board.specs.Moves.{steps, rays, turned_for, IsRay}
 use Rattle.shogi_board.specs.Pieces.{opponent}
 use Rattle.shogi_board.specs.Reach.{Steps, IsClear, InSight, Slides, Reach, Attack, Attacked, InCheck}
-use Rattle.shogi_board.specs.Squares.{place, file_of, IsAway}
+use Rattle.shogi_board.specs.Squares.{Direction, place, file_of, IsAway}
 use Rattle.shogi_board.specs.declared.color.Color.{Color}
-use Rattle.shogi_board.specs.declared.direction.Direction.{Direction}
 use Rattle.shogi_board.specs.declared.kind.Kind.{Kind}
 use Rattle.shogi_board.specs.declared.kind.Kind.TheVariants.{Pawn, Lance, Knight, Silver, Gold, Bishop, Rook, King, ProPawn, ProLance, ProKnight, ProSilver, Horse, Dragon}
 use Rattle.shogi_board.specs.declared.kind.Piece.{Piece}

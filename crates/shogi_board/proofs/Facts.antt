@@ -4,11 +4,10 @@ use Rattle.std.proofs.lemmas.Bool.{cases_eq}
 use Rattle.shogi_board.specs.Cells.{Cells, at, piece}
 use Rattle.shogi_board.specs.Moves.{turned_for, orthogonals, gold, jumps}
 use Rattle.shogi_board.specs.Reach.{Reach, InSight, Steps, Slides}
-use Rattle.shogi_board.specs.Squares.{place, IsAway, file_of, rank_of}
+use Rattle.shogi_board.specs.Squares.{Direction, place, IsAway, file_of, rank_of}
 use Rattle.shogi_board.specs.Neighbours.{IsAmong, gold_squares, beside, with_cell}
 use Rattle.shogi_board.specs.declared.color.Color.{Color}
 use Rattle.shogi_board.specs.declared.color.Color.TheVariants.{Black, White}
-use Rattle.shogi_board.specs.declared.direction.Direction.{Direction}
 use Rattle.shogi_board.specs.declared.kind.Kind.TheVariants.{Gold, Bishop, Horse, Knight}
 use Rattle.shogi_board.specs.declared.kind.Piece.{Piece}
 use Rattle.shogi_board.specs.declared.square.Square.{Square}

@@ -5,10 +5,9 @@ use Rattle.shogi_board.specs.Cells.{Cells}
 use Rattle.shogi_board.specs.Moves.{IsRay, rays, steps, turned_for}
 use Rattle.shogi_board.specs.Directions.{IsNear, Goes}
 use Rattle.shogi_board.specs.Reach.{InSight, IsClear, Slides, Steps}
-use Rattle.shogi_board.specs.Squares.{IsAway}
+use Rattle.shogi_board.specs.Squares.{Direction, IsAway}
 use Rattle.shogi_board.specs.declared.color.Color.{Color}
 use Rattle.shogi_board.specs.declared.color.Color.TheVariants.{Black, White}
-use Rattle.shogi_board.specs.declared.direction.Direction.{Direction}
 use Rattle.shogi_board.specs.declared.kind.Kind.TheVariants.{Knight}
 use Rattle.shogi_board.specs.declared.kind.Piece.{Piece}
 use Rattle.shogi_board.specs.declared.square.Square.{Square}

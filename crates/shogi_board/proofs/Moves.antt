@@ -6,7 +6,7 @@ use Rattle.shogi_board.specs.Moves.{steps, rays, turned_for, IsRay, to, forward,
 use Rattle.shogi_board.specs.Directions.{IsNear}
 use Rattle.shogi_board.specs.declared.color.Color.{Color}
 use Rattle.shogi_board.specs.declared.color.Color.TheVariants.{Black, White}
-use Rattle.shogi_board.specs.declared.direction.Direction.{Direction}
+use Rattle.shogi_board.specs.Squares.{Direction}
 use Rattle.shogi_board.specs.declared.kind.Kind.{Kind}
 use Rattle.shogi_board.specs.declared.kind.Kind.TheVariants.{Pawn, Lance, Knight, Silver, Gold, Bishop, Rook, King, ProPawn, ProLance, ProKnight, ProSilver, Horse, Dragon}
 

@@ -2,8 +2,7 @@
 use Rattle.std.proofs.Common.{◌≡◌, ℕ, ◌+◌, ◌-◌, ◌*◌, ◌<◌, ◌≤◌, arith, inl, inr, refl}
 use Rattle.std.proofs.lemmas.Bool.{cases_lt}
 use Rattle.shogi_board.specs.Moves.{IsRay}
-use Rattle.shogi_board.specs.Squares.{place, IsAway}
-use Rattle.shogi_board.specs.declared.direction.Direction.{Direction}
+use Rattle.shogi_board.specs.Squares.{Direction, place, IsAway}
 use Rattle.shogi_board.specs.declared.square.Square.{Square}
 
 back-far : (x y m f : ℕ) → f ≡ 1 → x + m * 2 ≡ y + m * f → y ≤ 9 → 1 ≤ x → 9 ≤ m → ⊥

@@ -2,8 +2,7 @@
 use Rattle.std.proofs.Common.{◌≡◌, ℕ, ◌<◌, ◌≤◌, arith, ap, subst}
 use denote.Struct.Props.{props}
 use Rattle.shogi_board.specs.declared.square.Square.{Square}
-use Rattle.shogi_board.specs.declared.direction.Direction.{Direction}
-use Rattle.shogi_board.specs.Squares.{place, IsAway, file_of, rank_of}
+use Rattle.shogi_board.specs.Squares.{Direction, place, IsAway, file_of, rank_of}
 
 abbrev OnBoard : ℕ → ℕ → Type 0
 OnBoard file rank = (1 ≤ file) × (file ≤ 9) × (1 ≤ rank) × (rank ≤ 9)

@@ -6,11 +6,10 @@ use Rattle.shogi_board.specs.Moves.{turned_for}
 use Rattle.shogi_board.specs.Directions.{IsNear}
 use Rattle.shogi_board.specs.Pieces.{opponent}
 use Rattle.shogi_board.specs.Reach.{Reach, InSight, IsClear}
-use Rattle.shogi_board.specs.Squares.{place, IsAway}
+use Rattle.shogi_board.specs.Squares.{Direction, place, IsAway}
 use Rattle.shogi_board.specs.Turned.{turned, turned_cell, IsTurned}
 use Rattle.shogi_board.specs.declared.color.Color.{Color}
 use Rattle.shogi_board.specs.declared.color.Color.TheVariants.{Black, White}
-use Rattle.shogi_board.specs.declared.direction.Direction.{Direction}
 use Rattle.shogi_board.specs.declared.kind.Piece.{Piece}
 use Rattle.shogi_board.specs.declared.square.Square.{Square}
 use Rattle.shogi_board.proofs.Moves.{near-step, near-ray}

@@ -2,13 +2,12 @@
 -- A reader of the public contracts may skip this file.
 use Rattle.std.specs.Prelude.{Any}
 use Rattle.shogi_board.specs.declared.color.Color.{Color}
-use Rattle.shogi_board.specs.declared.direction.Direction.{Direction}
 use Rattle.shogi_board.specs.declared.kind.Kind.TheVariants.{Knight, King}
 use Rattle.shogi_board.specs.declared.square.Square.{Square}
 use Rattle.shogi_board.specs.Cells.{Cells}
 use Rattle.shogi_board.specs.Moves.{steps, turned_for}
 use Rattle.shogi_board.specs.Reach.{Attack, InSight}
-use Rattle.shogi_board.specs.Squares.{IsAway}
+use Rattle.shogi_board.specs.Squares.{Direction, IsAway}
 
 -- an attacker is in sight in that direction
 abbrev pub AttackInSight : Cells → Color → Square → Direction → Type 0

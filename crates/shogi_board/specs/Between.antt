@@ -1,9 +1,8 @@
 -- Squares that lie between two others.
 use Rattle.std.specs.Prelude.{ℕ, ◌<◌, ◌≤◌}
-use Rattle.shogi_board.specs.declared.direction.Direction.{Direction}
 use Rattle.shogi_board.specs.declared.square.Square.{Square}
 use Rattle.shogi_board.specs.Moves.{IsRay}
-use Rattle.shogi_board.specs.Squares.{IsAway}
+use Rattle.shogi_board.specs.Squares.{Direction, IsAway}
 
 -- c lies strictly between a and b on a rank, file or diagonal: in one direction from a, and nearer
 -- than b

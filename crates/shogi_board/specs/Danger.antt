@@ -3,12 +3,11 @@ use Rattle.std.specs.Prelude.{ℕ, ◌≤◌}
 use Rattle.shogi_board.specs.declared.color.Color.{Color}
 use Rattle.shogi_board.specs.declared.danger.Danger.{Danger}
 use Rattle.shogi_board.specs.declared.danger.Danger.TheVariants.{Anywhere, Towards, Nowhere}
-use Rattle.shogi_board.specs.declared.direction.Direction.{Direction}
 use Rattle.shogi_board.specs.declared.square.Square.{Square}
 use Rattle.shogi_board.specs.Cells.{Cells}
 use Rattle.shogi_board.specs.Moves.{IsRay}
 use Rattle.shogi_board.specs.Reach.{Attack, Attacked, InSight}
-use Rattle.shogi_board.specs.Squares.{IsAway}
+use Rattle.shogi_board.specs.Squares.{Direction, IsAway}
 
 -- a is in sight from s, in the direction in which t lies
 pub record SeenTowards (cells : Cells) (s t a : Square) : Type 0 where

@@ -1,11 +1,10 @@
 -- For private functions: in which direction a square is from another, and what goes in a direction.
 -- A reader of the public contracts may skip this file.
 use Rattle.std.specs.Prelude.{ℕ, ◌≡◌, ◌≤◌, ◌==◌, ◌&&◌, ◌⊎◌, Bool, not, Contains}
-use Rattle.shogi_board.specs.declared.direction.Direction.{Direction}
 use Rattle.shogi_board.specs.declared.kind.Kind.{Kind}
 use Rattle.shogi_board.specs.declared.square.Square.{Square}
 use Rattle.shogi_board.specs.Moves.{IsRay, rays, steps}
-use Rattle.shogi_board.specs.Squares.{IsAway}
+use Rattle.shogi_board.specs.Squares.{Direction, IsAway}
 
 abbrev pub is_forward : Direction → Bool
 is_forward d = d.files == 2 && d.ranks == 1

@@ -2,11 +2,10 @@
 use Rattle.std.specs.Prelude.{ℕ, ◌≡◌, ◌-◌, ◌≤◌, List, [], ◌∷◌, ◌++◌}
 use Rattle.shogi_board.specs.declared.color.Color.{Color}
 use Rattle.shogi_board.specs.declared.color.Color.TheVariants.{Black, White}
-use Rattle.shogi_board.specs.declared.direction.Direction.{Direction}
+use Rattle.shogi_board.specs.Squares.{Direction}
 use Rattle.shogi_board.specs.declared.kind.Kind.{Kind}
 use Rattle.shogi_board.specs.declared.kind.Kind.TheVariants.{Pawn, Lance, Knight, Silver, Gold, Bishop, Rook, King, ProPawn, ProLance, ProKnight, ProSilver, Horse, Dragon}
 
--- files grow to black's left, and ranks grow towards black; 2 is neither
 abbrev pub to : ℕ → ℕ → Direction
 to files ranks = record { files = files; ranks = ranks }
 

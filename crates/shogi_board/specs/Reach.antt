@@ -1,14 +1,13 @@
 -- Which squares a piece reaches, and which are attacked.
 use Rattle.std.specs.Prelude.{◌≡◌, ℕ, ◌<◌, ◌≤◌, ◌⊎◌, Some, None, Any}
 use Rattle.shogi_board.specs.declared.color.Color.{Color}
-use Rattle.shogi_board.specs.declared.direction.Direction.{Direction}
 use Rattle.shogi_board.specs.declared.kind.Kind.TheVariants.{King}
 use Rattle.shogi_board.specs.declared.kind.Piece.{Piece}
 use Rattle.shogi_board.specs.declared.square.Square.{Square}
 use Rattle.shogi_board.specs.Cells.{Cells, at, piece}
 use Rattle.shogi_board.specs.Moves.{steps, rays, turned_for}
 use Rattle.shogi_board.specs.Pieces.{opponent}
-use Rattle.shogi_board.specs.Squares.{IsAway}
+use Rattle.shogi_board.specs.Squares.{Direction, IsAway}
 
 -- one step of the piece leads from a to b
 abbrev pub Steps : Piece → Square → Square → Type 0

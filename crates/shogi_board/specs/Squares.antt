@@ -1,7 +1,6 @@
 -- Squares and directions.
 use Rattle.std.specs.Prelude.{◌≡◌, ℕ, ◌+◌, ◌*◌, ◌-◌}
 use Rattle.shogi_board.specs.declared.square.Square.{Square}
-use Rattle.shogi_board.specs.declared.direction.Direction.{Direction}
 
 -- from 1 to 9, black's right file first
 abbrev pub file_of : Square → ℕ
@@ -15,7 +14,12 @@ rank_of s = s.rank
 abbrev pub place : Square → ℕ
 place s = (s.file - 1) * 9 + (s.rank - 1)
 
--- b lies n times the direction away from a; a direction counts from 2, so that 2 stays on the file
--- or rank
+-- how far one step goes: files grow to black's left and ranks towards black, and both count from 2,
+-- so that 2 stays on the file or rank
+pub record Direction : Type 0 where
+  pub files : ℕ
+  pub ranks : ℕ
+
+-- b lies n times the direction away from a
 abbrev pub IsAway : Square → Direction → ℕ → Square → Type 0
 IsAway a d n b = (b.file + n * 2 ≡ a.file + n * d.files) × (b.rank + n * 2 ≡ a.rank + n * d.ranks)

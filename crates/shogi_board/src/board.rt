@@ -213,11 +213,12 @@ impl Board {
         if piece.kind == Kind::Knight {
             return jumps_to(piece.color, from, to);
         }
-        let Some((direction, distance)) = from.towards(to) else {
+        let Some(found) = from.towards(to) else {
             return false;
         };
-        piece.kind.goes(direction.turned_for(piece.color), distance)
-            && self.is_clear(from, direction, distance)
+        let turned = found.direction.turned_for(piece.color);
+        piece.kind.goes(turned, found.distance)
+            && self.is_clear(from, found.direction, found.distance)
     }
 
     // Whether the squares in that direction are empty up to that distance.
@@ -265,7 +266,7 @@ impl Board {
         ensures { IsTrue result ↔ Attacked self.now color square }
     {
         match square.towards(other) {
-            Some((direction, _)) => self.attacker_from(color, square, direction).is_some(),
+            Some(found) => self.attacker_from(color, square, found.direction).is_some(),
             None => false,
         }
     }

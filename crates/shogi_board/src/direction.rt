@@ -1,17 +1,35 @@
-ghost use Rattle.std.specs.Prelude.{◌≡◌, ◌≤◌, ◌-◌, ◌+◌, ◌*◌, ◌↔◌, IsTrue, Contains};
+ghost use Rattle.std.specs.Prelude.{◌≡◌, ◌==◌, ◌≤◌, ◌-◌, ◌+◌, ◌*◌, ◌↔◌, IsTrue, Contains};
 ghost use Rattle.shogi_board.specs.Moves.{steps, rays, turned_for, IsRay};
 ghost use Rattle.shogi_board.specs.Directions.{is_forward, is_diagonal, Goes};
 ghost use Rattle.shogi_board.specs.declared.kind.Kind.TheVariants.{Knight, King};
 
 use crate::color::Color;
 use crate::kind::Kind;
+use std::marker::Model;
 
 // How far a step goes: files and ranks are counted from 2, so that 1 is one less, 2 stays and 3 is
 // one more.
 #[derive(Clone, Copy, Debug)]
-pub struct Direction {
-    pub files: u8,
-    pub ranks: u8,
+pub(crate) struct Direction {
+    pub(crate) files: u8,
+    pub(crate) ranks: u8,
+}
+
+impl Model for Direction {
+    ghost use Rattle.shogi_board.specs.Squares.{Direction};
+
+    ghost Value = { Direction };
+
+    ghost view = { λ d. record { files = d.files; ranks = d.ranks } };
+
+    ghost inverse = { λ d. record { files = d.files; ranks = d.ranks } };
+}
+
+// Where a square is, seen from another.
+#[derive(Clone, Copy, Debug)]
+pub(crate) struct Bearing {
+    pub(crate) direction: Direction,
+    pub(crate) distance: u8,
 }
 
 const FORWARD: Direction = Direction { files: 2, ranks: 1 };
@@ -34,9 +52,9 @@ const JUMP_LEFT: Direction = Direction { files: 3, ranks: 0 };
 
 const JUMP_RIGHT: Direction = Direction { files: 1, ranks: 0 };
 
-static JUMPS: [Direction; 2] = [JUMP_LEFT, JUMP_RIGHT];
+const JUMPS: [Direction; 2] = [JUMP_LEFT, JUMP_RIGHT];
 
-static NEIGHBOURS: [Direction; 8] = [
+const NEIGHBOURS: [Direction; 8] = [
     FORWARD,
     BACK,
     LEFT,
@@ -48,17 +66,17 @@ static NEIGHBOURS: [Direction; 8] = [
 ];
 
 // The eight directions, as a king steps.
-pub(crate) fn neighbours() -> &'static [Direction]
-    ensures { result.now ≡ steps King }
+pub(crate) fn neighbours() -> [Direction; 8]
+    ensures { result ≡ steps King }
 {
-    &NEIGHBOURS
+    NEIGHBOURS
 }
 
 // The steps of a knight, as black sees them.
-pub(crate) fn jumps() -> &'static [Direction]
-    ensures { result.now ≡ steps Knight }
+pub(crate) fn jumps() -> [Direction; 2]
+    ensures { result ≡ steps Knight }
 {
-    &JUMPS
+    JUMPS
 }
 
 impl Kind {
@@ -80,9 +98,9 @@ impl Kind {
     {
         match self {
             Kind::Pawn => direction.is_forward(),
-            Kind::Silver => direction.ranks == 1 || direction.is_diagonal(),
+            Kind::Silver => direction.leads_forward() || direction.is_diagonal(),
             Kind::Gold | Kind::ProPawn | Kind::ProLance | Kind::ProKnight | Kind::ProSilver =>
-                direction.ranks == 1 || !direction.is_diagonal(),
+                direction.leads_forward() || !direction.is_diagonal(),
             Kind::King => true,
             Kind::Horse => !direction.is_diagonal(),
             Kind::Dragon => direction.is_diagonal(),
@@ -110,6 +128,13 @@ impl Direction {
         ensures { result ≡ is_forward self }
     {
         self.files == 2 && self.ranks == 1
+    }
+
+    // Whether the next rank is nearer to the other side.
+    fn leads_forward(self) -> bool
+        ensures { result ≡ self.ranks == 1 }
+    {
+        self.ranks == 1
     }
 
     fn is_diagonal(self) -> bool

@@ -1,6 +1,6 @@
 ghost use Rattle.std.specs.Prelude.{◌≡◌, true, ℕ, ◌+◌, ◌*◌, ◌-◌, ◌<◌, ◌≤◌, MatchOption, ◌⊎◌, ◌↔◌, IsTrue};
 
-use crate::direction::Direction;
+use crate::direction::{Bearing, Direction};
 
 /// One of the 81 squares: its file from 1, at black's right, to 9, and its rank from 1, the
 /// farthest from black, to 9.
@@ -17,8 +17,7 @@ impl Square {
     ghost use Rattle.shogi_board.specs.Between.{Between};
     ghost use Rattle.shogi_board.specs.Directions.{IsDirection, IsDistance, IsInLine, IsNowhere, Lies};
     ghost use Rattle.shogi_board.specs.Moves.{IsRay};
-    ghost use Rattle.shogi_board.specs.Squares.{file_of, rank_of, place, IsAway};
-    ghost use Rattle.shogi_board.specs.declared.direction.Direction.{Direction};
+    ghost use Rattle.shogi_board.specs.Squares.{Direction, file_of, rank_of, place, IsAway};
 
     /// The square on that file and rank, or None if either lies outside 1 to 9.
     pub fn new(file: u8, rank: u8) -> Option<Square>
@@ -122,14 +121,18 @@ impl Square {
     // The direction in which the other square lies and how far, if it is another one, on the rank,
     // file or diagonal.
     #[inline(always)]
-    pub(crate) fn towards(self, other: Square) -> Option<(Direction, u8)>
-        ensures { MatchOption result (IsNowhere self other) (λ way. Lies self other way.0 way.1) }
+    pub(crate) fn towards(self, other: Square) -> Option<Bearing>
+        ensures { MatchOption result
+            (IsNowhere self other) (λ found. Lies self other found.direction found.distance) }
     {
         let distance = self.distance(other);
         if distance == 0 || !self.lines_up(other) {
             return None;
         }
-        Some((self.direction_to(other), distance))
+        Some(Bearing {
+            direction: self.direction_to(other),
+            distance,
+        })
     }
 
     // How many squares lie in that direction, up to the edge.

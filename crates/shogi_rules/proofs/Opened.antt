@@ -9,9 +9,8 @@ use Rattle.shogi_board.specs.Pieces.{opponent}
 use Rattle.shogi_board.specs.Placed.{Placed}
 use Rattle.shogi_board.specs.Reach.{Attack, Attacked, InCheck, InSight, IsClear, Reach}
 use Rattle.shogi_board.specs.Sound.{IsSound}
-use Rattle.shogi_board.specs.Squares.{place, IsAway}
+use Rattle.shogi_board.specs.Squares.{Direction, place, IsAway}
 use Rattle.shogi_board.specs.declared.color.Color.{Color}
-use Rattle.shogi_board.specs.declared.direction.Direction.{Direction}
 use Rattle.shogi_board.specs.declared.kind.Kind.{Kind}
 use Rattle.shogi_board.specs.declared.kind.Kind.TheVariants.{King}
 use Rattle.shogi_board.specs.declared.kind.Piece.{Piece}

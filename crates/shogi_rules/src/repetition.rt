@@ -79,7 +79,7 @@ pub(crate) fn verdict_by_moves(p: &Position) -> Verdict
     match first_legal(p) {
         Some(_) => Verdict::Ongoing,
         None => {
-            // a check that only a pawn drop would end which mates
+            // in check only a pawn drop would help, and it is not legal, since it mates
             if in_check(p) {
                 Verdict::Mate
             } else {

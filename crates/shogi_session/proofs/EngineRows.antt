@@ -1,5 +1,5 @@
 -- How the answers to lines of the engine are rows of the table.
-use Rattle.std.proofs.Common.{◌≡◌, ℕ, ◌⊎◌, inl, inr, Bool, List, [], codes, refl, sym, ap, subst, ◌∙◌}
+use Rattle.std.proofs.Common.{◌≡◌, ℕ, ◌⊎◌, inl, inr, Bool, true, List, [], codes, refl, sym, ap, subst, ◌∙◌}
 use Rattle.shogi_board.specs.Placed.{Placed}
 use Rattle.usi_text.specs.declared.engine.EngineWord.TheVariants.{UsiOk, ReadyOk}
 use Rattle.usi_text.specs.Engine.{LineSays}
@@ -24,7 +24,7 @@ use Rattle.bridge_table.specs.declared.state.EngineState.TheVariants.{New, Greet
 use Rattle.shogi_session.specs.BestMoves.{TellsBestMove}
 use Rattle.bridge_table.specs.Events.{Event, begin, engine_line, engine_end, Out, no_lines, engine}
 use Rattle.bridge_table.specs.GameTold.{game_of}
-use Rattle.shogi_session.specs.Phases.{Reacts, Stays, Same, answer_for, going, match_in, play_client, slip_with, staged}
+use Rattle.shogi_session.specs.Phases.{Reacts, Stays, Same, answer_for, going, match_in, play_client, staged}
 use Rattle.bridge_table.specs.Promises.{before}
 use Rattle.bridge_table.specs.Row.{TableRow, IsUnnamed, in_table, unnamed, IsBestMove, answer_text, login_line, failed}
 use Rattle.bridge_table.specs.Row as row
@@ -78,10 +78,18 @@ readied c engine client line o at ok h k s =
     by_row c engine Ready client logging_in (engine_line line) o _ Going (row.readied line at refl ok refl refl) s h (k ∙ one_text (login_line c))
 
 -- 3. Answers to `go`
+abbrev slip_after : BestMove → Bool → Bool
+slip_after (best.Answer answer) earlier = earlier
+slip_after best.Slip earlier = true
+
+pub slip_is : (b : BestMove) (earlier slip : Bool) → (b ≡ best.Slip → slip ≡ true) → ((answer : Answer) → b ≡ best.Answer answer → slip ≡ earlier) → slip ≡ slip_after b earlier
+slip_is (best.Answer answer) earlier slip slips answers = answers answer refl
+slip_is best.Slip earlier slip slips answers = slips refl
+
 answered : (c : Config) (engine : EngineState) (client : Client) (g : Match) (line : List ℕ) (b : BestMove) (o : Answered)
     → engine ≡ Thinking → client ≡ playing g → TellsBestMove (position_now g) line b
     → o.to_engine ≡ [] → o.to_server ≡ ended_line (answer_text g.client (answer_for b)) → o.status ≡ Going
-    → Reacts c engine client (engine_line line) o Ready (sent (record g { slip = slip_with b g.slip }) (answer_for b))
+    → Reacts c engine client (engine_line line) o Ready (sent (record g { slip = slip_after b g.slip }) (answer_for b))
 answered c engine client g line (best.Answer (Move m)) o at here a h k s =
     by_row c engine Ready client _ (engine_line line) o _ Going
     (row.engine_moves g line a.0 m at here refl a.1 (record { word_is = a.2; legal = a.3 }) refl refl) s h (k ∙ one_text (answer_text g.client (Move m)))
@@ -97,12 +105,12 @@ answered c engine client g line best.Slip o at here a h k s =
     (k ∙ one_text (answer_text g.client Toryo))
 
 pub answered_play : (c : Config) (engine : EngineState) (p : Own) (line : List ℕ) (b : BestMove) (o : Answered) (now : Placed) (answer : Answer) (slip : Bool)
-    → engine ≡ Thinking → p.stage ≡ OwnPlaying → now ≡ position_now (match_in p) → TellsBestMove now line b → answer ≡ answer_for b → slip ≡ slip_with b p.slip
+    → engine ≡ Thinking → p.stage ≡ OwnPlaying → now ≡ position_now (match_in p) → TellsBestMove now line b → answer ≡ answer_for b → (b ≡ best.Slip → slip ≡ true) → ((a : Answer) → b ≡ best.Answer a → slip ≡ p.slip)
     → o.to_engine ≡ [] → o.to_server ≡ ended_line (answer_text p.client answer) → o.status ≡ Going
     → Reacts c engine (play_client p) (engine_line line) o Ready (sent (record (match_in p) { slip = slip }) answer)
-answered_play c engine p line b o now answer slip at here position says answer_is slip_is h k s =
+answered_play c engine p line b o now answer slip at here position says answer_is slips answers h k s =
     subst (λ x. Reacts c engine (play_client p) (engine_line line) o Ready (sent (record (match_in p) { slip = slip }) x)) (sym answer_is)
-    (subst (λ x. Reacts c engine (play_client p) (engine_line line) o Ready (sent (record (match_in p) { slip = x }) (answer_for b))) (sym slip_is)
+    (subst (λ x. Reacts c engine (play_client p) (engine_line line) o Ready (sent (record (match_in p) { slip = x }) (answer_for b))) (sym (slip_is b p.slip slip slips answers))
     (answered c engine (play_client p) (match_in p) line b o at (ap (staged (match_in p) p.game) here) (subst (λ x. TellsBestMove x line b) position says) h
     (subst (λ x. o.to_server ≡ ended_line (answer_text p.client x)) answer_is k) s))
 

@@ -116,11 +116,6 @@ abbrev pub answer_for : BestMove → Answer
 answer_for (best.Answer answer) = answer
 answer_for best.Slip = Toryo
 
--- whether the engine has slipped, this time included
-abbrev pub slip_with : BestMove → Bool → Bool
-slip_with (best.Answer answer) before = before
-slip_with best.Slip before = true
-
 -- 5. Lines of the server in a game
 -- the game is in play: Playing, Sent
 abbrev pub IsOn : GameStage → Type 0

@@ -1,10 +1,11 @@
-ghost use Rattle.std.specs.Prelude.{◌≡◌, ◌↔◌, ℕ, List, [], IfOk, IsTrue, MatchResult};
+ghost use Rattle.std.specs.Prelude.{◌≡◌, ◌↔◌, ℕ, List, [], IfOk, IsTrue, MatchResult, true};
 ghost use Rattle.bridge_table.specs.declared.config.Config.{Config};
+ghost use Rattle.bridge_table.specs.declared.state.Answer.{Answer};
 ghost use Rattle.bridge_table.specs.declared.event.Status.TheVariants.{Going};
 ghost use Rattle.shogi_session.specs.declared.phase.GameStage.TheVariants.{Playing};
 ghost use Rattle.bridge_table.specs.declared.state.EngineState.TheVariants.{Greeting, Readying, Thinking};
 ghost use Rattle.bridge_table.specs.Events.{engine_line};
-ghost use Rattle.shogi_session.specs.Phases.{IsPhase, IsPlay, Reacts, Same, answer_for, client_of, play_client, slip_with};
+ghost use Rattle.shogi_session.specs.Phases.{IsPhase, IsPlay, Reacts, Same, answer_for, client_of, play_client};
 ghost use Rattle.bridge_table.specs.Row.{IsBestMove, answer_text, login_line};
 ghost use Rattle.bridge_table.specs.State.{Client, client_state};
 ghost use Rattle.bridge_table.specs.declared.state.ClientState.TheVariants as clients;
@@ -210,7 +211,7 @@ fn hear_answer(
     };
     let answer = answer_for(best);
     let out = say(alloc, play.client, answer)?;
-    play.slip = slip_with(best, play.slip);
+    play.slip = has_slipped(best, play.slip);
     play.stage = GameStage::Sent(answer);
     *engine = EngineState::Ready;
     Ok(out)
@@ -240,8 +241,9 @@ fn answer_for(best: BestMove) -> Answer
 }
 
 // Whether the engine has slipped, this time included.
-fn slip_with(best: BestMove, before: bool) -> bool
-    ensures { result ≡ slip_with best before }
+fn has_slipped(best: BestMove, before: bool) -> bool
+    ensures slips { best ≡ BestMove.Slip → result ≡ true }
+    ensures answers { (answer : Answer) → best ≡ BestMove.Answer answer → result ≡ before }
 {
     match best {
         BestMove::Answer(_) => before,

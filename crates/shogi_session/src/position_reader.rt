@@ -180,7 +180,7 @@ fn feed(reader: &mut RecordReader, bytes: &[u8]) -> Result<bool, OutOfMemory>
 
 // Whether a reader takes this many more bytes: at most 2^63 in all.
 fn has_room(reader: &RecordReader, bytes: &[u8]) -> bool
-    ensures { IsTrue result → fed_of reader.now + length bytes.now ≤ 2 ^ 63 }
+    ensures { IsTrue result ↔ (fed_of reader.now + length bytes.now ≤ 2 ^ 63) }
 {
     let fed = reader.fed();
     fed <= MOST_BYTES && bytes.len() as u64 <= MOST_BYTES - fed

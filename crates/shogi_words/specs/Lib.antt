@@ -1,2 +1,3 @@
 pub mod Options
+pub mod Requests
 pub mod Words

@@ -3,7 +3,9 @@
 ghost use Rattle.std.specs.Prelude.{◌≡◌, ◌≤◌, [], IfOk, IfSome, None, Some};
 ghost use Rattle.shogi_rules.specs.Positions as positions;
 ghost use Rattle.shogi_words.specs.Words.{IsNoCommand, commands, word_of};
-ghost use Rattle.clap.specs.Words.{subcommand_name_of, subcommand_names};
+ghost use Rattle.shogi_words.specs.Requests.{AreWordsOf, SaysWords};
+ghost use Rattle.clap.specs.Words.{found_of, subcommand_name_of, subcommand_names};
+ghost use Rattle.clap.specs.declared.parser.matches.ArgMatches.{ArgMatches};
 
 use crate::request::Request;
 use crate::serve::Service;
@@ -17,6 +19,7 @@ pub fn all<'a>(alloc: Global) -> Result<Command<'a>, AllocError>
 {
     program(alloc)
         .subcommand(records::check(alloc)?)?
+        .subcommand(records::digest(alloc)?)?
         .subcommand(records::normal(alloc)?)?
         .subcommand(records::usi(alloc)?)?
         .subcommand(records::csa(alloc)?)?
@@ -38,15 +41,18 @@ fn program<'a>(alloc: Global) -> Command<'a>
 
 /// The request that the words make, or None if they name no command; `is_terminal` says whether
 /// standard error is a terminal.
-pub fn request_of<'a>(matches: &ArgMatches<'a>, is_terminal: bool) -> Option<Request<'a>>
+pub fn request_of<'m, 'a>(matches: &'m ArgMatches<'a>, is_terminal: bool) -> Option<Request<'m, 'a>>
     ensures named { IfSome result (λ r. subcommand_name_of matches.now ≡ Some (word_of r)) }
     ensures within { IfSome result (λ r. (s : Service)
         → r ≡ Request.Serve s → (1 ≤ s.max_moves) × (s.max_moves ≤ positions.max_moves)) }
+    ensures said { IfSome result
+        (λ r. (words : ArgMatches) × AreWordsOf matches.now words × SaysWords (found_of words) r) }
     ensures unknown { result ≡ None → IsNoCommand (subcommand_name_of matches.now) }
 {
     let (name, words) = matches.subcommand()?;
     match name {
-        records::CHECK => Some(Request::Check(words::file(words))),
+        records::CHECK => Some(Request::Check(words::files(words))),
+        records::DIGEST => Some(Request::Digest(words::files(words))),
         records::NORMAL => Some(Request::Normal(words::file(words))),
         records::USI => Some(Request::Usi(words::file(words))),
         records::CSA => Some(Request::Csa(words::file(words))),

@@ -6,7 +6,7 @@
 //!
 //! ```text
 //! let matches = shogi_words::all(alloc)?.try_get_matches_from(words)?;
-//! shogi_words::request_of(&matches, is_terminal)  // Some(Request::Check(Some("game.csa")))
+//! shogi_words::request_of(&matches, is_terminal)  // Some(Request::Check(Some(&["game.csa"])))
 //! ```
 #![tactic(auto)]
 

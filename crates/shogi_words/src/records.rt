@@ -2,7 +2,7 @@
 
 ghost use Rattle.std.specs.Prelude.{◌≡◌, IfOk, codes};
 ghost use Rattle.clap.specs.Words.{app_of, new_app};
-ghost use Rattle.shogi_words.specs.Options.{takes_file};
+ghost use Rattle.shogi_words.specs.Options.{takes_file, takes_files};
 
 use crate::words;
 use clap::Command;
@@ -10,6 +10,9 @@ use std::alloc::{AllocError, Global};
 
 /// The word of the command that checks a CSA record.
 pub const CHECK: &str = "check";
+
+/// The word of the command that writes the digests of CSA records.
+pub const DIGEST: &str = "digest";
 
 /// The word of the command that writes the canonical text of a CSA record.
 pub const NORMAL: &str = "normal";
@@ -25,20 +28,36 @@ pub const ENGINE: &str = "engine";
 
 const RECORD: &str = "The record; without it, or with -, standard input is read";
 
+const RECORDS: &str = "The records; without them, or for -, standard input is read";
+
 const LINE: &str = "The line; without it, or with -, standard input is read";
 
-/// `shogi check [FILE]`: whether a record is accepted, its number of moves, and the state of the
+/// `shogi check [FILE]..`: whether a record is accepted, its number of moves, and the state of the
 /// game after them.
 pub fn check<'a>(alloc: Global) -> Result<Command<'a>, AllocError>
     ensures name { IfOk result (λ c. (app_of c).top.name ≡ codes "check") }
-    ensures word { IfOk result (λ c. app_of c ≡ takes_file (codes "check")) }
+    ensures words { IfOk result (λ c. app_of c ≡ takes_files (codes "check")) }
 {
-    words::command(
+    words::command_of_many(
         alloc,
         CHECK,
-        "Checks a record: prints how many moves it has and how it stands",
+        "Checks records: prints how many moves each has, and the state of its game",
         "Example: shogi check game.csa",
-        RECORD,
+        RECORDS,
+    )
+}
+
+/// `shogi digest [FILE]..`: the SHA-256 of the canonical text of a record.
+pub fn digest<'a>(alloc: Global) -> Result<Command<'a>, AllocError>
+    ensures name { IfOk result (λ c. (app_of c).top.name ≡ codes "digest") }
+    ensures words { IfOk result (λ c. app_of c ≡ takes_files (codes "digest")) }
+{
+    words::command_of_many(
+        alloc,
+        DIGEST,
+        "Prints the SHA-256 of the canonical text of each record",
+        "Example: shogi digest one.csa other.csa",
+        RECORDS,
     )
 }
 

@@ -5,10 +5,12 @@ use crate::serve::Service;
 
 /// A command and what its words say. A FILE that is absent is None.
 #[derive(Clone, Copy, Debug)]
-pub enum Request<'a> {
-    /// `check`: whether the CSA record in FILE is accepted, its number of moves, and the state of
-    /// the game.
-    Check(Option<&'a str>),
+pub enum Request<'m, 'a> {
+    /// `check`: whether the CSA record in each FILE is accepted, its number of moves, and the state
+    /// of the game.
+    Check(Option<&'m [&'a str]>),
+    /// `digest`: the SHA-256 of the canonical text of the CSA record in each FILE.
+    Digest(Option<&'m [&'a str]>),
     /// `normal`: the canonical text of the CSA record in FILE.
     Normal(Option<&'a str>),
     /// `usi`: the USI position line of the CSA record in FILE.

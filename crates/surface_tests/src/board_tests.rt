@@ -1,6 +1,7 @@
 use crate::memory::{refuse_all, refuse_no_more};
 use shogi_board::{
-    Color, Hand, Kind, OutOfMemory, Piece, Position, Setup, SetupFault, Square, attacked, reaches,
+    Color, Danger, Hand, Kind, OutOfMemory, Packed, Piece, Position, Setup, SetupFault, Square,
+    attacked, attacked_from, attacker, reaches,
 };
 use std::cmp::Ordering;
 use std::process::Abort;
@@ -82,13 +83,41 @@ fn setups(rt: &impl Abort) -> Result<(), Fail> {
     Ok(())
 }
 
-// No call of `shogi_board` allocates.
+// What the rules ask of squares, kinds and positions.
+fn calls_for_rules(rt: &impl Abort) -> Result<(), Fail> {
+    assert!(rt; Color::Black.opponent() == Color::White);
+    assert!(rt; Kind::Pawn.is_hand_kind() && !Kind::Pawn.is_promoted());
+    assert!(rt; Kind::Bishop.promoted() == Some(Kind::Horse));
+    assert!(rt; Square::at_place(0) == square(1, 1)?);
+    assert!(rt; square(5, 5)?.lies_between(square(5, 1)?, square(5, 9)?));
+    let even = Position::even();
+    even.soundness();
+    let from: Option<Square> = attacker(&even, Color::Black, square(9, 4)?);
+    assert!(rt; from == Some(square(9, 3)?));
+    let attacks: bool = attacked_from(&even, Color::Black, square(9, 4)?, Danger::Anywhere);
+    assert!(rt; attacks);
+    Ok(())
+}
+
+// A position in a few numbers.
+fn packed_positions(rt: &impl Abort) {
+    let even = Position::even();
+    let packed: Packed = Packed::of(&even);
+    packed.soundness();
+    let copy = Packed::of(&packed.unpacked());
+    assert!(rt; packed.is_same(&copy) && packed.key() == copy.key());
+    assert!(rt; copy.unpacked() == even && copy.side() == Color::Black);
+}
+
+// No call of `shogi_board` allocates. `judge` and `after` make the calls that move a piece.
 #[test]
 fn needs_no_memory(rt: HostRuntime) -> Result<(), Fail> {
     refuse_all(&rt);
     squares_and_hands(&rt)?;
     positions(&rt)?;
     setups(&rt)?;
+    calls_for_rules(&rt)?;
+    packed_positions(&rt);
     refuse_no_more(&rt)
 }
 

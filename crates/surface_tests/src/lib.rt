@@ -6,6 +6,8 @@
 #[cfg(test)]
 mod board_tests;
 #[cfg(test)]
+mod law_tests;
+#[cfg(test)]
 mod memory;
 #[cfg(test)]
 mod record_tests;

@@ -4,7 +4,7 @@ use crate::memory::{refuse_all, refuse_no_more};
 use crate::rules_tests::pawn_move;
 use csa_record::{
     Failure, FlowFault, HeaderValue, Reading, Record, RecordReader, Refusal, Sink, Source, Why,
-    Writing, laws, normalise, read, read_from, read_pieces, write,
+    Writing, digest, normalise, read, read_from, read_pieces, write,
 };
 use csa_text::{Ending, Item, read_item, read_moment};
 use shogi_board::{Color, OutOfMemory, Position};
@@ -83,12 +83,6 @@ fn streams_of_nothing(rt: &(impl Abort + AllocGlobal)) {
     assert!(rt; reader.fed() == 0 && source.failures() == 0 && sink.failures() == 0);
 }
 
-fn laws_of_records() {
-    laws::told_once();
-    laws::canon_tells();
-    laws::canon_equal();
-}
-
 fn made_without_memory(
     rt: &(impl Abort + AllocGlobal + Print),
     record: &mut Record,
@@ -100,7 +94,6 @@ fn made_without_memory(
     has_titles(rt, record)?;
     has_moves(rt, record)?;
     streams_of_nothing(rt);
-    laws_of_records();
     refuse_no_more(rt)
 }
 
@@ -166,6 +159,15 @@ fn normalised(rt: HostRuntime) -> Result<(), Fail> {
     let written = normalise(rt.alloc(), &mut Reading::new(GIVEN), &mut sink);
     assert!(rt; written == Err(FlowFault::WriteFault) && sink.failures() == 1);
     assert!(rt; room.as_slice() == b"V2.2\nPI".as_slice());
+    Ok(())
+}
+
+// Two spellings of one game have one digest.
+#[test]
+fn digests(rt: HostRuntime) -> Result<(), Fail> {
+    let given: Result<[u8; 32], FlowFault> = digest(rt.alloc(), &mut Reading::new(GIVEN));
+    let canonical = digest(rt.alloc(), &mut Reading::new(TEXT))?;
+    assert!(rt; given == Ok(canonical));
     Ok(())
 }
 

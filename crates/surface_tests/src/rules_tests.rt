@@ -63,7 +63,7 @@ fn shows_a_line(rt: &impl Abort, line: &Line) -> Result<(), Fail> {
     let (start, now): (Position, Position) = (line.start(), line.now());
     assert!(rt; start == Position::even() && now.side() == Color::White);
     let verdict: Verdict = line.verdict();
-    assert!(rt; verdict == Verdict::Ongoing);
+    assert!(rt; verdict == Verdict::Ongoing && !line.is_over());
     Ok(())
 }
 

@@ -7,7 +7,7 @@ use csa_text::TextFault;
 use shogi_board::{Color, OutOfMemory};
 use shogi_session::{
     Bridge, ClientState, Config, EngineState, Event, Host, HostConfig, HostOut, Lines, MoveCause,
-    Out, Sample, SampleOut, SessionFault, Status, Waits, laws,
+    Out, Sample, SampleOut, SessionFault, Status, Waits,
 };
 use std::alloc::Global;
 use std::process::Abort;
@@ -46,14 +46,6 @@ fn has_begun(rt: &impl Abort, out: &Out) {
     assert!(rt; out.status == Status::Going);
 }
 
-fn laws_of_sessions() {
-    laws::sent_legal();
-    laws::sent_once();
-    laws::asked_right();
-    laws::host_game();
-    laws::both_ends();
-}
-
 fn made_without_memory(
     rt: &(impl Abort + AllocGlobal + Print),
     bridge: &mut Bridge,
@@ -65,7 +57,6 @@ fn made_without_memory(
     let out: Out = bridge.step(Event::Begin)?;
     refuse_all(rt);
     has_begun(rt, &out);
-    laws_of_sessions();
     refuse_no_more(rt)
 }
 

@@ -25,7 +25,7 @@ returns-in_err-replace g c = record {
       let s = c.args.bridge.now.state in
       let text = c.in-Some.text.items in
       let some = subst (λ o. MatchOption o (IsGameText s None) (λ t. IsGameText s (Some t.items))) c.in-Some.is c.in-Ok.ensures.game in
-      let gone = subst (λ x. g.P.Place.refused c.args.place.now x c.replace.new.self) c.as_slice.ensures.value c.in_err-replace.ensures.refused in
+      let gone = subst (λ x. g.P.Place.refused c.args.place.now x c.in_err-replace.field-0.0 c.replace.new.self) c.as_slice.ensures.value c.in_err-replace.ensures.refused in
       let p = err_from_is_err_and c.from_residual.result c.from_residual.ensures.1 in
       rw (p.1, p.2)
       (text_refused g.P.Place.took g.P.Place.refused s text c.args.played c.args.place.now c.replace.new.self c.in_err-replace.field-0.0 some gone c.in_err-replace.ensures.faults);

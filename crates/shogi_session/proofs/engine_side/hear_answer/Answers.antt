@@ -11,6 +11,6 @@ returns-in_default-clause-answer c = λ d.
 
 pub returns-clause-answer : goal.returns-clause-answer
 returns-clause-answer c = λ d.
-    answered_play d _ c.args.play.now c.args.line.now c.in-Some.best c.in_ok-out.out c.now.result c.answer_for-answer.result c.slip_with-play.result c.requires.state c.requires.stage
-    (c.now.ensures.value ∙ ap now_of c.line.ensures.value) c.in-Some.ensures c.answer_for-answer.ensures c.slip_with-play.ensures
+    answered_play d _ c.args.play.now c.args.line.now c.in-Some.best c.in_ok-out.out c.now.result c.answer_for-answer.result c.has_slipped-play.result c.requires.state c.requires.stage
+    (c.now.ensures.value ∙ ap now_of c.line.ensures.value) c.in-Some.ensures c.answer_for-answer.ensures c.has_slipped-play.ensures.slips c.has_slipped-play.ensures.answers
     c.in_ok-out.ensures.engine c.in_ok-out.ensures.server c.in_ok-out.ensures.status

@@ -1,7 +1,7 @@
 use Rattle.std.proofs.Common.{◌≡◌, ℕ, ◌<◌, get_or}
 use Rattle.shogi_board.specs.Attackers.{AttackAcross}
 use Rattle.shogi_board.specs.Moves.{steps, turned_for}
-use Rattle.shogi_board.specs.declared.direction.Direction.{Direction}
+use Rattle.shogi_board.specs.Squares.{Direction}
 use Rattle.shogi_board.specs.declared.kind.Kind.TheVariants.{Knight}
 use Rattle.shogi_board.proofs.board.Board.attacker_by_jump.Given as goal
 

@@ -14,17 +14,17 @@ returns-in_default c =
 
 pub returns-then-goes : goal.returns-then-goes
 returns-then-goes c =
-    let lies : Lies c.args.from c.args.to c.in-Some.direction c.in-Some.distance = c.in-Some.ensures in
-    let goes : Goes c.args.piece.kind (turned_for c.args.piece.color c.in-Some.direction) c.in-Some.distance = rw c.turned_for.ensures at c.if-goes.ensures.0 refl in (
-      λ yes. goes-moves c.args.self.now c.args.piece c.args.from c.args.to c.in-Some.direction c.in-Some.distance lies (c.is_clear.ensures.0 yes) goes,
-      λ moves. c.is_clear.ensures.1 (moves-goes c.args.self.now c.args.piece c.args.from c.args.to c.in-Some.direction c.in-Some.distance lies moves).1,
+    let lies : Lies c.args.from c.args.to c.in-Some.found.direction c.in-Some.found.distance = c.in-Some.ensures in
+    let goes : Goes c.args.piece.kind (turned_for c.args.piece.color c.in-Some.found.direction) c.in-Some.found.distance = rw c.turned_for-turned.ensures at c.if-goes.ensures.0 refl in (
+      λ yes. goes-moves c.args.self.now c.args.piece c.args.from c.args.to c.in-Some.found.direction c.in-Some.found.distance lies (c.is_clear.ensures.0 yes) goes,
+      λ moves. c.is_clear.ensures.1 (moves-goes c.args.self.now c.args.piece c.args.from c.args.to c.in-Some.found.direction c.in-Some.found.distance lies moves).1,
     )
 
 pub returns-else-goes : goal.returns-else-goes
 returns-else-goes c =
-    let lies : Lies c.args.from c.args.to c.in-Some.direction c.in-Some.distance = c.in-Some.ensures in (
+    let lies : Lies c.args.from c.args.to c.in-Some.found.direction c.in-Some.found.distance = c.in-Some.ensures in (
       λ yes. let no = c.if-goes.false in cc,
       λ moves.
-          let goes = (moves-goes c.args.self.now c.args.piece c.args.from c.args.to c.in-Some.direction c.in-Some.distance lies moves).0 in
-          c.goes.ensures.1 (rw c.turned_for.ensures goes),
+          let goes = (moves-goes c.args.self.now c.args.piece c.args.from c.args.to c.in-Some.found.direction c.in-Some.found.distance lies moves).0 in
+          c.goes.ensures.1 (rw c.turned_for-turned.ensures goes),
     )

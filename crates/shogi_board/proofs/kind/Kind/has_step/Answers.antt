@@ -1,5 +1,4 @@
-use Rattle.std.proofs.Common.{◌≡◌, ◌⊎◌, inl, inr, ◌==◌, ◌||◌, true, false, not, nat_eq, refl, ap}
-use Rattle.std.proofs.lemmas.Bool.{ne_eqb}
+use Rattle.std.proofs.Common.{◌≡◌, ◌⊎◌, inl, inr, ◌==◌, ◌||◌, true, false, not, refl, sym, ap, ◌∙◌}
 use Rattle.shogi_board.specs.Moves.{diagonals, orthogonals, gold, steps, to}
 use Rattle.shogi_board.specs.Directions.{is_diagonal}
 use Rattle.shogi_board.specs.declared.kind.Kind.{Kind}
@@ -14,28 +13,28 @@ like-gold k (inr (inr (inl e))) = rw e refl
 like-gold k (inr (inr (inr (inl e)))) = rw e refl
 like-gold k (inr (inr (inr (inr e)))) = rw e refl
 
-pub returns-then-direction-eq1 : goal.returns-then-direction-eq1
-returns-then-direction-eq1 c =
-    let ranks : c.args.direction.ranks ≡ 1 = c.if-direction-eq1.true in
-    let is : nat_eq c.args.direction.ranks 1 ≡ (c.args.direction.ranks == 1 || is_diagonal c.args.direction) = rw ranks refl in
+pub returns-then-leads_forward : goal.returns-then-leads_forward
+returns-then-leads_forward c =
+    let ranks : (c.args.direction.ranks == 1) ≡ true = sym c.leads_forward.ensures ∙ c.if-leads_forward.true in
+    let is : c.leads_forward.result ≡ (c.args.direction.ranks == 1 || is_diagonal c.args.direction) = rw ranks c.if-leads_forward.true in
     rw c.in-Silver.is (member (λ f r. r == 1 || is_diagonal (to f r)) (steps Silver) c.args.direction _ (refl, refl, refl, refl, refl, refl, refl, refl) c.requires is)
 
-pub returns-else-direction-eq1 : goal.returns-else-direction-eq1
-returns-else-direction-eq1 c =
-    let ranks : (c.args.direction.ranks == 1) ≡ false = ne_eqb _ _ c.if-direction-eq1.false in
+pub returns-else-leads_forward : goal.returns-else-leads_forward
+returns-else-leads_forward c =
+    let ranks : (c.args.direction.ranks == 1) ≡ false = sym c.leads_forward.ensures ∙ c.if-leads_forward.false in
     let is : c.is_diagonal.result ≡ (c.args.direction.ranks == 1 || is_diagonal c.args.direction) = rw ranks c.is_diagonal.ensures in
     rw c.in-Silver.is (member (λ f r. r == 1 || is_diagonal (to f r)) (steps Silver) c.args.direction _ (refl, refl, refl, refl, refl, refl, refl, refl) c.requires is)
 
-pub returns-then-direction-eq1-2 : goal.returns-then-direction-eq1-2
-returns-then-direction-eq1-2 c =
-    let ranks : c.args.direction.ranks ≡ 1 = c.if-direction-eq1-2.true in
-    let is : nat_eq c.args.direction.ranks 1 ≡ (c.args.direction.ranks == 1 || not (is_diagonal c.args.direction)) = rw ranks refl in
+pub returns-then-leads_forward-2 : goal.returns-then-leads_forward-2
+returns-then-leads_forward-2 c =
+    let ranks : (c.args.direction.ranks == 1) ≡ true = sym c.leads_forward-in-Gold.ensures ∙ c.if-leads_forward-2.true in
+    let is : c.leads_forward-in-Gold.result ≡ (c.args.direction.ranks == 1 || not (is_diagonal c.args.direction)) = rw ranks c.if-leads_forward-2.true in
     rw (like-gold c.args.self c.in-Gold.is) (member (λ f r. r == 1 || not (is_diagonal (to f r))) gold c.args.direction _ (refl, refl, refl, refl, refl, refl, refl, refl) c.requires is)
 
-pub returns-else-direction-eq1-2 : goal.returns-else-direction-eq1-2
-returns-else-direction-eq1-2 c =
-    let ranks : (c.args.direction.ranks == 1) ≡ false = ne_eqb _ _ c.if-direction-eq1-2.false in
-    let is : not c.is_diagonal-else-direction-eq1-2.result ≡ (c.args.direction.ranks == 1 || not (is_diagonal c.args.direction)) = rw ranks (ap not c.is_diagonal-else-direction-eq1-2.ensures) in
+pub returns-else-leads_forward-2 : goal.returns-else-leads_forward-2
+returns-else-leads_forward-2 c =
+    let ranks : (c.args.direction.ranks == 1) ≡ false = sym c.leads_forward-in-Gold.ensures ∙ c.if-leads_forward-2.false in
+    let is : not c.is_diagonal-else-leads_forward-2.result ≡ (c.args.direction.ranks == 1 || not (is_diagonal c.args.direction)) = rw ranks (ap not c.is_diagonal-else-leads_forward-2.ensures) in
     rw (like-gold c.args.self c.in-Gold.is) (member (λ f r. r == 1 || not (is_diagonal (to f r))) gold c.args.direction _ (refl, refl, refl, refl, refl, refl, refl, refl) c.requires is)
 
 pub returns-in-Dragon : goal.returns-in-Dragon

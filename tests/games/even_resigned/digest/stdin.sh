@@ -1,0 +1,2 @@
+# Prints the game's record.
+cat "${0%/*}/../record.csa"
