@@ -33,8 +33,10 @@ pub fn requested<'m, 'a>(
     request_of(matches, is_terminal).ok_or(Stop::UnknownCommand)
 }
 
-/// Does what is asked for. Refuses as the command does. `is_terminal` says whether standard error is
-/// a terminal: then the files are counted there also if all are accepted.
+/// Does what is asked for. Refuses as the command does.
+///
+/// `is_terminal` says whether standard error is a terminal. Several files are then counted there
+/// even if all are accepted.
 pub fn meet<
     R: Files
         + Input
