@@ -80,9 +80,9 @@ body_fits : (test : Saying → Bool) (ss : List Saying) → AllByRecursion FitsI
 body_fits test [] fit = tt
 body_fits test (s ∷ ss) fit = kept_fits (test s) s (filter test ss) fit.0 (body_fits test ss fit.1)
 
-behind_fits : (ss ts : List Saying) → AllByRecursion FitsIn (ss ++ ts) → AllByRecursion FitsIn ts
-behind_fits [] ts fit = fit
-behind_fits (s ∷ ss) ts fit = behind_fits ss ts fit.1
+after_fits : (ss ts : List Saying) → AllByRecursion FitsIn (ss ++ ts) → AllByRecursion FitsIn ts
+after_fits [] ts fit = fit
+after_fits (s ∷ ss) ts fit = after_fits ss ts fit.1
 
 no_ending : (o : Option Ended) → AllByRecursion FitsIn (ending_items o) → o ≡ None
 no_ending None fit = refl
@@ -92,9 +92,9 @@ no_ending (Some e) fit = absurd (not_so fit.0)
 pub offer_plain : (text : List ℕ) (g : Game) → TellsPosition text g → (g.ending ≡ None) × (g.headers ≡ [])
 offer_plain text g p =
     let body = subst (AllByRecursion FitsIn) p.says.in_order (body_fits is_body p.sayings p.no_others) in
-    let played : AllByRecursion FitsIn (played_items g) = (behind_fits (positions p.sayings) (turn g.start.side ∷ played_items g) body).1 in
+    let played : AllByRecursion FitsIn (played_items g) = (after_fits (positions p.sayings) (turn g.start.side ∷ played_items g) body).1 in
     let none : headers p.sayings ≡ [] = no_headers p.sayings p.no_others in
-    (no_ending g.ending (behind_fits (move_items g.start.side g.moves) (ending_items g.ending) played), subst (λ hs. AreEntries hs g.headers) none p.says.headers)
+    (no_ending g.ending (after_fits (move_items g.start.side g.moves) (ending_items g.ending) played), subst (λ hs. AreEntries hs g.headers) none p.says.headers)
 
 pub offer_legal : (text : List ℕ) (g : Game) → TellsPosition text g → IsGame g.start (map move_of g.moves)
 offer_legal text g p = p.says.game.line

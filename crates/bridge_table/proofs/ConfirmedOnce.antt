@@ -51,7 +51,7 @@ splits_once log o p ms ns a b =
 
 pub confirmed_once : (log : List Step) (o p : Offer) (ms ns : List Moved) → Confirmed log o ms → Confirmed log p ns → (o ≡ p) × (ms ≡ ns)
 confirmed_once log o p ms ns a b = (
-  summary_once (summary_lines log) o p a.told b.told,
+  summary_once (summary_lines log) o p a.stated b.stated,
   moved_once (filter is_move_line b.taken) ms ns (subst (λ ls. AllZip IsMoved (filter is_move_line ls) ms) (splits_once log o p ms ns a b).0 a.spelt) b.spelt,
 )
 

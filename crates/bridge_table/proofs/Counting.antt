@@ -9,24 +9,24 @@ use Rattle.std.proofs.lemmas.Bool.Decides.{Decides-eqb}
 use Rattle.std.proofs.lemmas.Grind.{flat_map-append}
 use Rattle.std.proofs.lemmas.List.Elements.{filter_map-append}
 use Rattle.std.proofs.lemmas.Slice.Eq.{bytes_eq-Decides, slice_eq-Decides}
-use Rattle.bridge_table.specs.Hearing.{one_more, extended, value_or, heard_after}
-use Rattle.bridge_table.specs.Summary.{PositionBlocks, none, one, several, Heard, nothing_heard, Block, Part, line, block, begin_line, end_line, begun_lines, part_lines, IsBlock, IsPart, value_of, last_text, last_value, block_of, is_position, position_text, counted, title_of, CountsAs}
+use Rattle.bridge_table.specs.Hearing.{one_more, extended, value_or, content_after}
+use Rattle.bridge_table.specs.Summary.{PositionBlocks, none, one, several, SummaryContent, no_content, Block, Part, line, block, begin_line, end_line, begun_lines, part_lines, IsBlock, IsPart, value_of, last_text, last_value, block_of, is_position, position_text, counted, title_of, CountsAs}
 use Rattle.session_lines.specs.Texts.{ended_line, text_of}
 
 abbrev Lines : Type 0
 Lines = List (List ℕ)
 
-abbrev heard : List ℕ → List ℕ → List ℕ → PositionBlocks → Option (List ℕ) → Heard
-heard b w t p o = record { black = b; white = w; turn = t; positions = p; begun = o }
+abbrev from_server : List ℕ → List ℕ → List ℕ → PositionBlocks → Option (List ℕ) → SummaryContent
+from_server b w t p o = record { black = b; white = w; turn = t; positions = p; begun = o }
 
 -- all lines, one after another
-abbrev pub heard_over : Heard → Lines → Heard
-heard_over h [] = h
-heard_over h (x ∷ xs) = heard_over (heard_after h x) xs
+abbrev pub received_over : SummaryContent → Lines → SummaryContent
+received_over h [] = h
+received_over h (x ∷ xs) = received_over (content_after h x) xs
 
-pub over-append : (h : Heard) (xs ys : Lines) → heard_over h (xs ++ ys) ≡ heard_over (heard_over h xs) ys
+pub over-append : (h : SummaryContent) (xs ys : Lines) → received_over h (xs ++ ys) ≡ received_over (received_over h xs) ys
 over-append h [] ys = refl
-over-append h (x ∷ xs) ys = over-append (heard_after h x) xs ys
+over-append h (x ∷ xs) ys = over-append (content_after h x) xs ys
 
 not_true : (b : Bool) → (b ≡ true → ⊥) → b ≡ false
 not_true true h = absurd (h refl)
@@ -49,7 +49,7 @@ in_lines false p xs = p
 
 inner : (b w t : List ℕ) (p : PositionBlocks) (title : List ℕ) (v : Bool) (xs : Lines) → is_position title ≡ v
     → AllByRecursion (λ text. text ≢ end_line title) xs
-    → heard_over (heard b w t p (Some title)) xs ≡ heard b w t (in_lines v p xs) (Some title)
+    → received_over (from_server b w t p (Some title)) xs ≡ from_server b w t (in_lines v p xs) (Some title)
 unfolding extend_all in_lines
 inner b w t p title true [] e f = refl
 inner b w t p title false [] e f = refl
@@ -85,12 +85,12 @@ block_texts several b true e = rw e (extend_several b.lines)
 block_texts p b false e = rw e refl
 
 begun : (b w t : List ℕ) (p : PositionBlocks) (k : Block) → IsBlock k
-    → heard_over (heard b w t p None) (begun_lines k) ≡ heard b w t (with_text (position_text k) p) (Some k.title)
+    → received_over (from_server b w t p None) (begun_lines k) ≡ from_server b w t (with_text (position_text k) p) (Some k.title)
 begun b w t p k f =
     inner b w t (if is_position k.title then one_more p else p) k.title (is_position k.title) k.lines refl f
-    ∙ ap (λ q. heard b w t q (Some k.title)) (block_texts p k (is_position k.title) refl)
+    ∙ ap (λ q. from_server b w t q (Some k.title)) (block_texts p k (is_position k.title) refl)
 
-ends : (b w t : List ℕ) (p : PositionBlocks) (title : List ℕ) → heard_after (heard b w t p (Some title)) (end_line title) ≡ heard b w t p None
+ends : (b w t : List ℕ) (p : PositionBlocks) (title : List ℕ) → content_after (from_server b w t p (Some title)) (end_line title) ≡ from_server b w t p None
 ends b w t p title = rw (same_line (end_line title)) refl
 
 -- 2. all parts
@@ -142,33 +142,33 @@ add_more None p [] = refl
 add_more (Some t) p [] = refl
 add_more o p (u ∷ ts) = add_more o (added p u) ts
 
-same : (b c w x t u : List ℕ) (p q : PositionBlocks) (o : Option (List ℕ)) → b ≡ c → w ≡ x → t ≡ u → p ≡ q → heard b w t p o ≡ heard c x u q o
+same : (b c w x t u : List ℕ) (p q : PositionBlocks) (o : Option (List ℕ)) → b ≡ c → w ≡ x → t ≡ u → p ≡ q → from_server b w t p o ≡ from_server c x u q o
 same b c w x t u p q o e f g h = rw (e, f, g, h) refl
 
 plain : (b w t : List ℕ) (p : PositionBlocks) (text : List ℕ) → starts_with nat_eq text (codes "BEGIN ") ≡ false
-    → heard_after (heard b w t p None) text ≡ heard (value_or (codes "Name+:") b text) (value_or (codes "Name-:") w text) (value_or (codes "Your_Turn:") t text) p None
+    → content_after (from_server b w t p None) text ≡ from_server (value_or (codes "Name+:") b text) (value_or (codes "Name-:") w text) (value_or (codes "Your_Turn:") t text) p None
 plain b w t p text e = rw e refl
 
 abbrev texts_of : List Part → Lines
 texts_of parts = filter_map position_text (filter_map block_of parts)
 
 over_parts : (b w t : List ℕ) (p : PositionBlocks) (parts : List Part) → AllByRecursion IsPart parts
-    → heard_over (heard b w t p None) (flat_map part_lines parts)
-    ≡ heard (last_from b (filter_map (value_of (codes "Name+:")) parts)) (last_from w (filter_map (value_of (codes "Name-:")) parts))
+    → received_over (from_server b w t p None) (flat_map part_lines parts)
+    ≡ from_server (last_from b (filter_map (value_of (codes "Name+:")) parts)) (last_from w (filter_map (value_of (codes "Name-:")) parts))
     (last_from t (filter_map (value_of (codes "Your_Turn:")) parts)) (add_all p (texts_of parts)) None
 unfolding last_from add_all
 over_parts b w t p [] f = refl
 over_parts b w t p (line text ∷ ps) f =
-    ap (λ h. heard_over h (flat_map part_lines ps)) (plain b w t p text f.0)
+    ap (λ h. received_over h (flat_map part_lines ps)) (plain b w t p text f.0)
     ∙ (over_parts (value_or (codes "Name+:") b text) (value_or (codes "Name-:") w text) (value_or (codes "Your_Turn:") t text) p ps f.1
     ∙ same _ _ _ _ _ _ _ _ None (value_first (codes "Name+:") b text (filter_map (value_of (codes "Name+:")) ps))
     (value_first (codes "Name-:") w text (filter_map (value_of (codes "Name-:")) ps))
     (value_first (codes "Your_Turn:") t text (filter_map (value_of (codes "Your_Turn:")) ps)) refl)
 over_parts b w t p (block k ∷ ps) f =
-    over-append (heard b w t p None) (begun_lines k ++ end_line k.title ∷ []) (flat_map part_lines ps)
-    ∙ (ap (λ h. heard_over h (flat_map part_lines ps))
-    (over-append (heard b w t p None) (begun_lines k) (end_line k.title ∷ [])
-    ∙ (ap (λ h. heard_after h (end_line k.title)) (begun b w t p k f.0) ∙ ends b w t (with_text (position_text k) p) k.title))
+    over-append (from_server b w t p None) (begun_lines k ++ end_line k.title ∷ []) (flat_map part_lines ps)
+    ∙ (ap (λ h. received_over h (flat_map part_lines ps))
+    (over-append (from_server b w t p None) (begun_lines k) (end_line k.title ∷ [])
+    ∙ (ap (λ h. content_after h (end_line k.title)) (begun b w t p k f.0) ∙ ends b w t (with_text (position_text k) p) k.title))
     ∙ (over_parts b w t (with_text (position_text k) p) ps f.1
     ∙ same _ _ _ _ _ _ _ _ None refl refl refl (add_first (position_text k) p (texts_of ps))))
 
@@ -178,14 +178,14 @@ lines_of parts last = flat_map part_lines parts ++ flat_map begun_lines (option_
 abbrev all_texts : List Part → Option Block → Lines
 all_texts parts last = filter_map position_text (filter_map block_of parts ++ option_to_list last)
 
-abbrev told : List Part → Option Block → Heard
-told parts last =
-    heard (last_value (codes "Name+:") parts) (last_value (codes "Name-:") parts) (last_value (codes "Your_Turn:") parts)
+abbrev stated : List Part → Option Block → SummaryContent
+stated parts last =
+    from_server (last_value (codes "Name+:") parts) (last_value (codes "Name-:") parts) (last_value (codes "Your_Turn:") parts)
     (counted (all_texts parts last)) (option_map title_of last)
 
 first_parts : (parts : List Part) → AllByRecursion IsPart parts
-    → heard_over nothing_heard (flat_map part_lines parts)
-    ≡ heard (last_value (codes "Name+:") parts) (last_value (codes "Name-:") parts) (last_value (codes "Your_Turn:") parts) (add_all none (texts_of parts)) None
+    → received_over no_content (flat_map part_lines parts)
+    ≡ from_server (last_value (codes "Name+:") parts) (last_value (codes "Name-:") parts) (last_value (codes "Your_Turn:") parts) (add_all none (texts_of parts)) None
 first_parts parts f =
     over_parts [] [] [] none parts f
     ∙ same _ _ _ _ _ _ _ _ None (last_is (filter_map (value_of (codes "Name+:")) parts)) (last_is (filter_map (value_of (codes "Name-:")) parts))
@@ -194,51 +194,51 @@ first_parts parts f =
 all_texts_of : (parts : List Part) (last : List Block) → filter_map position_text (filter_map block_of parts ++ last) ≡ texts_of parts ++ filter_map position_text last
 all_texts_of parts last = filter_map-append position_text (filter_map block_of parts) last
 
-over_all : (parts : List Part) (last : Option Block) → AllByRecursion IsPart parts → IfSome last IsBlock → heard_over nothing_heard (lines_of parts last) ≡ told parts last
+over_all : (parts : List Part) (last : Option Block) → AllByRecursion IsPart parts → IfSome last IsBlock → received_over no_content (lines_of parts last) ≡ stated parts last
 over_all parts None f g =
-    ap (heard_over nothing_heard) (append-nil (flat_map part_lines parts))
+    ap (received_over no_content) (append-nil (flat_map part_lines parts))
     ∙ (first_parts parts f
     ∙ same _ _ _ _ _ _ _ _ None refl refl refl
     (add_is (texts_of parts) ∙ ap counted (sym (all_texts_of parts [] ∙ append-nil (texts_of parts)))))
 over_all parts (Some k) f g =
-    ap (λ ls. heard_over nothing_heard (flat_map part_lines parts ++ ls)) (append-nil (begun_lines k))
-    ∙ (over-append nothing_heard (flat_map part_lines parts) (begun_lines k)
-    ∙ (ap (λ h. heard_over h (begun_lines k)) (first_parts parts f)
+    ap (λ ls. received_over no_content (flat_map part_lines parts ++ ls)) (append-nil (begun_lines k))
+    ∙ (over-append no_content (flat_map part_lines parts) (begun_lines k)
+    ∙ (ap (λ h. received_over h (begun_lines k)) (first_parts parts f)
     ∙ (begun (last_value (codes "Name+:") parts) (last_value (codes "Name-:") parts) (last_value (codes "Your_Turn:") parts) (add_all none (texts_of parts)) k g
     ∙ same _ _ _ _ _ _ _ _ (Some k.title) refl refl refl
     (add_more (position_text k) none (texts_of parts)
     ∙ (add_is (texts_of parts ++ cons_option (position_text k) []) ∙ ap counted (sym (all_texts_of parts (k ∷ []))))))))
 
 -- 3. the relation and the function
-fields : (h : Heard) (parts : List Part) (last : Option Block) → h.black ≡ last_value (codes "Name+:") parts → h.white ≡ last_value (codes "Name-:") parts
-    → h.turn ≡ last_value (codes "Your_Turn:") parts → h.positions ≡ counted (all_texts parts last) → h.begun ≡ option_map title_of last → h ≡ told parts last
+fields : (h : SummaryContent) (parts : List Part) (last : Option Block) → h.black ≡ last_value (codes "Name+:") parts → h.white ≡ last_value (codes "Name-:") parts
+    → h.turn ≡ last_value (codes "Your_Turn:") parts → h.positions ≡ counted (all_texts parts last) → h.begun ≡ option_map title_of last → h ≡ stated parts last
 fields h parts last a b c d e =
-    let same_begun : h ≡ heard h.black h.white h.turn h.positions (option_map title_of last) = ap (λ (o : Option (List ℕ)). record h { begun = o }) e in
+    let same_begun : h ≡ from_server h.black h.white h.turn h.positions (option_map title_of last) = ap (λ (o : Option (List ℕ)). record h { begun = o }) e in
     same_begun ∙ same _ _ _ _ _ _ _ _ (option_map title_of last) a b c d
 
-pub counts_is : (lines : Lines) (h : Heard) → CountsAs lines h → h ≡ heard_over nothing_heard lines
+pub counts_is : (lines : Lines) (h : SummaryContent) → CountsAs lines h → h ≡ received_over no_content lines
 counts_is lines h c =
     fields h c.parts c.begun c.black c.white c.turn c.positions c.title
-    ∙ (sym (over_all c.parts c.begun c.fit c.begun_fits) ∙ ap (heard_over nothing_heard) (sym c.whole))
+    ∙ (sym (over_all c.parts c.begun c.fit c.begun_fits) ∙ ap (received_over no_content) (sym c.whole))
 
 counts_of : (lines : Lines) (parts : List Part) (last : Option Block) → lines ≡ lines_of parts last → AllByRecursion IsPart parts → IfSome last IsBlock
-    → CountsAs lines (heard_over nothing_heard lines)
+    → CountsAs lines (received_over no_content lines)
 counts_of lines parts last e f g =
-    let all = ap (heard_over nothing_heard) e ∙ over_all parts last f g in
+    let all = ap (received_over no_content) e ∙ over_all parts last f g in
     record {
       parts = parts;
       begun = last;
       whole = e;
       fit = f;
       begun_fits = g;
-      black = ap (λ (h : Heard). h.black) all;
-      white = ap (λ (h : Heard). h.white) all;
-      turn = ap (λ (h : Heard). h.turn) all;
-      positions = ap (λ (h : Heard). h.positions) all;
-      title = ap (λ (h : Heard). h.begun) all;
+      black = ap (λ (h : SummaryContent). h.black) all;
+      white = ap (λ (h : SummaryContent). h.white) all;
+      turn = ap (λ (h : SummaryContent). h.turn) all;
+      positions = ap (λ (h : SummaryContent). h.positions) all;
+      title = ap (λ (h : SummaryContent). h.begun) all;
     }
 
-pub counts_first : CountsAs [] nothing_heard
+pub counts_first : CountsAs [] no_content
 counts_first = counts_of [] [] None refl tt tt
 
 -- 4. one line more
@@ -255,7 +255,7 @@ begins x e =
     sym (take-append-drop 6 x) ∙ ap (λ l. l ++ drop 6 x) (sym front)
 
 abbrev Counted : Lines → Type 0
-Counted lines = CountsAs lines (heard_over nothing_heard lines)
+Counted lines = CountsAs lines (received_over no_content lines)
 
 outside_more : (parts : List Part) (x : List ℕ) (v : Bool) → starts_with nat_eq x (codes "BEGIN ") ≡ v → AllByRecursion IsPart parts → Counted (lines_of parts None ++ x ∷ [])
 outside_more parts x true e f =
@@ -289,14 +289,14 @@ more_of : (parts : List Part) (last : Option Block) (x : List ℕ) → AllByRecu
 more_of parts None x f g = outside_more parts x (starts_with nat_eq x (codes "BEGIN ")) refl f
 more_of parts (Some k) x f g = within_more parts k x (bytes_eq x (end_line k.title)) refl f g
 
-over_next : (lines : Lines) (x : List ℕ) (h : Heard) → CountsAs lines h → heard_over nothing_heard (lines ++ x ∷ []) ≡ heard_after h x
-over_next lines x h c = over-append nothing_heard lines (x ∷ []) ∙ ap (λ k. heard_after k x) (sym (counts_is lines h c))
+over_next : (lines : Lines) (x : List ℕ) (h : SummaryContent) → CountsAs lines h → received_over no_content (lines ++ x ∷ []) ≡ content_after h x
+over_next lines x h c = over-append no_content lines (x ∷ []) ∙ ap (λ k. content_after k x) (sym (counts_is lines h c))
 
-pub counts_more : (lines : Lines) (x : List ℕ) (h : Heard) → CountsAs lines h → CountsAs (lines ++ x ∷ []) (heard_after h x)
+pub counts_more : (lines : Lines) (x : List ℕ) (h : SummaryContent) → CountsAs lines h → CountsAs (lines ++ x ∷ []) (content_after h x)
 counts_more lines x h c =
     let all : Counted (lines ++ x ∷ []) = subst (λ ls. Counted (ls ++ x ∷ [])) (sym c.whole) (more_of c.parts c.begun x c.fit c.begun_fits) in
     subst (CountsAs (lines ++ x ∷ [])) (over_next lines x h c) all
 
-pub counts_next : (lines : Lines) (x : List ℕ) (h new : Heard) → CountsAs lines h → (CountsAs (lines ++ x ∷ []) new ↔ (new ≡ heard_after h x))
+pub counts_next : (lines : Lines) (x : List ℕ) (h new : SummaryContent) → CountsAs lines h → (CountsAs (lines ++ x ∷ []) new ↔ (new ≡ content_after h x))
 counts_next lines x h new c =
     (λ d. counts_is (lines ++ x ∷ []) new d ∙ over_next lines x h c, λ e. rw e (counts_more lines x h c))

@@ -40,22 +40,22 @@ at_ends c s e out t end r =
       | row.move_refused p l cause a b d f o z ↦ o
       | row.move_unsent p l color m a b d f h o z ↦ o
       | row.move_confirmed p l color m asked now a b d f h k o z ↦ other e _ out end b refl
-      | row.ending_told p l kept a b d f o z ↦ o
-      | row.reason_told g finish l a b d f o z ↦ o
-      | row.result_told g finish l result a b d o z ↦ other e _ out end b refl
+      | row.ending_stated p l kept a b d f o z ↦ o
+      | row.reason_stated g finish l a b d f o z ↦ o
+      | row.result_stated g finish l result a b d o z ↦ other e _ out end b refl
       | row.closes g finish result a b o z ↦ o
       | row.engine_gone a b o z ↦ o
       | row.server_gone a b d o z ↦ o
       | row.line_too_long a o z ↦ o
     ]
 
-ends_told : (e : Event) → (e ≡ engine_end) ⊎ (e ≡ server_end) → is_end e ≡ true
-ends_told e (inl h) = ap is_end h
-ends_told e (inr h) = ap is_end h
+ends_stated : (e : Event) → (e ≡ engine_end) ⊎ (e ≡ server_end) → is_end e ≡ true
+ends_stated e (inl h) = ap is_end h
+ends_stated e (inr h) = ap is_end h
 
 pub end_lines : (c : Config) (s t : State) (e : Event) (out : Out) → Row c s e out t → (e ≡ engine_end) ⊎ (e ≡ server_end) → out ≡ no_lines
 end_lines c s t e out r h =
     elim r [
-      | in_table b ↦ at_ends c s e out t (ends_told e h) b.1
+      | in_table b ↦ at_ends c s e out t (ends_stated e h) b.1
       | unnamed none o z ↦ o
     ]

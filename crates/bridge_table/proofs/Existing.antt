@@ -25,9 +25,9 @@ use Rattle.csa_text.specs.declared.fault.TextFault.{TextFault}
 use Rattle.csa_text.specs.declared.fault.TextFault.TheVariants.{StatementTooLong, Unknown}
 use Rattle.record_game.specs.Game.{Timed}
 use Rattle.record_game.specs.Tells.{IsSpelt}
-use Rattle.usi_text.proofs.Games.{text_more, behind_told}
+use Rattle.usi_text.proofs.Games.{text_more, after_stated}
 use Rattle.usi_text.specs.Letters.{square_text, letter}
-use Rattle.usi_text.specs.LineText.{StartText, MovesText, BehindStart, LineText}
+use Rattle.usi_text.specs.LineText.{StartText, MovesText, AfterStart, LineText}
 use Rattle.usi_text.specs.Moves.{UsiMove}
 use Rattle.usi_text.specs.SfenText.{sfen_text}
 use Rattle.session_lines.specs.MoveLines.{is_move_line}
@@ -54,9 +54,9 @@ some_moves start moves (played before m game may) =
     let word = legal_word (position_after start before) m may.legal in
     (front.0 ++ 32 ∷ word.0, text_more start before m front.0 word.0 front.1 word.1)
 
-some_behind : (start : Placed) (moves : List Move) (text : List ℕ) → MovesText start moves text → (rest : List ℕ) × BehindStart start moves rest
-some_behind start [] text h = ([], refl)
-some_behind start (m ∷ ms) text h = (codes " moves" ++ text, behind_told start (m ∷ ms) text (λ e. let f : length (m ∷ ms) ≡ 0 = e in omega (arith, f)) h)
+some_after : (start : Placed) (moves : List Move) (text : List ℕ) → MovesText start moves text → (rest : List ℕ) × AfterStart start moves rest
+some_after start [] text h = ([], refl)
+some_after start (m ∷ ms) text h = (codes " moves" ++ text, after_stated start (m ∷ ms) text (λ e. let f : length (m ∷ ms) ≡ 0 = e in omega (arith, f)) h)
 
 start_by : (p : Placed) (v : Bool) → same_position p even_start ≡ v → (text : List ℕ) × StartText p text
 start_by p true e = (codes "startpos", inl ((position-same p even_start).0 e, refl))
@@ -67,7 +67,7 @@ pub some_line : (start : Placed) (moves : List Move) → IsGame start moves → 
 some_line start moves game =
     let front = start_by start (same_position start even_start) refl in
     let text = some_moves start moves game in
-    let rest = some_behind start moves text.0 text.1 in
+    let rest = some_after start moves text.0 text.1 in
     (codes "position " ++ (front.0 ++ rest.0), (front.0, rest.0, refl, front.1, rest.1))
 
 -- 2. a line that begins with `+` or `-` has a statement
@@ -179,5 +179,5 @@ by_units l (u ∷ us) sign cut no_fault no_move =
     ]
 
 -- there is no line that begins with `+` or `-`, has no fault and spells no move
-pub fault_or_told : (l : List ℕ) → is_move_line l ≡ true → ((f : TextFault) → FirstTextFault l f → ⊥) → ((color : Color) (m : Timed) → TellsTimed l color m → ⊥) → ⊥
-fault_or_told l sign no_fault no_move = let all = cut_found l in by_units l all.0 sign all.1 no_fault no_move
+pub fault_or_stated : (l : List ℕ) → is_move_line l ≡ true → ((f : TextFault) → FirstTextFault l f → ⊥) → ((color : Color) (m : Timed) → TellsTimed l color m → ⊥) → ⊥
+fault_or_stated l sign no_fault no_move = let all = cut_found l in by_units l all.0 sign all.1 no_fault no_move

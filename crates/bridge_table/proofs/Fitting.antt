@@ -237,9 +237,9 @@ row_fits c s e out t fits r = elim r [
   | row.move_unsent p l color m at ev w j never o n ↦ rw n fits
   | row.move_confirmed p l color m ls now at ev w j own asks o n ↦
       rw n (asked_fits c _ s.engine ls now (taken_ready s.client s.engine p l color m fits at j own) asks)
-  | row.ending_told p l kept at ev w v o n ↦ rw n (play_later s.client s.engine p fits at)
-  | row.reason_told g f l at ev w v o n ↦ rw n (result_later s.client s.engine (g, f) fits at)
-  | row.result_told g f l q at ev w o n ↦ rw n tt
+  | row.ending_stated p l kept at ev w v o n ↦ rw n (play_later s.client s.engine p fits at)
+  | row.reason_stated g f l at ev w v o n ↦ rw n (result_later s.client s.engine (g, f) fits at)
+  | row.result_stated g f l q at ev w o n ↦ rw n tt
   | row.closes g f q at ev o n ↦ let h : IsLater s.engine = rw at at fits in rw n h
   | row.engine_gone at ev o n ↦ rw n fits
   | row.server_gone at k ev o n ↦ rw n fits

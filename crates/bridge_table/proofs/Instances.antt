@@ -47,8 +47,8 @@ abbrev pub opening : Timed
 opening = pawn_step from to
 
 -- 1. the lines
-told : TellsTimed (codes "+7776FU") Black opening
-told = (
+stated : TellsTimed (codes "+7776FU") Black opening
+stated = (
   (record { offset = 0; bytes = codes "+7776FU" }) ∷ [],
   record {
     units = (record { offset = 0; bytes = codes "+7776FU" }) ∷ [];
@@ -58,8 +58,8 @@ told = (
   ((omega arith, refl), tt),
 )
 
-told_white : TellsTimed (codes "-3334FU") White (pawn_step far near)
-told_white = (
+stated_white : TellsTimed (codes "-3334FU") White (pawn_step far near)
+stated_white = (
   (record { offset = 0; bytes = codes "-3334FU" }) ∷ [],
   record {
     units = (record { offset = 0; bytes = codes "-3334FU" }) ∷ [];
@@ -136,7 +136,7 @@ answers c = in_table (
 )
 
 judged : Judged pawn_match (codes "+7776FU") Black opening None
-judged = record { told = told; answers = legal }
+judged = record { stated = stated; answers = legal }
 
 pub plays : (c : Config) → Row c (ready (sent pawn_match (move opening.move))) (server_line (codes "+7776FU")) no_lines (ready (playing (with_move pawn_match opening)))
 plays c = in_table (
@@ -152,7 +152,7 @@ pub wrong_side : (c : Config) → Row c (ready (playing pawn_match)) (server_lin
 wrong_side c = in_table (
   refl,
   row.move_refused _ (codes "-3334FU") (causes.Rule WrongSide) refl refl refl
-      (breaks White (pawn_step far near) WrongSide (record { told = told_white; answers = (omega arith, inl ((λ e. let f : White ≡ Black = e in cc), refl)) }) refl) refl refl,
+      (breaks White (pawn_step far near) WrongSide (record { stated = stated_white; answers = (omega arith, inl ((λ e. let f : White ≡ Black = e in cc), refl)) }) refl) refl refl,
 )
 
 pub plays_for : (c : Config) (a b : Square) → a.file ≡ 7 → a.rank ≡ 7 → b.file ≡ 7 → b.rank ≡ 6

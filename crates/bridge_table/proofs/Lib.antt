@@ -2,7 +2,7 @@ pub mod AlwaysAsks
 mod ConfirmedOnce
 pub mod Counting
 pub mod Courses
-mod EndTold
+mod EndStated
 mod Ends
 mod Existing
 mod Fitting

@@ -6,8 +6,8 @@ use Rattle.shogi_board.specs.declared.color.Color.{Color}
 use Rattle.record_game.specs.Game.{Game, Timed, Ended}
 use Rattle.bridge_table.specs.declared.config.Config.{Config}
 use Rattle.bridge_table.specs.Events.{Event, Out}
-use Rattle.bridge_table.specs.GameTold.{ending_of, ended_game, game_of}
-use Rattle.bridge_table.specs.Logs.{Step, Leads, next, counted, is_sound, behind, Moved, Confirmed, game_confirmed, IsKeptEnding, reason_in, result_in, GameOf, TellsGame}
+use Rattle.bridge_table.specs.GameSoFar.{ending_of, ended_game, game_of}
+use Rattle.bridge_table.specs.Logs.{Step, Leads, next, counted, is_sound, following, Moved, Confirmed, game_confirmed, IsKeptEnding, reason_in, result_in, GameOf, TellsGame}
 use Rattle.bridge_table.specs.Promises.{KeepsGame, before, after}
 use Rattle.bridge_table.specs.Row.{Row}
 use Rattle.session_lines.specs.declared.server_words.GameResult.{GameResult}
@@ -29,18 +29,18 @@ plain ls o h = offer_plain h.2.text o.game h.2.position
 abbrev with_ending : Game → Option Ended → Game
 with_ending g e = record g { ending = e }
 
-in_play_told : (log : Steps) (client : Color) (game : Game) (a waiting : Lines) → InPlay (counted log) client game a waiting → GameOf log game
-in_play_told log client game a waiting h = record {
+in_play_stated : (log : Steps) (client : Color) (game : Game) (a waiting : Lines) → InPlay (counted log) client game a waiting → GameOf log game
+in_play_stated log client game a waiting h = record {
   offer = h.offer;
   moved = h.moved;
   confirmed = confirmed_of log client game h.taken [] h.offer h.moved h.course;
   kept = None;
   keeps = refl;
-  game = h.course.game_is ∙ ap (with_ending (game_confirmed h.offer h.moved)) (plain (summary_of (counted log)) h.offer h.course.agreed.told).0;
+  game = h.course.game_is ∙ ap (with_ending (game_confirmed h.offer h.moved)) (plain (summary_of (counted log)) h.offer h.course.agreed.stated).0;
 }
 
-agreed_told : (log : Steps) (o : Offer) → Agreed (counted log) o → NoneOf hears_start (behind agrees (counted log)) → GameOf log o.game
-agreed_told log o agreed none = record {
+agreed_stated : (log : Steps) (o : Offer) → Agreed (counted log) o → NoneOf hears_start (following agrees (counted log)) → GameOf log o.game
+agreed_stated log o agreed none = record {
   offer = o;
   moved = [];
   confirmed = confirmed_first log o agreed none;
@@ -48,24 +48,24 @@ agreed_told log o agreed none = record {
   keeps = refl;
   game =
       ap (λ (ms : List Timed). record o.game { moves = ms }) (sym (append-nil o.game.moves))
-      ∙ ap (with_ending (game_confirmed o [])) (plain (summary_of (counted log)) o agreed.told).0;
+      ∙ ap (with_ending (game_confirmed o [])) (plain (summary_of (counted log)) o agreed.stated).0;
 }
 
-over_told : (log : Steps) (g : Match) (a : Lines) (f : Finish) (result : Option GameResult) → IsOver (counted log) g.client g.game a f result → GameOf log (ended_game g f result)
-over_told log g a f result h =
+over_stated : (log : Steps) (g : Match) (a : Lines) (f : Finish) (result : Option GameResult) → IsOver (counted log) g.client g.game a f result → GameOf log (ended_game g f result)
+over_stated log g a f result h =
     let lines = h.line ∷ h.rest in
-    let told = game_confirmed h.offer h.moved in
+    let stated = game_confirmed h.offer h.moved in
     record {
       offer = h.offer;
       moved = h.moved;
       confirmed = confirmed_of log g.client g.game h.taken lines h.offer h.moved h.course;
       kept = f.kept;
-      keeps = h.told.kept;
+      keeps = h.stated.kept;
       game =
           ap (λ (x : Game). with_ending x (ending_of g.client f.kept f.reason result)) h.course.game_is
-          ∙ (ap (λ (c : Color). with_ending told (ending_of c f.kept f.reason result)) h.course.client_is
-          ∙ (ap (λ (why : Option EndReason). with_ending told (ending_of h.offer.client f.kept why result)) h.told.reason
-          ∙ ap (λ (r : Option GameResult). with_ending told (ending_of h.offer.client f.kept (reason_in lines) r)) h.told.result_is));
+          ∙ (ap (λ (c : Color). with_ending stated (ending_of c f.kept f.reason result)) h.course.client_is
+          ∙ (ap (λ (why : Option EndReason). with_ending stated (ending_of h.offer.client f.kept why result)) h.stated.reason
+          ∙ ap (λ (r : Option GameResult). with_ending stated (ending_of h.offer.client f.kept (reason_in lines) r)) h.stated.result_is));
     }
 
 abbrev Found : Steps → Option Game → Type 0
@@ -77,12 +77,12 @@ found log a idle h = λ o moved k. any_none agrees (counted log) h.0.none k.agre
 found log a logging_in h = λ o moved k. any_none agrees (counted log) h.0.none k.agreed
 found log a before_summary h = λ o moved k. any_none agrees (counted log) h.0.none k.agreed
 found log a (summary x) h = λ o moved k. any_none agrees (counted log) h.0.none k.agreed
-found log a (agreeing o) h = agreed_told log o h.1 h.2
-found log a (playing g) h = in_play_told log g.client g.game a _ h
-found log a (sent g x) h = in_play_told log g.client g.game a _ h
-found log a (reason g f) h = over_told log g a f None h
-found log a (closing g f o) h = over_told log g a f (Some o) h
-found log a (ended g f o) h = over_told log g a f (Some o) h
+found log a (agreeing o) h = agreed_stated log o h.1 h.2
+found log a (playing g) h = in_play_stated log g.client g.game a _ h
+found log a (sent g x) h = in_play_stated log g.client g.game a _ h
+found log a (reason g f) h = over_stated log g a f None h
+found log a (closing g f o) h = over_stated log g a f (Some o) h
+found log a (ended g f o) h = over_stated log g a f (Some o) h
 
 -- 2. a log has one game
 kept_once : (rest : Lines) (a b : Option Ended) → IsKeptEnding rest a → IsKeptEnding rest b → a ≡ b
@@ -115,10 +115,10 @@ same_some g h e = cc
 
 is_found : (log : Steps) (o : Option Game) → Found log o → Is o log
 is_found log None none = λ g. (λ e. absurd cc, λ h. absurd (none h.offer h.moved h.confirmed))
-is_found log (Some x) told = λ g. (λ e. subst (GameOf log) (same_some x g e) told, λ h. ap Some (game_once log x g told h))
+is_found log (Some x) stated = λ g. (λ e. subst (GameOf log) (same_some x g e) stated, λ h. ap Some (game_once log x g stated h))
 
-pub game_told : (c : Config) (log : Steps) (s : State) → Leads c log s → TellsGame s.client log
-game_told c log s leads = is_found log (game_of s.client) (found log _ s.client (log_tied c log s leads).0)
+pub game_so_far : (c : Config) (log : Steps) (s : State) → Leads c log s → TellsGame s.client log
+game_so_far c log s leads = is_found log (game_of s.client) (found log _ s.client (log_tied c log s leads).0)
 
 not_sent : (b : Bool) → (b ≡ true → ⊥) → b ≡ false
 not_sent true h = absurd (h refl)
@@ -146,14 +146,14 @@ none_till log a (reason g f) h = some_since log _ h.course.agreed.has
 none_till log a (closing g f o) h = some_since log _ h.course.agreed.has
 none_till log a (ended g f o) h = some_since log _ h.course.agreed.has
 
-pub none_told : (c : Config) (log : Steps) (s : State) → Leads c log s → (game_of s.client ≡ None) ↔ (list_any agrees (counted log) ≡ false)
-none_told c log s leads = none_till log _ s.client (log_tied c log s leads).0
+pub none_stated : (c : Config) (log : Steps) (s : State) → Leads c log s → (game_of s.client ≡ None) ↔ (list_any agrees (counted log) ≡ false)
+none_stated c log s leads = none_till log _ s.client (log_tied c log s leads).0
 
 -- the same for a log of which the same steps count
 abbrev confirmed_over : (log other : Steps) (o : Offer) (moved : List Moved) → counted log ≡ counted other → Confirmed log o moved → Confirmed other o moved
 confirmed_over log other o moved e h = record {
   agreed = rw (← e) h.agreed;
-  told = subst (λ k. TellsSummary (summary_of k) o) e h.told;
+  stated = subst (λ k. TellsSummary (summary_of k) o) e h.stated;
   taken = h.taken;
   rest = h.rest;
   lines_are = record { whole = ap started_of (sym e) ∙ h.lines_are.whole; goes_on = h.lines_are.goes_on; ends = h.lines_are.ends };
@@ -170,20 +170,20 @@ game_over log other g e h = record {
   game = h.game;
 }
 
-pub fault_told : (log : Steps) (x : Step) → is_sound x.status ≡ false → (g : Game) → GameOf (log ++ x ∷ []) g ↔ GameOf log g
-fault_told log x failed g =
+pub fault_stated : (log : Steps) (x : Step) → is_sound x.status ≡ false → (g : Game) → GameOf (log ++ x ∷ []) g ↔ GameOf log g
+fault_stated log x failed g =
     let same = counted_out log x failed in
     (game_over (log ++ x ∷ []) log g same, game_over log (log ++ x ∷ []) g (sym same))
 
-pub lost_told : (c : Config) (log : Steps) (s t : State) (e : Event) → Leads c log s → KeepsGame c s e t
+pub lost_stated : (c : Config) (log : Steps) (s t : State) (e : Event) → Leads c log s → KeepsGame c s e t
     → TellsGame t.client log ⊎ ((out : Out) × (u : State) × Row c s e out u × TellsGame t.client (log ++ step e out u.status ∷ []))
-lost_told c log s t e leads kept =
+lost_stated c log s t e leads kept =
     elim kept [
-      | before same ↦ inl (subst (λ o. Is o log) (sym same) (game_told c log s leads))
+      | before same ↦ inl (subst (λ o. Is o log) (sym same) (game_so_far c log s leads))
       | after out u row same ↦
           let more = log ++ step e out u.status ∷ [] in
-          inr (out, u, row, subst (λ o. Is o more) (sym same) (game_told c more u (next log s e out u leads row)))
+          inr (out, u, row, subst (λ o. Is o more) (sym same) (game_so_far c more u (next log s e out u leads row)))
     ]
 
-pub no_headers_told : (log : Steps) (g : Game) → GameOf log g → g.headers ≡ []
-no_headers_told log g h = ap (λ (x : Game). x.headers) h.game ∙ (plain _ h.offer h.confirmed.told).1
+pub no_headers_stated : (log : Steps) (g : Game) → GameOf log g → g.headers ≡ []
+no_headers_stated log g h = ap (λ (x : Game). x.headers) h.game ∙ (plain _ h.offer h.confirmed.stated).1

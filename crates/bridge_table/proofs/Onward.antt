@@ -24,8 +24,8 @@ use Rattle.bridge_table.specs.declared.fault.SessionFault.{SessionFault}
 use Rattle.bridge_table.specs.declared.state.EngineState.{EngineState}
 use Rattle.bridge_table.specs.Asking.{Asks, asked, not_asked, go_line}
 use Rattle.bridge_table.specs.Events.{Event, begin, engine_line, server_line, engine_end, server_end, engine_long, server_long, Out, no_lines}
-use Rattle.bridge_table.specs.Hearing.{heard_after}
-use Rattle.bridge_table.specs.Logs.{Step, Leads, new, next, server_lines, behind, behind_login, is_begin_line, IsWithinPlay, is_answer, is_sound, counted, is_counted, answers, sent_lines}
+use Rattle.bridge_table.specs.Hearing.{content_after}
+use Rattle.bridge_table.specs.Logs.{Step, Leads, new, next, server_lines, following, after_login, is_begin_line, IsWithinPlay, is_answer, is_sound, counted, is_counted, answers, sent_lines}
 use Rattle.session_lines.specs.MoveLines.{is_move_line}
 use Rattle.bridge_table.specs.Row.{Play, in_play, before_result, Judged, IsExpected, TableRow, IsInTable, IsUnnamed, Row, in_table, unnamed, answer_line, login_line, with_reason, text_fault, too_many, breaks}
 use Rattle.bridge_table.specs.Row as row
@@ -35,15 +35,15 @@ use Rattle.session_lines.specs.ServerLines.{is_login_ok, is_start_line, is_hash_
 use Rattle.bridge_table.specs.declared.state.Answer.{Answer}
 use Rattle.bridge_table.specs.declared.state.Answer.TheVariants.{Move as move, Toryo as toryo, Kachi as kachi}
 use Rattle.bridge_table.specs.State.{Match, Finish, Client, idle, logging_in, before_summary, summary, agreeing, playing, sent, reason, closing, ended, State, match_of, match_line, with_move}
-use Rattle.bridge_table.specs.Summary.{Heard, nothing_heard, CountsAs, Offer, TellsOffer}
+use Rattle.bridge_table.specs.Summary.{SummaryContent, no_content, CountsAs, Offer, TellsOffer}
 use Rattle.bridge_table.proofs.Counting.{counts_first, counts_next, counts_more}
 use Rattle.bridge_table.proofs.Courses.{Steps, Lines, sends_login, agrees, hears_ok, hears_begin, hears_start, logged_more, login_more, begun_more, Agreed, agreed_now, course_quiet, course_begins}
-use Rattle.bridge_table.proofs.EndTold.{told_ending}
-use Rattle.bridge_table.proofs.Existing.{some_line, fault_or_told}
+use Rattle.bridge_table.proofs.EndStated.{stated_ending}
+use Rattle.bridge_table.proofs.Existing.{some_line, fault_or_stated}
 use Rattle.bridge_table.proofs.Fitting.{FitsState, idle_only, log_fits}
 use Rattle.session_lines.proofs.LinesRead.{move_or_ending, move_or_hash}
 use Rattle.bridge_table.proofs.RowOnce.{result_hash}
-use Rattle.bridge_table.proofs.Testing.{HasOne, has_more, has_found, none_more, behind_found, behind_more}
+use Rattle.bridge_table.proofs.Testing.{HasOne, has_more, has_found, none_more, after_found, following_more}
 use Rattle.bridge_table.proofs.Tied.{Tied, Early, IsSilent, Skipped, Passed, nothing_skipped, tied_silent, may_follow, legal_more, plays_of, confirm, finish, hash, over_closed}
 
 -- 1. rows
@@ -70,51 +70,51 @@ at_readied : (c : Config) (k : Steps) (a : Lines) (l : List ℕ) (z : Status) �
     → Tied (k ++ step (engine_line l) (record { to_engine = []; to_server = login_line c ∷ [] }) z ∷ []) (a ++ []) logging_in
 at_readied c k a l z h =
     let x = step (engine_line l) (record { to_engine = []; to_server = login_line c ∷ [] }) z in
-    (early_sent k a x h.0 refl, has_found sends_login k x h.1 refl, subst (AllByRecursion (λ y. hears_ok y ≡ false)) (sym (behind_found sends_login k x h.1 refl)) tt)
+    (early_sent k a x h.0 refl, has_found sends_login k x h.1 refl, subst (AllByRecursion (λ y. hears_ok y ≡ false)) (sym (after_found sends_login k x h.1 refl)) tt)
 
 at_login : (k : Steps) (a : Lines) (l : List ℕ) (z : Status) → Tied k a logging_in → is_login_ok l ≡ true
     → Tied (k ++ step (server_line l) no_lines z ∷ []) (a ++ []) before_summary
 at_login k a l z h e =
     let x = step (server_line l) no_lines z in
-    let more = behind_more sends_login k (x ∷ []) h.1 in (
+    let more = following_more sends_login k (x ∷ []) h.1 in (
       early_sent k a x h.0 refl,
-      record { login = has_more sends_login k (x ∷ []) h.1; ok = subst (λ ys. HasOne hears_ok ys) (sym more) (has_found hears_ok (behind sends_login k) x h.2 e) },
-      subst (AllByRecursion (λ y. hears_begin y ≡ false)) (sym (ap (behind hears_ok) more ∙ behind_found hears_ok (behind sends_login k) x h.2 e)) tt,
+      record { login = has_more sends_login k (x ∷ []) h.1; ok = subst (λ ys. HasOne hears_ok ys) (sym more) (has_found hears_ok (following sends_login k) x h.2 e) },
+      subst (AllByRecursion (λ y. hears_begin y ≡ false)) (sym (ap (following hears_ok) more ∙ after_found hears_ok (following sends_login k) x h.2 e)) tt,
     )
 
 at_begin : (k : Steps) (a : Lines) (z : Status) → Tied k a before_summary
-    → Tied (k ++ step (server_line (codes "BEGIN Game_Summary")) no_lines z ∷ []) (a ++ []) (summary nothing_heard)
+    → Tied (k ++ step (server_line (codes "BEGIN Game_Summary")) no_lines z ∷ []) (a ++ []) (summary no_content)
 at_begin k a z h =
     let x = step (server_line (codes "BEGIN Game_Summary")) no_lines z in
     let more = login_more k x h.1 in (
       early_sent k a x h.0 refl,
       record {
         logged = logged_more k x h.1;
-        begun = subst (λ ys. HasOne hears_begin ys) (sym more) (has_found hears_begin (behind_login k) x h.2 refl);
+        begun = subst (λ ys. HasOne hears_begin ys) (sym more) (has_found hears_begin (after_login k) x h.2 refl);
         counts =
-            subst (λ ys. CountsAs (server_lines ys) nothing_heard)
-            (sym (ap (behind hears_begin) more ∙ behind_found hears_begin (behind_login k) x h.2 refl)) counts_first;
+            subst (λ ys. CountsAs (server_lines ys) no_content)
+            (sym (ap (following hears_begin) more ∙ after_found hears_begin (after_login k) x h.2 refl)) counts_first;
       },
     )
 
-at_line : (k : Steps) (a : Lines) (l : List ℕ) (z : Status) (h later : Heard) (ls : Lines) → Tied k a (summary h) → CountsAs ls h → CountsAs (ls ++ l ∷ []) later
+at_line : (k : Steps) (a : Lines) (l : List ℕ) (z : Status) (h later : SummaryContent) (ls : Lines) → Tied k a (summary h) → CountsAs ls h → CountsAs (ls ++ l ∷ []) later
     → Tied (k ++ step (server_line l) no_lines z ∷ []) (a ++ []) (summary later)
 at_line k a l z h later ls tied x y =
     let st = step (server_line l) no_lines z in
-    let same : later ≡ heard_after h l = (counts_next ls l h later x).0 y in
+    let same : later ≡ content_after h l = (counts_next ls l h later x).0 y in
     (early_sent k a st tied.0 refl, begun_more k st h later tied.1 ((counts_next _ l h later tied.1.counts).1 same))
 
-at_agree : (k : Steps) (a : Lines) (e : Event) (z : Status) (h : Heard) (o : Offer) → Tied k a (summary h) → TellsOffer h o
+at_agree : (k : Steps) (a : Lines) (e : Event) (z : Status) (h : SummaryContent) (o : Offer) → Tied k a (summary h) → TellsOffer h o
     → Tied (k ++ step e (record { to_engine = []; to_server = codes "AGREE" ∷ [] }) z ∷ []) (a ++ []) (agreeing o)
 at_agree k a e z h o tied tells =
     let x = step e (record { to_engine = []; to_server = codes "AGREE" ∷ [] }) z in (
       append-nil a ∙ tied.0.nothing,
       agreed_now k x h o tied.0.none refl tied.1 tells,
-      subst (AllByRecursion (λ y. hears_start y ≡ false)) (sym (behind_found agrees k x tied.0.none refl)) tt,
+      subst (AllByRecursion (λ y. hears_start y ≡ false)) (sym (after_found agrees k x tied.0.none refl)) tt,
     )
 
 offer_legal : (k : Steps) (o : Offer) → Agreed k o → IsGame o.game.start (map move_of o.game.moves)
-offer_legal k o h = h.told.2.position.says.game.line
+offer_legal k o h = h.stated.2.position.says.game.line
 
 at_start : (k : Steps) (a : Lines) (l : List ℕ) (to_engine : Lines) (z : Status) (o : Offer) → Tied k a (agreeing o) → is_start_line l ≡ true
     → Tied (k ++ step (server_line l) (record { to_engine = to_engine; to_server = [] }) z ∷ []) (a ++ []) (playing (match_of o))
@@ -184,12 +184,12 @@ row_tied c k a s e out t status tied fits r =
       | row.move_confirmed p l color m ls now at ev w j own q o n ↦
           rw (ev, o, n) (goes_on going (same_answers _ a (playing (with_move p.game m))
           (confirm k a p _ l color m (plays_of k a s s.client p tied fits at) refl w j own (move_goes_on l w))))
-      | row.ending_told p l kept at ev w v o n ↦
+      | row.ending_stated p l kept at ev w v o n ↦
           rw (ev, o, n) (goes_on going (same_answers _ a (reason p.game (record { kept = Some kept; reason = None }))
-          (finish k a p _ l (record { kept = Some kept; reason = None }) None (plays_of k a s s.client p tied fits at) refl (inl (w, kept, v)) (told_ending l kept w v))))
-      | row.reason_told g f l at ev w v o n ↦
+          (finish k a p _ l (record { kept = Some kept; reason = None }) None (plays_of k a s s.client p tied fits at) refl (inl (w, kept, v)) (stated_ending l kept w v))))
+      | row.reason_stated g f l at ev w v o n ↦
           rw (ev, o, n) (goes_on going (same_answers _ a (reason g (with_reason f (reason_of l))) (hash k a s s.client (g, f) _ l None tied fits at refl w v)))
-      | row.result_told g f l q at ev w o n ↦
+      | row.result_stated g f l q at ev w o n ↦
           rw (ev, o, n) (goes_on going (same_answers _ a (closing g f q) (hash k a s s.client (g, f) _ l (Some q) tied fits at refl (result_hash l q w) w)))
       | row.closes g f q at ev o n ↦
           rw (o, n) (goes_on refl (same_answers _ a (ended g f q) (over_closed k g.client g.game a (step e no_lines Done) f q (subst (Tied k a) at tied))))
@@ -227,35 +227,35 @@ judged_named c s l p color m (Some play.OutOfMemory) going at sign legal j none 
 move_named : (c : Config) (s : State) (l : List ℕ) (p : Play) → s.status ≡ Going → in_play s.client ≡ Some p → is_move_line l ≡ true
     → IsGame p.game.game.start (map move_of p.game.game.moves) → Nameless c s l → ⊥
 move_named c s l p going at sign legal none =
-    fault_or_told l sign
+    fault_or_stated l sign
     (λ f h. none _ _ (going, row.move_refused p l (causes.Text f) at refl sign (text_fault f h refl) refl refl))
-    (λ color m told.
+    (λ color m stated.
     let answer = some-answer (match_line p.game) color m.move in
-    judged_named c s l p color m answer.0 going at sign legal (record { told = told; answers = answer.1 }) none)
+    judged_named c s l p color m answer.0 going at sign legal (record { stated = stated; answers = answer.1 }) none)
 
 hash_named : (c : Config) (s : State) (l : List ℕ) (g : Match) (f : Finish) (o : Option GameResult) → s.status ≡ Going → before_result s.client ≡ Some (g, f) → outcome_of l ≡ o
     → is_hash_line l ≡ true → Nameless c s l → ⊥
-hash_named c s l g f None going at e sign none = none _ _ (going, row.reason_told g f l at refl sign e refl refl)
-hash_named c s l g f (Some o) going at e sign none = none _ _ (going, row.result_told g f l o at refl e refl refl)
+hash_named c s l g f None going at e sign none = none _ _ (going, row.reason_stated g f l at refl sign e refl refl)
+hash_named c s l g f (Some o) going at e sign none = none _ _ (going, row.result_stated g f l o at refl e refl refl)
 
 passed : (c : Config) (s : State) (l : List ℕ) (p : Play) (f : Finish) → s.status ≡ Going → in_play s.client ≡ Some p → before_result s.client ≡ Some (p.game, f)
     → IsGame p.game.game.start (map move_of p.game.game.moves) → Nameless c s l → Passed (Some l)
 passed c s l p f going at result legal none = (
   record {
-    no_ending = λ e. none _ _ (going, row.ending_told p l e.1 at refl e.0 e.2 refl refl);
+    no_ending = λ e. none _ _ (going, row.ending_stated p l e.1 at refl e.0 e.2 refl refl);
     no_hash = not_true (is_hash_line l) (λ sign. hash_named c s l p.game f (outcome_of l) going result refl sign none);
   },
   not_true (is_move_line l) (λ sign. move_named c s l p going at sign legal none),
 )
 
-summary_named : (c : Config) (s : State) (l : List ℕ) (k : Steps) (a : Lines) (h : Heard) (v : Bool) → s.status ≡ Going → s.client ≡ summary h → Tied k a (summary h)
+summary_named : (c : Config) (s : State) (l : List ℕ) (k : Steps) (a : Lines) (h : SummaryContent) (v : Bool) → s.status ≡ Going → s.client ≡ summary h → Tied k a (summary h)
     → bytes_eq l (codes "END Game_Summary") ≡ v → Nameless c s l → ⊥
 summary_named c s l k a h true going at tied e none =
     let same : server_line l ≡ server_line (codes "END Game_Summary") = ap server_line ((bytes_eq-Decides l (codes "END Game_Summary")).0 e) in
     none _ _ (going, row.summary_fails h at same (λ o w. none _ _ (going, row.summary_ends h o at same w refl refl)) refl refl)
 summary_named c s l k a h false going at tied e none =
     let other : l ≢ codes "END Game_Summary" = λ same. let f = (bytes_eq-Decides l (codes "END Game_Summary")).1 same in cc in
-    none _ _ (going, row.summary_line _ l h (heard_after h l) at refl other tied.1.counts (counts_more _ l h tied.1.counts) refl refl)
+    none _ _ (going, row.summary_line _ l h (content_after h l) at refl other tied.1.counts (counts_more _ l h tied.1.counts) refl refl)
 
 line_skipped : (c : Config) (s : State) (l : List ℕ) (k : Steps) (a : Lines) (at : Client) (z : Status) → s.status ≡ Going → s.client ≡ at → Tied k a at → Nameless c s l
     → Skipped at (step (server_line l) no_lines z)
@@ -353,9 +353,9 @@ row_done c s e out t going r =
       | row.move_refused p l cause at ev w v o n ↦ rw n (λ d. absurd (failed_done _ d))
       | row.move_unsent p l color m at ev w j never o n ↦ rw n (λ d. absurd (failed_done _ d))
       | row.move_confirmed p l color m ls now at ev w j own q o n ↦ rw n (λ d. absurd (going_done s.status going d))
-      | row.ending_told p l kept at ev w v o n ↦ rw n (λ d. absurd (going_done s.status going d))
-      | row.reason_told g f l at ev w v o n ↦ rw n (λ d. absurd (going_done s.status going d))
-      | row.result_told g f l q at ev w o n ↦ rw n (λ d. absurd (going_done s.status going d))
+      | row.ending_stated p l kept at ev w v o n ↦ rw n (λ d. absurd (going_done s.status going d))
+      | row.reason_stated g f l at ev w v o n ↦ rw n (λ d. absurd (going_done s.status going d))
+      | row.result_stated g f l q at ev w o n ↦ rw n (λ d. absurd (going_done s.status going d))
       | row.closes g f q at ev o n ↦ rw n (λ d. tt)
       | row.engine_gone at ev o n ↦ rw n (λ d. absurd (failed_done _ d))
       | row.server_gone at b ev o n ↦ rw n (λ d. absurd (failed_done _ d))

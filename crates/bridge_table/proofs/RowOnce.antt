@@ -36,7 +36,7 @@ use Rattle.bridge_table.specs.declared.state.EngineState.{EngineState}
 use Rattle.bridge_table.specs.declared.state.EngineState.TheVariants.{New, Greeting, Readying, Ready, Thinking, Ended as EngineEnded}
 use Rattle.bridge_table.specs.Asking.{Asks, asked, not_asked, go_line}
 use Rattle.bridge_table.specs.Events.{Event, begin, engine_line, server_line, engine_end, server_end, engine_long, server_long, Out, no_lines, engine, server}
-use Rattle.bridge_table.specs.Hearing.{heard_after}
+use Rattle.bridge_table.specs.Hearing.{content_after}
 use Rattle.session_lines.specs.MoveLines.{is_move_line}
 use Rattle.bridge_table.specs.Row.{TableRow, IsInTable, Row, in_table, unnamed, Play, in_play, before_result, client_to, failed, login_line, answer_line, slipped, gameover_line, with_reason, IsBestMove, IsLegalWord, IsNoAnswer, Judged, IsRefused, IsExpected}
 use Rattle.bridge_table.specs.Row as row
@@ -45,7 +45,7 @@ use Rattle.session_lines.specs.ServerLines.{is_login_ok, is_start_line, is_rejec
 use Rattle.bridge_table.specs.declared.state.Answer.{Answer}
 use Rattle.bridge_table.specs.declared.state.Answer.TheVariants.{Move as move, Toryo as toryo, Kachi as kachi}
 use Rattle.bridge_table.specs.State.{Match, Finish, Client, idle, logging_in, before_summary, summary, agreeing, playing, sent, reason, closing, ended, State, client_state, match_of, match_line, position_now, with_move}
-use Rattle.bridge_table.specs.Summary.{Heard, nothing_heard, Offer, one, TellsOffer, TellsPosition, nameless}
+use Rattle.bridge_table.specs.Summary.{SummaryContent, no_content, Offer, one, TellsOffer, TellsPosition, nameless}
 use Rattle.bridge_table.proofs.Counting.{counts_next}
 use Rattle.session_lines.proofs.LinesRead.{start_or_reject, move_or_ending, move_or_hash, ending_or_hash, timed_once, ending_once, fault_once, fault_or_move}
 
@@ -188,7 +188,7 @@ same_one a b e = cc
 same_offer : (o p : Offer) → o.client ≡ p.client → o.game ≡ p.game → o ≡ p
 same_offer o p e f = ap (λ (x : Color). record o { client = x }) e ∙ ap (λ (x : Game). record p { game = x }) f
 
-pub offer_once : (h : Heard) (o p : Offer) → TellsOffer h o → TellsOffer h p → o ≡ p
+pub offer_once : (h : SummaryContent) (o p : Offer) → TellsOffer h o → TellsOffer h p → o ≡ p
 offer_once h o p a b =
     let text : a.text ≡ b.text = same_one a.text b.text (sym a.one_position ∙ b.one_position) in
     let first : Tells b.text (nameless o.game) = subst (λ x. Tells x (nameless o.game)) text (tells a.text o.game a.position) in
@@ -196,12 +196,12 @@ offer_once h o p a b =
     same_offer o p (sign_once o.client p.client (sym a.client ∙ b.client))
     (named_once o.game p.game game (a.black ∙ sym b.black) (a.white ∙ sym b.white))
 
-pub data SummaryRow (s : State) (h : Heard) (l : List ℕ) (out : Out) (t : State) : Type 0 where
-  adds : l ≢ codes "END Game_Summary" → Gives no_lines (client_to s (summary (heard_after h l))) out t → SummaryRow s h l out t
+pub data SummaryRow (s : State) (h : SummaryContent) (l : List ℕ) (out : Out) (t : State) : Type 0 where
+  adds : l ≢ codes "END Game_Summary" → Gives no_lines (client_to s (summary (content_after h l))) out t → SummaryRow s h l out t
   ends : (o : Offer) → l ≡ codes "END Game_Summary" → TellsOffer h o → Gives (server (codes "AGREE")) (client_to s (agreeing o)) out t → SummaryRow s h l out t
   faults : l ≡ codes "END Game_Summary" → ((o : Offer) → TellsOffer h o → ⊥) → Gives no_lines (failed s BadSummary) out t → SummaryRow s h l out t
 
-summary_once : (s : State) (h : Heard) (l : List ℕ) (out other : Out) (t u : State) → SummaryRow s h l out t → SummaryRow s h l other u → Same out t other u
+summary_once : (s : State) (h : SummaryContent) (l : List ℕ) (out other : Out) (t u : State) → SummaryRow s h l out t → SummaryRow s h l other u → Same out t other u
 summary_once s h l out other t u a b =
     elim a [
       | adds n x ↦ elim b [
@@ -246,7 +246,7 @@ agreed_once c s o l out other t u a b =
 -- 5. moves of the server
 judged_once : (g : Match) (l : List ℕ) (c d : Color) (m n : Timed) (a b : Option PlayFault) → Judged g l c m a → Judged g l d n b → (c ≡ d) × (m ≡ n) × (a ≡ b)
 judged_once g l c d m n a b h k =
-    let e = timed_once l c d m n h.told k.told in
+    let e = timed_once l c d m n h.stated k.stated in
     let first : Answers (match_line g) d m.move a = subst (λ x. Answers (match_line g) x m.move a) e.0 h.answers in
     let next : Answers (match_line g) d n.move a = subst (λ (x : Timed). Answers (match_line g) d x.move a) e.1 first in
     (e.0, e.1, one-answer (match_line g) d n.move a b next k.answers)
@@ -265,16 +265,16 @@ refused_once g l v w a b =
     elim a [
       | row.text_fault f h e ↦ elim b [
         | row.text_fault x k d ↦ e ∙ (ap causes.Text (fault_once l f x h k) ∙ sym d)
-        | row.too_many c m k d ↦ absurd (fault_or_move l f c m h k.told)
-        | row.breaks c m r k d ↦ absurd (fault_or_move l f c m h k.told)
+        | row.too_many c m k d ↦ absurd (fault_or_move l f c m h k.stated)
+        | row.breaks c m r k d ↦ absurd (fault_or_move l f c m h k.stated)
       ]
       | row.too_many c m h e ↦ elim b [
-        | row.text_fault x k d ↦ absurd (fault_or_move l x c m k h.told)
+        | row.text_fault x k d ↦ absurd (fault_or_move l x c m k h.stated)
         | row.too_many z n k d ↦ e ∙ sym d
         | row.breaks z n r k d ↦ absurd (many_or_rule r (judged_once g l c z m n _ _ h k).2)
       ]
       | row.breaks c m r h e ↦ elim b [
-        | row.text_fault x k d ↦ absurd (fault_or_move l x c m k h.told)
+        | row.text_fault x k d ↦ absurd (fault_or_move l x c m k h.stated)
         | row.too_many z n k d ↦ absurd (many_or_rule r (judged_once g l z c n m _ _ k h).2)
         | row.breaks z n q k d ↦ e ∙ (ap causes.Rule (same_rule r q (judged_once g l c z m n _ _ h k).2) ∙ sym d)
       ]
@@ -283,7 +283,7 @@ refused_once g l v w a b =
 taken_or_refused : (g : Match) (l : List ℕ) (v : Why) (c : Color) (m : Timed) → IsRefused g l v → Judged g l c m None → ⊥
 taken_or_refused g l v c m a h =
     elim a [
-      | row.text_fault x k d ↦ fault_or_move l x c m k h.told
+      | row.text_fault x k d ↦ fault_or_move l x c m k h.stated
       | row.too_many z n k d ↦ some_or_none _ (judged_once g l z c n m _ _ k h).2
       | row.breaks z n r k d ↦ some_or_none _ (judged_once g l z c n m _ _ k h).2
     ]
@@ -409,7 +409,7 @@ login_once s l out other t u (inr h) (inr k) = both _ out other _ t u h.1 k.1
 abbrev pub StateRow : Config → State → Client → List ℕ → Out → State → Type 0
 StateRow c s idle l out t = ⊥
 StateRow c s logging_in l out t = LoginRow s l out t
-StateRow c s before_summary l out t = (l ≡ codes "BEGIN Game_Summary") × Gives no_lines (client_to s (summary nothing_heard)) out t
+StateRow c s before_summary l out t = (l ≡ codes "BEGIN Game_Summary") × Gives no_lines (client_to s (summary no_content)) out t
 StateRow c s (summary h) l out t = SummaryRow s h l out t
 StateRow c s (agreeing o) l out t = AgreedRow c s o l out t
 StateRow c s (playing g) l out t = ⊥
@@ -631,7 +631,7 @@ means c s e out t r =
       | row.login_refused a ev o n ↦ by_client c s e _ logging_in out t a ev (inr (refl, (o, n)))
       | row.summary_begins a ev o n ↦ by_client c s e _ before_summary out t a ev (refl, (o, n))
       | row.summary_line ls l h new a ev w x y o n ↦
-          let e_new : new ≡ heard_after h l = (counts_next ls l h new x).0 y in
+          let e_new : new ≡ content_after h l = (counts_next ls l h new x).0 y in
           by_client c s e l (summary h) out t a ev (adds w (o, n ∙ ap (λ z. client_to s (summary z)) e_new))
       | row.summary_ends h p a ev w o n ↦ by_client c s e _ (summary h) out t a ev (ends p refl w (o, n))
       | row.summary_fails h a ev w o n ↦ by_client c s e _ (summary h) out t a ev (faults refl w (o, n))
@@ -649,9 +649,9 @@ means c s e out t r =
       | row.move_refused p l cause a ev w v o n ↦ by_server c s e l out t ev (by_play p a (refuses cause w v (o, n)))
       | row.move_unsent p l color m a ev w j nope o n ↦ by_server c s e l out t ev (by_play p a (unsent color m w j nope (o, n)))
       | row.move_confirmed p l color m ls now a ev w j x q o n ↦ by_server c s e l out t ev (by_play p a (confirms color m ls now w j x q (o, n)))
-      | row.ending_told p l kept a ev w v o n ↦ by_server c s e l out t ev (by_play p a (tells_end kept w v (o, n)))
-      | row.reason_told g f l a ev w v o n ↦ by_server c s e l out t ev (by_hash g f a (gives_reason w v (o, n)))
-      | row.result_told g f l q a ev w o n ↦ by_server c s e l out t ev (by_hash g f a (gives_result q w (o, n)))
+      | row.ending_stated p l kept a ev w v o n ↦ by_server c s e l out t ev (by_play p a (tells_end kept w v (o, n)))
+      | row.reason_stated g f l a ev w v o n ↦ by_server c s e l out t ev (by_hash g f a (gives_reason w v (o, n)))
+      | row.result_stated g f l q a ev w o n ↦ by_server c s e l out t ev (by_hash g f a (gives_result q w (o, n)))
       | row.closes g f q a ev o n ↦ elim ev [
         | inl d ↦ by_client c s e _ (closing g f q) out t a d (refl, (o, n))
         | inr d ↦ at_end c s e (closing g f q) out t a d (o, n)

@@ -11,10 +11,10 @@ use Rattle.bridge_table.specs.declared.config.Config.{Config}
 use Rattle.bridge_table.specs.declared.state.EngineState.{EngineState}
 use Rattle.bridge_table.specs.Asking.{MayAsk, AskLines, Asks, asked, not_asked}
 use Rattle.bridge_table.specs.Events.{Event, Out}
-use Rattle.bridge_table.specs.Logs.{Leads, next, behind, Moved, Confirmed, game_confirmed, counted, answers, is_answer}
+use Rattle.bridge_table.specs.Logs.{Leads, next, following, Moved, Confirmed, game_confirmed, counted, answers, is_answer}
 use Rattle.bridge_table.specs.Row.{TableRow, Row, in_table, unnamed, answer_line, login_line, gameover_line}
 use Rattle.bridge_table.specs.Row as row
-use Rattle.bridge_table.specs.Sending.{match_told, IsAnswered, legal_move, toryo, kachi, OwnSent, is_position_line, AskedRight}
+use Rattle.bridge_table.specs.Sending.{match_stated, IsAnswered, legal_move, toryo, kachi, OwnSent, is_position_line, AskedRight}
 use Rattle.session_lines.specs.declared.server_words.GameResult.{GameResult}
 use Rattle.session_lines.specs.declared.server_words.GameResult.TheVariants.{Win, Lose, Draw, Censored, Chudan}
 use Rattle.bridge_table.specs.declared.state.Answer.TheVariants.{Move as move}
@@ -30,12 +30,12 @@ use Rattle.bridge_table.proofs.Tied.{Tied, InPlay, IsOver}
 abbrev match_so : Color → Game → Match
 match_so c g = record { client = c; game = g; slip = false }
 
-may_so : (g : Match) (o : Offer) (moved : List Moved) → g.client ≡ o.client → g.game ≡ game_confirmed o moved → MayAsk g → MayAsk (match_told o moved)
+may_so : (g : Match) (o : Offer) (moved : List Moved) → g.client ≡ o.client → g.game ≡ game_confirmed o moved → MayAsk g → MayAsk (match_stated o moved)
 may_so g o moved e f may =
     let plain : MayAsk (match_so g.client g.game) = record { to_move = may.to_move; not_over = may.not_over; few = may.few } in
     subst (λ x. MayAsk (match_so o.client x)) f (subst (λ x. MayAsk (match_so x g.game)) e plain)
 
-legal_so : (g : Match) (o : Offer) (moved : List Moved) (m : Move) → g.game ≡ game_confirmed o moved → Legal (position_now g) m → Legal (position_now (match_told o moved)) m
+legal_so : (g : Match) (o : Offer) (moved : List Moved) (m : Move) → g.game ≡ game_confirmed o moved → Legal (position_now g) m → Legal (position_now (match_stated o moved)) m
 legal_so g o moved m f legal = subst (λ (x : Game). Legal (position_now (match_so o.client x)) m) f legal
 
 confirmed_in : (log : Steps) (g : Match) (waiting : Lines) (h : InPlay (counted log) g.client g.game (answers log) waiting) → Confirmed log h.offer h.moved
@@ -75,9 +75,9 @@ row_legal c log s e out t tied fits r =
       | row.move_refused p l cause at ev w v o n ↦ rw o tt
       | row.move_unsent p l color m at ev w j never o n ↦ rw o tt
       | row.move_confirmed p l color m ls now at ev w j own q o n ↦ rw o tt
-      | row.ending_told p l kept at ev w v o n ↦ rw o tt
-      | row.reason_told g f l at ev w v o n ↦ rw o tt
-      | row.result_told g f l q at ev w o n ↦ rw o (no_answer log (codes "LOGOUT") refl, tt)
+      | row.ending_stated p l kept at ev w v o n ↦ rw o tt
+      | row.reason_stated g f l at ev w v o n ↦ rw o tt
+      | row.result_stated g f l q at ev w o n ↦ rw o (no_answer log (codes "LOGOUT") refl, tt)
       | row.closes g f q at ev o n ↦ rw o tt
       | row.engine_gone at ev o n ↦ rw o tt
       | row.server_gone at b ev o n ↦ rw o tt
@@ -129,9 +129,9 @@ row_once c log s e out t tied r =
       | row.move_refused p l cause at ev w v o n ↦ rw o (none_sent log)
       | row.move_unsent p l color m at ev w j never o n ↦ rw o (none_sent log)
       | row.move_confirmed p l color m ls now at ev w j own q o n ↦ rw o (none_sent log)
-      | row.ending_told p l kept at ev w v o n ↦ rw o (none_sent log)
-      | row.reason_told g f l at ev w v o n ↦ rw o (none_sent log)
-      | row.result_told g f l q at ev w o n ↦ rw o (other_sent log (codes "LOGOUT") refl)
+      | row.ending_stated p l kept at ev w v o n ↦ rw o (none_sent log)
+      | row.reason_stated g f l at ev w v o n ↦ rw o (none_sent log)
+      | row.result_stated g f l q at ev w o n ↦ rw o (other_sent log (codes "LOGOUT") refl)
       | row.closes g f q at ev o n ↦ rw o (none_sent log)
       | row.engine_gone at ev o n ↦ rw o (none_sent log)
       | row.server_gone at b ev o n ↦ rw o (none_sent log)
@@ -148,7 +148,7 @@ sent_once c log s t e out leads r =
 abbrev Sent : Steps → Type 0
 Sent log = (waiting : Lines) × OwnSent log waiting
 
-agreed_sent : (log : Steps) (o : Offer) → answers log ≡ [] → Agreed (counted log) o → NoneOf hears_start (behind agrees (counted log)) → Sent log
+agreed_sent : (log : Steps) (o : Offer) → answers log ≡ [] → Agreed (counted log) o → NoneOf hears_start (following agrees (counted log)) → Sent log
 agreed_sent log o none agreed quiet = (
   [],
   record {
@@ -188,7 +188,7 @@ pub log_sent : (c : Config) (log : Steps) (s : State) → Leads c log s → list
 log_sent c log s leads any = all_sent log s.client (log_tied c log s leads).0 any
 
 -- 3. asked_right
-lines_so : (c : Config) (g : Match) (o : Offer) (moved : List Moved) (lines : Lines) → g.game ≡ game_confirmed o moved → AskLines c g lines → AskLines c (match_told o moved) lines
+lines_so : (c : Config) (g : Match) (o : Offer) (moved : List Moved) (lines : Lines) → g.game ≡ game_confirmed o moved → AskLines c g lines → AskLines c (match_stated o moved) lines
 lines_so c g o moved lines f q =
     let plain : AskLines c (match_so o.client g.game) lines = record { position = q.position; of_game = q.of_game; whole = q.whole } in
     subst (λ x. AskLines c (match_so o.client x) lines) f plain
@@ -260,9 +260,9 @@ row_asked c log s e out t tied r =
       | row.move_confirmed p l color m ls now at ev w j own q o n ↦
           let h : Tied (counted log) (answers log) (playing (with_move p.game m)) = subst (Tied (counted log) (answers log)) (ap (λ (x : State). x.client) n) tied in
           rw o (then_asked c log (with_move p.game m) s.engine now ls h q)
-      | row.ending_told p l kept at ev w v o n ↦ rw o (not_position c log _ refl)
-      | row.reason_told g f l at ev w v o n ↦ rw o (not_position c log _ refl)
-      | row.result_told g f l q at ev w o n ↦ rw o (not_position c log _ (over_line q))
+      | row.ending_stated p l kept at ev w v o n ↦ rw o (not_position c log _ refl)
+      | row.reason_stated g f l at ev w v o n ↦ rw o (not_position c log _ refl)
+      | row.result_stated g f l q at ev w o n ↦ rw o (not_position c log _ (over_line q))
       | row.closes g f q at ev o n ↦ rw o (not_position c log _ refl)
       | row.engine_gone at ev o n ↦ rw o (not_position c log _ refl)
       | row.server_gone at b ev o n ↦ rw o (not_position c log _ refl)

@@ -44,9 +44,9 @@ row_goes c s e out t going (row.engine_late line word a b d f o q) = goes s _ t 
 row_goes c s e out t going (row.move_refused p line cause a b d f o q) = fails s t out _ o q
 row_goes c s e out t going (row.move_unsent p line color m a b d f i o q) = fails s t out _ o q
 row_goes c s e out t going (row.move_confirmed p line color m asked now a b d f i j o q) = goes s _ t out q (ap is_sound going)
-row_goes c s e out t going (row.ending_told p line kept a b d f o q) = goes s _ t out q (ap is_sound going)
-row_goes c s e out t going (row.reason_told g f line a b d i o q) = goes s _ t out q (ap is_sound going)
-row_goes c s e out t going (row.result_told g f line outcome a b d o q) = goes s _ t out q (ap is_sound going)
+row_goes c s e out t going (row.ending_stated p line kept a b d f o q) = goes s _ t out q (ap is_sound going)
+row_goes c s e out t going (row.reason_stated g f line a b d i o q) = goes s _ t out q (ap is_sound going)
+row_goes c s e out t going (row.result_stated g f line outcome a b d o q) = goes s _ t out q (ap is_sound going)
 row_goes c s e out t going (row.closes g f outcome a b o q) = goes s _ t out q refl
 row_goes c s e out t going (row.engine_gone a b o q) = fails s t out _ o q
 row_goes c s e out t going (row.server_gone a b d o q) = fails s t out _ o q
@@ -73,24 +73,24 @@ Steps = List Step
 
 -- a log with one step more is this step after the front, or what follows has this step too
 abbrev Splits : Steps → Steps → Steps → Step → Step → Type 0
-Splits log before behind x y =
-    ((behind ≡ []) × (x ≡ y)) ⊎ ((rest : Steps) × (behind ≡ rest ++ x ∷ []) × (log ≡ before ++ y ∷ rest))
+Splits log before following x y =
+    ((following ≡ []) × (x ≡ y)) ⊎ ((rest : Steps) × (following ≡ rest ++ x ∷ []) × (log ≡ before ++ y ∷ rest))
 
-none_behind : (bs after : Steps) (y : Step) → [] ≡ bs ++ y ∷ after → ⊥
-none_behind [] after y e = absurd cc
-none_behind (b ∷ bs) after y e = absurd cc
+none_following : (bs after : Steps) (y : Step) → [] ≡ bs ++ y ∷ after → ⊥
+none_following [] after y e = absurd cc
+none_following (b ∷ bs) after y e = absurd cc
 
-splits : (log before behind : Steps) (x y : Step) → log ++ x ∷ [] ≡ before ++ y ∷ behind → Splits log before behind x y
-splits [] [] behind x y e = let same : x ≡ y = cc in let none : behind ≡ [] = cc in inl (none, same)
-splits [] (b ∷ bs) behind x y e = let none : [] ≡ bs ++ y ∷ behind = cc in absurd (none_behind bs behind y none)
-splits (z ∷ zs) [] behind x y e =
+splits : (log before following : Steps) (x y : Step) → log ++ x ∷ [] ≡ before ++ y ∷ following → Splits log before following x y
+splits [] [] following x y e = let same : x ≡ y = cc in let none : following ≡ [] = cc in inl (none, same)
+splits [] (b ∷ bs) following x y e = let none : [] ≡ bs ++ y ∷ following = cc in absurd (none_following bs following y none)
+splits (z ∷ zs) [] following x y e =
     let first : z ≡ y = cc in
-    let rest : zs ++ x ∷ [] ≡ behind = cc in
+    let rest : zs ++ x ∷ [] ≡ following = cc in
     inr (zs, sym rest, ap (λ w. w ∷ zs) first)
-splits (z ∷ zs) (b ∷ bs) behind x y e =
+splits (z ∷ zs) (b ∷ bs) following x y e =
     let first : z ≡ b = cc in
-    let rest : zs ++ x ∷ [] ≡ bs ++ y ∷ behind = cc in
-    elim (splits zs bs behind x y rest) [
+    let rest : zs ++ x ∷ [] ≡ bs ++ y ∷ following = cc in
+    elim (splits zs bs following x y rest) [
       | inl h ↦ inl h
       | inr h ↦ inr (h.0, h.1, ap (λ w. w ∷ zs) first ∙ ap (λ ws. b ∷ ws) h.2)
     ]
@@ -108,13 +108,13 @@ Stays status rest t = AreSilent status rest × (t.status ≡ status)
 first_over : (y : Step) (u : State) (rest : Steps) → rest ≡ [] → u.status ≡ y.status → Stays y.status rest u
 first_over y u rest none same = (subst (AreSilent y.status) (sym none) tt, same)
 
-later_over : (y x : Step) (u : State) (behind rest : Steps) → behind ≡ rest ++ x ∷ [] → AreSilent y.status (rest ++ x ∷ []) → u.status ≡ y.status
-    → Stays y.status behind u
-later_over y x u behind rest e all same = (subst (AreSilent y.status) (sym e) all, same)
+later_over : (y x : Step) (u : State) (following rest : Steps) → following ≡ rest ++ x ∷ [] → AreSilent y.status (rest ++ x ∷ []) → u.status ≡ y.status
+    → Stays y.status following u
+later_over y x u following rest e all same = (subst (AreSilent y.status) (sym e) all, same)
 
 ever : (c : Config) (log : Steps) (t : State) → Leads c log t → (before rest : Steps) (y : Step) → log ≡ before ++ y ∷ rest → (y.status ≡ Going → ⊥)
     → Stays y.status rest t
-ever c log t new before rest y e over = absurd (none_behind before rest y e)
+ever c log t new before rest y e over = absurd (none_following before rest y e)
 ever c log t (next front s event out u leads step) before rest y e over =
     elim (splits front before rest (record { event = event; out = out; status = u.status }) y e) [
       | inl h ↦ first_over y u rest h.0 (ap (λ (w : Step). w.status) h.1)

@@ -2,7 +2,7 @@
 -- end.
 use Rattle.std.proofs.Common.{◌≡◌, ◌++◌, ◌⊎◌, inl, inr, Bool, true, false, List, [], ◌∷◌, refl, ap}
 use Rattle.std.specs.List.{AllByRecursion, list_any}
-use Rattle.bridge_table.specs.Logs.{behind, ahead}
+use Rattle.bridge_table.specs.Logs.{following, ahead}
 
 abbrev pub NoneOf : {X : Type 0} → (X → Bool) → List X → Type 0
 NoneOf p xs = AllByRecursion (λ x. p x ≡ false) xs
@@ -28,18 +28,18 @@ pub has_found : {X : Type 0} (p : X → Bool) (xs : List X) (x : X) → NoneOf p
 has_found p [] x h e = inl e
 has_found p (y ∷ ys) x h e = inr (h.0, has_found p ys x h.1 e)
 
-pub behind_found : {X : Type 0} (p : X → Bool) (xs : List X) (x : X) → NoneOf p xs → p x ≡ true → behind p (xs ++ x ∷ []) ≡ []
-behind_found p [] x h e = rw e refl
-behind_found p (y ∷ ys) x h e = rw h.0 (behind_found p ys x h.1 e)
+pub after_found : {X : Type 0} (p : X → Bool) (xs : List X) (x : X) → NoneOf p xs → p x ≡ true → following p (xs ++ x ∷ []) ≡ []
+after_found p [] x h e = rw e refl
+after_found p (y ∷ ys) x h e = rw h.0 (after_found p ys x h.1 e)
 
-pub behind_none : {X : Type 0} (p : X → Bool) (xs : List X) → NoneOf p xs → behind p xs ≡ []
-behind_none p [] h = refl
-behind_none p (x ∷ xs) h = rw h.0 (behind_none p xs h.1)
+pub after_none : {X : Type 0} (p : X → Bool) (xs : List X) → NoneOf p xs → following p xs ≡ []
+after_none p [] h = refl
+after_none p (x ∷ xs) h = rw h.0 (after_none p xs h.1)
 
-pub behind_more : {X : Type 0} (p : X → Bool) (xs ys : List X) → HasOne p xs → behind p (xs ++ ys) ≡ behind p xs ++ ys
-behind_more p [] ys h = absurd h
-behind_more p (x ∷ xs) ys (inl h) = rw h refl
-behind_more p (x ∷ xs) ys (inr h) = rw h.0 (behind_more p xs ys h.1)
+pub following_more : {X : Type 0} (p : X → Bool) (xs ys : List X) → HasOne p xs → following p (xs ++ ys) ≡ following p xs ++ ys
+following_more p [] ys h = absurd h
+following_more p (x ∷ xs) ys (inl h) = rw h refl
+following_more p (x ∷ xs) ys (inr h) = rw h.0 (following_more p xs ys h.1)
 
 pub ahead_found : {X : Type 0} (p : X → Bool) (xs : List X) (x : X) → NoneOf p xs → p x ≡ true → ahead p (xs ++ x ∷ []) ≡ xs
 ahead_found p [] x h e = rw e refl

@@ -13,19 +13,19 @@ use Rattle.shogi_rules.specs.Rules.{Kept, all_rules}
 use Rattle.csa_text.specs.Codes.{move_text}
 use Rattle.record_game.specs.Game.{Game, Timed, move_of}
 use Rattle.record_game.specs.Items.{AtMostOne}
-use Rattle.bridge_table.specs.Logs.{Step, heard, server_lines, behind, behind_login, EndsPlay, IsWithinPlay, Moved}
+use Rattle.bridge_table.specs.Logs.{Step, from_server, server_lines, following, after_login, EndsPlay, IsWithinPlay, Moved}
 use Rattle.session_lines.specs.MoveLines.{is_move_line}
 use Rattle.bridge_table.specs.Row.{Play, in_play, before_result, Judged, IsExpected, answer_line}
 use Rattle.bridge_table.specs.Sending.{own_text, own_texts}
 use Rattle.session_lines.specs.declared.server_words.GameResult.{GameResult}
 use Rattle.session_lines.specs.ServerLines.{is_hash_line, outcome_of}
 use Rattle.bridge_table.specs.declared.state.Answer.TheVariants.{Move as move, Toryo as toryo, Kachi as kachi}
-use Rattle.bridge_table.specs.State.{Match, Finish, nothing_told, Client, idle, logging_in, before_summary, summary, agreeing, playing, sent, reason, closing, ended, State, match_line, position_now, game_with}
+use Rattle.bridge_table.specs.State.{Match, Finish, nothing_stated, Client, idle, logging_in, before_summary, summary, agreeing, playing, sent, reason, closing, ended, State, match_line, position_now, game_with}
 use Rattle.bridge_table.specs.Summary.{CountsAs, Offer}
 use Rattle.bridge_table.proofs.Courses.{Steps, Lines, sends_login, agrees, hears_ok, hears_begin, hears_start, extra, one_extra, Logged, logged_more, login_more, Begun, begun_more, Agreed, agreed_more, Course, course_quiet, course_skips, course_moves, course_ends, course_over}
-use Rattle.bridge_table.proofs.EndTold.{Told, after_hash, told_hash, told_hash_more, told_more, told_closed}
+use Rattle.bridge_table.proofs.EndStated.{EndReport, after_hash, stated_hash, stated_hash_more, stated_more, stated_closed}
 use Rattle.bridge_table.proofs.Fitting.{Fits, right_side}
-use Rattle.bridge_table.proofs.Testing.{NoneOf, HasOne, none_more, has_more, behind_more}
+use Rattle.bridge_table.proofs.Testing.{NoneOf, HasOne, none_more, has_more, following_more}
 
 -- 1. the ties
 -- before AGREE nothing was answered
@@ -49,17 +49,17 @@ pub record IsOver (k : Steps) (client : Color) (game : Game) (a : Lines) (f : Fi
   pub line : List ℕ
   pub rest : Lines
   pub course : Course k client game taken (line ∷ rest) offer moved
-  pub told : Told (line ∷ rest) f result
+  pub stated : EndReport (line ∷ rest) f result
   pub waiting : Lines
   pub answered : a ≡ own_texts offer.client moved ++ waiting
   pub one : AtMostOne waiting
 
 abbrev pub Tied : Steps → Lines → Client → Type 0
 Tied k a idle = Early k a × NoneOf sends_login k
-Tied k a logging_in = Early k a × HasOne sends_login k × NoneOf hears_ok (behind sends_login k)
-Tied k a before_summary = Early k a × Logged k × NoneOf hears_begin (behind_login k)
+Tied k a logging_in = Early k a × HasOne sends_login k × NoneOf hears_ok (following sends_login k)
+Tied k a before_summary = Early k a × Logged k × NoneOf hears_begin (after_login k)
 Tied k a (summary h) = Early k a × Begun k h
-Tied k a (agreeing o) = (a ≡ []) × Agreed k o × NoneOf hears_start (behind agrees k)
+Tied k a (agreeing o) = (a ≡ []) × Agreed k o × NoneOf hears_start (following agrees k)
 Tied k a (playing g) = InPlay k g.client g.game a []
 Tied k a (sent g answer) = InPlay k g.client g.game a (answer_line g answer ∷ [])
 Tied k a (reason g f) = IsOver k g.client g.game a f None
@@ -84,15 +84,15 @@ abbrev pub Skipped : Client → Step → Type 0
 Skipped idle x = Unit {0}
 Skipped logging_in x = hears_ok x ≡ false
 Skipped before_summary x = hears_begin x ≡ false
-Skipped (summary h) x = heard x ≡ None
+Skipped (summary h) x = from_server x ≡ None
 Skipped (agreeing o) x = hears_start x ≡ false
-Skipped (playing g) x = Passed (heard x)
-Skipped (sent g a) x = Passed (heard x)
-Skipped (reason g f) x = NoHash (heard x)
+Skipped (playing g) x = Passed (from_server x)
+Skipped (sent g a) x = Passed (from_server x)
+Skipped (reason g f) x = NoHash (from_server x)
 Skipped (closing g f o) x = Unit {0}
 Skipped (ended g f o) x = Unit {0}
 
-pub nothing_skipped : (c : Client) (x : Step) → heard x ≡ None → Skipped c x
+pub nothing_skipped : (c : Client) (x : Step) → from_server x ≡ None → Skipped c x
 nothing_skipped idle x e = tt
 nothing_skipped logging_in x e = rw e refl
 nothing_skipped before_summary x e = rw e refl
@@ -107,7 +107,7 @@ nothing_skipped (ended g f o) x e = tt
 early_more : (k : Steps) (a : Lines) (x : Step) → Early k a → IsSilent x → Early (k ++ x ∷ []) a
 early_more k a x h s = record { none = none_more agrees k x h.none s.agree; nothing = h.nothing }
 
-pass : (k : Steps) (client : Color) (game : Game) (a waiting : Lines) (x : Step) (o : Option (List ℕ)) → heard x ≡ o → InPlay k client game a waiting → Passed o
+pass : (k : Steps) (client : Color) (game : Game) (a waiting : Lines) (x : Step) (o : Option (List ℕ)) → from_server x ≡ o → InPlay k client game a waiting → Passed o
     → InPlay (k ++ x ∷ []) client game a waiting
 pass k client game a waiting x None e h skipped = record {
   offer = h.offer;
@@ -127,15 +127,15 @@ pass k client game a waiting x (Some line) e h skipped = record {
 }
 
 over_more : (k : Steps) (client : Color) (game : Game) (a : Lines) (x : Step) (f new : Finish) (old result : Option GameResult) (h : IsOver k client game a f old)
-    → Told (h.line ∷ (h.rest ++ extra x)) new result → IsOver (k ++ x ∷ []) client game a new result
-over_more k client game a x f new old result h told = record {
+    → EndReport (h.line ∷ (h.rest ++ extra x)) new result → IsOver (k ++ x ∷ []) client game a new result
+over_more k client game a x f new old result h stated = record {
   offer = h.offer;
   moved = h.moved;
   taken = h.taken;
   line = h.line;
   rest = h.rest ++ extra x;
   course = course_over k x client game h.taken h.line h.rest h.offer h.moved h.course;
-  told = told;
+  stated = stated;
   waiting = h.waiting;
   answered = h.answered;
   one = h.one;
@@ -144,39 +144,39 @@ over_more k client game a x f new old result h told = record {
 -- whatever follows the result
 pub over_closed : (k : Steps) (client : Color) (game : Game) (a : Lines) (x : Step) (f : Finish) (o : GameResult) → IsOver k client game a f (Some o)
     → IsOver (k ++ x ∷ []) client game a f (Some o)
-over_closed k client game a x f o h = over_more k client game a x f f (Some o) (Some o) h (told_closed h.line h.rest (extra x) f o h.told)
+over_closed k client game a x f o h = over_more k client game a x f f (Some o) (Some o) h (stated_closed h.line h.rest (extra x) f o h.stated)
 
 -- no line received, or one that does not begin with `#`
-over_skips : (k : Steps) (client : Color) (game : Game) (a : Lines) (x : Step) (f : Finish) (o : Option (List ℕ)) → heard x ≡ o → IsOver k client game a f None → NoHash o
+over_skips : (k : Steps) (client : Color) (game : Game) (a : Lines) (x : Step) (f : Finish) (o : Option (List ℕ)) → from_server x ≡ o → IsOver k client game a f None → NoHash o
     → IsOver (k ++ x ∷ []) client game a f None
 over_skips k client game a x f None e h skipped =
     let none : extra x ≡ [] = rw e refl in
-    over_more k client game a x f f None None h (subst (λ ls. Told (h.line ∷ ls) f None) (sym (ap (λ ls. h.rest ++ ls) none ∙ append-nil h.rest)) h.told)
+    over_more k client game a x f f None None h (subst (λ ls. EndReport (h.line ∷ ls) f None) (sym (ap (λ ls. h.rest ++ ls) none ∙ append-nil h.rest)) h.stated)
 over_skips k client game a x f (Some line) e h skipped =
-    over_more k client game a x f f None None h (subst (λ ls. Told (h.line ∷ (h.rest ++ ls)) f None) (sym (one_extra x line e)) (told_more h.line line h.rest f h.told skipped))
+    over_more k client game a x f f None None h (subst (λ ls. EndReport (h.line ∷ (h.rest ++ ls)) f None) (sym (one_extra x line e)) (stated_more h.line line h.rest f h.stated skipped))
 
 pub tied_silent : (k : Steps) (a : Lines) (c : Client) (x : Step) → Tied k a c → IsSilent x → Skipped c x → Tied (k ++ x ∷ []) a c
 tied_silent k a idle x h s n = (early_more k a x h.0 s, none_more sends_login k x h.1 s.login)
 tied_silent k a logging_in x h s n = (
   early_more k a x h.0 s,
   has_more sends_login k (x ∷ []) h.1,
-  subst (NoneOf hears_ok) (sym (behind_more sends_login k (x ∷ []) h.1)) (none_more hears_ok (behind sends_login k) x h.2 n),
+  subst (NoneOf hears_ok) (sym (following_more sends_login k (x ∷ []) h.1)) (none_more hears_ok (following sends_login k) x h.2 n),
 )
 tied_silent k a before_summary x h s n = (
   early_more k a x h.0 s,
   logged_more k x h.1,
-  subst (NoneOf hears_begin) (sym (login_more k x h.1)) (none_more hears_begin (behind_login k) x h.2 n),
+  subst (NoneOf hears_begin) (sym (login_more k x h.1)) (none_more hears_begin (after_login k) x h.2 n),
 )
-tied_silent k a (summary heard_so) x h s n =
+tied_silent k a (summary received_so) x h s n =
     let none : extra x ≡ [] = rw n refl in
-    let same : CountsAs (server_lines (behind hears_begin (behind_login k)) ++ extra x) heard_so =
-    subst (λ ls. CountsAs ls heard_so) (sym (ap (λ ls. server_lines (behind hears_begin (behind_login k)) ++ ls) none ∙ append-nil (server_lines (behind hears_begin (behind_login k))))) h.1.counts in
-    (early_more k a x h.0 s, begun_more k x heard_so heard_so h.1 same)
+    let same : CountsAs (server_lines (following hears_begin (after_login k)) ++ extra x) received_so =
+    subst (λ ls. CountsAs ls received_so) (sym (ap (λ ls. server_lines (following hears_begin (after_login k)) ++ ls) none ∙ append-nil (server_lines (following hears_begin (after_login k))))) h.1.counts in
+    (early_more k a x h.0 s, begun_more k x received_so received_so h.1 same)
 tied_silent k a (agreeing o) x h s n =
-    (h.0, agreed_more k x o h.1, subst (NoneOf hears_start) (sym (behind_more agrees k (x ∷ []) h.1.has)) (none_more hears_start (behind agrees k) x h.2 n))
-tied_silent k a (playing g) x h s n = pass k g.client g.game a [] x (heard x) refl h n
-tied_silent k a (sent g answer) x h s n = pass k g.client g.game a (answer_line g answer ∷ []) x (heard x) refl h n
-tied_silent k a (reason g f) x h s n = over_skips k g.client g.game a x f (heard x) refl h n
+    (h.0, agreed_more k x o h.1, subst (NoneOf hears_start) (sym (following_more agrees k (x ∷ []) h.1.has)) (none_more hears_start (following agrees k) x h.2 n))
+tied_silent k a (playing g) x h s n = pass k g.client g.game a [] x (from_server x) refl h n
+tied_silent k a (sent g answer) x h s n = pass k g.client g.game a (answer_line g answer ∷ []) x (from_server x) refl h n
+tied_silent k a (reason g f) x h s n = over_skips k g.client g.game a x f (from_server x) refl h n
 tied_silent k a (closing g f o) x h s n = over_closed k g.client g.game a x f o h
 tied_silent k a (ended g f o) x h s n = over_closed k g.client g.game a x f o h
 
@@ -268,7 +268,7 @@ pub legal_more : (g : Game) (m : Timed) → IsGame g.start (map move_of g.moves)
 legal_more g m h may = subst (IsGame g.start) (sym (map-append move_of g.moves (m ∷ []))) (played (map move_of g.moves) m.move h may)
 
 -- a confirmed move
-pub confirm : (k : Steps) (a : Lines) (p : Play) (x : Step) (line : List ℕ) (color : Color) (m : Timed) → Plays k a p → heard x ≡ Some line
+pub confirm : (k : Steps) (a : Lines) (p : Play) (x : Step) (line : List ℕ) (color : Color) (m : Timed) → Plays k a p → from_server x ≡ Some line
     → is_move_line line ≡ true → Judged p.game line color m None → IsExpected p color m → IsWithinPlay line
     → InPlay (k ++ x ∷ []) p.game.client (game_with p.game.game (m ∷ [])) a []
 confirm k a p x line color m h e sign j own on =
@@ -279,7 +279,7 @@ confirm k a p x line color m h e sign j own on =
       offer = i.offer;
       moved = i.moved ++ n ∷ [];
       taken = i.taken ++ line ∷ [];
-      course = course_moves k x p.game.client p.game.game i.taken i.offer i.moved line n i.course e on sign j.told;
+      course = course_moves k x p.game.client p.game.game i.taken i.offer i.moved line n i.course e on sign j.stated;
       answered =
           i.answered ∙ (ap (λ ws. own_texts i.offer.client i.moved ++ ws) texts
           ∙ (sym (own_more i.offer.client i.moved n) ∙ sym (append-nil (own_texts i.offer.client (i.moved ++ n ∷ [])))));
@@ -287,9 +287,9 @@ confirm k a p x line color m h e sign j own on =
     }
 
 -- a line that ends play
-pub finish : (k : Steps) (a : Lines) (p : Play) (x : Step) (line : List ℕ) (f : Finish) (result : Option GameResult) → Plays k a p → heard x ≡ Some line → EndsPlay (line ∷ [])
-    → Told (line ∷ []) f result → IsOver (k ++ x ∷ []) p.game.client p.game.game a f result
-finish k a p x line f result h e ends told =
+pub finish : (k : Steps) (a : Lines) (p : Play) (x : Step) (line : List ℕ) (f : Finish) (result : Option GameResult) → Plays k a p → from_server x ≡ Some line → EndsPlay (line ∷ [])
+    → EndReport (line ∷ []) f result → IsOver (k ++ x ∷ []) p.game.client p.game.game a f result
+finish k a p x line f result h e ends stated =
     let i = h.in_play in
     record {
       offer = i.offer;
@@ -298,7 +298,7 @@ finish k a p x line f result h e ends told =
       line = line;
       rest = [];
       course = course_ends k x p.game.client p.game.game i.taken i.offer i.moved line i.course e ends;
-      told = told;
+      stated = stated;
       waiting = h.waiting;
       answered = i.answered;
       one = at_most p.game p.waiting h.waiting h.waits_so;
@@ -311,21 +311,21 @@ same_result : (x y : Match × Finish) → Some x ≡ Some y → x ≡ y
 same_result x y e = cc
 
 over_hash : (k : Steps) (client : Color) (game : Game) (a : Lines) (x : Step) (f : Finish) (line : List ℕ) (o : Option GameResult) → IsOver k client game a f None
-    → heard x ≡ Some line → is_hash_line line ≡ true → outcome_of line ≡ o → IsOver (k ++ x ∷ []) client game a (after_hash f line o) o
+    → from_server x ≡ Some line → is_hash_line line ≡ true → outcome_of line ≡ o → IsOver (k ++ x ∷ []) client game a (after_hash f line o) o
 over_hash k client game a x f line o h e sign is =
     over_more k client game a x f (after_hash f line o) None o h
-    (subst (λ ls. Told (h.line ∷ (h.rest ++ ls)) (after_hash f line o) o) (sym (one_extra x line e)) (told_hash_more h.line line h.rest f o h.told sign is))
+    (subst (λ ls. EndReport (h.line ∷ (h.rest ++ ls)) (after_hash f line o) o) (sym (one_extra x line e)) (stated_hash_more h.line line h.rest f o h.stated sign is))
 
-first_hash : (k : Steps) (a : Lines) (p : Play) (x : Step) (line : List ℕ) (o : Option GameResult) → Plays k a p → heard x ≡ Some line → is_hash_line line ≡ true
-    → outcome_of line ≡ o → IsOver (k ++ x ∷ []) p.game.client p.game.game a (after_hash nothing_told line o) o
-first_hash k a p x line o h e sign is = finish k a p x line (after_hash nothing_told line o) o h e (inr sign) (told_hash line o sign is)
+first_hash : (k : Steps) (a : Lines) (p : Play) (x : Step) (line : List ℕ) (o : Option GameResult) → Plays k a p → from_server x ≡ Some line → is_hash_line line ≡ true
+    → outcome_of line ≡ o → IsOver (k ++ x ∷ []) p.game.client p.game.game a (after_hash nothing_stated line o) o
+first_hash k a p x line o h e sign is = finish k a p x line (after_hash nothing_stated line o) o h e (inr sign) (stated_hash line o sign is)
 
 abbrev OverSo : Steps → Lines → List ℕ → Option GameResult → Match × Finish → Type 0
 OverSo k a line o y = IsOver k y.0.client y.0.game a (after_hash y.1 line o) o
 
 -- a line that begins with `#` in Playing, Sent, Reason
 pub hash : (k : Steps) (a : Lines) (s : State) (c : Client) (y : Match × Finish) (x : Step) (line : List ℕ) (o : Option GameResult) → Tied k a c → Fits c s.engine
-    → before_result c ≡ Some y → heard x ≡ Some line → is_hash_line line ≡ true → outcome_of line ≡ o → OverSo (k ++ x ∷ []) a line o y
+    → before_result c ≡ Some y → from_server x ≡ Some line → is_hash_line line ≡ true → outcome_of line ≡ o → OverSo (k ++ x ∷ []) a line o y
 hash k a s idle y x line o h f e r sign is = absurd (no_result y e)
 hash k a s logging_in y x line o h f e r sign is = absurd (no_result y e)
 hash k a s before_summary y x line o h f e r sign is = absurd (no_result y e)

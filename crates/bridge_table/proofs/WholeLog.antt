@@ -37,7 +37,7 @@ use Rattle.bridge_table.specs.Row.{Row, in_table, login_line}
 use Rattle.bridge_table.specs.Row as row
 use Rattle.bridge_table.specs.declared.state.Answer.TheVariants.{Move as move}
 use Rattle.bridge_table.specs.State.{Client, State, first_state, idle, logging_in, before_summary, summary, agreeing, playing, sent}
-use Rattle.bridge_table.specs.Summary.{Heard, PositionBlocks, CountsAs, Block, IsBlock, Offer, TellsOffer, TellsPosition, line, block, none, one, nothing_heard, end_line}
+use Rattle.bridge_table.specs.Summary.{SummaryContent, PositionBlocks, CountsAs, Block, IsBlock, Offer, TellsOffer, TellsPosition, line, block, none, one, no_content, end_line}
 use Rattle.session_lines.specs.Texts.{text_of}
 use Rattle.bridge_table.specs.Sending.{is_position_line}
 use Rattle.bridge_table.proofs.AlwaysAsks.{asks_by_position}
@@ -152,24 +152,24 @@ tells = record {
 abbrev turn_line : List ℕ
 turn_line = codes "Your_Turn:+"
 
-abbrev heard : List ℕ → PositionBlocks → Option (List ℕ) → Heard
-heard side positions title = record { black = []; white = []; turn = side; positions = positions; begun = title }
+abbrev from_server : List ℕ → PositionBlocks → Option (List ℕ) → SummaryContent
+from_server side positions title = record { black = []; white = []; turn = side; positions = positions; begun = title }
 
 -- after `Your_Turn:`, with these lines of the position block
-abbrev within : List (List ℕ) → Heard
-within lines = heard (codes "+") (one (text_of lines)) (Some texts.position_title)
+abbrev within : List (List ℕ) → SummaryContent
+within lines = from_server (codes "+") (one (text_of lines)) (Some texts.position_title)
 
-abbrev over : Heard
-over = heard (codes "+") (one block_text) None
+abbrev over : SummaryContent
+over = from_server (codes "+") (one block_text) None
 
 abbrev position_block : List (List ℕ) → Block
 position_block lines = record { title = texts.position_title; lines = lines }
 
-nothing : CountsAs [] nothing_heard
+nothing : CountsAs [] no_content
 nothing = record { parts = []; begun = None; whole = refl; fit = tt; begun_fits = tt; black = refl; white = refl; turn = refl; positions = refl; title = refl }
 
-side_told : CountsAs (turn_line ∷ []) (heard (codes "+") none None)
-side_told = record {
+side_stated : CountsAs (turn_line ∷ []) (from_server (codes "+") none None)
+side_stated = record {
   parts = line turn_line ∷ [];
   begun = None;
   whole = refl;
@@ -225,8 +225,8 @@ block_ended = record {
 abbrev offered : Offer
 offered = record { client = Black; game = pawn_game }
 
-offer_told : TellsOffer over offered
-offer_told = record {
+offer_stated : TellsOffer over offered
+offer_stated = record {
   no_block = refl;
   black_fits = lit≤ tt;
   white_fits = lit≤ tt;
@@ -242,7 +242,7 @@ offer_told = record {
 abbrev state : EngineState → Client → State
 state now client = record { engine = now; client = client; status = Going }
 
-hears : (c : Config) (lines : List (List ℕ)) (next_line : List ℕ) (h g : Heard) → next_line ≢ texts.end_summary → CountsAs lines h → CountsAs (lines ++ next_line ∷ []) g
+hears : (c : Config) (lines : List (List ℕ)) (next_line : List ℕ) (h g : SummaryContent) → next_line ≢ texts.end_summary → CountsAs lines h → CountsAs (lines ++ next_line ∷ []) g
     → Row c (ready (summary h)) (server_line next_line) no_lines (ready (summary g))
 hears c lines next_line h g goes_on before after = in_table (refl, row.summary_line lines next_line h g refl refl goes_on before after refl refl)
 
@@ -254,24 +254,24 @@ asking c position = position ∷ go_line c pawn_match ∷ []
 
 starts : (c : Config) (position : List ℕ) → LineText pawn_start [] position
     → Row c (ready (agreeing offered)) (server_line (codes "START:x")) (engine (usi_texts.new_game ∷ asking c position)) (thinking (playing pawn_match))
-starts c position told = in_table (
+starts c position stated = in_table (
   refl,
   row.started offered (codes "START:x") (asking c position) Thinking refl refl refl
-      (asked may_ask (record { position = position; of_game = told; whole = refl }) refl) refl refl,
+      (asked may_ask (record { position = position; of_game = stated; whole = refl }) refl) refl refl,
 )
 
 -- an event with this answer
-abbrev told : Event → Out → Step
-told e out = record { event = e; out = out; status = Going }
+abbrev stated : Event → Out → Step
+stated e out = record { event = e; out = out; status = Going }
 
 abbrev silent_on : List ℕ → Step
-silent_on text = told (server_line text) no_lines
+silent_on text = stated (server_line text) no_lines
 
 abbrev logged_in : Config → List Step
 logged_in c =
-    told begin (engine (usi_texts.usi ∷ []))
-    ∷ told (engine_line usi_texts.usi_ok) (engine (usi_texts.is_ready ∷ []))
-    ∷ told (engine_line usi_texts.ready_ok) (server (login_line c))
+    stated begin (engine (usi_texts.usi ∷ []))
+    ∷ stated (engine_line usi_texts.usi_ok) (engine (usi_texts.is_ready ∷ []))
+    ∷ stated (engine_line usi_texts.ready_ok) (server (login_line c))
     ∷ silent_on (codes "LOGIN:x OK")
     ∷ []
 
@@ -293,17 +293,17 @@ summary_steps =
     ∷ silent_on pawn_line
     ∷ silent_on side_line
     ∷ silent_on texts.end_position
-    ∷ told (server_line texts.end_summary) (server texts.agree)
+    ∷ stated (server_line texts.end_summary) (server texts.agree)
     ∷ []
 
 agrees : (c : Config) → Leads c (logged_in c ++ summary_steps) (ready (agreeing offered))
 agrees c =
-    let first = next _ _ (server_line texts.begin_summary) no_lines (ready (summary nothing_heard)) (greets c)
+    let first = next _ _ (server_line texts.begin_summary) no_lines (ready (summary no_content)) (greets c)
     (in_table (refl, row.summary_begins refl refl refl refl)) in
     let second = next _ _ (server_line turn_line) no_lines _ first
-    (hears c [] turn_line nothing_heard (heard (codes "+") none None) (λ e. cc) nothing side_told) in
+    (hears c [] turn_line no_content (from_server (codes "+") none None) (λ e. cc) nothing side_stated) in
     let third = next _ _ (server_line texts.begin_position) no_lines _ second
-    (hears c (turn_line ∷ []) texts.begin_position _ (within []) (λ e. cc) side_told (in_block [] tt)) in
+    (hears c (turn_line ∷ []) texts.begin_position _ (within []) (λ e. cc) side_stated (in_block [] tt)) in
     let fourth = next _ _ (server_line pawn_line) no_lines _ third
     (hears c (turn_line ∷ texts.begin_position ∷ []) pawn_line _ (within (pawn_line ∷ [])) (λ e. cc) (in_block [] tt) (in_block (pawn_line ∷ []) (no_end, tt))) in
     let fifth = next _ _ (server_line side_line) no_lines _ fourth
@@ -313,12 +313,12 @@ agrees c =
     (hears c (turn_line ∷ texts.begin_position ∷ pawn_line ∷ side_line ∷ []) texts.end_position _ over (λ e. cc)
     (in_block (pawn_line ∷ side_line ∷ []) (no_end, (no_end_of_side, tt))) block_ended) in
     next _ _ (server_line texts.end_summary) (server texts.agree) (ready (agreeing offered)) sixth
-    (in_table (refl, row.summary_ends over offered refl refl offer_told refl refl))
+    (in_table (refl, row.summary_ends over offered refl refl offer_stated refl refl))
 
 abbrev game_steps : Config → List ℕ → List Step
 game_steps c position =
-    told (server_line (codes "START:x")) (engine (usi_texts.new_game ∷ asking c position))
-    ∷ told (engine_line (codes "bestmove 7g7f")) (server (codes "+7776FU"))
+    stated (server_line (codes "START:x")) (engine (usi_texts.new_game ∷ asking c position))
+    ∷ stated (engine_line (codes "bestmove 7g7f")) (server (codes "+7776FU"))
     ∷ []
 
 moves_once : (c : Config) (position : List ℕ) → LineText pawn_start [] position

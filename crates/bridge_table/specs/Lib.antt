@@ -1,7 +1,7 @@
 pub mod Asking
 pub mod Events
 pub mod Examples
-pub mod GameTold
+pub mod GameSoFar
 pub mod Hearing
 pub mod Logs
 pub mod Promises

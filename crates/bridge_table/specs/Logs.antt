@@ -7,7 +7,7 @@ use Rattle.bridge_table.specs.declared.config.Config.{Config}
 use Rattle.bridge_table.specs.declared.event.Status.{Status}
 use Rattle.bridge_table.specs.declared.event.Status.TheVariants.{Going, Done, Failed, Lost}
 use Rattle.bridge_table.specs.Events.{Event, begin, engine_line, server_line, engine_end, server_end, engine_long, server_long, Out}
-use Rattle.bridge_table.specs.GameTold.{ending_of, game_of}
+use Rattle.bridge_table.specs.GameSoFar.{ending_of, game_of}
 use Rattle.session_lines.specs.LineTexts as texts
 use Rattle.session_lines.specs.MoveLines.{is_move_line}
 use Rattle.bridge_table.specs.Row.{Row}
@@ -57,11 +57,11 @@ server_text server_end = None
 server_text engine_long = None
 server_text server_long = None
 
-abbrev pub heard : Step → Option (List ℕ)
-heard step = server_text step.event
+abbrev pub from_server : Step → Option (List ℕ)
+from_server step = server_text step.event
 
 abbrev pub server_lines : List Step → List (List ℕ)
-server_lines log = filter_map heard log
+server_lines log = filter_map from_server log
 
 abbrev pub passes : (List ℕ → Bool) → Option (List ℕ) → Bool
 passes test None = false
@@ -69,16 +69,16 @@ passes test (Some line) = test line
 
 -- the step received such a line from the server
 abbrev pub hears : (List ℕ → Bool) → Step → Bool
-hears test step = passes test (heard step)
+hears test step = passes test (from_server step)
 
 -- the step sent the server a line that begins like this
 abbrev pub sends : List ℕ → Step → Bool
 sends text step = list_any (λ line. starts_with nat_eq line text) step.out.to_server
 
 -- the elements after the first that passes the test; none if none passes
-abbrev pub behind : {X : Type 0} → (X → Bool) → List X → List X
-behind test [] = []
-behind test (x ∷ xs) = if test x then xs else behind test xs
+abbrev pub following : {X : Type 0} → (X → Bool) → List X → List X
+following test [] = []
+following test (x ∷ xs) = if test x then xs else following test xs
 
 -- the elements before it; all if none passes
 abbrev pub ahead : {X : Type 0} → (X → Bool) → List X → List X
@@ -89,20 +89,20 @@ abbrev pub is_begin_line : List ℕ → Bool
 is_begin_line line = bytes_eq line texts.begin_summary
 
 -- the steps after the one that sent LOGIN; of these, those after the `LOGIN:` .. ` OK` line
-abbrev pub behind_login : List Step → List Step
-behind_login log = behind (hears is_login_ok) (behind (sends texts.login_front) log)
+abbrev pub after_login : List Step → List Step
+after_login log = following (hears is_login_ok) (following (sends texts.login_front) log)
 
 -- the lines of the summary: of these steps, those after `BEGIN Game_Summary` and before the one
 -- that is answered with AGREE
 abbrev pub summary_lines : List Step → List (List ℕ)
 summary_lines log =
-    server_lines (behind (hears is_begin_line)
-    (behind_login (ahead (sends texts.agree) (counted log))))
+    server_lines (following (hears is_begin_line)
+    (after_login (ahead (sends texts.agree) (counted log))))
 
 -- the lines after the first `START:` line that follows AGREE
 abbrev pub started_lines : List Step → List (List ℕ)
 started_lines log =
-    server_lines (behind (hears is_start_line) (behind (sends texts.agree) (counted log)))
+    server_lines (following (hears is_start_line) (following (sends texts.agree) (counted log)))
 
 -- a readable ending
 abbrev pub IsEnding : List ℕ → Type 0
@@ -143,7 +143,7 @@ IsMoved line m = TellsTimed line m.color m.played
 -- moves
 pub record Confirmed (log : List Step) (o : Offer) (moved : List Moved) : Type 0 where
   pub agreed : list_any (sends texts.agree) (counted log) ≡ true
-  pub told : TellsSummary (summary_lines log) o
+  pub stated : TellsSummary (summary_lines log) o
   pub taken : List (List ℕ)
   pub rest : List (List ℕ)
   pub lines_are : Taken log taken rest

@@ -8,7 +8,7 @@ use Rattle.bridge_table.specs.declared.event.Event.{Event as Handed}
 use Rattle.bridge_table.specs.declared.event.Event.TheVariants as handed
 use Rattle.bridge_table.specs.declared.event.Status.{Status}
 use Rattle.bridge_table.specs.Events.{Event, begin, engine_line, server_line, engine_end, server_end, engine_long, server_long, trimmed, Out}
-use Rattle.bridge_table.specs.GameTold.{game_of}
+use Rattle.bridge_table.specs.GameSoFar.{game_of}
 use Rattle.bridge_table.specs.Row.{Row}
 use Rattle.bridge_table.specs.State.{State, client_state}
 use Rattle.session_lines.specs.Texts.{text_of}

@@ -36,8 +36,8 @@ use Rattle.session_lines.specs.declared.server_words.EndReason.{EndReason}
 use Rattle.session_lines.specs.ServerLines.{is_login_ok, is_start_line, is_reject_line, is_ending_line, is_hash_line, TellsTimed, TellsEnding, FirstTextFault, outcome_of, reason_of}
 use Rattle.bridge_table.specs.declared.state.Answer.{Answer}
 use Rattle.bridge_table.specs.declared.state.Answer.TheVariants.{Move as move, Toryo as toryo, Kachi as kachi}
-use Rattle.bridge_table.specs.State.{Match, Finish, nothing_told, Client, idle, logging_in, before_summary, summary, agreeing, playing, sent, reason, closing, ended, State, client_state, match_of, match_line, position_now, with_move}
-use Rattle.bridge_table.specs.Summary.{Heard, nothing_heard, CountsAs, Offer, TellsOffer}
+use Rattle.bridge_table.specs.State.{Match, Finish, nothing_stated, Client, idle, logging_in, before_summary, summary, agreeing, playing, sent, reason, closing, ended, State, client_state, match_of, match_line, position_now, with_move}
+use Rattle.bridge_table.specs.Summary.{SummaryContent, no_content, CountsAs, Offer, TellsOffer}
 
 -- 1. Words of the table
 abbrev pub login_line : Config → List ℕ
@@ -113,8 +113,8 @@ before_result logging_in = None
 before_result before_summary = None
 before_result (summary h) = None
 before_result (agreeing o) = None
-before_result (playing g) = Some (g, nothing_told)
-before_result (sent g answer) = Some (g, nothing_told)
+before_result (playing g) = Some (g, nothing_stated)
+before_result (sent g answer) = Some (g, nothing_stated)
 before_result (reason g f) = Some (g, f)
 before_result (closing g f o) = None
 before_result (ended g f o) = None
@@ -123,7 +123,7 @@ before_result (ended g f o) = None
 -- the line spells this move of this side, and playing it has this result
 pub record Judged (g : Match) (line : List ℕ)
     (color : Color) (m : Timed) (answer : Option PlayFault) : Type 0 where
-  pub told : TellsTimed line color m
+  pub stated : TellsTimed line color m
   pub answers : Answers (match_line g) color m.move answer
 
 -- why the line is refused: the first text fault of the whole line, then too many moves, then the
@@ -181,18 +181,18 @@ pub data TableRow (c : Config) (s : State) (e : Event) (out : Out) (t : State) :
   -- Summary | the lines of a summary, and its end
   summary_begins :
       s.client ≡ before_summary → e ≡ server_line texts.begin_summary
-      → out ≡ no_lines → t ≡ client_to s (summary nothing_heard)
+      → out ≡ no_lines → t ≡ client_to s (summary no_content)
       → TableRow c s e out t
-  summary_line : (lines : List (List ℕ)) (line : List ℕ) (h new : Heard)
+  summary_line : (lines : List (List ℕ)) (line : List ℕ) (h new : SummaryContent)
       → s.client ≡ summary h → e ≡ server_line line → line ≢ texts.end_summary
       → CountsAs lines h → CountsAs (lines ++ line ∷ []) new
       → out ≡ no_lines → t ≡ client_to s (summary new)
       → TableRow c s e out t
-  summary_ends : (h : Heard) (o : Offer)
+  summary_ends : (h : SummaryContent) (o : Offer)
       → s.client ≡ summary h → e ≡ server_line texts.end_summary → TellsOffer h o
       → out ≡ server texts.agree → t ≡ client_to s (agreeing o)
       → TableRow c s e out t
-  summary_fails : (h : Heard)
+  summary_fails : (h : SummaryContent)
       → s.client ≡ summary h → e ≡ server_line texts.end_summary
       → ((o : Offer) → TellsOffer h o → ⊥)
       → out ≡ no_lines → t ≡ failed s BadSummary
@@ -260,20 +260,20 @@ pub data TableRow (c : Config) (s : State) (e : Event) (out : Out) (t : State) :
       → out ≡ engine asked → t ≡ record s { engine = now; client = playing (with_move p.game m) }
       → TableRow c s e out t
   -- Playing, Sent | line that begins with `%`: an ending, optionally a time
-  ending_told : (p : Play) (line : List ℕ) (kept : Ended)
+  ending_stated : (p : Play) (line : List ℕ) (kept : Ended)
       → in_play s.client ≡ Some p → e ≡ server_line line
       → is_ending_line line ≡ true → TellsEnding line kept
       → out ≡ no_lines
       → t ≡ client_to s (reason p.game (record { kept = Some kept; reason = None }))
       → TableRow c s e out t
   -- Playing, Sent, Reason | a `#` line that is no result
-  reason_told : (g : Match) (f : Finish) (line : List ℕ)
+  reason_stated : (g : Match) (f : Finish) (line : List ℕ)
       → before_result s.client ≡ Some (g, f)
       → e ≡ server_line line → is_hash_line line ≡ true → outcome_of line ≡ None
       → out ≡ no_lines → t ≡ client_to s (reason g (with_reason f (reason_of line)))
       → TableRow c s e out t
   -- Playing, Sent, Reason | `#WIN #LOSE #DRAW #CENSORED #CHUDAN`
-  result_told : (g : Match) (f : Finish) (line : List ℕ) (o : GameResult)
+  result_stated : (g : Match) (f : Finish) (line : List ℕ) (o : GameResult)
       → before_result s.client ≡ Some (g, f) → e ≡ server_line line → outcome_of line ≡ Some o
       → out ≡ record {
         to_engine = gameover_line o ∷ usi_texts.quit ∷ [];

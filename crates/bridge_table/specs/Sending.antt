@@ -16,16 +16,16 @@ use Rattle.bridge_table.specs.State.{Match, position_now}
 use Rattle.bridge_table.specs.Summary.{Offer}
 
 -- the match that a log gives: its offer, and the moves that it confirmed
-abbrev pub match_told : Offer → List Moved → Match
-match_told o moved = record { client = o.client; game = game_confirmed o moved; slip = false }
+abbrev pub match_stated : Offer → List Moved → Match
+match_stated o moved = record { client = o.client; game = game_confirmed o moved; slip = false }
 
 -- an answer that the log before it allows: `%TORYO`, `%KACHI`, or a legal move when the client is
 -- to move in the confirmed game, the position has not occurred four times and there are fewer than
 -- 10,000 moves
 pub data IsAnswered (before : List Step) (line : List ℕ) : Type 0 where
   legal_move : (o : Offer) (moved : List Moved) (m : Move)
-      → Confirmed before o moved → MayAsk (match_told o moved)
-      → Legal (position_now (match_told o moved)) m
+      → Confirmed before o moved → MayAsk (match_stated o moved)
+      → Legal (position_now (match_stated o moved)) m
       → line ≡ move_text o.client m
       → IsAnswered before line
   toryo : line ≡ texts.toryo → IsAnswered before line
@@ -58,7 +58,7 @@ pub record AskedRight (c : Config) (log : List Step) (lines : List (List ℕ)) :
   pub moved : List Moved
   pub confirmed : Confirmed log offer moved
   pub asked : List (List ℕ)
-  pub of_game : AskLines c (match_told offer moved) asked
+  pub of_game : AskLines c (match_stated offer moved) asked
   pub whole : (lines ≡ asked) ⊎ (lines ≡ usi_texts.new_game ∷ asked)
 
 -- the lines are the first of the others, in order

@@ -15,7 +15,7 @@ use Rattle.bridge_table.specs.declared.state.Waits.{Waits}
 use Rattle.bridge_table.specs.declared.state.Waits.TheVariants.{Engine, Server, Nobody}
 use Rattle.session_lines.specs.declared.server_words.GameResult.{GameResult}
 use Rattle.session_lines.specs.declared.server_words.EndReason.{EndReason}
-use Rattle.bridge_table.specs.Summary.{Heard, Offer}
+use Rattle.bridge_table.specs.Summary.{SummaryContent, Offer}
 
 -- a match: the client's side; the game so far, with the moves of the summary first and then those
 -- confirmed; and whether the engine slipped, which means that an answer was no legal move
@@ -29,8 +29,8 @@ pub record Finish : Type 0 where
   pub kept : Option Ended
   pub reason : Option EndReason
 
-abbrev pub nothing_told : Finish
-nothing_told = record { kept = None; reason = None }
+abbrev pub nothing_stated : Finish
+nothing_stated = record { kept = None; reason = None }
 
 -- the client states, each with its values
 pub data Client : Type 0 where
@@ -38,7 +38,7 @@ pub data Client : Type 0 where
   logging_in : Client
   -- Summary: before `BEGIN Game_Summary`, and after it with what counts of the lines since
   before_summary : Client
-  summary : Heard → Client
+  summary : SummaryContent → Client
   agreeing : Offer → Client
   playing : Match → Client
   sent : Match → Answer → Client

@@ -21,7 +21,7 @@ pub data PositionBlocks : Type 0 where
   one : List ℕ → PositionBlocks
   several : PositionBlocks
 
-pub record Heard : Type 0 where
+pub record SummaryContent : Type 0 where
   -- what follows the last `Name+:`, `Name-:` and `Your_Turn:`; the empty text if there is none
   pub black : List ℕ
   pub white : List ℕ
@@ -31,8 +31,8 @@ pub record Heard : Type 0 where
   -- the `x` of the block `BEGIN x` that has not ended
   pub begun : Option (List ℕ)
 
-abbrev pub nothing_heard : Heard
-nothing_heard = record { black = []; white = []; turn = []; positions = none; begun = None }
+abbrev pub no_content : SummaryContent
+no_content = record { black = []; white = []; turn = []; positions = none; begun = None }
 
 -- 2. The parts of a summary
 -- the `x` of `BEGIN x`, and the lines after it
@@ -102,7 +102,7 @@ title_of b = b.title
 
 -- what counts of these lines, which are whole parts and then perhaps a block that has not ended;
 -- all else is skipped
-pub record CountsAs (lines : List (List ℕ)) (h : Heard) : Type 0 where
+pub record CountsAs (lines : List (List ℕ)) (h : SummaryContent) : Type 0 where
   pub parts : List Part
   pub begun : Option Block
   pub whole : lines ≡ flat_map part_lines parts ++ flat_map begun_lines (option_to_list begun)
@@ -145,7 +145,7 @@ name_given (b ∷ bs) = Some (b ∷ bs)
 -- what counts describes this offer; it describes none if a block is open, a name is too long,
 -- `Your_Turn` is neither `+` nor `-`, there are no position block or several, or the one has a
 -- fault, another statement or no side
-pub record TellsOffer (h : Heard) (o : Offer) : Type 0 where
+pub record TellsOffer (h : SummaryContent) (o : Offer) : Type 0 where
   pub no_block : h.begun ≡ None
   pub black_fits : length h.black ≤ 4094
   pub white_fits : length h.white ≤ 4094
@@ -158,4 +158,4 @@ pub record TellsOffer (h : Heard) (o : Offer) : Type 0 where
 
 -- the lines of a summary describe this offer
 abbrev pub TellsSummary : List (List ℕ) → Offer → Type 0
-TellsSummary lines o = (h : Heard) × CountsAs lines h × TellsOffer h o
+TellsSummary lines o = (h : SummaryContent) × CountsAs lines h × TellsOffer h o

@@ -17,8 +17,8 @@ ghost use Rattle.shogi_rules.specs.declared.rule.Rule.TheVariants.{WrongSide};
 ghost use Rattle.shogi_board.specs.declared.square.Square.{Square};
 ghost use Rattle.bridge_table.specs.Events.{Event, Out, engine_end, engine_line, no_lines, server, server_end, server_line};
 ghost use Rattle.bridge_table.specs.Examples.{pawn_events, pawn_match, pawn_step, ready, thinking};
-ghost use Rattle.bridge_table.specs.GameTold.{game_of};
-ghost use Rattle.bridge_table.specs.Hearing.{heard_after};
+ghost use Rattle.bridge_table.specs.GameSoFar.{game_of};
+ghost use Rattle.bridge_table.specs.Hearing.{content_after};
 ghost use Rattle.session_lines.specs.LineTexts as texts;
 ghost use Rattle.bridge_table.specs.Logs.{Confirmed, GameOf, Leads, Moved, Step, TellsGame, answers, counted, event_in, is_answer, is_sound, sends};
 ghost use Rattle.bridge_table.specs.Promises.{KeepsGame, Session, StepRow, Steps};
@@ -26,15 +26,16 @@ ghost use Rattle.bridge_table.specs.Row.{Row, failed};
 ghost use Rattle.bridge_table.specs.Sending.{AskedRight, IsAnswered, OwnSent, is_position_line};
 ghost use Rattle.bridge_table.specs.declared.state.Answer.TheVariants.{Move as move};
 ghost use Rattle.bridge_table.specs.State.{Match, State, playing, sent, with_move};
-ghost use Rattle.bridge_table.specs.Summary.{CountsAs, Heard, Offer, nothing_heard};
+ghost use Rattle.bridge_table.specs.Summary.{CountsAs, SummaryContent, Offer, no_content};
 ghost use Rattle.session_lines.specs.Texts.{text_of};
 
-/// With no lines of a summary, nothing counts. If `h` counts of some lines, then of these and one
-/// more line exactly `heard_after` of `h` and that line counts.
+/// A summary of no lines has no content. If some lines have the content `h`, then these and one
+/// more line have the content `content_after h line`, and no other.
 pub fn summary_line_once()
-    ensures first { CountsAs [] nothing_heard }
-    ensures next { (lines : List (List ℕ)) (line : List ℕ) (h new : Heard) → CountsAs lines h
-        → (CountsAs (lines ++ line ∷ []) new ↔ (new ≡ heard_after h line)) }
+    ensures first { CountsAs [] no_content }
+    ensures next { (lines : List (List ℕ)) (line : List ℕ) (h new : SummaryContent)
+        → CountsAs lines h
+        → (CountsAs (lines ++ line ∷ []) new ↔ (new ≡ content_after h line)) }
 {}
 
 /// A state and an event have one answer and one next state: no two rows of the table fit.
@@ -90,9 +91,9 @@ pub fn confirmed_once()
         → Confirmed log o ms → Confirmed log p ns → (o ≡ p) × (ms ≡ ns) }
 {}
 
-/// In every log, each line that a step sends the server as the engine's answer is the text of a
-/// legal move of the client's side in the game that the log before it confirmed, or `%TORYO`, or
-/// `%KACHI`.
+/// In every log, each line that a step sends the server as the engine's answer is `%TORYO`,
+/// `%KACHI`, or the text of a legal move. The move is one of the client's side, in the game that
+/// the log before it confirmed.
 pub fn sent_legal()
     ensures legal { (c : Config) (log : List Step) (s t : State) (e : Event) (out : Out)
         → Leads c log s → Row c s e out t
@@ -132,7 +133,7 @@ pub fn asking_has_a_position()
 /// until `AGREE` is sent. A log has at most one game, and it has no headers. A step that faults
 /// does not change the log's game. If memory runs out in a step, the game that is kept is that of
 /// the log before the event, or with it.
-pub fn game_told()
+pub fn game_so_far()
     ensures log { (c : Config) (log : List Step) (s : State)
         → Leads c log s → TellsGame s.client log }
     ensures none { (c : Config) (log : List Step) (s : State) → Leads c log s

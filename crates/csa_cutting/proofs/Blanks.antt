@@ -41,12 +41,12 @@ last_kept (x ∷ xs) b e solid =
 
 -- bytes whose last one is not a blank are kept whole
 pub kept_whole : (xs : List ℕ) (last : Option ℕ) (blank : Bool) → last ≡ slice_get xs (length xs - 1) → MatchOption last (blank ≡ false) (λ b. blank ≡ is_blank b) → blank ≡ false → without_last_blanks xs ≡ xs
-kept_whole [] last blank e told solid = refl
-kept_whole (x ∷ xs) None blank e told solid =
+kept_whole [] last blank e stated solid = refl
+kept_whole (x ∷ xs) None blank e stated solid =
     let ys : List ℕ = x ∷ xs in
     let some : slice_get ys (length ys - 1) ≡ Some (get_or ys (length ys - 1) 0) = slice_get-get_or ys (length ys - 1) 0 (omega arith) in
     cc
-kept_whole (x ∷ xs) (Some last) blank e told solid = last_kept (x ∷ xs) last e (sym told ∙ solid)
+kept_whole (x ∷ xs) (Some last) blank e stated solid = last_kept (x ∷ xs) last e (sym stated ∙ solid)
 
 pub either_way : (b : Bool) (xs ys : List ℕ) → ys ≡ xs → xs ≡ (if b then xs else ys)
 either_way true xs ys e = refl

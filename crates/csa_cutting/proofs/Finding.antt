@@ -52,9 +52,9 @@ pub begins_still : (c : ℕ) (held more : List ℕ) → 0 < length held → begi
 begins_still c [] more some = absurd (omega arith)
 begins_still c (b ∷ held) more some = refl
 
-pub unit_some : (held behind : List ℕ) → IsUnit held behind → 0 < length held
-unit_some [] behind h = absurd h
-unit_some (b ∷ held) behind h = omega arith
+pub unit_some : (held following : List ℕ) → IsUnit held following → 0 < length held
+unit_some [] following h = absurd h
+unit_some (b ∷ held) following h = omega arith
 
 pub first_of_held : (held : List ℕ) → 0 < length held → begins_with (get_or held 0 0) held ≡ true
 first_of_held [] some = absurd (omega arith)
@@ -305,7 +305,7 @@ mark_part (c ∷ held) piece n e w is_mark some is_run =
 pub part_no_mark : (held piece : List ℕ) (n e : ℕ) → NoMark held piece n → held ≡ take (length held) byte_order_mark → 0 < length held + n → e ≡ position_or_len (is_end 0xEF) piece → IsPart Mark held piece 0 true 0 e
 part_no_mark held piece n e w is_mark some is_run =
     let part = mark_part held piece n e w is_mark some is_run in
-    let behind = no_end_before held piece n e w is_mark is_run in
+    let following = no_end_before held piece n e w is_mark is_run in
     record {
       order = omega arith;
       first = λ _. (refl, refl);

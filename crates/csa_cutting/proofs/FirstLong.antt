@@ -9,7 +9,7 @@ use Rattle.csa_cutting.specs.TooLong.{AreShort, FirstTooLong, HasCutOf}
 use Rattle.csa_cutting.specs.declared.cutter.CutFault.{CutFault}
 use Rattle.csa_cutting.proofs.Growing.{Longer, cut_grown, fits, followed}
 use Rattle.csa_cutting.proofs.Joining.{pieces_whole}
-use Rattle.csa_cutting.proofs.Leading.{closed_behind, one_kept, nothing_left}
+use Rattle.csa_cutting.proofs.Leading.{closed_after, one_kept, nothing_left}
 use Rattle.csa_cutting.proofs.Once.{statements_once}
 
 -- the cutter has yielded these statements of its source, and none of them is too long
@@ -49,7 +49,7 @@ head_is o text end closed (x ∷ []) others unit e s kept =
     ]
 head_is o text end closed (x ∷ y ∷ zs) others unit e s kept =
     let order : x.offset + length x.bytes < end = rw e (followed o text closed zs x y s) in
-    let shut : is_closed end x ≡ true = closed_behind (x.offset + length x.bytes) end (length x.bytes) order in
+    let shut : is_closed end x ≡ true = closed_after (x.offset + length x.bytes) end (length x.bytes) order in
     let same : unit ∷ others ≡ x ∷ filter (is_closed end) (y ∷ zs) = kept ∙ sym (one_kept (is_closed end) x (y ∷ zs) shut) in
     (y ∷ zs, cc)
 

@@ -65,14 +65,14 @@ next_place offset source from g m is_gap some is_unit =
     let count : start + 1 + m - start ≡ suc m = omega arith in
     let bytes : slice_range source start (start + 1 + m) ≡ first ∷ take m rest =
     ap (λ k. take k (drop start source)) count ∙ ap (take (suc m)) opened in
-    let behind : drop (start + 1 + m) source ≡ drop m rest = sym (drop-drop m (start + 1) source) in
+    let following : drop (start + 1 + m) source ≡ drop m rest = sym (drop-drop m (start + 1) source) in
     let front : IsUnit (first ∷ take m rest) (drop m rest) = rw is_unit (unit_front first rest begins) in
     record {
       gap = take g (drop from source);
       whole = sym (take-append-drop g (drop from source)) ∙ ap (λ xs. take g (drop from source) ++ xs) (drop-drop g from source ∙ drop_split source start (start + 1 + m) (omega arith));
       separators = rw is_gap (gap_front (drop from source));
       place = omega (arith, length-take-le g (drop from source));
-      unit = rw (bytes, behind) front;
+      unit = rw (bytes, following) front;
     }
 
 -- what `&s[n..]` is

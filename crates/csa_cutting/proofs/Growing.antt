@@ -15,17 +15,17 @@ Grown (u ∷ us) [] = ⊥
 Grown (u ∷ us) (v ∷ vs) =
     (v.offset ≡ u.offset) × (is_statement v ≡ is_statement u) × (length u.bytes ≤ length v.bytes) × ((us ≡ []) ⊎ ((v ≡ u) × Grown us vs))
 
-ends_longer : (first : ℕ) (behind more : List ℕ) → 0 < length behind → EndsBefore first behind → EndsBefore first (behind ++ more)
+ends_longer : (first : ℕ) (following more : List ℕ) → 0 < length following → EndsBefore first following → EndsBefore first (following ++ more)
 ends_longer first [] more some e = absurd (omega arith)
 ends_longer first (b ∷ bs) more some e = e
 
-next_longer : (o : ℕ) (text more : List ℕ) (u : TextUnit) (behind : List ℕ) → 0 < length behind → IsNext o text u behind → IsNext o (text ++ more) u (behind ++ more)
-next_longer o text more u behind some n = record {
+next_longer : (o : ℕ) (text more : List ℕ) (u : TextUnit) (following : List ℕ) → 0 < length following → IsNext o text u following → IsNext o (text ++ more) u (following ++ more)
+next_longer o text more u following some n = record {
   gap = n.gap;
-  whole = ap (λ xs. xs ++ more) n.whole ∙ append_assoc n.gap (u.bytes ++ behind) more ∙ ap (λ xs. n.gap ++ xs) (append_assoc u.bytes behind more);
+  whole = ap (λ xs. xs ++ more) n.whole ∙ append_assoc n.gap (u.bytes ++ following) more ∙ ap (λ xs. n.gap ++ xs) (append_assoc u.bytes following more);
   separators = n.separators;
   place = n.place;
-  unit = unit_before u.bytes behind (behind ++ more) n.unit (λ first e. ends_longer first behind more some e);
+  unit = unit_before u.bytes following (following ++ more) n.unit (λ first e. ends_longer first following more some e);
 }
 
 grown_unit : (unit more : List ℕ) → IsUnit unit [] → (n : ℕ) × IsUnit (unit ++ take n more) (drop n more)
@@ -35,14 +35,14 @@ grown_unit (first ∷ body) more h =
     (n, rest_unit (first ∷ body) more first n h (first_of_held (first ∷ body) (omega arith)) refl)
 
 -- where a unit ends, and how much follows it
-pub unit_size : (o : ℕ) (text : List ℕ) (u : TextUnit) (behind : List ℕ) → IsNext o text u behind → (u.offset + length u.bytes + length behind ≡ o + length text) × (length behind < length text) × (length u.bytes ≤ length text)
-unit_size o text u behind n =
-    let whole : length text ≡ length n.gap + (length u.bytes + length behind) =
-    ap length n.whole ∙ length-append n.gap (u.bytes ++ behind) ∙ ap (λ k. length n.gap + k) (length-append u.bytes behind) in
-    let some = unit_some u.bytes behind n.unit in
+pub unit_size : (o : ℕ) (text : List ℕ) (u : TextUnit) (following : List ℕ) → IsNext o text u following → (u.offset + length u.bytes + length following ≡ o + length text) × (length following < length text) × (length u.bytes ≤ length text)
+unit_size o text u following n =
+    let whole : length text ≡ length n.gap + (length u.bytes + length following) =
+    ap length n.whole ∙ length-append n.gap (u.bytes ++ following) ∙ ap (λ k. length n.gap + k) (length-append u.bytes following) in
+    let some = unit_some u.bytes following n.unit in
     (omega (arith, whole, n.place), omega (arith, whole, some), omega (arith, whole))
 
-grow_last : (o : ℕ) (text more : List ℕ) (u : TextUnit) (behind : List ℕ) → IsNext o text u behind → (vs : List TextUnit) × Units o (text ++ more) vs × Grown (u ∷ []) vs
+grow_last : (o : ℕ) (text more : List ℕ) (u : TextUnit) (following : List ℕ) → IsNext o text u following → (vs : List TextUnit) × Units o (text ++ more) vs × Grown (u ∷ []) vs
 grow_last o text more u [] n =
     let g = grown_unit u.bytes more n.unit in
     let v : TextUnit = record { offset = u.offset; bytes = u.bytes ++ take g.0 more } in
@@ -66,9 +66,9 @@ grow_last o text more u [] n =
       ),
     )
 grow_last o text more u (b ∷ bs) n =
-    let behind = b ∷ bs in
-    let rest = found (u.offset + length u.bytes) (behind ++ more) in
-    (u ∷ rest.1.units, (behind ++ more, next_longer o text more u behind (omega arith) n, rest.1.cut), (refl, refl, omega arith, inl refl))
+    let following = b ∷ bs in
+    let rest = found (u.offset + length u.bytes) (following ++ more) in
+    (u ∷ rest.1.units, (following ++ more, next_longer o text more u following (omega arith) n, rest.1.cut), (refl, refl, omega arith, inl refl))
 
 some_units : (o : ℕ) (text : List ℕ) (u : TextUnit) (us : List TextUnit) → Units o text (u ∷ us) → 0 < length text
 some_units o text u us cut = omega (arith, (unit_size o text u cut.0 cut.1).1)
@@ -77,10 +77,10 @@ grow : (o : ℕ) (text more : List ℕ) (us : List TextUnit) → Units o text us
 grow o text more [] cut = let s = found o (text ++ more) in (s.1.units, s.1.cut, tt)
 grow o text more (u ∷ []) cut = grow_last o text more u cut.0 cut.1
 grow o text more (u ∷ v ∷ us) cut =
-    let behind = cut.0 in
-    let some = some_units (u.offset + length u.bytes) behind v us cut.2 in
-    let rest = grow (u.offset + length u.bytes) behind more (v ∷ us) cut.2 in
-    (u ∷ rest.0, (behind ++ more, next_longer o text more u behind some cut.1, rest.1), (refl, refl, omega arith, inr (refl, rest.2)))
+    let following = cut.0 in
+    let some = some_units (u.offset + length u.bytes) following v us cut.2 in
+    let rest = grow (u.offset + length u.bytes) following more (v ∷ us) cut.2 in
+    (u ∷ rest.0, (following ++ more, next_longer o text more u following some cut.1, rest.1), (refl, refl, omega arith, inr (refl, rest.2)))
 
 pub never_none : {A : Type 0} (xs ys : List A) (x : A) → xs ++ (x ∷ ys) ≡ [] → ⊥
 never_none [] ys x e = cc
@@ -170,20 +170,20 @@ cut_grown (a ∷ b ∷ c ∷ w) more xs ys u size s =
 
 -- where a statement is in its text
 record Standing (o : ℕ) (text : List ℕ) (x : TextUnit) (ys : List TextUnit) : Type 0 where
-  behind : List ℕ
-  later : Statements (x.offset + length x.bytes) behind ys
-  size : x.offset + length x.bytes + length behind ≡ o + length text
+  following : List ℕ
+  later : Statements (x.offset + length x.bytes) following ys
+  size : x.offset + length x.bytes + length following ≡ o + length text
   within : length x.bytes ≤ length text
 
 standing_first : (o : ℕ) (text : List ℕ) (w : TextUnit) (us ys : List TextUnit) (x : TextUnit) → Units o text (w ∷ us) → x ≡ w → ys ≡ filter is_statement us → Standing o text x ys
 standing_first o text w us ys x cut same kept =
     let size = unit_size o text w cut.0 cut.1 in
-    rw same (record { behind = cut.0; later = record { units = us; cut = cut.2; kept = kept }; size = size.0; within = size.2 })
+    rw same (record { following = cut.0; later = record { units = us; cut = cut.2; kept = kept }; size = size.0; within = size.2 })
 
 deeper : (o : ℕ) (text : List ℕ) (w : TextUnit) (us ys : List TextUnit) (x : TextUnit) (cut : Units o text (w ∷ us)) → Standing (w.offset + length w.bytes) cut.0 x ys → Standing o text x ys
 deeper o text w us ys x cut s =
     let size = unit_size o text w cut.0 cut.1 in
-    record { behind = s.behind; later = s.later; size = s.size ∙ size.0; within = omega (arith, s.within, size.1) }
+    record { following = s.following; later = s.later; size = s.size ∙ size.0; within = omega (arith, s.within, size.1) }
 
 stands_later : (o : ℕ) (text : List ℕ) (w : TextUnit) (us xs ys : List TextUnit) (x : TextUnit) (cut : Units o text (w ∷ us)) → ((zs : List TextUnit) → zs ++ (x ∷ ys) ≡ filter is_statement us → Standing (w.offset + length w.bytes) cut.0 x ys) → xs ++ (x ∷ ys) ≡ w ∷ filter is_statement us → Standing o text x ys
 stands_later o text w us [] ys x cut later e =
@@ -207,14 +207,14 @@ stands o text (w ∷ us) ys x cut xs e =
 pub fits : (o : ℕ) (text : List ℕ) (xs ys : List TextUnit) (x : TextUnit) → Statements o text (xs ++ (x ∷ ys)) → length x.bytes ≤ length text
 fits o text xs ys x s = let p = stands o text s.units ys x s.cut xs s.kept in p.within
 
-some_behind : (o : ℕ) (text : List ℕ) (us : List TextUnit) (y : TextUnit) (zs : List TextUnit) → Units o text us → y ∷ zs ≡ filter is_statement us → 0 < length text
-some_behind o text [] y zs cut e = cc
-some_behind o text (u ∷ us) y zs cut e = some_units o text u us cut
+some_after : (o : ℕ) (text : List ℕ) (us : List TextUnit) (y : TextUnit) (zs : List TextUnit) → Units o text us → y ∷ zs ≡ filter is_statement us → 0 < length text
+some_after o text [] y zs cut e = cc
+some_after o text (u ∷ us) y zs cut e = some_units o text u us cut
 
 -- something follows each statement but the last
 pub followed : (o : ℕ) (text : List ℕ) (xs zs : List TextUnit) (x y : TextUnit) → Statements o text (xs ++ (x ∷ y ∷ zs)) → x.offset + length x.bytes < o + length text
 followed o text xs zs x y s =
     let p = stands o text s.units (y ∷ zs) x s.cut xs s.kept in
     let later = p.later in
-    let some = some_behind (x.offset + length x.bytes) p.behind later.units y zs later.cut later.kept in
+    let some = some_after (x.offset + length x.bytes) p.following later.units y zs later.cut later.kept in
     omega (arith, p.size, some)

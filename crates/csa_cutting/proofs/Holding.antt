@@ -31,16 +31,16 @@ held_found place InUnit held other piece o h = absurd h
 held_found place Comment held other piece o h = o
 
 pub holds_here : (old new : PieceCutting) (statement : Option Statement) (n offset : ℕ) → new.held ≡ [] → old.fed ≤ offset → IfSome statement (λ s. (s.number ≡ n) × (s.offset ≡ offset)) → IsSome statement → HoldsAfter old statement new
-holds_here old new None n offset none order told some = absurd (false≢true some)
-holds_here old new (Some s) n offset none order told some = (λ _. none, λ before. absurd (omega (arith, told.1, order, before)))
+holds_here old new None n offset none order stated some = absurd (false≢true some)
+holds_here old new (Some s) n offset none order stated some = (λ _. none, λ before. absurd (omega (arith, stated.1, order, before)))
 
 pub holds_before : (old new : PieceCutting) (statement : Option Statement) (n offset : ℕ) (unit : List ℕ) → unit ≡ new.held → offset < old.fed → IfSome statement (λ s. (s.number ≡ n) × (s.offset ≡ offset)) → IfSome statement (λ s. s.bytes.now ≡ statement_bytes unit) → IsSome statement → HoldsAfter old statement new
-holds_before old new None n offset unit is order told bytes some = absurd (false≢true some)
-holds_before old new (Some s) n offset unit is order told bytes some = (λ here. absurd (omega (arith, told.1, order, here)), λ _. bytes ∙ ap statement_bytes is)
+holds_before old new None n offset unit is order stated bytes some = absurd (false≢true some)
+holds_before old new (Some s) n offset unit is order stated bytes some = (λ here. absurd (omega (arith, stated.1, order, here)), λ _. bytes ∙ ap statement_bytes is)
 
 pub some_used : (piece : List ℕ) (cut : Cut) → IsSome cut.statement → 0 < cut.used → cut.used ≤ length piece → IsUsed piece cut
 some_used piece cut some more within = used_by (cut.used ≡ length piece) ((0 < cut.used) × (cut.used ≤ length piece)) cut.statement some (more, within)
 
 pub number_of : (statement : Option Statement) (offset n m : ℕ) → IfSome statement (λ s. (s.number ≡ n) × (s.offset ≡ offset)) → n ≡ m → IfSome statement (λ s. s.number ≡ m)
-number_of None offset n m told same = tt
-number_of (Some s) offset n m told same = told.0 ∙ same
+number_of None offset n m stated same = tt
+number_of (Some s) offset n m stated same = stated.0 ∙ same

@@ -15,7 +15,7 @@ use Rattle.csa_cutting.specs.declared.units.Found.TheVariants.{LeadsTo}
 use Rattle.csa_cutting.specs.declared.units.Place.TheVariants.{Mark, Gap, Unit as InUnit, Comment}
 use Rattle.csa_cutting.proofs.Runs.{no_statements, statement_first, found}
 use Rattle.csa_cutting.proofs.LineCutting.{length_range, nothing}
-use Rattle.csa_cutting.proofs.Passing.{statements_at, statements_of, behind_gap, behind_comment, unit_at, unit_before, next_byte, ends_with_next, split_range, range_size, range_end}
+use Rattle.csa_cutting.proofs.Passing.{statements_at, statements_of, after_gap, after_comment, unit_at, unit_before, next_byte, ends_with_next, split_range, range_size, range_end}
 use Rattle.csa_cutting.proofs.Finding.{first_range}
 use Rattle.csa_cutting.proofs.Fronts.{length_between}
 
@@ -27,7 +27,7 @@ pub nothing_left : (o : ℕ) → Statements o [] []
 nothing_left o = no_statements o [] tt
 
 pub comment_alone : (o : ℕ) → Statements o (39 ∷ []) []
-comment_alone o = behind_comment o (39 ∷ []) [] [] (refl, tt, tt) refl (nothing_left _)
+comment_alone o = after_comment o (39 ∷ []) [] [] (refl, tt, tt) refl (nothing_left _)
 
 pub to_whole : (b : Bool) (fed : ℕ) (held text : List ℕ) (others : List TextUnit) → Follows b fed held (text ++ []) others → Follows b fed held text others
 to_whole b fed held text others s = subst (λ t. Follows b fed held t others) (append-nil text) s
@@ -101,8 +101,8 @@ part_size goes_on held piece start end within =
 not_closed : (a b n : ℕ) → b ≤ a → n ≤ 4096 → (nat_lt a b || nat_lt 4096 n) ≡ false
 not_closed a b n h k = grind (arith, nat_tests)
 
-pub closed_behind : (a b n : ℕ) → a < b → (nat_lt a b || nat_lt 4096 n) ≡ true
-closed_behind a b n h = grind (arith, nat_tests)
+pub closed_after : (a b n : ℕ) → a < b → (nat_lt a b || nat_lt 4096 n) ≡ true
+closed_after a b n h = grind (arith, nat_tests)
 
 pub closed_long : (a b n : ℕ) → 4096 < n → (nat_lt a b || nat_lt 4096 n) ≡ true
 closed_long a b n h = grind (arith, nat_tests)
@@ -119,33 +119,33 @@ unit_first place held piece from goes_on start end fed more others p few unit s 
     let kept = kept_of goes_on held in
     let u = kept ++ slice_range piece start end in
     let next = slice_range piece end (end + 1) in
-    let behind = next ++ more in
+    let following = next ++ more in
     let low = kept_few place goes_on held fed (λ h. (p.first h).1) few in
     let size = part_size goes_on held piece start end p.unit.within in
     let order : (from ≤ start) × (start ≤ end) = (p.order, p.unit.order) in
     let within = p.unit.within in
     let o = fed + (start - from) - length kept in
-    let here : Statements o (u ++ behind) (part_unit goes_on held piece start end (fed + (start - from)) ∷ others) =
-    statement_first o (u ++ behind) (part_unit goes_on held piece start end (fed + (start - from))) behind others (unit_at o u behind unit) (ap not p.unit.spoken) (statements_at (fed + (end - from)) _ _ others (omega arith) s) in
-    let whole : u ++ behind ≡ (kept ++ slice_range piece start (end + 1)) ++ more =
+    let here : Statements o (u ++ following) (part_unit goes_on held piece start end (fed + (start - from)) ∷ others) =
+    statement_first o (u ++ following) (part_unit goes_on held piece start end (fed + (start - from))) following others (unit_at o u following unit) (ap not p.unit.spoken) (statements_at (fed + (end - from)) _ _ others (omega arith) s) in
+    let whole : u ++ following ≡ (kept ++ slice_range piece start (end + 1)) ++ more =
     sym (append_assoc u next more) ∙ ap (λ xs. xs ++ more) (append_assoc kept (slice_range piece start end) next ∙ ap (λ xs. kept ++ xs) (sym (split_range piece start end (end + 1) order.1 (omega arith)))) in
     let gap = length_between piece from start order.0 (omega arith) in
     let sizes = range_size piece from start (end + 1) order.0 (omega arith) in
     p.passed fed more _ few (statements_at o _ _ _ (omega (arith, length-append kept (slice_range piece start (end + 1)))) (statements_of o _ _ _ whole here))
 
 -- if all of the piece is used
-pub unit_told : (place : Place) (held piece : List ℕ) (from : ℕ) (goes_on : Bool) (start end fed : ℕ) (others : List TextUnit) → IsPart place held piece from goes_on start end → length (open_of place held) ≤ fed → Statements (fed + (end - from)) (drop end piece) others → Follows (begins place) fed (open_of place held) (drop from piece) (part_unit goes_on held piece start end (fed + (start - from)) ∷ others)
-unit_told place held piece from goes_on start end fed others p few s =
+pub unit_stated : (place : Place) (held piece : List ℕ) (from : ℕ) (goes_on : Bool) (start end fed : ℕ) (others : List TextUnit) → IsPart place held piece from goes_on start end → length (open_of place held) ≤ fed → Statements (fed + (end - from)) (drop end piece) others → Follows (begins place) fed (open_of place held) (drop from piece) (part_unit goes_on held piece start end (fed + (start - from)) ∷ others)
+unit_stated place held piece from goes_on start end fed others p few s =
     let order : (from ≤ start) × (start ≤ end) = (p.order, p.unit.order) in
     let rest : drop end piece ≡ slice_range piece end (end + 1) ++ drop (end + 1) piece = drop_split piece end (end + 1) (omega arith) in
     let u = kept_of goes_on held ++ slice_range piece start end in
     subst (λ t. Follows (begins place) fed (open_of place held) t (part_unit goes_on held piece start end (fed + (start - from)) ∷ others)) (sym (drop_split piece from (end + 1) (omega arith)))
     (unit_first place held piece from goes_on start end fed (drop (end + 1) piece) others p few (subst (IsUnit u) rest p.unit.unit) (statements_of _ _ _ others rest s))
 
-unit_told_here : (place : Place) (held piece : List ℕ) (goes_on : Bool) (start end fed : ℕ) (others : List TextUnit) → IsPart place held piece 0 goes_on start end → length (open_of place held) ≤ fed → Statements (fed + end) (drop end piece) others → Follows (begins place) fed (open_of place held) piece (part_unit goes_on held piece start end (fed + start) ∷ others)
-unit_told_here place held piece goes_on start end fed others p few s =
+unit_stated_here : (place : Place) (held piece : List ℕ) (goes_on : Bool) (start end fed : ℕ) (others : List TextUnit) → IsPart place held piece 0 goes_on start end → length (open_of place held) ≤ fed → Statements (fed + end) (drop end piece) others → Follows (begins place) fed (open_of place held) piece (part_unit goes_on held piece start end (fed + start) ∷ others)
+unit_stated_here place held piece goes_on start end fed others p few s =
     let same : start - 0 ≡ start = omega arith in
-    rw same at (unit_told place held piece 0 goes_on start end fed others p few (statements_at (fed + end) _ _ others (omega arith) s))
+    rw same at (unit_stated place held piece 0 goes_on start end fed others p few (statements_at (fed + end) _ _ others (omega arith) s))
 
 pub leads_to_unit : (place : Place) (held piece : List ℕ) (goes_on : Bool) (start end fed number : ℕ) → IsPart place held piece 0 goes_on start end → length (open_of place held) ≤ fed → end ≡ length piece → length (kept_of goes_on held ++ slice_range piece start end) ≤ 4096 → Leads (seen place held fed number None) piece [] (seen InUnit (kept_of goes_on held ++ slice_range piece start end) (fed + end) number None)
 leads_to_unit place held piece goes_on start end fed number p few all short =
@@ -158,7 +158,7 @@ leads_to_unit place held piece goes_on start end fed number p few all short =
     let front : slice_range piece 0 (end + 1) ≡ piece = range_end piece 0 (end + 1) (omega arith) in
     let range : slice_range piece start (end + 1) ≡ slice_range piece start end = range_end piece start (end + 1) (omega arith) ∙ sym (range_end piece start end (omega arith)) in
     let passed : Passes place held piece u = rw (front, range) at p.passed in
-    let alone = unit_told_here place held piece goes_on start end fed [] p few (statements_of (fed + end) _ _ [] (sym none) (nothing_left (fed + end))) in
+    let alone = unit_stated_here place held piece goes_on start end fed [] p few (statements_of (fed + end) _ _ [] (sym none) (nothing_left (fed + end))) in
     record {
       took = ap (λ n. fed + n) all;
       counted = omega arith;
@@ -180,9 +180,9 @@ either false false false t w v h = cc
 end_separates : (first b : ℕ) → is_end first b ≡ true → is_separator b ≡ true
 end_separates first b h = either (b == 13) (b == 10) (b == 44) (not (takes_line first)) (b == 32) (b == 9) h
 
-unit_ends : (unit behind : List ℕ) (b : ℕ) (rest : List ℕ) → behind ≡ b ∷ rest → IsUnit unit behind → is_separator b ≡ true
-unit_ends [] behind b rest e h = absurd h
-unit_ends (first ∷ unit) behind b rest e h = end_separates first b (subst (EndsBefore first) e h.2)
+unit_ends : (unit following : List ℕ) (b : ℕ) (rest : List ℕ) → following ≡ b ∷ rest → IsUnit unit following → is_separator b ≡ true
+unit_ends [] following b rest e h = absurd h
+unit_ends (first ∷ unit) following b rest e h = end_separates first b (subst (EndsBefore first) e h.2)
 
 -- from the end of a unit, past the byte that ends it
 over_end : (place : Place) (held piece : List ℕ) (goes_on : Bool) (start end fed : ℕ) → IsPart place held piece 0 goes_on start end → length (open_of place held) ≤ fed → end < length piece → (more : List ℕ) (others : List TextUnit) → Statements (fed + end + 1) more others → Follows (begins place) fed (open_of place held) (take (end + 1) piece ++ more) (part_unit goes_on held piece start end (fed + start) ∷ others)
@@ -194,10 +194,10 @@ over_end place held piece goes_on start end fed p few left more others s =
     let same : start - 0 ≡ start = omega arith in
     let front = first_range piece (end + 1) in
     rw (same, front) at (unit_first place held piece 0 goes_on start end fed more others p few (unit_before u (drop end piece) (last ++ more) p.unit.unit (λ first e. ends_with_next piece end first more left e))
-    (behind_gap (fed + (end - 0)) last more others gap (statements_at (fed + end + 1) _ _ others (omega (arith, ap length byte)) s)))
+    (after_gap (fed + (end - 0)) last more others gap (statements_at (fed + end + 1) _ _ others (omega (arith, ap length byte)) s)))
 
-pub leads_behind_unit : (place : Place) (held other piece : List ℕ) (goes_on : Bool) (start end fed number : ℕ) → IsPart place held piece 0 goes_on start end → length (open_of place held) ≤ fed → end < length piece → Leads (seen place held fed number None) (take (end + 1) piece) (part_unit goes_on held piece start end (fed + start) ∷ []) (seen Gap other (fed + (end + 1)) (number + 1) None)
-leads_behind_unit place held other piece goes_on start end fed number p few left =
+pub leads_after_unit : (place : Place) (held other piece : List ℕ) (goes_on : Bool) (start end fed number : ℕ) → IsPart place held piece 0 goes_on start end → length (open_of place held) ≤ fed → end < length piece → Leads (seen place held fed number None) (take (end + 1) piece) (part_unit goes_on held piece start end (fed + start) ∷ []) (seen Gap other (fed + (end + 1)) (number + 1) None)
+leads_after_unit place held other piece goes_on start end fed number p few left =
     let low = kept_few place goes_on held fed (λ h. (p.first h).1) few in
     let size = part_size goes_on held piece start end p.unit.within in
     let order : (0 ≤ start) × (start ≤ end) = (p.order, p.unit.order) in
@@ -210,7 +210,7 @@ leads_behind_unit place held other piece goes_on start end fed number p few left
       closes = (
         u ∷ [],
         to_whole (begins place) fed (open_of place held) (take (end + 1) piece) _ (over [] [] (nothing_left (fed + end + 1))),
-        one_kept (is_closed (fed + length (take (end + 1) piece))) u [] (closed_behind (u.offset + length u.bytes) (fed + length (take (end + 1) piece)) (length u.bytes) (omega arith)),
+        one_kept (is_closed (fed + length (take (end + 1) piece))) u [] (closed_after (u.offset + length u.bytes) (fed + length (take (end + 1) piece)) (length u.bytes) (omega arith)),
       );
       onward = λ more others s. over more others (statements_at _ (fed + end + 1) _ others (omega arith) s);
       going = refl;
@@ -224,7 +224,7 @@ too_long place held piece goes_on start end fed number p few long =
       filter (is_closed (fed + length piece)) rest.0,
       (
         unit ∷ rest.0,
-        unit_told_here place held piece goes_on start end fed rest.0 p few rest.1,
+        unit_stated_here place held piece goes_on start end fed rest.0 p few rest.1,
         one_kept (is_closed (fed + length piece)) unit rest.0 (closed_long (unit.offset + length u) (fed + length piece) (length u) long),
       ),
     )
@@ -251,19 +251,19 @@ unit_step now place held other piece goes_on start end fed number refused view n
     rw (← view, none, o) (refl, leads_to_unit place held piece goes_on start end fed number p few all (omega arith))
 
 pub end_step : (now : PieceCutting) (place : Place) (held other piece : List ℕ) (goes_on : Bool) (start end fed number used : ℕ) (refused : Option ℕ) (statement : Option Statement) → seen place held fed number refused ≡ now → refused ≡ None → IsPart place held piece 0 goes_on start end → length (open_of place held) ≤ fed → end < length piece → length (kept_of goes_on held) + (end - start) ≤ 4096 → used ≡ end + 1 → IsSome statement → IfSome statement (λ s. (s.number ≡ number + 1) × (s.offset ≡ fed + start - length (kept_of goes_on held)) × (s.bytes.now ≡ statement_bytes (kept_of goes_on held ++ slice_range piece start end))) → (now.refused ≡ None) × Used now piece used statement (seen Gap other (fed + (end + 1)) (number + 1) refused)
-end_step now place held other piece goes_on start end fed number used refused None view none p few left short is_used some told = absurd (false≢true some)
-end_step now place held other piece goes_on start end fed number used refused (Some s) view none p few left short is_used some told =
+end_step now place held other piece goes_on start end fed number used refused None view none p few left short is_used some stated = absurd (false≢true some)
+end_step now place held other piece goes_on start end fed number used refused (Some s) view none p few left short is_used some stated =
     let size = part_size goes_on held piece start end p.unit.within in
     let low = kept_few place goes_on held fed (λ h. (p.first h).1) few in
     rw (← view, none, is_used) (
       refl,
       record {
         unit = part_unit goes_on held piece start end (fed + start);
-        told = record { number_is = told.0; place = told.1; slice = told.2; short = omega arith };
+        stated = record { number_is = stated.0; place = stated.1; slice = stated.2; short = omega arith };
         some = omega arith;
         within = omega arith;
         last = omega (arith, size, p.order, p.unit.order, low);
-        leads = leads_behind_unit place held other piece goes_on start end fed number p few left;
+        leads = leads_after_unit place held other piece goes_on start end fed number p few left;
       },
     )
 
@@ -294,6 +294,6 @@ all_in_piece goes_on held left part same none =
     let kept : kept_of goes_on held ≡ [] = sym same ∙ empty in
     rw kept refl
 
-pub ended_told : (statement : Option Statement) (n o p : ℕ) (unit other : List ℕ) → o ≡ p → unit ≡ other → IfSome statement (λ s. (s.number ≡ n) × (s.offset ≡ o)) → IfSome statement (λ s. s.bytes.now ≡ statement_bytes unit) → IfSome statement (λ s. (s.number ≡ n) × (s.offset ≡ p) × (s.bytes.now ≡ statement_bytes other))
-ended_told None n o p unit other e f h k = tt
-ended_told (Some s) n o p unit other e f h k = (h.0, h.1 ∙ e, k ∙ ap statement_bytes f)
+pub ended_stated : (statement : Option Statement) (n o p : ℕ) (unit other : List ℕ) → o ≡ p → unit ≡ other → IfSome statement (λ s. (s.number ≡ n) × (s.offset ≡ o)) → IfSome statement (λ s. s.bytes.now ≡ statement_bytes unit) → IfSome statement (λ s. (s.number ≡ n) × (s.offset ≡ p) × (s.bytes.now ≡ statement_bytes other))
+ended_stated None n o p unit other e f h k = tt
+ended_stated (Some s) n o p unit other e f h k = (h.0, h.1 ∙ e, k ∙ ap statement_bytes f)

@@ -5,14 +5,14 @@ use Rattle.csa_cutting.specs.Places.{kept_of}
 use Rattle.csa_cutting.specs.declared.cutter.Statement.{Statement}
 
 pub lent_here : (statement : Option Statement) (n offset fed start : ℕ) (base : ℕ × ℕ) → offset ≡ fed + start → IfSome statement (λ s. (s.number ≡ n) × (s.offset ≡ offset)) → IfSome statement (λ s. s.bytes.ref_ptr ≡ (base.0, start + base.1)) → IfSome statement (λ s. fed ≤ s.offset → s.bytes.ref_ptr ≡ (base.0, base.1 + (s.offset - fed)))
-lent_here None n offset fed start base e told lent = tt
-lent_here (Some s) n offset fed start base e told lent =
-    let k : start + base.1 ≡ base.1 + (s.offset - fed) = omega (arith, told.1, e) in
+lent_here None n offset fed start base e stated lent = tt
+lent_here (Some s) n offset fed start base e stated lent =
+    let k : start + base.1 ≡ base.1 + (s.offset - fed) = omega (arith, stated.1, e) in
     λ _. lent ∙ ap (λ i. (base.0, i)) k
 
 pub lent_before : (statement : Option Statement) (n offset fed : ℕ) (base : ℕ × ℕ) → offset < fed → IfSome statement (λ s. (s.number ≡ n) × (s.offset ≡ offset)) → IfSome statement (λ s. fed ≤ s.offset → s.bytes.ref_ptr ≡ (base.0, base.1 + (s.offset - fed)))
-lent_before None n offset fed base e told = tt
-lent_before (Some s) n offset fed base e told = λ le. absurd (omega (arith, told.1, e, le))
+lent_before None n offset fed base e stated = tt
+lent_before (Some s) n offset fed base e stated = λ le. absurd (omega (arith, stated.1, e, le))
 
 pub kept_on : (goes_on : Bool) (held left : List ℕ) → left ≡ kept_of goes_on held → (length left == 0) ≡ false → (goes_on ≡ true) × (0 < length (kept_of goes_on held))
 kept_on true held [] same some = absurd (false≢true (sym some))

@@ -151,43 +151,43 @@ abbrev pub StopsLine : List ℕ → Type 0
 StopsLine [] = Unit {0}
 StopsLine (b ∷ bytes) = is_line_end b ≡ true
 
-pub no_longer_run : (run behind line more : List ℕ) → HasNoLineEnd line → StopsLine behind → run ++ behind ≡ line ++ more → length line ≤ length run
-no_longer_run run behind [] more solid stops same = omega arith
+pub no_longer_run : (run following line more : List ℕ) → HasNoLineEnd line → StopsLine following → run ++ following ≡ line ++ more → length line ≤ length run
+no_longer_run run following [] more solid stops same = omega arith
 no_longer_run [] [] (l ∷ line) more solid stops same = cc
-no_longer_run [] (b ∷ behind) (l ∷ line) more solid stops same =
+no_longer_run [] (b ∷ following) (l ∷ line) more solid stops same =
     let e : b ≡ l = cc in
     let f : is_line_end l ≡ false = solid.0 in
     let t : is_line_end l ≡ true = rw e at stops in
     absurd (cc)
-no_longer_run (r ∷ run) behind (l ∷ line) more solid stops same =
-    let rest : run ++ behind ≡ line ++ more = cc in
-    omega (arith, no_longer_run run behind line more solid.1 stops rest)
+no_longer_run (r ∷ run) following (l ∷ line) more solid stops same =
+    let rest : run ++ following ≡ line ++ more = cc in
+    omega (arith, no_longer_run run following line more solid.1 stops rest)
 
 -- after line ends no line is longer than the run, which extends to a line end or to the end of the
 -- text
-no_longer : (skipped ends run behind line more : List ℕ) → AreLineEnds skipped → AreLineEnds ends → HasNoLineEnd run → HasNoLineEnd line → StopsLine behind → (run ≡ [] → behind ≡ []) → skipped ++ (run ++ behind) ≡ ends ++ (line ++ more) → length line ≤ length run
-no_longer [] [] run behind line more s e f g stops begins same = no_longer_run run behind line more g stops same
-no_longer [] (x ∷ ends) [] behind line more s e f g stops begins same =
-    let none : behind ≡ [] = begins refl in
+no_longer : (skipped ends run following line more : List ℕ) → AreLineEnds skipped → AreLineEnds ends → HasNoLineEnd run → HasNoLineEnd line → StopsLine following → (run ≡ [] → following ≡ []) → skipped ++ (run ++ following) ≡ ends ++ (line ++ more) → length line ≤ length run
+no_longer [] [] run following line more s e f g stops begins same = no_longer_run run following line more g stops same
+no_longer [] (x ∷ ends) [] following line more s e f g stops begins same =
+    let none : following ≡ [] = begins refl in
     cc
-no_longer [] (x ∷ ends) (r ∷ run) behind line more s e f g stops begins same =
+no_longer [] (x ∷ ends) (r ∷ run) following line more s e f g stops begins same =
     let here : r ≡ x = cc in
     let t : is_line_end x ≡ true = e.0 in
     let h : is_line_end x ≡ false = rw here at f.0 in
     absurd (cc)
-no_longer (x ∷ skipped) [] run behind [] more s e f g stops begins same = omega arith
-no_longer (x ∷ skipped) [] run behind (l ∷ line) more s e f g stops begins same =
+no_longer (x ∷ skipped) [] run following [] more s e f g stops begins same = omega arith
+no_longer (x ∷ skipped) [] run following (l ∷ line) more s e f g stops begins same =
     let here : x ≡ l = cc in
     let h : is_line_end l ≡ false = g.0 in
     let t : is_line_end l ≡ true = rw here at s.0 in
     absurd (cc)
-no_longer (x ∷ skipped) (y ∷ ends) run behind line more s e f g stops begins same =
-    let rest : skipped ++ (run ++ behind) ≡ ends ++ (line ++ more) = cc in
-    no_longer skipped ends run behind line more s.1 e.1 f g stops begins rest
+no_longer (x ∷ skipped) (y ∷ ends) run following line more s e f g stops begins same =
+    let rest : skipped ++ (run ++ following) ≡ ends ++ (line ++ more) = cc in
+    no_longer skipped ends run following line more s.1 e.1 f g stops begins rest
 
-stops_behind : (xs : List ℕ) → (0 < length xs → BeginsWithLineEnd xs) → StopsLine xs
-stops_behind [] h = tt
-stops_behind (x ∷ xs) h = h (omega arith)
+stops_after : (xs : List ℕ) → (0 < length xs → BeginsWithLineEnd xs) → StopsLine xs
+stops_after [] h = tt
+stops_after (x ∷ xs) h = h (omega arith)
 
 no_bytes : (xs : List ℕ) → length xs ≡ 0 → xs ≡ []
 no_bytes [] h = refl
@@ -197,7 +197,7 @@ pub line_short : (held piece : List ℕ) (start end limit : ℕ) → IsRun held 
 line_short held piece start end limit r solid few (ends, line, more, whole, skipped, inside, long) =
     let run = slice_range piece start end in
     let size = length_range piece start end r.within in
-    let stops = stops_behind (drop end piece) (λ h. r.ends (omega (arith, length-drop end piece))) in
+    let stops = stops_after (drop end piece) (λ h. r.ends (omega (arith, length-drop end piece))) in
     let begins : held ++ run ≡ [] → drop end piece ≡ [] =
     λ none. no_bytes (drop end piece) (elim (cases_lt end (length piece)) [
       | inl h ↦ absurd (omega (arith, r.some h, length-append held run, ap length none))

@@ -6,7 +6,7 @@ use Rattle.csa_cutting.specs.Cut.{TextUnit}
 use Rattle.csa_cutting.specs.Lines.{Lines, HasNoLineEnd}
 use Rattle.csa_cutting.specs.LineCutting.{LineCutting, BeginsTooLong, HasLongLine, LineAnswer, LineStep, LinesAfter, LastLine}
 use Rattle.csa_cutting.specs.PieceSteps.{IsNumbered}
-use Rattle.csa_cutting.specs.WholeRun.{AreNumbered, AreStatementsOf, told, all_told, LineAnswers, all_taken, line_given, all_lines}
+use Rattle.csa_cutting.specs.WholeRun.{AreNumbered, AreStatementsOf, stated, all_stated, LineAnswers, all_taken, line_given, all_lines}
 use Rattle.csa_cutting.specs.declared.cutter.Statement.{Statement}
 use Rattle.csa_cutting.specs.declared.line.LineFault.TheVariants.{TooLong}
 use Rattle.csa_cutting.proofs.LinesOnce.{lines_joined}
@@ -21,17 +21,17 @@ one_taken old new first piece lines (n, Some line) p step after =
     let empty : new.held ≡ [] = after.2 in
     rw empty (lines_joined first (take n piece) lines (line.now ∷ []) old.held [] p step.1.1)
 
-lines_told : (steps : List (List ℕ × LineAnswer)) (first : List ℕ) (lines : List (List ℕ)) (old new : LineCutting) → Lines first lines old.held → (HasLongLine old.limit first → ⊥) → LineAnswers old steps new → Lines (first ++ all_taken steps) (lines ++ all_lines steps) new.held × (HasLongLine old.limit (first ++ all_taken steps) → ⊥)
-lines_told [] first lines old new p few r =
+lines_stated : (steps : List (List ℕ × LineAnswer)) (first : List ℕ) (lines : List (List ℕ)) (old new : LineCutting) → Lines first lines old.held → (HasLongLine old.limit first → ⊥) → LineAnswers old steps new → Lines (first ++ all_taken steps) (lines ++ all_lines steps) new.held × (HasLongLine old.limit (first ++ all_taken steps) → ⊥)
+lines_stated [] first lines old new p few r =
     let here : Lines first lines new.held = subst (λ (v : LineCutting). Lines first lines v.held) r p in (
       subst (λ t. Lines t (lines ++ []) new.held) (sym (append-nil first)) (subst (λ t. Lines first t new.held) (sym (append-nil lines)) here),
       subst (λ t. HasLongLine old.limit t → ⊥) (sym (append-nil first)) few,
     )
-lines_told (s ∷ steps) first lines old new p few (next, short, step, after, r) =
+lines_stated (s ∷ steps) first lines old new p few (next, short, step, after, r) =
     let n = take s.1.0 s.0 in
     let limit : next.limit ≡ old.limit = after.0 in
     let none : HasLongLine old.limit (first ++ n) → ⊥ = none_missed old next first s.0 lines s.1 p few short step after in
-    let all = lines_told steps (first ++ n) (lines ++ line_given s.1.1) next new (one_taken old next first s.0 lines s.1 p step after) (subst (λ m. HasLongLine m (first ++ n) → ⊥) (sym limit) none) r in
+    let all = lines_stated steps (first ++ n) (lines ++ line_given s.1.1) next new (one_taken old next first s.0 lines s.1 p step after) (subst (λ m. HasLongLine m (first ++ n) → ⊥) (sym limit) none) r in
     let text : (first ++ n) ++ all_taken steps ≡ first ++ (n ++ all_taken steps) = append_assoc first n (all_taken steps) in
     let list : (lines ++ line_given s.1.1) ++ all_lines steps ≡ lines ++ (line_given s.1.1 ++ all_lines steps) = append_assoc lines (line_given s.1.1) (all_lines steps) in (
       subst (λ t. Lines t (lines ++ (line_given s.1.1 ++ all_lines steps)) new.held) text (subst (λ t. Lines ((first ++ n) ++ all_taken steps) t new.held) list all.0),
@@ -46,7 +46,7 @@ none_at_first limit (before, long, after, whole, solid, more) =
 pub line_run : (steps : List (List ℕ × LineAnswer)) (old new : LineCutting) → old.held ≡ [] → LineAnswers old steps new → Lines (all_taken steps) (all_lines steps) new.held × (HasLongLine old.limit (all_taken steps) → ⊥)
 line_run steps old new empty r =
     let start : Lines [] [] old.held = rw empty ([], refl, tt, tt) in
-    lines_told steps [] [] old new start (none_at_first old.limit) r
+    lines_stated steps [] [] old new start (none_at_first old.limit) r
 
 same_limit : (steps : List (List ℕ × LineAnswer)) (old new : LineCutting) → LineAnswers old steps new → new.limit ≡ old.limit
 same_limit [] old new r = ap (λ (v : LineCutting). v.limit) (sym r)
@@ -76,20 +76,20 @@ line_run_finished steps old new last empty r l =
 same_three : (a b c d : ℕ) (x y : List ℕ) → a ≡ b → c ≡ d → x ≡ y → (let u : ℕ × ℕ × List ℕ = (a, c, x) in let v : ℕ × ℕ × List ℕ = (b, d, y) in u ≡ v)
 same_three a b c d x y p q r = rw (p, q, r) refl
 
-same_told : (n : ℕ) (u : TextUnit) (s t : Statement) → IsNumbered n u s → IsNumbered n u t → told s ≡ told t
-same_told n u s t h k = same_three s.number t.number s.offset t.offset s.bytes.now t.bytes.now (h.number_is ∙ sym k.number_is) (h.place ∙ sym k.place) (h.slice ∙ sym k.slice)
+same_stated : (n : ℕ) (u : TextUnit) (s t : Statement) → IsNumbered n u s → IsNumbered n u t → stated s ≡ stated t
+same_stated n u s t h k = same_three s.number t.number s.offset t.offset s.bytes.now t.bytes.now (h.number_is ∙ sym k.number_is) (h.place ∙ sym k.place) (h.slice ∙ sym k.slice)
 
-numbered_same : (n : ℕ) (us : List TextUnit) (ss ts : List Statement) → AreNumbered n us ss → AreNumbered n us ts → all_told ss ≡ all_told ts
+numbered_same : (n : ℕ) (us : List TextUnit) (ss ts : List Statement) → AreNumbered n us ss → AreNumbered n us ts → all_stated ss ≡ all_stated ts
 numbered_same n [] [] [] h k = refl
 numbered_same n [] [] (t ∷ ts) h k = absurd k
 numbered_same n [] (s ∷ ss) ts h k = absurd h
 numbered_same n (u ∷ us) [] ts h k = absurd h
 numbered_same n (u ∷ us) (s ∷ ss) [] h k = absurd k
 numbered_same n (u ∷ us) (s ∷ ss) (t ∷ ts) h k =
-    ap (λ x. x ∷ all_told ss) (same_told n u s t h.0 k.0) ∙ ap (λ xs. told t ∷ xs) (numbered_same (n + 1) us ss ts h.1 k.1)
+    ap (λ x. x ∷ all_stated ss) (same_stated n u s t h.0 k.0) ∙ ap (λ xs. stated t ∷ xs) (numbered_same (n + 1) us ss ts h.1 k.1)
 
-pub told_alike : (source : List ℕ) (a b : List Statement) → AreStatementsOf source a → AreStatementsOf source b → all_told a ≡ all_told b
-told_alike source a b (us, cut, h) (vs, other, k) =
+pub stated_alike : (source : List ℕ) (a b : List Statement) → AreStatementsOf source a → AreStatementsOf source b → all_stated a ≡ all_stated b
+stated_alike source a b (us, cut, h) (vs, other, k) =
     let same : vs ≡ us = statements_once _ _ vs us other cut in
     numbered_same 0 us a b h (subst (λ ws. AreNumbered 0 ws b) same k)
 

@@ -6,27 +6,27 @@ abbrev HasLines : List ℕ → Type 0
 HasLines bytes = (lines : List (List ℕ)) × (rest : List ℕ) × Lines bytes lines rest
 
 -- a line end in front is skipped
-behind_end : (b : ℕ) (bytes : List ℕ) (lines : List (List ℕ)) (rest : List ℕ) → is_line_end b ≡ true → Lines bytes lines rest → Lines (b ∷ bytes) lines rest
-behind_end b bytes [] rest e (ends, whole, skipped, run) = (b ∷ ends, ap (λ xs. b ∷ xs) whole, (e, skipped), run)
-behind_end b bytes (line ∷ lines) rest e (behind, n, others) = (
-  behind,
+after_end : (b : ℕ) (bytes : List ℕ) (lines : List (List ℕ)) (rest : List ℕ) → is_line_end b ≡ true → Lines bytes lines rest → Lines (b ∷ bytes) lines rest
+after_end b bytes [] rest e (ends, whole, skipped, run) = (b ∷ ends, ap (λ xs. b ∷ xs) whole, (e, skipped), run)
+after_end b bytes (line ∷ lines) rest e (following, n, others) = (
+  following,
   record { ends = b ∷ n.ends; whole = ap (λ xs. b ∷ xs) n.whole; skipped = (e, n.skipped); some = n.some; run = n.run; closed = n.closed },
   others,
 )
 
 -- a line of one byte, where a line end follows
-alone : (b x : ℕ) (behind : List ℕ) → is_line_end b ≡ false → is_line_end x ≡ true → IsNextLine (b ∷ x ∷ behind) (b ∷ []) (x ∷ behind)
-alone b x behind e f = record { ends = []; whole = refl; skipped = tt; some = omega arith; run = (e, tt); closed = f }
+alone : (b x : ℕ) (following : List ℕ) → is_line_end b ≡ false → is_line_end x ≡ true → IsNextLine (b ∷ x ∷ following) (b ∷ []) (x ∷ following)
+alone b x following e f = record { ends = []; whole = refl; skipped = tt; some = omega arith; run = (e, tt); closed = f }
 
-before_line : (b : ℕ) (bytes line : List ℕ) (lines : List (List ℕ)) (rest behind ends : List ℕ) → is_line_end b ≡ false → bytes ≡ ends ++ (line ++ behind) → AreLineEnds ends → IsNextLine bytes line behind → Lines behind lines rest → HasLines (b ∷ bytes)
-before_line b bytes line lines rest behind [] e whole skipped n others = (
+before_line : (b : ℕ) (bytes line : List ℕ) (lines : List (List ℕ)) (rest following ends : List ℕ) → is_line_end b ≡ false → bytes ≡ ends ++ (line ++ following) → AreLineEnds ends → IsNextLine bytes line following → Lines following lines rest → HasLines (b ∷ bytes)
+before_line b bytes line lines rest following [] e whole skipped n others = (
   (b ∷ line) ∷ lines,
   rest,
-  (behind, record { ends = []; whole = ap (λ xs. b ∷ xs) whole; skipped = tt; some = omega arith; run = (e, n.run); closed = n.closed }, others),
+  (following, record { ends = []; whole = ap (λ xs. b ∷ xs) whole; skipped = tt; some = omega arith; run = (e, n.run); closed = n.closed }, others),
 )
-before_line b bytes line lines rest behind (x ∷ ends) e whole skipped n others =
-    let first : IsNextLine (b ∷ bytes) (b ∷ []) bytes = rw whole (alone b x (ends ++ (line ++ behind)) e skipped.0) in
-    ((b ∷ []) ∷ line ∷ lines, rest, (bytes, first, (behind, n, others)))
+before_line b bytes line lines rest following (x ∷ ends) e whole skipped n others =
+    let first : IsNextLine (b ∷ bytes) (b ∷ []) bytes = rw whole (alone b x (ends ++ (line ++ following)) e skipped.0) in
+    ((b ∷ []) ∷ line ∷ lines, rest, (bytes, first, (following, n, others)))
 
 -- any other byte in front continues the first line or the rest, or is a line of its own
 before_run : (b : ℕ) (bytes : List ℕ) (lines : List (List ℕ)) (rest : List ℕ) → is_line_end b ≡ false → Lines bytes lines rest → HasLines (b ∷ bytes)
@@ -34,10 +34,10 @@ before_run b bytes [] rest e ([], whole, skipped, run) = ([], b ∷ rest, ([], a
 before_run b bytes [] rest e (x ∷ ends, whole, skipped, run) =
     let n : IsNextLine (b ∷ bytes) (b ∷ []) bytes = rw whole (alone b x (ends ++ rest) e skipped.0) in
     ((b ∷ []) ∷ [], rest, (bytes, n, (x ∷ ends, whole, skipped, run)))
-before_run b bytes (line ∷ lines) rest e (behind, n, others) = before_line b bytes line lines rest behind n.ends e n.whole n.skipped n others
+before_run b bytes (line ∷ lines) rest e (following, n, others) = before_line b bytes line lines rest following n.ends e n.whole n.skipped n others
 
 in_front : (b : ℕ) (bytes : List ℕ) (lines : List (List ℕ)) (rest : List ℕ) (ends : Bool) → is_line_end b ≡ ends → Lines bytes lines rest → HasLines (b ∷ bytes)
-in_front b bytes lines rest true e l = (lines, rest, behind_end b bytes lines rest e l)
+in_front b bytes lines rest true e l = (lines, rest, after_end b bytes lines rest e l)
 in_front b bytes lines rest false e l = before_run b bytes lines rest e l
 
 pub lines_found : (bytes : List ℕ) → HasLines bytes

@@ -14,23 +14,23 @@ run_stops : (rest : List ℕ) → HasNoLineEnd rest → Stops is_line_end true r
 run_stops [] h = tt
 run_stops (b ∷ rest) h = no_end b h.0
 
-line_stops : (line behind : List ℕ) → 0 < length line → HasNoLineEnd line → Stops is_line_end true (line ++ behind)
-line_stops [] behind some h = absurd (omega arith)
-line_stops (b ∷ line) behind some h = no_end b h.0
+line_stops : (line following : List ℕ) → 0 < length line → HasNoLineEnd line → Stops is_line_end true (line ++ following)
+line_stops [] following some h = absurd (omega arith)
+line_stops (b ∷ line) following some h = no_end b h.0
 
-end_stops : (behind : List ℕ) → BeginsWithLineEnd behind → Stops is_line_end false behind
+end_stops : (following : List ℕ) → BeginsWithLineEnd following → Stops is_line_end false following
 end_stops [] h = tt
-end_stops (b ∷ behind) h = no_run b h
+end_stops (b ∷ following) h = no_run b h
 
-has_end : (line behind : List ℕ) → BeginsWithLineEnd behind → HasNoLineEnd (line ++ behind) → ⊥
+has_end : (line following : List ℕ) → BeginsWithLineEnd following → HasNoLineEnd (line ++ following) → ⊥
 has_end [] [] h k = h
-has_end [] (b ∷ behind) h k = no_run b h k.0
-has_end (b ∷ line) behind h k = has_end line behind h k.1
+has_end [] (b ∷ following) h k = no_run b h k.0
+has_end (b ∷ line) following h k = has_end line following h k.1
 
-unfinished : (bytes line behind ends rest : List ℕ) → IsNextLine bytes line behind → bytes ≡ ends ++ rest → AreLineEnds ends → HasNoLineEnd rest → ⊥
-unfinished bytes line behind ends rest n whole skipped run =
-    let same = same_front is_line_end true ends n.ends rest (line ++ behind) skipped n.skipped (run_stops rest run) (line_stops line behind n.some n.run) (sym whole ∙ n.whole) in
-    has_end line behind n.closed (subst HasNoLineEnd same.1 run)
+unfinished : (bytes line following ends rest : List ℕ) → IsNextLine bytes line following → bytes ≡ ends ++ rest → AreLineEnds ends → HasNoLineEnd rest → ⊥
+unfinished bytes line following ends rest n whole skipped run =
+    let same = same_front is_line_end true ends n.ends rest (line ++ following) skipped n.skipped (run_stops rest run) (line_stops line following n.some n.run) (sym whole ∙ n.whole) in
+    has_end line following n.closed (subst HasNoLineEnd same.1 run)
 
 next_line_once : (bytes a b x y : List ℕ) → IsNextLine bytes a x → IsNextLine bytes b y → (a ≡ b) × (x ≡ y)
 next_line_once bytes a b x y p q =
@@ -50,25 +50,25 @@ lines_once bytes (x ∷ xs) (y ∷ ys) r s p q =
     let others = lines_once p.0 xs ys r s p.2 rest in
     (ap (λ (l : List ℕ). l ∷ xs) same.0 ∙ ap (λ (ls : List (List ℕ)). y ∷ ls) others.0, others.1)
 
-goes_on : (behind more : List ℕ) → BeginsWithLineEnd behind → BeginsWithLineEnd (behind ++ more)
+goes_on : (following more : List ℕ) → BeginsWithLineEnd following → BeginsWithLineEnd (following ++ more)
 goes_on [] more h = absurd h
-goes_on (b ∷ behind) more h = h
+goes_on (b ∷ following) more h = h
 
-next_line_on : (bytes line behind more : List ℕ) → IsNextLine bytes line behind → IsNextLine (bytes ++ more) line (behind ++ more)
-next_line_on bytes line behind more n = record {
+next_line_on : (bytes line following more : List ℕ) → IsNextLine bytes line following → IsNextLine (bytes ++ more) line (following ++ more)
+next_line_on bytes line following more n = record {
   ends = n.ends;
-  whole = ap (λ xs. xs ++ more) n.whole ∙ append_assoc n.ends (line ++ behind) more ∙ ap (λ xs. n.ends ++ xs) (append_assoc line behind more);
+  whole = ap (λ xs. xs ++ more) n.whole ∙ append_assoc n.ends (line ++ following) more ∙ ap (λ xs. n.ends ++ xs) (append_assoc line following more);
   skipped = n.skipped;
   some = n.some;
   run = n.run;
-  closed = goes_on behind more n.closed;
+  closed = goes_on following more n.closed;
 }
 
 -- line ends before the bytes change nothing
-behind_ends : (ends bytes : List ℕ) (lines : List (List ℕ)) (rest : List ℕ) → AreLineEnds ends → Lines bytes lines rest → Lines (ends ++ bytes) lines rest
-behind_ends ends bytes [] rest h (e, whole, skipped, run) =
+after_ends : (ends bytes : List ℕ) (lines : List (List ℕ)) (rest : List ℕ) → AreLineEnds ends → Lines bytes lines rest → Lines (ends ++ bytes) lines rest
+after_ends ends bytes [] rest h (e, whole, skipped, run) =
     (ends ++ e, ap (λ xs. ends ++ xs) whole ∙ sym (append_assoc ends e rest), all_joined (λ b. is_line_end b ≡ true) ends e h skipped, run)
-behind_ends ends bytes (line ∷ lines) rest h p =
+after_ends ends bytes (line ∷ lines) rest h p =
     let n = p.1 in (
       p.0,
       record {
@@ -85,6 +85,6 @@ behind_ends ends bytes (line ∷ lines) rest h p =
 pub lines_joined : (a b : List ℕ) (xs ys : List (List ℕ)) (r s : List ℕ) → Lines a xs r → Lines (r ++ b) ys s → Lines (a ++ b) (xs ++ ys) s
 lines_joined a b [] ys r s (e, whole, skipped, run) q =
     let same : a ++ b ≡ e ++ (r ++ b) = ap (λ zs. zs ++ b) whole ∙ append_assoc e r b in
-    rw same (behind_ends e (r ++ b) ys s skipped q)
+    rw same (after_ends e (r ++ b) ys s skipped q)
 lines_joined a b (x ∷ xs) ys r s p q =
     (p.0 ++ b, next_line_on a x p.0 b p.1, lines_joined p.0 b xs ys r s p.2 q)

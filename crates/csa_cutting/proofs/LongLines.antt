@@ -7,39 +7,39 @@ use Rattle.csa_cutting.specs.LineCutting.{LineCutting, BeginsTooLong, HasLongLin
 use Rattle.csa_cutting.proofs.LineCutting.{StopsLine, no_longer_run}
 use Rattle.csa_cutting.proofs.LinesOnce.{lines_joined}
 
-stops_at : (behind : List ℕ) → BeginsWithLineEnd behind → StopsLine behind
+stops_at : (following : List ℕ) → BeginsWithLineEnd following → StopsLine following
 stops_at [] h = tt
-stops_at (b ∷ behind) h = h
+stops_at (b ∷ following) h = h
 
 -- a long line is in the line that comes first, or after it
-in_line : (limit : ℕ) (line behind before long after : List ℕ) → HasNoLineEnd long → limit < length long → StopsLine behind → line ++ behind ≡ before ++ (long ++ after) → (limit < length line) ⊎ HasLongLine limit behind
-in_line limit [] behind before long after solid more stops same = inr (before, long, after, same, solid, more)
-in_line limit (l ∷ line) behind [] long after solid more stops same =
-    inl (omega (arith, more, no_longer_run (l ∷ line) behind long after solid stops same))
-in_line limit (l ∷ line) behind (b ∷ before) long after solid more stops same =
-    let rest : line ++ behind ≡ before ++ (long ++ after) = cc in
-    elim (in_line limit line behind before long after solid more stops rest) [
+in_line : (limit : ℕ) (line following before long after : List ℕ) → HasNoLineEnd long → limit < length long → StopsLine following → line ++ following ≡ before ++ (long ++ after) → (limit < length line) ⊎ HasLongLine limit following
+in_line limit [] following before long after solid more stops same = inr (before, long, after, same, solid, more)
+in_line limit (l ∷ line) following [] long after solid more stops same =
+    inl (omega (arith, more, no_longer_run (l ∷ line) following long after solid stops same))
+in_line limit (l ∷ line) following (b ∷ before) long after solid more stops same =
+    let rest : line ++ following ≡ before ++ (long ++ after) = cc in
+    elim (in_line limit line following before long after solid more stops rest) [
       | inl h ↦ inl (omega (arith, h))
       | inr h ↦ inr h
     ]
 
 -- line ends contain none
-behind_ends : (limit : ℕ) (ends bytes before long after : List ℕ) → AreLineEnds ends → HasNoLineEnd long → limit < length long → ends ++ bytes ≡ before ++ (long ++ after) → HasLongLine limit bytes
-behind_ends limit [] bytes before long after skipped solid more same = (before, long, after, same, solid, more)
-behind_ends limit (e ∷ ends) bytes [] [] after skipped solid more same = absurd (omega (arith, more))
-behind_ends limit (e ∷ ends) bytes [] (x ∷ long) after skipped solid more same =
+after_ends : (limit : ℕ) (ends bytes before long after : List ℕ) → AreLineEnds ends → HasNoLineEnd long → limit < length long → ends ++ bytes ≡ before ++ (long ++ after) → HasLongLine limit bytes
+after_ends limit [] bytes before long after skipped solid more same = (before, long, after, same, solid, more)
+after_ends limit (e ∷ ends) bytes [] [] after skipped solid more same = absurd (omega (arith, more))
+after_ends limit (e ∷ ends) bytes [] (x ∷ long) after skipped solid more same =
     let here : e ≡ x = cc in
     let t : is_line_end e ≡ true = skipped.0 in
     let f : is_line_end e ≡ false = rw here solid.0 in
     absurd (cc)
-behind_ends limit (e ∷ ends) bytes (b ∷ before) long after skipped solid more same =
+after_ends limit (e ∷ ends) bytes (b ∷ before) long after skipped solid more same =
     let rest : ends ++ bytes ≡ before ++ (long ++ after) = cc in
-    behind_ends limit ends bytes before long after skipped.1 solid more rest
+    after_ends limit ends bytes before long after skipped.1 solid more rest
 
-in_next : (limit : ℕ) (bytes line behind : List ℕ) → IsNextLine bytes line behind → HasLongLine limit bytes → (limit < length line) ⊎ HasLongLine limit behind
-in_next limit bytes line behind n (before, long, after, whole, solid, more) =
-    let (first, held, later, same, unbroken, over) = behind_ends limit n.ends (line ++ behind) before long after n.skipped solid more (sym n.whole ∙ whole) in
-    in_line limit line behind first held later unbroken over (stops_at behind n.closed) same
+in_next : (limit : ℕ) (bytes line following : List ℕ) → IsNextLine bytes line following → HasLongLine limit bytes → (limit < length line) ⊎ HasLongLine limit following
+in_next limit bytes line following n (before, long, after, whole, solid, more) =
+    let (first, held, later, same, unbroken, over) = after_ends limit n.ends (line ++ following) before long after n.skipped solid more (sym n.whole ∙ whole) in
+    in_line limit line following first held later unbroken over (stops_at following n.closed) same
 
 in_rest : (limit : ℕ) (rest : List ℕ) → HasLongLine limit rest → limit < length rest
 in_rest limit rest (before, long, after, whole, solid, more) =
@@ -52,11 +52,11 @@ OneIsLong limit (line ∷ lines) = (limit < length line) ⊎ OneIsLong limit lin
 
 in_lines : (limit : ℕ) (bytes : List ℕ) (lines : List (List ℕ)) (rest : List ℕ) → Lines bytes lines rest → HasLongLine limit bytes → OneIsLong limit lines ⊎ (limit < length rest)
 in_lines limit bytes [] rest (ends, whole, skipped, run) (before, long, after, same, solid, more) =
-    inr (in_rest limit rest (behind_ends limit ends rest before long after skipped solid more (sym whole ∙ same)))
-in_lines limit bytes (line ∷ lines) rest (behind, next, others) h =
-    elim (in_next limit bytes line behind next h) [
+    inr (in_rest limit rest (after_ends limit ends rest before long after skipped solid more (sym whole ∙ same)))
+in_lines limit bytes (line ∷ lines) rest (following, next, others) h =
+    elim (in_next limit bytes line following next h) [
       | inl one ↦ inl (inl one)
-      | inr later ↦ elim (in_lines limit behind lines rest others later) [
+      | inr later ↦ elim (in_lines limit following lines rest others later) [
         | inl one ↦ inl (inr one)
         | inr more ↦ inr more
       ]
@@ -66,26 +66,26 @@ further : (limit : ℕ) (front bytes : List ℕ) → HasLongLine limit bytes →
 further limit front bytes (before, long, after, whole, solid, more) =
     (front ++ before, long, after, ap (λ xs. front ++ xs) whole ∙ sym (append_assoc front before (long ++ after)), solid, more)
 
-of_line : (limit : ℕ) (bytes line behind : List ℕ) → IsNextLine bytes line behind → limit < length line → HasLongLine limit bytes
-of_line limit bytes line behind n more = (n.ends, line, behind, n.whole, n.run, more)
+of_line : (limit : ℕ) (bytes line following : List ℕ) → IsNextLine bytes line following → limit < length line → HasLongLine limit bytes
+of_line limit bytes line following n more = (n.ends, line, following, n.whole, n.run, more)
 
 of_lines : (limit : ℕ) (bytes : List ℕ) (lines : List (List ℕ)) (rest : List ℕ) → Lines bytes lines rest → OneIsLong limit lines → HasLongLine limit bytes
 of_lines limit bytes [] rest p h = absurd h
-of_lines limit bytes (line ∷ lines) rest (behind, next, others) (inl more) = of_line limit bytes line behind next more
-of_lines limit bytes (line ∷ lines) rest (behind, next, others) (inr one) =
-    let later = of_lines limit behind lines rest others one in
-    rw next.whole (further limit next.ends (line ++ behind) (further limit line behind later))
+of_lines limit bytes (line ∷ lines) rest (following, next, others) (inl more) = of_line limit bytes line following next more
+of_lines limit bytes (line ∷ lines) rest (following, next, others) (inr one) =
+    let later = of_lines limit following lines rest others one in
+    rw next.whole (further limit next.ends (line ++ following) (further limit line following later))
 
 -- the rest is at the end of the bytes
 rest_last : (bytes : List ℕ) (lines : List (List ℕ)) (rest : List ℕ) → Lines bytes lines rest → (front : List ℕ) × (bytes ≡ front ++ rest)
 rest_last bytes [] rest (ends, whole, skipped, run) = (ends, whole)
-rest_last bytes (line ∷ lines) rest (behind, next, others) =
-    let last = rest_last behind lines rest others in
-    let inner : line ++ behind ≡ (line ++ last.0) ++ rest = ap (λ xs. line ++ xs) last.1 ∙ sym (append_assoc line last.0 rest) in
+rest_last bytes (line ∷ lines) rest (following, next, others) =
+    let last = rest_last following lines rest others in
+    let inner : line ++ following ≡ (line ++ last.0) ++ rest = ap (λ xs. line ++ xs) last.1 ∙ sym (append_assoc line last.0 rest) in
     (next.ends ++ (line ++ last.0), next.whole ∙ ap (λ xs. next.ends ++ xs) inner ∙ sym (append_assoc next.ends (line ++ last.0) rest))
 
 begins_long : (limit : ℕ) (bytes : List ℕ) → BeginsTooLong limit bytes → HasLongLine limit bytes
-begins_long limit bytes (ends, line, behind, whole, skipped, run, more) = (ends, line, behind, whole, run, more)
+begins_long limit bytes (ends, line, following, whole, skipped, run, more) = (ends, line, following, whole, run, more)
 
 pub long_found : (limit : ℕ) (first piece : List ℕ) (lines : List (List ℕ)) (rest : List ℕ) → Lines first lines rest → BeginsTooLong limit (rest ++ piece) → HasLongLine limit (first ++ piece)
 long_found limit first piece lines rest p h =
@@ -114,12 +114,12 @@ none_longer limit first more lines ended rest left p q few short small h =
     ]
 
 begins_ended : (limit : ℕ) (held piece line : List ℕ) (n : ℕ) → Lines (held ++ take n piece) (line ∷ []) [] → limit < length line → BeginsTooLong limit (held ++ piece)
-begins_ended limit held piece line n (behind, next, others) more =
+begins_ended limit held piece line n (following, next, others) more =
     let parts : held ++ piece ≡ (held ++ take n piece) ++ drop n piece =
     ap (λ xs. held ++ xs) (sym (take-append-drop n piece)) ∙ sym (append_assoc held (take n piece) (drop n piece)) in
-    let whole : (next.ends ++ (line ++ behind)) ++ drop n piece ≡ next.ends ++ (line ++ (behind ++ drop n piece)) =
-    append_assoc next.ends (line ++ behind) (drop n piece) ∙ ap (λ xs. next.ends ++ xs) (append_assoc line behind (drop n piece)) in
-    (next.ends, line, behind ++ drop n piece, parts ∙ ap (λ xs. xs ++ drop n piece) next.whole ∙ whole, next.skipped, next.run, more)
+    let whole : (next.ends ++ (line ++ following)) ++ drop n piece ≡ next.ends ++ (line ++ (following ++ drop n piece)) =
+    append_assoc next.ends (line ++ following) (drop n piece) ∙ ap (λ xs. next.ends ++ xs) (append_assoc line following (drop n piece)) in
+    (next.ends, line, following ++ drop n piece, parts ∙ ap (λ xs. xs ++ drop n piece) next.whole ∙ whole, next.skipped, next.run, more)
 
 begins_open : (limit : ℕ) (bytes left : List ℕ) → Lines bytes [] left → limit < length left → BeginsTooLong limit bytes
 begins_open limit bytes left (ends, whole, skipped, run) more =

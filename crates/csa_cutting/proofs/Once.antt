@@ -28,11 +28,11 @@ solid first h k = cc
 ending : (first b : ℕ) → is_end first b ≡ true → is_end first b ≡ false → ⊥
 ending first b h k = cc
 
-unit_begins : (unit behind : List ℕ) → IsUnit unit behind → Stops is_separator true (unit ++ behind)
-unit_begins [] behind h = absurd h
-unit_begins (first ∷ bytes) behind h = solid first h.0
+unit_begins : (unit following : List ℕ) → IsUnit unit following → Stops is_separator true (unit ++ following)
+unit_begins [] following h = absurd h
+unit_begins (first ∷ bytes) following h = solid first h.0
 
-ends_stop : (first : ℕ) (behind : List ℕ) → EndsBefore first behind → Stops (is_end first) false behind
+ends_stop : (first : ℕ) (following : List ℕ) → EndsBefore first following → Stops (is_end first) false following
 ends_stop first [] h = tt
 ends_stop first (b ∷ bs) h = ending first b h
 
@@ -59,13 +59,13 @@ next_once offset text u v x y p q =
     let units = same_unit u.bytes v.bytes x y p.unit q.unit gaps.1 in
     (same_text_unit u v (p.place ∙ ap (λ (g : List ℕ). offset + length g) gaps.0 ∙ sym q.place) units.0, units.1)
 
-gap_has_no_unit : (gap unit behind : List ℕ) → IsUnit unit behind → IsGap (gap ++ (unit ++ behind)) → ⊥
-gap_has_no_unit [] [] behind h g = absurd h
-gap_has_no_unit [] (first ∷ bytes) behind h g = solid first h.0 g.0
-gap_has_no_unit (b ∷ gap) unit behind h g = gap_has_no_unit gap unit behind h g.1
+gap_has_no_unit : (gap unit following : List ℕ) → IsUnit unit following → IsGap (gap ++ (unit ++ following)) → ⊥
+gap_has_no_unit [] [] following h g = absurd h
+gap_has_no_unit [] (first ∷ bytes) following h g = solid first h.0 g.0
+gap_has_no_unit (b ∷ gap) unit following h g = gap_has_no_unit gap unit following h g.1
 
-no_next : (offset : ℕ) (text : List ℕ) (u : TextUnit) (behind : List ℕ) → IsGap text → IsNext offset text u behind → ⊥
-no_next offset text u behind gap next = gap_has_no_unit next.gap u.bytes behind next.unit (rw (← next.whole) gap)
+no_next : (offset : ℕ) (text : List ℕ) (u : TextUnit) (following : List ℕ) → IsGap text → IsNext offset text u following → ⊥
+no_next offset text u following gap next = gap_has_no_unit next.gap u.bytes following next.unit (rw (← next.whole) gap)
 
 pub units_once : (offset : ℕ) (text : List ℕ) (us vs : List TextUnit) → Units offset text us → Units offset text vs → us ≡ vs
 units_once offset text [] [] p q = refl

@@ -7,29 +7,29 @@ use Rattle.csa_cutting.specs.Cut.{IsCut, mark_length}
 use Rattle.csa_cutting.specs.PieceCutting.{is_closed}
 use Rattle.csa_cutting.proofs.FirstLong.{text_ends}
 use Rattle.csa_cutting.proofs.Growing.{filter_kept, filter_dropped, never_none, front_grown, followed, cut_grown, statements_grown, Longer}
-use Rattle.csa_cutting.proofs.Leading.{closed_behind}
+use Rattle.csa_cutting.proofs.Leading.{closed_after}
 use Rattle.csa_cutting.proofs.Passing.{statements_of}
 
 -- where a statement is: what comes before it and after it
 pub record Placed (o : ℕ) (text : List ℕ) (x : TextUnit) : Type 0 where
   pub front : List ℕ
-  pub behind : List ℕ
-  pub whole : text ≡ front ++ (x.bytes ++ behind)
+  pub following : List ℕ
+  pub whole : text ≡ front ++ (x.bytes ++ following)
   pub place : x.offset ≡ o + length front
-  pub unit : IsUnit x.bytes behind
+  pub unit : IsUnit x.bytes following
 
-placed_first : (o : ℕ) (text : List ℕ) (x : TextUnit) (behind : List ℕ) → IsNext o text x behind → Placed o text x
-placed_first o text x behind n = record { front = n.gap; behind = behind; whole = n.whole; place = n.place; unit = n.unit }
+placed_first : (o : ℕ) (text : List ℕ) (x : TextUnit) (following : List ℕ) → IsNext o text x following → Placed o text x
+placed_first o text x following n = record { front = n.gap; following = following; whole = n.whole; place = n.place; unit = n.unit }
 
-placed_deeper : (o : ℕ) (text : List ℕ) (w x : TextUnit) (behind : List ℕ) → IsNext o text w behind → Placed (w.offset + length w.bytes) behind x → Placed o text x
-placed_deeper o text w x behind n p = record {
+placed_deeper : (o : ℕ) (text : List ℕ) (w x : TextUnit) (following : List ℕ) → IsNext o text w following → Placed (w.offset + length w.bytes) following x → Placed o text x
+placed_deeper o text w x following n p = record {
   front = n.gap ++ (w.bytes ++ p.front);
-  behind = p.behind;
+  following = p.following;
   whole =
       n.whole
       ∙ ap (λ b. n.gap ++ (w.bytes ++ b)) p.whole
-      ∙ ap (λ b. n.gap ++ b) (sym (append_assoc w.bytes p.front (x.bytes ++ p.behind)))
-      ∙ sym (append_assoc n.gap (w.bytes ++ p.front) (x.bytes ++ p.behind));
+      ∙ ap (λ b. n.gap ++ b) (sym (append_assoc w.bytes p.front (x.bytes ++ p.following)))
+      ∙ sym (append_assoc n.gap (w.bytes ++ p.front) (x.bytes ++ p.following));
   place = omega (arith, p.place, n.place, length-append n.gap (w.bytes ++ p.front), length-append w.bytes p.front);
   unit = p.unit;
 }
@@ -49,20 +49,20 @@ placed_in o text (w ∷ us) ys x cut xs e =
     ]
 
 -- what follows the text is an A
-last_is : (n : ℕ) (text front : List ℕ) (b : ℕ) (behind : List ℕ) → text ++ replicate n 65 ≡ front ++ (b ∷ behind) → length text ≤ length front → b ≡ 65
-last_is n (t ∷ text) [] b behind whole past = absurd (omega (arith, past))
-last_is n (t ∷ text) (f ∷ front) b behind whole past = let tail : text ++ replicate n 65 ≡ front ++ (b ∷ behind) = cc in last_is n text front b behind tail (omega (arith, past))
-last_is zero [] [] b behind whole past = cc
-last_is zero [] (f ∷ front) b behind whole past = cc
-last_is (suc n) [] [] b behind whole past = cc
-last_is (suc n) [] (f ∷ front) b behind whole past = let tail : replicate n 65 ≡ front ++ (b ∷ behind) = cc in last_is n [] front b behind tail (omega arith)
+last_is : (n : ℕ) (text front : List ℕ) (b : ℕ) (following : List ℕ) → text ++ replicate n 65 ≡ front ++ (b ∷ following) → length text ≤ length front → b ≡ 65
+last_is n (t ∷ text) [] b following whole past = absurd (omega (arith, past))
+last_is n (t ∷ text) (f ∷ front) b following whole past = let tail : text ++ replicate n 65 ≡ front ++ (b ∷ following) = cc in last_is n text front b following tail (omega (arith, past))
+last_is zero [] [] b following whole past = cc
+last_is zero [] (f ∷ front) b following whole past = cc
+last_is (suc n) [] [] b following whole past = cc
+last_is (suc n) [] (f ∷ front) b following whole past = let tail : replicate n 65 ≡ front ++ (b ∷ following) = cc in last_is n [] front b following tail (omega arith)
 
 -- the letter A ends no unit
-goes_on : (n : ℕ) (bytes front behind text : List ℕ) → text ++ replicate n 65 ≡ front ++ (bytes ++ behind) → length text ≤ length front + length bytes → IsUnit bytes behind → length behind ≡ 0
-goes_on n [] front behind text whole past unit = absurd unit
+goes_on : (n : ℕ) (bytes front following text : List ℕ) → text ++ replicate n 65 ≡ front ++ (bytes ++ following) → length text ≤ length front + length bytes → IsUnit bytes following → length following ≡ 0
+goes_on n [] front following text whole past unit = absurd unit
 goes_on n (first ∷ bytes) front [] text whole past unit = refl
-goes_on n (first ∷ bytes) front (b ∷ behind) text whole past unit =
-    let a : b ≡ 65 = last_is n text (front ++ (first ∷ bytes)) b behind (whole ∙ sym (append_assoc front (first ∷ bytes) (b ∷ behind))) (omega (arith, past, length-append front (first ∷ bytes))) in
+goes_on n (first ∷ bytes) front (b ∷ following) text whole past unit =
+    let a : b ≡ 65 = last_is n text (front ++ (first ∷ bytes)) b following (whole ∙ sym (append_assoc front (first ∷ bytes) (b ∷ following))) (omega (arith, past, length-append front (first ∷ bytes))) in
     let end : is_end first b ≡ true = unit.2 in
     let no : is_end first 65 ≡ true = rw a at end in
     cc
@@ -71,16 +71,16 @@ goes_on n (first ∷ bytes) front (b ∷ behind) text whole past unit =
 pub open_to_end : (o n : ℕ) (text : List ℕ) (xs ys : List TextUnit) (x : TextUnit) → Statements o (text ++ replicate n 65) (xs ++ (x ∷ ys)) → o + length text ≤ x.offset + length x.bytes → x.offset + length x.bytes ≡ o + length text + n
 open_to_end o n text xs ys x s past =
     let p = placed_in o (text ++ replicate n 65) s.units ys x s.cut xs s.kept in
-    let all : length text + n ≡ length p.front + (length x.bytes + length p.behind) =
-    ap (λ k. length text + k) (sym (length-replicate n 65)) ∙ sym (length-append text (replicate n 65)) ∙ ap length p.whole ∙ length-append p.front (x.bytes ++ p.behind) ∙ ap (λ k. length p.front + k) (length-append x.bytes p.behind) in
+    let all : length text + n ≡ length p.front + (length x.bytes + length p.following) =
+    ap (λ k. length text + k) (sym (length-replicate n 65)) ∙ sym (length-append text (replicate n 65)) ∙ ap length p.whole ∙ length-append p.front (x.bytes ++ p.following) ∙ ap (λ k. length p.front + k) (length-append x.bytes p.following) in
     let place = p.place in
-    let none = goes_on n x.bytes p.front p.behind text p.whole (omega (arith, past, place)) p.unit in
+    let none = goes_on n x.bytes p.front p.following text p.whole (omega (arith, past, place)) p.unit in
     omega (arith, all, none, place)
 
 begins_within : (o : ℕ) (text : List ℕ) (xs ys : List TextUnit) (x : TextUnit) → Statements o text (xs ++ (x ∷ ys)) → x.offset ≤ o + length text
 begins_within o text xs ys x s =
     let p = placed_in o text s.units ys x s.cut xs s.kept in
-    let all : length text ≡ length p.front + length (x.bytes ++ p.behind) = ap length p.whole ∙ length-append p.front (x.bytes ++ p.behind) in
+    let all : length text ≡ length p.front + length (x.bytes ++ p.following) = ap length p.whole ∙ length-append p.front (x.bytes ++ p.following) in
     let place = p.place in
     omega (arith, all, place)
 
@@ -104,11 +104,11 @@ fronts : (o : ℕ) (text : List ℕ) (end : ℕ) (done xs ys : List TextUnit) (u
 fronts o text end done [] ys u e s = refl
 fronts o text end done (x ∷ []) ys u e s =
     let low : x.offset + length x.bytes < end = rw e (followed o text done ys x u s) in
-    let shut : is_closed end x ≡ true = closed_behind (x.offset + length x.bytes) end (length x.bytes) low in
+    let shut : is_closed end x ≡ true = closed_after (x.offset + length x.bytes) end (length x.bytes) low in
     rw shut refl
 fronts o text end done (x ∷ z ∷ xs) ys u e s =
     let low : x.offset + length x.bytes < end = rw e (followed o text done (xs ++ (u ∷ ys)) x z s) in
-    let shut : is_closed end x ≡ true = closed_behind (x.offset + length x.bytes) end (length x.bytes) low in
+    let shut : is_closed end x ≡ true = closed_after (x.offset + length x.bytes) end (length x.bytes) low in
     let rest = fronts o text end (done ++ x ∷ []) (z ∷ xs) ys u e (subst (Statements o text) (sym (append_assoc done (x ∷ []) ((z ∷ xs) ++ (u ∷ ys)))) s) in
     rw shut (ap (λ (l : List TextUnit). x ∷ l) rest)
 

@@ -19,9 +19,9 @@ statements_at o p text others e s = subst (λ n. Statements n text others) e s
 pub statements_of : (o : ℕ) (text other : List ℕ) (others : List TextUnit) → text ≡ other → Statements o text others → Statements o other others
 statements_of o text other others e s = subst (λ t. Statements o t others) e s
 
-units_behind_gap : (o : ℕ) (gap text : List ℕ) (units : List TextUnit) → IsGap gap → Units (o + length gap) text units → Units o (gap ++ text) units
-units_behind_gap o gap text [] h cut = all_joined (λ b. is_separator b ≡ true) gap text h cut
-units_behind_gap o gap text (u ∷ us) h cut =
+units_after_gap : (o : ℕ) (gap text : List ℕ) (units : List TextUnit) → IsGap gap → Units (o + length gap) text units → Units o (gap ++ text) units
+units_after_gap o gap text [] h cut = all_joined (λ b. is_separator b ≡ true) gap text h cut
+units_after_gap o gap text (u ∷ us) h cut =
     let n = cut.1 in (
       cut.0,
       record {
@@ -35,56 +35,56 @@ units_behind_gap o gap text (u ∷ us) h cut =
     )
 
 -- a gap before the text changes nothing
-pub behind_gap : (o : ℕ) (gap text : List ℕ) (others : List TextUnit) → IsGap gap → Statements (o + length gap) text others → Statements o (gap ++ text) others
-behind_gap o gap text others h s = record { units = s.units; cut = units_behind_gap o gap text s.units h s.cut; kept = s.kept }
+pub after_gap : (o : ℕ) (gap text : List ℕ) (others : List TextUnit) → IsGap gap → Statements (o + length gap) text others → Statements o (gap ++ text) others
+after_gap o gap text others h s = record { units = s.units; cut = units_after_gap o gap text s.units h s.cut; kept = s.kept }
 
-pub unit_at : (o : ℕ) (bytes behind : List ℕ) → IsUnit bytes behind → IsNext o (bytes ++ behind) (record { offset = o; bytes = bytes }) behind
-unit_at o bytes behind h = record { gap = []; whole = refl; separators = tt; place = omega arith; unit = h }
+pub unit_at : (o : ℕ) (bytes following : List ℕ) → IsUnit bytes following → IsNext o (bytes ++ following) (record { offset = o; bytes = bytes }) following
+unit_at o bytes following h = record { gap = []; whole = refl; separators = tt; place = omega arith; unit = h }
 
 -- the same unit before another text that begins alike
-pub unit_before : (bytes behind other : List ℕ) → IsUnit bytes behind → ((first : ℕ) → EndsBefore first behind → EndsBefore first other) → IsUnit bytes other
-unit_before [] behind other h same = absurd h
-unit_before (first ∷ bytes) behind other h same = (h.0, h.1, same first h.2)
+pub unit_before : (bytes following other : List ℕ) → IsUnit bytes following → ((first : ℕ) → EndsBefore first following → EndsBefore first other) → IsUnit bytes other
+unit_before [] following other h same = absurd h
+unit_before (first ∷ bytes) following other h same = (h.0, h.1, same first h.2)
 
 -- a comment before what ends it changes nothing
-pub behind_comment : (o : ℕ) (bytes behind : List ℕ) (others : List TextUnit) → IsUnit bytes behind → begins_with 39 bytes ≡ true → Statements (o + length bytes) behind others → Statements o (bytes ++ behind) others
-behind_comment o bytes behind others h c s =
-    comment_first o (bytes ++ behind) (record { offset = o; bytes = bytes }) behind others (unit_at o bytes behind h) (ap not c) s
+pub after_comment : (o : ℕ) (bytes following : List ℕ) (others : List TextUnit) → IsUnit bytes following → begins_with 39 bytes ≡ true → Statements (o + length bytes) following others → Statements o (bytes ++ following) others
+after_comment o bytes following others h c s =
+    comment_first o (bytes ++ following) (record { offset = o; bytes = bytes }) following others (unit_at o bytes following h) (ap not c) s
 
 no_separator : IsGap (39 ∷ []) → ⊥
 no_separator h = let e = h.0 in cc
 
-quoted : (gap unit behind more : List ℕ) → IsGap gap → 39 ∷ more ≡ gap ++ (unit ++ behind) → gap ≡ []
-quoted [] unit behind more h e = refl
-quoted (g ∷ gap) unit behind more h e =
+quoted : (gap unit following more : List ℕ) → IsGap gap → 39 ∷ more ≡ gap ++ (unit ++ following) → gap ≡ []
+quoted [] unit following more h e = refl
+quoted (g ∷ gap) unit following more h e =
     let same : g ≡ 39 = cc in
     let t : is_separator g ≡ true = h.0 in
     let s : is_separator 39 ≡ true = rw same at t in
     absurd (no_separator (s, tt))
 
-longer_unit : (body rest behind : List ℕ) → AllByRecursion (λ b. is_end 39 b ≡ false) body → AllByRecursion (λ b. is_end 39 b ≡ false) rest → EndsBefore 39 behind → IsUnit (39 ∷ (body ++ rest)) behind
-longer_unit body rest behind h k e = (refl, all_joined (λ b. is_end 39 b ≡ false) body rest h k, e)
+longer_unit : (body rest following : List ℕ) → AllByRecursion (λ b. is_end 39 b ≡ false) body → AllByRecursion (λ b. is_end 39 b ≡ false) rest → EndsBefore 39 following → IsUnit (39 ∷ (body ++ rest)) following
+longer_unit body rest following h k e = (refl, all_joined (λ b. is_end 39 b ≡ false) body rest h k, e)
 
 kept_rest : (u : TextUnit) (us others : List TextUnit) → is_statement u ≡ false → others ≡ filter is_statement (u ∷ us) → others ≡ filter is_statement us
 kept_rest u us others silent same = rw silent at same
 
-comment_unit : (o at : ℕ) (body more bytes behind : List ℕ) (us others : List TextUnit) → AllByRecursion (λ b. is_end 39 b ≡ false) body → 39 ∷ more ≡ bytes ++ behind → IsUnit bytes behind → at ≡ o + length body → Units (at + length bytes) behind us → others ≡ filter is_statement us → Statements o (39 ∷ (body ++ more)) others
-comment_unit o at body more [] behind us others solid same h place cut kept = absurd h
-comment_unit o at body more (b ∷ rest) behind us others solid same h place cut kept =
+comment_unit : (o at : ℕ) (body more bytes following : List ℕ) (us others : List TextUnit) → AllByRecursion (λ b. is_end 39 b ≡ false) body → 39 ∷ more ≡ bytes ++ following → IsUnit bytes following → at ≡ o + length body → Units (at + length bytes) following us → others ≡ filter is_statement us → Statements o (39 ∷ (body ++ more)) others
+comment_unit o at body more [] following us others solid same h place cut kept = absurd h
+comment_unit o at body more (b ∷ rest) following us others solid same h place cut kept =
     let first : b ≡ 39 = cc in
-    let tail : more ≡ rest ++ behind = cc in
-    let here : IsUnit (39 ∷ rest) behind = rw first at h in
-    let whole : (39 ∷ (body ++ rest)) ++ behind ≡ 39 ∷ (body ++ more) =
-    ap (λ xs. 39 ∷ xs) (append_assoc body rest behind ∙ ap (λ xs. body ++ xs) (sym tail)) in
+    let tail : more ≡ rest ++ following = cc in
+    let here : IsUnit (39 ∷ rest) following = rw first at h in
+    let whole : (39 ∷ (body ++ rest)) ++ following ≡ 39 ∷ (body ++ more) =
+    ap (λ xs. 39 ∷ xs) (append_assoc body rest following ∙ ap (λ xs. body ++ xs) (sym tail)) in
     let end : at + length (b ∷ rest) ≡ o + length (39 ∷ (body ++ rest)) = omega (arith, length-append body rest) in
-    let later : Statements (o + length (39 ∷ (body ++ rest))) behind others =
-    record { units = us; cut = subst (λ n. Units n behind us) end cut; kept = kept } in
+    let later : Statements (o + length (39 ∷ (body ++ rest))) following others =
+    record { units = us; cut = subst (λ n. Units n following us) end cut; kept = kept } in
     statements_of o _ _ others whole
-    (behind_comment o (39 ∷ (body ++ rest)) behind others (longer_unit body rest behind solid here.1 here.2) refl later)
+    (after_comment o (39 ∷ (body ++ rest)) following others (longer_unit body rest following solid here.1 here.2) refl later)
 
-begins_same : (bytes behind more : List ℕ) → 39 ∷ more ≡ bytes ++ behind → IsUnit bytes behind → begins_with 39 bytes ≡ true
-begins_same [] behind more same h = absurd h
-begins_same (b ∷ bytes) behind more same h = let first : b ≡ 39 = cc in rw first refl
+begins_same : (bytes following more : List ℕ) → 39 ∷ more ≡ bytes ++ following → IsUnit bytes following → begins_with 39 bytes ≡ true
+begins_same [] following more same h = absurd h
+begins_same (b ∷ bytes) following more same h = let first : b ≡ 39 = cc in rw first refl
 
 comment_units : (o : ℕ) (body more : List ℕ) (units others : List TextUnit) → AllByRecursion (λ b. is_end 39 b ≡ false) body → Units (o + length body) (39 ∷ more) units → others ≡ filter is_statement units → Statements o (39 ∷ (body ++ more)) others
 comment_units o body more [] others solid cut kept = absurd (no_separator (cut.0, tt))
@@ -96,9 +96,9 @@ comment_units o body more (u ∷ us) others solid cut kept =
     comment_unit o u.offset body more u.bytes cut.0 us others solid whole n.unit (omega (arith, n.place, ap length none)) cut.2 (kept_rest u us others silent kept)
 
 -- of a comment that has begun, only the first byte matters
-pub behind_open_comment : (o : ℕ) (bytes more : List ℕ) (others : List TextUnit) → IsUnit bytes [] → begins_with 39 bytes ≡ true → Statements (o + length bytes - 1) (39 ∷ more) others → Statements o (bytes ++ more) others
-behind_open_comment o [] more others h c s = absurd h
-behind_open_comment o (b ∷ body) more others h c s =
+pub after_open_comment : (o : ℕ) (bytes more : List ℕ) (others : List TextUnit) → IsUnit bytes [] → begins_with 39 bytes ≡ true → Statements (o + length bytes - 1) (39 ∷ more) others → Statements o (bytes ++ more) others
+after_open_comment o [] more others h c s = absurd h
+after_open_comment o (b ∷ body) more others h c s =
     let first : b ≡ 39 = eqb-true b 39 c in
     let here : IsUnit (39 ∷ body) [] = rw first at h in
     let place : o + length (b ∷ body) - 1 ≡ o + length body = omega arith in
@@ -161,7 +161,7 @@ over_gap place held front gap unfinished h room p fed more others few s =
     let o = fed + length front - length (gap ++ unfinished) in
     let same : fed + length front - length unfinished ≡ o + length gap = omega (arith, length-append gap unfinished) in
     p fed more others few (statements_of o _ _ others (sym (append_assoc gap unfinished more))
-    (behind_gap o gap (unfinished ++ more) others h (statements_at _ _ _ others same s)))
+    (after_gap o gap (unfinished ++ more) others h (statements_at _ _ _ others same s)))
 
 -- past a comment, and what ends it follows it
 pub over_comment : (place : Place) (held front comment unfinished : List ℕ) → ((more : List ℕ) → IsUnit comment (unfinished ++ more)) → begins_with 39 comment ≡ true → length comment + length unfinished ≤ length (open_of place held) + length front → Passes place held front (comment ++ unfinished) → Passes place held front unfinished
@@ -169,13 +169,13 @@ over_comment place held front comment unfinished unit silent room p fed more oth
     let o = fed + length front - length (comment ++ unfinished) in
     let same : fed + length front - length unfinished ≡ o + length comment = omega (arith, length-append comment unfinished) in
     p fed more others few (statements_of o _ _ others (sym (append_assoc comment unfinished more))
-    (behind_comment o comment (unfinished ++ more) others (unit more) silent (statements_at _ _ _ others same s)))
+    (after_comment o comment (unfinished ++ more) others (unit more) silent (statements_at _ _ _ others same s)))
 
 -- past a comment that has begun
 pub over_open_comment : (place : Place) (held front comment : List ℕ) → IsUnit comment [] → begins_with 39 comment ≡ true → length comment ≤ length (open_of place held) + length front → Passes place held front comment → Passes place held front (39 ∷ [])
 over_open_comment place held front comment unit silent room p fed more others few s =
     let o = fed + length front - length comment in
-    p fed more others few (behind_open_comment o comment more others unit silent (statements_at _ _ _ others (omega arith) s))
+    p fed more others few (after_open_comment o comment more others unit silent (statements_at _ _ _ others (omega arith) s))
 
 -- over the gap before a unit
 to_unit : (place : Place) (held piece : List ℕ) (from at start end : ℕ) → from ≤ at → PassesTo place held piece from at → start < end → end ≤ length piece → IsNext at (drop at piece) (unit_between piece start end) (drop end piece) → Passes place held (slice_range piece from (end + 1)) (slice_range piece start (end + 1))

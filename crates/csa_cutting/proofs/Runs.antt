@@ -16,20 +16,20 @@ dropped_first u others units silent same = rw silent same
 pub no_statements : (offset : ℕ) (text : List ℕ) → IsGap text → Statements offset text []
 no_statements offset text gap = record { units = []; cut = gap; kept = refl }
 
-pub statement_first : (offset : ℕ) (text : List ℕ) (u : TextUnit) (behind : List ℕ) (others : List TextUnit) → IsNext offset text u behind → is_statement u ≡ true → Statements (u.offset + length u.bytes) behind others → Statements offset text (u ∷ others)
-statement_first offset text u behind others next says rest =
-    record { units = u ∷ rest.units; cut = (behind, next, rest.cut); kept = kept_first u others rest.units says rest.kept }
+pub statement_first : (offset : ℕ) (text : List ℕ) (u : TextUnit) (following : List ℕ) (others : List TextUnit) → IsNext offset text u following → is_statement u ≡ true → Statements (u.offset + length u.bytes) following others → Statements offset text (u ∷ others)
+statement_first offset text u following others next says rest =
+    record { units = u ∷ rest.units; cut = (following, next, rest.cut); kept = kept_first u others rest.units says rest.kept }
 
-pub comment_first : (offset : ℕ) (text : List ℕ) (u : TextUnit) (behind : List ℕ) (others : List TextUnit) → IsNext offset text u behind → is_statement u ≡ false → Statements (u.offset + length u.bytes) behind others → Statements offset text others
-comment_first offset text u behind others next silent rest =
-    record { units = u ∷ rest.units; cut = (behind, next, rest.cut); kept = dropped_first u others rest.units silent rest.kept }
+pub comment_first : (offset : ℕ) (text : List ℕ) (u : TextUnit) (following : List ℕ) (others : List TextUnit) → IsNext offset text u following → is_statement u ≡ false → Statements (u.offset + length u.bytes) following others → Statements offset text others
+comment_first offset text u following others next silent rest =
+    record { units = u ∷ rest.units; cut = (following, next, rest.cut); kept = dropped_first u others rest.units silent rest.kept }
 
 -- a unit, and less of the text after it
 record Step (offset : ℕ) (text : List ℕ) : Type 0 where
   unit : TextUnit
-  behind : List ℕ
-  next : IsNext offset text unit behind
-  less : length behind < length text
+  following : List ℕ
+  next : IsNext offset text unit following
+  less : length following < length text
 
 gap_or_step : (offset : ℕ) (text : List ℕ) → IsGap text ⊎ Step offset text
 gap_or_step offset text =
@@ -40,7 +40,7 @@ gap_or_step offset text =
           let m = position_or_len (is_end (get_or text (0 + g) 0)) (drop (0 + g + 1) text) in
           inr (record {
             unit = record { offset = offset + g; bytes = slice_range text (0 + g) (0 + g + 1 + m) };
-            behind = drop (0 + g + 1 + m) text;
+            following = drop (0 + g + 1 + m) text;
             next = next_place offset text 0 g m refl (omega arith) refl;
             less = omega (arith, length-drop (0 + g + 1 + m) text);
           })
@@ -58,10 +58,10 @@ found_within (suc n) offset text few =
     elim (gap_or_step offset text) [
       | inl gap ↦ ([], no_statements offset text gap)
       | inr step ↦
-          let rest = found_within n (step.unit.offset + length step.unit.bytes) step.behind (omega (arith, step.less)) in
+          let rest = found_within n (step.unit.offset + length step.unit.bytes) step.following (omega (arith, step.less)) in
           elim (cases_Bool (is_statement step.unit)) [
-            | inl says ↦ (step.unit ∷ rest.0, statement_first offset text step.unit step.behind rest.0 step.next says rest.1)
-            | inr silent ↦ (rest.0, comment_first offset text step.unit step.behind rest.0 step.next silent rest.1)
+            | inl says ↦ (step.unit ∷ rest.0, statement_first offset text step.unit step.following rest.0 step.next says rest.1)
+            | inr silent ↦ (rest.0, comment_first offset text step.unit step.following rest.0 step.next silent rest.1)
           ]
     ]
 

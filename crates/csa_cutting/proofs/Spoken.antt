@@ -50,14 +50,14 @@ unit_has_some source start end h =
     omega arith
 
 -- the unit is the first statement, and those after it follow
-pub told_first : (source : List ℕ) (from start end : ℕ) (others : List TextUnit) → IsFirstStatement source from start end → Statements end (drop end source) others → Statements from (drop from source) (unit_between source start end ∷ others)
-told_first source from start end others h s =
+pub stated_first : (source : List ℕ) (from start end : ℕ) (others : List TextUnit) → IsFirstStatement source from start end → Statements end (drop end source) others → Statements from (drop from source) (unit_between source start end ∷ others)
+stated_first source from start end others h s =
     let unit = h.unit in
-    let behind = drop end source in
+    let following = drop end source in
     let place = length_between source start end unit.order unit.within in
-    let next = unit_at start (slice_range source start end) behind unit.unit in
+    let next = unit_at start (slice_range source start end) following unit.unit in
     h.first (unit_between source start end ∷ others) (statements_of start _ _ _ (sym (drop_split source start end unit.order))
-    (statement_first start (slice_range source start end ++ behind) (unit_between source start end) behind others next (ap not unit.spoken) (statements_at end _ _ others (omega arith) s)))
+    (statement_first start (slice_range source start end ++ following) (unit_between source start end) following others next (ap not unit.spoken) (statements_at end _ _ others (omega arith) s)))
 
 -- if the source holds no statement's unit, it has no statement
 pub none_spoken : (source : List ℕ) (from : ℕ) (place : Place) → IsFoundIn Gap [] source from (LeadsTo place) → Statements from (drop from source) []

@@ -11,7 +11,7 @@ use Rattle.csa_cutting.specs.declared.units.Place.TheVariants.{Mark, Gap, Unit a
 use Rattle.csa_cutting.proofs.Fronts.{turned_true, turned_false}
 use Rattle.csa_cutting.proofs.Runs.{no_statements, statement_first}
 use Rattle.csa_cutting.proofs.LineCutting.{nothing, something}
-use Rattle.csa_cutting.proofs.Passing.{behind_comment, unit_at}
+use Rattle.csa_cutting.proofs.Passing.{after_comment, unit_at}
 use Rattle.csa_cutting.proofs.Finding.{without_mark, follows_plain, mark_unit, mark_silent}
 use Rattle.csa_cutting.proofs.Leading.{seen}
 
@@ -22,7 +22,7 @@ nothing_to_come Mark held fed h is_held =
 nothing_to_come Gap held fed h is_held = no_statements _ [] tt
 nothing_to_come InUnit held fed h is_held = absurd (false≢true (sym h))
 nothing_to_come Comment held fed h is_held =
-    rw is_held (follows_plain fed (fed - 1) (39 ∷ []) [] [] (omega arith) (behind_comment (fed - 1) (39 ∷ []) [] [] (refl, tt, tt) refl (no_statements _ [] tt)))
+    rw is_held (follows_plain fed (fed - 1) (39 ∷ []) [] [] (omega arith) (after_comment (fed - 1) (39 ∷ []) [] [] (refl, tt, tt) refl (no_statements _ [] tt)))
 
 abbrev last_of : List ℕ → ℕ → TextUnit
 last_of held fed = record { offset = fed - length held; bytes = held }

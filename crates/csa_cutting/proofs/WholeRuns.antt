@@ -13,7 +13,7 @@ use Rattle.csa_cutting.specs.declared.cutter.CutFault.{CutFault}
 use Rattle.csa_cutting.specs.declared.piece.Cut.{Cut as Step}
 use Rattle.csa_cutting.proofs.FirstLong.{HasCut, nothing_fed, too_long_whole, nothing_cut, cutter_refuses, not_short}
 use Rattle.csa_cutting.proofs.Fronts.{length_between}
-use Rattle.csa_cutting.proofs.Spoken.{told_first}
+use Rattle.csa_cutting.proofs.Spoken.{stated_first}
 use Rattle.csa_cutting.proofs.Once.{statements_once}
 use Rattle.csa_cutting.proofs.Joining.{pieces_joined, pieces_closed, pieces_whole}
 
@@ -36,74 +36,74 @@ one_more source piece handed gave old new used None h k u =
     (handed ++ [], (pieces_joined fresh old new source (take used piece) handed [] h.0 leads, short_joined handed [] h.1 tt), numbered_joined 0 handed [] gave [] k tt)
 one_more source piece handed gave old new used (Some s) h k u =
     let count : old.number ≡ 0 + length handed = h.0.counted in
-    let here : IsNumbered (0 + length handed) u.unit s = subst (λ n. IsNumbered n u.unit s) count u.told in
-    let told = u.told in
-    (handed ++ (u.unit ∷ []), (pieces_joined fresh old new source (take used piece) handed (u.unit ∷ []) h.0 u.leads, short_joined handed (u.unit ∷ []) h.1 (told.short, tt)), numbered_joined 0 handed (u.unit ∷ []) gave (s ∷ []) k (here, tt))
+    let here : IsNumbered (0 + length handed) u.unit s = subst (λ n. IsNumbered n u.unit s) count u.stated in
+    let stated = u.stated in
+    (handed ++ (u.unit ∷ []), (pieces_joined fresh old new source (take used piece) handed (u.unit ∷ []) h.0 u.leads, short_joined handed (u.unit ∷ []) h.1 (stated.short, tt)), numbered_joined 0 handed (u.unit ∷ []) gave (s ∷ []) k (here, tt))
 
-all_told : (steps : List (List ℕ × Step)) (source : List ℕ) (handed : List TextUnit) (gave : List Statement) (p q : PieceCutting) → HasCutOf source p handed → AreNumbered 0 handed gave → Answered p steps q → (all : List TextUnit) × HasCutOf (source ++ all_used steps) q all × AreNumbered 0 all (gave ++ all_given steps)
-all_told [] source handed gave p q h k r =
+all_stated : (steps : List (List ℕ × Step)) (source : List ℕ) (handed : List TextUnit) (gave : List Statement) (p q : PieceCutting) → HasCutOf source p handed → AreNumbered 0 handed gave → Answered p steps q → (all : List TextUnit) × HasCutOf (source ++ all_used steps) q all × AreNumbered 0 all (gave ++ all_given steps)
+all_stated [] source handed gave p q h k r =
     let here : HasCutOf (source ++ []) q handed = subst (λ t. HasCutOf t q handed) (sym (append-nil source)) (subst (λ v. HasCutOf source v handed) r h) in
     (handed, here, subst (λ t. AreNumbered 0 handed t) (sym (append-nil gave)) k)
-all_told (s ∷ steps) source handed gave p q h k (next, stepped, r) =
+all_stated (s ∷ steps) source handed gave p q h k (next, stepped, r) =
     let one = one_more source s.0 handed gave p next s.1.used s.1.statement h k stepped.after.led in
-    let all = all_told steps (source ++ take s.1.used s.0) one.0 (gave ++ given s.1.statement) next q one.1 one.2 r in (
+    let all = all_stated steps (source ++ take s.1.used s.0) one.0 (gave ++ given s.1.statement) next q one.1 one.2 r in (
       all.0,
       subst (λ t. HasCutOf t q all.0) (append_assoc source (take s.1.used s.0) (all_used steps)) all.1,
       subst (λ t. AreNumbered 0 all.0 t) (append_assoc gave (given s.1.statement) (all_given steps)) all.2,
     )
 
-last_told : (source : List ℕ) (handed : List TextUnit) (gave : List Statement) (p : PieceCutting) (last : Option Statement) → HasCutOf source p handed → AreNumbered 0 handed gave → Last p last → AreStatementsOf source (gave ++ given last)
-last_told source handed gave p None h k l =
+last_stated : (source : List ℕ) (handed : List TextUnit) (gave : List Statement) (p : PieceCutting) (last : Option Statement) → HasCutOf source p handed → AreNumbered 0 handed gave → Last p last → AreStatementsOf source (gave ++ given last)
+last_stated source handed gave p None h k l =
     (handed ++ [], subst (λ t. IsCut t (handed ++ [])) (append-nil source) (pieces_whole source [] handed [] p h.0 l), numbered_joined 0 handed [] gave [] k tt)
-last_told source handed gave p (Some s) h k l =
+last_stated source handed gave p (Some s) h k l =
     let count : p.number ≡ 0 + length handed = h.0.counted in
     let here : IsNumbered (0 + length handed) l.0 s = subst (λ n. IsNumbered n l.0 s) count l.1 in
     (handed ++ (l.0 ∷ []), subst (λ t. IsCut t (handed ++ (l.0 ∷ []))) (append-nil source) (pieces_whole source [] handed (l.0 ∷ []) p h.0 l.2), numbered_joined 0 handed (l.0 ∷ []) gave (s ∷ []) k (here, tt))
 
 pub closed_run : (steps : List (List ℕ × Step)) (p : PieceCutting) → Answered fresh steps p → (closed : List TextUnit) × Closed (all_used steps) closed × AreNumbered 0 closed (all_given steps)
 closed_run steps p r =
-    let all = all_told steps [] [] [] fresh p nothing_fed tt r in
+    let all = all_stated steps [] [] [] fresh p nothing_fed tt r in
     (all.0, pieces_closed (all_used steps) all.0 p all.1.0, all.2)
 
 pub whole_run : (steps : List (List ℕ × Step)) (last : Option Statement) (p q : PieceCutting) → Answered fresh steps p → Finished p (Ok last) q → AreStatementsOf (all_used steps) (all_given steps ++ given last)
 whole_run steps last p q r f =
-    let all = all_told steps [] [] [] fresh p nothing_fed tt r in
-    last_told (all_used steps) all.0 (all_given steps) p last all.1 all.2 f.last
+    let all = all_stated steps [] [] [] fresh p nothing_fed tt r in
+    last_stated (all_used steps) all.0 (all_given steps) p last all.1 all.2 f.last
 
 pub run_refused : (steps : List (List ℕ × Step)) (piece more : List ℕ) (fault : CutFault) (p q : PieceCutting) → Answered fresh steps p → Stepped p piece (Err fault) q → FirstTooLong ((all_used steps ++ piece) ++ more) fault.number fault.offset
 run_refused steps piece more fault p q r s =
-    let all = all_told steps [] [] [] fresh p nothing_fed tt r in
+    let all = all_stated steps [] [] [] fresh p nothing_fed tt r in
     too_long_whole (all_used steps) piece more all.0 p q fault all.1 s
 
-cut_told : (gave : List Statement) (handed : List TextUnit) (before : List Statement) (c d : Cutting) → HasCut c handed → AreNumbered 0 handed before → HandedOut c gave d → (all : List TextUnit) × HasCut d all × AreNumbered 0 all (before ++ gave) × (d.source ≡ c.source)
-cut_told [] handed before c d h k r =
+cut_stated : (gave : List Statement) (handed : List TextUnit) (before : List Statement) (c d : Cutting) → HasCut c handed → AreNumbered 0 handed before → HandedOut c gave d → (all : List TextUnit) × HasCut d all × AreNumbered 0 all (before ++ gave) × (d.source ≡ c.source)
+cut_stated [] handed before c d h k r =
     (handed, subst (λ v. HasCut v handed) r h, subst (λ t. AreNumbered 0 handed t) (sym (append-nil before)) k, ap (λ (v : Cutting). v.source) (sym r))
-cut_told (s ∷ gave) handed before c d h k (next, same, out, r) =
+cut_stated (s ∷ gave) handed before c d h k (next, same, out, r) =
     let unit = unit_between c.source s.offset next.at in
     let size : s.offset + length unit.bytes ≡ next.at = length_between c.source s.offset next.at out.first.unit.order out.first.unit.within in
     let short : length unit.bytes ≤ 4096 = omega (arith, size, out.short) in
     let here : HasCut next (handed ++ (unit ∷ [])) = record {
       onward = λ others t.
-          let behind : Statements next.at (drop next.at c.source) others = subst (λ w. Statements next.at (drop next.at w) others) same t in
-          let whole = h.onward (unit ∷ others) (told_first c.source c.at s.offset next.at others out.first behind) in
+          let following : Statements next.at (drop next.at c.source) others = subst (λ w. Statements next.at (drop next.at w) others) same t in
+          let whole = h.onward (unit ∷ others) (stated_first c.source c.at s.offset next.at others out.first following) in
           let there : IsCut c.source ((handed ++ (unit ∷ [])) ++ others) = subst (IsCut c.source) (sym (append_assoc handed (unit ∷ []) others)) whole in
           subst (λ w. IsCut w ((handed ++ (unit ∷ [])) ++ others)) (sym same) there;
       counted = omega (arith, out.counted, out.number_is, h.counted, length-append handed (unit ∷ []));
       short = short_joined handed (unit ∷ []) h.short (short, tt);
     } in
     let numbered : IsNumbered (0 + length handed) unit s = record { number_is = omega (arith, out.number_is, h.counted); place = refl; slice = out.slice; short = short } in
-    let all = cut_told gave (handed ++ (unit ∷ [])) (before ++ (s ∷ [])) next d here (numbered_joined 0 handed (unit ∷ []) before (s ∷ []) k (numbered, tt)) r in
+    let all = cut_stated gave (handed ++ (unit ∷ [])) (before ++ (s ∷ [])) next d here (numbered_joined 0 handed (unit ∷ []) before (s ∷ []) k (numbered, tt)) r in
     (all.0, all.1, subst (λ t. AreNumbered 0 all.0 t) (append_assoc before (s ∷ []) gave) all.2, all.3 ∙ same)
 
 pub whole_cut : (gave : List Statement) (c d : Cutting) → c.at ≡ mark_length c.source → c.number ≡ 0 → HandedOut c gave d → ToCome d [] → AreStatementsOf c.source gave
 whole_cut gave c d at number r end =
-    let all = cut_told gave [] [] c d (nothing_cut c at number) tt r in
+    let all = cut_stated gave [] [] c d (nothing_cut c at number) tt r in
     let whole : IsCut d.source (all.0 ++ []) = all.1.onward [] end in
     (all.0, subst (λ t. IsCut c.source t) (append-nil all.0) (subst (λ w. IsCut w (all.0 ++ [])) all.3 whole), all.2)
 
 pub cut_refused : (gave : List Statement) (c d : Cutting) (number offset : ℕ) → c.at ≡ mark_length c.source → c.number ≡ 0 → HandedOut c gave d → IsTooLong d number offset → FirstTooLong c.source number offset
 cut_refused gave c d number offset at zero r long =
-    let all = cut_told gave [] [] c d (nothing_cut c at zero) tt r in
+    let all = cut_stated gave [] [] c d (nothing_cut c at zero) tt r in
     subst (λ w. FirstTooLong w number offset) all.3 (cutter_refuses d all.0 number offset all.1 long)
 
 numbered_short : (n : ℕ) (us : List TextUnit) (ss : List Statement) → AreNumbered n us ss → AreShort us

@@ -41,24 +41,24 @@ EndsBefore first (b ∷ bs) = is_end first b ≡ true
 
 -- a first byte that is not a separator, and all bytes up to the one that ends the unit
 abbrev pub IsUnit : List ℕ → List ℕ → Type 0
-IsUnit [] behind = ⊥
-IsUnit (first ∷ bytes) behind =
+IsUnit [] following = ⊥
+IsUnit (first ∷ bytes) following =
     (is_separator first ≡ false) × AllByRecursion (λ b. is_end first b ≡ false) bytes
-    × EndsBefore first behind
+    × EndsBefore first following
 
 -- the text, which begins at this offset, is a gap, the unit, and what follows it
-pub record IsNext (offset : ℕ) (text : List ℕ) (u : TextUnit) (behind : List ℕ) : Type 0 where
+pub record IsNext (offset : ℕ) (text : List ℕ) (u : TextUnit) (following : List ℕ) : Type 0 where
   pub gap : List ℕ
-  pub whole : text ≡ gap ++ (u.bytes ++ behind)
+  pub whole : text ≡ gap ++ (u.bytes ++ following)
   pub separators : IsGap gap
   pub place : u.offset ≡ offset + length gap
-  pub unit : IsUnit u.bytes behind
+  pub unit : IsUnit u.bytes following
 
 -- the text is gaps and these units in turn
 abbrev pub Units : ℕ → List ℕ → List TextUnit → Type 0
 Units offset text [] = IsGap text
-Units offset text (u ∷ us) = (behind : List ℕ) × IsNext offset text u behind
-    × Units (u.offset + length u.bytes) behind us
+Units offset text (u ∷ us) = (following : List ℕ) × IsNext offset text u following
+    × Units (u.offset + length u.bytes) following us
 
 abbrev pub begins_with : ℕ → List ℕ → Bool
 begins_with first [] = false

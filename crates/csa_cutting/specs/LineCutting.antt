@@ -14,13 +14,13 @@ pub record LineCutting : Type 0 where
 -- the first line of the bytes is over the limit
 abbrev pub BeginsTooLong : ℕ → List ℕ → Type 0
 BeginsTooLong limit bytes =
-    (ends line behind : List ℕ) × (bytes ≡ ends ++ (line ++ behind)) × AreLineEnds ends
+    (ends line following : List ℕ) × (bytes ≡ ends ++ (line ++ following)) × AreLineEnds ends
     × HasNoLineEnd line × (limit < length line)
 
 -- the bytes contain a run over the limit with no line end in it
 abbrev pub HasLongLine : ℕ → List ℕ → Type 0
 HasLongLine limit bytes =
-    (before line behind : List ℕ) × (bytes ≡ before ++ (line ++ behind)) × HasNoLineEnd line
+    (before line following : List ℕ) × (bytes ≡ before ++ (line ++ following)) × HasNoLineEnd line
     × (limit < length line)
 
 -- the bytes of the piece from start to end continue the held line, or are the next line after the

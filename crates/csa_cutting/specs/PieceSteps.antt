@@ -28,7 +28,7 @@ IsUsed piece cut =
 pub record Ends (old : PieceCutting) (piece : List ℕ) (used : ℕ) (s : Statement)
     (new : PieceCutting) : Type 0 where
   pub unit : TextUnit
-  pub told : IsNumbered old.number unit s
+  pub stated : IsNumbered old.number unit s
   pub some : 0 < used
   pub within : used ≤ length piece
   pub last : old.fed + used ≡ unit.offset + length unit.bytes + 1

@@ -48,11 +48,11 @@ HandedOut old (s ∷ ss) new = (next : Cutting) × (next.source ≡ old.source)
     × IsHandedOut old next s.number s.offset s.bytes.now × HandedOut next ss new
 
 -- a statement by its number, its offset and its bytes
-abbrev pub told : Statement → ℕ × ℕ × List ℕ
-told s = (s.number, s.offset, s.bytes.now)
+abbrev pub stated : Statement → ℕ × ℕ × List ℕ
+stated s = (s.number, s.offset, s.bytes.now)
 
-abbrev pub all_told : List Statement → List (ℕ × ℕ × List ℕ)
-all_told ss = map told ss
+abbrev pub all_stated : List Statement → List (ℕ × ℕ × List ℕ)
+all_stated ss = map stated ss
 
 -- pieces and the answers of a cutter of lines to them, one after another
 abbrev pub LineAnswers : LineCutting → List (List ℕ × LineAnswer) → LineCutting → Type 0

@@ -10,7 +10,7 @@ ghost use Rattle.csa_cutting.specs.LineCutting.{LineCutting, BeginsTooLong, HasL
 ghost use Rattle.csa_cutting.specs.PieceCutting.{PieceCutting, Closed, fresh};
 ghost use Rattle.csa_cutting.specs.PieceSteps.{AfterStep, AfterEnd, Last, IsTooLongAt, Stepped, Finished};
 ghost use Rattle.csa_cutting.specs.TooLong.{FirstTooLong};
-ghost use Rattle.csa_cutting.specs.WholeRun.{AreNumbered, AreStatementsOf, given, Answered, all_used, all_given, HandedOut, all_told, LineAnswers, all_taken, line_given, all_lines};
+ghost use Rattle.csa_cutting.specs.WholeRun.{AreNumbered, AreStatementsOf, given, Answered, all_used, all_given, HandedOut, all_stated, LineAnswers, all_taken, line_given, all_lines};
 ghost use Rattle.csa_cutting.specs.declared.cutter.CutFault.{CutFault};
 ghost use Rattle.csa_cutting.specs.declared.line.LineFault.TheVariants.{TooLong};
 ghost use Rattle.csa_cutting.specs.declared.cutter.Statement.{Statement};
@@ -30,8 +30,8 @@ pub fn cut_once()
 
 /// If `IsFirstStatement` holds of two places, the unit between them is the first statement, and the
 /// statements after it follow.
-pub fn first_is_told()
-    ensures told { (source : List ℕ) (from start end : ℕ) (others : List TextUnit)
+pub fn first_is_stated()
+    ensures stated { (source : List ℕ) (from start end : ℕ) (others : List TextUnit)
         → IsFirstStatement source from start end
         → Statements end (drop end source) others
         → Statements from (drop from source) (unit_between source start end ∷ others) }
@@ -60,7 +60,7 @@ pub fn too_long_once()
 /// The clauses `going`, `fault`, `place` and `after` of `PieceCutter::step` say together exactly
 /// what `Stepped` says, which `pieces_run` is about.
 pub fn step_whole()
-    ensures told { (old new : PieceCutting) (piece : List ℕ) (result : Result Step CutFault)
+    ensures stated { (old new : PieceCutting) (piece : List ℕ) (result : Result Step CutFault)
         → (IfOk result (λ _. old.refused ≡ None)
         × IfErr result (λ f. f.number ≡ old.number + 1)
         × IfErr result (λ f. IsTooLongAt old.refused old piece f.offset)
@@ -71,7 +71,7 @@ pub fn step_whole()
 /// The clauses `going`, `last`, `fault`, `place` and `after` of `PieceCutter::finish` say together
 /// exactly what `Finished` says.
 pub fn finish_whole()
-    ensures told { (old new : PieceCutting) (result : Result (Option Statement) CutFault)
+    ensures stated { (old new : PieceCutting) (result : Result (Option Statement) CutFault)
         → (IfOk result (λ _. old.refused ≡ None)
         × IfOk result (λ last. Last old last)
         × IfErr result (λ f. f.number ≡ old.number + 1)
@@ -83,7 +83,7 @@ pub fn finish_whole()
 /// The clauses `first`, `number`, `counted`, `bytes` and `limit` of `Cutter::next_statement` say
 /// together exactly what `IsHandedOut` says, which `cutter_run` is about.
 pub fn next_whole()
-    ensures told { (old new : Cutting) (result : Result (Option Statement) CutFault)
+    ensures stated { (old new : Cutting) (result : Result (Option Statement) CutFault)
         → (IfHandedOut result (λ s. IsFirstStatement old.source old.at s.offset new.at)
         × IfHandedOut result (λ s. s.number ≡ old.number + 1)
         × IfHandedOut result (λ s. new.number ≡ s.number)
@@ -129,14 +129,14 @@ pub fn never_both()
 /// Both cutters yield the statements of a source with the same numbers, offsets and bytes.
 pub fn statements_alike()
     ensures alike { (source : List ℕ) (a b : List Statement) → AreStatementsOf source a
-        → AreStatementsOf source b → all_told a ≡ all_told b }
+        → AreStatementsOf source b → all_stated a ≡ all_stated b }
 {}
 
 /// If a `LineCutter` step returns no fault, its clauses `long`, `lines` and `rests` say together
 /// exactly two things: that the cutter had not failed, and what `LineAnswers`, which `lines_run` is
 /// about, asks of one step.
 pub fn line_step_whole()
-    ensures told { (old new : LineCutting) (piece : List ℕ) (answer : LineAnswer)
+    ensures stated { (old new : LineCutting) (piece : List ℕ) (answer : LineAnswer)
         → ((IsErrOf (Ok answer) TooLong
         ↔ ((old.failed ≡ true) ⊎ BeginsTooLong old.limit (old.held ++ piece)))
         × LineStep old.held piece answer

@@ -6,7 +6,7 @@ pub(crate) fn front_length<F: Fn(u8) -> bool>(text: &[u8], passes: F) -> usize
     requires { F.IsAlwaysCallable passes }
     ensures within { result ≤ length text.now }
     ensures front { (k : ℕ) → k < result → F.post passes (slice_index text.now k) true }
-    ensures behind { result < length text.now → F.post passes (slice_index text.now result) false }
+    ensures next { result < length text.now → F.post passes (slice_index text.now result) false }
 {
     for (i, b) in text.iter().enumerate() {
         if !passes(*b) {

@@ -67,7 +67,7 @@ never_failed source number offset w (inr at) = λ is. let order = at.why_is in c
 
 pub never_failed_by : (source : List ℕ) (r : Refusal) → IsRefusedBy source r → r.why ≢ why.Failed
 never_failed_by source r (inl h) = never_failed source r.number r.offset r.why h.1
-never_failed_by source r (inr h) = λ is. let want = h.0 in cc
+never_failed_by source r (inr h) = λ is. let lack = h.0 in cc
 
 -- ---- a refusal as a fault
 
@@ -76,36 +76,36 @@ from_first new ended bytes r (inl h) = never_failed (bytes ++ []) r.number r.off
 from_first new ended bytes r (inr h) = never_failed bytes r.number r.offset r.why h.2
 
 refusal_by : (old new : Option (List ℕ)) (ended : Bool) (bytes : List ℕ) (r : Refusal) → StopsAt bytes → Consumes old new bytes → r.why ≢ why.OutOfMemory → IsRefusedFrom new ended bytes r → IsRefusal old new ended r
-refusal_by old new ended bytes r stopped given no_want refused = record {
+refusal_by old new ended bytes r stopped given no_lack refused = record {
   bytes = bytes;
   given = given;
   stopped = stopped;
   refused = refused;
-  no_want = no_want;
+  no_lack = no_lack;
   first = from_first new ended bytes r refused;
 }
 
 fault_by_why : (old new : Option (List ℕ)) (ended : Bool) (before after : ℕ) (bytes : List ℕ) (r : Refusal) (w : Why) → StopsAt bytes → r.why ≡ w → Consumes old new bytes → after ≡ before
     → (r.why ≢ why.OutOfMemory → IsRefusedFrom new ended bytes r) → (r.why ≡ why.OutOfMemory → IsFaultlessFrom new ended bytes r.number r.offset)
     → IsReadFault old new ended before after (fault_by w r)
-fault_by_why old new ended before after bytes r (why.Text fault) stopped is given quiet refused wanting =
-    let no_want : r.why ≢ why.OutOfMemory = λ h. cc in (refusal_by old new ended bytes r stopped given no_want (refused no_want), quiet)
-fault_by_why old new ended before after bytes r (why.Order fault) stopped is given quiet refused wanting =
-    let no_want : r.why ≢ why.OutOfMemory = λ h. cc in (refusal_by old new ended bytes r stopped given no_want (refused no_want), quiet)
-fault_by_why old new ended before after bytes r (why.Start fault) stopped is given quiet refused wanting =
-    let no_want : r.why ≢ why.OutOfMemory = λ h. cc in (refusal_by old new ended bytes r stopped given no_want (refused no_want), quiet)
-fault_by_why old new ended before after bytes r (why.Rule rule) stopped is given quiet refused wanting =
-    let no_want : r.why ≢ why.OutOfMemory = λ h. cc in (refusal_by old new ended bytes r stopped given no_want (refused no_want), quiet)
-fault_by_why old new ended before after bytes r why.OutOfMemory stopped is given quiet refused wanting =
-    (record { bytes = bytes; given = given; number = r.number; offset = r.offset; faultless = wanting is; stopped = stopped }, quiet)
-fault_by_why old new ended before after bytes r why.Failed stopped is given quiet refused wanting =
-    let no_want : r.why ≢ why.OutOfMemory = λ h. cc in (refusal_by old new ended bytes r stopped given no_want (refused no_want), quiet)
+fault_by_why old new ended before after bytes r (why.Text fault) stopped is given quiet refused out_of_memory =
+    let no_lack : r.why ≢ why.OutOfMemory = λ h. cc in (refusal_by old new ended bytes r stopped given no_lack (refused no_lack), quiet)
+fault_by_why old new ended before after bytes r (why.Order fault) stopped is given quiet refused out_of_memory =
+    let no_lack : r.why ≢ why.OutOfMemory = λ h. cc in (refusal_by old new ended bytes r stopped given no_lack (refused no_lack), quiet)
+fault_by_why old new ended before after bytes r (why.Start fault) stopped is given quiet refused out_of_memory =
+    let no_lack : r.why ≢ why.OutOfMemory = λ h. cc in (refusal_by old new ended bytes r stopped given no_lack (refused no_lack), quiet)
+fault_by_why old new ended before after bytes r (why.Rule rule) stopped is given quiet refused out_of_memory =
+    let no_lack : r.why ≢ why.OutOfMemory = λ h. cc in (refusal_by old new ended bytes r stopped given no_lack (refused no_lack), quiet)
+fault_by_why old new ended before after bytes r why.OutOfMemory stopped is given quiet refused out_of_memory =
+    (record { bytes = bytes; given = given; number = r.number; offset = r.offset; faultless = out_of_memory is; stopped = stopped }, quiet)
+fault_by_why old new ended before after bytes r why.Failed stopped is given quiet refused out_of_memory =
+    let no_lack : r.why ≢ why.OutOfMemory = λ h. cc in (refusal_by old new ended bytes r stopped given no_lack (refused no_lack), quiet)
 
 pub fault_tells : (old new : Option (List ℕ)) (ended : Bool) (before after : ℕ) (bytes : List ℕ) (r : Refusal) (fault : FlowFault) → StopsAt bytes → fault ≡ fault_of r → Consumes old new bytes → after ≡ before
     → (r.why ≢ why.OutOfMemory → IsRefusedFrom new ended bytes r) → (r.why ≡ why.OutOfMemory → IsFaultlessFrom new ended bytes r.number r.offset)
     → IsReadFault old new ended before after fault
-fault_tells old new ended before after bytes r fault stopped is given quiet refused wanting =
-    subst (IsReadFault old new ended before after) (sym is) (fault_by_why old new ended before after bytes r r.why stopped refl given quiet refused wanting)
+fault_tells old new ended before after bytes r fault stopped is given quiet refused out_of_memory =
+    subst (IsReadFault old new ended before after) (sym is) (fault_by_why old new ended before after bytes r r.why stopped refl given quiet refused out_of_memory)
 
 -- ---- one piece
 
@@ -132,10 +132,10 @@ pub piece_refused : (bytes piece : List ℕ) (old new : Option (List ℕ)) (ende
     → ((more : List ℕ) → r.why ≢ why.OutOfMemory → Refused ((bytes ++ piece) ++ more) r.number r.offset r.why)
     → ((more : List ℕ) → r.why ≡ why.OutOfMemory → FaultlessTo ((bytes ++ piece) ++ more) r.number r.offset)
     → (start : Option (List ℕ)) → Consumes start old bytes → IsReadFault start new ended before after fault
-piece_refused bytes piece old new ended before after r fault reader read short is given quiet refused wanting start front =
+piece_refused bytes piece old new ended before after r fault reader read short is given quiet refused out_of_memory start front =
     fault_tells start new ended before after (bytes ++ piece) r fault (stops_at (bytes ++ piece) bytes piece reader refl short read) is (Consumes-trans start old new bytes piece front given) quiet
-    (λ no_want. inl (λ more. refused more no_want))
-    (λ want. inl (λ more. wanting more want))
+    (λ no_lack. inl (λ more. refused more no_lack))
+    (λ lack. inl (λ more. out_of_memory more lack))
 
 -- a read that gives nothing although there is room shows the end
 pub ended_by : (old new : Bool) (taken : ℕ) (buffer : List ℕ) → taken ≡ 0 → 0 < length buffer → new ≡ after_read old taken buffer → new ≡ true
@@ -185,7 +185,7 @@ pub record_refused : (old new : Option (List ℕ)) (ended : Bool) (before after 
     → ((source : List ℕ) → HasRead source r → e.why ≢ why.OutOfMemory → Refused source e.number e.offset e.why)
     → ((source : List ℕ) → HasRead source r → e.why ≡ why.OutOfMemory → FaultlessTo source e.number e.offset)
     → IsReadFault old new ended before after fault
-record_refused old new ended before after r e fault is h refused wanting =
+record_refused old new ended before after r e fault is h refused out_of_memory =
     fault_tells old new ended before after h.bytes e fault (stops_at h.bytes h.bytes [] r (sym (append-nil h.bytes)) (omega arith) h.read) is h.given h.quiet
-    (λ no_want. inr (h.at_end, h.seen, refused h.bytes h.read no_want))
-    (λ want. inr (h.at_end, h.seen, wanting h.bytes h.read want))
+    (λ no_lack. inr (h.at_end, h.seen, refused h.bytes h.read no_lack))
+    (λ lack. inr (h.at_end, h.seen, out_of_memory h.bytes h.read lack))

@@ -73,7 +73,7 @@ onward source piece used handed unit p q a b =
     }
 
 of_unit : (count : ℕ) (u : TextUnit) (s : Statement) → IsSomeUnit u → IsNumbered count u s → IsOfStatement s.bytes.now
-of_unit count u s unit n = record { unit = u.bytes; behind = unit.0; is_unit = unit.1; short = n.short; whole = n.slice }
+of_unit count u s unit n = record { unit = u.bytes; following = unit.0; is_unit = unit.1; short = n.short; whole = n.slice }
 
 -- what a step and the end yield is the bytes of a statement
 pub statement_given : (p q : PieceCutting) (text : List ℕ) (u : TextUnit) (s : Statement) → IsNumbered p.number u s → Leads p text (u ∷ []) q → IsOfStatement s.bytes.now
@@ -126,12 +126,12 @@ record IsNext (source : List ℕ) (handed : List TextUnit) (unit : TextUnit) (sa
   faultless : Faultless [] handed sayings
   short : length unit.bytes ≤ 4096
   number_is : number ≡ length handed + 1
-  behind : List TextUnit
-  cut : IsCut source (handed ++ unit ∷ behind)
+  following : List TextUnit
+  cut : IsCut source (handed ++ unit ∷ following)
 
 refused_at : (source : List ℕ) (handed : List TextUnit) (unit : TextUnit) (sayings : List Saying) (r : Refusal) → IsNext source handed unit sayings r.number → r.offset ≡ unit.offset → Fault sayings unit r.why → Refused source r.number r.offset r.why
 refused_at source handed unit sayings r n place fault =
-    inl (record { front = handed; unit = unit; behind = n.behind; sayings = sayings; cut = n.cut; faultless = n.faultless; fault = fault; number_is = n.number_is; place = place })
+    inl (record { front = handed; unit = unit; following = n.following; sayings = sayings; cut = n.cut; faultless = n.faultless; fault = fault; number_is = n.number_is; place = place })
 
 refused_next : (source : List ℕ) (handed : List TextUnit) (unit : TextUnit) (sayings : List Saying) (new : Kept) (r : Refusal) → IsNext source handed unit sayings r.number → r.offset ≡ unit.offset → Outcome sayings (statement_bytes unit.bytes) (Err r.why) new → IsRefusedBy source r
 refused_next source handed unit sayings new r n place (inl (is, (s, (spells, fine)))) =
@@ -140,7 +140,7 @@ refused_next source handed unit sayings new r n place (inl (is, (s, (spells, fin
       record {
         front = handed;
         unit = unit;
-        behind = n.behind;
+        following = n.following;
         sayings = sayings ++ s ∷ [];
         cut = n.cut;
         faultless = faultless_more [] handed sayings unit s n.faultless (n.short, spells) fine;
@@ -169,7 +169,7 @@ next_of source piece more used p q k unit s h n leads =
       faultless = h.faultless;
       short = n.short;
       number_is = n.number_is ∙ ap (λ c. c + 1) (count_of source h.closed p h.cut.0);
-      behind = cut.0;
+      following = cut.0;
       cut = cut.1;
     }
 
@@ -230,7 +230,7 @@ long_refused source piece more p q k fault r h stepped is =
       inl (record {
         front = f.before;
         unit = f.unit;
-        behind = f.others;
+        following = f.others;
         sayings = h.sayings;
         cut = f.cut;
         faultless = subst (λ us. Faultless [] us h.sayings) (sym front) h.faultless;
@@ -259,7 +259,7 @@ last_next source p k unit s h n to = record {
   faultless = h.faultless;
   short = n.short;
   number_is = n.number_is ∙ ap (λ c. c + 1) (count_of source h.closed p h.cut.0);
-  behind = [];
+  following = [];
   cut = ends source h.closed (unit ∷ []) p h.cut.0 to;
 }
 

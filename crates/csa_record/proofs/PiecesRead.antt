@@ -71,8 +71,8 @@ of_all P ps i d within holds =
 
 pub accepted_so : (pieces : List (List ℕ)) (source : List ℕ) (read : Result Game Refusal) → source ≡ joined pieces
     → IfOk read (λ g. Tells source g) → IfOk read (λ g. ReadsPieces pieces (Ok g))
-accepted_so pieces source (Ok g) is told = accepted g (subst (λ s. Tells s g) is told)
-accepted_so pieces source (Err r) is told = tt
+accepted_so pieces source (Ok g) is stated = accepted g (subst (λ s. Tells s g) is stated)
+accepted_so pieces source (Err r) is stated = tt
 
 pub refused_so : (pieces : List (List ℕ)) (source : List ℕ) (read : Result Game Refusal) → source ≡ joined pieces
     → IfErr read (λ r. r.why ≢ OutOfMemory → Refused source r.number r.offset r.why)
@@ -85,4 +85,4 @@ pub faultless_so : (source whole : List ℕ) (read : Result Game Refusal) → so
     → IfErr read (λ r. r.why ≡ OutOfMemory → FaultlessTo source r.number r.offset)
     → IfErr read (λ r. r.why ≡ OutOfMemory → FaultlessTo whole r.number r.offset)
 faultless_so source whole (Ok g) is none = tt
-faultless_so source whole (Err r) is at_end = λ want. subst (λ s. FaultlessTo s r.number r.offset) is (at_end want)
+faultless_so source whole (Err r) is at_end = λ lack. subst (λ s. FaultlessTo s r.number r.offset) is (at_end lack)

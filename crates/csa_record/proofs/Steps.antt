@@ -36,7 +36,7 @@ last_of source p q k new s (Ok u) h f taken refused = last_taken source p q k ne
 last_of source p q k new s (Err r) h f taken refused = last_refused source p q k new s r h f refused.0 refused.1 refused.2
 
 pub given : (p q : PieceCutting) (piece : List ℕ) (used : ℕ) (s : Statement) → Stepped p piece (Ok (record { used = used; statement = Some s })) q → IsOfStatement s.bytes.now
-given p q piece used s f = let u : Ends p piece used s q = f.after.led in statement_given p q (take used piece) u.unit s u.told u.leads
+given p q piece used s f = let u : Ends p piece used s q = f.after.led in statement_given p q (take used piece) u.unit s u.stated u.leads
 
 -- a reader by its parts
 abbrev pub reading : PieceCutting → Kept → Option Failing → Reading
@@ -46,13 +46,13 @@ pub next_taken : (source piece : List ℕ) (used : ℕ) (p q : PieceCutting) (k 
     → Outcome h.taken.sayings s.bytes.now (Ok tt) new → HasRead (source ++ take used piece) (reading q new f)
 next_taken source piece used p q k new f s h step taken =
     let u : Ends p piece used s q = step.after.led in
-    record { going = h.going; taken = statement_taken source piece used p q k new u.unit s h.taken u.told u.leads taken }
+    record { going = h.going; taken = statement_taken source piece used p q k new u.unit s h.taken u.stated u.leads taken }
 
 pub next_refused : (source piece : List ℕ) (used : ℕ) (p q : PieceCutting) (k new : Kept) (f : Option Failing) (s : Statement) (r : Refusal) (h : HasRead source (reading p k f)) → Stepped p piece (Ok (record { used = used; statement = Some s })) q
     → RefusalOf s h.taken.sayings new r → (more : List ℕ) → IsRefusedBy ((source ++ piece) ++ more) r
 next_refused source piece used p q k new f s r h step refused more =
     let u : Ends p piece used s q = step.after.led in
-    statement_refused source piece more used p q k new u.unit s r h.taken u.told u.leads refused.0 refused.1 refused.2
+    statement_refused source piece more used p q k new u.unit s r h.taken u.stated u.leads refused.0 refused.1 refused.2
 
 pub none_next : (source piece : List ℕ) (used : ℕ) (p q : PieceCutting) (k : Kept) (f : Option Failing) → HasRead source (reading p k f) → Stepped p piece (Ok (record { used = used; statement = None })) q → HasRead (source ++ take used piece) (reading q k f)
 none_next source piece used p q k f h step = let u = step.after.led in record { going = h.going; taken = nothing_given source piece used p q k h.taken u.0 u.1 }
@@ -94,8 +94,8 @@ memory_of source r (inl h) is = absurd (h.0 is)
 memory_of source r (inr h) is = h.1
 
 -- the end, if all statements were taken
-pub told_of : (source : List ℕ) (p : PieceCutting) (k : Kept) (g : Game) → HasAll source p k → ((sayings : List Saying) → HasKept sayings k → AllByRecursion IsWritten sayings → Says sayings g) → Tells source g
-told_of source p k g h says =
+pub end_report : (source : List ℕ) (p : PieceCutting) (k : Kept) (g : Game) → HasAll source p k → ((sayings : List Saying) → HasKept sayings k → AllByRecursion IsWritten sayings → Says sayings g) → Tells source g
+end_report source p k g h says =
     let spelt = all_spelt [] h.statements h.sayings h.faultless in
     record { statements = h.statements; sayings = h.sayings; cut = h.cut; spelt = spelt; says = says h.sayings h.keeps (all_written h.statements h.sayings spelt) }
 

@@ -17,18 +17,18 @@ use Rattle.record_game.proofs.ByRanks.{flat_joined}
 abbrev pub titles : Game → List Saying
 titles g = version ∷ (name_items Black g.black ++ (name_items White g.white ++ map header_item g.headers))
 
-abbrev behind : Game → List Saying
-behind g = start_items g.start ++ turn g.start.side ∷ played_items g
+abbrev following : Game → List Saying
+following g = start_items g.start ++ turn g.start.side ∷ played_items g
 
-items : (g : Game) → canon_items g ≡ titles g ++ behind g
+items : (g : Game) → canon_items g ≡ titles g ++ following g
 items g =
-    ap (λ ss. version ∷ ss) (sym (append_assoc (name_items Black g.black) (name_items White g.white ++ map header_item g.headers) (behind g)
-    ∙ ap (λ ss. name_items Black g.black ++ ss) (append_assoc (name_items White g.white) (map header_item g.headers) (behind g))))
+    ap (λ ss. version ∷ ss) (sym (append_assoc (name_items Black g.black) (name_items White g.white ++ map header_item g.headers) (following g)
+    ∙ ap (λ ss. name_items Black g.black ++ ss) (append_assoc (name_items White g.white) (map header_item g.headers) (following g))))
 
 canon_parts : (g : Game) → canon g ≡ flat_map ended_line (titles g) ++ (flat_map ended_line (start_items g.start) ++ (ended_line (turn g.start.side) ++ flat_map ended_line (played_items g)))
 canon_parts g =
     ap (flat_map ended_line) (items g)
-    ∙ (flat_joined ended_line (titles g) (behind g)
+    ∙ (flat_joined ended_line (titles g) (following g)
     ∙ ap (λ bs. flat_map ended_line (titles g) ++ bs) (flat_joined ended_line (start_items g.start) (turn g.start.side ∷ played_items g)))
 
 four : (old h s t p a b c d : List ℕ) → a ≡ old ++ h → b ≡ a ++ s → c ≡ b ++ t → d ≡ c ++ p → d ≡ old ++ (h ++ (s ++ (t ++ p)))

@@ -60,7 +60,7 @@ abbrev pub fault_of : Refusal → FlowFault
 fault_of r = fault_by r.why r
 
 -- the source gave bytes that contain this game, and is at its end
-pub record IsTold (old new : Option (List ℕ)) (g : Game) : Type 0 where
+pub record GaveGame (old new : Option (List ℕ)) (g : Game) : Type 0 where
   pub bytes : List ℕ
   pub given : Consumes old new bytes
   pub ended : IsAtEnd new
@@ -88,7 +88,7 @@ pub record IsRefusal (old new : Option (List ℕ)) (ended : Bool) (r : Refusal) 
   pub given : Consumes old new bytes
   pub stopped : StopsAt bytes
   pub refused : IsRefusedFrom new ended bytes r
-  pub no_want : r.why ≢ why.OutOfMemory
+  pub no_lack : r.why ≢ why.OutOfMemory
   pub first : r.why ≢ why.Failed
 
 -- the statements up to this one have no fault, whatever follows these bytes; or the source is at
@@ -119,9 +119,9 @@ FailsRead old new before after = (after ≡ before + 1)
     ⊎ ((after ≡ before) × GaveMany old new most_reads)
 
 -- what the source gave has no fault: so far, or to its end, where it contains a game
-abbrev pub IsWanting : Option (List ℕ) → Option (List ℕ) → Bool → Type 0
-IsWanting old new ended = IsFaultless old new ended
-    ⊎ ((ended ≡ true) × ((g : Game) × IsTold old new g))
+abbrev pub IsOutOfMemory : Option (List ℕ) → Option (List ℕ) → Bool → Type 0
+IsOutOfMemory old new ended = IsFaultless old new ended
+    ⊎ ((ended ≡ true) × ((g : Game) × GaveGame old new g))
 
 -- what the source gave if no record was read, and how often it had failed before and after
 abbrev pub IsReadFault : Option (List ℕ) → Option (List ℕ) → Bool → ℕ → ℕ → FlowFault → Type 0
@@ -136,7 +136,7 @@ IsReadFault old new ended before after flow.OutOfMemory =
 abbrev pub ReadsRecord : Option (List ℕ) → Option (List ℕ) → Bool → ℕ → ℕ → Result Game FlowFault
     → Type 0
 ReadsRecord old new ended before after (Ok g) =
-    IsTold old new g × (ended ≡ true) × (after ≡ before)
+    GaveGame old new g × (ended ≡ true) × (after ≡ before)
 ReadsRecord old new ended before after (Err fault) = IsReadFault old new ended before after fault
 
 -- a reader of these bytes was fed the next piece of the source; or the source is at its end; or the
@@ -181,26 +181,26 @@ IsTextFault old new ended before after (flow.Refused r) =
 IsTextFault old new ended before after flow.ReadFault = FailsRead old new before after
 IsTextFault old new ended before after flow.WriteFault = ⊥
 IsTextFault old new ended before after flow.OutOfMemory =
-    IsWanting old new ended × (after ≡ before)
+    IsOutOfMemory old new ended × (after ≡ before)
 
 abbrev pub TellsText : Option (List ℕ) → Option (List ℕ) → Bool → ℕ → ℕ → List ℕ → Type 0
-TellsText old new ended before after text = (g : Game) × IsTold old new g × (text ≡ canon g)
+TellsText old new ended before after text = (g : Game) × GaveGame old new g × (text ≡ canon g)
     × (ended ≡ true) × (after ≡ before)
 
 -- the source gave a game, and this is the SHA-256 of its canonical text
 abbrev pub IsDigest : Option (List ℕ) → Option (List ℕ) → List ℕ → Type 0
-IsDigest old new digest = (g : Game) × IsTold old new g × (digest ≡ sha256 (canon g))
+IsDigest old new digest = (g : Game) × GaveGame old new g × (digest ≡ sha256 (canon g))
 
 -- the source gave a game, of whose canonical text the sink took all and nothing else
 pub record IsNormal (old new held_old held_new : Option (List ℕ)) : Type 0 where
   pub game : Game
-  pub told : IsTold old new game
+  pub stated : GaveGame old new game
   pub taken : Appends held_old held_new (canon game)
 
 -- the source gave a game, of whose canonical text the sink took a front and nothing else
 pub record IsCutShort (old new held_old held_new : Option (List ℕ)) : Type 0 where
   pub game : Game
-  pub told : IsTold old new game
+  pub stated : GaveGame old new game
   pub taken : AppendsFront held_old held_new (canon game)
 
 -- what was read and written if the text was not written whole, and how often the source and the
@@ -216,5 +216,5 @@ IsFlowFault old new ended held_old held_new before after sink_before sink_after 
     IsCutShort old new held_old held_new × (ended ≡ true) × (after ≡ before)
     × (sink_after ≡ sink_before + 1)
 IsFlowFault old new ended held_old held_new before after sink_before sink_after flow.OutOfMemory =
-    IsWanting old new ended × (after ≡ before) × Keeps held_old held_new
+    IsOutOfMemory old new ended × (after ≡ before) × Keeps held_old held_new
     × (sink_after ≡ sink_before)

@@ -37,10 +37,10 @@ pub(crate) struct Course {
 }
 
 impl Model for Course {
-    ghost use Rattle.record_game.specs.Course as told;
+    ghost use Rattle.record_game.specs.Course as stated;
     ghost use Rattle.csa_record.specs.Coursing.{course_of, IsKept};
 
-    ghost Value = { told.Course };
+    ghost Value = { stated.Course };
 
     ghost view = { λ c. course_of c.line c.times.items c.ending };
 

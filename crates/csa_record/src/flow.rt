@@ -1,7 +1,7 @@
 ghost use Rattle.std.specs.Prelude.{◌≡◌, ◌≢◌, true, ℕ, ◌+◌, ◌-◌, ◌^◌, ◌<◌, ◌≤◌, List, [], IfOk, IfErr, OnOk, OnErr, IsErrOf, MatchResult};
 ghost use Rattle.std.specs.Io.KnownBytes.{Keeps};
 ghost use Rattle.csa_record.specs.declared.flow.FlowFault.{FlowFault};
-ghost use Rattle.csa_record.specs.Flow.{longest_piece, fault_of, IsTold, IsRefusal, IsFaultless, FailsRead, IsReadFault, ReadsRecord, FeedsNext, IsFedAll, IsTextFault, TellsText, IsNormal, IsCutShort, IsDigest, IsFlowFault, IsWanting};
+ghost use Rattle.csa_record.specs.Flow.{longest_piece, fault_of, GaveGame, IsRefusal, IsFaultless, FailsRead, IsReadFault, ReadsRecord, FeedsNext, IsFedAll, IsTextFault, TellsText, IsNormal, IsCutShort, IsDigest, IsFlowFault, IsOutOfMemory};
 ghost use Rattle.csa_record.specs.Reading.{HasRead, fed_of};
 
 use crate::record::Record;
@@ -14,7 +14,7 @@ use sha2::{Digest, Sha256};
 use std::alloc::Global;
 use thiserror::Error;
 
-/// How often a source is read at most; by then its end must have been reached.
+/// The most reads of one source. Its end must have been reached by then.
 pub const MOST_READS: u32 = 16_777_216;
 
 /// The most bytes of one read.
@@ -67,7 +67,7 @@ impl From<Refusal> for FlowFault {
 pub fn read_from<S: Source>(alloc: Global, source: &mut S) -> Result<Record, FlowFault>
     requires countable { S.failed source.old < 2 ^ 64 - 1 }
     // The bytes that the source gave up to its end contain the game.
-    ensures told { IfOk result (λ g. IsTold (S.known source.old) (S.known source.new) g) }
+    ensures stated { IfOk result (λ g. GaveGame (S.known source.old) (S.known source.new) g) }
     // A game is returned only after a read has shown the end, in this call or before.
     ensures ended { IfOk result (λ _. S.ended source.new ≡ true) }
     // A record is refused only if the source's bytes are, whatever follows them.
@@ -124,7 +124,7 @@ pub fn normalise<S: Source, T: Sink>(
     ensures sink_quiet { (IsErrOf result FlowFault.WriteFault → ⊥)
         → T.failed sink.new ≡ T.failed sink.old }
     ensures memory { IsErrOf result FlowFault.OutOfMemory
-        → IsWanting (S.known source.old) (S.known source.new) (S.ended source.new) }
+        → IsOutOfMemory (S.known source.old) (S.known source.new) (S.ended source.new) }
     ensures unwritten { IfErr result
         (λ fault. fault ≢ FlowFault.WriteFault → Keeps (T.held sink.old) (T.held sink.new)) }
 {
@@ -138,7 +138,7 @@ pub fn normalise<S: Source, T: Sink>(
 pub fn digest<S: Source>(alloc: Global, source: &mut S) -> Result<[u8; 32], FlowFault>
     requires countable { S.failed source.old < 2 ^ 64 - 1 }
     // The bytes that the source gave up to its end contain a game, and this is its digest.
-    ensures told { IfOk result (IsDigest (S.known source.old) (S.known source.new)) }
+    ensures stated { IfOk result (IsDigest (S.known source.old) (S.known source.new)) }
     ensures ended { IfOk result (λ _. S.ended source.new ≡ true) }
     ensures refused { (r : Refusal) → IsErrOf result (FlowFault.Refused r)
         → IsRefusal (S.known source.old) (S.known source.new) (S.ended source.new) r }
@@ -150,7 +150,7 @@ pub fn digest<S: Source>(alloc: Global, source: &mut S) -> Result<[u8; 32], Flow
     ensures quiet { (IsErrOf result FlowFault.ReadFault → ⊥)
         → S.failed source.new ≡ S.failed source.old }
     ensures memory { IsErrOf result FlowFault.OutOfMemory
-        → IsWanting (S.known source.old) (S.known source.new) (S.ended source.new) }
+        → IsOutOfMemory (S.known source.old) (S.known source.new) (S.ended source.new) }
     ensures no_write { IsErrOf result FlowFault.WriteFault → ⊥ }
 {
     let canonical = read_text(alloc, source)?;

@@ -16,7 +16,7 @@ use std::alloc::Global;
 /// fault.
 pub fn read_pieces(alloc: Global, pieces: &[&[u8]]) -> Result<Record, Refusal>
     requires room { length (joined (bytes_of pieces.now)) ≤ 2 ^ 63 }
-    ensures told { IfOk result (λ g. ReadsPieces (bytes_of pieces.now) (Ok g)) }
+    ensures stated { IfOk result (λ g. ReadsPieces (bytes_of pieces.now) (Ok g)) }
     ensures refused { IfErr result
         (λ r. r.why ≢ Why.OutOfMemory → ReadsPieces (bytes_of pieces.now) (Err r)) }
     ensures memory { IfErr result

@@ -50,9 +50,9 @@ pub struct RecordReader {
 }
 
 impl Model for RecordReader {
-    ghost use Rattle.csa_record.specs.Reading as told;
+    ghost use Rattle.csa_record.specs.Reading as stated;
 
-    ghost Value = { told.Reading };
+    ghost Value = { stated.Reading };
 
     ghost view = { λ r. record {
       cutter = r.cutter;
@@ -89,8 +89,8 @@ impl RecordReader {
     /// has been refused.
     ///
     /// Refuses with the first fault among the statements that these bytes close. That is the
-    /// refusal of the whole record, whatever follows. Then `Why::OutOfMemory` if an allocation
-    /// fails, which means that no statement up to that point has a fault.
+    /// refusal of the whole record, whatever follows. Otherwise refuses with `Why::OutOfMemory` if
+    /// an allocation fails, which means that no statement up to that point has a fault.
     pub fn feed(&mut self, piece: &[u8]) -> Result<(), Refusal>
         requires room { self.old.failing ≡ None → fed_of self.old + length piece.now ≤ 2 ^ 63 }
         // Accepted: no statement that the bytes so far close has a fault.
@@ -179,7 +179,8 @@ impl RecordReader {
     /// Then refuses with `MissingTurn` if no statement gives the side to move: its number is one
     /// more than the number of the statements, and its offset is the length of all pieces in bytes.
     pub fn finish(self) -> Result<Record, Refusal>
-        ensures told { (source : List ℕ) → HasRead source self → IfOk result (λ g. Tells source g) }
+        ensures stated { (source : List ℕ) → HasRead source self
+            → IfOk result (λ g. Tells source g) }
         ensures refused { (source : List ℕ) → HasRead source self
             → IfErr result (λ r. r.why ≢ Why.OutOfMemory → Refused source r.number r.offset r.why) }
         ensures memory { (source : List ℕ) → HasRead source self
@@ -218,7 +219,7 @@ impl RecordReader {
 /// which means that no statement up to that point has a fault. Never returns `Why::Failed`.
 pub fn read(alloc: Global, source: &[u8]) -> Result<Record, Refusal>
     requires room { length source.now ≤ 2 ^ 63 }
-    ensures told { IfOk result (λ g. Tells source.now g) }
+    ensures stated { IfOk result (λ g. Tells source.now g) }
     ensures refused { IfErr result
         (λ r. r.why ≢ Why.OutOfMemory → Refused source.now r.number r.offset r.why) }
     ensures memory { IfErr result

@@ -89,8 +89,8 @@ impl<R: Read> Source for Reading<R> {
     }
 }
 
-/// Puts the next bytes of the reader at the front of the buffer and returns how many. A read that is
-/// interrupted is tried again.
+/// Puts the next bytes of the reader at the front of the buffer and returns how many. A read that
+/// is interrupted is tried again.
 ///
 /// Returns the error of a read that fails in another way, or `Interrupted` after 2^64 - 1 tries.
 pub fn read_uninterrupted<R: Read>(reader: &mut R, buffer: &mut [u8]) -> io::Result<usize>

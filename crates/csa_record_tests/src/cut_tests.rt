@@ -107,10 +107,10 @@ fn feed(reader: &mut RecordReader, piece: &[u8]) -> Result<(), Refusal> {
     reader.feed(piece)
 }
 
-fn in_two(alloc: Global, front: &[u8], behind: &[u8]) -> Result<Record, Refusal> {
+fn in_two(alloc: Global, front: &[u8], following: &[u8]) -> Result<Record, Refusal> {
     let mut reader = RecordReader::new(alloc);
     feed(&mut reader, front)?;
-    feed(&mut reader, behind)?;
+    feed(&mut reader, following)?;
     reader.finish()
 }
 
@@ -129,8 +129,8 @@ fn byte_by_byte(alloc: Global, source: &[u8], count: usize) -> Result<Record, Re
 fn reads_in_two(alloc: Global, source: &[u8]) -> Result<bool, Fail> {
     let whole = text_of(alloc, read(alloc, source))?;
     for at in 0..=source.len() {
-        let (front, behind) = source.split_at(at);
-        if text_of(alloc, in_two(alloc, front, behind))? != whole {
+        let (front, following) = source.split_at(at);
+        if text_of(alloc, in_two(alloc, front, following))? != whole {
             return Ok(false);
         }
     }

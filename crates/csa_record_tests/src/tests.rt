@@ -13,8 +13,8 @@ fn square(number: u8) -> Square
     requires file { (1 ≤ number / 10) × (number / 10 ≤ 9) }
     requires rank { 1 ≤ number % 10 }
 {
-    let behind = (number / 10 - 1) * 9;
-    Square::at_place(usize::from(behind + number % 10 - 1))
+    let following = (number / 10 - 1) * 9;
+    Square::at_place(usize::from(following + number % 10 - 1))
 }
 
 fn order(fault: OrderFault) -> Result<(), Why> {
@@ -117,7 +117,7 @@ fn takes_a_time(rt: &impl Abort, record: &mut Record) -> Result<(), Fail> {
 }
 
 #[test]
-fn nothing_stands_behind_the_ending(rt: HostRuntime) -> Result<(), Fail> {
+fn nothing_follows_the_ending(rt: HostRuntime) -> Result<(), Fail> {
     let mut record = closed(rt.alloc())?;
     takes_a_time(&rt, &mut record)
 }
@@ -252,7 +252,7 @@ fn filled_at_last(
 // tests/growths runs this with each allocation refused in turn. A refused call changes nothing, so
 // a second one succeeds.
 #[test]
-fn refused_growth_is_told(rt: HostRuntime) -> Result<(), Fail> {
+fn refused_growth_is_reported(rt: HostRuntime) -> Result<(), Fail> {
     let mut record = new_record(&rt)?;
     filled_at_last(&rt, &mut record)
 }

@@ -47,9 +47,9 @@ same_or_not (x ∷ xs) (y ∷ ys) =
     ]
 
 -- one byte, and what follows it
-pub behind : (a : ℕ) (P : List ℕ → Type 0) → ((rest : List ℕ) → Decided (P rest)) → (bytes : List ℕ) → Decided ((rest : List ℕ) × (bytes ≡ a ∷ rest) × P rest)
-behind a P decide [] = inr (λ h. let e = h.1 in cc)
-behind a P decide (b ∷ bs) =
+pub following : (a : ℕ) (P : List ℕ → Type 0) → ((rest : List ℕ) → Decided (P rest)) → (bytes : List ℕ) → Decided ((rest : List ℕ) × (bytes ≡ a ∷ rest) × P rest)
+following a P decide [] = inr (λ h. let e = h.1 in cc)
+following a P decide (b ∷ bs) =
     elim (eqb_tells b a) [
       | inr other ↦ inr (λ h. other.1 (head_same b a bs h.0 h.1))
       | inl same ↦ elim (decide bs) [
@@ -73,9 +73,9 @@ sign_or_not b =
     ]
 
 -- a sign, and what follows it
-pub behind_sign : (P : List ℕ → Type 0) → ((rest : List ℕ) → Decided (P rest)) → (bytes : List ℕ) → Decided ((color : Color) × (rest : List ℕ) × (bytes ≡ sign color ∷ rest) × P rest)
-behind_sign P decide [] = inr (λ h. let e = h.2 in cc)
-behind_sign P decide (b ∷ bs) =
+pub after_sign : (P : List ℕ → Type 0) → ((rest : List ℕ) → Decided (P rest)) → (bytes : List ℕ) → Decided ((color : Color) × (rest : List ℕ) × (bytes ≡ sign color ∷ rest) × P rest)
+after_sign P decide [] = inr (λ h. let e = h.2 in cc)
+after_sign P decide (b ∷ bs) =
     elim (sign_or_not b) [
       | inr other ↦ inr (λ h. other (h.0, head_same b (sign h.0) bs h.1 h.2))
       | inl same ↦ elim (decide bs) [
@@ -366,7 +366,7 @@ time_or_not text =
             n.0 * 1000 + f.0,
             inr (record {
               digits = s.0;
-              behind = s.1;
+              following = s.1;
               seconds = n.0;
               fraction = f.0;
               whole = s.2.0;

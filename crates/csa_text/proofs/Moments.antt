@@ -13,7 +13,7 @@ use Rattle.jiff_core.specs.declared.civil.date.Date.{Date}
 use Rattle.jiff_core.specs.declared.civil.time.Time.{Time}
 use Rattle.csa_cutting.proofs.LineCutting.{all_joined}
 use Rattle.csa_text.specs.Fields.{IsNumber, two_digits, HasNone, IsSplit}
-use Rattle.csa_text.specs.Moment.{TimeOfDay, CalendarMoment, AreNumbers, SpellsDate, SpellsTime, SpellsDateAnd, SpellsMoment, four_digits, date_text, clock_text, behind_date, time_of}
+use Rattle.csa_text.specs.Moment.{TimeOfDay, CalendarMoment, AreNumbers, SpellsDate, SpellsTime, SpellsDateAnd, SpellsMoment, four_digits, date_text, clock_text, after_date, time_of}
 use Rattle.csa_cutting.proofs.Once.{same_front}
 
 pub digit_below : (ds : List ℕ) (i : ℕ) → AllDigits 10 ds → i < length ds → digit_value (get_or ds i 0) < 10
@@ -137,9 +137,9 @@ no_date_before bytes date time (Some t) y m d split never s =
     let same = split_same 32 bytes date time s.0 s.1 split s.2 (date_has_no_space s.0 y m d s.3.0) in
     never y m d (rw same.0 s.3)
 
-pub no_time_behind : (bytes date time : List ℕ) (t : Option TimeOfDay) (y m d : ℕ) → IsSplit 32 bytes date time → ((a b c : ℕ) → SpellsTime time a b c → ⊥) → SpellsDateAnd t bytes y m d → ⊥
-no_time_behind bytes date time None y m d split never s = no_split 32 bytes date time (date_has_no_space bytes y m d s.0) split.0
-no_time_behind bytes date time (Some t) y m d split never s =
+pub no_time_after : (bytes date time : List ℕ) (t : Option TimeOfDay) (y m d : ℕ) → IsSplit 32 bytes date time → ((a b c : ℕ) → SpellsTime time a b c → ⊥) → SpellsDateAnd t bytes y m d → ⊥
+no_time_after bytes date time None y m d split never s = no_split 32 bytes date time (date_has_no_space bytes y m d s.0) split.0
+no_time_after bytes date time (Some t) y m d split never s =
     let same = split_same 32 bytes date time s.0 s.1 split s.2 (date_has_no_space s.0 y m d s.3.0) in
     never t.hour t.minute t.second (rw same.1 s.4)
 
@@ -214,7 +214,7 @@ time_spelled t h = (
   h.2,
 )
 
-pub text_spelled : (t : Option TimeOfDay) (y m d : ℕ) → y < 10000 → IsCivilDate (pos y) m d → InDay t → SpellsDateAnd t (date_text y m d ++ behind_date t) y m d
+pub text_spelled : (t : Option TimeOfDay) (y m d : ℕ) → y < 10000 → IsCivilDate (pos y) m d → InDay t → SpellsDateAnd t (date_text y m d ++ after_date t) y m d
 text_spelled None y m d few exists h = date_spelled y m d few exists
 text_spelled (Some t) y m d few exists h =
     (date_text y m d, clock_text t.hour t.minute t.second, refl, date_spelled y m d few exists, time_spelled t h)
@@ -231,7 +231,7 @@ in_day : (t : Option Time) → InDay (time_of t)
 in_day None = tt
 in_day (Some t) = let h = t.hour_in in let m = t.minute_in in let s = t.second_in in (omega arith, omega arith, omega arith)
 
-pub moment_spelled : (y : ℤ) (m d : ℕ) (t : Option Time) → pos 0 ≤ℤ y → y ≤ℤ pos 9999 → IsCivilDate y m d → SpellsDateAnd (time_of t) (date_text (unsigned_abs y) m d ++ behind_date (time_of t)) (unsigned_abs y) m d
+pub moment_spelled : (y : ℤ) (m d : ℕ) (t : Option Time) → pos 0 ≤ℤ y → y ≤ℤ pos 9999 → IsCivilDate y m d → SpellsDateAnd (time_of t) (date_text (unsigned_abs y) m d ++ after_date (time_of t)) (unsigned_abs y) m d
 moment_spelled y m d t low high exists =
     text_spelled (time_of t) (unsigned_abs y) m d (four_places y low high) (rw (not_negative y low) exists) (in_day t)
 

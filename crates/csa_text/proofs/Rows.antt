@@ -164,21 +164,21 @@ pub no_pieces : (color : Color) (text : List ℕ) → ((pairs : List Pair) → t
 no_pieces color text never (pieces other pairs) h = let same : text ≡ pairs_text pairs = cc in never pairs same
 no_pieces color text never s p = let row : 5 ≡ row_of s = sym (pieces_begin color text) ∙ begins_so (80 ∷ sign color ∷ text) s p in absurd (omega (arith, row))
 
-behind_two : (a b c : ℕ) (x y : List ℕ) → (a ∷ b ∷ x ≡ a ∷ c ∷ y) ⊎ (a ∷ b ∷ (x ++ 32 ∷ []) ≡ a ∷ c ∷ y) → (x ≡ y) ⊎ (x ++ 32 ∷ [] ≡ y)
-behind_two a b c x y (inl e) = inl cc
-behind_two a b c x y (inr e) = inr cc
+after_two : (a b c : ℕ) (x y : List ℕ) → (a ∷ b ∷ x ≡ a ∷ c ∷ y) ⊎ (a ∷ b ∷ (x ++ 32 ∷ []) ≡ a ∷ c ∷ y) → (x ≡ y) ⊎ (x ++ 32 ∷ [] ≡ y)
+after_two a b c x y (inl e) = inl cc
+after_two a b c x y (inr e) = inr cc
 
 pub no_rank : (digit : ℕ) (text : List ℕ) → 48 < digit → digit < 58 → ((cells : List (Option Piece)) → length cells ≡ 9 → CellsOf text cells → ⊥) → (s : Saying) → Spells (80 ∷ digit ∷ text) s → ⊥
-no_rank digit text low high never (rank number cells) r = never cells r.nine (behind_two 80 digit (48 + number) text (flat_map cell_text cells) r.whole)
+no_rank digit text low high never (rank number cells) r = never cells r.nine (after_two 80 digit (48 + number) text (flat_map cell_text cells) r.whole)
 no_rank digit text low high never s p =
     let number : digit ≡ 48 + (digit - 48) = omega arith in
     let begins : row_at (80 ∷ digit ∷ text) ≡ 4 = rw number (rank_begins (digit - 48) text (omega arith) (omega arith)) in
     let row : 4 ≡ row_of s = sym begins ∙ begins_so (80 ∷ digit ∷ text) s p in
     absurd (omega (arith, row))
 
-behind_so : (digit : ℕ) (x y : List ℕ) → (x ≡ y) ⊎ (x ++ 32 ∷ [] ≡ y) → (80 ∷ digit ∷ x ≡ 80 ∷ digit ∷ y) ⊎ (80 ∷ digit ∷ (x ++ 32 ∷ []) ≡ 80 ∷ digit ∷ y)
-behind_so digit x y (inl e) = inl (ap (λ z. 80 ∷ digit ∷ z) e)
-behind_so digit x y (inr e) = inr (ap (λ z. 80 ∷ digit ∷ z) e)
+after_so : (digit : ℕ) (x y : List ℕ) → (x ≡ y) ⊎ (x ++ 32 ∷ [] ≡ y) → (80 ∷ digit ∷ x ≡ 80 ∷ digit ∷ y) ⊎ (80 ∷ digit ∷ (x ++ 32 ∷ []) ≡ 80 ∷ digit ∷ y)
+after_so digit x y (inl e) = inl (ap (λ z. 80 ∷ digit ∷ z) e)
+after_so digit x y (inr e) = inr (ap (λ z. 80 ∷ digit ∷ z) e)
 
 pub rank_read : (digit : ℕ) (text : List ℕ) (cells : List (Option Piece)) → 48 < digit → digit < 58 → length cells ≡ 9 → CellsOf text cells → IsRank (80 ∷ digit ∷ text) (digit - 48) cells
 rank_read digit text cells low high nine whole =
@@ -187,7 +187,7 @@ rank_read digit text cells low high nine whole =
       low = omega arith;
       high = omega arith;
       nine = nine;
-      whole = rw number (behind_so digit text (flat_map cell_text cells) whole);
+      whole = rw number (after_so digit text (flat_map cell_text cells) whole);
     }
 
 pub start_fault : (color : Color) (text : List ℕ) → BadPosition ≡ fault_of_row (80 ∷ sign color ∷ text)
@@ -201,11 +201,11 @@ pub time_fault : (text : List ℕ) → BadTime ≡ fault_of_row (84 ∷ text)
 time_fault [] = refl
 time_fault (b ∷ bs) = refl
 
-same_fault : {T : Type 0} (told fault : TextFault) (found : Option T) → Err told ≡ ok_or found fault → found ≡ None → told ≡ fault
-same_fault told fault (Some x) e none = cc
-same_fault told fault None e none = cc
+same_fault : {T : Type 0} (stated fault : TextFault) (found : Option T) → Err stated ≡ ok_or found fault → found ≡ None → stated ≡ fault
+same_fault stated fault (Some x) e none = cc
+same_fault stated fault None e none = cc
 
 -- what a `?` returns if a part was not found
-pub refused : {T : Type 0} (bytes : List ℕ) (found : Option T) (told fault : TextFault) (result : Result Item TextFault) → Err told ≡ ok_or found fault → found ≡ None → IsErrAnd result (λ e. e ≡ told) → ((saying : Saying) → Spells bytes saying → ⊥) → fault ≡ fault_of_row bytes → IsRead bytes result
-refused bytes found told fault (Ok item) e none h never row = absurd h
-refused bytes found told fault (Err given) e none h never row = (never, h ∙ same_fault told fault found e none ∙ row)
+pub refused : {T : Type 0} (bytes : List ℕ) (found : Option T) (stated fault : TextFault) (result : Result Item TextFault) → Err stated ≡ ok_or found fault → found ≡ None → IsErrAnd result (λ e. e ≡ stated) → ((saying : Saying) → Spells bytes saying → ⊥) → fault ≡ fault_of_row bytes → IsRead bytes result
+refused bytes found stated fault (Ok item) e none h never row = absurd h
+refused bytes found stated fault (Err given) e none h never row = (never, h ∙ same_fault stated fault found e none ∙ row)

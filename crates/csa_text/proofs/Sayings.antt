@@ -26,7 +26,7 @@ use Rattle.csa_text.proofs.CellTexts.{cells_once, cells_length, CellsOf}
 use Rattle.csa_text.proofs.Texts.{head_same, tail_same}
 use Rattle.csa_text.proofs.Moments.{split_same}
 use Rattle.csa_text.proofs.TimesRead.{time_once}
-use Rattle.csa_text.proofs.Decided.{Decided, behind, behind_sign, split_or_not, same_or_not, pairs_or_not, board_pairs_or_not, cells_or_not, squares_or_not, time_or_not}
+use Rattle.csa_text.proofs.Decided.{Decided, following, after_sign, split_or_not, same_or_not, pairs_or_not, board_pairs_or_not, cells_or_not, squares_or_not, time_or_not}
 use Rattle.csa_text.proofs.Rows.{row_of, begins_so, rank_whole, no_colon, no_key, no_rank, rank_read}
 
 squares_once : (m n : Move) → squares_text m ≡ squares_text n → m ≡ n
@@ -131,7 +131,7 @@ Named rest = (color : Color) × (text : List ℕ) × (rest ≡ sign color ∷ te
 
 name_or_not : (bytes : List ℕ) → Decided ((color : Color) × (text : List ℕ) × Spells bytes (name color text))
 name_or_not bytes =
-    elim (behind 78 Named (behind_sign (λ _. Unit {0}) (λ _. inl tt)) bytes) [
+    elim (following 78 Named (after_sign (λ _. Unit {0}) (λ _. inl tt)) bytes) [
       | inl h ↦ inl (h.2.0, h.2.1, h.1 ∙ ap (λ x. 78 ∷ x) h.2.2)
       | inr never ↦ inr (λ h. never (sign h.0 ∷ h.1, h.2, (h.0, h.1, refl, tt)))
     ]
@@ -152,7 +152,7 @@ keyed_or_not line =
 
 header_or_not : (bytes : List ℕ) → Decided ((key text : List ℕ) × Spells bytes (header key text))
 header_or_not bytes =
-    elim (behind 36 Keyed keyed_or_not bytes) [
+    elim (following 36 Keyed keyed_or_not bytes) [
       | inl h ↦ inl (h.2.0, h.2.1, record { line = h.0; whole = h.1; split = h.2.2; some = h.2.3 })
       | inr never ↦ inr (λ h. let p = h.2 in never (p.line, p.whole, (h.0, h.1, p.split, p.some)))
     ]
@@ -162,7 +162,7 @@ BoardPairs rest = (pairs : List Pair) × (rest ≡ pairs_text pairs) × AllOnBoa
 
 even_or_not : (bytes : List ℕ) → Decided ((pairs : List Pair) × Spells bytes (even pairs))
 even_or_not bytes =
-    elim (behind 80 (λ r. (rest : List ℕ) × (r ≡ 73 ∷ rest) × BoardPairs rest) (behind 73 BoardPairs board_pairs_or_not) bytes) [
+    elim (following 80 (λ r. (rest : List ℕ) × (r ≡ 73 ∷ rest) × BoardPairs rest) (following 73 BoardPairs board_pairs_or_not) bytes) [
       | inl h ↦ inl (h.2.2.0, (h.1 ∙ ap (λ x. 80 ∷ x) h.2.1 ∙ ap (λ x. 80 ∷ 73 ∷ x) h.2.2.1, h.2.2.2))
       | inr never ↦ inr (λ h. never (73 ∷ pairs_text h.0, h.1.0, (pairs_text h.0, refl, (h.0, refl, h.1.1))))
     ]
@@ -172,7 +172,7 @@ AnyPairs rest = (pairs : List Pair) × (rest ≡ pairs_text pairs)
 
 pieces_or_not : (bytes : List ℕ) → Decided ((color : Color) × (pairs : List Pair) × Spells bytes (pieces color pairs))
 pieces_or_not bytes =
-    elim (behind 80 (λ r. (color : Color) × (rest : List ℕ) × (r ≡ sign color ∷ rest) × AnyPairs rest) (behind_sign AnyPairs pairs_or_not) bytes) [
+    elim (following 80 (λ r. (color : Color) × (rest : List ℕ) × (r ≡ sign color ∷ rest) × AnyPairs rest) (after_sign AnyPairs pairs_or_not) bytes) [
       | inl h ↦ inl (h.2.0, h.2.3.0, h.1 ∙ ap (λ x. 80 ∷ x) h.2.2 ∙ ap (λ x. 80 ∷ sign h.2.0 ∷ x) h.2.3.1)
       | inr never ↦ inr (λ h. never (sign h.0 ∷ pairs_text h.1, h.2, (h.0, pairs_text h.1, refl, (h.1, refl))))
     ]
@@ -203,7 +203,7 @@ rank_or_not (a ∷ b ∷ text) =
 
 turn_or_not : (bytes : List ℕ) → Decided ((color : Color) × Spells bytes (turn color))
 turn_or_not bytes =
-    elim (behind_sign (λ r. r ≡ []) (λ r. same_or_not r []) bytes) [
+    elim (after_sign (λ r. r ≡ []) (λ r. same_or_not r []) bytes) [
       | inl h ↦ inl (h.0, h.2 ∙ ap (λ x. sign h.0 ∷ x) h.3)
       | inr never ↦ inr (λ h. never (h.0, [], h.1, refl))
     ]
@@ -213,7 +213,7 @@ Squares rest = (m : Move) × (rest ≡ squares_text m)
 
 walked_or_not : (bytes : List ℕ) → Decided ((color : Color) × (m : Move) × Spells bytes (walked color m))
 walked_or_not bytes =
-    elim (behind_sign Squares squares_or_not bytes) [
+    elim (after_sign Squares squares_or_not bytes) [
       | inl h ↦ inl (h.0, h.3.0, h.2 ∙ ap (λ x. sign h.0 ∷ x) h.3.1)
       | inr never ↦ inr (λ h. never (h.0, squares_text h.1, h.2, (h.1, refl)))
     ]
@@ -223,7 +223,7 @@ Timed rest = (n : ℕ) × IsTime rest n
 
 spent_or_not : (bytes : List ℕ) → Decided ((n : ℕ) × Spells bytes (time n))
 spent_or_not bytes =
-    elim (behind 84 Timed time_or_not bytes) [
+    elim (following 84 Timed time_or_not bytes) [
       | inl h ↦ inl (h.2.0, (h.0, h.1, h.2.1))
       | inr never ↦ inr (λ h. never (h.1.0, h.1.1, (h.0, h.1.2)))
     ]
@@ -236,7 +236,7 @@ ended_or_not rest = elim (ending_or_not rest) [ inl e ↦ inl e | inr never ↦ 
 
 end_or_not : (bytes : List ℕ) → Decided ((e : Ending) × Spells bytes (ending e))
 end_or_not bytes =
-    elim (behind 37 Ended ended_or_not bytes) [
+    elim (following 37 Ended ended_or_not bytes) [
       | inl h ↦ inl (h.2.0, h.1 ∙ ap (λ x. 37 ∷ x) h.2.1)
       | inr never ↦ inr (λ h. never (ending_name h.0, h.1, (h.0, refl)))
     ]

@@ -22,21 +22,21 @@ pub no_whole : (text : List ℕ) → HasNone 46 text → ((seconds : ℕ) → Is
 no_whole text none never n t =
     elim t [
       | inl whole ↦ never whole.0 whole.1
-      | inr f ↦ no_split 46 text f.digits f.behind none f.whole
+      | inr f ↦ no_split 46 text f.digits f.following none f.whole
     ]
 
-pub no_front : (text digits behind : List ℕ) → IsSplit 46 text digits behind → ((seconds : ℕ) → IsSeconds digits seconds → ⊥) → (n : ℕ) → IsTime text n → ⊥
-no_front text digits behind split never n t =
+pub no_front : (text digits following : List ℕ) → IsSplit 46 text digits following → ((seconds : ℕ) → IsSeconds digits seconds → ⊥) → (n : ℕ) → IsTime text n → ⊥
+no_front text digits following split never n t =
     elim t [
-      | inl whole ↦ no_split 46 text digits behind (no_point text whole.0 whole.1) split.0
-      | inr f ↦ let same = split_same 46 text digits behind f.digits f.behind split f.whole (no_point f.digits f.seconds f.seconds_are) in never f.seconds (rw same.0 f.seconds_are)
+      | inl whole ↦ no_split 46 text digits following (no_point text whole.0 whole.1) split.0
+      | inr f ↦ let same = split_same 46 text digits following f.digits f.following split f.whole (no_point f.digits f.seconds f.seconds_are) in never f.seconds (rw same.0 f.seconds_are)
     ]
 
-pub no_fraction : (text digits behind : List ℕ) → IsSplit 46 text digits behind → ((part : ℕ) → IsFraction behind part → ⊥) → (n : ℕ) → IsTime text n → ⊥
-no_fraction text digits behind split never n t =
+pub no_fraction : (text digits following : List ℕ) → IsSplit 46 text digits following → ((part : ℕ) → IsFraction following part → ⊥) → (n : ℕ) → IsTime text n → ⊥
+no_fraction text digits following split never n t =
     elim t [
-      | inl whole ↦ no_split 46 text digits behind (no_point text whole.0 whole.1) split.0
-      | inr f ↦ let same = split_same 46 text digits behind f.digits f.behind split f.whole (no_point f.digits f.seconds f.seconds_are) in never f.fraction (rw same.1 f.fraction_is)
+      | inl whole ↦ no_split 46 text digits following (no_point text whole.0 whole.1) split.0
+      | inr f ↦ let same = split_same 46 text digits following f.digits f.following split f.whole (no_point f.digits f.seconds f.seconds_are) in never f.fraction (rw same.1 f.fraction_is)
     ]
 
 fraction_once : (digits : List ℕ) (a b : ℕ) → IsFraction digits a → IsFraction digits b → a ≡ b
@@ -47,13 +47,13 @@ seconds_once digits a b n m = n.0.value_is ∙ sym m.0.value_is
 
 fractions_once : (text : List ℕ) (m n : ℕ) → HasFraction text m → HasFraction text n → m ≡ n
 fractions_once text m n f g =
-    let same = split_same 46 text f.digits f.behind g.digits g.behind (f.whole, no_point f.digits f.seconds f.seconds_are) g.whole (no_point g.digits g.seconds g.seconds_are) in
+    let same = split_same 46 text f.digits f.following g.digits g.following (f.whole, no_point f.digits f.seconds f.seconds_are) g.whole (no_point g.digits g.seconds g.seconds_are) in
     let seconds : f.seconds ≡ g.seconds = seconds_once f.digits f.seconds g.seconds f.seconds_are (rw same.0 g.seconds_are) in
-    let parts : f.fraction ≡ g.fraction = fraction_once f.behind f.fraction g.fraction f.fraction_is (rw same.1 g.fraction_is) in
+    let parts : f.fraction ≡ g.fraction = fraction_once f.following f.fraction g.fraction f.fraction_is (rw same.1 g.fraction_is) in
     omega (arith, f.value_is, g.value_is, seconds, parts)
 
 pub time_once : (text : List ℕ) (m n : ℕ) → IsTime text m → IsTime text n → m ≡ n
 time_once text m n (inl w) (inl v) = let same = seconds_once text w.0 v.0 w.1 v.1 in omega (arith, w.2, v.2, same)
-time_once text m n (inl w) (inr g) = absurd (no_split 46 text g.digits g.behind (no_point text w.0 w.1) g.whole)
-time_once text m n (inr f) (inl v) = absurd (no_split 46 text f.digits f.behind (no_point text v.0 v.1) f.whole)
+time_once text m n (inl w) (inr g) = absurd (no_split 46 text g.digits g.following (no_point text w.0 w.1) g.whole)
+time_once text m n (inr f) (inl v) = absurd (no_split 46 text f.digits f.following (no_point text v.0 v.1) f.whole)
 time_once text m n (inr f) (inr g) = fractions_once text m n f g

@@ -59,13 +59,13 @@ clock_text hour minute second =
     two_digits hour ++ 58 ∷ (two_digits minute ++ 58 ∷ two_digits second)
 
 -- nothing, or a space and the time
-abbrev pub behind_date : Option TimeOfDay → List ℕ
-behind_date None = []
-behind_date (Some t) = 32 ∷ clock_text t.hour t.minute t.second
+abbrev pub after_date : Option TimeOfDay → List ℕ
+after_date None = []
+after_date (Some t) = 32 ∷ clock_text t.hour t.minute t.second
 
 -- the canonical text of a moment
 abbrev pub moment_text : CalendarMoment → List ℕ
-moment_text m = date_text m.year m.month m.day ++ behind_date m.time
+moment_text m = date_text m.year m.month m.day ++ after_date m.time
 
 abbrev pub time_of : Option Time → Option TimeOfDay
 time_of None = None

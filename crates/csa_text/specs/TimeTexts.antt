@@ -15,12 +15,12 @@ IsFraction digits thousandths =
 -- seconds, a point, and a fraction
 pub record HasFraction (text : List ℕ) (thousandths : ℕ) : Type 0 where
   pub digits : List ℕ
-  pub behind : List ℕ
+  pub following : List ℕ
   pub seconds : ℕ
   pub fraction : ℕ
-  pub whole : text ≡ digits ++ 46 ∷ behind
+  pub whole : text ≡ digits ++ 46 ∷ following
   pub seconds_are : IsSeconds digits seconds
-  pub fraction_is : IsFraction behind fraction
+  pub fraction_is : IsFraction following fraction
   pub value_is : thousandths ≡ seconds * 1000 + fraction
 
 abbrev pub IsWhole : List ℕ → ℕ → Type 0

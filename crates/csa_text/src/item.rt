@@ -40,10 +40,17 @@ pub enum Item<'a> {
 
 /// Reads the bytes of one `Statement` as an item of CSA V2.2.
 ///
-/// Refuses bytes that are no item, by how they begin: with `BadVersion` for `V`, `BadHeader` for
-/// `$`, `BadPosition` for `PI`, `P+`, `P-` and `P1` to `P9`, `BadMove` for `+` and `-`, `BadTime`
-/// for `T`, `UnknownEnding` for `%`, and `Unknown` for anything else. Never returns
-/// `StatementTooLong`, which is for the cutter to report.
+/// Refuses bytes that are no item, by how they begin:
+///
+/// - `BadVersion` for `V`;
+/// - `BadHeader` for `$`;
+/// - `BadPosition` for `PI`, `P+`, `P-` and `P1` to `P9`;
+/// - `BadMove` for `+` and `-`;
+/// - `BadTime` for `T`;
+/// - `UnknownEnding` for `%`;
+/// - `Unknown` for anything else.
+///
+/// Never returns `StatementTooLong`, which is for the cutter to report.
 #[inline(always)]
 pub fn read_item(bytes: &[u8]) -> Result<Item<'_>, TextFault>
     ensures item { IfOk result (λ item. Spells bytes.now (saying_of item)) }

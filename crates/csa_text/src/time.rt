@@ -16,9 +16,9 @@ pub(crate) fn read_time(text: &[u8]) -> Option<u64>
     if let Some(seconds) = read_seconds(text) {
         return Some(seconds as u64 * 1000);
     }
-    let (digits, behind) = split_at_byte(text, b'.')?;
+    let (digits, following) = split_at_byte(text, b'.')?;
     let seconds = read_seconds(digits)?;
-    let fraction = read_fraction(behind)?;
+    let fraction = read_fraction(following)?;
     Some(seconds as u64 * 1000 + fraction as u64)
 }
 

@@ -34,8 +34,8 @@ best_of (Some word) g p e not_over found =
 -- a line that is refused, and not for lack of memory, spells no game
 pub tells_none : (line : List ℕ) (fault : UsiFault) → ((fault ≡ OutOfMemory) × LineNeedsMemory (words line)) ⊎ LineFault (words line) fault
     → (fault ≡ OutOfMemory → ⊥) → (g : Played) → UsiLine (words line) g.start g.moves → ⊥
-tells_none line fault (inl wanting) memory g told = memory wanting.0
-tells_none line fault (inr refused) memory g told = line_no_fault (words line) g.start g.moves fault told refused
+tells_none line fault (inl out_of_memory) memory g stated = memory out_of_memory.0
+tells_none line fault (inr refused) memory g stated = line_no_fault (words line) g.start g.moves fault stated refused
 
 pub two_parts : (front back : List ℕ) → front ++ ended_line back ≡ text_of ((front ++ back) ∷ [])
 two_parts front back = sym (append_assoc front back (10 ∷ [])) ∙ one_text (front ++ back)
@@ -68,7 +68,7 @@ unnamed kept line asks lines t r =
     elim r [
       | row.usi h l e ↦ asks.0 h
       | row.isready h l e ↦ asks.1 h
-      | row.position told h g l e ↦ asks.2 h
+      | row.position stated h g l e ↦ asks.2 h
       | row.go g word h k b l e ↦ asks.3 h
       | row.go_resign h n l e ↦ asks.3 h
       | row.quits h l e ↦ asks.4 h

@@ -21,7 +21,7 @@ use Rattle.host_and_sample.specs.declared.outcome.Outcome.{Outcome}
 use Rattle.host_and_sample.specs.declared.outcome.Outcome.TheVariants.{Repetition, Perpetual, MaxMoves}
 use Rattle.host_and_sample.specs.Host.{HostState, HostRow, HostTableRow, HostMoves, BeforeLogin, AfterSummary, InPlay, AfterMove, IsHostConfig, IsGoodMove, with_move, moved_line, outcome_lines, even_game, waiting, offered, playing, decided, ended, in_table, skipped}
 use Rattle.host_and_sample.specs.Host as row
-use Rattle.host_and_sample.specs.HostLogs.{HostStep, HostLeads, begins, next, IsSeconds, client_lines, written, behind_start, Timed, move_of, lines_in_turn, IsTimedGame}
+use Rattle.host_and_sample.specs.HostLogs.{HostStep, HostLeads, begins, next, IsSeconds, client_lines, written, after_start, Timed, move_of, lines_in_turn, IsTimedGame}
 use Rattle.session_lines.specs.MoveLines.{is_move_line}
 use Rattle.session_lines.specs.ServerLines.{is_start_line}
 use Rattle.session_lines.specs.Texts.{with_time}
@@ -47,20 +47,20 @@ has_more [] b h = absurd h
 has_more (l ∷ ls) b (inl h) = inl h
 has_more (l ∷ ls) b (inr h) = inr (h.0, has_more ls b h.1)
 
-pub behind_more : (a b : Lines) → HasStart a → behind_start (a ++ b) ≡ behind_start a ++ b
-behind_more [] b h = absurd h
-behind_more (l ∷ ls) b (inl h) = rw h refl
-behind_more (l ∷ ls) b (inr h) = rw h.0 (behind_more ls b h.1)
+pub following_more : (a b : Lines) → HasStart a → after_start (a ++ b) ≡ after_start a ++ b
+following_more [] b h = absurd h
+following_more (l ∷ ls) b (inl h) = rw h refl
+following_more (l ∷ ls) b (inr h) = rw h.0 (following_more ls b h.1)
 
 pub found : (a : Lines) (l : List ℕ) → NoStart a → is_start_line l ≡ true → HasStart (a ++ l ∷ [])
 found [] l h s = inl s
 found (x ∷ xs) l h s = inr (h.0, found xs l h.1 s)
 
-pub none_behind : (a : Lines) (l : List ℕ) → NoStart a → is_start_line l ≡ true → behind_start (a ++ l ∷ []) ≡ []
-none_behind [] l h s = rw s refl
-none_behind (x ∷ xs) l h s = rw h.0 (none_behind xs l h.1 s)
+pub none_following : (a : Lines) (l : List ℕ) → NoStart a → is_start_line l ≡ true → after_start (a ++ l ∷ []) ≡ []
+none_following [] l h s = rw s refl
+none_following (x ∷ xs) l h s = rw h.0 (none_following xs l h.1 s)
 
-pub none_yet : (a : Lines) → NoStart a → behind_start a ≡ []
+pub none_yet : (a : Lines) → NoStart a → after_start a ≡ []
 none_yet [] h = refl
 none_yet (x ∷ xs) h = rw h.0 (none_yet xs h.1)
 
@@ -68,9 +68,9 @@ none_yet (x ∷ xs) h = rw h.0 (none_yet xs h.1)
 abbrev game_of : List Timed → Played
 game_of ms = record { start = even_start; moves = map move_of ms }
 
-record Told (most : ℕ) (w : Lines) (ms : List Timed) : Type 0 where
+record EndReport (most : ℕ) (w : Lines) (ms : List Timed) : Type 0 where
   start : HasStart w
-  timed : IsTimedGame most (filter is_move_line (behind_start w)) ms
+  timed : IsTimedGame most (filter is_move_line (after_start w)) ms
 
 signed : (color : Color) (m : Move) (seconds : ℕ) → is_move_line (with_time (move_text color m) seconds) ≡ true
 signed Black m seconds = refl
@@ -95,46 +95,46 @@ moves_more ms x = map-append move_of ms (x ∷ [])
 same_game : (ms : List Timed) (x : Timed) → with_move (game_of ms) x.move ≡ game_of (ms ++ x ∷ [])
 same_game ms x = ap (λ (l : List Move). record { start = even_start; moves = l }) (sym (moves_more ms x))
 
-one_move : (most : ℕ) (w : Lines) (ms : List Timed) (x : Timed) → Told most w ms
+one_move : (most : ℕ) (w : Lines) (ms : List Timed) (x : Timed) → EndReport most w ms
     → MayFollow even_start (map move_of ms) x.move → length ms < most → IsSeconds x.seconds
-    → Told most (w ++ moved_line (game_of ms) x.move x.seconds ∷ []) (ms ++ x ∷ [])
-one_move most w ms x told may room time =
+    → EndReport most (w ++ moved_line (game_of ms) x.move x.seconds ∷ []) (ms ++ x ∷ [])
+one_move most w ms x stated may room time =
     let line = moved_line (game_of ms) x.move x.seconds in
-    let kept : filter is_move_line (behind_start (w ++ line ∷ [])) ≡ lines_in_turn Black (ms ++ x ∷ []) =
-    ap (filter is_move_line) (behind_more w (line ∷ []) told.start)
-    ∙ (filter-append is_move_line (behind_start w) (line ∷ [])
-    ∙ (ap (λ ls. ls ++ filter is_move_line (line ∷ [])) told.timed.lines_are
+    let kept : filter is_move_line (after_start (w ++ line ∷ [])) ≡ lines_in_turn Black (ms ++ x ∷ []) =
+    ap (filter is_move_line) (following_more w (line ∷ []) stated.start)
+    ∙ (filter-append is_move_line (after_start w) (line ∷ [])
+    ∙ (ap (λ ls. ls ++ filter is_move_line (line ∷ [])) stated.timed.lines_are
     ∙ (ap (λ ls. lines_in_turn Black ms ++ ls) (only_move line (signed (now_of (game_of ms)).side x.move x.seconds))
     ∙ sym (turn_more even_start ms x)))) in
     record {
-      start = has_more w (line ∷ []) told.start;
+      start = has_more w (line ∷ []) stated.start;
       timed = record {
-        game = subst (IsGame even_start) (sym (moves_more ms x)) (played (map move_of ms) x.move told.timed.game may);
+        game = subst (IsGame even_start) (sym (moves_more ms x)) (played (map move_of ms) x.move stated.timed.game may);
         few = omega (arith, room, length-append ms (x ∷ []));
-        times = times_more ms x told.timed.times time;
+        times = times_more ms x stated.timed.times time;
         lines_are = kept;
       };
     }
 
-other_lines : (most : ℕ) (w ls : Lines) (ms : List Timed) → Told most w ms → filter is_move_line ls ≡ [] → Told most (w ++ ls) ms
-other_lines most w ls ms told none =
-    let kept : filter is_move_line (behind_start (w ++ ls)) ≡ lines_in_turn Black ms =
-    ap (filter is_move_line) (behind_more w ls told.start)
-    ∙ (filter-append is_move_line (behind_start w) ls
-    ∙ (ap (λ x. filter is_move_line (behind_start w) ++ x) none
-    ∙ (append-nil (filter is_move_line (behind_start w)) ∙ told.timed.lines_are))) in
+other_lines : (most : ℕ) (w ls : Lines) (ms : List Timed) → EndReport most w ms → filter is_move_line ls ≡ [] → EndReport most (w ++ ls) ms
+other_lines most w ls ms stated none =
+    let kept : filter is_move_line (after_start (w ++ ls)) ≡ lines_in_turn Black ms =
+    ap (filter is_move_line) (following_more w ls stated.start)
+    ∙ (filter-append is_move_line (after_start w) ls
+    ∙ (ap (λ x. filter is_move_line (after_start w) ++ x) none
+    ∙ (append-nil (filter is_move_line (after_start w)) ∙ stated.timed.lines_are))) in
     record {
-      start = has_more w ls told.start;
-      timed = record { game = told.timed.game; few = told.timed.few; times = told.timed.times; lines_are = kept };
+      start = has_more w ls stated.start;
+      timed = record { game = stated.timed.game; few = stated.timed.few; times = stated.timed.times; lines_are = kept };
     }
 
 -- 3. what holds of the lines so far in each state
 abbrev Holds : HostConfig → Lines → HostState → Type 0
 Holds c w waiting = NoStart w
 Holds c w (offered n) = NoStart w
-Holds c w (playing g) = (ms : List Timed) × (g ≡ game_of ms) × Told c.max_moves w ms × (length ms < c.max_moves)
-Holds c w decided = (ms : List Timed) × Told c.max_moves w ms
-Holds c w ended = NoStart w ⊎ ((ms : List Timed) × Told c.max_moves w ms)
+Holds c w (playing g) = (ms : List Timed) × (g ≡ game_of ms) × EndReport c.max_moves w ms × (length ms < c.max_moves)
+Holds c w decided = (ms : List Timed) × EndReport c.max_moves w ms
+Holds c w ended = NoStart w ⊎ ((ms : List Timed) × EndReport c.max_moves w ms)
 
 lost_or_won : (b : Bool) → filter is_move_line (codes "#OUTE_SENNICHITE" ∷ cond b (codes "#LOSE") (codes "#WIN") ∷ []) ≡ []
 lost_or_won true = refl
@@ -149,24 +149,24 @@ length_map : (ms : List Timed) → length (map move_of ms) ≡ length ms
 length_map [] = refl
 length_map (m ∷ ms) = ap suc (length_map ms)
 
-begun_game : (c : HostConfig) (w : Lines) (l : List ℕ) → NoStart w → is_start_line l ≡ true → Told c.max_moves (w ++ l ∷ []) []
+begun_game : (c : HostConfig) (w : Lines) (l : List ℕ) → NoStart w → is_start_line l ≡ true → EndReport c.max_moves (w ++ l ∷ []) []
 begun_game c w l none s =
     record {
       start = found w l none s;
-      timed = record { game = begun; few = omega arith; times = tt; lines_are = ap (filter is_move_line) (none_behind w l none s) };
+      timed = record { game = begun; few = omega arith; times = tt; lines_are = ap (filter is_move_line) (none_following w l none s) };
     }
 
 regroup : (w : Lines) (l : List ℕ) (ls : Lines) → (w ++ l ∷ []) ++ ls ≡ w ++ l ∷ ls
 regroup w l ls = append_assoc w (l ∷ []) ls
 
-host_moves : (c : HostConfig) (w : Lines) (ms : List Timed) (more : Lines) (t : HostState) → Told c.max_moves w ms → length ms < c.max_moves
+host_moves : (c : HostConfig) (w : Lines) (ms : List Timed) (more : Lines) (t : HostState) → EndReport c.max_moves w ms → length ms < c.max_moves
     → (Over (game_of ms) → ⊥) → HostMoves c (game_of ms) more t → Holds c (w ++ more) t
-host_moves c w ms more t told room goes r =
+host_moves c w ms more t stated room goes r =
     elim r [
       | row.moves m first after l e ↦
           let x : Timed = record { move = m; seconds = 0 } in
           let may : MayFollow even_start (map move_of ms) m = record { legal = first.legal; not_over = goes } in
-          let now = one_move c.max_moves w ms x told may room (omega arith) in
+          let now = one_move c.max_moves w ms x stated may room (omega arith) in
           let same = same_game ms x in
           let left : length (ms ++ x ∷ []) < c.max_moves =
           let a = after.1 in let n = length_map (ms ++ x ∷ []) in let k = ap (λ (g : Played). length g.moves) same in omega (arith, a, n, k) in
@@ -174,11 +174,11 @@ host_moves c w ms more t told room goes r =
       | row.moves_last m outcome first after l e ↦
           let x : Timed = record { move = m; seconds = 0 } in
           let may : MayFollow even_start (map move_of ms) m = record { legal = first.legal; not_over = goes } in
-          let now = one_move c.max_moves w ms x told may room (omega arith) in
+          let now = one_move c.max_moves w ms x stated may room (omega arith) in
           let line = moved_line (game_of ms) m 0 in
           let all = other_lines c.max_moves (w ++ line ∷ []) (outcome_lines c outcome) (ms ++ x ∷ []) now (outcome_moves c outcome) in
-          rw (l, e) (ms ++ x ∷ [], subst (λ v. Told c.max_moves v (ms ++ x ∷ [])) (regroup w line (outcome_lines c outcome)) all)
-      | row.resigns none l e ↦ rw (l, e) (ms, other_lines c.max_moves w _ ms told refl)
+          rw (l, e) (ms ++ x ∷ [], subst (λ v. EndReport c.max_moves v (ms ++ x ∷ [])) (regroup w line (outcome_lines c outcome)) all)
+      | row.resigns none l e ↦ rw (l, e) (ms, other_lines c.max_moves w _ ms stated refl)
     ]
 
 -- 4. each row keeps it
@@ -212,12 +212,12 @@ may_follow ms color m a =
     record { legal = legal-of-none g color m a.1; not_over = all.1.0 }
 
 in_play : (c : HostConfig) (w : Lines) (ms : List Timed) (line : List ℕ) (seconds : ℕ) (lines : Lines) (t : HostState)
-    → Told c.max_moves w ms → length ms < c.max_moves → IsSeconds seconds → InPlay c (game_of ms) line seconds lines t → Holds c (w ++ lines) t
-in_play c w ms line seconds lines t told room time r =
+    → EndReport c.max_moves w ms → length ms < c.max_moves → IsSeconds seconds → InPlay c (game_of ms) line seconds lines t → Holds c (w ++ lines) t
+in_play c w ms line seconds lines t stated room time r =
     elim r [
       | row.client_moves m more s good after host l ↦
           let x : Timed = record { move = m; seconds = seconds } in
-          let now = one_move c.max_moves w ms x told (may_follow ms good.0 m good.2) room time in
+          let now = one_move c.max_moves w ms x stated (may_follow ms good.0 m good.2) room time in
           let same = same_game ms x in
           let next_after = subst (λ (g : Played). AfterMove c g None) same after in
           let next_host = subst (λ (g : Played). HostMoves c g more t) same host in
@@ -227,13 +227,13 @@ in_play c w ms line seconds lines t told room time r =
           rw l (subst (λ v. Holds c v t) (regroup w moved more) (host_moves c (w ++ moved ∷ []) (ms ++ x ∷ []) more t now left next_after.0 next_host))
       | row.client_moves_last m outcome s good after l e ↦
           let x : Timed = record { move = m; seconds = seconds } in
-          let now = one_move c.max_moves w ms x told (may_follow ms good.0 m good.2) room time in
+          let now = one_move c.max_moves w ms x stated (may_follow ms good.0 m good.2) room time in
           let moved = moved_line (game_of ms) m seconds in
           let all = other_lines c.max_moves (w ++ moved ∷ []) (outcome_lines c outcome) (ms ++ x ∷ []) now (outcome_moves c outcome) in
-          rw (l, e) (ms ++ x ∷ [], subst (λ v. Told c.max_moves v (ms ++ x ∷ [])) (regroup w moved (outcome_lines c outcome)) all)
-      | row.client_errs s none l e ↦ rw (l, e) (ms, other_lines c.max_moves w _ ms told refl)
-      | row.client_resigns h l e ↦ rw (l, e) (ms, other_lines c.max_moves w _ ms told refl)
-      | row.client_declares h l e ↦ rw (l, e) (ms, other_lines c.max_moves w _ ms told refl)
+          rw (l, e) (ms ++ x ∷ [], subst (λ v. EndReport c.max_moves v (ms ++ x ∷ [])) (regroup w moved (outcome_lines c outcome)) all)
+      | row.client_errs s none l e ↦ rw (l, e) (ms, other_lines c.max_moves w _ ms stated refl)
+      | row.client_resigns h l e ↦ rw (l, e) (ms, other_lines c.max_moves w _ ms stated refl)
+      | row.client_declares h l e ↦ rw (l, e) (ms, other_lines c.max_moves w _ ms stated refl)
     ]
 
 playing_holds : (c : HostConfig) (w : Lines) (g : Played) (line : List ℕ) (seconds : ℕ) (lines : Lines) (t : HostState)
@@ -274,18 +274,18 @@ log_holds c log s kept (next before from step to leads time r) =
     flat_map-append client_lines before (step ∷ []) ∙ ap (λ ls. written before ++ ls) (append-nil step.to_client) in
     subst (λ v. Holds c v to) (sym e) all
 
-game_told : (c : HostConfig) (w : Lines) → NoStart w → (ms : List Timed) × IsTimedGame c.max_moves (filter is_move_line (behind_start w)) ms
-game_told c w none =
+game_so_far : (c : HostConfig) (w : Lines) → NoStart w → (ms : List Timed) × IsTimedGame c.max_moves (filter is_move_line (after_start w)) ms
+game_so_far c w none =
     ([], record { game = begun; few = omega arith; times = tt; lines_are = ap (filter is_move_line) (none_yet w none) })
 
-game_in : (c : HostConfig) (w : Lines) (s : HostState) → Holds c w s → (ms : List Timed) × IsTimedGame c.max_moves (filter is_move_line (behind_start w)) ms
-game_in c w waiting h = game_told c w h
-game_in c w (offered n) h = game_told c w h
+game_in : (c : HostConfig) (w : Lines) (s : HostState) → Holds c w s → (ms : List Timed) × IsTimedGame c.max_moves (filter is_move_line (after_start w)) ms
+game_in c w waiting h = game_so_far c w h
+game_in c w (offered n) h = game_so_far c w h
 game_in c w (playing g) h = (h.0, h.2.timed)
 game_in c w decided h = (h.0, h.1.timed)
-game_in c w ended (inl h) = game_told c w h
+game_in c w ended (inl h) = game_so_far c w h
 game_in c w ended (inr h) = (h.0, h.1.timed)
 
 pub host_game : (c : HostConfig) (log : List HostStep) (s : HostState) → IsHostConfig c → HostLeads c log s
-    → (ms : List Timed) × IsTimedGame c.max_moves (filter is_move_line (behind_start (written log))) ms
+    → (ms : List Timed) × IsTimedGame c.max_moves (filter is_move_line (after_start (written log))) ms
 host_game c log s kept leads = game_in c (written log) s (log_holds c log s kept leads)

@@ -187,13 +187,13 @@ moved_once : (c : HostConfig) (g : Played) (line : List ℕ) (seconds : ℕ) (li
     → lines ≡ moved_line g m seconds ∷ more → InPlay c g line seconds others u → Same lines t others u
 moved_once c g line seconds lines others t u m more sign good after host l q =
     elim q [
-      | row.client_moves n rest s fine behind answer k ↦
+      | row.client_moves n rest s fine following answer k ↦
           let one = good_once g line m n good fine in
           let end = host_once c (with_move g m) more rest t u host (subst (λ x. HostMoves c (with_move g x) rest u) one answer) in
           (l ∙ (ap (λ ls. moved_line g m seconds ∷ ls) end.0 ∙ (ap (λ x. moved_line g x seconds ∷ rest) (sym one) ∙ sym k)), end.1)
-      | row.client_moves_last n outcome s fine behind k d ↦
+      | row.client_moves_last n outcome s fine following k d ↦
           let one = good_once g line m n good fine in
-          absurd (goes_or_ends outcome (after_once c (with_move g m) None (Some outcome) after (subst (λ x. AfterMove c (with_move g x) (Some outcome)) one behind)))
+          absurd (goes_or_ends outcome (after_once c (with_move g m) None (Some outcome) after (subst (λ x. AfterMove c (with_move g x) (Some outcome)) one following)))
       | row.client_errs s none k d ↦ absurd (none m good)
       | row.client_resigns h k d ↦ let f : is_move_line line ≡ false = ap is_move_line h in absurd (signed_word line sign f)
       | row.client_declares h k d ↦ let f : is_move_line line ≡ false = ap is_move_line h in absurd (signed_word line sign f)
@@ -204,12 +204,12 @@ last_once : (c : HostConfig) (g : Played) (line : List ℕ) (seconds : ℕ) (lin
     → lines ≡ moved_line g m seconds ∷ outcome_lines c outcome → t ≡ decided → InPlay c g line seconds others u → Same lines t others u
 last_once c g line seconds lines others t u m outcome sign good after l e q =
     elim q [
-      | row.client_moves n rest s fine behind answer k ↦
+      | row.client_moves n rest s fine following answer k ↦
           let one = good_once g line m n good fine in
-          absurd (goes_or_ends outcome (after_once c (with_move g m) None (Some outcome) (subst (λ x. AfterMove c (with_move g x) None) one behind) after))
-      | row.client_moves_last n other s fine behind k d ↦
+          absurd (goes_or_ends outcome (after_once c (with_move g m) None (Some outcome) (subst (λ x. AfterMove c (with_move g x) None) one following) after))
+      | row.client_moves_last n other s fine following k d ↦
           let one = good_once g line m n good fine in
-          let end = same_outcome other outcome (after_once c (with_move g m) (Some other) (Some outcome) (subst (λ x. AfterMove c (with_move g x) (Some other)) one behind) after) in
+          let end = same_outcome other outcome (after_once c (with_move g m) (Some other) (Some outcome) (subst (λ x. AfterMove c (with_move g x) (Some other)) one following) after) in
           both lines others t u _ _ l e (k ∙ (ap (λ x. moved_line g x seconds ∷ outcome_lines c other) one ∙ ap (λ x. moved_line g m seconds ∷ outcome_lines c x) end)) d
       | row.client_errs s none k d ↦ absurd (none m good)
       | row.client_resigns h k d ↦ let f : is_move_line line ≡ false = ap is_move_line h in absurd (signed_word line sign f)
@@ -221,8 +221,8 @@ errs_once : (c : HostConfig) (g : Played) (line : List ℕ) (seconds : ℕ) (lin
     → lines ≡ codes "#ILLEGAL_MOVE" ∷ codes "#LOSE" ∷ [] → t ≡ decided → InPlay c g line seconds others u → Same lines t others u
 errs_once c g line seconds lines others t u sign none l e q =
     elim q [
-      | row.client_moves n rest s fine behind answer k ↦ absurd (none n fine)
-      | row.client_moves_last n other s fine behind k d ↦ absurd (none n fine)
+      | row.client_moves n rest s fine following answer k ↦ absurd (none n fine)
+      | row.client_moves_last n other s fine following k d ↦ absurd (none n fine)
       | row.client_errs s nothing k d ↦ both lines others t u _ _ l e k d
       | row.client_resigns h k d ↦ let f : is_move_line line ≡ false = ap is_move_line h in absurd (signed_word line sign f)
       | row.client_declares h k d ↦ let f : is_move_line line ≡ false = ap is_move_line h in absurd (signed_word line sign f)
@@ -241,8 +241,8 @@ play_once c g line seconds lines others t u r q =
       | row.client_resigns h l e ↦
           let f : is_move_line line ≡ false = ap is_move_line h in
           elim q [
-            | row.client_moves n rest s fine behind answer k ↦ absurd (signed_word line s f)
-            | row.client_moves_last n other s fine behind k d ↦ absurd (signed_word line s f)
+            | row.client_moves n rest s fine following answer k ↦ absurd (signed_word line s f)
+            | row.client_moves_last n other s fine following k d ↦ absurd (signed_word line s f)
             | row.client_errs s nothing k d ↦ absurd (signed_word line s f)
             | row.client_resigns w k d ↦ both lines others t u _ _ l e k d
             | row.client_declares w k d ↦ absurd (two_words line h w)
@@ -250,8 +250,8 @@ play_once c g line seconds lines others t u r q =
       | row.client_declares h l e ↦
           let f : is_move_line line ≡ false = ap is_move_line h in
           elim q [
-            | row.client_moves n rest s fine behind answer k ↦ absurd (signed_word line s f)
-            | row.client_moves_last n other s fine behind k d ↦ absurd (signed_word line s f)
+            | row.client_moves n rest s fine following answer k ↦ absurd (signed_word line s f)
+            | row.client_moves_last n other s fine following k d ↦ absurd (signed_word line s f)
             | row.client_errs s nothing k d ↦ absurd (signed_word line s f)
             | row.client_resigns w k d ↦ absurd (two_words line w h)
             | row.client_declares w k d ↦ both lines others t u _ _ l e k d
@@ -284,8 +284,8 @@ not_play c g line seconds lines t h r =
     let f : is_move_line line ≡ false = ap is_move_line h in
     let a : head_of line ≡ 76 = ap head_of h in
     elim r [
-      | row.client_moves n rest s fine behind answer k ↦ signed_word line s f
-      | row.client_moves_last n other s fine behind k d ↦ signed_word line s f
+      | row.client_moves n rest s fine following answer k ↦ signed_word line s f
+      | row.client_moves_last n other s fine following k d ↦ signed_word line s f
       | row.client_errs s nothing k d ↦ signed_word line s f
       | row.client_resigns w k d ↦ let b : head_of line ≡ 37 = ap head_of w in omega (arith, a, b)
       | row.client_declares w k d ↦ let b : head_of line ≡ 37 = ap head_of w in omega (arith, a, b)
@@ -308,14 +308,14 @@ same_name n m e = cc
 same_play : (g h : Played) → playing g ≡ playing h → g ≡ h
 same_play g h e = cc
 
-waiting_offered : (n : List ℕ) → waiting ≡ offered n → ⊥
-waiting_offered n e = cc
+waiting_offer : (n : List ℕ) → waiting ≡ offered n → ⊥
+waiting_offer n e = cc
 
 waiting_playing : (g : Played) → waiting ≡ playing g → ⊥
 waiting_playing g e = cc
 
-offered_playing : (n : List ℕ) (g : Played) → offered n ≡ playing g → ⊥
-offered_playing n g e = cc
+offer_playing : (n : List ℕ) (g : Played) → offered n ≡ playing g → ⊥
+offer_playing n g e = cc
 
 table_once : (c : HostConfig) (s : HostState) (line : List ℕ) (seconds : ℕ) (lines others : Lines) (t u : HostState)
     → HostTableRow c s line seconds lines t → HostTableRow c s line seconds others u → Same lines t others u
@@ -324,21 +324,21 @@ table_once c s line seconds lines others t u r q =
       | row.before_login e b ↦
           elim q [
             | row.before_login d k ↦ before_once c line lines others t u b k
-            | row.after_summary n d k ↦ absurd (waiting_offered n (sym e ∙ d))
+            | row.after_summary n d k ↦ absurd (waiting_offer n (sym e ∙ d))
             | row.in_play g d k ↦ absurd (waiting_playing g (sym e ∙ d))
             | row.logs_out on w k d ↦ absurd (not_login c line lines t w b)
           ]
       | row.after_summary n e b ↦
           elim q [
-            | row.before_login d k ↦ absurd (waiting_offered n (sym d ∙ e))
+            | row.before_login d k ↦ absurd (waiting_offer n (sym d ∙ e))
             | row.after_summary m d k ↦ summary_once c n line lines others t u b (subst (λ x. AfterSummary c x line others u) (same_name m n (sym d ∙ e)) k)
-            | row.in_play g d k ↦ absurd (offered_playing n g (sym e ∙ d))
+            | row.in_play g d k ↦ absurd (offer_playing n g (sym e ∙ d))
             | row.logs_out on w k d ↦ absurd (not_summary c n line lines t w b)
           ]
       | row.in_play g e b ↦
           elim q [
             | row.before_login d k ↦ absurd (waiting_playing g (sym d ∙ e))
-            | row.after_summary m d k ↦ absurd (offered_playing m g (sym d ∙ e))
+            | row.after_summary m d k ↦ absurd (offer_playing m g (sym d ∙ e))
             | row.in_play h d k ↦ play_once c g line seconds lines others t u b (subst (λ x. InPlay c x line seconds others u) (same_play h g (sym d ∙ e)) k)
             | row.logs_out on w k d ↦ absurd (not_play c g line seconds lines t w b)
           ]

@@ -21,7 +21,7 @@ use Rattle.host_and_sample.specs.declared.config.HostConfig.{HostConfig}
 use Rattle.host_and_sample.specs.declared.outcome.Outcome.{Outcome}
 use Rattle.host_and_sample.specs.Host.{HostState, HostMoves, BeforeLogin, AfterSummary, InPlay, AfterMove, IsLogin, IsWordAndOne, IsGoodMove, IsUnnamed, with_move, moved_line, outcome_lines, even_game, waiting, offered, playing, decided, ended, in_table, skipped}
 use Rattle.host_and_sample.specs.Host as row
-use Rattle.host_and_sample.specs.Hosting.{RowText, MovesBehind, Begins, Follows, follows, follows_last, Tries, taken, refused, Rests, rests, rests_last}
+use Rattle.host_and_sample.specs.Hosting.{RowText, MovesAfter, Begins, Follows, follows, follows_last, Tries, taken, refused, Rests, rests, rests_last}
 use Rattle.session_lines.specs.MoveLines.{is_move_line, TellsMove}
 use Rattle.session_lines.specs.Texts.{text_of, ended_line, with_time}
 use Rattle.session_lines.proofs.OneLine.{one_text}
@@ -89,9 +89,9 @@ not_summary c n line lines t agree reject b =
       | row.rejects h l e ↦ reject h
     ]
 
-pub unnamed_offered : (c : HostConfig) (n line : List ℕ) (seconds : ℕ) → (line ≡ codes "LOGOUT" → ⊥)
+pub unnamed_offer : (c : HostConfig) (n line : List ℕ) (seconds : ℕ) → (line ≡ codes "LOGOUT" → ⊥)
     → (IsWordAndOne line (codes "AGREE") → ⊥) → (IsWordAndOne line (codes "REJECT") → ⊥) → IsUnnamed c (offered n) line seconds
-unnamed_offered c n line seconds stays agree reject lines t r =
+unnamed_offer c n line seconds stays agree reject lines t r =
     elim r [
       | row.before_login e b ↦ cc
       | row.after_summary m e b ↦ not_summary c m line lines t agree reject b
@@ -151,7 +151,7 @@ always_played g side p m fault now same room goes legal memory a =
 -- the host's move and what follows it
 pub host_moved : (c : HostConfig) (g h : Played) (p : Placed) (side : Color) (m : Move) (before with_line text : List ℕ) (t : HostState)
     → p ≡ now_of g → side ≡ p.side → IsFirstLegal (now_of g) m → h ≡ with_move g m
-    → with_line ≡ before ++ ended_line (with_time (move_text side m) 0) → Rests c h with_line text t → MovesBehind c g before text t
+    → with_line ≡ before ++ ended_line (with_time (move_text side m) 0) → Rests c h with_line text t → MovesAfter c g before text t
 host_moved c g h p side m before with_line text t now same first one whole r =
     let e : side ≡ (now_of g).side = same ∙ ap (λ (q : Placed). q.side) now in
     let line : with_line ≡ before ++ ended_line (moved_line g m 0) = whole ∙ ap (λ (s : Color). before ++ ended_line (with_time (move_text s m) 0)) e in
@@ -170,7 +170,7 @@ host_moved c g h p side m before with_line text t now same first one whole r =
 
 pub host_resigned : (c : HostConfig) (g : Played) (p : Placed) (before text : List ℕ) (t : HostState)
     → p ≡ now_of g → NoLegalMove p → t ≡ decided
-    → text ≡ before ++ text_of (with_time (codes "%TORYO") 0 ∷ codes "#RESIGN" ∷ codes "#WIN" ∷ []) → MovesBehind c g before text t
+    → text ≡ before ++ text_of (with_time (codes "%TORYO") 0 ∷ codes "#RESIGN" ∷ codes "#WIN" ∷ []) → MovesAfter c g before text t
 host_resigned c g p before text t now none e h = (_, row.resigns (subst NoLegalMove now none) refl e, h)
 
 -- after the client's move
@@ -181,7 +181,7 @@ follow_last c g line so_far text t outcome after same e h =
     follows_last outcome after (h ∙ ap (λ x. x ++ text_of (outcome_lines c outcome)) same) e
 
 pub follow_host : (c : HostConfig) (g : Played) (line so_far text : List ℕ) (t : HostState)
-    → AfterMove c g None → so_far ≡ ended_line line → MovesBehind c g so_far text t → Follows c g line text t
+    → AfterMove c g None → so_far ≡ ended_line line → MovesAfter c g so_far text t → Follows c g line text t
 follow_host c g line so_far text t after same m =
     follows m.0 after m.1 (m.2 ∙ ap (λ x. x ++ text_of m.0) same)
 
@@ -266,7 +266,7 @@ client_begins c g start text side one even h =
     (_, λ n line word. row.agrees word side refl (ap playing same), h ∙ one_text (codes "START:" ++ c.id.bytes))
 
 pub host_begins : (c : HostConfig) (g : Played) (start : Placed) (so_far text : List ℕ) (t : HostState) → c.client ≡ White → g ≡ record { start = start; moves = [] }
-    → start ≡ even_start → so_far ≡ ended_line (codes "START:" ++ c.id.bytes) → MovesBehind c g so_far text t → Begins c text t
+    → start ≡ even_start → so_far ≡ ended_line (codes "START:" ++ c.id.bytes) → MovesAfter c g so_far text t → Begins c text t
 host_begins c g start so_far text t side one even h m =
     let same : g ≡ even_game = one ∙ ap (λ (p : Placed). record { start = p; moves = [] }) even in (
       _,

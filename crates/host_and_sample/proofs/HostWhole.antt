@@ -10,7 +10,7 @@ use Rattle.shogi_rules.specs.declared.moves.Move.{Move}
 use Rattle.shogi_rules.specs.Positions.{Played, now_of}
 use Rattle.csa_text.specs.Codes.{sign, move_text}
 use Rattle.csa_cutting.specs.Lines.{Lines, HasNoLineEnd}
-use Rattle.host_and_sample.proofs.WholeLines.{IsWhole, AllWhole, behind, both, cut_back, login_word, move_visible, number, plain_visible, text, told_run, unspaced_all, visible_run}
+use Rattle.host_and_sample.proofs.WholeLines.{IsWhole, AllWhole, following, both, cut_back, login_word, move_visible, number, plain_visible, text, stated_run, unspaced_all, visible_run}
 use Rattle.host_and_sample.specs.declared.config.HostConfig.{HostConfig}
 use Rattle.host_and_sample.specs.declared.outcome.Outcome.{Outcome}
 use Rattle.host_and_sample.specs.declared.outcome.Outcome.TheVariants.{Repetition, Perpetual, MaxMoves}
@@ -22,7 +22,7 @@ use Rattle.session_lines.specs.Texts.{text_of, without_last_spaces, with_time}
 -- 1. Parts of lines
 timed : (front : List ℕ) (seconds : ℕ) → HasNoLineEnd front → IsWhole (with_time front seconds)
 timed front seconds run =
-    behind front (codes ",T" ++ decimal seconds) run (behind (codes ",T") (decimal seconds) (told_run (codes ",T") refl) (number seconds))
+    following front (codes ",T" ++ decimal seconds) run (following (codes ",T") (decimal seconds) (stated_run (codes ",T") refl) (number seconds))
 
 moved : (g : Played) (m : Move) (seconds : ℕ) → IsWhole (moved_line g m seconds)
 moved g m seconds =
@@ -45,17 +45,17 @@ summary_whole : (c : HostConfig) (n : List ℕ) → IsHostConfig c → IsLoginWo
 summary_whole c n kept h = (
   text _ refl refl (omega arith),
   (
-    behind (codes "Game_ID:") c.id.bytes (told_run (codes "Game_ID:") refl) (login_word c.id.bytes kept.id),
+    following (codes "Game_ID:") c.id.bytes (stated_run (codes "Game_ID:") refl) (login_word c.id.bytes kept.id),
     (
-      behind (codes "Name+:") (name_for c n Black) (told_run (codes "Name+:") refl) (named c n Black kept h),
+      following (codes "Name+:") (name_for c n Black) (stated_run (codes "Name+:") refl) (named c n Black kept h),
       (
-        behind (codes "Name-:") (name_for c n White) (told_run (codes "Name-:") refl) (named c n White kept h),
+        following (codes "Name-:") (name_for c n White) (stated_run (codes "Name-:") refl) (named c n White kept h),
         (
           turn_line c.client,
           (
             text _ refl refl (omega arith),
             (
-              behind (codes "Max_Moves:") (decimal c.max_moves) (told_run (codes "Max_Moves:") refl) (number c.max_moves),
+              following (codes "Max_Moves:") (decimal c.max_moves) (stated_run (codes "Max_Moves:") refl) (number c.max_moves),
               (
                 text _ refl refl (omega arith),
                 (
@@ -91,7 +91,7 @@ host_moves c g lines t r =
     elim r [
       | row.moves m first after l e ↦ rw l (moved g m 0, tt)
       | row.moves_last m outcome first after l e ↦ rw l (moved g m 0, outcome_whole c outcome)
-      | row.resigns none l e ↦ rw l (timed (codes "%TORYO") 0 (told_run (codes "%TORYO") refl), (text _ refl refl (omega arith), (text _ refl refl (omega arith), tt)))
+      | row.resigns none l e ↦ rw l (timed (codes "%TORYO") 0 (stated_run (codes "%TORYO") refl), (text _ refl refl (omega arith), (text _ refl refl (omega arith), tt)))
     ]
 
 -- 3. Each row: its lines, and the client's name that it keeps
@@ -117,8 +117,8 @@ before_login : (c : HostConfig) (line : List ℕ) (lines : List (List ℕ)) (t :
 before_login c line lines t kept r =
     elim r [
       | row.logs_in n p h l e ↦
-          let answer = behind (codes "LOGIN:") (n ++ codes " OK") (told_run (codes "LOGIN:") refl)
-          (behind n (codes " OK") (visible_run n (plain_visible n h.name.plain)) (text _ refl refl (omega arith))) in
+          let answer = following (codes "LOGIN:") (n ++ codes " OK") (stated_run (codes "LOGIN:") refl)
+          (following n (codes " OK") (visible_run n (plain_visible n h.name.plain)) (text _ refl refl (omega arith))) in
           rw (l, e) ((answer, summary_whole c n kept h.name), h.name)
       | row.login_incorrect h k l e ↦ rw (l, e) ((text _ refl refl (omega arith), tt), tt)
     ]
@@ -126,10 +126,10 @@ before_login c line lines t kept r =
 after_summary : (c : HostConfig) (n line : List ℕ) (lines : List (List ℕ)) (t : HostState) → IsHostConfig c → IsLoginWord n
     → AfterSummary c n line lines t → Fits lines t
 after_summary c n line lines t kept h r =
-    let start = behind (codes "START:") c.id.bytes (told_run (codes "START:") refl) (login_word c.id.bytes kept.id) in
+    let start = following (codes "START:") c.id.bytes (stated_run (codes "START:") refl) (login_word c.id.bytes kept.id) in
     let id_run = visible_run c.id.bytes (plain_visible c.id.bytes kept.id.plain) in
-    let rejected = behind (codes "REJECT:") (c.id.bytes ++ (codes " by " ++ n)) (told_run (codes "REJECT:") refl)
-    (behind c.id.bytes (codes " by " ++ n) id_run (behind (codes " by ") n (told_run (codes " by ") refl) (login_word n h))) in
+    let rejected = following (codes "REJECT:") (c.id.bytes ++ (codes " by " ++ n)) (stated_run (codes "REJECT:") refl)
+    (following c.id.bytes (codes " by " ++ n) id_run (following (codes " by ") n (stated_run (codes " by ") refl) (login_word n h))) in
     elim r [
       | row.agrees a k l e ↦ rw (l, e) ((start, tt), tt)
       | row.agrees_host_first more a k m l ↦ rw l ((start, host_moves c row.even_game more t m), host_keeps c row.even_game more t m)
@@ -145,9 +145,9 @@ in_play c g line seconds lines t r =
       | row.client_moves_last m outcome s good after l e ↦ rw (l, e) ((moved g m seconds, outcome_whole c outcome), tt)
       | row.client_errs s none l e ↦ rw (l, e) ((text _ refl refl (omega arith), (text _ refl refl (omega arith), tt)), tt)
       | row.client_resigns a l e ↦
-          rw (l, e) ((timed (codes "%TORYO") seconds (told_run (codes "%TORYO") refl), (text _ refl refl (omega arith), (text _ refl refl (omega arith), tt))), tt)
+          rw (l, e) ((timed (codes "%TORYO") seconds (stated_run (codes "%TORYO") refl), (text _ refl refl (omega arith), (text _ refl refl (omega arith), tt))), tt)
       | row.client_declares a l e ↦
-          rw (l, e) ((timed (codes "%KACHI") seconds (told_run (codes "%KACHI") refl), (text _ refl refl (omega arith), (text _ refl refl (omega arith), tt))), tt)
+          rw (l, e) ((timed (codes "%KACHI") seconds (stated_run (codes "%KACHI") refl), (text _ refl refl (omega arith), (text _ refl refl (omega arith), tt))), tt)
     ]
 
 table_row : (c : HostConfig) (s : HostState) (line : List ℕ) (seconds : ℕ) (lines : List (List ℕ)) (t : HostState)

@@ -13,10 +13,10 @@ use Rattle.host_and_sample.specs.declared.outcome.Outcome.{Outcome}
 use Rattle.host_and_sample.specs.declared.outcome.Outcome.TheVariants.{Repetition, Perpetual, MaxMoves}
 use Rattle.host_and_sample.specs.Host.{HostState, HostRow, HostTableRow, HostMoves, BeforeLogin, AfterSummary, InPlay, with_move, moved_line, outcome_lines, waiting, offered, playing, decided, ended, in_table, skipped}
 use Rattle.host_and_sample.specs.Host as row
-use Rattle.host_and_sample.specs.HostLogs.{HostStep, HostLeads, begins, next, client_lines, written, behind_start}
+use Rattle.host_and_sample.specs.HostLogs.{HostStep, HostLeads, begins, next, client_lines, written, after_start}
 use Rattle.session_lines.specs.ServerLines.{is_start_line}
 use Rattle.session_lines.specs.Texts.{with_time}
-use Rattle.host_and_sample.proofs.HostGame.{Lines, NoStart, HasStart, no_more, has_more, behind_more, found, none_behind, none_yet, login_lines}
+use Rattle.host_and_sample.proofs.HostGame.{Lines, NoStart, HasStart, no_more, has_more, following_more, found, none_following, none_yet, login_lines}
 
 -- 1. lines that do not begin with START:
 no_start_move : (color : Color) (m : Move) (seconds : ℕ) → is_start_line (with_time (move_text color m) seconds) ≡ false
@@ -38,20 +38,20 @@ moved_no g m seconds = no_start_move (now_of g).side m seconds
 -- 2. what holds of the lines so far in each state
 record Later (w : Lines) : Type 0 where
   one : HasStart w
-  behind : NoStart (behind_start w)
+  following : NoStart (after_start w)
 
 abbrev Holds : Lines → HostState → Type 0
 Holds w waiting = NoStart w
 Holds w (offered n) = NoStart w
 Holds w (playing g) = Later w
 Holds w decided = Later w
-Holds w ended = NoStart (behind_start w)
+Holds w ended = NoStart (after_start w)
 
 later_more : (w ls : Lines) → Later w → NoStart ls → Later (w ++ ls)
-later_more w ls h k = record { one = has_more w ls h.one; behind = subst NoStart (sym (behind_more w ls h.one)) (no_more (behind_start w) ls h.behind k) }
+later_more w ls h k = record { one = has_more w ls h.one; following = subst NoStart (sym (following_more w ls h.one)) (no_more (after_start w) ls h.following k) }
 
-none_behind_it : (w : Lines) → NoStart w → NoStart (behind_start w)
-none_behind_it w h = subst NoStart (sym (none_yet w h)) tt
+none_after_it : (w : Lines) → NoStart w → NoStart (after_start w)
+none_after_it w h = subst NoStart (sym (none_yet w h)) tt
 
 host_moves : (c : HostConfig) (w : Lines) (g : Played) (lines : Lines) (t : HostState) → Later w → HostMoves c g lines t → Holds (w ++ lines) t
 host_moves c w g lines t h r =
@@ -72,7 +72,7 @@ before_login c w line lines t h r =
     ]
 
 starts : (w : Lines) (l : List ℕ) → NoStart w → is_start_line l ≡ true → Later (w ++ l ∷ [])
-starts w l h s = record { one = found w l h s; behind = subst NoStart (sym (none_behind w l h s)) tt }
+starts w l h s = record { one = found w l h s; following = subst NoStart (sym (none_following w l h s)) tt }
 
 after_summary : (c : HostConfig) (w : Lines) (n line : List ℕ) (lines : Lines) (t : HostState) → NoStart w → AfterSummary c n line lines t → Holds (w ++ lines) t
 after_summary c w n line lines t h r =
@@ -81,7 +81,7 @@ after_summary c w n line lines t h r =
     elim r [
       | row.agrees x k l e ↦ rw (l, e) first
       | row.agrees_host_first more x k m l ↦ rw l (subst (λ v. Holds v t) (regroup w start more) (host_moves c (w ++ start ∷ []) _ more t first m))
-      | row.rejects x l e ↦ rw (l, e) (none_behind_it _ (no_more w _ h (refl, tt)))
+      | row.rejects x l e ↦ rw (l, e) (none_after_it _ (no_more w _ h (refl, tt)))
     ]
 
 in_play : (c : HostConfig) (w : Lines) (g : Played) (line : List ℕ) (seconds : ℕ) (lines : Lines) (t : HostState) → Later w → InPlay c g line seconds lines t
@@ -99,10 +99,10 @@ in_play c w g line seconds lines t h r =
     ]
 
 logged_out : (w : Lines) (s : HostState) → (s ≡ ended → ⊥) → Holds w s → Holds (w ++ codes "LOGOUT:completed" ∷ []) ended
-logged_out w waiting on h = none_behind_it _ (no_more w _ h (refl, tt))
-logged_out w (offered n) on h = none_behind_it _ (no_more w _ h (refl, tt))
-logged_out w (playing g) on h = (later_more w _ h (refl, tt)).behind
-logged_out w decided on h = (later_more w _ h (refl, tt)).behind
+logged_out w waiting on h = none_after_it _ (no_more w _ h (refl, tt))
+logged_out w (offered n) on h = none_after_it _ (no_more w _ h (refl, tt))
+logged_out w (playing g) on h = (later_more w _ h (refl, tt)).following
+logged_out w decided on h = (later_more w _ h (refl, tt)).following
 logged_out w ended on h = absurd (on refl)
 
 table_row : (c : HostConfig) (w : Lines) (s : HostState) (line : List ℕ) (seconds : ℕ) (lines : Lines) (t : HostState) → Holds w s
@@ -131,12 +131,12 @@ log_holds c log s (next before from step to leads time r) =
     flat_map-append client_lines before (step ∷ []) ∙ ap (λ ls. written before ++ ls) (append-nil step.to_client) in
     subst (λ v. Holds v to) (sym e) all
 
-at_most_one : (w : Lines) (s : HostState) → Holds w s → NoStart (behind_start w)
-at_most_one w waiting h = none_behind_it w h
-at_most_one w (offered n) h = none_behind_it w h
-at_most_one w (playing g) h = h.behind
-at_most_one w decided h = h.behind
+at_most_one : (w : Lines) (s : HostState) → Holds w s → NoStart (after_start w)
+at_most_one w waiting h = none_after_it w h
+at_most_one w (offered n) h = none_after_it w h
+at_most_one w (playing g) h = h.following
+at_most_one w decided h = h.following
 at_most_one w ended h = h
 
-pub one_start : (c : HostConfig) (log : List HostStep) (s : HostState) → HostLeads c log s → NoStart (behind_start (written log))
+pub one_start : (c : HostConfig) (log : List HostStep) (s : HostState) → HostLeads c log s → NoStart (after_start (written log))
 one_start c log s leads = at_most_one (written log) s (log_holds c log s leads)

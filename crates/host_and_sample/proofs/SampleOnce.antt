@@ -69,7 +69,7 @@ usi_row kept line lines t r i =
     elim r [
       | row.usi h l e ↦ (l, e)
       | row.isready h l e ↦ let j : initial line ≡ 105 = of_word line _ h in absurd (omega (arith, i, j))
-      | row.position told h g l e ↦ let j : initial line ≡ 112 = of_first line _ h in absurd (omega (arith, i, j))
+      | row.position stated h g l e ↦ let j : initial line ≡ 112 = of_first line _ h in absurd (omega (arith, i, j))
       | row.go g word h k b l e ↦ let j : initial line ≡ 103 = of_first line _ h in absurd (omega (arith, i, j))
       | row.go_resign h n l e ↦ let j : initial line ≡ 103 = of_first line _ h in absurd (omega (arith, i, j))
       | row.quits h l e ↦ let j : initial line ≡ 113 = of_word line _ h in absurd (omega (arith, i, j))
@@ -81,19 +81,19 @@ isready_row kept line lines t r i =
     elim r [
       | row.usi h l e ↦ let j : initial line ≡ 117 = of_word line _ h in absurd (omega (arith, i, j))
       | row.isready h l e ↦ (l, e)
-      | row.position told h g l e ↦ let j : initial line ≡ 112 = of_first line _ h in absurd (omega (arith, i, j))
+      | row.position stated h g l e ↦ let j : initial line ≡ 112 = of_first line _ h in absurd (omega (arith, i, j))
       | row.go g word h k b l e ↦ let j : initial line ≡ 103 = of_first line _ h in absurd (omega (arith, i, j))
       | row.go_resign h n l e ↦ let j : initial line ≡ 103 = of_first line _ h in absurd (omega (arith, i, j))
       | row.quits h l e ↦ let j : initial line ≡ 113 = of_word line _ h in absurd (omega (arith, i, j))
     ]
 
 position_row : (kept : Option Played) (line : List ℕ) (lines : Lines) (t : SampleState)
-    → SampleTableRow kept line lines t → initial line ≡ 112 → (told : Option Played) → IsGameOf line told → Same lines t [] (keeps told)
-position_row kept line lines t r i told game =
+    → SampleTableRow kept line lines t → initial line ≡ 112 → (stated : Option Played) → IsGameOf line stated → Same lines t [] (keeps stated)
+position_row kept line lines t r i stated game =
     elim r [
       | row.usi h l e ↦ let j : initial line ≡ 117 = of_word line _ h in absurd (omega (arith, i, j))
       | row.isready h l e ↦ let j : initial line ≡ 105 = of_word line _ h in absurd (omega (arith, i, j))
-      | row.position other h g l e ↦ (l, e ∙ ap keeps (game_once line other told g game))
+      | row.position other h g l e ↦ (l, e ∙ ap keeps (game_once line other stated g game))
       | row.go g word h k b l e ↦ let j : initial line ≡ 103 = of_first line _ h in absurd (omega (arith, i, j))
       | row.go_resign h n l e ↦ let j : initial line ≡ 103 = of_first line _ h in absurd (omega (arith, i, j))
       | row.quits h l e ↦ let j : initial line ≡ 113 = of_word line _ h in absurd (omega (arith, i, j))
@@ -148,7 +148,7 @@ table_once kept line lines others t u r s =
     elim r [
       | row.usi h l e ↦ both lines others _ t u _ (l, e) (usi_row kept line others u s (of_word line _ h))
       | row.isready h l e ↦ both lines others _ t u _ (l, e) (isready_row kept line others u s (of_word line _ h))
-      | row.position told h g l e ↦ both lines others _ t u _ (l, e) (position_row kept line others u s (of_first line _ h) told g)
+      | row.position stated h g l e ↦ both lines others _ t u _ (l, e) (position_row kept line others u s (of_first line _ h) stated g)
       | row.go g word h k b l e ↦ both lines others _ t u _ (l, e) (go_row kept line others u s (of_first line _ h) g word k b)
       | row.go_resign h n l e ↦ both lines others _ t u _ (l, e) (resign_row kept line others u s (of_first line _ h) n)
       | row.quits h l e ↦ both lines others _ t u _ (l, e) (quit_row kept line others u s (of_word line _ h))

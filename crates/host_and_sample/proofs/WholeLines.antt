@@ -72,24 +72,24 @@ unspaced_more (x ∷ xs) b some h = ap (before_kept x) (unspaced_more xs b some 
 pub word : (bytes : List ℕ) → 0 < length bytes → IsVisible bytes → IsWhole bytes
 word bytes some h = record { some = some; run = visible_run bytes h; unspaced = visible_unspaced bytes h }
 
-pub behind : (a b : List ℕ) → HasNoLineEnd a → IsWhole b → IsWhole (a ++ b)
-behind a b run h = record { some = some_more a b h.some; run = run_more a b run h.run; unspaced = unspaced_more a b h.some h.unspaced }
+pub following : (a b : List ℕ) → HasNoLineEnd a → IsWhole b → IsWhole (a ++ b)
+following a b run h = record { some = some_more a b h.some; run = run_more a b run h.run; unspaced = unspaced_more a b h.some h.unspaced }
 
 abbrev lacks_ends : List ℕ → Bool
 lacks_ends [] = true
 lacks_ends (b ∷ bs) = cond (is_line_end b) false (lacks_ends bs)
 
-pub told_run : (bytes : List ℕ) → lacks_ends bytes ≡ true → HasNoLineEnd bytes
-told_run [] h = tt
-told_run (b ∷ bs) h = told_rest b bs (is_line_end b) refl h (told_run bs)
+pub stated_run : (bytes : List ℕ) → lacks_ends bytes ≡ true → HasNoLineEnd bytes
+stated_run [] h = tt
+stated_run (b ∷ bs) h = stated_rest b bs (is_line_end b) refl h (stated_run bs)
   where
-    told_rest : (b : ℕ) (bs : List ℕ) (ends : Bool) → is_line_end b ≡ ends → cond ends false (lacks_ends bs) ≡ true
+    stated_rest : (b : ℕ) (bs : List ℕ) (ends : Bool) → is_line_end b ≡ ends → cond ends false (lacks_ends bs) ≡ true
         → (lacks_ends bs ≡ true → HasNoLineEnd bs) → HasNoLineEnd (b ∷ bs)
-    told_rest b bs true e h rest = absurd cc
-    told_rest b bs false e h rest = (e, rest h)
+    stated_rest b bs true e h rest = absurd cc
+    stated_rest b bs false e h rest = (e, rest h)
 
 pub text : (bytes : List ℕ) → lacks_ends bytes ≡ true → without_last_spaces bytes ≡ bytes → 0 < length bytes → IsWhole bytes
-text bytes ends spaces some = record { some = some; run = told_run bytes ends; unspaced = spaces }
+text bytes ends spaces some = record { some = some; run = stated_run bytes ends; unspaced = spaces }
 
 -- 3. Parts of lines
 pub plain_visible : (bytes : List ℕ) → AllByRecursion (λ b. (0x21 ≤ b) × (b ≤ 0x7E)) bytes → IsVisible bytes

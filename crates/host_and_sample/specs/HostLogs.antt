@@ -39,13 +39,13 @@ abbrev pub written : List HostStep → List (List ℕ)
 written log = flat_map client_lines log
 
 -- the lines after the first line that begins with `START:`
-abbrev pub behind_start : List (List ℕ) → List (List ℕ)
-behind_start [] = []
-behind_start (line ∷ lines) = if is_start_line line then lines else behind_start lines
+abbrev pub after_start : List (List ℕ) → List (List ℕ)
+after_start [] = []
+after_start (line ∷ lines) = if is_start_line line then lines else after_start lines
 
 -- those of them that begin with `+` or `-`
 abbrev pub written_moves : List HostStep → List (List ℕ)
-written_moves log = filter is_move_line (behind_start (written log))
+written_moves log = filter is_move_line (after_start (written log))
 
 -- a move and its seconds
 pub record Timed : Type 0 where

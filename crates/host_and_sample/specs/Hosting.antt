@@ -1,4 +1,4 @@
--- A host as contracts see it; and, from MovesBehind on, what private functions promise.
+-- A host as contracts see it; and, from MovesAfter on, what private functions promise.
 use Rattle.std.specs.Prelude.{◌≡◌, ℕ, ◌++◌, ◌∷◌, [], List, Some, None}
 use Rattle.shogi_board.specs.declared.color.Color.{Color}
 use Rattle.shogi_rules.specs.declared.moves.Move.{Move}
@@ -8,7 +8,7 @@ use Rattle.csa_text.specs.Codes.{move_text}
 use Rattle.host_and_sample.specs.declared.config.HostConfig.{HostConfig}
 use Rattle.host_and_sample.specs.declared.outcome.Outcome.{Outcome}
 use Rattle.host_and_sample.specs.declared.stage.HostStage.{HostStage}
-use Rattle.host_and_sample.specs.declared.stage.HostStage.TheVariants.{Waiting, Offered, Playing, Decided, Ended}
+use Rattle.host_and_sample.specs.declared.stage.HostStage.TheVariants.{Waiting, Offering, Playing, Decided, Ended}
 use Rattle.host_and_sample.specs.Host.{HostState, waiting, offered, playing, decided, ended, HostRow, HostMoves, IsWordAndOne, AfterSummary, AfterMove, outcome_lines, with_move}
 use Rattle.session_lines.specs.LineTexts as texts
 use Rattle.session_lines.specs.Texts.{text_of, with_time, without_last_spaces}
@@ -19,7 +19,7 @@ pub record HostSession : Type 0 where
 
 abbrev pub state_of : HostStage → HostState
 state_of Waiting = waiting
-state_of (Offered name) = offered name.items
+state_of (Offering name) = offered name.items
 state_of (Playing game) = playing game
 state_of Decided = decided
 state_of Ended = ended
@@ -36,8 +36,8 @@ RowText c s line seconds text t =
     (lines : List (List ℕ)) × HostRow c s line seconds lines t × (text ≡ text_of lines)
 
 -- the host moved, and its lines follow those before
-abbrev pub MovesBehind : HostConfig → Played → List ℕ → List ℕ → HostState → Type 0
-MovesBehind c g before text t =
+abbrev pub MovesAfter : HostConfig → Played → List ℕ → List ℕ → HostState → Type 0
+MovesAfter c g before text t =
     (more : List (List ℕ)) × HostMoves c g more t × (text ≡ before ++ text_of more)
 
 -- the game began, and the bytes are those of its lines

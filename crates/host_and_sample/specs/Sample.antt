@@ -52,9 +52,9 @@ pub data SampleTableRow (kept : Option Played)
       IsWord line usi_texts.is_ready
       → lines ≡ usi_texts.ready_ok ∷ [] → t ≡ keeps kept
       → SampleTableRow kept line lines t
-  position : (told : Option Played)
-      → BeginsWith line usi_texts.position → IsGameOf line told
-      → lines ≡ [] → t ≡ keeps told
+  position : (stated : Option Played)
+      → BeginsWith line usi_texts.position → IsGameOf line stated
+      → lines ≡ [] → t ≡ keeps stated
       → SampleTableRow kept line lines t
   go : (g : Played) (word : List ℕ)
       → BeginsWith line usi_texts.go → kept ≡ Some g → IsBest g word

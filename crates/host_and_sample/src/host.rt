@@ -140,7 +140,7 @@ fn answer(
     }
     match stage {
         HostStage::Waiting => log_in(alloc, config, line),
-        HostStage::Offered(name) => agree(alloc, config, name, line),
+        HostStage::Offering(name) => agree(alloc, config, name, line),
         HostStage::Playing(game) => answer_in_play(alloc, config, game, line, seconds),
         HostStage::Decided => Ok(HostReply {
             stage: HostStage::Decided,
@@ -210,7 +210,7 @@ fn offer(
     lines.push_joined(name.as_slice(), texts::OK)?;
     push_summary(&mut lines, config, name.as_slice())?;
     Ok(HostReply {
-        stage: HostStage::Offered(name),
+        stage: HostStage::Offering(name),
         lines,
     })
 }
@@ -233,7 +233,7 @@ fn agree(
         reject(alloc, config, name.as_slice())
     } else {
         Ok(HostReply {
-            stage: HostStage::Offered(name),
+            stage: HostStage::Offering(name),
             lines: Lines::new(alloc),
         })
     }

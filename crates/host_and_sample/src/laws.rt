@@ -27,8 +27,9 @@ pub fn host_row_once()
         → HostRow c s line seconds others u → (lines ≡ others) × (t ≡ u) }
 {}
 
-/// If a row of the sample engine's table fits a step, and the step's bytes are those of the lines
-/// of each row that fits, then some row that fits has these bytes.
+/// Two clauses of `Sample::step` say together that its bytes are those of a row that fits: `row`,
+/// by which a row of the table fits the step, and `lines`, by which the bytes are those of each row
+/// that fits.
 pub fn sample_step_whole()
     ensures whole { (s t : SampleState) (line text : List ℕ)
         → ((lines : List (List ℕ)) × SampleRow s line lines t)
@@ -36,8 +37,9 @@ pub fn sample_step_whole()
         → SampleText s line text t }
 {}
 
-/// If a row of a host's table fits a step, and the step's bytes are those of the lines of each row
-/// that fits, then some row that fits has these bytes.
+/// Two clauses of `Host::step` say together that its bytes are those of a row that fits: `row`, by
+/// which a row of the table fits the step, and `to_client`, by which the bytes are those of each
+/// row that fits.
 pub fn host_step_whole()
     ensures whole { (old new : HostSession) (line : List ℕ) (seconds : ℕ) (text : List ℕ)
         → ((lines : List (List ℕ)) × HostStepRow old line seconds lines new)

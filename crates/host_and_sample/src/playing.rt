@@ -5,7 +5,7 @@ ghost use Rattle.shogi_rules.specs.Positions.{now_of, max_moves};
 ghost use Rattle.shogi_rules.specs.Positions.{Over};
 ghost use Rattle.csa_text.specs.Codes.{move_text};
 ghost use Rattle.host_and_sample.specs.Host.{playing, decided, outcome_lines, with_move};
-ghost use Rattle.host_and_sample.specs.Hosting.{Follows, RowText, Rests, Tries, MovesBehind, state_of};
+ghost use Rattle.host_and_sample.specs.Hosting.{Follows, RowText, Rests, Tries, MovesAfter, state_of};
 ghost use Rattle.session_lines.specs.LineTexts as texts;
 ghost use Rattle.session_lines.specs.MoveLines.{is_move_line};
 ghost use Rattle.session_lines.specs.Texts.{ended_line, text_of, with_time};
@@ -82,7 +82,7 @@ fn take_move(
         (λ r. RowText config.now (playing game) line.now seconds r.lines (state_of r.stage)) }
 {
     match read_move_line(line) {
-        Some(told) => try_move(alloc, config, game, told.0, told.1, seconds),
+        Some(stated) => try_move(alloc, config, game, stated.0, stated.1, seconds),
         None => lose_by_error(alloc),
     }
 }
@@ -103,7 +103,7 @@ fn try_move(
     match game.play(color, mv) {
         Ok(()) => follow(alloc, config, game, color, mv, seconds),
         Err(fault) => {
-            if wants_memory(fault) {
+            if lacks_memory(fault) {
                 Err(OutOfMemory)
             } else {
                 lose_by_error(alloc)
@@ -112,7 +112,7 @@ fn try_move(
     }
 }
 
-fn wants_memory(fault: PlayFault) -> bool
+fn lacks_memory(fault: PlayFault) -> bool
     ensures { IsTrue result ↔ (fault ≡ PlayFault.OutOfMemory) }
 {
     fault == PlayFault::OutOfMemory
@@ -182,7 +182,7 @@ pub(crate) fn move_host(
     requires few { config.now.max_moves ≤ max_moves }
     requires room { length game.moves < max_moves }
     requires goes_on { Over game → ⊥ }
-    ensures { IfOk result (λ r. MovesBehind config.now game lines r.lines (state_of r.stage)) }
+    ensures { IfOk result (λ r. MovesAfter config.now game lines r.lines (state_of r.stage)) }
 {
     match first_legal(&game.now()) {
         Some(mv) => play_host(config, game, mv, lines),
@@ -214,7 +214,7 @@ fn play_host(
     requires room { length game.moves < max_moves }
     requires goes_on { Over game → ⊥ }
     requires first { IsFirstLegal (now_of game) mv }
-    ensures { IfOk result (λ r. MovesBehind config.now game lines r.lines (state_of r.stage)) }
+    ensures { IfOk result (λ r. MovesAfter config.now game lines r.lines (state_of r.stage)) }
 {
     let mut lines = lines;
     push_move(&mut lines, game.now().side(), &mv, 0)?;
@@ -233,7 +233,7 @@ fn play_legal(game: Line, mv: Move) -> Result<Line, OutOfMemory>
     match game.play(side, mv) {
         Ok(()) => Ok(game),
         Err(fault) => {
-            if wants_memory(fault) {
+            if lacks_memory(fault) {
                 Err(OutOfMemory)
             } else {
                 unreachable!()

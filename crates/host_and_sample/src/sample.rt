@@ -178,12 +178,12 @@ fn greet(alloc: Global) -> Result<Lines, OutOfMemory>
 
 // The game of a position line, or None if the line is refused.
 fn read_game(alloc: Global, line: &[u8]) -> Result<Option<Line>, OutOfMemory>
-    ensures { IfOk result (λ told. IsGameOf line.now told) }
+    ensures { IfOk result (λ stated. IsGameOf line.now stated) }
 {
     match read_position_line(alloc, line) {
         Ok(game) => Ok(Some(game)),
         Err(fault) => {
-            if wants_memory(fault) {
+            if lacks_memory(fault) {
                 Err(OutOfMemory)
             } else {
                 Ok(None)
@@ -192,7 +192,7 @@ fn read_game(alloc: Global, line: &[u8]) -> Result<Option<Line>, OutOfMemory>
     }
 }
 
-fn wants_memory(fault: UsiFault) -> bool
+fn lacks_memory(fault: UsiFault) -> bool
     ensures { IsTrue result ↔ (fault ≡ UsiFault.OutOfMemory) }
 {
     fault == UsiFault::OutOfMemory

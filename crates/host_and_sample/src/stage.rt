@@ -8,7 +8,7 @@ pub(crate) enum HostStage {
     // Before login.
     Waiting,
     // After the summary, with the client's name.
-    Offered(ArrayVec<u8, 32>),
+    Offering(ArrayVec<u8, 32>),
     // The client is to move.
     Playing(Line),
     // After a result.

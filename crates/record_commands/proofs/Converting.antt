@@ -1,6 +1,7 @@
 -- Why a position line gave no record.
 use Rattle.std.proofs.Common.{◌≡◌, ◌≢◌, ◌⊎◌, inl, inr, ◌∙◌, ap, refl, sym, subst, ℕ, List, Option, None, Result, Ok, Err, IfErr, IsErrAnd}
 use Rattle.std.specs.Prelude.{IsErrOf}
+use Rattle.hash_comments.specs.declared.comments.HashLines.{HashLines}
 use Rattle.usi_text.specs.Lines.{LineFault}
 use Rattle.usi_text.specs.Words.{words}
 use Rattle.usi_text.specs.declared.fault.UsiFault.{UsiFault}
@@ -58,12 +59,17 @@ first_fault M ws f (inr fault) other = fault
 -- its one line is refused
 pub line_refused : {Input : Type 0} (Unopened : Type 0) (Opened : Input → Type 0) (bytes : Input → Option (List ℕ)) (input : Input) (text : List ℕ) (M : Type 0) (f : UsiFault) (fault : PositionLineFault)
     → Opened input → IsOneLine (bytes input) text → ((f ≡ usi.OutOfMemory) × M) ⊎ LineFault (words text) f → IsLineFaultOf f fault → FailsToConvert Unopened Opened bytes fault
-line_refused U Opened bytes input text M f fault opened alone told gives = elim (refused_so f fault gives) [
+line_refused U Opened bytes input text M f fault opened alone stated gives = elim (refused_so f fault gives) [
   | inl lost ↦ subst (FailsToConvert U Opened bytes) (sym lost.1) tt
-  | inr refused ↦ subst (FailsToConvert U Opened bytes) (sym refused.1) (input, opened, inr (text, alone, first_fault M (words text) f told refused.0))
+  | inr refused ↦ subst (FailsToConvert U Opened bytes) (sym refused.1) (input, opened, inr (text, alone, first_fault M (words text) f stated refused.0))
 ]
 
 -- memory is not lacking where a line is refused
 pub not_lost : (bytes : Option (List ℕ)) (f : UsiFault) → RefusesLine bytes f → f ≢ usi.OutOfMemory
 not_lost bytes f (inl bad) = λ is. let other = bad.0 in cc
 not_lost bytes f (inr (line, alone, fault)) = λ is. subst (LineFault (words line)) is fault
+
+-- lines from '#' are read so
+pub fails_so : {T Input : Type 0} (Unopened : Type 0) (Opened : HashLines → Input → Type 0) (bytes : Input → Option (List ℕ)) (answer : Result T PositionLineFault) (old new : HashLines) → old ≡ new
+    → IfErr answer (FailsToConvert Unopened (Opened old) bytes) → IfErr answer (FailsToConvert Unopened (Opened new) bytes)
+fails_so U Opened bytes answer old new same fails = subst (λ (lines : HashLines). IfErr answer (FailsToConvert U (Opened lines) bytes)) same fails

@@ -1,6 +1,5 @@
-mod Converting
+pub mod Converting
 pub mod Cutting
 pub mod LineReading
-pub mod ManyFiles
 pub mod Recording
 pub mod Telling

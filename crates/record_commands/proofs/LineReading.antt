@@ -1,5 +1,5 @@
 -- A reader whose bytes are cut into lines.
-use Rattle.std.proofs.Common.{◌≡◌, ◌⊎◌, inl, inr, ℕ, ◌<◌, ◌≤◌, true, is_some, List, [], ◌∷◌, ◌++◌, length, take, drop, Option, None, Some, IfSome, Result, Ok, Err, IfOk, ◌↔◌, refl, sym, ◌∙◌, ap, subst, append-nil, append_assoc, take-append-drop, arith}
+use Rattle.std.proofs.Common.{◌≡◌, ◌⊎◌, inl, inr, ℕ, ◌<◌, ◌≤◌, true, is_some, List, [], ◌∷◌, ◌++◌, length, take, drop, Option, None, Some, IfSome, Result, Ok, Err, IfErr, refl, sym, ◌∙◌, ap, subst, append-nil, append_assoc, take-append-drop, arith}
 use Rattle.std.proofs.Math.Seq.{take-length}
 use Rattle.std.proofs.lemmas.List.{take-take}
 use Rattle.std.specs.Io.{StartsWith}
@@ -10,13 +10,14 @@ use Rattle.csa_cutting.specs.Lines.{Lines, AreLineEnds, HasNoLineEnd}
 use Rattle.csa_cutting.specs.LineCutting.{LineCutting, BeginsTooLong}
 use Rattle.csa_cutting.proofs.LinesOnce.{lines_joined}
 use Rattle.csa_cutting.specs.declared.line.LineFault.{LineFault}
-use Rattle.csa_cutting.specs.declared.line.LineFault.TheVariants as faulty
+use Rattle.csa_cutting.specs.declared.line.LineFault.TheVariants as faults
+use Rattle.std.specs.Result.{IsErrAnd}
 use Rattle.shogi_board.specs.declared.memory.OutOfMemory.{OutOfMemory}
 use Rattle.record_commands.specs.declared.incoming.LineEvent.{LineEvent}
-use Rattle.record_commands.specs.declared.incoming.LineEvent.TheVariants.{Failed, Long}
+use Rattle.record_commands.specs.declared.incoming.LineEvent.TheVariants.{Failed}
 use Rattle.record_commands.specs.declared.incoming.Stop.{Stop}
 use Rattle.record_commands.specs.declared.incoming.Stop.TheVariants as stops
-use Rattle.record_commands.specs.Incoming.{IsReading, GivesEnd, GivesLine, ended, last, GivesNoLine, GivesLongLine, stop_after}
+use Rattle.record_commands.specs.Incoming.{IsReading, GivesEnd, GivesLine, ended, last, GivesNoLine, GivesLongLine, PieceGives, PieceStops, stop_after, stop_of}
 
 pub rest_run : (bytes : List ℕ) (lines : List (List ℕ)) (rest : List ℕ) → Lines bytes lines rest → HasNoLineEnd rest
 rest_run bytes [] rest (ends, whole, skipped, run) = run
@@ -149,11 +150,17 @@ end_alone old new held kept over keeps none still =
 pub some_of : {X : Type 0} (P : X → Type 0) (found : Option X) (x : X) → found ≡ Some x → IfSome found P → P x
 some_of P found x is holds = subst (λ o. IfSome o P) is holds
 
-pub long_event : (G : Type 0) (fault : LineFault) (r : Result (Option LineEvent) OutOfMemory)
-    → (fault ≡ faulty.TooLong) ↔ (r ≡ Ok (Some Long)) → (fault ≡ faulty.TooLong → G)
-    → IfOk r (λ event. event ≡ Some Long → G)
-long_event G fault (Ok event) same gives = λ is. gives (same.1 (ap Ok is))
-long_event G fault (Err other) same gives = tt
+pub event_gives : (old new : Option (List ℕ)) (line : List ℕ) (event is : Option LineEvent)
+    → event ≡ is → PieceGives old new line event → PieceGives old new line is
+event_gives old new line event is same gives = subst (λ e. PieceGives old new line e) same gives
+
+-- the cutter's fault stops it
+pub cut_stops : (old new : Option (List ℕ)) (fault : LineFault) (answer : Result (Option LineEvent) Stop)
+    → IsErrAnd answer (λ stop. stop ≡ stop_of fault) → (fault ≡ faults.TooLong → GivesLongLine old new)
+    → IfErr answer (PieceStops old new)
+cut_stops old new fault (Ok event) is gives = tt
+cut_stops old new faults.TooLong (Err stop) is gives = subst (PieceStops old new) (sym is) (gives refl)
+cut_stops old new faults.OutOfMemory (Err stop) is gives = subst (PieceStops old new) (sym is) tt
 
 pub begins_long : (c : LineCutting) (piece : List ℕ) → IsReading c → (c.failed ≡ true) ⊎ BeginsTooLong c.limit (c.held ++ piece) → BeginsTooLong 65536 (c.held ++ piece)
 begins_long c piece h (inl failed) = absurd cc

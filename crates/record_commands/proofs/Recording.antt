@@ -2,11 +2,12 @@
 use Rattle.std.proofs.Common.{◌≡◌, inl, inr, ℕ, Bool, true, List, [], ◌++◌, Option, Result, Ok, Err, IfErr, IfOk, OnOk, refl, subst, sym}
 use Rattle.std.specs.Prelude.{IsErrOf}
 use Rattle.std.proofs.lemmas.Result.{IfErr-at_err}
+use Rattle.hash_comments.specs.declared.comments.HashLines.{HashLines}
 use Rattle.record_game.specs.Canon.{canon}
 use Rattle.record_game.specs.Game.{Game}
 use Rattle.record_game.specs.declared.fault.Refusal.{Refusal}
 use Rattle.record_game.specs.Refused.{Refused}
-use Rattle.csa_record.specs.Flow.{AppendsFront, FailsRead, IsCutShort, IsFaultless, IsNormal, IsRefusal, IsRefusedFrom, IsTold, IsWanting, ReadsRecord}
+use Rattle.csa_record.specs.Flow.{AppendsFront, FailsRead, IsCutShort, IsFaultless, IsNormal, IsRefusal, IsRefusedFrom, GaveGame, IsOutOfMemory, ReadsRecord}
 use Rattle.csa_record.specs.declared.flow.FlowFault.{FlowFault}
 use Rattle.csa_record.specs.declared.flow.FlowFault.TheVariants as flow
 use Rattle.record_commands.specs.Faults.{flow_fault_of}
@@ -33,15 +34,15 @@ refused_in_some U Opened bytes Fits answer r fails is = refused_in U Opened byte
 
 -- the answers of reading, in one statement
 pub reads_record : (old new : Option (List ℕ)) (ended : Bool) (before after : ℕ) (answer : Result Game FlowFault)
-    → IfOk answer (λ g. IsTold old new g) → IfOk answer (λ _. ended ≡ true) → ((r : Refusal) → IsErrOf answer (flow.Refused r) → IsRefusal old new ended r)
+    → IfOk answer (λ g. GaveGame old new g) → IfOk answer (λ _. ended ≡ true) → ((r : Refusal) → IsErrOf answer (flow.Refused r) → IsRefusal old new ended r)
     → (IsErrOf answer flow.ReadFault → FailsRead old new before after) → ((IsErrOf answer flow.ReadFault → ⊥) → after ≡ before)
     → (IsErrOf answer flow.OutOfMemory → IsFaultless old new ended) → (IsErrOf answer flow.WriteFault → ⊥)
     → ReadsRecord old new ended before after answer
-reads_record old new ended before after (Ok g) told end refused fails quiet wanting unwritten = (told, end, quiet (λ is. cc))
-reads_record old new ended before after (Err (flow.Refused r)) told end refused fails quiet wanting unwritten = (refused r refl, quiet (λ is. cc))
-reads_record old new ended before after (Err flow.ReadFault) told end refused fails quiet wanting unwritten = fails refl
-reads_record old new ended before after (Err flow.WriteFault) told end refused fails quiet wanting unwritten = absurd (unwritten refl)
-reads_record old new ended before after (Err flow.OutOfMemory) told end refused fails quiet wanting unwritten = (wanting refl, quiet (λ is. cc))
+reads_record old new ended before after (Ok g) stated end refused fails quiet out_of_memory unwritten = (stated, end, quiet (λ is. cc))
+reads_record old new ended before after (Err (flow.Refused r)) stated end refused fails quiet out_of_memory unwritten = (refused r refl, quiet (λ is. cc))
+reads_record old new ended before after (Err flow.ReadFault) stated end refused fails quiet out_of_memory unwritten = fails refl
+reads_record old new ended before after (Err flow.WriteFault) stated end refused fails quiet out_of_memory unwritten = absurd (unwritten refl)
+reads_record old new ended before after (Err flow.OutOfMemory) stated end refused fails quiet out_of_memory unwritten = (out_of_memory refl, quiet (λ is. cc))
 
 -- of an input that no read had failed at
 pub anew : {Input : Type 0} (Unopened : Type 0) (Opened : Input → Type 0) (bytes : Input → Option (List ℕ)) (input after : Input) (ended : Bool) (before failures : ℕ) (answer : Result Game FlowFault)
@@ -51,13 +52,13 @@ anew U Opened bytes input after ended before failures answer opened none reads =
 
 pub gets_record : {Input : Type 0} (Unopened : Type 0) (Opened : Input → Type 0) (bytes : Input → Option (List ℕ)) (input shown after : Input) (ended : Bool) (before failures : ℕ) (answer : Result Game FlowFault)
     → Opened input → shown ≡ input → before ≡ 0
-    → IfOk answer (λ g. IsTold (bytes shown) (bytes after) g) → IfOk answer (λ _. ended ≡ true) → ((r : Refusal) → IsErrOf answer (flow.Refused r) → IsRefusal (bytes shown) (bytes after) ended r)
+    → IfOk answer (λ g. GaveGame (bytes shown) (bytes after) g) → IfOk answer (λ _. ended ≡ true) → ((r : Refusal) → IsErrOf answer (flow.Refused r) → IsRefusal (bytes shown) (bytes after) ended r)
     → (IsErrOf answer flow.ReadFault → FailsRead (bytes shown) (bytes after) before failures) → ((IsErrOf answer flow.ReadFault → ⊥) → failures ≡ before)
     → (IsErrOf answer flow.OutOfMemory → IsFaultless (bytes shown) (bytes after) ended) → (IsErrOf answer flow.WriteFault → ⊥)
     → GetsRecord Unopened Opened bytes answer
-gets_record U Opened bytes input shown after ended before failures answer opened same none told end refused fails quiet wanting unwritten =
+gets_record U Opened bytes input shown after ended before failures answer opened same none stated end refused fails quiet out_of_memory unwritten =
     anew U Opened bytes shown after ended before failures answer (subst Opened (sym same) opened) none
-    (reads_record (bytes shown) (bytes after) ended before failures answer told end refused fails quiet wanting unwritten)
+    (reads_record (bytes shown) (bytes after) ended before failures answer stated end refused fails quiet out_of_memory unwritten)
 
 -- nothing was opened
 pub none_read : {Input : Type 0} (Unopened : Type 0) (Opened : Input → Type 0) (bytes : Input → Option (List ℕ)) (r : ReadFault) (fault : FlowFault)
@@ -108,7 +109,7 @@ normal_so U Opened bytes input shown after ended before failures held now (Err f
 normal_so U Opened bytes input shown after ended before failures held now (Ok u) opened same none normal end quiet = record {
   game = normal.game;
   text = canon normal.game;
-  read = anew U Opened bytes shown after ended before failures (Ok normal.game) (subst Opened (sym same) opened) none (normal.told, end, quiet (λ is. cc));
+  read = anew U Opened bytes shown after ended before failures (Ok normal.game) (subst Opened (sym same) opened) none (normal.stated, end, quiet (λ is. cc));
   fits = refl;
   printed = normal.taken;
 }
@@ -120,30 +121,36 @@ pub cut_short_so : {Input : Type 0} (Unopened : Type 0) (Opened : Input → Type
 cut_short_so U Opened bytes input shown after ended before failures held now answer opened same none cut quiet is =
     let part = cut is in (
       part.0.game,
-      anew U Opened bytes shown after ended before failures (Ok part.0.game) (subst Opened (sym same) opened) none (part.0.told, part.1, quiet (λ other. cc)),
+      anew U Opened bytes shown after ended before failures (Ok part.0.game) (subst Opened (sym same) opened) none (part.0.stated, part.1, quiet (λ other. cc)),
       part.0.taken,
     )
 
-wants : {Input : Type 0} (Unopened : Type 0) (Opened : Input → Type 0) (bytes : Input → Option (List ℕ)) (input after : Input) (ended : Bool) (before failures : ℕ)
-    → Opened input → before ≡ 0 → failures ≡ before → IsWanting (bytes input) (bytes after) ended → FailsToReport (GetsRecord Unopened Opened bytes) IsCanonical flow.OutOfMemory
-wants U Opened bytes input after ended before failures opened none quiet (inl faultless) =
+lack : {Input : Type 0} (Unopened : Type 0) (Opened : Input → Type 0) (bytes : Input → Option (List ℕ)) (input after : Input) (ended : Bool) (before failures : ℕ)
+    → Opened input → before ≡ 0 → failures ≡ before → IsOutOfMemory (bytes input) (bytes after) ended → FailsToReport (GetsRecord Unopened Opened bytes) IsCanonical flow.OutOfMemory
+lack U Opened bytes input after ended before failures opened none quiet (inl faultless) =
     inl (anew U Opened bytes input after ended before failures (Err flow.OutOfMemory) opened none (faultless, quiet))
-wants U Opened bytes input after ended before failures opened none quiet (inr (end, (g, told))) =
-    inr (g, anew U Opened bytes input after ended before failures (Ok g) opened none (told, end, quiet))
+lack U Opened bytes input after ended before failures opened none quiet (inr (end, (g, stated))) =
+    inr (g, anew U Opened bytes input after ended before failures (Ok g) opened none (stated, end, quiet))
 
 pub normal_fails : {Input : Type 0} (Unopened : Type 0) (Opened : Input → Type 0) (bytes : Input → Option (List ℕ)) (input shown after : Input) (ended : Bool) (before failures : ℕ) (held now : Option (List ℕ)) (answer : Result (Unit {0}) FlowFault)
     → Opened input → shown ≡ input → before ≡ 0
     → ((r : Refusal) → IsErrOf answer (flow.Refused r) → IsRefusal (bytes shown) (bytes after) ended r) → (IsErrOf answer flow.ReadFault → FailsRead (bytes shown) (bytes after) before failures)
     → ((IsErrOf answer flow.ReadFault → ⊥) → failures ≡ before) → (IsErrOf answer flow.WriteFault → IsCutShort (bytes shown) (bytes after) held now × (ended ≡ true))
-    → (IsErrOf answer flow.OutOfMemory → IsWanting (bytes shown) (bytes after) ended) → IfErr answer (FailsToReport (GetsRecord Unopened Opened bytes) IsCanonical)
-normal_fails U Opened bytes input shown after ended before failures held now (Ok u) opened same none refused fails quiet cut wanting = tt
-normal_fails U Opened bytes input shown after ended before failures held now (Err (flow.Refused r)) opened same none refused fails quiet cut wanting =
+    → (IsErrOf answer flow.OutOfMemory → IsOutOfMemory (bytes shown) (bytes after) ended) → IfErr answer (FailsToReport (GetsRecord Unopened Opened bytes) IsCanonical)
+normal_fails U Opened bytes input shown after ended before failures held now (Ok u) opened same none refused fails quiet cut out_of_memory = tt
+normal_fails U Opened bytes input shown after ended before failures held now (Err (flow.Refused r)) opened same none refused fails quiet cut out_of_memory =
     anew U Opened bytes shown after ended before failures (Err (flow.Refused r)) (subst Opened (sym same) opened) none (refused r refl, quiet (λ is. cc))
-normal_fails U Opened bytes input shown after ended before failures held now (Err flow.ReadFault) opened same none refused fails quiet cut wanting =
+normal_fails U Opened bytes input shown after ended before failures held now (Err flow.ReadFault) opened same none refused fails quiet cut out_of_memory =
     anew U Opened bytes shown after ended before failures (Err flow.ReadFault) (subst Opened (sym same) opened) none (fails refl)
-normal_fails U Opened bytes input shown after ended before failures held now (Err flow.WriteFault) opened same none refused fails quiet cut wanting =
+normal_fails U Opened bytes input shown after ended before failures held now (Err flow.WriteFault) opened same none refused fails quiet cut out_of_memory =
     let part = cut refl in
-    let gets = anew U Opened bytes shown after ended before failures (Ok part.0.game) (subst Opened (sym same) opened) none (part.0.told, part.1, quiet (λ is. cc)) in
+    let gets = anew U Opened bytes shown after ended before failures (Ok part.0.game) (subst Opened (sym same) opened) none (part.0.stated, part.1, quiet (λ is. cc)) in
     (part.0.game, canon part.0.game, gets, refl)
-normal_fails U Opened bytes input shown after ended before failures held now (Err flow.OutOfMemory) opened same none refused fails quiet cut wanting =
-    wants U Opened bytes shown after ended before failures (subst Opened (sym same) opened) none (quiet (λ is. cc)) (wanting refl)
+normal_fails U Opened bytes input shown after ended before failures held now (Err flow.OutOfMemory) opened same none refused fails quiet cut out_of_memory =
+    lack U Opened bytes shown after ended before failures (subst Opened (sym same) opened) none (quiet (λ is. cc)) (out_of_memory refl)
+
+-- ---- how lines from '#' are read
+
+pub fails_so : {T Input : Type 0} (Unopened : Type 0) (Opened : HashLines → Input → Type 0) (bytes : Input → Option (List ℕ)) (Fits : Game → List ℕ → Type 0) (answer : Result T FlowFault) (old new : HashLines) → old ≡ new
+    → IfErr answer (FailsToReport (GetsRecord Unopened (Opened old) bytes) Fits) → IfErr answer (FailsToReport (GetsRecord Unopened (Opened new) bytes) Fits)
+fails_so U Opened bytes Fits answer old new same fails = subst (λ (lines : HashLines). IfErr answer (FailsToReport (GetsRecord U (Opened lines) bytes) Fits)) same fails

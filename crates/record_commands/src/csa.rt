@@ -1,7 +1,7 @@
 //! The canonical text of a USI position line.
 
 ghost use Rattle.std.specs.Prelude.{◌≡◌, ◌≢◌, ◌⊎◌, None, IfErr, IfOk, IsErrOf, OnOk};
-ghost use Rattle.record_commands.specs.Inputs.{IsPicked, NamesFile, path_of};
+ghost use Rattle.record_commands.specs.Inputs.{IsOpenedAs, NamesFile, path_of};
 ghost use Rattle.record_commands.specs.OneLine.{BreaksOff, Converts, FailsToConvert, HasLongLine, HasNoLine, HasTwoLines, IsOneLine};
 ghost use Rattle.record_commands.specs.declared.fault.PositionLineFault.{PositionLineFault};
 ghost use Rattle.usi_text.specs.declared.fault.UsiFault.{UsiFault};
@@ -11,6 +11,7 @@ use crate::incoming::{Incoming, LineEvent};
 use crate::inputs::{self, Inputs, RuntimeInputs};
 use crate::streams;
 use csa_record::Record;
+use hash_comments::{HashComments, HashLines};
 use std::alloc::Global;
 use std::io;
 use std::io::{Read, Write};
@@ -20,10 +21,14 @@ use usi_text::UsiFault;
 /// Prints the canonical CSA V2.2 text of the game of the one USI position line in the file. If no
 /// file is named, or the name is `-`, standard input is read.
 ///
-/// Refuses `TooLong` as soon as a line has more than 65,536 bytes, `Refused` with `U5 BadLine` if
-/// there is no line or a second one that is not empty, `Refused` if the line is refused, `Read` if
-/// it cannot be read, `OutOfMemory`, and `Write` if the record cannot be written to standard
-/// output.
+/// Refuses:
+///
+/// - `TooLong` as soon as a line has more than 65,536 bytes;
+/// - `Refused` with `U5 BadLine` if there is no line, or a second one that is not empty;
+/// - `Refused` if the line is refused;
+/// - `Read` if it cannot be read;
+/// - `OutOfMemory`;
+/// - `Write` if the record cannot be written to standard output.
 pub fn run<R: Files + Input + Print + AllocGlobal>(
     rt: &R,
     file: Option<&str>,
@@ -31,12 +36,12 @@ pub fn run<R: Files + Input + Print + AllocGlobal>(
     ensures refused { (fault : UsiFault)
         → IsErrOf result (PositionLineFault.Refused fault) → fault ≢ UsiFault.OutOfMemory }
     ensures fails { IfErr result (FailsToConvert
-        (NamesFile (path_of file.entry)) (IsPicked (path_of file.entry))
-        ⟦<inputs::Input<R::Reader, R::File> as io::Read>⟧.remaining) }
+        (NamesFile (path_of file.entry)) (IsOpenedAs (path_of file.entry) HashLines.Refused)
+        ⟦<HashComments<inputs::Input<R::Reader, R::File>> as io::Read>⟧.remaining) }
 {
     csa(
         rt.alloc(),
-        &RuntimeInputs::new(rt),
+        &RuntimeInputs::new(rt, HashLines::Refused),
         file,
         &mut io::writer(rt),
     )

@@ -1,9 +1,11 @@
 //! The lines of a reader, one at a time.
 
-ghost use Rattle.std.specs.Prelude.{◌≡◌, ◌↔◌, ◌⊎◌, ◌<◌, ◌≤◌, ◌++◌, [], ◌∷◌, length, take, is_some, None, Some, Ok, IfOk, IfSome, IsErr, IsErrOf, OnErr, true, false};
+ghost use Rattle.std.specs.Prelude.{◌≡◌, ◌↔◌, ◌⊎◌, ◌<◌, ◌≤◌, ◌++◌, [], ◌∷◌, length, take, is_some, None, Some, Ok, IfErr, IfOk, IfSome, IsErrOf, OnErr, OnOk, true, false};
 ghost use Rattle.csa_cutting.specs.Lines.{Lines};
 ghost use Rattle.csa_cutting.specs.LineCutting.{BeginsTooLong};
-ghost use Rattle.record_commands.specs.Incoming.{GivesEnd, GivesLine, GivesLongLine, GivesNoLine, IsReading, stop_after};
+ghost use Rattle.record_commands.specs.Incoming.{GivesEnd, GivesLine, GivesLongLine, GivesNoLine, IsReading, PieceGives, PieceStops, event_of, stop_after, stop_of};
+ghost use Rattle.std.specs.Io.Buffered.{reader_remaining};
+ghost use Rattle.std.specs.Io.KnownBytes.{prepend_known};
 
 use crate::streams;
 use csa_cutting::{LineCutter, LineFault};
@@ -35,6 +37,17 @@ pub enum Stop {
     Failed,
     /// An allocation failed.
     OutOfMemory,
+}
+
+impl From<LineFault> for Stop {
+    ghost from_gives = { λ fault stop. stop ≡ stop_of fault };
+
+    fn from(fault: LineFault) -> Stop {
+        match fault {
+            LineFault::TooLong => Stop::TooLong,
+            LineFault::OutOfMemory => Stop::OutOfMemory,
+        }
+    }
 }
 
 /// A reader whose bytes are cut into lines as they come.
@@ -122,18 +135,8 @@ impl<R: Read + Drop> Incoming<R> {
     // What the bytes up to the next line end come to, or those that are there; None if no line
     // ended.
     fn take_piece(&mut self) -> Result<Option<LineEvent>, OutOfMemory>
-        ensures line { IfOk result (λ event. event ≡ Some LineEvent.Line
-            → GivesLine self.old.bytes self.new.bytes self.new.line) }
-        ensures short { IfOk result (λ event. event ≡ Some LineEvent.Line
-            → length self.new.line ≤ 65536) }
-        ensures end { IfOk result (λ event. event ≡ Some LineEvent.End
-            → GivesEnd self.old.bytes self.new.bytes) }
-        ensures failed { IfOk result (λ event. event ≡ Some LineEvent.Failed
-            → GivesNoLine self.old.bytes self.new.bytes) }
-        ensures long { IfOk result (λ event. event ≡ Some LineEvent.Long
-            → GivesLongLine self.old.bytes self.new.bytes) }
-        ensures none { IfOk result (λ event. event ≡ None
-            → GivesNoLine self.old.bytes self.new.bytes) }
+        ensures event { IfOk result
+            (PieceGives self.old.bytes self.new.bytes self.new.line) }
         ensures over { IfOk result (λ event. IfSome event
             (λ e. self.new.stop ≡ stop_after self.old.stop e)) }
         ensures still { IfOk result (λ event. event ≡ None → self.new.stop ≡ self.old.stop) }
@@ -144,60 +147,70 @@ impl<R: Read + Drop> Incoming<R> {
         if self.stop.is_some() {
             return Ok(Some(LineEvent::Failed));
         }
-        let piece = match self.reader.fill_buf() {
-            Ok(piece) => piece,
-            Err(error) if error.kind() == ErrorKind::Interrupted => return Ok(None),
-            Err(_) => {
-                self.stop = Some(Stop::Failed);
-                return Ok(Some(LineEvent::Failed));
-            }
-        };
-        if piece.is_empty() {
-            match keep_last(self.alloc, &mut self.cutter, &mut self.line) {
-                Ok(true) => return Ok(Some(LineEvent::Line)),
-                Ok(false) => return Ok(Some(LineEvent::End)),
-                Err(fault) => {
-                    self.stop = Some(stop_of(fault));
-                    return event_of(fault);
-                }
+        match next_event(
+            self.alloc,
+            &mut self.reader,
+            &mut self.cutter,
+            &mut self.line,
+        ) {
+            Ok(event) => Ok(event),
+            Err(stop) => {
+                self.stop = Some(stop);
+                event_of(stop)
             }
         }
-        let found = match cut(self.alloc, &mut self.cutter, &mut self.line, piece) {
-            Ok(found) => found,
-            Err(fault) => {
-                self.stop = Some(stop_of(fault));
-                return event_of(fault);
-            }
-        };
-        let Some(used) = found else {
-            let all = piece.len();
-            self.reader.consume(all);
-            return Ok(None);
-        };
-        self.reader.consume(used);
-        Ok(Some(LineEvent::Line))
     }
 }
 
-// What a fault of the cutter comes to.
-fn event_of(fault: LineFault) -> Result<Option<LineEvent>, OutOfMemory>
-    ensures long { (fault ≡ LineFault.TooLong) ↔ (result ≡ Ok (Some LineEvent.Long)) }
-    ensures memory { (fault ≡ LineFault.OutOfMemory) ↔ IsErr result }
+// What the next bytes of the reader come to, up to a line end if there is one; None if no line
+// ended. The line is kept.
+fn next_event<R: Read + Drop>(
+    alloc: Global,
+    reader: &mut BufReader<R>,
+    cutter: &mut LineCutter,
+    kept: &mut Vec<u8>,
+) -> Result<Option<LineEvent>, Stop>
+    requires { IsReading cutter.old }
+    ensures event { IfOk result (PieceGives
+        (prepend_known cutter.old.held (reader_remaining R.remaining reader.old))
+        (prepend_known cutter.new.held (reader_remaining R.remaining reader.new)) kept.new.items) }
+    ensures stop { IfErr result (PieceStops
+        (prepend_known cutter.old.held (reader_remaining R.remaining reader.old))
+        (prepend_known cutter.new.held (reader_remaining R.remaining reader.new))) }
+    ensures goes_on { IfOk result (λ event. IfSome event (λ e. stop_after None e ≡ None)) }
+    ensures keeps { OnOk result (IsReading cutter.new) }
 {
-    match fault {
-        LineFault::TooLong => Ok(Some(LineEvent::Long)),
-        LineFault::OutOfMemory => Err(OutOfMemory),
+    let piece = match reader.fill_buf() {
+        Ok(piece) => piece,
+        Err(error) if error.kind() == ErrorKind::Interrupted => return Ok(None),
+        Err(_) => return Err(Stop::Failed),
+    };
+    if piece.is_empty() {
+        let is_line = keep_last(alloc, cutter, kept)?;
+        let event = if is_line {
+            LineEvent::Line
+        } else {
+            LineEvent::End
+        };
+        return Ok(Some(event));
     }
+    let Some(used) = cut(alloc, cutter, kept, piece)? else {
+        let all = piece.len();
+        reader.consume(all);
+        return Ok(None);
+    };
+    reader.consume(used);
+    Ok(Some(LineEvent::Line))
 }
 
-// Why no more is read after a fault of the cutter.
-fn stop_of(fault: LineFault) -> Stop
-    ensures long { fault ≡ LineFault.TooLong → result ≡ Stop.TooLong }
-    ensures memory { fault ≡ LineFault.OutOfMemory → result ≡ Stop.OutOfMemory }
+// What the reason to stop comes to.
+fn event_of(stop: Stop) -> Result<Option<LineEvent>, OutOfMemory>
+    ensures { result ≡ event_of stop }
 {
-    match fault {
-        LineFault::TooLong => Stop::TooLong,
-        LineFault::OutOfMemory => Stop::OutOfMemory,
+    match stop {
+        Stop::TooLong => Ok(Some(LineEvent::Long)),
+        Stop::Failed => Ok(Some(LineEvent::Failed)),
+        Stop::OutOfMemory => Err(OutOfMemory),
     }
 }
 

@@ -1,10 +1,11 @@
 //! Where a command reads from: the file that its words name, or standard input.
 
-ghost use Rattle.std.specs.Prelude.{IfOk, IsErrOf};
-ghost use Rattle.record_commands.specs.Inputs.{path_of};
+ghost use Rattle.std.specs.Prelude.{◌≡◌, IfOk, IsErrOf};
+ghost use Rattle.record_commands.specs.Inputs.{IsPicked, NamesFile, path_of};
 ghost use Rattle.record_commands.specs.declared.fault.ReadFault.{ReadFault};
 
 use crate::fault::ReadFault;
+use hash_comments::{HashComments, HashLines};
 use std::fs;
 use std::io::Read;
 use std::rt::Files;
@@ -58,33 +59,48 @@ impl<S: Read + Drop, F: Read + Drop> Read for Input<S, F> {
 #[derive(Drop)]
 pub struct RuntimeInputs<'a, R> {
     rt: &'a R,
+    hash_lines: HashLines,
 }
 
 impl<'a, R> RuntimeInputs<'a, R> {
-    /// What the commands read from in that runtime.
-    pub fn new(rt: &'a R) -> RuntimeInputs<'a, R> {
-        RuntimeInputs { rt }
+    /// What the commands read from in that runtime, and how lines that begin with `#` are read.
+    pub fn new(rt: &'a R, hash_lines: HashLines) -> RuntimeInputs<'a, R>
+        ensures hash_lines { result.hash_lines ≡ hash_lines }
+    {
+        RuntimeInputs { rt, hash_lines }
     }
 }
 
 // No contract can say what is in a file, which file it is, or when it cannot be opened. Standard
 // input can always be opened.
 impl<R: Files + std::io::Input> Inputs for RuntimeInputs<'_, R> {
-    ghost use Rattle.record_commands.specs.Inputs.{IsPicked, NamesFile};
+    ghost use Rattle.record_commands.specs.Inputs.{IsOpenedAs, NamesFile};
 
-    type Input = Input<R::Reader, R::File>;
+    type Input = HashComments<Input<R::Reader, R::File>>;
 
-    ghost opens = { λ inputs path input. IsPicked path input };
+    ghost opens = { λ inputs path reader. IsOpenedAs path inputs.hash_lines reader };
 
     ghost opens_not = { λ inputs path. NamesFile path };
 
     fn open(&self, file: Option<&str>) -> Result<Self::Input, ReadFault> {
-        match file {
-            None | Some("-") => Ok(Input::Standard(self.rt.reader())),
-            Some(path) => match fs::open(self.rt, path) {
-                Ok(file) => Ok(Input::File(file)),
-                Err(error) => Err(ReadFault::of(&error)),
-            },
-        }
+        let input = picked(self.rt, file)?;
+        Ok(HashComments::new(input, self.hash_lines))
+    }
+}
+
+// The file of that name, or standard input if there is no name or it is `-`.
+fn picked<R: Files + std::io::Input>(
+    rt: &R,
+    file: Option<&str>,
+) -> Result<Input<R::Reader, R::File>, ReadFault>
+    ensures opened { IfOk result (IsPicked (path_of file.entry)) }
+    ensures failed { IsErrOf result ReadFault.Failed → NamesFile (path_of file.entry) }
+{
+    match file {
+        None | Some("-") => Ok(Input::Standard(rt.reader())),
+        Some(path) => match fs::open(rt, path) {
+            Ok(file) => Ok(Input::File(file)),
+            Err(error) => Err(ReadFault::of(&error)),
+        },
     }
 }

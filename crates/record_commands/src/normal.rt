@@ -4,7 +4,7 @@ ghost use Rattle.std.specs.Prelude.{◌≡◌, ◌≢◌, ℕ, ◌+◌, ◌-◌,
 ghost use Rattle.std.specs.Io.KnownBytes.{Keeps};
 ghost use Rattle.csa_record.specs.Flow.{AppendsFront};
 ghost use Rattle.csa_record.specs.declared.flow.FlowFault.{FlowFault};
-ghost use Rattle.record_commands.specs.Inputs.{IsPicked, NamesFile, path_of};
+ghost use Rattle.record_commands.specs.Inputs.{IsOpenedAs, NamesFile, path_of};
 ghost use Rattle.record_commands.specs.Reports.{FailsToReport, GetsRecord, Reports};
 ghost use Rattle.record_commands.specs.Words.{IsCanonical};
 ghost use Rattle.record_game.specs.Canon.{canon};
@@ -13,28 +13,31 @@ ghost use Rattle.record_game.specs.Refused.{Refused};
 
 use crate::inputs::{self, Inputs, RuntimeInputs};
 use csa_record::{FlowFault, Reading, Refusal, Sink, Writing};
+use hash_comments::{HashComments, HashLines};
 use std::alloc::Global;
 use std::io;
 use std::rt::Files;
 
 /// Prints the canonical text of the CSA V2.2 record in the file. If no file is named, or the name
-/// is `-`, standard input is read. Nothing is printed before the whole record is accepted.
+/// is `-`, standard input is read. `hash_lines` says how lines that begin with `#` are read.
+/// Nothing is printed before the whole record is accepted.
 ///
 /// Refuses `ReadFault` if the file cannot be opened, and then as `csa_record::normalise` does.
 pub fn run<R: Files + Input + Print + AllocGlobal>(
     rt: &R,
     file: Option<&str>,
+    hash_lines: HashLines,
 ) -> Result<(), FlowFault>
     ensures refused { (r : Refusal) → IsErrOf result (FlowFault.Refused r)
         → (bytes : List ℕ) × Refused bytes r.number r.offset r.why }
     ensures fails { IfErr result (FailsToReport
-        (GetsRecord (NamesFile (path_of file.entry)) (IsPicked (path_of file.entry))
-        ⟦<inputs::Input<R::Reader, R::File> as io::Read>⟧.remaining)
+        (GetsRecord (NamesFile (path_of file.entry)) (IsOpenedAs (path_of file.entry) hash_lines)
+        ⟦<HashComments<inputs::Input<R::Reader, R::File>> as io::Read>⟧.remaining)
         IsCanonical) }
 {
     normal(
         rt.alloc(),
-        &RuntimeInputs::new(rt),
+        &RuntimeInputs::new(rt, hash_lines),
         file,
         &mut Writing::new(io::writer(rt)),
     )

@@ -6,7 +6,7 @@ use Rattle.record_game.specs.Game.{Game}
 use Rattle.record_game.specs.Pieces.{joined, ReadsPieces, accepted, refused, refused_at_end}
 use Rattle.record_game.specs.Refused.{Refused}
 use Rattle.record_game.specs.Tells.{Tells}
-use Rattle.record_game.proofs.Told.{told_or_refused}
+use Rattle.record_game.proofs.TellsOnce.{stated_or_refused}
 use Rattle.record_game.proofs.SaysOnce.{tells_once}
 use Rattle.record_game.proofs.RefusedOnce.{refused_once}
 
@@ -26,16 +26,16 @@ AnswerOf source (Ok g) = Tells source g
 AnswerOf source (Err r) = Refused source r.number r.offset r.why
 
 answer_of : (pieces : List (List ℕ)) (a : Result Game Refusal) → ReadsPieces pieces a → AnswerOf (joined pieces) a
-answer_of pieces a (accepted g told) = told
+answer_of pieces a (accepted g stated) = stated
 answer_of pieces a (refused front piece others r is always) =
     let whole : joined pieces ≡ (joined front ++ piece) ++ joined others = ap joined is ∙ joined_at front piece others in
     subst (λ source. Refused source r.number r.offset r.why) (sym whole) (always (joined others))
 answer_of pieces a (refused_at_end r at_end) = at_end
 
 never_both : (source : List ℕ) (g : Game) (n o : ℕ) (w : Why) → Tells source g → Refused source n o w → ⊥
-never_both source g n o w told no_game = elim (told_or_refused source) [
+never_both source g n o w stated no_game = elim (stated_or_refused source) [
   | inl alone ↦ alone.not_refused n o w no_game
-  | inr alone ↦ alone.not_told g told
+  | inr alone ↦ alone.tells_no_game g stated
 ]
 
 abbrev refusal : ℕ → ℕ → Why → Refusal

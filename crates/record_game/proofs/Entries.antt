@@ -31,32 +31,32 @@ below_total (b ∷ bs) (c ∷ cs) =
 -- where it is inserted
 pub record HasPlace (es : List Entry) (e : Entry) : Type 0 where
   pub front : List Entry
-  pub behind : List Entry
-  pub whole : es ≡ front ++ behind
-  pub rising : Rising (front ++ e ∷ behind)
+  pub following : List Entry
+  pub whole : es ≡ front ++ following
+  pub rising : Rising (front ++ e ∷ following)
 
-later : (x : Entry) (front behind : List Entry) (e : Entry) → Rising (x ∷ (front ++ behind)) → is_below x.key e.key ≡ true → Rising (front ++ e ∷ behind) → Rising (x ∷ (front ++ e ∷ behind))
-later x [] behind e r h s = (h, s)
-later x (y ∷ front) behind e r h s = (r.0, s)
+later : (x : Entry) (front following : List Entry) (e : Entry) → Rising (x ∷ (front ++ following)) → is_below x.key e.key ≡ true → Rising (front ++ e ∷ following) → Rising (x ∷ (front ++ e ∷ following))
+later x [] following e r h s = (h, s)
+later x (y ∷ front) following e r h s = (r.0, s)
 
 rising_tail : (e : Entry) (es : List Entry) → Rising (e ∷ es) → Rising es
 rising_tail e [] h = tt
 rising_tail e (f ∷ es) h = h.1
 
 pub place_for : (es : List Entry) (e : Entry) → Rising es → AllByRecursion (λ (x : Entry). x.key ≢ e.key) es → HasPlace es e
-place_for [] e r new = record { front = []; behind = []; whole = refl; rising = tt }
+place_for [] e r new = record { front = []; following = []; whole = refl; rising = tt }
 place_for (x ∷ xs) e r new =
     elim (below_total e.key x.key) [
-      | inl before ↦ record { front = []; behind = x ∷ xs; whole = refl; rising = (before, r) }
+      | inl before ↦ record { front = []; following = x ∷ xs; whole = refl; rising = (before, r) }
       | inr other ↦ elim other [
         | inl after ↦
             let p = place_for xs e (rising_tail x xs r) new.1 in
-            let all : Rising (x ∷ (p.front ++ p.behind)) = subst (λ es. Rising (x ∷ es)) p.whole r in
+            let all : Rising (x ∷ (p.front ++ p.following)) = subst (λ es. Rising (x ∷ es)) p.whole r in
             record {
               front = x ∷ p.front;
-              behind = p.behind;
+              following = p.following;
               whole = ap (λ es. x ∷ es) p.whole;
-              rising = later x p.front p.behind e all after p.rising;
+              rising = later x p.front p.following e all after p.rising;
             }
         | inr equal ↦ absurd (new.0 (sym equal))
       ]

@@ -58,7 +58,7 @@ split_length (x ∷ xs) ys y = omega (arith, split_length xs ys y)
 name_fits : (bytes : List ℕ) (color : Color) (text : List ℕ) → IsOfStatement bytes → Spells bytes (name color text) → IsOneLine text × (2 + length text ≤ 4096)
 name_fits bytes color text s h =
     let whole : s.unit ≡ 78 ∷ sign color ∷ text = line_whole 78 (inl refl) s.unit (sign color ∷ text) (sym s.whole ∙ h) in
-    let unit : IsUnit (78 ∷ sign color ∷ text) s.behind = rw whole at s.is_unit in
+    let unit : IsUnit (78 ∷ sign color ∷ text) s.following = rw whole at s.is_unit in
     let few : length (78 ∷ sign color ∷ text) ≤ 4096 = rw whole at s.short in
     (one_line 78 text unit.1.1, omega (arith, few))
 
@@ -66,7 +66,7 @@ header_fits : (bytes key text : List ℕ) → IsOfStatement bytes → IsHeader b
 header_fits bytes key text s h =
     let split : bytes ≡ 36 ∷ (key ++ 58 ∷ text) = h.whole ∙ ap (λ xs. 36 ∷ xs) h.split.0 in
     let whole : s.unit ≡ 36 ∷ (key ++ 58 ∷ text) = line_whole 36 (inr refl) s.unit (key ++ 58 ∷ text) (sym s.whole ∙ split) in
-    let unit : IsUnit (36 ∷ (key ++ 58 ∷ text)) s.behind = rw whole at s.is_unit in
+    let unit : IsUnit (36 ∷ (key ++ 58 ∷ text)) s.following = rw whole at s.is_unit in
     let few : length (36 ∷ (key ++ 58 ∷ text)) ≤ 4096 = rw whole at s.short in
     let both = parts (λ b. is_end 36 b ≡ false) key (58 ∷ text) unit.1 in
     let long = split_length key text 58 in
@@ -101,7 +101,7 @@ pub time_fits : (text : List ℕ) (n : ℕ) → IsTime text n → n ≤ 42949672
 time_fits text n (inl (seconds, is, value)) = let low = is.1 in omega (arith, low, value)
 time_fits text n (inr h) =
     let low = h.seconds_are.1 in
-    let small = fraction_small h.behind h.fraction h.fraction_is in
+    let small = fraction_small h.following h.fraction h.fraction_is in
     let value = h.value_is in
     omega (arith, low, small, value)
 

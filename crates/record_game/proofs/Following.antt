@@ -30,7 +30,7 @@ use Rattle.shogi_rules.proofs.Decided.{decide-kept, some-broken}
 use Rattle.csa_text.specs.declared.ending.Ending.{Ending}
 use Rattle.csa_text.specs.declared.pair.Pair.{Pair}
 use Rattle.csa_text.specs.Saying.{Saying, version, name, header, even, rank, pieces, turn, walked, time, ending}
-use Rattle.record_game.specs.Course.{Course, course_line, awaits_behind}
+use Rattle.record_game.specs.Course.{Course, course_line, awaits_after_it}
 use Rattle.record_game.specs.Game.{Game, Timed, Ended, Entry, move_of}
 use Rattle.record_game.specs.Items.{is_version, name_given, names, header_given, headers, is_even, rank_given, ranks, is_position, positions, sides, moves, is_body, body, AtMostOne}
 use Rattle.record_game.specs.Keeping.{Stage, laying, playing, Kept, HasKept, KeepsStage}
@@ -116,11 +116,11 @@ key_below e f h =
       | inr n ↦ n
     ]
 
-no_twin : (front : List Entry) (e : Entry) (behind : List Entry) → Rising (front ++ e ∷ behind) → under e.key (front ++ behind) ≡ []
-no_twin [] e behind h = none_later e behind h
-no_twin (f ∷ front) e behind h =
-    skipped (pointwise nat_eq f.key e.key) f (under e.key (front ++ behind)) (key_below f.key e.key (before_later f front e behind h))
-    (no_twin front e behind (rising_without [] f (front ++ e ∷ behind) h))
+no_twin : (front : List Entry) (e : Entry) (following : List Entry) → Rising (front ++ e ∷ following) → under e.key (front ++ following) ≡ []
+no_twin [] e following h = none_later e following h
+no_twin (f ∷ front) e following h =
+    skipped (pointwise nat_eq f.key e.key) f (under e.key (front ++ following)) (key_below f.key e.key (before_later f front e following h))
+    (no_twin front e following (rising_without [] f (front ++ e ∷ following) h))
 
 abbrev of_key : List ℕ → List ℕ × List ℕ → Bool
 of_key key h = pointwise nat_eq h.0 key
@@ -135,14 +135,14 @@ some_hit p (x ∷ xs) y ys h =
 
 key_once : (xs : List (List ℕ × List ℕ)) (h : List ℕ × List ℕ) (ys : List (List ℕ × List ℕ)) (es : List Entry) → AreEntries (xs ++ h ∷ ys) es → Rising es → stands (filter (λ (k : List ℕ × List ℕ). pointwise nat_eq k.0 h.0) xs) ≡ false
 key_once [] h ys es a rising = refl
-key_once (x ∷ xs) h ys es (front, e, behind, all, key_is, value, others) rising =
-    let here : Rising (front ++ e ∷ behind) = subst Rising all rising in
-    let later = key_once xs h ys (front ++ behind) others (rising_without front e behind here) in
+key_once (x ∷ xs) h ys es (front, e, following, all, key_is, value, others) rising =
+    let here : Rising (front ++ e ∷ following) = subst Rising all rising in
+    let later = key_once xs h ys (front ++ following) others (rising_without front e following here) in
     elim (cases_Bool (pointwise nat_eq x.0 h.0)) [
       | inl hit ↦
           let same : x.0 ≡ h.0 = (bytes_decides x.0 h.0).0 hit in
-          let own : under h.0 (front ++ behind) ≡ [] = subst (λ k. under k (front ++ behind) ≡ []) (key_is ∙ same) (no_twin front e behind here) in
-          let stood : true ≡ stands (under h.0 (front ++ behind)) = sym (some_hit (λ (k : List ℕ × List ℕ). pointwise nat_eq k.0 h.0) xs h ys ((bytes_decides h.0 h.0).1 refl)) ∙ same_keys h.0 (xs ++ h ∷ ys) (front ++ behind) others in
+          let own : under h.0 (front ++ following) ≡ [] = subst (λ k. under k (front ++ following) ≡ []) (key_is ∙ same) (no_twin front e following here) in
+          let stood : true ≡ stands (under h.0 (front ++ following)) = sym (some_hit (λ (k : List ℕ × List ℕ). pointwise nat_eq k.0 h.0) xs h ys ((bytes_decides h.0 h.0).1 refl)) ∙ same_keys h.0 (xs ++ h ∷ ys) (front ++ following) others in
           absurd (false≢true (sym (stood ∙ ap stands own)))
       | inr miss ↦ rw miss later
     ]
@@ -288,10 +288,10 @@ Goes p ts e us (rank n cs) = ⊥
 Goes p ts e us (pieces c ps) = ⊥
 Goes p ts e us (turn c) = ⊥
 Goes p ts e us (walked color m) = (e ≡ None) × (color ≡ (position_after p (map move_of ts)).side) × (more : List Move) × (map move_of us ≡ map move_of ts ++ m ∷ more)
-Goes p ts e us (time n) = awaits_behind ts e ≡ true
+Goes p ts e us (time n) = awaits_after_it ts e ≡ true
 Goes p ts e us (ending x) = e ≡ None
 
-awaits_more : (t : Timed) (ts : List Timed) (e : Option Ended) → awaits_behind ts e ≡ true → awaits_behind (t ∷ ts) e ≡ true
+awaits_more : (t : Timed) (ts : List Timed) (e : Option Ended) → awaits_after_it ts e ≡ true → awaits_after_it (t ∷ ts) e ≡ true
 awaits_more t [] None h = cc
 awaits_more t (v ∷ vs) None h = h
 awaits_more t ts (Some x) h = h
@@ -337,8 +337,8 @@ goes_by p t u ts us e f s ss None None is same later h = goes_more p t u ts us e
 goes_by p t u ts us e f s ss None (Some n) is same later h = time_next p t u ts us e s ss n (move_items (opponent p.side) us ++ ending_items f) is h
 goes_by p t u ts us e f s ss (Some m) None is same later h = absurd (no_time (opponent p.side) us f m (move_items (opponent p.side) ts ++ (ending_items e ++ s ∷ ss)) h)
 goes_by p t u ts us e f s ss (Some m) (Some n) is same later h =
-    let behind : move_items (opponent p.side) ts ++ (ending_items e ++ s ∷ ss) ≡ move_items (opponent p.side) us ++ ending_items f = cc in
-    goes_more p t u ts us e s same (later behind)
+    let following : move_items (opponent p.side) ts ++ (ending_items e ++ s ∷ ss) ≡ move_items (opponent p.side) us ++ ending_items f = cc in
+    goes_more p t u ts us e s same (later following)
 
 goes : (p : Placed) (ts us : List Timed) (e f : Option Ended) (s : Saying) (ss : List Saying) → move_items p.side ts ++ (ending_items e ++ s ∷ ss) ≡ move_items p.side us ++ ending_items f → Goes p ts e us s
 goes p [] [] None None s ss h = cc
@@ -348,16 +348,16 @@ goes p [] (u ∷ us) None f s ss h =
     subst (Goes p [] None (u ∷ us)) (sym same) (refl, refl, map move_of us, refl)
 goes p [] [] (Some x) None s ss h = cc
 goes p [] [] (Some x) (Some y) s ss h =
-    let behind : time_items x.time ++ s ∷ ss ≡ time_items y.time = cc in
-    ended_next p x y s ss x.time y.time refl behind
+    let following : time_items x.time ++ s ∷ ss ≡ time_items y.time = cc in
+    ended_next p x y s ss x.time y.time refl following
 goes p [] (u ∷ us) (Some x) f s ss h = let head : ending x.ending ≡ walked p.side u.move = cc in cc
 goes p (t ∷ ts) [] e None s ss h = cc
 goes p (t ∷ ts) [] e (Some y) s ss h = let head : walked p.side t.move ≡ ending y.ending = cc in cc
 goes p (t ∷ ts) (u ∷ us) e f s ss h =
     let heads : walked p.side t.move ≡ walked p.side u.move = cc in
     let same : t.move ≡ u.move = cc in
-    let behind : (time_items t.time ++ move_items (opponent p.side) ts) ++ (ending_items e ++ s ∷ ss) ≡ (time_items u.time ++ move_items (opponent p.side) us) ++ ending_items f = cc in
-    goes_by p t u ts us e f s ss t.time u.time refl same (λ later. goes (after p t.move) ts us e f s ss later) behind
+    let following : (time_items t.time ++ move_items (opponent p.side) ts) ++ (ending_items e ++ s ∷ ss) ≡ (time_items u.time ++ move_items (opponent p.side) us) ++ ending_items f = cc in
+    goes_by p t u ts us e f s ss t.time u.time refl same (λ later. goes (after p t.move) ts us e f s ss later) following
 
 -- a game's moves follow one another
 last_or_more : {X : Type 0} (xs : List X) (x : X) (ys : List X) (y : X) (zs : List X) → xs ++ x ∷ [] ≡ ys ++ y ∷ zs → ((xs ≡ ys) × (x ≡ y)) ⊎ ((ws : List X) × (xs ≡ ys ++ y ∷ ws))
@@ -366,8 +366,8 @@ last_or_more [] x (b ∷ ys) y zs h = let none : [] ≡ ys ++ y ∷ zs = cc in a
 last_or_more (a ∷ xs) x [] y zs h = let same : a ≡ y = cc in inr (xs, ap (λ v. v ∷ xs) same)
 last_or_more (a ∷ xs) x (b ∷ ys) y zs h =
     let same : a ≡ b = cc in
-    let behind : xs ++ x ∷ [] ≡ ys ++ y ∷ zs = cc in
-    elim (last_or_more xs x ys y zs behind) [
+    let following : xs ++ x ∷ [] ≡ ys ++ y ∷ zs = cc in
+    elim (last_or_more xs x ys y zs following) [
       | inl end ↦ inl (ap (λ v. v ∷ xs) same ∙ ap (λ vs. b ∷ vs) end.0, end.1)
       | inr more ↦ inr (more.0, ap (λ v. v ∷ xs) same ∙ ap (λ vs. b ∷ vs) more.1)
     ]
@@ -473,9 +473,9 @@ turn_follows fs bs color k g (laying l) is h written says =
     let none = is_laying fs k l h is in
     let lays = lays_now fs k l h is in
     let stage : KeepsStage fs (laying l) = subst (KeepsStage fs) is h.stage in
-    let behind : turn color ∷ body bs ≡ positions bs ++ turn g.start.side ∷ played_items g = body_laying fs (turn color) bs g stage.1 says in
-    let bare = turn_first bs color (body bs) (turn g.start.side ∷ played_items g) behind in
-    let now : turn color ∷ body bs ≡ turn g.start.side ∷ played_items g = behind ∙ ap (λ xs. xs ++ turn g.start.side ∷ played_items g) bare in
+    let following : turn color ∷ body bs ≡ positions bs ++ turn g.start.side ∷ played_items g = body_laying fs (turn color) bs g stage.1 says in
+    let bare = turn_first bs color (body bs) (turn g.start.side ∷ played_items g) following in
+    let now : turn color ∷ body bs ≡ turn g.start.side ∷ played_items g = following ∙ ap (λ xs. xs ++ turn g.start.side ∷ played_items g) bare in
     let turns : turn color ≡ turn g.start.side = cc in
     let side : color ≡ g.start.side = cc in
     let whole = whole_laid (fs ++ turn color ∷ bs) g written says in
@@ -527,7 +527,7 @@ time_follows : (fs bs : List Saying) (n : ℕ) (k : Kept) (g : Game) (stage : St
 unfolding starts
 time_follows fs bs n k g (laying l) is h written says = absurd (not_laying fs bs (time n) k l g refl refl refl is h says)
 time_follows fs bs n k g (playing c) is h written says =
-    let can : awaits_behind c.moves c.ending ≡ true = body_goes fs (time n) bs k c g refl h is written says in
+    let can : awaits_after_it c.moves c.ending ≡ true = body_goes fs (time n) bs k c g refl h is written says in
     let awaited : ordered.awaits_time (body fs) ≡ true = (is_playing fs k c h is).awaits ∙ can in
     in_order fs (time n) (rw awaited refl) refl
 

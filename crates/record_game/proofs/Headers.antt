@@ -11,66 +11,66 @@ use Rattle.record_game.specs.Titles.{under, with_entry}
 -- an entry is inserted somewhere
 record GoesIn (es : List Entry) (e : Entry) (all : List Entry) : Type 0 where
   front : List Entry
-  behind : List Entry
-  before : es ≡ front ++ behind
-  after : all ≡ front ++ e ∷ behind
+  following : List Entry
+  before : es ≡ front ++ following
+  after : all ≡ front ++ e ∷ following
 
 goes_later : (f : Entry) (es : List Entry) (e : Entry) (all : List Entry) → GoesIn es e all → GoesIn (f ∷ es) e (f ∷ all)
-goes_later f es e all g = record { front = f ∷ g.front; behind = g.behind; before = ap (λ xs. f ∷ xs) g.before; after = ap (λ xs. f ∷ xs) g.after }
+goes_later f es e all g = record { front = f ∷ g.front; following = g.following; before = ap (λ xs. f ∷ xs) g.before; after = ap (λ xs. f ∷ xs) g.after }
 
 goes_by : (b : Bool) (f : Entry) (es : List Entry) (e : Entry) → GoesIn es e (with_entry es e) → GoesIn (f ∷ es) e (cond b (e ∷ f ∷ es) (f ∷ with_entry es e))
-goes_by true f es e g = record { front = []; behind = f ∷ es; before = refl; after = refl }
+goes_by true f es e g = record { front = []; following = f ∷ es; before = refl; after = refl }
 goes_by false f es e g = goes_later f es e (with_entry es e) g
 
 goes_in : (es : List Entry) (e : Entry) → GoesIn es e (with_entry es e)
-goes_in [] e = record { front = []; behind = []; before = refl; after = refl }
+goes_in [] e = record { front = []; following = []; before = refl; after = refl }
 goes_in (f ∷ es) e = goes_by (is_below e.key f.key) f es e (goes_in es e)
 
 -- another entry among those that it is inserted into
-record Around (front behind : List Entry) (e : Entry) (f : List Entry) (y : Entry) (b : List Entry) : Type 0 where
+record Around (front following : List Entry) (e : Entry) (f : List Entry) (y : Entry) (b : List Entry) : Type 0 where
   left : List Entry
   right : List Entry
-  all : front ++ e ∷ behind ≡ left ++ y ∷ right
+  all : front ++ e ∷ following ≡ left ++ y ∷ right
   without : GoesIn (f ++ b) e (left ++ right)
 
-around : (front behind : List Entry) (e : Entry) (f : List Entry) (y : Entry) (b : List Entry) → front ++ behind ≡ f ++ y ∷ b → Around front behind e f y b
-around [] behind e f y b h = record {
+around : (front following : List Entry) (e : Entry) (f : List Entry) (y : Entry) (b : List Entry) → front ++ following ≡ f ++ y ∷ b → Around front following e f y b
+around [] following e f y b h = record {
   left = e ∷ f;
   right = b;
   all = ap (λ xs. e ∷ xs) h;
-  without = record { front = []; behind = f ++ b; before = refl; after = refl };
+  without = record { front = []; following = f ++ b; before = refl; after = refl };
 }
-around (z ∷ front) behind e [] y b h =
+around (z ∷ front) following e [] y b h =
     let first : z ≡ y = cc in
-    let rest : front ++ behind ≡ b = cc in
+    let rest : front ++ following ≡ b = cc in
     record {
       left = [];
-      right = front ++ e ∷ behind;
-      all = ap (λ x. x ∷ (front ++ e ∷ behind)) first;
-      without = record { front = front; behind = behind; before = sym rest; after = refl };
+      right = front ++ e ∷ following;
+      all = ap (λ x. x ∷ (front ++ e ∷ following)) first;
+      without = record { front = front; following = following; before = sym rest; after = refl };
     }
-around (z ∷ front) behind e (x ∷ f) y b h =
+around (z ∷ front) following e (x ∷ f) y b h =
     let first : z ≡ x = cc in
-    let rest : front ++ behind ≡ f ++ y ∷ b = cc in
-    let r = around front behind e f y b rest in
+    let rest : front ++ following ≡ f ++ y ∷ b = cc in
+    let r = around front following e f y b rest in
     record {
       left = x ∷ r.left;
       right = r.right;
-      all = ap (λ v. v ∷ (front ++ e ∷ behind)) first ∙ ap (λ xs. x ∷ xs) r.all;
+      all = ap (λ v. v ∷ (front ++ e ∷ following)) first ∙ ap (λ xs. x ∷ xs) r.all;
       without = goes_later x (f ++ b) e (r.left ++ r.right) r.without;
     }
 
-none_in : (front behind : List Entry) → [] ≡ front ++ behind → (front ≡ []) × (behind ≡ [])
-none_in [] behind h = (refl, sym h)
-none_in (x ∷ front) behind h = cc
+none_in : (front following : List Entry) → [] ≡ front ++ following → (front ≡ []) × (following ≡ [])
+none_in [] following h = (refl, sym h)
+none_in (x ∷ front) following h = cc
 
 last_in : (hs : List (List ℕ × List ℕ)) (es : List Entry) (h : List ℕ × List ℕ) (e : Entry) (all : List Entry) → AreEntries hs es → e.key ≡ h.0 → IsValue h.0 h.1 e.text → GoesIn es e all → AreEntries (hs ++ h ∷ []) all
 last_in [] es h e all a key value g =
-    let none = none_in g.front g.behind (sym a ∙ g.before) in
-    let alone : all ≡ e ∷ [] = g.after ∙ (ap (λ xs. xs ++ e ∷ g.behind) none.0 ∙ ap (λ xs. e ∷ xs) none.1) in
+    let none = none_in g.front g.following (sym a ∙ g.before) in
+    let alone : all ≡ e ∷ [] = g.after ∙ (ap (λ xs. xs ++ e ∷ g.following) none.0 ∙ ap (λ xs. e ∷ xs) none.1) in
     ([], e, [], alone, key, value, refl)
 last_in (k ∷ hs) es h e all (f, y, b, whole, key_is, value_is, rest) key value g =
-    let r = around g.front g.behind e f y b (sym g.before ∙ whole) in
+    let r = around g.front g.following e f y b (sym g.before ∙ whole) in
     (r.left, y, r.right, g.after ∙ r.all, key_is, value_is, last_in hs (f ++ b) h e (r.left ++ r.right) rest key value r.without)
 
 -- one more header is one more entry

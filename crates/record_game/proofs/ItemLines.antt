@@ -17,7 +17,7 @@ use Rattle.csa_text.specs.declared.pair.Pair.{Pair}
 use Rattle.csa_text.specs.Codes.{sign, kind_code, cell_text, squares_text}
 use Rattle.csa_text.specs.Endings.{ending_name}
 use Rattle.csa_cutting.specs.Cut.{is_end, is_blank, without_last_blanks}
-use Rattle.csa_text.specs.Moment.{CalendarMoment, TimeOfDay, moment_text, date_text, behind_date}
+use Rattle.csa_text.specs.Moment.{CalendarMoment, TimeOfDay, moment_text, date_text, after_date}
 use Rattle.csa_text.specs.PairTexts.{pairs_text, pair_text, AllOnBoard}
 use Rattle.csa_text.specs.Saying.{version, name, even, rank, pieces, turn, walked, ending}
 use Rattle.csa_cutting.proofs.Blanks.{kept_last, blank_last}
@@ -75,9 +75,9 @@ colon = late 58 (omega arith)
 lines_joined : (xs ys : List ℕ) → IsOneLine xs → IsOneLine ys → IsOneLine (xs ++ ys)
 lines_joined xs ys = all_joined (λ b. (b ≢ 13) × (b ≢ 10)) xs ys
 
-behind_lines : (t : Option TimeOfDay) → IsOneLine (behind_date t)
-behind_lines None = tt
-behind_lines (Some t) = (
+after_lines : (t : Option TimeOfDay) → IsOneLine (after_date t)
+after_lines None = tt
+after_lines (Some t) = (
   late 32 (omega arith),
   (
     digit (t.hour / 10),
@@ -119,17 +119,17 @@ date_lines y m d = (
 )
 
 moment_lines : (m : CalendarMoment) → IsOneLine (moment_text m)
-moment_lines m = lines_joined (date_text m.year m.month m.day) (behind_date m.time) (date_lines m.year m.month m.day) (behind_lines m.time)
+moment_lines m = lines_joined (date_text m.year m.month m.day) (after_date m.time) (date_lines m.year m.month m.day) (after_lines m.time)
 
-behind_length : (t : Option TimeOfDay) → length (behind_date t) ≤ 9
-behind_length None = omega arith
-behind_length (Some t) = omega arith
+after_length : (t : Option TimeOfDay) → length (after_date t) ≤ 9
+after_length None = omega arith
+after_length (Some t) = omega arith
 
 moment_length : (m : CalendarMoment) → length (moment_text m) ≤ 19
 moment_length m =
-    let whole : length (moment_text m) ≡ length (date_text m.year m.month m.day) + length (behind_date m.time) = length-append (date_text m.year m.month m.day) (behind_date m.time) in
+    let whole : length (moment_text m) ≡ length (date_text m.year m.month m.day) + length (after_date m.time) = length-append (date_text m.year m.month m.day) (after_date m.time) in
     let date : length (date_text m.year m.month m.day) ≡ 10 = refl in
-    omega (arith, whole, date, behind_length m.time)
+    omega (arith, whole, date, after_length m.time)
 
 key_length : (key : List ℕ) → IsMomentKey key → length key ≤ 10
 key_length key (inl h) = rw h (omega arith)

@@ -14,7 +14,7 @@ use Rattle.shogi_rules.specs.Positions.{position_after}
 use Rattle.csa_text.specs.declared.ending.Ending.{Ending}
 use Rattle.csa_text.specs.declared.pair.Pair.{Pair}
 use Rattle.csa_text.specs.Saying.{Saying, version, name, header, even, rank, pieces, turn, walked, time, ending}
-use Rattle.record_game.specs.Course.{Course, awaits_time, awaits_behind, with_time, with_last_time}
+use Rattle.record_game.specs.Course.{Course, awaits_time, awaits_after_it, with_time, with_last_time}
 use Rattle.record_game.specs.Game.{Ended, Entry, move_of}
 use Rattle.record_game.specs.Items.{is_version, name_given, names, header_given, headers, is_even, rank_given, ranks, is_position, positions, is_body, body, AtMostOne}
 use Rattle.record_game.specs.Keeping.{Stage, laying, playing, Kept, HasKept, KeepsStage}
@@ -265,8 +265,8 @@ with_pieces before color pairs k l m is lays h =
     (λ number. subst (λ ns. AtMostOne (filter (λ n. n == number) ns)) (sym rs) (h.ranks_once number)) lays h
 
 -- from the side to move on
-behind_start : (before : List Saying) (s : Saying) (k : Kept) (c : Course) → IsOfBody s → IsNoPosition s → KeepsStage (before ++ s ∷ []) (playing c) → HasKept before k → HasKept (before ++ s ∷ []) (record k { begun = true; stage = playing c })
-behind_start before s k c of_body off stage h =
+after_start : (before : List Saying) (s : Saying) (k : Kept) (c : Course) → IsOfBody s → IsNoPosition s → KeepsStage (before ++ s ∷ []) (playing c) → HasKept before k → HasKept (before ++ s ∷ []) (record k { begun = true; stage = playing c })
+after_start before s k c of_body off stage h =
     let ps = kept_filter is_position before s off.positions in
     let es = kept_filter is_even before s off.evens in
     let rs = kept_choice rank_given before s off.ranks in
@@ -287,7 +287,7 @@ with_turn before color k l c is is_course h =
       refl,
       body_more before s of_body ∙ (ap (λ xs. xs ++ s ∷ []) now.1 ∙ ap (λ xs. xs ++ s ∷ []) (sym ps)),
     ) in
-    behind_start before s k c of_body (record { positions = refl; evens = refl; ranks = refl })
+    after_start before s k c of_body (record { positions = refl; evens = refl; ranks = refl })
     (subst (λ d. KeepsStage (before ++ s ∷ []) (playing d)) (sym is_course) begun) h
 
 -- one more item of what is played
@@ -301,7 +301,7 @@ played_more before s k c d is of_body off start items h =
     let more : body (before ++ s ∷ []) ≡ positions (before ++ s ∷ []) ++ turn c.start.side ∷ (move_items c.start.side d.moves ++ ending_items d.ending)
     = body_more before s of_body ∙ (ap (λ xs. xs ++ s ∷ []) now.3 ∙ (append_assoc (positions before) _ (s ∷ [])
     ∙ (ap (λ xs. positions before ++ turn c.start.side ∷ xs) (sym items) ∙ ap (λ xs. xs ++ turn c.start.side ∷ (move_items c.start.side d.moves ++ ending_items d.ending)) (sym ps)))) in
-    behind_start before s k d of_body off (
+    after_start before s k d of_body off (
       layout,
       same_laid (before ++ s ∷ []) before ps ∙ now.1,
       subst (λ p. p ≡ position_of layout p.side) (sym start) now.2,
@@ -324,7 +324,7 @@ with_ending before e k c is unended h =
     played_more before (ending e) k c (record c { ending = Some (record { ending = e; time = None }) }) is (record { version = refl; names = λ side. refl; headers = refl; body = refl }) (record { positions = refl; evens = refl; ranks = refl }) refl
     (ap (λ es. es ++ ending e ∷ []) (sym (ap (λ es. move_items c.start.side c.moves ++ es) none ∙ append-nil (move_items c.start.side c.moves)))) h
 
-time_items_by : (side : Color) (c : Course) (o : Option Ended) (n : ℕ) → c.ending ≡ o → awaits_behind c.moves o ≡ true
+time_items_by : (side : Color) (c : Course) (o : Option Ended) (n : ℕ) → c.ending ≡ o → awaits_after_it c.moves o ≡ true
     → move_items side (with_time c n).moves ++ ending_items (with_time c n).ending ≡ (move_items side c.moves ++ ending_items c.ending) ++ time n ∷ []
 time_items_by side c None n is can =
     rw is (append-nil (move_items side (with_last_time c.moves n)) ∙ (with_time_of_move side c.moves n can

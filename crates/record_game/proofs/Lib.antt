@@ -35,6 +35,6 @@ pub mod Values
 pub mod Within
 pub mod Next
 pub mod Following
-pub mod Told
+pub mod TellsOnce
 pub mod RefusedClosed
 pub mod Cuttings

@@ -28,7 +28,7 @@ use Rattle.record_game.specs.declared.fault.OrderFault.TheVariants.{VersionOutOf
 use Rattle.record_game.specs.declared.fault.Why.{Why}
 use Rattle.record_game.specs.declared.fault.Why.TheVariants.{Order, Start, Rule, OutOfMemory}
 use Rattle.record_game.specs.Answer.{IsAnswer}
-use Rattle.record_game.specs.Course.{Course, IsCourse, course_line, untimed, play_fault, PlayAnswers, PlayAnswersAfter, close_fault, awaits_time, time_fault, with_last_time, with_time, with_time_behind, with_ending}
+use Rattle.record_game.specs.Course.{Course, IsCourse, course_line, untimed, play_fault, PlayAnswers, PlayAnswersAfter, close_fault, awaits_time, time_fault, with_last_time, with_time, with_time_after, with_ending}
 use Rattle.record_game.specs.Fits.{Fits, IsHeaderLine}
 use Rattle.record_game.specs.Game.{Timed, Ended, Entry, move_of}
 use Rattle.record_game.specs.Items.{is_even, is_position, sides}
@@ -322,7 +322,7 @@ as_long_last [] n = refl
 as_long_last (t ∷ []) n = refl
 as_long_last (t ∷ u ∷ ts) n = let more = as_long_last (u ∷ ts) n in omega (arith, more)
 
-course_timed : (e : Option Ended) (c : Course) (n : ℕ) → n ≤ 4294967295999 → IsCourse c → IsCourse (with_time_behind e c n)
+course_timed : (e : Option Ended) (c : Course) (n : ℕ) → n ≤ 4294967295999 → IsCourse c → IsCourse (with_time_after e c n)
 course_timed None c n small h = record {
   sound = h.sound;
   line = rw (moves_last c.moves n) h.line;

@@ -10,7 +10,7 @@ use Rattle.shogi_rules.specs.declared.moves.Move.{Move}
 use Rattle.shogi_rules.specs.After.{after}
 use Rattle.shogi_rules.specs.Positions.{position_after}
 use Rattle.csa_text.specs.Saying.{Saying, version, name, header, even, rank, pieces, turn, walked, time, ending}
-use Rattle.record_game.specs.Course.{awaits, awaits_behind, with_last_time}
+use Rattle.record_game.specs.Course.{awaits, awaits_after_it, with_last_time}
 use Rattle.record_game.specs.Game.{Timed, Ended, move_of}
 use Rattle.record_game.specs.Items.{positions, side_given, sides, move_given, moves, is_ending, body}
 use Rattle.record_game.specs.Order.{stands, endings, may_have_time, awaits_time}
@@ -159,7 +159,7 @@ awaits_ended s ss e = awaits_after (s ∷ ss) (ending e.ending) (time_items e.ti
     timed k None = refl
     timed k (Some n) = refl
 
-awaits_played : (c : Color) (ts : List Timed) (e : Option Ended) → awaits_time (turn c ∷ (move_items c ts ++ ending_items e)) ≡ awaits_behind ts e
+awaits_played : (c : Color) (ts : List Timed) (e : Option Ended) → awaits_time (turn c ∷ (move_items c ts ++ ending_items e)) ≡ awaits_after_it ts e
 awaits_played c [] None = refl
 awaits_played c (t ∷ ts) None = ap (λ ss. awaits_time (turn c ∷ ss)) (append-nil (move_items c (t ∷ ts))) ∙ awaits_moves (turn c) c t ts
 awaits_played c ts (Some e) = awaits_ended (turn c) (move_items c ts) e
@@ -184,7 +184,7 @@ pub record IsPlaying (ss : List Saying) (side : Color) (ts : List Timed) (e : Op
   pub sides : sides ss ≡ side ∷ []
   pub moves : moves ss ≡ map move_of ts
   pub endings : stands (endings ss) ≡ is_some e
-  pub awaits : awaits_time (body ss) ≡ awaits_behind ts e
+  pub awaits : awaits_time (body ss) ≡ awaits_after_it ts e
 
 pub playing_body : (ss : List Saying) (side : Color) (ts : List Timed) (e : Option Ended) → body ss ≡ positions ss ++ turn side ∷ (move_items side ts ++ ending_items e) → IsPlaying ss side ts e
 playing_body ss side ts e h =

@@ -13,7 +13,7 @@ use Rattle.record_game.proofs.SaysOnce.{says_once}
 record InFront {X : Type 0} (f b f2 : List X) (e : X) (b2 : List X) : Type 0 where
   middle : List X
   front_is : f ≡ f2 ++ e ∷ middle
-  behind_is : b2 ≡ middle ++ b
+  following_is : b2 ≡ middle ++ b
 
 record InBack {X : Type 0} (f b f2 : List X) (e : X) (b2 : List X) : Type 0 where
   middle : List X
@@ -33,7 +33,7 @@ split (x ∷ f) b [] e b2 h =
     inl (record {
       middle = f;
       front_is = ap (λ y. y ∷ f) (head_is x e (f ++ b) b2 h);
-      behind_is = sym (tail_is x e (f ++ b) b2 h);
+      following_is = sym (tail_is x e (f ++ b) b2 h);
     })
 split (x ∷ f) b (y ∷ f2) e b2 h =
     let same = head_is x y (f ++ b) (f2 ++ e ∷ b2) h in
@@ -41,7 +41,7 @@ split (x ∷ f) b (y ∷ f2) e b2 h =
       | inl s ↦ inl (record {
         middle = s.middle;
         front_is = ap (λ z. z ∷ f) same ∙ ap (λ zs. y ∷ zs) s.front_is;
-        behind_is = s.behind_is;
+        following_is = s.following_is;
       })
       | inr s ↦ inr (record {
         middle = s.middle;
@@ -52,48 +52,48 @@ split (x ∷ f) b (y ∷ f2) e b2 h =
 
 -- ---- one header more, wherever it is among them
 
-more_entries : (hs front behind : List (List ℕ × List ℕ)) (h : List ℕ × List ℕ) (f : List Entry) (e : Entry) (b : List Entry)
-    → hs ≡ front ++ behind → AreEntries hs (f ++ b) → e.key ≡ h.0 → IsValue h.0 h.1 e.text → AreEntries (front ++ h ∷ behind) (f ++ e ∷ b)
-more_entries hs [] behind h f e b is all key value = (f, e, b, refl, key, value, subst (λ xs. AreEntries xs (f ++ b)) is all)
-more_entries [] (k ∷ front) behind h f e b is all key value = cc
-more_entries (j ∷ hs) (k ∷ front) behind h f e b is (f2, x, b2, whole, key_is, value_is, rest) key value =
-    let same : j ≡ k = head_is j k hs (front ++ behind) is in
-    let others : hs ≡ front ++ behind = tail_is j k hs (front ++ behind) is in
+more_entries : (hs front following : List (List ℕ × List ℕ)) (h : List ℕ × List ℕ) (f : List Entry) (e : Entry) (b : List Entry)
+    → hs ≡ front ++ following → AreEntries hs (f ++ b) → e.key ≡ h.0 → IsValue h.0 h.1 e.text → AreEntries (front ++ h ∷ following) (f ++ e ∷ b)
+more_entries hs [] following h f e b is all key value = (f, e, b, refl, key, value, subst (λ xs. AreEntries xs (f ++ b)) is all)
+more_entries [] (k ∷ front) following h f e b is all key value = cc
+more_entries (j ∷ hs) (k ∷ front) following h f e b is (f2, x, b2, whole, key_is, value_is, rest) key value =
+    let same : j ≡ k = head_is j k hs (front ++ following) is in
+    let others : hs ≡ front ++ following = tail_is j k hs (front ++ following) is in
     let key_k : x.key ≡ k.0 = key_is ∙ ap (λ (z : List ℕ × List ℕ). z.0) same in
     let value_k : IsValue k.0 k.1 x.text = subst (λ (z : List ℕ × List ℕ). IsValue z.0 z.1 x.text) same value_is in
     elim (split f b f2 x b2 whole) [
       | inl s ↦
-          let there : f2 ++ b2 ≡ (f2 ++ s.middle) ++ b = ap (λ xs. f2 ++ xs) s.behind_is ∙ sym (append_assoc f2 s.middle b) in
-          let more : AreEntries (front ++ h ∷ behind) ((f2 ++ s.middle) ++ e ∷ b) =
-          more_entries hs front behind h (f2 ++ s.middle) e b others (subst (λ es. AreEntries hs es) there rest) key value in (
+          let there : f2 ++ b2 ≡ (f2 ++ s.middle) ++ b = ap (λ xs. f2 ++ xs) s.following_is ∙ sym (append_assoc f2 s.middle b) in
+          let more : AreEntries (front ++ h ∷ following) ((f2 ++ s.middle) ++ e ∷ b) =
+          more_entries hs front following h (f2 ++ s.middle) e b others (subst (λ es. AreEntries hs es) there rest) key value in (
             f2,
             x,
             s.middle ++ e ∷ b,
             ap (λ xs. xs ++ e ∷ b) s.front_is ∙ append_assoc f2 (x ∷ s.middle) (e ∷ b),
             key_k,
             value_k,
-            subst (λ es. AreEntries (front ++ h ∷ behind) es) (append_assoc f2 s.middle (e ∷ b)) more,
+            subst (λ es. AreEntries (front ++ h ∷ following) es) (append_assoc f2 s.middle (e ∷ b)) more,
           )
       | inr s ↦
           let there : f2 ++ b2 ≡ f ++ (s.middle ++ b2) = ap (λ xs. xs ++ b2) s.front_is ∙ append_assoc f s.middle b2 in
-          let more : AreEntries (front ++ h ∷ behind) (f ++ e ∷ (s.middle ++ b2)) =
-          more_entries hs front behind h f e (s.middle ++ b2) others (subst (λ es. AreEntries hs es) there rest) key value in (
+          let more : AreEntries (front ++ h ∷ following) (f ++ e ∷ (s.middle ++ b2)) =
+          more_entries hs front following h f e (s.middle ++ b2) others (subst (λ es. AreEntries hs es) there rest) key value in (
             f ++ e ∷ s.middle,
             x,
             b2,
             ap (λ xs. f ++ e ∷ xs) s.back_is ∙ sym (append_assoc f (e ∷ s.middle) (x ∷ b2)),
             key_k,
             value_k,
-            subst (λ es. AreEntries (front ++ h ∷ behind) es) (sym (append_assoc f (e ∷ s.middle) b2)) more,
+            subst (λ es. AreEntries (front ++ h ∷ following) es) (sym (append_assoc f (e ∷ s.middle) b2)) more,
           )
     ]
 
 entries_moved : (hs ks : List (List ℕ × List ℕ)) (es : List Entry) → Reordered hs ks → AreEntries hs es → AreEntries ks es
 entries_moved [] ks es is all = subst (λ xs. AreEntries xs es) (sym is) all
-entries_moved (h ∷ hs) ks es (front, behind, is, others) (f, e, b, whole, key, value, rest) =
-    let more : AreEntries (front ++ h ∷ behind) (f ++ e ∷ b) =
-    more_entries (front ++ behind) front behind h f e b refl (entries_moved hs (front ++ behind) (f ++ b) others rest) key value in
-    subst (λ xs. AreEntries xs es) (sym is) (subst (λ ys. AreEntries (front ++ h ∷ behind) ys) (sym whole) more)
+entries_moved (h ∷ hs) ks es (front, following, is, others) (f, e, b, whole, key, value, rest) =
+    let more : AreEntries (front ++ h ∷ following) (f ++ e ∷ b) =
+    more_entries (front ++ following) front following h f e b refl (entries_moved hs (front ++ following) (f ++ b) others rest) key value in
+    subst (λ xs. AreEntries xs es) (sym is) (subst (λ ys. AreEntries (front ++ h ∷ following) ys) (sym whole) more)
 
 -- ---- what is read off the body
 

@@ -93,20 +93,20 @@ open_is end u h = (grind (arith, nat_tests), grind (arith, nat_tests))
 not_open : (source : List ℕ) (number offset : ℕ) (why : Why) → Refused (source ++ replicate 4097 65) number offset why → (at : RefusedAt source number offset why) → is_closed (length source) at.unit ≡ false → ⊥
 not_open source number offset why (inl too) at f =
     let shut = open_is (length source) at.unit f in
-    let grown = as_grown source 4096 at.front at.behind at.unit at.cut in
+    let grown = as_grown source 4096 at.front at.following at.unit at.cut in
     let long = grown.2 in
-    let lists : at.front ++ long.long ∷ long.rest ≡ too.front ++ too.unit ∷ too.behind = long.whole ∙ statements_once _ _ _ _ grown.1 too.cut in
-    let one : long.long ≡ too.unit = same_place at.front too.front long.rest too.behind long.long too.unit lists (omega (arith, at.number_is, too.number_is)) in
+    let lists : at.front ++ long.long ∷ long.rest ≡ too.front ++ too.unit ∷ too.following = long.whole ∙ statements_once _ _ _ _ grown.1 too.cut in
+    let one : long.long ≡ too.unit = same_place at.front too.front long.rest too.following long.long too.unit lists (omega (arith, at.number_is, too.number_is)) in
     let place : too.unit.offset ≡ at.unit.offset = sym too.place ∙ at.place in
     let bytes : length at.unit.bytes ≤ length too.unit.bytes = subst (λ (u : TextUnit). length at.unit.bytes ≤ length u.bytes) one long.size in
     let past : length source ≤ too.unit.offset + length too.unit.bytes = omega (arith, shut.0, place, bytes) in
-    let all = open_as source 4096 too.front too.behind too.unit too.cut past in
-    let begins = cut_begins source at.front at.behind at.unit at.cut in
+    let all = open_as source 4096 too.front too.following too.unit too.cut past in
+    let begins = cut_begins source at.front at.following at.unit at.cut in
     let many : 4096 < length too.unit.bytes = omega (arith, all, begins, place) in
     let short = long_only at.sayings at.unit why (long_why too.sayings too.unit why many too.fault) at.fault in
     omega (arith, short, shut.1)
 not_open source number offset why (inr end) at f =
-    let begins = cut_begins source at.front at.behind at.unit at.cut in
+    let begins = cut_begins source at.front at.following at.unit at.cut in
     let place : at.unit.offset ≡ length (source ++ replicate 4097 65) = sym at.place ∙ end.place in
     omega (arith, begins, place, length-append source (replicate 4097 65), length-replicate {A = ℕ} 4097 65)
 
@@ -114,7 +114,7 @@ not_open source number offset why (inr end) at f =
 not_end : (source : List ℕ) (number offset : ℕ) (why : Why) → Refused (source ++ replicate 4097 65) number offset why → RefusedAtEnd source number offset why → ⊥
 not_end source number offset why (inl too) end =
     let place : too.unit.offset ≡ length source = sym too.place ∙ end.place in
-    let all = open_as source 4096 too.front too.behind too.unit too.cut (omega (arith, place)) in
+    let all = open_as source 4096 too.front too.following too.unit too.cut (omega (arith, place)) in
     let many : 4096 < length too.unit.bytes = omega (arith, all, place) in
     let clash : Text StatementTooLong ≡ Order MissingTurn = sym (long_why too.sayings too.unit why many too.fault) ∙ end.why_is in
     cc
@@ -131,13 +131,13 @@ refused_when_closed source number offset why always =
         | inl t ↦ record {
           front = at.front;
           unit = at.unit;
-          behind = filter (is_closed (length source)) at.behind;
+          following = filter (is_closed (length source)) at.following;
           sayings = at.sayings;
           closed =
-              let front = fronts_closed source at.front at.behind at.unit at.cut in (
-                at.front ++ at.unit ∷ at.behind,
+              let front = fronts_closed source at.front at.following at.unit at.cut in (
+                at.front ++ at.unit ∷ at.following,
                 at.cut,
-                sym (filter_joined (is_closed (length source)) at.front (at.unit ∷ at.behind) ∙ rw (front, t) refl),
+                sym (filter_joined (is_closed (length source)) at.front (at.unit ∷ at.following) ∙ rw (front, t) refl),
               );
           faultless = at.faultless;
           fault = at.fault;

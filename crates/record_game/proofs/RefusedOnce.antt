@@ -58,11 +58,11 @@ in_order_once before (even pairs) a b p q = p ∙ sym q
 in_order_once before (rank number cells) a b p q = p ∙ sym q
 in_order_once before (pieces color pairs) a b p q = p ∙ sym q
 in_order_once before (turn color) a b p q = finishes_once (laid_out before) color a b p q
-in_order_once before (walked color m) a b (k, of_k, f, played, judged) (l, of_l, g, other, told) =
+in_order_once before (walked color m) a b (k, of_k, f, played, judged) (l, of_l, g, other, stated) =
     let lines = line_once before k l of_k of_l in
     let moved : plays.Answers k color m g = rw lines other in
     let same = one-answer k color m f g played moved in
-    judged_once f a b judged (rw same told)
+    judged_once f a b judged (rw same stated)
 in_order_once before (time t) a b p q = p ∙ sym q
 in_order_once before (ending e) a b p q = p ∙ sym q
 
@@ -121,17 +121,17 @@ fault_once before u a b p q =
     ]
 
 -- statements without a fault have none at any place
-never : (before : List Saying) (front : List TextUnit) (u : TextUnit) (behind : List TextUnit) (ss all : List Saying) (why : Why) → Faultless before (front ++ u ∷ behind) all → Faultless before front ss → Fault (before ++ ss) u why → ⊥
-never before [] u behind [] [] why whole f fault = absurd whole
-never before [] u behind [] (s ∷ all) why whole f fault =
+never : (before : List Saying) (front : List TextUnit) (u : TextUnit) (following : List TextUnit) (ss all : List Saying) (why : Why) → Faultless before (front ++ u ∷ following) all → Faultless before front ss → Fault (before ++ ss) u why → ⊥
+never before [] u following [] [] why whole f fault = absurd whole
+never before [] u following [] (s ∷ all) why whole f fault =
     fault_or_fine before u why s (subst (λ b. Fault b u why) (append-nil before) fault) whole.0 whole.1
-never before [] u behind (t ∷ ts) all why whole f fault = absurd f
-never before (v ∷ vs) u behind [] all why whole f fault = absurd f
-never before (v ∷ vs) u behind (t ∷ ts) [] why whole f fault = absurd whole
-never before (v ∷ vs) u behind (t ∷ ts) (s ∷ all) why whole f fault =
+never before [] u following (t ∷ ts) all why whole f fault = absurd f
+never before (v ∷ vs) u following [] all why whole f fault = absurd f
+never before (v ∷ vs) u following (t ∷ ts) [] why whole f fault = absurd whole
+never before (v ∷ vs) u following (t ∷ ts) (s ∷ all) why whole f fault =
     let same : s ≡ t = same_saying (statement_bytes v.bytes) s t whole.0.1 f.0.1 in
-    let rest : Faultless (before ++ t ∷ []) (vs ++ u ∷ behind) all = subst (λ x. Faultless (before ++ x ∷ []) (vs ++ u ∷ behind) all) same whole.2 in
-    never (before ++ t ∷ []) vs u behind ts all why rest f.2 (subst (λ b. Fault b u why) (sym (append_assoc before (t ∷ []) ts)) fault)
+    let rest : Faultless (before ++ t ∷ []) (vs ++ u ∷ following) all = subst (λ x. Faultless (before ++ x ∷ []) (vs ++ u ∷ following) all) same whole.2 in
+    never (before ++ t ∷ []) vs u following ts all why rest f.2 (subst (λ b. Fault b u why) (sym (append_assoc before (t ∷ []) ts)) fault)
 
 -- the first fault is unique
 record SameFault (a b : List TextUnit) (u v : TextUnit) (w x : Why) : Type 0 where
@@ -173,16 +173,16 @@ first_fault_once before (m ∷ ms) (n ∷ ns) u v c d (s ∷ ss) (t ∷ ts) w x 
 -- a record that is refused at a statement cannot be cut without a fault
 refused_at_whole : (source : List ℕ) (n o : ℕ) (why : Why) (statements : List TextUnit) (sayings : List Saying) → RefusedAt source n o why → IsCut source statements → Faultless [] statements sayings → ⊥
 refused_at_whole source n o why statements sayings r cut whole =
-    let same : statements ≡ r.front ++ r.unit ∷ r.behind = statements_once _ _ statements _ cut r.cut in
-    never [] r.front r.unit r.behind r.sayings sayings why (rw same at whole) r.faultless r.fault
+    let same : statements ≡ r.front ++ r.unit ∷ r.following = statements_once _ _ statements _ cut r.cut in
+    never [] r.front r.unit r.following r.sayings sayings why (rw same at whole) r.faultless r.fault
 
 pub refused_once : (source : List ℕ) (n o m p : ℕ) (v w : Why) → Refused source n o v → Refused source m p w → (m ≡ n) × (p ≡ o) × (w ≡ v)
 refused_once source n o m p v w r s =
     elim r [
       | inl at ↦ elim s [
         | inl too ↦
-            let cuts : at.front ++ at.unit ∷ at.behind ≡ too.front ++ too.unit ∷ too.behind = statements_once _ _ _ _ at.cut too.cut in
-            let same = first_fault_once [] at.front too.front at.unit too.unit at.behind too.behind at.sayings too.sayings v w cuts at.faultless too.faultless at.fault too.fault in
+            let cuts : at.front ++ at.unit ∷ at.following ≡ too.front ++ too.unit ∷ too.following = statements_once _ _ _ _ at.cut too.cut in
+            let same = first_fault_once [] at.front too.front at.unit too.unit at.following too.following at.sayings too.sayings v w cuts at.faultless too.faultless at.fault too.fault in
             (omega (arith, same.count, at.number_is, too.number_is), too.place ∙ ap (λ (u : TextUnit). u.offset) (sym same.unit) ∙ sym at.place, sym same.why)
         | inr end ↦ absurd (refused_at_whole source n o v end.statements end.sayings at end.cut end.faultless)
       ]

@@ -144,16 +144,16 @@ rising_tail : (e : Entry) (es : List Entry) → Rising (e ∷ es) → Rising es
 rising_tail e [] h = tt
 rising_tail e (f ∷ es) h = h.1
 
-pub before_later : (x : Entry) (front : List Entry) (e : Entry) (behind : List Entry) → Rising (x ∷ (front ++ e ∷ behind)) → is_below x.key e.key ≡ true
-before_later x [] e behind h = h.0
-before_later x (y ∷ front) e behind h = below_through x.key y.key e.key h.0 (before_later y front e behind h.1)
+pub before_later : (x : Entry) (front : List Entry) (e : Entry) (following : List Entry) → Rising (x ∷ (front ++ e ∷ following)) → is_below x.key e.key ≡ true
+before_later x [] e following h = h.0
+before_later x (y ∷ front) e following h = below_through x.key y.key e.key h.0 (before_later y front e following h.1)
 
 -- without one entry it still rises
-pub rising_without : (front : List Entry) (e : Entry) (behind : List Entry) → Rising (front ++ e ∷ behind) → Rising (front ++ behind)
-rising_without [] e behind h = rising_tail e behind h
+pub rising_without : (front : List Entry) (e : Entry) (following : List Entry) → Rising (front ++ e ∷ following) → Rising (front ++ following)
+rising_without [] e following h = rising_tail e following h
 rising_without (x ∷ []) e [] h = tt
-rising_without (x ∷ []) e (y ∷ behind) h = (below_through x.key e.key y.key h.0 h.1.0, h.1.1)
-rising_without (x ∷ y ∷ front) e behind h = (h.0, rising_without (y ∷ front) e behind h.1)
+rising_without (x ∷ []) e (y ∷ following) h = (below_through x.key e.key y.key h.0 h.1.0, h.1.1)
+rising_without (x ∷ y ∷ front) e following h = (h.0, rising_without (y ∷ front) e following h.1)
 
 entry_place : (f1 b1 f2 b2 : List Entry) (e : Entry) → f1 ++ b1 ≡ f2 ++ b2 → Rising (f1 ++ e ∷ b1) → Rising (f2 ++ e ∷ b2) → f1 ++ e ∷ b1 ≡ f2 ++ e ∷ b2
 entry_place [] b1 [] b2 e same p q = ap (λ es. e ∷ es) same
@@ -302,9 +302,9 @@ one_side ss g says =
     ∙ (ap (λ cs. cs ++ (g.start.side ∷ sides (played_items g))) (sides_positions ss)
     ∙ ap (λ cs. g.start.side ∷ cs) (sides_moves g.start.side g.moves (ending_items g.ending) ∙ sides_ending g.ending))))
 
-same_behind : (xs ys zs : List Saying) → xs ++ ys ≡ xs ++ zs → ys ≡ zs
-same_behind [] ys zs h = h
-same_behind (x ∷ xs) ys zs h = let rest : xs ++ ys ≡ xs ++ zs = cc in same_behind xs ys zs rest
+same_after : (xs ys zs : List Saying) → xs ++ ys ≡ xs ++ zs → ys ≡ zs
+same_after [] ys zs h = h
+same_after (x ∷ xs) ys zs h = let rest : xs ++ ys ≡ xs ++ zs = cc in same_after xs ys zs rest
 
 abbrev game : Option (List ℕ) → Option (List ℕ) → List Entry → Placed → List Timed → Option Ended → Game
 game a b c d e f = record { black = a; white = b; headers = c; start = d; moves = e; ending = f }
@@ -319,7 +319,7 @@ pub says_once : (ss : List Saying) (g h : Game) → Says ss g → Says ss h → 
 says_once ss g h p q =
     let sides_same : g.start.side ∷ [] ≡ h.start.side ∷ [] = sym (one_side ss g p) ∙ one_side ss h q in
     let side : g.start.side ≡ h.start.side = cc in
-    let behind = same_behind (positions ss) (turn g.start.side ∷ played_items g) (turn h.start.side ∷ played_items h) (sym p.in_order ∙ q.in_order) in
+    let following = same_after (positions ss) (turn g.start.side ∷ played_items g) (turn h.start.side ∷ played_items h) (sym p.in_order ∙ q.in_order) in
     let played : played_items g ≡ played_items h = cc in
     let all : move_items g.start.side g.moves ++ ending_items g.ending ≡ move_items g.start.side h.moves ++ ending_items h.ending
     = played ∙ ap (λ c. move_items c h.moves ++ ending_items h.ending) (sym side) in

@@ -29,11 +29,11 @@ solid_numerals (d ∷ ds) h = (solid_numeral d h.0, solid_numerals ds h.1)
 
 -- the digits after the point
 record IsThousandths (r : ℕ) : Type 0 where
-  behind : List ℕ
-  text : fraction_text r ≡ 46 ∷ behind
-  fraction : IsFraction behind r
-  solid_all : AllByRecursion IsSolid behind
-  few : length behind ≤ 3
+  following : List ℕ
+  text : fraction_text r ≡ 46 ∷ following
+  fraction : IsFraction following r
+  solid_all : AllByRecursion IsSolid following
+  few : length following ≤ 3
 
 one_number : (n : ℕ) → n < 10 → IsNumber 1 3 ((48 + n) ∷ []) n
 one_number n small = let d = digit_of n small in record { few = omega arith; many = omega arith; digits_only = (omega arith, tt); value_is = omega arith }
@@ -55,7 +55,7 @@ thousandths r some few =
       | inl tens ↦
           let round : r % 100 ≡ 0 = eqb-true (r % 100) 0 tens in
           record {
-            behind = (48 + r / 100) ∷ [];
+            following = (48 + r / 100) ∷ [];
             text = rw (zero_no, tens) refl;
             fraction = (r / 100, one_number (r / 100) (omega arith), omega (arith, round));
             solid_all = (solid_digit (r / 100), tt);
@@ -65,14 +65,14 @@ thousandths r some few =
         | inl ones ↦
             let round : r % 10 ≡ 0 = eqb-true (r % 10) 0 ones in
             record {
-              behind = two_digits (r / 10);
+              following = two_digits (r / 10);
               text = rw (zero_no, broken, ones) refl;
               fraction = (r / 10, wider (two_digits (r / 10)) (r / 10) (two_number 1 (r / 10) (omega arith) (omega arith)), omega (arith, round));
               solid_all = (solid_digit (r / 10 / 10), (solid_digit (r / 10 % 10), tt));
               few = omega arith;
             }
         | inr more ↦ record {
-          behind = (48 + r / 100) ∷ two_digits (r % 100);
+          following = (48 + r / 100) ∷ two_digits (r % 100);
           text = rw (zero_no, broken, more) refl;
           fraction = (r, three_number r few, omega arith);
           solid_all = (solid_digit (r / 100), (solid_digit (r % 100 / 10), (solid_digit (r % 100 % 10), tt)));
@@ -112,11 +112,11 @@ clock t s r cut rest small =
           }
       | inr some ↦
           let part = thousandths r (above r some) (omega (arith, rest)) in
-          let is : time_text t ≡ decimal s ++ 46 ∷ part.behind = parts (fraction_text r) refl ∙ ap (λ ds. decimal s ++ ds) part.text in
+          let is : time_text t ≡ decimal s ++ 46 ∷ part.following = parts (fraction_text r) refl ∙ ap (λ ds. decimal s ++ ds) part.text in
           record {
             spelt = rw is (inr (record {
               digits = decimal s;
-              behind = part.behind;
+              following = part.following;
               seconds = s;
               fraction = r;
               whole = refl;
@@ -124,8 +124,8 @@ clock t s r cut rest small =
               fraction_is = part.fraction;
               value_is = omega (arith, cut, rest);
             }));
-            solid_all = rw is (all_joined IsSolid (decimal s) (46 ∷ part.behind) solid_digits (solid 46 (omega arith), part.solid_all));
-            few = rw is (omega (arith, few_digits, part.few, length-append (decimal s) (46 ∷ part.behind)));
+            solid_all = rw is (all_joined IsSolid (decimal s) (46 ∷ part.following) solid_digits (solid 46 (omega arith), part.solid_all));
+            few = rw is (omega (arith, few_digits, part.few, length-append (decimal s) (46 ∷ part.following)));
           }
     ]
   where

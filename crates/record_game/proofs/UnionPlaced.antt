@@ -128,12 +128,12 @@ mid_held : (done : List Placing) (p : Placing) (ps : List Placing) → AllByRecu
 mid_held [] p ps h = h.0
 mid_held (q ∷ done) p ps h = mid_held done p ps h.1
 
-nothing_behind : (done : List Placing) (c : Color) (ps : List Placing) → filter_map rest_given done ≡ [] → RestIsLast (done ++ rest c ∷ ps) → ps ≡ []
-nothing_behind [] c ps none h = h
-nothing_behind (on n p ∷ done) c ps none h = nothing_behind done c ps none h
-nothing_behind (off n k ∷ done) c ps none h = nothing_behind done c ps none h
-nothing_behind (in_hand d k ∷ done) c ps none h = nothing_behind done c ps none h
-nothing_behind (rest d ∷ done) c ps none h = cc
+nothing_after : (done : List Placing) (c : Color) (ps : List Placing) → filter_map rest_given done ≡ [] → RestIsLast (done ++ rest c ∷ ps) → ps ≡ []
+nothing_after [] c ps none h = h
+nothing_after (on n p ∷ done) c ps none h = nothing_after done c ps none h
+nothing_after (off n k ∷ done) c ps none h = nothing_after done c ps none h
+nothing_after (in_hand d k ∷ done) c ps none h = nothing_after done c ps none h
+nothing_after (rest d ∷ done) c ps none h = cc
 
 -- totals grow
 abbrev total_of : Layout → Kind → ℕ
@@ -256,7 +256,7 @@ union_placed first done (in_hand c k ∷ ps) s u a none turn b within =
       grows = λ h. less_hand s u c k black white held grows;
     }
 union_placed first done (rest c ∷ ps) s u a none turn b within =
-    let end : ps ≡ [] = nothing_behind done c ps none b.rest_last in
+    let end : ps ≡ [] = nothing_after done c ps none b.rest_last in
     let whole : IsUnion first (done ++ rest c ∷ []) u = subst (λ qs. IsUnion first (done ++ rest c ∷ qs) u) end b in
     let same : s ≡ u = union_once first (done ++ rest c ∷ []) s u (step_rest first done s c a none) whole in
     let fine : placing_fault s (rest c) ≡ None = rw a.no_rest refl in

@@ -5,7 +5,7 @@ use Rattle.csa_cutting.specs.Cut.{TextUnit, IsUnit, Units, Statements, is_statem
 
 -- the bytes of a unit, whatever follows it
 abbrev pub IsSomeUnit : TextUnit → Type 0
-IsSomeUnit u = (behind : List ℕ) × IsUnit u.bytes behind
+IsSomeUnit u = (following : List ℕ) × IsUnit u.bytes following
 
 pub units_are : (offset : ℕ) (text : List ℕ) (us : List TextUnit) → Units offset text us → AllByRecursion IsSomeUnit us
 units_are offset text [] h = tt

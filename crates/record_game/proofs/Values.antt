@@ -9,7 +9,7 @@ use Rattle.jiff_core.specs.Calendar.{IsCivilDate, days_in_month}
 use Rattle.csa_text.specs.Fields.{IsNumber}
 use Rattle.csa_text.specs.Moment.{CalendarMoment, TimeOfDay, AreNumbers, SpellsDate, SpellsTime, SpellsDateAnd, SpellsMoment}
 use Rattle.csa_text.proofs.Decided.{Decided, same_or_not, split_or_not}
-use Rattle.csa_text.proofs.Moments.{below_power, no_split, slash, colon, first_number, three_parts, date_once, time_once, no_date_alone, no_date_before, no_time_behind}
+use Rattle.csa_text.proofs.Moments.{below_power, no_split, slash, colon, first_number, three_parts, date_once, time_once, no_date_alone, no_date_before, no_time_after}
 use Rattle.record_game.specs.Fits.{IsHeaderLine}
 use Rattle.record_game.specs.Game.{HeaderText, moment, plain}
 use Rattle.record_game.specs.Limits.{IsMomentKey, IsInDay, IsPlain, IsEntry}
@@ -158,7 +158,7 @@ moment_or_not text =
       | inl s ↦ elim (date_or_not s.0) [
         | inr never ↦ inr (λ m p. no_date_before text s.0 s.1 m.time m.year m.month m.day s.2 never p)
         | inl d ↦ elim (time_or_not s.1) [
-          | inr never ↦ inr (λ m p. no_time_behind text s.0 s.1 m.time m.year m.month m.day s.2 never p)
+          | inr never ↦ inr (λ m p. no_time_after text s.0 s.1 m.time m.year m.month m.day s.2 never p)
           | inl t ↦ inl (
             record { year = d.year; month = d.month; day = d.day; time = Some (record { hour = t.hour; minute = t.minute; second = t.second }) },
             (s.0, s.1, s.2.0, d.spells, t.spells),

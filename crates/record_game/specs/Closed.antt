@@ -10,9 +10,9 @@ use Rattle.record_game.specs.Refused.{Fault, Faultless}
 pub record ClosedAt (source : List ℕ) (number offset : ℕ) (why : Why) : Type 0 where
   pub front : List TextUnit
   pub unit : TextUnit
-  pub behind : List TextUnit
+  pub following : List TextUnit
   pub sayings : List Saying
-  pub closed : Closed source (front ++ unit ∷ behind)
+  pub closed : Closed source (front ++ unit ∷ following)
   pub faultless : Faultless [] front sayings
   pub fault : Fault sayings unit why
   pub number_is : number ≡ length front + 1

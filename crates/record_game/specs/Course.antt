@@ -58,13 +58,13 @@ awaits [] = false
 awaits (t ∷ []) = not (is_some t.time)
 awaits (t ∷ u ∷ ts) = awaits (u ∷ ts)
 
-abbrev pub awaits_behind : List Timed → Option Ended → Bool
-awaits_behind moves None = awaits moves
-awaits_behind moves (Some e) = not (is_some e.time)
+abbrev pub awaits_after_it : List Timed → Option Ended → Bool
+awaits_after_it moves None = awaits moves
+awaits_after_it moves (Some e) = not (is_some e.time)
 
 -- the ending, or else the last move, may be given a time
 abbrev pub awaits_time : Course → Bool
-awaits_time c = awaits_behind c.moves c.ending
+awaits_time c = awaits_after_it c.moves c.ending
 
 abbrev pub time_fault : Course → Option Why
 time_fault c = if awaits_time c then None else Some (Order LooseTime)
@@ -75,14 +75,14 @@ with_last_time [] time = []
 with_last_time (t ∷ []) time = record { move = t.move; time = Some time } ∷ []
 with_last_time (t ∷ u ∷ ts) time = t ∷ with_last_time (u ∷ ts) time
 
-abbrev pub with_time_behind : Option Ended → Course → ℕ → Course
-with_time_behind None c time = record c { moves = with_last_time c.moves time }
-with_time_behind (Some e) c time =
+abbrev pub with_time_after : Option Ended → Course → ℕ → Course
+with_time_after None c time = record c { moves = with_last_time c.moves time }
+with_time_after (Some e) c time =
     record c { ending = Some (record { ending = e.ending; time = Some time }) }
 
 -- the course with this time for the ending, or else for the last move
 abbrev pub with_time : Course → ℕ → Course
-with_time c = with_time_behind c.ending c
+with_time c = with_time_after c.ending c
 
 -- the course with this ending, which has no time yet
 abbrev pub with_ending : Course → Ending → Course

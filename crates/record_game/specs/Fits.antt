@@ -9,8 +9,8 @@ use Rattle.record_game.specs.Limits.{IsOneLine, longest_time}
 -- bytes of a statement whose unit has at most 4,096 bytes
 pub record IsOfStatement (bytes : List ℕ) : Type 0 where
   pub unit : List ℕ
-  pub behind : List ℕ
-  pub is_unit : IsUnit unit behind
+  pub following : List ℕ
+  pub is_unit : IsUnit unit following
   pub short : length unit ≤ longest_statement
   pub whole : bytes ≡ statement_bytes unit
 

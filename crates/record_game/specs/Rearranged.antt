@@ -8,8 +8,8 @@ use Rattle.record_game.specs.Items.{is_version, names, headers, body}
 abbrev pub Reordered : List (List ℕ × List ℕ) → List (List ℕ × List ℕ) → Type 0
 Reordered [] others = others ≡ []
 Reordered (h ∷ hs) others =
-    (front : List (List ℕ × List ℕ)) × (behind : List (List ℕ × List ℕ))
-    × (others ≡ front ++ h ∷ behind) × Reordered hs (front ++ behind)
+    (front : List (List ℕ × List ℕ)) × (following : List (List ℕ × List ℕ))
+    × (others ≡ front ++ h ∷ following) × Reordered hs (front ++ following)
 
 -- the same body, the same names and the same headers, wherever the names and headers are and in
 -- whatever order the headers; a version and empty names and headers are in none of them

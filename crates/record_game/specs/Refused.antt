@@ -108,9 +108,9 @@ Faultless before (u ∷ us) (s ∷ ss) = IsSpelt u s × AnswersItem before s Non
 pub record RefusedAt (source : List ℕ) (number offset : ℕ) (why : Why) : Type 0 where
   pub front : List TextUnit
   pub unit : TextUnit
-  pub behind : List TextUnit
+  pub following : List TextUnit
   pub sayings : List Saying
-  pub cut : IsCut source (front ++ unit ∷ behind)
+  pub cut : IsCut source (front ++ unit ∷ following)
   pub faultless : Faultless [] front sayings
   pub fault : Fault sayings unit why
   pub number_is : number ≡ length front + 1
@@ -135,15 +135,15 @@ Refused source number offset why = RefusedAt source number offset why
 pub record FaultlessTo (source : List ℕ) (number offset : ℕ) : Type 0 where
   pub front : List TextUnit
   pub unit : TextUnit
-  pub behind : List TextUnit
+  pub following : List TextUnit
   pub sayings : List Saying
-  pub cut : IsCut source (front ++ unit ∷ behind)
+  pub cut : IsCut source (front ++ unit ∷ following)
   pub faultless : Faultless [] (front ++ unit ∷ []) sayings
   pub number_is : number ≡ length front + 1
   pub place : offset ≡ unit.offset
 
 -- the bytes contain this game and no other, and are not refused
-pub record ToldAlone (source : List ℕ) : Type 0 where
+pub record TellsAlone (source : List ℕ) : Type 0 where
   pub game : Game
   pub tells : Tells source game
   pub only : (other : Game) → Tells source other → other ≡ game
@@ -156,4 +156,4 @@ pub record RefusedAlone (source : List ℕ) : Type 0 where
   pub why : Why
   pub refused : Refused source number offset why
   pub only : (n o : ℕ) (w : Why) → Refused source n o w → (n ≡ number) × (o ≡ offset) × (w ≡ why)
-  pub not_told : (game : Game) → Tells source game → ⊥
+  pub tells_no_game : (game : Game) → Tells source game → ⊥

@@ -22,8 +22,9 @@ IsValue key text (plain other) = (other ≡ text)
 abbrev pub AreEntries : List (List ℕ × List ℕ) → List Entry → Type 0
 AreEntries [] entries = entries ≡ []
 AreEntries (h ∷ hs) entries =
-    (front : List Entry) × (e : Entry) × (behind : List Entry) × (entries ≡ front ++ e ∷ behind)
-    × (e.key ≡ h.0) × IsValue h.0 h.1 e.text × AreEntries hs (front ++ behind)
+    (front : List Entry) × (e : Entry) × (following : List Entry)
+    × (entries ≡ front ++ e ∷ following)
+    × (e.key ≡ h.0) × IsValue h.0 h.1 e.text × AreEntries hs (front ++ following)
 
 -- the items of the moves, each with its time, and of the ending
 abbrev pub time_items : Option ℕ → List Saying

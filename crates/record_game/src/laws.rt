@@ -11,7 +11,7 @@ ghost use Rattle.record_game.specs.LaidOut as starts;
 ghost use Rattle.record_game.specs.Pieces.{joined, ReadsPieces};
 ghost use Rattle.record_game.specs.Placings.{placings};
 ghost use Rattle.record_game.specs.Rearranged.{IsRearranged, IsVersionFirst};
-ghost use Rattle.record_game.specs.Refused.{Refused, ToldAlone, RefusedAlone};
+ghost use Rattle.record_game.specs.Refused.{Refused, TellsAlone, RefusedAlone};
 ghost use Rattle.record_game.specs.Tells.{Tells, IsSpelt};
 ghost use Rattle.record_game.specs.Union.{GiveStart, IsUnion, first_board, rest_given, with_rest_given};
 ghost use Rattle.csa_cutting.specs.Cut.{TextUnit, IsCut};
@@ -27,7 +27,7 @@ ghost use Rattle.record_game.specs.declared.fault.Why.{Why};
 
 /// All bytes contain exactly one game or are refused in exactly one way, and never both.
 pub fn told_once()
-    ensures once { (source : List ℕ) → ToldAlone source ⊎ RefusedAlone source }
+    ensures once { (source : List ℕ) → TellsAlone source ⊎ RefusedAlone source }
 {}
 
 /// The canonical text of a game contains that game.
@@ -49,21 +49,21 @@ pub fn one_game()
 /// order of the headers, then both records contain the same game and have the same canonical text.
 /// Comments are not items, so they may differ too.
 pub fn headers_anywhere()
-    ensures game { (source other : List ℕ) (g h : Game) (told : Tells source g)
+    ensures game { (source other : List ℕ) (g h : Game) (stated : Tells source g)
         (again : Tells other h)
-        → IsRearranged told.sayings again.sayings → g ≡ h }
-    ensures text { (source other : List ℕ) (g h : Game) (told : Tells source g)
+        → IsRearranged stated.sayings again.sayings → g ≡ h }
+    ensures text { (source other : List ℕ) (g h : Game) (stated : Tells source g)
         (again : Tells other h)
-        → IsRearranged told.sayings again.sayings → canon g ≡ canon h }
+        → IsRearranged stated.sayings again.sayings → canon g ≡ canon h }
 {}
 
 /// A record stays accepted, with the same game, if its names and headers are moved. The version is
 /// the first item if there is one.
 pub fn moved_headers()
-    ensures accepted { (source other : List ℕ) (g : Game) (told : Tells source g)
+    ensures accepted { (source other : List ℕ) (g : Game) (stated : Tells source g)
         (statements : List TextUnit) (sayings : List Saying)
         → IsCut other statements → AllZip IsSpelt statements sayings
-        → IsVersionFirst sayings → IsRearranged told.sayings sayings → Tells other g }
+        → IsVersionFirst sayings → IsRearranged stated.sayings sayings → Tells other g }
 {}
 
 /// Bytes are refused in at most one way: at one statement, at one offset, for one reason.

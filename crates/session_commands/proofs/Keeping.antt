@@ -6,7 +6,7 @@ use Rattle.record_game.specs.Canon.{canon}
 use Rattle.record_game.specs.Game.{Game}
 use Rattle.session_commands.specs.declared.fault.MatchFault.{MatchFault}
 use Rattle.session_commands.specs.Faults.{IsFileFault}
-use Rattle.shogi_session.specs.GameTold.{HasMoves, game_of}
+use Rattle.shogi_session.specs.GameSoFar.{HasMoves, game_of}
 use Rattle.shogi_session.specs.Promises.{IsGameText, game_text, no_game}
 use Rattle.shogi_session.specs.State.{State}
 use Rattle.session_commands.specs.Kept.{KeepsRecord, RefusesText, TakesText, no_game as keeps_no_game, not_taken, report_of, taken}

@@ -1,6 +1,8 @@
 pub mod Coming
 pub mod Holding
+pub mod Joining
 pub mod Keeping
+pub mod LoginWords
 pub mod Outcomes
 pub mod PlayedLogs
 pub mod Playing
@@ -8,4 +10,4 @@ pub mod Porting
 pub mod Replacing
 pub mod Serving
 pub mod Talks
-pub mod Wanting
+pub mod LackOfMemory

@@ -16,8 +16,8 @@ use Rattle.session_commands.specs.declared.bridging.Seat.{Seat}
 use Rattle.session_commands.specs.declared.bridging.Seat.TheVariants.{Engine, Server}
 use Rattle.session_commands.specs.Plays.{Delivers, no_lines, taken, lost, Gives, Misses, History, begun, goes_on, Round, Takes, end_of}
 use Rattle.session_commands.specs.PlayedLogs.{AllAnswerWell, AnswersWell, IsLogOf, PlaysLegally, handed, happened, happened_in, lost_of}
-use Rattle.session_commands.specs.WantedLogs.{Sent, SentLegally, nothing_sent, sent_before, sent_in, sent_with}
-use Rattle.session_commands.specs.Wanting.{PlayWants, SendWants, engine_gone, server_gone, lost_before, not_begun, first_unsent, no_next, later_unsent}
+use Rattle.session_commands.specs.LackOfMemoryLogs.{Sent, SentLegally, nothing_sent, sent_before, sent_in, sent_with}
+use Rattle.session_commands.specs.LackOfMemory.{PlayRunsOut, SendRunsOut, engine_gone, server_gone, lost_before, not_begun, first_unsent, no_next, later_unsent}
 
 -- ---- the laws of the table that are called
 
@@ -155,22 +155,22 @@ played_moves_are_legal silent legal once came went gone e s f t status played is
 
 unsent_legal : {E : Type 0} → EndsSilent → SentLegal → SentOnce → (went gone : Takes E) (event : Event) (to_engine to_server : List ℕ) (e : E) (s u : Session) (status : Status) (f : E) (t : Session)
     (c : Config) (before : Sent) → Logged c before.events before.bytes s → before.state ≡ s.state → Steps s event to_engine to_server status u
-    → (wants : SendWants went gone to_engine to_server e u status f t) → SentLegally c (sent_with before event to_server wants)
-unsent_legal silent legal once went gone event to_engine to_server e s u status f t c before l same step (engine_gone wants) =
+    → (lack : SendRunsOut went gone to_engine to_server e u status f t) → SentLegally c (sent_with before event to_server lack)
+unsent_legal silent legal once went gone event to_engine to_server e s u status f t c before l same step (engine_gone lack) =
     subst (λ state. PlaysLegally c before.events before.bytes state) (sym same) (legal_of legal once c before.events before.bytes s l)
-unsent_legal silent legal once went gone event to_engine to_server e s u status f t c before l same step (server_gone g v after delivered wants) =
+unsent_legal silent legal once went gone event to_engine to_server e s u status f t c before l same step (server_gone g v after delivered lack) =
     let stepped = step_logged c before.events before.bytes s event to_engine to_server status u l step in
     let sent = delivered_logged silent went gone Engine to_engine e u status g v after c (before.events ++ event ∷ []) (before.bytes ++ to_server) stepped delivered in
     legal_of legal once c (before.events ++ event ∷ lost_of Engine delivered) (before.bytes ++ to_server) v
     (subst (λ es. Logged c es (before.bytes ++ to_server) v) (append_assoc before.events (event ∷ []) (lost_of Engine delivered)) sent)
 
 pub sent_moves_are_legal : {E : Type 0} → EndsSilent → SentLegal → SentOnce → (came : Gives E) (missed : Misses E) (went gone : Takes E) (e : E) (s : Session) (f : E) (t : Session)
-    (wants : PlayWants came missed went gone e s f t) → s.state ≡ first_state → SentLegally s.config (sent_before s t wants)
+    (lack : PlayRunsOut came missed went gone e s f t) → s.state ≡ first_state → SentLegally s.config (sent_before s t lack)
 sent_moves_are_legal silent legal once came missed went gone e s f t (lost_before played) is = played_moves_are_legal silent legal once came went gone e s f t Lost played is
-sent_moves_are_legal silent legal once came missed went gone e s f t (not_begun same wants) is = legal_of legal once s.config [] [] s (no_log s is)
+sent_moves_are_legal silent legal once came missed went gone e s f t (not_begun same lack) is = legal_of legal once s.config [] [] s (no_log s is)
 sent_moves_are_legal silent legal once came missed went gone e s f t (first_unsent round) is =
     unsent_legal silent legal once went gone begin round.to_engine round.to_server e s round.session round.stepped f t s.config (nothing_sent s) (no_log s is) refl round.step round.unsent
-sent_moves_are_legal silent legal once came missed went gone e s f t (no_next g u played wants) is = played_moves_are_legal silent legal once came went gone e s g u Going played is
+sent_moves_are_legal silent legal once came missed went gone e s f t (no_next g u played lack) is = played_moves_are_legal silent legal once came went gone e s g u Going played is
 sent_moves_are_legal silent legal once came missed went gone e s f t (later_unsent g h u event played arrived round) is =
     unsent_legal silent legal once went gone event round.to_engine round.to_server h u round.session round.stepped f t s.config (sent_in u played)
     (played_logged silent came went gone e s g u Going is played) refl round.step round.unsent

@@ -3,7 +3,7 @@ use Rattle.std.proofs.Common.{◌≡◌, inl, inr, ◌⊎◌, ℕ, ◌+◌, ◌-
 use Rattle.std.proofs.Math.Seq.{take-length}
 use Rattle.std.specs.Borrow.{Bor}
 use Rattle.csa_cutting.specs.Lines.{Lines, HasNoLineEnd}
-use Rattle.std.specs.Prelude.{IfOk, IfErr}
+use Rattle.std.specs.Prelude.{IfOk, IfErr, IsTrue, ◌↔◌}
 use Rattle.csa_cutting.specs.declared.line.LineFault.{LineFault}
 use Rattle.csa_cutting.specs.declared.line.LineFault.TheVariants as faulty
 use Rattle.record_commands.specs.declared.fault.ReadFault.{ReadFault}
@@ -347,3 +347,10 @@ pub piece_goes_on : {W M : Type 0} (came : Passes W) (ends : Calls W) (went : Pa
     → TalkGoesOn came ends went answers old piece u m new [] v n
 piece_goes_on came ends went silent blocked answers old new piece ended u v m n is next =
     subst (λ b. TakesPiece came ends went silent blocked answers old piece u m (Ok b) new v n) is next
+
+-- what the clauses of an answer say together
+pub answered_so : {T E : Type 0} (r : Result T E) (text : T → List ℕ) (over : T → Bool) (Row : List (List ℕ) → Type 0) (text_of : List (List ℕ) → List ℕ) (Over : Type 0)
+    → IfOk r (λ out. (lines : List (List ℕ)) × Row lines) → IfOk r (λ out. (lines : List (List ℕ)) → Row lines → text out ≡ text_of lines) → IfOk r (λ out. IsTrue (over out) ↔ Over)
+    → IfOk r (λ out. ((lines : List (List ℕ)) × Row lines × (text out ≡ text_of lines)) × (IsTrue (over out) ↔ Over))
+answered_so (Ok out) text over Row text_of Over row lines ended = ((row.0, row.1, lines row.0 row.1), ended)
+answered_so (Err e) text over Row text_of Over row lines ended = tt

@@ -4,7 +4,7 @@ use Rattle.std.specs.Io.KnownBytes.{Appends}
 use Rattle.shogi_session.specs.Hosting.{HostSession}
 use Rattle.shogi_words.specs.declared.serve.Service.{Service}
 use Rattle.session_commands.specs.Faults.{IsReadFault}
-use Rattle.session_commands.specs.Offered.{HasServed}
+use Rattle.session_commands.specs.Offering.{HasServed}
 use Rattle.session_commands.specs.Ports.{port_line}
 use Rattle.session_commands.specs.Talks.{Calls, MachineRow, Passes}
 use Rattle.session_commands.specs.declared.fault.ServeFault.{ServeFault}

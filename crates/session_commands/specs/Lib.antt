@@ -5,7 +5,8 @@ pub mod Faults
 pub mod Holding
 pub mod Housing
 pub mod Kept
-pub mod Offered
+pub mod Logins
+pub mod Offering
 pub mod PlayedLogs
 pub mod Playing
 pub mod Plays
@@ -14,6 +15,6 @@ pub mod Showing
 pub mod SideLaws
 pub mod Talking
 pub mod Talks
-pub mod WantedLogs
-pub mod Wanting
+pub mod LackOfMemoryLogs
+pub mod LackOfMemory
 pub mod Words

@@ -1,14 +1,15 @@
 -- For private functions: what `play` does between two ends, and with the game that was played.
-use Rattle.std.specs.Prelude.{◌≡◌, ◌⊎◌, ⊤, ℕ, Bool, false, List, Option, Result, Ok, Err, codes, is_ok}
+use Rattle.std.specs.Prelude.{◌≡◌, ◌⊎◌, ⊤, ℕ, Bool, false, List, Option, Result, Ok, Err, is_ok}
 use Rattle.std.specs.Io.KnownBytes.{Appends}
 use Rattle.session_commands.specs.declared.fault.MatchFault.TheVariants.{OutOfMemory, Endless, Write, Session as SessionFailed}
 use Rattle.session_commands.specs.declared.fault.MatchFault.{MatchFault}
+use Rattle.session_commands.specs.declared.login.Login.{Login}
 use Rattle.session_commands.specs.Plays.{Gives, IsEndless, Misses, History, Takes, seat_for}
-use Rattle.session_commands.specs.Wanting.{PlayWants}
+use Rattle.session_commands.specs.LackOfMemory.{PlayRunsOut}
 use Rattle.bridge_table.specs.declared.event.Status.{Status}
 use Rattle.bridge_table.specs.declared.event.Status.TheVariants.{Done, Failed}
 use Rattle.bridge_table.specs.declared.fault.SessionFault.{SessionFault}
-use Rattle.shogi_session.specs.GameTold.{game_of}
+use Rattle.shogi_session.specs.GameSoFar.{game_of}
 use Rattle.shogi_session.specs.Events.{Event}
 use Rattle.shogi_session.specs.Promises.{Session, Steps}
 use Rattle.shogi_session.specs.State.{first_state, waits_for}
@@ -30,7 +31,7 @@ pub data CameOut {E : Type 0} (came : Gives E) (missed : Misses E) (went gone : 
       → CameOut came missed went gone e s f t (Ok over)
   failed : (why : SessionFault) → History came went gone e s f t (Failed why)
       → CameOut came missed went gone e s f t (Err (SessionFailed why))
-  wanting : PlayWants came missed went gone e s f t
+  out_of_memory : PlayRunsOut came missed went gone e s f t
       → CameOut came missed went gone e s f t (Err OutOfMemory)
   endless : IsEndless came went gone e s → CameOut came missed went gone e s f t (Err Endless)
 
@@ -44,13 +45,13 @@ pub record PlaysAndKeeps {E P : Type 0} (came : Gives E) (missed : Misses E)
   pub kept : KeepsRecord took refused (game_of t.state.client) outcome p q answer
   pub over : is_over ≡ is_ok outcome
 
--- a bridge to which nothing has happened, as `play` configures it
-pub record IsFirst (s : Session) : Type 0 where
+-- a bridge to which nothing has happened, as `play` configures it by its plan and its login
+pub record IsFirst (plan : Plan) (login : Login) (s : Session) : Type 0 where
   pub state : s.state ≡ first_state
-  pub name : s.config.name.bytes ≡ codes "bridge"
-  pub password : s.config.password.bytes ≡ codes "pw"
-  pub total : s.config.total_ms ≡ 600000
-  pub byoyomi : s.config.byoyomi_ms ≡ 10000
+  pub name : s.config.name.bytes ≡ login.name.bytes
+  pub password : s.config.password.bytes ≡ login.password.bytes
+  pub total : s.config.total_ms ≡ plan.total_ms
+  pub byoyomi : s.config.byoyomi_ms ≡ plan.byoyomi_ms
 
 -- a game in a house: it opened with these ends and running programs, a session was played between
 -- the ends, and it shut again, well or not; or it did not open, and its fault is reported
@@ -58,26 +59,28 @@ pub data PlaysIn {H E P R : Type 0} (opened : H → Plan → E → R → H → T
     (unopened : H → Plan → MatchFault → H → Type 0) (shut : H → E → R → Bool → H → Type 0)
     (came : Gives E) (missed : Misses E) (went gone : Takes E)
     (took : TakesText P) (refused : RefusesText P)
-    (plan : Plan) (h : H) (p : P) (k : H) (q : P) : Result ℕ MatchFault → Type 0 where
+    (plan : Plan) (login : Login) (h : H) (p : P) (k : H) (q : P)
+    : Result ℕ MatchFault → Type 0 where
   played_in : (between : H) (ends over : E) (running : R)
       (first last : Session) (is_well : Bool) (answer : Result ℕ MatchFault)
-      → opened h plan ends running between → IsFirst first
+      → opened h plan ends running between → IsFirst plan login first
       → PlaysAndKeeps came missed went gone took refused ends first p over last q is_well answer
       → shut between over running is_well k
-      → PlaysIn opened unopened shut came missed went gone took refused plan h p k q answer
+      → PlaysIn opened unopened shut came missed went gone took refused plan login h p k q answer
   not_opened : (fault : MatchFault) → unopened h plan fault k → q ≡ p
-      → PlaysIn opened unopened shut came missed went gone took refused plan h p k q (Err fault)
+      → PlaysIn opened unopened shut came missed went gone took refused plan login h p k q
+      (Err fault)
   no_bridge : (between : H) (ends : E) (running : R)
       → opened h plan ends running between → q ≡ p → shut between ends running false k
-      → PlaysIn opened unopened shut came missed went gone took refused plan h p k q
+      → PlaysIn opened unopened shut came missed went gone took refused plan login h p k q
       (Err OutOfMemory)
 
 -- a line was not printed whole, or there was not enough memory for it
 abbrev pub IsUnreported : {O : Type 0} → O → O → MatchFault → Type 0
 IsUnreported out after fault = (fault ≡ Write) ⊎ ((fault ≡ OutOfMemory) × (after ≡ out))
 
--- a game was played, with a number of moves, and exactly the line with it was printed, or it was not
--- printed; or a fault came of it, and nothing was printed
+-- a game was played, with a number of moves, and exactly the line with it was printed, or it was
+-- not printed; or a fault came of it, and nothing was printed
 pub data IsReported {O : Type 0} (played_with : Result ℕ MatchFault → Type 0)
     (contents : O → Option (List ℕ)) (out after : O) : Result ⊤ MatchFault → Type 0 where
   reported : (done : ⊤) (moves : ℕ) → played_with (Ok moves)

@@ -1,6 +1,6 @@
 -- What is shown of the moves of a running game.
 use Rattle.std.specs.Prelude.{◌≡◌, ◌⊎◌, ℕ, Bool, Option, None}
-use Rattle.shogi_session.specs.GameTold.{HasMoves, game_of}
+use Rattle.shogi_session.specs.GameSoFar.{HasMoves, game_of}
 use Rattle.shogi_session.specs.State.{Client}
 
 -- whether moves are shown, and the number of the last one that was, if any

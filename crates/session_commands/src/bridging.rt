@@ -6,8 +6,8 @@ ghost use Rattle.session_commands.specs.Playing.{ComesNext};
 ghost use Rattle.session_commands.specs.Plays.{Delivers, IsEndless, History, Sends, end_of, event_from, seat_for};
 ghost use Rattle.session_commands.specs.Holding.{TookAll};
 ghost use Rattle.session_commands.specs.PlayedLogs.{PlaysLegally, handed, happened};
-ghost use Rattle.session_commands.specs.WantedLogs.{SentLegally, sent_before};
-ghost use Rattle.session_commands.specs.Wanting.{GoneWants, NextWants, PlayWants, SendWants};
+ghost use Rattle.session_commands.specs.LackOfMemoryLogs.{SentLegally, sent_before};
+ghost use Rattle.session_commands.specs.LackOfMemory.{GoneRunsOut, NextRunsOut, PlayRunsOut, SendRunsOut};
 ghost use Rattle.std.specs.Io.KnownBytes.{Appends};
 ghost use Rattle.session_commands.specs.declared.bridging.Seat.{Seat};
 ghost use Rattle.session_commands.specs.declared.fault.MatchFault.{MatchFault};
@@ -216,16 +216,16 @@ pub fn play<R: Eprint + AllocGlobal, E: Ends>(
         (History E.came E.went E.gone ends.old bridge.old ends.new bridge.new Done) }
     ensures failed { (fault : SessionFault) → IsErrOf result (MatchFault.Session fault)
         → History E.came E.went E.gone ends.old bridge.old ends.new bridge.new (Failed fault) }
-    ensures wanting { IsErrOf result MatchFault.OutOfMemory
-        → PlayWants E.came E.missed E.went E.gone ends.old bridge.old ends.new bridge.new }
+    ensures out_of_memory { IsErrOf result MatchFault.OutOfMemory
+        → PlayRunsOut E.came E.missed E.went E.gone ends.old bridge.old ends.new bridge.new }
     ensures legal { (f : E) (t : Session) (status : Status)
         (played : History E.came E.went E.gone ends.old bridge.old f t status)
         → bridge.old.state ≡ first_state
         → PlaysLegally bridge.old.config (happened played) (handed Seat.Server played) t.state }
-    ensures legal_wanting { (f : E) (t : Session)
-        (wants : PlayWants E.came E.missed E.went E.gone ends.old bridge.old f t)
+    ensures legal_out_of_memory { (f : E) (t : Session)
+        (lack : PlayRunsOut E.came E.missed E.went E.gone ends.old bridge.old f t)
         → bridge.old.state ≡ first_state
-        → SentLegally bridge.old.config (sent_before bridge.old t wants) }
+        → SentLegally bridge.old.config (sent_before bridge.old t lack) }
     ensures held { (seat : Seat) (f : E) (t : Session) (status : Status)
         (played : History E.came E.went E.gone ends.old bridge.old f t status)
         → TookAll seat played
@@ -250,11 +250,11 @@ pub fn play<R: Eprint + AllocGlobal, E: Ends>(
 }
 
 // Sends the answer of a step. Returns the session's status after that.
-#[tactic(auto, using(crate::proofs::Wanting::server_wants))]
+#[tactic(auto, using(crate::proofs::LackOfMemory::server_lacks))]
 fn send<E: Ends>(bridge: &mut Bridge, ends: &mut E, out: &Out) -> Result<Status, OutOfMemory>
     ensures sent { IfOk result (λ status. Sends E.went E.gone out.now.to_engine
         out.now.to_server ends.old bridge.old out.now.status ends.new bridge.new status) }
-    ensures wanting { OnErr result (SendWants E.went E.gone out.now.to_engine
+    ensures out_of_memory { OnErr result (SendRunsOut E.went E.gone out.now.to_engine
         out.now.to_server ends.old bridge.old out.now.status ends.new bridge.new) }
 {
     let status = deliver(
@@ -278,8 +278,8 @@ fn deliver<E: Ends>(
 ) -> Result<Status, OutOfMemory>
     ensures delivered { IfOk result (λ after. Delivers
         E.went E.gone seat lines.now ends.old bridge.old status ends.new bridge.new after) }
-    ensures wanting { OnErr result
-        (GoneWants E.gone seat lines.now ends.old bridge.old ends.new bridge.new) }
+    ensures out_of_memory { OnErr result
+        (GoneRunsOut E.gone seat lines.now ends.old bridge.old ends.new bridge.new) }
 {
     if lines.is_empty() {
         return Ok(status);
@@ -308,8 +308,8 @@ fn step_next<R: Eprint + AllocGlobal, E: Ends>(
 ) -> Result<Out, OutOfMemory>
     ensures came { IfOk result (λ out. ComesNext
         E.came ends.old bridge.old out.to_engine out.to_server out.status ends.new bridge.new) }
-    ensures wanting { OnErr result
-        (NextWants E.came E.missed ends.old bridge.old ends.new bridge.new) }
+    ensures out_of_memory { OnErr result
+        (NextRunsOut E.came E.missed ends.old bridge.old ends.new bridge.new) }
 {
     let seat = seat_of(bridge.waits_for());
     let read = ends.receive(seat)?;

@@ -1,12 +1,13 @@
 //! The programs that `play` starts, and its connection to a server.
 
-ghost use Rattle.std.specs.Prelude.{◌≡◌, ◌⊎◌, IfErr, IfOk, OnErr, is_some, true};
+ghost use Rattle.std.specs.Prelude.{◌≡◌, ◌⊎◌, IfErr, IfOk, OnErr, is_some, string_bytes, true};
 ghost use Rattle.std.specs.Process.{child_status, command_args, command_program};
 ghost use Rattle.session_commands.specs.Faults.{IsEngineFault};
-ghost use Rattle.session_commands.specs.Housing.{engine_words, serve_words};
+ghost use Rattle.session_commands.specs.Housing.{engine_words, local_address, serve_words};
 
 use crate::bridging::Side;
 use crate::fault::{MatchFault, memory_or};
+use crate::login;
 use record_commands::incoming::Incoming;
 use shogi_session::SessionFault;
 use std::alloc::{AllocError, Global};
@@ -61,10 +62,11 @@ pub trait Programs {
 
     ghost thinks_not: { Self → List ℕ → List (List ℕ) → Self → Type 0 };
 
-    // There is a connection to this port. These lines come from it, and it is written to by this.
-    ghost connects: { Self → ℕ → Coming → Self.Writer → Self → Type 0 };
+    // There is a connection to this address. These lines come from it, and it is written to by
+    // this.
+    ghost connects: { Self → List ℕ → Coming → Self.Writer → Self → Type 0 };
 
-    ghost connects_not: { Self → ℕ → Self → Type 0 };
+    ghost connects_not: { Self → List ℕ → Self → Type 0 };
 
     // The child was ended. If it was given time, it may have ended by itself.
     ghost ended: { Self → Self.Child → Bool → Self → Type 0 };
@@ -91,12 +93,14 @@ pub trait Programs {
             (command_args command.old) self.new) }
         ensures engine_gone { IfErr result IsEngineFault };
 
-    /// Connects to a port of this machine. Refuses `B6 ServerGone` if there is no connection, and
-    /// `OutOfMemory`.
-    fn connect(&mut self, port: u16) -> Result<Side<Self::Reader, Self::Writer>, MatchFault>
+    /// Connects to `HOST:PORT`. HOST is a name or an address, in brackets if it is one of IPv6.
+    /// Tries each address of a name in turn.
+    ///
+    /// Refuses `B6 ServerGone` if there is no connection, and `OutOfMemory`.
+    fn connect(&mut self, address: &str) -> Result<Side<Self::Reader, Self::Writer>, MatchFault>
         ensures connects { IfOk result
-            (λ side. connects self.old port side.lines side.writer self.new) }
-        ensures connects_not { OnErr result (connects_not self.old port self.new) }
+            (λ side. connects self.old address.now side.lines side.writer self.new) }
+        ensures connects_not { OnErr result (connects_not self.old address.now self.new) }
         ensures server_gone { IfErr result IsServerFault };
 
     /// Ends a child. If `is_well`, it has time to end by itself.
@@ -140,9 +144,9 @@ impl<R: Net<Listener = TcpListener, Stream = TcpStream> + Processes + Clock + Al
 
     ghost thinks_not = { λ p program words q. ⊤ };
 
-    ghost connects = { λ p port lines writer q. ⊤ };
+    ghost connects = { λ p address lines writer q. ⊤ };
 
-    ghost connects_not = { λ p port q. ⊤ };
+    ghost connects_not = { λ p address q. ⊤ };
 
     ghost ended = { λ p child is_well q. ⊤ };
 
@@ -176,12 +180,14 @@ impl<R: Net<Listener = TcpListener, Stream = TcpStream> + Processes + Clock + Al
         }
     }
 
-    fn connect(&mut self, port: u16) -> Result<Side<TcpStream, TcpStream>, MatchFault> {
-        let Ok(writer) = TcpStream::connect(self.rt, ("127.0.0.1", port)) else {
-            return Err(SERVER_GONE);
+    fn connect(&mut self, address: &str) -> Result<Side<TcpStream, TcpStream>, MatchFault> {
+        let writer = match TcpStream::connect(self.rt, address) {
+            Ok(writer) => writer,
+            Err(error) => return Err(memory_or(error.kind(), SERVER_GONE)),
         };
-        let Ok(reader) = writer.try_clone() else {
-            return Err(SERVER_GONE);
+        let reader = match writer.try_clone() {
+            Ok(reader) => reader,
+            Err(error) => return Err(memory_or(error.kind(), SERVER_GONE)),
         };
         let lines = Incoming::new(self.rt.alloc(), reader)?;
         Ok(Side { lines, writer })
@@ -193,7 +199,7 @@ impl<R: Net<Listener = TcpListener, Stream = TcpStream> + Processes + Clock + Al
     }
 }
 
-// Starts a program whose output is read, and whose errors are not.
+// Starts a program whose output is read, and whose errors are not. It does not get the password.
 fn start<R: Processes>(
     rt: &R,
     command: &mut Command<Global>,
@@ -203,6 +209,7 @@ fn start<R: Processes>(
 {
     command.stdout(Stdio::piped());
     command.stderr(Stdio::null());
+    command.env_remove(login::VARIABLE)?;
     match command.spawn(rt) {
         Ok(child) => Ok(child),
         Err(error) => Err(memory_or(error.kind(), gone)),
@@ -229,20 +236,27 @@ pub fn server_command(
     Ok(command)
 }
 
-/// An engine and its one argument, if any.
+/// An engine and its words, in order.
 pub fn engine_command(
     alloc: Global,
     program: &str,
-    word: Option<&str>,
+    words: &[&str],
 ) -> Result<Command<Global>, AllocError>
     ensures program { IfOk result (λ c. command_program c ≡ program.now) }
-    ensures words { IfOk result (λ c. command_args c ≡ engine_words word.entry) }
+    ensures words { IfOk result (λ c. command_args c ≡ engine_words words.now) }
 {
     let mut command = Command::new(alloc, program)?;
-    if let Some(word) = word {
-        command.arg(word)?;
+    for word in words {
+        command.arg(*word)?;
     }
     Ok(command)
+}
+
+/// The address of that port on this machine. Returns an error if an allocation fails.
+pub fn local_address(alloc: Global, port: u16) -> Result<String, AllocError>
+    ensures { IfOk result (λ text. string_bytes text ≡ local_address port) }
+{
+    format!(in alloc; "127.0.0.1:{port}")
 }
 
 // The lines of the child's standard output. Refuses `fault` if that is not captured, and

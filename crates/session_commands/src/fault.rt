@@ -3,6 +3,7 @@
 ghost use Rattle.std.specs.Prelude.{◌≡◌, ◌≢◌};
 ghost use Rattle.session_commands.specs.Faults.{cut_fault_of, talk_fault_of};
 ghost use Rattle.session_commands.specs.declared.fault.MatchFault.TheVariants as game;
+ghost use Rattle.session_commands.specs.declared.fault.PlayFault.TheVariants as play;
 ghost use Rattle.session_commands.specs.declared.fault.ServeFault.TheVariants as serve;
 ghost use Rattle.session_commands.specs.declared.fault.TalkFault.TheVariants as talk;
 
@@ -58,6 +59,34 @@ pub enum MatchFault {
     /// An allocation failed.
     #[error("out of memory")]
     OutOfMemory,
+}
+
+/// Why `play` has nothing to log in with.
+#[derive(Clone, Copy, Debug, PartialEq, Eq, Error)]
+pub enum LoginFault {
+    /// The name is not 1 to 32 bytes from 0x21 to 0x7E.
+    #[error("bad name")]
+    BadName,
+    /// The password is not 1 to 32 bytes from 0x21 to 0x7E.
+    #[error("bad password")]
+    BadPassword,
+    /// The file with the password could not be read.
+    #[error("read fault")]
+    Read,
+    /// An allocation failed.
+    #[error("out of memory")]
+    OutOfMemory,
+}
+
+/// Why `play` did not log in, or did not play a game to its end, or did not keep it.
+#[derive(Clone, Copy, Debug, PartialEq, Eq, Error)]
+pub enum PlayFault {
+    /// There is nothing to log in with.
+    #[error("{0}")]
+    Login(LoginFault),
+    /// The game was not played to its end, or not kept.
+    #[error("{0}")]
+    Match(MatchFault),
 }
 
 /// `OutOfMemory` for an error of that kind, and otherwise the other fault.
@@ -146,5 +175,21 @@ impl From<AllocError> for MatchFault {
 
     fn from(_error: AllocError) -> MatchFault {
         MatchFault::OutOfMemory
+    }
+}
+
+impl From<LoginFault> for PlayFault {
+    ghost from_gives = { λ why fault. fault ≡ play.Login why };
+
+    fn from(fault: LoginFault) -> PlayFault {
+        PlayFault::Login(fault)
+    }
+}
+
+impl From<MatchFault> for PlayFault {
+    ghost from_gives = { λ why fault. fault ≡ play.Match why };
+
+    fn from(fault: MatchFault) -> PlayFault {
+        PlayFault::Match(fault)
     }
 }

@@ -1,14 +1,14 @@
 //! The server and the engine of a game: started, joined to a bridge, and ended.
 
 ghost use Rattle.std.specs.Prelude.{IfErr, IfOk};
-ghost use Rattle.session_commands.specs.Housing.{IsApart, IsJoined};
+ghost use Rattle.session_commands.specs.Housing.{IsApart, IsJoined, IsJoinedByPort, IsPortless};
 
 use crate::bridging::{Ends, Side, Sides};
-use crate::children::{Programs, SERVER_GONE, engine_command, server_command};
+use crate::children::{Programs, SERVER_GONE, engine_command, local_address, server_command};
 use crate::fault::MatchFault;
 use crate::port_line::listening_port;
 use record_commands::incoming::Incoming;
-use shogi_words::Plan;
+use shogi_words::{Plan, ServerChoice};
 use std::alloc::Global;
 
 /// What starts and ends the programs of a game.
@@ -23,7 +23,8 @@ pub trait House {
     /// The programs that run.
     type Running: Drop;
 
-    // It has these ends, and these programs run: the plan's engine and server.
+    // It has these ends, and these programs run: the plan's engine, and its server if it is one to
+    // start.
     ghost opened: { Self → Planned → Self.Both → Self.Running → Self → Type 0 };
 
     // There is no game for this reason, and no program runs.
@@ -32,32 +33,40 @@ pub trait House {
     // Each of the programs has ended. After a session that ended well it had time to end by itself.
     ghost shut: { Self → Self.Both → Self.Running → Bool → Self → Type 0 };
 
-    /// Starts both programs. If one of them cannot be started, the other is ended.
+    /// Starts the server, if the plan has one to start, connects to it, and starts the engine. If
+    /// there is no game, a server that was started is ended.
     ///
     /// Refuses `B6 ServerGone` if the server cannot be started, says no port or cannot be connected
     /// to, `B5 EngineGone` if the engine cannot be started, and `OutOfMemory`.
-    fn open(&mut self, plan: &Plan<'_>) -> Result<(Self::Both, Self::Running), MatchFault>
+    fn open(&mut self, plan: &Plan<'_, '_>) -> Result<(Self::Both, Self::Running), MatchFault>
         ensures opened { IfOk result (λ r. opened self.old plan.now r.0 r.1 self.new) }
         ensures unopened { IfErr result (λ fault. unopened self.old plan.now fault self.new) };
 
-    /// Ends both programs.
+    /// Ends each program that was started.
     fn shut(&mut self, both: Self::Both, running: Self::Running, is_well: bool)
         ensures shut { shut self.old both running is_well self.new };
 }
 
-/// A server and an engine of this machine.
+/// An engine of this machine, and a server of this machine or another.
 #[derive(Drop)]
 pub struct Local<P: Programs + Drop> {
     alloc: Global,
     programs: P,
 }
 
-/// The two programs, and the output of the server.
+/// The programs of a game that were started.
 #[derive(Drop)]
 pub struct Running<P: Programs> {
-    server: P::Child,
-    server_lines: Incoming<P::Output>,
+    // None if the server ran already.
+    server: Option<RunningServer<P>>,
     engine: P::Child,
+}
+
+/// A server that was started, and its output.
+#[derive(Drop)]
+pub struct RunningServer<P: Programs> {
+    child: P::Child,
+    lines: Incoming<P::Output>,
 }
 
 impl<P: Programs + Drop> Local<P> {
@@ -68,6 +77,7 @@ impl<P: Programs + Drop> Local<P> {
 }
 
 impl<P: Programs + Drop> House for Local<P> {
+    ghost use Rattle.std.specs.Prelude.{option_map};
     ghost use Rattle.session_commands.specs.Housing.{IsOpened, IsShut, IsUnopened};
 
     type Both = Sides<P::Output, P::Input, P::Reader, P::Writer>;
@@ -75,30 +85,36 @@ impl<P: Programs + Drop> House for Local<P> {
     type Running = Running<P>;
 
     ghost opened = { λ h plan both running k. IsOpened P.serves P.thinks P.connects
-        plan h.programs running.server running.engine both.engine.lines both.engine.writer
-        both.server.lines both.server.writer k.programs };
+        plan h.programs running.engine both.engine.lines both.engine.writer
+        both.server.lines both.server.writer k.programs
+        (option_map (λ s. s.child) running.server) };
 
     ghost unopened = { λ h plan fault k. IsUnopened P.serves P.serves_not P.connects
         P.connects_not P.thinks_not P.ended plan h.programs k.programs fault };
 
-    ghost shut = { λ h both running is_well k.
-        IsShut P.ended h.programs running.server running.engine is_well k.programs };
+    ghost shut = { λ h both running is_well k. IsShut P.ended h.programs running.engine is_well
+        k.programs (option_map (λ s. s.child) running.server) };
 
-    fn open(&mut self, plan: &Plan<'_>) -> Result<(Self::Both, Self::Running), MatchFault> {
-        let mut command = server_command(self.alloc, plan.server, plan.max_moves)?;
-        let (server, mut server_lines) = self.programs.start_server(&mut command)?;
-        match join(self.alloc, &mut self.programs, plan, &mut server_lines) {
-            Ok((sides, engine)) => Ok((
-                sides,
-                Running {
-                    server,
-                    server_lines,
-                    engine,
-                },
-            )),
-            Err(fault) => {
-                self.programs.end(server, false);
-                Err(fault)
+    fn open(&mut self, plan: &Plan<'_, '_>) -> Result<(Self::Both, Self::Running), MatchFault> {
+        match plan.server {
+            ServerChoice::Started { program, max_moves } => {
+                let mut command = server_command(self.alloc, program, max_moves)?;
+                let (child, mut lines) = self.programs.start_server(&mut command)?;
+                match join_by_port(self.alloc, &mut self.programs, plan, &mut lines) {
+                    Ok((sides, engine)) => {
+                        let server = Some(RunningServer { child, lines });
+                        Ok((sides, Running { server, engine }))
+                    }
+                    Err(fault) => {
+                        self.programs.end(child, false);
+                        Err(fault)
+                    }
+                }
+            }
+            ServerChoice::At(address) => {
+                let (sides, engine) = join(self.alloc, &mut self.programs, plan, address)?;
+                let server = None;
+                Ok((sides, Running { server, engine }))
             }
         }
     }
@@ -112,35 +128,59 @@ impl<P: Programs + Drop> House for Local<P> {
             writer,
         } = engine;
         let Running {
-            server: server_child,
-            server_lines: _server_lines,
+            server: started,
             engine: engine_child,
         } = running;
         drop(writer);
         self.programs.end(engine_child, is_well);
         drop(server);
-        self.programs.end(server_child, is_well);
+        if let Some(
+            RunningServer {
+                child,
+                lines: _lines,
+            },
+        ) = started
+        {
+            self.programs.end(child, is_well);
+        }
     }
 }
 
 // Connects to the server that says its port, and starts the engine.
-fn join<P: Programs>(
+fn join_by_port<P: Programs>(
     alloc: Global,
     programs: &mut P,
-    plan: &Plan<'_>,
+    plan: &Plan<'_, '_>,
     server_lines: &mut Incoming<P::Output>,
 ) -> Result<(Sides<P::Output, P::Input, P::Reader, P::Writer>, P::Child), MatchFault>
-    ensures joined { IfOk result (λ r. IsJoined P.thinks P.connects
-        plan.now programs.old server_lines.old r.1 r.0.engine.lines r.0.engine.writer
+    ensures joined { IfOk result (λ r. IsJoinedByPort P.thinks P.connects
+        plan.now server_lines.old programs.old r.1 r.0.engine.lines r.0.engine.writer
         r.0.server.lines r.0.server.writer programs.new) }
-    ensures apart { IfErr result (IsApart P.connects P.connects_not P.thinks_not
-        plan.now programs.old server_lines.old server_lines.new programs.new) }
+    ensures portless { IfErr result (IsPortless P.connects P.connects_not P.thinks_not
+        plan.now server_lines.old server_lines.new programs.old programs.new) }
 {
     let Some(port) = listening_port(server_lines)? else {
         return Err(SERVER_GONE);
     };
-    let server = programs.connect(port)?;
-    let mut command = engine_command(alloc, plan.engine, plan.engine_word)?;
+    let address = local_address(alloc, port)?;
+    join(alloc, programs, plan, address.as_str())
+}
+
+// Connects to the address, and starts the engine.
+fn join<P: Programs>(
+    alloc: Global,
+    programs: &mut P,
+    plan: &Plan<'_, '_>,
+    address: &str,
+) -> Result<(Sides<P::Output, P::Input, P::Reader, P::Writer>, P::Child), MatchFault>
+    ensures joined { IfOk result (λ r. IsJoined P.thinks P.connects
+        plan.now address.now programs.old r.1 r.0.engine.lines r.0.engine.writer
+        r.0.server.lines r.0.server.writer programs.new) }
+    ensures apart { IfErr result (IsApart P.connects P.connects_not P.thinks_not
+        plan.now address.now programs.old programs.new) }
+{
+    let server = programs.connect(address)?;
+    let mut command = engine_command(alloc, plan.engine, plan.engine_words)?;
     let (child, engine) = programs.start_engine(&mut command)?;
     Ok((Sides { engine, server }, child))
 }

@@ -6,8 +6,8 @@ ghost use Rattle.bridge_table.specs.declared.event.Status.{Status};
 ghost use Rattle.session_commands.specs.Holding.{TookAll};
 ghost use Rattle.session_commands.specs.PlayedLogs.{PlaysLegally, handed, happened};
 ghost use Rattle.session_commands.specs.Plays.{History};
-ghost use Rattle.session_commands.specs.WantedLogs.{SentLegally, sent_before};
-ghost use Rattle.session_commands.specs.Wanting.{PlayWants};
+ghost use Rattle.session_commands.specs.LackOfMemoryLogs.{SentLegally, sent_before};
+ghost use Rattle.session_commands.specs.LackOfMemory.{PlayRunsOut};
 ghost use Rattle.session_commands.specs.declared.bridging.Seat.{Seat};
 ghost use Rattle.shogi_session.specs.Promises.{Session};
 ghost use Rattle.shogi_session.specs.State.{first_state};
@@ -25,17 +25,17 @@ pub fn played_moves_are_legal<E: Ends>()
         (played : History E.came E.went E.gone e s f t status)
         → s.state ≡ first_state
         → PlaysLegally s.config (happened played) (handed Seat.Server played) t.state }
-    ensures wanting { (e : E) (s : Session) (f : E) (t : Session)
-        (wants : PlayWants E.came E.missed E.went E.gone e s f t)
-        → s.state ≡ first_state → SentLegally s.config (sent_before s t wants) }
+    ensures out_of_memory { (e : E) (s : Session) (f : E) (t : Session)
+        (lack : PlayRunsOut E.came E.missed E.went E.gone e s f t)
+        → s.state ≡ first_state → SentLegally s.config (sent_before s t lack) }
 {
     ends_are_silent();
     sent_legal();
     sent_once();
 }
 
-/// If a seat takes all lines that are sent to it, its writer holds exactly these more, if what it
-/// holds is known.
+/// If a seat takes all lines that are sent to it, exactly these were added to what its writer
+/// holds, if that is known.
 pub fn sent_lines_are_held<E: Ends>()
     ensures held { (seat : Seat) (e : E) (s : Session) (f : E) (t : Session) (status : Status)
         (played : History E.came E.went E.gone e s f t status)

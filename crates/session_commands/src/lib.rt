@@ -22,6 +22,7 @@ pub mod engine;
 mod fault;
 mod house;
 pub mod laws;
+mod login;
 mod out_file;
 pub mod play;
 mod port_line;
@@ -30,5 +31,5 @@ pub mod serve;
 pub mod talk;
 pub mod wire;
 
-pub use fault::{MatchFault, ServeFault, TalkFault};
+pub use fault::{LoginFault, MatchFault, PlayFault, ServeFault, TalkFault};
 pub use progress::Progress;

@@ -1,21 +1,22 @@
 //! Plays one game of a USI engine on a CSA server, and writes its record.
 
-ghost use Rattle.std.specs.Prelude.{◌≡◌, IfErr, IfOk, OnOk, codes, string_bytes};
+ghost use Rattle.std.specs.Prelude.{◌≡◌, IfErr, IfOk, OnOk, string_bytes};
 ghost use Rattle.std.specs.Io.KnownBytes.{Appends};
 ghost use Rattle.session_commands.specs.Kept.{KeepsRecord, report_of};
+ghost use Rattle.session_commands.specs.Logins.{AreLoginWords, HasNoLogin, IsLoginOf, IsPlayed};
 ghost use Rattle.session_commands.specs.Playing.{IsReported, IsUnreported, PlaysIn, PlaysAndKeeps};
 ghost use Rattle.session_commands.specs.Words.{played_line};
-ghost use Rattle.shogi_session.specs.GameTold.{game_of};
+ghost use Rattle.shogi_session.specs.GameSoFar.{game_of};
 ghost use Rattle.shogi_session.specs.State.{first_state};
 
 use crate::bridging::{Ends, play};
 use crate::children::System;
 use crate::disk::LocalDisk;
-use crate::fault::MatchFault;
+use crate::fault::{MatchFault, PlayFault};
 use crate::house::{House, Local};
+use crate::login::{Login, RuntimeSecrets, Secrets, login_of};
 use crate::out_file::{Named, Place};
 use crate::progress::Progress;
-use arrayvec::ArrayString;
 use record_commands::streams;
 use shogi_board::OutOfMemory;
 use shogi_session::{Bridge, Config};
@@ -24,47 +25,83 @@ use std::alloc::{AllocError, Global};
 use std::io::{self, Eprint, Write};
 use std::net::{Net, TcpListener, TcpStream};
 use std::process::Processes;
-use std::rt::Files;
+use std::rt::{Env, Files};
 use std::time::Clock;
 
-const TOTAL_MS: u32 = 600_000;
-
-const BYOYOMI_MS: u32 = 10_000;
-
-/// Starts the server and then the engine, plays their game, writes its record, and prints `played`
-/// and the number of its moves. If a game was offered, its record is written even if the session
-/// failed.
+/// Starts the server, if the plan has one to start, connects to it, starts the engine, plays their
+/// game, writes its record, and prints `played` and the number of its moves. If a game was offered,
+/// its record is written even if the session failed. The password is that of the plan's file, or of
+/// the environment variable `SHOGI_PASSWORD`, or `pw`.
 ///
-/// Refuses `Session` if the session fails, `Endless` if it goes on for 2^64 - 1 rounds, `Write` if
-/// the record or the last line cannot be written, and `OutOfMemory`.
+/// Before anything is started, refuses `BadName`, and then `Read` if the file with the password
+/// cannot be read, `BadPassword`, and `OutOfMemory`. After that refuses `Session` if the session
+/// fails, `Endless` if it goes on for 2^64 - 1 rounds, `Write` if the record or the last line
+/// cannot be written, and `OutOfMemory`.
 pub fn run<
-    R: Files
+    R: Env
+        + Files
         + Net<Listener = TcpListener, Stream = TcpStream>
         + Processes
         + Clock
         + Print
         + Eprint
         + AllocGlobal,
->(rt: &R, plan: &Plan<'_>) -> Result<(), MatchFault> {
+>(rt: &R, plan: &Plan<'_, '_>) -> Result<(), PlayFault> {
+    let secrets = RuntimeSecrets::new(rt);
     let mut house = Local::new(rt.alloc(), System::new(rt));
     let mut place = Named::new(rt.alloc(), LocalDisk::new(rt), plan.out);
-    report(rt, &mut house, &mut place, &mut io::writer(rt), plan)
+    play_planned(
+        rt,
+        &secrets,
+        &mut house,
+        &mut place,
+        &mut io::writer(rt),
+        plan,
+    )
 }
 
-// Plays the planned game in the house, and prints the number of its moves.
-fn report<R: Eprint + AllocGlobal, H: House, P: Place, W: Write>(
+// Plays the planned game in the house with the login that the plan asks for, and prints the number
+// of its moves.
+fn play_planned<R: Eprint + AllocGlobal, S: Secrets, H: House, P: Place, W: Write>(
     rt: &R,
+    secrets: &S,
     house: &mut H,
     place: &mut P,
     out: &mut W,
-    plan: &Plan<'_>,
+    plan: &Plan<'_, '_>,
+) -> Result<(), PlayFault>
+    ensures { IsPlayed
+        (IsLoginOf S.opens S.File.Read.remaining S.holds secrets.now plan.now)
+        (HasNoLogin S.opens S.opens_not S.File.Read.remaining
+        S.holds S.holds_no_text secrets.now plan.now)
+        (λ login. IsReported (PlaysIn H.opened H.unopened
+        H.shut H.Both.Ends.came H.Both.Ends.missed H.Both.Ends.went H.Both.Ends.gone
+        P.took P.refused plan.now login house.old place.old house.new place.new)
+        W.contents out.old out.new)
+        ((house.new ≡ house.old) × (place.new ≡ place.old) × (out.new ≡ out.old))
+        result }
+{
+    let login = login_of(rt.alloc(), secrets, plan)?;
+    report(rt, &login, house, place, out, plan)?;
+    Ok(())
+}
+
+// Plays the planned game in the house with that login, and prints the number of its moves.
+fn report<R: Eprint + AllocGlobal, H: House, P: Place, W: Write>(
+    rt: &R,
+    login: &Login,
+    house: &mut H,
+    place: &mut P,
+    out: &mut W,
+    plan: &Plan<'_, '_>,
 ) -> Result<(), MatchFault>
+    requires { AreLoginWords login.now }
     ensures { IsReported (PlaysIn H.opened H.unopened
         H.shut H.Both.Ends.came H.Both.Ends.missed H.Both.Ends.went H.Both.Ends.gone
-        P.took P.refused plan.now house.old place.old house.new place.new)
+        P.took P.refused plan.now login.now house.old place.old house.new place.new)
         W.contents out.old out.new result }
 {
-    let moves = play_in(rt, house, place, plan)?;
+    let moves = play_in(rt, login, house, place, plan)?;
     print_moves(rt.alloc(), out, moves)
 }
 
@@ -86,19 +123,21 @@ fn played_line(alloc: Global, moves: usize) -> Result<String, AllocError>
     format!(in alloc; "played {moves}\n")
 }
 
-// Plays the planned game in the house. Returns the number of moves of the game.
+// Plays the planned game in the house with that login. Returns the number of moves of the game.
 fn play_in<R: Eprint + AllocGlobal, H: House, P: Place>(
     rt: &R,
+    login: &Login,
     house: &mut H,
     place: &mut P,
-    plan: &Plan<'_>,
+    plan: &Plan<'_, '_>,
 ) -> Result<usize, MatchFault>
+    requires { AreLoginWords login.now }
     ensures played { PlaysIn H.opened H.unopened
-        H.shut H.Both.Ends.came H.Both.Ends.missed H.Both.Ends.went
-        H.Both.Ends.gone P.took P.refused plan.now house.old place.old house.new place.new result }
+        H.shut H.Both.Ends.came H.Both.Ends.missed H.Both.Ends.went H.Both.Ends.gone
+        P.took P.refused plan.now login.now house.old place.old house.new place.new result }
 {
     let (mut both, running) = house.open(plan)?;
-    let mut bridge = match bridge_of(rt.alloc()) {
+    let mut bridge = match bridge_of(rt.alloc(), login, plan) {
         Ok(bridge) => bridge,
         Err(_) => {
             house.shut(both, running, false);
@@ -167,19 +206,20 @@ fn report_of(played: Result<(), MatchFault>, moves: usize) -> Result<usize, Matc
     Ok(moves)
 }
 
-// A bridge to which nothing has happened.
-fn bridge_of(alloc: Global) -> Result<Bridge, OutOfMemory>
-    ensures login { IfOk result (λ bridge. (bridge.config.name.bytes ≡ codes "bridge")
-        × (bridge.config.password.bytes ≡ codes "pw")) }
-    ensures clocks { IfOk result
-        (λ bridge. (bridge.config.total_ms ≡ 600000) × (bridge.config.byoyomi_ms ≡ 10000)) }
+// A bridge to which nothing has happened, with that login and the plan's clocks.
+fn bridge_of(alloc: Global, login: &Login, plan: &Plan<'_, '_>) -> Result<Bridge, OutOfMemory>
+    requires { AreLoginWords login.now }
+    ensures login { IfOk result (λ bridge. (bridge.config.name.bytes ≡ login.now.name.bytes)
+        × (bridge.config.password.bytes ≡ login.now.password.bytes)) }
+    ensures clocks { IfOk result (λ bridge. (bridge.config.total_ms ≡ plan.now.total_ms)
+        × (bridge.config.byoyomi_ms ≡ plan.now.byoyomi_ms)) }
     ensures state { IfOk result (λ bridge. bridge.state ≡ first_state) }
 {
     let config = Config {
-        name: ArrayString::from("bridge").unwrap(),
-        password: ArrayString::from("pw").unwrap(),
-        total_ms: TOTAL_MS,
-        byoyomi_ms: BYOYOMI_MS,
+        name: login.name,
+        password: login.password,
+        total_ms: plan.total_ms,
+        byoyomi_ms: plan.byoyomi_ms,
     };
     Bridge::new(alloc, &config)
 }

@@ -5,7 +5,7 @@ ghost use Rattle.session_commands.specs.declared.fault.ServeFault.{ServeFault};
 ghost use Rattle.session_commands.specs.declared.fault.TalkFault.{TalkFault};
 ghost use Rattle.std.specs.Io.KnownBytes.{Appends};
 ghost use Rattle.session_commands.specs.Door.{HasHosted, IsUnprinted};
-ghost use Rattle.session_commands.specs.Offered.{HasServed, IsOffered};
+ghost use Rattle.session_commands.specs.Offering.{HasServed, OffersGame};
 ghost use Rattle.session_commands.specs.Ports.{port_line};
 ghost use Rattle.session_commands.specs.Talks.{HasAnswered, Passing};
 ghost use Rattle.shogi_session.specs.Hosting.{HostSession};
@@ -37,7 +37,7 @@ pub fn run<R: Net<Listener = TcpListener, Stream = TcpStream> + Print + AllocGlo
 ) -> Result<(), ServeFault>
     requires moves { (1 ≤ service.max_moves) × (service.max_moves ≤ positions.max_moves) }
     ensures over { OnOk result
-        ((before after : Passing) × (old new : HostSession) × IsOffered service old
+        ((before after : Passing) × (old new : HostSession) × OffersGame service old
         × HasAnswered ⟦<Exchange<TcpStream, TcpStream> as Wire>⟧.came
         ⟦<Exchange<TcpStream, TcpStream> as Wire>⟧.ends
         ⟦<Exchange<TcpStream, TcpStream> as Wire>⟧.went
@@ -111,7 +111,7 @@ fn listening(alloc: Global, port: u16) -> Result<String, AllocError>
 // A host before login.
 fn host_of(alloc: Global, service: Service) -> Result<Host, OutOfMemory>
     requires { (1 ≤ service.max_moves) × (service.max_moves ≤ positions.max_moves) }
-    ensures host { IfOk result (IsOffered service) }
+    ensures host { IfOk result (OffersGame service) }
 {
     let config = HostConfig {
         client: service.client,

@@ -10,27 +10,17 @@ use csa_cutting::LineCutter;
 use csa_record::PIECE;
 use record_commands::streams;
 use shogi_board::OutOfMemory;
-use shogi_session::{Host, HostOut, Lines, Sample, SampleOut};
+use shogi_session::{Host, HostOut, Sample, SampleOut};
 use std::alloc::Global;
 
-/// What a machine answers to a line. It is one type for the answers of the host and of the sample
-/// engine, each of which has a type of its own.
-#[derive(Drop)]
-pub struct Reply {
-    /// The lines to send.
-    pub lines: Lines,
-    /// Whether the machine has ended. It answers no line after that.
-    pub ended: bool,
-}
-
-/// What answers lines.
+/// What answers lines, as the sample engine does: with the lines to send, and whether it has ended.
 pub trait Machine {
     // The machine, a line, the bytes of its answer, whether the machine has ended, and the machine
     // after it.
     ghost answers: { Self → List ℕ → List ℕ → Bool → Self → Type 0 };
 
     /// Answers a line. `line` has no line end. Returns `OutOfMemory` if an allocation fails.
-    fn answer(&mut self, line: &[u8]) -> Result<Reply, OutOfMemory>
+    fn answer(&mut self, line: &[u8]) -> Result<SampleOut, OutOfMemory>
         ensures answer { IfOk result
             (λ reply. answers self.old line.now reply.lines reply.ended self.new) };
 }
@@ -41,9 +31,8 @@ impl Machine for Sample {
 
     ghost answers = { (λ s line text over t. RowText s line text t × (IsTrue over ↔ (t ≡ quit))) };
 
-    fn answer(&mut self, line: &[u8]) -> Result<Reply, OutOfMemory> {
-        let SampleOut { lines, ended } = self.step(line)?;
-        Ok(Reply { lines, ended })
+    fn answer(&mut self, line: &[u8]) -> Result<SampleOut, OutOfMemory> {
+        self.step(line)
     }
 }
 
@@ -57,9 +46,9 @@ impl Machine for Host {
         RowText s.config s.state (without_last_spaces line) 0 text t.state
         × (t.config ≡ s.config) × (IsTrue over ↔ (t.state ≡ ended))) };
 
-    fn answer(&mut self, line: &[u8]) -> Result<Reply, OutOfMemory> {
+    fn answer(&mut self, line: &[u8]) -> Result<SampleOut, OutOfMemory> {
         let HostOut { to_client, ended } = self.step(line, 0)?;
-        Ok(Reply {
+        Ok(SampleOut {
             lines: to_client,
             ended,
         })

@@ -2,7 +2,7 @@
 use Rattle.std.proofs.Common.{◌≡◌, ℕ, List, [], ◌∷◌, length, drop, arith, refl, sym, ap, subst, ◌∙◌}
 use Rattle.csa_cutting.proofs.Once.{statements_once}
 use Rattle.csa_cutting.proofs.Runs.{found}
-use Rattle.csa_cutting.proofs.Spoken.{told_first}
+use Rattle.csa_cutting.proofs.Spoken.{stated_first}
 use Rattle.csa_cutting.proofs.WholeRuns.{whole_cut}
 use Rattle.csa_cutting.specs.Cut.{TextUnit, IsCut, Statements, mark_length, statement_bytes}
 use Rattle.csa_cutting.specs.Cutting.{Cutting, ToCome, IsFirstStatement, IsHandedOut, IsTooLong, unit_between}
@@ -45,7 +45,7 @@ two_units : (line : List ℕ) (c d : Cutting) (offset : ℕ) (v : TextUnit) (vs 
     → (u : TextUnit) → IsAlone line u → ⊥
 two_units line c d offset v vs s same first rest u alone =
     let there : Statements d.at (drop d.at c.source) (v ∷ vs) = subst (λ x. Statements d.at (drop d.at x) (v ∷ vs)) same rest in
-    let all = told_first c.source c.at offset d.at (v ∷ vs) first there in
+    let all = stated_first c.source c.at offset d.at (v ∷ vs) first there in
     let e = ap length (one_unit line (unit_between c.source offset d.at ∷ v ∷ vs) u (whole line c (unit_between c.source offset d.at ∷ v ∷ vs) s all) alone) in
     absurd (omega (arith, e))
 
@@ -54,12 +54,12 @@ pub another_statement : (line : List ℕ) (c d : Cutting) (offset next end : ℕ
     → (u : TextUnit) → IsAlone line u → ⊥
 another_statement line c d offset next end s same first second u alone =
     let rest = found end (drop end d.source) in
-    two_units line c d offset (unit_between d.source next end) rest.0 s same first (told_first d.source d.at next end rest.0 second rest.1) u alone
+    two_units line c d offset (unit_between d.source next end) rest.0 s same first (stated_first d.source d.at next end rest.0 second rest.1) u alone
 
-pub long_behind : (line : List ℕ) (c d : Cutting) (offset number place : ℕ)
+pub long_after : (line : List ℕ) (c d : Cutting) (offset number place : ℕ)
     → AtStart line c → d.source ≡ c.source → IsFirstStatement c.source c.at offset d.at → IsTooLong d number place
     → (u : TextUnit) → IsAlone line u → ⊥
-long_behind line c d offset number place s same first h u alone = two_units line c d offset h.unit h.others s same first h.first u alone
+long_after line c d offset number place s same first h u alone = two_units line c d offset h.unit h.others s same first h.first u alone
 
 one_of : (line : List ℕ) (s : Statement) (us : List TextUnit) → IsCut line us → AreNumbered 0 us (s ∷ [])
     → (u : TextUnit) × IsAlone line u × (s.bytes.now ≡ statement_bytes u.bytes)

@@ -25,7 +25,7 @@ pub fn is_move_line(line: &[u8]) -> bool
 /// The side and the move that the line spells in CSA V2.2, or None. The line has this one
 /// statement; a comment is no statement.
 pub fn read_move_line(line: &[u8]) -> Option<(Color, Move)>
-    ensures told { MatchOption result
+    ensures stated { MatchOption result
         ((color : Color) (m : Move) → TellsMove line.now color m → ⊥)
         (λ r. TellsMove line.now r.0 r.1) }
 {
@@ -40,7 +40,7 @@ pub fn read_move_line(line: &[u8]) -> Option<(Color, Move)>
 
 /// The side and the move, if the item is a move; else None.
 pub fn walked_of(item: Item<'_>) -> Option<(Color, Move)>
-    ensures told { MatchOption result
+    ensures stated { MatchOption result
         ((color : Color) (m : Move) → saying_of item.entry ≡ walked color m → ⊥)
         (λ r. saying_of item.entry ≡ walked r.0 r.1) }
 {

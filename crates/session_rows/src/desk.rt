@@ -21,7 +21,7 @@ pub(crate) struct Desk<'a> {
     /// In a game of the two: what the host sent and the bridge has not read, and the last lines to
     /// the engine.
     pub unread: Vec<u8>,
-    pub told: Vec<u8>,
+    pub sent_to_engine: Vec<u8>,
 }
 
 /// Which events are printed.
@@ -47,7 +47,7 @@ impl<'a> Desk<'a> {
             host: new_host(alloc, HOST)?,
             sample: Sample::new(alloc),
             unread: Vec::new(alloc),
-            told: Vec::new(alloc),
+            sent_to_engine: Vec::new(alloc),
         })
     }
 

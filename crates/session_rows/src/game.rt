@@ -31,7 +31,10 @@ pub(crate) fn play_on<R: Print>(rt: &R, desk: &mut Desk<'_>, answers: &str) -> R
             }
         }
     }
-    print!(rt; "  engine {}\n ", desk.told.as_slice().escape_ascii())?;
+    print!(rt;
+        "  engine {}\n ",
+        desk.sent_to_engine.as_slice().escape_ascii()
+    )?;
     print_state(rt, &desk.bridge)
 }
 
@@ -42,7 +45,7 @@ fn exchange(desk: &mut Desk<'_>, bytes: &[u8]) -> Result<()> {
     };
     let out = desk.bridge.step(event)?;
     if !out.to_engine.bytes().is_empty() {
-        desk.told = Vec::from_slice(desk.alloc, out.to_engine.bytes())?;
+        desk.sent_to_engine = Vec::from_slice(desk.alloc, out.to_engine.bytes())?;
     }
     for line in out.to_server.bytes().split(|b| *b == b'\n') {
         if !line.is_empty() {

@@ -4,20 +4,24 @@ use Rattle.csa_record.specs.declared.flow.FlowFault.{FlowFault}
 use Rattle.csa_record.specs.declared.flow.FlowFault.TheVariants as record_fault
 use Rattle.record_commands.specs.declared.fault.PositionLineFault.{PositionLineFault}
 use Rattle.record_commands.specs.declared.fault.PositionLineFault.TheVariants as line_fault
-use Rattle.record_commands.specs.Many.{tally_line}
-use Rattle.session_commands.specs.declared.fault.MatchFault.{MatchFault}
+use Rattle.archive_commands.specs.Many.{tally_line}
+use Rattle.session_commands.specs.declared.fault.LoginFault.TheVariants as login_fault
 use Rattle.session_commands.specs.declared.fault.MatchFault.TheVariants as match_fault
+use Rattle.session_commands.specs.declared.fault.PlayFault.{PlayFault}
+use Rattle.session_commands.specs.declared.fault.PlayFault.TheVariants as play_fault
 use Rattle.session_commands.specs.declared.fault.ServeFault.{ServeFault}
 use Rattle.session_commands.specs.declared.fault.ServeFault.TheVariants as serve_fault
 use Rattle.session_commands.specs.declared.fault.TalkFault.{TalkFault}
 use Rattle.session_commands.specs.declared.fault.TalkFault.TheVariants as talk_fault
 use Rattle.shogi.specs.declared.stop.Stop.{Stop}
-use Rattle.shogi.specs.declared.stop.Stop.TheVariants.{WordsNotText, UnknownCommand, Refused, NotAll, LineRefused, LineTooLong, Read, Write, ClientGone, ClientLineTooLong, Session, OutOfMemory}
+use Rattle.shogi.specs.declared.stop.Stop.TheVariants.{WordsNotText, UnknownCommand, BadName, BadPassword, Refused, NotAll, LineRefused, LineTooLong, Read, Write, ClientGone, ClientLineTooLong, Session, OutOfMemory}
 
 -- the status that the program ends with
 abbrev pub status_of : Stop → ℕ
 status_of WordsNotText = 2
 status_of UnknownCommand = 2
+status_of BadName = 2
+status_of BadPassword = 2
 status_of (Refused refusal) = 1
 status_of (NotAll tally) = if nat_lt 0 tally.unreadable then 3 else 1
 status_of (LineRefused fault) = 1
@@ -34,6 +38,8 @@ status_of OutOfMemory = 5
 abbrev pub stop_line : Stop → Option (List ℕ)
 stop_line WordsNotText = Some (codes "error: a word of the command line is not UTF-8")
 stop_line UnknownCommand = Some (codes "error: there is no such command")
+stop_line BadName = Some (codes "error: the name must be 1 to 32 bytes from 0x21 to 0x7E")
+stop_line BadPassword = Some (codes "error: the password must be 1 to 32 bytes from 0x21 to 0x7E")
 stop_line (Refused refusal) = None
 stop_line (NotAll tally) = Some (tally_line tally)
 stop_line (LineRefused fault) = None
@@ -76,8 +82,12 @@ stop_of_serve (serve_fault.Talk talk_fault.Write) = Write
 stop_of_serve (serve_fault.Talk talk_fault.OutOfMemory) = OutOfMemory
 
 -- of play
-abbrev pub stop_of_match : MatchFault → Stop
-stop_of_match (match_fault.Session why) = Session why
-stop_of_match match_fault.Endless = Read
-stop_of_match match_fault.Write = Write
-stop_of_match match_fault.OutOfMemory = OutOfMemory
+abbrev pub stop_of_play : PlayFault → Stop
+stop_of_play (play_fault.Login login_fault.BadName) = BadName
+stop_of_play (play_fault.Login login_fault.BadPassword) = BadPassword
+stop_of_play (play_fault.Login login_fault.Read) = Read
+stop_of_play (play_fault.Login login_fault.OutOfMemory) = OutOfMemory
+stop_of_play (play_fault.Match (match_fault.Session why)) = Session why
+stop_of_play (play_fault.Match match_fault.Endless) = Read
+stop_of_play (play_fault.Match match_fault.Write) = Write
+stop_of_play (play_fault.Match match_fault.OutOfMemory) = OutOfMemory

@@ -1,7 +1,8 @@
 //! The program `shogi`: reads its command line and runs the command that this asks for.
 //!
-//! `shogi_words` says what a command line means, `record_commands` and `session_commands` do it,
-//! and [`stop`] has the status and the line on standard error for each fault.
+//! `shogi_words` says what a command line means; `record_commands`, `archive_commands` and
+//! `session_commands` do it; and [`stop`] has the status and the line on standard error for each
+//! fault.
 //!
 //! ```text
 //! $ shogi check game.csa
@@ -9,11 +10,16 @@
 //! ```
 #![tactic(auto)]
 
+ghost use Rattle.std.specs.Prelude.{◌≡◌, ◌≤◌};
+ghost use Rattle.shogi_rules.specs.Positions as positions;
+
 mod requests;
 mod stop;
 mod usage;
 
+use crate::requests::Terminals;
 use crate::stop::Stop;
+use shogi_words::{Request, Service};
 use std::io::IsTerminal;
 use std::net::{Net, TcpListener, TcpStream};
 use std::process::{ExitCode, Processes};
@@ -21,8 +27,11 @@ use std::rt::{Env, Files};
 use std::time::Clock;
 
 fn main(rt: HostRuntime) -> ExitCode {
-    let is_terminal = rt.stderr().is_terminal();
-    match run(&rt, is_terminal) {
+    let terminals = Terminals {
+        output: rt.stdout().is_terminal(),
+        error: rt.stderr().is_terminal(),
+    };
+    match run(&rt, terminals) {
         Ok(status) => status,
         Err(stop) => {
             // The status says what happened, even if standard error is closed.
@@ -43,17 +52,44 @@ fn run<
         + Print
         + Eprint
         + AllocGlobal,
->(rt: &R, is_terminal: bool) -> Result<ExitCode, Stop> {
+>(rt: &R, terminals: Terminals) -> Result<ExitCode, Stop> {
     let words = usage::words(rt)?;
     let Ok(commands) = shogi_words::all(rt.alloc()) else {
         return Err(Stop::OutOfMemory);
     };
     match commands.try_get_matches_from(words.as_slice()) {
         Ok(matches) => {
-            let request = requests::requested(&matches, is_terminal)?;
-            requests::meet(rt, &request, is_terminal)?;
-            Ok(ExitCode::SUCCESS)
+            let request = requests::requested(&matches, terminals.error)?;
+            Ok(answer(rt, &request, terminals))
         }
         Err(error) => Ok(usage::answer(rt, &error)?),
+    }
+}
+
+// Does what is asked for, and reports a fault on standard error. The status says what happened,
+// even if standard error is closed.
+fn answer<
+    R: Env
+        + Files
+        + Input
+        + Net<Listener = TcpListener, Stream = TcpStream>
+        + Processes
+        + Clock
+        + Print
+        + Eprint
+        + AllocGlobal,
+>(rt: &R, request: &Request<'_, '_>, terminals: Terminals) -> ExitCode
+    requires moves { (s : Service)
+        → request.now ≡ Request.Serve s → (1 ≤ s.max_moves) × (s.max_moves ≤ positions.max_moves) }
+{
+    match requests::meet(rt, request, terminals) {
+        Ok(()) => ExitCode::SUCCESS,
+        Err(stop) => {
+            let _ = rt.eprintln(&stop);
+            if let Ok(line) = requests::explanation(rt, request, &stop) {
+                let _ = rt.eprint(format_args!("{line}"));
+            }
+            ExitCode::from(stop.status())
+        }
     }
 }

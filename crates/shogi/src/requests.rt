@@ -7,15 +7,28 @@ ghost use Rattle.shogi_rules.specs.Positions as positions;
 ghost use Rattle.shogi_words.specs.Words.{IsNoCommand, word_of};
 
 use crate::stop::Stop;
+use archive_commands::same::Comparison;
+use archive_commands::{LineKind, Tally, Verbosity, digest, explain, many, paths, same};
 use clap::ArgMatches;
-use record_commands::{LineKind, Tally, check, csa, digest, many, normal, usi};
+use game_archive::Likeness;
+use record_commands::{check, csa, normal, usi};
 use session_commands::{engine, play, serve};
-use shogi_words::{Request, Service, request_of};
+use shogi_board::OutOfMemory;
+use shogi_words::{Records, Request, Service, request_of};
 use std::io::Eprint;
 use std::net::{Net, TcpListener, TcpStream};
 use std::process::Processes;
-use std::rt::Files;
+use std::rt::{Env, Files};
 use std::time::Clock;
+
+/// Which of the standard streams are terminals.
+#[derive(Clone, Copy, Debug)]
+pub struct Terminals {
+    /// Standard output.
+    pub output: bool,
+    /// Standard error.
+    pub error: bool,
+}
 
 /// The request of the command line; `is_terminal` says whether standard error is a terminal.
 ///
@@ -35,10 +48,10 @@ pub fn requested<'m, 'a>(
 
 /// Does what is asked for. Refuses as the command does.
 ///
-/// `is_terminal` says whether standard error is a terminal. Several files are then counted there
-/// even if all are accepted.
+/// If standard error is a terminal, several files are counted there even if all are accepted.
 pub fn meet<
-    R: Files
+    R: Env
+        + Files
         + Input
         + Net<Listener = TcpListener, Stream = TcpStream>
         + Processes
@@ -46,16 +59,17 @@ pub fn meet<
         + Print
         + Eprint
         + AllocGlobal,
->(rt: &R, request: &Request<'_, '_>, is_terminal: bool) -> Result<(), Stop>
+>(rt: &R, request: &Request<'_, '_>, terminals: Terminals) -> Result<(), Stop>
     requires moves { (s : Service)
         → request.now ≡ Request.Serve s → (1 ≤ s.max_moves) × (s.max_moves ≤ positions.max_moves) }
     ensures stops { IfErr result (IsStopOf request.now) }
 {
     match *request {
-        Request::Check(files) => run_check(rt, files, is_terminal)?,
-        Request::Digest(files) => run_digest(rt, files, is_terminal)?,
-        Request::Normal(file) => normal::run(rt, file)?,
-        Request::Usi(file) => usi::run(rt, file)?,
+        Request::Check(records) => read_files(rt, LineKind::Checks, &records, terminals)?,
+        Request::Digest(records) => read_files(rt, LineKind::Digests, &records, terminals)?,
+        Request::Same(records, likeness) => compare(rt, &records, likeness, terminals)?,
+        Request::Normal(one) => normal::run(rt, one.file, one.hash_lines)?,
+        Request::Usi(one) => usi::run(rt, one.file, one.hash_lines)?,
         Request::Csa(file) => csa::run(rt, file)?,
         Request::Engine => engine::run(rt)?,
         Request::Serve(service) => serve::run(rt, service)?,
@@ -64,39 +78,54 @@ pub fn meet<
     Ok(())
 }
 
-// One file, or standard input, has a line without its name. Of more, each is named.
-fn run_check<R: Files + Input + Print + Eprint + AllocGlobal>(
+// One file, or standard input, has a line without its name, or of digests with it. Of more, each
+// is named.
+fn read_files<R: Files + Input + Print + Eprint + Clock + AllocGlobal>(
     rt: &R,
-    files: Option<&[&str]>,
-    is_terminal: bool,
+    lines: LineKind,
+    records: &Records<'_, '_>,
+    terminals: Terminals,
 ) -> Result<(), Stop>
-    ensures { IfErr result (IsStopOfFiles files.entry) }
+    ensures { IfErr result IsStopOfFiles }
 {
-    match files {
-        Some(files) if files.len() > 1 => {
-            let tally = many::run(rt, LineKind::Checks, files)?;
-            all_accepted(rt, tally, is_terminal)
-        }
-        Some(files) => Ok(check::run(rt, files.first().copied())?),
-        None => Ok(check::run(rt, None)?),
+    if paths::are_many(rt, records) {
+        let paths = paths::all(rt, records)?;
+        let verbosity = Verbosity {
+            is_explained: records.is_explained,
+            // on one terminal the line of progress would be among the lines of the files
+            shows_progress: records.shows_progress && !terminals.output,
+        };
+        let tally = many::run(rt, lines, &paths, records.hash_lines, verbosity)?;
+        return all_accepted(rt, tally, terminals.error);
     }
+    let file = records.files.first().copied();
+    match lines {
+        LineKind::Checks => check::run(rt, file, records.hash_lines)?,
+        LineKind::Digests => digest::run(rt, file, records.hash_lines)?,
+    }
+    Ok(())
 }
 
-fn run_digest<R: Files + Input + Print + Eprint + AllocGlobal>(
+fn compare<R: Files + Input + Print + Eprint + Clock + AllocGlobal>(
     rt: &R,
-    files: Option<&[&str]>,
-    is_terminal: bool,
+    records: &Records<'_, '_>,
+    likeness: Likeness,
+    terminals: Terminals,
 ) -> Result<(), Stop>
-    ensures { IfErr result (IsStopOfFiles files.entry) }
+    ensures { IfErr result IsStopOfFiles }
 {
-    match files {
-        Some(files) if files.len() > 1 => {
-            let tally = many::run(rt, LineKind::Digests, files)?;
-            all_accepted(rt, tally, is_terminal)
-        }
-        Some(files) => Ok(digest::run(rt, files.first().copied())?),
-        None => Ok(digest::run(rt, None)?),
-    }
+    let paths = paths::all(rt, records)?;
+    let comparison = Comparison {
+        likeness,
+        hash_lines: records.hash_lines,
+        path_end: records.path_end,
+    };
+    let verbosity = Verbosity {
+        is_explained: records.is_explained,
+        shows_progress: records.shows_progress,
+    };
+    let tally = same::run(rt, comparison, &paths, verbosity)?;
+    all_accepted(rt, tally, terminals.error)
 }
 
 // Refuses `NotAll` if a file was refused or could not be read. Otherwise counts the files on a
@@ -114,4 +143,40 @@ fn all_accepted<R: Eprint>(rt: &R, tally: Tally, is_terminal: bool) -> Result<()
         let _ = rt.eprintln(&tally);
     }
     Ok(())
+}
+
+/// The line that explains why the one file of this request is refused or cannot be read, with LF,
+/// or nothing.
+///
+/// Returns an error if an allocation fails.
+pub fn explanation<R: Files + AllocGlobal>(
+    rt: &R,
+    request: &Request<'_, '_>,
+    stop: &Stop,
+) -> Result<String, OutOfMemory> {
+    match (explained_file(request), stop) {
+        (Some(file), Stop::Refused(refusal)) => explain::refusal(rt, file, refusal),
+        (Some(file), Stop::Read) => explain::unreadable(rt, file),
+        _ => Ok(String::new(rt.alloc())),
+    }
+}
+
+// The file of this request that is named, if its refusal is to be explained.
+fn explained_file<'a>(request: &Request<'_, 'a>) -> Option<&'a str> {
+    match request {
+        Request::Check(records) | Request::Digest(records) | Request::Same(records, _) => {
+            explained_of(records)
+        }
+        Request::Normal(one) | Request::Usi(one) if one.is_explained => one.file,
+        _ => None,
+    }
+}
+
+// The list, which is read before all files, or else the one file. Of several files each is
+// explained with its line.
+fn explained_of<'a>(records: &Records<'_, 'a>) -> Option<&'a str> {
+    if !records.is_explained {
+        return None;
+    }
+    records.list.or(records.files.first().copied())
 }

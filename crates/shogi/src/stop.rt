@@ -2,11 +2,12 @@
 
 ghost use Rattle.std.specs.Prelude.{◌≡◌, ◌≢◌};
 ghost use Rattle.std.specs.IoError.{error_kind};
-ghost use Rattle.shogi.specs.Stops.{stop_line, status_of, stop_of_line, stop_of_match, stop_of_record, stop_of_serve, stop_of_talk};
+ghost use Rattle.shogi.specs.Stops.{stop_line, status_of, stop_of_line, stop_of_play, stop_of_record, stop_of_serve, stop_of_talk};
 
+use archive_commands::Tally;
 use csa_record::{FlowFault, Refusal};
-use record_commands::{PositionLineFault, Tally};
-use session_commands::{MatchFault, ServeFault, TalkFault};
+use record_commands::PositionLineFault;
+use session_commands::{LoginFault, MatchFault, PlayFault, ServeFault, TalkFault};
 use shogi_session::SessionFault;
 use std::io::ErrorKind;
 use std::{fmt, io};
@@ -19,6 +20,10 @@ pub enum Stop {
     WordsNotText,
     /// The command line named a command that does not exist.
     UnknownCommand,
+    /// The name of `play` is not 1 to 32 bytes from 0x21 to 0x7E.
+    BadName,
+    /// The password of `play` is not 1 to 32 bytes from 0x21 to 0x7E.
+    BadPassword,
     /// The record was refused.
     Refused(Refusal),
     /// Of several records, some were refused or could not be read.
@@ -51,7 +56,7 @@ impl Stop {
     {
         match self {
             Stop::Refused(_) | Stop::LineRefused(_) | Stop::LineTooLong => 1,
-            Stop::WordsNotText | Stop::UnknownCommand => USAGE,
+            Stop::WordsNotText | Stop::UnknownCommand | Stop::BadName | Stop::BadPassword => USAGE,
             Stop::Read | Stop::Write => 3,
             Stop::NotAll(tally) => { if tally.unreadable > 0 { 3 } else { 1 } }
             Stop::ClientGone | Stop::ClientLineTooLong | Stop::Session(_) => 4,
@@ -79,6 +84,10 @@ impl fmt::Display for Stop {
         match self {
             Stop::WordsNotText => f.write_str("error: a word of the command line is not UTF-8"),
             Stop::UnknownCommand => f.write_str("error: there is no such command"),
+            Stop::BadName => f.write_str("error: the name must be 1 to 32 bytes from 0x21 to 0x7E"),
+            Stop::BadPassword => {
+                f.write_str("error: the password must be 1 to 32 bytes from 0x21 to 0x7E")
+            }
             Stop::Refused(refusal) => write!(f, "refused: {refusal}"),
             Stop::NotAll(tally) => write!(f, "{tally}"),
             Stop::LineRefused(UsiFault::BadMoveText(number)) => write!(
@@ -155,15 +164,19 @@ impl From<ServeFault> for Stop {
     }
 }
 
-impl From<MatchFault> for Stop {
-    ghost from_gives = { λ fault stop. stop ≡ stop_of_match fault };
+impl From<PlayFault> for Stop {
+    ghost from_gives = { λ fault stop. stop ≡ stop_of_play fault };
 
-    fn from(fault: MatchFault) -> Stop {
+    fn from(fault: PlayFault) -> Stop {
         match fault {
-            MatchFault::Session(why) => Stop::Session(why),
-            MatchFault::Endless => Stop::Read,
-            MatchFault::Write => Stop::Write,
-            MatchFault::OutOfMemory => Stop::OutOfMemory,
+            PlayFault::Login(LoginFault::BadName) => Stop::BadName,
+            PlayFault::Login(LoginFault::BadPassword) => Stop::BadPassword,
+            PlayFault::Login(LoginFault::Read) => Stop::Read,
+            PlayFault::Login(LoginFault::OutOfMemory) => Stop::OutOfMemory,
+            PlayFault::Match(MatchFault::Session(why)) => Stop::Session(why),
+            PlayFault::Match(MatchFault::Endless) => Stop::Read,
+            PlayFault::Match(MatchFault::Write) => Stop::Write,
+            PlayFault::Match(MatchFault::OutOfMemory) => Stop::OutOfMemory,
         }
     }
 }

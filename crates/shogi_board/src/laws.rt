@@ -33,8 +33,8 @@ use crate::position::Position;
 use crate::setup::Setup;
 use crate::square::Square;
 
-/// A piece reaches a square exactly if, all turned round, the other side's piece reaches the square
-/// turned round.
+/// Reaching is symmetric: with the board turned round and the sides exchanged, the same pieces
+/// reach the same squares.
 pub fn reach_turned()
     ensures same { (cells : Cells) (a b c d : Square) → length cells ≡ 81 → IsTurned a c
         → IsTurned b d → Reach cells a b ↔ Reach (turned cells) c d }
@@ -60,7 +60,7 @@ pub fn knight_without_move()
         → Reach cells a b → ⊥ }
 {}
 
-/// The even position is sound, no king in it is attacked, and the even setup finishes as it.
+/// The even position is sound, no king in it is attacked, and finishing the even setup gives it.
 pub fn even_is_sound()
     ensures sound { IsSound even_start }
     ensures safe { (color : Color) → InCheck even_cells color → ⊥ }

@@ -1,6 +1,6 @@
 //! What a shogi board is: squares, pieces, hands and sound positions.
 //!
-//! A `Position` is sound whenever there is one: it has no more pieces than a game and at most one
+//! A `Position` is always sound: it has no more pieces than a game and at most one
 //! king a side, and the king of the side that is not to move is not attacked. `Position::even` is
 //! the even start; any other position is set up in a `Setup`, piece by piece, and each call there
 //! says why a piece may not be added. A `Packed` is a position in a few numbers. Which moves are

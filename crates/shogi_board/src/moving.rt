@@ -20,9 +20,9 @@ use crate::position::Position;
 use crate::square::Square;
 
 impl Position {
-    /// Empties `from`, puts a piece of the mover and of that kind on `to`, and has the other side
-    /// to move. What was on `to` goes to the mover's hand, unpromoted. Returns whether the mover's
-    /// king is not attacked then; if it is, the position stays as it was.
+    /// Empties `from`, puts a piece of the mover and of that kind on `to`, and passes the turn to
+    /// the other side. What was on `to` goes to the mover's hand, unpromoted. Returns whether the
+    /// mover's king is not attacked then; if it is, the position stays as it was.
     ///
     /// The danger says where the mover's king may be attacked from after the walk. To be called
     /// with two different squares, if no king is captured and there are then no more pieces than a
@@ -59,9 +59,9 @@ impl Position {
         true
     }
 
-    /// Has the side to move put a piece of that kind from its hand on the square, and has the other
-    /// side to move. Returns whether the mover's king is not attacked then; if it is, the position
-    /// stays as it was.
+    /// Drops a piece of that kind from the hand of the side to move on the square, and passes the
+    /// turn to the other side. Returns whether the mover's king is not attacked then; if it is, the
+    /// position stays as it was.
     ///
     /// The danger is as in `walk`. To be called if the hand holds such a piece, the square is
     /// empty, and there are then no more pieces than a game has.

@@ -19,9 +19,12 @@ use std::marker::Model;
 
 /// A sound position: the board, both hands, and the side to move.
 ///
-/// There are at most 18 pawns, four each of lances, knights, silvers and golds, and two each of
-/// bishops and rooks, promoted ones and those in hands counted; each side has at most one king; and
-/// the king of the side that is not to move is not attacked. Pieces may be missing, kings too.
+/// - There are at most 18 pawns, four each of lances, knights, silvers and golds, and two each of
+///   bishops and rooks. Promoted pieces and those in hands are counted.
+/// - Each side has at most one king.
+/// - The king of the side that is not to move is not attacked.
+///
+/// Pieces may be missing, kings too.
 ///
 /// Two positions are equal if board, hands and side to move are, and positions are ordered by
 /// these.

@@ -101,10 +101,15 @@ impl Setup {
 
     /// Places a piece of that side and kind on the square.
     ///
-    /// Refuses, in this order: AfterRest if the rest was given; SquareTaken if the square holds a
-    /// piece; SecondKing for a king of a side that has one; TooMany if all pieces of that kind,
-    /// promoted ones counted with their unpromoted kind, are placed or in hands already. A refused
-    /// call changes nothing.
+    /// Refuses, in this order:
+    ///
+    /// - `AfterRest` if the rest was given;
+    /// - `SquareTaken` if the square holds a piece;
+    /// - `SecondKing` for a king of a side that has one;
+    /// - `TooMany` if all pieces of that kind are placed or in hands already; promoted ones count
+    ///   as their unpromoted kind.
+    ///
+    /// A refused call changes nothing.
     pub fn place(&mut self, color: Color, square: Square, kind: Kind) -> Result<(), SetupFault>
         ensures answer { MatchResult result
             (λ _. place_fault self.old color square kind ≡ None)

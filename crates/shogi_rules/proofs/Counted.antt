@@ -52,11 +52,11 @@ get-left [] ys i low = absurd (omega arith)
 get-left (x ∷ xs) ys zero low = refl
 get-left (x ∷ xs) ys (suc i) low = get-left xs ys i (omega arith)
 
-pub get-behind : {X : Type 0} (xs : List X) (y : X) (i : ℕ) → i ≡ length xs → slice_get (xs ++ y ∷ []) i ≡ Some y
-get-behind [] y zero e = refl
-get-behind [] y (suc i) e = absurd (omega (arith, e))
-get-behind (x ∷ xs) y zero e = absurd (omega (arith, e))
-get-behind (x ∷ xs) y (suc i) e = get-behind xs y i (omega (arith, e))
+pub get-following : {X : Type 0} (xs : List X) (y : X) (i : ℕ) → i ≡ length xs → slice_get (xs ++ y ∷ []) i ≡ Some y
+get-following [] y zero e = refl
+get-following [] y (suc i) e = absurd (omega (arith, e))
+get-following (x ∷ xs) y zero e = absurd (omega (arith, e))
+get-following (x ∷ xs) y (suc i) e = get-following xs y i (omega (arith, e))
 
 pub times-other : (ps : List Placed) (p q : Placed) (b : Bool) → same_position p q ≡ b → b ≡ false → times (ps ++ p ∷ []) q ≡ times ps q
 times-other ps p q true e h = cc
@@ -72,7 +72,7 @@ key-at (x ∷ es) zero e at = ap (λ (d : Entry). Some d.position) (same_Some x 
 key-at (x ∷ es) (suc i) e at = key-at es i e at
 
 pub last-entry : (es : List Entry) (d e : Entry) (i : ℕ) → i ≡ length es → slice_get (es ++ d ∷ []) i ≡ Some e → d ≡ e
-last-entry es d e i same at = same_Some d e (sym (get-behind es d i same) ∙ at)
+last-entry es d e i same at = same_Some d e (sym (get-following es d i same) ∙ at)
 
 -- an entry that is counted on keeps its position, and so do all
 pub keys-kept : (es : List Entry) (i : ℕ) (d e : Entry) → slice_get es i ≡ Some d → e.position ≡ d.position → keys (set es i e) ≡ keys es

@@ -12,7 +12,7 @@ use Rattle.shogi_rules.specs.Repetition.{times, IsNth}
 use Rattle.shogi_rules.specs.declared.occurrences.Entry.{Entry}
 use Rattle.shogi_rules.specs.declared.seen.Turn.{Turn}
 use Rattle.shogi_rules.proofs.Counts.{first, times-more, times-same}
-use Rattle.shogi_rules.proofs.Counted.{times-last, times-kept, times-whole, times-other, times-low, apart, get-left, get-behind, get-set, get-other, equal-or, key-at, keys-more, keys-kept, last-entry, pushed}
+use Rattle.shogi_rules.proofs.Counted.{times-last, times-kept, times-whole, times-other, times-low, apart, get-left, get-following, get-set, get-other, equal-or, key-at, keys-more, keys-kept, last-entry, pushed}
 
 -- a position that is at a place occurs at least once
 stands-once : (ps : List Placed) (i : ℕ) (p : Placed) → slice_get ps i ≡ Some p → 1 ≤ times ps p
@@ -47,7 +47,7 @@ nth-kept ps p q n i nth =
 
 first-here : (ps : List Placed) (p : Placed) → times ps p ≡ 0 → IsNth (ps ++ p ∷ []) p 1 (length ps)
 first-here ps p none = record {
-  stands = get-behind ps p (length ps) refl;
+  stands = get-following ps p (length ps) refl;
   before =
       let same = times-kept ps p (length ps) p (omega arith) in
       let whole = times-whole ps (length ps) p (omega arith) in
@@ -132,8 +132,8 @@ counts-again ps es n d e p old at stands same count begins =
             subst (λ (z : Entry). (z.count ≡ times (ps ++ p ∷ []) z.position) × IsNth (ps ++ p ∷ []) z.position 1 z.first) one (now ∙ ap (times (ps ++ p ∷ [])) (sym own), new)
         | inr other ↦
             let before = there i x other by in
-            let told = old.each i x before in
-            (told.0 ∙ sym (times-apart ps p x.position (differs i x other before)), nth-kept ps p x.position 1 x.first told.1)
+            let stated = old.each i x before in
+            (stated.0 ∙ sym (times-apart ps p x.position (differs i x other before)), nth-kept ps p x.position 1 x.first stated.1)
       ];
       once = λ i j x y by bz is.
           let kx = was-at es n d e i x at same by in
@@ -163,8 +163,8 @@ turns-more ps turns p turn old side check =
         | inr le ↦
             let within = slice_get_within (ps ++ p ∷ []) i q at in
             let here : i ≡ length ps = omega (arith, within, a, le) in
-            let one : p ≡ q = same_Some p q (sym (get-behind ps p i here) ∙ at) in
-            let two : turn ≡ t = same_Some turn t (sym (get-behind turns turn i (here ∙ sym long)) ∙ by) in
+            let one : p ≡ q = same_Some p q (sym (get-following ps p i here) ∙ at) in
+            let two : turn ≡ t = same_Some turn t (sym (get-following turns turn i (here ∙ sym long)) ∙ by) in
             subst (λ (x : Placed). (t.side ≡ x.side) × (IsTrue t.in_check ↔ InCheck x.material.board x.side)) one
             (subst (λ (x : Turn). (x.side ≡ p.side) × (IsTrue x.in_check ↔ InCheck p.material.board p.side)) two (side, check))
       ];
@@ -185,8 +185,8 @@ count-low ps es n e old at =
 pub stands-again : (es : List Entry) (n : ℕ) (d e : Entry) (p : Placed) → slice_get es n ≡ Some d → d.position ≡ p → e.position ≡ d.position → StandsAt (set es n e) n p
 stands-again es n d e p at stands same = λ x there. let one : e ≡ x = get-set es n d e x at there in ap (λ (y : Entry). y.position) (sym one) ∙ (same ∙ stands)
 
-pub stands-behind : (es : List Entry) (d : Entry) → StandsAt (es ++ d ∷ []) (length es) d.position
-stands-behind es d = λ e at. ap (λ (y : Entry). y.position) (sym (last-entry es d e (length es) refl at))
+pub stands-following : (es : List Entry) (d : Entry) → StandsAt (es ++ d ∷ []) (length es) d.position
+stands-following es d = λ e at. ap (λ (y : Entry). y.position) (sym (last-entry es d e (length es) refl at))
 
 pub no-turns : AreTurns [] []
 no-turns = record { long = refl; each = λ i p t at by. cc }

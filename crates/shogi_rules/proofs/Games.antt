@@ -17,7 +17,7 @@ use Rattle.shogi_rules.specs.declared.line.PlayFault.TheVariants.{Broken}
 use Rattle.shogi_rules.specs.declared.moves.Move.{Move}
 use Rattle.shogi_rules.specs.declared.rule.Rule.{Rule}
 use Rattle.shogi_rules.proofs.Broken.{AllKept}
-use Rattle.shogi_rules.proofs.Counted.{times-low, times-last, times-kept, times-whole, get-behind}
+use Rattle.shogi_rules.proofs.Counted.{times-low, times-last, times-kept, times-whole, get-following}
 use Rattle.shogi_rules.proofs.Counting.{times-apart}
 use Rattle.shogi_board.specs.Same.{same_position}
 use Rattle.shogi_board.proofs.Same.{position-same}
@@ -142,7 +142,7 @@ game-fourth start _ (played before m game may) over =
     let place : length (before ++ m ∷ []) ≡ length ps = omega (arith, long, count) in
     let kept = times-kept ps p (length ps) p (omega arith) in
     let whole = times-whole ps (length ps) p (omega arith) in
-    rw (all, last, place) (record { stands = get-behind ps p (length ps) refl; before = omega (arith, kept, whole, more, few, stands) })
+    rw (all, last, place) (record { stands = get-following ps p (length ps) refl; before = omega (arith, kept, whole, more, few, stands) })
 
 last-by : (ps : List Placed) (p q : Placed) (b : Bool) → same_position p q ≡ b → times ps q ≤ 3 → 4 ≤ times (ps ++ p ∷ []) q → q ≡ p
 last-by ps p q true e low over = sym ((position-same p q).0 e)

@@ -47,5 +47,5 @@ first-once p m n a b =
     elim (ordered p m n a.legal.keeps.fits b.legal.keeps.fits) [
       | inl same ↦ same
       | inr (inl before) ↦ absurd (b.first m before a.legal)
-      | inr (inr behind) ↦ absurd (a.first n behind b.legal)
+      | inr (inr following) ↦ absurd (a.first n following b.legal)
     ]

@@ -16,7 +16,7 @@ use Rattle.shogi_rules.specs.Counting.{StandsAt}
 use Rattle.shogi_rules.specs.Repetition.{times}
 use Rattle.shogi_rules.specs.Searching.{Comes, Finds, GoesOn, IsFree, IsTree, LeadsTo, first_link, first_links, keys, number_of, order}
 use Rattle.shogi_rules.specs.declared.occurrences.Entry.{Entry}
-use Rattle.shogi_rules.proofs.Counted.{get-here, get-left, get-behind, get-other, get-set, equal-or, last-entry}
+use Rattle.shogi_rules.proofs.Counted.{get-here, get-left, get-following, get-other, get-set, equal-or, last-entry}
 use Rattle.shogi_rules.proofs.Counting.{none-stands, was-at}
 
 -- positions are in a total order
@@ -159,7 +159,7 @@ new-leads es links d link none =
     let long = length-set links link (length es + 1) in
     record {
       number = get-left (set links link (length es + 1)) (0 ∷ 0 ∷ []) link (omega (arith, low, long)) ∙ get-here links link 0 (length es + 1) none;
-      entry = get-behind es d (length es) refl;
+      entry = get-following es d (length es) refl;
     }
 
 new-found : (es : List Entry) (links : List ℕ) (d : Entry) (link : ℕ) → IsFree es links d.position link → Finds (es ++ d ∷ []) (grown links link (length es)) d.position (first_link d.position)
@@ -217,8 +217,8 @@ all-later es links d link s n tree none at =
                 (omega (arith, old.0, more), old.1)
           ]
       | inr le ↦
-          let behind = get-right (set links link (length es + 1)) (0 ∷ 0 ∷ []) s (n + 1) (omega (arith, le, long)) at in
-          absurd (two-zeros behind.0 n behind.1)
+          let following = get-right (set links link (length es + 1)) (0 ∷ 0 ∷ []) s (n + 1) (omega (arith, le, long)) at in
+          absurd (two-zeros following.0 n following.1)
     ]
 
 pub tree-more : (es : List Entry) (links : List ℕ) (d : Entry) (link : ℕ) → IsTree es links → IsFree es links d.position link → d.number ≡ number_of d.position → IsTree (es ++ d ∷ []) (set links link (length es + 1) ++ 0 ∷ 0 ∷ [])

@@ -94,7 +94,7 @@ pub fn other_side_moves()
     ensures turn { (p : Placed) (m : Move) → (after p m).side ≡ opponent p.side }
 {}
 
-/// One rule, or none, is the first that a move breaks.
+/// At most one rule is the first that a move breaks.
 pub fn one_first_broken_rule()
     ensures once { (line : Played) (color : Color) (m : Move) (a b : Option Rule)
         → IsFirstBroken (Kept line color m) all_rules a
@@ -107,13 +107,13 @@ pub fn some_first_broken_rule()
         → (answer : Option Rule) × IsFirstBroken (Kept line color m) all_rules answer }
 {}
 
-/// Memory aside, one answer to a move that is to be played holds.
+/// A move that is to be played has at most one answer, lack of memory aside.
 pub fn one_answer()
     ensures once { (line : Played) (color : Color) (m : Move) (a b : Option PlayFault)
         → Answers line color m a → Answers line color m b → a ≡ b }
 {}
 
-/// Memory aside, each move that is to be played has an answer.
+/// A move that is to be played has an answer, lack of memory aside.
 pub fn some_answer()
     ensures answer { (line : Played) (color : Color) (m : Move)
         → (answer : Option PlayFault) × Answers line color m answer }
@@ -124,13 +124,12 @@ pub fn ordered_rules()
     ensures named { IsStrictlySortedBy ⟦<Rule as Ord>⟧.cmp all_rules }
 {}
 
-/// One move is the first legal one.
+/// At most one move is the first legal one.
 pub fn one_first_legal()
     ensures once { (p : Placed) (m n : Move) → IsFirstLegal p m → IsFirstLegal p n → m ≡ n }
 {}
 
-/// A position counts in a list exactly if it is equal: one in front adds one then, and else
-/// nothing.
+/// `times` counts the positions of a list that are equal to the given one.
 pub fn times_counts_equal_positions()
     ensures none { (p : Placed) → times [] p ≡ 0 }
     ensures more { (ps : List Placed) (p q : Placed)

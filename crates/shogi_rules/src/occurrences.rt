@@ -111,19 +111,6 @@ pub(crate) struct Occurrences {
 }
 
 impl Model for Occurrences {
-    // How often each position of a line occurs, and where it occurred first.
-    //
-    // Each position has one entry. A new entry comes after the others, so the entries are in the
-    // order of first places. Links lead to them, as in search trees: 256 links, one for each first
-    // byte of a number, lead to the roots of 256 trees, and each entry has two links, one to the
-    // positions that are less and one to those that are greater. Nothing is turned to balance the
-    // trees.
-    //
-    // Positions are ordered by a number first, and as positions are if their numbers are equal. The
-    // number is the key of the board times an odd constant, so that positions that follow each
-    // other lie far apart and the trees stay flat. A record made for it could make a tree deep, but
-    // 10,000 moves bound what a search takes. `docs/DECISIONS.md` has the measurements.
-
     ghost use Rattle.std.specs.Prelude.{List};
     ghost use Rattle.shogi_rules.specs.Searching.{IsTree};
     ghost use Rattle.shogi_rules.specs.declared.occurrences.Entry.{Entry as Counted};

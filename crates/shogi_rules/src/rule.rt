@@ -9,13 +9,13 @@ pub enum Rule {
     /// The position occurs for the fourth time, and the game is over.
     #[error("rule 2 RepetitionOver")]
     RepetitionOver,
-    /// No piece of the mover stands on the square left, or the hand has none of the kind put down.
+    /// The square left has no piece of the mover, or the hand has none of the kind that is dropped.
     #[error("rule 3 NoPiece")]
     NoPiece,
-    /// A piece that walks is afterwards neither of its kind nor of its promoted kind.
+    /// The kind after a walk is neither that of the piece nor its promoted kind.
     #[error("rule 4 WrongKind")]
     WrongKind,
-    /// An own piece stands on the target; for a piece put down, any piece.
+    /// An own piece is on the target; for a drop, any piece.
     #[error("rule 5 Occupied")]
     Occupied,
     /// The piece that walks does not reach the target.
@@ -24,7 +24,7 @@ pub enum Rule {
     /// A piece promotes on a walk outside the last three ranks.
     #[error("rule 7 BadPromotion")]
     BadPromotion,
-    /// A pawn, lance or knight would stand unpromoted where it has no further move.
+    /// A pawn, lance or knight would be unpromoted where it has no further move.
     #[error("rule 8 MustPromote")]
     MustPromote,
     /// A pawn is put on a file that holds an own unpromoted pawn.

@@ -19,18 +19,18 @@ played_of x = record { start = x.start; moves = map move_of x.moves }
 
 -- the side to move is the client's and there is room: all depends on the repetition
 pub may_ask_now : (g : Match) (game : Game) (client side : Color) (l : Played) (over : Bool) → g.client ≡ client → g.game ≡ game → l ≡ played_of game → side ≡ (now_of l).side → side ≡ client → length l.moves < 10000 → (IsTrue over ↔ Over l) → (IsTrue (not over) ↔ MayAsk g)
-may_ask_now g game client side l over cl e is s c few told =
+may_ask_now g game client side l over cl e is s c few stated =
     let same : match_line g ≡ l = ap played_of e ∙ sym is in
     let moves : length l.moves ≡ length g.game.moves = ap (λ (t : Played). length t.moves) (sym same) ∙ length-map g.game.moves move_of in
     let turn : (now_of (match_line g)).side ≡ g.client = ap (λ t. (now_of t).side) same ∙ (sym s ∙ (c ∙ sym cl)) in
-    may_ask_by over told same turn (omega (arith, few, moves))
+    may_ask_by over stated same turn (omega (arith, few, moves))
   where
     may_ask_by : (b : Bool) → (IsTrue b ↔ Over l) → match_line g ≡ l → (now_of (match_line g)).side ≡ g.client → length g.game.moves < 10000 → (IsTrue (not b) ↔ MayAsk g)
-    may_ask_by true told same turn room = (λ h. cc, λ (may : MayAsk g). absurd (may.not_over (subst (λ t. Over t) (sym same) (told.0 refl))))
-    may_ask_by false told same turn room = (
+    may_ask_by true stated same turn room = (λ h. cc, λ (may : MayAsk g). absurd (may.not_over (subst (λ t. Over t) (sym same) (stated.0 refl))))
+    may_ask_by false stated same turn room = (
       λ h. record {
         to_move = turn;
-        not_over = λ o. let x = told.1 (subst (λ t. Over t) same o) in cc;
+        not_over = λ o. let x = stated.1 (subst (λ t. Over t) same o) in cc;
         few = room;
       },
       λ may. refl,
@@ -38,7 +38,7 @@ may_ask_now g game client side l over cl e is s c few told =
 
 -- the position line and then the go line
 pub asked_text : (c : Config) (g : Match) (game : Game) (l : Played) (position before middle after : List ℕ) → MayAsk g → g.game ≡ game → l ≡ played_of game → LineText l.start l.moves position → middle ≡ before ++ ended_line position → after ≡ middle ++ ended_line (go_line c g) → (text : List ℕ) × (after ≡ before ++ text) × IsAsked c g true text
-asked_text c g game l position before middle after may e is told first second =
+asked_text c g game l position before middle after may e is stated first second =
     let same : match_line g ≡ l = ap played_of e ∙ sym is in
     let lines : List (List ℕ) = position ∷ go_line c g ∷ [] in
     let both : text_of lines ≡ ended_line position ++ ended_line (go_line c g) = ap (λ t. ended_line position ++ t) (append-nil (ended_line (go_line c g))) in (
@@ -49,7 +49,7 @@ asked_text c g game l position before middle after may e is told first second =
         lines,
         record {
           position = position;
-          of_game = subst (λ (t : Played). LineText t.start t.moves position) (sym same) told;
+          of_game = subst (λ (t : Played). LineText t.start t.moves position) (sym same) stated;
           whole = refl;
         },
         refl,

@@ -45,13 +45,13 @@ gap_before offset gap rest (v ∷ vs) g h =
       h.2,
     )
 
-ends_over : (first : ℕ) (behind rest : List ℕ) → EndsBefore first behind → EndsBefore first (behind ++ 10 ∷ rest)
+ends_over : (first : ℕ) (following rest : List ℕ) → EndsBefore first following → EndsBefore first (following ++ 10 ∷ rest)
 ends_over first [] rest h = refl
 ends_over first (b ∷ bs) rest h = h
 
-unit_over : (unit behind rest : List ℕ) → IsUnit unit behind → IsUnit unit (behind ++ 10 ∷ rest)
-unit_over [] behind rest h = h
-unit_over (first ∷ bytes) behind rest h = (h.0, h.1, ends_over first behind rest h.2)
+unit_over : (unit following rest : List ℕ) → IsUnit unit following → IsUnit unit (following ++ 10 ∷ rest)
+unit_over [] following rest h = h
+unit_over (first ∷ bytes) following rest h = (h.0, h.1, ends_over first following rest h.2)
 
 units_join : (offset : ℕ) (text rest : List ℕ) (us vs : List TextUnit) → Units offset text us → Units (offset + length text + 1) rest vs
     → Units offset (text ++ 10 ∷ rest) (us ++ vs)
@@ -130,20 +130,20 @@ all_join P (s ∷ ss) ts h k = (h.0, all_join P ss ts h.1 k)
 
 record Parted (P : Saying → Type 0) (us vs : List TextUnit) : Type 0 where
   before : List Saying
-  behind : List Saying
+  following : List Saying
   front : AllZip IsSpelt us before
   front_fits : AllByRecursion P before
-  back : AllZip IsSpelt vs behind
-  back_fits : AllByRecursion P behind
+  back : AllZip IsSpelt vs following
+  back_fits : AllByRecursion P following
 
 part : (P : Saying → Type 0) (us vs : List TextUnit) (ss : List Saying) → AllZip IsSpelt (us ++ vs) ss → AllByRecursion P ss → Parted P us vs
-part P [] vs ss z f = record { before = []; behind = ss; front = tt; front_fits = tt; back = z; back_fits = f }
+part P [] vs ss z f = record { before = []; following = ss; front = tt; front_fits = tt; back = z; back_fits = f }
 part P (u ∷ us) vs [] z f = absurd z
 part P (u ∷ us) vs (s ∷ ss) z f =
     let rest = part P us vs ss z.1 f.1 in
     record {
       before = s ∷ rest.before;
-      behind = rest.behind;
+      following = rest.following;
       front = (z.0, rest.front);
       front_fits = (f.0, rest.front_fits);
       back = rest.back;
@@ -177,7 +177,7 @@ read_part P o text rest r =
     let same = statements_once o (text ++ 10 ∷ rest) r.statements (a.0 ++ b.0) r.cut (statements_join o text rest a.0 b.0 a.1 b.1) in
     let parts = part P a.0 b.0 r.sayings (subst (λ us. AllZip IsSpelt us r.sayings) same r.spelt) r.fit in (
       record { statements = a.0; sayings = parts.before; cut = a.1; spelt = parts.front; fit = parts.front_fits },
-      moved P (o + length text + 1) 0 rest (record { statements = b.0; sayings = parts.behind; cut = b.1; spelt = parts.back; fit = parts.back_fits }),
+      moved P (o + length text + 1) 0 rest (record { statements = b.0; sayings = parts.following; cut = b.1; spelt = parts.back; fit = parts.back_fits }),
     )
 
 pub read_nothing : (P : Saying → Type 0) (o : ℕ) → Read P o []
@@ -267,13 +267,13 @@ kept_first : (bytes : List ℕ) → (rest : List ℕ) × (before_kept 239 bytes 
 kept_first [] = ([], refl)
 kept_first (b ∷ bs) = (b ∷ bs, refl)
 
-unit_marked : (unit behind text : List ℕ) → IsUnit unit behind → 239 ∷ text ≡ unit ++ behind → (bytes : List ℕ) × (unit ≡ 239 ∷ bytes)
-unit_marked [] behind text h e = absurd h
-unit_marked (first ∷ bytes) behind text h e = let same : first ≡ 239 = cc in (bytes, ap (λ n. n ∷ bytes) same)
+unit_marked : (unit following text : List ℕ) → IsUnit unit following → 239 ∷ text ≡ unit ++ following → (bytes : List ℕ) × (unit ≡ 239 ∷ bytes)
+unit_marked [] following text h e = absurd h
+unit_marked (first ∷ bytes) following text h e = let same : first ≡ 239 = cc in (bytes, ap (λ n. n ∷ bytes) same)
 
-next_marked : (gap unit behind text : List ℕ) → IsGap gap → IsUnit unit behind → 239 ∷ text ≡ gap ++ (unit ++ behind) → (bytes : List ℕ) × (unit ≡ 239 ∷ bytes)
-next_marked [] unit behind text g h e = unit_marked unit behind text h e
-next_marked (b ∷ gap) unit behind text g h e =
+next_marked : (gap unit following text : List ℕ) → IsGap gap → IsUnit unit following → 239 ∷ text ≡ gap ++ (unit ++ following) → (bytes : List ℕ) × (unit ≡ 239 ∷ bytes)
+next_marked [] unit following text g h e = unit_marked unit following text h e
+next_marked (b ∷ gap) unit following text g h e =
     let same : b ≡ 239 = cc in
     let separates : is_separator 239 ≡ true = subst (λ n. is_separator n ≡ true) same g.0 in
     absurd cc

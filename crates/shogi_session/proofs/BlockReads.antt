@@ -33,8 +33,8 @@ any_in : (text : List ℕ) (g : Game) → Tells text g → ReadText Any text
 any_in text g p = record { statements = p.statements; sayings = p.sayings; cut = p.cut; spelt = p.spelt; fit = any_all p.sayings }
 
 -- a line after others, and what follows it
-behind_line : (front line more : List ℕ) → ((front ++ 10 ∷ []) ++ (line ++ 10 ∷ [])) ++ more ≡ front ++ 10 ∷ (line ++ 10 ∷ more)
-behind_line front line more =
+after_line : (front line more : List ℕ) → ((front ++ 10 ∷ []) ++ (line ++ 10 ∷ [])) ++ more ≡ front ++ 10 ∷ (line ++ 10 ∷ more)
+after_line front line more =
     append_assoc (front ++ 10 ∷ []) (line ++ 10 ∷ []) more
     ∙ (append_assoc front (10 ∷ []) ((line ++ 10 ∷ []) ++ more) ∙ ap (λ xs. front ++ 10 ∷ xs) (append_assoc line (10 ∷ []) more))
 
@@ -46,7 +46,7 @@ first_none line none = λ more g p.
 
 later_none : (front line : List ℕ) → (IsPositionText line → ⊥) → TellsNone ((front ++ 10 ∷ []) ++ ended_line line)
 later_none front line none = λ more g p.
-    let r = subst (ReadText FitsIn) (behind_line front line more) (position_in _ g p) in
+    let r = subst (ReadText FitsIn) (after_line front line more) (position_in _ g p) in
     let rest = (text_part FitsIn front (line ++ 10 ∷ more) r).1 in
     none (position_read line (unmarked FitsIn line (read_part FitsIn 0 line more rest).0))
 
@@ -66,8 +66,8 @@ first_fits line p = position_read (ended_line line) (text_join FitsIn line [] (r
 
 later_fits : (front line more : List ℕ) (g : Game) → IsPositionText (front ++ 10 ∷ []) → IsPositionText line
     → Tells (((front ++ 10 ∷ []) ++ ended_line line) ++ more) g → IsPositionText ((front ++ 10 ∷ []) ++ ended_line line)
-later_fits front line more g before p told =
-    let all = subst (ReadText Any) (behind_line front line more) (any_in _ g told) in
+later_fits front line more g before p stated =
+    let all = subst (ReadText Any) (after_line front line more) (any_in _ g stated) in
     let any = (read_part Any 0 line more (text_part Any front (line ++ 10 ∷ more) all).1).0 in
     let fits = read_join FitsIn 0 0 line [] (unmarked_or FitsIn Any line any (read_position line p)) (read_nothing FitsIn 0) in
     let whole = text_join FitsIn front (line ++ 10 ∷ []) (text_part FitsIn front [] (read_position _ before)).0 fits in
@@ -75,11 +75,11 @@ later_fits front line more g before p told =
 
 fits_on : (text line more : List ℕ) (g : Game) → IsWhole text → (Tells (text ++ (ended_line line ++ more)) g → IsPositionText text) → IsPositionText line
     → Tells ((text ++ ended_line line) ++ more) g → IsPositionText (text ++ ended_line line)
-fits_on text line more g (inl e) before p told = subst (λ x. IsPositionText (x ++ ended_line line)) (sym e) (first_fits line p)
-fits_on text line more g (inr w) before p told =
-    let here = before (subst (λ x. Tells x g) (append_assoc text (ended_line line) more) told) in
+fits_on text line more g (inl e) before p stated = subst (λ x. IsPositionText (x ++ ended_line line)) (sym e) (first_fits line p)
+fits_on text line more g (inr w) before p stated =
+    let here = before (subst (λ x. Tells x g) (append_assoc text (ended_line line) more) stated) in
     subst (λ x. IsPositionText (x ++ ended_line line)) (sym w.1)
-    (later_fits w.0 line more g (subst IsPositionText w.1 here) p (subst (λ x. Tells ((x ++ ended_line line) ++ more) g) w.1 told))
+    (later_fits w.0 line more g (subst IsPositionText w.1 here) p (subst (λ x. Tells ((x ++ ended_line line) ++ more) g) w.1 stated))
 
 pub line_fed : (text line : List ℕ) (reader new : Reading) → IsFed text reader → IsPositionText line → HasRead ((text ++ line) ++ 10 ∷ []) new
     → IsFed (text ++ ended_line line) new
@@ -88,16 +88,16 @@ line_fed text line reader new fed p read =
     record {
       read = subst (λ x. HasRead x new) same read;
       whole = inr (text ++ line, sym same);
-      fits = λ more g told. fits_on text line more g fed.whole (fed.fits (ended_line line ++ more) g) p told;
+      fits = λ more g stated. fits_on text line more g fed.whole (fed.fits (ended_line line ++ more) g) p stated;
     }
 
 pub nothing_fed : (reader : Reading) → HasRead [] reader → IsFed [] reader
 nothing_fed reader read =
-    record { read = read; whole = inl refl; fits = λ more g told. position_read [] (read_nothing FitsIn 0) }
+    record { read = read; whole = inl refl; fits = λ more g stated. position_read [] (read_nothing FitsIn 0) }
 
 -- 3. The end
 pub all_fits : (text : List ℕ) (reader : Reading) (g : Game) → IsFed text reader → Tells text g → IsPositionText text
-all_fits text reader g fed told = fed.fits [] g (subst (λ x. Tells x g) (sym (append-nil text)) told)
+all_fits text reader g fed stated = fed.fits [] g (subst (λ x. Tells x g) (sym (append-nil text)) stated)
 
 pub none_now : (text : List ℕ) → TellsNone text → (g : Game) → TellsPosition text g → ⊥
 none_now text none g p = none [] g (subst (λ x. TellsPosition x g) (sym (append-nil text)) p)

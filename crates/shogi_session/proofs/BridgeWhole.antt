@@ -16,7 +16,7 @@ use Rattle.usi_text.proofs.Clean.{board_bytes, side_word}
 use Rattle.usi_text.proofs.Spelt.{side_low}
 use Rattle.usi_text.specs.Hands.{count_text, pile_text}
 use Rattle.usi_text.specs.Letters.{letter, side_letter}
-use Rattle.usi_text.specs.LineText.{BehindStart, LineText, MovesText, StartText}
+use Rattle.usi_text.specs.LineText.{AfterStart, LineText, MovesText, StartText}
 use Rattle.usi_text.specs.Moves.{UsiMove}
 use Rattle.usi_text.specs.Sfen.{side_text}
 use Rattle.usi_text.specs.SfenText.{both_piles, board_text, hands_text, sfen_text}
@@ -25,7 +25,7 @@ use Rattle.usi_text.specs.EngineTexts as usi_texts
 use Rattle.session_lines.specs.declared.server_words.GameResult.{GameResult}
 use Rattle.session_lines.specs.declared.server_words.GameResult.TheVariants.{Win, Lose, Draw, Censored, Chudan}
 use Rattle.session_lines.specs.Texts.{text_of, without_last_spaces}
-use Rattle.host_and_sample.proofs.WholeLines.{IsVisible, IsWhole, AllWhole, behind, both, cut_back, decimal_visible, login_word, move_visible, number, plain_visible, text, told_run, unspaced_all, visible_more, visible_run, word}
+use Rattle.host_and_sample.proofs.WholeLines.{IsVisible, IsWhole, AllWhole, following, both, cut_back, decimal_visible, login_word, move_visible, number, plain_visible, text, stated_run, unspaced_all, visible_more, visible_run, word}
 use Rattle.bridge_table.specs.declared.config.Config.{Config}
 use Rattle.bridge_table.specs.declared.state.EngineState.{EngineState}
 use Rattle.bridge_table.specs.Asking.{Asks, asked, go_line, left, not_asked}
@@ -70,16 +70,16 @@ hands_visible (p ∷ ps) = each_visible pile_text (p ∷ ps) (λ pile. pile_visi
 
 sfen_whole : (p : Placed) → IsWhole (sfen_text p)
 sfen_whole p =
-    let space = told_run (codes " ") refl in
+    let space = stated_run (codes " ") refl in
     let hands = hands_text (both_piles p) in
-    let numbered = behind hands (codes " 1") (visible_run hands (hands_visible (both_piles p))) (text (codes " 1") refl refl (omega arith)) in
-    let with_hands = behind (codes " ") (hands ++ codes " 1") space numbered in
-    let with_side = behind (side_text p.side) _ (visible_run (side_text p.side) (side_word p.side)) with_hands in
-    behind (board_text p.material.board) _ (visible_run (board_text p.material.board) (board_bytes p.material.board)) (behind (codes " ") _ space with_side)
+    let numbered = following hands (codes " 1") (visible_run hands (hands_visible (both_piles p))) (text (codes " 1") refl refl (omega arith)) in
+    let with_hands = following (codes " ") (hands ++ codes " 1") space numbered in
+    let with_side = following (side_text p.side) _ (visible_run (side_text p.side) (side_word p.side)) with_hands in
+    following (board_text p.material.board) _ (visible_run (board_text p.material.board) (board_bytes p.material.board)) (following (codes " ") _ space with_side)
 
 start_whole : (p : Placed) (front : List ℕ) → StartText p front → IsWhole front
 start_whole p front (inl even) = subst IsWhole (sym even.1) (text (codes "startpos") refl refl (omega arith))
-start_whole p front (inr other) = subst IsWhole (sym other.1) (behind (codes "sfen ") (sfen_text p) (told_run (codes "sfen ") refl) (sfen_whole p))
+start_whole p front (inr other) = subst IsWhole (sym other.1) (following (codes "sfen ") (sfen_text p) (stated_run (codes "sfen ") refl) (sfen_whole p))
 
 usi_word : (p : Placed) (m : TheMove) (bytes : List ℕ) → UsiMove p bytes m → IsWhole bytes
 usi_word p (Walk from to turned) bytes (mover, at, inl keeps) =
@@ -92,41 +92,41 @@ usi_word p (Put to dropped) bytes (hand, same) =
 moves_whole : (p : Placed) (m : TheMove) (ms : List TheMove) (bytes : List ℕ) → MovesText p (m ∷ ms) bytes → IsWhole bytes
 moves_whole p m [] bytes (first, rest, same, spelt, none) =
     let alone : IsWhole (first ++ rest) = subst (λ x. IsWhole (first ++ x)) (sym none) (subst IsWhole (sym (append-nil first)) (usi_word p m first spelt)) in
-    subst IsWhole (sym same) (behind (codes " ") (first ++ rest) (told_run (codes " ") refl) alone)
+    subst IsWhole (sym same) (following (codes " ") (first ++ rest) (stated_run (codes " ") refl) alone)
 moves_whole p m (n ∷ ns) bytes (first, rest, same, spelt, more) =
-    let joined = behind first rest (usi_word p m first spelt).run (moves_whole (after p m) n ns rest more) in
-    subst IsWhole (sym same) (behind (codes " ") (first ++ rest) (told_run (codes " ") refl) joined)
+    let joined = following first rest (usi_word p m first spelt).run (moves_whole (after p m) n ns rest more) in
+    subst IsWhole (sym same) (following (codes " ") (first ++ rest) (stated_run (codes " ") refl) joined)
 
-with_moves : (p : Placed) (ms : List TheMove) (front rest : List ℕ) → IsWhole front → BehindStart p ms rest → IsWhole (front ++ rest)
+with_moves : (p : Placed) (ms : List TheMove) (front rest : List ℕ) → IsWhole front → AfterStart p ms rest → IsWhole (front ++ rest)
 with_moves p [] front rest whole none = subst (λ x. IsWhole (front ++ x)) (sym none) (subst IsWhole (sym (append-nil front)) whole)
-with_moves p (m ∷ ms) front rest whole (told, same, spelt) =
-    behind front rest whole.run (subst IsWhole (sym same) (behind (codes " moves") told (told_run (codes " moves") refl) (moves_whole p m ms told spelt)))
+with_moves p (m ∷ ms) front rest whole (stated, same, spelt) =
+    following front rest whole.run (subst IsWhole (sym same) (following (codes " moves") stated (stated_run (codes " moves") refl) (moves_whole p m ms stated spelt)))
 
 position_whole : (p : Placed) (ms : List TheMove) (line : List ℕ) → LineText p ms line → IsWhole line
-position_whole p ms line (front, rest, same, start, behind_start) =
+position_whole p ms line (front, rest, same, start, after_start) =
     subst IsWhole (sym same)
-    (behind (codes "position ") (front ++ rest) (told_run (codes "position ") refl) (with_moves p ms front rest (start_whole p front start) behind_start))
+    (following (codes "position ") (front ++ rest) (stated_run (codes "position ") refl) (with_moves p ms front rest (start_whole p front start) after_start))
 
 -- 2. The other lines
 go_whole : (c : Config) (g : Match) → IsWhole (go_line c g)
 go_whole c g =
     let black = decimal (left c g Black) in
     let white = decimal (left c g White) in
-    let last = behind usi_texts.byoyomi (decimal c.byoyomi_ms) (told_run usi_texts.byoyomi refl) (number c.byoyomi_ms) in
-    let whites = behind usi_texts.white_time _ (told_run usi_texts.white_time refl) (behind white _ (number (left c g White)).run last) in
-    behind usi_texts.go_black_time _ (told_run usi_texts.go_black_time refl) (behind black _ (number (left c g Black)).run whites)
+    let last = following usi_texts.byoyomi (decimal c.byoyomi_ms) (stated_run usi_texts.byoyomi refl) (number c.byoyomi_ms) in
+    let whites = following usi_texts.white_time _ (stated_run usi_texts.white_time refl) (following white _ (number (left c g White)).run last) in
+    following usi_texts.go_black_time _ (stated_run usi_texts.go_black_time refl) (following black _ (number (left c g Black)).run whites)
 
 asks_whole : (c : Config) (g : Match) (old : EngineState) (lines : List (List ℕ)) (now : EngineState) → Asks c g old lines now → AllWhole lines
 asks_whole c g old lines now a =
     elim a [
-      | asked may told e ↦ rw (told.whole) (position_whole _ _ told.position told.of_game, (go_whole c g, tt))
+      | asked may stated e ↦ rw (stated.whole) (position_whole _ _ stated.position stated.of_game, (go_whole c g, tt))
       | not_asked never none e ↦ rw none tt
     ]
 
 login_whole : (c : Config) → IsConfig c → IsWhole (login_line c)
 login_whole c h =
-    let password = behind texts.space c.password.bytes (told_run texts.space refl) (login_word c.password.bytes h.password) in
-    behind texts.login_front _ (told_run texts.login_front refl) (behind c.name.bytes _ (visible_run c.name.bytes (plain_visible c.name.bytes h.name.plain)) password)
+    let password = following texts.space c.password.bytes (stated_run texts.space refl) (login_word c.password.bytes h.password) in
+    following texts.login_front _ (stated_run texts.login_front refl) (following c.name.bytes _ (visible_run c.name.bytes (plain_visible c.name.bytes h.name.plain)) password)
 
 move_whole : (color : Color) (m : TheMove) → IsWhole (move_text color m)
 move_whole color m = word (move_text color m) (omega arith) (move_visible color m)
@@ -167,9 +167,9 @@ table_row c s e out t h r =
       | row.move_refused p line cause a b l q o n ↦ silent out o
       | row.move_unsent p line color m a b l q k o n ↦ silent out o
       | row.move_confirmed p line color m lines now a b l q k asking o n ↦ subst Fits (sym o) (asks_whole c _ _ lines now asking, tt)
-      | row.ending_told p line kept a b l q o n ↦ silent out o
-      | row.reason_told g f line a b l q o n ↦ silent out o
-      | row.result_told g f line result a b l o n ↦
+      | row.ending_stated p line kept a b l q o n ↦ silent out o
+      | row.reason_stated g f line a b l q o n ↦ silent out o
+      | row.result_stated g f line result a b l o n ↦
           subst Fits (sym o) ((gameover_whole result, (text usi_texts.quit refl refl (omega arith), tt)), (text texts.logout refl refl (omega arith), tt))
       | row.closes g f result a b o n ↦ silent out o
       | row.engine_gone a b o n ↦ silent out o

@@ -23,7 +23,7 @@ use Rattle.bridge_table.specs.declared.state.EngineState.{EngineState}
 use Rattle.bridge_table.specs.declared.state.EngineState.TheVariants.{New, Greeting, Readying, Ready, Thinking, Ended as EngineEnded}
 use Rattle.shogi_session.specs.BestMoves.{TellsBestMove}
 use Rattle.bridge_table.specs.Events.{Event, begin, engine_line, engine_end, Out, no_lines, engine}
-use Rattle.bridge_table.specs.GameTold.{game_of}
+use Rattle.bridge_table.specs.GameSoFar.{game_of}
 use Rattle.shogi_session.specs.Phases.{Reacts, Stays, Same, answer_for, going, match_in, play_client, staged}
 use Rattle.bridge_table.specs.Promises.{before}
 use Rattle.bridge_table.specs.Row.{TableRow, IsUnnamed, in_table, unnamed, IsBestMove, answer_text, login_line, failed}
@@ -123,9 +123,9 @@ late c engine client line word o at other best h k s =
 by_stage : (g : Match) (game : Game) (stage : OwnStage) → (stage ≡ OwnPlaying → ⊥) → client_state (staged g game stage) ≡ clients.Playing → ⊥
 by_stage g game stages.Playing other e = other refl
 by_stage g game (stages.Sent a) other e = cc
-by_stage g game (stages.Reason told) other e = cc
-by_stage g game (stages.Closing told end) other e = cc
-by_stage g game (stages.Ended told end) other e = cc
+by_stage g game (stages.Reason stated) other e = cc
+by_stage g game (stages.Closing stated end) other e = cc
+by_stage g game (stages.Ended stated end) other e = cc
 
 pub not_playing : (p : Own) → (p.stage ≡ OwnPlaying → ⊥) → client_state (play_client p) ≡ clients.Playing → ⊥
 not_playing p other = by_stage (match_in p) p.game p.stage other

@@ -12,7 +12,7 @@ use Rattle.csa_record.specs.Course.{untimed, awaits, with_last_time, with_time, 
 use Rattle.csa_record.specs.Game.{Game, Timed, Ended}
 use Rattle.csa_record.specs.Says.{time_items}
 use Rattle.csa_record.specs.Tells.{IsSpelt}
-use Rattle.bridge_table.specs.GameTold.{ending_of}
+use Rattle.bridge_table.specs.GameSoFar.{ending_of}
 use Rattle.shogi_session.specs.Phases.{kept_of}
 use Rattle.session_lines.specs.declared.server_words.GameResult.{GameResult}
 use Rattle.session_lines.specs.declared.server_words.EndReason.{EndReason}

@@ -2,7 +2,7 @@
 use Rattle.std.proofs.Common.{◌≡◌, ℕ, ◌≤◌, List, ◌∷◌, length, drop, slice_range, Ok, Err, Some, arith, refl, subst, inr}
 use Rattle.csa_cutting.proofs.Fronts.{length_between}
 use Rattle.csa_cutting.proofs.Runs.{found}
-use Rattle.csa_cutting.proofs.Spoken.{told_first}
+use Rattle.csa_cutting.proofs.Spoken.{stated_first}
 use Rattle.csa_cutting.specs.Cut.{TextUnit, Statements}
 use Rattle.csa_cutting.specs.Cutting.{Cutting, ToCome, IsHandedOut, unit_between}
 use Rattle.csa_text.specs.Saying.{Saying, time, saying_of}
@@ -24,7 +24,7 @@ unit_of c d offset = unit_between c.source offset d.at
 
 pub handed_steps : (c d : Cutting) (number offset : ℕ) (bytes : List ℕ) → Handed c d number offset bytes → StepsOver c (unit_of c d offset) d
 handed_steps c d number offset bytes h others rest =
-    told_first c.source c.at offset d.at others h.out.first (subst (λ x. Statements d.at (drop d.at x) others) h.same rest)
+    stated_first c.source c.at offset d.at others h.out.first (subst (λ x. Statements d.at (drop d.at x) others) h.same rest)
 
 pub handed_short : (c d : Cutting) (number offset : ℕ) (bytes : List ℕ) → Handed c d number offset bytes → length (slice_range c.source offset d.at) ≤ 4096
 handed_short c d number offset bytes h =
@@ -39,7 +39,7 @@ handed_spelt c d number offset bytes s h spells =
 
 -- some statements follow it
 pub handed_first : (c d : Cutting) (number offset : ℕ) (bytes : List ℕ) → Handed c d number offset bytes
-    → (behind : List TextUnit) × ToCome c (unit_of c d offset ∷ behind)
+    → (following : List TextUnit) × ToCome c (unit_of c d offset ∷ following)
 handed_first c d number offset bytes h =
     let rest = found d.at (drop d.at d.source) in
     (rest.0, handed_steps c d number offset bytes h rest.0 rest.1)

@@ -21,13 +21,13 @@ use Rattle.bridge_table.specs.declared.state.Answer.TheVariants as given
 use Rattle.shogi_session.specs.declared.phase.Play.{Play as Own}
 use Rattle.shogi_session.specs.declared.phase.GameStage.{GameStage as OwnStage}
 use Rattle.shogi_session.specs.declared.phase.GameStage.TheVariants as stages
-use Rattle.shogi_session.specs.declared.phase.Told.{Told}
+use Rattle.shogi_session.specs.declared.phase.EndReport.{EndReport}
 use Rattle.bridge_table.specs.declared.state.EngineState.{EngineState}
 use Rattle.bridge_table.specs.declared.state.EngineState.TheVariants.{Thinking, Ended as EngineEnded}
 use Rattle.shogi_session.specs.Asked.{IsAsked}
 use Rattle.bridge_table.specs.Asking.{asked, not_asked}
 use Rattle.bridge_table.specs.Events.{Event, server_line, engine}
-use Rattle.bridge_table.specs.GameTold.{ending_of, game_of}
+use Rattle.bridge_table.specs.GameSoFar.{ending_of, game_of}
 use Rattle.session_lines.specs.MoveLines.{is_move_line}
 use Rattle.record_game.specs.PlayFaults.{why_of}
 use Rattle.shogi_session.specs.Phases.{Confirms, PlayGoesOn, IsAskText, IsOn, IsPlay, KeepsEnding, Reacts, Same, Stays, TellsEnd, closed, finish_of, kept_of, match_in, play_client, staged, waiting_in}
@@ -55,9 +55,9 @@ in_play_by g game stages.Playing on = refl
 in_play_by g game (stages.Sent (given.Move m)) on = refl
 in_play_by g game (stages.Sent given.Toryo) on = refl
 in_play_by g game (stages.Sent given.Kachi) on = refl
-in_play_by g game (stages.Reason told) on = absurd on
-in_play_by g game (stages.Closing told end) on = absurd on
-in_play_by g game (stages.Ended told end) on = absurd on
+in_play_by g game (stages.Reason stated) on = absurd on
+in_play_by g game (stages.Closing stated end) on = absurd on
+in_play_by g game (stages.Ended stated end) on = absurd on
 
 in_play_of : (p : Own) → IsOn p.stage → in_play (play_client p) ≡ Some (play_of p)
 in_play_of p on = in_play_by (match_in p) p.game p.stage on
@@ -65,23 +65,23 @@ in_play_of p on = in_play_by (match_in p) p.game p.stage on
 game_by : (g : Match) (game : Game) (stage : OwnStage) → IsOn stage → game_of (staged g game stage) ≡ Some g.game
 game_by g game stages.Playing on = refl
 game_by g game (stages.Sent a) on = refl
-game_by g game (stages.Reason told) on = absurd on
-game_by g game (stages.Closing told end) on = absurd on
-game_by g game (stages.Ended told end) on = absurd on
+game_by g game (stages.Reason stated) on = absurd on
+game_by g game (stages.Closing stated end) on = absurd on
+game_by g game (stages.Ended stated end) on = absurd on
 
 pub slip_by : (g : Match) (game : Game) (stage : OwnStage) → slip_of (staged g game stage) ≡ g.slip
 slip_by g game stages.Playing = refl
 slip_by g game (stages.Sent a) = refl
-slip_by g game (stages.Reason told) = refl
-slip_by g game (stages.Closing told end) = refl
-slip_by g game (stages.Ended told end) = refl
+slip_by g game (stages.Reason stated) = refl
+slip_by g game (stages.Closing stated end) = refl
+slip_by g game (stages.Ended stated end) = refl
 
 state_by : (g k : Match) (game other : Game) (stage : OwnStage) → client_state (staged g game stage) ≡ client_state (staged k other stage)
 state_by g k game other stages.Playing = refl
 state_by g k game other (stages.Sent a) = refl
-state_by g k game other (stages.Reason told) = refl
-state_by g k game other (stages.Closing told end) = refl
-state_by g k game other (stages.Ended told end) = refl
+state_by g k game other (stages.Reason stated) = refl
+state_by g k game other (stages.Closing stated end) = refl
+state_by g k game other (stages.Ended stated end) = refl
 
 abbrev ending_in : Option Game → Option Ended
 ending_in None = None
@@ -95,50 +95,50 @@ open_ending : (client : Color) (k : Option Ended) (why : Option EndReason) → e
 open_ending client None why = refl
 open_ending client (Some k) why = refl
 
-kept_by : (p : Own) (stage : OwnStage) (told : Told) → TellsEnd stage told → game_of (staged (match_in p) p.game stage) ≡ Some p.game
-    → kept_of told.ending p.game.ending ≡ p.game.ending
-kept_by p stages.Playing told t h = ap (λ (x : Told). kept_of x.ending p.game.ending) t ∙ ap ending_in h
-kept_by p (stages.Sent a) told t h = ap (λ (x : Told). kept_of x.ending p.game.ending) t ∙ ap ending_in h
-kept_by p (stages.Reason first) told t h =
-    ap (λ (x : Told). kept_of x.ending p.game.ending) t
+kept_by : (p : Own) (stage : OwnStage) (stated : EndReport) → TellsEnd stage stated → game_of (staged (match_in p) p.game stage) ≡ Some p.game
+    → kept_of stated.ending p.game.ending ≡ p.game.ending
+kept_by p stages.Playing stated t h = ap (λ (x : EndReport). kept_of x.ending p.game.ending) t ∙ ap ending_in h
+kept_by p (stages.Sent a) stated t h = ap (λ (x : EndReport). kept_of x.ending p.game.ending) t ∙ ap ending_in h
+kept_by p (stages.Reason first) stated t h =
+    ap (λ (x : EndReport). kept_of x.ending p.game.ending) t
     ∙ (sym (open_ending p.client (kept_of first.ending p.game.ending) first.reason) ∙ ap ending_in h)
-kept_by p (stages.Closing first end) told t h = absurd t
-kept_by p (stages.Ended first end) told t h = absurd t
+kept_by p (stages.Closing first end) stated t h = absurd t
+kept_by p (stages.Ended first end) stated t h = absurd t
 
-kept_so : (p : Own) (told : Told) → TellsEnd p.stage told → IsPlay p → kept_of told.ending p.game.ending ≡ p.game.ending
-kept_so p told t h = kept_by p p.stage told t h.game
+kept_so : (p : Own) (stated : EndReport) → TellsEnd p.stage stated → IsPlay p → kept_of stated.ending p.game.ending ≡ p.game.ending
+kept_so p stated t h = kept_by p p.stage stated t h.game
 
-before_by : (g : Match) (game : Game) (stage : OwnStage) (told : Told) → TellsEnd stage told → before_result (staged g game stage) ≡ Some (g, finish_of game told)
-before_by g game stages.Playing told t = ap (λ (x : Told). Some (g, finish_of game x)) (sym t)
-before_by g game (stages.Sent a) told t = ap (λ (x : Told). Some (g, finish_of game x)) (sym t)
-before_by g game (stages.Reason first) told t = ap (λ (x : Told). Some (g, finish_of game x)) (sym t)
-before_by g game (stages.Closing first end) told t = absurd t
-before_by g game (stages.Ended first end) told t = absurd t
+before_by : (g : Match) (game : Game) (stage : OwnStage) (stated : EndReport) → TellsEnd stage stated → before_result (staged g game stage) ≡ Some (g, finish_of game stated)
+before_by g game stages.Playing stated t = ap (λ (x : EndReport). Some (g, finish_of game x)) (sym t)
+before_by g game (stages.Sent a) stated t = ap (λ (x : EndReport). Some (g, finish_of game x)) (sym t)
+before_by g game (stages.Reason first) stated t = ap (λ (x : EndReport). Some (g, finish_of game x)) (sym t)
+before_by g game (stages.Closing first end) stated t = absurd t
+before_by g game (stages.Ended first end) stated t = absurd t
 
 abbrev finish : Option Ended → Option EndReason → Finish
 finish kept why = record { kept = kept; reason = why }
 
 -- 3. A reason
-pub reason_row : (c : Config) (engine : EngineState) (p new : Own) (told later : Told) (line : List ℕ) (why : EndReason) (o : Answered)
-    → TellsEnd p.stage told → is_hash_line line ≡ true → outcome_of line ≡ None
-    → ((game : Game) → finish_of game later ≡ with_reason (finish_of game told) why) → why ≡ lines.reason_of line
+pub reason_row : (c : Config) (engine : EngineState) (p new : Own) (stated later : EndReport) (line : List ℕ) (why : EndReason) (o : Answered)
+    → TellsEnd p.stage stated → is_hash_line line ≡ true → outcome_of line ≡ None
+    → ((game : Game) → finish_of game later ≡ with_reason (finish_of game stated) why) → why ≡ lines.reason_of line
     → new ≡ record p { stage = stages.Reason later }
     → o.to_engine ≡ [] → o.to_server ≡ [] → o.status ≡ Going
     → Reacts c engine (play_client p) (server_line line) o engine (play_client new)
-reason_row c engine p new told later line why o t hash none told_so why_is is h k s =
-    let finished : finish_of p.game later ≡ with_reason (finish_of p.game told) (lines.reason_of line) =
-    told_so p.game ∙ ap (λ (x : EndReason). with_reason (finish_of p.game told) x) why_is in
-    let now : Reacts c engine (play_client p) (server_line line) o engine (reason (match_in p) (with_reason (finish_of p.game told) (lines.reason_of line))) =
+reason_row c engine p new stated later line why o t hash none stated_so why_is is h k s =
+    let finished : finish_of p.game later ≡ with_reason (finish_of p.game stated) (lines.reason_of line) =
+    stated_so p.game ∙ ap (λ (x : EndReason). with_reason (finish_of p.game stated) x) why_is in
+    let now : Reacts c engine (play_client p) (server_line line) o engine (reason (match_in p) (with_reason (finish_of p.game stated) (lines.reason_of line))) =
     by_row c engine engine (play_client p) _ (server_line line) o _ Going
-    (row.reason_told (match_in p) (finish_of p.game told) line (before_by (match_in p) p.game p.stage told t) refl hash none refl refl) s h k in
+    (row.reason_stated (match_in p) (finish_of p.game stated) line (before_by (match_in p) p.game p.stage stated t) refl hash none refl refl) s h k in
     subst (λ (x : Own). Reacts c engine (play_client p) (server_line line) o engine (play_client x)) (sym is)
     (subst (λ (f : Finish). Reacts c engine (play_client p) (server_line line) o engine (reason (match_in p) f)) (sym finished) now)
 
 -- 4. A result
-abbrev ended_play : Own → Option EndReason → Told → GameResult → Own
+abbrev ended_play : Own → Option EndReason → EndReport → GameResult → Own
 ended_play p why later r = record p { game = closed p why r; stage = stages.Closing later r }
 
-finish_later : (p : Own) (why : Option EndReason) (later : Told) (r : GameResult) → later.ending ≡ is_some p.game.ending → later.reason ≡ why
+finish_later : (p : Own) (why : Option EndReason) (later : EndReport) (r : GameResult) → later.ending ≡ is_some p.game.ending → later.reason ≡ why
     → finish_of (closed p why r) later ≡ finish p.game.ending why
 finish_later p why later r has same =
     let kept : kept_of later.ending (ending_of p.client p.game.ending why (Some r)) ≡ p.game.ending =
@@ -146,17 +146,17 @@ finish_later p why later r has same =
     ∙ kept_again p.client p.game.ending why r in
     ap (λ x. finish x later.reason) kept ∙ ap (λ x. finish p.game.ending x) same
 
-pub result_row : (c : Config) (engine : EngineState) (p new : Own) (told later : Told) (line : List ℕ) (r : GameResult) (o : Answered)
-    → TellsEnd p.stage told → IsPlay p → outcome_of line ≡ Some r
-    → later.ending ≡ is_some p.game.ending → later.reason ≡ told.reason → new ≡ ended_play p told.reason later r
+pub result_row : (c : Config) (engine : EngineState) (p new : Own) (stated later : EndReport) (line : List ℕ) (r : GameResult) (o : Answered)
+    → TellsEnd p.stage stated → IsPlay p → outcome_of line ≡ Some r
+    → later.ending ≡ is_some p.game.ending → later.reason ≡ stated.reason → new ≡ ended_play p stated.reason later r
     → o.to_engine ≡ text_of (gameover_line r ∷ codes "quit" ∷ []) → o.to_server ≡ text_of (codes "LOGOUT" ∷ []) → o.status ≡ Going
     → Reacts c engine (play_client p) (server_line line) o EngineEnded (play_client new)
-result_row c engine p new told later line r o t h end has same is to_engine to_server s =
-    let finished : finish_of (closed p told.reason r) later ≡ finish_of p.game told =
-    finish_later p told.reason later r has same ∙ ap (λ x. finish x told.reason) (sym (kept_so p told t h)) in
-    let now : Reacts c engine (play_client p) (server_line line) o EngineEnded (closing (match_in p) (finish_of p.game told) r) =
+result_row c engine p new stated later line r o t h end has same is to_engine to_server s =
+    let finished : finish_of (closed p stated.reason r) later ≡ finish_of p.game stated =
+    finish_later p stated.reason later r has same ∙ ap (λ x. finish x stated.reason) (sym (kept_so p stated t h)) in
+    let now : Reacts c engine (play_client p) (server_line line) o EngineEnded (closing (match_in p) (finish_of p.game stated) r) =
     by_row c engine EngineEnded (play_client p) _ (server_line line) o _ Going
-    (row.result_told (match_in p) (finish_of p.game told) line r (before_by (match_in p) p.game p.stage told t) refl end refl refl) s to_engine to_server in
+    (row.result_stated (match_in p) (finish_of p.game stated) line r (before_by (match_in p) p.game p.stage stated t) refl end refl refl) s to_engine to_server in
     subst (λ (x : Own). Reacts c engine (play_client p) (server_line line) o EngineEnded (play_client x)) (sym is)
     (subst (λ (f : Finish). Reacts c engine (play_client p) (server_line line) o EngineEnded (closing (match_in p) f r)) (sym finished) now)
 
@@ -211,7 +211,7 @@ pub move_refused : (c : Config) (engine : EngineState) (p : Own) (line : List �
     → Reacts c engine (play_client p) (server_line line) o engine (play_client p)
 move_refused c engine p line color m fault why o on sign tells a is h k s =
     refused_row c engine p line why o on sign
-    (subst (λ (w : Why). IsRefused (match_in p) line w) (sym is) (refused_by (match_in p) line color m fault (record { told = tells; answers = a }))) h k s
+    (subst (λ (w : Why). IsRefused (match_in p) line w) (sym is) (refused_by (match_in p) line color m fault (record { stated = tells; answers = a }))) h k s
 
 pub move_unsent : (c : Config) (engine : EngineState) (p : Own) (line : List ℕ) (color : Color) (m : Timed) (o : Answered) → IsOn p.stage → is_move_line line ≡ true
     → TellsTimed line color m → Answers (match_line (match_in p)) color m.move None → (IsExpected (play_of p) color m → ⊥)
@@ -219,7 +219,7 @@ pub move_unsent : (c : Config) (engine : EngineState) (p : Own) (line : List ℕ
     → Reacts c engine (play_client p) (server_line line) o engine (play_client p)
 move_unsent c engine p line color m o on sign tells a other h k s =
     by_row c engine engine (play_client p) (play_client p) (server_line line) o _ _
-    (row.move_unsent (play_of p) line color m (in_play_of p on) refl sign (record { told = tells; answers = a }) other refl refl) s h k
+    (row.move_unsent (play_of p) line color m (in_play_of p on) refl sign (record { stated = tells; answers = a }) other refl refl) s h k
 
 -- 7. A confirmed move
 abbrev moved : Own → Timed → Own
@@ -271,9 +271,9 @@ pub confirmed : (c : Config) (old later : EngineState) (p new : Own) (line : Lis
     → is_move_line line ≡ true → TellsTimed line color m → Answers (match_line (match_in p)) color m.move None → IsExpected (play_of p) color m → Confirms c old p m r later new
     → MatchResult r (λ out. Reacts c old (play_client p) (server_line line) out later (play_client new))
     (λ fault. Stays c old (play_client p) (server_line line) later (play_client new))
-confirmed c old later p new line color m (Ok o) on h sign tells a own k = confirmed_row c old later p new line color m o on sign (record { told = tells; answers = a }) own k
+confirmed c old later p new line color m (Ok o) on h sign tells a own k = confirmed_row c old later p new line color m o on sign (record { stated = tells; answers = a }) own k
 confirmed c old later p new line color m (Err fault) on h sign tells a own k =
-    stays_so c old later p new line color m on h sign (record { told = tells; answers = a }) own k.0 k.1
+    stays_so c old later p new line color m on h sign (record { stated = tells; answers = a }) own k.0 k.1
 
 pub keeps_confirmed : (c : Config) (old later : EngineState) (p new : Own) (color : Color) (m : Timed) (r : Result Answered OutOfMemory) → IsOn p.stage → IsPlay p
     → Answers (match_line (match_in p)) color m.move None → Confirms c old p m r later new → IsPlay new
@@ -300,15 +300,15 @@ pub ending_row : (c : Config) (engine : EngineState) (p new : Own) (line : List 
 ending_row c engine p new line o on move hash sign (inl k) h t s =
     let now : Reacts c engine (play_client p) (server_line line) o engine (reason (match_in p) (finish (Some k.0) None)) =
     by_row c engine engine (play_client p) _ (server_line line) o _ Going
-    (row.ending_told (play_of p) line k.0 (in_play_of p on) refl sign k.1 refl refl) s h t in
+    (row.ending_stated (play_of p) line k.0 (in_play_of p on) refl sign k.1 refl refl) s h t in
     subst (λ (x : Own). Reacts c engine (play_client p) (server_line line) o engine (play_client x)) (sym k.2) now
 ending_row c engine p new line o on move hash sign (inr k) h t s =
     still c _ engine engine (play_client p) (play_client new) (server_line line) o
-    (other_in_play c engine (play_client p) (play_of p) line (in_play_of p on) move hash (λ is kept told. k.0 kept told)) refl refl (ap play_client k.1) h t s
+    (other_in_play c engine (play_client p) (play_of p) line (in_play_of p on) move hash (λ is kept stated. k.0 kept stated)) refl refl (ap play_client k.1) h t s
 
 pub other_row : (c : Config) (engine : EngineState) (p : Own) (line : List ℕ) (o : Answered) → IsOn p.stage → is_move_line line ≡ false → is_hash_line line ≡ false
     → is_ending_line line ≡ false → o.to_engine ≡ [] → o.to_server ≡ [] → o.status ≡ Going
     → Reacts c engine (play_client p) (server_line line) o engine (play_client p)
 other_row c engine p line o on move hash ending h t s =
     still c _ engine engine (play_client p) (play_client p) (server_line line) o
-    (other_in_play c engine (play_client p) (play_of p) line (in_play_of p on) move hash (λ is kept told. clash (is_ending_line line) ending is)) refl refl refl h t s
+    (other_in_play c engine (play_client p) (play_of p) line (in_play_of p on) move hash (λ is kept stated. clash (is_ending_line line) ending is)) refl refl refl h t s

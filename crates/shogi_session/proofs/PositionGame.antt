@@ -3,7 +3,7 @@ use Rattle.std.proofs.Common.{◌≡◌, ℕ, List, [], ◌∷◌, Option, Some,
 use Rattle.std.specs.List.{AllByRecursion, AllZip}
 use Rattle.std.specs.Option.{option_to_list}
 use Rattle.record_game.proofs.SaysOnce.{same_items}
-use Rattle.record_game.proofs.Told.{told_or_refused}
+use Rattle.record_game.proofs.TellsOnce.{stated_or_refused}
 use Rattle.csa_record.specs.Game.{Game}
 use Rattle.csa_record.specs.Items.{names}
 use Rattle.csa_record.specs.Refused.{Refused}
@@ -42,14 +42,14 @@ nameless_same g b w =
     ∙ ap (λ (x : Option (List ℕ)). record g { black = g.black; white = x }) (sym w)
 
 says_fit : (text : List ℕ) (g : Game) (p : IsPositionText text) → Tells text g → Says p.sayings g
-says_fit text g p told =
-    let statements = statements_once _ _ told.statements p.statements told.cut p.cut in
-    let spelt : AllZip IsSpelt p.statements told.sayings = subst (λ us. AllZip IsSpelt us told.sayings) statements told.spelt in
-    subst (λ ss. Says ss g) (same_items p.statements told.sayings p.sayings spelt p.spelt) told.says
+says_fit text g p stated =
+    let statements = statements_once _ _ stated.statements p.statements stated.cut p.cut in
+    let spelt : AllZip IsSpelt p.statements stated.sayings = subst (λ us. AllZip IsSpelt us stated.sayings) statements stated.spelt in
+    subst (λ ss. Says ss g) (same_items p.statements stated.sayings p.sayings spelt p.spelt) stated.says
 
-pub position_told : (text : List ℕ) (g : Game) → IsPositionText text → Tells text g → TellsPosition text g × (g.black ≡ None) × (g.white ≡ None)
-position_told text g p told =
-    let says = says_fit text g p told in
+pub position_stated : (text : List ℕ) (g : Game) → IsPositionText text → Tells text g → TellsPosition text g × (g.black ≡ None) × (g.white ≡ None)
+position_stated text g p stated =
+    let says = says_fit text g p stated in
     let b = none_listed g.black (sym (no_names Black p.sayings p.no_others) ∙ says.black) in
     let w = none_listed g.white (sym (no_names White p.sayings p.no_others) ∙ says.white) in (
       record {
@@ -66,8 +66,8 @@ position_told text g p told =
 
 pub position_refused : (text : List ℕ) (number offset : ℕ) (why : Why) → Refused text number offset why → (g : Game) → TellsPosition text g → ⊥
 position_refused text number offset why refused g p =
-    let told : Tells text (nameless g) = record { statements = p.statements; sayings = p.sayings; cut = p.cut; spelt = p.spelt; says = p.says } in
-    elim (told_or_refused text) [
+    let stated : Tells text (nameless g) = record { statements = p.statements; sayings = p.sayings; cut = p.cut; spelt = p.spelt; says = p.says } in
+    elim (stated_or_refused text) [
       | inl t ↦ t.not_refused number offset why refused
-      | inr r ↦ r.not_told (nameless g) told
+      | inr r ↦ r.tells_no_game (nameless g) stated
     ]

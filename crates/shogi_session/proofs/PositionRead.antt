@@ -26,16 +26,16 @@ pub start_read : (text : List ℕ) (c : Cutting) → AtStart text c → HasRead 
 start_read text c start =
     record { source = start.source; handed = []; sayings = []; spelt = tt; fit = tt; whole = λ others rest. whole text c others start rest }
 
-spelt_behind : (us : List TextUnit) (ss : List Saying) (u : TextUnit) (s : Saying) → AllZip IsSpelt us ss → IsSpelt u s
+spelt_after : (us : List TextUnit) (ss : List Saying) (u : TextUnit) (s : Saying) → AllZip IsSpelt us ss → IsSpelt u s
     → AllZip IsSpelt (us ++ u ∷ []) (ss ++ s ∷ [])
-spelt_behind [] [] u s all one = (one, tt)
-spelt_behind [] (t ∷ ts) u s all one = absurd all
-spelt_behind (v ∷ vs) [] u s all one = absurd all
-spelt_behind (v ∷ vs) (t ∷ ts) u s all one = (all.0, spelt_behind vs ts u s all.1 one)
+spelt_after [] [] u s all one = (one, tt)
+spelt_after [] (t ∷ ts) u s all one = absurd all
+spelt_after (v ∷ vs) [] u s all one = absurd all
+spelt_after (v ∷ vs) (t ∷ ts) u s all one = (all.0, spelt_after vs ts u s all.1 one)
 
-fit_behind : (ss : List Saying) (s : Saying) → AllByRecursion FitsIn ss → FitsIn s → AllByRecursion FitsIn (ss ++ s ∷ [])
-fit_behind [] s all one = (one, tt)
-fit_behind (t ∷ ts) s all one = (all.0, fit_behind ts s all.1 one)
+fit_after : (ss : List Saying) (s : Saying) → AllByRecursion FitsIn ss → FitsIn s → AllByRecursion FitsIn (ss ++ s ∷ [])
+fit_after [] s all one = (one, tt)
+fit_after (t ∷ ts) s all one = (all.0, fit_after ts s all.1 one)
 
 pub read_on : (text : List ℕ) (c d : Cutting) (number offset : ℕ) (bytes : List ℕ) → HasRead text c → Handed c d number offset bytes
     → SpellsPosition bytes → HasRead text d
@@ -45,8 +45,8 @@ read_on text c d number offset bytes h out says =
       source = subst (λ x. d.source ≡ x) h.source out.same;
       handed = h.handed ++ u ∷ [];
       sayings = h.sayings ++ says.0 ∷ [];
-      spelt = spelt_behind h.handed h.sayings u says.0 h.spelt (handed_spelt c d number offset bytes says.0 out says.1);
-      fit = fit_behind h.sayings says.0 h.fit says.2;
+      spelt = spelt_after h.handed h.sayings u says.0 h.spelt (handed_spelt c d number offset bytes says.0 out says.1);
+      fit = fit_after h.sayings says.0 h.fit says.2;
       whole = λ others rest. rw (append_assoc) (h.whole (u ∷ others) (handed_steps c d number offset bytes out others rest));
     }
 
@@ -97,11 +97,11 @@ long_read text c number offset h too p =
     absurd (omega (arith, long, short))
 
 -- 2. Answers
-pub told_so : (P : Type 0) → P → IsTrue true ↔ P
-told_so P p = (λ h. p, λ q. refl)
+pub stated_so : (P : Type 0) → P → IsTrue true ↔ P
+stated_so P p = (λ h. p, λ q. refl)
 
-pub told_otherwise : (P : Type 0) → (P → ⊥) → IsTrue false ↔ P
-told_otherwise P none = (λ h. absurd (not_so h), λ p. absurd (none p))
+pub stated_otherwise : (P : Type 0) → (P → ⊥) → IsTrue false ↔ P
+stated_otherwise P none = (λ h. absurd (not_so h), λ p. absurd (none p))
 
 pub otherwise : (b : Bool) (P : Type 0) → b ≡ false → (IsTrue b ↔ P) → P → ⊥
 otherwise true P e so p = absurd cc

@@ -51,14 +51,14 @@ cut_same line us vs a b = statements_once _ _ us vs a b
 
 -- the items that a line spells, if its statements are these
 at_these : (line : List ℕ) (us : List TextUnit) (ss : List Saying) → IsCut line us → IsLineOf line ss → AllZip IsSpelt us ss
-at_these line us ss cut told = subst (λ vs. AllZip IsSpelt vs ss) (cut_same line told.0 us told.1 cut) told.2
+at_these line us ss cut stated = subst (λ vs. AllZip IsSpelt vs ss) (cut_same line stated.0 us stated.1 cut) stated.2
 
 pub nothing_said : (line : List ℕ) (c : Cutting) → AtStart line c → ToCome c [] → (e : Ended) → TellsEnding line e → ⊥
-nothing_said line c start end e told = absurd (at_these line [] (ending e.ending ∷ time_items e.time) (whole line c [] start end) told)
+nothing_said line c start end e stated = absurd (at_these line [] (ending e.ending ∷ time_items e.time) (whole line c [] start end) stated)
 
 pub no_ending : (line : List ℕ) (c : Cutting) (fault : TextFault) → AtStart line c → FaultAt c IsEnding fault → (e : Ended) → TellsEnding line e → ⊥
-no_ending line c fault start at e told =
-    let all = at_these line (at.0 ∷ at.1) (ending e.ending ∷ time_items e.time) (whole line c (at.0 ∷ at.1) start at.2) told in
+no_ending line c fault start at e stated =
+    let all = at_these line (at.0 ∷ at.1) (ending e.ending ∷ time_items e.time) (whole line c (at.0 ∷ at.1) start at.2) stated in
     not_wanted IsEnding at.0 fault (ending e.ending) at.3 (e.ending, refl) all.0
 
 -- after the first statement, the items of a time
@@ -72,13 +72,13 @@ two_there v w vs (Some t) all = absurd all.1
 
 pub no_last_time : (line : List ℕ) (c d : Cutting) (u : TextUnit) (fault : TextFault) → AtStart line c → StepsOver c u d
     → LastTime d (Err fault) → (e : Ended) → TellsEnding line e → ⊥
-no_last_time line c d u fault start leads (inl at) e told =
+no_last_time line c d u fault start leads (inl at) e stated =
     let cut = whole line c (u ∷ at.0 ∷ at.1) start (leads (at.0 ∷ at.1) at.2) in
-    let all = at_these line (u ∷ at.0 ∷ at.1) (ending e.ending ∷ time_items e.time) cut told in
+    let all = at_these line (u ∷ at.0 ∷ at.1) (ending e.ending ∷ time_items e.time) cut stated in
     no_time_there at.0 at.1 fault e.time at.3 all.1
-no_last_time line c d u fault start leads (inr at) e told =
+no_last_time line c d u fault start leads (inr at) e stated =
     let cut = whole line c (u ∷ at.0 ∷ at.1 ∷ at.2) start (leads (at.0 ∷ at.1 ∷ at.2) at.4) in
-    let all = at_these line (u ∷ at.0 ∷ at.1 ∷ at.2) (ending e.ending ∷ time_items e.time) cut told in
+    let all = at_these line (u ∷ at.0 ∷ at.1 ∷ at.2) (ending e.ending ∷ time_items e.time) cut stated in
     two_there at.0 at.1 at.2 e.time all.1
 
 -- 4. A line that begins with `+` or `-` has a statement
@@ -92,10 +92,10 @@ unit_says x bs (b ∷ bytes) rest n unit e = let same : x ≡ b = cc in rw (← 
 
 none_said : (x : ℕ) (bs : List ℕ) (units : List TextUnit) → is_separator x ≡ false → (x == 39) ≡ false → Units 0 (x ∷ bs) units → [] ≡ filter is_statement units → ⊥
 none_said x bs [] s n cut kept = let separates = cut.0 in absurd cc
-none_said x bs (u ∷ us) s n (behind, next, rest) kept =
-    let none = gap_none x bs next.gap (u.bytes ++ behind) s next.separators next.whole in
-    let front : x ∷ bs ≡ u.bytes ++ behind = subst (λ g. x ∷ bs ≡ g ++ (u.bytes ++ behind)) none next.whole in
-    let says : is_statement u ≡ true = unit_says x bs u.bytes behind n next.unit front in
+none_said x bs (u ∷ us) s n (following, next, rest) kept =
+    let none = gap_none x bs next.gap (u.bytes ++ following) s next.separators next.whole in
+    let front : x ∷ bs ≡ u.bytes ++ following = subst (λ g. x ∷ bs ≡ g ++ (u.bytes ++ following)) none next.whole in
+    let says : is_statement u ≡ true = unit_says x bs u.bytes following n next.unit front in
     let k : [] ≡ u ∷ filter is_statement us = rw says at kept in
     absurd (omega (arith, ap length k))
 

@@ -13,14 +13,14 @@ use Rattle.shogi_session.specs.declared.phase.Phase.{Phase}
 use Rattle.shogi_session.specs.declared.phase.Phase.TheVariants as phases
 use Rattle.shogi_session.specs.declared.phase.GameStage.{GameStage}
 use Rattle.shogi_session.specs.declared.phase.GameStage.TheVariants as stages
-use Rattle.shogi_session.specs.declared.phase.Told.{Told}
+use Rattle.shogi_session.specs.declared.phase.EndReport.{EndReport}
 use Rattle.session_lines.specs.declared.server_words.GameResult.{GameResult}
 use Rattle.bridge_table.specs.declared.state.ClientState.TheVariants as clients
 use Rattle.bridge_table.specs.declared.state.EngineState.{EngineState}
 use Rattle.bridge_table.specs.Asking.{Asks}
 use Rattle.bridge_table.specs.Events.{Event, begin, server_line, server_end, engine_long, server_long}
-use Rattle.bridge_table.specs.GameTold.{game_of}
-use Rattle.bridge_table.specs.Hearing.{heard_after}
+use Rattle.bridge_table.specs.GameSoFar.{game_of}
+use Rattle.bridge_table.specs.Hearing.{content_after}
 use Rattle.shogi_session.specs.Offers.{offer_in}
 use Rattle.shogi_session.specs.Phases.{Reacts, Stays, Same, PlayGoesOn, IsOpen, IsPhase, begun, client_of, going, match_in, play_client, staged}
 use Rattle.bridge_table.specs.Promises.{before}
@@ -28,7 +28,7 @@ use Rattle.bridge_table.specs.Row.{IsUnnamed}
 use Rattle.bridge_table.specs.Row as row
 use Rattle.session_lines.specs.ServerLines.{is_login_ok, is_start_line, is_reject_line}
 use Rattle.bridge_table.specs.State.{Match, Client, logging_in, before_summary, summary, agreeing, playing, client_state, slip_of, match_of}
-use Rattle.bridge_table.specs.Summary.{Heard, nothing_heard, CountsAs, Offer, TellsOffer}
+use Rattle.bridge_table.specs.Summary.{SummaryContent, no_content, CountsAs, Offer, TellsOffer}
 use Rattle.session_lines.specs.Texts.{ended_line}
 use Rattle.bridge_table.proofs.AlwaysAsks.{offer_plain, offer_legal}
 use Rattle.session_lines.proofs.OneLine.{one_text}
@@ -58,26 +58,26 @@ login_refused c engine client client_after line o at incorrect same h =
     (by_row c engine engine client client (server_line line) o _ (Failed LoginRefused) (row.login_refused at (ap server_line incorrect) refl refl) h.2 h.0 h.1)
 
 -- 3. the summary
-pub summary_begun : (c : Config) (engine : EngineState) (client : Client) (h : Heard) (line : List ℕ) (o : Answered) → client ≡ before_summary
-    → line ≡ codes "BEGIN Game_Summary" → h ≡ nothing_heard → Silent o Going → Reacts c engine client (server_line line) o engine (summary h)
+pub summary_begun : (c : Config) (engine : EngineState) (client : Client) (h : SummaryContent) (line : List ℕ) (o : Answered) → client ≡ before_summary
+    → line ≡ codes "BEGIN Game_Summary" → h ≡ no_content → Silent o Going → Reacts c engine client (server_line line) o engine (summary h)
 summary_begun c engine client h line o at begins nothing q =
     subst (λ x. Reacts c engine client (server_line line) o engine (summary x)) (sym nothing)
-    (by_row c engine engine client (summary nothing_heard) (server_line line) o _ Going (row.summary_begins at (ap server_line begins) refl refl) q.2 q.0 q.1)
+    (by_row c engine engine client (summary no_content) (server_line line) o _ Going (row.summary_begins at (ap server_line begins) refl refl) q.2 q.0 q.1)
 
-abbrev pub Counts : Heard → Type 0
+abbrev pub Counts : SummaryContent → Type 0
 Counts h = (lines : List (List ℕ)) × CountsAs lines h
 
-pub counts_after : (h new : Heard) (line : List ℕ) → Counts h → new ≡ heard_after h line → Counts new
+pub counts_after : (h new : SummaryContent) (line : List ℕ) → Counts h → new ≡ content_after h line → Counts new
 counts_after h new line counts e = (counts.0 ++ line ∷ [], subst (CountsAs (counts.0 ++ line ∷ [])) (sym e) (counts_more counts.0 line h counts.1))
 
-pub summary_heard : (c : Config) (engine : EngineState) (h new : Heard) (line : List ℕ) (o : Answered) → (line ≡ codes "END Game_Summary" → ⊥)
-    → Counts h → new ≡ heard_after h line → Silent o Going → Reacts c engine (summary h) (server_line line) o engine (summary new)
+pub summary_read : (c : Config) (engine : EngineState) (h new : SummaryContent) (line : List ℕ) (o : Answered) → (line ≡ codes "END Game_Summary" → ⊥)
+    → Counts h → new ≡ content_after h line → Silent o Going → Reacts c engine (summary h) (server_line line) o engine (summary new)
 unfolding counts_after
-summary_heard c engine h new line o goes counts e q =
+summary_read c engine h new line o goes counts e q =
     by_row c engine engine (summary h) (summary new) (server_line line) o _ Going
     (row.summary_line counts.0 line h new refl refl goes counts.1 (counts_after h new line counts e).1 refl refl) q.2 q.0 q.1
 
-pub summary_failed : (c : Config) (engine : EngineState) (client client_after : Client) (h : Heard) (o : Answered) → client ≡ summary h
+pub summary_failed : (c : Config) (engine : EngineState) (client client_after : Client) (h : SummaryContent) (o : Answered) → client ≡ summary h
     → ((offer : Offer) → TellsOffer h offer → ⊥) → client_after ≡ client → Silent o (Failed BadSummary)
     → Reacts c engine client (server_line (codes "END Game_Summary")) o engine client_after
 summary_failed c engine client client_after h o at none same q =
@@ -87,13 +87,13 @@ summary_failed c engine client client_after h o at none same q =
 unended : (g : Game) (e : Option Ended) → e ≡ None → g.ending ≡ e → record g { ending = None } ≡ g
 unended g e none is = ap (λ (x : Option Ended). record g { ending = x }) (sym (is ∙ none))
 
-pub summary_told : (c : Config) (engine : EngineState) (client : Client) (h : Heard) (o : GameOffer) (out : Answered) → client ≡ summary h
+pub summary_stated : (c : Config) (engine : EngineState) (client : Client) (h : SummaryContent) (o : GameOffer) (out : Answered) → client ≡ summary h
     → TellsOffer h (offer_in o) → out.to_engine ≡ [] → out.to_server ≡ ended_line (codes "AGREE") → out.status ≡ Going
     → Reacts c engine client (server_line (codes "END Game_Summary")) out engine (agreeing (offer_in o))
-summary_told c engine client h o out at tells q r s =
+summary_stated c engine client h o out at tells q r s =
     by_row c engine engine client (agreeing (offer_in o)) _ out _ Going (row.summary_ends h (offer_in o) at refl tells refl refl) s q (r ∙ one_text (codes "AGREE"))
 
-pub offered : (h : Heard) (o : GameOffer) → TellsOffer h (offer_in o) → IsOpen o.game
+pub offered : (h : SummaryContent) (o : GameOffer) → TellsOffer h (offer_in o) → IsOpen o.game
 offered h o tells = record { none = (offer_plain _ _ tells.position).0; legal = offer_legal _ _ tells.position }
 
 -- 4. AGREE
@@ -133,17 +133,17 @@ first_asked (Ok o) c engine engine_after p lines whole same h =
 first_asked (Err f) c engine engine_after p lines whole same h = h
 
 -- 5. the end
-pub logged_out : (c : Config) (engine : EngineState) (p : Own) (told : Told) (res : GameResult) (line : List ℕ) (o : Answered)
-    → p.stage ≡ stages.Closing told res → line ≡ codes "LOGOUT:completed" → Silent o Done
-    → Reacts c engine (play_client p) (server_line line) o engine (play_client (record p { stage = stages.Ended told res }))
-logged_out c engine p told res line o at completed h =
+pub logged_out : (c : Config) (engine : EngineState) (p : Own) (stated : EndReport) (res : GameResult) (line : List ℕ) (o : Answered)
+    → p.stage ≡ stages.Closing stated res → line ≡ codes "LOGOUT:completed" → Silent o Done
+    → Reacts c engine (play_client p) (server_line line) o engine (play_client (record p { stage = stages.Ended stated res }))
+logged_out c engine p stated res line o at completed h =
     by_row c engine engine (play_client p) _ (server_line line) o _ Done
     (row.closes _ _ _ (ap (staged (match_in p) p.game) at) (inl (ap server_line completed)) refl refl) h.2 h.0 h.1
 
-pub hung_up : (c : Config) (engine : EngineState) (p : Own) (told : Told) (res : GameResult) (o : Answered)
-    → p.stage ≡ stages.Closing told res → Silent o Done
-    → Reacts c engine (play_client p) server_end o engine (play_client (record p { stage = stages.Ended told res }))
-hung_up c engine p told res o at h =
+pub hung_up : (c : Config) (engine : EngineState) (p : Own) (stated : EndReport) (res : GameResult) (o : Answered)
+    → p.stage ≡ stages.Closing stated res → Silent o Done
+    → Reacts c engine (play_client p) server_end o engine (play_client (record p { stage = stages.Ended stated res }))
+hung_up c engine p stated res o at h =
     by_row c engine engine (play_client p) _ server_end o _ Done
     (row.closes _ _ _ (ap (staged (match_in p) p.game) at) (inr refl) refl refl) h.2 h.0 h.1
 
@@ -164,8 +164,8 @@ pub too_long : (c : Config) (engine : EngineState) (client : Client) (e : Event)
 too_long c engine client e o long h =
     by_row c engine engine client client e o _ (Failed LineTooLong) (row.line_too_long long refl refl) h.2 h.0 h.1
 
-stage_not_over : (g : Match) (game : Game) (stage : GameStage) → ((t : Told) (r : GameResult) → stage ≡ stages.Closing t r → ⊥)
-    → ((t : Told) (r : GameResult) → stage ≡ stages.Ended t r → ⊥)
+stage_not_over : (g : Match) (game : Game) (stage : GameStage) → ((t : EndReport) (r : GameResult) → stage ≡ stages.Closing t r → ⊥)
+    → ((t : EndReport) (r : GameResult) → stage ≡ stages.Ended t r → ⊥)
     → (client_state (staged g game stage) ≡ clients.Closing → ⊥) × (client_state (staged g game stage) ≡ clients.Ended → ⊥)
 stage_not_over g game stages.Playing h k = (λ e. cc, λ e. cc)
 stage_not_over g game (stages.Sent a) h k = (λ e. cc, λ e. cc)
@@ -173,8 +173,8 @@ stage_not_over g game (stages.Reason t) h k = (λ e. cc, λ e. cc)
 stage_not_over g game (stages.Closing t r) h k = absurd (h t r refl)
 stage_not_over g game (stages.Ended t r) h k = absurd (k t r refl)
 
-pub play_not_over : (p : Own) → ((t : Told) (r : GameResult) → p.stage ≡ stages.Closing t r → ⊥)
-    → ((t : Told) (r : GameResult) → p.stage ≡ stages.Ended t r → ⊥)
+pub play_not_over : (p : Own) → ((t : EndReport) (r : GameResult) → p.stage ≡ stages.Closing t r → ⊥)
+    → ((t : EndReport) (r : GameResult) → p.stage ≡ stages.Ended t r → ⊥)
     → (client_state (play_client p) ≡ clients.Closing → ⊥) × (client_state (play_client p) ≡ clients.Ended → ⊥)
 play_not_over p h k = stage_not_over (match_in p) p.game p.stage h k
 
@@ -183,7 +183,7 @@ pub phase_not_over : (x : Phase) → ((p : Own) → x ≡ phases.InGame p → �
 phase_not_over phases.Idle h = (λ e. cc, λ e. cc)
 phase_not_over phases.LoggingIn h = (λ e. cc, λ e. cc)
 phase_not_over phases.BeforeSummary h = (λ e. cc, λ e. cc)
-phase_not_over (phases.Summary heard) h = (λ e. cc, λ e. cc)
+phase_not_over (phases.Summary from_server) h = (λ e. cc, λ e. cc)
 phase_not_over (phases.Agreeing o) h = (λ e. cc, λ e. cc)
 phase_not_over (phases.InGame p) h = absurd (h p refl)
 
@@ -193,16 +193,16 @@ pub agreed_phase : {E : Type 0} (r : Result Answered E) (after : Phase) (o : Gam
 agreed_phase (Ok a) after o open-game p q = subst IsPhase (sym p) open-game
 agreed_phase (Err f) after o open-game p q = subst IsPhase (sym q) tt
 
-pub summary_agreed : {E : Type 0} (r : Result Answered E) (c : Config) (engine : EngineState) (client : Client) (h : Heard) (o : GameOffer) (after : Phase)
+pub summary_agreed : {E : Type 0} (r : Result Answered E) (c : Config) (engine : EngineState) (client : Client) (h : SummaryContent) (o : GameOffer) (after : Phase)
     → client ≡ summary h → TellsOffer h (offer_in o) → OnOk r (after ≡ phases.Agreeing o) → IfOk r (λ out. out.to_engine ≡ [])
     → IfOk r (λ out. out.to_server ≡ ended_line (codes "AGREE")) → IfOk r (λ out. out.status ≡ Going)
     → IfOk r (λ out. Reacts c engine client (server_line (codes "END Game_Summary")) out engine (client_of after))
 summary_agreed (Ok out) c engine client h o after at tells p q s z =
     subst (λ x. Reacts c engine client (server_line (codes "END Game_Summary")) out engine (client_of x)) (sym p)
-    (summary_told c engine client h o out at tells q s z)
+    (summary_stated c engine client h o out at tells q s z)
 summary_agreed (Err f) c engine client h o after at tells p q s z = tt
 
-pub ended_or : {E : Type 0} (r : Result Answered E) (c : Config) (engine : EngineState) (client client_after : Client) (h : Heard) (line : List ℕ) → client ≡ summary h
+pub ended_or : {E : Type 0} (r : Result Answered E) (c : Config) (engine : EngineState) (client client_after : Client) (h : SummaryContent) (line : List ℕ) → client ≡ summary h
     → line ≡ codes "END Game_Summary"
     → IfOk r (λ o. Reacts c engine (summary h) (server_line (codes "END Game_Summary")) o engine client_after) → OnErr r (client_after ≡ before_summary)
     → MatchResult r (λ o. Reacts c engine client (server_line line) o engine client_after) (λ f. Stays c engine client (server_line line) engine client_after)
@@ -216,11 +216,11 @@ ended_or (Err f) c engine client client_after h line here at k lost = record {
   game = before (ap game_of lost ∙ sym (ap game_of here));
 }
 
-pub heard_or : {E : Type 0} (r : Result Answered E) (c : Config) (engine : EngineState) (client : Client) (h new : Heard) (line : List ℕ) → client ≡ summary h
+pub received_or : {E : Type 0} (r : Result Answered E) (c : Config) (engine : EngineState) (client : Client) (h new : SummaryContent) (line : List ℕ) → client ≡ summary h
     → IfOk r (λ o. (d : Config) (x : EngineState) → Reacts d x (summary h) (server_line line) o x (summary new))
     → MatchResult r (λ o. Reacts c engine client (server_line line) o engine (summary new)) (λ f. Stays c engine client (server_line line) engine (summary new))
-heard_or (Ok o) c engine client h new line at k = subst (λ x. Reacts c engine x (server_line line) o engine (summary new)) (sym at) (k c engine)
-heard_or (Err f) c engine client h new line at k = record {
+received_or (Ok o) c engine client h new line at k = subst (λ x. Reacts c engine x (server_line line) o engine (summary new)) (sym at) (k c engine)
+received_or (Err f) c engine client h new line at k = record {
   engine_stays = refl;
   client_stays = sym (ap client_state at);
   slip_stays = sym (ap slip_of at);

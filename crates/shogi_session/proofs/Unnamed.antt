@@ -49,7 +49,7 @@ best_of : (s : State) (k : Client) (line : List ℕ) (out : Out) (t : State) →
 best_of s idle line out t h = (h.0, h.1)
 best_of s logging_in line out t h = (h.0, h.1)
 best_of s before_summary line out t h = (h.0, h.1)
-best_of s (summary heard) line out t h = (h.0, h.1)
+best_of s (summary from_server) line out t h = (h.0, h.1)
 best_of s (agreeing o) line out t h = (h.0, h.1)
 best_of s (playing g) line out t h = (h.word, h.best)
 best_of s (sent g a) line out t h = (h.0, h.1)
@@ -121,7 +121,7 @@ other_in_play c engine client p line at move hash ending =
       | refuses cause x why gives ↦ clash (is_move_line line) move x
       | unsent color m x j nope gives ↦ clash (is_move_line line) move x
       | confirms color m ls now x j own asks gives ↦ clash (is_move_line line) move x
-      | tells_end kept x told gives ↦ ending x kept told
+      | tells_end kept x stated gives ↦ ending x kept stated
     ])
     (λ g f out t e h. clash (is_hash_line line) hash (hash_line (going engine client) g f line out t h))
 

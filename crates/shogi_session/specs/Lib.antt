@@ -19,7 +19,7 @@ pub use Rattle.host_and_sample.specs.SampleStage
 pub use Rattle.bridge_table.specs.Asking
 pub use Rattle.bridge_table.specs.Events
 pub use Rattle.bridge_table.specs.Examples
-pub use Rattle.bridge_table.specs.GameTold
+pub use Rattle.bridge_table.specs.GameSoFar
 pub use Rattle.bridge_table.specs.Hearing
 pub use Rattle.bridge_table.specs.Logs
 pub use Rattle.bridge_table.specs.Promises

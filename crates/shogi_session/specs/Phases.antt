@@ -16,12 +16,12 @@ use Rattle.shogi_session.specs.declared.phase.Phase.TheVariants.{Idle, LoggingIn
 use Rattle.shogi_session.specs.declared.phase.Play.{Play}
 use Rattle.shogi_session.specs.declared.phase.GameStage.{GameStage}
 use Rattle.shogi_session.specs.declared.phase.GameStage.TheVariants.{Playing, Sent, Reason, Closing, Ended as Over}
-use Rattle.shogi_session.specs.declared.phase.Told.{Told}
+use Rattle.shogi_session.specs.declared.phase.EndReport.{EndReport}
 use Rattle.session_lines.specs.declared.server_words.EndReason.{EndReason}
 use Rattle.bridge_table.specs.declared.state.EngineState.{EngineState}
 use Rattle.bridge_table.specs.Events.{Event, Out}
 use Rattle.bridge_table.specs.Asking.{Asks}
-use Rattle.bridge_table.specs.GameTold.{ending_of, game_of}
+use Rattle.bridge_table.specs.GameSoFar.{ending_of, game_of}
 use Rattle.shogi_session.specs.Offers.{offer_in}
 use Rattle.bridge_table.specs.Promises.{KeepsGame}
 use Rattle.bridge_table.specs.Row.{Row}
@@ -38,8 +38,8 @@ abbrev pub kept_of : Bool → Option Ended → Option Ended
 kept_of true ending = ending
 kept_of false ending = None
 
-abbrev pub finish_of : Game → Told → Finish
-finish_of game told = record { kept = kept_of told.ending game.ending; reason = told.reason }
+abbrev pub finish_of : Game → EndReport → Finish
+finish_of game stated = record { kept = kept_of stated.ending game.ending; reason = stated.reason }
 
 -- the match has the game without its ending
 abbrev pub match_in : Play → Match
@@ -48,9 +48,9 @@ match_in p = record { client = p.client; game = record p.game { ending = None };
 abbrev pub staged : Match → Game → GameStage → Client
 staged g game Playing = playing g
 staged g game (Sent a) = sent g a
-staged g game (Reason told) = reason g (finish_of game told)
-staged g game (Closing told result) = closing g (finish_of game told) result
-staged g game (Over told result) = ended g (finish_of game told) result
+staged g game (Reason stated) = reason g (finish_of game stated)
+staged g game (Closing stated result) = closing g (finish_of game stated) result
+staged g game (Over stated result) = ended g (finish_of game stated) result
 
 abbrev pub play_client : Play → Client
 play_client p = staged (match_in p) p.game p.stage
@@ -59,7 +59,7 @@ abbrev pub client_of : Phase → Client
 client_of Idle = idle
 client_of LoggingIn = logging_in
 client_of BeforeSummary = before_summary
-client_of (Summary heard) = summary heard
+client_of (Summary from_server) = summary from_server
 client_of (Agreeing o) = agreeing (offer_in o)
 client_of (InGame p) = play_client p
 
@@ -83,7 +83,7 @@ abbrev pub IsPhase : Phase → Type 0
 IsPhase Idle = Unit {0}
 IsPhase LoggingIn = Unit {0}
 IsPhase BeforeSummary = Unit {0}
-IsPhase (Summary heard) = (lines : List (List ℕ)) × CountsAs lines heard
+IsPhase (Summary from_server) = (lines : List (List ℕ)) × CountsAs lines from_server
 IsPhase (Agreeing o) = IsOpen o.game
 IsPhase (InGame p) = IsPlay p
 
@@ -121,9 +121,9 @@ answer_for best.Slip = Toryo
 abbrev pub IsOn : GameStage → Type 0
 IsOn Playing = Unit {0}
 IsOn (Sent a) = Unit {0}
-IsOn (Reason told) = ⊥
-IsOn (Closing told result) = ⊥
-IsOn (Over told result) = ⊥
+IsOn (Reason stated) = ⊥
+IsOn (Closing stated result) = ⊥
+IsOn (Over stated result) = ⊥
 
 -- the sent move that waits for confirmation
 abbrev pub waiting_in : GameStage → Option shogi.Move
@@ -131,20 +131,20 @@ waiting_in Playing = None
 waiting_in (Sent (Move m)) = Some m
 waiting_in (Sent Toryo) = None
 waiting_in (Sent Kachi) = None
-waiting_in (Reason told) = None
-waiting_in (Closing told result) = None
-waiting_in (Over told result) = None
+waiting_in (Reason stated) = None
+waiting_in (Closing stated result) = None
+waiting_in (Over stated result) = None
 
-abbrev pub no_ending_told : Told
-no_ending_told = record { ending = false; reason = None }
+abbrev pub no_end_report : EndReport
+no_end_report = record { ending = false; reason = None }
 
 -- this is what was said of the end in this stage, or nothing, while the game is in play
-abbrev pub TellsEnd : GameStage → Told → Type 0
-TellsEnd Playing told = told ≡ no_ending_told
-TellsEnd (Sent a) told = told ≡ no_ending_told
-TellsEnd (Reason before) told = told ≡ before
-TellsEnd (Closing before result) told = ⊥
-TellsEnd (Over before result) told = ⊥
+abbrev pub TellsEnd : GameStage → EndReport → Type 0
+TellsEnd Playing stated = stated ≡ no_end_report
+TellsEnd (Sent a) stated = stated ≡ no_end_report
+TellsEnd (Reason before) stated = stated ≡ before
+TellsEnd (Closing before result) stated = ⊥
+TellsEnd (Over before result) stated = ⊥
 
 -- the lines of this text ask the engine, or the text is empty
 abbrev pub IsAskText : Config → Match → EngineState → List ℕ → EngineState → Type 0

@@ -5,10 +5,10 @@ ghost use Rattle.bridge_table.specs.declared.config.Config.{Config};
 ghost use Rattle.bridge_table.specs.declared.event.Status.TheVariants.{Going, Lost};
 ghost use Rattle.bridge_table.specs.declared.state.EngineState.{EngineState};
 ghost use Rattle.bridge_table.specs.declared.state.EngineState.TheVariants.{Ended, New};
-ghost use Rattle.bridge_table.specs.Events.{Out as Told, begin, engine_end, server_end, trimmed};
+ghost use Rattle.bridge_table.specs.Events.{Out as TableOut, begin, engine_end, server_end, trimmed};
 ghost use Rattle.shogi_session.specs.Phases.{IsPhase, Reacts, Stays, client_of, staged};
 ghost use Rattle.shogi_session.specs.Configs.{IsConfig};
-ghost use Rattle.bridge_table.specs.GameTold.{HasMoves, game_of};
+ghost use Rattle.bridge_table.specs.GameSoFar.{HasMoves, game_of};
 ghost use Rattle.bridge_table.specs.Promises.{HoldsLine, IsGameText, KeepsGame, SameStates, StepRow, event_of};
 ghost use Rattle.bridge_table.specs.State.{Client, Match, client_state, first_state, slip_of, waits_for};
 ghost use Rattle.session_lines.specs.Texts.{text_of};
@@ -81,11 +81,11 @@ impl Bridge {
     pub fn step(&mut self, event: Event<'_>) -> Result<Out, OutOfMemory>
         requires line { HoldsLine (event_of event) }
         ensures row { IfOk result
-            (λ answered. (out : Told) × StepRow self.old (event_of event.entry) out self.new) }
-        ensures to_engine { IfOk result (λ answered. (out : Told)
+            (λ answered. (out : TableOut) × StepRow self.old (event_of event.entry) out self.new) }
+        ensures to_engine { IfOk result (λ answered. (out : TableOut)
             → StepRow self.old (event_of event.entry) out self.new
             → answered.to_engine ≡ text_of out.to_engine) }
-        ensures to_server { IfOk result (λ answered. (out : Told)
+        ensures to_server { IfOk result (λ answered. (out : TableOut)
             → StepRow self.old (event_of event.entry) out self.new
             → answered.to_server ≡ text_of out.to_server) }
         ensures status { IfOk result (λ answered. answered.status ≡ self.new.state.status) }
@@ -314,8 +314,8 @@ fn lose_server(alloc: Global, phase: &mut Phase) -> Out
 {
     match phase {
         Phase::InGame(play) => match play.stage {
-            GameStage::Closing(told, game_result) => {
-                play.stage = GameStage::Ended(told, game_result);
+            GameStage::Closing(stated, game_result) => {
+                play.stage = GameStage::Ended(stated, game_result);
                 silent(alloc, Status::Done)
             }
             GameStage::Ended(_, _) => no_lines(alloc),

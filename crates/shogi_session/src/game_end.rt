@@ -1,5 +1,5 @@
 ghost use Rattle.std.specs.Prelude.{◌≡◌, None, Some};
-ghost use Rattle.bridge_table.specs.GameTold.{ending_by, ending_of, illegal_action, perpetual_ending, untimed};
+ghost use Rattle.bridge_table.specs.GameSoFar.{ending_by, ending_of, illegal_action, perpetual_ending, untimed};
 
 use csa_text::Ending;
 use session_lines::server_words::{EndReason, GameResult};

@@ -45,7 +45,7 @@ ghost use Rattle.session_lines.specs.Texts.{text_of};
 use crate::answers::{failed, no_lines, to_engine};
 use crate::asking::ask;
 use crate::game_end::ending_by;
-use crate::phase::{GameStage, Play, Told};
+use crate::phase::{EndReport, GameStage, Play};
 use crate::server_lines::{read_server_ending, read_server_move};
 use bridge_table::{Answer, Config, EngineState, MoveCause, Out, SessionFault, Status};
 use csa_record::{Record, Why};
@@ -80,11 +80,11 @@ pub(crate) fn hear_in_play(
         return hear_move(alloc, config, engine, play, line);
     }
     if is_hash_line(line) {
-        let told = Told {
+        let stated = EndReport {
             ending: false,
             reason: None,
         };
-        return hear_end(alloc, engine, play, told, line);
+        return hear_end(alloc, engine, play, stated, line);
     }
     if is_ending_line(line) {
         keep_ending(play, line);
@@ -102,7 +102,7 @@ fn keep_ending(play: &mut Play, line: &[u8])
         return;
     };
     end_with(play, ending, time);
-    play.stage = GameStage::Reason(Told {
+    play.stage = GameStage::Reason(EndReport {
         ending: true,
         reason: None,
     });
@@ -141,7 +141,7 @@ fn hear_move(
         (play_client play.old) (server_line line.now) engine.new (play_client play.new)) }
 {
     let (color, mv, time) = match read_server_move(line) {
-        Ok(told) => told,
+        Ok(stated) => stated,
         Err(fault) => return Ok(refuse(alloc, Why::Text(fault))),
     };
     match play.game.line().fault(color, &mv) {
@@ -288,10 +288,10 @@ pub(crate) fn hear_end(
     alloc: Global,
     engine: &mut EngineState,
     play: &mut Play,
-    told: Told,
+    stated: EndReport,
     line: &[u8],
 ) -> Result<Out, OutOfMemory>
-    requires told { TellsEnd play.old.stage told }
+    requires stated { TellsEnd play.old.stage stated }
     requires play { IsPlay play.old }
     requires hash { is_hash_line line.now ≡ true }
     ensures keeps { IsPlay play.new }
@@ -303,36 +303,36 @@ pub(crate) fn hear_end(
     match read_result(line) {
         Some(game_result) => {
             let out = say_end(alloc, game_result)?;
-            play.stage = GameStage::Closing(told_of(play, told.reason), game_result);
-            close(play, told.reason, game_result);
+            play.stage = GameStage::Closing(end_report(play, stated.reason), game_result);
+            close(play, stated.reason, game_result);
             *engine = EngineState::Ended;
             Ok(out)
         }
         None => {
-            play.stage = GameStage::Reason(with_reason(told, read_reason(line)));
+            play.stage = GameStage::Reason(with_reason(stated, read_reason(line)));
             Ok(no_lines(alloc))
         }
     }
 }
 
 // Adds the reason, if there is none yet.
-fn with_reason(told: Told, reason: EndReason) -> Told
-    ensures ending { result.ending ≡ told.ending }
+fn with_reason(stated: EndReport, reason: EndReason) -> EndReport
+    ensures ending { result.ending ≡ stated.ending }
     ensures reason { (game : Game)
-        → finish_of game result ≡ with_reason (finish_of game told) reason }
+        → finish_of game result ≡ with_reason (finish_of game stated) reason }
 {
-    Told {
-        ending: told.ending,
-        reason: Some(told.reason.unwrap_or(reason)),
+    EndReport {
+        ending: stated.ending,
+        reason: Some(stated.reason.unwrap_or(reason)),
     }
 }
 
 // What the server said of the end: this reason, and the ending that the game has.
-fn told_of(play: &Play, reason: Option<EndReason>) -> Told
+fn end_report(play: &Play, reason: Option<EndReason>) -> EndReport
     ensures ending { result.ending ≡ is_some play.now.game.ending }
     ensures reason { result.reason ≡ reason }
 {
-    Told {
+    EndReport {
         ending: play.game.ending().is_some(),
         reason,
     }

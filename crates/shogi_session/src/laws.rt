@@ -18,8 +18,8 @@ ghost use Rattle.session_lines.specs.Texts.{text_of, without_last_spaces};
 ghost use Rattle.shogi_session.specs.Configs.{IsConfig};
 
 pub use bridge_table::laws::{
-    asked_right, asking_has_a_position, confirmed_once, ends_are_silent, game_told, log_instanced,
-    moves_instanced, row_once, sent_legal, sent_once, silent_when_over, step_whole,
+    asked_right, asking_has_a_position, confirmed_once, ends_are_silent, game_so_far,
+    log_instanced, moves_instanced, row_once, sent_legal, sent_once, silent_when_over, step_whole,
     summary_line_once, thinking_may_ask,
 };
 pub use host_and_sample::laws::{

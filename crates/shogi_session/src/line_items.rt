@@ -34,7 +34,7 @@ pub(crate) fn next_move(cutter: &mut Cutter<'_>) -> Result<(Color, Move), TextFa
         return Err(TextFault::Unknown);
     };
     match walked_of(item) {
-        Some(told) => Ok(told),
+        Some(stated) => Ok(stated),
         None => Err(TextFault::Unknown),
     }
 }

@@ -5,7 +5,7 @@ ghost use Rattle.csa_record.specs.Titles.{with_name};
 ghost use Rattle.csa_text.specs.Codes.{sign};
 ghost use Rattle.csa_cutting.specs.Cut.{longest_statement};
 ghost use Rattle.shogi_board.specs.declared.color.Color.{Color};
-ghost use Rattle.shogi_session.specs.Offers.{IsClientTold, IsNamed};
+ghost use Rattle.shogi_session.specs.Offers.{IsClientGiven, IsNamed};
 
 use csa_record::Record;
 use session_lines::texts;
@@ -22,8 +22,8 @@ pub(crate) struct GameOffer {
 // The client's side in a summary with these names and this turn, or None if it can offer no game.
 pub(crate) fn read_client(black: &[u8], white: &[u8], turn: &[u8]) -> Option<Color>
     ensures { MatchOption result
-        ((color : Color) → IsClientTold black.now white.now turn.now color → ⊥)
-        (IsClientTold black.now white.now turn.now) }
+        ((color : Color) → IsClientGiven black.now white.now turn.now color → ⊥)
+        (IsClientGiven black.now white.now turn.now) }
 {
     if black.len() > 4094 || white.len() > 4094 {
         return None;

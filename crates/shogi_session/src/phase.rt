@@ -7,7 +7,7 @@ use shogi_board::Color;
 
 // What the server has said of a game's end, apart from the ending, which the game has.
 #[derive(Clone, Copy, Debug, PartialEq, Eq)]
-pub(crate) struct Told {
+pub(crate) struct EndReport {
     // Whether the server sent the game's ending.
     pub(crate) ending: bool,
     pub(crate) reason: Option<EndReason>,
@@ -18,9 +18,9 @@ pub(crate) struct Told {
 pub(crate) enum GameStage {
     Playing,
     Sent(Answer),
-    Reason(Told),
-    Closing(Told, GameResult),
-    Ended(Told, GameResult),
+    Reason(EndReport),
+    Closing(EndReport, GameResult),
+    Ended(EndReport, GameResult),
 }
 
 // A game that has started: its confirmed moves, its ending as far as that is known, and whether the

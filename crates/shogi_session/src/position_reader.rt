@@ -133,7 +133,7 @@ fn game_of(state: BlockState) -> Result<Option<Record>, OutOfMemory>
     match reader.finish() {
         Ok(game) => Ok(Some(game)),
         Err(refusal) => {
-            if wants_memory(refusal.why) {
+            if lacks_memory(refusal.why) {
                 Err(OutOfMemory)
             } else {
                 Ok(None)
@@ -169,7 +169,7 @@ fn feed(reader: &mut RecordReader, bytes: &[u8]) -> Result<bool, OutOfMemory>
     match reader.feed(bytes) {
         Ok(()) => Ok(true),
         Err(refusal) => {
-            if wants_memory(refusal.why) {
+            if lacks_memory(refusal.why) {
                 Err(OutOfMemory)
             } else {
                 Ok(false)
@@ -186,7 +186,7 @@ fn has_room(reader: &RecordReader, bytes: &[u8]) -> bool
     fed <= MOST_BYTES && bytes.len() as u64 <= MOST_BYTES - fed
 }
 
-fn wants_memory(why: Why) -> bool
+fn lacks_memory(why: Why) -> bool
     ensures { IsTrue result ↔ (why ≡ Why.OutOfMemory) }
 {
     why == Why::OutOfMemory

@@ -37,8 +37,8 @@ pub(crate) fn read_server_ending(line: &[u8]) -> Option<(Ending, Option<u64>)>
 {
     let mut cutter = Cutter::new(line);
     match next_ending(&mut cutter) {
-        Ok(told) => match last_time(&mut cutter) {
-            Ok(time) => Some((told, time)),
+        Ok(stated) => match last_time(&mut cutter) {
+            Ok(time) => Some((stated, time)),
             Err(_) => None,
         },
         Err(_) => None,
@@ -55,7 +55,7 @@ fn next_ending(cutter: &mut Cutter<'_>) -> Result<Ending, TextFault>
         return Err(TextFault::Unknown);
     };
     match ending_of(item) {
-        Some(told) => Ok(told),
+        Some(stated) => Ok(stated),
         None => Err(TextFault::Unknown),
     }
 }
@@ -67,7 +67,7 @@ fn ending_of(item: Item<'_>) -> Option<Ending>
         (λ e. saying_of item.entry ≡ ending e) }
 {
     match item {
-        Item::Ending(told) => Some(told),
+        Item::Ending(stated) => Some(stated),
         _ => None,
     }
 }

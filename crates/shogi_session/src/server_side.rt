@@ -11,7 +11,7 @@ ghost use Rattle.usi_text.specs.EngineTexts as usi_texts;
 ghost use Rattle.shogi_session.specs.Phases.{PlayGoesOn, IsPhase, IsPlay, Reacts, Stays, begun, client_of, play_client};
 ghost use Rattle.bridge_table.specs.State as state;
 ghost use Rattle.session_lines.specs.ServerLines.{is_start_line};
-ghost use Rattle.bridge_table.specs.Summary.{CountsAs, Heard, Offer};
+ghost use Rattle.bridge_table.specs.Summary.{CountsAs, SummaryContent, Offer};
 ghost use Rattle.session_lines.specs.Texts.{ended_line};
 
 use crate::answers::{failed, no_lines, silent, tell_server};
@@ -120,7 +120,7 @@ fn hear_summary(alloc: Global, reader: &mut SummaryReader, line: &[u8]) -> Resul
 // Takes the last line of a summary. If an allocation fails, the lines before it are lost.
 fn end_summary(alloc: Global, phase: &mut Phase) -> Result<Out, OutOfMemory>
     requires phase { IsPhase phase.old }
-    requires summary { (h : Heard) × (client_of phase.old ≡ state.summary h) }
+    requires summary { (h : SummaryContent) × (client_of phase.old ≡ state.summary h) }
     ensures keeps { IsPhase phase.new }
     ensures answer { (c : Config) (engine : EngineState) → IfOk result
         (λ out. Reacts c engine (client_of phase.old)
@@ -221,16 +221,16 @@ fn hear_in_game(
 {
     match play.stage {
         GameStage::Playing | GameStage::Sent(_) => hear_in_play(alloc, config, engine, play, line),
-        GameStage::Reason(told) => {
+        GameStage::Reason(stated) => {
             if is_hash_line(line) {
-                hear_end(alloc, engine, play, told, line)
+                hear_end(alloc, engine, play, stated, line)
             } else {
                 Ok(no_lines(alloc))
             }
         }
-        GameStage::Closing(told, game_result) => {
+        GameStage::Closing(stated, game_result) => {
             if is_same(line, texts::LOGOUT_COMPLETED) {
-                play.stage = GameStage::Ended(told, game_result);
+                play.stage = GameStage::Ended(stated, game_result);
                 Ok(silent(alloc, Status::Done))
             } else {
                 Ok(no_lines(alloc))

@@ -2,9 +2,9 @@ ghost use Rattle.std.specs.Prelude.{◌≡◌, None, Some, IfOk, OnOk, bytes_eq}
 ghost use Rattle.csa_record.specs.Limits.{IsOneLine};
 ghost use Rattle.shogi_session.specs.HearingStage.{IsFitting, IsGameIn, IsPlace, blocks_of, ended_blocks, first_block, title_of};
 ghost use Rattle.session_lines.specs.LineTexts as texts;
-ghost use Rattle.bridge_table.specs.Hearing.{extended, heard_after, one_more, opened, outside, value_or};
-ghost use Rattle.shogi_session.specs.Offers.{IsToldBy, offer_of};
-ghost use Rattle.bridge_table.specs.Summary.{end_line, is_position, nothing_heard};
+ghost use Rattle.bridge_table.specs.Hearing.{extended, content_after, one_more, opened, outside, value_or};
+ghost use Rattle.shogi_session.specs.Offers.{IsOfferOf, offer_of};
+ghost use Rattle.bridge_table.specs.Summary.{end_line, is_position, no_content};
 
 use crate::offer::{GameOffer, name_offer, read_client};
 use crate::position_reader::{EndedPosition, PositionReader};
@@ -65,9 +65,9 @@ pub(crate) struct SummaryReader {
 impl Model for SummaryReader {
     ghost use Rattle.csa_record.specs.Limits.{IsOneLine};
     ghost use Rattle.shogi_session.specs.HearingStage.{IsFitting, blocks_of, title_of};
-    ghost use Rattle.bridge_table.specs.Summary.{Heard};
+    ghost use Rattle.bridge_table.specs.Summary.{SummaryContent};
 
-    ghost Value = { Heard };
+    ghost Value = { SummaryContent };
 
     ghost view = { λ s. record {
       black = s.black.items;
@@ -84,7 +84,7 @@ impl Model for SummaryReader {
 impl SummaryReader {
     // A reader after `BEGIN Game_Summary`.
     pub(crate) fn new(alloc: Global) -> SummaryReader
-        ensures { result ≡ nothing_heard }
+        ensures { result ≡ no_content }
     {
         SummaryReader {
             alloc,
@@ -99,7 +99,7 @@ impl SummaryReader {
     // Takes the next line, which is not `END Game_Summary`.
     pub(crate) fn hear(&mut self, line: &[u8]) -> Result<(), OutOfMemory>
         requires { IsOneLine line.now }
-        ensures { OnOk result (self.new ≡ heard_after self.old line.now) }
+        ensures { OnOk result (self.new ≡ content_after self.old line.now) }
     {
         match place_of(&self.begun, line) {
             SummaryPlace::Begins => self.begin(&line[texts::BEGIN.len()..]),
@@ -113,8 +113,8 @@ impl SummaryReader {
     // The offer that the lines make as a whole summary; or None if they make none, and nothing
     // changes.
     pub(crate) fn finish(&mut self) -> Result<Option<GameOffer>, OutOfMemory>
-        ensures told { IfOk result (λ found. IsToldBy self.old (offer_of found)) }
-        ensures untold { IfOk result (λ found. found ≡ None → self.new ≡ self.old) }
+        ensures stated { IfOk result (λ found. IsOfferOf self.old (offer_of found)) }
+        ensures unstated { IfOk result (λ found. found ≡ None → self.new ≡ self.old) }
     {
         let Begun::Nothing = &self.begun else {
             return Ok(None);

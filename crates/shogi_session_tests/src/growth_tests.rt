@@ -84,7 +84,8 @@ fn play_as_host<R: Abort + Print>(rt: &R, host: &mut Host) -> Result<(), Fail> {
         (
             "LOGIN bridge pw",
             "LOGIN:bridge OK\nBEGIN Game_Summary\nGame_ID:local\nName+:host\nName-:bridge\n\
-             Your_Turn:-\nTo_Move:+\nMax_Moves:4\nBEGIN Position\nPI\n+\nEND Position\nEND Game_Summary\n",
+             Your_Turn:-\nTo_Move:+\nMax_Moves:4\nBEGIN Position\nPI\n+\nEND Position\n\
+             END Game_Summary\n",
         ),
         ("AGREE", "START:local\n+1716FU,T0\n"),
         ("-1112KY", "-1112KY,T3\n+1615FU,T0\n"),
@@ -141,8 +142,8 @@ fn answer_as_engine<R: Abort + Print>(rt: &R, engine: &mut Sample) -> Result<(),
     Ok(())
 }
 
-// Gives the bridge the event of a row, and returns whether it had enough memory. If so, it sends the
-// row's lines. If not, both states are unchanged.
+// Gives the bridge the event of a row, and returns whether it had enough memory. If so, it sends
+// the row's lines. If not, both states are unchanged.
 fn hand_or_lose<R: Abort + Print>(rt: &R, bridge: &mut Bridge, row: &Row) -> Result<bool, Fail> {
     let (event, to_engine, to_server, _) = *row;
     let states = (bridge.engine_state(), bridge.client_state());

@@ -24,7 +24,7 @@ fn laws_of_the_bridge_are_called() {
     laws::sent_once();
     laws::asked_right();
     laws::asking_has_a_position();
-    laws::game_told();
+    laws::game_so_far();
     laws::moves_instanced();
     laws::log_instanced();
     laws::both_ends();

@@ -1,1 +1,2 @@
 pub mod CommandNames
+pub mod CommandWords

@@ -1,3 +1,4 @@
 pub mod Options
+pub mod Plans
 pub mod Requests
 pub mod Words

@@ -20,6 +20,7 @@ pub fn all<'a>(alloc: Global) -> Result<Command<'a>, AllocError>
     program(alloc)
         .subcommand(records::check(alloc)?)?
         .subcommand(records::digest(alloc)?)?
+        .subcommand(records::same(alloc)?)?
         .subcommand(records::normal(alloc)?)?
         .subcommand(records::usi(alloc)?)?
         .subcommand(records::csa(alloc)?)?
@@ -46,15 +47,20 @@ pub fn request_of<'m, 'a>(matches: &'m ArgMatches<'a>, is_terminal: bool) -> Opt
     ensures within { IfSome result (λ r. (s : Service)
         → r ≡ Request.Serve s → (1 ≤ s.max_moves) × (s.max_moves ≤ positions.max_moves)) }
     ensures said { IfSome result
-        (λ r. (words : ArgMatches) × AreWordsOf matches.now words × SaysWords (found_of words) r) }
+        (λ r. (words : ArgMatches) × AreWordsOf matches.now words
+        × SaysWords (found_of words) is_terminal r) }
     ensures unknown { result ≡ None → IsNoCommand (subcommand_name_of matches.now) }
 {
     let (name, words) = matches.subcommand()?;
     match name {
-        records::CHECK => Some(Request::Check(words::files(words))),
-        records::DIGEST => Some(Request::Digest(words::files(words))),
-        records::NORMAL => Some(Request::Normal(words::file(words))),
-        records::USI => Some(Request::Usi(words::file(words))),
+        records::CHECK => Some(Request::Check(words::records(words, is_terminal))),
+        records::DIGEST => Some(Request::Digest(words::records(words, is_terminal))),
+        records::SAME => Some(Request::Same(
+            words::records(words, is_terminal),
+            words::likeness(words),
+        )),
+        records::NORMAL => Some(Request::Normal(words::one_record(words, is_terminal))),
+        records::USI => Some(Request::Usi(words::one_record(words, is_terminal))),
         records::CSA => Some(Request::Csa(words::file(words))),
         records::ENGINE => Some(Request::Engine),
         serve::NAME => Some(Request::Serve(serve::service_of(words))),

@@ -50,7 +50,7 @@ fn rules_laws() {
 
 fn cutting_laws() {
     cutting::cut_once();
-    cutting::first_is_told();
+    cutting::first_is_stated();
     cutting::lines_once();
     cutting::closed_once();
     cutting::too_long_once();
@@ -107,7 +107,7 @@ fn session_laws() {
     session::asking_has_a_position();
     session::confirmed_once();
     session::ends_are_silent();
-    session::game_told();
+    session::game_so_far();
     session::log_instanced();
     session::moves_instanced();
     session::row_once();

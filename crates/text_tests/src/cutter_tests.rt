@@ -14,7 +14,7 @@ fn cuts_a_source(rt: HostRuntime) {
     }
     assert!(rt; cutter.next_statement() == Ok(None));
     laws::cut_once();
-    laws::first_is_told();
+    laws::first_is_stated();
     laws::lines_once();
     laws::closed_once();
     laws::too_long_once();

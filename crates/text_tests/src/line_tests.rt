@@ -43,10 +43,10 @@ fn lines_in_pieces_of_each_size(rt: HostRuntime) -> Result<(), LineFault> {
         ("usi\nisready\r\n\r\nquit", "usi|isready|quit|"),
         ("\na b,\tc\r\rquit\n", "a b,\tc|quit|"),
     ];
-    for (bytes, want) in table {
+    for (bytes, expected) in table {
         for size in 1..30usize {
             let got = cut(&rt, bytes.as_bytes(), size, 8)?;
-            assert_eq!(rt; got.as_slice(), want.as_bytes(), "in pieces of {size}");
+            assert_eq!(rt; got.as_slice(), expected.as_bytes(), "in pieces of {size}");
         }
     }
     Ok(())

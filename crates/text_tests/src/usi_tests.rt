@@ -50,8 +50,8 @@ fn engine_lines(rt: HostRuntime) -> Result<(), Fail> {
         ("   ", EngineWord::Other),
         ("", EngineWord::Other),
     ];
-    for (line, want) in table {
-        assert_eq!(rt; read_engine_line(line.as_bytes()), want, "{line}");
+    for (line, expected) in table {
+        assert_eq!(rt; read_engine_line(line.as_bytes()), expected, "{line}");
     }
     Ok(())
 }
@@ -206,7 +206,7 @@ fn rest_written_at_last(rt: &(impl AllocGlobal + Abort + Print)) -> Result<(), F
 // tests/growths runs this with each allocation refused in turn. The answer is the fault found
 // before that, or out of memory, and then a second call succeeds.
 #[test]
-fn refused_growth_is_told(rt: HostRuntime) -> Result<(), Fail> {
+fn refused_growth_is_reported(rt: HostRuntime) -> Result<(), Fail> {
     faults_without_memory(&rt);
     calls_without_memory(&rt)?;
     line_and_text_at_last(&rt)?;

@@ -104,12 +104,12 @@ run_bytes : (n : ℕ) → AreRank (run_text n)
 run_bytes zero = tt
 run_bytes (suc n) = rw (run_some n) (high_byte (48 + suc n) (omega arith), tt)
 
-piece_told : (b : Bool) (l : ℕ) → 65 ≤ l → AreRank (if b then 43 ∷ l ∷ [] else l ∷ [])
-piece_told true l h = ((lit≤ tt, λ e. omega arith), (high_byte l (omega arith), tt))
-piece_told false l h = (high_byte l (omega arith), tt)
+piece_stated : (b : Bool) (l : ℕ) → 65 ≤ l → AreRank (if b then 43 ∷ l ∷ [] else l ∷ [])
+piece_stated true l h = ((lit≤ tt, λ e. omega arith), (high_byte l (omega arith), tt))
+piece_stated false l h = (high_byte l (omega arith), tt)
 
 piece_bytes : (p : Piece) → AreRank (piece_text p)
-piece_bytes p = piece_told (is_promoted p.kind) (side_letter p) (side_low p)
+piece_bytes p = piece_stated (is_promoted p.kind) (side_letter p) (side_low p)
 
 after_bytes : (n : ℕ) (cells : List (Option Piece)) → AreRank (text_after n cells)
 after_bytes n [] = run_bytes n

@@ -147,9 +147,9 @@ finished : (r : Result Layout SetupFault) (side : Color) (p : Placed) → Finish
 finished (Ok t) side p h = (t, refl, h.1)
 finished (Err f) side p h = cc
 
-held_behind : (r : Result Layout SetupFault) (ps : List Piece) (t : Layout) → hold_after r ps ≡ Ok t → (s : Layout) × (r ≡ Ok s) × (hold_pieces s ps ≡ Ok t)
-held_behind (Ok s) ps t h = (s, refl, h)
-held_behind (Err f) ps t h = cc
+held_following : (r : Result Layout SetupFault) (ps : List Piece) (t : Layout) → hold_after r ps ≡ Ok t → (s : Layout) × (r ≡ Ok s) × (hold_pieces s ps ≡ Ok t)
+held_following (Ok s) ps t h = (s, refl, h)
+held_following (Err f) ps t h = cc
 
 from_none : (a b c : ℕ) → a ≡ b + c → b ≡ 0 → a ≡ c
 from_none a b c h j = omega (arith, h, j)
@@ -158,7 +158,7 @@ from_none a b c h j = omega (arith, h, j)
 all_counted : (cells : List (Option Piece)) (piles : List Pile) (t : Layout) (text : List ℕ) (color : Color) (kind : Kind) → length cells ≡ 81 → SpellsHands text piles → is_hand_kind kind ≡ true → set_up cells piles ≡ Ok t → count_in (bag_of t.material color) kind ≡ pile_total color kind piles
 all_counted cells piles t text color kind size spelt j h =
     let ps = flat_map pile_pieces piles in
-    let g = held_behind (put_cells empty_layout 0 cells) ps t (sym (set_up_is cells piles size) ∙ h) in
+    let g = held_following (put_cells empty_layout 0 cells) ps t (sym (set_up_is cells piles size) ∙ h) in
     let bare = λ (c : Color). put_hands cells empty_layout g.0 0 c g.1 in
     let count = pieces_counted ps g.0 t color kind (bare_size g.0 bare) (hands_held text piles spelt) j g.2 in
     from_none _ _ _ count (ap (λ b. count_in b kind) (bare color) ∙ bare_count color kind) ∙ piles_counted piles color kind

@@ -7,7 +7,7 @@ use Rattle.shogi_rules.specs.After.{after}
 use Rattle.shogi_rules.specs.Legal.{Legal}
 use Rattle.shogi_rules.specs.Positions.{position_after, MayFollow, IsGame, begun, played}
 use Rattle.shogi_rules.specs.declared.moves.Move.{Move}
-use Rattle.usi_text.specs.LineText.{MovesText, BehindStart}
+use Rattle.usi_text.specs.LineText.{MovesText, AfterStart}
 use Rattle.usi_text.specs.Moves.{UsiMove}
 
 abbrev LegalAt : Placed → List Move → ℕ → Move → Type 0
@@ -56,22 +56,22 @@ pub now_more : (start now next : Placed) (moves : List Move) (i : ℕ) (m : Move
 now_more start now next moves i m at low e step =
     step ∙ (ap (λ p. after p m) at ∙ (sym (after_more start (take i moves) m) ∙ ap (position_after start) (sym (taken_more moves i m low e))))
 
-abbrev pub Told : Placed → List Move → List ℕ → List ℕ → Type 0
-Told start moves old text = (rest : List ℕ) × MovesText start moves rest × (text ≡ old ++ rest)
+abbrev pub EndReport : Placed → List Move → List ℕ → List ℕ → Type 0
+EndReport start moves old text = (rest : List ℕ) × MovesText start moves rest × (text ≡ old ++ rest)
 
-pub told_more : (start now : Placed) (moves : List Move) (i : ℕ) (m : Move) (old text spaced next word : List ℕ) → now ≡ position_after start (take i moves) → i < length moves → m ≡ get_or moves i m → Told start (take i moves) old text → UsiMove now word m → spaced ≡ text ++ 32 ∷ [] → next ≡ spaced ++ word → Told start (take (i + 1) moves) old next
-told_more start now moves i m old text spaced next word at low e told u a b =
-    let more = text_more start (take i moves) m told.0 word told.1 (subst (λ p. UsiMove p word m) at u) in
-    let whole : next ≡ old ++ (told.0 ++ 32 ∷ word) =
-    b ∙ (ap (λ t. t ++ word) (a ∙ ap (λ t. t ++ 32 ∷ []) told.2) ∙ (append_assoc (old ++ told.0) (32 ∷ []) word ∙ append_assoc old told.0 (32 ∷ word))) in
-    (told.0 ++ 32 ∷ word, subst (λ ms. MovesText start ms (told.0 ++ 32 ∷ word)) (sym (taken_more moves i m low e)) more, whole)
+pub stated_more : (start now : Placed) (moves : List Move) (i : ℕ) (m : Move) (old text spaced next word : List ℕ) → now ≡ position_after start (take i moves) → i < length moves → m ≡ get_or moves i m → EndReport start (take i moves) old text → UsiMove now word m → spaced ≡ text ++ 32 ∷ [] → next ≡ spaced ++ word → EndReport start (take (i + 1) moves) old next
+stated_more start now moves i m old text spaced next word at low e stated u a b =
+    let more = text_more start (take i moves) m stated.0 word stated.1 (subst (λ p. UsiMove p word m) at u) in
+    let whole : next ≡ old ++ (stated.0 ++ 32 ∷ word) =
+    b ∙ (ap (λ t. t ++ word) (a ∙ ap (λ t. t ++ 32 ∷ []) stated.2) ∙ (append_assoc (old ++ stated.0) (32 ∷ []) word ∙ append_assoc old stated.0 (32 ∷ word))) in
+    (stated.0 ++ 32 ∷ word, subst (λ ms. MovesText start ms (stated.0 ++ 32 ∷ word)) (sym (taken_more moves i m low e)) more, whole)
 
-pub behind_told : (start : Placed) (moves : List Move) (rest : List ℕ) → (length moves ≡ 0 → ⊥) → MovesText start moves rest → BehindStart start moves (codes " moves" ++ rest)
-behind_told start [] rest some h = absurd (some refl)
-behind_told start (m ∷ ms) rest some h = (rest, refl, h)
+pub after_stated : (start : Placed) (moves : List Move) (rest : List ℕ) → (length moves ≡ 0 → ⊥) → MovesText start moves rest → AfterStart start moves (codes " moves" ++ rest)
+after_stated start [] rest some h = absurd (some refl)
+after_stated start (m ∷ ms) rest some h = (rest, refl, h)
 
-pub all_told : (start : Placed) (moves : List Move) (i : ℕ) (old text : List ℕ) → length moves ≤ i → Told start (take i moves) old text → Told start moves old text
-all_told start moves i old text past told = subst (λ ms. Told start ms old text) (take_all i moves past) told
+pub all_stated : (start : Placed) (moves : List Move) (i : ℕ) (old text : List ℕ) → length moves ≤ i → EndReport start (take i moves) old text → EndReport start moves old text
+all_stated start moves i old text past stated = subst (λ ms. EndReport start ms old text) (take_all i moves past) stated
 
 pub none_left : (b : Bool) (n : ℕ) → b ≡ (n == 0) → b ≡ false → n ≡ 0 → ⊥
 none_left b n e f z = let t : (n == 0) ≡ true = rw z refl in cc

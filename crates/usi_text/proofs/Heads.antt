@@ -51,5 +51,5 @@ sfen_line ws all front moves e split some = record {
   whole = e ∙ ap (λ a. codes "position" ∷ codes "sfen" ∷ a) split.1;
   some = some;
   before = split.2;
-  behind = split.3;
+  following = split.3;
 }

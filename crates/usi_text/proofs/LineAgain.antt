@@ -18,7 +18,7 @@ use Rattle.shogi_rules.specs.declared.moves.Move.TheVariants.{Walk, Put}
 use Rattle.usi_text.specs.Boards.{ranks_of}
 use Rattle.usi_text.specs.Hands.{Pile, IsCount, SpellsHands, count_text, pile_text}
 use Rattle.usi_text.specs.Letters.{color_letter, side_letter, square_text}
-use Rattle.usi_text.specs.LineText.{StartText, MovesText, BehindStart, LineText}
+use Rattle.usi_text.specs.LineText.{StartText, MovesText, AfterStart, LineText}
 use Rattle.usi_text.specs.Lines.{HasMoves, Starts, Judged, Plays, UsiLine}
 use Rattle.usi_text.specs.Moves.{UsiMove}
 use Rattle.usi_text.specs.Sfen.{side_text}
@@ -108,7 +108,7 @@ moves_match p (m ∷ ms) text h =
     (h.0, words h.1, e, h.3, moves_match (after p m) ms h.1 h.4)
 
 -- what follows the start
-record Behind (p : Placed) (ms : List Move) (text : List ℕ) : Type 0 where
+record AfterIt (p : Placed) (ms : List Move) (text : List ℕ) : Type 0 where
   moves : List (List ℕ)
   has : HasMoves (words text) moves
   match : Match p ms moves
@@ -117,9 +117,9 @@ record Behind (p : Placed) (ms : List Move) (text : List ℕ) : Type 0 where
 moves_word : AreWord (codes "moves")
 moves_word = (lit≤ tt, (lit≤ tt, (lit≤ tt, (lit≤ tt, (lit≤ tt, tt)))))
 
-behind : (p : Placed) (ms : List Move) (text : List ℕ) → BehindStart p ms text → Behind p ms text
-behind p [] text h = record { moves = []; has = rw h refl; match = refl; ends = rw h tt }
-behind p (m ∷ ms) text h =
+following : (p : Placed) (ms : List Move) (text : List ℕ) → AfterStart p ms text → AfterIt p ms text
+following p [] text h = record { moves = []; has = rw h refl; match = refl; ends = rw h tt }
+following p (m ∷ ms) text h =
     let e : words text ≡ codes "moves" ∷ words h.0 = ap words h.1 ∙ one_word (codes "moves") h.0 moves_word (lit≤ tt) (moves_end p (m ∷ ms) h.0 h.2) in
     record {
       moves = words h.0;
@@ -231,23 +231,23 @@ line_starts start moves text front rest s e (inr h) has ends =
     let f = e ∙ ap (λ x. codes "position " ++ (x ++ rest)) h.1 in
     let w : words text ≡ codes "position" ∷ codes "sfen" ∷ (words sfen ++ words rest) =
     head_words text (codes "sfen " ++ sfen) rest f ends ∙ ap (λ t. codes "position" ∷ (t ++ words rest)) (sfen_head sfen) in
-    inr (words sfen, record { tail = words rest; whole = w; some = none.1; before = none.0; behind = has }, again start s)
+    inr (words sfen, record { tail = words rest; whole = w; some = none.1; before = none.0; following = has }, again start s)
 
 -- what is written for a line is read back as its start and its moves
 pub line_again : (start : Placed) (moves : List Move) (text : List ℕ) → IsSound start → IsGame start moves → length moves ≤ 10000 → LineText start moves text → UsiLine (words text) start moves
 line_again start moves text s game few (front, rest, e, begins, follow) =
-    let b = behind start moves rest follow in (
+    let b = following start moves rest follow in (
       b.moves,
       line_starts start b.moves text front rest s e begins b.has b.ends,
       game_plays start [] moves b.moves game few b.match,
     )
 
 -- a line as it is written, piece by piece
-pub line_text : (start found : Placed) (moves shown : List Move) (a b text front rest : List ℕ) → found ≡ start → shown ≡ moves → a ≡ codes "position " → b ≡ a ++ front → text ≡ b ++ rest → StartText found front → BehindStart found shown rest → LineText start moves text
-line_text start found moves shown a b text front rest same told first second third begins follows = (
+pub line_text : (start found : Placed) (moves shown : List Move) (a b text front rest : List ℕ) → found ≡ start → shown ≡ moves → a ≡ codes "position " → b ≡ a ++ front → text ≡ b ++ rest → StartText found front → AfterStart found shown rest → LineText start moves text
+line_text start found moves shown a b text front rest same stated first second third begins follows = (
   front,
   rest,
   third ∙ (ap (λ t. t ++ rest) (second ∙ ap (λ t. t ++ front) first) ∙ append_assoc (codes "position ") front rest),
   subst (λ (p : Placed). StartText p front) same begins,
-  subst (λ (p : Placed). BehindStart p moves rest) same (subst (λ (ms : List Move). BehindStart found ms rest) told follows),
+  subst (λ (p : Placed). AfterStart p moves rest) same (subst (λ (ms : List Move). AfterStart found ms rest) stated follows),
 )

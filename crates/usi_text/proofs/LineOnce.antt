@@ -55,8 +55,8 @@ record Same (a b s t : Words) : Type 0 where
 lines_once : (ws a b s t : Words) → SfenLine ws a s → SfenLine ws b t → Same a b s t
 lines_once ws a b s t l m =
     let e : a ++ l.tail ≡ b ++ m.tail = same_tail ws (a ++ l.tail) (b ++ m.tail) (codes "position") (codes "sfen") l.whole m.whole in
-    let r = split_once a b l.tail m.tail s t e l.before m.before l.behind m.behind in
-    record { sfen = r.0; moves = has_once m.tail s t (subst (λ z. HasMoves z s) r.1 l.behind) m.behind }
+    let r = split_once a b l.tail m.tail s t e l.before m.before l.following m.following in
+    record { sfen = r.0; moves = has_once m.tail s t (subst (λ z. HasMoves z s) r.1 l.following) m.following }
 
 starts_once : (ws : Words) (p q : Placed) (s t : Words) → Starts ws p s → Starts ws q t → (p ≡ q) × (s ≡ t)
 starts_once ws p q s t (inl h) (inl k) =
@@ -137,10 +137,10 @@ plays_once start before (w ∷ ws) x y (inr h) (inr k) =
     plays_once start (before ++ k.0 ∷ []) ws x y (subst (λ m. Plays start (before ++ m ∷ []) ws x) e h.2) k.2
 
 -- one start and one answer
-abbrev Told : Words → Placed → Result (List Move) UsiFault → Type 0
-Told ws start answer = (words : Words) × Starts ws start words × Plays start [] words answer
+abbrev EndReport : Words → Placed → Result (List Move) UsiFault → Type 0
+EndReport ws start answer = (words : Words) × Starts ws start words × Plays start [] words answer
 
-told_once : (ws : Words) (p q : Placed) (x y : Result (List Move) UsiFault) → Told ws p x → Told ws q y → (p ≡ q) × (x ≡ y)
+told_once : (ws : Words) (p q : Placed) (x y : Result (List Move) UsiFault) → EndReport ws p x → EndReport ws q y → (p ≡ q) × (x ≡ y)
 told_once ws p q x y h k =
     let s = starts_once ws p q h.0 k.0 h.1 k.1 in
     let a = subst (λ z. Plays p [] z x) s.1 h.2 in

@@ -10,7 +10,7 @@ use Rattle.shogi_rules.specs.declared.moves.Move.{Move}
 use Rattle.shogi_rules.specs.declared.moves.Move.TheVariants.{Walk, Put}
 use Rattle.shogi_rules.specs.After.{after}
 use Rattle.shogi_rules.specs.Kinds.{promoted}
-use Rattle.usi_text.specs.LineText.{MovesText, StartText, BehindStart, LineText}
+use Rattle.usi_text.specs.LineText.{MovesText, StartText, AfterStart, LineText}
 use Rattle.usi_text.specs.Moves.{UsiMove}
 
 -- no kind promotes to itself
@@ -53,9 +53,9 @@ moves_once p (m ∷ ms) t u (v, r, e, w, o) (x, s, f, y, q) =
     let b = moves_once (after p m) ms r s o q in
     e ∙ (ap (λ z. 32 ∷ (z ++ r)) a ∙ (ap (λ z. 32 ∷ (x ++ z)) b ∙ sym f))
 
-behind_once : (p : Placed) (ms : List Move) (t u : List ℕ) → BehindStart p ms t → BehindStart p ms u → t ≡ u
-behind_once p [] t u h j = h ∙ sym j
-behind_once p (m ∷ ms) t u (r, e, o) (s, f, q) =
+following_once : (p : Placed) (ms : List Move) (t u : List ℕ) → AfterStart p ms t → AfterStart p ms u → t ≡ u
+following_once p [] t u h j = h ∙ sym j
+following_once p (m ∷ ms) t u (r, e, o) (s, f, q) =
     e ∙ (ap (λ z. codes " moves" ++ z) (moves_once p (m ∷ ms) r s o q) ∙ sym f)
 
 start_once : (p : Placed) (t u : List ℕ) → StartText p t → StartText p u → t ≡ u
@@ -67,4 +67,4 @@ start_once p t u (inr h) (inr j) = h.1 ∙ sym j.1
 pub one_line_text : (start : Placed) (moves : List Move) (t u : List ℕ) → LineText start moves t → LineText start moves u → t ≡ u
 one_line_text start moves t u (v, r, e, h, o) (w, s, f, j, q) =
     e ∙ (ap (λ z. codes "position " ++ (z ++ r)) (start_once start v w h j)
-    ∙ (ap (λ z. codes "position " ++ (w ++ z)) (behind_once start moves r s o q) ∙ sym f))
+    ∙ (ap (λ z. codes "position " ++ (w ++ z)) (following_once start moves r s o q) ∙ sym f))

@@ -13,7 +13,7 @@ use Rattle.usi_text.proofs.Spelt.{leads, Only, only_none, only_one, only_two, on
 use Rattle.usi_text.specs.Scanning.{HasNoDigit}
 
 letter_no_digit : (l : ℕ) (x : List ℕ) → 65 ≤ l → HasNoDigit (l ∷ x)
-letter_no_digit l x low digit behind h = let e : l ≡ 48 + digit = cc in let k = h.0 in omega arith
+letter_no_digit l x low digit following h = let e : l ≡ 48 + digit = cc in let k = h.0 in omega arith
 
 -- a count and a letter are one count and one letter
 only_count : (count : Option ℕ) (l : ℕ) (x : List ℕ) → IsCount count → 65 ≤ l → Only (count_text count ++ l ∷ x) count (l ∷ x)
@@ -80,21 +80,21 @@ dash_no_count (Some n) l x h low e =
 pub dash_no_pile : (p : Pile) (x : List ℕ) → IsCount p.count → 45 ∷ [] ≡ pile_text p ++ x → ⊥
 dash_no_pile p x h e = dash_no_count p.count (side_letter p.piece) x h (side_low p.piece) (e ∙ regroup p x)
 
-pub pile_before : (p : Pile) (behind : List ℕ) (piles : List Pile) → IsPile p → SpellsPiles behind piles → SpellsPiles (pile_text p ++ behind) (p ∷ piles)
-pile_before p behind piles h s = ((h, s.0), ap (λ t. pile_text p ++ t) s.1)
+pub pile_before : (p : Pile) (following : List ℕ) (piles : List Pile) → IsPile p → SpellsPiles following piles → SpellsPiles (pile_text p ++ following) (p ∷ piles)
+pile_before p following piles h s = ((h, s.0), ap (λ t. pile_text p ++ t) s.1)
 
-pub record First (p : Pile) (behind : List ℕ) (piles : List Pile) : Type 0 where
+pub record First (p : Pile) (following : List ℕ) (piles : List Pile) : Type 0 where
   pub others : List Pile
-  pub spelt : SpellsPiles behind others
+  pub spelt : SpellsPiles following others
   pub whole : piles ≡ p ∷ others
 
-pub pile_first : (p : Pile) (behind : List ℕ) (piles : List Pile) → IsPile p → SpellsPiles (pile_text p ++ behind) piles → First p behind piles
-pile_first p behind [] h s = absurd (pile_some p behind (sym s.1))
-pile_first p behind (q ∷ qs) h s =
-    let e = pile_once p q behind (flat_map pile_text qs) h s.0.0 s.1 in
+pub pile_first : (p : Pile) (following : List ℕ) (piles : List Pile) → IsPile p → SpellsPiles (pile_text p ++ following) piles → First p following piles
+pile_first p following [] h s = absurd (pile_some p following (sym s.1))
+pile_first p following (q ∷ qs) h s =
+    let e = pile_once p q following (flat_map pile_text qs) h s.0.0 s.1 in
     record { others = qs; spelt = (s.0.1, e.1); whole = ap (λ r. r ∷ qs) (sym e.0) }
 
-pub no_pile : (rest : List ℕ) (piles : List Pile) → ((p : Pile) (behind : List ℕ) → IsPile p → rest ≡ pile_text p ++ behind → ⊥) → SpellsPiles rest piles → (piles ≡ []) × (rest ≡ [])
+pub no_pile : (rest : List ℕ) (piles : List Pile) → ((p : Pile) (following : List ℕ) → IsPile p → rest ≡ pile_text p ++ following → ⊥) → SpellsPiles rest piles → (piles ≡ []) × (rest ≡ [])
 no_pile rest [] none s = (refl, s.1)
 no_pile rest (q ∷ qs) none s = absurd (none q (flat_map pile_text qs) s.0.0 s.1)
 
@@ -106,12 +106,12 @@ pub record Reads (text rest : List ℕ) : Type 0 where
 pub reads_start : (text : List ℕ) → Reads text text
 reads_start text = record { forward = λ more s. (more, s); backward = λ piles s. (piles, s) }
 
-pub reads_more : (text rest behind : List ℕ) (p : Pile) → Reads text rest → IsPile p → rest ≡ pile_text p ++ behind → Reads text behind
-reads_more text rest behind p r h e = record {
-  forward = λ more s. r.forward (p ∷ more) (rw e (pile_before p behind more h s));
+pub reads_more : (text rest following : List ℕ) (p : Pile) → Reads text rest → IsPile p → rest ≡ pile_text p ++ following → Reads text following
+reads_more text rest following p r h e = record {
+  forward = λ more s. r.forward (p ∷ more) (rw e (pile_before p following more h s));
   backward = λ piles s.
       let q = r.backward piles s in
-      let f = pile_first p behind q.0 h (rw e at q.1) in
+      let f = pile_first p following q.0 h (rw e at q.1) in
       (f.others, f.spelt);
 }
 
@@ -126,19 +126,19 @@ pub answer_empty : (text : List ℕ) → text ≡ [] → (piles : List Pile) →
 answer_empty text none [] s = let e : [] ≡ codes "-" = sym none ∙ s in cc
 answer_empty text none (p ∷ ps) s = pile_some p (flat_map pile_text ps) (sym none ∙ s.1)
 
-rest_some : (text rest : List ℕ) → Reads text rest → (text ≡ codes "-" → ⊥) → ((p : Pile) (behind : List ℕ) → IsPile p → rest ≡ pile_text p ++ behind → ⊥) → (rest ≡ [] → ⊥) → (piles : List Pile) → SpellsHands text piles → ⊥
+rest_some : (text rest : List ℕ) → Reads text rest → (text ≡ codes "-" → ⊥) → ((p : Pile) (following : List ℕ) → IsPile p → rest ≡ pile_text p ++ following → ⊥) → (rest ≡ [] → ⊥) → (piles : List Pile) → SpellsHands text piles → ⊥
 rest_some text rest r dash none some [] s = dash s
 rest_some text rest r dash none some (p ∷ ps) s =
     let q = r.backward (p ∷ ps) s in
     some (no_pile rest q.0 none q.1).1
 
-told : (b : Bool) (text rest : List ℕ) → Reads text rest → (text ≡ codes "-" → ⊥) → (text ≡ [] → ⊥) → ((p : Pile) (behind : List ℕ) → IsPile p → rest ≡ pile_text p ++ behind → ⊥) → (b ≡ true → rest ≡ []) → (b ≡ false → rest ≡ [] → ⊥) → Answer b text
-told true text rest r dash some none empty _ = let s = r.forward [] (tt, empty refl) in spelt_some text s.0 some s.1
-told false text rest r dash some none _ not_empty = rest_some text rest r dash none (not_empty refl)
+stated : (b : Bool) (text rest : List ℕ) → Reads text rest → (text ≡ codes "-" → ⊥) → (text ≡ [] → ⊥) → ((p : Pile) (following : List ℕ) → IsPile p → rest ≡ pile_text p ++ following → ⊥) → (b ≡ true → rest ≡ []) → (b ≡ false → rest ≡ [] → ⊥) → Answer b text
+stated true text rest r dash some none empty _ = let s = r.forward [] (tt, empty refl) in spelt_some text s.0 some s.1
+stated false text rest r dash some none _ not_empty = rest_some text rest r dash none (not_empty refl)
 
-pub answer : (b : Bool) (text rest : List ℕ) → Reads text rest → (text ≡ codes "-" → ⊥) → (text ≡ [] → ⊥) → ((p : Pile) (behind : List ℕ) → IsPile p → rest ≡ pile_text p ++ behind → ⊥) → b ≡ (length rest == 0) → Answer b text
+pub answer : (b : Bool) (text rest : List ℕ) → Reads text rest → (text ≡ codes "-" → ⊥) → (text ≡ [] → ⊥) → ((p : Pile) (following : List ℕ) → IsPile p → rest ≡ pile_text p ++ following → ⊥) → b ≡ (length rest == 0) → Answer b text
 answer b text rest r dash some none e =
-    told b text rest r dash some none (λ t. no_bytes rest (empty_is b (length rest) e t)) (λ f. some_are b rest e f)
+    stated b text rest r dash some none (λ t. no_bytes rest (empty_is b (length rest) e t)) (λ f. some_are b rest e f)
 
 pub not_so : {P : Type 0} (b : Bool) → IsTrue b ↔ P → b ≡ false → P → ⊥
 not_so b h f p = let t = h.1 p in cc

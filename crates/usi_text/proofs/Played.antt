@@ -19,40 +19,40 @@ use Rattle.usi_text.specs.Moves.{UsiMove}
 use Rattle.usi_text.specs.Sfen.{Sfen, FirstFault}
 use Rattle.usi_text.specs.Scanning.{word_fault, Stops, WordStops}
 
-pub broken_told : (line : Played) (c : Color) (m : Move) (rule : Rule) → ((play.Broken rule ≡ play.OutOfMemory) × Answers line c m None) ⊎ Answers line c m (Some (play.Broken rule)) → Answers line c m (Some (play.Broken rule))
-broken_told line c m rule (inl h) = let e = h.0 in cc
-broken_told line c m rule (inr h) = h
+pub broken_stated : (line : Played) (c : Color) (m : Move) (rule : Rule) → ((play.Broken rule ≡ play.OutOfMemory) × Answers line c m None) ⊎ Answers line c m (Some (play.Broken rule)) → Answers line c m (Some (play.Broken rule))
+broken_stated line c m rule (inl h) = let e = h.0 in cc
+broken_stated line c m rule (inr h) = h
 
-pub memory_told : (line : Played) (c : Color) (m : Move) → ((play.OutOfMemory ≡ play.OutOfMemory) × Answers line c m None) ⊎ Answers line c m (Some play.OutOfMemory) → Answers line c m None
-memory_told line c m (inl h) = h.1
-memory_told line c m (inr h) = absurd h
+pub memory_stated : (line : Played) (c : Color) (m : Move) → ((play.OutOfMemory ≡ play.OutOfMemory) × Answers line c m None) ⊎ Answers line c m (Some play.OutOfMemory) → Answers line c m None
+memory_stated line c m (inl h) = h.1
+memory_stated line c m (inr h) = absurd h
 
 -- why a word is not played for which play refused its move
-fault_told : (start : Placed) (before : List Move) (w : List ℕ) (m : Move) (n : ℕ) (fault : PlayFault)
+fault_stated : (start : Placed) (before : List Move) (w : List ℕ) (m : Move) (n : ℕ) (fault : PlayFault)
     → n ≡ length before + 1 → UsiMove (position_now start before) w m
     → ((fault ≡ play.OutOfMemory) × Judged start before m None) ⊎ Judged start before m (Some fault) → WordStops start before w (word_fault n fault)
-fault_told start before w m n play.TooManyMoves size spelt (inl h) = let e = h.0 in cc
-fault_told start before w m n play.TooManyMoves size spelt (inr h) = inr h
-fault_told start before w m n (play.Broken rule) size spelt h =
-    inr (size, m, spelt, broken_told (line_of start before) (position_now start before).side m rule h)
-fault_told start before w m n play.OutOfMemory size spelt h =
-    inl (refl, m, (spelt, memory_told (line_of start before) (position_now start before).side m h))
+fault_stated start before w m n play.TooManyMoves size spelt (inl h) = let e = h.0 in cc
+fault_stated start before w m n play.TooManyMoves size spelt (inr h) = inr h
+fault_stated start before w m n (play.Broken rule) size spelt h =
+    inr (size, m, spelt, broken_stated (line_of start before) (position_now start before).side m rule h)
+fault_stated start before w m n play.OutOfMemory size spelt h =
+    inl (refl, m, (spelt, memory_stated (line_of start before) (position_now start before).side m h))
 
 -- why a word is not played, if each fault of its play is made the word's
-pub word_told : (line new : Played) (w : List ℕ) (m : Move) (c : Color) (n : ℕ) (played : Result (Unit {0}) PlayFault) (told : Result (Unit {0}) UsiFault) (P : PlayFault → UsiFault → Type 0)
+pub word_stated : (line new : Played) (w : List ℕ) (m : Move) (c : Color) (n : ℕ) (played : Result (Unit {0}) PlayFault) (stated : Result (Unit {0}) UsiFault) (P : PlayFault → UsiFault → Type 0)
     → n ≡ length line.moves + 1 → UsiMove (now_of line) w m → c ≡ (now_of line).side
     → MatchResult played (λ _. Answers line c m None) (λ fault. ((fault ≡ play.OutOfMemory) × Answers line c m None) ⊎ Answers line c m (Some fault))
     → OnOk played (new ≡ record line { moves = line.moves ++ m ∷ [] })
-    → MatchResult played (λ x. told ≡ Ok x) (λ e. IsErrAnd told (P e))
+    → MatchResult played (λ x. stated ≡ Ok x) (λ e. IsErrAnd stated (P e))
     → ((e : PlayFault) (f : UsiFault) → P e f → f ≡ word_fault n e)
-    → MatchResult told (λ _. (m : Move) × IsPlayed line.start line.moves w m × (new ≡ line_of line.start (line.moves ++ m ∷ []))) (λ f. WordStops line.start line.moves w f)
-word_told line new w m c n (Ok x) told P size spelt side answer now same turns =
+    → MatchResult stated (λ _. (m : Move) × IsPlayed line.start line.moves w m × (new ≡ line_of line.start (line.moves ++ m ∷ []))) (λ f. WordStops line.start line.moves w f)
+word_stated line new w m c n (Ok x) stated P size spelt side answer now same turns =
     rw same (m, (spelt, subst (λ (s : Color). Answers line s m None) side answer), now)
-word_told line new w m c n (Err e) (Err f) P size spelt side answer now turned turns =
+word_stated line new w m c n (Err e) (Err f) P size spelt side answer now turned turns =
     rw (turns e f turned)
-    (fault_told line.start line.moves w m n e size spelt
+    (fault_stated line.start line.moves w m n e size spelt
     (subst (λ (s : Color). ((e ≡ play.OutOfMemory) × Answers line s m None) ⊎ Answers line s m (Some e)) side answer))
-word_told line new w m c n (Err e) (Ok y) P size spelt side answer now turned turns = absurd turned
+word_stated line new w m c n (Err e) (Ok y) P size spelt side answer now turned turns = absurd turned
 
 plays_on : (start : Placed) (before : List Move) (front rest : List (List ℕ)) (moves : List Move) (answer : Result (List Move) UsiFault) → Plays start before front (Ok moves) → Plays start moves rest answer → Plays start before (front ++ rest) answer
 plays_on start before [] rest moves answer h k =
@@ -73,24 +73,24 @@ answered start words rest moves answer p h = rw p.whole (plays_on start [] p.fro
 pub playing_start : (start : Placed) (words : List (List ℕ)) → Playing start words words []
 playing_start start words = record { front = []; whole = refl; played = refl }
 
-pub playing_more : (start : Placed) (words rest behind : List (List ℕ)) (moves : List Move) (w : List ℕ) (m : Move) → Playing start words rest moves → rest ≡ w ∷ behind → IsPlayed start moves w m → Playing start words behind (moves ++ m ∷ [])
-playing_more start words rest behind moves w m p e h = record {
+pub playing_more : (start : Placed) (words rest following : List (List ℕ)) (moves : List Move) (w : List ℕ) (m : Move) → Playing start words rest moves → rest ≡ w ∷ following → IsPlayed start moves w m → Playing start words following (moves ++ m ∷ [])
+playing_more start words rest following moves w m p e h = record {
   front = p.front ++ w ∷ [];
-  whole = p.whole ∙ (ap (λ r. p.front ++ r) e ∙ sym (append_assoc p.front (w ∷ []) behind));
+  whole = p.whole ∙ (ap (λ r. p.front ++ r) e ∙ sym (append_assoc p.front (w ∷ []) following));
   played = plays_on start [] p.front (w ∷ []) moves (Ok (moves ++ m ∷ [])) p.played (inr (m, h, refl));
 }
 
 pub playing_end : (start : Placed) (words rest : List (List ℕ)) (moves : List Move) → Playing start words rest moves → rest ≡ [] → Plays start [] words (Ok moves)
 playing_end start words rest moves p none = answered start words rest moves (Ok moves) p (rw none refl)
 
-pub playing_stops : (start : Placed) (words rest behind : List (List ℕ)) (moves : List Move) (w : List ℕ) (fault : UsiFault) → Playing start words rest moves → rest ≡ w ∷ behind → WordStops start moves w fault → Stops start words fault
-playing_stops start words rest behind moves w fault p e (inl h) =
+pub playing_stops : (start : Placed) (words rest following : List (List ℕ)) (moves : List Move) (w : List ℕ) (fault : UsiFault) → Playing start words rest moves → rest ≡ w ∷ following → WordStops start moves w fault → Stops start words fault
+playing_stops start words rest following moves w fault p e (inl h) =
     inl (
       h.0,
       inr (record {
         front = p.front;
         word = w;
-        rest = behind;
+        rest = following;
         whole = p.whole ∙ ap (λ r. p.front ++ r) e;
         before = moves;
         played = p.played;
@@ -98,7 +98,7 @@ playing_stops start words rest behind moves w fault p e (inl h) =
         allowed = h.2;
       }),
     )
-playing_stops start words rest behind moves w fault p e (inr h) =
+playing_stops start words rest following moves w fault p e (inr h) =
     inr (answered start words rest moves (Err fault) p (rw e (inl (fault, h, refl))))
 
 -- the fault of some word

@@ -44,21 +44,21 @@ pub part_some : (part : Part) (x : List ℕ) → [] ≡ part_text part ++ x → 
 part_some (empty_squares n) x e = cc
 part_some (one_piece p) x e = let f = ap length e in absurd (piece_some p x f)
 
-pub part_before : (part : Part) (behind : List ℕ) (cells : Cells) → IsPart part → SpellsCells behind cells → SpellsCells (part_text part ++ behind) (part_cells part ++ cells)
-part_before part behind cells h (parts, each, text, spelt) =
+pub part_before : (part : Part) (following : List ℕ) (cells : Cells) → IsPart part → SpellsCells following cells → SpellsCells (part_text part ++ following) (part_cells part ++ cells)
+part_before part following cells h (parts, each, text, spelt) =
     (part ∷ parts, (h, each), ap (λ t. part_text part ++ t) text, ap (λ c. part_cells part ++ c) spelt)
 
-pub part_first : (part : Part) (behind : List ℕ) (cells : Cells) → IsPart part → SpellsCells (part_text part ++ behind) cells → (others : Cells) × SpellsCells behind others × (cells ≡ part_cells part ++ others)
-part_first part behind cells h ([], each, text, spelt) = absurd (part_some part behind (sym text))
-part_first part behind cells h (q ∷ parts, each, text, spelt) =
-    let s = part_once part q behind (flat_map part_text parts) h each.0 text in
+pub part_first : (part : Part) (following : List ℕ) (cells : Cells) → IsPart part → SpellsCells (part_text part ++ following) cells → (others : Cells) × SpellsCells following others × (cells ≡ part_cells part ++ others)
+part_first part following cells h ([], each, text, spelt) = absurd (part_some part following (sym text))
+part_first part following cells h (q ∷ parts, each, text, spelt) =
+    let s = part_once part q following (flat_map part_text parts) h each.0 text in
     (flat_map part_cells parts, (parts, each.1, s.1, refl), spelt ∙ ap (λ p. part_cells p ++ flat_map part_cells parts) (sym s.0))
 
 pub nothing_spelt : (cells : Cells) → SpellsCells [] cells → cells ≡ []
 nothing_spelt cells ([], each, text, spelt) = spelt
 nothing_spelt cells (q ∷ parts, each, text, spelt) = absurd (part_some q (flat_map part_text parts) text)
 
-front_none : (rest : List ℕ) (cells : Cells) → (rest ≡ [] → ⊥) → ((part : Part) (behind : List ℕ) → IsPart part → rest ≡ part_text part ++ behind → ⊥) → SpellsCells rest cells → ⊥
+front_none : (rest : List ℕ) (cells : Cells) → (rest ≡ [] → ⊥) → ((part : Part) (following : List ℕ) → IsPart part → rest ≡ part_text part ++ following → ⊥) → SpellsCells rest cells → ⊥
 front_none rest cells some none ([], each, text, spelt) = some text
 front_none rest cells some none (q ∷ parts, each, text, spelt) = none q (flat_map part_text parts) each.0 text
 
@@ -78,26 +78,26 @@ pub record Runs (text rest : List ℕ) (old items : Cells) : Type 0 where
 pub runs_start : (text : List ℕ) (old : Cells) → Runs text text old old
 runs_start text old = record { forward = λ more h. (more, h, refl); backward = λ rank h. (rank, h, refl) }
 
-pub runs_more : (text rest behind : List ℕ) (old items next : Cells) (part : Part) → Runs text rest old items → IsPart part → rest ≡ part_text part ++ behind → next ≡ items ++ part_cells part → Runs text behind old next
-runs_more text rest behind old items next part runs h e d = record {
+pub runs_more : (text rest following : List ℕ) (old items next : Cells) (part : Part) → Runs text rest old items → IsPart part → rest ≡ part_text part ++ following → next ≡ items ++ part_cells part → Runs text following old next
+runs_more text rest following old items next part runs h e d = record {
   forward = λ more s.
-      let r = runs.forward (part_cells part ++ more) (rw e (part_before part behind more h s)) in
+      let r = runs.forward (part_cells part ++ more) (rw e (part_before part following more h s)) in
       (r.0, r.1, r.2 ∙ (sym (append_assoc items (part_cells part) more) ∙ ap (λ c. c ++ more) (sym d)));
   backward = λ rank s.
       let r = runs.backward rank s in
-      let q = part_first part behind r.0 h (rw e at r.1) in
+      let q = part_first part following r.0 h (rw e at r.1) in
       (q.0, q.1, r.2 ∙ (ap (λ c. items ++ c) q.2 ∙ (sym (append_assoc items (part_cells part) q.0) ∙ ap (λ c. c ++ q.0) (sym d))));
 }
 
-pub runs_no_part : (text rest : List ℕ) (old items : Cells) → Runs text rest old items → (rest ≡ [] → ⊥) → ((part : Part) (behind : List ℕ) → IsPart part → rest ≡ part_text part ++ behind → ⊥) → (rank : Cells) → SpellsCells text rank → ⊥
+pub runs_no_part : (text rest : List ℕ) (old items : Cells) → Runs text rest old items → (rest ≡ [] → ⊥) → ((part : Part) (following : List ℕ) → IsPart part → rest ≡ part_text part ++ following → ⊥) → (rank : Cells) → SpellsCells text rank → ⊥
 runs_no_part text rest old items runs some none rank s =
     let r = runs.backward rank s in
     front_none rest r.0 some none r.1
 
-pub runs_too_many : (text rest behind : List ℕ) (old items : Cells) (part : Part) → Runs text rest old items → IsPart part → rest ≡ part_text part ++ behind → length old + 9 < length items + length (part_cells part) → (rank : Cells) → SpellsCells text rank → length rank ≡ 9 → ⊥
-runs_too_many text rest behind old items part runs h e many rank s nine =
+pub runs_too_many : (text rest following : List ℕ) (old items : Cells) (part : Part) → Runs text rest old items → IsPart part → rest ≡ part_text part ++ following → length old + 9 < length items + length (part_cells part) → (rank : Cells) → SpellsCells text rank → length rank ≡ 9 → ⊥
+runs_too_many text rest following old items part runs h e many rank s nine =
     let r = runs.backward rank s in
-    let q = part_first part behind r.0 h (rw e at r.1) in
+    let q = part_first part following r.0 h (rw e at r.1) in
     let l = ap length r.2 in
     let k = ap length q.2 in
     omega (arith, length-append old rank, length-append items r.0, length-append (part_cells part) q.0, l, k)
@@ -117,10 +117,10 @@ runs_short text old items runs other rank s nine =
     let l = ap length whole in
     other (omega (arith, length-append old rank, l))
 
-rank_told : (b : Bool) (text rest : List ℕ) (old items : Cells) → Runs text rest old items → rest ≡ [] → (b ≡ true → length items ≡ length old + 9) → (b ≡ false → length items ≢ length old + 9) → MatchBool b ((rank : Cells) × SpellsCells text rank × (length rank ≡ 9) × (items ≡ old ++ rank)) ((rank : Cells) → SpellsCells text rank → length rank ≡ 9 → ⊥)
-rank_told true text rest old items runs none whole short =
+rank_stated : (b : Bool) (text rest : List ℕ) (old items : Cells) → Runs text rest old items → rest ≡ [] → (b ≡ true → length items ≡ length old + 9) → (b ≡ false → length items ≢ length old + 9) → MatchBool b ((rank : Cells) × SpellsCells text rank × (length rank ≡ 9) × (items ≡ old ++ rank)) ((rank : Cells) → SpellsCells text rank → length rank ≡ 9 → ⊥)
+rank_stated true text rest old items runs none whole short =
     let r : Runs text [] old items = rw none at runs in runs_end text old items r (whole refl)
-rank_told false text rest old items runs none whole short =
+rank_stated false text rest old items runs none whole short =
     let r : Runs text [] old items = rw none at runs in runs_short text old items r (short refl)
 
 pub no_bytes : (xs : List ℕ) → length xs ≡ 0 → xs ≡ []
@@ -129,7 +129,7 @@ no_bytes (x ∷ xs) h = absurd (omega arith)
 
 pub rank_read : (m n : ℕ) (text rest : List ℕ) (old items : Cells) → m ≡ length items → n ≡ length old → Runs text rest old items → length rest ≡ 0 → MatchBool (m == (n + 9)) ((rank : Cells) × SpellsCells text rank × (length rank ≡ 9) × (items ≡ old ++ rank)) ((rank : Cells) → SpellsCells text rank → length rank ≡ 9 → ⊥)
 rank_read m n text rest old items h k runs none =
-    rank_told (m == (n + 9)) text rest old items runs (no_bytes rest none)
+    rank_stated (m == (n + 9)) text rest old items runs (no_bytes rest none)
     (λ t. let e = (Decides-eqb m (n + 9)).0 t in omega arith)
     (λ f e. let d : m ≡ n + 9 = omega arith in let t = (Decides-eqb m (n + 9)).1 d in cc)
 
@@ -143,25 +143,25 @@ pub record Boards (text : List ℕ) (rest : List (List ℕ)) (items : Cells) (n 
 pub boards_start : (text : List ℕ) → Boards text (ranks_of text) [] 0
 boards_start text = record { forward = λ more h. h; backward = λ cells h. (cells, h, refl); count = omega arith; size = omega arith }
 
-pub boards_more : (text : List ℕ) (rest behind : List (List ℕ)) (rank : List ℕ) (items next cells : Cells) (n : ℕ) → Boards text rest items n → rest ≡ rank ∷ behind → SpellsCells rank cells → length cells ≡ 9 → next ≡ items ++ cells → Boards text behind next (n + 1)
-boards_more text rest behind rank items next cells n b e spelt nine d = record {
+pub boards_more : (text : List ℕ) (rest following : List (List ℕ)) (rank : List ℕ) (items next cells : Cells) (n : ℕ) → Boards text rest items n → rest ≡ rank ∷ following → SpellsCells rank cells → length cells ≡ 9 → next ≡ items ++ cells → Boards text following next (n + 1)
+boards_more text rest following rank items next cells n b e spelt nine d = record {
   forward = λ more s.
       let one : SpellsRanks rest (cells ++ more) = rw e (cells, more, refl, spelt, nine, s) in
       let all : SpellsRanks (ranks_of text) (items ++ (cells ++ more)) = b.forward (cells ++ more) one in
       rw (d, append_assoc) all;
   backward = λ all s.
       let r = b.backward all s in
-      let q : SpellsRanks (rank ∷ behind) r.0 = rw e at r.1 in
+      let q : SpellsRanks (rank ∷ following) r.0 = rw e at r.1 in
       let same : q.0 ≡ cells = cells_once rank q.0 cells q.3 spelt in
       (q.1, q.5, r.2 ∙ (ap (λ c. items ++ c) q.2 ∙ (ap (λ c. items ++ (c ++ q.1)) same ∙ (sym (append_assoc items cells q.1) ∙ ap (λ c. c ++ q.1) (sym d)))));
   count = let l = ap length e in omega (arith, b.count, l);
   size = let l = ap length d in omega (arith, b.size, l, length-append items cells);
 }
 
-pub boards_bad_rank : (text : List ℕ) (rest behind : List (List ℕ)) (rank : List ℕ) (items : Cells) (n : ℕ) → Boards text rest items n → rest ≡ rank ∷ behind → ((cells : Cells) → SpellsCells rank cells → length cells ≡ 9 → ⊥) → (cells : Cells) → SpellsBoard text cells → ⊥
-boards_bad_rank text rest behind rank items n b e none cells s =
+pub boards_bad_rank : (text : List ℕ) (rest following : List (List ℕ)) (rank : List ℕ) (items : Cells) (n : ℕ) → Boards text rest items n → rest ≡ rank ∷ following → ((cells : Cells) → SpellsCells rank cells → length cells ≡ 9 → ⊥) → (cells : Cells) → SpellsBoard text cells → ⊥
+boards_bad_rank text rest following rank items n b e none cells s =
     let r = b.backward cells s.1 in
-    let q : SpellsRanks (rank ∷ behind) r.0 = rw e at r.1 in
+    let q : SpellsRanks (rank ∷ following) r.0 = rw e at r.1 in
     none q.0 q.3 q.4
 
 pub boards_few : (text : List ℕ) (items : Cells) (n : ℕ) → Boards text [] items n → n < 9 → (cells : Cells) → SpellsBoard text cells → ⊥

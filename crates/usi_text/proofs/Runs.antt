@@ -36,8 +36,8 @@ run_piece : (n : ℕ) (p : Piece) (parts : List Part) → with_run (suc n) (one_
 run_piece zero p parts = refl
 run_piece (suc n) p parts = ap with_empty (run_piece n p parts)
 
-abbrev told : List Part → List ℕ
-told parts = flat_map part_text parts
+abbrev stated : List Part → List ℕ
+stated parts = flat_map part_text parts
 
 pub run_some : (n : ℕ) → run_text (suc n) ≡ (48 + suc n) ∷ []
 run_some n =
@@ -46,11 +46,11 @@ run_some n =
       | inr other ↦ ap (λ b. cond b [] ((48 + suc n) ∷ [])) other.0
     ]
 
-pub after_is : (n : ℕ) (cells : List (Option Piece)) → text_after n cells ≡ told (with_run n (parts_of cells))
+pub after_is : (n : ℕ) (cells : List (Option Piece)) → text_after n cells ≡ stated (with_run n (parts_of cells))
 after_is zero [] = refl
-after_is (suc n) [] = run_some n ∙ ap told (sym (run_alone n))
-after_is n (None ∷ cells) = after_is (n + 1) cells ∙ ap told (run_moved n (parts_of cells))
+after_is (suc n) [] = run_some n ∙ ap stated (sym (run_alone n))
+after_is n (None ∷ cells) = after_is (n + 1) cells ∙ ap stated (run_moved n (parts_of cells))
 after_is zero (Some p ∷ cells) = ap (λ t. piece_text p ++ t) (after_is 0 cells)
 after_is (suc n) (Some p ∷ cells) =
     ap (λ t. t ++ (piece_text p ++ text_after 0 cells)) (run_some n)
-    ∙ (ap (λ t. (48 + suc n) ∷ (piece_text p ++ t)) (after_is 0 cells) ∙ ap told (sym (run_piece n p (parts_of cells))))
+    ∙ (ap (λ t. (48 + suc n) ∷ (piece_text p ++ t)) (after_is 0 cells) ∙ ap stated (sym (run_piece n p (parts_of cells))))

@@ -58,19 +58,19 @@ abbrev pub Holding : List ℕ → List ℕ → Layout → Layout → Type 0
 Holding text rest old s =
     (piles : List Pile) → SpellsPiles text piles → (more : List Pile) × SpellsPiles rest more × (hold_pieces old (flat_map pile_pieces piles) ≡ hold_pieces s (flat_map pile_pieces more))
 
-pub holding_more : (text rest behind : List ℕ) (old s next : Layout) (p : Pile) → Holding text rest old s → IsPile p → rest ≡ pile_text p ++ behind → ((others : List Piece) → hold_pieces s (pile_pieces p ++ others) ≡ hold_pieces next others) → Holding text behind old next
-holding_more text rest behind old s next p holding h e step piles spelt =
+pub holding_more : (text rest following : List ℕ) (old s next : Layout) (p : Pile) → Holding text rest old s → IsPile p → rest ≡ pile_text p ++ following → ((others : List Piece) → hold_pieces s (pile_pieces p ++ others) ≡ hold_pieces next others) → Holding text following old next
+holding_more text rest following old s next p holding h e step piles spelt =
     let q = holding piles spelt in
-    let f = pile_first p behind q.0 h (rw e at q.1) in
+    let f = pile_first p following q.0 h (rw e at q.1) in
     (f.others, f.spelt, q.2 ∙ (ap (λ ps. hold_pieces s (flat_map pile_pieces ps)) f.whole ∙ step (flat_map pile_pieces f.others)))
 
-pub holding_fault : (text rest behind : List ℕ) (old s : Layout) (p : Pile) (fault : SetupFault) → Holding text rest old s → IsPile p → rest ≡ pile_text p ++ behind → ((others : List Piece) → hold_pieces s (pile_pieces p ++ others) ≡ Err fault) → (piles : List Pile) → SpellsPiles text piles → hold_pieces old (flat_map pile_pieces piles) ≡ Err fault
-holding_fault text rest behind old s p fault holding h e step piles spelt =
+pub holding_fault : (text rest following : List ℕ) (old s : Layout) (p : Pile) (fault : SetupFault) → Holding text rest old s → IsPile p → rest ≡ pile_text p ++ following → ((others : List Piece) → hold_pieces s (pile_pieces p ++ others) ≡ Err fault) → (piles : List Pile) → SpellsPiles text piles → hold_pieces old (flat_map pile_pieces piles) ≡ Err fault
+holding_fault text rest following old s p fault holding h e step piles spelt =
     let q = holding piles spelt in
-    let f = pile_first p behind q.0 h (rw e at q.1) in
+    let f = pile_first p following q.0 h (rw e at q.1) in
     q.2 ∙ (ap (λ ps. hold_pieces s (flat_map pile_pieces ps)) f.whole ∙ step (flat_map pile_pieces f.others))
 
-pub holding_end : (text rest : List ℕ) (old s : Layout) → Holding text rest old s → ((p : Pile) (behind : List ℕ) → IsPile p → rest ≡ pile_text p ++ behind → ⊥) → (piles : List Pile) → SpellsPiles text piles → hold_pieces old (flat_map pile_pieces piles) ≡ Ok s
+pub holding_end : (text rest : List ℕ) (old s : Layout) → Holding text rest old s → ((p : Pile) (following : List ℕ) → IsPile p → rest ≡ pile_text p ++ following → ⊥) → (piles : List Pile) → SpellsPiles text piles → hold_pieces old (flat_map pile_pieces piles) ≡ Ok s
 holding_end text rest old s holding none piles spelt =
     let q = holding piles spelt in
     let n = no_pile rest q.0 none q.1 in

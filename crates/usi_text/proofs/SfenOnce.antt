@@ -22,8 +22,8 @@ Cells = List (Option Piece)
 
 pub ranks_once : (texts : List (List ℕ)) (a b : Cells) → SpellsRanks texts a → SpellsRanks texts b → a ≡ b
 ranks_once [] a b h k = h ∙ sym k
-ranks_once (t ∷ ts) a b (r, x, whole, spelt, nine, rest) (q, y, other, told, size, more) =
-    whole ∙ (ap (λ c. c ++ x) (cells_once t r q spelt told) ∙ (ap (λ c. q ++ c) (ranks_once ts x y rest more) ∙ sym other))
+ranks_once (t ∷ ts) a b (r, x, whole, spelt, nine, rest) (q, y, other, stated, size, more) =
+    whole ∙ (ap (λ c. c ++ x) (cells_once t r q spelt stated) ∙ (ap (λ c. q ++ c) (ranks_once ts x y rest more) ∙ sym other))
 
 first_apart : (x y : ℕ) (xs ys : List ℕ) → x ∷ xs ≡ y ∷ ys → (x ≡ y → ⊥) → ⊥
 first_apart x y xs ys h differ = let e : x ≡ y = cc in differ e

@@ -183,7 +183,7 @@ two_digits n low high =
 
 abbrev pub Only : List ℕ → Option ℕ → List ℕ → Type 0
 Only text found rest =
-    (count : Option ℕ) (letter : ℕ) (behind : List ℕ) → IsCount count → 57 < letter → text ≡ count_text count ++ letter ∷ behind → (count ≡ found) × (letter ∷ behind ≡ rest)
+    (count : Option ℕ) (letter : ℕ) (following : List ℕ) → IsCount count → 57 < letter → text ≡ count_text count ++ letter ∷ following → (count ≡ found) × (letter ∷ following ≡ rest)
 
 abbrev pub Read : List ℕ → Option ℕ → List ℕ → Type 0
 Read text found rest = IsCount found × (text ≡ count_text found ++ rest)
@@ -241,24 +241,24 @@ only_one text rest d low high whole none (Some n) l b i far e =
           absurd (none (n % 10) (l ∷ b) (omega arith, f))
     ]
 
-pub only_two : (text rest behind : List ℕ) (d o : ℕ) → 1 ≤ d → d ≤ 9 → o ≤ 9 → text ≡ (48 + d) ∷ rest → rest ≡ (48 + o) ∷ behind → Only text (Some (d * 10 + o)) behind
-only_two text rest behind d o low high few whole second None l b i far e =
+pub only_two : (text rest following : List ℕ) (d o : ℕ) → 1 ≤ d → d ≤ 9 → o ≤ 9 → text ≡ (48 + d) ∷ rest → rest ≡ (48 + o) ∷ following → Only text (Some (d * 10 + o)) following
+only_two text rest following d o low high few whole second None l b i far e =
     let w : (48 + d) ∷ rest ≡ l ∷ b = sym whole ∙ e in
     let f : 48 + d ≡ l = cc in
     absurd (omega arith)
-only_two text rest behind d o low high few whole second (Some n) l b i far e =
+only_two text rest following d o low high few whole second (Some n) l b i far e =
     elim (cases_lt n 10) [
       | inl small ↦
           let w : (48 + d) ∷ rest ≡ (48 + n) ∷ l ∷ b = sym whole ∙ (e ∙ ap (λ ds. ds ++ l ∷ b) (one_digit n small)) in
           let f : rest ≡ l ∷ b = cc in
-          let v : (48 + o) ∷ behind ≡ l ∷ b = sym second ∙ f in
+          let v : (48 + o) ∷ following ≡ l ∷ b = sym second ∙ f in
           let g : 48 + o ≡ l = cc in
           absurd (omega arith)
       | inr large ↦
           let w : (48 + d) ∷ rest ≡ (48 + n / 10) ∷ (48 + n % 10) ∷ l ∷ b = sym whole ∙ (e ∙ ap (λ ds. ds ++ l ∷ b) (two_digits n large i.1)) in
           let f : 48 + d ≡ 48 + n / 10 = cc in
           let r : rest ≡ (48 + n % 10) ∷ l ∷ b = cc in
-          let v : (48 + o) ∷ behind ≡ (48 + n % 10) ∷ l ∷ b = sym second ∙ r in
+          let v : (48 + o) ∷ following ≡ (48 + n % 10) ∷ l ∷ b = sym second ∙ r in
           let g : 48 + o ≡ 48 + n % 10 = cc in
           let m : n ≡ d * 10 + o = omega arith in
           (ap Some m, cc)
@@ -268,12 +268,12 @@ pub read_one : (text rest : List ℕ) (d : ℕ) → 1 ≤ d → d ≤ 9 → text
 read_one text rest d low high whole =
     ((low, omega arith), whole ∙ ap (λ ds. ds ++ rest) (sym (one_digit d (omega arith))))
 
-pub read_two : (text rest behind : List ℕ) (d o : ℕ) → 1 ≤ d → d ≤ 9 → o ≤ 9 → text ≡ (48 + d) ∷ rest → rest ≡ (48 + o) ∷ behind → Read text (Some (d * 10 + o)) behind
-read_two text rest behind d o low high few whole second =
+pub read_two : (text rest following : List ℕ) (d o : ℕ) → 1 ≤ d → d ≤ 9 → o ≤ 9 → text ≡ (48 + d) ∷ rest → rest ≡ (48 + o) ∷ following → Read text (Some (d * 10 + o)) following
+read_two text rest following d o low high few whole second =
     let n = d * 10 + o in
     let tens : d ≡ n / 10 = omega arith in
     let ones : o ≡ n % 10 = omega arith in
-    let all : text ≡ (48 + d) ∷ (48 + o) ∷ behind = whole ∙ ap (λ r. (48 + d) ∷ r) second in (
+    let all : text ≡ (48 + d) ∷ (48 + o) ∷ following = whole ∙ ap (λ r. (48 + d) ∷ r) second in (
       (omega arith, omega arith),
-      all ∙ (ap (λ x. (48 + x) ∷ (48 + o) ∷ behind) tens ∙ (ap (λ x. (48 + n / 10) ∷ (48 + x) ∷ behind) ones ∙ ap (λ ds. ds ++ behind) (sym (two_digits n (omega arith) (omega arith))))),
+      all ∙ (ap (λ x. (48 + x) ∷ (48 + o) ∷ following) tens ∙ (ap (λ x. (48 + n / 10) ∷ (48 + x) ∷ following) ones ∙ ap (λ ds. ds ++ following) (sym (two_digits n (omega arith) (omega arith))))),
     )

@@ -2,7 +2,7 @@
 use Rattle.std.proofs.Common.{◌≡◌, ◌≢◌, ℕ, ◌<◌, ◌-◌, ◌==◌, Bool, true, false, cond, List, [], ◌∷◌, ◌++◌, length, length-append, take, arith, refl, sym, ap, ◌∙◌, append_assoc, codes}
 use Rattle.std.specs.List.{AllByRecursion, filter, slice_split, onto_first}
 use Rattle.std.proofs.lemmas.List.{append-nil, append_cancel_right, take_at}
-use Rattle.usi_text.specs.Words.{EndsWord, IsBehind, words, has_bytes}
+use Rattle.usi_text.specs.Words.{EndsWord, IsAfter, words, has_bytes}
 use Rattle.usi_text.specs.Scanning.{Split}
 
 abbrev split : List ℕ → List (List ℕ)
@@ -12,34 +12,34 @@ onto-append : (x : ℕ) (xs ys : List (List ℕ)) → 0 < length xs → onto_fir
 onto-append x [] ys h = absurd (omega arith)
 onto-append x (w ∷ ws) ys h = refl
 
-split_told : (b : Bool) (x : ℕ) (parts : List (List ℕ)) → 0 < length (cond b ([] ∷ parts) (onto_first x parts))
-split_told true x parts = omega arith
-split_told false x [] = omega arith
-split_told false x (p ∷ ps) = omega arith
+split_stated : (b : Bool) (x : ℕ) (parts : List (List ℕ)) → 0 < length (cond b ([] ∷ parts) (onto_first x parts))
+split_stated true x parts = omega arith
+split_stated false x [] = omega arith
+split_stated false x (p ∷ ps) = omega arith
 
 split_some : (text : List ℕ) → 0 < length (split text)
 split_some [] = omega arith
-split_some (x ∷ xs) = split_told (x == 32) x (split xs)
+split_some (x ∷ xs) = split_stated (x == 32) x (split xs)
 
-joined_told : (b : Bool) (x : ℕ) (xs ys all : List (List ℕ)) → 0 < length xs → all ≡ xs ++ ys → cond b ([] ∷ all) (onto_first x all) ≡ cond b ([] ∷ xs) (onto_first x xs) ++ ys
-joined_told true x xs ys all h e = ap (λ z. [] ∷ z) e
-joined_told false x xs ys all h e = ap (onto_first x) e ∙ onto-append x xs ys h
+joined_stated : (b : Bool) (x : ℕ) (xs ys all : List (List ℕ)) → 0 < length xs → all ≡ xs ++ ys → cond b ([] ∷ all) (onto_first x all) ≡ cond b ([] ∷ xs) (onto_first x xs) ++ ys
+joined_stated true x xs ys all h e = ap (λ z. [] ∷ z) e
+joined_stated false x xs ys all h e = ap (onto_first x) e ∙ onto-append x xs ys h
 
 -- a text is split at a space into what its two sides are split into
-split_joined : (front behind : List ℕ) → split (front ++ 32 ∷ behind) ≡ split front ++ split behind
-split_joined [] behind = refl
-split_joined (x ∷ xs) behind = joined_told (x == 32) x (split xs) (split behind) (split (xs ++ 32 ∷ behind)) (split_some xs) (split_joined xs behind)
+split_joined : (front following : List ℕ) → split (front ++ 32 ∷ following) ≡ split front ++ split following
+split_joined [] following = refl
+split_joined (x ∷ xs) following = joined_stated (x == 32) x (split xs) (split following) (split (xs ++ 32 ∷ following)) (split_some xs) (split_joined xs following)
 
-filter_told : (b : Bool) (w : List ℕ) (xs ys all : List (List ℕ)) → all ≡ xs ++ ys → cond b (w ∷ all) all ≡ cond b (w ∷ xs) xs ++ ys
-filter_told true w xs ys all e = ap (λ z. w ∷ z) e
-filter_told false w xs ys all e = e
+filter_stated : (b : Bool) (w : List ℕ) (xs ys all : List (List ℕ)) → all ≡ xs ++ ys → cond b (w ∷ all) all ≡ cond b (w ∷ xs) xs ++ ys
+filter_stated true w xs ys all e = ap (λ z. w ∷ z) e
+filter_stated false w xs ys all e = e
 
 filter_joined : (xs ys : List (List ℕ)) → filter has_bytes (xs ++ ys) ≡ filter has_bytes xs ++ filter has_bytes ys
 filter_joined [] ys = refl
-filter_joined (w ∷ xs) ys = filter_told (has_bytes w) w (filter has_bytes xs) (filter has_bytes ys) (filter has_bytes (xs ++ ys)) (filter_joined xs ys)
+filter_joined (w ∷ xs) ys = filter_stated (has_bytes w) w (filter has_bytes xs) (filter has_bytes ys) (filter has_bytes (xs ++ ys)) (filter_joined xs ys)
 
 -- words end if a text is cut at a word's end
-pub words_joined : (front behind : List ℕ) → EndsWord behind → words (front ++ behind) ≡ words front ++ words behind
+pub words_joined : (front following : List ℕ) → EndsWord following → words (front ++ following) ≡ words front ++ words following
 words_joined front [] h = ap words (append-nil front) ∙ sym (append-nil (words front))
 words_joined front (b ∷ bs) h =
     let e : front ++ b ∷ bs ≡ front ++ 32 ∷ bs = ap (λ x. front ++ x ∷ bs) h in
@@ -57,20 +57,20 @@ all_more (v ∷ vs) w h k = (h.0, all_more vs w h.1 k)
 pub record Reading (text rest : List ℕ) : Type 0 where
   pub front : List ℕ
   pub whole : text ≡ front ++ rest
-  pub told : words text ≡ words front ++ words rest
+  pub stated : words text ≡ words front ++ words rest
   pub before : AllByRecursion NotMoves (words front)
 
 pub reading_start : (text : List ℕ) → Reading text text
-reading_start text = record { front = []; whole = refl; told = refl; before = tt }
+reading_start text = record { front = []; whole = refl; stated = refl; before = tt }
 
-pub reading_more : (text rest behind : List ℕ) (w : List ℕ) → Reading text rest → IsBehind rest behind → words rest ≡ w ∷ words behind → NotMoves w → Reading text behind
-reading_more text rest behind w r cut e other =
+pub reading_more : (text rest following : List ℕ) (w : List ℕ) → Reading text rest → IsAfter rest following → words rest ≡ w ∷ words following → NotMoves w → Reading text following
+reading_more text rest following w r cut e other =
     let front = r.front ++ cut.0 in
-    let whole : text ≡ front ++ behind = r.whole ∙ (ap (λ z. r.front ++ z) cut.1 ∙ sym (append_assoc r.front cut.0 behind)) in
-    let told : words text ≡ words front ++ words behind = ap words whole ∙ words_joined front behind cut.2 in
-    let same : words front ++ words behind ≡ (words r.front ++ w ∷ []) ++ words behind = sym told ∙ (r.told ∙ (ap (λ z. words r.front ++ z) e ∙ sym (append_assoc (words r.front) (w ∷ []) (words behind)))) in
-    let front_is : words front ≡ words r.front ++ w ∷ [] = append_cancel_right (words front) (words r.front ++ w ∷ []) (words behind) same in
-    record { front = front; whole = whole; told = told; before = rw front_is (all_more (words r.front) w r.before other) }
+    let whole : text ≡ front ++ following = r.whole ∙ (ap (λ z. r.front ++ z) cut.1 ∙ sym (append_assoc r.front cut.0 following)) in
+    let stated : words text ≡ words front ++ words following = ap words whole ∙ words_joined front following cut.2 in
+    let same : words front ++ words following ≡ (words r.front ++ w ∷ []) ++ words following = sym stated ∙ (r.stated ∙ (ap (λ z. words r.front ++ z) e ∙ sym (append_assoc (words r.front) (w ∷ []) (words following)))) in
+    let front_is : words front ≡ words r.front ++ w ∷ [] = append_cancel_right (words front) (words r.front ++ w ∷ []) (words following) same in
+    record { front = front; whole = whole; stated = stated; before = rw front_is (all_more (words r.front) w r.before other) }
 
 pub front_taken : (text rest : List ℕ) → (r : Reading text rest) → take (length text - length rest) text ≡ r.front
 front_taken text rest r =
@@ -78,12 +78,12 @@ front_taken text rest r =
     let n : length r.front ≡ length text - length rest = omega (arith, l, length-append r.front rest) in
     ap (take (length text - length rest)) r.whole ∙ take_at r.front rest (length text - length rest) n
 
-pub split_here : (text rest behind front w : List ℕ) → (r : Reading text rest) → words rest ≡ w ∷ words behind → w ≡ codes "moves" → front ≡ take (length text - length rest) text → Split (words text) (words front) (words behind)
-split_here text rest behind front w r e m f =
+pub split_here : (text rest following front w : List ℕ) → (r : Reading text rest) → words rest ≡ w ∷ words following → w ≡ codes "moves" → front ≡ take (length text - length rest) text → Split (words text) (words front) (words following)
+split_here text rest following front w r e m f =
     let same : front ≡ r.front = f ∙ front_taken text rest r in
-    (w ∷ words behind, r.told ∙ (ap (λ z. words r.front ++ z) e ∙ ap (λ z. words z ++ w ∷ words behind) (sym same)), rw same r.before, (m, refl))
+    (w ∷ words following, r.stated ∙ (ap (λ z. words r.front ++ z) e ∙ ap (λ z. words z ++ w ∷ words following) (sym same)), rw same r.before, (m, refl))
 
 pub split_nowhere : (text rest : List ℕ) → Reading text rest → words rest ≡ [] → Split (words text) (words text) (words rest)
 split_nowhere text rest r none =
-    let e : words text ≡ words r.front = r.told ∙ (ap (λ z. words r.front ++ z) none ∙ append-nil (words r.front)) in
+    let e : words text ≡ words r.front = r.stated ∙ (ap (λ z. words r.front ++ z) none ∙ append-nil (words r.front)) in
     ([], sym (append-nil (words text)), rw e r.before, none)

@@ -44,8 +44,8 @@ record Room (s : Layout) (n : ℕ) : Type 0 where
 less_room : (s : Layout) (n : ℕ) → Room s n → Room s (n + 1)
 less_room s n r = record { size = r.size; empty = λ m low high. r.empty m (omega arith) high }
 
-room_behind : (s : Layout) (n : ℕ) (p : Piece) → n < 81 → Room s n → Room (put s n p) (n + 1)
-room_behind s n p h r = record {
+room_after : (s : Layout) (n : ℕ) (p : Piece) → n < 81 → Room s n → Room (put s n p) (n + 1)
+room_after s n p h r = record {
   size = length-set s.material.board (board_place n) (Some p) ∙ r.size;
   empty = λ m low high. other_stands s n m p h high (λ e. omega (arith, e)) ∙ r.empty m (omega arith) high;
 }
@@ -63,7 +63,7 @@ cell_stands (Some p ∷ cells) s t n m zero few r h e low =
     earlier_stands cells (put s n p) t (n + 1) m (omega arith) (omega arith) (goes_on (more_fault s p) _ t h)
     ∙ (ap (λ i. stands (put s n p).material.board i) here ∙ get_or-set_same s.material.board (board_place n) (Some p) None (omega arith))
 cell_stands (Some p ∷ cells) s t n m (suc k) few r h e low =
-    cell_stands cells (put s n p) t (n + 1) m k (omega arith) (room_behind s n p (omega arith) r) (goes_on (more_fault s p) _ t h) (omega arith) (omega arith)
+    cell_stands cells (put s n p) t (n + 1) m k (omega arith) (room_after s n p (omega arith) r) (goes_on (more_fault s p) _ t h) (omega arith) (omega arith)
 
 -- hands do not change the board
 pub hand_board : (m : Material) (c : Color) (bag : List ℕ) → (with_bag m c bag).board ≡ m.board

@@ -25,9 +25,9 @@ two_faults false true f h = inr (inl cc)
 two_faults false false f h = cc
 
 -- a fault comes from this piece or a later one
-told_or_on : (here : Option SetupFault) (next : Result Layout SetupFault) (f : SetupFault) → unless here next ≡ Err f → (here ≡ Some f) ⊎ (next ≡ Err f)
-told_or_on None next f h = inr h
-told_or_on (Some g) next f h = inl (let e : g ≡ f = cc in ap Some e)
+stated_or_on : (here : Option SetupFault) (next : Result Layout SetupFault) (f : SetupFault) → unless here next ≡ Err f → (here ≡ Some f) ⊎ (next ≡ Err f)
+stated_or_on None next f h = inr h
+stated_or_on (Some g) next f h = inl (let e : g ≡ f = cc in ap Some e)
 
 pub goes_on : (here : Option SetupFault) (next : Result Layout SetupFault) (t : Layout) → unless here next ≡ Ok t → next ≡ Ok t
 goes_on None next t h = h
@@ -37,8 +37,8 @@ put_fault : (cells : List (Option Piece)) (s : Layout) (n : ℕ) (f : SetupFault
 put_fault [] s n f h = cc
 put_fault (None ∷ cells) s n f h = put_fault cells s (n + 1) f h
 put_fault (Some p ∷ cells) s n f h =
-    elim (told_or_on (more_fault s p) (put_cells (put s n p) (n + 1) cells) f h) [
-      | inl told ↦ two_faults _ _ f told
+    elim (stated_or_on (more_fault s p) (put_cells (put s n p) (n + 1) cells) f h) [
+      | inl stated ↦ two_faults _ _ f stated
       | inr on ↦ put_fault cells (put s n p) (n + 1) f on
     ]
 
@@ -51,14 +51,14 @@ abbrev pub InHand : Piece → Type 0
 InHand p = is_hand_kind p.kind ≡ true
 
 full_alone : (given held full : Bool) (f : SetupFault) → given ≡ false → held ≡ true → first_fault ((AfterRest, given) ∷ (NotForHand, not held) ∷ (TooMany, full) ∷ []) ≡ Some f → IsStartFault f
-full_alone given held true f free h told = let e = rw (free, h) at told in inr (inl cc)
-full_alone given held false f free h told = let e = rw (free, h) at told in cc
+full_alone given held true f free h stated = let e = rw (free, h) at stated in inr (inl cc)
+full_alone given held false f free h stated = let e = rw (free, h) at stated in cc
 
 hold_fault : (ps : List Piece) (s : Layout) (f : SetupFault) → s.rest_given ≡ false → AllByRecursion InHand ps → hold_pieces s ps ≡ Err f → IsStartFault f
 hold_fault [] s f free all h = cc
 hold_fault (p ∷ ps) s f free all h =
-    elim (told_or_on (add_fault s p.kind) (hold_pieces (held s p) ps) f h) [
-      | inl told ↦ full_alone _ _ _ f free all.0 told
+    elim (stated_or_on (add_fault s p.kind) (hold_pieces (held s p) ps) f h) [
+      | inl stated ↦ full_alone _ _ _ f free all.0 stated
       | inr on ↦ hold_fault ps (held s p) f free all.1 on
     ]
 

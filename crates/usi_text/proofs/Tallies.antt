@@ -164,24 +164,24 @@ exceeded ps p f w h =
       | fits e none room ↦ let d = sym h ∙ e in cc
     ]
 
-told : (ps : Pieces) (p : Piece) (f : SetupFault) → IsWithinGame ps → Exceeds (ps ++ p ∷ []) f → next_fault ps p ≡ Some f
-told ps p SecondKing w (c, two) =
+stated : (ps : Pieces) (p : Piece) (f : SetupFault) → IsWithinGame ps → Exceeds (ps ++ p ∷ []) f → next_fault ps p ≡ Some f
+stated ps p SecondKing w (c, two) =
     elim (next ps p) [
       | second e king some ↦ e
       | many e none full ↦ let one = kings_kept ps p w.kings none c in absurd (omega (arith, one, two))
       | fits e none room ↦ let one = kings_kept ps p w.kings none c in absurd (omega (arith, one, two))
     ]
-told ps p TooMany w (one, k, over) =
+stated ps p TooMany w (one, k, over) =
     elim (next ps p) [
       | second e king some ↦ let own = own_king ps p king in let low = one p.color in absurd (omega (arith, own, low, some))
       | many e none full ↦ e
       | fits e none room ↦ let low = totals_kept ps p w.totals room k in absurd (omega (arith, low, over))
     ]
-told ps p SquareTaken w h = absurd h
-told ps p NotForHand w h = absurd h
-told ps p NotThere w h = absurd h
-told ps p OpponentInCheck w h = absurd h
-told ps p AfterRest w h = absurd h
+stated ps p SquareTaken w h = absurd h
+stated ps p NotForHand w h = absurd h
+stated ps p NotThere w h = absurd h
+stated ps p OpponentInCheck w h = absurd h
+stated ps p AfterRest w h = absurd h
 
 not_refused : (ps : Pieces) (p : Piece) → IsWithinGame (ps ++ p ∷ []) → next_fault ps p ≡ None
 not_refused ps p w =
@@ -281,7 +281,7 @@ not_both ps f w x =
     let front = x.front ++ x.last ∷ [] in
     let whole : ps ≡ front ++ x.rest = x.whole ∙ sym (append_assoc x.front (x.last ∷ []) x.rest) in
     let within = front_within front x.rest (subst IsWithinGame whole w) in
-    let e = told x.front x.last f x.within x.exceeds in
+    let e = stated x.front x.last f x.within x.exceeds in
     let d : None ≡ Some f = sym (not_refused x.front x.last within) ∙ e in
     cc
 
@@ -296,7 +296,7 @@ within_game ps h = all_within [] ps none_within h
 refused_at : (front mid : Pieces) (last : Piece) (rest : Pieces) (f : SetupFault) → IsWithinGame (front ++ mid) → Exceeds ((front ++ mid) ++ last ∷ []) f → refusal front (mid ++ last ∷ rest) ≡ Some f
 refused_at front [] last rest f w x =
     let same = append-nil front in
-    let e = told front last f (subst IsWithinGame same w) (subst (λ z. Exceeds (z ++ last ∷ []) f) same x) in
+    let e = stated front last f (subst IsWithinGame same w) (subst (λ z. Exceeds (z ++ last ∷ []) f) same x) in
     ap (λ here. first_of here (refusal (front ++ last ∷ []) rest)) e
 refused_at front (m ∷ ms) last rest f w x =
     let same = sym (append_assoc front (m ∷ []) ms) in

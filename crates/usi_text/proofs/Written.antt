@@ -42,19 +42,19 @@ pub flat_map-append : {X A : Type 0} (f : X → List A) (xs ys : List X) → fla
 flat_map-append f [] ys = refl
 flat_map-append f (x ∷ xs) ys = ap (λ z. f x ++ z) (flat_map-append f xs ys) ∙ sym (append_assoc (f x) (flat_map f xs) (flat_map f ys))
 
-abbrev pub told : List Pile → List ℕ
-told piles = flat_map pile_text piles
+abbrev pub stated : List Pile → List ℕ
+stated piles = flat_map pile_text piles
 
 abbrev one_more : List ℕ → List ℕ → List Pile → List Pile → Type 0
-one_more t next xs rest = next ++ told rest ≡ t ++ told (xs ++ rest)
+one_more t next xs rest = next ++ stated rest ≡ t ++ stated (xs ++ rest)
 
-kind_more : (t next : List ℕ) (xs rest : List Pile) → next ≡ t ++ told xs → one_more t next xs rest
+kind_more : (t next : List ℕ) (xs rest : List Pile) → next ≡ t ++ stated xs → one_more t next xs rest
 kind_more t next xs rest d =
-    ap (λ x. x ++ told rest) d ∙ (append_assoc t (told xs) (told rest) ∙ ap (λ x. t ++ x) (sym (flat_map-append pile_text xs rest)))
+    ap (λ x. x ++ stated rest) d ∙ (append_assoc t (stated xs) (stated rest) ∙ ap (λ x. t ++ x) (sym (flat_map-append pile_text xs rest)))
 
 -- the seven kinds of a hand, one after another
-pub seven_told : (old t1 t2 t3 t4 t5 t6 t7 : List ℕ) (a b c d e f g : List Pile) → t1 ≡ old ++ told a → t2 ≡ t1 ++ told b → t3 ≡ t2 ++ told c → t4 ≡ t3 ++ told d → t5 ≡ t4 ++ told e → t6 ≡ t5 ++ told f → t7 ≡ t6 ++ told g → t7 ≡ old ++ told (a ++ (b ++ (c ++ (d ++ (e ++ (f ++ (g ++ [])))))))
-seven_told old t1 t2 t3 t4 t5 t6 t7 a b c d e f g h1 h2 h3 h4 h5 h6 h7 =
+pub seven_stated : (old t1 t2 t3 t4 t5 t6 t7 : List ℕ) (a b c d e f g : List Pile) → t1 ≡ old ++ stated a → t2 ≡ t1 ++ stated b → t3 ≡ t2 ++ stated c → t4 ≡ t3 ++ stated d → t5 ≡ t4 ++ stated e → t6 ≡ t5 ++ stated f → t7 ≡ t6 ++ stated g → t7 ≡ old ++ stated (a ++ (b ++ (c ++ (d ++ (e ++ (f ++ (g ++ [])))))))
+seven_stated old t1 t2 t3 t4 t5 t6 t7 a b c d e f g h1 h2 h3 h4 h5 h6 h7 =
     sym (append-nil t7)
     ∙ (kind_more t6 t7 g [] h7
     ∙ (kind_more t5 t6 f (g ++ []) h6
@@ -64,27 +64,27 @@ seven_told old t1 t2 t3 t4 t5 t6 t7 a b c d e f g h1 h2 h3 h4 h5 h6 h7 =
     ∙ (kind_more t1 t2 b (c ++ (d ++ (e ++ (f ++ (g ++ []))))) h2
     ∙ kind_more old t1 a (b ++ (c ++ (d ++ (e ++ (f ++ (g ++ [])))))) h1))))))
 
-told_none : (piles : List Pile) → length (told piles) ≡ 0 → piles ≡ []
-told_none [] h = refl
-told_none (p ∷ ps) h = absurd (pile_none p (told ps) h)
+stated_none : (piles : List Pile) → length (stated piles) ≡ 0 → piles ≡ []
+stated_none [] h = refl
+stated_none (p ∷ ps) h = absurd (pile_none p (stated ps) h)
 
-pub hands_dash : (old next text : List ℕ) (black white : List Pile) → next ≡ (old ++ told black) ++ told white → length next ≡ length old → text ≡ next ++ 45 ∷ [] → text ≡ old ++ hands_text (black ++ white)
+pub hands_dash : (old next text : List ℕ) (black white : List Pile) → next ≡ (old ++ stated black) ++ stated white → length next ≡ length old → text ≡ next ++ 45 ∷ [] → text ≡ old ++ hands_text (black ++ white)
 hands_dash old next text black white d same e =
-    let whole : next ≡ old ++ told (black ++ white) = d ∙ (append_assoc old (told black) (told white) ∙ ap (λ x. old ++ x) (sym (flat_map-append pile_text black white))) in
+    let whole : next ≡ old ++ stated (black ++ white) = d ∙ (append_assoc old (stated black) (stated white) ∙ ap (λ x. old ++ x) (sym (flat_map-append pile_text black white))) in
     let l = ap length whole in
-    let none : black ++ white ≡ [] = told_none (black ++ white) (omega (arith, length-append old (told (black ++ white)), l, same)) in
-    let bare : next ≡ old = whole ∙ (ap (λ ps. old ++ told ps) none ∙ append-nil old) in
+    let none : black ++ white ≡ [] = stated_none (black ++ white) (omega (arith, length-append old (stated (black ++ white)), l, same)) in
+    let bare : next ≡ old = whole ∙ (ap (λ ps. old ++ stated ps) none ∙ append-nil old) in
     e ∙ (ap (λ x. x ++ 45 ∷ []) bare ∙ ap (λ ps. old ++ hands_text ps) (sym none))
 
-some_told : (old : List ℕ) (piles : List Pile) → length (old ++ told piles) ≢ length old → old ++ told piles ≡ old ++ hands_text piles
-some_told old [] other = absurd (other (ap length (append-nil old)))
-some_told old (p ∷ ps) other = refl
+some_stated : (old : List ℕ) (piles : List Pile) → length (old ++ stated piles) ≢ length old → old ++ stated piles ≡ old ++ hands_text piles
+some_stated old [] other = absurd (other (ap length (append-nil old)))
+some_stated old (p ∷ ps) other = refl
 
-pub hands_told : (old next : List ℕ) (black white : List Pile) → next ≡ (old ++ told black) ++ told white → length next ≢ length old → next ≡ old ++ hands_text (black ++ white)
-hands_told old next black white d other =
-    let whole : next ≡ old ++ told (black ++ white) = d ∙ (append_assoc old (told black) (told white) ∙ ap (λ x. old ++ x) (sym (flat_map-append pile_text black white))) in
-    whole ∙ some_told old (black ++ white) (λ e. other (ap length whole ∙ e))
+pub hands_stated : (old next : List ℕ) (black white : List Pile) → next ≡ (old ++ stated black) ++ stated white → length next ≢ length old → next ≡ old ++ hands_text (black ++ white)
+hands_stated old next black white d other =
+    let whole : next ≡ old ++ stated (black ++ white) = d ∙ (append_assoc old (stated black) (stated white) ∙ ap (λ x. old ++ x) (sym (flat_map-append pile_text black white))) in
+    whole ∙ some_stated old (black ++ white) (λ e. other (ap length whole ∙ e))
 
-pub sfen_told : (old t1 t2 t3 t4 t5 t6 board side hands : List ℕ) → t1 ≡ old ++ board → t2 ≡ t1 ++ 32 ∷ [] → t3 ≡ t2 ++ side → t4 ≡ t3 ++ 32 ∷ [] → t5 ≡ t4 ++ hands → t6 ≡ t5 ++ 32 ∷ 49 ∷ [] → t6 ≡ old ++ (board ++ (32 ∷ (side ++ (32 ∷ (hands ++ (32 ∷ 49 ∷ []))))))
-sfen_told old t1 t2 t3 t4 t5 t6 board side hands h1 h2 h3 h4 h5 h6 =
+pub sfen_stated : (old t1 t2 t3 t4 t5 t6 board side hands : List ℕ) → t1 ≡ old ++ board → t2 ≡ t1 ++ 32 ∷ [] → t3 ≡ t2 ++ side → t4 ≡ t3 ++ 32 ∷ [] → t5 ≡ t4 ++ hands → t6 ≡ t5 ++ 32 ∷ 49 ∷ [] → t6 ≡ old ++ (board ++ (32 ∷ (side ++ (32 ∷ (hands ++ (32 ∷ 49 ∷ []))))))
+sfen_stated old t1 t2 t3 t4 t5 t6 board side hands h1 h2 h3 h4 h5 h6 =
     h6 ∙ (ap (λ x. x ++ 32 ∷ 49 ∷ []) (h5 ∙ ap (λ x. x ++ hands) (h4 ∙ ap (λ x. x ++ 32 ∷ []) (h3 ∙ ap (λ x. x ++ side) (h2 ∙ ap (λ x. x ++ 32 ∷ []) h1)))) ∙ simp append_assoc)

@@ -21,12 +21,12 @@ MovesText p (m ∷ ms) text =
     × MovesText (after p m) ms rest
 
 -- the word moves only if there are moves
-abbrev pub BehindStart : Placed → List Move → List ℕ → Type 0
-BehindStart p [] text = text ≡ []
-BehindStart p (m ∷ ms) text = (rest : List ℕ) × (text ≡ codes " moves" ++ rest)
+abbrev pub AfterStart : Placed → List Move → List ℕ → Type 0
+AfterStart p [] text = text ≡ []
+AfterStart p (m ∷ ms) text = (rest : List ℕ) × (text ≡ codes " moves" ++ rest)
     × MovesText p (m ∷ ms) rest
 
 abbrev pub LineText : Placed → List Move → List ℕ → Type 0
 LineText start moves text =
     (front : List ℕ) × (rest : List ℕ) × (text ≡ texts.position_front ++ (front ++ rest))
-    × StartText start front × BehindStart start moves rest
+    × StartText start front × AfterStart start moves rest

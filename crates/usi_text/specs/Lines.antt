@@ -30,7 +30,7 @@ pub record SfenLine (ws sfen moves : List (List ℕ)) : Type 0 where
   pub whole : ws ≡ texts.position ∷ codes "sfen" ∷ (sfen ++ tail)
   pub some : 0 < length sfen
   pub before : AllByRecursion (λ w. w ≢ codes "moves") sfen
-  pub behind : HasMoves tail moves
+  pub following : HasMoves tail moves
 
 -- the words give that start, and these are the words of the moves
 abbrev pub Starts : List (List ℕ) → Placed → List (List ℕ) → Type 0

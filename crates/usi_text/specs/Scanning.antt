@@ -45,16 +45,16 @@ word_fault n (play.Broken rule) = usi.Broken n rule
 word_fault n play.OutOfMemory = usi.OutOfMemory
 
 -- the ranks after a slash, if there is one
-abbrev pub ranks_behind : Option (Bor (List ℕ)) → List (List ℕ)
-ranks_behind None = []
-ranks_behind (Some text) = ranks_of text.now
+abbrev pub ranks_after : Option (Bor (List ℕ)) → List (List ℕ)
+ranks_after None = []
+ranks_after (Some text) = ranks_of text.now
 
 -- the text begins with that digit, and this follows it
 abbrev pub IsDigitBefore : List ℕ → ℕ → List ℕ → Type 0
-IsDigitBefore text digit behind = (digit ≤ 9) × (text ≡ (code "0" + digit) ∷ behind)
+IsDigitBefore text digit following = (digit ≤ 9) × (text ≡ (code "0" + digit) ∷ following)
 
 abbrev pub HasNoDigit : List ℕ → Type 0
-HasNoDigit text = (digit : ℕ) (behind : List ℕ) → IsDigitBefore text digit behind → ⊥
+HasNoDigit text = (digit : ℕ) (following : List ℕ) → IsDigitBefore text digit following → ⊥
 
 -- so many empty squares, as one digit
 abbrev pub run_text : ℕ → List ℕ

@@ -21,5 +21,5 @@ EndsWord [] = Unit {0}
 EndsWord (b ∷ bs) = b ≡ code " "
 
 -- the rest of a text after a word's end
-abbrev pub IsBehind : List ℕ → List ℕ → Type 0
-IsBehind text rest = (front : List ℕ) × (text ≡ front ++ rest) × EndsWord rest
+abbrev pub IsAfter : List ℕ → List ℕ → Type 0
+IsAfter text rest = (front : List ℕ) × (text ≡ front ++ rest) × EndsWord rest

@@ -2,7 +2,7 @@ ghost use Rattle.std.specs.Prelude.{◌≡◌, ◌≤◌, ◌<◌, ◌+◌, ◌+
 ghost use Rattle.arrayvec.specs.ArrayVec.{array_vec_len};
 ghost use Rattle.shogi_board.specs.declared.kind.Piece.{Piece};
 ghost use Rattle.usi_text.specs.Boards.{Part, SpellsBoard, SpellsCells, IsPart, part_text, part_cells, ranks_of};
-ghost use Rattle.usi_text.specs.Scanning.{ranks_behind};
+ghost use Rattle.usi_text.specs.Scanning.{ranks_after};
 
 use crate::letters::{piece_of_letter, promoted_of_letter};
 use arrayvec::ArrayVec;
@@ -21,11 +21,11 @@ pub(crate) fn read_board(text: &[u8]) -> Option<Cells>
     let mut cells = ArrayVec::new();
     let mut rest = Some(text);
     for _ in 0..9u8 {
-        let (rank, behind) = take_rank(rest?);
+        let (rank, following) = take_rank(rest?);
         if !read_rank(&mut cells, rank) {
             return None;
         }
-        rest = behind;
+        rest = following;
     }
     match rest {
         Some(_) => None,
@@ -35,7 +35,7 @@ pub(crate) fn read_board(text: &[u8]) -> Option<Cells>
 
 // The text before the first slash, or all of it, and what follows the slash, if there is one.
 fn take_rank(text: &[u8]) -> (&[u8], Option<&[u8]>)
-    ensures { ranks_of text.now ≡ result.0.now ∷ ranks_behind result.1 }
+    ensures { ranks_of text.now ≡ result.0.now ∷ ranks_after result.1 }
 {
     for (i, b) in text.iter().enumerate() {
         if *b == b'/' {
@@ -56,14 +56,14 @@ fn read_rank(cells: &mut Cells, text: &[u8]) -> bool
     let end = cells.len() + 9;
     let mut rest = text;
     while !rest.is_empty() {
-        let Some((cell, squares, behind)) = read_part(rest) else {
+        let Some((cell, squares, following)) = read_part(rest) else {
             return false;
         };
         if end - cells.len() < squares as usize {
             return false;
         }
         push_squares(cells, cell, squares);
-        rest = behind;
+        rest = following;
     }
     cells.len() == end
 }
@@ -73,14 +73,15 @@ fn read_rank(cells: &mut Cells, text: &[u8]) -> bool
 fn read_part(text: &[u8]) -> Option<(Option<Piece>, u8, &[u8])>
     ensures shorter { IfSome result (λ r. length r.2.now < length text.now) }
     ensures part { MatchOption result
-        ((part : Part) (behind : List ℕ) → IsPart part → text.now ≡ part_text part ++ behind → ⊥)
+        ((part : Part) (following : List ℕ)
+        → IsPart part → text.now ≡ part_text part ++ following → ⊥)
         (λ r. (part : Part) × IsPart part × (part_cells part ≡ replicate r.1 r.0)
         × (text.now ≡ part_text part ++ r.2.now)) }
 {
     match text {
-        [digit @ b'1'..=b'9', behind @ ..] => Some((None, *digit - b'0', behind)),
-        [b'+', letter, behind @ ..] => Some((Some(promoted_of_letter(*letter)?), 1, behind)),
-        [letter, behind @ ..] => Some((Some(piece_of_letter(*letter)?), 1, behind)),
+        [digit @ b'1'..=b'9', following @ ..] => Some((None, *digit - b'0', following)),
+        [b'+', letter, following @ ..] => Some((Some(promoted_of_letter(*letter)?), 1, following)),
+        [letter, following @ ..] => Some((Some(piece_of_letter(*letter)?), 1, following)),
         [] => None,
     }
 }

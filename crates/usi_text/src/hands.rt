@@ -9,19 +9,20 @@ use shogi_board::Piece;
 pub(crate) fn read_pile(text: &[u8]) -> Option<(Piece, u8, &[u8])>
     ensures shorter { IfSome result (λ r. length r.2.now < length text.now) }
     ensures pile { MatchOption result
-        ((pile : Pile) (behind : List ℕ) → IsPile pile → text.now ≡ pile_text pile ++ behind → ⊥)
+        ((pile : Pile) (following : List ℕ)
+        → IsPile pile → text.now ≡ pile_text pile ++ following → ⊥)
         (λ r. (pile : Pile) × IsPile pile × (pile_pieces pile ≡ replicate r.1 r.0)
         × (text.now ≡ pile_text pile ++ r.2.now)) }
 {
     let (count, rest) = read_count(text);
-    let [letter, behind @ ..] = rest else {
+    let [letter, following @ ..] = rest else {
         return None;
     };
     let piece = piece_of_letter(*letter)?;
     if !piece.kind.is_hand_kind() {
         return None;
     }
-    Some((piece, count.unwrap_or(1), behind))
+    Some((piece, count.unwrap_or(1), following))
 }
 
 // Whether the text is a dash, which means that no hand has a piece.
@@ -44,8 +45,8 @@ pub(crate) fn is_hands(text: &[u8]) -> bool
         return false;
     }
     let mut rest = text;
-    while let Some((_, _, behind)) = read_pile(rest) {
-        rest = behind;
+    while let Some((_, _, following)) = read_pile(rest) {
+        rest = following;
     }
     rest.is_empty()
 }
@@ -53,9 +54,10 @@ pub(crate) fn is_hands(text: &[u8]) -> bool
 // The count of one or two digits at the front of the text, if there is one, and what follows it.
 fn read_count(text: &[u8]) -> (Option<u8>, &[u8])
     ensures read { IsCount result.0 × (text.now ≡ count_text result.0 ++ result.1.now) }
-    ensures only { (count : Option ℕ) (letter : ℕ) (behind : List ℕ) → IsCount count → 57 < letter
-        → text.now ≡ count_text count ++ letter ∷ behind
-        → (count ≡ result.0) × (letter ∷ behind ≡ result.1.now) }
+    ensures only { (count : Option ℕ) (letter : ℕ) (following : List ℕ)
+        → IsCount count → 57 < letter
+        → text.now ≡ count_text count ++ letter ∷ following
+        → (count ≡ result.0) × (letter ∷ following ≡ result.1.now) }
 {
     let Some((tens, rest)) = read_digit(text) else {
         return (None, text);
@@ -63,10 +65,10 @@ fn read_count(text: &[u8]) -> (Option<u8>, &[u8])
     if tens == 0 {
         return (None, text);
     }
-    let Some((ones, behind)) = read_digit(rest) else {
+    let Some((ones, following)) = read_digit(rest) else {
         return (Some(tens), rest);
     };
-    (Some(tens * 10 + ones), behind)
+    (Some(tens * 10 + ones), following)
 }
 
 // The digit at the front of the text, and what follows it.
@@ -74,7 +76,7 @@ fn read_digit(text: &[u8]) -> Option<(u8, &[u8])>
     ensures { MatchOption result (HasNoDigit text.now) (λ r. IsDigitBefore text.now r.0 r.1.now) }
 {
     match text {
-        [digit @ b'0'..=b'9', behind @ ..] => Some((*digit - b'0', behind)),
+        [digit @ b'0'..=b'9', following @ ..] => Some((*digit - b'0', following)),
         _ => None,
     }
 }

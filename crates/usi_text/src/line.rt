@@ -24,14 +24,18 @@ enum GivenStart<'a> {
 
 /// Reads a position line of the USI protocol into its start and its moves.
 ///
-/// Refuses, in this order: `BadLine` if the text does not have the form of a position line; `Sfen`
-/// with the SFEN's first fault; then for each move in turn `TooManyMoves` if the line already has
-/// 10,000 moves, `BadMoveText` if the word is not a move in the position reached, `Broken` with the
-/// first rule that the move breaks, and `OutOfMemory` if an allocation for a legal move fails.
+/// Refuses, in this order:
+///
+/// - `BadLine` if the text does not have the form of a position line;
+/// - `Sfen` with the SFEN's first fault;
+/// - then, for each move in turn, `TooManyMoves` if the line already has 10,000 moves,
+///   `BadMoveText` if the word is not a move in the position reached, `Broken` with the first rule
+///   that the move breaks, and `OutOfMemory` if an allocation for a legal move fails.
+///
 /// Moves are numbered from 1. A line without moves may be refused with `OutOfMemory` too, but only
 /// after the faults that do not need memory.
 pub fn read_position_line(alloc: Global, text: &[u8]) -> Result<Line, UsiFault>
-    ensures told { MatchResult result
+    ensures stated { MatchResult result
         (λ line. UsiLine (words text.now) line.start line.moves)
         (λ fault. ((fault ≡ UsiFault.OutOfMemory) × LineNeedsMemory (words text.now))
         ⊎ LineFault (words text.now) fault) }
@@ -81,7 +85,7 @@ fn split_line(text: &[u8]) -> Option<(GivenStart<'_>, &[u8])>
         return None;
     }
     if same(second, b"startpos") {
-        return Some((GivenStart::Even, moves_behind(rest)?));
+        return Some((GivenStart::Even, moves_after(rest)?));
     }
     if !same(second, b"sfen") {
         return None;
@@ -104,16 +108,16 @@ fn read_start(start: GivenStart<'_>) -> Result<Position, SfenFault>
 }
 
 // What follows the word `moves`; empty if there is no word at all.
-fn moves_behind(text: &[u8]) -> Option<&[u8]>
+fn moves_after(text: &[u8]) -> Option<&[u8]>
     ensures { MatchOption result
         ((moves : List (List ℕ)) → HasMoves (words text.now) moves → ⊥)
         (λ moves. HasMoves (words text.now) (words moves.now)) }
 {
-    let Some((word, behind)) = next_word(text) else {
+    let Some((word, following)) = next_word(text) else {
         return Some(text);
     };
     if same(word, b"moves") {
-        Some(behind)
+        Some(following)
     } else {
         None
     }
@@ -130,11 +134,11 @@ fn split_moves(text: &[u8]) -> (&[u8], &[u8])
     ensures { Split (words text.now) (words result.0.now) (words result.1.now) }
 {
     let mut rest = text;
-    while let Some((word, behind)) = next_word(rest) {
+    while let Some((word, following)) = next_word(rest) {
         if same(word, b"moves") {
-            return (&text[..text.len() - rest.len()], behind);
+            return (&text[..text.len() - rest.len()], following);
         }
-        rest = behind;
+        rest = following;
     }
     (text, rest)
 }
@@ -148,9 +152,9 @@ fn play_words(line: &mut Line, text: &[u8]) -> Result<(), UsiFault>
         (λ fault. Stops line.old.start (words text.now) fault) }
 {
     let mut rest = text;
-    while let Some((word, behind)) = next_word(rest) {
+    while let Some((word, following)) = next_word(rest) {
         play_word(line, word)?;
-        rest = behind;
+        rest = following;
     }
     Ok(())
 }

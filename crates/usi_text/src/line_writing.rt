@@ -1,7 +1,7 @@
 ghost use Rattle.std.specs.Prelude.{◌≡◌, ◌++◌, List, ℕ, IfOk, OnOk};
 ghost use Rattle.shogi_board.specs.Sound.{IsSound};
 ghost use Rattle.shogi_rules.specs.Positions.{IsGame};
-ghost use Rattle.usi_text.specs.LineText.{LineText, StartText, BehindStart, MovesText};
+ghost use Rattle.usi_text.specs.LineText.{LineText, StartText, AfterStart, MovesText};
 ghost use Rattle.usi_text.specs.Lines.{UsiLine};
 ghost use Rattle.usi_text.specs.Words.{words};
 
@@ -48,7 +48,7 @@ fn push_start(text: &mut Vec<u8>, start: &Position) -> Result<(), OutOfMemory>
 fn push_moves(text: &mut Vec<u8>, start: Position, moves: &[Move]) -> Result<(), OutOfMemory>
     requires { IsGame start moves.now }
     ensures { OnOk result
-        ((rest : List ℕ) × BehindStart start moves.now rest
+        ((rest : List ℕ) × AfterStart start moves.now rest
         × (text.new.items ≡ text.old.items ++ rest)) }
 {
     if moves.is_empty() {

@@ -13,14 +13,16 @@ use shogi_rules::Move;
 /// Reads a move of the USI protocol in a position, or returns `None` if the text is not a move
 /// there.
 ///
-/// A walk is the square that the piece leaves and the square that it goes to, each a digit 1 to 9
-/// for the file and a letter a to i for the rank; `+` follows them if the piece promotes (`8h2b+`).
-/// A drop is one of the letters P L N S G B R, `*` and the square (`P*5e`). The kind of a walk is
-/// that of the piece on the square that it leaves, or its promoted kind. Returns `None` if that
-/// square is empty, or if `+` follows for a piece that has no promoted kind. Does not ask whether
-/// the move is legal.
+/// A walk is two squares, that which the piece leaves and that which it goes to (`7g7f`). `+`
+/// follows them if the piece promotes (`8h2b+`). A square is a digit 1 to 9 for the file and a
+/// letter a to i for the rank. A drop is one of the letters P L N S G B R, `*` and the square
+/// (`P*5e`).
+///
+/// The kind of a walk is that of the piece on the square that it leaves, or its promoted kind.
+/// Returns `None` if that square is empty, or if `+` follows for a piece that has no promoted kind.
+/// Does not ask whether the move is legal.
 pub fn read_move(position: &Position, text: &[u8]) -> Option<Move>
-    ensures told { MatchOption result
+    ensures stated { MatchOption result
         ((mv : Move) → UsiMove position.now text.now mv → ⊥)
         (λ mv. UsiMove position.now text.now mv) }
 {

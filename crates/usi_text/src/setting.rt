@@ -60,9 +60,9 @@ fn add_hands(setup: &mut Setup, text: &[u8]) -> Result<(), SetupFault>
         return Ok(());
     }
     let mut rest = text;
-    while let Some((piece, count, behind)) = read_pile(rest) {
+    while let Some((piece, count, following)) = read_pile(rest) {
         add_pieces(setup, piece, count)?;
-        rest = behind;
+        rest = following;
     }
     Ok(())
 }

@@ -12,13 +12,15 @@ use shogi_board::{Color, Position};
 
 /// Reads the position of an SFEN, the notation that USI has for positions.
 ///
-/// Refuses, in this order: `BadBoard`, `BadSide`, `BadHands` and `BadNumber`, by the words of the
-/// text, where a missing word counts as an empty one; then `Start` with the first refusal of its
-/// pieces, `SecondKing` or `TooMany`, as they are placed in the order of the text, first on the
-/// squares and then in the hands; then `Start(OpponentInCheck)` if the side to move could take the
-/// other king.
+/// Refuses, in this order:
+///
+/// - `BadBoard`, `BadSide`, `BadHands` and `BadNumber`, by the words of the text; a missing word
+///   counts as an empty one;
+/// - `Start` with the first refusal of its pieces, `SecondKing` or `TooMany`. They are placed in
+///   the order of the text, first on the squares and then in the hands;
+/// - `Start(OpponentInCheck)` if the side to move could take the other king.
 pub fn read_sfen(text: &[u8]) -> Result<Position, SfenFault>
-    ensures told { MatchResult result
+    ensures stated { MatchResult result
         (λ position. Sfen (words text.now) position)
         (λ fault. FirstFault (words text.now) fault) }
 {

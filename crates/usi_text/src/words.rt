@@ -1,5 +1,5 @@
 ghost use Rattle.std.specs.Prelude.{◌≡◌, ◌≢◌, ℕ, ◌≤◌, ◌<◌, ◌==◌, [], ◌∷◌, drop, length, slice_index, IfSome, MatchOption};
-ghost use Rattle.usi_text.specs.Words.{IsBehind, words, nth_word};
+ghost use Rattle.usi_text.specs.Words.{IsAfter, words, nth_word};
 
 /// The first word and what follows it, or `None` if the text has no word. Words are the longest
 /// runs of bytes without spaces.
@@ -7,7 +7,7 @@ pub fn next_word(text: &[u8]) -> Option<(&[u8], &[u8])>
     ensures word { MatchOption result
         (words text.now ≡ [])
         (λ r. words text.now ≡ r.0.now ∷ words r.1.now) }
-    ensures behind { IfSome result (λ r. IsBehind text.now r.1.now) }
+    ensures following { IfSome result (λ r. IsAfter text.now r.1.now) }
 {
     let (_, text) = text.split_at(run_length(text, true));
     if text.is_empty() {

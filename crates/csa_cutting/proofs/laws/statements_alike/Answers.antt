@@ -1,5 +1,5 @@
-use Rattle.csa_cutting.proofs.LineRuns.{told_alike}
+use Rattle.csa_cutting.proofs.LineRuns.{stated_alike}
 use Rattle.csa_cutting.proofs.laws.statements_alike.Goals as goal
 
 pub returns : goal.returns
-returns c = record { alike = told_alike }
+returns c = record { alike = stated_alike }

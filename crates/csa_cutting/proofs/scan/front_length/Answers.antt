@@ -4,5 +4,5 @@ use Rattle.csa_cutting.proofs.scan.front_length.Goals as goal
 pub returns-then-not-passes-clause-front : goal.returns-then-not-passes-clause-front
 returns-then-not-passes-clause-front c = search rules
 
-pub returns-then-not-passes-clause-behind : goal.returns-then-not-passes-clause-behind
-returns-then-not-passes-clause-behind c = search rules
+pub returns-then-not-passes-clause-next : goal.returns-then-not-passes-clause-next
+returns-then-not-passes-clause-next c = search rules

@@ -9,4 +9,4 @@ returns-in-Err-clause-read g c =
 pub returns-in-Ok-clause-read : goal.returns-in-Ok-clause-read
 returns-in-Ok-clause-read g c =
     let fed = c.in_ok-feed_all.ensures.fed in
-    (record { bytes = fed.bytes; given = fed.given; ended = fed.at_end; few = fed.few; tells = c.in-Ok.ensures.told fed.bytes fed.read }, fed.seen, fed.quiet)
+    (record { bytes = fed.bytes; given = fed.given; ended = fed.at_end; few = fed.few; tells = c.in-Ok.ensures.stated fed.bytes fed.read }, fed.seen, fed.quiet)

@@ -34,9 +34,9 @@ returns-in_err-feed-clause-memory c =
     let i = c.loop-piece.piece-index in
     let r = c.in_err-feed.field-0.0 in
     let p = err_from_is_err_and c.from_residual.result c.from_residual.ensures.1 in
-    rw (p.1, p.2) (λ want.
+    rw (p.1, p.2) (λ lack.
     of_all (λ source. FaultlessTo source r.number r.offset) ps i no_piece c.loop-piece-test.true
-    (λ more. c.in_err-feed.ensures.memory (joined (bytes_of (take i ps))) more c.loop-piece.invariant want))
+    (λ more. c.in_err-feed.ensures.memory (joined (bytes_of (take i ps))) more c.loop-piece.invariant lack))
 
 pub loop-piece-preserved : goal.loop-piece-preserved
 loop-piece-preserved c =
@@ -45,13 +45,13 @@ loop-piece-preserved c =
     subst (λ source. HasRead source c.feed.new.self) (sym (one_more ps i no_piece c.loop-piece-test.true))
     (c.in_ok-feed.ensures.taken (joined (bytes_of (take i ps))) c.loop-piece.invariant)
 
-pub returns-clause-told : goal.returns-clause-told
-returns-clause-told c =
+pub returns-clause-stated : goal.returns-clause-stated
+returns-clause-stated c =
     let ps = c.args.pieces.now in
     let i = c.loop-piece.piece-index in
     let end : i ≡ length ps = omega (arith, c.loop-piece-test.false, c.loop-piece.auto.piece-index-end) in
     let all : joined (bytes_of (take i ps)) ≡ joined (bytes_of ps) = ap (λ qs. joined (bytes_of qs)) (ap (λ n. take n ps) end ∙ take-length ps) in
-    accepted_so (bytes_of ps) (joined (bytes_of (take i ps))) c.finish.result all (c.finish.ensures.told _ c.loop-piece.invariant)
+    accepted_so (bytes_of ps) (joined (bytes_of (take i ps))) c.finish.result all (c.finish.ensures.stated _ c.loop-piece.invariant)
 
 pub returns-clause-refused : goal.returns-clause-refused
 returns-clause-refused c =

@@ -1,5 +1,5 @@
 use Rattle.csa_text.specs.Fields.{HasNone}
-use Rattle.csa_text.proofs.Moments.{no_date_alone, no_date_before, no_time_behind}
+use Rattle.csa_text.proofs.Moments.{no_date_alone, no_date_before, no_time_after}
 use Rattle.csa_text.proofs.moment.read_moment.Goals as goal
 
 pub returns-in_err-read_date-clause-none : goal.returns-in_err-read_date-clause-none
@@ -16,4 +16,4 @@ returns-in_err-read_date-2-clause-none c =
 pub returns-in_err-read_time-clause-none : goal.returns-in_err-read_time-clause-none
 returns-in_err-read_time-clause-none c =
     rw c.from_residual-in_err-read_time.ensures
-    (λ m s. no_time_behind c.args.bytes.now _ _ m.time m.year m.month m.day c.in-Some.ensures c.in_err-read_time.ensures.value s)
+    (λ m s. no_time_after c.args.bytes.now _ _ m.time m.year m.month m.day c.in-Some.ensures c.in_err-read_time.ensures.value s)

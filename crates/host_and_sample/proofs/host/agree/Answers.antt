@@ -1,6 +1,6 @@
 use Rattle.std.proofs.Common.{refl}
 use Rattle.host_and_sample.proofs.HostLines.{if_ok}
-use Rattle.host_and_sample.proofs.HostRows.{agreed, rejected, silent, unnamed_offered}
+use Rattle.host_and_sample.proofs.HostRows.{agreed, rejected, silent, unnamed_offer}
 use Rattle.host_and_sample.proofs.host.agree.Goals as goal
 
 pub returns-then-is_word_and_one : goal.returns-then-is_word_and_one
@@ -15,7 +15,7 @@ returns-then-is_word_and_one-2 c = λ seconds.
 pub returns-else-is_word_and_one-2 : goal.returns-else-is_word_and_one-2
 returns-else-is_word_and_one-2 c = λ seconds.
     silent _ _ _ _ seconds _
-    (unnamed_offered _ _ _ seconds c.requires.stays
+    (unnamed_offer _ _ _ seconds c.requires.stays
     (λ h. let t = c.is_word_and_one.ensures.1 h in let f = c.if-is_word_and_one.false in cc)
     (λ h. let t = c.is_word_and_one-else-is_word_and_one.ensures.1 h in let f = c.if-is_word_and_one-2.false in cc))
     refl c.new.ensures.value

@@ -10,4 +10,4 @@ returns-in-Ok c =
 pub returns : goal.returns
 returns c =
     if_ok c.lose_by_error.result _ _ c.lose_by_error.ensures
-    (λ r h. refused (not_played _ _ _ c.in-Err.fault (λ e. let t = c.wants_memory.ensures.1 e in let f = c.if-wants_memory.false in cc) c.in-Err.ensures.answer) h.1 h.0)
+    (λ r h. refused (not_played _ _ _ c.in-Err.fault (λ e. let t = c.lacks_memory.ensures.1 e in let f = c.if-lacks_memory.false in cc) c.in-Err.ensures.answer) h.1 h.0)

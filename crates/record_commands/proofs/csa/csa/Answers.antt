@@ -14,7 +14,7 @@ pub returns-clause-accepted : goal.returns-clause-accepted
 returns-clause-accepted g c =
     let line = c.in_ok-line.line in
     let alone = subst (λ b. IsOneLine b c.in_ok-text.text.items) c.in_ok-lines.ensures.bytes c.in_ok-text.ensures.line in
-    let says = subst (λ xs. UsiLine (words xs) line.start line.moves) c.as_slice.ensures.value c.in_ok-line.ensures.told in
+    let says = subst (λ xs. UsiLine (words xs) line.start line.moves) c.as_slice.ensures.value c.in_ok-line.ensures.stated in
     record {
       line = line;
       read = (c.in_ok-open.field-0, c.in_ok-open.ensures.opened, (c.in_ok-text.text.items, alone, says));
@@ -51,9 +51,9 @@ returns-in_err-line-clause-fails g c =
     let bytes = g.I.Input.Read.remaining in
     let f = c.in_err-line.field-0.0 in
     let alone = subst (λ b. IsOneLine b c.in_ok-text.text.items) c.in_ok-lines.ensures.bytes c.in_ok-text.ensures.line in
-    let told = subst (λ xs. ((f ≡ usi.OutOfMemory) × LineNeedsMemory (words xs)) ⊎ LineFault (words xs) f) c.as_slice.ensures.value c.in_err-line.ensures.told in
+    let stated = subst (λ xs. ((f ≡ usi.OutOfMemory) × LineNeedsMemory (words xs)) ⊎ LineFault (words xs) f) c.as_slice.ensures.value c.in_err-line.ensures.stated in
     returned (FailsToConvert Unopened Opened bytes) _ c.from_residual-in_err-line.result c.from_residual-in_err-line.ensures.1
-    (λ fault gives. line_refused Unopened Opened bytes c.in_ok-open.field-0 c.in_ok-text.text.items (LineNeedsMemory (words c.in_ok-text.text.items)) f fault c.in_ok-open.ensures.opened alone told gives)
+    (λ fault gives. line_refused Unopened Opened bytes c.in_ok-open.field-0 c.in_ok-text.text.items (LineNeedsMemory (words c.in_ok-text.text.items)) f fault c.in_ok-open.ensures.opened alone stated gives)
 
 pub returns-in_err-write_all-clause-fails : goal.returns-in_err-write_all-clause-fails
 returns-in_err-write_all-clause-fails g c =
@@ -63,7 +63,7 @@ returns-in_err-write_all-clause-fails g c =
     let bytes = g.I.Input.Read.remaining in
     let line = c.in_ok-line.line in
     let alone = subst (λ b. IsOneLine b c.in_ok-text.text.items) c.in_ok-lines.ensures.bytes c.in_ok-text.ensures.line in
-    let says = subst (λ xs. UsiLine (words xs) line.start line.moves) c.as_slice.ensures.value c.in_ok-line.ensures.told in
+    let says = subst (λ xs. UsiLine (words xs) line.start line.moves) c.as_slice.ensures.value c.in_ok-line.ensures.stated in
     returned (FailsToConvert Unopened Opened bytes) _ c.from_residual-in_err-write_all.result c.from_residual-in_err-write_all.ensures.1
     (λ fault gives. subst (FailsToConvert Unopened Opened bytes) (sym gives) (line, (c.in_ok-open.field-0, c.in_ok-open.ensures.opened, (c.in_ok-text.text.items, alone, says))))
 

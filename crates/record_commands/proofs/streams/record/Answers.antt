@@ -17,4 +17,4 @@ returns g c =
     let after = c.read_from.new.source in
     gets_record (g.I.Inputs.opens_not c.args.inputs.now path) (g.I.Inputs.opens c.args.inputs.now path) g.I.Input.Read.remaining
     c.in_ok-input.input c.new.result.inner after.inner after.ended c.new.result.failures after.failures c.read_from.result
-    c.in_ok-input.ensures.opened c.new.ensures.inner c.new.ensures.failures h.told h.ended h.refused h.read_fault h.quiet h.memory h.no_write
+    c.in_ok-input.ensures.opened c.new.ensures.inner c.new.ensures.failures h.stated h.ended h.refused h.read_fault h.quiet h.memory h.no_write

@@ -4,7 +4,7 @@ use Rattle.record_game.proofs.Rearranged.{said_anywhere}
 use Rattle.record_game.proofs.laws.headers_anywhere.Goals as goal
 
 pub returns-clause-game : goal.returns-clause-game
-returns-clause-game c = λ source other g h told again r. said_anywhere told.sayings again.sayings g h told.says again.says r
+returns-clause-game c = λ source other g h stated again r. said_anywhere stated.sayings again.sayings g h stated.says again.says r
 
 pub returns-clause-text : goal.returns-clause-text
-returns-clause-text c = λ source other g h told again r. ap canon (said_anywhere told.sayings again.sayings g h told.says again.says r)
+returns-clause-text c = λ source other g h stated again r. ap canon (said_anywhere stated.sayings again.sayings g h stated.says again.says r)

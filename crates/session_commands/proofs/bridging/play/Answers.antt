@@ -2,8 +2,8 @@ use Rattle.shogi_session.specs.Events.{begin}
 use Rattle.bridge_table.specs.declared.event.Status.TheVariants.{Done, Failed, Going, Lost}
 use Rattle.std.proofs.Common.{ap, ◌∙◌}
 use Rattle.session_commands.proofs.Playing.{first, round_begun, round_sent, same_session_fault, steps_of}
-use Rattle.session_commands.proofs.Wanting.{not_next, unsent}
-use Rattle.session_commands.specs.Wanting.{lost_before}
+use Rattle.session_commands.proofs.LackOfMemory.{not_next, unsent}
+use Rattle.session_commands.specs.LackOfMemory.{lost_before}
 use Rattle.session_commands.proofs.bridging.play.Goals as goal
 
 pub loop-rounds-init : goal.loop-rounds-init
@@ -29,18 +29,18 @@ loop-rounds-preserved g c =
     let out = c.in_ok-out-2.out in
     round_begun g.E.Ends.came g.E.Ends.went g.E.Ends.gone c.args.ends.now c.args.bridge.now c.loop-rounds._rounds c.send.new.ends c.send.new.bridge out.to_engine out.to_server out.status c.step_next.new.ends c.step_next.new.bridge played c.in_ok-out-2.ensures.came
 
-pub returns-in_err-send-clause-wanting : goal.returns-in_err-send-clause-wanting
-returns-in_err-send-clause-wanting g c = λ is.
+pub returns-in_err-send-clause-out_of_memory : goal.returns-in_err-send-clause-out_of_memory
+returns-in_err-send-clause-out_of_memory g c = λ is.
     let l = c.loop-rounds in
-    unsent g.E.Ends.came g.E.Ends.missed g.E.Ends.went g.E.Ends.gone c.args.ends.now c.args.bridge.now l.out.to_engine l.out.to_server l.out.status l._rounds l.ends l.bridge c.send.new.ends c.send.new.bridge l.invariant c.in_err-send.ensures.wanting
+    unsent g.E.Ends.came g.E.Ends.missed g.E.Ends.went g.E.Ends.gone c.args.ends.now c.args.bridge.now l.out.to_engine l.out.to_server l.out.status l._rounds l.ends l.bridge c.send.new.ends c.send.new.bridge l.invariant c.in_err-send.ensures.out_of_memory
 
-pub returns-in-Lost-clause-wanting : goal.returns-in-Lost-clause-wanting
-returns-in-Lost-clause-wanting g c = λ is.
+pub returns-in-Lost-clause-out_of_memory : goal.returns-in-Lost-clause-out_of_memory
+returns-in-Lost-clause-out_of_memory g c = λ is.
     let l = c.loop-rounds in
     lost_before (round_sent g.E.Ends.came g.E.Ends.went g.E.Ends.gone c.args.ends.now c.args.bridge.now l.out.to_engine l.out.to_server l.out.status l._rounds l.ends l.bridge c.send.new.ends c.send.new.bridge c.in_ok-send.field-0 Lost c.in-Lost.is l.invariant c.in_ok-send.ensures.sent).played
 
-pub returns-in_err-out-2-clause-wanting : goal.returns-in_err-out-2-clause-wanting
-returns-in_err-out-2-clause-wanting g c = λ is.
+pub returns-in_err-out-2-clause-out_of_memory : goal.returns-in_err-out-2-clause-out_of_memory
+returns-in_err-out-2-clause-out_of_memory g c = λ is.
     let l = c.loop-rounds in
     let played = round_sent g.E.Ends.came g.E.Ends.went g.E.Ends.gone c.args.ends.now c.args.bridge.now l.out.to_engine l.out.to_server l.out.status l._rounds l.ends l.bridge c.send.new.ends c.send.new.bridge c.in_ok-send.field-0 Going c.in-Going.is l.invariant c.in_ok-send.ensures.sent in
-    not_next g.E.Ends.came g.E.Ends.missed g.E.Ends.went g.E.Ends.gone c.args.ends.now c.args.bridge.now l._rounds c.send.new.ends c.send.new.bridge c.step_next.new.ends c.step_next.new.bridge played c.in_err-out-2.ensures.wanting
+    not_next g.E.Ends.came g.E.Ends.missed g.E.Ends.went g.E.Ends.gone c.args.ends.now c.args.bridge.now l._rounds c.send.new.ends c.send.new.bridge c.step_next.new.ends c.step_next.new.bridge played c.in_err-out-2.ensures.out_of_memory

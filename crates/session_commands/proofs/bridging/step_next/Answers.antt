@@ -2,7 +2,7 @@ use Rattle.std.proofs.Common.{ap, ◌∙◌}
 use Rattle.shogi_session.specs.Promises.{event_of}
 use Rattle.session_commands.specs.Plays.{event_from}
 use Rattle.session_commands.proofs.Playing.{comes_next, same_step, steps_of}
-use Rattle.session_commands.proofs.Wanting.{at_err, seat_not_stepped, step_wants}
+use Rattle.session_commands.proofs.LackOfMemory.{at_err, seat_not_stepped, step_runs_out}
 use Rattle.session_commands.proofs.bridging.step_next.Goals as goal
 
 pub returns-clause-came : goal.returns-clause-came
@@ -19,8 +19,8 @@ returns-clause-came g c =
     (same_step c.args.bridge.now event (event_from seat what line) out.to_engine out.to_server out.status c.step.new.self
     (c.event.ensures.event ∙ ap (event_from seat what) c.line-line.ensures.value) row)
 
-pub returns-in_err-out-clause-wanting : goal.returns-in_err-out-clause-wanting
-returns-in_err-out-clause-wanting g c =
+pub returns-in_err-out-clause-out_of_memory : goal.returns-in_err-out-clause-out_of_memory
+returns-in_err-out-clause-out_of_memory g c =
     let step = c.in_err-out.ensures in
     let seat = c.seat_of-seat.result in
     let what = c.in_ok-read.read in
@@ -29,5 +29,5 @@ returns-in_err-out-clause-wanting g c =
     at_err _ c.from_residual-in_err-out.result
     (seat_not_stepped g.E.Ends.came g.E.Ends.missed c.args.ends.now c.args.bridge.now seat c.waits_for.result arrived c.receive.new.self c.step.new.self
     c.seat_of-seat.ensures c.waits_for.ensures.value c.in_ok-read.ensures.came
-    (step_wants c.args.bridge.now event arrived c.step.new.self (c.event.ensures.event ∙ ap (event_from seat what) c.line-line.ensures.value)
+    (step_runs_out c.args.bridge.now event arrived c.step.new.self (c.event.ensures.event ∙ ap (event_from seat what) c.line-line.ensures.value)
     step.going step.lost step.config step.states step.slip step.game))

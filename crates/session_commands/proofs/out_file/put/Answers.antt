@@ -1,5 +1,5 @@
 use Rattle.std.proofs.Common.{inl, inr, refl}
-use Rattle.session_commands.proofs.Wanting.{at_err}
+use Rattle.session_commands.proofs.LackOfMemory.{at_err}
 use Rattle.session_commands.proofs.out_file.put.Goals as goal
 
 pub returns-in_err-write-clause-stopped : goal.returns-in_err-write-clause-stopped

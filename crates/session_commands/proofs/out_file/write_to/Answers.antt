@@ -1,5 +1,5 @@
 use Rattle.std.proofs.Common.{inl, inr, refl}
-use Rattle.session_commands.proofs.Wanting.{at_err}
+use Rattle.session_commands.proofs.LackOfMemory.{at_err}
 use Rattle.session_commands.proofs.out_file.write_to.Goals as goal
 
 pub returns-in_err-file-clause-unwritten : goal.returns-in_err-file-clause-unwritten

@@ -1,4 +1,4 @@
-use Rattle.session_lines.proofs.OneStatement.{no_statement, long_statement, another_statement, long_behind, only_one}
+use Rattle.session_lines.proofs.OneStatement.{no_statement, long_statement, another_statement, long_after, only_one}
 use Rattle.session_lines.proofs.move_line.only_statement.Goals as goal
 
 pub returns-in-Ok-None : goal.returns-in-Ok-None
@@ -35,6 +35,6 @@ returns-in-Ok-None-next_statement c =
 
 pub returns-in-Err-next_statement : goal.returns-in-Err-next_statement
 returns-in-Err-next_statement c =
-    long_behind c.args.line.now c.new-cutter.result c.next_statement.new.self _ _ _
+    long_after c.args.line.now c.new-cutter.result c.next_statement.new.self _ _ _
     (record { source = c.new-cutter.ensures.source; at = c.new-cutter.ensures.start; number = c.new-cutter.ensures.number })
     c.next_statement.ensures.source (rw c.in-Ok-Some.field-0-is at c.in-Ok-Some.ensures.first) c.in-Err-next_statement.ensures.fault

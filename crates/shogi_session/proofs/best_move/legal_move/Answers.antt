@@ -10,7 +10,7 @@ returns-in-Some c =
     let position = c.args.position.now in
     let text = c.args.text.now in
     let none : MatchOption None ((m : Move) → UsiMove position text m → Legal position m → ⊥) (λ m. UsiMove position text m × Legal position m) = λ m spelt legal.
-    let same : m ≡ c.in_ok-mv.mv = one_move position text m c.in_ok-mv.mv spelt c.in_ok-mv.ensures.told in
-    let told : Some c.in-Some.field-0 ≡ None = c.in-Some.ensures.legal.1 (c.side.ensures.value, subst (λ n. Legal position n) same legal) in
+    let same : m ≡ c.in_ok-mv.mv = one_move position text m c.in_ok-mv.mv spelt c.in_ok-mv.ensures.stated in
+    let stated : Some c.in-Some.field-0 ≡ None = c.in-Some.ensures.legal.1 (c.side.ensures.value, subst (λ n. Legal position n) same legal) in
     cc in
     none

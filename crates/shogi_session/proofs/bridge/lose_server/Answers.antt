@@ -8,9 +8,9 @@ use Rattle.shogi_session.proofs.bridge.lose_server.Goals as goal
 
 pub returns-in-Closing-clause-answer : goal.returns-in-Closing-clause-answer
 returns-in-Closing-clause-answer c = λ d engine.
-    subst (λ x. Reacts d engine (client_of x) server_end c.silent.result engine (play_client (record c.in-InGame.play { stage = stages.Ended c.in-Closing.told c.in-Closing.game_result })))
+    subst (λ x. Reacts d engine (client_of x) server_end c.silent.result engine (play_client (record c.in-InGame.play { stage = stages.Ended c.in-Closing.stated c.in-Closing.game_result })))
     (sym c.in-InGame.is)
-    (hung_up d engine c.in-InGame.play c.in-Closing.told c.in-Closing.game_result c.silent.result c.in-Closing.is (c.silent.ensures.engine, c.silent.ensures.server, c.silent.ensures.status))
+    (hung_up d engine c.in-InGame.play c.in-Closing.stated c.in-Closing.game_result c.silent.result c.in-Closing.is (c.silent.ensures.engine, c.silent.ensures.server, c.silent.ensures.status))
 
 pub returns-in-Ended-clause-answer : goal.returns-in-Ended-clause-answer
 returns-in-Ended-clause-answer c = λ d engine.

@@ -1,6 +1,6 @@
 use Rattle.std.proofs.Common.{refl}
 use Rattle.shogi_session.specs.PositionTexts.{IsPositionText, SpellsPosition}
-use Rattle.shogi_session.proofs.PositionRead.{start_read, read_on, read_less, all_read, another_read, long_read, told_so, told_otherwise, otherwise}
+use Rattle.shogi_session.proofs.PositionRead.{start_read, read_on, read_less, all_read, another_read, long_read, stated_so, stated_otherwise, otherwise}
 use Rattle.shogi_session.proofs.position_text.is_position_text.Goals as goal
 
 pub loop-statement-init : goal.loop-statement-init
@@ -10,7 +10,7 @@ loop-statement-init c =
 
 pub returns-then-not-spells_position : goal.returns-then-not-spells_position
 returns-then-not-spells_position c =
-    told_otherwise (IsPositionText c.args.text.now) (another_read c.args.text.now c.loop-statement.cutter c.next_statement.new.self _ _ _ c.loop-statement.invariant
+    stated_otherwise (IsPositionText c.args.text.now) (another_read c.args.text.now c.loop-statement.cutter c.next_statement.new.self _ _ _ c.loop-statement.invariant
     (record {
       same = c.next_statement.ensures.source;
       out = record {
@@ -54,10 +54,10 @@ loop-statement-preserved c =
 
 pub returns-in-Ok-None : goal.returns-in-Ok-None
 returns-in-Ok-None c =
-    told_so (IsPositionText c.args.text.now)
+    stated_so (IsPositionText c.args.text.now)
     (all_read c.args.text.now c.loop-statement.cutter c.loop-statement.invariant (rw c.in-Ok-None.field-0-is at c.in-Ok-None.ensures.end))
 
 pub returns-in-Err : goal.returns-in-Err
 returns-in-Err c =
-    told_otherwise (IsPositionText c.args.text.now)
+    stated_otherwise (IsPositionText c.args.text.now)
     (long_read c.args.text.now c.loop-statement.cutter _ _ c.loop-statement.invariant c.in-Err.ensures.fault)

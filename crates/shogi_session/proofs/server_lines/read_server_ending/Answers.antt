@@ -16,7 +16,7 @@ returns-in-Err c =
 
 pub returns-in-Ok-last_time : goal.returns-in-Ok-last_time
 returns-in-Ok-last_time c =
-    then_last c.args.line.now c.new-cutter.result c.next_ending.new.cutter c.in-Ok.ensures.0 (ending c.in-Ok.told) c.in-Ok-last_time.time
+    then_last c.args.line.now c.new-cutter.result c.next_ending.new.cutter c.in-Ok.ensures.0 (ending c.in-Ok.stated) c.in-Ok-last_time.time
     (record { source = c.new-cutter.ensures.source; at = c.new-cutter.ensures.start; number = c.new-cutter.ensures.number })
     c.in-Ok.ensures.1 c.in-Ok.ensures.2 c.in-Ok-last_time.ensures
 

@@ -15,7 +15,7 @@ returns-else-is_hash_line-clause-answer c =
 
 pub returns-then-is_same-clause-answer : goal.returns-then-is_same-clause-answer
 returns-then-is_same-clause-answer c =
-    logged_out _ _ c.args.play.now c.in-Closing.told c.in-Closing.game_result c.args.line.now c.silent.result c.in-Closing.is (c.is_same.ensures.answer.0 c.if-is_same.true)
+    logged_out _ _ c.args.play.now c.in-Closing.stated c.in-Closing.game_result c.args.line.now c.silent.result c.in-Closing.is (c.is_same.ensures.answer.0 c.if-is_same.true)
     (c.silent.ensures.engine, c.silent.ensures.server, c.silent.ensures.status)
 
 pub returns-else-is_same-clause-answer : goal.returns-else-is_same-clause-answer

@@ -3,7 +3,7 @@ use Rattle.bridge_table.specs.Events.{server_line}
 use Rattle.shogi_session.specs.Offers.{offer_in}
 use Rattle.bridge_table.specs.State.{agreeing}
 use Rattle.shogi_session.specs.Phases.{Reacts, client_of}
-use Rattle.shogi_session.proofs.ServerRows.{ended_or, heard_or, quiet, started_from}
+use Rattle.shogi_session.proofs.ServerRows.{ended_or, received_or, quiet, started_from}
 use Rattle.shogi_session.proofs.Unnamed.{idle_line}
 use Rattle.shogi_session.proofs.server_side.hear_server.Goals as goal
 
@@ -19,7 +19,7 @@ returns-then-is_same-clause-answer c =
 
 pub returns-else-is_same-clause-answer : goal.returns-else-is_same-clause-answer
 returns-else-is_same-clause-answer c =
-    heard_or c.hear_summary.result _ _ _ _ _ c.args.line.now (ap client_of c.in-Summary.is) c.hear_summary.ensures.answer
+    received_or c.hear_summary.result _ _ _ _ _ c.args.line.now (ap client_of c.in-Summary.is) c.hear_summary.ensures.answer
 
 pub returns-then-not-is_start_line-clause-answer : goal.returns-then-not-is_start_line-clause-answer
 returns-then-not-is_start_line-clause-answer c =

@@ -1,8 +1,5 @@
 use Rattle.std.proofs.Common.{rules}
 use Rattle.shogi_words.proofs.play.plan_of.Goals as goal
 
-pub returns-clause-server : goal.returns-clause-server
-returns-clause-server c = search rules
-
 pub returns-clause-quiet : goal.returns-clause-quiet
 returns-clause-quiet c = search rules

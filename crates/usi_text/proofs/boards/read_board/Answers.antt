@@ -1,7 +1,7 @@
 use Rattle.std.proofs.Common.{◌≡◌, arith, ap, ◌∙◌}
 use Rattle.usi_text.proofs.Ranks.{boards_start, boards_more, boards_bad_rank, boards_few, boards_many, boards_end}
 use Rattle.usi_text.proofs.boards.read_board.Goals as goal
-use Rattle.usi_text.specs.Scanning.{ranks_behind}
+use Rattle.usi_text.specs.Scanning.{ranks_after}
 
 pub loop-init : goal.loop-init
 loop-init c = rw c.new-cells.ensures (boards_start c.args.text.now)
@@ -16,12 +16,12 @@ read_rank-requires c = let s = c.loop.invariant.size in omega arith
 
 pub returns-then-not-read_rank-clause-cells : goal.returns-then-not-read_rank-clause-cells
 returns-then-not-read_rank-clause-cells c =
-    boards_bad_rank c.args.text.now (ranks_behind c.loop.rest) (ranks_behind c.take_rank.result.1) c.take_rank.result.0.now c.loop.cells.items c.loop.counter c.loop.invariant (ap ranks_behind c.in_ok-rest.was ∙ c.take_rank.ensures) (λ cells s nine. c.if-not-read_rank.ensures {u = tt} cells s nine)
+    boards_bad_rank c.args.text.now (ranks_after c.loop.rest) (ranks_after c.take_rank.result.1) c.take_rank.result.0.now c.loop.cells.items c.loop.counter c.loop.invariant (ap ranks_after c.in_ok-rest.was ∙ c.take_rank.ensures) (λ cells s nine. c.if-not-read_rank.ensures {u = tt} cells s nine)
 
 pub loop-preserved : goal.loop-preserved
 loop-preserved c =
     let r = c.if-not-read_rank.ensures {u = tt} in
-    boards_more c.args.text.now (ranks_behind c.loop.rest) (ranks_behind c.take_rank.result.1) c.take_rank.result.0.now c.loop.cells.items c.read_rank.new.cells.items r.0 c.loop.counter c.loop.invariant (ap ranks_behind c.in_ok-rest.was ∙ c.take_rank.ensures) r.1 r.2 r.3
+    boards_more c.args.text.now (ranks_after c.loop.rest) (ranks_after c.take_rank.result.1) c.take_rank.result.0.now c.loop.cells.items c.read_rank.new.cells.items r.0 c.loop.counter c.loop.invariant (ap ranks_after c.in_ok-rest.was ∙ c.take_rank.ensures) r.1 r.2 r.3
 
 pub returns-in-Some-clause-cells : goal.returns-in-Some-clause-cells
 returns-in-Some-clause-cells c =

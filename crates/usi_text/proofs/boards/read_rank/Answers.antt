@@ -14,14 +14,14 @@ pub returns-then-end-len : goal.returns-then-end-len
 returns-then-end-len c = λ rank s nine.
     let q = c.in-Some.ensures.part in
     let size = ap length q.2 ∙ length-replicate c.in-Some.squares c.in-Some.cell in
-    runs_too_many c.args.text.now c.loop-rest.rest.now c.in-Some.behind.now c.args.cells.now.items c.loop-rest.cells.items q.0 c.loop-rest.invariant.runs q.1 q.3 (omega (arith, size)) rank s nine
+    runs_too_many c.args.text.now c.loop-rest.rest.now c.in-Some.following.now c.args.cells.now.items c.loop-rest.cells.items q.0 c.loop-rest.invariant.runs q.1 q.3 (omega (arith, size)) rank s nine
 
 pub loop-rest-preserved : goal.loop-rest-preserved
 loop-rest-preserved c =
     let q = c.in-Some.ensures.part in
     let pushed = c.push_squares.ensures in
     record {
-      runs = runs_more c.args.text.now c.loop-rest.rest.now c.in-Some.behind.now c.args.cells.now.items c.loop-rest.cells.items c.push_squares.new.cells.items q.0 c.loop-rest.invariant.runs q.1 q.3 (pushed ∙ ap (λ x. c.loop-rest.cells.items ++ x) (sym q.2));
+      runs = runs_more c.args.text.now c.loop-rest.rest.now c.in-Some.following.now c.args.cells.now.items c.loop-rest.cells.items c.push_squares.new.cells.items q.0 c.loop-rest.invariant.runs q.1 q.3 (pushed ∙ ap (λ x. c.loop-rest.cells.items ++ x) (sym q.2));
       within = let l = ap length pushed in omega (arith, l, length-append c.loop-rest.cells.items (replicate c.in-Some.squares c.in-Some.cell), length-replicate c.in-Some.squares c.in-Some.cell);
     }
 

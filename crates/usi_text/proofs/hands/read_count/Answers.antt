@@ -26,10 +26,10 @@ pub returns-clause-read : goal.returns-clause-read
 returns-clause-read c =
     let h = c.in-Some.ensures in
     let k = c.in-Some-read_digit.ensures in
-    read_two c.args.text.now c.in-Some.rest.now c.in-Some-read_digit.behind.now c.in-Some.tens c.in-Some-read_digit.ones (omega arith) h.0 k.0 h.1 k.1
+    read_two c.args.text.now c.in-Some.rest.now c.in-Some-read_digit.following.now c.in-Some.tens c.in-Some-read_digit.ones (omega arith) h.0 k.0 h.1 k.1
 
 pub returns-clause-only : goal.returns-clause-only
 returns-clause-only c =
     let h = c.in-Some.ensures in
     let k = c.in-Some-read_digit.ensures in
-    only_two c.args.text.now c.in-Some.rest.now c.in-Some-read_digit.behind.now c.in-Some.tens c.in-Some-read_digit.ones (omega arith) h.0 k.0 h.1 k.1
+    only_two c.args.text.now c.in-Some.rest.now c.in-Some-read_digit.following.now c.in-Some.tens c.in-Some-read_digit.ones (omega arith) h.0 k.0 h.1 k.1

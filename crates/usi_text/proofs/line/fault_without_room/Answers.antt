@@ -16,7 +16,7 @@ returns-in-Some-judge c =
     let first = c.in-Some.ensures.word in
     let broken = (c.in-Some-judge.ensures {u = tt}).first in
     let judged = subst (λ (s : Color). Answers (line_of c.args.start []) s m (Some (play.Broken c.in-Some-judge.rule))) c.side.ensures.value (omega arith, broken) in
-    playing_stops c.args.start ws ws _ [] w (Broken 1 c.in-Some-judge.rule) (playing_start c.args.start ws) first (inr (refl, m, (c.in-Some-read_move.ensures {u = tt}).told, judged))
+    playing_stops c.args.start ws ws _ [] w (Broken 1 c.in-Some-judge.rule) (playing_start c.args.start ws) first (inr (refl, m, (c.in-Some-read_move.ensures {u = tt}).stated, judged))
 
 pub returns-in-None : goal.returns-in-None
 returns-in-None c =
@@ -26,4 +26,4 @@ returns-in-None c =
     let first = c.in-Some.ensures.word in
     let kept = (c.in-None.ensures {u = tt}).first in
     let judged = subst (λ (s : Color). Answers (line_of c.args.start []) s m None) c.side.ensures.value (omega arith, kept) in
-    playing_stops c.args.start ws ws _ [] w OutOfMemory (playing_start c.args.start ws) first (inl (refl, m, ((c.in-Some-read_move.ensures {u = tt}).told, judged)))
+    playing_stops c.args.start ws ws _ [] w OutOfMemory (playing_start c.args.start ws) first (inl (refl, m, ((c.in-Some-read_move.ensures {u = tt}).stated, judged)))

@@ -21,7 +21,7 @@ loop-word-preserved c =
     let played = subst (λ (p : Placed). IsPlayed p line.moves w r.0) i.start r.1 in
     record {
       start = ap (λ (l : Played). l.start) r.2 ∙ i.start;
-      playing = rw r.2 (playing_more c.args.line.now.start (words c.args.text.now) (words c.loop-word.rest.now) (words c.in-Some.behind.now) line.moves w r.0 i.playing first played);
+      playing = rw r.2 (playing_more c.args.line.now.start (words c.args.text.now) (words c.loop-word.rest.now) (words c.in-Some.following.now) line.moves w r.0 i.playing first played);
     }
 
 pub loop-word-smaller : goal.loop-word-smaller
@@ -41,4 +41,4 @@ returns-in_err-play_word c =
     let fault = c.in_err-play_word.field-0.0 in
     let first = c.in-Some.ensures.word in
     let f = subst (λ (q : Placed). WordStops q line.moves w fault) i.start (c.in_err-play_word.ensures {u = tt}) in
-    rw (p.1, p.2) (playing_stops c.args.line.now.start (words c.args.text.now) (words c.loop-word.rest.now) (words c.in-Some.behind.now) line.moves w fault i.playing first f)
+    rw (p.1, p.2) (playing_stops c.args.line.now.start (words c.args.text.now) (words c.loop-word.rest.now) (words c.in-Some.following.now) line.moves w fault i.playing first f)

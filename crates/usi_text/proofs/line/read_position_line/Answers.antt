@@ -10,5 +10,5 @@ returns c =
     let moves = words c.in_ok-start.moves.now in
     let given : GivesStart ws c.in_ok-start.start moves = search rules in
     record {
-      told = line_answered ws c.in_ok-read_start.field-0 moves c.play_line.result (c.in_ok-read_start.ensures {u = tt} ws moves given) c.play_line.ensures;
+      stated = line_answered ws c.in_ok-read_start.field-0 moves c.play_line.result (c.in_ok-read_start.ensures {u = tt} ws moves given) c.play_line.ensures;
     }

@@ -9,4 +9,4 @@ returns-in-Even c = λ ws moves given. let even = rw c.in-Even.is at given in in
 pub returns-in-Sfen : goal.returns-in-Sfen
 returns-in-Sfen c = λ ws moves given.
     let line = rw c.in-Sfen.is at given in
-    sfen_answered ws (words c.in-Sfen.text.now) moves c.read_sfen.result line c.read_sfen.ensures.told
+    sfen_answered ws (words c.in-Sfen.text.now) moves c.read_sfen.result line c.read_sfen.ensures.stated

@@ -10,8 +10,8 @@ pub loop-word-preserved : goal.loop-word-preserved
 loop-word-preserved c =
     let rest = c.loop-word.rest.now in
     let w = c.in-Some.word.now in
-    let behind = c.in-Some.behind.now in
-    reading_more c.args.text.now rest behind w c.loop-word.invariant c.in-Some.ensures.behind c.in-Some.ensures.word (not_so c.same.result c.same.ensures c.if-same.false)
+    let following = c.in-Some.following.now in
+    reading_more c.args.text.now rest following w c.loop-word.invariant c.in-Some.ensures.following c.in-Some.ensures.word (not_so c.same.result c.same.ensures c.if-same.false)
 
 pub loop-word-smaller : goal.loop-word-smaller
 loop-word-smaller c = let l = ap length c.in-Some.ensures.word in omega (arith, l)
@@ -20,8 +20,8 @@ pub returns-then-same : goal.returns-then-same
 returns-then-same c =
     let rest = c.loop-word.rest.now in
     let w = c.in-Some.word.now in
-    let behind = c.in-Some.behind.now in
-    split_here c.args.text.now rest behind _ w c.loop-word.invariant c.in-Some.ensures.word (is_so c.same.result c.same.ensures c.if-same.true) refl
+    let following = c.in-Some.following.now in
+    split_here c.args.text.now rest following _ w c.loop-word.invariant c.in-Some.ensures.word (is_so c.same.result c.same.ensures c.if-same.true) refl
 
 pub returns : goal.returns
 returns c = split_nowhere c.args.text.now c.loop-word.rest.now c.loop-word.invariant (c.in_default.ensures {u = tt}).word

@@ -6,5 +6,5 @@ use Rattle.usi_text.proofs.line_writing.push_each.Given as goal
 abbrev pub invariant-loop-mv : goal.invariant-loop-mv
 invariant-loop-mv l = record {
   now : l.now ≡ position_after l.fn.start (take l.mv-index l.moves);
-  told : (rest : List ℕ) × MovesText l.fn.start (take l.mv-index l.moves) rest × (l.text.items ≡ l.fn.text.items ++ rest);
+  stated : (rest : List ℕ) × MovesText l.fn.start (take l.mv-index l.moves) rest × (l.text.items ≡ l.fn.text.items ++ rest);
 }

@@ -11,7 +11,7 @@ loop-piece-init c = λ piles s. (piles, s, refl)
 pub loop-piece-preserved : goal.loop-piece-preserved
 loop-piece-preserved c =
     let q = c.in-Some.ensures.pile in
-    holding_more c.args.text.now c.loop-piece.rest.now c.in-Some.behind.now c.args.setup.now c.loop-piece.setup c.add_pieces.new.setup q.0 c.loop-piece.invariant q.1 q.3
+    holding_more c.args.text.now c.loop-piece.rest.now c.in-Some.following.now c.args.setup.now c.loop-piece.setup c.add_pieces.new.setup q.0 c.loop-piece.invariant q.1 q.3
     (λ others. ap (λ ps. hold_pieces c.loop-piece.setup (ps ++ others)) q.2 ∙ c.in_ok-add_pieces.ensures others)
 
 pub returns : goal.returns
@@ -23,7 +23,7 @@ returns-in_err-add_pieces c = λ piles s.
     let p = err_from_is_err_and c.from_residual.result c.from_residual.ensures.1 in
     let q = c.in-Some.ensures.pile in
     rw (p.1, p.2)
-    (holding_fault c.args.text.now c.loop-piece.rest.now c.in-Some.behind.now c.args.setup.now c.loop-piece.setup q.0 c.in_err-add_pieces.field-0.0 c.loop-piece.invariant q.1 q.3
+    (holding_fault c.args.text.now c.loop-piece.rest.now c.in-Some.following.now c.args.setup.now c.loop-piece.setup q.0 c.in_err-add_pieces.field-0.0 c.loop-piece.invariant q.1 q.3
     (λ others. ap (λ ps. hold_pieces c.loop-piece.setup (ps ++ others)) q.2 ∙ c.in_err-add_pieces.ensures others) piles (as_piles c.args.text.now piles (not_so c.is_dash.result c.is_dash.ensures c.if-is_dash.false) s))
 
 pub returns-then-is_dash : goal.returns-then-is_dash

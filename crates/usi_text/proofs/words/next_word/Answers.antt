@@ -1,4 +1,4 @@
-use Rattle.usi_text.proofs.Fronts.{no_word, one_word, rest_behind, none_left, some_left}
+use Rattle.usi_text.proofs.Fronts.{no_word, one_word, rest_following, none_left, some_left}
 use Rattle.usi_text.proofs.words.next_word.Goals as goal
 
 pub returns-then-is_empty-clause-word : goal.returns-then-is_empty-clause-word
@@ -18,11 +18,11 @@ returns-clause-word c =
     (record { cut = c.split_at.ensures.back; within = all.within; run = all.run; ends = all.ends })
     (record { within = word.within; run = word.run; ends = word.ends }) some)
 
-pub returns-clause-behind : goal.returns-clause-behind
-returns-clause-behind c =
+pub returns-clause-following : goal.returns-clause-following
+returns-clause-following c =
     let all = c.run_length.ensures in
     let word = c.run_length-2.ensures in
     rw c.split_at-2.ensures.back
-    (rest_behind c.args.text.now c.split_at.result.1.now c.run_length.result c.run_length-2.result
+    (rest_following c.args.text.now c.split_at.result.1.now c.run_length.result c.run_length-2.result
     (record { cut = c.split_at.ensures.back; within = all.within; run = all.run; ends = all.ends })
     (record { within = word.within; run = word.run; ends = word.ends }))

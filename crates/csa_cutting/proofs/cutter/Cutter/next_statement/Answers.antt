@@ -1,7 +1,7 @@
 use Rattle.std.proofs.Common.{rules, drop, arith, refl}
 use Rattle.csa_cutting.specs.Cutting.{unit_between}
 use Rattle.csa_cutting.proofs.Runs.{found}
-use Rattle.csa_cutting.proofs.Spoken.{told_first, unit_has_some}
+use Rattle.csa_cutting.proofs.Spoken.{stated_first, unit_has_some}
 use Rattle.csa_cutting.proofs.cutter.Cutter.next_statement.Goals as goal
 
 pub returns-then-unit-gt-LONGEST_STATEMENT-clause-fault : goal.returns-then-unit-gt-LONGEST_STATEMENT-clause-fault
@@ -12,7 +12,7 @@ returns-then-unit-gt-LONGEST_STATEMENT-clause-fault c =
     rw (← c.self.view_is) (record {
       unit = unit_between source c.in-Some.start c.in-Some.end;
       others = others.0;
-      first = told_first source c.self.inside.at c.in-Some.start c.in-Some.end others.0 first others.1;
+      first = stated_first source c.self.inside.at c.in-Some.start c.in-Some.end others.0 first others.1;
       number_is = refl;
       place = refl;
       long = omega (arith, c.if-unit-gt-LONGEST_STATEMENT.true);

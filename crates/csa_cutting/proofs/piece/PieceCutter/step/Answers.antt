@@ -3,7 +3,7 @@ use Rattle.csa_cutting.specs.Cut.{begins_with}
 use Rattle.csa_cutting.specs.declared.units.Found.TheVariants.{LeadsTo}
 use Rattle.csa_cutting.specs.declared.units.Place.TheVariants.{Gap}
 use Rattle.csa_cutting.specs.Places.{IsPart, IsFoundIn, kept_of}
-use Rattle.csa_cutting.proofs.Leading.{seen, default_step, unit_step, end_step, long_step, kept_size, kept_most, mark_room, all_in_piece, ended_told}
+use Rattle.csa_cutting.proofs.Leading.{seen, default_step, unit_step, end_step, long_step, kept_size, kept_most, mark_room, all_in_piece, ended_stated}
 use Rattle.csa_cutting.proofs.LineCutting.{length_range, nothing}
 use Rattle.csa_cutting.proofs.Holding.{held_found, held_whole, holds_here, holds_before, some_used, number_of}
 use Rattle.csa_cutting.proofs.Lent.{lent_here, lent_before, kept_on}
@@ -78,7 +78,7 @@ returns-then-is_empty c =
     let most = kept_most goes_on s.held.items in
     let few : length (kept_of goes_on s.held.items) + (end - start) ≤ 4096 = omega (arith, kept, size, c.if-kept-part.false, i.1) in
     let left : c.keep_held.new.held.items ≡ kept_of goes_on s.held.items = c.keep_held.ensures in
-    let behind : end < length piece = omega (arith, c.if-end-piece.false, p.unit.within) in
+    let following : end < length piece = omega (arith, c.if-end-piece.false, p.unit.within) in
     let whole : slice_range piece start end ≡ kept_of goes_on s.held.items ++ slice_range piece start end =
     all_in_piece goes_on s.held.items c.keep_held.new.held.items (slice_range piece start end) left (sym c.is_empty.ensures ∙ c.if-is_empty.true) in
     let place : s.fed + start - c.kept_length-kept.result ≡ s.fed + start - length (kept_of goes_on s.held.items) = ap (λ n. s.fed + start - n) kept in
@@ -86,12 +86,12 @@ returns-then-is_empty c =
     let none : length (kept_of goes_on s.held.items) ≡ 0 = ap length (sym left ∙ nothing c.keep_held.new.held.items (sym c.is_empty.ensures ∙ c.if-is_empty.true)) in
     let from : s.fed + start - c.kept_length-kept.result ≡ c.args.self.now.fed + start = omega (arith, kept, none, fed_is) in
     let lent = lent_here c.ended.result.statement _ (s.fed + start - c.kept_length-kept.result) c.args.self.now.fed start c.args.piece.ref_ptr from c.ended.ensures.place c.ended.ensures.lent in
-    let told = ended_told c.ended.result.statement _ _ _ (slice_range piece start end) (kept_of goes_on s.held.items ++ slice_range piece start end) place whole c.ended.ensures.place c.ended.ensures.bytes in
+    let stated = ended_stated c.ended.result.statement _ _ _ (slice_range piece start end) (kept_of goes_on s.held.items ++ slice_range piece start end) place whole c.ended.ensures.place c.ended.ensures.bytes in
     let done = end_step c.args.self.now s.place s.held.items c.keep_held.new.held.items piece goes_on start end s.fed s.number c.ended.result.used s.refused c.ended.result.statement
-    c.self.view_is c.in_default.is p (omega (arith, i.0)) behind few c.ended.ensures.used c.ended.ensures.some told in
+    c.self.view_is c.in_default.is p (omega (arith, i.0)) following few c.ended.ensures.used c.ended.ensures.some stated in
     let empty : c.keep_held.new.held.items ≡ [] = nothing c.keep_held.new.held.items (sym c.is_empty.ensures ∙ c.if-is_empty.true) in
     let held = holds_here c.args.self.now (seen Gap c.keep_held.new.held.items (s.fed + (end + 1)) (s.number + 1) s.refused) c.ended.result.statement _ (s.fed + start - c.kept_length-kept.result) empty (omega (arith, from)) c.ended.ensures.place c.ended.ensures.some in
-    let used = some_used piece c.ended.result c.ended.ensures.some (omega (arith, c.ended.ensures.used)) (omega (arith, c.ended.ensures.used, behind)) in
+    let used = some_used piece c.ended.result c.ended.ensures.some (omega (arith, c.ended.ensures.used)) (omega (arith, c.ended.ensures.used, following)) in
     let numbered = number_of c.ended.result.statement _ _ _ c.ended.ensures.place (ap (λ (v : PieceCutting). v.number + 1) c.self.view_is) in
     ((refl, λ _. tt, record { led = done.1; held = held; refused = tt }), record { used = used; number = numbered; lent = lent; going = done.0; fault = tt; place = tt; after = tt })
 
@@ -109,13 +109,13 @@ returns c =
     let most = kept_most goes_on s.held.items in
     let few : length (kept_of goes_on s.held.items) + (end - start) ≤ 4096 = omega (arith, kept, size, c.if-kept-part.false, i.1) in
     let left : c.keep_held.new.held.items ≡ kept_of goes_on s.held.items = c.keep_held.ensures in
-    let behind : end < length piece = omega (arith, c.if-end-piece.false, p.unit.within) in
+    let following : end < length piece = omega (arith, c.if-end-piece.false, p.unit.within) in
     let whole : c.as_slice-2.result.now ≡ kept_of goes_on s.held.items ++ slice_range piece start end =
     c.as_slice-2.ensures.value ∙ c.hold-2.ensures ∙ ap (λ xs. xs ++ slice_range piece start end) left in
     let place : s.fed + start - c.kept_length-kept.result ≡ s.fed + start - length (kept_of goes_on s.held.items) = ap (λ n. s.fed + start - n) kept in
-    let told = ended_told c.ended-2.result.statement _ _ _ c.as_slice-2.result.now (kept_of goes_on s.held.items ++ slice_range piece start end) place whole c.ended-2.ensures.place c.ended-2.ensures.bytes in
+    let stated = ended_stated c.ended-2.result.statement _ _ _ c.as_slice-2.result.now (kept_of goes_on s.held.items ++ slice_range piece start end) place whole c.ended-2.ensures.place c.ended-2.ensures.bytes in
     let done = end_step c.args.self.now s.place s.held.items c.hold-2.new.held.items piece goes_on start end s.fed s.number c.ended-2.result.used s.refused c.ended-2.result.statement
-    c.self.view_is c.in_default.is p (omega (arith, i.0)) behind few c.ended-2.ensures.used c.ended-2.ensures.some told in
+    c.self.view_is c.in_default.is p (omega (arith, i.0)) following few c.ended-2.ensures.used c.ended-2.ensures.some stated in
     let fed_is : s.fed ≡ c.args.self.now.fed = ap (λ (v : PieceCutting). v.fed) c.self.view_is in
     let on = kept_on goes_on s.held.items c.keep_held.new.held.items left (sym c.is_empty.ensures ∙ c.if-is_empty.false) in
     let first = p.first on.0 in
@@ -124,6 +124,6 @@ returns c =
     let lent = lent_before c.ended-2.result.statement _ (s.fed + start - c.kept_length-kept.result) c.args.self.now.fed c.args.piece.ref_ptr before c.ended-2.ensures.place in
     let same : c.as_slice-2.result.now ≡ c.hold-2.new.held.items = c.as_slice-2.ensures.value in
     let held = holds_before c.args.self.now (seen Gap c.hold-2.new.held.items (s.fed + (end + 1)) (s.number + 1) s.refused) c.ended-2.result.statement _ (s.fed + start - c.kept_length-kept.result) c.as_slice-2.result.now same before c.ended-2.ensures.place c.ended-2.ensures.bytes c.ended-2.ensures.some in
-    let used = some_used piece c.ended-2.result c.ended-2.ensures.some (omega (arith, c.ended-2.ensures.used)) (omega (arith, c.ended-2.ensures.used, behind)) in
+    let used = some_used piece c.ended-2.result c.ended-2.ensures.some (omega (arith, c.ended-2.ensures.used)) (omega (arith, c.ended-2.ensures.used, following)) in
     let numbered = number_of c.ended-2.result.statement _ _ _ c.ended-2.ensures.place (ap (λ (v : PieceCutting). v.number + 1) c.self.view_is) in
     ((refl, λ _. tt, record { led = done.1; held = held; refused = tt }), record { used = used; number = numbered; lent = lent; going = done.0; fault = tt; place = tt; after = tt })

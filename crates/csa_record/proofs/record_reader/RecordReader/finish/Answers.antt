@@ -2,7 +2,7 @@ use Rattle.std.proofs.Common.{sym, subst}
 use Rattle.std.proofs.lemmas.Result.{err_from_is_err_and}
 use Rattle.csa_record.specs.Reading.{HasRead}
 use Rattle.csa_record.proofs.Flowing.{never_failed_by}
-use Rattle.csa_record.proofs.Steps.{refused_of, memory_of, told_of, missing_of}
+use Rattle.csa_record.proofs.Steps.{refused_of, memory_of, end_report, missing_of}
 use Rattle.csa_record.proofs.record_reader.RecordReader.finish.Goals as goal
 
 pub returns-in_err-take_last-clause-refused : goal.returns-in_err-take_last-clause-refused
@@ -17,10 +17,10 @@ returns-in_err-take_last-clause-memory c = λ source h.
     let p = err_from_is_err_and c.from_residual.result c.from_residual.ensures.1 in
     rw (p.1, p.2) (memory_of source c.in_err-take_last.field-0.0 (c.in_err-take_last.ensures source before.taken))
 
-pub returns-in-Some-finish-clause-told : goal.returns-in-Some-finish-clause-told
-returns-in-Some-finish-clause-told c = λ source h.
+pub returns-in-Some-finish-clause-stated : goal.returns-in-Some-finish-clause-stated
+returns-in-Some-finish-clause-stated c = λ source h.
     let before = subst (HasRead source) (sym c.self.view_is) h in
-    told_of source c.take_last.new.cutter c.take_last.new.builder c.in-Some-finish.record (c.in_ok-take_last.ensures source before.taken) c.in-Some-finish.ensures
+    end_report source c.take_last.new.cutter c.take_last.new.builder c.in-Some-finish.record (c.in_ok-take_last.ensures source before.taken) c.in-Some-finish.ensures
 
 pub returns-in-None-clause-refused : goal.returns-in-None-clause-refused
 returns-in-None-clause-refused c = λ source h some.

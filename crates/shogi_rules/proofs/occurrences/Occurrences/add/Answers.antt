@@ -6,7 +6,7 @@ use Rattle.shogi_rules.specs.Counting.{AreCounts, StandsAt}
 use Rattle.shogi_rules.specs.Repetition.{times}
 use Rattle.shogi_rules.specs.Searching.{IsFree, keys}
 use Rattle.shogi_rules.specs.declared.occurrences.Entry.{Entry}
-use Rattle.shogi_rules.proofs.Counting.{count-low, counts-again, counts-more, stands-again, stands-behind}
+use Rattle.shogi_rules.proofs.Counting.{count-low, counts-again, counts-more, stands-again, stands-following}
 use Rattle.shogi_rules.proofs.Searched.{free-stands, tree-kept, tree-more}
 use Rattle.shogi_rules.proofs.occurrences.Occurrences.add.Goals as goal
 
@@ -107,4 +107,4 @@ returns-clause-place c =
     let more : c.push_reserved-3.new.self.items ≡ es ++ d ∷ [] = grind (arith, common_steps) in
     let n : c.len-n.result ≡ length es = grind (arith, common_steps) in
     let long = length-append es (d ∷ []) in
-    rw (more, n) (omega (arith, long), stands-behind es d)
+    rw (more, n) (omega (arith, long), stands-following es d)

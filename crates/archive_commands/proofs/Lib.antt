@@ -1,0 +1,4 @@
+pub mod Digesting
+pub mod Listing
+pub mod ManyFiles
+pub mod Printing

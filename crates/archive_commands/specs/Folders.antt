@@ -1,0 +1,22 @@
+-- The names of the records in folders, and their order.
+use Rattle.std.specs.Prelude.{◌≡◌, ℕ, ◌==◌, ◌||◌, Bool, List, [], ◌∷◌, ◌++◌, IsSorted, codes, if◌then◌else◌}
+use Rattle.std.specs.Cmp.Lexicographic.{slice_cmp}
+use Rattle.std.specs.Ordering.{nat_cmp}
+use Rattle.std.specs.Global.{Vec}
+use Rattle.std.specs.List.{ends_with}
+
+-- the text ends in these bytes
+abbrev pub ends_in : List ℕ → List ℕ → Bool
+ends_in text end = ends_with (λ a b. a == b) text end
+
+-- the name of a record
+abbrev pub is_record_name : List ℕ → Bool
+is_record_name name = ends_in name (codes ".csa") || ends_in name (codes ".CSA")
+
+-- the path of a name in a folder: there is a slash between them
+abbrev pub joined : List ℕ → List ℕ → List ℕ
+joined folder name = (if ends_in folder (codes "/") then folder else folder ++ 47 ∷ []) ++ name
+
+-- no path is less than the one before it
+abbrev pub AreInByteOrder : List (Vec ℕ) → Type 0
+AreInByteOrder paths = IsSorted (λ a b. slice_cmp nat_cmp a.items b.items) paths

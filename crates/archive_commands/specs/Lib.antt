@@ -1,0 +1,6 @@
+pub mod Explaining
+pub mod Folders
+pub mod Lines
+pub mod Lists
+pub mod Many
+pub mod Same

@@ -1,0 +1,166 @@
+//! The lines about a file: that of an accepted record, and those of one that is not.
+
+ghost use Rattle.std.specs.Prelude.{◌≡◌, ◌≢◌, ℕ, List, Ok, IfErr, IfOk, Some, string_bytes};
+ghost use Rattle.record_game.specs.Canon.{canon};
+ghost use Rattle.record_game.specs.Game.{Game};
+ghost use Rattle.sha2.specs.Sha256.{sha256};
+ghost use Rattle.csa_record.specs.declared.flow.FlowFault.{FlowFault};
+ghost use Rattle.archive_commands.specs.Lines.{AreRefusedLines, AreUnreadableLines, HasLine, IsLineOf, IsRefusedLine, digits_line, unreadable_line};
+ghost use Rattle.record_commands.specs.Reports.{FailsToReport, GetsRecord};
+
+use crate::notices::Notices;
+use csa_record::{FlowFault, Reading, Record, Refusal};
+use record_commands::{Inputs, check, streams};
+use shogi_board::OutOfMemory;
+use std::alloc::Global;
+
+/// What the line of an accepted record says.
+#[derive(Clone, Copy, Debug, PartialEq, Eq)]
+pub enum LineKind {
+    /// `FILE: accepted N V`, as `check` prints it.
+    Checks,
+    /// The SHA-256 of its canonical text, two blanks, and FILE, as `sha256sum` prints it.
+    Digests,
+}
+
+/// The line of the record in the file, with LF.
+///
+/// Refuses `Refused` if the record is refused, `ReadFault` if it cannot be read, and `OutOfMemory`.
+pub fn line_of<I: Inputs>(
+    alloc: Global,
+    inputs: &I,
+    lines: LineKind,
+    file: &str,
+) -> Result<String, FlowFault>
+    ensures line { IfOk result (λ text. HasLine (I.opens_not inputs.now (Some file.now))
+        (I.opens inputs.now (Some file.now)) I.Input.Read.remaining
+        lines file.now (string_bytes text)) }
+    ensures fails { IfErr result (FailsToReport
+        (GetsRecord (I.opens_not inputs.now (Some file.now)) (I.opens inputs.now (Some file.now))
+        I.Input.Read.remaining) (IsLineOf lines file.now)) }
+    ensures no_write { IfErr result (λ fault. fault ≢ FlowFault.WriteFault) }
+{
+    match lines {
+        LineKind::Checks => checked_line(alloc, inputs, file),
+        LineKind::Digests => digest_line(alloc, inputs, file),
+    }
+}
+
+// The line of `check`.
+fn checked_line<I: Inputs>(alloc: Global, inputs: &I, file: &str) -> Result<String, FlowFault>
+    ensures line { IfOk result (λ text. HasLine (I.opens_not inputs.now (Some file.now))
+        (I.opens inputs.now (Some file.now)) I.Input.Read.remaining
+        LineKind.Checks file.now (string_bytes text)) }
+    ensures fails { IfErr result (FailsToReport
+        (GetsRecord (I.opens_not inputs.now (Some file.now)) (I.opens inputs.now (Some file.now))
+        I.Input.Read.remaining) (IsLineOf LineKind.Checks file.now)) }
+    ensures no_write { IfErr result (λ fault. fault ≢ FlowFault.WriteFault) }
+{
+    let record = streams::record(alloc, inputs, Some(file))?;
+    match accepted_line(alloc, file, &record) {
+        Ok(line) => Ok(line),
+        Err(_) => Err(FlowFault::OutOfMemory),
+    }
+}
+
+fn accepted_line(alloc: Global, file: &str, game: &Record) -> Result<String, OutOfMemory>
+    ensures { IfOk result
+        (λ text. IsLineOf LineKind.Checks file.now game.now (string_bytes text)) }
+{
+    let line = check::accepted(alloc, game)?;
+    Ok(format!(in alloc; "{file}: {line}")?)
+}
+
+// The line of `digest`.
+fn digest_line<I: Inputs>(alloc: Global, inputs: &I, file: &str) -> Result<String, FlowFault>
+    ensures line { IfOk result (λ text. HasLine (I.opens_not inputs.now (Some file.now))
+        (I.opens inputs.now (Some file.now)) I.Input.Read.remaining
+        LineKind.Digests file.now (string_bytes text)) }
+    ensures fails { IfErr result (FailsToReport
+        (GetsRecord (I.opens_not inputs.now (Some file.now)) (I.opens inputs.now (Some file.now))
+        I.Input.Read.remaining) (IsLineOf LineKind.Digests file.now)) }
+    ensures no_write { IfErr result (λ fault. fault ≢ FlowFault.WriteFault) }
+{
+    let digest = digest(alloc, inputs, file)?;
+    match digits_line(alloc, file, &digest) {
+        Ok(line) => Ok(line),
+        Err(_) => Err(FlowFault::OutOfMemory),
+    }
+}
+
+// The SHA-256 of the canonical text of the record in the file.
+fn digest<I: Inputs>(alloc: Global, inputs: &I, file: &str) -> Result<[u8; 32], FlowFault>
+    ensures digest { IfOk result (λ digest. (game : Game)
+        × GetsRecord (I.opens_not inputs.now (Some file.now)) (I.opens inputs.now (Some file.now))
+        I.Input.Read.remaining (Ok game) × (digest ≡ sha256 (canon game))) }
+    ensures fails { IfErr result (FailsToReport
+        (GetsRecord (I.opens_not inputs.now (Some file.now)) (I.opens inputs.now (Some file.now))
+        I.Input.Read.remaining) (IsLineOf LineKind.Digests file.now)) }
+    ensures no_write { IfErr result (λ fault. fault ≢ FlowFault.WriteFault) }
+{
+    let input = inputs.open(Some(file))?;
+    csa_record::digest(alloc, &mut Reading::new(input))
+}
+
+fn digits_line(alloc: Global, file: &str, digest: &[u8; 32]) -> Result<String, OutOfMemory>
+    ensures { IfOk result (λ text. string_bytes text ≡ digits_line file.now digest.now) }
+{
+    let digits = hex::encode(alloc, digest.as_slice())?;
+    Ok(format!(in alloc; "{digits}  {file}\n")?)
+}
+
+/// The line of a record that is refused, with LF.
+pub fn refused_line(alloc: Global, file: &str, refusal: &Refusal) -> Result<String, OutOfMemory>
+    ensures { IfOk result (λ text. IsRefusedLine file.now (string_bytes text)) }
+{
+    let words = format!(in alloc; "{refusal}")?;
+    Ok(format!(in alloc; "{file}: refused: {words}\n")?)
+}
+
+/// The line of a file that cannot be read, with LF.
+pub fn unreadable_line(alloc: Global, file: &str) -> Result<String, OutOfMemory>
+    ensures { IfOk result (λ text. string_bytes text ≡ unreadable_line file.now) }
+{
+    Ok(format!(in alloc; "{file}: read fault\n")?)
+}
+
+/// The lines about a file whose record is refused: its line, and then the one that explains it, if
+/// there is one.
+pub fn refused_lines<E: Notices>(
+    alloc: Global,
+    file: &str,
+    refusal: &Refusal,
+    notices: &E,
+) -> Result<String, OutOfMemory>
+    ensures { IfOk result (λ text. AreRefusedLines file.now (string_bytes text)) }
+{
+    let mut lines = refused_line(alloc, file, refusal)?;
+    let explanation = notices.refusal_explained(file, refusal)?;
+    lines.push_str(&explanation)?;
+    Ok(lines)
+}
+
+/// The lines about a file that cannot be read: its line, and then the one with the reason, if there
+/// is one.
+pub fn unreadable_lines<E: Notices>(
+    alloc: Global,
+    file: &str,
+    notices: &E,
+) -> Result<String, OutOfMemory>
+    ensures { IfOk result (λ text. AreUnreadableLines file.now (string_bytes text)) }
+{
+    let mut lines = unreadable_line(alloc, file)?;
+    let explanation = notices.read_fault_explained(file)?;
+    lines.push_str(&explanation)?;
+    Ok(lines)
+}
+
+/// The line about a file whose path is not UTF-8, with LF. Bytes that are not printable ASCII are
+/// escaped in it.
+pub fn not_text_line(alloc: Global, path: &[u8]) -> Result<String, OutOfMemory>
+    ensures { IfOk result
+        (λ text. (name : List ℕ) × (string_bytes text ≡ unreadable_line name)) }
+{
+    let name = format!(in alloc; "{}", path.escape_ascii())?;
+    unreadable_line(alloc, &name)
+}

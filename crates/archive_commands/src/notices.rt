@@ -1,0 +1,111 @@
+//! What standard error shows: lines about files, what explains them, and how many files are done.
+
+ghost use Rattle.std.specs.Prelude.{IfOk, None, string_bytes};
+ghost use Rattle.archive_commands.specs.Explaining.{IsPlaceLine, IsReasonLine};
+
+use crate::explain;
+use crate::progress::Progress;
+use csa_record::Refusal;
+use shogi_board::OutOfMemory;
+use std::io::Eprint;
+use std::rt::Files;
+use std::time::Clock;
+
+/// What is shown on standard error beside a line about each file that is refused or cannot be read.
+#[derive(Clone, Copy, Debug, PartialEq, Eq)]
+pub struct Verbosity {
+    /// Whether a second line about such a file has the statement at fault, or the system's reason.
+    pub is_explained: bool,
+    /// Whether progress is shown. Only for a terminal that standard output does not write to as
+    /// well: its lines would be mixed with that of the progress.
+    pub shows_progress: bool,
+}
+
+/// What takes the lines for standard error.
+pub trait Notices {
+    ghost use Rattle.std.specs.Prelude.{◌≡◌, ℕ, List, Option, IfOk, string_bytes};
+    ghost use Rattle.std.specs.Io.KnownBytes.{Appends};
+    ghost use Rattle.archive_commands.specs.Explaining.{IsPlaceLine, IsReasonLine};
+
+    // The lines so far, if they are known.
+    ghost shown: { Self → Option (List ℕ) };
+
+    /// Takes lines, each with LF.
+    fn show(&mut self, lines: &str)
+        ensures { Appends (shown self.old) (shown self.new) lines.now };
+
+    /// The line that explains a refusal, with LF, or nothing.
+    ///
+    /// Returns an error if an allocation fails.
+    fn refusal_explained(&self, file: &str, refusal: &Refusal) -> Result<String, OutOfMemory>
+        ensures { IfOk result (λ text. IsPlaceLine file.now (string_bytes text)) };
+
+    /// The line that explains why a file cannot be read, with LF, or nothing.
+    ///
+    /// Returns an error if an allocation fails.
+    fn read_fault_explained(&self, file: &str) -> Result<String, OutOfMemory>
+        ensures { IfOk result (λ text. IsReasonLine file.now (string_bytes text)) };
+
+    /// Called after each file.
+    fn file_done(&mut self)
+        ensures { shown self.new ≡ shown self.old };
+
+    /// Called after the last file. Erases the line of progress.
+    fn finish(&mut self)
+        ensures { shown self.new ≡ shown self.old };
+}
+
+/// Standard error. A line that cannot be written is dropped: the status says what happened.
+#[derive(Drop)]
+pub struct StandardError<'a, R> {
+    rt: &'a R,
+    is_explained: bool,
+    progress: Progress,
+}
+
+impl<'a, R: Clock + Eprint> StandardError<'a, R> {
+    /// Standard error of that runtime, for so many files.
+    pub fn new(rt: &'a R, verbosity: Verbosity, files: usize) -> StandardError<'a, R> {
+        let progress = if verbosity.shows_progress {
+            Progress::started(rt, files)
+        } else {
+            Progress::hidden()
+        };
+        StandardError {
+            rt,
+            is_explained: verbosity.is_explained,
+            progress,
+        }
+    }
+}
+
+impl<R: Files + Clock + Eprint + AllocGlobal> Notices for StandardError<'_, R> {
+    ghost shown = { λ _. None };
+
+    fn show(&mut self, lines: &str) {
+        self.progress.erase(self.rt);
+        let _ = self.rt.eprint(format_args!("{lines}"));
+    }
+
+    fn refusal_explained(&self, file: &str, refusal: &Refusal) -> Result<String, OutOfMemory> {
+        if !self.is_explained {
+            return Ok(String::new(self.rt.alloc()));
+        }
+        explain::refusal(self.rt, file, refusal)
+    }
+
+    fn read_fault_explained(&self, file: &str) -> Result<String, OutOfMemory> {
+        if !self.is_explained {
+            return Ok(String::new(self.rt.alloc()));
+        }
+        explain::unreadable(self.rt, file)
+    }
+
+    fn file_done(&mut self) {
+        self.progress.file_done(self.rt);
+    }
+
+    fn finish(&mut self) {
+        self.progress.erase(self.rt);
+    }
+}

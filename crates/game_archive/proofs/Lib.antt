@@ -1,0 +1,5 @@
+pub mod Causes
+pub mod Likenesses
+pub mod Listed
+pub mod Placed
+pub mod Whole

@@ -1,0 +1,76 @@
+use Rattle.std.proofs.Common.{◌≡◌, ◌∙◌, [], ◌∷◌, ◌++◌, ap, inr, length, subst, sym}
+use Rattle.std.proofs.lemmas.List.{length_push}
+use Rattle.game_archive.proofs.Placed.{leaders_still, placed_unreadable, placed_with, within}
+use Rattle.game_archive.specs.Unreadable.{HaveCauses}
+use Rattle.game_archive.proofs.Causes.{causes_pushed, lost, on_ok}
+use Rattle.game_archive.specs.declared.grouping.Placing.TheVariants as placing
+use Rattle.game_archive.proofs.grouping.Groups.place_key.Goals as goal
+
+pub returns-in_ok-push-in-Ok-Some-clause-leaders : goal.returns-in_ok-push-in-Ok-Some-clause-leaders
+returns-in_ok-push-in-Ok-Some-clause-leaders g c =
+    rw c.in_ok-push-in-Ok-Some.ensures.items (leaders_still c.args.self.now.placings.items (placing.Group c.in-Ok-Some.leader) c.args.self.now.by_digest c.args.self.now.others.items c.requires.leaders)
+
+pub returns-in_ok-push-in-Ok-Some-clause-groups : goal.returns-in_ok-push-in-Ok-Some-clause-groups
+returns-in_ok-push-in-Ok-Some-clause-groups g c = λ bytes gives has old.
+    let leads = rw c.in-Ok-Some.field-0-is at c.in-Ok-Some.ensures.leader in
+    let found = rw c.in-Ok-Some.field-0-is at (c.in-Ok-Some.ensures.found bytes gives) in
+    rw c.in_ok-push-in-Ok-Some.ensures.items
+    (placed_with c.args.likeness bytes (g.D.Digester.digest_of c.args.digester.now) c.args.self.now.placings.items c.in-Ok-Some.leader c.args.key.now c.args.self.now.by_digest c.args.self.now.others.items
+    leads found has old)
+
+pub returns-in-Ok-None-clause-groups : goal.returns-in-Ok-None-clause-groups
+returns-in-Ok-None-clause-groups g c = λ bytes gives has old.
+    let none = rw c.in-Ok-None.field-0-is at (c.in-Ok-None.ensures.found bytes gives) in
+    c.begin.ensures.groups c.args.likeness bytes (g.D.Digester.digest_of c.args.digester.now) c.args.key.now c.digest-digest.ensures has none old
+
+pub returns-in_ok-push-in-Ok-Some-clause-causes : goal.returns-in_ok-push-in-Ok-Some-clause-causes
+returns-in_ok-push-in-Ok-Some-clause-causes g c = λ old.
+    let archive = c.args.archive.now in
+    rw c.in_ok-push-in-Ok-Some.ensures.items
+    (causes_pushed (g.A.Archive.opens_not archive) (g.A.Archive.fails archive) (g.A.Archive.gives archive) c.args.self.now.placings.items (placing.Group c.in-Ok-Some.leader) (λ is. absurd cc) old)
+
+pub returns-in-Ok-None-clause-causes : goal.returns-in-Ok-None-clause-causes
+returns-in-Ok-None-clause-causes g c = λ old.
+    let archive = c.args.archive.now in
+    let U = g.A.Archive.opens_not archive in
+    let F = g.A.Archive.fails archive in
+    let G = g.A.Archive.gives archive in
+    let placings = c.args.self.now.placings.items in
+    let after = c.begin.new.self.placings.items in
+    let own = placing.Group (length placings) in
+    on_ok (after ≡ placings ++ own ∷ []) (HaveCauses U F G after) c.begin.result
+    (λ e. subst (HaveCauses U F G) (sym e) (causes_pushed U F G placings own (λ is. absurd cc) old)) c.begin.ensures.placed
+
+pub returns-in_ok-push-in-Err-Refused : goal.returns-in_ok-push-in-Err-Refused
+returns-in_ok-push-in-Err-Refused g c = record {
+  more = ap length c.in_ok-push-in-Err-Refused.ensures.items ∙ length_push c.args.self.now.placings.items placing.Unreadable;
+  leaders = rw c.in_ok-push-in-Err-Refused.ensures.items (leaders_still c.args.self.now.placings.items placing.Unreadable c.args.self.now.by_digest c.args.self.now.others.items c.requires.leaders);
+  groups = λ bytes gives has old. rw c.in_ok-push-in-Err-Refused.ensures.items
+      (placed_unreadable c.args.likeness bytes (g.D.Digester.digest_of c.args.digester.now) c.args.self.now.placings.items c.args.self.now.by_digest c.args.self.now.others.items old);
+  causes = λ old.
+      let archive = c.args.archive.now in
+      let U = g.A.Archive.opens_not archive in
+      let F = g.A.Archive.fails archive in
+      let G = g.A.Archive.gives archive in
+      let placings = c.args.self.now.placings.items in
+      let gone = lost U F G placings c.in-Err-Refused.field-0 (λ e. let h = sym c.in-Err-Refused.field-0-is ∙ e in absurd cc) c.in-Err-Refused.ensures.fault in
+      rw c.in_ok-push-in-Err-Refused.ensures.items
+      (causes_pushed U F G placings placing.Unreadable (λ is. inr (gone.0, within placings gone.0 gone.0 gone.1.0, gone.1)) old);
+}
+
+pub returns-in_ok-push-in-Err-ReadFault : goal.returns-in_ok-push-in-Err-ReadFault
+returns-in_ok-push-in-Err-ReadFault g c = record {
+  more = ap length c.in_ok-push-in-Err-ReadFault.ensures.items ∙ length_push c.args.self.now.placings.items placing.Unreadable;
+  leaders = rw c.in_ok-push-in-Err-ReadFault.ensures.items (leaders_still c.args.self.now.placings.items placing.Unreadable c.args.self.now.by_digest c.args.self.now.others.items c.requires.leaders);
+  groups = λ bytes gives has old. rw c.in_ok-push-in-Err-ReadFault.ensures.items
+      (placed_unreadable c.args.likeness bytes (g.D.Digester.digest_of c.args.digester.now) c.args.self.now.placings.items c.args.self.now.by_digest c.args.self.now.others.items old);
+  causes = λ old.
+      let archive = c.args.archive.now in
+      let U = g.A.Archive.opens_not archive in
+      let F = g.A.Archive.fails archive in
+      let G = g.A.Archive.gives archive in
+      let placings = c.args.self.now.placings.items in
+      let gone = lost U F G placings c.in-Err-ReadFault.field-0 (λ e. let h = sym c.in-Err-ReadFault.field-0-is ∙ e in absurd cc) c.in-Err-ReadFault.ensures.fault in
+      rw c.in_ok-push-in-Err-ReadFault.ensures.items
+      (causes_pushed U F G placings placing.Unreadable (λ is. inr (gone.0, within placings gone.0 gone.0 gone.1.0, gone.1)) old);
+}

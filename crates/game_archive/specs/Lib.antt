@@ -1,0 +1,4 @@
+pub mod Alike
+pub mod Groups
+pub mod Listing
+pub mod Unreadable

@@ -1,0 +1,244 @@
+//! Puts the entries of an archive into groups.
+//!
+//! The entries are read once each, in order. Of each group the first entry is kept: at the digest
+//! of its key, or, if another group's first entry has that digest, in a list. An entry is compared
+//! with the first entry that has its digest, and with those of the list, by reading these again. So
+//! a digest and a place are kept of each entry, and no text.
+
+ghost use Rattle.std.specs.Prelude.{◌≡◌, ◌+◌, ◌<◌, ◌≤◌, ℕ, List, [], ◌∷◌, ◌++◌, length, MatchOption, IfErr, IfOk, IfSome, OnOk};
+ghost use Rattle.game_archive.specs.Alike.{GiveBytes, HasKey};
+ghost use Rattle.game_archive.specs.Groups.{HasLeader, HoldsLeaders, IsGrouped, KnowsGroups, LeadsNone};
+ghost use Rattle.game_archive.specs.Unreadable.{AllPlaced, AreReadable, HaveCauses, IsNotCompared};
+ghost use Rattle.game_archive.specs.declared.grouping.Placing.{Placing};
+ghost use Rattle.game_archive.specs.declared.keys.Likeness.{Likeness};
+
+use crate::archive::{Archive, Watch};
+use crate::digester::{Digester, Sha256Digester};
+use crate::keys::{self, Likeness};
+use csa_record::{FlowFault, Refusal};
+use shogi_board::OutOfMemory;
+use std::alloc::Global;
+use std::collections::BTreeMap;
+
+/// Where an entry belongs.
+#[derive(Clone, Copy, Debug, PartialEq, Eq)]
+pub enum Placing {
+    /// In the group whose first entry is at this place.
+    Group(usize),
+    /// In none: its record is refused.
+    Refused(Refusal),
+    /// In none: it could not be read; or an earlier entry, with which it was to be compared, could
+    /// not be read again, or was refused then.
+    Unreadable,
+}
+
+/// Says of each entry, in order, which group it is in. SHA-256 digests narrow the search.
+///
+/// Two entries are in one group exactly if both are accepted and are alike, as long as each entry
+/// gives the same bytes each time that it is opened. If an entry changes, those that are compared
+/// with it may be in another group or in none. An entry is unreadable only if it cannot be opened
+/// or read, or if that happens to an earlier one, or it is refused, when it is read again.
+///
+/// Calls the watch after each entry. Returns `OutOfMemory` if an allocation fails.
+pub fn group<A: Archive, W: Watch>(
+    alloc: Global,
+    archive: &A,
+    likeness: Likeness,
+    watch: &mut W,
+) -> Result<Vec<Placing>, OutOfMemory>
+    ensures whole { IfOk result (λ placings. length placings.items ≡ A.size archive.now) }
+    ensures grouped { IfOk result (λ placings. (bytes : ℕ → List ℕ)
+        → GiveBytes (A.size archive.now) (A.gives archive.now) bytes
+        → IsGrouped likeness bytes placings.items) }
+    ensures unreadable { IfOk result (λ placings. HaveCauses
+        (A.opens_not archive.now) (A.fails archive.now) (A.gives archive.now) placings.items) }
+    // If each entry can be read, none is unreadable.
+    ensures placed { IfOk result (λ placings. (bytes : ℕ → List ℕ)
+        → AreReadable (A.size archive.now) (A.opens_not archive.now) (A.fails archive.now)
+        (A.gives archive.now) bytes
+        → AllPlaced bytes placings.items) }
+{
+    group_by(alloc, archive, likeness, &Sha256Digester, watch)
+}
+
+/// As `group`, with other digests.
+pub fn group_by<A: Archive, D: Digester, W: Watch>(
+    alloc: Global,
+    archive: &A,
+    likeness: Likeness,
+    digester: &D,
+    watch: &mut W,
+) -> Result<Vec<Placing>, OutOfMemory>
+    ensures whole { IfOk result (λ placings. length placings.items ≡ A.size archive.now) }
+    ensures grouped { IfOk result (λ placings. (bytes : ℕ → List ℕ)
+        → GiveBytes (A.size archive.now) (A.gives archive.now) bytes
+        → IsGrouped likeness bytes placings.items) }
+    ensures unreadable { IfOk result (λ placings. HaveCauses
+        (A.opens_not archive.now) (A.fails archive.now) (A.gives archive.now) placings.items) }
+    // If each entry can be read, none is unreadable.
+    ensures placed { IfOk result (λ placings. (bytes : ℕ → List ℕ)
+        → AreReadable (A.size archive.now) (A.opens_not archive.now) (A.fails archive.now)
+        (A.gives archive.now) bytes
+        → AllPlaced bytes placings.items) }
+{
+    let mut groups = Groups {
+        placings: Vec::new(alloc),
+        by_digest: BTreeMap::new(alloc),
+        others: Vec::new(alloc),
+    };
+    for at in 0..archive.len() {
+        groups.place_next(alloc, archive, likeness, digester)?;
+        watch.entry_done(at);
+    }
+    Ok(groups.placings)
+}
+
+// The entries so far, in groups.
+#[derive(Drop)]
+struct Groups {
+    placings: Vec<Placing>,
+    // The first entry of a group, at the digest of its key.
+    by_digest: BTreeMap<[u8; 32], usize>,
+    // The first entries of the groups whose digest was already that of another group.
+    others: Vec<usize>,
+}
+
+impl Groups {
+    // Places the next entry.
+    fn place_next<A: Archive, D: Digester>(
+        &mut self,
+        alloc: Global,
+        archive: &A,
+        likeness: Likeness,
+        digester: &D,
+    ) -> Result<(), OutOfMemory>
+        requires within { length self.old.placings.items < A.size archive.now }
+        requires leaders { HoldsLeaders
+            self.old.placings.items self.old.by_digest self.old.others.items }
+        ensures more { OnOk result
+            (length self.new.placings.items ≡ length self.old.placings.items + 1) }
+        ensures leaders { OnOk result (HoldsLeaders
+            self.new.placings.items self.new.by_digest self.new.others.items) }
+        ensures groups { (bytes : ℕ → List ℕ)
+            → GiveBytes (A.size archive.now) (A.gives archive.now) bytes
+            → KnowsGroups likeness bytes (D.digest_of digester.now)
+            self.old.placings.items self.old.by_digest self.old.others.items
+            → OnOk result (KnowsGroups likeness bytes (D.digest_of digester.now)
+            self.new.placings.items self.new.by_digest self.new.others.items) }
+        ensures causes { HaveCauses (A.opens_not archive.now) (A.fails archive.now)
+            (A.gives archive.now) self.old.placings.items
+            → OnOk result (HaveCauses (A.opens_not archive.now) (A.fails archive.now)
+            (A.gives archive.now) self.new.placings.items) }
+    {
+        match keys::key_at(alloc, archive, likeness, self.placings.len()) {
+            Ok(key) => self.place_key(alloc, archive, likeness, digester, &key),
+            Err(FlowFault::Refused(refusal)) => Ok(self.placings.push(Placing::Refused(refusal))?),
+            Err(FlowFault::ReadFault) => Ok(self.placings.push(Placing::Unreadable)?),
+            Err(FlowFault::WriteFault | FlowFault::OutOfMemory) => Err(OutOfMemory),
+        }
+    }
+
+    // Places the next entry, which has this key.
+    fn place_key<A: Archive, D: Digester>(
+        &mut self,
+        alloc: Global,
+        archive: &A,
+        likeness: Likeness,
+        digester: &D,
+        key: &[u8],
+    ) -> Result<(), OutOfMemory>
+        requires within { length self.old.placings.items < A.size archive.now }
+        requires leaders { HoldsLeaders
+            self.old.placings.items self.old.by_digest self.old.others.items }
+        ensures more { OnOk result
+            (length self.new.placings.items ≡ length self.old.placings.items + 1) }
+        ensures leaders { OnOk result (HoldsLeaders
+            self.new.placings.items self.new.by_digest self.new.others.items) }
+        ensures groups { (bytes : ℕ → List ℕ)
+            → GiveBytes (A.size archive.now) (A.gives archive.now) bytes
+            → HasKey likeness (bytes (length self.old.placings.items)) key.now
+            → KnowsGroups likeness bytes (D.digest_of digester.now)
+            self.old.placings.items self.old.by_digest self.old.others.items
+            → OnOk result (KnowsGroups likeness bytes (D.digest_of digester.now)
+            self.new.placings.items self.new.by_digest self.new.others.items) }
+        ensures causes { HaveCauses (A.opens_not archive.now) (A.fails archive.now)
+            (A.gives archive.now) self.old.placings.items
+            → OnOk result (HaveCauses (A.opens_not archive.now) (A.fails archive.now)
+            (A.gives archive.now) self.new.placings.items) }
+    {
+        let digest = digester.digest(key);
+        match self.find(alloc, archive, likeness, &digest, key) {
+            Ok(Some(leader)) => Ok(self.placings.push(Placing::Group(leader))?),
+            Ok(None) => self.begin(&digest),
+            // The first entry of a group was accepted before.
+            Err(FlowFault::Refused(_)) => Ok(self.placings.push(Placing::Unreadable)?),
+            Err(FlowFault::ReadFault) => Ok(self.placings.push(Placing::Unreadable)?),
+            Err(FlowFault::WriteFault | FlowFault::OutOfMemory) => Err(OutOfMemory),
+        }
+    }
+
+    // The first entry of the group with this key, if there is one.
+    fn find<A: Archive>(
+        &self,
+        alloc: Global,
+        archive: &A,
+        likeness: Likeness,
+        digest: &[u8; 32],
+        key: &[u8],
+    ) -> Result<Option<usize>, FlowFault>
+        requires within { length self.now.placings.items ≤ A.size archive.now }
+        requires leaders { HoldsLeaders
+            self.now.placings.items self.now.by_digest self.now.others.items }
+        ensures leader { IfOk result (λ found. IfSome found
+            (λ leader. HasLeader self.now.placings.items leader leader)) }
+        ensures found { (bytes : ℕ → List ℕ)
+            → GiveBytes (A.size archive.now) (A.gives archive.now) bytes
+            → IfOk result (λ found. MatchOption found
+            (LeadsNone likeness bytes digest.now self.now.by_digest self.now.others.items key.now)
+            (λ leader. HasKey likeness (bytes leader) key.now)) }
+        ensures fault { IfErr result (IsNotCompared (A.opens_not archive.now) (A.fails archive.now)
+            (A.gives archive.now) self.now.placings.items) }
+    {
+        if let Some(leader) = self.by_digest.get(digest) {
+            if keys::has_key(alloc, archive, likeness, *leader, key)? {
+                return Ok(Some(*leader));
+            }
+        }
+        for k in 0..self.others.len() {
+            let leader = self.others[k];
+            if keys::has_key(alloc, archive, likeness, leader, key)? {
+                return Ok(Some(leader));
+            }
+        }
+        Ok(None)
+    }
+
+    // Begins a group with the next entry.
+    fn begin(&mut self, digest: &[u8; 32]) -> Result<(), OutOfMemory>
+        requires leaders { HoldsLeaders
+            self.old.placings.items self.old.by_digest self.old.others.items }
+        ensures more { OnOk result
+            (length self.new.placings.items ≡ length self.old.placings.items + 1) }
+        ensures leaders { OnOk result (HoldsLeaders
+            self.new.placings.items self.new.by_digest self.new.others.items) }
+        ensures groups { (likeness : Likeness) (bytes : ℕ → List ℕ) (digest_of : List ℕ → List ℕ)
+            (key : List ℕ) → digest.now ≡ digest_of key
+            → HasKey likeness (bytes (length self.old.placings.items)) key
+            → LeadsNone likeness bytes digest.now self.old.by_digest self.old.others.items key
+            → KnowsGroups likeness bytes digest_of
+            self.old.placings.items self.old.by_digest self.old.others.items
+            → OnOk result (KnowsGroups likeness bytes digest_of
+            self.new.placings.items self.new.by_digest self.new.others.items) }
+        ensures placed { OnOk result (self.new.placings.items ≡ self.old.placings.items
+            ++ Placing.Group (length self.old.placings.items) ∷ []) }
+    {
+        let at = self.placings.len();
+        self.placings.push(Placing::Group(at))?;
+        if self.by_digest.contains_key(digest) {
+            self.others.push(at)?;
+        } else {
+            self.by_digest.insert(*digest, at)?;
+        }
+        Ok(())
+    }
+}

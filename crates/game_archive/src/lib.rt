@@ -1,0 +1,24 @@
+//! Which entries of an archive contain the same game.
+//!
+//! [`Archive`] is a list of entries, each of which can be read again and again, such as the files
+//! of a folder. [`group`] says of each entry which group it is in; two entries are in one group
+//! exactly if both are accepted and contain the same game, or, by [`Likeness::Moves`], the same
+//! start and moves. [`copies`] lists the groups that have two entries or more.
+//!
+//! ```text
+//! let placings = group(alloc, &archive, Likeness::Game, &mut watch)?;
+//! for copy in copies(alloc, &placings)? { .. }
+//! ```
+#![tactic(auto)]
+
+mod archive;
+mod digester;
+mod grouping;
+mod keys;
+mod listing;
+
+pub use archive::{Archive, OpenFault, Watch};
+pub use digester::{Digester, Sha256Digester};
+pub use grouping::{Placing, group, group_by};
+pub use keys::Likeness;
+pub use listing::copies;
