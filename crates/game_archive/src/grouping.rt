@@ -34,10 +34,11 @@ pub enum Placing {
 
 /// Says of each entry, in order, which group it is in. SHA-256 digests narrow the search.
 ///
-/// Two entries are in one group exactly if both are accepted and are alike, as long as each entry
-/// gives the same bytes each time that it is opened. If an entry changes, those that are compared
-/// with it may be in another group or in none. An entry is unreadable only if it cannot be opened
-/// or read, or if that happens to an earlier one, or it is refused, when it is read again.
+/// Of the entries that are neither `Refused` nor `Unreadable`, two are in one group exactly if they
+/// are alike, as long as each entry gives the same bytes each time that it is opened. If an entry
+/// changes, those that are compared with it may be in another group or in none. An entry is
+/// unreadable only if it cannot be opened or read, or if that happens to an earlier one, or it is
+/// refused, when it is read again.
 ///
 /// Calls the watch after each entry. Returns `OutOfMemory` if an allocation fails.
 pub fn group<A: Archive, W: Watch>(
