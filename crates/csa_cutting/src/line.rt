@@ -40,8 +40,7 @@ impl From<AllocError> for LineFault {
 pub struct LineCutter {
     held: Vec<u8>,
     limit: usize,
-    // whether what is held has been returned
-    spent: bool,
+    held_returned: bool,
     failed: bool,
 }
 
@@ -53,7 +52,7 @@ impl Model for LineCutter {
     ghost Value = { LineCutting };
 
     ghost view = { λ c. record {
-      held = if c.spent then [] else c.held.items;
+      held = if c.held_returned then [] else c.held.items;
       limit = c.limit;
       failed = c.failed;
     } };
@@ -71,7 +70,7 @@ impl LineCutter {
         LineCutter {
             held: Vec::new(alloc),
             limit,
-            spent: false,
+            held_returned: false,
             failed: false,
         }
     }
@@ -96,8 +95,8 @@ impl LineCutter {
         if self.failed {
             return Err(LineFault::TooLong);
         }
-        forget(&mut self.held, self.spent);
-        self.spent = false;
+        forget(&mut self.held, self.held_returned);
+        self.held_returned = false;
         let (start, end) = first_run(self.held.as_slice(), piece);
         let run = &piece[start..end];
         if self.limit - self.held.len() < run.len() {
@@ -108,7 +107,7 @@ impl LineCutter {
         if end == piece.len() {
             return Ok((end, None));
         }
-        self.spent = true;
+        self.held_returned = true;
         Ok((end + 1, Some(self.held.as_slice())))
     }
 
@@ -128,10 +127,10 @@ impl LineCutter {
         if self.failed {
             return Err(LineFault::TooLong);
         }
-        if self.spent || self.held.is_empty() {
+        if self.held_returned || self.held.is_empty() {
             return Ok(None);
         }
-        self.spent = true;
+        self.held_returned = true;
         Ok(Some(self.held.as_slice()))
     }
 }
@@ -164,10 +163,10 @@ pub(crate) fn line_length(text: &[u8]) -> usize
 }
 
 // Clears what is held if it has been returned.
-fn forget(held: &mut Vec<u8>, spent: bool)
-    ensures { held.new.items ≡ (if spent then [] else held.old.items) }
+fn forget(held: &mut Vec<u8>, returned: bool)
+    ensures { held.new.items ≡ (if returned then [] else held.old.items) }
 {
-    if spent {
+    if returned {
         held.clear();
     }
 }

@@ -1,5 +1,5 @@
 -- What the lines of a position block are so far, one after another.
-use Rattle.std.proofs.Common.{◌≡◌, ℕ, inl, inr, Bool, true, false, List, [], ◌∷◌, ◌++◌, Result, Ok, Err, append_assoc, refl, sym, ap, subst, ◌∙◌}
+use Rattle.std.proofs.Common.{◌≡◌, ℕ, inl, inr, List, [], ◌∷◌, ◌++◌, Result, Ok, Err, append_assoc, refl, sym, ap, subst, ◌∙◌}
 use Rattle.std.specs.List.{AllByRecursion}
 use Rattle.std.specs.Prelude.{IfOk}
 use Rattle.std.proofs.lemmas.List.{append-nil}
@@ -11,6 +11,8 @@ use Rattle.session_lines.specs.Texts.{ended_line}
 use Rattle.bridge_table.proofs.PositionFits.{FitsIn}
 use Rattle.bridge_table.specs.Summary.{TellsPosition}
 use Rattle.shogi_session.proofs.BlockLines.{ReadText, read_join, read_part, read_nothing, text_join, text_part, unmarked, unmarked_or}
+use Rattle.shogi_session.specs.declared.position_reader.Fed.{Fed}
+use Rattle.shogi_session.specs.declared.position_reader.Fed.TheVariants.{Taken, Refused}
 use Rattle.shogi_session.specs.PositionTexts.{IsFed, IsFedOn, IsPositionText, IsTaken, IsWhole, TellsNone}
 
 abbrev Any : Saying → Type 0
@@ -102,8 +104,8 @@ all_fits text reader g fed stated = fed.fits [] g (subst (λ x. Tells x g) (sym 
 pub none_now : (text : List ℕ) → TellsNone text → (g : Game) → TellsPosition text g → ⊥
 none_now text none g p = none [] g (subst (λ x. TellsPosition x g) (sym (append-nil text)) p)
 
-pub line_taken : {E : Type 0} (result : Result Bool E) (text line : List ℕ) (reader new : Reading) → IsFed text reader → IsPositionText line
-    → IfOk result (λ going. IsFedOn ((text ++ line) ++ 10 ∷ []) going new) → IfOk result (λ may. IsTaken (text ++ ended_line line) may new)
-line_taken (Ok true) text line reader new fed p read = line_fed text line reader new fed p read
-line_taken (Ok false) text line reader new fed p none = subst TellsNone (append_assoc text line (10 ∷ [])) none
+pub line_taken : {E : Type 0} (result : Result Fed E) (text line : List ℕ) (reader new : Reading) → IsFed text reader → IsPositionText line
+    → IfOk result (λ fed. IsFedOn ((text ++ line) ++ 10 ∷ []) fed new) → IfOk result (λ fed. IsTaken (text ++ ended_line line) fed new)
+line_taken (Ok Taken) text line reader new fed p read = line_fed text line reader new fed p read
+line_taken (Ok Refused) text line reader new fed p none = subst TellsNone (append_assoc text line (10 ∷ [])) none
 line_taken (Err fault) text line reader new fed p read = tt

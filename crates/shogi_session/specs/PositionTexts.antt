@@ -1,5 +1,5 @@
 -- For private functions: the text of a position block, apart from its game.
-use Rattle.std.specs.Prelude.{◌≡◌, ◌⊎◌, ◌++◌, ℕ, Bool, true, false, List, [], ◌∷◌, Option, Some, None}
+use Rattle.std.specs.Prelude.{◌≡◌, ◌⊎◌, ◌++◌, ℕ, true, List, [], ◌∷◌, Option, Some, None}
 use Rattle.std.specs.List.{AllByRecursion, AllZip}
 use Rattle.csa_cutting.specs.Cut.{TextUnit, IsCut}
 use Rattle.csa_text.specs.Saying.{Saying}
@@ -9,6 +9,8 @@ use Rattle.csa_record.specs.Reading.{Reading, HasRead}
 use Rattle.csa_record.specs.Tells.{IsSpelt, Tells}
 use Rattle.shogi_session.specs.declared.position_reader.BlockState.{BlockState}
 use Rattle.shogi_session.specs.declared.position_reader.BlockState.TheVariants.{Reading as going, Failed}
+use Rattle.shogi_session.specs.declared.position_reader.Fed.{Fed}
+use Rattle.shogi_session.specs.declared.position_reader.Fed.TheVariants.{Taken, Refused}
 use Rattle.bridge_table.specs.Summary.{in_position, TellsPosition}
 
 -- the bytes spell a position, side, move or time statement
@@ -44,13 +46,14 @@ pub record IsFed (text : List ℕ) (reader : Reading) : Type 0 where
   pub fits : (more : List ℕ) (g : Game) → Tells (text ++ more) g → IsPositionText text
 
 -- the reader was fed this text, or the text spells no game
-abbrev pub IsFedOn : List ℕ → Bool → Reading → Type 0
-IsFedOn text true reader = HasRead text reader
-IsFedOn text false reader = TellsNone text
+abbrev pub IsFedOn : List ℕ → Fed → Reading → Type 0
+IsFedOn text Taken reader = HasRead text reader
+IsFedOn text Refused reader = TellsNone text
 
-abbrev pub IsTaken : List ℕ → Bool → Reading → Type 0
-IsTaken text true reader = IsFed text reader
-IsTaken text false reader = TellsNone text
+-- the reader was fed this text of whole lines, or the text spells no game
+abbrev pub IsTaken : List ℕ → Fed → Reading → Type 0
+IsTaken text Taken reader = IsFed text reader
+IsTaken text Refused reader = TellsNone text
 
 abbrev pub HasCome : List ℕ → BlockState → Type 0
 HasCome text (going reader) = IsFed text reader

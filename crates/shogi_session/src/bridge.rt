@@ -14,9 +14,9 @@ ghost use Rattle.bridge_table.specs.State.{Client, Match, client_state, first_st
 ghost use Rattle.session_lines.specs.Texts.{text_of};
 
 use crate::answers::{failed, no_lines, silent, tell_engine};
-use crate::engine_side::hear_engine;
+use crate::engine_side::take_engine_line;
 use crate::phase::{GameStage, Phase};
-use crate::server_side::hear_server;
+use crate::server_side::take_server_line;
 use bridge_table::{ClientState, Config, EngineState, Event, Out, SessionFault, Status, Waits};
 use csa_record::write;
 use session_lines::without_last_spaces;
@@ -243,14 +243,14 @@ fn answer(
 {
     match event {
         Event::Begin => begin(alloc, engine),
-        Event::EngineLine(line) => hear_engine(
+        Event::EngineLine(line) => take_engine_line(
             alloc,
             config,
             engine,
             phase,
             without_last_spaces(line),
         ),
-        Event::ServerLine(line) => hear_server(
+        Event::ServerLine(line) => take_server_line(
             alloc,
             config,
             engine,

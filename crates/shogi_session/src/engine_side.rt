@@ -25,7 +25,7 @@ use std::alloc::Global;
 use usi_text::{EngineWord, read_engine_line, texts as usi_texts};
 
 // Takes a line of the engine, without the spaces at its end.
-pub(crate) fn hear_engine(
+pub(crate) fn take_engine_line(
     alloc: Global,
     config: &Config,
     engine: &mut EngineState,
@@ -42,7 +42,7 @@ pub(crate) fn hear_engine(
     match *engine {
         EngineState::Greeting => greet(alloc, engine, line),
         EngineState::Readying => log_in(alloc, config, engine, phase, line),
-        EngineState::Thinking => hear_thinking(alloc, engine, phase, line),
+        EngineState::Thinking => take_line_of_thinking(alloc, engine, phase, line),
         EngineState::New | EngineState::Ready | EngineState::Ended => Ok(no_lines(alloc)),
     }
 }
@@ -127,7 +127,7 @@ fn login(alloc: Global, config: &Config) -> Result<Out, OutOfMemory>
 
 // Takes a line of an engine that was asked for a move. If its game is no longer in play, it is
 // ready for the next.
-fn hear_thinking(
+fn take_line_of_thinking(
     alloc: Global,
     engine: &mut EngineState,
     phase: &mut Phase,
@@ -144,16 +144,16 @@ fn hear_thinking(
     match phase {
         Phase::InGame(play) => {
             if is_playing(play.stage) {
-                hear_answer(alloc, engine, play, line)
+                take_answer(alloc, engine, play, line)
             } else {
-                Ok(hear_late(alloc, engine, line))
+                Ok(take_late_line(alloc, engine, line))
             }
         }
         Phase::Idle
         | Phase::LoggingIn
         | Phase::BeforeSummary
         | Phase::Summary(_)
-        | Phase::Agreeing(_) => Ok(hear_late(alloc, engine, line)),
+        | Phase::Agreeing(_) => Ok(take_late_line(alloc, engine, line)),
     }
 }
 
@@ -168,7 +168,7 @@ fn is_playing(stage: GameStage) -> bool
 
 // Takes a line of an engine whose game is no longer in play: after its answer it is ready for the
 // next.
-fn hear_late(alloc: Global, engine: &mut EngineState, line: &[u8]) -> Out
+fn take_late_line(alloc: Global, engine: &mut EngineState, line: &[u8]) -> Out
     requires { engine.old ≡ Thinking }
     ensures { (c : Config) (client : Client) → (client_state client ≡ clients.Playing → ⊥)
         → Reacts c engine.old client (engine_line line.now) result engine.new client }
@@ -191,7 +191,7 @@ fn is_best_move(line: &[u8]) -> bool
 }
 
 // Sends the server the engine's answer.
-fn hear_answer(
+fn take_answer(
     alloc: Global,
     engine: &mut EngineState,
     play: &mut Play,

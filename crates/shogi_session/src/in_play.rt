@@ -1,16 +1,16 @@
 // A game that has started: what the server's lines do to it.
 //
-// `server_side::hear_in_game` passes each line on by the stage of the game. While the game is in
-// play (`Playing`, `Sent`), `hear_in_play` takes it, by its first byte:
+// `server_side::take_game_line` passes each line on by the stage of the game. While the game is in
+// play (`Playing`, `Sent`), `take_line_in_play` takes it, by its first byte:
 //
 // | Byte | Function | What it does |
 // | --- | --- | --- |
-// | `+`, `-` | `hear_move` | plays the move, and play goes on; or the session fails |
+// | `+`, `-` | `take_move` | plays the move, and play goes on; or the session fails |
 // | `%` | `keep_ending` | keeps the ending if the line spells one, and goes to `Reason` |
-// | `#` | `hear_end` | keeps a reason and goes to `Reason`; or takes a result, to `Closing` |
+// | `#` | `take_end` | keeps a reason and goes to `Reason`; or takes a result, to `Closing` |
 //
-// In `Reason` only lines that begin with `#` count, and `hear_end` takes them too. The engine's
-// answers are not here: `engine_side::hear_answer` sends them, and goes to `Sent`.
+// In `Reason` only lines that begin with `#` count, and `take_end` takes them too. The engine's
+// answers are not here: `engine_side::take_answer` sends them, and goes to `Sent`.
 //
 // A move is read (`read_server_move`), judged by the game (`Line::fault`) and compared with the one
 // that was sent (`is_expected`), in this order; the first that fails names the fault. After that
@@ -60,7 +60,7 @@ use std::alloc::Global;
 use usi_text::texts as usi_texts;
 
 // Takes a line of the server while the game is in play.
-pub(crate) fn hear_in_play(
+pub(crate) fn take_line_in_play(
     alloc: Global,
     config: &Config,
     engine: &mut EngineState,
@@ -77,14 +77,14 @@ pub(crate) fn hear_in_play(
         (play_client play.old) (server_line line.now) engine.new (play_client play.new)) }
 {
     if is_move_line(line) {
-        return hear_move(alloc, config, engine, play, line);
+        return take_move(alloc, config, engine, play, line);
     }
     if is_hash_line(line) {
         let stated = EndReport {
             ending: false,
             reason: None,
         };
-        return hear_end(alloc, engine, play, stated, line);
+        return take_end(alloc, engine, play, stated, line);
     }
     if is_ending_line(line) {
         keep_ending(play, line);
@@ -123,7 +123,7 @@ fn end_with(play: &mut Play, ending: Ending, time: Option<u64>)
 }
 
 // Takes a line that begins with `+` or `-`.
-fn hear_move(
+fn take_move(
     alloc: Global,
     config: &Config,
     engine: &mut EngineState,
@@ -284,7 +284,7 @@ fn engine_after(engine: EngineState, asked: bool) -> EngineState
 }
 
 // Takes a line that begins with `#`, by what the server said of the end before.
-pub(crate) fn hear_end(
+pub(crate) fn take_end(
     alloc: Global,
     engine: &mut EngineState,
     play: &mut Play,

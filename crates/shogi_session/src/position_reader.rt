@@ -24,6 +24,15 @@ enum BlockState {
     Failed,
 }
 
+// What became of bytes of a block that a reader was fed.
+#[derive(Clone, Copy, Debug, PartialEq, Eq)]
+pub(crate) enum Fed {
+    // More bytes may make them a game.
+    Taken,
+    // No further bytes make them a game.
+    Refused,
+}
+
 // Reads a position block line by line, and keeps none of its text.
 #[derive(Drop)]
 pub(crate) struct PositionReader {
@@ -116,10 +125,9 @@ fn go_on(state: BlockState, line: &[u8]) -> Result<BlockState, OutOfMemory>
     let BlockState::Reading(mut reader) = state else {
         return Ok(BlockState::Failed);
     };
-    if take_line(&mut reader, line)? {
-        Ok(BlockState::Reading(reader))
-    } else {
-        Ok(BlockState::Failed)
+    match take_line(&mut reader, line)? {
+        Fed::Taken => Ok(BlockState::Reading(reader)),
+        Fed::Refused => Ok(BlockState::Failed),
     }
 }
 
@@ -142,37 +150,36 @@ fn game_of(state: BlockState) -> Result<Option<Record>, OutOfMemory>
     }
 }
 
-// Feeds the reader the next line. Returns whether more lines may make these a game.
-fn take_line(reader: &mut RecordReader, line: &[u8]) -> Result<bool, OutOfMemory>
+// Feeds the reader the next line. It is refused if no further lines make these a game.
+fn take_line(reader: &mut RecordReader, line: &[u8]) -> Result<Fed, OutOfMemory>
     ensures { (text : List ℕ) → IsFed text reader.old
-        → IfOk result (λ may. IsTaken (text ++ ended_line line.now) may reader.new) }
+        → IfOk result (λ fed. IsTaken (text ++ ended_line line.now) fed reader.new) }
 {
     if !is_position_text(line) {
-        return Ok(false);
+        return Ok(Fed::Refused);
     }
-    if feed(reader, line)? {
-        feed(reader, LINE_END)
-    } else {
-        Ok(false)
+    match feed(reader, line)? {
+        Fed::Taken => feed(reader, LINE_END),
+        Fed::Refused => Ok(Fed::Refused),
     }
 }
 
-// Feeds the reader these bytes. Returns whether it has refused nothing. Returns `OutOfMemory` if an
-// allocation fails, or if the block has more bytes than a reader takes.
-fn feed(reader: &mut RecordReader, bytes: &[u8]) -> Result<bool, OutOfMemory>
+// Feeds the reader these bytes. Returns `OutOfMemory` if an allocation fails, or if the block has
+// more bytes than a reader takes.
+fn feed(reader: &mut RecordReader, bytes: &[u8]) -> Result<Fed, OutOfMemory>
     ensures { (text : List ℕ) → HasRead text reader.old
-        → IfOk result (λ going. IsFedOn (text ++ bytes.now) going reader.new) }
+        → IfOk result (λ fed. IsFedOn (text ++ bytes.now) fed reader.new) }
 {
     if !has_room(reader, bytes) {
         return Err(OutOfMemory);
     }
     match reader.feed(bytes) {
-        Ok(()) => Ok(true),
+        Ok(()) => Ok(Fed::Taken),
         Err(refusal) => {
             if lacks_memory(refusal.why) {
                 Err(OutOfMemory)
             } else {
-                Ok(false)
+                Ok(Fed::Refused)
             }
         }
     }

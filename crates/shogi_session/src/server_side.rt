@@ -15,7 +15,7 @@ ghost use Rattle.bridge_table.specs.Summary.{CountsAs, SummaryContent, Offer};
 ghost use Rattle.session_lines.specs.Texts.{ended_line};
 
 use crate::answers::{failed, no_lines, silent, tell_server};
-use crate::in_play::{ask_engine, hear_end, hear_in_play};
+use crate::in_play::{ask_engine, take_end, take_line_in_play};
 use crate::offer::GameOffer;
 use crate::phase::{GameStage, Phase, Play};
 use crate::summary_reader::SummaryReader;
@@ -29,7 +29,7 @@ use std::mem;
 use usi_text::texts as usi_texts;
 
 // Takes a line of the server, without the spaces at its end.
-pub(crate) fn hear_server(
+pub(crate) fn take_server_line(
     alloc: Global,
     config: &Config,
     engine: &mut EngineState,
@@ -47,29 +47,29 @@ pub(crate) fn hear_server(
 {
     match phase {
         Phase::Idle => Ok(no_lines(alloc)),
-        Phase::LoggingIn => Ok(hear_login(alloc, phase, line)),
-        Phase::BeforeSummary => Ok(hear_begin(alloc, phase, line)),
+        Phase::LoggingIn => Ok(take_login_answer(alloc, phase, line)),
+        Phase::BeforeSummary => Ok(take_begin_line(alloc, phase, line)),
         Phase::Summary(reader) => {
             if is_same(line, texts::END_SUMMARY) {
                 end_summary(alloc, phase)
             } else {
-                hear_summary(alloc, reader, line)
+                take_summary_line(alloc, reader, line)
             }
         }
         Phase::Agreeing(offer) => {
             if !is_start_line(line) {
-                return Ok(hear_unstarted(alloc, line));
+                return Ok(take_line_before_start(alloc, line));
             }
             let out = ask_first(alloc, config, engine, offer)?;
             start(phase);
             Ok(out)
         }
-        Phase::InGame(play) => hear_in_game(alloc, config, engine, play, line),
+        Phase::InGame(play) => take_game_line(alloc, config, engine, play, line),
     }
 }
 
 // Waits for the answer to `LOGIN`.
-fn hear_login(alloc: Global, phase: &mut Phase, line: &[u8]) -> Out
+fn take_login_answer(alloc: Global, phase: &mut Phase, line: &[u8]) -> Out
     requires { phase.old ≡ LoggingIn }
     ensures keeps { IsPhase phase.new }
     ensures answer { (c : Config) (engine : EngineState) → Reacts c engine
@@ -86,7 +86,7 @@ fn hear_login(alloc: Global, phase: &mut Phase, line: &[u8]) -> Out
 }
 
 // Waits for a summary.
-fn hear_begin(alloc: Global, phase: &mut Phase, line: &[u8]) -> Out
+fn take_begin_line(alloc: Global, phase: &mut Phase, line: &[u8]) -> Out
     requires { phase.old ≡ BeforeSummary }
     ensures keeps { IsPhase phase.new }
     ensures answer { (c : Config) (engine : EngineState) → Reacts c engine
@@ -100,7 +100,11 @@ fn hear_begin(alloc: Global, phase: &mut Phase, line: &[u8]) -> Out
 }
 
 // Takes a line of a summary, not its last. If an allocation fails, the lines before it are lost.
-fn hear_summary(alloc: Global, reader: &mut SummaryReader, line: &[u8]) -> Result<Out, OutOfMemory>
+fn take_summary_line(
+    alloc: Global,
+    reader: &mut SummaryReader,
+    line: &[u8],
+) -> Result<Out, OutOfMemory>
     requires line { IsOneLine line.now }
     requires not_last { line.now ≡ texts.end_summary → ⊥ }
     requires counts { (lines : List (List ℕ)) × CountsAs lines reader.old }
@@ -108,7 +112,7 @@ fn hear_summary(alloc: Global, reader: &mut SummaryReader, line: &[u8]) -> Resul
     ensures answer { IfOk result (λ out. (c : Config) (engine : EngineState) → Reacts c engine
         (state.summary reader.old) (server_line line.now) out engine (state.summary reader.new)) }
 {
-    match reader.hear(line) {
+    match reader.take(line) {
         Ok(()) => Ok(no_lines(alloc)),
         Err(fault) => {
             *reader = SummaryReader::new(alloc);
@@ -161,7 +165,7 @@ fn agree(alloc: Global, phase: &mut Phase, offer: GameOffer) -> Result<Out, OutO
 }
 
 // Takes a line after `AGREE` that does not start the game.
-fn hear_unstarted(alloc: Global, line: &[u8]) -> Out
+fn take_line_before_start(alloc: Global, line: &[u8]) -> Out
     requires { is_start_line line.now ≡ false }
     ensures { (c : Config) (engine : EngineState) (o : Offer) → Reacts c engine
         (state.agreeing o) (server_line line.now) result engine (state.agreeing o) }
@@ -204,7 +208,7 @@ fn start(phase: &mut Phase)
 }
 
 // Takes a line after the start of the game.
-fn hear_in_game(
+fn take_game_line(
     alloc: Global,
     config: &Config,
     engine: &mut EngineState,
@@ -220,10 +224,12 @@ fn hear_in_game(
         (play_client play.old) (server_line line.now) engine.new (play_client play.new)) }
 {
     match play.stage {
-        GameStage::Playing | GameStage::Sent(_) => hear_in_play(alloc, config, engine, play, line),
+        GameStage::Playing | GameStage::Sent(_) => take_line_in_play(
+            alloc, config, engine, play, line,
+        ),
         GameStage::Reason(stated) => {
             if is_hash_line(line) {
-                hear_end(alloc, engine, play, stated, line)
+                take_end(alloc, engine, play, stated, line)
             } else {
                 Ok(no_lines(alloc))
             }

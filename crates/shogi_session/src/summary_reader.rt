@@ -97,7 +97,7 @@ impl SummaryReader {
     }
 
     // Takes the next line, which is not `END Game_Summary`.
-    pub(crate) fn hear(&mut self, line: &[u8]) -> Result<(), OutOfMemory>
+    pub(crate) fn take(&mut self, line: &[u8]) -> Result<(), OutOfMemory>
         requires { IsOneLine line.now }
         ensures { OnOk result (self.new ≡ content_after self.old line.now) }
     {

@@ -8,8 +8,8 @@ use Rattle.bridge_table.proofs.AlwaysAsks.{trimmed_line}
 use Rattle.shogi_session.proofs.ServerRows.{begun_or, too_long}
 use Rattle.shogi_session.proofs.bridge.answer.Goals as goal
 
-pub hear_server-requires-clause-line : goal.hear_server-requires-clause-line
-hear_server-requires-clause-line c =
+pub take_server_line-requires-clause-line : goal.take_server_line-requires-clause-line
+take_server_line-requires-clause-line c =
     subst IsOneLine (sym c.without_last_spaces-in-ServerLine.ensures.value)
     (trimmed_line c.in-ServerLine.line.now (subst (λ x. HoldsLine (event_of x)) c.in-ServerLine.is c.requires.line))
 

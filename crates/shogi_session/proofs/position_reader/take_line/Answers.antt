@@ -9,14 +9,14 @@ returns-then-not-is_position_text c = λ text fed.
     another_line text c.args.line.now c.args.reader.now fed
     (otherwise c.is_position_text.result (IsPositionText c.args.line.now) c.if-not-is_position_text.true c.is_position_text.ensures)
 
-pub returns-then-branch : goal.returns-then-branch
-returns-then-branch c = λ text fed.
-    line_taken c.feed-then-branch.result text c.args.line.now c.args.reader.now _ fed (c.if-not-is_position_text.ensures.0 refl)
-    (c.feed-then-branch.ensures (text ++ c.args.line.now)
-    (subst (λ b. IsFedOn (text ++ c.args.line.now) b c.feed.new.reader) c.if-branch.true (c.in_ok-feed.ensures text fed.read)))
+pub returns-in-Taken : goal.returns-in-Taken
+returns-in-Taken c = λ text fed.
+    line_taken c.feed-in-Taken.result text c.args.line.now c.args.reader.now _ fed (c.if-not-is_position_text.ensures.0 refl)
+    (c.feed-in-Taken.ensures (text ++ c.args.line.now)
+    (subst (λ b. IsFedOn (text ++ c.args.line.now) b c.feed.new.reader) c.in-Taken.is (c.in_ok-feed.ensures text fed.read)))
 
-pub returns-else-branch : goal.returns-else-branch
-returns-else-branch c = λ text fed.
+pub returns-in-Refused : goal.returns-in-Refused
+returns-in-Refused c = λ text fed.
     subst TellsNone (append_assoc text c.args.line.now (10 ∷ []))
     (none_more (text ++ c.args.line.now) (10 ∷ [])
-    (subst (λ b. IsFedOn (text ++ c.args.line.now) b c.feed.new.reader) c.if-branch.false (c.in_ok-feed.ensures text fed.read)))
+    (subst (λ b. IsFedOn (text ++ c.args.line.now) b c.feed.new.reader) c.in-Refused.is (c.in_ok-feed.ensures text fed.read)))

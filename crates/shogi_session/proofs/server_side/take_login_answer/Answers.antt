@@ -3,7 +3,7 @@ use Rattle.shogi_session.specs.Phases.{client_of}
 use Rattle.shogi_session.proofs.PositionRead.{otherwise}
 use Rattle.shogi_session.proofs.ServerRows.{login_refused, login_taken, quiet}
 use Rattle.shogi_session.proofs.Unnamed.{other_login}
-use Rattle.shogi_session.proofs.server_side.hear_login.Goals as goal
+use Rattle.shogi_session.proofs.server_side.take_login_answer.Goals as goal
 
 pub returns-then-is_login_ok-clause-answer : goal.returns-then-is_login_ok-clause-answer
 returns-then-is_login_ok-clause-answer c = λ d engine.

@@ -2,7 +2,7 @@ use Rattle.std.proofs.Common.{refl, ap, ◌∙◌}
 use Rattle.shogi_session.proofs.EngineRows.{answered_play, still}
 use Rattle.shogi_session.proofs.Unnamed.{no_bestmove}
 use Rattle.shogi_rules.specs.Positions.{now_of}
-use Rattle.shogi_session.proofs.engine_side.hear_answer.Goals as goal
+use Rattle.shogi_session.proofs.engine_side.take_answer.Goals as goal
 
 pub returns-in_default-clause-answer : goal.returns-in_default-clause-answer
 returns-in_default-clause-answer c = λ d.

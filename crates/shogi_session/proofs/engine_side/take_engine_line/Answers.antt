@@ -1,6 +1,6 @@
 use Rattle.std.proofs.Common.{refl}
 use Rattle.shogi_session.proofs.EngineRows.{deaf, still}
-use Rattle.shogi_session.proofs.engine_side.hear_engine.Goals as goal
+use Rattle.shogi_session.proofs.engine_side.take_engine_line.Goals as goal
 
 pub returns-in-New-clause-answer : goal.returns-in-New-clause-answer
 returns-in-New-clause-answer c =

@@ -2,7 +2,7 @@ use Rattle.std.proofs.Common.{refl}
 use Rattle.shogi_session.proofs.PositionRead.{otherwise}
 use Rattle.shogi_session.proofs.EngineRows.{late, still}
 use Rattle.shogi_session.proofs.Unnamed.{no_bestmove}
-use Rattle.shogi_session.proofs.engine_side.hear_late.Goals as goal
+use Rattle.shogi_session.proofs.engine_side.take_late_line.Goals as goal
 
 pub returns-then-not-is_best_move : goal.returns-then-not-is_best_move
 returns-then-not-is_best_move c = λ d client other.

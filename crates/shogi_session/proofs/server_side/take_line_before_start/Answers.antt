@@ -1,7 +1,7 @@
 use Rattle.std.proofs.Common.{refl, sym, ◌∙◌}
 use Rattle.shogi_session.proofs.ServerRows.{quiet, rejected}
 use Rattle.shogi_session.proofs.Unnamed.{other_offer}
-use Rattle.shogi_session.proofs.server_side.hear_unstarted.Goals as goal
+use Rattle.shogi_session.proofs.server_side.take_line_before_start.Goals as goal
 
 pub returns-then-is_reject_line : goal.returns-then-is_reject_line
 returns-then-is_reject_line c = λ d engine offer.

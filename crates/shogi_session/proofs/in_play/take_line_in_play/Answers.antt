@@ -1,10 +1,10 @@
 use Rattle.std.proofs.Common.{sym, ◌∙◌}
 use Rattle.shogi_session.proofs.PlayRows.{ending_row, other_row, stays_same}
-use Rattle.shogi_session.proofs.in_play.hear_in_play.Goals as goal
+use Rattle.shogi_session.proofs.in_play.take_line_in_play.Goals as goal
 
 pub returns-then-is_hash_line-clause-answer : goal.returns-then-is_hash_line-clause-answer
 returns-then-is_hash_line-clause-answer c =
-    stays_same c.args.config.now _ _ _ _ _ c.hear_end.result (c.hear_end.ensures.answer c.args.config.now)
+    stays_same c.args.config.now _ _ _ _ _ c.take_end.result (c.take_end.ensures.answer c.args.config.now)
 
 pub returns-then-is_ending_line-clause-answer : goal.returns-then-is_ending_line-clause-answer
 returns-then-is_ending_line-clause-answer c =

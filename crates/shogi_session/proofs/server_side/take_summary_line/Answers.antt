@@ -2,7 +2,7 @@ use Rattle.std.proofs.Common.{subst, sym, []}
 use Rattle.bridge_table.proofs.Counting.{counts_first}
 use Rattle.bridge_table.specs.Summary.{CountsAs}
 use Rattle.shogi_session.proofs.ServerRows.{counts_after, summary_read}
-use Rattle.shogi_session.proofs.server_side.hear_summary.Goals as goal
+use Rattle.shogi_session.proofs.server_side.take_summary_line.Goals as goal
 
 pub returns-in-Ok-clause-keeps : goal.returns-in-Ok-clause-keeps
 returns-in-Ok-clause-keeps c = counts_after _ _ c.args.line.now c.requires.counts c.in-Ok.ensures

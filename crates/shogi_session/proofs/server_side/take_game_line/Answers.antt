@@ -3,10 +3,10 @@ use Rattle.shogi_session.proofs.PositionRead.{otherwise}
 use Rattle.shogi_session.specs.Phases.{match_in, staged}
 use Rattle.shogi_session.proofs.ServerRows.{logged_out, or_stays, quiet}
 use Rattle.shogi_session.proofs.Unnamed.{other_closing, other_reason, over_line}
-use Rattle.shogi_session.proofs.server_side.hear_in_game.Goals as goal
+use Rattle.shogi_session.proofs.server_side.take_game_line.Goals as goal
 
 pub returns-then-is_hash_line-clause-answer : goal.returns-then-is_hash_line-clause-answer
-returns-then-is_hash_line-clause-answer c = or_stays c.hear_end.result _ _ _ _ _ _ _ (c.hear_end.ensures.answer c.args.config.now)
+returns-then-is_hash_line-clause-answer c = or_stays c.take_end.result _ _ _ _ _ _ _ (c.take_end.ensures.answer c.args.config.now)
 
 pub returns-else-is_hash_line-clause-answer : goal.returns-else-is_hash_line-clause-answer
 returns-else-is_hash_line-clause-answer c =

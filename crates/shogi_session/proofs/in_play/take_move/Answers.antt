@@ -3,7 +3,7 @@ use Rattle.shogi_session.specs.Phases.{match_in}
 use Rattle.shogi_session.proofs.GameEnds.{move_time}
 use Rattle.shogi_session.proofs.PlayRows.{answers_so, confirmed, keeps_confirmed, move_refused, move_unsent, text_refused}
 use Rattle.shogi_session.proofs.PositionRead.{otherwise}
-use Rattle.shogi_session.proofs.in_play.hear_move.Goals as goal
+use Rattle.shogi_session.proofs.in_play.take_move.Goals as goal
 
 pub returns-in-Err-clause-answer : goal.returns-in-Err-clause-answer
 returns-in-Err-clause-answer c =

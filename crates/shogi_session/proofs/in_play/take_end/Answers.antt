@@ -1,7 +1,7 @@
 use Rattle.std.proofs.Common.{refl}
 use Rattle.shogi_session.specs.declared.phase.GameStage.TheVariants as stages
 use Rattle.shogi_session.proofs.PlayRows.{reason_row, result_row}
-use Rattle.shogi_session.proofs.in_play.hear_end.Goals as goal
+use Rattle.shogi_session.proofs.in_play.take_end.Goals as goal
 
 pub returns-in_ok-out-in-Some-clause-answer : goal.returns-in_ok-out-in-Some-clause-answer
 returns-in_ok-out-in-Some-clause-answer c = λ d.

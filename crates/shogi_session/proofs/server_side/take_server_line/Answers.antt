@@ -5,7 +5,7 @@ use Rattle.bridge_table.specs.State.{agreeing}
 use Rattle.shogi_session.specs.Phases.{Reacts, client_of}
 use Rattle.shogi_session.proofs.ServerRows.{ended_or, received_or, quiet, started_from}
 use Rattle.shogi_session.proofs.Unnamed.{idle_line}
-use Rattle.shogi_session.proofs.server_side.hear_server.Goals as goal
+use Rattle.shogi_session.proofs.server_side.take_server_line.Goals as goal
 
 pub returns-in-Idle-clause-answer : goal.returns-in-Idle-clause-answer
 returns-in-Idle-clause-answer c =
@@ -19,12 +19,12 @@ returns-then-is_same-clause-answer c =
 
 pub returns-else-is_same-clause-answer : goal.returns-else-is_same-clause-answer
 returns-else-is_same-clause-answer c =
-    received_or c.hear_summary.result _ _ _ _ _ c.args.line.now (ap client_of c.in-Summary.is) c.hear_summary.ensures.answer
+    received_or c.take_summary_line.result _ _ _ _ _ c.args.line.now (ap client_of c.in-Summary.is) c.take_summary_line.ensures.answer
 
 pub returns-then-not-is_start_line-clause-answer : goal.returns-then-not-is_start_line-clause-answer
 returns-then-not-is_start_line-clause-answer c =
-    subst (λ x. Reacts c.args.config.now c.args.engine.now x (server_line c.args.line.now) c.hear_unstarted.result c.args.engine.now (agreeing (offer_in c.in-Agreeing.offer)))
-    (sym (ap client_of c.in-Agreeing.is)) (c.hear_unstarted.ensures c.args.config.now c.args.engine.now (offer_in c.in-Agreeing.offer))
+    subst (λ x. Reacts c.args.config.now c.args.engine.now x (server_line c.args.line.now) c.take_line_before_start.result c.args.engine.now (agreeing (offer_in c.in-Agreeing.offer)))
+    (sym (ap client_of c.in-Agreeing.is)) (c.take_line_before_start.ensures c.args.config.now c.args.engine.now (offer_in c.in-Agreeing.offer))
 
 pub returns-in_ok-out-in-Agreeing-clause-answer : goal.returns-in_ok-out-in-Agreeing-clause-answer
 returns-in_ok-out-in-Agreeing-clause-answer c =

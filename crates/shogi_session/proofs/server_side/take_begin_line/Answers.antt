@@ -6,7 +6,7 @@ use Rattle.bridge_table.proofs.Counting.{counts_first}
 use Rattle.bridge_table.specs.Summary.{CountsAs}
 use Rattle.shogi_session.proofs.ServerRows.{quiet, summary_begun}
 use Rattle.shogi_session.proofs.Unnamed.{other_begin}
-use Rattle.shogi_session.proofs.server_side.hear_begin.Goals as goal
+use Rattle.shogi_session.proofs.server_side.take_begin_line.Goals as goal
 
 pub returns-then-not-is_same-clause-answer : goal.returns-then-not-is_same-clause-answer
 returns-then-not-is_same-clause-answer c = λ d engine.
