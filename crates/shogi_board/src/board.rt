@@ -1,7 +1,8 @@
-ghost use Rattle.std.specs.Prelude.{◌≡◌, ◌≤◌, ◌<◌, ◌↔◌, ◌⊎◌, Any, IsTrue, MatchOption, None, Some, count_by, nat_lt, slice_set, length};
+ghost use Rattle.std.specs.Prelude.{◌≡◌, ◌%◌, ◌^◌, ◌≤◌, ◌<◌, ◌↔◌, ◌⊎◌, Any, IsTrue, MatchOption, None, Some, count_by, nat_lt, slice_set, length};
 ghost use Rattle.shogi_board.specs.Cells.{at, piece, even_cells, no_cells, HasPawnOnFile};
 ghost use Rattle.shogi_board.specs.Danger.{ComesFrom, SeenTowards};
 ghost use Rattle.shogi_board.specs.Attackers.{AttackAcross, AttackInSight, IsAttackedByJump, IsAttackedInLine};
+ghost use Rattle.shogi_board.specs.Keys.{cells_key};
 ghost use Rattle.shogi_board.specs.Kings.{IsKingOf};
 ghost use Rattle.shogi_board.specs.Landmarks.{AreLandmarks};
 ghost use Rattle.shogi_board.specs.Moves.{steps, turned_for, IsRay};
@@ -18,6 +19,7 @@ use crate::color::Color;
 use crate::danger::Danger;
 use crate::direction::{Direction, jumps, neighbours};
 use crate::even::even_cells;
+use crate::keys::cells_key;
 use crate::kind::{Kind, Piece};
 use crate::landmarks::Landmarks;
 use crate::square::Square;
@@ -101,10 +103,11 @@ impl Board {
         }
     }
 
-    pub(crate) fn cells(&self) -> &[Option<Piece>]
-        ensures { result.now ≡ self.now }
+    // What the pieces on the board count in a key.
+    pub(crate) fn key(&self) -> u64
+        ensures { result ≡ cells_key self.now % 2 ^ 64 }
     {
-        self.cells.as_slice()
+        cells_key(&self.cells)
     }
 
     pub(crate) fn at(&self, square: Square) -> Option<Piece>

@@ -28,7 +28,7 @@ invariant_of-self c =
     let e = c.index_mut.result.now in
     let found : (n < length es) × StandsAt es n c.args.position = rw c.deref.ensures.value at c.in-Ok.ensures in
     let at = slice_get_read es (length es) n e refl found.0 c.index_mut.ensures.value in
-    tree-kept es c.self.inside.links.items n e (record e { count = e.count + 1 }) c.self.invariant at refl refl
+    tree-kept es c.self.inside.links.items n e (record e { count = e.count + 1 }) c.self.invariant at refl
 
 pub returns-in-Ok-clause-ok : goal.returns-in-Ok-clause-ok
 returns-in-Ok-clause-ok c = λ ps long counts.
@@ -80,19 +80,19 @@ invariant_of-self-2 c =
     let links = c.self.inside.links.items in
     let es : List Entry = c.self.inside.entries.items in
     let p = c.args.position in
-    let d : Entry = record { position = p; number = c.number_of-number.result; count = 1; first = c.args.before } in
+    let d : Entry = record { position = p; count = 1; first = c.args.before } in
     let more : c.push_reserved-3.new.self.items ≡ es ++ d ∷ [] = grind (arith, common_steps) in
     let n : c.len-n.result ≡ length es = grind (arith, common_steps) in
     let free : IsFree es links p c.in-Err.link = rw (c.deref.ensures.value, c.deref-2.ensures.value) at c.in-Err.ensures in
     let linked : c.push_reserved-2.new.self.items ≡ set links c.in-Err.link (length es + 1) ++ 0 ∷ 0 ∷ [] = grind (arith, common_steps) in
-    rw (more, linked) (tree-more es links d c.in-Err.link c.self.invariant free c.number_of-number.ensures)
+    rw (more, linked) (tree-more es links d c.in-Err.link c.self.invariant free)
 
 pub returns-clause-ok : goal.returns-clause-ok
 returns-clause-ok c = λ ps long counts.
     let links = c.self.inside.links.items in
     let es : List Entry = c.self.inside.entries.items in
     let p = c.args.position in
-    let d : Entry = record { position = p; number = c.number_of-number.result; count = 1; first = c.args.before } in
+    let d : Entry = record { position = p; count = 1; first = c.args.before } in
     let more : c.push_reserved-3.new.self.items ≡ es ++ d ∷ [] = grind (arith, common_steps) in
     let old : AreCounts ps es = rw (sym c.self.view_is) at counts in
     let free : IsFree es links p c.in-Err.link = rw (c.deref.ensures.value, c.deref-2.ensures.value) at c.in-Err.ensures in
@@ -103,7 +103,7 @@ pub returns-clause-place : goal.returns-clause-place
 returns-clause-place c =
     let es : List Entry = c.self.inside.entries.items in
     let p = c.args.position in
-    let d : Entry = record { position = p; number = c.number_of-number.result; count = 1; first = c.args.before } in
+    let d : Entry = record { position = p; count = 1; first = c.args.before } in
     let more : c.push_reserved-3.new.self.items ≡ es ++ d ∷ [] = grind (arith, common_steps) in
     let n : c.len-n.result ≡ length es = grind (arith, common_steps) in
     let long = length-append es (d ∷ []) in
