@@ -20,7 +20,9 @@ fn walk_as_laid(
     if from == to || position.piece_at(to).is_some() {
         return Err(Fail::from("no free square"));
     }
-    Ok(position.after_walk(from, to, kind, Danger::Anywhere))
+    let mut next = *position;
+    let safe = next.walk(from, to, kind, Danger::Anywhere);
+    Ok(safe.then_some(next))
 }
 
 // The same of a drop. An error if a setup refuses to take the piece from the hand or to put it
@@ -35,7 +37,9 @@ fn drop_as_laid(position: &Position, to: Square, kind: Kind) -> Result<Option<Po
     if position.hand(side).count(kind) == 0 || position.piece_at(to).is_some() {
         return Err(Fail::from("no drop"));
     }
-    Ok(position.after_drop(to, kind, Danger::Anywhere))
+    let mut next = *position;
+    let safe = next.drop_piece(to, kind, Danger::Anywhere);
+    Ok(safe.then_some(next))
 }
 
 // Black's pawn opens the even position; a gold may not leave its king to the rook, and may go

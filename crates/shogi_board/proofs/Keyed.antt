@@ -67,10 +67,10 @@ hands-with : (m : Material) (color : Color) (board : Cells) (bag : List ℕ) →
 hands-with m Black board bag = omega arith
 hands-with m White board bag = omega arith
 
-abbrev place-in : Material → Color → Placed
+abbrev pub place-in : Material → Color → Placed
 place-in m side = record { material = m; side = side }
 
-abbrev changed : Material → Color → Cells → List ℕ → Placed
+abbrev pub changed : Material → Color → Cells → List ℕ → Placed
 changed m side board bag = place-in (record (with_bag m side bag) { board = board }) side
 
 pub walked-key : (m : Material) (side : Color) (i j key a b : ℕ) (x captured : Option Piece) → key_of (place-in m side) ≡ key → length m.board ≡ 81 → length (bag_of m side) ≡ 7 → i < 81 → j < 81 → i ≢ j

@@ -1,6 +1,7 @@
 pub mod Attackers
 pub mod Between
 pub mod Check
+pub mod Contents
 pub mod Count
 pub mod Decided
 pub mod Drops
@@ -8,8 +9,10 @@ pub mod Facts
 pub mod Goes
 pub mod Keyed
 pub mod Marks
+pub mod Moved
 pub mod Moves
 pub mod OneOf
+pub mod Ordered
 pub mod Pieces
 pub mod Same
 pub mod Sight

@@ -1,6 +1,7 @@
 pub mod Attackers
 pub mod Between
 pub mod Cells
+pub mod Contents
 pub mod Danger
 pub mod Directions
 pub mod Keys

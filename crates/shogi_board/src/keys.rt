@@ -91,17 +91,6 @@ pub(crate) fn side_key(color: Color) -> u64
     }
 }
 
-// What the board counts.
-pub(crate) fn cells_key(cells: &[Option<Piece>; 81]) -> u64
-    ensures { result ≡ cells_key cells.now % 2 ^ 64 }
-{
-    let mut key = 0u64;
-    for n in 0..81usize {
-        key = key.wrapping_add(cell_key(n, cells[n]));
-    }
-    key
-}
-
 // What the hand of that side counts.
 pub(crate) fn counts_key(color: Color, counts: &[u8; 7]) -> u64
     ensures { result ≡ counts_key color counts.now % 2 ^ 64 }

@@ -12,6 +12,7 @@
 #![tactic(auto)]
 
 mod board;
+mod cell;
 mod color;
 mod danger;
 mod direction;

@@ -1,20 +1,17 @@
-ghost use Rattle.std.specs.Prelude.{◌≡◌, ◌≢◌, ◌+◌, ◌%◌, ◌^◌, ◌<◌, ◌≤◌, MatchOption, true, Some, None};
+ghost use Rattle.std.specs.Prelude.{◌≡◌, ◌≢◌, ◌<◌, ◌↔◌, IsTrue, true, false, Some, None};
 ghost use Rattle.shogi_board.specs.Cells.{at, piece};
 ghost use Rattle.shogi_board.specs.Danger.{ComesFrom};
-ghost use Rattle.shogi_board.specs.Keys.{key_of};
 ghost use Rattle.shogi_board.specs.Material.{bag_of};
-ghost use Rattle.shogi_board.specs.Moved.{after_walk, after_drop, next_position, with_captured};
+ghost use Rattle.shogi_board.specs.Moved.{after_walk, after_drop, with_captured};
 ghost use Rattle.shogi_board.specs.Pieces.{is_hand_kind, unpromoted};
 ghost use Rattle.shogi_board.specs.Reach.{InCheck};
 ghost use Rattle.shogi_board.specs.Setup.{one_less};
-ghost use Rattle.shogi_board.specs.Sound.{IsSound};
 ghost use Rattle.shogi_board.specs.Squares.{place};
 ghost use Rattle.shogi_board.specs.Totals.{count_in, IsWithinTotals};
 ghost use Rattle.shogi_board.specs.declared.kind.Kind.TheVariants.{King};
 ghost use Rattle.shogi_board.specs.declared.kind.Piece.{Piece};
 ghost use Rattle.shogi_board.specs.declared.square.Square.{Square};
 
-use crate::board::Board;
 use crate::color::Color;
 use crate::danger::Danger;
 use crate::hand::Hand;
@@ -24,132 +21,111 @@ use crate::position::Position;
 use crate::square::Square;
 
 impl Position {
-    /// The position after a walk, or None if the mover's king is attacked then: `from` is empty, a
-    /// piece of the mover and of that kind is on `to`, and the other side is to move. What was on
-    /// `to` is in the mover's hand, unpromoted.
+    /// Empties `from`, puts a piece of the mover and of that kind on `to`, and passes the turn to
+    /// the other side. What was on `to` goes to the mover's hand, unpromoted. Returns whether the
+    /// mover's king is not attacked then; if it is, the position stays as it was.
     ///
     /// The danger says where the mover's king may be attacked from after the walk. To be called
     /// with two different squares, if no king is captured and there are then no more pieces than a
     /// game has.
     #[inline(always)]
-    pub fn after_walk(
-        &self,
-        from: Square,
-        to: Square,
-        kind: Kind,
-        danger: Danger,
-    ) -> Option<Position>
+    pub fn walk(&mut self, from: Square, to: Square, kind: Kind, danger: Danger) -> bool
         requires apart { place from ≢ place to }
-        requires totals { IsWithinTotals (after_walk self.now from to kind).material }
-        requires captured { (x : Piece) → at self.now.material.board to ≡ Some x
+        requires totals { IsWithinTotals (after_walk self.old from to kind).material }
+        requires captured { (x : Piece) → at self.old.material.board to ≡ Some x
             → is_hand_kind (unpromoted x.kind) ≡ true }
         requires danger { (s : Square)
-            → at (after_walk self.now from to kind).material.board s ≡ piece self.now.side King
-            → ComesFrom (after_walk self.now from to kind).material.board self.now.side s danger }
-        ensures answer { MatchOption result
-            (InCheck (after_walk self.now from to kind).material.board self.now.side)
-            (λ next. (next ≡ after_walk self.now from to kind)
-            × (InCheck (after_walk self.now from to kind).material.board self.now.side → ⊥)) }
+            → at (after_walk self.old from to kind).material.board s ≡ piece self.old.side King
+            → ComesFrom (after_walk self.old from to kind).material.board self.old.side s danger }
+        ensures answer { IsTrue result
+            ↔ (InCheck (after_walk self.old from to kind).material.board self.old.side → ⊥) }
+        ensures value { result ≡ true → self.new ≡ after_walk self.old from to kind }
+        ensures unchanged { result ≡ false → self.new ≡ self.old }
     {
         let side = self.side;
         let moved = Piece { color: side, kind };
         let left = self.board.at(from);
         let captured = self.board.at(to);
-        let mut board = self.board;
-        board.put(from, None);
-        board.put(to, Some(moved));
-        if board.king_is_attacked(side, danger) {
-            return None;
+        self.board.put(from, None);
+        self.board.put(to, Some(moved));
+        if self.board.king_is_attacked(side, danger) {
+            self.board.put(to, captured);
+            self.board.put(from, left);
+            return false;
         }
-        let key = self
+        self.key = self
             .key
             .wrapping_add(piece_key(to.place(), moved))
             .wrapping_add(captured_key(side, captured))
             .wrapping_sub(cell_key(from.place(), left))
-            .wrapping_sub(cell_key(to.place(), captured));
-        let hand = with_captured(self.hand(side), captured);
-        Some(self.passed_on(board, hand, key))
+            .wrapping_sub(cell_key(to.place(), captured))
+            .wrapping_add(TURN);
+        match side {
+            Color::Black => add_captured(&mut self.black, captured),
+            Color::White => add_captured(&mut self.white, captured),
+        }
+        self.side = side.opponent();
+        true
     }
 
-    /// The position after a drop, or None if the mover's king is attacked then: a piece of that
-    /// kind from the mover's hand is on the square, and the other side is to move.
+    /// Drops a piece of that kind from the hand of the side to move on the square, and passes the
+    /// turn to the other side. Returns whether the mover's king is not attacked then; if it is, the
+    /// position stays as it was.
     ///
-    /// The danger is as in `after_walk`. To be called if the hand holds such a piece, the square is
+    /// The danger is as in `walk`. To be called if the hand holds such a piece, the square is
     /// empty, and there are then no more pieces than a game has.
     #[inline(always)]
-    pub fn after_drop(&self, to: Square, kind: Kind, danger: Danger) -> Option<Position>
-        requires held { 0 < count_in (bag_of self.now.material self.now.side) kind }
-        requires empty { at self.now.material.board to ≡ None }
-        requires totals { IsWithinTotals (after_drop self.now to kind).material }
+    pub fn drop_piece(&mut self, to: Square, kind: Kind, danger: Danger) -> bool
+        requires held { 0 < count_in (bag_of self.old.material self.old.side) kind }
+        requires empty { at self.old.material.board to ≡ None }
+        requires totals { IsWithinTotals (after_drop self.old to kind).material }
         requires danger { (s : Square)
-            → at (after_drop self.now to kind).material.board s ≡ piece self.now.side King
-            → ComesFrom (after_drop self.now to kind).material.board self.now.side s danger }
-        ensures answer { MatchOption result
-            (InCheck (after_drop self.now to kind).material.board self.now.side)
-            (λ next. (next ≡ after_drop self.now to kind)
-            × (InCheck (after_drop self.now to kind).material.board self.now.side → ⊥)) }
+            → at (after_drop self.old to kind).material.board s ≡ piece self.old.side King
+            → ComesFrom (after_drop self.old to kind).material.board self.old.side s danger }
+        ensures answer { IsTrue result
+            ↔ (InCheck (after_drop self.old to kind).material.board self.old.side → ⊥) }
+        ensures value { result ≡ true → self.new ≡ after_drop self.old to kind }
+        ensures unchanged { result ≡ false → self.new ≡ self.old }
     {
         let side = self.side;
         let dropped = Piece { color: side, kind };
-        let mut board = self.board;
-        board.put(to, Some(dropped));
-        if board.king_is_attacked(side, danger) {
-            return None;
+        self.board.put(to, Some(dropped));
+        if self.board.king_is_attacked(side, danger) {
+            self.board.put(to, None);
+            return false;
         }
-        let key = self
+        self.key = self
             .key
             .wrapping_add(piece_key(to.place(), dropped))
-            .wrapping_sub(held_key(side, kind.place()));
-        let hand = with_one_less(self.hand(side), kind);
-        Some(self.passed_on(board, hand, key))
-    }
-
-    // The position with that board and that hand of the side to move, the other side to move. The
-    // key is that of the board and the hands with the turn not passed yet.
-    #[inline(always)]
-    fn passed_on(&self, board: Board, hand: Hand, key: u64) -> Position
-        requires sound { IsSound (next_position self.now board hand) }
-        requires key { key_of (record (next_position self.now board hand) { side = self.now.side })
-            ≡ key }
-        ensures { result ≡ next_position self.now board hand }
-    {
-        let (black, white) = match self.side {
-            Color::Black => (hand, self.white),
-            Color::White => (self.black, hand),
-        };
-        Position {
-            board,
-            black,
-            white,
-            side: self.side.opponent(),
-            key: key.wrapping_add(TURN),
+            .wrapping_sub(held_key(side, kind.place()))
+            .wrapping_add(TURN);
+        match side {
+            Color::Black => take_one(&mut self.black, kind),
+            Color::White => take_one(&mut self.white, kind),
         }
+        self.side = side.opponent();
+        true
     }
 }
 
-// The hand with what was captured, unpromoted.
+// Adds what was captured to the hand, unpromoted.
 #[inline(always)]
-fn with_captured(hand: Hand, captured: Option<Piece>) -> Hand
+fn add_captured(hand: &mut Hand, captured: Option<Piece>)
     requires kind { (x : Piece) → captured ≡ Some x → is_hand_kind (unpromoted x.kind) ≡ true }
-    requires room { (x : Piece) → captured ≡ Some x → count_in hand (unpromoted x.kind) < 255 }
-    ensures { result ≡ with_captured hand captured }
+    requires room { (x : Piece) → captured ≡ Some x → count_in hand.old (unpromoted x.kind) < 255 }
+    ensures { hand.new ≡ with_captured hand.old captured }
 {
-    let mut hand = hand;
     if let Some(piece) = captured {
         let kind = piece.kind.unpromoted();
         hand.set(kind, hand.count(kind) + 1);
     }
-    hand
 }
 
-// The hand without a piece of that kind.
-#[inline(always)]
-fn with_one_less(hand: Hand, kind: Kind) -> Hand
-    requires held { 0 < count_in hand kind }
+// Takes a piece of that kind out of the hand.
+fn take_one(hand: &mut Hand, kind: Kind)
+    requires held { 0 < count_in hand.old kind }
     requires kind { is_hand_kind kind ≡ true }
-    ensures { result ≡ one_less hand kind }
+    ensures { hand.new ≡ one_less hand.old kind }
 {
-    let mut hand = hand;
     hand.set(kind, hand.count(kind) - 1);
-    hand
 }

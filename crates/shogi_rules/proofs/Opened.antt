@@ -1,7 +1,6 @@
 -- A king that was not attacked is attacked after a move by the piece that moved, or across the
 -- square which that left.
-use Rattle.std.proofs.Common.{◌≡◌, ◌≢◌, ℕ, zero, suc, ◌+◌, ◌*◌, ◌<◌, ◌≤◌, ◌↔◌, IsTrue, Bool, true, false, not, Option, Some, None, ◌⊎◌, inl, inr, Any, arith, ap, sym, ◌∙◌, subst, refl, get_or-set_other}
-use Rattle.std.specs.Prelude.{MatchOption}
+use Rattle.std.proofs.Common.{◌≡◌, ◌≢◌, ℕ, zero, suc, ◌+◌, ◌*◌, ◌<◌, ◌≤◌, ◌↔◌, IsTrue, Bool, true, false, not, Some, None, ◌⊎◌, inl, inr, Any, arith, ap, sym, ◌∙◌, subst, refl, get_or-set_other}
 use Rattle.std.proofs.lemmas.Bool.{cases_eq, cases_lt}
 use Rattle.shogi_board.specs.Cells.{at, piece}
 use Rattle.shogi_board.specs.Danger.{SeenTowards}
@@ -221,8 +220,3 @@ unreached next m s to b e none d reach =
 
 pub safe-king : {P : Type 0} (b : Bool) → (IsTrue b ↔ P) → not b ≡ true → P → ⊥
 safe-king b d e h = let yes = d.1 h in cc
-
--- a position is made exactly where the check is none
-pub safe-or-not : (answer : Option Placed) (Check : Type 0) (n : Placed) → MatchOption answer Check (λ next. (next ≡ n) × (Check → ⊥)) → MatchOption answer ((Check → ⊥) → ⊥) (λ next. (Check → ⊥) × (next ≡ n))
-safe-or-not None Check n h = λ safe. safe h
-safe-or-not (Some x) Check n h = (h.1, h.0)

@@ -6,7 +6,7 @@ ghost use Rattle.shogi_rules.specs.Rules.{KeptAt, KeptAlone, move_rules, all_rul
 
 use crate::evasions::is_mated;
 use crate::moves::Move;
-use crate::playing::after_if_kept;
+use crate::playing::make_if_kept;
 use crate::rule::Rule;
 use crate::search::is_pawn_drop;
 use shogi_board::{Color, Position};
@@ -17,10 +17,10 @@ pub(crate) fn broken_by_side(position: &Position, safe: bool, mv: &Move) -> Opti
     requires { safe ≡ true → InCheck position.now.material.board position.now.side → ⊥ }
     ensures { IsFirstBroken (KeptAlone position.now mv.now) move_rules result }
 {
-    let next = match after_if_kept(position, safe, mv) {
-        Ok(next) => next,
-        Err(rule) => return Some(rule),
-    };
+    let mut next = *position;
+    if let Some(rule) = make_if_kept(&mut next, safe, mv) {
+        return Some(rule);
+    }
     if mates(&next, mv) {
         Some(Rule::PawnDropMate)
     } else {

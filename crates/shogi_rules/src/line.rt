@@ -10,7 +10,7 @@ ghost use Rattle.shogi_rules.specs.declared.line.PlayFault.TheVariants.{OutOfMem
 use crate::judging::{broken_by_side, mates_by_pawn_drop};
 use crate::moves::Move;
 use crate::occurrences::FIRST_ROOM;
-use crate::playing::{after_if_kept, gives_check, in_check};
+use crate::playing::{gives_check, in_check, make_if_kept};
 use crate::repetition::{verdict_by_moves, verdict_of_stretch};
 use crate::rule::Rule;
 use crate::seen::Seen;
@@ -93,7 +93,7 @@ impl Line {
         Ok(Line {
             start,
             moves: Vec::with_capacity(alloc, FIRST_ROOM)?,
-            seen: Seen::new(alloc, start, in_check)?,
+            seen: Seen::new(alloc, &start, in_check)?,
             in_check,
         })
     }
@@ -218,15 +218,15 @@ impl Line {
             return Err(self.fault_without_room(mover, &mv));
         }
         let last = self.seen.last();
-        let next = match after_if_kept(last, safe, &mv) {
-            Ok(next) => next,
-            Err(rule) => return Err(PlayFault::Broken(rule)),
-        };
+        let mut next = *last;
+        if let Some(rule) = make_if_kept(&mut next, safe, &mv) {
+            return Err(PlayFault::Broken(rule));
+        }
         let in_check = gives_check(last, &next, &mv);
         if mates_by_pawn_drop(&next, &mv, in_check) {
             return Err(PlayFault::Broken(Rule::PawnDropMate));
         }
-        match self.seen.push(next, in_check) {
+        match self.seen.push(&next, in_check) {
             Ok(()) => {
                 self.moves.push_reserved(mv);
                 self.in_check = in_check;

@@ -43,6 +43,7 @@ impl Entry {
         ensures { result ≡ order position.now self.now.position }
     {
         match position.key().cmp(&self.position.key()) {
+            Ordering::Equal if *position == self.position => Ordering::Equal,
             Ordering::Equal => position.cmp(&self.position),
             order => order,
         }
@@ -112,15 +113,15 @@ impl Occurrences {
     // Counts the position once more, with so many positions before it, and returns the index of its
     // entry. If an allocation fails, nothing changes.
     #[inline(always)]
-    pub(crate) fn add(&mut self, position: Position, before: usize) -> Result<usize, AllocError>
+    pub(crate) fn add(&mut self, position: &Position, before: usize) -> Result<usize, AllocError>
         requires counted { (ps : List Placed) × (length ps ≡ before) × AreCounts ps self.old }
         requires few { before ≤ max_moves }
         ensures ok { OnOk result ((ps : List Placed) → length ps ≡ before → AreCounts ps self.old
-            → AreCounts (ps ++ position ∷ []) self.new) }
-        ensures place { IfOk result (λ n. (n < length self.new) × StandsAt self.new n position) }
+            → AreCounts (ps ++ position.now ∷ []) self.new) }
+        ensures place { IfOk result (λ n. (n < length self.new) × StandsAt self.new n position.now) }
         ensures err { OnErr result (self.new ≡ self.old) }
     {
-        let link = match search(&self.entries, &self.links, &position) {
+        let link = match search(&self.entries, &self.links, position) {
             Ok(n) => {
                 self.entries[n].count += 1;
                 return Ok(n);
@@ -134,7 +135,7 @@ impl Occurrences {
         self.links.push_reserved(0);
         self.links.push_reserved(0);
         self.entries.push_reserved(Entry {
-            position,
+            position: *position,
             count: 1,
             first: before as u32,
         });

@@ -1,4 +1,4 @@
-ghost use Rattle.std.specs.Prelude.{◌≡◌, ◌↔◌, IsTrue, true, MatchOption, MatchResult, [], ◌∷◌, None, Some};
+ghost use Rattle.std.specs.Prelude.{◌≡◌, ◌↔◌, IsTrue, true, false, IfSome, MatchOption, MatchResult, [], ◌∷◌, None, Some};
 ghost use Rattle.shogi_board.specs.Cells.{at, piece};
 ghost use Rattle.shogi_board.specs.Danger.{ComesFrom};
 ghost use Rattle.shogi_board.specs.Reach.{InCheck};
@@ -32,34 +32,35 @@ fn danger_after(position: &Position, safe: bool, mv: &Move) -> Danger
     }
 }
 
-// The position after a move that fits the board, if it leaves the mover's king safe.
+// Makes the position the one after a move that fits the board, if it leaves the mover's king safe,
+// and says whether it does; else the position stays as it was.
 #[inline(always)]
-fn after_if_safe(position: &Position, safe: bool, mv: &Move) -> Option<Position>
-    requires fits { FitsBoard position.now mv.now }
-    requires safe { safe ≡ true → InCheck position.now.material.board position.now.side → ⊥ }
-    ensures { MatchOption result
-        (KingSafe position.now mv.now → ⊥)
-        (λ next. KingSafe position.now mv.now × (next ≡ after position.now mv.now)) }
+fn make_if_safe(position: &mut Position, safe: bool, mv: &Move) -> bool
+    requires fits { FitsBoard position.old mv.now }
+    requires safe { safe ≡ true → InCheck position.old.material.board position.old.side → ⊥ }
+    ensures safe { IsTrue result ↔ KingSafe position.old mv.now }
+    ensures value { result ≡ true → position.new ≡ after position.old mv.now }
+    ensures unchanged { result ≡ false → position.new ≡ position.old }
 {
     let danger = danger_after(position, safe, mv);
-    after_with_danger(position, danger, mv)
+    make(position, danger, mv)
 }
 
 // The same, if the danger says where an attack on that king may come from after the move.
 #[inline(always)]
-fn after_with_danger(position: &Position, danger: Danger, mv: &Move) -> Option<Position>
-    requires fits { FitsBoard position.now mv.now }
+fn make(position: &mut Position, danger: Danger, mv: &Move) -> bool
+    requires fits { FitsBoard position.old mv.now }
     requires danger { (s : Square)
-        → at (board_after position.now mv.now) s ≡ piece position.now.side King
-        → ComesFrom (board_after position.now mv.now) position.now.side s danger }
-    ensures { MatchOption result
-        (KingSafe position.now mv.now → ⊥)
-        (λ next. KingSafe position.now mv.now × (next ≡ after position.now mv.now)) }
+        → at (board_after position.old mv.now) s ≡ piece position.old.side King
+        → ComesFrom (board_after position.old mv.now) position.old.side s danger }
+    ensures safe { IsTrue result ↔ KingSafe position.old mv.now }
+    ensures value { result ≡ true → position.new ≡ after position.old mv.now }
+    ensures unchanged { result ≡ false → position.new ≡ position.old }
 {
     position.soundness();
     match *mv {
-        Move::Walk { from, to, kind } => position.after_walk(from, to, kind, danger),
-        Move::Put { to, kind } => position.after_drop(to, kind, danger),
+        Move::Walk { from, to, kind } => position.walk(from, to, kind, danger),
+        Move::Put { to, kind } => position.drop_piece(to, kind, danger),
     }
 }
 
@@ -71,24 +72,50 @@ pub fn after(position: &Position, mv: &Move) -> Position
     requires kept { Keeps position.now mv.now }
     ensures value { result ≡ after position.now mv.now }
 {
-    // the rules are kept, so nothing attacks that king then
-    after_with_danger(position, Danger::Nowhere, mv).unwrap()
+    let mut next = *position;
+    // the rules are kept, so nothing attacks that king then, and the move is made
+    make(&mut next, Danger::Nowhere, mv);
+    next
+}
+
+// Makes the position the one after the move, or says which of the rules 3 to 10 the side to move
+// breaks first by it; then the position stays as it was. The king of that side may be known to be
+// safe before the move.
+#[inline(always)]
+pub(crate) fn make_if_kept(position: &mut Position, safe: bool, mv: &Move) -> Option<Rule>
+    requires { safe ≡ true → InCheck position.old.material.board position.old.side → ⊥ }
+    ensures kept { MatchOption result
+        (Keeps position.old mv.now)
+        (λ rule. (Keeps position.old mv.now → ⊥)
+        × IsFirstBroken (KeptAlone position.old mv.now) keeping_rules (Some rule)) }
+    ensures value { result ≡ None → position.new ≡ after position.old mv.now }
+    ensures unchanged { IfSome result (λ _. position.new ≡ position.old) }
+{
+    match broken_on_board(position, mv) {
+        Some(rule) => Some(rule),
+        None => {
+            if make_if_safe(position, safe, mv) {
+                None
+            } else {
+                Some(Rule::LeavesKing)
+            }
+        }
+    }
 }
 
 // The position after the move, or the first of the rules 3 to 10 that the side to move breaks by
-// it. The king of that side may be known to be safe before the move.
-#[inline(always)]
-pub(crate) fn after_if_kept(position: &Position, safe: bool, mv: &Move) -> Result<Position, Rule>
-    requires { safe ≡ true → InCheck position.now.material.board position.now.side → ⊥ }
+// it.
+pub(crate) fn after_if_kept(position: &Position, mv: &Move) -> Result<Position, Rule>
     ensures { MatchResult result
         (λ next. Keeps position.now mv.now × (next ≡ after position.now mv.now))
         (λ rule. (Keeps position.now mv.now → ⊥)
         × IsFirstBroken (KeptAlone position.now mv.now) keeping_rules (Some rule)) }
 {
-    if let Some(rule) = broken_on_board(position, mv) {
-        return Err(rule);
+    let mut next = *position;
+    match make_if_kept(&mut next, false, mv) {
+        None => Ok(next),
+        Some(rule) => Err(rule),
     }
-    after_if_safe(position, safe, mv).ok_or(Rule::LeavesKing)
 }
 
 // Whether the side to move keeps the rules 3 to 10 by the move.
@@ -103,7 +130,8 @@ fn leaves_king_safe(position: &Position, mv: &Move) -> bool
     requires { FitsBoard position.now mv.now }
     ensures { IsTrue result ↔ KingSafe position.now mv.now }
 {
-    after_if_safe(position, false, mv).is_some()
+    let mut next = *position;
+    make_if_safe(&mut next, false, mv)
 }
 
 /// Whether the side to move is in check: it has a king, and an enemy piece reaches it.

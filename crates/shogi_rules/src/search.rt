@@ -45,7 +45,7 @@ pub(crate) fn is_pawn_drop(mv: &Move) -> bool
 fn is_legal(position: &Position, mv: &Move) -> bool
     ensures { IsTrue result ↔ Legal position.now mv.now }
 {
-    match after_if_kept(position, false, mv) {
+    match after_if_kept(position, mv) {
         Ok(next) => !mates(&next, mv),
         Err(_) => false,
     }

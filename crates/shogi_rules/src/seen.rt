@@ -39,9 +39,9 @@ impl Model for Seen {
 
 impl Seen {
     // Of the start alone, of which it is known whether its side to move is in check.
-    pub(crate) fn new(alloc: Global, start: Position, in_check: bool) -> Result<Seen, AllocError>
-        requires { IsTrue in_check ↔ InCheck start.material.board start.side }
-        ensures { IfOk result (λ s. IsSeen (start ∷ []) start s) }
+    pub(crate) fn new(alloc: Global, start: &Position, in_check: bool) -> Result<Seen, AllocError>
+        requires { IsTrue in_check ↔ InCheck start.now.material.board start.now.side }
+        ensures { IfOk result (λ s. IsSeen (start.now ∷ []) start.now s) }
     {
         let side = start.side();
         let mut counts = Occurrences::new(alloc)?;
@@ -86,12 +86,13 @@ impl Seen {
     // Adds the position, of which it is known whether its side to move is in check. If an
     // allocation fails, nothing changes.
     #[inline(always)]
-    pub(crate) fn push(&mut self, position: Position, in_check: bool) -> Result<(), AllocError>
+    pub(crate) fn push(&mut self, position: &Position, in_check: bool) -> Result<(), AllocError>
         requires seen { (ps : List Placed) × (p : Placed) × (length ps ≤ max_moves)
             × IsSeen ps p self.old }
-        requires check { IsTrue in_check ↔ InCheck position.material.board position.side }
+        requires check { IsTrue in_check
+            ↔ InCheck position.now.material.board position.now.side }
         ensures ok { OnOk result ((ps : List Placed) (p : Placed) → IsSeen ps p self.old
-            → IsSeen (ps ++ position ∷ []) position self.new) }
+            → IsSeen (ps ++ position.now ∷ []) position.now self.new) }
         ensures err { OnErr result (self.new ≡ self.old) }
     {
         let side = position.side();

@@ -1,7 +1,7 @@
 use crate::memory::{refuse_all, refuse_no_more};
 use shogi_board::{
-    Color, Danger, Hand, Kind, OutOfMemory, Piece, Position, Setup, SetupFault, Square,
-    attacked, attacked_from, attacker, reaches,
+    Color, Danger, Hand, Kind, OutOfMemory, Piece, Position, Setup, SetupFault, Square, attacked,
+    attacked_from, attacker, reaches,
 };
 use std::cmp::Ordering;
 use std::process::Abort;

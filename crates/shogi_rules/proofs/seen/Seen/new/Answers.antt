@@ -11,5 +11,5 @@ returns c =
     record {
       counts = c.in_ok-here.ensures.ok [] refl (none-counted _ c.in_ok-counts.ensures);
       here = c.in_ok-here.ensures.place.1;
-      turns = rw one (turns-more [] [] c.args.start turn no-turns c.side-side.ensures.value c.requires);
+      turns = rw one (turns-more [] [] c.args.start.now turn no-turns c.side-side.ensures.value c.requires);
     }
