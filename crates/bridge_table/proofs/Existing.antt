@@ -11,7 +11,7 @@ use Rattle.shogi_board.specs.declared.square.Square.{Square}
 use Rattle.shogi_board.specs.Material.{bag_of}
 use Rattle.shogi_board.specs.Placed.{Placed, even_start}
 use Rattle.shogi_board.specs.Same.{same_position}
-use Rattle.shogi_rules.proofs.Drops.{held-of}
+use Rattle.shogi_board.proofs.Drops.{held-of}
 use Rattle.shogi_rules.specs.declared.moves.Move.{Move}
 use Rattle.shogi_rules.specs.declared.moves.Move.TheVariants.{Walk, Put}
 use Rattle.shogi_rules.specs.Legal.{Legal, KindFits, HasPiece}

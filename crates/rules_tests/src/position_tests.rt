@@ -1,5 +1,5 @@
 use crate::words::{on, position};
-use shogi_board::{Color, Kind, Packed, Piece, Position, Setup, Square, laws};
+use shogi_board::{Color, Kind, Piece, Position, Setup, Square, laws};
 use std::collections::BTreeMap;
 use std::test::Fail;
 
@@ -30,24 +30,26 @@ fn parts_of_a_bare_position(rt: HostRuntime) -> Result<(), Fail> {
     Ok(())
 }
 
-// Positions that differ in one cell, in one hand and in the side to move. A packed position is the
-// same position once it is unpacked.
+// Positions that differ in some cells, in one hand, in whose hand it is, and in the side to move:
+// here their keys differ too. A position that is set up again has the same key.
 #[test]
-fn packs_positions(rt: HostRuntime) -> Result<(), Fail> {
-    let even = Position::even();
+fn keys_of_positions(rt: HostRuntime) -> Result<(), Fail> {
     let mut setup = position(Color::Black, "+99RY,-11UM,+88OU,-22OU,-55NG,+47TO")?.setup();
     let bare = setup.finish(Color::White)?;
     setup.add_hand(Color::White, Kind::Pawn)?;
     let held = setup.finish(Color::White)?;
     let turned = setup.finish(Color::Black)?;
-    for one in [even, bare, held, turned] {
-        let packed = Packed::of(&one);
-        assert!(rt; packed.unpacked() == one);
-        for other in [even, bare, held, turned] {
-            assert!(rt; packed.is_same(&Packed::of(&other)) == (one == other));
+    setup.take_hand(Color::White, Kind::Pawn)?;
+    setup.add_hand(Color::Black, Kind::Pawn)?;
+    let other = setup.finish(Color::White)?;
+    let positions = [Position::even(), bare, held, turned, other];
+    for one in positions {
+        let again = one.setup().finish(one.side())?;
+        assert!(rt; again == one && again.key() == one.key());
+        for other in positions {
+            assert!(rt; (one.key() == other.key()) == (one == other));
         }
     }
-    assert!(rt; Packed::of(&bare).key() == Packed::of(&turned).key());
     Ok(())
 }
 

@@ -1,19 +1,16 @@
 -- What a walk and a drop make of a position.
-use Rattle.std.proofs.Common.{◌≡◌, ◌≢◌, ℕ, zero, suc, List, [], ◌∷◌, Option, None, set, get_or, refl, ap, sym, ◌∙◌, get_or-set_other}
-use Rattle.shogi_board.specs.Cells.{Cells, at, piece}
-use Rattle.shogi_board.specs.Moved.{after_walk, after_drop, with_captured}
+use Rattle.std.proofs.Common.{◌≡◌, ◌≢◌, ℕ, zero, suc, ◌+◌, ◌%◌, ◌^◌, List, [], ◌∷◌, Option, None, set, get_or, refl, ap, sym, ◌∙◌, get_or-set_other}
+use Rattle.shogi_board.specs.Cells.{Cells}
+use Rattle.shogi_board.specs.Keys.{IsKeyed, key_of}
+use Rattle.shogi_board.specs.Material.{Material, with_bag}
 use Rattle.shogi_board.specs.Pieces.{opponent}
 use Rattle.shogi_board.specs.Placed.{Placed}
 use Rattle.shogi_board.specs.Reach.{InCheck}
-use Rattle.shogi_board.specs.Setup.{one_less}
-use Rattle.shogi_board.specs.Sound.{IsSound}
-use Rattle.shogi_board.specs.Squares.{place}
 use Rattle.shogi_board.specs.Totals.{IsWithinTotals}
 use Rattle.shogi_board.specs.declared.color.Color.{Color}
 use Rattle.shogi_board.specs.declared.color.Color.TheVariants.{Black, White}
-use Rattle.shogi_board.specs.declared.kind.Kind.{Kind}
 use Rattle.shogi_board.specs.declared.kind.Piece.{Piece}
-use Rattle.shogi_board.specs.declared.square.Square.{Square}
+use Rattle.shogi_board.proofs.Keyed.{changed, passed-key}
 
 -- a cell made as it was
 pub put-back : (cells : Cells) (i : ℕ) (a b : Option Piece) → get_or cells i None ≡ b → set (set cells i a) i b ≡ cells
@@ -30,22 +27,13 @@ walk-back cells i j a was captured apart e f =
 abbrev pub made : Cells → List ℕ → List ℕ → Color → Placed
 made cells black white side = record { material = record { board = cells; black = black; white = white }; side = side }
 
-pub black-walked : (cells : Cells) (black white : List ℕ) (side : Color) (from to : Square) (its_kind : Kind) → side ≡ Black → let p = after_walk (made cells black white side) from to its_kind in IsWithinTotals p.material → (InCheck p.material.board side → ⊥)
-    → IsSound (made (set (set cells (place from) None) (place to) (piece side its_kind)) (with_captured black (at cells to)) white (opponent side))
-black-walked cells black white Black from to its_kind e totals safe = record { within = totals; safe = safe }
-black-walked cells black white White from to its_kind e totals safe = cc
+-- the position with another board and another hand of the side to move, the other side to move
+pub black-passed : (m : Material) (side : Color) (board : Cells) (bag : List ℕ) (key : ℕ) → side ≡ Black → IsWithinTotals (record (with_bag m side bag) { board = board }) → (InCheck board side → ⊥) → key_of (changed m side board bag) ≡ key
+    → IsKeyed (made board bag m.white (opponent side)) ((key + 2 ^ 63) % 2 ^ 64)
+black-passed m Black board bag key e totals safe is = record { sound = record { within = totals; safe = safe }; key = passed-key _ Black key is }
+black-passed m White board bag key e totals safe is = cc
 
-pub white-walked : (cells : Cells) (black white : List ℕ) (side : Color) (from to : Square) (its_kind : Kind) → side ≡ White → let p = after_walk (made cells black white side) from to its_kind in IsWithinTotals p.material → (InCheck p.material.board side → ⊥)
-    → IsSound (made (set (set cells (place from) None) (place to) (piece side its_kind)) black (with_captured white (at cells to)) (opponent side))
-white-walked cells black white Black from to its_kind e totals safe = cc
-white-walked cells black white White from to its_kind e totals safe = record { within = totals; safe = safe }
-
-pub black-dropped : (cells : Cells) (black white : List ℕ) (side : Color) (to : Square) (its_kind : Kind) → side ≡ Black → let p = after_drop (made cells black white side) to its_kind in IsWithinTotals p.material → (InCheck p.material.board side → ⊥)
-    → IsSound (made (set cells (place to) (piece side its_kind)) (one_less black its_kind) white (opponent side))
-black-dropped cells black white Black to its_kind e totals safe = record { within = totals; safe = safe }
-black-dropped cells black white White to its_kind e totals safe = cc
-
-pub white-dropped : (cells : Cells) (black white : List ℕ) (side : Color) (to : Square) (its_kind : Kind) → side ≡ White → let p = after_drop (made cells black white side) to its_kind in IsWithinTotals p.material → (InCheck p.material.board side → ⊥)
-    → IsSound (made (set cells (place to) (piece side its_kind)) black (one_less white its_kind) (opponent side))
-white-dropped cells black white Black to its_kind e totals safe = cc
-white-dropped cells black white White to its_kind e totals safe = record { within = totals; safe = safe }
+pub white-passed : (m : Material) (side : Color) (board : Cells) (bag : List ℕ) (key : ℕ) → side ≡ White → IsWithinTotals (record (with_bag m side bag) { board = board }) → (InCheck board side → ⊥) → key_of (changed m side board bag) ≡ key
+    → IsKeyed (made board m.black bag (opponent side)) ((key + 2 ^ 63) % 2 ^ 64)
+white-passed m Black board bag key e totals safe is = cc
+white-passed m White board bag key e totals safe is = record { sound = record { within = totals; safe = safe }; key = passed-key _ White key is }

@@ -1,5 +1,5 @@
 -- Values compare as equal where they are equal.
-use Rattle.std.proofs.Common.{rules, ◌≡◌, ℕ, true, false, ◌↔◌, Bool, nat_eq, Option, Some, None, ◌&&◌, refl, ap, sym, List, [], ◌∷◌, ◌++◌, ◌∙◌}
+use Rattle.std.proofs.Common.{rules, ◌≡◌, ℕ, true, false, ◌↔◌, Bool, nat_eq, Option, Some, None, ◌&&◌, refl, ap, sym, List, [], ◌∷◌, ◌++◌, map, ◌∙◌}
 use Rattle.std.specs.Option.{option_eq}
 use Rattle.std.specs.Cmp.Lexicographic.{pointwise}
 use Rattle.std.specs.List.Sorted.{IsStrictlySortedBy}
@@ -10,15 +10,19 @@ use Rattle.std.specs.Cmp.{IsTotalOrder, Equal-is, booleans_Decides}
 use Rattle.std.proofs.lemmas.Slice.Eq.{slice_eq-Decides}
 use Rattle.std.proofs.lemmas.Bool.Decides.{Decides-eqb}
 use denote.Enum.Bare.{sameb, same_true, true_same}
+use Rattle.shogi_board.specs.Contents.{cell_of, content}
 use Rattle.shogi_board.specs.Layout.{Layout}
 use Rattle.shogi_board.specs.Placed.{Placed}
 use Rattle.shogi_board.specs.Same.{same_cell, same_position}
 use Rattle.shogi_board.specs.Totals.{hand_kinds}
+use Rattle.shogi_board.specs.declared.cell.Cell.{Cell}
 use Rattle.shogi_board.specs.declared.color.Color.{Color}
 use Rattle.shogi_board.specs.declared.kind.Kind.{Kind}
 use Rattle.shogi_board.specs.declared.kind.Kind.TheVariants.{King, ProPawn, ProLance, ProKnight, ProSilver, Horse, Dragon}
 use Rattle.shogi_board.specs.declared.kind.Piece.{Piece}
 use Rattle.shogi_board.proofs.Tells.{and-left, and-right, and-both, color-same, cell-same, piece-same}
+use Rattle.shogi_board.proofs.Contents.{contents-back}
+use Rattle.shogi_board.specs.contracts.cell.Cell as cell
 use Rattle.shogi_board.specs.contracts.color.Color as color
 use Rattle.shogi_board.specs.contracts.kind.Kind as kind
 use Rattle.shogi_board.specs.contracts.kind.PiecePartialEq.TheImpl.{eq-value}
@@ -46,8 +50,13 @@ cell-eq None (Some y) = (λ h. cc, λ h. cc)
 cell-eq (Some x) None = (λ h. cc, λ h. cc)
 cell-eq (Some x) (Some y) = (λ h. ap Some ((piece-eq x y).0 h), λ h. (piece-eq x y).1 cc)
 
-cells-eq : (a b : List (Option Piece)) → Decides (pointwise (option_eq eq-value.it) a b) (a ≡ b)
-cells-eq a b = slice_eq-Decides cell-eq a b _ refl
+byte-eq : (a b : Cell) → Decides (sameb cell.the_type a b) (a ≡ b)
+byte-eq a b = (λ h. same_true cell.the_type (search rules) a b h, true_same cell.the_type a b)
+
+cells-eq : (a b : List (Option Piece)) → Decides (pointwise (sameb cell.the_type) (map cell_of a) (map cell_of b)) (a ≡ b)
+cells-eq a b =
+    let bytes = slice_eq-Decides byte-eq (map cell_of a) (map cell_of b) _ refl in
+    (λ h. sym (contents-back a) ∙ (ap (map content) (bytes.0 h) ∙ contents-back b), λ e. bytes.1 (ap (map cell_of) e))
 
 pub counts-eq : (a b : List ℕ) → Decides (pointwise nat_eq a b) (a ≡ b)
 counts-eq a b = slice_eq-Decides Decides-eqb a b _ refl
@@ -63,7 +72,7 @@ placed-same a b p q r s =
 
 abbrev pub placed_eq : Placed → Placed → Bool
 placed_eq a b =
-    pointwise (option_eq eq-value.it) a.material.board b.material.board
+    pointwise (sameb cell.the_type) (map cell_of a.material.board) (map cell_of b.material.board)
     && (pointwise nat_eq a.material.black b.material.black && (pointwise nat_eq a.material.white b.material.white && sameb color.the_type a.side b.side))
 
 pub placed-eq : (a b : Placed) → Decides (placed_eq a b) (a ≡ b)
@@ -132,7 +141,7 @@ layout-same a b p q r s =
     ∙ (ap (λ x. laid b.material.board b.material.black x a.rest_given) r ∙ ap (λ x. laid b.material.board b.material.black b.material.white x) s))
 
 -- setups compare as equal where they are equal
-pub layout-eq : (a b : Layout) → Decides (pointwise (option_eq eq-value.it) a.material.board b.material.board && (pointwise nat_eq a.material.black b.material.black && (pointwise nat_eq a.material.white b.material.white && beq a.rest_given b.rest_given))) (a ≡ b)
+pub layout-eq : (a b : Layout) → Decides (pointwise (sameb cell.the_type) (map cell_of a.material.board) (map cell_of b.material.board) && (pointwise nat_eq a.material.black b.material.black && (pointwise nat_eq a.material.white b.material.white && beq a.rest_given b.rest_given))) (a ≡ b)
 layout-eq a b = (
   λ h.
       let h1 = and-right _ _ h in

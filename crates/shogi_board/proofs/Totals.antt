@@ -187,7 +187,7 @@ not-false false h = cc
 hand-room : (s : Layout) (kind : Kind) → add_fault s kind ≡ None → (is_hand_kind kind ≡ true) × (total s.material kind < limit kind)
 hand-room s kind h = let e = no-add-fault _ _ _ h in (not-false _ e.0, room-test _ _ e.1)
 
-hand-place : (k : Kind) → is_hand_kind k ≡ true → place_of k < 7
+pub hand-place : (k : Kind) → is_hand_kind k ≡ true → place_of k < 7
 hand-place Pawn h = omega arith
 hand-place Lance h = omega arith
 hand-place Knight h = omega arith
@@ -288,3 +288,28 @@ less-within s White kind w = record {
 pub rest-within : (s : Layout) (color : Color) → IsWithinTotals s.material → IsWithinTotals (with_bag s.material color (with_rest s (bag_of s.material color)))
 rest-within s Black w = black-rest s w
 rest-within s White w = white-rest s w
+
+pub own-seven : (m : Material) (c : Color) → IsWithinTotals m → length (bag_of m c) ≡ 7
+own-seven m Black w = w.black_kinds
+own-seven m White w = w.white_kinds
+
+limit-low : (k : Kind) → limit k < 255
+limit-low Pawn = omega arith
+limit-low Lance = omega arith
+limit-low Knight = omega arith
+limit-low Silver = omega arith
+limit-low Gold = omega arith
+limit-low Bishop = omega arith
+limit-low Rook = omega arith
+limit-low King = omega arith
+limit-low ProPawn = omega arith
+limit-low ProLance = omega arith
+limit-low ProKnight = omega arith
+limit-low ProSilver = omega arith
+limit-low Horse = omega arith
+limit-low Dragon = omega arith
+
+-- a hand never holds so many of a kind
+pub count-few : (m : Material) (color : Color) (kind : Kind) → IsWithinTotals m → is_hand_kind kind ≡ true → count_in (bag_of m color) kind < 255
+count-few m Black kind w held = let all = w.totals kind in let low = limit-low kind in rw held (omega (arith, all, low))
+count-few m White kind w held = let all = w.totals kind in let low = limit-low kind in rw held (omega (arith, all, low))

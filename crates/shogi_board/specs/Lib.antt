@@ -1,9 +1,10 @@
 pub mod Attackers
 pub mod Between
 pub mod Cells
-pub mod Changes
+pub mod Contents
 pub mod Danger
 pub mod Directions
+pub mod Keys
 pub mod Kings
 pub mod Landmarks
 pub mod Layout
@@ -11,8 +12,6 @@ pub mod Material
 pub mod Moved
 pub mod Moves
 pub mod Neighbours
-pub mod Numbers
-pub mod Packing
 pub mod Pieces
 pub mod Placed
 pub mod Placing

@@ -1,7 +1,9 @@
-ghost use Rattle.std.specs.Prelude.{◌≡◌, ◌≤◌, ◌<◌, ◌↔◌, ◌⊎◌, Any, IsTrue, MatchOption, None, Some, count_by, nat_lt, slice_set, length};
+ghost use Rattle.std.specs.Prelude.{◌≡◌, ◌%◌, ◌^◌, ◌≤◌, ◌<◌, ◌↔◌, ◌⊎◌, Any, IsTrue, MatchOption, None, Some, count_by, map, nat_lt, slice_index_or, slice_set, length};
 ghost use Rattle.shogi_board.specs.Cells.{at, piece, even_cells, no_cells, HasPawnOnFile};
+ghost use Rattle.shogi_board.specs.Contents.{cell_of};
 ghost use Rattle.shogi_board.specs.Danger.{ComesFrom, SeenTowards};
 ghost use Rattle.shogi_board.specs.Attackers.{AttackAcross, AttackInSight, IsAttackedByJump, IsAttackedInLine};
+ghost use Rattle.shogi_board.specs.Keys.{cells_key};
 ghost use Rattle.shogi_board.specs.Kings.{IsKingOf};
 ghost use Rattle.shogi_board.specs.Landmarks.{AreLandmarks};
 ghost use Rattle.shogi_board.specs.Moves.{steps, turned_for, IsRay};
@@ -14,10 +16,12 @@ ghost use Rattle.shogi_board.specs.Totals.{is_of, kings_of};
 ghost use Rattle.shogi_board.specs.declared.kind.Kind.TheVariants.{King, Knight, Pawn};
 ghost use Rattle.shogi_board.specs.declared.square.Square.{Square};
 
+use crate::cell::Cell;
 use crate::color::Color;
 use crate::danger::Danger;
 use crate::direction::{Direction, jumps, neighbours};
 use crate::even::even_cells;
+use crate::keys::cell_key;
 use crate::kind::{Kind, Piece};
 use crate::landmarks::Landmarks;
 use crate::square::Square;
@@ -30,7 +34,7 @@ use std::marker::Model;
 #[derive_where(PartialEq, Eq, PartialOrd, Ord)]
 pub struct Board {
     // in the order of the squares
-    cells: [Option<Piece>; 81],
+    cells: [Cell; 81],
     #[derive_where(skip(EqHashOrd))]
     black: Landmarks,
     #[derive_where(skip(EqHashOrd))]
@@ -38,25 +42,26 @@ pub struct Board {
 }
 
 impl Model for Board {
-    ghost use Rattle.std.specs.Prelude.{List, Option};
+    ghost use Rattle.std.specs.Prelude.{List, Option, map};
+    ghost use Rattle.shogi_board.specs.Contents.{cell_of, cells-back, content};
     ghost use Rattle.shogi_board.specs.Landmarks.{landmarks_of, HasLandmarks};
     ghost use Rattle.shogi_board.specs.declared.color.Color.TheVariants.{Black, White};
     ghost use Rattle.shogi_board.specs.declared.kind.Piece.{Piece};
 
     ghost Value = { List (Option Piece) };
 
-    ghost view = { λ b. b.cells };
+    ghost view = { λ b. map content b.cells };
 
-    ghost invariant = { λ b. HasLandmarks b.cells b.black b.white };
+    ghost invariant = { λ b. HasLandmarks (map content b.cells) b.black b.white };
 
     ghost inverse = { λ d. record {
-      cells = d;
+      cells = map cell_of d;
       black = landmarks_of d Black;
       white = landmarks_of d White;
     } };
 
     ghost inverse_ok = { λ b h i. record {
-      cells = b.cells;
+      cells = cells-back b.cells i;
       black = h.black_marks i;
       white = h.white_marks i;
     } };
@@ -82,10 +87,20 @@ impl Board {
         let black = Landmarks::of(&cells, Color::Black);
         let white = Landmarks::of(&cells, Color::White);
         Board {
-            cells,
+            cells: cells_of(&cells),
             black,
             white,
         }
+    }
+
+    // What is on the square of that place.
+    #[inline(always)]
+    fn content(&self, place: usize) -> Option<Piece>
+        requires { place < 81 }
+        ensures value { result ≡ slice_index_or self.now place None }
+        ensures whole { length self.now ≡ 81 }
+    {
+        self.cells[place].piece()
     }
 
     // The landmarks of that side, which has at most one king.
@@ -101,16 +116,21 @@ impl Board {
         }
     }
 
-    pub(crate) fn cells(&self) -> &[Option<Piece>]
-        ensures { result.now ≡ self.now }
+    // What the pieces on the board count in a key.
+    pub(crate) fn key(&self) -> u64
+        ensures { result ≡ cells_key self.now % 2 ^ 64 }
     {
-        self.cells.as_slice()
+        let mut key = 0u64;
+        for n in 0..81usize {
+            key = key.wrapping_add(cell_key(n, self.cells[n].piece()));
+        }
+        key
     }
 
     pub(crate) fn at(&self, square: Square) -> Option<Piece>
         ensures { result ≡ at self.now square }
     {
-        self.cells[square.place()]
+        self.content(square.place())
     }
 
     // Puts another cell on the square.
@@ -130,10 +150,10 @@ impl Board {
     fn clear(&mut self, square: Square)
         ensures { self.new ≡ slice_set self.old (place square) None }
     {
-        let Some(piece) = self.cells[square.place()] else {
+        let Some(piece) = self.content(square.place()) else {
             return;
         };
-        self.cells[square.place()] = None;
+        self.cells[square.place()] = Cell::Empty;
         match piece.color {
             Color::Black => self.black.lose(piece.kind, square),
             Color::White => self.white.lose(piece.kind, square),
@@ -148,7 +168,7 @@ impl Board {
             → kings_of (slice_set self.old (place square) (Some piece)) color ≤ 1 }
         ensures { self.new ≡ slice_set self.old (place square) (Some piece) }
     {
-        self.cells[square.place()] = Some(piece);
+        self.cells[square.place()] = Cell::of(Some(piece));
         match piece.color {
             Color::Black => self.black.gain(piece.kind, square),
             Color::White => self.white.gain(piece.kind, square),
@@ -160,7 +180,10 @@ impl Board {
         ensures value { result ≡ count_by (is_of kind) self.now }
         ensures bound { result ≤ 81 }
     {
-        self.cells.iter().filter(|cell| is_of(**cell, kind)).count()
+        self.cells
+            .iter()
+            .filter(|cell| is_of(cell.piece(), kind))
+            .count()
     }
 
     pub(crate) fn has_king(&self, color: Color) -> bool
@@ -231,7 +254,7 @@ impl Board {
         let mut place = from.place();
         for _n in 1..distance {
             place = place + stride - 20;
-            if self.cells[place].is_some() {
+            if self.content(place).is_some() {
                 return false;
             }
         }
@@ -325,7 +348,7 @@ impl Board {
         let mut place = square.place();
         for n in 1..square.room(direction) + 1 {
             place = place + stride - 20;
-            if let Some(piece) = self.cells[place] {
+            if let Some(piece) = self.content(place) {
                 return if is_attacker(piece, color, direction, n) {
                     Some(Square::at_place(place))
                 } else {
@@ -392,6 +415,17 @@ impl Board {
             None => false,
         }
     }
+}
+
+// The cells that hold that.
+fn cells_of(contents: &[Option<Piece>; 81]) -> [Cell; 81]
+    ensures { result ≡ map cell_of contents.now }
+{
+    let mut cells = [Cell::Empty; 81];
+    for n in 0..81usize {
+        cells[n] = Cell::of(contents[n]);
+    }
+    cells
 }
 
 // Whether a knight of that colour jumps from one square to the other.

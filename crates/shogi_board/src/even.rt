@@ -22,9 +22,6 @@ macro_rules! white {
     };
 }
 
-pub(crate) use black;
-pub(crate) use white;
-
 // The even board, file by file, from rank 1 to rank 9.
 #[rattlefmt::skip]
 static EVEN: [Option<Piece>; 81] = [

@@ -1,7 +1,10 @@
-ghost use Rattle.std.specs.Prelude.{◌≡◌, ◌-◌, true, slice_index, slice_set};
+ghost use Rattle.std.specs.Prelude.{◌≡◌, ◌-◌, ◌%◌, ◌^◌, true, slice_index, slice_set};
+ghost use Rattle.shogi_board.specs.Keys.{counts_key};
 ghost use Rattle.shogi_board.specs.Pieces.{place_of, is_hand_kind};
 ghost use Rattle.shogi_board.specs.Totals.{count_in, no_pieces};
 
+use crate::color::Color;
+use crate::keys::counts_key;
 use crate::kind::Kind;
 use std::marker::Model;
 
@@ -47,10 +50,11 @@ impl Hand {
         Hand { counts }
     }
 
-    pub(crate) fn counts(self) -> [u8; 7]
-        ensures { result ≡ self }
+    // What the pieces in it count in a key, if it is the hand of that side.
+    pub(crate) fn key(&self, color: Color) -> u64
+        ensures { result ≡ counts_key color self.now % 2 ^ 64 }
     {
-        self.counts
+        counts_key(color, &self.counts)
     }
 
     // How many pieces it holds whose place is that of the kind: none for the king.

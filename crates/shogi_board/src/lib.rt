@@ -3,8 +3,7 @@
 //! A `Position` is always sound: it has no more pieces than a game and at most one
 //! king a side, and the king of the side that is not to move is not attacked. `Position::even` is
 //! the even start; any other position is set up in a `Setup`, piece by piece, and each call there
-//! says why a piece may not be added. A `Packed` is a position in a few numbers. Which moves are
-//! legal is the subject of `shogi_rules`.
+//! says why a piece may not be added. Which moves are legal is the subject of `shogi_rules`.
 //!
 //!     let mut setup = Setup::empty();
 //!     setup.place(Color::Black, square, Kind::King)?;
@@ -13,29 +12,27 @@
 #![tactic(auto)]
 
 mod board;
-mod change;
+mod cell;
 mod color;
 mod danger;
 mod direction;
 mod even;
 mod hand;
+mod keys;
 mod kind;
 mod landmarks;
 pub mod laws;
 mod memory;
 mod moving;
-mod packed;
 mod position;
 mod setup;
 mod square;
 
-pub use change::Change;
 pub use color::Color;
 pub use danger::Danger;
 pub use hand::Hand;
 pub use kind::{Kind, Piece};
 pub use memory::OutOfMemory;
-pub use packed::Packed;
 pub use position::{Position, attacked, attacked_from, attacker, reaches};
 pub use setup::{Setup, SetupFault};
 pub use square::Square;

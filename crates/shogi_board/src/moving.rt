@@ -1,4 +1,4 @@
-ghost use Rattle.std.specs.Prelude.{◌≡◌, ◌≢◌, ◌<◌, ◌≤◌, ◌↔◌, IsTrue, true, false, Some, None};
+ghost use Rattle.std.specs.Prelude.{◌≡◌, ◌≢◌, ◌<◌, ◌↔◌, IsTrue, true, false, Some, None};
 ghost use Rattle.shogi_board.specs.Cells.{at, piece};
 ghost use Rattle.shogi_board.specs.Danger.{ComesFrom};
 ghost use Rattle.shogi_board.specs.Material.{bag_of};
@@ -15,6 +15,7 @@ ghost use Rattle.shogi_board.specs.declared.square.Square.{Square};
 use crate::color::Color;
 use crate::danger::Danger;
 use crate::hand::Hand;
+use crate::keys::{TURN, captured_key, cell_key, held_key, piece_key};
 use crate::kind::{Kind, Piece};
 use crate::position::Position;
 use crate::square::Square;
@@ -42,15 +43,23 @@ impl Position {
         ensures unchanged { result ≡ false → self.new ≡ self.old }
     {
         let side = self.side;
-        let was = self.board.at(from);
+        let moved = Piece { color: side, kind };
+        let left = self.board.at(from);
         let captured = self.board.at(to);
         self.board.put(from, None);
-        self.board.put(to, Some(Piece { color: side, kind }));
+        self.board.put(to, Some(moved));
         if self.board.king_is_attacked(side, danger) {
             self.board.put(to, captured);
-            self.board.put(from, was);
+            self.board.put(from, left);
             return false;
         }
+        self.key = self
+            .key
+            .wrapping_add(piece_key(to.place(), moved))
+            .wrapping_add(captured_key(side, captured))
+            .wrapping_sub(cell_key(from.place(), left))
+            .wrapping_sub(cell_key(to.place(), captured))
+            .wrapping_add(TURN);
         match side {
             Color::Black => add_captured(&mut self.black, captured),
             Color::White => add_captured(&mut self.white, captured),
@@ -79,11 +88,17 @@ impl Position {
         ensures unchanged { result ≡ false → self.new ≡ self.old }
     {
         let side = self.side;
-        self.board.put(to, Some(Piece { color: side, kind }));
+        let dropped = Piece { color: side, kind };
+        self.board.put(to, Some(dropped));
         if self.board.king_is_attacked(side, danger) {
             self.board.put(to, None);
             return false;
         }
+        self.key = self
+            .key
+            .wrapping_add(piece_key(to.place(), dropped))
+            .wrapping_sub(held_key(side, kind.place()))
+            .wrapping_add(TURN);
         match side {
             Color::Black => take_one(&mut self.black, kind),
             Color::White => take_one(&mut self.white, kind),

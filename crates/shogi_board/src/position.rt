@@ -1,8 +1,9 @@
-ghost use Rattle.std.specs.Prelude.{◌≡◌, ◌↔◌, IsTrue, MatchOption, length};
+ghost use Rattle.std.specs.Prelude.{◌≡◌, ◌↔◌, IsTrue, MatchOption};
 ghost use Rattle.shogi_board.specs.Cells.{at, piece, HasPawnOnFile};
 ghost use Rattle.shogi_board.specs.Danger.{ComesFrom};
 ghost use Rattle.shogi_board.specs.Material.{bag_of};
-ghost use Rattle.shogi_board.specs.Placed.{even_start};
+ghost use Rattle.shogi_board.specs.Keys.{key_of};
+ghost use Rattle.shogi_board.specs.Placed.{even_start, laid};
 ghost use Rattle.shogi_board.specs.Reach.{Reach, Attack, Attacked};
 ghost use Rattle.shogi_board.specs.Setup.{layout_of};
 ghost use Rattle.shogi_board.specs.Sound.{IsSound};
@@ -12,6 +13,7 @@ use crate::board::Board;
 use crate::color::Color;
 use crate::danger::Danger;
 use crate::hand::Hand;
+use crate::keys::side_key;
 use crate::kind::Piece;
 use crate::setup::Setup;
 use crate::square::Square;
@@ -28,17 +30,20 @@ use std::marker::Model;
 ///
 /// Two positions are equal if board, hands and side to move are, and positions are ordered by
 /// these.
-#[derive(Clone, Copy, Debug, PartialEq, Eq, PartialOrd, Ord)]
+#[derive(Clone, Copy, Debug)]
+#[derive_where(PartialEq, Eq, PartialOrd, Ord)]
 pub struct Position {
     pub(crate) board: Board,
     pub(crate) black: Hand,
     pub(crate) white: Hand,
     pub(crate) side: Color,
+    #[derive_where(skip(EqHashOrd))]
+    pub(crate) key: u64,
 }
 
 impl Model for Position {
+    ghost use Rattle.shogi_board.specs.Keys.{IsKeyed, key_of};
     ghost use Rattle.shogi_board.specs.Placed.{Placed};
-    ghost use Rattle.shogi_board.specs.Sound.{IsSound};
 
     ghost Value = { Placed };
 
@@ -47,16 +52,25 @@ impl Model for Position {
       side = p.side;
     } };
 
-    ghost invariant = { λ p. IsSound (record {
+    ghost invariant = { λ p. IsKeyed (record {
       material = record { board = p.board; black = p.black; white = p.white };
       side = p.side;
-    }) };
+    }) p.key };
 
     ghost inverse = { λ d. record {
       board = d.material.board;
       black = d.material.black;
       white = d.material.white;
       side = d.side;
+      key = key_of d;
+    } };
+
+    ghost inverse_ok = { λ p h i. record {
+      board = p.board;
+      black = p.black;
+      white = p.white;
+      side = p.side;
+      key = h.key i;
     } };
 }
 
@@ -65,12 +79,32 @@ impl Position {
     pub fn even() -> Position
         ensures value { result ≡ even_start }
     {
+        Position::of(Board::even(), Hand::empty(), Hand::empty(), Color::Black)
+    }
+
+    // The position of that board and those hands, which is sound.
+    pub(crate) fn of(board: Board, black: Hand, white: Hand, side: Color) -> Position
+        requires { IsSound (laid board black white side) }
+        ensures { result ≡ laid board black white side }
+    {
+        let hands = black
+            .key(Color::Black)
+            .wrapping_add(white.key(Color::White));
         Position {
-            board: Board::even(),
-            black: Hand::empty(),
-            white: Hand::empty(),
-            side: Color::Black,
+            board,
+            black,
+            white,
+            side,
+            key: board.key().wrapping_add(hands).wrapping_add(side_key(side)),
         }
+    }
+
+    /// A number that equal positions share: the sum, modulo 2^64, of a number for each piece on its
+    /// square, a number for each piece in a hand, and a number for the side to move.
+    pub fn key(&self) -> u64
+        ensures value { result ≡ key_of self.now }
+    {
+        self.key
     }
 
     /// The piece on the square, if there is one.
@@ -78,14 +112,6 @@ impl Position {
         ensures value { result ≡ at self.now.material.board square }
     {
         self.board.at(square)
-    }
-
-    // What is on each of the 81 squares, in their order.
-    pub(crate) fn cells(&self) -> &[Option<Piece>]
-        ensures value { result.now ≡ self.now.material.board }
-        ensures all { length result.now ≡ 81 }
-    {
-        self.board.cells()
     }
 
     /// The hand of that side.

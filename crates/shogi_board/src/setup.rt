@@ -269,12 +269,7 @@ impl Setup {
         if self.leaves_check(side) {
             return Err(SetupFault::OpponentInCheck);
         }
-        Ok(Position {
-            board: self.board,
-            black: self.black,
-            white: self.white,
-            side,
-        })
+        Ok(Position::of(self.board, self.black, self.white, side))
     }
 
     // Whether the other side has a king and it is attacked, with that side to move.

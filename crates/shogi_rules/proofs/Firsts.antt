@@ -22,7 +22,7 @@ use Rattle.shogi_rules.specs.Verdicts.{NoLegalMove}
 use Rattle.shogi_rules.specs.declared.moves.Move.{Move}
 use Rattle.shogi_rules.specs.declared.moves.Move.TheVariants.{Walk, Put}
 use Rattle.shogi_rules.proofs.Checks.{walk-form}
-use Rattle.shogi_rules.proofs.Drops.{held-of}
+use Rattle.shogi_board.proofs.Drops.{held-of}
 use Rattle.shogi_rules.proofs.Forms.{held-low}
 
 -- 1. Forms

@@ -8,7 +8,7 @@ use Rattle.shogi_board.specs.declared.color.Color.{Color}
 use Rattle.shogi_board.specs.declared.color.Color.TheVariants.{Black, White}
 use Rattle.shogi_board.specs.declared.kind.Kind.{Kind}
 use Rattle.shogi_board.specs.declared.kind.Kind.TheVariants.{Pawn, Lance, Knight, Silver, Gold, Bishop, Rook, King, ProPawn, ProLance, ProKnight, ProSilver, Horse, Dragon}
-use Rattle.shogi_rules.specs.Kinds.{promoted, unpromoted}
+use Rattle.shogi_rules.specs.Kinds.{promoted}
 
 -- a promoted form has the place of its kind
 pub promoted-place : (was its_kind : Kind) → promoted was ≡ Some its_kind → place_of its_kind ≡ place_of was
@@ -30,39 +30,6 @@ promoted-place Dragon its_kind h = cc
 pub form-place : (was its_kind : Kind) → (its_kind ≡ was) ⊎ (promoted was ≡ Some its_kind) → place_of its_kind ≡ place_of was
 form-place was its_kind (inl e) = ap place_of e
 form-place was its_kind (inr e) = promoted-place was its_kind e
-
--- a piece that is no king may be held
-pub captured-held : (k : Kind) → (k ≡ King → ⊥) → is_hand_kind (unpromoted k) ≡ true
-captured-held Pawn h = refl
-captured-held Lance h = refl
-captured-held Knight h = refl
-captured-held Silver h = refl
-captured-held Gold h = refl
-captured-held Bishop h = refl
-captured-held Rook h = refl
-captured-held King h = absurd (h refl)
-captured-held ProPawn h = refl
-captured-held ProLance h = refl
-captured-held ProKnight h = refl
-captured-held ProSilver h = refl
-captured-held Horse h = refl
-captured-held Dragon h = refl
-
-pub unpromoted-place : (k : Kind) → place_of (unpromoted k) ≡ place_of k
-unpromoted-place Pawn = refl
-unpromoted-place Lance = refl
-unpromoted-place Knight = refl
-unpromoted-place Silver = refl
-unpromoted-place Gold = refl
-unpromoted-place Bishop = refl
-unpromoted-place Rook = refl
-unpromoted-place King = refl
-unpromoted-place ProPawn = refl
-unpromoted-place ProLance = refl
-unpromoted-place ProKnight = refl
-unpromoted-place ProSilver = refl
-unpromoted-place Horse = refl
-unpromoted-place Dragon = refl
 
 pub held-low : (k : Kind) → is_hand_kind k ≡ true → place_of k < 7
 held-low Pawn h = lit< tt
@@ -95,10 +62,6 @@ held-no-king ProKnight h e = cc
 held-no-king ProSilver h e = cc
 held-no-king Horse h e = cc
 held-no-king Dragon h e = cc
-
-pub opponent-twice : (c : Color) → opponent (opponent c) ≡ c
-opponent-twice Black = refl
-opponent-twice White = refl
 
 pub other-color : (a b : Color) → (a ≡ b → ⊥) → a ≡ opponent b
 other-color Black Black h = absurd (h refl)

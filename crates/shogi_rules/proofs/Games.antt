@@ -90,9 +90,8 @@ positions-long s (m ∷ ms) = let h = positions-long (after s m) ms in omega (ar
 pub line-room : (start : Placed) (moves : List Move) → length moves < 10000 → length (positions_of start moves) ≤ 10000
 line-room start moves few = let h = positions-long start moves in omega (arith, h, few)
 
-pub line-more : (start last : Placed) (moves : List Move) (c : Color) (m : Move) → IsLine start last moves → length moves < 10000 → IsFirstBroken (Kept (line_of start moves) c m) all_rules None → IsLine start (after (position_after start moves) m) (moves ++ m ∷ [])
-line-more start last moves c m line few none = record {
-  leads = sym (position-more start moves m);
+pub line-more : (start : Placed) (moves : List Move) (c : Color) (m : Move) → IsLine start moves → length moves < 10000 → IsFirstBroken (Kept (line_of start moves) c m) all_rules None → IsLine start (moves ++ m ∷ [])
+line-more start moves c m line few none = record {
   game =
       let kept = all-of-none (Kept (line_of start moves) c m) all_rules none in
       let rest = kept.1 in

@@ -24,8 +24,10 @@ use Rattle.shogi_rules.specs.Legal.{FitsBoard, Keeps}
 use Rattle.shogi_rules.specs.Positions.{position_after, IsGame, begun, played}
 use Rattle.shogi_rules.specs.declared.moves.Move.{Move}
 use Rattle.shogi_rules.specs.declared.moves.Move.TheVariants.{Walk, Put}
-use Rattle.shogi_rules.proofs.Drops.{held-of}
-use Rattle.shogi_rules.proofs.Forms.{form-place, captured-held, unpromoted-place, held-low, held-no-king, king-by-place, opponent-twice, eq-self}
+use Rattle.shogi_board.proofs.Drops.{held-of}
+use Rattle.shogi_board.proofs.Pieces.{captured-held, opponent-twice, unpromoted-place}
+use Rattle.shogi_board.proofs.Totals.{own-seven}
+use Rattle.shogi_rules.proofs.Forms.{form-place, held-low, held-no-king, king-by-place, eq-self}
 use Rattle.shogi_rules.proofs.Games.{position-more}
 use Rattle.shogi_rules.proofs.Walks.{Start, start-of, on-board, longer, target-stays, no-king-taken}
 
@@ -108,10 +110,6 @@ black-seven m White bag old new = old
 white-seven : (m : Material) (c : Color) (bag : List ℕ) → length m.white ≡ 7 → length bag ≡ 7 → length (with_bag m c bag).white ≡ 7
 white-seven m Black bag old new = old
 white-seven m White bag old new = new
-
-own-seven : (m : Material) (c : Color) → IsWithinTotals m → length (bag_of m c) ≡ 7
-own-seven m Black w = w.black_kinds
-own-seven m White w = w.white_kinds
 
 -- the pieces of a kind, promoted or not, before and after a move
 pub pieces-stay : (p : Placed) (m : Move) (k : Kind) → IsSound p → FitsBoard p m → total (after p m).material k ≡ total p.material k

@@ -6,9 +6,7 @@ pub mod Counted
 pub mod Counting
 pub mod Counts
 pub mod Decided
-pub mod Drops
 pub mod Firsts
-pub mod Followed
 pub mod Forms
 pub mod Games
 pub mod Kept

@@ -22,7 +22,7 @@ use Rattle.shogi_rules.specs.After.{after, board_after}
 use Rattle.shogi_rules.specs.Legal.{kind_after, source, target}
 use Rattle.shogi_rules.specs.declared.moves.Move.{Move}
 use Rattle.shogi_rules.specs.declared.moves.Move.TheVariants.{Walk, Put}
-use Rattle.shogi_rules.proofs.Forms.{opponent-twice}
+use Rattle.shogi_board.proofs.Pieces.{opponent-twice}
 use Rattle.shogi_board.proofs.Check.{king_check}
 use Rattle.shogi_rules.proofs.AfterMove.{colors-same, held-before, kinds-same, not-none, not-opponent, on-target, some-same, walk-keeps}
 

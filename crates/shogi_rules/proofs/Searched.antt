@@ -9,26 +9,27 @@ use Rattle.std.proofs.lemmas.Bool.{cases_lt}
 use Rattle.std.proofs.lemmas.Cmp.{nat_cmp_total, then_total}
 use Rattle.std.proofs.lemmas.List.{length-append, length-replicate}
 use Rattle.std.proofs.lemmas.Option.{same_Some, slice_get-get_or, slice_get_within}
+use Rattle.shogi_board.specs.Keys.{key_of}
 use Rattle.shogi_board.specs.Placed.{Placed}
 use Rattle.shogi_board.specs.contracts.position.PositionOrd.TheImpl.{cmp-value}
 use Rattle.shogi_board.proofs.Same.{exact-positions, total-positions}
 use Rattle.shogi_rules.specs.Counting.{StandsAt}
 use Rattle.shogi_rules.specs.Repetition.{times}
-use Rattle.shogi_rules.specs.Searching.{Comes, Finds, GoesOn, IsFree, IsTree, LeadsTo, first_link, first_links, keys, number_of, order}
+use Rattle.shogi_rules.specs.Searching.{Comes, Finds, GoesOn, IsFree, IsTree, LeadsTo, first_link, first_links, keys, order}
 use Rattle.shogi_rules.specs.declared.occurrences.Entry.{Entry}
 use Rattle.shogi_rules.proofs.Counted.{get-here, get-left, get-following, get-other, get-set, equal-or, last-entry}
 use Rattle.shogi_rules.proofs.Counting.{none-stands, was-at}
 
 -- positions are in a total order
-by-number : IsTotalOrder (λ (p q : Placed). nat_cmp (number_of p) (number_of q))
-by-number = record {
-  antisymm = λ p q. nat_cmp_total.antisymm (number_of p) (number_of q);
-  trans = λ p q r. nat_cmp_total.trans (number_of p) (number_of q) (number_of r);
-  congr = λ p q r. nat_cmp_total.congr (number_of p) (number_of q) (number_of r);
+by-key : IsTotalOrder (λ (p q : Placed). nat_cmp (key_of p) (key_of q))
+by-key = record {
+  antisymm = λ p q. nat_cmp_total.antisymm (key_of p) (key_of q);
+  trans = λ p q r. nat_cmp_total.trans (key_of p) (key_of q) (key_of r);
+  congr = λ p q r. nat_cmp_total.congr (key_of p) (key_of q) (key_of r);
 }
 
 pub total-order : IsTotalOrder order
-total-order = then_total by-number total-positions
+total-order = then_total by-key total-positions
 
 second-equal : (a b : Ordering) → ordering_then a b ≡ Equal → b ≡ Equal
 second-equal Less b e = cc
@@ -37,15 +38,15 @@ second-equal Greater b e = cc
 
 -- positions that compare as equal are one
 pub one-position : (p q : Placed) → order p q ≡ Equal → p ≡ q
-one-position p q e = (exact-positions p q).0 (second-equal (nat_cmp (number_of p) (number_of q)) (cmp-value.it p q) e)
+one-position p q e = (exact-positions p q).0 (second-equal (nat_cmp (key_of p) (key_of q)) (cmp-value.it p q) e)
 
-pub same-number : (n m : ℕ) (b : Ordering) → n ≡ m → ordering_then (nat_cmp n m) b ≡ b
-same-number n m b e =
+pub same-key : (n m : ℕ) (b : Ordering) → n ≡ m → ordering_then (nat_cmp n m) b ≡ b
+same-key n m b e =
     let equal : Equal ≡ nat_cmp n m = nat_cmp_is n m Equal e in
     ap (λ (a : Ordering). ordering_then a b) (sym equal)
 
 pub own-order : (p q : Placed) → p ≡ q → order p q ≡ Equal
-own-order p q e = same-number (number_of p) (number_of q) (cmp-value.it p q) (ap number_of e) ∙ (exact-positions p q).1 e
+own-order p q e = same-key (key_of p) (key_of q) (cmp-value.it p q) (ap key_of e) ∙ (exact-positions p q).1 e
 
 -- a link leads to one entry
 one-number : (links : List ℕ) (link n m : ℕ) → slice_get links link ≡ Some (n + 1) → slice_get links link ≡ Some (m + 1) → n ≡ m
@@ -178,17 +179,6 @@ all-found es links d link n e tree free at =
           subst (λ (x : Entry). Finds (es ++ d ∷ []) (grown links link (length es)) x.position (first_link x.position)) one (new-found es links d link free)
     ]
 
-all-numbered : (es : List Entry) (links : List ℕ) (d : Entry) (n : ℕ) (e : Entry) → IsTree es links → d.number ≡ number_of d.position → slice_get (es ++ d ∷ []) n ≡ Some e → e.number ≡ number_of e.position
-all-numbered es links d n e tree own at =
-    elim (cases_lt n (length es)) [
-      | inl low ↦ tree.numbered n e (sym (get-left es (d ∷ []) n low) ∙ at)
-      | inr le ↦
-          let within = slice_get_within (es ++ d ∷ []) n e at in
-          let more = length-append es (d ∷ []) in
-          let one : d ≡ e = last-entry es d e n (omega (arith, le, within, more)) at in
-          subst (λ (x : Entry). x.number ≡ number_of x.position) one own
-    ]
-
 two-zeros : (s n : ℕ) → slice_get (0 ∷ 0 ∷ []) s ≡ Some (n + 1) → ⊥
 two-zeros zero n at = let e = same_Some 0 (n + 1) at in omega (arith, e)
 two-zeros (suc zero) n at = let e = same_Some 0 (n + 1) at in omega (arith, e)
@@ -221,15 +211,14 @@ all-later es links d link s n tree none at =
           absurd (two-zeros following.0 n following.1)
     ]
 
-pub tree-more : (es : List Entry) (links : List ℕ) (d : Entry) (link : ℕ) → IsTree es links → IsFree es links d.position link → d.number ≡ number_of d.position → IsTree (es ++ d ∷ []) (set links link (length es + 1) ++ 0 ∷ 0 ∷ [])
-tree-more es links d link tree free own = record {
+pub tree-more : (es : List Entry) (links : List ℕ) (d : Entry) (link : ℕ) → IsTree es links → IsFree es links d.position link → IsTree (es ++ d ∷ []) (set links link (length es + 1) ++ 0 ∷ 0 ∷ [])
+tree-more es links d link tree free = record {
   wide =
       let long = length-set links link (length es + 1) in
       let more = length-append es (d ∷ []) in
       let all = length-append (set links link (length es + 1)) (0 ∷ 0 ∷ []) in
       let wide = tree.wide in
       omega (arith, long, more, all, wide);
-  numbered = λ n e at. all-numbered es links d n e tree own at;
   later = λ s n at. all-later es links d link s n tree free.none at;
   found = λ n e at. all-found es links d link n e tree free at;
 }
@@ -258,17 +247,11 @@ still-finds es links k d e q s at same (Finds.here _ n x leads is) =
     Finds.here s n y.0 y.1 (ap (order q) y.2 ∙ is)
 still-finds es links k d e q s at same (Finds.on _ t go finds) = Finds.on s t (still-goes es links k d e q s t at same go) (still-finds es links k d e q t at same finds)
 
-pub tree-kept : (es : List Entry) (links : List ℕ) (k : ℕ) (d e : Entry) → IsTree es links → slice_get es k ≡ Some d → e.position ≡ d.position → e.number ≡ d.number → IsTree (set es k e) links
-tree-kept es links k d e tree at same number =
+pub tree-kept : (es : List Entry) (links : List ℕ) (k : ℕ) (d e : Entry) → IsTree es links → slice_get es k ≡ Some d → e.position ≡ d.position → IsTree (set es k e) links
+tree-kept es links k d e tree at same =
     let long = length-set es k e in
     record {
       wide = let wide = tree.wide in omega (arith, wide, long);
-      numbered = λ n x there. elim (equal-or n k) [
-        | inl here ↦
-            let one : e ≡ x = get-set es k d e x at (subst (λ (i : ℕ). slice_get (set es k e) i ≡ Some x) here there) in
-            subst (λ (z : Entry). z.number ≡ number_of z.position) one (number ∙ (tree.numbered k d at ∙ ap number_of (sym same)))
-        | inr other ↦ tree.numbered n x (sym (get-other es k n e other) ∙ there)
-      ];
       later = λ s n by. let old = tree.later s n by in (omega (arith, old.0, long), old.1);
       found = λ n x there.
           let was = was-at es k d e n x at same there in
@@ -284,7 +267,6 @@ only-zeros (suc k) (suc s) n at = only-zeros k s n at
 pub none-found : (es : List Entry) (links : List ℕ) → es ≡ [] → links ≡ replicate first_links 0 → IsTree es links
 none-found es links none zeros = rw none (record {
   wide = let zero : ℕ = 0 in ap length zeros ∙ length-replicate first_links zero;
-  numbered = λ n e at. cc;
   later = λ s n at. absurd (only-zeros first_links s n (rw zeros at at));
   found = λ n e at. cc;
 })

@@ -10,12 +10,12 @@ use Rattle.shogi_board.specs.declared.kind.Kind.{Kind}
 use Rattle.shogi_board.specs.declared.kind.Kind.TheVariants.{King}
 use Rattle.shogi_board.specs.declared.kind.Piece.{Piece}
 use Rattle.shogi_board.specs.declared.square.Square.{Square}
-use Rattle.shogi_board.proofs.Pieces.{mover-is}
+use Rattle.shogi_board.proofs.Pieces.{mover-is, opponent-twice}
 use Rattle.shogi_board.proofs.Squares.{place-bound}
 use Rattle.shogi_rules.specs.Kinds.{promoted}
 use Rattle.shogi_rules.specs.Legal.{FitsBoard}
 use Rattle.shogi_rules.specs.declared.moves.Move.TheVariants.{Walk}
-use Rattle.shogi_rules.proofs.Forms.{opponent-twice, other-color}
+use Rattle.shogi_rules.proofs.Forms.{other-color}
 
 -- what the walk starts from
 pub record Start (p : Placed) (from to : Square) (its_kind : Kind) : Type 0 where

@@ -1,5 +1,4 @@
 pub mod After
-pub mod Changes
 pub mod Counting
 pub mod Evasions
 pub mod Kinds

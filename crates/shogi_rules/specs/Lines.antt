@@ -4,7 +4,7 @@ use Rattle.std.specs.Prelude.{◌≡◌, ◌<◌, ◌≤◌, List, length}
 use Rattle.shogi_board.specs.Placed.{Placed}
 use Rattle.shogi_board.specs.declared.color.Color.{Color}
 use Rattle.shogi_rules.specs.declared.moves.Move.{Move}
-use Rattle.shogi_rules.specs.Positions.{Played, IsGame, Over, max_moves, now_of, position_after}
+use Rattle.shogi_rules.specs.Positions.{Played, IsGame, Over, max_moves, now_of}
 
 -- that side may play, if it has a legal move
 pub record IsOpen (line : Played) (color : Color) : Type 0 where
@@ -12,8 +12,7 @@ pub record IsOpen (line : Played) (color : Color) : Type 0 where
   pub turn : color ≡ (now_of line).side
   pub not_over : Over line → ⊥
 
--- a start, what its moves lead to, and the moves
-pub record IsLine (start now : Placed) (moves : List Move) : Type 0 where
-  pub leads : now ≡ position_after start moves
+-- a start and the moves of a game from it
+pub record IsLine (start : Placed) (moves : List Move) : Type 0 where
   pub game : IsGame start moves
   pub few : length moves ≤ max_moves

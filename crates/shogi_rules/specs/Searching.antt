@@ -2,40 +2,28 @@
 -- A reader of the public contracts may skip this file.
 --
 -- The entries are in the order of their coming, and links lead to them. The first 256 links lead to
--- the first entry of each part of the numbers. After them come two links for each entry: one to the
+-- the first entry of each part of the keys. After them come two links for each entry: one to the
 -- positions that are less than its own, and one to those that are greater.
-use Rattle.std.specs.Prelude.{◌≡◌, ℕ, ◌+◌, ◌*◌, ◌/◌, ◌%◌, ◌<◌, List, [], ◌∷◌, Some, length, slice_get}
+use Rattle.std.specs.Prelude.{◌≡◌, ℕ, ◌+◌, ◌*◌, ◌/◌, ◌<◌, List, [], ◌∷◌, Some, length, slice_get}
 use Rattle.std.specs.Ordering.{ordering_then, nat_cmp}
 use Rattle.std.specs.declared.cmp.Ordering.{Ordering}
 use Rattle.std.specs.declared.cmp.Ordering.TheVariants.{Less, Equal, Greater}
-use Rattle.shogi_board.specs.Packing.{key_of}
+use Rattle.shogi_board.specs.Keys.{key_of}
 use Rattle.shogi_board.specs.Placed.{Placed}
-use Rattle.shogi_board.specs.declared.color.Color.{Color}
-use Rattle.shogi_board.specs.declared.color.Color.TheVariants.{Black, White}
 use Rattle.shogi_board.specs.contracts.position.PositionOrd.TheImpl.{cmp-value}
 use Rattle.shogi_rules.specs.declared.occurrences.Entry.{Entry}
 
--- with white to move, a number in the other half of all
-abbrev pub half_of : Color → ℕ → ℕ
-half_of Black n = n
-half_of White n = (n + 9223372036854775808) % 18446744073709551616
-
--- a number of the board's key and of the side to move; keys that differ little have numbers far
--- apart
-abbrev pub number_of : Placed → ℕ
-number_of p = half_of p.side ((key_of p * 11400714819323198485) % 18446744073709551616)
-
--- how many parts the numbers have, each with a tree of its own
+-- how many parts the keys have, each with a tree of its own
 abbrev pub first_links : ℕ
 first_links = 256
 
--- in which part a position's number lies
+-- in which part a position's key lies
 abbrev pub first_link : Placed → ℕ
-first_link p = number_of p / 72057594037927936
+first_link p = key_of p / 72057594037927936
 
--- positions are ordered by their numbers, and those of one number as positions are
+-- positions are ordered by their keys, and those of one key as positions are
 abbrev pub order : Placed → Placed → Ordering
-order p q = ordering_then (nat_cmp (number_of p) (number_of q)) (cmp-value.it p q)
+order p q = ordering_then (nat_cmp (key_of p) (key_of q)) (cmp-value.it p q)
 
 -- the positions of the entries
 abbrev pub keys : List Entry → List Placed
@@ -72,12 +60,10 @@ pub record IsFree (entries : List Entry) (links : List ℕ) (q : Placed) (link :
   pub comes : Comes entries links q link
   pub none : slice_get links link ≡ Some 0
 
--- so many links as the entries have; each entry has its position's number, and is found; a link
--- leads to an entry whose own links come after it
+-- so many links as the entries have; each entry is found; a link leads to an entry whose own links
+-- come after it
 pub record IsTree (entries : List Entry) (links : List ℕ) : Type 0 where
   pub wide : length links ≡ first_links + 2 * length entries
-  pub numbered : (n : ℕ) (e : Entry) → slice_get entries n ≡ Some e
-      → e.number ≡ number_of e.position
   pub later : (link n : ℕ) → slice_get links link ≡ Some (n + 1)
       → (n < length entries) × (link < first_links + 2 * n)
   pub found : (n : ℕ) (e : Entry) → slice_get entries n ≡ Some e

@@ -7,14 +7,14 @@ ghost use Rattle.shogi_rules.specs.Repetition.{times};
 ghost use Rattle.shogi_rules.specs.Verdicts.{Stands};
 ghost use Rattle.shogi_rules.specs.declared.line.PlayFault.TheVariants.{OutOfMemory};
 
-use crate::judging::{make_by_side, mates_by_pawn_drop};
+use crate::judging::{broken_by_side, mates_by_pawn_drop};
 use crate::moves::Move;
 use crate::occurrences::FIRST_ROOM;
 use crate::playing::{gives_check, in_check, make_if_kept};
 use crate::repetition::{verdict_by_moves, verdict_of_stretch};
 use crate::rule::Rule;
-use crate::seen::{Seen, packed_after};
-use shogi_board::{Color, Packed, Position};
+use crate::seen::Seen;
+use shogi_board::{Color, Position};
 use std::alloc::Global;
 use std::marker::Model;
 use thiserror::Error;
@@ -58,11 +58,10 @@ pub const MAX_MOVES: usize = 10_000;
 #[derive(Drop)]
 pub struct Line {
     start: Position,
-    last: Position,
     moves: Vec<Move>,
-    // of all positions, the start and the last too
+    // of all positions, the start and the last one too
     seen: Seen,
-    // whether the side to move is in check in the last position
+    // whether the side to move is in check in the last one
     in_check: bool,
 }
 
@@ -70,16 +69,17 @@ impl Model for Line {
     ghost use Rattle.std.specs.Prelude.{◌≡◌, ◌↔◌, IsTrue};
     ghost use Rattle.shogi_board.specs.Reach.{InCheck};
     ghost use Rattle.shogi_rules.specs.Counting.{IsSeen};
-    ghost use Rattle.shogi_rules.specs.Positions.{Played, positions_of};
+    ghost use Rattle.shogi_rules.specs.Positions.{Played, position_after, positions_of};
     ghost use Rattle.shogi_rules.specs.Lines.{IsLine};
 
     ghost Value = { Played };
 
     ghost view = { λ l. record { start = l.start; moves = l.moves.items } };
 
-    ghost invariant = { (λ l. IsLine l.start l.last l.moves.items
-        × IsSeen (positions_of l.start l.moves.items) l.last l.seen
-        × (IsTrue l.in_check ↔ InCheck l.last.material.board l.last.side)) };
+    ghost invariant = { (λ l. IsLine l.start l.moves.items
+        × IsSeen (positions_of l.start l.moves.items) (position_after l.start l.moves.items) l.seen
+        × (IsTrue l.in_check ↔ InCheck (position_after l.start l.moves.items).material.board
+        (position_after l.start l.moves.items).side)) };
 }
 
 impl Line {
@@ -92,7 +92,6 @@ impl Line {
         let in_check = in_check(&start);
         Ok(Line {
             start,
-            last: start,
             moves: Vec::with_capacity(alloc, FIRST_ROOM)?,
             seen: Seen::new(alloc, &start, in_check)?,
             in_check,
@@ -119,7 +118,7 @@ impl Line {
     pub fn now(&self) -> Position
         ensures value { result ≡ now_of self.now }
     {
-        self.last
+        *self.seen.last()
     }
 
     // Whether no more moves may be played.
@@ -150,7 +149,7 @@ impl Line {
     fn side(&self) -> Color
         ensures { result ≡ (now_of self.now).side }
     {
-        self.last.side()
+        self.seen.last().side()
     }
 
     // Whether the side to move is not in check.
@@ -186,8 +185,7 @@ impl Line {
         if let Some(fault) = self.closed(mover) {
             return Some(fault);
         }
-        let mut next = self.last;
-        make_by_side(&mut next, self.is_safe(), mv).map(PlayFault::Broken)
+        broken_by_side(self.seen.last(), self.is_safe(), mv).map(PlayFault::Broken)
     }
 
     // What `play` refuses if there is no room for the move.
@@ -219,27 +217,22 @@ impl Line {
         if self.moves.reserve(1).is_err() {
             return Err(self.fault_without_room(mover, &mv));
         }
-        let change = mv.change(&self.last);
-        if let Some(rule) = make_if_kept(&mut self.last, safe, &mv) {
+        let last = self.seen.last();
+        let mut next = *last;
+        if let Some(rule) = make_if_kept(&mut next, safe, &mv) {
             return Err(PlayFault::Broken(rule));
         }
-        let before = self.seen.last();
-        let in_check = gives_check(before, &self.last, &mv);
-        if mates_by_pawn_drop(&self.last, &mv, in_check) {
-            restore(&mut self.last, before);
+        let in_check = gives_check(last, &next, &mv);
+        if mates_by_pawn_drop(&next, &mv, in_check) {
             return Err(PlayFault::Broken(Rule::PawnDropMate));
         }
-        let packed = packed_after(before, &mv, &change, &self.last);
-        match self.seen.push(packed, in_check) {
+        match self.seen.push(&next, in_check) {
             Ok(()) => {
                 self.moves.push_reserved(mv);
                 self.in_check = in_check;
                 Ok(())
             }
-            Err(_) => {
-                restore(&mut self.last, self.seen.last());
-                Err(PlayFault::OutOfMemory)
-            }
+            Err(_) => Err(PlayFault::OutOfMemory),
         }
     }
 
@@ -251,15 +244,7 @@ impl Line {
         if self.is_over() {
             verdict_of_stretch(&self.seen)
         } else {
-            verdict_by_moves(&self.last)
+            verdict_by_moves(self.seen.last())
         }
     }
-}
-
-// Makes the last position again what it was before a move that is refused.
-#[inline(never)]
-fn restore(last: &mut Position, before: &Packed)
-    ensures { last.new ≡ before.now }
-{
-    *last = before.unpacked();
 }

@@ -1,8 +1,7 @@
 ghost use Rattle.std.specs.Prelude.{◌≡◌};
-ghost use Rattle.shogi_rules.specs.Changes.{IsChangeBy};
 ghost use Rattle.shogi_rules.specs.Legal.{target, kind_after, source};
 
-use shogi_board::{Change, Kind, Position, Square};
+use shogi_board::{Kind, Square};
 
 /// A move: of a piece on the board, or of one from the hand. It does not say whose it is.
 #[derive(Clone, Copy, Debug, PartialEq, Eq)]
@@ -37,23 +36,6 @@ impl Move {
         match self {
             Move::Walk { from, .. } => Some(from),
             Move::Put { .. } => None,
-        }
-    }
-
-    // What is on its squares before it.
-    pub(crate) fn change(self, position: &Position) -> Change
-        ensures { IsChangeBy position.now self result }
-    {
-        let (from, left) = match self {
-            Move::Walk { from, .. } => (Some(from), position.piece_at(from)),
-            Move::Put { .. } => (None, None),
-        };
-        let to = self.target();
-        Change {
-            from,
-            left,
-            to,
-            there: position.piece_at(to),
         }
     }
 

@@ -11,7 +11,7 @@ ghost use Rattle.shogi_rules.specs.Rules.{KeptAlone, keeping_rules, IsFirstBroke
 use crate::board_rules::broken_on_board;
 use crate::moves::Move;
 use crate::rule::Rule;
-use shogi_board::{Danger, Kind, Packed, Position, Square, attacked, attacked_from, reaches};
+use shogi_board::{Danger, Kind, Position, Square, attacked, attacked_from, reaches};
 
 // Where the mover's king may be attacked from after the move, if `safe` says that it is known not
 // to be attacked before. If it was not, then only in the direction of the square that the move
@@ -148,7 +148,7 @@ pub fn in_check(position: &Position) -> bool
 // before. If its king is attacked, then by the piece that moved, or in the direction of the square
 // that was left.
 #[inline(always)]
-pub(crate) fn gives_check(last: &Packed, next: &Position, mv: &Move) -> bool
+pub(crate) fn gives_check(last: &Position, next: &Position, mv: &Move) -> bool
     requires fits { FitsBoard last.now mv.now }
     requires next { next.now ≡ after last.now mv.now }
     ensures { IsTrue result ↔ InCheck next.now.material.board next.now.side }

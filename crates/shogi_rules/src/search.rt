@@ -10,7 +10,7 @@ ghost use Rattle.shogi_rules.specs.Trying.{IsFirstOf, NoneOf, IsWalk, IsDrop, Is
 ghost use Rattle.shogi_rules.specs.Verdicts.{NoLegalMove};
 
 use crate::board_rules::own_kind_at;
-use crate::evasions::is_mated;
+use crate::judging::mates;
 use crate::moves::Move;
 use crate::playing::after_if_kept;
 use shogi_board::{Kind, Position, Square, reaches};
@@ -46,7 +46,7 @@ fn is_legal(position: &Position, mv: &Move) -> bool
     ensures { IsTrue result ↔ Legal position.now mv.now }
 {
     match after_if_kept(position, mv) {
-        Ok(next) => !(is_pawn_drop(mv) && is_mated(&next)),
+        Ok(next) => !mates(&next, mv),
         Err(_) => false,
     }
 }

@@ -1,30 +1,14 @@
 ghost use Rattle.std.specs.Prelude.{◌≡◌, ◌+◌, ◌++◌, ◌<◌, ◌≤◌, [], ◌∷◌, ◌↔◌, IsTrue, List, Some, OnOk, OnErr, IfOk, length, slice_get};
 ghost use Rattle.shogi_board.specs.Placed.{Placed};
 ghost use Rattle.shogi_board.specs.Reach.{InCheck};
-ghost use Rattle.shogi_rules.specs.After.{after};
-ghost use Rattle.shogi_rules.specs.Changes.{IsChangeBy};
 ghost use Rattle.shogi_rules.specs.Counting.{IsSeen};
-ghost use Rattle.shogi_rules.specs.Legal.{FitsBoard};
 ghost use Rattle.shogi_rules.specs.Positions.{max_moves};
 ghost use Rattle.shogi_rules.specs.Repetition.{times, IsNth};
 
-use crate::moves::Move;
 use crate::occurrences::{FIRST_ROOM, Occurrences};
-use shogi_board::{Change, Color, Packed, Position};
+use shogi_board::{Color, Position};
 use std::alloc::{AllocError, Global};
 use std::marker::Model;
-
-// The packed position after a move that fits the board of the packed one; `next` is that position.
-#[inline(always)]
-pub(crate) fn packed_after(last: &Packed, mv: &Move, change: &Change, next: &Position) -> Packed
-    requires fits { FitsBoard last.now mv.now }
-    requires change { IsChangeBy last.now mv.now change.now }
-    requires next { next.now ≡ after last.now mv.now }
-    ensures { result ≡ next.now }
-{
-    last.soundness();
-    last.followed(next, change)
-}
 
 // Whose turn it is in a position, and whether that side is in check.
 #[derive(Clone, Copy)]
@@ -59,13 +43,11 @@ impl Seen {
         requires { IsTrue in_check ↔ InCheck start.now.material.board start.now.side }
         ensures { IfOk result (λ s. IsSeen (start.now ∷ []) start.now s) }
     {
+        let side = start.side();
         let mut counts = Occurrences::new(alloc)?;
-        let here = counts.add(Packed::of(start), 0)?;
+        let here = counts.add(start, 0)?;
         let mut turns = Vec::with_capacity(alloc, FIRST_ROOM)?;
-        turns.push(Turn {
-            side: start.side(),
-            in_check,
-        })?;
+        turns.push(Turn { side, in_check })?;
         Ok(Seen {
             counts,
             here,
@@ -74,7 +56,7 @@ impl Seen {
     }
 
     // The last position.
-    pub(crate) fn last(&self) -> &Packed
+    pub(crate) fn last(&self) -> &Position
         ensures { (ps : List Placed) (p : Placed) → IsSeen ps p self.now → result.now ≡ p }
     {
         &self.counts.entry(self.here).position
@@ -104,12 +86,13 @@ impl Seen {
     // Adds the position, of which it is known whether its side to move is in check. If an
     // allocation fails, nothing changes.
     #[inline(always)]
-    pub(crate) fn push(&mut self, position: Packed, in_check: bool) -> Result<(), AllocError>
+    pub(crate) fn push(&mut self, position: &Position, in_check: bool) -> Result<(), AllocError>
         requires seen { (ps : List Placed) × (p : Placed) × (length ps ≤ max_moves)
             × IsSeen ps p self.old }
-        requires check { IsTrue in_check ↔ InCheck position.material.board position.side }
+        requires check { IsTrue in_check
+            ↔ InCheck position.now.material.board position.now.side }
         ensures ok { OnOk result ((ps : List Placed) (p : Placed) → IsSeen ps p self.old
-            → IsSeen (ps ++ position ∷ []) position self.new) }
+            → IsSeen (ps ++ position.now ∷ []) position.now self.new) }
         ensures err { OnErr result (self.new ≡ self.old) }
     {
         let side = position.side();

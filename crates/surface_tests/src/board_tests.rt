@@ -1,7 +1,7 @@
 use crate::memory::{refuse_all, refuse_no_more};
 use shogi_board::{
-    Color, Danger, Hand, Kind, OutOfMemory, Packed, Piece, Position, Setup, SetupFault, Square,
-    attacked, attacked_from, attacker, reaches,
+    Color, Danger, Hand, Kind, OutOfMemory, Piece, Position, Setup, SetupFault, Square, attacked,
+    attacked_from, attacker, reaches,
 };
 use std::cmp::Ordering;
 use std::process::Abort;
@@ -94,19 +94,11 @@ fn calls_for_rules(rt: &impl Abort) -> Result<(), Fail> {
     even.soundness();
     let from: Option<Square> = attacker(&even, Color::Black, square(9, 4)?);
     assert!(rt; from == Some(square(9, 3)?));
+    let key: u64 = even.key();
+    assert!(rt; key == even.setup().finish(Color::Black)?.key());
     let attacks: bool = attacked_from(&even, Color::Black, square(9, 4)?, Danger::Anywhere);
     assert!(rt; attacks);
     Ok(())
-}
-
-// A position in a few numbers.
-fn packed_positions(rt: &impl Abort) {
-    let even = Position::even();
-    let packed: Packed = Packed::of(&even);
-    packed.soundness();
-    let copy = Packed::of(&packed.unpacked());
-    assert!(rt; packed.is_same(&copy) && packed.key() == copy.key());
-    assert!(rt; copy.unpacked() == even && copy.side() == Color::Black);
 }
 
 // No call of `shogi_board` allocates. `judge` and `after` make the calls that move a piece.
@@ -117,7 +109,6 @@ fn needs_no_memory(rt: HostRuntime) -> Result<(), Fail> {
     positions(&rt)?;
     setups(&rt)?;
     calls_for_rules(&rt)?;
-    packed_positions(&rt);
     refuse_no_more(&rt)
 }
 

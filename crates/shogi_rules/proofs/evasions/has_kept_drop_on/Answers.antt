@@ -5,7 +5,7 @@ use Rattle.shogi_board.specs.Material.{bag_of}
 use Rattle.shogi_board.specs.declared.kind.Kind.{Kind}
 use Rattle.shogi_rules.specs.Legal.{Keeps}
 use Rattle.shogi_rules.specs.declared.moves.Move.TheVariants.{Put}
-use Rattle.shogi_rules.proofs.Drops.{held-of}
+use Rattle.shogi_board.proofs.Drops.{held-of}
 use Rattle.shogi_rules.proofs.Forms.{held-low}
 use Rattle.shogi_rules.proofs.evasions.has_kept_drop_on.Goals as goal
 

@@ -1,6 +1,6 @@
 use Rattle.std.proofs.Common.{sym}
 use Rattle.shogi_board.proofs.Pieces.{mover-is}
-use Rattle.shogi_rules.proofs.Forms.{opponent-twice}
+use Rattle.shogi_board.proofs.Pieces.{opponent-twice}
 use Rattle.shogi_rules.proofs.laws.king_never_taken.Goals as goal
 
 pub returns : goal.returns

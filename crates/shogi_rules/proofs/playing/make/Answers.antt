@@ -6,7 +6,7 @@ use Rattle.shogi_rules.specs.After.{board_after}
 use Rattle.shogi_rules.specs.Legal.{FitsBoard}
 use Rattle.shogi_rules.specs.declared.moves.Move.{Move}
 use Rattle.shogi_rules.specs.declared.moves.Move.TheVariants.{Walk, Put}
-use Rattle.shogi_rules.proofs.Forms.{captured-held}
+use Rattle.shogi_board.proofs.Pieces.{captured-held}
 use Rattle.shogi_rules.proofs.Kept.{after-within}
 use Rattle.shogi_rules.proofs.Walks.{start-of, no-king-taken}
 use Rattle.shogi_rules.proofs.playing.make.Goals as goal

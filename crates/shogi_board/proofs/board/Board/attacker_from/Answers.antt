@@ -20,8 +20,8 @@ overflow_sub-place c =
     let e = place-next c.args.square t.0 c.args.direction c.loop-n.n c.loop-n.place c.loop-n.auto.n t.1 c.loop-n.invariant.seat in
     omega (arith, e, c.stride-stride.ensures)
 
-pub bounds : goal.bounds
-bounds c =
+pub content-requires : goal.content-requires
+content-requires c =
     let t = c.room-n-end.ensures.there c.loop-n.n (omega (arith, c.loop-n-test.true)) in
     let e = place-next c.args.square t.0 c.args.direction c.loop-n.n c.loop-n.place c.loop-n.auto.n t.1 c.loop-n.invariant.seat in
     let low = place-bound t.0 in

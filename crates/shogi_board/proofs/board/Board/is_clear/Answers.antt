@@ -18,8 +18,8 @@ overflow_sub-place c =
     let e = t.2 in
     omega (arith, e, c.stride-stride.ensures)
 
-pub bounds-self-inside-place : goal.bounds-self-inside-place
-bounds-self-inside-place c =
+pub content-requires : goal.content-requires
+content-requires c =
     let t = next c.args.from c.requires.there.0 c.args.direction c.loop-n._n c.args.distance c.loop-n.place c.requires.ray c.loop-n.auto._n c.loop-n-test.true c.requires.there.1 c.loop-n.invariant.seat in
     let e = t.2 in
     let low = place-bound t.0 in

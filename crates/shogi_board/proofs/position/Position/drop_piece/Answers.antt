@@ -1,11 +1,17 @@
-use Rattle.std.proofs.Common.{◌≡◌, ◌∙◌, None, set, ap, refl, subst, sym}
+use Rattle.std.proofs.Common.{rules, ◌≡◌, ◌∙◌, ◌<◌, ◌^◌, None, set, get_or, ap, refl}
 use Rattle.shogi_board.specs.Cells.{Cells, at, piece}
-use Rattle.shogi_board.specs.Moved.{after_drop}
-use Rattle.shogi_board.specs.Placed.{Placed}
+use Rattle.shogi_board.specs.Keys.{held_key}
+use Rattle.shogi_board.specs.Material.{Material, bag_of, with_bag}
+use Rattle.shogi_board.specs.Pieces.{place_of}
 use Rattle.shogi_board.specs.Reach.{InCheck}
+use Rattle.shogi_board.specs.Setup.{one_less}
 use Rattle.shogi_board.specs.Squares.{place}
 use Rattle.shogi_board.specs.Totals.{IsWithinTotals}
-use Rattle.shogi_board.proofs.Moved.{made, put-back, black-dropped, white-dropped}
+use Rattle.shogi_board.proofs.Drops.{held-of}
+use Rattle.shogi_board.proofs.Keyed.{dropped-key}
+use Rattle.shogi_board.proofs.Moved.{put-back, black-passed, white-passed}
+use Rattle.shogi_board.proofs.Squares.{place-bound}
+use Rattle.shogi_board.proofs.Totals.{own-seven}
 use Rattle.shogi_board.proofs.position.Position.drop_piece.Goals as goal
 use Rattle.shogi_board.proofs.position.Position.drop_piece.Goals.{in-Black, in-White}
 
@@ -16,7 +22,7 @@ pub put-requires-then-king_is_attacked : goal.put-requires-then-king_is_attacked
 put-requires-then-king_is_attacked c = λ color.
     let i = c.self.inside in
     let empty : at i.board c.args.to ≡ None = rw (← c.self.view_is) at c.requires.empty in
-    rw (c.put.ensures, put-back i.board (place c.args.to) (piece i.side c.args.kind) None empty) (c.self.invariant.within.kings color)
+    rw (c.put.ensures, put-back i.board (place c.args.to) (piece i.side c.args.kind) None empty) (c.self.invariant.sound.within.kings color)
 
 pub invariant_of-self : goal.invariant_of-self
 invariant_of-self c =
@@ -43,15 +49,29 @@ returns-then-king_is_attacked-clause-answer c =
 pub invariant_of-self-2 : goal.invariant_of-self-2
 invariant_of-self-2 c =
     let i = c.self.inside in
-    let totals : IsWithinTotals (after_drop (made i.board i.black i.white i.side) c.args.to c.args.kind).material = subst (λ (q : Placed). IsWithinTotals (after_drop q c.args.to c.args.kind).material) (sym c.self.view_is) c.requires.totals in
-    let safe : InCheck (set i.board (place c.args.to) (piece i.side c.args.kind)) i.side → ⊥ = λ check.
+    let m : Material = record { board = i.board; black = i.black; white = i.white } in
+    let w = c.self.invariant.sound.within in
+    let board = set i.board (place c.args.to) (piece i.side c.args.kind) in
+    let bag = one_less (bag_of m i.side) c.args.kind in
+    let totals : IsWithinTotals (record (with_bag m i.side bag) { board = board }) = rw (← c.self.view_is) at c.requires.totals in
+    let safe : InCheck board i.side → ⊥ = λ check.
     let asked : InCheck c.put.new.self i.side = rw c.put.ensures check in
     let yes = c.king_is_attacked.ensures.1 asked in
     let no = c.if-king_is_attacked.false in
     cc in
+    let empty : get_or i.board (place c.args.to) None ≡ None = rw (← c.self.view_is) at c.requires.empty in
+    let some = rw (← c.self.view_is) at c.requires.held in
+    let left : c.held_key.result ≡ held_key i.side (place_of c.args.kind) = c.held_key.ensures ∙ rw c.place-2.ensures.value refl in
+    let small : c.held_key.result < 2 ^ 64 = search rules in
+    let key = dropped-key m i.side (place c.args.to) i.key c.held_key.result (piece i.side c.args.kind) c.args.kind c.self.invariant.key w.squares (own-seven m i.side w)
+    (place-bound c.args.to) empty (held-of (bag_of m i.side) c.args.kind some).0 some left small in
     elim c.match-side.branch [
-      | in-Black w ↦ rw (w.self-inside-is, c.opponent-self-inside.ensures.value, w.take_one.ensures, c.put.ensures) (black-dropped i.board i.black i.white i.side c.args.to c.args.kind w.in-Black.is totals safe)
-      | in-White w ↦ rw (w.self-inside-is, c.opponent-self-inside.ensures.value, w.take_one-in-White.ensures, c.put.ensures) (white-dropped i.board i.black i.white i.side c.args.to c.args.kind w.in-White.is totals safe)
+      | in-Black w ↦
+          let own : bag_of m i.side ≡ i.black = ap (bag_of m) w.in-Black.is in
+          rw (w.self-inside-is, c.opponent-self-inside.ensures.value, w.take_one.ensures, c.put.ensures, c.piece_key.ensures, c.place.ensures.value, ← own) (black-passed m i.side board bag _ w.in-Black.is totals safe key)
+      | in-White w ↦
+          let own : bag_of m i.side ≡ i.white = ap (bag_of m) w.in-White.is in
+          rw (w.self-inside-is, c.opponent-self-inside.ensures.value, w.take_one-in-White.ensures, c.put.ensures, c.piece_key.ensures, c.place.ensures.value, ← own) (white-passed m i.side board bag _ w.in-White.is totals safe key)
     ]
 
 pub returns-clause-answer : goal.returns-clause-answer

@@ -6,8 +6,8 @@ use Rattle.shogi_board.proofs.setup.Setup.finish.Goals as goal
 pub returns-then-leaves_check-clause-answer : goal.returns-then-leaves_check-clause-answer
 returns-then-leaves_check-clause-answer c = (c.leaves_check.ensures.value.0 c.if-leaves_check.true, refl)
 
-pub invariant_of-result : goal.invariant_of-result
-invariant_of-result c = record {
+pub of-requires : goal.of-requires
+of-requires c = record {
   within = c.self.invariant;
   safe = λ check.
       let there : InCheck c.args.self.now.material.board (opponent c.args.side) = rw (← c.self.view_is) check in
@@ -17,4 +17,11 @@ invariant_of-result c = record {
 }
 
 pub returns-clause-sound : goal.returns-clause-sound
-returns-clause-sound c = invariant_of-result c
+returns-clause-sound c = rw c.of.ensures (record {
+  within = c.self.invariant;
+  safe = λ check.
+      let there : InCheck c.args.self.now.material.board (opponent c.args.side) = rw (← c.self.view_is) check in
+      let yes = c.leaves_check.ensures.value.1 there in
+      let no : c.leaves_check.result ≡ false = c.if-leaves_check.false in
+      cc;
+})

@@ -1,4 +1,4 @@
-use Rattle.std.proofs.Common.{◌≡◌, true, not, ap, ◌∙◌, subst}
+use Rattle.std.proofs.Common.{◌≡◌, true, not, ap, subst}
 use Rattle.shogi_board.specs.Placed.{Placed}
 use Rattle.shogi_board.specs.Reach.{InCheck}
 use Rattle.shogi_rules.specs.Positions.{now_of}
@@ -7,5 +7,4 @@ use Rattle.shogi_rules.proofs.line.Line.is_safe.Goals as goal
 
 pub returns : goal.returns
 returns c =
-    let e : c.self.inside.last ≡ now_of c.args.self.now = c.self.invariant.0.leads ∙ ap now_of c.self.view_is in
-    subst (λ (p : Placed). not c.self.inside.in_check ≡ true → InCheck p.material.board p.side → ⊥) e (safe-king c.self.inside.in_check c.self.invariant.2)
+    subst (λ (p : Placed). not c.self.inside.in_check ≡ true → InCheck p.material.board p.side → ⊥) (ap now_of c.self.view_is) (safe-king c.self.inside.in_check c.self.invariant.2)

@@ -1,14 +1,13 @@
-use Rattle.std.proofs.Common.{arith, refl}
+use Rattle.std.proofs.Common.{arith}
 use Rattle.shogi_rules.specs.Positions.{begun}
 use Rattle.shogi_rules.proofs.line.Line.new.Goals as goal
 
 pub invariant_of-result : goal.invariant_of-result
 invariant_of-result c = (
   record {
-    leads = rw c.in_ok-with_capacity.ensures.items refl;
     game = rw c.in_ok-with_capacity.ensures.items begun;
     few = rw c.in_ok-with_capacity.ensures.items (omega arith);
   },
   rw c.in_ok-with_capacity.ensures.items c.in_ok-new.ensures,
-  c.in_check-in_check.ensures.check,
+  rw c.in_ok-with_capacity.ensures.items c.in_check-in_check.ensures.check,
 )

@@ -1,6 +1,5 @@
 use Rattle.std.proofs.Common.{◌≡◌, ◌-◌, inl, inr, ap, ◌∙◌, sym, subst, length, arith}
 use Rattle.shogi_board.specs.Placed.{Placed}
-use Rattle.shogi_rules.specs.Counting.{IsSeen}
 use Rattle.shogi_rules.specs.Positions.{Played, Over, line_of, now_of, position_after, positions_of}
 use Rattle.shogi_rules.specs.Repetition.{IsNth}
 use Rattle.shogi_rules.specs.Verdicts.{StandsByMoves, StandsByStretch}
@@ -12,7 +11,6 @@ returns-then-is_over c =
     let i = c.self.inside in
     let ms = i.moves.items in
     let seen = c.self.invariant.1 in
-    let last : i.last ≡ position_after i.start ms = c.self.invariant.0.leads in
     let over : Over c.args.self.now = c.is_over.ensures.answer.0 c.if-is_over.true in
     let own : Over (line_of i.start ms) = rw (sym c.self.view_is) at over in
     let long = seen.turns.long in
@@ -20,14 +18,13 @@ returns-then-is_over c =
     let place : length i.seen.turns - 1 ≡ length ms = omega (arith, long, count) in
     let nth : IsNth (positions_of i.start ms) (position_after i.start ms) 4 (length i.seen.turns - 1) =
     rw place (game-fourth i.start ms c.self.invariant.0.game own) in
-    let seen_now : IsSeen (positions_of i.start ms) (position_after i.start ms) i.seen =
-    subst (λ (p : Placed). IsSeen (positions_of i.start ms) p i.seen) last seen in
-    let there : StandsByStretch (line_of i.start ms) c.verdict_of_stretch.result = c.verdict_of_stretch.ensures (line_of i.start ms) seen_now nth in
+    let there : StandsByStretch (line_of i.start ms) c.verdict_of_stretch.result = c.verdict_of_stretch.ensures (line_of i.start ms) seen nth in
     record { stands = inl (over, subst (λ (s : Played). StandsByStretch s c.verdict_of_stretch.result) c.self.view_is there) }
 
 pub returns-else-is_over : goal.returns-else-is_over
 returns-else-is_over c = record {
-  stands = let e : c.self.inside.last ≡ now_of c.args.self.now = c.self.invariant.0.leads ∙ ap now_of c.self.view_is in
+  stands = let i = c.self.inside in
+      let e : c.last.result.now ≡ now_of c.args.self.now = c.last.ensures _ (position_after i.start i.moves.items) c.self.invariant.1 ∙ ap now_of c.self.view_is in
       let not_over : Over c.args.self.now → ⊥ = λ over.
       let yes = c.is_over.ensures.answer.1 over in
       let no = c.if-is_over.false in

@@ -15,7 +15,7 @@ overflow_add-index_mut c =
     let es = c.self.inside.entries.items in
     let n = c.in-Ok.n in
     let e = c.index_mut.result.now in
-    let found : (n < length es) × StandsAt es n c.args.position = rw c.deref.ensures.value at c.in-Ok.ensures in
+    let found : (n < length es) × StandsAt es n c.args.position.now = rw c.deref.ensures.value at c.in-Ok.ensures in
     let at = slice_get_read es (length es) n e refl found.0 c.index_mut.ensures.value in
     let counts : AreCounts c.requires.counted.0 es = rw (sym c.self.view_is) at c.requires.counted.2 in
     let low = count-low c.requires.counted.0 es n e counts at in
@@ -26,30 +26,30 @@ invariant_of-self c =
     let es = c.self.inside.entries.items in
     let n = c.in-Ok.n in
     let e = c.index_mut.result.now in
-    let found : (n < length es) × StandsAt es n c.args.position = rw c.deref.ensures.value at c.in-Ok.ensures in
+    let found : (n < length es) × StandsAt es n c.args.position.now = rw c.deref.ensures.value at c.in-Ok.ensures in
     let at = slice_get_read es (length es) n e refl found.0 c.index_mut.ensures.value in
-    tree-kept es c.self.inside.links.items n e (record e { count = e.count + 1 }) c.self.invariant at refl refl
+    tree-kept es c.self.inside.links.items n e (record e { count = e.count + 1 }) c.self.invariant at refl
 
 pub returns-in-Ok-clause-ok : goal.returns-in-Ok-clause-ok
 returns-in-Ok-clause-ok c = λ ps long counts.
     let es = c.self.inside.entries.items in
     let n = c.in-Ok.n in
     let e = c.index_mut.result.now in
-    let found : (n < length es) × StandsAt es n c.args.position = rw c.deref.ensures.value at c.in-Ok.ensures in
+    let found : (n < length es) × StandsAt es n c.args.position.now = rw c.deref.ensures.value at c.in-Ok.ensures in
     let at = slice_get_read es (length es) n e refl found.0 c.index_mut.ensures.value in
     let old : AreCounts ps es = rw (sym c.self.view_is) at counts in
-    counts-again ps es n e (record e { count = e.count + 1 }) c.args.position old at (found.1 e at) refl refl refl
+    counts-again ps es n e (record e { count = e.count + 1 }) c.args.position.now old at (found.1 e at) refl refl refl
 
 pub returns-in-Ok-clause-place : goal.returns-in-Ok-clause-place
 returns-in-Ok-clause-place c =
     let es = c.self.inside.entries.items in
     let n = c.in-Ok.n in
     let e = c.index_mut.result.now in
-    let found : (n < length es) × StandsAt es n c.args.position = rw c.deref.ensures.value at c.in-Ok.ensures in
+    let found : (n < length es) × StandsAt es n c.args.position.now = rw c.deref.ensures.value at c.in-Ok.ensures in
     let at = slice_get_read es (length es) n e refl found.0 c.index_mut.ensures.value in
     let new : Entry = record e { count = e.count + 1 } in
     let long = length-set es n new in
-    (omega (arith, long, found.0), stands-again es n e new c.args.position at (found.1 e at) refl)
+    (omega (arith, long, found.0), stands-again es n e new c.args.position.now at (found.1 e at) refl)
 
 pub overflow_cast-n : goal.overflow_cast-n
 overflow_cast-n c =
@@ -70,7 +70,7 @@ overflow_add-n c =
 pub index_mut-requires-2 : goal.index_mut-requires-2
 index_mut-requires-2 c =
     let links = c.self.inside.links.items in
-    let free : IsFree c.self.inside.entries.items links c.args.position c.in-Err.link = rw (c.deref.ensures.value, c.deref-2.ensures.value) at c.in-Err.ensures in
+    let free : IsFree c.self.inside.entries.items links c.args.position.now c.in-Err.link = rw (c.deref.ensures.value, c.deref-2.ensures.value) at c.in-Err.ensures in
     let low = slice_get_within links c.in-Err.link 0 free.none in
     let same : c.reserve-2.new.self.items ≡ links = grind (arith, common_steps) in
     grind (arith, common_steps)
@@ -79,20 +79,20 @@ pub invariant_of-self-2 : goal.invariant_of-self-2
 invariant_of-self-2 c =
     let links = c.self.inside.links.items in
     let es : List Entry = c.self.inside.entries.items in
-    let p = c.args.position in
-    let d : Entry = record { position = p; number = c.number_of-number.result; count = 1; first = c.args.before } in
+    let p = c.args.position.now in
+    let d : Entry = record { position = p; count = 1; first = c.args.before } in
     let more : c.push_reserved-3.new.self.items ≡ es ++ d ∷ [] = grind (arith, common_steps) in
     let n : c.len-n.result ≡ length es = grind (arith, common_steps) in
     let free : IsFree es links p c.in-Err.link = rw (c.deref.ensures.value, c.deref-2.ensures.value) at c.in-Err.ensures in
     let linked : c.push_reserved-2.new.self.items ≡ set links c.in-Err.link (length es + 1) ++ 0 ∷ 0 ∷ [] = grind (arith, common_steps) in
-    rw (more, linked) (tree-more es links d c.in-Err.link c.self.invariant free c.number_of-number.ensures)
+    rw (more, linked) (tree-more es links d c.in-Err.link c.self.invariant free)
 
 pub returns-clause-ok : goal.returns-clause-ok
 returns-clause-ok c = λ ps long counts.
     let links = c.self.inside.links.items in
     let es : List Entry = c.self.inside.entries.items in
-    let p = c.args.position in
-    let d : Entry = record { position = p; number = c.number_of-number.result; count = 1; first = c.args.before } in
+    let p = c.args.position.now in
+    let d : Entry = record { position = p; count = 1; first = c.args.before } in
     let more : c.push_reserved-3.new.self.items ≡ es ++ d ∷ [] = grind (arith, common_steps) in
     let old : AreCounts ps es = rw (sym c.self.view_is) at counts in
     let free : IsFree es links p c.in-Err.link = rw (c.deref.ensures.value, c.deref-2.ensures.value) at c.in-Err.ensures in
@@ -102,8 +102,8 @@ returns-clause-ok c = λ ps long counts.
 pub returns-clause-place : goal.returns-clause-place
 returns-clause-place c =
     let es : List Entry = c.self.inside.entries.items in
-    let p = c.args.position in
-    let d : Entry = record { position = p; number = c.number_of-number.result; count = 1; first = c.args.before } in
+    let p = c.args.position.now in
+    let d : Entry = record { position = p; count = 1; first = c.args.before } in
     let more : c.push_reserved-3.new.self.items ≡ es ++ d ∷ [] = grind (arith, common_steps) in
     let n : c.len-n.result ≡ length es = grind (arith, common_steps) in
     let long = length-append es (d ∷ []) in

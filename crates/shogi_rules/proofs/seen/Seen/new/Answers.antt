@@ -6,10 +6,10 @@ use Rattle.shogi_rules.proofs.seen.Seen.new.Goals as goal
 
 pub returns : goal.returns
 returns c =
-    let turn : Turn = record { side = c.side.result; in_check = c.args.in_check } in
+    let turn : Turn = record { side = c.side-side.result; in_check = c.args.in_check } in
     let one : c.push.new.self.items ≡ turn ∷ [] = grind (arith, common_steps) in
     record {
-      counts = rw c.of.ensures.value at (c.in_ok-here.ensures.ok [] refl (none-counted _ c.in_ok-counts.ensures));
-      here = rw c.of.ensures.value at c.in_ok-here.ensures.place.1;
-      turns = rw one (turns-more [] [] c.args.start.now turn no-turns c.side.ensures.value c.requires);
+      counts = c.in_ok-here.ensures.ok [] refl (none-counted _ c.in_ok-counts.ensures);
+      here = c.in_ok-here.ensures.place.1;
+      turns = rw one (turns-more [] [] c.args.start.now turn no-turns c.side-side.ensures.value c.requires);
     }

@@ -16,7 +16,7 @@ returns-clause-ok c = λ ps p seen.
     record {
       counts = c.in_ok-self-inside.ensures.ok ps (sym (before ∙ kept.turns.long)) kept.counts;
       here = c.in_ok-self-inside.ensures.place.1;
-      turns = rw more (turns-more ps i.turns.items c.args.position turn kept.turns c.side-side.ensures.value c.requires.check);
+      turns = rw more (turns-more ps i.turns.items c.args.position.now turn kept.turns c.side-side.ensures.value c.requires.check);
     }
 
 pub returns-in_err-reserve-clause-err : goal.returns-in_err-reserve-clause-err
