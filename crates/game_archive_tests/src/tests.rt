@@ -26,7 +26,7 @@ const REFUSED: &[u8] = b"+\n+7775FU";
 
 fn placed(alloc: Global, likeness: Likeness, books: &[Book]) -> Result<Vec<Placing>, Fail> {
     let mut last = Last { at: None };
-    let placings = group(alloc, &Shelf { books }, likeness, &mut last)?;
+    let placings = group(alloc, &mut Shelf::new(alloc, books), likeness, &mut last)?;
     Ok(placings)
 }
 
@@ -91,18 +91,12 @@ fn refused_in_no_group(rt: HostRuntime) -> Result<(), Fail> {
 #[test]
 fn unreadable_in_no_group(rt: HostRuntime) -> Result<(), Fail> {
     let books = [
-        Book::changing(Tape::Missing, Tape::Bytes(GAME)),
         Book::changing(Tape::Torn, Tape::Bytes(GAME)),
         Book::of(GAME),
         Book::of(SPELT),
     ];
     let placings = placed(rt.alloc(), Likeness::Game, books.as_slice())?;
-    let wanted = [
-        Placing::Unreadable,
-        Placing::Unreadable,
-        Placing::Group(2),
-        Placing::Group(2),
-    ];
+    let wanted = [Placing::Unreadable, Placing::Group(1), Placing::Group(1)];
     assert!(rt; placings.as_slice() == wanted.as_slice());
     Ok(())
 }
@@ -111,7 +105,7 @@ fn unreadable_in_no_group(rt: HostRuntime) -> Result<(), Fail> {
 // others keep theirs.
 #[test]
 fn not_read_again(rt: HostRuntime) -> Result<(), Fail> {
-    for later in [Tape::Missing, Tape::Torn, Tape::Bytes(REFUSED)] {
+    for later in [Tape::Torn, Tape::Bytes(REFUSED)] {
         let books = [
             Book::changing(Tape::Bytes(GAME), later),
             Book::of(OTHER_NAME),
@@ -155,11 +149,9 @@ fn one_digest_for_all(rt: HostRuntime) -> Result<(), Fail> {
         Book::of(SPELT),
         Book::of(NO_TIME),
     ];
-    let shelf = Shelf {
-        books: books.as_slice(),
-    };
+    let mut shelf = Shelf::new(rt.alloc(), books.as_slice());
     let mut last = Last { at: None };
-    let placings = group_by(rt.alloc(), &shelf, Likeness::Game, &Blind, &mut last)?;
+    let placings = group_by(rt.alloc(), &mut shelf, Likeness::Game, &Blind, &mut last)?;
     let wanted = [0, 1, 2, 1, 0, 2].map(Placing::Group);
     assert!(rt; placings.as_slice() == wanted.as_slice());
     assert!(rt; last.at == Some(5));
