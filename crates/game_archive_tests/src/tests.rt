@@ -1,4 +1,5 @@
 use crate::shelf::{Blind, Book, Last, Shelf, Tape};
+use crate::texts::{Texts, exact_groups};
 use game_archive::{Likeness, Placing, copies, group, group_by};
 use std::alloc::Global;
 use std::test::Fail;
@@ -181,5 +182,26 @@ fn copies_in_order(rt: HostRuntime) -> Result<(), Fail> {
     let pairs = copies(rt.alloc(), placings.as_slice())?;
     let wanted = [(1, 1), (1, 5), (1, 6), (3, 3), (3, 4)];
     assert!(rt; pairs.as_slice() == wanted.as_slice());
+    Ok(())
+}
+
+// The premise of `exact` is met: no reading of texts in memory fails.
+#[test]
+fn exact_groups_of_texts(rt: HostRuntime) -> Result<(), Fail> {
+    let texts = [GAME, REFUSED, SPELT, OTHER_TIME];
+    let mut archive = Texts::new(rt.alloc(), texts.as_slice());
+    let placings = exact_groups(rt.alloc(), &mut archive, Likeness::Game)?;
+    assert!(rt; archive.failed.is_empty());
+    assert!(rt; archive.refused.as_slice() == [1].as_slice());
+    let is_so = matches!(
+        placings.as_slice(),
+        [
+            Placing::Group(0),
+            Placing::Refused(_),
+            Placing::Group(0),
+            Placing::Group(3)
+        ]
+    );
+    assert!(rt; is_so);
     Ok(())
 }
