@@ -2,7 +2,7 @@
 use Rattle.std.proofs.Common.{◌≡◌, ◌∙◌, ap, sym, refl, ℕ, false, ◌==◌, List, [], ◌∷◌, ◌++◌, length, Contains}
 use Rattle.std.proofs.lemmas.List.{append_assoc, append-nil, map-append}
 use Rattle.std.specs.Global.{Vec}
-use Rattle.archive_commands.specs.Lists.{ArePartsOf, Lists, code_of, items_of, path_in, some_path, without_cr}
+use Rattle.archive_commands.specs.Lists.{Lists, code_of, items_of, path_in, some_path, without_cr}
 use Rattle.shogi_words.specs.declared.request.PathEnd.{PathEnd}
 
 some_one : (path : List ℕ) → (length path == 0) ≡ false → some_path path ≡ path ∷ []

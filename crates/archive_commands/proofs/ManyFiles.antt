@@ -1,5 +1,5 @@
 -- What is printed about one file, and about those after it.
-use Rattle.std.proofs.Common.{Result, Ok, Err, IfOk, OnOk, ◌≡◌, ◌<◌, ◌≤◌, ◌+◌, refl, inl, inr, ℕ, List, [], length, drop, get_or, Option, sym, subst}
+use Rattle.std.proofs.Common.{Result, Ok, Err, IfOk, OnOk, ◌≡◌, ◌<◌, ◌≤◌, ◌+◌, refl, inl, inr, ℕ, List, length, drop, get_or, Option, sym, subst}
 use Rattle.std.proofs.lemmas.List.{drop_all, drop_more}
 use Rattle.std.specs.Global.{Vec}
 use Rattle.std.specs.Io.KnownBytes.{Appends}

@@ -1,9 +1,9 @@
 -- What `same` prints and counts, one file after another.
-use Rattle.std.proofs.Common.{true, ◌≡◌, ◌∙◌, ap, arith, sym, subst, refl, ℕ, ◌+◌, ◌<◌, ◌==◌, ◌&&◌, List, [], ◌∷◌, ◌++◌, length, map, take, get_or, Option, append_assoc, append-nil, length-take-le, ◌≤◌, zero, suc, Bool}
-use Rattle.std.specs.Prelude.{nat_lt, slice_index_or}
+use Rattle.std.proofs.Common.{true, ◌≡◌, ◌∙◌, ap, arith, sym, subst, refl, ℕ, ◌+◌, ◌<◌, ◌==◌, ◌&&◌, List, [], ◌∷◌, ◌++◌, length, take, get_or, Option, append_assoc, append-nil, length-take-le, ◌≤◌, zero, suc, Bool}
+use Rattle.std.specs.Prelude.{nat_lt}
 use Rattle.std.specs.Global.{Vec}
 use Rattle.std.specs.Io.KnownBytes.{Appends}
-use Rattle.std.specs.List.{All, Contains}
+use Rattle.std.specs.List.{All}
 use Rattle.std.proofs.KnownBytes.{Appends-trans}
 use Rattle.std.proofs.lemmas.List.{get_or-map, take_more}
 use Rattle.std.proofs.lemmas.List.Elements.{Contains-get_or}

@@ -1,5 +1,5 @@
 -- The files of `same` as an archive, and the lines of its groups.
-use Rattle.std.specs.Prelude.{◌≡◌, ◌⊎◌, ℕ, ◌+◌, ◌<◌, ◌==◌, ◌&&◌, nat_lt, List, [], ◌∷◌, ◌++◌, length, take, Bool, if◌then◌else◌, Option, Some, slice_index_or}
+use Rattle.std.specs.Prelude.{◌≡◌, ◌⊎◌, ℕ, ◌+◌, ◌<◌, ◌==◌, ◌&&◌, nat_lt, List, [], ◌∷◌, ◌++◌, length, take, Bool, if◌then◌else◌, Option, Some, Result, slice_index_or}
 use Rattle.std.specs.Io.KnownBytes.{Appends}
 use Rattle.std.specs.Str.{IsUtf8}
 use Rattle.archive_commands.specs.Lists.{code_of}
@@ -11,30 +11,28 @@ use Rattle.csa_record.specs.declared.flow.FlowFault.TheVariants as flow
 use Rattle.game_archive.specs.Alike.{GiveBytes}
 use Rattle.game_archive.specs.Groups.{IsGrouped}
 use Rattle.game_archive.specs.Listing.{IsInOrder, ListsOnce, ListsShared}
-use Rattle.game_archive.specs.Unreadable.{HaveCauses}
+use Rattle.game_archive.specs.Readings.{Noted}
+use Rattle.game_archive.specs.Unreadable.{HaveCausesBetween, IsExact}
 use Rattle.game_archive.specs.declared.grouping.Placing.{Placing}
 use Rattle.game_archive.specs.declared.grouping.Placing.TheVariants as placing
-use Rattle.record_game.specs.declared.fault.Refusal.{Refusal}
+use Rattle.record_commands.specs.Reports.{GetsRecord}
+use Rattle.record_game.specs.Game.{Game}
 use Rattle.shogi_words.specs.declared.request.PathEnd.{PathEnd}
 
 -- the path of a file
 abbrev pub path_at : List (List ℕ) → ℕ → List ℕ
 path_at paths at = slice_index_or paths at []
 
--- the file of this path can be opened, and these are its bytes
-abbrev pub FileGives : {Input : Type 0} → (Option (List ℕ) → Input → Type 0)
-    → (Input → Option (List ℕ)) → List (List ℕ) → ℕ → Option (List ℕ) → Type 0
-FileGives {Input} Opened bytes paths at known =
-    (input : Input) × Opened (Some (path_at paths at)) input × (known ≡ bytes input)
-
 -- its path is not UTF-8, or it cannot be opened
-abbrev pub IsUnopened : (Option (List ℕ) → Type 0) → List (List ℕ) → ℕ → Type 0
-IsUnopened Unopened paths at =
-    (IsUtf8 (path_at paths at) → ⊥) ⊎ Unopened (Some (path_at paths at))
+abbrev pub IsUnopened : (Option (List ℕ) → Type 0) → List ℕ → Type 0
+IsUnopened Unopened path = (IsUtf8 path → ⊥) ⊎ Unopened (Some path)
 
--- its path is UTF-8: when a read of an opened file fails, no contract can say
-abbrev pub IsOpened : List (List ℕ) → ℕ → Type 0
-IsOpened paths at = IsUtf8 (path_at paths at)
+-- a reading of the file of this path may come to this
+abbrev pub FileReads : {Input : Type 0} → (Option (List ℕ) → Type 0)
+    → (Option (List ℕ) → Input → Type 0) → (Input → Option (List ℕ)) → List ℕ
+    → Result Game FlowFault → Type 0
+FileReads Unopened Opened bytes path result =
+    GetsRecord (IsUnopened Unopened path) (Opened (Some path)) bytes result
 
 -- the line of a file, after an empty one if it begins a further group
 abbrev pub group_line : PathEnd → Bool → List ℕ → List ℕ
@@ -60,14 +58,16 @@ tally_from t [] = t
 tally_from t (p ∷ ps) = tally_from (counted_with t p) ps
 
 -- the files are in groups, the members of those with others are printed, and each file is counted
-pub record PrintsGroups (comparison : Comparison) (Unopened Fails : ℕ → Type 0)
-    (Gives : ℕ → Option (List ℕ) → Type 0) (paths : List (List ℕ))
-    (old new : Option (List ℕ)) (tally : Tally) : Type 0 where
+pub record PrintsGroups (comparison : Comparison) (Reads : ℕ → Result Game FlowFault → Type 0)
+    (before after : Noted) (paths : List (List ℕ)) (old new : Option (List ℕ)) (tally : Tally)
+    : Type 0 where
   pub placings : List Placing
   pub whole : length placings ≡ length paths
-  pub grouped : (bytes : ℕ → List ℕ) → GiveBytes (length paths) Gives bytes
+  pub grouped : (bytes : ℕ → List ℕ) → GiveBytes (length paths) Reads bytes
       → IsGrouped comparison.likeness bytes placings
-  pub causes : HaveCauses Unopened Fails Gives placings
+  pub causes : HaveCausesBetween Reads before after placings
+  pub exact : (bytes : ℕ → List ℕ) → GiveBytes (length paths) Reads bytes
+      → after.failed ≡ before.failed → IsExact comparison.likeness bytes placings
   pub tally_is : tally ≡ tally_from no_file placings
   pub members : List (ℕ × ℕ)
   pub shared : ListsShared placings members

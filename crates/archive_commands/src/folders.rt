@@ -1,6 +1,6 @@
 //! The records that lie in a folder, and in the folders there.
 
-ghost use Rattle.std.specs.Prelude.{◌≡◌, IfOk};
+ghost use Rattle.std.specs.Prelude.{◌≡◌, IfOk, codes, false};
 ghost use Rattle.archive_commands.specs.Folders.{AreInByteOrder, is_record_name, joined};
 
 use crate::list;
@@ -18,13 +18,15 @@ enum PathKind {
     Folder(String),
     // A record, or what has to be opened to show why it is none.
     Record,
-    // A file of another kind, or a link to a folder.
+    // A file with another name, a link to a folder, a pipe or a device.
     Other,
 }
 
 /// Whether there is a folder at this path, or a link to one. The name `-` is that of standard
 /// input.
-pub fn is_folder<R: Files>(rt: &R, path: &str) -> bool {
+pub(crate) fn is_folder<R: Files>(rt: &R, path: &str) -> bool
+    ensures input { path.now ≡ codes "-" → result ≡ false }
+{
     match fs::metadata(rt, path) {
         Ok(there) => path != "-" && there.is_dir(),
         Err(_) => false,
@@ -32,12 +34,12 @@ pub fn is_folder<R: Files>(rt: &R, path: &str) -> bool {
 }
 
 /// The paths of the records below the folder, in byte order: those of the files whose names end in
-/// `.csa` or `.CSA`. Links to folders are not followed.
+/// `.csa` or `.CSA`, and of links to files. Links to folders are not followed.
 ///
 /// What cannot be opened is there too, so that it is reported when it is read: a folder whose names
 /// cannot be read, and a file or a folder whose path is not UTF-8. Returns an error if an
 /// allocation fails.
-pub fn records_below<R: Files + AllocGlobal>(
+pub(crate) fn records_below<R: Files + AllocGlobal>(
     rt: &R,
     folder: &str,
 ) -> Result<Vec<Vec<u8>>, OutOfMemory>
@@ -140,8 +142,16 @@ fn kind_of<R: Files + AllocGlobal>(rt: &R, path: &[u8]) -> Result<PathKind, OutO
     };
     match fs::symlink_metadata(rt, text) {
         Ok(there) if there.is_dir() => Ok(PathKind::Folder(String::from_str(rt.alloc(), text)?)),
-        Ok(_) if !is_record_name(path) || is_folder(rt, text) => Ok(PathKind::Other),
+        Ok(_) if !is_record_name(path) || is_no_file(rt, text) => Ok(PathKind::Other),
         _ => Ok(PathKind::Record),
+    }
+}
+
+// Whether there is something at this path that is no file: a link to a folder, a pipe or a device.
+fn is_no_file<R: Files>(rt: &R, path: &str) -> bool {
+    match fs::metadata(rt, path) {
+        Ok(there) => !there.is_file(),
+        Err(_) => false,
     }
 }
 

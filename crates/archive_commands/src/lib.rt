@@ -15,12 +15,13 @@
 
 pub mod digest;
 pub mod explain;
-pub mod folders;
+mod folders;
 mod lines;
-pub mod list;
+mod list;
 pub mod many;
 mod notices;
 pub mod paths;
+mod places;
 mod progress;
 pub mod same;
 

@@ -65,7 +65,7 @@ pub struct StandardError<'a, R> {
 
 impl<'a, R: Clock + Eprint> StandardError<'a, R> {
     /// Standard error of that runtime, for so many files.
-    pub fn new(rt: &'a R, verbosity: Verbosity, files: usize) -> StandardError<'a, R> {
+    pub(crate) fn new(rt: &'a R, verbosity: Verbosity, files: usize) -> StandardError<'a, R> {
         let progress = if verbosity.shows_progress {
             Progress::started(rt, files)
         } else {

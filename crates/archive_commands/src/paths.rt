@@ -1,17 +1,29 @@
 //! The paths of the files that a command line asks for.
 
+ghost use Rattle.std.specs.Prelude.{◌≡◌, ◌≤◌, ◌++◌, ℕ, List, [], length, true, IfOk, IfSome, Some, OnOk};
+ghost use Rattle.std.specs.Option.{is_some};
+ghost use Rattle.archive_commands.specs.Lists.{Lists, items_of};
+ghost use Rattle.archive_commands.specs.Paths.{AreAdded, NamesPaths, StandsFor, names_of};
+ghost use Rattle.record_commands.specs.Inputs.{IsOpenedAs, path_of};
+
 use crate::{folders, list};
 use csa_record::FlowFault;
-use hash_comments::HashLines;
+use hash_comments::{HashComments, HashLines};
 use record_commands::{Inputs, ReadFault, RuntimeInputs};
 use shogi_board::OutOfMemory;
 use shogi_words::{PathEnd, Records};
+use std::alloc::Global;
+use std::io;
 use std::io::Read;
 use std::rt::Files;
 
 /// Whether there may be several files: more than one is named, a list names them, or the one that
 /// is named is a folder.
-pub fn are_many<R: Files>(rt: &R, records: &Records<'_, '_>) -> bool {
+pub fn are_many<R: Files>(rt: &R, records: &Records<'_, '_>) -> bool
+    ensures list { is_some records.now.list ≡ true → result ≡ true }
+    ensures many { 2 ≤ length records.now.files.now → result ≡ true }
+    ensures none { length records.now.files.now ≡ 0 → result ≡ is_some records.now.list }
+{
     match records.files {
         [] => records.list.is_some(),
         [file] => records.list.is_some() || folders::is_folder(rt, file),
@@ -20,76 +32,149 @@ pub fn are_many<R: Files>(rt: &R, records: &Records<'_, '_>) -> bool {
 }
 
 /// The paths of these files, and then of those that the list names, if there is one. In place of a
-/// folder there are the records below it, as [`folders::records_below`] yields them. A path need
-/// not be UTF-8.
+/// folder there are those of the records below it, in byte order: of the files whose names end in
+/// `.csa` or `.CSA`. Links to folders are not followed. A path need not be UTF-8.
 ///
 /// Refuses `ReadFault` if the list cannot be read, and `OutOfMemory`.
-pub fn all<R: Files + Input + AllocGlobal>(
+pub fn all<R: Files + io::Input + AllocGlobal>(
     rt: &R,
     records: &Records<'_, '_>,
-) -> Result<Vec<Vec<u8>>, FlowFault> {
-    let mut paths = Vec::new(rt.alloc());
-    if named(rt, records.files, &mut paths).is_err() {
-        return Err(FlowFault::OutOfMemory);
+) -> Result<Vec<Vec<u8>>, FlowFault>
+    ensures paths { IfOk result (λ paths. (listed : List (List ℕ))
+        × NamesPaths (λ path. IsOpenedAs path HashLines.Refused)
+        ⟦<HashComments<record_commands::Input<Box<R::Reader>, R::File>> as io::Read>⟧.remaining
+        records.now.path_end (path_of records.now.list) listed
+        × AreAdded StandsFor (names_of records.now.files.now ++ listed) [] paths.items) }
+{
+    let inputs = RuntimeInputs::new(rt, HashLines::Refused);
+    all_of(rt.alloc(), &inputs, &RuntimeFolders { rt }, records)
+}
+
+// Those paths.
+fn all_of<I: Inputs, F: Folders>(
+    alloc: Global,
+    inputs: &I,
+    folders: &F,
+    records: &Records<'_, '_>,
+) -> Result<Vec<Vec<u8>>, FlowFault>
+    ensures paths { IfOk result (λ paths. (listed : List (List ℕ))
+        × NamesPaths (I.opens inputs.now) I.Input.Read.remaining
+        records.now.path_end (path_of records.now.list) listed
+        × AreAdded (F.stands_for folders.now)
+        (names_of records.now.files.now ++ listed) [] paths.items) }
+{
+    let listed = listed(alloc, inputs, records.list, records.path_end)?;
+    match expanded(alloc, folders, records.files, listed.as_slice()) {
+        Ok(paths) => Ok(paths),
+        Err(_) => Err(FlowFault::OutOfMemory),
     }
-    if let Some(list) = records.list {
-        let list = contents(rt, list)?;
-        if listed(rt, &list, records.path_end, &mut paths).is_err() {
-            return Err(FlowFault::OutOfMemory);
-        }
+}
+
+// The paths that the list names. None if there is no list.
+fn listed<I: Inputs>(
+    alloc: Global,
+    inputs: &I,
+    list: Option<&str>,
+    end: PathEnd,
+) -> Result<Vec<Vec<u8>>, FlowFault>
+    ensures paths { IfOk result (λ paths. NamesPaths (I.opens inputs.now) I.Input.Read.remaining
+        end (path_of list.entry) (items_of paths.items)) }
+{
+    if list.is_none() {
+        return Ok(Vec::new(alloc));
     }
+    let mut bytes = Vec::new(alloc);
+    let mut input = inputs.open(list)?;
+    if let Err(error) = input.read_to_end(&mut bytes) {
+        return Err(FlowFault::from(ReadFault::of(&error)));
+    }
+    match list::paths(alloc, &bytes, end) {
+        Ok(paths) => Ok(paths),
+        Err(_) => Err(FlowFault::OutOfMemory),
+    }
+}
+
+// What the files of the command line stand for, and then those of the list.
+fn expanded<F: Folders>(
+    alloc: Global,
+    folders: &F,
+    files: &[&str],
+    listed: &[Vec<u8>],
+) -> Result<Vec<Vec<u8>>, OutOfMemory>
+    ensures { IfOk result (λ paths. AreAdded (F.stands_for folders.now)
+        (names_of files.now ++ items_of listed.now) [] paths.items) }
+{
+    let mut paths = Vec::new(alloc);
+    add_named(folders, files, &mut paths)?;
+    add_listed(folders, listed, &mut paths)?;
     Ok(paths)
 }
 
-// Adds the files of the command line.
-fn named<R: Files + AllocGlobal>(
-    rt: &R,
+// Adds what the files of the command line stand for.
+fn add_named<F: Folders>(
+    folders: &F,
     files: &[&str],
     paths: &mut Vec<Vec<u8>>,
-) -> Result<(), OutOfMemory> {
+) -> Result<(), OutOfMemory>
+    ensures { OnOk result (AreAdded (F.stands_for folders.now) (names_of files.now)
+        paths.old.items paths.new.items) }
+{
     for file in files {
-        let path = Vec::from_slice(rt.alloc(), file.as_bytes())?;
-        add(rt, path, paths)?;
+        folders.add(file.as_bytes(), paths)?;
     }
     Ok(())
 }
 
-// Adds those of a list.
-fn listed<R: Files + AllocGlobal>(
-    rt: &R,
-    list: &[u8],
-    end: PathEnd,
+// Adds what those of a list stand for.
+fn add_listed<F: Folders>(
+    folders: &F,
+    listed: &[Vec<u8>],
     paths: &mut Vec<Vec<u8>>,
-) -> Result<(), OutOfMemory> {
-    for path in list::paths(rt.alloc(), list, end)? {
-        add(rt, path, paths)?;
+) -> Result<(), OutOfMemory>
+    ensures { OnOk result (AreAdded (F.stands_for folders.now) (items_of listed.now)
+        paths.old.items paths.new.items) }
+{
+    for path in listed {
+        folders.add(path.as_slice(), paths)?;
     }
     Ok(())
 }
 
-// Adds the path of a file, or the records below a folder.
-fn add<R: Files + AllocGlobal>(
-    rt: &R,
-    path: Vec<u8>,
-    paths: &mut Vec<Vec<u8>>,
-) -> Result<(), OutOfMemory> {
-    match str::from_utf8(&path) {
-        Ok(folder) if folders::is_folder(rt, folder) => {
-            for record in folders::records_below(rt, folder)? {
-                paths.push(record)?;
+// What says which paths a path stands for.
+trait Folders {
+    ghost use Rattle.std.specs.Prelude.{◌≡◌, ◌++◌, ℕ, List, OnOk};
+    ghost use Rattle.std.specs.Global.{Vec};
+
+    // The path stands for these.
+    ghost stands_for: { Self → List ℕ → List (Vec ℕ) → Type 0 };
+
+    // Adds the path, or those of the records below it, if it is that of a folder.
+    //
+    // Returns an error if an allocation fails.
+    fn add(&self, path: &[u8], paths: &mut Vec<Vec<u8>>) -> Result<(), OutOfMemory>
+        ensures { OnOk result ((own : List (Vec ℕ)) × stands_for self.now path.now own
+            × (paths.new.items ≡ paths.old.items ++ own)) };
+}
+
+// The folders of a runtime.
+#[derive(Drop)]
+struct RuntimeFolders<'a, R> {
+    rt: &'a R,
+}
+
+// No contract can say what is in a folder.
+impl<R: Files + AllocGlobal> Folders for RuntimeFolders<'_, R> {
+    ghost use Rattle.archive_commands.specs.Paths.{StandsFor};
+
+    ghost stands_for = { λ _ path own. StandsFor path own };
+
+    fn add(&self, path: &[u8], paths: &mut Vec<Vec<u8>>) -> Result<(), OutOfMemory> {
+        match str::from_utf8(path) {
+            Ok(folder) if folders::is_folder(self.rt, folder) => {
+                let mut records = folders::records_below(self.rt, folder)?;
+                Ok(paths.append(&mut records)?)
             }
+            _ => Ok(paths.push(Vec::from_slice(self.rt.alloc(), path)?)?),
         }
-        _ => paths.push(path)?,
-    }
-    Ok(())
-}
-
-// The bytes of the list, or of standard input for `-`.
-fn contents<R: Files + Input + AllocGlobal>(rt: &R, list: &str) -> Result<Vec<u8>, FlowFault> {
-    let mut bytes = Vec::new(rt.alloc());
-    let mut input = RuntimeInputs::new(rt, HashLines::Refused).open(Some(list))?;
-    match input.read_to_end(&mut bytes) {
-        Ok(_) => Ok(bytes),
-        Err(error) => Err(FlowFault::from(ReadFault::of(&error))),
     }
 }

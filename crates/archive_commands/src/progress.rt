@@ -9,7 +9,7 @@ const PAUSE: u128 = 100;
 
 /// The number of files that are done, and the line that shows it.
 #[derive(Drop)]
-pub struct Progress {
+pub(crate) struct Progress {
     all: usize,
     done: usize,
     // When the first file was begun. None if the line is never shown.
@@ -22,7 +22,7 @@ pub struct Progress {
 
 impl Progress {
     /// Shows nothing.
-    pub fn hidden() -> Progress {
+    pub(crate) fn hidden() -> Progress {
         Progress {
             all: 0,
             done: 0,
@@ -33,7 +33,7 @@ impl Progress {
     }
 
     /// Shows how many of so many files are done, from now on. Shows nothing if the clock fails.
-    pub fn started<R: Clock>(rt: &R, all: usize) -> Progress {
+    pub(crate) fn started<R: Clock>(rt: &R, all: usize) -> Progress {
         Progress {
             all,
             start: Instant::now(rt).ok(),
@@ -43,7 +43,7 @@ impl Progress {
 
     /// Counts one more file, and writes the line anew if it was last written a tenth of a second
     /// ago or earlier.
-    pub fn file_done<R: Clock + Eprint>(&mut self, rt: &R) {
+    pub(crate) fn file_done<R: Clock + Eprint>(&mut self, rt: &R) {
         self.done = self.done.saturating_add(1);
         let Some(start) = &self.start else {
             return;
@@ -65,7 +65,7 @@ impl Progress {
     }
 
     /// Takes the line off the terminal, if it is there.
-    pub fn erase<R: Eprint>(&mut self, rt: &R) {
+    pub(crate) fn erase<R: Eprint>(&mut self, rt: &R) {
         if self.is_shown {
             let _ = rt.eprint("\r\x1b[K");
             self.is_shown = false;
@@ -75,7 +75,7 @@ impl Progress {
 
 /// How many of the files were done, and in how much time.
 #[derive(Clone, Copy, Drop)]
-pub struct ProgressLine {
+pub(crate) struct ProgressLine {
     /// How many files there are.
     pub all: usize,
     /// How many are done.

@@ -5,16 +5,17 @@ ghost use Rattle.std.specs.Io.KnownBytes.{Appends};
 ghost use Rattle.std.specs.List.{All};
 ghost use Rattle.archive_commands.specs.Lists.{items_of};
 ghost use Rattle.archive_commands.specs.Many.{counted, no_file};
-ghost use Rattle.archive_commands.specs.Same.{PrintsGroups, StopsPrinting, counted_with, group_line, group_lines, tally_from};
+ghost use Rattle.archive_commands.specs.Same.{FileReads, PrintsGroups, StopsPrinting, counted_with, group_line, group_lines, tally_from};
 
 use crate::lines;
 use crate::list::end_byte;
 use crate::many::Tally;
 use crate::notices::{Notices, StandardError, Verbosity};
-use csa_record::{FlowFault, Reading};
-use game_archive::{Archive, Likeness, OpenFault, Placing, Watch, copies, group};
+use crate::places::Places;
+use csa_record::{FlowFault, Record};
+use game_archive::{Archive, Likeness, Placing, Watch, copies, group};
 use hash_comments::HashLines;
-use record_commands::{Inputs, ReadFault, RuntimeInputs, streams};
+use record_commands::{Inputs, RuntimeInputs, streams};
 use shogi_board::OutOfMemory;
 use shogi_words::PathEnd;
 use std::alloc::Global;
@@ -53,14 +54,16 @@ pub fn run<R: Files + Input + Print + Eprint + Clock + AllocGlobal>(
     ensures count { IfOk result (λ t. counted t ≡ length paths.now) }
 {
     let inputs = RuntimeInputs::new(rt, comparison.hash_lines);
-    let archive = PathsArchive {
+    let mut archive = PathsArchive {
         inputs: &inputs,
         paths,
+        failed: Places::new(),
+        refused: Places::new(),
     };
     let mut notices = StandardError::new(rt, verbosity, paths.len());
     print_same(
         rt.alloc(),
-        &archive,
+        &mut archive,
         comparison,
         paths,
         &mut io::writer(rt),
@@ -71,15 +74,15 @@ pub fn run<R: Files + Input + Print + Eprint + Clock + AllocGlobal>(
 // Prints those groups, of an archive whose entries have these paths.
 fn print_same<A: Archive, W: Write, E: Notices>(
     alloc: Global,
-    archive: &A,
+    archive: &mut A,
     comparison: Comparison,
     paths: &[Vec<u8>],
     out: &mut W,
     notices: &mut E,
 ) -> Result<Tally, FlowFault>
-    requires whole { A.size archive.now ≡ length paths.now }
-    ensures printed { IfOk result (PrintsGroups comparison (A.opens_not archive.now)
-        (A.fails archive.now) (A.gives archive.now) (items_of paths.now)
+    requires whole { A.size archive.old ≡ length paths.now }
+    ensures printed { IfOk result (PrintsGroups comparison (A.reads archive.old)
+        (A.noted archive.old) (A.noted archive.new) (items_of paths.now)
         (W.contents out.old) (W.contents out.new)) }
     ensures count { IfOk result (λ tally. counted tally ≡ length paths.now) }
 {
@@ -105,25 +108,28 @@ fn print_same<A: Archive, W: Write, E: Notices>(
 
 // Files by their paths.
 #[derive(Drop)]
-struct PathsArchive<'a, I> {
-    inputs: &'a I,
-    paths: &'a [Vec<u8>],
+struct PathsArchive<'i, 'p, I> {
+    inputs: &'i I,
+    paths: &'p [Vec<u8>],
+    // Where a reading failed.
+    failed: Places,
+    // Where a record was refused.
+    refused: Places,
 }
 
-impl<I: Inputs> Archive for PathsArchive<'_, I> {
+impl<I: Inputs> Archive for PathsArchive<'_, '_, I> {
     ghost use Rattle.std.specs.Prelude.{length};
     ghost use Rattle.archive_commands.specs.Lists.{items_of};
-    ghost use Rattle.archive_commands.specs.Same.{FileGives, IsOpened, IsUnopened};
+    ghost use Rattle.archive_commands.specs.Same.{FileReads, path_at};
 
-    type Entry = Reading<I::Input>;
+    ghost reads = { λ archive at result.
+        FileReads (I.opens_not archive.inputs.now) (I.opens archive.inputs.now)
+        I.Input.Read.remaining (path_at (items_of archive.paths.now) at) result };
 
-    ghost gives = { λ archive at known. FileGives (I.opens archive.inputs.now)
-        I.Input.Read.remaining (items_of archive.paths.now) at known };
-
-    ghost opens_not = { λ archive at.
-        IsUnopened (I.opens_not archive.inputs.now) (items_of archive.paths.now) at };
-
-    ghost fails = { λ archive at. IsOpened (items_of archive.paths.now) at };
+    ghost noted = { λ archive. record {
+      failed = archive.failed.places;
+      refused = archive.refused.places;
+    } };
 
     ghost size = { λ archive. length archive.paths.now };
 
@@ -131,15 +137,25 @@ impl<I: Inputs> Archive for PathsArchive<'_, I> {
         self.paths.len()
     }
 
-    fn open(&self, at: usize) -> Result<Self::Entry, OpenFault> {
-        let Ok(path) = str::from_utf8(&self.paths[at]) else {
-            return Err(OpenFault::Failed);
-        };
-        match self.inputs.open(Some(path)) {
-            Ok(input) => Ok(Reading::new(input)),
-            Err(ReadFault::Failed) => Err(OpenFault::Failed),
-            Err(ReadFault::OutOfMemory) => Err(OpenFault::OutOfMemory),
+    fn read_record(&mut self, alloc: Global, at: usize) -> Result<Record, FlowFault> {
+        let result = record_of(alloc, self.inputs, self.paths[at].as_slice());
+        match &result {
+            Err(FlowFault::ReadFault) => self.failed = self.failed.with(at),
+            Err(FlowFault::Refused(_)) => self.refused = self.refused.with(at),
+            Ok(_) | Err(FlowFault::WriteFault | FlowFault::OutOfMemory) => {}
         }
+        result
+    }
+}
+
+// Reads the record in the file of this path.
+fn record_of<I: Inputs>(alloc: Global, inputs: &I, path: &[u8]) -> Result<Record, FlowFault>
+    ensures { FileReads (I.opens_not inputs.now) (I.opens inputs.now) I.Input.Read.remaining
+        path.now result }
+{
+    match str::from_utf8(path) {
+        Ok(path) => streams::record(alloc, inputs, Some(path)),
+        Err(_) => Err(FlowFault::ReadFault),
     }
 }
 

@@ -1,10 +1,9 @@
 -- Why an entry is unreadable, and why none is.
-use Rattle.std.proofs.Common.{◌≡◌, ◌∙◌, ℕ, ◌+◌, ◌<◌, ◌≤◌, List, [], ◌∷◌, ◌++◌, Bool, Option, Some, None, Result, Ok, Err, IfErr, IsErrAnd, inl, inr, ◌⊎◌, refl, sym, ap, arith, length, length-append, subst}
-use Rattle.std.specs.Prelude.{IsErrOf, OnOk}
-use Rattle.std.specs.Io.KnownBytes.{Consumes}
+use Rattle.std.proofs.Common.{◌≡◌, ◌∙◌, ℕ, ◌<◌, List, [], ◌∷◌, ◌++◌, Result, Ok, Err, IfErr, IsErrAnd, inl, inr, ◌⊎◌, refl, sym, ap, arith, length, subst, append-nil}
+use Rattle.std.specs.Prelude.{OnOk, Contains}
 use Rattle.std.proofs.lemmas.Bool.{cases_lt}
-use Rattle.std.proofs.lemmas.List.{length_push}
-use Rattle.csa_record.specs.Flow.{FailsRead, IsRefusal, most_reads}
+use Rattle.std.proofs.lemmas.List.{append_assoc, append_cancel_left, length_push}
+use Rattle.std.proofs.lemmas.List.Elements.{Contains-append_left, Contains-push}
 use Rattle.csa_record.specs.declared.flow.FlowFault.{FlowFault}
 use Rattle.csa_record.specs.declared.flow.FlowFault.TheVariants as flow
 use Rattle.record_game.proofs.RefusedOnce.{refused_once}
@@ -14,11 +13,11 @@ use Rattle.record_game.specs.declared.fault.Why.{Why}
 use Rattle.record_game.specs.Game.{Game}
 use Rattle.record_game.specs.Refused.{Refused}
 use Rattle.record_game.specs.Tells.{Tells}
-use Rattle.game_archive.proofs.Placed.{before, last, still}
-use Rattle.game_archive.proofs.Whole.{refused_whole}
-use Rattle.game_archive.specs.Alike.{AreAlike, GivesOnly}
+use Rattle.game_archive.proofs.Placed.{before, cases_refused, last, still, within}
+use Rattle.game_archive.specs.Alike.{AreAlike, GiveBytes}
 use Rattle.game_archive.specs.Groups.{HasLeader, IsAccepted, IsGrouped, placing_at}
-use Rattle.game_archive.specs.Unreadable.{AllPlaced, AreReadable, HasCause, HasNoKey, HaveCauses, IsLost, IsNotCompared, IsUnread}
+use Rattle.game_archive.specs.Readings.{Noted, noted_at, noted_with}
+use Rattle.game_archive.specs.Unreadable.{HaveCauses, HaveCausesBetween, IsExact, IsLost, IsNotCompared, IsUnread, KeepsCauses, WasRefused}
 use Rattle.game_archive.specs.declared.grouping.Placing.{Placing}
 use Rattle.game_archive.specs.declared.grouping.Placing.TheVariants as placing
 use Rattle.game_archive.specs.declared.keys.Likeness.{Likeness}
@@ -33,60 +32,174 @@ pub on_ok : {T E : Type 0} (P Q : Type 0) (r : Result T E) → (P → Q) → OnO
 on_ok P Q (Ok x) next holds = next holds
 on_ok P Q (Err e) next holds = tt
 
--- an entry whose reading ended with a fault has no key
-pub no_key : {T : Type 0} (U F : Type 0) (Gives : Option (List ℕ) → Type 0) (known new : Option (List ℕ)) (ended : Bool) (failures after : ℕ) (answer : Result T FlowFault) (fault : FlowFault)
-    → answer ≡ Err fault → Gives known → failures ≡ 0 → ((after ≡ 0 → ⊥) → F)
-    → ((r : Refusal) → IsErrOf answer (flow.Refused r) → IsRefusal known new ended r) → (IsErrOf answer flow.ReadFault → FailsRead known new failures after) → (IsErrOf answer flow.WriteFault → ⊥)
-    → HasNoKey U F Gives fault
-no_key U F Gives known new ended failures after answer (flow.Refused r) was given none fails refused read unwritten = (known, new, ended, given, refused r was)
-no_key U F Gives known new ended failures after answer flow.ReadFault was given none fails refused read unwritten = elim (read was) [
-  | inl more ↦ inr (inl (fails (λ zero. absurd (omega (arith, more, none, zero)))))
-  | inr many ↦ inr (inr (known, new, given, many.1))
-]
-no_key U F Gives known new ended failures after answer flow.WriteFault was given none fails refused read unwritten = unwritten was
-no_key U F Gives known new ended failures after answer flow.OutOfMemory was given none fails refused read unwritten = tt
+abbrev Readings : Type 1
+Readings = ℕ → Result Game FlowFault → Type 0
 
--- a leader that could not be compared with
-pub lost : (U F : ℕ → Type 0) (G : ℕ → Option (List ℕ) → Type 0) (placings : List Placing) (fault : FlowFault) → (fault ≡ flow.OutOfMemory → ⊥) → IsNotCompared U F G placings fault
-    → (leader : ℕ) × IsLost U F G placings leader
-lost U F G placings (flow.Refused r) other why = (why.0, (why.1, inr (r, why.2)))
-lost U F G placings flow.ReadFault other why = (why.0, (why.1, inl why.2))
-lost U F G placings flow.WriteFault other why = absurd why.2
-lost U F G placings flow.OutOfMemory other why = absurd (other refl)
+abbrev noted : List ℕ → List ℕ → Noted
+noted failed refused = record { failed = failed; refused = refused }
 
-cause_still : (U F : ℕ → Type 0) (G : ℕ → Option (List ℕ) → Type 0) (placings : List Placing) (p : Placing) (at : ℕ) → HasCause U F G placings at → HasCause U F G (placings ++ p ∷ []) at
-cause_still U F G placings p at (inl own) = inl own
-cause_still U F G placings p at (inr earlier) = inr (earlier.0, earlier.1, (still placings p earlier.0 earlier.0 earlier.2.0, earlier.2.1))
+noted_of : (a b c d : List ℕ) → a ≡ c → b ≡ d → noted a b ≡ noted c d
+noted_of a b c d e f = ap (λ x. noted x b) e ∙ ap (noted c) f
+
+abbrev pub none : Noted
+none = record { failed = []; refused = [] }
+
+abbrev pub one_failed : ℕ → Noted
+one_failed at = record { failed = at ∷ []; refused = [] }
+
+abbrev pub one_refused : ℕ → Noted
+one_refused at = record { failed = []; refused = at ∷ [] }
+
+with_none : (n : Noted) → noted_with n none ≡ n
+with_none n = noted_of (n.failed ++ []) (n.refused ++ []) n.failed n.refused (append-nil n.failed) (append-nil n.refused)
+
+failed_with : (n : Noted) (at : ℕ) → noted (n.failed ++ at ∷ []) n.refused ≡ noted_with n (one_failed at)
+failed_with n at = noted_of (n.failed ++ at ∷ []) n.refused (n.failed ++ at ∷ []) (n.refused ++ []) refl (sym (append-nil n.refused))
+
+refused_with : (n : Noted) (at : ℕ) → noted n.failed (n.refused ++ at ∷ []) ≡ noted_with n (one_refused at)
+refused_with n at = noted_of n.failed (n.refused ++ at ∷ []) (n.failed ++ []) (n.refused ++ at ∷ []) (sym (append-nil n.failed)) refl
+
+with_both : (a b c : Noted) → noted_with (noted_with a b) c ≡ noted_with a (noted_with b c)
+with_both a b c =
+    noted_of ((a.failed ++ b.failed) ++ c.failed) ((a.refused ++ b.refused) ++ c.refused) (a.failed ++ (b.failed ++ c.failed)) (a.refused ++ (b.refused ++ c.refused))
+    (append_assoc a.failed b.failed c.failed) (append_assoc a.refused b.refused c.refused)
+
+-- what was noted before still is
+was_refused_still : (R : Readings) (since more : Noted) (at : ℕ) → WasRefused R since at → WasRefused R (noted_with since more) at
+was_refused_still R since more at was = (Contains-append_left since.refused more.refused at was.0, was.1)
+
+gone_still : (R : Readings) (since more : Noted) (leader : ℕ) → Contains since.failed leader ⊎ WasRefused R since leader
+    → Contains (noted_with since more).failed leader ⊎ WasRefused R (noted_with since more) leader
+gone_still R since more leader (inl failed) = inl (Contains-append_left since.failed more.failed leader failed)
+gone_still R since more leader (inr was) = inr (was_refused_still R since more leader was)
+
+unread_still : (R : Readings) (since more : Noted) (placings : List Placing) (at : ℕ) → IsUnread R since placings at → IsUnread R (noted_with since more) placings at
+unread_still R since more placings at (inl own) = inl (Contains-append_left since.failed more.failed at own)
+unread_still R since more placings at (inr earlier) = inr (earlier.0, earlier.1, (earlier.2.0, gone_still R since more earlier.0 earlier.2.1))
+
+causes_grown : (R : Readings) (since more : Noted) (placings : List Placing) → HaveCauses R since placings → HaveCauses R (noted_with since more) placings
+causes_grown R since more placings old = record {
+  unread = λ at less is. unread_still R since more placings at (old.unread at less is);
+  refused = λ at r is. was_refused_still R since more at (old.refused at r is);
+}
+
+unread_pushed : (R : Readings) (since : Noted) (placings : List Placing) (p : Placing) (at : ℕ) → IsUnread R since placings at → IsUnread R since (placings ++ p ∷ []) at
+unread_pushed R since placings p at (inl own) = inl own
+unread_pushed R since placings p at (inr earlier) = inr (earlier.0, earlier.1, (still placings p earlier.0 earlier.0 earlier.2.0, earlier.2.1))
 
 -- one entry more
-pub causes_pushed : (U F : ℕ → Type 0) (G : ℕ → Option (List ℕ) → Type 0) (placings : List Placing) (p : Placing) → (p ≡ placing.Unreadable → HasCause U F G placings (length placings))
-    → HaveCauses U F G placings → HaveCauses U F G (placings ++ p ∷ [])
-causes_pushed U F G placings p cause old = λ at less is.
-    elim (cases_lt at (length placings)) [
-      | inl there ↦ cause_still U F G placings p at (old at there (sym (before placings p at there) ∙ is))
-      | inr not ↦
-          let l = length_push placings p in
-          let e : at ≡ length placings = omega (arith, not, less, l) in
-          let own = sym (last placings p) ∙ (ap (placing_at (placings ++ p ∷ [])) (sym e) ∙ is) in
-          subst (λ i. HasCause U F G (placings ++ p ∷ []) i) (sym e) (cause_still U F G placings p (length placings) (cause own))
-    ]
+causes_pushed : (R : Readings) (since : Noted) (placings : List Placing) (p : Placing) → (p ≡ placing.Unreadable → IsUnread R since placings (length placings))
+    → ((r : Refusal) → p ≡ placing.Refused r → WasRefused R since (length placings)) → HaveCauses R since placings → HaveCauses R since (placings ++ p ∷ [])
+causes_pushed R since placings p unread refused old = record {
+  unread = λ at less is.
+      elim (cases_lt at (length placings)) [
+        | inl there ↦ unread_pushed R since placings p at (old.unread at there (sym (before placings p at there) ∙ is))
+        | inr not ↦
+            let l = length_push placings p in
+            let e : at ≡ length placings = omega (arith, not, less, l) in
+            let own = sym (last placings p) ∙ (ap (placing_at (placings ++ p ∷ [])) (sym e) ∙ is) in
+            subst (λ i. IsUnread R since (placings ++ p ∷ []) i) (sym e) (unread_pushed R since placings p (length placings) (unread own))
+      ];
+  refused = λ at r is.
+      elim (cases_refused placings p at r is) [
+        | inl there ↦ old.refused at r there
+        | inr at_end ↦ subst (WasRefused R since) (sym at_end.0) (refused r at_end.1)
+      ];
+}
 
--- no more was read than there is
-gave_within : (known new : Option (List ℕ)) (bytes gave : List ℕ) → known ≡ Some bytes → Consumes known new gave → length gave ≤ length bytes
-gave_within None new bytes gave e given = absurd cc
-gave_within (Some xs) None bytes gave e given = absurd given
-gave_within (Some xs) (Some ys) bytes gave e given =
-    let same : xs ≡ bytes = cc in
-    let l : length bytes ≡ length gave + length ys = ap length (sym same ∙ given) ∙ length-append gave ys in
-    omega (arith, l)
+-- nothing more is noted
+pub keeps_group : (R : Readings) (old new since : Noted) (placings : List Placing) (leader : ℕ) → new ≡ old → HaveCauses R since placings
+    → KeepsCauses R old new since (placings ++ placing.Group leader ∷ [])
+keeps_group R old new since placings leader e causes =
+    (none, e ∙ sym (with_none old), causes_pushed R (noted_with since none) placings (placing.Group leader) (λ is. absurd cc) (λ r is. absurd cc) (causes_grown R since none placings causes))
 
-never_unread : (U F : Type 0) (Gives : Option (List ℕ) → Type 0) (bytes : List ℕ) → (U → ⊥) → (F → ⊥) → GivesOnly Gives bytes → length bytes < most_reads → IsUnread U F Gives → ⊥
-never_unread U F Gives bytes opened faultless only few (inl unopened) = opened unopened
-never_unread U F Gives bytes opened faultless only few (inr (inl fails)) = faultless fails
-never_unread U F Gives bytes opened faultless only few (inr (inr many)) =
-    let within = gave_within many.0 many.1 bytes many.3.bytes (only many.0 many.2) many.3.given in
-    let least = many.3.least in
-    absurd (omega (arith, within, least, few))
+-- the entry's own reading failed, or its record was refused
+pub keeps_unread : (R : Readings) (old new since : Noted) (placings : List Placing) → new ≡ noted (old.failed ++ length placings ∷ []) old.refused → HaveCauses R since placings
+    → KeepsCauses R old new since (placings ++ placing.Unreadable ∷ [])
+keeps_unread R old new since placings e causes =
+    let n = length placings in
+    let more = one_failed n in
+    (more, e ∙ failed_with old n, causes_pushed R (noted_with since more) placings placing.Unreadable (λ is. inl (Contains-push since.failed n)) (λ r is. absurd cc) (causes_grown R since more placings causes))
+
+pub keeps_refused : (R : Readings) (old new since : Noted) (placings : List Placing) (r : Refusal) → new ≡ noted old.failed (old.refused ++ length placings ∷ [])
+    → R (length placings) (Err (flow.Refused r)) → HaveCauses R since placings → KeepsCauses R old new since (placings ++ placing.Refused r ∷ [])
+keeps_refused R old new since placings r e reads causes =
+    let n = length placings in
+    let more = one_refused n in
+    (more, e ∙ refused_with old n, causes_pushed R (noted_with since more) placings (placing.Refused r) (λ is. absurd cc) (λ s is. (Contains-push since.refused n, (r, reads))) (causes_grown R since more placings causes))
+
+-- an earlier one is lost
+lost_so : (R : Readings) (old new since : Noted) (placings : List Placing) (fault : FlowFault) (leader : ℕ) → (fault ≡ flow.OutOfMemory → ⊥) → (fault ≡ flow.WriteFault → ⊥)
+    → HasLeader placings leader leader → R leader (Err fault) → new ≡ noted_at old leader fault → HaveCauses R since placings
+    → KeepsCauses R old new since (placings ++ placing.Unreadable ∷ [])
+lost_so R old new since placings (flow.Refused r) leader memory write leads reads e causes =
+    let more = one_refused leader in (
+      more,
+      e ∙ refused_with old leader,
+      causes_pushed R (noted_with since more) placings placing.Unreadable (λ is. inr (leader, within placings leader leader leads, (leads, inr (Contains-push since.refused leader, (r, reads))))) (λ s is. absurd cc) (causes_grown R since more placings causes),
+    )
+lost_so R old new since placings flow.ReadFault leader memory write leads reads e causes =
+    let more = one_failed leader in (
+      more,
+      e ∙ failed_with old leader,
+      causes_pushed R (noted_with since more) placings placing.Unreadable (λ is. inr (leader, within placings leader leader leads, (leads, inl (Contains-push since.failed leader)))) (λ s is. absurd cc) (causes_grown R since more placings causes),
+    )
+lost_so R old new since placings flow.WriteFault leader memory write leads reads e causes = absurd (write refl)
+lost_so R old new since placings flow.OutOfMemory leader memory write leads reads e causes = absurd (memory refl)
+
+pub keeps_lost : (R : Readings) (old new since : Noted) (placings : List Placing) (fault : FlowFault) → (fault ≡ flow.OutOfMemory → ⊥) → (fault ≡ flow.WriteFault → ⊥)
+    → ((fault ≡ flow.OutOfMemory → ⊥) → IsNotCompared R old new placings fault) → HaveCauses R since placings → KeepsCauses R old new since (placings ++ placing.Unreadable ∷ [])
+keeps_lost R old new since placings fault memory write why causes =
+    let lost = why memory in
+    lost_so R old new since placings fault lost.0 memory write lost.1 lost.2 lost.3 causes
+
+-- a reading of a leader that gave no key
+pub not_compared : (R S : Readings) (old here new : Noted) (placings : List Placing) (leader : ℕ) (read fault : FlowFault) → ((k : ℕ) (r : Result Game FlowFault) → S k r → R k r) → here ≡ old
+    → HasLeader placings leader leader → ((read ≡ flow.OutOfMemory → ⊥) → S leader (Err read)) → new ≡ noted_at here leader read → fault ≡ read
+    → (fault ≡ flow.OutOfMemory → ⊥) → IsNotCompared R old new placings fault
+not_compared R S old here new placings leader read fault by quiet leads reads after same other = (
+  leader,
+  leads,
+  by leader (Err fault) (subst (λ f. S leader (Err f)) (sym same) (reads (λ lost. other (same ∙ lost)))),
+  after ∙ (ap (λ n. noted_at n leader read) quiet ∙ ap (noted_at old leader) (sym same)),
+)
+
+-- other readings that may come to the same
+was_refused_by : (R S : Readings) (since : Noted) (at : ℕ) → ((k : ℕ) (r : Result Game FlowFault) → R k r → S k r) → WasRefused R since at → WasRefused S since at
+was_refused_by R S since at by was = (was.0, (was.1.0, by at (Err (flow.Refused was.1.0)) was.1.1))
+
+gone_by : (R S : Readings) (since : Noted) (leader : ℕ) → ((k : ℕ) (r : Result Game FlowFault) → R k r → S k r) → Contains since.failed leader ⊎ WasRefused R since leader
+    → Contains since.failed leader ⊎ WasRefused S since leader
+gone_by R S since leader by (inl failed) = inl failed
+gone_by R S since leader by (inr was) = inr (was_refused_by R S since leader by was)
+
+unread_by : (R S : Readings) (since : Noted) (placings : List Placing) (at : ℕ) → ((k : ℕ) (r : Result Game FlowFault) → R k r → S k r) → IsUnread R since placings at → IsUnread S since placings at
+unread_by R S since placings at by (inl own) = inl own
+unread_by R S since placings at by (inr earlier) = inr (earlier.0, earlier.1, (earlier.2.0, gone_by R S since earlier.0 by earlier.2.1))
+
+pub causes_by : (R S : Readings) (since : Noted) (placings : List Placing) → ((k : ℕ) (r : Result Game FlowFault) → R k r → S k r) → HaveCauses R since placings → HaveCauses S since placings
+causes_by R S since placings by old = record {
+  unread = λ at less is. unread_by R S since placings at by (old.unread at less is);
+  refused = λ at r is. was_refused_by R S since at by (old.refused at r is);
+}
+
+pub keeps_by : (R S : Readings) (old new since : Noted) (placings : List Placing) → ((k : ℕ) (r : Result Game FlowFault) → R k r → S k r) → KeepsCauses R old new since placings → KeepsCauses S old new since placings
+keeps_by R S old new since placings by keeps = (keeps.0, keeps.1, causes_by R S (noted_with since keeps.0) placings by keeps.2)
+
+-- nothing was noted before
+pub keeps_from : (R : Readings) (start old new since : Noted) (placings : List Placing) → old ≡ start → KeepsCauses R old new since placings → KeepsCauses R start new since placings
+keeps_from R start old new since placings e keeps = subst (λ n. KeepsCauses R n new since placings) e keeps
+
+-- no entry, and nothing noted
+pub no_causes : (R : Readings) (n : Noted) → HaveCausesBetween R n n []
+no_causes R n = (none, sym (with_none n), record { unread = λ at less is. absurd (omega (arith, less)); refused = λ at r is. absurd cc })
+
+-- one step more
+pub causes_next : (R S : Readings) (start old new : Noted) (placings after : List Placing) → ((k : ℕ) (r : Result Game FlowFault) → R k r → S k r) → ((k : ℕ) (r : Result Game FlowFault) → S k r → R k r)
+    → ((since : Noted) → HaveCauses S since placings → KeepsCauses S old new since after) → HaveCausesBetween R start old placings → HaveCausesBetween R start new after
+causes_next R S start old new placings after to back step before =
+    let keeps = step before.0 (causes_by R S before.0 placings to before.2) in
+    (noted_with before.0 keeps.0, keeps.1 ∙ (ap (λ n. noted_with n keeps.0) before.1 ∙ with_both start before.0 keeps.0), causes_by S R (noted_with before.0 keeps.0) after back keeps.2)
 
 alike_tells : (l : Likeness) (one other : List ℕ) → AreAlike l one other → (g : Game) × Tells one g
 alike_tells likeness.Game one other alike = (alike.0, alike.1)
@@ -118,30 +231,53 @@ one_of placings at (placing.Group leader) is other = inl (leader, is)
 one_of placings at (placing.Refused r) is other = inr (r, is)
 one_of placings at placing.Unreadable is other = absurd (other is)
 
-never_lost : (l : Likeness) (size : ℕ) (U F : ℕ → Type 0) (G : ℕ → Option (List ℕ) → Type 0) (bytes : ℕ → List ℕ) (placings : List Placing) (leader : ℕ) → leader < size
-    → AreReadable size U F G bytes → IsGrouped l bytes placings → IsLost U F G placings leader → ⊥
-never_lost l size U F G bytes placings leader less readable grouped (leads, inl unread) =
-    never_unread (U leader) (F leader) (G leader) (bytes leader) (readable.opened leader less) (readable.faultless leader less) (readable.given leader less) (readable.few leader less) unread
-never_lost l size U F G bytes placings leader less readable grouped (leads, inr (r, gives)) =
-    accepted_not_refused l bytes placings leader leader r grouped leads
-    (refused_whole gives.0 gives.1 gives.2 (bytes leader) r (readable.given leader less gives.0 gives.3) gives.4)
+other_tells : (l : Likeness) (one other : List ℕ) → AreAlike l one other → (g : Game) × Tells other g
+other_tells likeness.Game one other alike = (alike.0, alike.2)
+other_tells likeness.Moves one other alike = (alike.1, alike.3)
 
-never_unreadable : (l : Likeness) (size : ℕ) (U F : ℕ → Type 0) (G : ℕ → Option (List ℕ) → Type 0) (bytes : ℕ → List ℕ) (placings : List Placing) (at : ℕ) → at < size
-    → AreReadable size U F G bytes → IsGrouped l bytes placings → HasCause U F G placings at → ⊥
-never_unreadable l size U F G bytes placings at less readable grouped (inl unread) =
-    never_unread (U at) (F at) (G at) (bytes at) (readable.opened at less) (readable.faultless at less) (readable.given at less) (readable.few at less) unread
-never_unreadable l size U F G bytes placings at less readable grouped (inr (leader, earlier, gone)) =
-    never_lost l size U F G bytes placings leader (omega (arith, earlier, less)) readable grouped gone
+none_failed : (old new since : Noted) → new ≡ noted_with old since → new.failed ≡ old.failed → since.failed ≡ []
+none_failed old new since e same = append_cancel_left old.failed since.failed [] (sym (ap (λ n. n.failed) e) ∙ (same ∙ sym (append-nil old.failed)))
 
--- where each entry can be read, each is in a group or refused
-pub all_placed : (l : Likeness) (size : ℕ) (U F : ℕ → Type 0) (G : ℕ → Option (List ℕ) → Type 0) (bytes : ℕ → List ℕ) (placings : List Placing) → length placings ≡ size
-    → AreReadable size U F G bytes → IsGrouped l bytes placings → HaveCauses U F G placings → AllPlaced bytes placings
-all_placed l size U F G bytes placings whole readable grouped causes =
+not_among : (places : List ℕ) (at : ℕ) → places ≡ [] → Contains places at → ⊥
+not_among places at e among = let none = subst (λ l. Contains l at) e among in let less = none.1 in absurd (omega (arith, less))
+
+never_lost : (l : Likeness) (size : ℕ) (R : Readings) (since : Noted) (bytes : ℕ → List ℕ) (placings : List Placing) (leader : ℕ) → leader < size → since.failed ≡ []
+    → GiveBytes size R bytes → IsGrouped l bytes placings → IsLost R since placings leader → ⊥
+never_lost l size R since bytes placings leader less quiet gives grouped (leads, inl failed) = not_among since.failed leader quiet failed
+never_lost l size R since bytes placings leader less quiet gives grouped (leads, inr was) =
+    accepted_not_refused l bytes placings leader leader was.1.0 grouped leads (gives leader less (Err (flow.Refused was.1.0)) was.1.1)
+
+never_unread : (l : Likeness) (size : ℕ) (R : Readings) (since : Noted) (bytes : ℕ → List ℕ) (placings : List Placing) (at : ℕ) → at < size → since.failed ≡ []
+    → GiveBytes size R bytes → IsGrouped l bytes placings → IsUnread R since placings at → ⊥
+never_unread l size R since bytes placings at less quiet gives grouped (inl own) = not_among since.failed at quiet own
+never_unread l size R since bytes placings at less quiet gives grouped (inr (leader, earlier, lost)) =
+    never_lost l size R since bytes placings leader (omega (arith, earlier, less)) quiet gives grouped lost
+
+accepted_by_bytes : (l : Likeness) (bytes : ℕ → List ℕ) (placings : List Placing) (at : ℕ) (g : Game) → IsGrouped l bytes placings → Tells (bytes at) g
+    → IsAccepted placings at ⊎ ((r : Refusal) × (placing_at placings at ≡ placing.Refused r)) → IsAccepted placings at
+accepted_by_bytes l bytes placings at g grouped tells (inl accepted) = accepted
+accepted_by_bytes l bytes placings at g grouped tells (inr other) = absurd (never_both (bytes at) g other.0.number other.0.offset other.0.why tells (grouped.refused at other.0 other.1))
+
+-- where no reading failed, each is in a group or refused
+pub exact : (l : Likeness) (size : ℕ) (R : Readings) (old new : Noted) (bytes : ℕ → List ℕ) (placings : List Placing) → length placings ≡ size
+    → GiveBytes size R bytes → new.failed ≡ old.failed → IsGrouped l bytes placings → HaveCausesBetween R old new placings → IsExact l bytes placings
+exact l size R old new bytes placings whole gives same grouped causes =
+    let quiet = none_failed old new causes.0 causes.1 same in
     let here : (at : ℕ) → at < length placings → IsAccepted placings at ⊎ ((r : Refusal) × (placing_at placings at ≡ placing.Refused r)) =
     λ at less. one_of placings at (placing_at placings at) refl
-    (λ is. never_unreadable l size U F G bytes placings at (omega (arith, less, whole)) readable grouped (causes at less is)) in
+    (λ is. never_unread l size R causes.0 bytes placings at (omega (arith, less, whole)) quiet gives grouped (causes.2.unread at less is)) in
     record {
-      placed = here;
+      together = λ i j i_less j_less. (
+        λ h. ((grouped.together i j).0 h).2,
+        λ alike.
+            let one = alike_tells l (bytes i) (bytes j) alike in
+            let other = other_tells l (bytes i) (bytes j) alike in
+            (grouped.together i j).1 (
+              accepted_by_bytes l bytes placings i one.0 grouped one.1 (here i i_less),
+              accepted_by_bytes l bytes placings j other.0 grouped other.1 (here j j_less),
+              alike,
+            ),
+      );
       refused = λ at r less. (
         λ is. grouped.refused at r is,
         λ refused. elim (here at less) [

@@ -54,7 +54,7 @@ cases_placed placings p q at less h = elim (cases_lt at (length placings)) [
 cases_leader : (placings : List Placing) (p : Placing) (at leader : ℕ) → HasLeader (placings ++ p ∷ []) at leader → HasLeader placings at leader ⊎ ((at ≡ length placings) × (p ≡ placing.Group leader))
 cases_leader placings p at leader h = cases_placed placings p (placing.Group leader) at (let w = within (placings ++ p ∷ []) at leader h in let l = length_push placings p in omega (arith, w, l)) h
 
-cases_refused : (placings : List Placing) (p : Placing) (at : ℕ) (r : Refusal) → placing_at (placings ++ p ∷ []) at ≡ placing.Refused r → (placing_at placings at ≡ placing.Refused r) ⊎ ((at ≡ length placings) × (p ≡ placing.Refused r))
+pub cases_refused : (placings : List Placing) (p : Placing) (at : ℕ) (r : Refusal) → placing_at (placings ++ p ∷ []) at ≡ placing.Refused r → (placing_at placings at ≡ placing.Refused r) ⊎ ((at ≡ length placings) × (p ≡ placing.Refused r))
 cases_refused placings p at r h = cases_placed placings p (placing.Refused r) at (let w = within_refused (placings ++ p ∷ []) at r h in let l = length_push placings p in omega (arith, w, l)) h
 
 pub leaders_still : (placings : List Placing) (p : Placing) (m : BTreeMap (List ℕ) ℕ) (others : List ℕ) → HoldsLeaders placings m others → HoldsLeaders (placings ++ p ∷ []) m others

@@ -1,33 +1,6 @@
--- A source that gave all of some bytes.
-use Rattle.std.proofs.Common.{◌≡◌, ℕ, List, ◌++◌, Bool, Option, Some, None, Result, Ok, Err, IsErrAnd, inl, inr, sym, ap, ◌∙◌, subst, append-nil}
-use Rattle.std.specs.Io.KnownBytes.{Consumes, IsAtEnd}
-use Rattle.csa_record.specs.Flow.{GaveGame, IsRefusal, IsRefusedFrom}
-use Rattle.record_game.specs.declared.fault.Refusal.{Refusal}
-use Rattle.record_game.specs.Game.{Game}
-use Rattle.record_game.specs.Refused.{Refused}
-use Rattle.record_game.specs.Tells.{Tells}
+-- The fault that a `?` passes on.
+use Rattle.std.proofs.Common.{◌≡◌, Result, Ok, Err, IsErrAnd}
 
-same_bytes : (xs bytes : List ℕ) → Some xs ≡ Some bytes → xs ≡ bytes
-same_bytes xs bytes h = cc
-
-given_all : (known new : Option (List ℕ)) (bytes gave : List ℕ) → known ≡ Some bytes → Consumes known new gave → IsAtEnd new → gave ≡ bytes
-given_all None new bytes gave e given ended = absurd cc
-given_all (Some xs) None bytes gave e given ended = absurd given
-given_all (Some xs) (Some ys) bytes gave e given ended = sym (append-nil gave) ∙ (ap (λ l. gave ++ l) (sym ended) ∙ (sym given ∙ same_bytes xs bytes e))
-
-refused_from : (known new : Option (List ℕ)) (ended : Bool) (bytes gave : List ℕ) (r : Refusal) → known ≡ Some bytes → Consumes known new gave → IsRefusedFrom new ended gave r → Refused bytes r.number r.offset r.why
-refused_from None new ended bytes gave r e given refused = absurd cc
-refused_from (Some xs) None ended bytes gave r e given refused = absurd given
-refused_from (Some xs) (Some ys) ended bytes gave r e given (inl every) = subst (λ l. Refused l r.number r.offset r.why) (sym given ∙ same_bytes xs bytes e) (every ys)
-refused_from (Some xs) (Some ys) ended bytes gave r e given (inr p) = subst (λ l. Refused l r.number r.offset r.why) (given_all (Some xs) (Some ys) bytes gave e given p.0) p.2
-
-pub told_whole : (known new : Option (List ℕ)) (bytes : List ℕ) (g : Game) → known ≡ Some bytes → GaveGame known new g → Tells bytes g
-told_whole known new bytes g e gave = subst (λ l. Tells l g) (given_all known new bytes gave.bytes e gave.given gave.ended) gave.tells
-
-pub refused_whole : (known new : Option (List ℕ)) (ended : Bool) (bytes : List ℕ) (r : Refusal) → known ≡ Some bytes → IsRefusal known new ended r → Refused bytes r.number r.offset r.why
-refused_whole known new ended bytes r e refusal = refused_from known new ended bytes refusal.bytes r e refusal.given refusal.refused
-
--- the fault that a `?` passes on
 pub passed_on : {T E : Type 0} (r : Result T E) (fault other : E) → IsErrAnd r (λ e. e ≡ fault) → r ≡ Err other → fault ≡ other
 passed_on (Ok x) fault other gives is = absurd gives
 passed_on (Err e) fault other gives is = cc

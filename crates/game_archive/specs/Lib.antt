@@ -1,4 +1,5 @@
 pub mod Alike
 pub mod Groups
 pub mod Listing
+pub mod Readings
 pub mod Unreadable

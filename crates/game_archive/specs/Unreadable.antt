@@ -1,73 +1,65 @@
--- Why an entry is unreadable, and archives in which none is.
-use Rattle.std.specs.Prelude.{◌≡◌, ◌⊎◌, ◌↔◌, ℕ, ◌<◌, List, length, Bool, Option, ⊤}
-use Rattle.csa_record.specs.Flow.{GaveMany, IsRefusal, most_reads}
+-- Why an entry is unreadable or refused, and that none is unreadable if no reading fails.
+use Rattle.std.specs.Prelude.{◌≡◌, ◌⊎◌, ◌↔◌, ℕ, ◌<◌, List, length, Contains, Result, Err}
 use Rattle.csa_record.specs.declared.flow.FlowFault.{FlowFault}
 use Rattle.csa_record.specs.declared.flow.FlowFault.TheVariants as flow
-use Rattle.game_archive.specs.Alike.{GiveBytes}
-use Rattle.game_archive.specs.Groups.{HasLeader, IsAccepted, placing_at}
+use Rattle.game_archive.specs.Alike.{AreAlike}
+use Rattle.game_archive.specs.Groups.{HasLeader, InOneGroup, placing_at}
+use Rattle.game_archive.specs.Readings.{Noted, noted_at, noted_with}
 use Rattle.game_archive.specs.declared.grouping.Placing.{Placing}
 use Rattle.game_archive.specs.declared.grouping.Placing.TheVariants as placing
+use Rattle.game_archive.specs.declared.keys.Likeness.{Likeness}
 use Rattle.record_game.specs.declared.fault.Refusal.{Refusal}
+use Rattle.record_game.specs.Game.{Game}
 use Rattle.record_game.specs.Refused.{Refused}
 
--- the entry was opened, and gave 16,777,216 bytes or more
-abbrev pub GivesMany : (Option (List ℕ) → Type 0) → Type 0
-GivesMany Gives = (known new : Option (List ℕ)) × Gives known × GaveMany known new most_reads
+-- the record was refused when the entry was read
+abbrev pub WasRefused : (ℕ → Result Game FlowFault → Type 0) → Noted → ℕ → Type 0
+WasRefused Reads since at =
+    Contains since.refused at × ((r : Refusal) × Reads at (Err (flow.Refused r)))
 
--- the entry was opened, and gave bytes that are refused in this way
-abbrev pub GivesRefused : (Option (List ℕ) → Type 0) → Refusal → Type 0
-GivesRefused Gives r =
-    (known new : Option (List ℕ)) × (ended : Bool) × Gives known × IsRefusal known new ended r
+-- the entry is the first of its group, and could not be read again, or was refused then
+abbrev pub IsLost : (ℕ → Result Game FlowFault → Type 0) → Noted → List Placing → ℕ → Type 0
+IsLost Reads since placings leader = HasLeader placings leader leader
+    × (Contains since.failed leader ⊎ WasRefused Reads since leader)
 
--- the entry cannot be opened, or a read of it fails, or it gave 16,777,216 bytes or more
-abbrev pub IsUnread : Type 0 → Type 0 → (Option (List ℕ) → Type 0) → Type 0
-IsUnread Unopened Fails Gives = Unopened ⊎ (Fails ⊎ GivesMany Gives)
+-- the entry could not be read, or an earlier one is lost with which it was to be compared
+abbrev pub IsUnread : (ℕ → Result Game FlowFault → Type 0) → Noted → List Placing → ℕ → Type 0
+IsUnread Reads since placings at = Contains since.failed at
+    ⊎ ((leader : ℕ) × (leader < at) × IsLost Reads since placings leader)
 
--- the entry is the first of its group; read again, it cannot be read or is refused
-abbrev pub IsLost : (ℕ → Type 0) → (ℕ → Type 0) → (ℕ → Option (List ℕ) → Type 0)
-    → List Placing → ℕ → Type 0
-IsLost Unopened Fails Gives placings leader = HasLeader placings leader leader
-    × (IsUnread (Unopened leader) (Fails leader) (Gives leader)
-    ⊎ ((r : Refusal) × GivesRefused (Gives leader) r))
+-- by what was noted since, each unreadable entry was not read, and each refused one was refused
+pub record HaveCauses (Reads : ℕ → Result Game FlowFault → Type 0) (since : Noted)
+    (placings : List Placing) : Type 0 where
+  pub unread : (at : ℕ) → at < length placings → placing_at placings at ≡ placing.Unreadable
+      → IsUnread Reads since placings at
+  pub refused : (at : ℕ) (r : Refusal) → placing_at placings at ≡ placing.Refused r
+      → WasRefused Reads since at
 
--- the entry cannot be read, or an earlier one is lost that it was to be compared with
-abbrev pub HasCause : (ℕ → Type 0) → (ℕ → Type 0) → (ℕ → Option (List ℕ) → Type 0)
-    → List Placing → ℕ → Type 0
-HasCause Unopened Fails Gives placings at = IsUnread (Unopened at) (Fails at) (Gives at)
-    ⊎ ((leader : ℕ) × (leader < at) × IsLost Unopened Fails Gives placings leader)
-
--- each unreadable entry has such a cause
-abbrev pub HaveCauses : (ℕ → Type 0) → (ℕ → Type 0) → (ℕ → Option (List ℕ) → Type 0)
+-- so by what was noted between these two
+abbrev pub HaveCausesBetween : (ℕ → Result Game FlowFault → Type 0) → Noted → Noted
     → List Placing → Type 0
-HaveCauses Unopened Fails Gives placings = (at : ℕ) → at < length placings
-    → placing_at placings at ≡ placing.Unreadable → HasCause Unopened Fails Gives placings at
+HaveCausesBetween Reads old new placings =
+    (since : Noted) × (new ≡ noted_with old since) × HaveCauses Reads since placings
 
--- each entry can be opened, no read of it fails, and it gives these bytes each time, which are
--- fewer than 16,777,216
-pub record AreReadable (size : ℕ) (Unopened Fails : ℕ → Type 0)
-    (Gives : ℕ → Option (List ℕ) → Type 0) (bytes : ℕ → List ℕ) : Type 0 where
-  pub opened : (at : ℕ) → at < size → Unopened at → ⊥
-  pub faultless : (at : ℕ) → at < size → Fails at → ⊥
-  pub given : GiveBytes size Gives bytes
-  pub few : (at : ℕ) → at < size → length (bytes at) < most_reads
-
--- each entry is in a group or refused, and refused in a way exactly if its bytes are
-pub record AllPlaced (bytes : ℕ → List ℕ) (placings : List Placing) : Type 0 where
-  pub placed : (at : ℕ) → at < length placings
-      → IsAccepted placings at ⊎ ((r : Refusal) × (placing_at placings at ≡ placing.Refused r))
+-- two entries are in one group exactly if their bytes are alike, and an entry is refused in a way
+-- exactly if its bytes are
+pub record IsExact (likeness : Likeness) (bytes : ℕ → List ℕ) (placings : List Placing)
+    : Type 0 where
+  pub together : (i j : ℕ) → i < length placings → j < length placings
+      → (InOneGroup placings i j ↔ AreAlike likeness (bytes i) (bytes j))
   pub refused : (at : ℕ) (r : Refusal) → at < length placings
       → ((placing_at placings at ≡ placing.Refused r)
       ↔ Refused (bytes at) r.number r.offset r.why)
 
--- For private functions: why an entry has no key
-abbrev pub HasNoKey : Type 0 → Type 0 → (Option (List ℕ) → Type 0) → FlowFault → Type 0
-HasNoKey Unopened Fails Gives (flow.Refused r) = GivesRefused Gives r
-HasNoKey Unopened Fails Gives flow.ReadFault = IsUnread Unopened Fails Gives
-HasNoKey Unopened Fails Gives flow.WriteFault = ⊥
-HasNoKey Unopened Fails Gives flow.OutOfMemory = ⊤
+-- For private functions: the causes so far, and after what was noted since
+abbrev pub KeepsCauses : (ℕ → Result Game FlowFault → Type 0) → Noted → Noted → Noted
+    → List Placing → Type 0
+KeepsCauses Reads old new since placings =
+    (more : Noted) × (new ≡ noted_with old more)
+    × HaveCauses Reads (noted_with since more) placings
 
 -- why an entry was not compared with a leader
-abbrev pub IsNotCompared : (ℕ → Type 0) → (ℕ → Type 0) → (ℕ → Option (List ℕ) → Type 0)
+abbrev pub IsNotCompared : (ℕ → Result Game FlowFault → Type 0) → Noted → Noted
     → List Placing → FlowFault → Type 0
-IsNotCompared Unopened Fails Gives placings fault = (leader : ℕ) × HasLeader placings leader leader
-    × HasNoKey (Unopened leader) (Fails leader) (Gives leader) fault
+IsNotCompared Reads old new placings fault = (leader : ℕ) × HasLeader placings leader leader
+    × Reads leader (Err fault) × (new ≡ noted_at old leader fault)

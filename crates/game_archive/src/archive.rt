@@ -1,29 +1,18 @@
-ghost use Rattle.std.specs.Prelude.{◌≡◌, ◌≢◌, ◌<◌, ℕ, List, Option, IfOk, IsErrOf};
+ghost use Rattle.std.specs.Prelude.{◌≡◌, ◌<◌, ℕ, Result};
+ghost use Rattle.csa_record.specs.declared.flow.FlowFault.{FlowFault};
+ghost use Rattle.game_archive.specs.Readings.{Noted, ReadAlike, noted_after};
+ghost use Rattle.record_game.specs.Game.{Game};
 
-use csa_record::Source;
+use csa_record::{FlowFault, Record};
+use std::alloc::Global;
 
-/// Why an entry could not be opened.
-#[derive(Clone, Copy, Debug, PartialEq, Eq)]
-pub enum OpenFault {
-    /// It cannot be opened.
-    Failed,
-    /// An allocation failed.
-    OutOfMemory,
-}
-
-/// Entries that can each be opened again and again.
+/// Records that can each be read again and again, such as those in the files of a folder.
 pub trait Archive {
-    /// An opened entry.
-    type Entry: Source + Drop;
+    // What a reading of the entry at this place may come to.
+    ghost reads: { Self → ℕ → Result Game FlowFault → Type 0 };
 
-    // What an entry may have to give when it is opened, if that is known.
-    ghost gives: { Self → ℕ → Option (List ℕ) → Type 0 };
-
-    // An entry cannot be opened.
-    ghost opens_not: { Self → ℕ → Type 0 };
-
-    // A read of an entry may fail. If it cannot, no source of the type has ever failed.
-    ghost fails: { Self → ℕ → Type 0 };
+    // What is noted of the readings so far: those that failed, and those of a refused record.
+    ghost noted: { Self → Noted };
 
     // How many entries it has.
     ghost size: { Self → ℕ };
@@ -32,17 +21,16 @@ pub trait Archive {
     fn len(&self) -> usize
         ensures value { result ≡ size self.now };
 
-    /// Opens the entry at this place, to be read from its beginning. Places are counted from 0.
+    /// Reads the record of the entry at this place, from its beginning. Places are counted from 0.
     ///
-    /// Refuses `Failed` if it cannot be opened, and `OutOfMemory`. Only to be called if there is
-    /// such an entry.
-    fn open(&self, at: usize) -> Result<Self::Entry, OpenFault>
-        requires within { at < size self.now }
-        ensures gives { IfOk result (λ entry. gives self.now at (Self.Entry.known entry)) }
-        ensures fresh { IfOk result (λ entry. Self.Entry.failed entry ≡ 0) }
-        ensures fails { IfOk result
-            (λ _. (after : Self.Entry) → Self.Entry.failed after ≢ 0 → fails self.now at) }
-        ensures failed { IsErrOf result OpenFault.Failed → opens_not self.now at };
+    /// Refuses `Refused` if the record is refused, `ReadFault` if it cannot be read, and
+    /// `OutOfMemory`. Only to be called if there is such an entry.
+    fn read_record(&mut self, alloc: Global, at: usize) -> Result<Record, FlowFault>
+        requires within { at < size self.old }
+        ensures reads { reads self.old at result }
+        ensures noted { noted self.new ≡ noted_after (noted self.old) at result }
+        ensures size { size self.new ≡ size self.old }
+        ensures alike { ReadAlike (reads self.old) (reads self.new) };
 }
 
 /// What is shown while an archive is read.

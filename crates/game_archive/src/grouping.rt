@@ -5,10 +5,12 @@
 //! with the first entry that has its digest, and with those of the list, by reading these again. So
 //! a digest and a place are kept of each entry, and no text.
 
-ghost use Rattle.std.specs.Prelude.{◌≡◌, ◌+◌, ◌<◌, ◌≤◌, ℕ, List, [], ◌∷◌, ◌++◌, length, MatchOption, IfErr, IfOk, IfSome, OnOk};
+ghost use Rattle.std.specs.Prelude.{◌≡◌, ◌≢◌, ◌+◌, ◌<◌, ◌≤◌, ℕ, List, [], ◌∷◌, ◌++◌, length, MatchOption, IfErr, IfOk, IfSome, OnOk};
+ghost use Rattle.csa_record.specs.declared.flow.FlowFault.{FlowFault};
 ghost use Rattle.game_archive.specs.Alike.{GiveBytes, HasKey};
 ghost use Rattle.game_archive.specs.Groups.{HasLeader, HoldsLeaders, IsGrouped, KnowsGroups, LeadsNone};
-ghost use Rattle.game_archive.specs.Unreadable.{AllPlaced, AreReadable, HaveCauses, IsNotCompared};
+ghost use Rattle.game_archive.specs.Readings.{Noted, ReadAlike};
+ghost use Rattle.game_archive.specs.Unreadable.{HaveCauses, HaveCausesBetween, IsExact, IsNotCompared, KeepsCauses};
 ghost use Rattle.game_archive.specs.declared.grouping.Placing.{Placing};
 ghost use Rattle.game_archive.specs.declared.keys.Likeness.{Likeness};
 
@@ -34,30 +36,31 @@ pub enum Placing {
 
 /// Says of each entry, in order, which group it is in. SHA-256 digests narrow the search.
 ///
-/// Of the entries that are neither `Refused` nor `Unreadable`, two are in one group exactly if they
-/// are alike, as long as each entry gives the same bytes each time that it is opened. If an entry
-/// changes, those that are compared with it may be in another group or in none. An entry is
-/// unreadable only if it cannot be opened or read, or if that happens to an earlier one, or it is
-/// refused, when it is read again.
+/// Two entries are in one group exactly if they are alike, as long as no reading fails and each
+/// entry gives the same bytes each time that it is read. If a reading fails, that still holds of the
+/// entries that are in groups. If an entry changes, those that are compared with it may be in
+/// another group or in none. An entry is `Unreadable` only if its reading failed, or that of an
+/// earlier one with which it was to be compared, or that one was refused when it was read again.
 ///
 /// Calls the watch after each entry. Returns `OutOfMemory` if an allocation fails.
 pub fn group<A: Archive, W: Watch>(
     alloc: Global,
-    archive: &A,
+    archive: &mut A,
     likeness: Likeness,
     watch: &mut W,
 ) -> Result<Vec<Placing>, OutOfMemory>
-    ensures whole { IfOk result (λ placings. length placings.items ≡ A.size archive.now) }
+    ensures whole { IfOk result (λ placings. length placings.items ≡ A.size archive.old) }
     ensures grouped { IfOk result (λ placings. (bytes : ℕ → List ℕ)
-        → GiveBytes (A.size archive.now) (A.gives archive.now) bytes
+        → GiveBytes (A.size archive.old) (A.reads archive.old) bytes
         → IsGrouped likeness bytes placings.items) }
-    ensures unreadable { IfOk result (λ placings. HaveCauses
-        (A.opens_not archive.now) (A.fails archive.now) (A.gives archive.now) placings.items) }
-    // If each entry can be read, none is unreadable.
-    ensures placed { IfOk result (λ placings. (bytes : ℕ → List ℕ)
-        → AreReadable (A.size archive.now) (A.opens_not archive.now) (A.fails archive.now)
-        (A.gives archive.now) bytes
-        → AllPlaced bytes placings.items) }
+    // An entry is unreadable only if a reading failed in this call, or an earlier entry was refused.
+    ensures causes { IfOk result (λ placings. HaveCausesBetween (A.reads archive.old)
+        (A.noted archive.old) (A.noted archive.new) placings.items) }
+    // If no reading failed in this call, none is unreadable.
+    ensures exact { IfOk result (λ placings. (bytes : ℕ → List ℕ)
+        → GiveBytes (A.size archive.old) (A.reads archive.old) bytes
+        → (A.noted archive.new).failed ≡ (A.noted archive.old).failed
+        → IsExact likeness bytes placings.items) }
 {
     group_by(alloc, archive, likeness, &Sha256Digester, watch)
 }
@@ -65,22 +68,23 @@ pub fn group<A: Archive, W: Watch>(
 /// As `group`, with other digests.
 pub fn group_by<A: Archive, D: Digester, W: Watch>(
     alloc: Global,
-    archive: &A,
+    archive: &mut A,
     likeness: Likeness,
     digester: &D,
     watch: &mut W,
 ) -> Result<Vec<Placing>, OutOfMemory>
-    ensures whole { IfOk result (λ placings. length placings.items ≡ A.size archive.now) }
+    ensures whole { IfOk result (λ placings. length placings.items ≡ A.size archive.old) }
     ensures grouped { IfOk result (λ placings. (bytes : ℕ → List ℕ)
-        → GiveBytes (A.size archive.now) (A.gives archive.now) bytes
+        → GiveBytes (A.size archive.old) (A.reads archive.old) bytes
         → IsGrouped likeness bytes placings.items) }
-    ensures unreadable { IfOk result (λ placings. HaveCauses
-        (A.opens_not archive.now) (A.fails archive.now) (A.gives archive.now) placings.items) }
-    // If each entry can be read, none is unreadable.
-    ensures placed { IfOk result (λ placings. (bytes : ℕ → List ℕ)
-        → AreReadable (A.size archive.now) (A.opens_not archive.now) (A.fails archive.now)
-        (A.gives archive.now) bytes
-        → AllPlaced bytes placings.items) }
+    // An entry is unreadable only if a reading failed in this call, or an earlier entry was refused.
+    ensures causes { IfOk result (λ placings. HaveCausesBetween (A.reads archive.old)
+        (A.noted archive.old) (A.noted archive.new) placings.items) }
+    // If no reading failed in this call, none is unreadable.
+    ensures exact { IfOk result (λ placings. (bytes : ℕ → List ℕ)
+        → GiveBytes (A.size archive.old) (A.reads archive.old) bytes
+        → (A.noted archive.new).failed ≡ (A.noted archive.old).failed
+        → IsExact likeness bytes placings.items) }
 {
     let mut groups = Groups {
         placings: Vec::new(alloc),
@@ -109,11 +113,11 @@ impl Groups {
     fn place_next<A: Archive, D: Digester>(
         &mut self,
         alloc: Global,
-        archive: &A,
+        archive: &mut A,
         likeness: Likeness,
         digester: &D,
     ) -> Result<(), OutOfMemory>
-        requires within { length self.old.placings.items < A.size archive.now }
+        requires within { length self.old.placings.items < A.size archive.old }
         requires leaders { HoldsLeaders
             self.old.placings.items self.old.by_digest self.old.others.items }
         ensures more { OnOk result
@@ -121,15 +125,17 @@ impl Groups {
         ensures leaders { OnOk result (HoldsLeaders
             self.new.placings.items self.new.by_digest self.new.others.items) }
         ensures groups { (bytes : ℕ → List ℕ)
-            → GiveBytes (A.size archive.now) (A.gives archive.now) bytes
+            → GiveBytes (A.size archive.old) (A.reads archive.old) bytes
             → KnowsGroups likeness bytes (D.digest_of digester.now)
             self.old.placings.items self.old.by_digest self.old.others.items
             → OnOk result (KnowsGroups likeness bytes (D.digest_of digester.now)
             self.new.placings.items self.new.by_digest self.new.others.items) }
-        ensures causes { HaveCauses (A.opens_not archive.now) (A.fails archive.now)
-            (A.gives archive.now) self.old.placings.items
-            → OnOk result (HaveCauses (A.opens_not archive.now) (A.fails archive.now)
-            (A.gives archive.now) self.new.placings.items) }
+        ensures causes { (since : Noted)
+            → HaveCauses (A.reads archive.old) since self.old.placings.items
+            → OnOk result (KeepsCauses (A.reads archive.old)
+            (A.noted archive.old) (A.noted archive.new) since self.new.placings.items) }
+        ensures size { A.size archive.new ≡ A.size archive.old }
+        ensures alike { ReadAlike (A.reads archive.old) (A.reads archive.new) }
     {
         match keys::key_at(alloc, archive, likeness, self.placings.len()) {
             Ok(key) => self.place_key(alloc, archive, likeness, digester, &key),
@@ -143,12 +149,12 @@ impl Groups {
     fn place_key<A: Archive, D: Digester>(
         &mut self,
         alloc: Global,
-        archive: &A,
+        archive: &mut A,
         likeness: Likeness,
         digester: &D,
         key: &[u8],
     ) -> Result<(), OutOfMemory>
-        requires within { length self.old.placings.items < A.size archive.now }
+        requires within { length self.old.placings.items < A.size archive.old }
         requires leaders { HoldsLeaders
             self.old.placings.items self.old.by_digest self.old.others.items }
         ensures more { OnOk result
@@ -156,16 +162,18 @@ impl Groups {
         ensures leaders { OnOk result (HoldsLeaders
             self.new.placings.items self.new.by_digest self.new.others.items) }
         ensures groups { (bytes : ℕ → List ℕ)
-            → GiveBytes (A.size archive.now) (A.gives archive.now) bytes
+            → GiveBytes (A.size archive.old) (A.reads archive.old) bytes
             → HasKey likeness (bytes (length self.old.placings.items)) key.now
             → KnowsGroups likeness bytes (D.digest_of digester.now)
             self.old.placings.items self.old.by_digest self.old.others.items
             → OnOk result (KnowsGroups likeness bytes (D.digest_of digester.now)
             self.new.placings.items self.new.by_digest self.new.others.items) }
-        ensures causes { HaveCauses (A.opens_not archive.now) (A.fails archive.now)
-            (A.gives archive.now) self.old.placings.items
-            → OnOk result (HaveCauses (A.opens_not archive.now) (A.fails archive.now)
-            (A.gives archive.now) self.new.placings.items) }
+        ensures causes { (since : Noted)
+            → HaveCauses (A.reads archive.old) since self.old.placings.items
+            → OnOk result (KeepsCauses (A.reads archive.old)
+            (A.noted archive.old) (A.noted archive.new) since self.new.placings.items) }
+        ensures size { A.size archive.new ≡ A.size archive.old }
+        ensures alike { ReadAlike (A.reads archive.old) (A.reads archive.new) }
     {
         let digest = digester.digest(key);
         match self.find(alloc, archive, likeness, &digest, key) {
@@ -182,23 +190,27 @@ impl Groups {
     fn find<A: Archive>(
         &self,
         alloc: Global,
-        archive: &A,
+        archive: &mut A,
         likeness: Likeness,
         digest: &[u8; 32],
         key: &[u8],
     ) -> Result<Option<usize>, FlowFault>
-        requires within { length self.now.placings.items ≤ A.size archive.now }
+        requires within { length self.now.placings.items ≤ A.size archive.old }
         requires leaders { HoldsLeaders
             self.now.placings.items self.now.by_digest self.now.others.items }
         ensures leader { IfOk result (λ found. IfSome found
             (λ leader. HasLeader self.now.placings.items leader leader)) }
         ensures found { (bytes : ℕ → List ℕ)
-            → GiveBytes (A.size archive.now) (A.gives archive.now) bytes
+            → GiveBytes (A.size archive.old) (A.reads archive.old) bytes
             → IfOk result (λ found. MatchOption found
             (LeadsNone likeness bytes digest.now self.now.by_digest self.now.others.items key.now)
             (λ leader. HasKey likeness (bytes leader) key.now)) }
-        ensures fault { IfErr result (IsNotCompared (A.opens_not archive.now) (A.fails archive.now)
-            (A.gives archive.now) self.now.placings.items) }
+        ensures fault { IfErr result (λ fault. fault ≢ FlowFault.OutOfMemory
+            → IsNotCompared (A.reads archive.old) (A.noted archive.old) (A.noted archive.new)
+            self.now.placings.items fault) }
+        ensures quiet { OnOk result (A.noted archive.new ≡ A.noted archive.old) }
+        ensures size { A.size archive.new ≡ A.size archive.old }
+        ensures alike { ReadAlike (A.reads archive.old) (A.reads archive.new) }
     {
         if let Some(leader) = self.by_digest.get(digest) {
             if keys::has_key(alloc, archive, likeness, *leader, key)? {

@@ -1,13 +1,12 @@
 //! Which entries of an archive contain the same game.
 //!
 //! [`Archive`] is a list of entries, each of which can be read again and again, such as the files
-//! of a folder. [`group`] says of each entry which group it is in. Of the entries that are neither
-//! refused nor unreadable, two are in one group exactly if they contain the same game, or, by
-//! [`Likeness::Moves`], the same start and moves. [`copies`] lists the groups that have two entries
-//! or more.
+//! of a folder. [`group`] says of each entry which group it is in: two are in one group exactly if
+//! they contain the same game, or, by [`Likeness::Moves`], the same start and moves. [`copies`]
+//! lists the groups that have two entries or more.
 //!
 //! ```text
-//! let placings = group(alloc, &archive, Likeness::Game, &mut watch)?;
+//! let placings = group(alloc, &mut archive, Likeness::Game, &mut watch)?;
 //! for copy in copies(alloc, &placings)? { .. }
 //! ```
 #![tactic(auto)]
@@ -18,7 +17,7 @@ mod grouping;
 mod keys;
 mod listing;
 
-pub use archive::{Archive, OpenFault, Watch};
+pub use archive::{Archive, Watch};
 pub use digester::{Digester, Sha256Digester};
 pub use grouping::{Placing, group, group_by};
 pub use keys::Likeness;

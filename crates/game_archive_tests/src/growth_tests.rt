@@ -39,7 +39,7 @@ fn are_grouped(placings: &[Placing]) -> bool {
 // Groups the entries, and once more if the first call is out of memory.
 fn grouped_at_last(
     rt: &(impl AllocGlobal + Print),
-    shelf: &Shelf<'_>,
+    shelf: &mut Shelf<'_>,
     likeness: Likeness,
 ) -> Result<Vec<Placing>, Fail> {
     let mut last = Last { at: None };
@@ -55,10 +55,8 @@ fn grouped_at_last(
 #[test]
 fn refused_growth_of_group(rt: HostRuntime) -> Result<(), Fail> {
     let books = books();
-    let shelf = Shelf {
-        books: books.as_slice(),
-    };
-    let placings = grouped_at_last(&rt, &shelf, Likeness::Game)?;
+    let mut shelf = Shelf::new(rt.alloc(), books.as_slice());
+    let placings = grouped_at_last(&rt, &mut shelf, Likeness::Game)?;
     assert!(rt; are_grouped(&placings));
     Ok(())
 }
@@ -66,10 +64,8 @@ fn refused_growth_of_group(rt: HostRuntime) -> Result<(), Fail> {
 #[test]
 fn refused_growth_of_group_by_moves(rt: HostRuntime) -> Result<(), Fail> {
     let books = books();
-    let shelf = Shelf {
-        books: books.as_slice(),
-    };
-    let placings = grouped_at_last(&rt, &shelf, Likeness::Moves)?;
+    let mut shelf = Shelf::new(rt.alloc(), books.as_slice());
+    let placings = grouped_at_last(&rt, &mut shelf, Likeness::Moves)?;
     assert!(rt; are_grouped(&placings));
     Ok(())
 }
@@ -77,7 +73,7 @@ fn refused_growth_of_group_by_moves(rt: HostRuntime) -> Result<(), Fail> {
 // With one digest for all, the second group's first entry is kept in the list.
 fn grouped_blindly_at_last(
     rt: &(impl AllocGlobal + Print),
-    shelf: &Shelf<'_>,
+    shelf: &mut Shelf<'_>,
 ) -> Result<Vec<Placing>, Fail> {
     let mut last = Last { at: None };
     match group_by(rt.alloc(), shelf, Likeness::Game, &Blind, &mut last) {
@@ -92,10 +88,8 @@ fn grouped_blindly_at_last(
 #[test]
 fn refused_growth_of_group_by_one_digest(rt: HostRuntime) -> Result<(), Fail> {
     let books = books();
-    let shelf = Shelf {
-        books: books.as_slice(),
-    };
-    let placings = grouped_blindly_at_last(&rt, &shelf)?;
+    let mut shelf = Shelf::new(rt.alloc(), books.as_slice());
+    let placings = grouped_blindly_at_last(&rt, &mut shelf)?;
     assert!(rt; are_grouped(&placings));
     Ok(())
 }

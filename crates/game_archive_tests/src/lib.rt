@@ -8,3 +8,5 @@ mod growth_tests;
 mod shelf;
 #[cfg(test)]
 mod tests;
+#[cfg(test)]
+mod texts;

@@ -2,20 +2,19 @@
 
 ghost use Rattle.std.specs.Prelude.{length, replicate};
 
-use csa_record::Reading;
-use game_archive::{Archive, Digester, OpenFault, Watch};
+use csa_record::{FlowFault, Reading, Record, read_from};
+use game_archive::{Archive, Digester, Watch};
+use std::alloc::Global;
 use std::cell::Cell;
 use std::io;
 use std::io::{ErrorKind, Read};
 
-// What an entry gives when it is opened.
+// What an entry gives when it is read.
 #[derive(Clone, Copy)]
 pub enum Tape {
     Bytes(&'static [u8]),
     // Reading fails.
     Torn,
-    // Opening fails.
-    Missing,
 }
 
 impl Read for Tape {
@@ -26,17 +25,17 @@ impl Read for Tape {
     fn read(&mut self, buffer: &mut [u8]) -> io::Result<usize> {
         match self {
             Tape::Bytes(bytes) => bytes.read(buffer),
-            Tape::Torn | Tape::Missing => Err(io::Error::from(ErrorKind::Other)),
+            Tape::Torn => Err(io::Error::from(ErrorKind::Other)),
         }
     }
 }
 
-// An entry that gives one tape when it is opened first, and another one from then on.
+// An entry that gives one tape when it is read first, and another one from then on.
 #[derive(Drop)]
 pub struct Book {
     first: Tape,
     later: Tape,
-    opened: Cell<bool>,
+    was_read: Cell<bool>,
 }
 
 impl Book {
@@ -48,32 +47,41 @@ impl Book {
         Book {
             first,
             later,
-            opened: Cell::new(false),
+            was_read: Cell::new(false),
         }
     }
 
-    fn open(&self) -> Tape {
-        if self.opened.get() {
+    fn tape(&self) -> Tape {
+        if self.was_read.get() {
             return self.later;
         }
-        self.opened.set(true);
+        self.was_read.set(true);
         self.first
     }
 }
 
+// Books, and the places of those that could not be read, and of those that were refused.
 #[derive(Drop)]
 pub struct Shelf<'a> {
-    pub books: &'a [Book],
+    books: &'a [Book],
+    failed: Vec<usize>,
+    refused: Vec<usize>,
+}
+
+impl<'a> Shelf<'a> {
+    pub fn new(alloc: Global, books: &'a [Book]) -> Shelf<'a> {
+        Shelf {
+            books,
+            failed: Vec::new(alloc),
+            refused: Vec::new(alloc),
+        }
+    }
 }
 
 impl Archive for Shelf<'_> {
-    type Entry = Reading<Tape>;
+    ghost reads = { λ _ _ _. Unit {0} };
 
-    ghost gives = { λ _ _ _. Unit {0} };
-
-    ghost opens_not = { λ _ _. Unit {0} };
-
-    ghost fails = { λ _ _. Unit {0} };
+    ghost noted = { λ shelf. record { failed = shelf.failed.items; refused = shelf.refused.items } };
 
     ghost size = { λ shelf. length shelf.books.now };
 
@@ -81,11 +89,17 @@ impl Archive for Shelf<'_> {
         self.books.len()
     }
 
-    fn open(&self, at: usize) -> Result<Reading<Tape>, OpenFault> {
-        match self.books[at].open() {
-            Tape::Missing => Err(OpenFault::Failed),
-            tape => Ok(Reading::new(tape)),
+    fn read_record(&mut self, alloc: Global, at: usize) -> Result<Record, FlowFault> {
+        let result = read_from(alloc, &mut Reading::new(self.books[at].tape()));
+        let noted = match &result {
+            Err(FlowFault::ReadFault) => self.failed.push(at),
+            Err(FlowFault::Refused(_)) => self.refused.push(at),
+            _ => Ok(()),
+        };
+        if noted.is_err() {
+            return Err(FlowFault::OutOfMemory);
         }
+        result
     }
 }
 

@@ -1,4 +1,5 @@
 use crate::shelf::{Blind, Book, Last, Shelf, Tape};
+use crate::texts::{Texts, exact_groups};
 use game_archive::{Likeness, Placing, copies, group, group_by};
 use std::alloc::Global;
 use std::test::Fail;
@@ -26,7 +27,7 @@ const REFUSED: &[u8] = b"+\n+7775FU";
 
 fn placed(alloc: Global, likeness: Likeness, books: &[Book]) -> Result<Vec<Placing>, Fail> {
     let mut last = Last { at: None };
-    let placings = group(alloc, &Shelf { books }, likeness, &mut last)?;
+    let placings = group(alloc, &mut Shelf::new(alloc, books), likeness, &mut last)?;
     Ok(placings)
 }
 
@@ -91,18 +92,12 @@ fn refused_in_no_group(rt: HostRuntime) -> Result<(), Fail> {
 #[test]
 fn unreadable_in_no_group(rt: HostRuntime) -> Result<(), Fail> {
     let books = [
-        Book::changing(Tape::Missing, Tape::Bytes(GAME)),
         Book::changing(Tape::Torn, Tape::Bytes(GAME)),
         Book::of(GAME),
         Book::of(SPELT),
     ];
     let placings = placed(rt.alloc(), Likeness::Game, books.as_slice())?;
-    let wanted = [
-        Placing::Unreadable,
-        Placing::Unreadable,
-        Placing::Group(2),
-        Placing::Group(2),
-    ];
+    let wanted = [Placing::Unreadable, Placing::Group(1), Placing::Group(1)];
     assert!(rt; placings.as_slice() == wanted.as_slice());
     Ok(())
 }
@@ -111,7 +106,7 @@ fn unreadable_in_no_group(rt: HostRuntime) -> Result<(), Fail> {
 // others keep theirs.
 #[test]
 fn not_read_again(rt: HostRuntime) -> Result<(), Fail> {
-    for later in [Tape::Missing, Tape::Torn, Tape::Bytes(REFUSED)] {
+    for later in [Tape::Torn, Tape::Bytes(REFUSED)] {
         let books = [
             Book::changing(Tape::Bytes(GAME), later),
             Book::of(OTHER_NAME),
@@ -155,11 +150,9 @@ fn one_digest_for_all(rt: HostRuntime) -> Result<(), Fail> {
         Book::of(SPELT),
         Book::of(NO_TIME),
     ];
-    let shelf = Shelf {
-        books: books.as_slice(),
-    };
+    let mut shelf = Shelf::new(rt.alloc(), books.as_slice());
     let mut last = Last { at: None };
-    let placings = group_by(rt.alloc(), &shelf, Likeness::Game, &Blind, &mut last)?;
+    let placings = group_by(rt.alloc(), &mut shelf, Likeness::Game, &Blind, &mut last)?;
     let wanted = [0, 1, 2, 1, 0, 2].map(Placing::Group);
     assert!(rt; placings.as_slice() == wanted.as_slice());
     assert!(rt; last.at == Some(5));
@@ -189,5 +182,26 @@ fn copies_in_order(rt: HostRuntime) -> Result<(), Fail> {
     let pairs = copies(rt.alloc(), placings.as_slice())?;
     let wanted = [(1, 1), (1, 5), (1, 6), (3, 3), (3, 4)];
     assert!(rt; pairs.as_slice() == wanted.as_slice());
+    Ok(())
+}
+
+// The premise of `exact` is met: no reading of texts in memory fails.
+#[test]
+fn exact_groups_of_texts(rt: HostRuntime) -> Result<(), Fail> {
+    let texts = [GAME, REFUSED, SPELT, OTHER_TIME];
+    let mut archive = Texts::new(rt.alloc(), texts.as_slice());
+    let placings = exact_groups(rt.alloc(), &mut archive, Likeness::Game)?;
+    assert!(rt; archive.failed.is_empty());
+    assert!(rt; archive.refused.as_slice() == [1].as_slice());
+    let is_so = matches!(
+        placings.as_slice(),
+        [
+            Placing::Group(0),
+            Placing::Refused(_),
+            Placing::Group(0),
+            Placing::Group(3)
+        ]
+    );
+    assert!(rt; is_so);
     Ok(())
 }

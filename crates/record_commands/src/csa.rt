@@ -37,7 +37,7 @@ pub fn run<R: Files + Input + Print + AllocGlobal>(
         → IsErrOf result (PositionLineFault.Refused fault) → fault ≢ UsiFault.OutOfMemory }
     ensures fails { IfErr result (FailsToConvert
         (NamesFile (path_of file.entry)) (IsOpenedAs (path_of file.entry) HashLines.Refused)
-        ⟦<HashComments<inputs::Input<R::Reader, R::File>> as io::Read>⟧.remaining) }
+        ⟦<HashComments<inputs::Input<Box<R::Reader>, R::File>> as io::Read>⟧.remaining) }
 {
     csa(
         rt.alloc(),

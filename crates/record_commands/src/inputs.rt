@@ -6,6 +6,8 @@ ghost use Rattle.record_commands.specs.declared.fault.ReadFault.{ReadFault};
 
 use crate::fault::ReadFault;
 use hash_comments::{HashComments, HashLines};
+use shogi_board::OutOfMemory;
+use std::alloc::Global;
 use std::fs;
 use std::io::Read;
 use std::rt::Files;
@@ -73,10 +75,11 @@ impl<'a, R> RuntimeInputs<'a, R> {
 
 // No contract can say what is in a file, which file it is, or when it cannot be opened. Standard
 // input can always be opened.
-impl<R: Files + std::io::Input> Inputs for RuntimeInputs<'_, R> {
+impl<R: Files + std::io::Input + AllocGlobal> Inputs for RuntimeInputs<'_, R> {
     ghost use Rattle.record_commands.specs.Inputs.{IsOpenedAs, NamesFile};
 
-    type Input = HashComments<Input<R::Reader, R::File>>;
+    // Standard input has a large buffer, and is boxed so that a file is moved without one.
+    type Input = HashComments<Input<Box<R::Reader>, R::File>>;
 
     ghost opens = { λ inputs path reader. IsOpenedAs path inputs.hash_lines reader };
 
@@ -89,18 +92,25 @@ impl<R: Files + std::io::Input> Inputs for RuntimeInputs<'_, R> {
 }
 
 // The file of that name, or standard input if there is no name or it is `-`.
-fn picked<R: Files + std::io::Input>(
+fn picked<R: Files + std::io::Input + AllocGlobal>(
     rt: &R,
     file: Option<&str>,
-) -> Result<Input<R::Reader, R::File>, ReadFault>
+) -> Result<Input<Box<R::Reader>, R::File>, ReadFault>
     ensures opened { IfOk result (IsPicked (path_of file.entry)) }
     ensures failed { IsErrOf result ReadFault.Failed → NamesFile (path_of file.entry) }
 {
     match file {
-        None | Some("-") => Ok(Input::Standard(rt.reader())),
+        None | Some("-") => match standard_input(rt) {
+            Ok(reader) => Ok(Input::Standard(reader)),
+            Err(_) => Err(ReadFault::OutOfMemory),
+        },
         Some(path) => match fs::open(rt, path) {
             Ok(file) => Ok(Input::File(file)),
             Err(error) => Err(ReadFault::of(&error)),
         },
     }
+}
+
+fn standard_input<R: std::io::Input + AllocGlobal>(rt: &R) -> Result<Box<R::Reader>, OutOfMemory> {
+    Ok(Box::new(rt.alloc(), rt.reader())?)
 }

@@ -50,7 +50,7 @@ pub fn run<R: Files + Input + Print + AllocGlobal>(
         → (bytes : List ℕ) × Refused bytes r.number r.offset r.why }
     ensures fails { IfErr result (FailsToReport
         (GetsRecord (NamesFile (path_of file.entry)) (IsOpenedAs (path_of file.entry) hash_lines)
-        ⟦<HashComments<inputs::Input<R::Reader, R::File>> as io::Read>⟧.remaining)
+        ⟦<HashComments<inputs::Input<Box<R::Reader>, R::File>> as io::Read>⟧.remaining)
         (Fits text)) }
 {
     report(

@@ -28,8 +28,9 @@ returns-clause-printed g c =
     record {
       placings = c.in-Ok.placings.items;
       whole = c.in-Ok.ensures.whole ∙ size;
-      grouped = λ bytes gives. c.in-Ok.ensures.grouped bytes (subst (λ n. GiveBytes n (g.A.Archive.gives c.args.archive.now) bytes) (sym size) gives);
-      causes = c.in-Ok.ensures.unreadable;
+      grouped = λ bytes gives. c.in-Ok.ensures.grouped bytes (subst (λ n. GiveBytes n (g.A.Archive.reads c.args.archive.now) bytes) (sym size) gives);
+      causes = c.in-Ok.ensures.causes;
+      exact = λ bytes gives. c.in-Ok.ensures.exact bytes (subst (λ n. GiveBytes n (g.A.Archive.reads c.args.archive.now) bytes) (sym size) gives);
       tally_is = c.in_ok-tally.ensures.kinds ∙ ap (tally_from no_file) c.as_slice.ensures.value;
       members = members;
       shared = subst (λ ps. ListsShared ps members) c.as_slice-2.ensures.value c.in-Ok-copies.ensures.members;

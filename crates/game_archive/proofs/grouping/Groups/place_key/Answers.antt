@@ -1,8 +1,8 @@
-use Rattle.std.proofs.Common.{◌≡◌, ◌∙◌, [], ◌∷◌, ◌++◌, ap, inr, length, subst, sym}
+use Rattle.std.proofs.Common.{◌≡◌, ◌∙◌, [], ◌∷◌, ◌++◌, ap, length, subst, sym}
 use Rattle.std.proofs.lemmas.List.{length_push}
-use Rattle.game_archive.proofs.Placed.{leaders_still, placed_unreadable, placed_with, within}
-use Rattle.game_archive.specs.Unreadable.{HaveCauses}
-use Rattle.game_archive.proofs.Causes.{causes_pushed, lost, on_ok}
+use Rattle.game_archive.proofs.Placed.{leaders_still, placed_unreadable, placed_with}
+use Rattle.game_archive.proofs.Causes.{keeps_group, keeps_lost, on_ok}
+use Rattle.game_archive.specs.Unreadable.{KeepsCauses}
 use Rattle.game_archive.specs.declared.grouping.Placing.TheVariants as placing
 use Rattle.game_archive.proofs.grouping.Groups.place_key.Goals as goal
 
@@ -24,22 +24,22 @@ returns-in-Ok-None-clause-groups g c = λ bytes gives has old.
     c.begin.ensures.groups c.args.likeness bytes (g.D.Digester.digest_of c.args.digester.now) c.args.key.now c.digest-digest.ensures has none old
 
 pub returns-in_ok-push-in-Ok-Some-clause-causes : goal.returns-in_ok-push-in-Ok-Some-clause-causes
-returns-in_ok-push-in-Ok-Some-clause-causes g c = λ old.
-    let archive = c.args.archive.now in
+returns-in_ok-push-in-Ok-Some-clause-causes g c = λ since old.
     rw c.in_ok-push-in-Ok-Some.ensures.items
-    (causes_pushed (g.A.Archive.opens_not archive) (g.A.Archive.fails archive) (g.A.Archive.gives archive) c.args.self.now.placings.items (placing.Group c.in-Ok-Some.leader) (λ is. absurd cc) old)
+    (keeps_group (g.A.Archive.reads c.args.archive.now) (g.A.Archive.noted c.args.archive.now) (g.A.Archive.noted c.find.new.archive) since c.args.self.now.placings.items c.in-Ok-Some.leader
+    c.in-Ok-Some.ensures.quiet old)
 
 pub returns-in-Ok-None-clause-causes : goal.returns-in-Ok-None-clause-causes
-returns-in-Ok-None-clause-causes g c = λ old.
+returns-in-Ok-None-clause-causes g c = λ since old.
     let archive = c.args.archive.now in
-    let U = g.A.Archive.opens_not archive in
-    let F = g.A.Archive.fails archive in
-    let G = g.A.Archive.gives archive in
+    let R = g.A.Archive.reads archive in
+    let before = g.A.Archive.noted archive in
+    let noted = g.A.Archive.noted c.find.new.archive in
     let placings = c.args.self.now.placings.items in
     let after = c.begin.new.self.placings.items in
     let own = placing.Group (length placings) in
-    on_ok (after ≡ placings ++ own ∷ []) (HaveCauses U F G after) c.begin.result
-    (λ e. subst (HaveCauses U F G) (sym e) (causes_pushed U F G placings own (λ is. absurd cc) old)) c.begin.ensures.placed
+    on_ok (after ≡ placings ++ own ∷ []) (KeepsCauses R before noted since after) c.begin.result
+    (λ e. subst (KeepsCauses R before noted since) (sym e) (keeps_group R before noted since placings (length placings) c.in-Ok-None.ensures.quiet old)) c.begin.ensures.placed
 
 pub returns-in_ok-push-in-Err-Refused : goal.returns-in_ok-push-in-Err-Refused
 returns-in_ok-push-in-Err-Refused g c = record {
@@ -47,15 +47,13 @@ returns-in_ok-push-in-Err-Refused g c = record {
   leaders = rw c.in_ok-push-in-Err-Refused.ensures.items (leaders_still c.args.self.now.placings.items placing.Unreadable c.args.self.now.by_digest c.args.self.now.others.items c.requires.leaders);
   groups = λ bytes gives has old. rw c.in_ok-push-in-Err-Refused.ensures.items
       (placed_unreadable c.args.likeness bytes (g.D.Digester.digest_of c.args.digester.now) c.args.self.now.placings.items c.args.self.now.by_digest c.args.self.now.others.items old);
-  causes = λ old.
+  causes = λ since old.
       let archive = c.args.archive.now in
-      let U = g.A.Archive.opens_not archive in
-      let F = g.A.Archive.fails archive in
-      let G = g.A.Archive.gives archive in
-      let placings = c.args.self.now.placings.items in
-      let gone = lost U F G placings c.in-Err-Refused.field-0 (λ e. let h = sym c.in-Err-Refused.field-0-is ∙ e in absurd cc) c.in-Err-Refused.ensures.fault in
       rw c.in_ok-push-in-Err-Refused.ensures.items
-      (causes_pushed U F G placings placing.Unreadable (λ is. inr (gone.0, within placings gone.0 gone.0 gone.1.0, gone.1)) old);
+      (keeps_lost (g.A.Archive.reads archive) (g.A.Archive.noted archive) (g.A.Archive.noted c.find.new.archive) since c.args.self.now.placings.items c.in-Err-Refused.field-0
+      (λ e. let h = sym c.in-Err-Refused.field-0-is ∙ e in absurd cc) (λ e. let h = sym c.in-Err-Refused.field-0-is ∙ e in absurd cc) c.in-Err-Refused.ensures.fault old);
+  size = c.in-Err-Refused.ensures.size;
+  alike = c.in-Err-Refused.ensures.alike;
 }
 
 pub returns-in_ok-push-in-Err-ReadFault : goal.returns-in_ok-push-in-Err-ReadFault
@@ -64,13 +62,11 @@ returns-in_ok-push-in-Err-ReadFault g c = record {
   leaders = rw c.in_ok-push-in-Err-ReadFault.ensures.items (leaders_still c.args.self.now.placings.items placing.Unreadable c.args.self.now.by_digest c.args.self.now.others.items c.requires.leaders);
   groups = λ bytes gives has old. rw c.in_ok-push-in-Err-ReadFault.ensures.items
       (placed_unreadable c.args.likeness bytes (g.D.Digester.digest_of c.args.digester.now) c.args.self.now.placings.items c.args.self.now.by_digest c.args.self.now.others.items old);
-  causes = λ old.
+  causes = λ since old.
       let archive = c.args.archive.now in
-      let U = g.A.Archive.opens_not archive in
-      let F = g.A.Archive.fails archive in
-      let G = g.A.Archive.gives archive in
-      let placings = c.args.self.now.placings.items in
-      let gone = lost U F G placings c.in-Err-ReadFault.field-0 (λ e. let h = sym c.in-Err-ReadFault.field-0-is ∙ e in absurd cc) c.in-Err-ReadFault.ensures.fault in
       rw c.in_ok-push-in-Err-ReadFault.ensures.items
-      (causes_pushed U F G placings placing.Unreadable (λ is. inr (gone.0, within placings gone.0 gone.0 gone.1.0, gone.1)) old);
+      (keeps_lost (g.A.Archive.reads archive) (g.A.Archive.noted archive) (g.A.Archive.noted c.find.new.archive) since c.args.self.now.placings.items c.in-Err-ReadFault.field-0
+      (λ e. let h = sym c.in-Err-ReadFault.field-0-is ∙ e in absurd cc) (λ e. let h = sym c.in-Err-ReadFault.field-0-is ∙ e in absurd cc) c.in-Err-ReadFault.ensures.fault old);
+  size = c.in-Err-ReadFault.ensures.size;
+  alike = c.in-Err-ReadFault.ensures.alike;
 }

@@ -1,8 +1,10 @@
-use Rattle.std.proofs.Common.{◌≡◌, Err, ap, arith, inl, length, subst, sym}
+use Rattle.std.proofs.Common.{◌≡◌, ◌∙◌, Err, ap, arith, length, subst, sym}
+use Rattle.csa_record.specs.declared.flow.FlowFault.TheVariants as flow
 use Rattle.game_archive.proofs.Placed.{leaders_still, placed_refused, placed_unreadable}
 use Rattle.game_archive.specs.Alike.{GivesOnly, HasKey}
-use Rattle.game_archive.proofs.Causes.{causes_pushed}
-use Rattle.game_archive.specs.Unreadable.{HasNoKey, IsUnread}
+use Rattle.game_archive.proofs.Causes.{causes_by, keeps_by, keeps_from, keeps_refused, keeps_unread, on_ok}
+use Rattle.game_archive.proofs.Readings.{alike_trans, gives_still}
+use Rattle.game_archive.specs.Readings.{noted_at}
 use Rattle.game_archive.specs.declared.grouping.Placing.TheVariants as placing
 use Rattle.game_archive.proofs.grouping.Groups.place_next.Goals as goal
 
@@ -15,7 +17,7 @@ pub returns-in_ok-push-in-Err-Refused-clause-groups : goal.returns-in_ok-push-in
 returns-in_ok-push-in-Err-Refused-clause-groups g c = λ bytes gives old.
     let placings = c.args.self.now.placings.items in
     let n : c.len.result ≡ length c.args.self.now.placings.items = omega (arith, c.len.ensures) in
-    let here = subst (λ i. GivesOnly (g.A.Archive.gives c.args.archive.now i) (bytes (length placings))) (sym n) (gives (length placings) c.requires.within) in
+    let here = subst (λ i. GivesOnly (g.A.Archive.reads c.args.archive.now i) (bytes (length placings))) (sym n) (gives (length placings) c.requires.within) in
     let refused = c.in-Err-Refused.ensures.refused (bytes (length placings)) c.in-Err-Refused.refusal here (ap Err c.in-Err-Refused.field-0-is) in
     rw c.in_ok-push-in-Err-Refused.ensures.items (rw c.in-Err-Refused.field-0-is
     (placed_refused c.args.likeness bytes (g.D.Digester.digest_of c.args.digester.now) placings c.in-Err-Refused.refusal c.args.self.now.by_digest c.args.self.now.others.items refused old))
@@ -33,24 +35,50 @@ returns-in_ok-push-in-Err-ReadFault-clause-groups g c = λ bytes gives old.
 pub returns-in-Ok-clause-groups : goal.returns-in-Ok-clause-groups
 returns-in-Ok-clause-groups g c = λ bytes gives old.
     let placings = c.args.self.now.placings.items in
+    let archive = c.args.archive.now in
+    let here = c.key_at.new.archive in
     let n : c.len.result ≡ length c.args.self.now.placings.items = omega (arith, c.len.ensures) in
-    let here = subst (λ i. GivesOnly (g.A.Archive.gives c.args.archive.now i) (bytes (length placings))) (sym n) (gives (length placings) c.requires.within) in
-    let has = subst (HasKey c.args.likeness (bytes (length placings))) (sym c.deref.ensures.value) (c.in-Ok.ensures.text (bytes (length placings)) here) in
-    c.place_key.ensures.groups bytes gives has old
+    let own = subst (λ i. GivesOnly (g.A.Archive.reads archive i) (bytes (length placings))) (sym n) (gives (length placings) c.requires.within) in
+    let has = subst (HasKey c.args.likeness (bytes (length placings))) (sym c.deref.ensures.value) (c.in-Ok.ensures.text (bytes (length placings)) own) in
+    c.place_key.ensures.groups bytes (gives_still (g.A.Archive.reads archive) (g.A.Archive.reads here) (g.A.Archive.size archive) (g.A.Archive.size here) bytes c.in-Ok.ensures.alike c.in-Ok.ensures.size gives) has old
+
+pub returns-in-Ok-clause-causes : goal.returns-in-Ok-clause-causes
+returns-in-Ok-clause-causes g c = λ since old.
+    let archive = c.args.archive.now in
+    let here = c.key_at.new.archive in
+    let new = c.place_key.new.archive in
+    let R = g.A.Archive.reads archive in
+    let S = g.A.Archive.reads here in
+    let step = c.place_key.ensures.causes since (causes_by R S since c.args.self.now.placings.items (λ k r. (c.in-Ok.ensures.alike k r).0) old) in
+    on_ok _ _ c.place_key.result
+    (λ keeps. keeps_from R (g.A.Archive.noted archive) (g.A.Archive.noted here) (g.A.Archive.noted new) since c.place_key.new.self.placings.items c.in-Ok.ensures.noted
+    (keeps_by S R (g.A.Archive.noted here) (g.A.Archive.noted new) since c.place_key.new.self.placings.items (λ k r. (c.in-Ok.ensures.alike k r).1) keeps)) step
+
+pub returns-in-Ok-clause-alike : goal.returns-in-Ok-clause-alike
+returns-in-Ok-clause-alike g c =
+    alike_trans (g.A.Archive.reads c.args.archive.now) (g.A.Archive.reads c.key_at.new.archive) (g.A.Archive.reads c.place_key.new.archive) c.in-Ok.ensures.alike c.place_key.ensures.alike
 
 pub returns-in_ok-push-in-Err-Refused-clause-causes : goal.returns-in_ok-push-in-Err-Refused-clause-causes
-returns-in_ok-push-in-Err-Refused-clause-causes g c = λ old.
+returns-in_ok-push-in-Err-Refused-clause-causes g c = λ since old.
     let archive = c.args.archive.now in
+    let R = g.A.Archive.reads archive in
+    let placings = c.args.self.now.placings.items in
+    let refused = flow.Refused c.in-Err-Refused.refusal in
+    let n : c.len.result ≡ length c.args.self.now.placings.items = omega (arith, c.len.ensures) in
+    let is = c.in-Err-Refused.field-0-is in
+    let reads = subst (λ i. R i (Err refused)) n (subst (λ f. R c.len.result (Err f)) is (c.in-Err-Refused.ensures.fault (λ lost. let e = sym is ∙ lost in absurd cc))) in
+    let after = subst (λ i. g.A.Archive.noted c.key_at.new.archive ≡ noted_at (g.A.Archive.noted archive) i refused) n
+    (subst (λ f. g.A.Archive.noted c.key_at.new.archive ≡ noted_at (g.A.Archive.noted archive) c.len.result f) is c.in-Err-Refused.ensures.noted) in
     rw c.in_ok-push-in-Err-Refused.ensures.items (rw c.in-Err-Refused.field-0-is
-    (causes_pushed (g.A.Archive.opens_not archive) (g.A.Archive.fails archive) (g.A.Archive.gives archive) c.args.self.now.placings.items (placing.Refused c.in-Err-Refused.refusal) (λ is. absurd cc) old))
+    (keeps_refused R (g.A.Archive.noted archive) (g.A.Archive.noted c.key_at.new.archive) since placings c.in-Err-Refused.refusal after reads old))
 
 pub returns-in_ok-push-in-Err-ReadFault-clause-causes : goal.returns-in_ok-push-in-Err-ReadFault-clause-causes
-returns-in_ok-push-in-Err-ReadFault-clause-causes g c = λ old.
+returns-in_ok-push-in-Err-ReadFault-clause-causes g c = λ since old.
     let archive = c.args.archive.now in
-    let U = g.A.Archive.opens_not archive in
-    let F = g.A.Archive.fails archive in
-    let G = g.A.Archive.gives archive in
+    let R = g.A.Archive.reads archive in
+    let placings = c.args.self.now.placings.items in
     let n : c.len.result ≡ length c.args.self.now.placings.items = omega (arith, c.len.ensures) in
-    let own = subst (HasNoKey (U c.len.result) (F c.len.result) (G c.len.result)) c.in-Err-ReadFault.field-0-is c.in-Err-ReadFault.ensures.fault in
+    let after = subst (λ i. g.A.Archive.noted c.key_at.new.archive ≡ noted_at (g.A.Archive.noted archive) i flow.ReadFault) n
+    (subst (λ f. g.A.Archive.noted c.key_at.new.archive ≡ noted_at (g.A.Archive.noted archive) c.len.result f) c.in-Err-ReadFault.field-0-is c.in-Err-ReadFault.ensures.noted) in
     rw c.in_ok-push-in-Err-ReadFault.ensures.items
-    (causes_pushed U F G c.args.self.now.placings.items placing.Unreadable (λ is. inl (subst (λ i. IsUnread (U i) (F i) (G i)) n own)) old)
+    (keeps_unread R (g.A.Archive.noted archive) (g.A.Archive.noted c.key_at.new.archive) since placings after old)

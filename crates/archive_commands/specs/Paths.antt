@@ -1,0 +1,31 @@
+-- The paths that a command line asks for: what its files and its list stand for, in order.
+use Rattle.std.specs.Prelude.{◌≡◌, ◌⊎◌, ℕ, List, [], ◌∷◌, ◌++◌, map, Option, Some, None, IfSome}
+use Rattle.std.specs.Borrow.{Bor}
+use Rattle.std.specs.Str.{IsUtf8}
+use Rattle.std.specs.Global.{Vec}
+use Rattle.archive_commands.specs.Folders.{AreInByteOrder}
+use Rattle.archive_commands.specs.Lists.{Lists, items_of}
+use Rattle.shogi_words.specs.declared.request.PathEnd.{PathEnd}
+
+-- the bytes of each name
+abbrev pub names_of : List (Bor (List ℕ)) → List (List ℕ)
+names_of files = map (λ file. file.now) files
+
+-- the path stands for itself, or for records in byte order, as that of a folder
+abbrev pub StandsFor : List ℕ → List (Vec ℕ) → Type 0
+StandsFor path own = (items_of own ≡ path ∷ []) ⊎ (IsUtf8 path × AreInByteOrder own)
+
+-- what each of these stands for is added in turn
+abbrev pub AreAdded : (List ℕ → List (Vec ℕ) → Type 0) → List (List ℕ) → List (Vec ℕ)
+    → List (Vec ℕ) → Type 0
+AreAdded Stands [] old new = new ≡ old
+AreAdded Stands (path ∷ paths) old new =
+    (own : List (Vec ℕ)) × Stands path own × AreAdded Stands paths (old ++ own) new
+
+-- there is no list; or it could be opened, and names these paths, as far as its bytes are known
+abbrev pub NamesPaths : {Input : Type 0} → (Option (List ℕ) → Input → Type 0)
+    → (Input → Option (List ℕ)) → PathEnd → Option (List ℕ) → List (List ℕ) → Type 0
+NamesPaths Opened bytes end None listed = listed ≡ []
+NamesPaths {Input} Opened bytes end (Some list) listed = (input : Input) × (text : List ℕ)
+    × Opened (Some list) input × IfSome (bytes input) (λ known. text ≡ known)
+    × Lists end text listed
