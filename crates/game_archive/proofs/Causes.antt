@@ -20,8 +20,8 @@ use Rattle.game_archive.specs.Readings.{Noted, noted_at, noted_with}
 use Rattle.game_archive.specs.Unreadable.{HaveCauses, HaveCausesBetween, IsExact, IsLost, IsNotCompared, IsUnread, KeepsCauses, WasRefused}
 use Rattle.game_archive.specs.declared.grouping.Placing.{Placing}
 use Rattle.game_archive.specs.declared.grouping.Placing.TheVariants as placing
-use Rattle.game_archive.specs.declared.keys.Likeness.{Likeness}
-use Rattle.game_archive.specs.declared.keys.Likeness.TheVariants as likeness
+use Rattle.record_game.specs.declared.likeness.Likeness.{Likeness}
+use Rattle.record_game.specs.declared.likeness.Likeness.TheVariants as likeness
 
 -- what the exit of a `?` returns
 pub returned : {T E : Type 0} (P Q : E → Type 0) (r : Result T E) → IsErrAnd r Q → ((fault : E) → Q fault → P fault) → IfErr r P

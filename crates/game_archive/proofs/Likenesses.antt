@@ -1,8 +1,8 @@
 -- A key is that of one game, or of one start and its moves.
 use Rattle.std.proofs.Common.{◌≡◌, ℕ, List, ap, map, subst, sym, ◌∙◌}
 use Rattle.game_archive.specs.Alike.{AreAlike, HasKey, IsKeyOf}
-use Rattle.game_archive.specs.declared.keys.Likeness.{Likeness}
-use Rattle.game_archive.specs.declared.keys.Likeness.TheVariants as likeness
+use Rattle.record_game.specs.declared.likeness.Likeness.{Likeness}
+use Rattle.record_game.specs.declared.likeness.Likeness.TheVariants as likeness
 use Rattle.record_game.proofs.SaysOnce.{tells_once}
 use Rattle.record_game.specs.Canon.{canon}
 use Rattle.record_game.specs.Game.{Game, move_of}

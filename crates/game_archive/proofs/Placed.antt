@@ -15,7 +15,7 @@ use Rattle.game_archive.specs.Alike.{HasKey}
 use Rattle.game_archive.specs.Groups.{placing_at, HasLeader, IsGrouped, HoldsLeaders, IsKept, KnowsGroups, LeadsNone}
 use Rattle.game_archive.specs.declared.grouping.Placing.{Placing}
 use Rattle.game_archive.specs.declared.grouping.Placing.TheVariants as placing
-use Rattle.game_archive.specs.declared.keys.Likeness.{Likeness}
+use Rattle.record_game.specs.declared.likeness.Likeness.{Likeness}
 use Rattle.record_game.specs.declared.fault.Refusal.{Refusal}
 use Rattle.record_game.specs.Refused.{Refused}
 

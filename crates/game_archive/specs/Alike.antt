@@ -2,8 +2,8 @@
 use Rattle.std.specs.Prelude.{◌≡◌, ◌<◌, ℕ, List, map, Result, Ok, Err, ⊤}
 use Rattle.csa_record.specs.declared.flow.FlowFault.{FlowFault}
 use Rattle.csa_record.specs.declared.flow.FlowFault.TheVariants as flow
-use Rattle.game_archive.specs.declared.keys.Likeness.{Likeness}
-use Rattle.game_archive.specs.declared.keys.Likeness.TheVariants as likeness
+use Rattle.record_game.specs.declared.likeness.Likeness.{Likeness}
+use Rattle.record_game.specs.declared.likeness.Likeness.TheVariants as likeness
 use Rattle.record_game.specs.Canon.{canon}
 use Rattle.record_game.specs.Game.{Game, move_of}
 use Rattle.record_game.specs.Refused.{Refused}

@@ -7,7 +7,7 @@ use Rattle.game_archive.specs.Groups.{HasLeader, InOneGroup, placing_at}
 use Rattle.game_archive.specs.Readings.{Noted, noted_at, noted_with}
 use Rattle.game_archive.specs.declared.grouping.Placing.{Placing}
 use Rattle.game_archive.specs.declared.grouping.Placing.TheVariants as placing
-use Rattle.game_archive.specs.declared.keys.Likeness.{Likeness}
+use Rattle.record_game.specs.declared.likeness.Likeness.{Likeness}
 use Rattle.record_game.specs.declared.fault.Refusal.{Refusal}
 use Rattle.record_game.specs.Game.{Game}
 use Rattle.record_game.specs.Refused.{Refused}

@@ -12,12 +12,13 @@ ghost use Rattle.game_archive.specs.Groups.{HasLeader, HoldsLeaders, IsGrouped, 
 ghost use Rattle.game_archive.specs.Readings.{Noted, ReadAlike};
 ghost use Rattle.game_archive.specs.Unreadable.{HaveCauses, HaveCausesBetween, IsExact, IsNotCompared, KeepsCauses};
 ghost use Rattle.game_archive.specs.declared.grouping.Placing.{Placing};
-ghost use Rattle.game_archive.specs.declared.keys.Likeness.{Likeness};
+ghost use Rattle.record_game.specs.declared.likeness.Likeness.{Likeness};
 
 use crate::archive::{Archive, Watch};
 use crate::digester::{Digester, Sha256Digester};
-use crate::keys::{self, Likeness};
+use crate::keys;
 use csa_record::{FlowFault, Refusal};
+use record_game::Likeness;
 use shogi_board::OutOfMemory;
 use std::alloc::Global;
 use std::collections::BTreeMap;

@@ -9,19 +9,10 @@ ghost use Rattle.game_archive.specs.Readings.{ReadAlike, noted_after};
 
 use crate::archive::Archive;
 use csa_record::{FlowFault, Record, Refusal, write};
+use record_game::Likeness;
 use shogi_board::OutOfMemory;
 use std::alloc::Global;
 use usi_text::position_line;
-
-/// What two entries of one group have in common.
-#[derive(Clone, Copy, Debug, PartialEq, Eq)]
-pub enum Likeness {
-    /// The whole game: names, headers, start, moves, times and ending. Their canonical texts are
-    /// equal.
-    Game,
-    /// The start, with its side to move, and the moves.
-    Moves,
-}
 
 /// The key of the entry at this place.
 ///

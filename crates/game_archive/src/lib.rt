@@ -20,5 +20,5 @@ mod listing;
 pub use archive::{Archive, Watch};
 pub use digester::{Digester, Sha256Digester};
 pub use grouping::{Placing, group, group_by};
-pub use keys::Likeness;
 pub use listing::copies;
+pub use record_game::Likeness;

@@ -13,5 +13,7 @@
 
 mod fault;
 pub mod laws;
+mod likeness;
 
 pub use fault::{OrderFault, Refusal, Why};
+pub use likeness::Likeness;

@@ -5,7 +5,7 @@ use Rattle.clap.specs.Walk.{rows_of}
 use Rattle.clap.specs.Words.{first_value, found_of, one_text}
 use Rattle.clap.specs.declared.parser.matches.ArgMatches.{ArgMatches}
 use Rattle.clap.specs.declared.parser.matches.Found.{Found}
-use Rattle.game_archive.specs.declared.keys.Likeness.TheVariants as likeness
+use Rattle.record_game.specs.declared.likeness.Likeness.TheVariants as likeness
 use Rattle.hash_comments.specs.declared.comments.HashLines.TheVariants as hash_lines
 use Rattle.shogi_board.specs.declared.color.Color.TheVariants.{Black, White}
 use Rattle.shogi_rules.specs.Positions.{max_moves}

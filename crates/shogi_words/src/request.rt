@@ -2,8 +2,8 @@
 
 use crate::play::Plan;
 use crate::serve::Service;
-use game_archive::Likeness;
 use hash_comments::HashLines;
+use record_game::Likeness;
 
 /// A command and what its words say.
 #[derive(Clone, Copy, Debug)]

@@ -7,8 +7,8 @@ ghost use Rattle.shogi_words.specs.Requests.{AreRecordsOf, IsOneRecordOf};
 
 use crate::request::{OneRecord, PathEnd, Records};
 use clap::{Arg, ArgAction, ArgMatches, Command};
-use game_archive::Likeness;
 use hash_comments::HashLines;
+use record_game::Likeness;
 use std::alloc::{AllocError, Global};
 
 const RECORD: &str = "The record; without it, or with -, standard input is read";
