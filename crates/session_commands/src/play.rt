@@ -4,7 +4,7 @@ ghost use Rattle.std.specs.Prelude.{◌≡◌, true, false, IfErr, IfOk, OnOk, s
 ghost use Rattle.std.specs.Io.KnownBytes.{Appends};
 ghost use Rattle.session_commands.specs.Kept.{IsKept, KeepsRecord, report_of};
 ghost use Rattle.session_commands.specs.Logins.{AreLoginWords, HasNoLogin, IsLoginOf, IsPlayed};
-ghost use Rattle.session_commands.specs.Playing.{IsReported, IsUnreported, PlaysAndKeeps, PlaysFor, PlaysIn};
+ghost use Rattle.session_commands.specs.Playing.{ClosesLog, IsReported, IsUnreported, PlaysAndKeeps, PlaysFor, PlaysIn};
 ghost use Rattle.session_commands.specs.Words.{played_line};
 ghost use Rattle.bridge_table.specs.declared.state.ClientState.{ClientState};
 ghost use Rattle.shogi_session.specs.State.{client_state, first_state};
@@ -12,8 +12,10 @@ ghost use Rattle.shogi_session.specs.State.{client_state, first_state};
 use crate::bridging::{Ends, play};
 use crate::children::System;
 use crate::disk::LocalDisk;
-use crate::fault::{MatchFault, PlayFault};
+use crate::fault::{MatchFault, PlayFault, memory_or};
 use crate::house::{House, Local};
+use crate::log::{Log, TextLog};
+use crate::log_output::{StandardError, Stopwatch};
 use crate::login::{Login, RuntimeSecrets, Secrets, login_of};
 use crate::out_file::{Named, Place};
 use crate::progress::Progress;
@@ -22,6 +24,7 @@ use shogi_board::OutOfMemory;
 use shogi_session::{Bridge, ClientState, Config};
 use shogi_words::Plan;
 use std::alloc::{AllocError, Global};
+use std::fs;
 use std::io::{self, Eprint, Write};
 use std::net::{Net, TcpListener, TcpStream};
 use std::process::Processes;
@@ -48,8 +51,34 @@ pub fn run<
         + Eprint
         + AllocGlobal,
 >(rt: &R, plan: &Plan<'_, '_>) -> Result<(), PlayFault> {
+    let watch = Stopwatch::started(rt);
+    match plan.log {
+        None => play_logged(rt, plan, None::<TextLog<Stopwatch<'_, R>, R::File>>),
+        Some("-") => {
+            let log = TextLog::new(rt.alloc(), watch, StandardError::new(rt));
+            play_logged(rt, plan, Some(log))
+        }
+        Some(path) => match fs::create(rt, path) {
+            Ok(file) => play_logged(rt, plan, Some(TextLog::new(rt.alloc(), watch, file))),
+            Err(error) => Err(PlayFault::Match(memory_or(error.kind(), MatchFault::Write))),
+        },
+    }
+}
+
+// Plays the planned game, and notes what passes in the log, if there is one.
+fn play_logged<
+    R: Env
+        + Files
+        + Net<Listener = TcpListener, Stream = TcpStream>
+        + Processes
+        + Clock
+        + Print
+        + Eprint
+        + AllocGlobal,
+    L: Log + Drop,
+>(rt: &R, plan: &Plan<'_, '_>, log: Option<L>) -> Result<(), PlayFault> {
     let secrets = RuntimeSecrets::new(rt);
-    let mut house = Local::new(rt.alloc(), System::new(rt));
+    let mut house = Local::new(rt.alloc(), System::new(rt), log);
     let mut place = Named::new(rt.alloc(), LocalDisk::new(rt), plan.out);
     play_planned(
         rt,
@@ -77,7 +106,7 @@ fn play_planned<R: Eprint + AllocGlobal, S: Secrets, H: House, P: Place, W: Writ
         S.holds S.holds_no_text secrets.now plan.now)
         (λ login. IsReported (PlaysFor H.opened H.unopened
         H.shut H.Both.Ends.came H.Both.Ends.missed H.Both.Ends.went H.Both.Ends.gone
-        P.begun P.unbegun P.took P.refused P.dropped P.replaced plan.now login house.old place.old house.new place.new)
+        H.Both.Ends.closed P.begun P.unbegun P.took P.refused P.dropped P.replaced plan.now login house.old place.old house.new place.new)
         W.contents out.old out.new)
         ((house.new ≡ house.old) × (place.new ≡ place.old) × (out.new ≡ out.old))
         result }
@@ -99,7 +128,7 @@ fn report<R: Eprint + AllocGlobal, H: House, P: Place, W: Write>(
     requires { AreLoginWords login.now }
     ensures { IsReported (PlaysFor H.opened H.unopened
         H.shut H.Both.Ends.came H.Both.Ends.missed H.Both.Ends.went H.Both.Ends.gone
-        P.begun P.unbegun P.took P.refused P.dropped P.replaced plan.now login.now house.old place.old house.new place.new)
+        H.Both.Ends.closed P.begun P.unbegun P.took P.refused P.dropped P.replaced plan.now login.now house.old place.old house.new place.new)
         W.contents out.old out.new result }
 {
     let moves = play_for(rt, login, house, place, plan)?;
@@ -136,7 +165,7 @@ fn play_for<R: Eprint + AllocGlobal, H: House, P: Place>(
     requires { AreLoginWords login.now }
     ensures { PlaysFor H.opened H.unopened
         H.shut H.Both.Ends.came H.Both.Ends.missed H.Both.Ends.went H.Both.Ends.gone
-        P.begun P.unbegun P.took P.refused P.dropped P.replaced
+        H.Both.Ends.closed P.begun P.unbegun P.took P.refused P.dropped P.replaced
         plan.now login.now house.old place.old house.new place.new result }
 {
     let draft = place.begin()?;
@@ -156,7 +185,7 @@ fn play_in<R: Eprint + AllocGlobal, H: House, P: Place>(
     requires { AreLoginWords login.now }
     ensures played { PlaysIn H.opened H.unopened
         H.shut H.Both.Ends.came H.Both.Ends.missed H.Both.Ends.went H.Both.Ends.gone
-        P.took P.refused P.dropped P.replaced draft
+        H.Both.Ends.closed P.took P.refused P.dropped P.replaced draft
         plan.now login.now house.old place.old house.new place.new result }
 {
     let (mut both, running) = match house.open(plan) {
@@ -197,16 +226,32 @@ fn play_between<R: Eprint + AllocGlobal, E: Ends, P: Place>(
     draft: P::Draft,
     is_shown: bool,
 ) -> Kept
-    ensures whole { PlaysAndKeeps E.came E.missed E.went E.gone
+    ensures whole { PlaysAndKeeps E.came E.missed E.went E.gone E.closed
         P.took P.refused P.dropped P.replaced draft ends.old bridge.old place.old
         ends.new bridge.new place.new result.ended_well result.moves }
 {
     let mut progress = Progress::new(is_shown);
     let played = play(rt, bridge, ends, &mut progress);
+    let kept = keep_game(place, draft, bridge, played);
     Kept {
         ended_well: played.is_ok(),
-        moves: keep_game(place, draft, bridge, played),
+        moves: close_log(rt.alloc(), ends, &progress, played, kept),
     }
+}
+
+// Adds to the log how the session ended. Returns what became of the game, or else the log's fault.
+fn close_log<E: Ends>(
+    alloc: Global,
+    ends: &mut E,
+    progress: &Progress,
+    played: Result<(), MatchFault>,
+    kept: Result<usize, MatchFault>,
+) -> Result<usize, MatchFault>
+    ensures { ClosesLog E.closed ends.old ends.new kept result }
+{
+    let text = progress.end_text(alloc, played)?;
+    ends.close(text.as_bytes())?;
+    kept
 }
 
 // Puts the record of the bridge's game in its place, if there is a game, whether the session ended
