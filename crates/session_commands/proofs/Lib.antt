@@ -2,6 +2,8 @@ pub mod Coming
 pub mod Holding
 pub mod Joining
 pub mod Keeping
+pub mod LogTexts
+pub mod Logging
 pub mod LoginWords
 pub mod Outcomes
 pub mod PlayedLogs

@@ -5,7 +5,7 @@ use Rattle.std.specs.Prelude.{codes, decimal}
 use Rattle.std.specs.Str.Pattern.{RFindsChar, SplitsAroundMatch}
 use Rattle.std.proofs.lemmas.List.{take-append-drop}
 use Rattle.std.proofs.lemmas.Str.Pattern.{NoCharPasses-char, drop_at_char}
-use Rattle.session_commands.specs.Disk.{Acts, Fills, Finds, HasNoSlash, IsBeside, LeadsTo, PutsBeside, Replaces, created, file, filled, in_folder, link, lost_link, no_name, not_created, not_filled, not_written, nothing, other, without_folder}
+use Rattle.session_commands.specs.Disk.{Acts, Draft, Fills, Finishes, HasNoSlash, IsBeside, filled, fills, in_folder, not_filled, not_written, without_folder, written}
 use Rattle.session_commands.specs.Faults.{IsFileFault}
 use Rattle.session_commands.specs.declared.fault.MatchFault.{MatchFault}
 
@@ -33,30 +33,22 @@ pub without_folder_if_ok : {X E : Type 0} (bytes : X → List ℕ) (number : ℕ
 without_folder_if_ok bytes number target (Ok x) h is = beside_none number target (bytes x) h is
 without_folder_if_ok bytes number target (Err e) h is = tt
 
-fills_fault : {D : Type 0} (acts : Acts D) (mode : Option ℕ) (new target text : List ℕ) (d e : D) (r : Result ⊤ MatchFault) → Fills acts mode new target text d e r → IfErr r IsFileFault
-fills_fault acts mode new target text d e r (filled done before asks does) = tt
-fills_fault acts mode new target text d e r (not_filled before after is_removed asks stops removes) = inl refl
+-- a text is only refused if it cannot be written
+fills_fault : {D : Type 0} (acts : Acts D) (draft : Draft) (text : List ℕ) (d e : D) (r : Result ⊤ MatchFault) → Fills acts draft text d e r → IfErr r IsFileFault
+fills_fault acts draft text d e r (filled done does) = tt
+fills_fault acts draft text d e r (not_filled after is_removed stops removes) = inl refl
 
-puts_fault : {D : Type 0} (acts : Acts D) (mode : Option ℕ) (target text : List ℕ) (d e : D) (r : Result ⊤ MatchFault) → PutsBeside acts mode target text d e r → IfErr r IsFileFault
-puts_fault acts mode target text d e r (created number new before after answer tries is creates fills) = fills_fault acts mode new target text after e r fills
-puts_fault acts mode target text d e r (not_created number some tries) = inl refl
-puts_fault acts mode target text d e r (no_name number tries) = inr refl
+pub finishes_fault : {D : Type 0} (acts : Acts D) (path text : List ℕ) (d e : D) (draft : Option Draft) (r : Result ⊤ MatchFault) → Finishes acts path text d e draft r → IfErr r IsFileFault
+finishes_fault acts path text d e draft r (fills new answer is) = fills_fault acts new text d e r is
+finishes_fault acts path text d e draft r (written done does) = tt
+finishes_fault acts path text d e draft r (not_written stops) = inl refl
 
--- a text is only refused if it cannot be written, or an allocation fails
-pub replaces_fault : {D : Type 0} (finds : Finds D) (leads : LeadsTo D) (acts : Acts D) (path text : List ℕ) (d e : D) (r : Result ⊤ MatchFault) → Replaces finds leads acts path text d e r → IfErr r IsFileFault
-replaces_fault finds leads acts path text d e r (nothing answer is put) = puts_fault acts None path text d e r put
-replaces_fault finds leads acts path text d e r (file mode answer is put) = puts_fault acts (Some mode) path text d e r put
-replaces_fault finds leads acts path text d e r (link mode target answer is to put) = puts_fault acts (Some mode) target text d e r put
-replaces_fault finds leads acts path text d e r (lost_link mode fault is same why) = why
-replaces_fault finds leads acts path text d e r (other done is does) = tt
-replaces_fault finds leads acts path text d e r (not_written is stops) = inl refl
+pub finishes_ok : {D : Type 0} (acts : Acts D) (path text : List ℕ) (d e : D) (draft : Option Draft) (r : Result ⊤ MatchFault) → Finishes acts path text d e draft r
+    → OnOk r (Finishes acts path text d e draft (Ok tt))
+finishes_ok acts path text d e draft (Ok done) h = h
+finishes_ok acts path text d e draft (Err fault) h = tt
 
-pub replaces_ok : {D : Type 0} (finds : Finds D) (leads : LeadsTo D) (acts : Acts D) (path text : List ℕ) (d e : D) (r : Result ⊤ MatchFault) → Replaces finds leads acts path text d e r
-    → OnOk r (Replaces finds leads acts path text d e (Ok tt))
-replaces_ok finds leads acts path text d e (Ok done) h = h
-replaces_ok finds leads acts path text d e (Err fault) h = tt
-
-pub replaces_not : {D : Type 0} (finds : Finds D) (leads : LeadsTo D) (acts : Acts D) (path text : List ℕ) (d e : D) (r : Result ⊤ MatchFault) → Replaces finds leads acts path text d e r
-    → IfErr r (λ fault. Replaces finds leads acts path text d e (Err fault))
-replaces_not finds leads acts path text d e (Ok done) h = tt
-replaces_not finds leads acts path text d e (Err fault) h = h
+pub finishes_not : {D : Type 0} (acts : Acts D) (path text : List ℕ) (d e : D) (draft : Option Draft) (r : Result ⊤ MatchFault) → Finishes acts path text d e draft r
+    → IfErr r (λ fault. Finishes acts path text d e draft (Err fault))
+finishes_not acts path text d e draft (Ok done) h = tt
+finishes_not acts path text d e draft (Err fault) h = h

@@ -1,8 +1,8 @@
 -- For private functions: how a text takes the place of what is at a path.
-use Rattle.std.specs.Prelude.{◌≡◌, ◌≢◌, ◌⊎◌, ◌+◌, ◌<◌, ◌≤◌, ◌++◌, ⊤, ℕ, Bool, true, false, List, [], ◌∷◌, length, slice_index, Option, None, Some, Result, Ok, Err, codes, decimal}
+use Rattle.std.specs.Prelude.{◌≡◌, ◌≢◌, ◌⊎◌, ◌+◌, ◌<◌, ◌≤◌, ◌++◌, ⊤, ℕ, Bool, true, false, List, [], ◌∷◌, length, slice_index, Option, None, Some, Result, Ok, Err, codes, decimal, is_some}
 use Rattle.session_commands.specs.Faults.{IsFileFault}
 use Rattle.session_commands.specs.declared.disk.Found.{Found}
-use Rattle.session_commands.specs.declared.disk.Found.TheVariants.{File, Link, Other, Nothing}
+use Rattle.session_commands.specs.declared.disk.Found.TheVariants.{File, Link, NoFile, Other, Nothing}
 use Rattle.session_commands.specs.declared.fault.MatchFault.{MatchFault}
 use Rattle.session_commands.specs.declared.fault.MatchFault.TheVariants.{OutOfMemory, Write}
 
@@ -69,49 +69,96 @@ pub data Tried {D : Type 0} (acts : Acts D) (target : List ℕ) (d : D) : ℕ �
       → IsBeside number new target → acts e (creates new) false f
       → Tried acts target d (number + 1) f
 
+-- a new file, the file whose place it is to take, and whether one is there
+pub record Draft : Type 0 where
+  pub new : List ℕ
+  pub target : List ℕ
+  pub replaces : Bool
+
 -- a file was to have these permissions, if any are known
 abbrev pub AsksFor : {D : Type 0} → Acts D → Option ℕ → List ℕ → D → D → Type 0
 AsksFor acts None new d e = e ≡ d
 AsksFor acts (Some mode) new d e = (done : Bool) × acts d (permits new mode) done e
 
--- a new file has the text and took the target's name; or it has not, and is removed
-pub data Fills {D : Type 0} (acts : Acts D) (mode : Option ℕ) (new target text : List ℕ) (d e : D)
-    : Result ⊤ MatchFault → Type 0 where
-  filled : (done : ⊤) (before : D) → AsksFor acts mode new d before
-      → DoesAll acts before (puts new target text) e
-      → Fills acts mode new target text d e (Ok done)
-  not_filled : (before after : D) (is_removed : Bool) → AsksFor acts mode new d before
-      → StopsIn acts before (puts new target text) after → acts after (removes new) is_removed e
-      → Fills acts mode new target text d e (Err Write)
+-- the file whose place is to be taken, and its permissions if it is there
+pub data IsTarget {D : Type 0} (finds : Finds D) (leads : LeadsTo D) (path : List ℕ) (d : D)
+    : List ℕ → Option ℕ → Type 0 where
+  nothing : finds d path Nothing → IsTarget finds leads path d path None
+  file : (mode : ℕ) → finds d path (File mode) → IsTarget finds leads path d path (Some mode)
+  link : (mode : ℕ) (target : List ℕ) → finds d path (Link mode) → leads d path target
+      → IsTarget finds leads path d target (Some mode)
 
--- the first new file that could be created beside a target was filled; or none was created
-pub data PutsBeside {D : Type 0} (acts : Acts D) (mode : Option ℕ) (target text : List ℕ) (d e : D)
-    : Result ⊤ MatchFault → Type 0 where
-  created : (number : ℕ) (new : List ℕ) (before after : D) (answer : Result ⊤ MatchFault)
-      → Tried acts target d number before → IsBeside number new target
-      → acts before (creates new) true after → Fills acts mode new target text after e answer
-      → PutsBeside acts mode target text d e answer
+-- the first new file that could be created beside a target is this
+pub record CreatesBeside {D : Type 0}
+    (acts : Acts D) (mode : Option ℕ) (target : List ℕ) (d e : D) (new : List ℕ) : Type 0 where
+  pub number : ℕ
+  pub before : D
+  pub after : D
+  pub tried : Tried acts target d number before
+  pub is_beside : IsBeside number new target
+  pub created : acts before (creates new) true after
+  pub asked : AsksFor acts mode new after e
+
+-- no new file was created beside a target; with the fault that is reported
+pub data CreatesNone {D : Type 0} (acts : Acts D) (target : List ℕ) (d e : D)
+    : MatchFault → Type 0 where
   not_created : (number : ℕ) → 1 ≤ number → Tried acts target d number e
-      → PutsBeside acts mode target text d e (Err Write)
+      → CreatesNone acts target d e Write
   -- there was not enough memory for its name
-  no_name : (number : ℕ) → Tried acts target d number e
-      → PutsBeside acts mode target text d e (Err OutOfMemory)
+  no_name : (number : ℕ) → Tried acts target d number e → CreatesNone acts target d e OutOfMemory
 
--- what became of a text for a path, by what was there: what is no file, no link to one and not
--- nothing is itself opened and written to
-pub data Replaces {D : Type 0} (finds : Finds D) (leads : LeadsTo D) (acts : Acts D)
-    (path text : List ℕ) (d e : D) : Result ⊤ MatchFault → Type 0 where
-  nothing : (answer : Result ⊤ MatchFault) → finds d path Nothing
-      → PutsBeside acts None path text d e answer → Replaces finds leads acts path text d e answer
-  file : (mode : ℕ) (answer : Result ⊤ MatchFault) → finds d path (File mode)
-      → PutsBeside acts (Some mode) path text d e answer
-      → Replaces finds leads acts path text d e answer
-  link : (mode : ℕ) (target : List ℕ) (answer : Result ⊤ MatchFault) → finds d path (Link mode)
-      → leads d path target → PutsBeside acts (Some mode) target text d e answer
-      → Replaces finds leads acts path text d e answer
-  lost_link : (mode : ℕ) (fault : MatchFault) → finds d path (Link mode) → e ≡ d
-      → IsFileFault fault → Replaces finds leads acts path text d e (Err fault)
-  other : (done : ⊤) → finds d path Other → DoesAll acts d (opens path ∷ writes text ∷ []) e
-      → Replaces finds leads acts path text d e (Ok done)
-  not_written : finds d path Other → StopsIn acts d (opens path ∷ writes text ∷ []) e
-      → Replaces finds leads acts path text d e (Err Write)
+-- where a text for a path is to be written: to a new file; or, since what is at the path is no file,
+-- no link to one and not nothing, to that itself
+pub data Begins {D : Type 0} (finds : Finds D) (leads : LeadsTo D) (acts : Acts D)
+    (path : List ℕ) (d e : D) : Option Draft → Type 0 where
+  beside : (draft : Draft) (mode : Option ℕ) → IsTarget finds leads path d draft.target mode
+      → draft.replaces ≡ is_some mode → CreatesBeside acts mode draft.target d e draft.new
+      → Begins finds leads acts path d e (Some draft)
+  in_place : finds d path Other → e ≡ d → Begins finds leads acts path d e None
+
+-- no file can be named whose place a text is to take; with the fault that is reported
+pub data HasNoTarget {D : Type 0} (finds : Finds D) (path : List ℕ) (d : D)
+    : MatchFault → Type 0 where
+  lost_link : (mode : ℕ) (fault : MatchFault) → finds d path (Link mode) → IsFileFault fault
+      → HasNoTarget finds path d fault
+  no_file : finds d path NoFile → HasNoTarget finds path d Write
+  -- there was not enough memory for its name
+  no_memory : HasNoTarget finds path d OutOfMemory
+
+-- no text can be written for a path; with the fault that is reported
+pub data BeginsNot {D : Type 0} (finds : Finds D) (leads : LeadsTo D) (acts : Acts D)
+    (path : List ℕ) (d e : D) : MatchFault → Type 0 where
+  no_target : (fault : MatchFault) → HasNoTarget finds path d fault → e ≡ d
+      → BeginsNot finds leads acts path d e fault
+  none_beside : (target : List ℕ) (mode : Option ℕ) (fault : MatchFault)
+      → IsTarget finds leads path d target mode → CreatesNone acts target d e fault
+      → BeginsNot finds leads acts path d e fault
+
+-- whether a file is there whose place a text takes
+abbrev pub replaces_of : Option Draft → Bool
+replaces_of None = false
+replaces_of (Some draft) = draft.replaces
+
+-- a new file has the text and took the target's name; or it has not, and is removed
+pub data Fills {D : Type 0} (acts : Acts D) (draft : Draft) (text : List ℕ) (d e : D)
+    : Result ⊤ MatchFault → Type 0 where
+  filled : (done : ⊤) → DoesAll acts d (puts draft.new draft.target text) e
+      → Fills acts draft text d e (Ok done)
+  not_filled : (after : D) (is_removed : Bool)
+      → StopsIn acts d (puts draft.new draft.target text) after
+      → acts after (removes draft.new) is_removed e → Fills acts draft text d e (Err Write)
+
+-- the new file was filled; or there is none, and what is at the path was opened and written to
+pub data Finishes {D : Type 0} (acts : Acts D) (path text : List ℕ) (d e : D)
+    : Option Draft → Result ⊤ MatchFault → Type 0 where
+  fills : (draft : Draft) (answer : Result ⊤ MatchFault) → Fills acts draft text d e answer
+      → Finishes acts path text d e (Some draft) answer
+  written : (done : ⊤) → DoesAll acts d (opens path ∷ writes text ∷ []) e
+      → Finishes acts path text d e None (Ok done)
+  not_written : StopsIn acts d (opens path ∷ writes text ∷ []) e
+      → Finishes acts path text d e None (Err Write)
+
+-- the new file is removed, if there is one
+abbrev pub Abandons : {D : Type 0} → Acts D → Option Draft → D → D → Type 0
+Abandons acts None d e = e ≡ d
+Abandons acts (Some draft) d e = (is_removed : Bool) × acts d (removes draft.new) is_removed e

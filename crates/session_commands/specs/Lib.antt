@@ -5,6 +5,8 @@ pub mod Faults
 pub mod Holding
 pub mod Housing
 pub mod Kept
+pub mod LogTexts
+pub mod Logging
 pub mod Logins
 pub mod Offering
 pub mod PlayedLogs

@@ -9,11 +9,11 @@ use Rattle.session_commands.specs.LackOfMemory.{PlayRunsOut}
 use Rattle.bridge_table.specs.declared.event.Status.{Status}
 use Rattle.bridge_table.specs.declared.event.Status.TheVariants.{Done, Failed}
 use Rattle.bridge_table.specs.declared.fault.SessionFault.{SessionFault}
-use Rattle.shogi_session.specs.GameSoFar.{game_of}
 use Rattle.shogi_session.specs.Events.{Event}
 use Rattle.shogi_session.specs.Promises.{Session, Steps}
 use Rattle.shogi_session.specs.State.{first_state, waits_for}
-use Rattle.session_commands.specs.Kept.{KeepsRecord, RefusesText, TakesText}
+use Rattle.session_commands.specs.Faults.{IsFileFault}
+use Rattle.session_commands.specs.Kept.{Drops, KeepsRecord, RefusesText, TakesText}
 use Rattle.session_commands.specs.Words.{played_line}
 use Rattle.shogi_words.specs.declared.play.Plan.{Plan}
 
@@ -35,14 +35,26 @@ pub data CameOut {E : Type 0} (came : Gives E) (missed : Misses E) (went gone : 
       → CameOut came missed went gone e s f t (Err OutOfMemory)
   endless : IsEndless came went gone e s → CameOut came missed went gone e s f t (Err Endless)
 
--- a session was played to its outcome and its game was kept; the result says whether it ended well
-pub record PlaysAndKeeps {E P : Type 0} (came : Gives E) (missed : Misses E)
-    (went gone : Takes E) (took : TakesText P) (refused : RefusesText P)
+-- how a session ended was added to its log, if there is one, and the log is whole; or it was not,
+-- and that is reported in place of what became of the game
+pub data ClosesLog {E : Type 0} (closed : E → List ℕ → E → Type 0) (e f : E)
+    (kept : Result ℕ MatchFault) : Result ℕ MatchFault → Type 0 where
+  is_closed : (text : List ℕ) → closed e text f → ClosesLog closed e f kept kept
+  not_closed : (fault : MatchFault) → IsFileFault fault → ClosesLog closed e f kept (Err fault)
+
+-- a session was played to its outcome and its game was kept in what was begun for it; the result
+-- says whether it ended well
+pub record PlaysAndKeeps {E P D : Type 0} (came : Gives E) (missed : Misses E)
+    (went gone : Takes E) (closed : E → List ℕ → E → Type 0) (took : TakesText P D)
+    (refused : RefusesText P D) (dropped : Drops P D) (replaced : D → Bool) (draft : D)
     (e : E) (s : Session) (p : P) (f : E) (t : Session) (q : P)
     (is_over : Bool) (answer : Result ℕ MatchFault) : Type 0 where
   pub outcome : Result ⊤ MatchFault
-  pub reached : CameOut came missed went gone e s f t outcome
-  pub kept : KeepsRecord took refused (game_of t.state.client) outcome p q answer
+  pub between : E
+  pub game : Result ℕ MatchFault
+  pub reached : CameOut came missed went gone e s between t outcome
+  pub kept : KeepsRecord took refused dropped replaced draft t.state.client outcome p q game
+  pub logged : ClosesLog closed between f game answer
   pub over : is_over ≡ is_ok outcome
 
 -- a bridge to which nothing has happened, as `play` configures it by its plan and its login
@@ -55,25 +67,46 @@ pub record IsFirst (plan : Plan) (login : Login) (s : Session) : Type 0 where
 
 -- a game in a house: it opened with these ends and running programs, a session was played between
 -- the ends, and it shut again, well or not; or it did not open, and its fault is reported
-pub data PlaysIn {H E P R : Type 0} (opened : H → Plan → E → R → H → Type 0)
+pub data PlaysIn {H E P R D : Type 0} (opened : H → Plan → E → R → H → Type 0)
     (unopened : H → Plan → MatchFault → H → Type 0) (shut : H → E → R → Bool → H → Type 0)
-    (came : Gives E) (missed : Misses E) (went gone : Takes E)
-    (took : TakesText P) (refused : RefusesText P)
+    (came : Gives E) (missed : Misses E) (went gone : Takes E) (closed : E → List ℕ → E → Type 0)
+    (took : TakesText P D) (refused : RefusesText P D) (dropped : Drops P D)
+    (replaced : D → Bool) (draft : D)
     (plan : Plan) (login : Login) (h : H) (p : P) (k : H) (q : P)
     : Result ℕ MatchFault → Type 0 where
   played_in : (between : H) (ends over : E) (running : R)
       (first last : Session) (is_well : Bool) (answer : Result ℕ MatchFault)
       → opened h plan ends running between → IsFirst plan login first
-      → PlaysAndKeeps came missed went gone took refused ends first p over last q is_well answer
+      → PlaysAndKeeps came missed went gone closed took refused dropped replaced draft
+      ends first p over last q is_well answer
       → shut between over running is_well k
-      → PlaysIn opened unopened shut came missed went gone took refused plan login h p k q answer
-  not_opened : (fault : MatchFault) → unopened h plan fault k → q ≡ p
-      → PlaysIn opened unopened shut came missed went gone took refused plan login h p k q
-      (Err fault)
+      → PlaysIn opened unopened shut came missed went gone closed took refused dropped replaced draft
+      plan login h p k q answer
+  not_opened : (fault : MatchFault) → unopened h plan fault k → dropped p draft q
+      → PlaysIn opened unopened shut came missed went gone closed took refused dropped replaced draft
+      plan login h p k q (Err fault)
   no_bridge : (between : H) (ends : E) (running : R)
-      → opened h plan ends running between → q ≡ p → shut between ends running false k
-      → PlaysIn opened unopened shut came missed went gone took refused plan login h p k q
-      (Err OutOfMemory)
+      → opened h plan ends running between → dropped p draft q → shut between ends running false k
+      → PlaysIn opened unopened shut came missed went gone closed took refused dropped replaced draft
+      plan login h p k q (Err OutOfMemory)
+
+-- a record was begun in a place before a game was played for it; or none could be, and no house was
+-- opened
+pub data PlaysFor {H E P R D : Type 0} (opened : H → Plan → E → R → H → Type 0)
+    (unopened : H → Plan → MatchFault → H → Type 0) (shut : H → E → R → Bool → H → Type 0)
+    (came : Gives E) (missed : Misses E) (went gone : Takes E) (closed : E → List ℕ → E → Type 0)
+    (begun : P → D → P → Type 0) (unbegun : P → MatchFault → P → Type 0) (took : TakesText P D)
+    (refused : RefusesText P D) (dropped : Drops P D) (replaced : D → Bool)
+    (plan : Plan) (login : Login) (h : H) (p : P) (k : H) (q : P)
+    : Result ℕ MatchFault → Type 0 where
+  played_for : (draft : D) (between : P) (answer : Result ℕ MatchFault) → begun p draft between
+      → PlaysIn opened unopened shut came missed went gone closed took refused dropped replaced draft
+      plan login h between k q answer
+      → PlaysFor opened unopened shut came missed went gone closed begun unbegun took refused dropped
+      replaced plan login h p k q answer
+  not_tried : (fault : MatchFault) → unbegun p fault q → k ≡ h
+      → PlaysFor opened unopened shut came missed went gone closed begun unbegun took refused dropped
+      replaced plan login h p k q (Err fault)
 
 -- a line was not printed whole, or there was not enough memory for it
 abbrev pub IsUnreported : {O : Type 0} → O → O → MatchFault → Type 0

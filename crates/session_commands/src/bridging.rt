@@ -16,6 +16,7 @@ ghost use Rattle.shogi_session.specs.Promises.{HoldsLine, Session, event_of};
 ghost use Rattle.shogi_session.specs.State.{first_state, waits_for};
 ghost use Rattle.bridge_table.specs.declared.event.Status.TheVariants.{Done, Failed};
 
+use crate::ending::Moment;
 use crate::fault::MatchFault;
 use crate::laws::{played_moves_are_legal, sent_lines_are_held};
 use crate::progress::Progress;
@@ -78,6 +79,14 @@ pub trait Ends {
     fn send(&mut self, seat: Seat, lines: &[u8]) -> Result<(), WriteFault>
         ensures went { OnOk result (went self.old seat lines.now self.new) }
         ensures gone { OnErr result (gone self.old seat lines.now self.new) };
+
+    // This was said of the session, and all that passed was logged, if there is a log.
+    ghost closed: { Self → List ℕ → Self → Type 0 };
+
+    /// Adds to the log, if there is one, how the session ended. Refuses `WriteFault` if this, or not
+    /// all that passed before, was written there.
+    fn close(&mut self, text: &[u8]) -> Result<(), WriteFault>
+        ensures { OnOk result (closed self.old text.now self.new) };
 
     // A writer holds the lines that its seat takes, and nothing else is added to it, unless the
     // seat does not take its lines.
@@ -145,6 +154,9 @@ impl<ER: Read + Drop, EW: Write + Drop, SR: Read + Drop, SW: Write + Drop> Ends
         ((t.engine.lines ≡ s.engine.lines) × (t.server ≡ s.server))
         ((t.server.lines ≡ s.server.lines) × (t.engine ≡ s.engine)) };
 
+    // There is no log.
+    ghost closed = { λ s text t. t ≡ s };
+
     fn receive(&mut self, seat: Seat) -> Result<LineEvent, OutOfMemory> {
         match seat {
             Seat::Engine => self.engine.lines.read_line(),
@@ -164,6 +176,10 @@ impl<ER: Read + Drop, EW: Write + Drop, SR: Read + Drop, SW: Write + Drop> Ends
             Seat::Engine => streams::write_all(&mut self.engine.writer, lines),
             Seat::Server => streams::write_all(&mut self.server.writer, lines),
         }
+    }
+
+    fn close(&mut self, _text: &[u8]) -> Result<(), WriteFault> {
+        Ok(())
     }
 
     ghost takes_lines = { λ s t seat lines. side_takes
@@ -315,9 +331,13 @@ fn step_next<R: Eprint + AllocGlobal, E: Ends>(
     let read = ends.receive(seat)?;
     let line = ends.line(seat);
     let was_on = progress.is_on(bridge);
+    let before = Moment::of(bridge);
     let out = bridge.step(event(seat, read, line))?;
     if was_on && is_shown(seat, read, out.status) {
         progress.show(rt, bridge, line);
+    }
+    if read == LineEvent::Line {
+        progress.watch(rt, before, Moment::of(bridge), seat, line, out.status);
     }
     Ok(out)
 }

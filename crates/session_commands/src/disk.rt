@@ -18,7 +18,9 @@ pub enum Found {
     File(u32),
     /// A link to a regular file with these permissions.
     Link(u32),
-    /// A device, a pipe, a folder, or a link to any of these or to nothing.
+    /// What cannot become a file: a folder, or a link to one. An empty path is none either.
+    NoFile,
+    /// A device or a pipe, or a link to one or to nothing.
     Other,
     /// Nothing.
     Nothing,
@@ -117,10 +119,14 @@ impl<R: Files + AllocGlobal> Disk for LocalDisk<'_, R> {
     ghost acts = { λ d act done e. ⊤ };
 
     fn find(&self, path: &str) -> Found {
+        if path.is_empty() {
+            return Found::NoFile;
+        }
         let is_link = fs::symlink_metadata(self.rt, path).is_ok_and(|there| there.is_symlink());
         match fs::metadata(self.rt, path) {
             Ok(there) if there.is_file() && is_link => Found::Link(there.permissions().mode()),
             Ok(there) if there.is_file() => Found::File(there.permissions().mode()),
+            Ok(there) if there.is_dir() => Found::NoFile,
             Ok(_) => Found::Other,
             Err(_) if is_link => Found::Other,
             Err(_) => Found::Nothing,

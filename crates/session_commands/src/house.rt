@@ -1,11 +1,12 @@
 //! The server and the engine of a game: started, joined to a bridge, and ended.
 
-ghost use Rattle.std.specs.Prelude.{IfErr, IfOk};
+ghost use Rattle.std.specs.Prelude.{◌≡◌, IfErr, IfOk};
 ghost use Rattle.session_commands.specs.Housing.{IsApart, IsJoined, IsJoinedByPort, IsPortless};
 
 use crate::bridging::{Ends, Side, Sides};
 use crate::children::{Programs, SERVER_GONE, engine_command, local_address, server_command};
 use crate::fault::MatchFault;
+use crate::log::{Log, Logged};
 use crate::port_line::listening_port;
 use record_commands::incoming::Incoming;
 use shogi_words::{Plan, ServerChoice};
@@ -49,9 +50,11 @@ pub trait House {
 
 /// An engine of this machine, and a server of this machine or another.
 #[derive(Drop)]
-pub struct Local<P: Programs + Drop> {
+pub struct Local<P: Programs + Drop, L: Log + Drop> {
     alloc: Global,
     programs: P,
+    // Of the game to come. None if nothing is logged.
+    log: Option<L>,
 }
 
 /// The programs of a game that were started.
@@ -69,25 +72,43 @@ pub struct RunningServer<P: Programs> {
     lines: Incoming<P::Output>,
 }
 
-impl<P: Programs + Drop> Local<P> {
-    /// Nothing is started yet.
-    pub fn new(alloc: Global, programs: P) -> Local<P> {
-        Local { alloc, programs }
+impl<P: Programs + Drop, L: Log + Drop> Local<P, L> {
+    /// Nothing is started yet. What passes is noted in the log, if there is one.
+    pub fn new(alloc: Global, programs: P, log: Option<L>) -> Local<P, L>
+        ensures programs { result.programs ≡ programs }
+        ensures log { result.log ≡ log }
+    {
+        Local {
+            alloc,
+            programs,
+            log,
+        }
+    }
+
+    // The ends of a game, with the log of it.
+    fn logged<E: Ends + Drop>(&mut self, ends: E) -> Logged<E, Option<L>>
+        ensures logged { result ≡ (ends, self.old.log) }
+        ensures programs { self.new.programs ≡ self.old.programs }
+    {
+        Logged {
+            ends,
+            log: self.log.take(),
+        }
     }
 }
 
-impl<P: Programs + Drop> House for Local<P> {
-    ghost use Rattle.std.specs.Prelude.{option_map};
+impl<P: Programs + Drop, L: Log + Drop> House for Local<P, L> {
+    ghost use Rattle.std.specs.Prelude.{◌≡◌, option_map};
     ghost use Rattle.session_commands.specs.Housing.{IsOpened, IsShut, IsUnopened};
 
-    type Both = Sides<P::Output, P::Input, P::Reader, P::Writer>;
+    type Both = Logged<Sides<P::Output, P::Input, P::Reader, P::Writer>, Option<L>>;
 
     type Running = Running<P>;
 
     ghost opened = { λ h plan both running k. IsOpened P.serves P.thinks P.connects
-        plan h.programs running.engine both.engine.lines both.engine.writer
-        both.server.lines both.server.writer k.programs
-        (option_map (λ s. s.child) running.server) };
+        plan h.programs running.engine both.0.engine.lines both.0.engine.writer
+        both.0.server.lines both.0.server.writer k.programs
+        (option_map (λ s. s.child) running.server) × (both.1 ≡ h.log) };
 
     ghost unopened = { λ h plan fault k. IsUnopened P.serves P.serves_not P.connects
         P.connects_not P.thinks_not P.ended plan h.programs k.programs fault };
@@ -103,7 +124,7 @@ impl<P: Programs + Drop> House for Local<P> {
                 match join_by_port(self.alloc, &mut self.programs, plan, &mut lines) {
                     Ok((sides, engine)) => {
                         let server = Some(RunningServer { child, lines });
-                        Ok((sides, Running { server, engine }))
+                        Ok((self.logged(sides), Running { server, engine }))
                     }
                     Err(fault) => {
                         self.programs.end(child, false);
@@ -114,7 +135,7 @@ impl<P: Programs + Drop> House for Local<P> {
             ServerChoice::At(address) => {
                 let (sides, engine) = join(self.alloc, &mut self.programs, plan, address)?;
                 let server = None;
-                Ok((sides, Running { server, engine }))
+                Ok((self.logged(sides), Running { server, engine }))
             }
         }
     }
@@ -122,7 +143,8 @@ impl<P: Programs + Drop> House for Local<P> {
     // Each program finds its input at an end before it is waited for. What it writes is not read
     // then, but there is a reader until it has ended.
     fn shut(&mut self, both: Self::Both, running: Self::Running, is_well: bool) {
-        let Sides { engine, server } = both;
+        let Logged { ends, log: _log } = both;
+        let Sides { engine, server } = ends;
         let Side {
             lines: _engine_lines,
             writer,

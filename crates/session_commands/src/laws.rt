@@ -1,19 +1,24 @@
 //! Laws of a bridge in a session, whatever its engine and its server are. The functions take and
 //! give nothing; each law is a clause.
 
-ghost use Rattle.std.specs.Prelude.{◌≡◌};
+ghost use Rattle.std.specs.Prelude.{◌≡◌, ◌++◌, ◌∷◌, ℕ, List, codes};
 ghost use Rattle.bridge_table.specs.declared.event.Status.{Status};
 ghost use Rattle.session_commands.specs.Holding.{TookAll};
+ghost use Rattle.session_commands.specs.LogTexts.{HidesPassword};
+ghost use Rattle.session_commands.specs.Logging.{NotesAll, passed};
 ghost use Rattle.session_commands.specs.PlayedLogs.{PlaysLegally, handed, happened};
 ghost use Rattle.session_commands.specs.Plays.{History};
 ghost use Rattle.session_commands.specs.LackOfMemoryLogs.{SentLegally, sent_before};
 ghost use Rattle.session_commands.specs.LackOfMemory.{PlayRunsOut};
 ghost use Rattle.session_commands.specs.declared.bridging.Seat.{Seat};
+ghost use Rattle.session_lines.specs.LineTexts.{login_front};
+ghost use Rattle.shogi_session.specs.Host.{IsLoginWord};
 ghost use Rattle.shogi_session.specs.Promises.{Session};
 ghost use Rattle.shogi_session.specs.State.{first_state};
 ghost use Rattle.std.specs.Io.KnownBytes.{Appends};
 
 use crate::bridging::Ends;
+use crate::log::{Log, Logged};
 use bridge_table::laws::{ends_are_silent, sent_legal, sent_once};
 
 /// What passes between a bridge, its engine and its server is a log from the bridge's first state
@@ -41,4 +46,19 @@ pub fn sent_lines_are_held<E: Ends>()
         (played : History E.came E.went E.gone e s f t status)
         → TookAll seat played
         → Appends (E.held e seat) (E.held f seat) (handed seat played) }
+{}
+
+/// A log notes each line that comes and each that a seat takes, in order, once, and nothing else.
+pub fn passed_lines_are_noted<E: Ends + Drop, L: Log + Drop>()
+    ensures noted { (e : E × L) (s : Session) (f : E × L) (t : Session) (status : Status)
+        (played : History ⟦<Logged<E, L> as Ends>⟧.came ⟦<Logged<E, L> as Ends>⟧.went
+        ⟦<Logged<E, L> as Ends>⟧.gone e s f t status)
+        → NotesAll L.noted e.1 (passed played) f.1 }
+{}
+
+/// A login is logged with its name, and without its password, whatever that is.
+pub fn no_password_is_logged()
+    ensures no_password_logged { (name password shown : List ℕ) → IsLoginWord name
+        → HidesPassword (login_front ++ name ++ 32 ∷ password) shown
+        → shown ≡ login_front ++ name ++ codes " ***" }
 {}

@@ -1,34 +1,64 @@
 //! A file that is replaced once its new text is written whole. Devices, pipes and links to nothing
 //! are written in place.
 
-ghost use Rattle.std.specs.Prelude.{◌≡◌, ◌∷◌, [], IfErr, IfOk, OnErr, OnOk, Ok, Err, string_bytes};
-ghost use Rattle.session_commands.specs.Disk.{AsksFor, DoesAll, Fills, IsBeside, PutsBeside, Replaces, StopsIn, opens, puts, writes};
+ghost use Rattle.std.specs.Prelude.{◌≡◌, ◌∷◌, [], IfErr, IfOk, MatchOption, OnErr, OnOk, is_some, string_bytes};
+ghost use Rattle.session_commands.specs.Disk.{Abandons, AsksFor, Begins, BeginsNot, CreatesBeside, CreatesNone, DoesAll, Fills, Finishes, HasNoTarget, IsBeside, IsTarget, StopsIn, opens, puts, writes};
 ghost use Rattle.session_commands.specs.Faults.{IsFileFault};
 
 use crate::disk::{CreateFault, Disk, Found};
 use crate::fault::MatchFault;
 use record_commands::WriteFault;
 use std::alloc::{AllocError, Global};
+use std::marker::Model;
 
 // How many names are tried for the new file.
 const NAMES: u32 = 100;
 
 /// Where a text replaces what was there.
 pub trait Place {
-    ghost use Rattle.std.specs.Prelude.{ℕ, List};
+    ghost use Rattle.std.specs.Prelude.{◌≡◌, ℕ, Bool, List};
     ghost use Rattle.session_commands.specs.declared.fault.MatchFault.{MatchFault as Fault};
 
-    // The place took this text.
-    ghost took: { Self → List ℕ → Self → Type 0 };
+    /// What is to become of the place. Without a text it becomes nothing.
+    type Draft: Drop;
 
-    // The place did not take this text, for this reason.
-    ghost refused: { Self → List ℕ → Fault → Self → Type 0 };
+    // This was begun.
+    ghost begun: { Self → Self.Draft → Self → Type 0 };
+
+    // Nothing can be written there, for this reason.
+    ghost unbegun: { Self → Fault → Self → Type 0 };
+
+    // The text is there instead of what was.
+    ghost took: { Self → Self.Draft → List ℕ → Self → Type 0 };
+
+    // The text is not there, for this reason.
+    ghost refused: { Self → Self.Draft → List ℕ → Fault → Self → Type 0 };
+
+    // There is no text, and what was begun is undone.
+    ghost dropped: { Self → Self.Draft → Self → Type 0 };
+
+    // A file is there already, whose place the text takes.
+    ghost replaced: { Self.Draft → Bool };
+
+    /// Makes sure that a text can be written there, as far as this can be known. Refuses `Write` if
+    /// not, and `OutOfMemory`.
+    fn begin(&mut self) -> Result<Self::Draft, MatchFault>
+        ensures begun { IfOk result (λ draft. begun self.old draft self.new) }
+        ensures unbegun { IfErr result (λ fault. unbegun self.old fault self.new) };
+
+    /// Whether a file was there that the text replaces.
+    fn replaces(&self, draft: &Self::Draft) -> bool
+        ensures { result ≡ replaced draft.now };
 
     /// Puts the text there. Refuses `Write` if it cannot be written, and `OutOfMemory`.
-    fn replace(&mut self, text: &[u8]) -> Result<(), MatchFault>
-        ensures took { OnOk result (took self.old text.now self.new) }
-        ensures refused { IfErr result (λ fault. refused self.old text.now fault self.new) }
+    fn finish(&mut self, draft: Self::Draft, text: &[u8]) -> Result<(), MatchFault>
+        ensures took { OnOk result (took self.old draft text.now self.new) }
+        ensures refused { IfErr result (λ fault. refused self.old draft text.now fault self.new) }
         ensures faults { IfErr result IsFileFault };
+
+    /// Leaves what was there as it was.
+    fn abandon(&mut self, draft: Self::Draft)
+        ensures { dropped self.old draft self.new };
 }
 
 /// A file, by its path. It need not exist yet.
@@ -37,6 +67,34 @@ pub struct Named<'a, D: Disk> {
     alloc: Global,
     disk: D,
     path: &'a str,
+}
+
+/// A new file, which is to take the place of another.
+#[derive(Drop)]
+pub struct NewFile<D: Disk> {
+    file: D::File,
+    path: String,
+    target: Target,
+}
+
+// A file, by its path, and its permissions if it is there.
+#[derive(Drop)]
+struct Target {
+    path: String,
+    mode: Option<u32>,
+}
+
+impl<D: Disk> Model for NewFile<D> {
+    ghost use Rattle.std.specs.Prelude.{is_some, string_bytes};
+    ghost use Rattle.session_commands.specs.Disk.{Draft};
+
+    ghost Value = { Draft };
+
+    ghost view = { λ n. record {
+      new = string_bytes n.path;
+      target = string_bytes n.target.path;
+      replaces = is_some n.target.mode;
+    } };
 }
 
 impl<'a, D: Disk + Drop> Named<'a, D> {
@@ -51,63 +109,101 @@ impl<'a, D: Disk + Drop> Named<'a, D> {
 
 impl<D: Disk + Drop> Place for Named<'_, D> {
     ghost use Rattle.std.specs.Prelude.{Err, Ok};
-    ghost use Rattle.session_commands.specs.Disk.{Replaces};
+    ghost use Rattle.session_commands.specs.Disk.{Abandons, Begins, BeginsNot, Finishes, replaces_of};
 
-    ghost took = { λ p text q.
-        Replaces D.finds D.leads D.acts p.path.now text p.disk q.disk (Ok tt) };
+    // None if what is at the path is itself written to.
+    type Draft = Option<NewFile<D>>;
 
-    ghost refused = { λ p text fault q.
-        Replaces D.finds D.leads D.acts p.path.now text p.disk q.disk (Err fault) };
+    ghost begun = { λ p draft q. Begins D.finds D.leads D.acts p.path.now p.disk q.disk draft };
 
-    fn replace(&mut self, text: &[u8]) -> Result<(), MatchFault> {
-        replace(self.alloc, &mut self.disk, self.path, text)
+    ghost unbegun = { λ p fault q.
+        BeginsNot D.finds D.leads D.acts p.path.now p.disk q.disk fault };
+
+    ghost took = { λ p draft text q.
+        Finishes D.acts p.path.now text p.disk q.disk draft (Ok tt) };
+
+    ghost refused = { λ p draft text fault q.
+        Finishes D.acts p.path.now text p.disk q.disk draft (Err fault) };
+
+    ghost dropped = { λ p draft q. Abandons D.acts draft p.disk q.disk };
+
+    ghost replaced = { replaces_of };
+
+    fn begin(&mut self) -> Result<Option<NewFile<D>>, MatchFault> {
+        begin(self.alloc, &mut self.disk, self.path)
+    }
+
+    fn replaces(&self, draft: &Option<NewFile<D>>) -> bool {
+        draft.as_ref().is_some_and(|new| new.target.mode.is_some())
+    }
+
+    fn finish(&mut self, draft: Option<NewFile<D>>, text: &[u8]) -> Result<(), MatchFault> {
+        finish(&mut self.disk, self.path, draft, text)
+    }
+
+    fn abandon(&mut self, draft: Option<NewFile<D>>) {
+        if let Some(new) = draft {
+            let _ = self.disk.remove(new.path.as_str());
+        }
     }
 }
 
-// Replaces the content of the file. The text is first written to a new file in the same folder,
-// which is then renamed, so that the old content is lost only once the whole text is written. A
-// link is followed; a device or a pipe is written to.
-fn replace<D: Disk>(alloc: Global, disk: &mut D, path: &str, text: &[u8]) -> Result<(), MatchFault>
-    ensures { Replaces D.finds D.leads D.acts path.now text.now disk.old disk.new result }
+// Creates a new file in the folder of the file whose place the text is to take, if it takes one.
+fn begin<D: Disk>(alloc: Global, disk: &mut D, path: &str) -> Result<Option<NewFile<D>>, MatchFault>
+    ensures begun { IfOk result (Begins D.finds D.leads D.acts path.now disk.old disk.new) }
+    ensures unbegun { IfErr result (BeginsNot D.finds D.leads D.acts path.now disk.old disk.new) }
+{
+    match target_of(alloc, disk, path)? {
+        Some(target) => Ok(Some(create_beside(alloc, disk, target)?)),
+        None => Ok(None),
+    }
+}
+
+// The file whose place a text for the path is to take. A link is followed. For a device or a pipe
+// there is none, and for a link to a file that does not exist yet.
+fn target_of<D: Disk>(alloc: Global, disk: &D, path: &str) -> Result<Option<Target>, MatchFault>
+    ensures target { IfOk result (λ found. MatchOption found (D.finds disk.now path.now Found.Other)
+        (λ t. IsTarget D.finds D.leads path.now disk.now (string_bytes t.path) t.mode)) }
+    ensures none { IfErr result (HasNoTarget D.finds path.now disk.now) }
 {
     match disk.find(path) {
-        Found::Nothing => put_beside(alloc, disk, None, path, text),
-        Found::File(mode) => put_beside(alloc, disk, Some(mode), path, text),
-        Found::Link(mode) => {
-            let target = disk.target(path)?;
-            put_beside(alloc, disk, Some(mode), target.as_str(), text)
-        }
-        // a link to a file that does not exist yet, too
-        Found::Other => Ok(write_to(disk, path, text)?),
+        Found::Nothing => Ok(Some(Target {
+            path: String::from_str(alloc, path)?,
+            mode: None,
+        })),
+        Found::File(mode) => Ok(Some(Target {
+            path: String::from_str(alloc, path)?,
+            mode: Some(mode),
+        })),
+        Found::Link(mode) => Ok(Some(Target {
+            path: disk.target(path)?,
+            mode: Some(mode),
+        })),
+        Found::NoFile => Err(MatchFault::Write),
+        Found::Other => Ok(None),
     }
 }
 
-// Writes to what the path leads to.
-fn write_to<D: Disk>(disk: &mut D, path: &str, text: &[u8]) -> Result<(), WriteFault>
-    ensures written { OnOk result
-        (DoesAll D.acts disk.old (opens path.now ∷ writes text.now ∷ []) disk.new) }
-    ensures unwritten { OnErr result
-        (StopsIn D.acts disk.old (opens path.now ∷ writes text.now ∷ []) disk.new) }
-{
-    let mut file = disk.open(path)?;
-    disk.write(&mut file, text)?;
-    Ok(())
-}
-
-// Creates a new file in the folder of the target, fills it and gives it the target's name.
-fn put_beside<D: Disk>(
+// Creates a new file in the folder of the target, with the permissions of the target.
+fn create_beside<D: Disk>(
     alloc: Global,
     disk: &mut D,
-    mode: Option<u32>,
-    target: &str,
-    text: &[u8],
-) -> Result<(), MatchFault>
-    ensures { PutsBeside D.acts mode target.now text.now disk.old disk.new result }
+    target: Target,
+) -> Result<NewFile<D>, MatchFault>
+    ensures target { IfOk result (λ new. (new.target ≡ string_bytes target.path)
+        × (new.replaces ≡ is_some target.mode)) }
+    ensures created { IfOk result (λ new.
+        CreatesBeside D.acts target.mode new.target disk.old disk.new new.new) }
+    ensures not_created { IfErr result
+        (CreatesNone D.acts (string_bytes target.path) disk.old disk.new) }
 {
     for number in 0..NAMES {
-        let new = beside(alloc, target, number)?;
-        match disk.create(new.as_str()) {
-            Ok(file) => return fill(disk, file, mode, new.as_str(), target, text),
+        let path = beside(alloc, target.path.as_str(), number)?;
+        match disk.create(path.as_str()) {
+            Ok(file) => {
+                ask_for(disk, target.mode, path.as_str());
+                return Ok(NewFile { file, path, target });
+            }
             Err(CreateFault::Taken) => {}
             Err(CreateFault::Failed) => return Err(MatchFault::Write),
         }
@@ -125,33 +221,55 @@ fn beside(alloc: Global, target: &str, number: u32) -> Result<String, AllocError
     }
 }
 
-// Fills the new file and gives it the target's name. If that fails, the new file is removed.
-fn fill<D: Disk>(
-    disk: &mut D,
-    file: D::File,
-    mode: Option<u32>,
-    new: &str,
-    target: &str,
-    text: &[u8],
-) -> Result<(), MatchFault>
-    ensures { Fills D.acts mode new.now target.now text.now disk.old disk.new result }
-{
-    ask_for(disk, mode, new);
-    match put(disk, file, new, target, text) {
-        Ok(()) => Ok(()),
-        Err(WriteFault) => {
-            let _ = disk.remove(new);
-            Err(MatchFault::Write)
-        }
-    }
-}
-
 // Asks for the permissions of the file that is replaced. It is no fault if they are not given.
 fn ask_for<D: Disk>(disk: &mut D, mode: Option<u32>, new: &str)
     ensures { AsksFor D.acts mode new.now disk.old disk.new }
 {
     if let Some(mode) = mode {
         let _ = disk.permit(new, mode);
+    }
+}
+
+// Writes the text to the new file and gives that the target's name, or else writes the text to what
+// is at the path.
+fn finish<D: Disk>(
+    disk: &mut D,
+    path: &str,
+    draft: Option<NewFile<D>>,
+    text: &[u8],
+) -> Result<(), MatchFault>
+    ensures { Finishes D.acts path.now text.now disk.old disk.new draft result }
+{
+    match draft {
+        Some(new) => fill(disk, new, text),
+        None => Ok(write_to(disk, path, text)?),
+    }
+}
+
+// Writes to what the path leads to.
+fn write_to<D: Disk>(disk: &mut D, path: &str, text: &[u8]) -> Result<(), WriteFault>
+    ensures written { OnOk result
+        (DoesAll D.acts disk.old (opens path.now ∷ writes text.now ∷ []) disk.new) }
+    ensures unwritten { OnErr result
+        (StopsIn D.acts disk.old (opens path.now ∷ writes text.now ∷ []) disk.new) }
+{
+    let mut file = disk.open(path)?;
+    disk.write(&mut file, text)?;
+    Ok(())
+}
+
+// Fills the new file and gives it the target's name, so that the old content is lost only once the
+// whole text is written. If that fails, the new file is removed.
+fn fill<D: Disk>(disk: &mut D, new: NewFile<D>, text: &[u8]) -> Result<(), MatchFault>
+    ensures { Fills D.acts new text.now disk.old disk.new result }
+{
+    let NewFile { file, path, target } = new;
+    match put(disk, file, path.as_str(), target.path.as_str(), text) {
+        Ok(()) => Ok(()),
+        Err(WriteFault) => {
+            let _ = disk.remove(path.as_str());
+            Err(MatchFault::Write)
+        }
     }
 }
 

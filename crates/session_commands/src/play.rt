@@ -1,27 +1,30 @@
 //! Plays one game of a USI engine on a CSA server, and writes its record.
 
-ghost use Rattle.std.specs.Prelude.{◌≡◌, IfErr, IfOk, OnOk, string_bytes};
+ghost use Rattle.std.specs.Prelude.{◌≡◌, true, false, IfErr, IfOk, OnOk, string_bytes};
 ghost use Rattle.std.specs.Io.KnownBytes.{Appends};
-ghost use Rattle.session_commands.specs.Kept.{KeepsRecord, report_of};
+ghost use Rattle.session_commands.specs.Kept.{IsKept, KeepsRecord, report_of};
 ghost use Rattle.session_commands.specs.Logins.{AreLoginWords, HasNoLogin, IsLoginOf, IsPlayed};
-ghost use Rattle.session_commands.specs.Playing.{IsReported, IsUnreported, PlaysIn, PlaysAndKeeps};
+ghost use Rattle.session_commands.specs.Playing.{ClosesLog, IsReported, IsUnreported, PlaysAndKeeps, PlaysFor, PlaysIn};
 ghost use Rattle.session_commands.specs.Words.{played_line};
-ghost use Rattle.shogi_session.specs.GameSoFar.{game_of};
-ghost use Rattle.shogi_session.specs.State.{first_state};
+ghost use Rattle.bridge_table.specs.declared.state.ClientState.{ClientState};
+ghost use Rattle.shogi_session.specs.State.{client_state, first_state};
 
 use crate::bridging::{Ends, play};
 use crate::children::System;
 use crate::disk::LocalDisk;
-use crate::fault::{MatchFault, PlayFault};
+use crate::fault::{MatchFault, PlayFault, memory_or};
 use crate::house::{House, Local};
+use crate::log::{Log, TextLog};
+use crate::log_output::{StandardError, Stopwatch};
 use crate::login::{Login, RuntimeSecrets, Secrets, login_of};
 use crate::out_file::{Named, Place};
 use crate::progress::Progress;
 use record_commands::streams;
 use shogi_board::OutOfMemory;
-use shogi_session::{Bridge, Config};
+use shogi_session::{Bridge, ClientState, Config};
 use shogi_words::Plan;
 use std::alloc::{AllocError, Global};
+use std::fs;
 use std::io::{self, Eprint, Write};
 use std::net::{Net, TcpListener, TcpStream};
 use std::process::Processes;
@@ -30,13 +33,14 @@ use std::time::Clock;
 
 /// Starts the server, if the plan has one to start, connects to it, starts the engine, plays their
 /// game, writes its record, and prints `played` and the number of its moves. If a game was offered,
-/// its record is written even if the session failed. The password is that of the plan's file, or of
-/// the environment variable `SHOGI_PASSWORD`, or `pw`.
+/// its record is written even if the session failed, but a game that never began replaces no file.
+/// The password is that of the plan's file, or of the environment variable `SHOGI_PASSWORD`, or
+/// `pw`.
 ///
 /// Before anything is started, refuses `BadName`, and then `Read` if the file with the password
-/// cannot be read, `BadPassword`, and `OutOfMemory`. After that refuses `Session` if the session
-/// fails, `Endless` if it goes on for 2^64 - 1 rounds, `Write` if the record or the last line
-/// cannot be written, and `OutOfMemory`.
+/// cannot be read, `BadPassword`, `Write` if there can be no new file beside that of the record, and
+/// `OutOfMemory`. After that refuses `Session` if the session fails, `Endless` if it goes on for
+/// 2^64 - 1 rounds, `Write` if the record or the last line cannot be written, and `OutOfMemory`.
 pub fn run<
     R: Env
         + Files
@@ -47,8 +51,34 @@ pub fn run<
         + Eprint
         + AllocGlobal,
 >(rt: &R, plan: &Plan<'_, '_>) -> Result<(), PlayFault> {
+    let watch = Stopwatch::started(rt);
+    match plan.log {
+        None => play_logged(rt, plan, None::<TextLog<Stopwatch<'_, R>, R::File>>),
+        Some("-") => {
+            let log = TextLog::new(rt.alloc(), watch, StandardError::new(rt));
+            play_logged(rt, plan, Some(log))
+        }
+        Some(path) => match fs::create(rt, path) {
+            Ok(file) => play_logged(rt, plan, Some(TextLog::new(rt.alloc(), watch, file))),
+            Err(error) => Err(PlayFault::Match(memory_or(error.kind(), MatchFault::Write))),
+        },
+    }
+}
+
+// Plays the planned game, and notes what passes in the log, if there is one.
+fn play_logged<
+    R: Env
+        + Files
+        + Net<Listener = TcpListener, Stream = TcpStream>
+        + Processes
+        + Clock
+        + Print
+        + Eprint
+        + AllocGlobal,
+    L: Log + Drop,
+>(rt: &R, plan: &Plan<'_, '_>, log: Option<L>) -> Result<(), PlayFault> {
     let secrets = RuntimeSecrets::new(rt);
-    let mut house = Local::new(rt.alloc(), System::new(rt));
+    let mut house = Local::new(rt.alloc(), System::new(rt), log);
     let mut place = Named::new(rt.alloc(), LocalDisk::new(rt), plan.out);
     play_planned(
         rt,
@@ -74,9 +104,9 @@ fn play_planned<R: Eprint + AllocGlobal, S: Secrets, H: House, P: Place, W: Writ
         (IsLoginOf S.opens S.File.Read.remaining S.holds secrets.now plan.now)
         (HasNoLogin S.opens S.opens_not S.File.Read.remaining
         S.holds S.holds_no_text secrets.now plan.now)
-        (λ login. IsReported (PlaysIn H.opened H.unopened
+        (λ login. IsReported (PlaysFor H.opened H.unopened
         H.shut H.Both.Ends.came H.Both.Ends.missed H.Both.Ends.went H.Both.Ends.gone
-        P.took P.refused plan.now login house.old place.old house.new place.new)
+        H.Both.Ends.closed P.begun P.unbegun P.took P.refused P.dropped P.replaced plan.now login house.old place.old house.new place.new)
         W.contents out.old out.new)
         ((house.new ≡ house.old) × (place.new ≡ place.old) × (out.new ≡ out.old))
         result }
@@ -96,12 +126,12 @@ fn report<R: Eprint + AllocGlobal, H: House, P: Place, W: Write>(
     plan: &Plan<'_, '_>,
 ) -> Result<(), MatchFault>
     requires { AreLoginWords login.now }
-    ensures { IsReported (PlaysIn H.opened H.unopened
+    ensures { IsReported (PlaysFor H.opened H.unopened
         H.shut H.Both.Ends.came H.Both.Ends.missed H.Both.Ends.went H.Both.Ends.gone
-        P.took P.refused plan.now login.now house.old place.old house.new place.new)
+        H.Both.Ends.closed P.begun P.unbegun P.took P.refused P.dropped P.replaced plan.now login.now house.old place.old house.new place.new)
         W.contents out.old out.new result }
 {
-    let moves = play_in(rt, login, house, place, plan)?;
+    let moves = play_for(rt, login, house, place, plan)?;
     print_moves(rt.alloc(), out, moves)
 }
 
@@ -123,8 +153,9 @@ fn played_line(alloc: Global, moves: usize) -> Result<String, AllocError>
     format!(in alloc; "played {moves}\n")
 }
 
-// Plays the planned game in the house with that login. Returns the number of moves of the game.
-fn play_in<R: Eprint + AllocGlobal, H: House, P: Place>(
+// Plays the planned game in the house with that login, if its record can be written. Returns the
+// number of moves of the game.
+fn play_for<R: Eprint + AllocGlobal, H: House, P: Place>(
     rt: &R,
     login: &Login,
     house: &mut H,
@@ -132,19 +163,47 @@ fn play_in<R: Eprint + AllocGlobal, H: House, P: Place>(
     plan: &Plan<'_, '_>,
 ) -> Result<usize, MatchFault>
     requires { AreLoginWords login.now }
+    ensures { PlaysFor H.opened H.unopened
+        H.shut H.Both.Ends.came H.Both.Ends.missed H.Both.Ends.went H.Both.Ends.gone
+        H.Both.Ends.closed P.begun P.unbegun P.took P.refused P.dropped P.replaced
+        plan.now login.now house.old place.old house.new place.new result }
+{
+    let draft = place.begin()?;
+    play_in(rt, login, house, place, draft, plan)
+}
+
+// Plays the planned game in the house with that login, and writes its record to the draft. Returns
+// the number of moves of the game.
+fn play_in<R: Eprint + AllocGlobal, H: House, P: Place>(
+    rt: &R,
+    login: &Login,
+    house: &mut H,
+    place: &mut P,
+    draft: P::Draft,
+    plan: &Plan<'_, '_>,
+) -> Result<usize, MatchFault>
+    requires { AreLoginWords login.now }
     ensures played { PlaysIn H.opened H.unopened
         H.shut H.Both.Ends.came H.Both.Ends.missed H.Both.Ends.went H.Both.Ends.gone
-        P.took P.refused plan.now login.now house.old place.old house.new place.new result }
+        H.Both.Ends.closed P.took P.refused P.dropped P.replaced draft
+        plan.now login.now house.old place.old house.new place.new result }
 {
-    let (mut both, running) = house.open(plan)?;
+    let (mut both, running) = match house.open(plan) {
+        Ok(opened) => opened,
+        Err(fault) => {
+            place.abandon(draft);
+            return Err(fault);
+        }
+    };
     let mut bridge = match bridge_of(rt.alloc(), login, plan) {
         Ok(bridge) => bridge,
         Err(_) => {
+            place.abandon(draft);
             house.shut(both, running, false);
             return Err(MatchFault::OutOfMemory);
         }
     };
-    let game = play_between(rt, &mut bridge, &mut both, place, plan.is_shown);
+    let game = play_between(rt, &mut bridge, &mut both, place, draft, plan.is_shown);
     house.shut(both, running, game.ended_well);
     game.moves
 }
@@ -164,38 +223,74 @@ fn play_between<R: Eprint + AllocGlobal, E: Ends, P: Place>(
     bridge: &mut Bridge,
     ends: &mut E,
     place: &mut P,
+    draft: P::Draft,
     is_shown: bool,
 ) -> Kept
-    ensures whole { PlaysAndKeeps E.came E.missed E.went E.gone P.took P.refused
-        ends.old bridge.old place.old ends.new bridge.new place.new result.ended_well result.moves }
+    ensures whole { PlaysAndKeeps E.came E.missed E.went E.gone E.closed
+        P.took P.refused P.dropped P.replaced draft ends.old bridge.old place.old
+        ends.new bridge.new place.new result.ended_well result.moves }
 {
     let mut progress = Progress::new(is_shown);
     let played = play(rt, bridge, ends, &mut progress);
+    let kept = keep_game(place, draft, bridge, played);
     Kept {
         ended_well: played.is_ok(),
-        moves: keep_game(place, bridge, played),
+        moves: close_log(rt.alloc(), ends, &progress, played, kept),
     }
+}
+
+// Adds to the log how the session ended. Returns what became of the game, or else the log's fault.
+fn close_log<E: Ends>(
+    alloc: Global,
+    ends: &mut E,
+    progress: &Progress,
+    played: Result<(), MatchFault>,
+    kept: Result<usize, MatchFault>,
+) -> Result<usize, MatchFault>
+    ensures { ClosesLog E.closed ends.old ends.new kept result }
+{
+    let text = progress.end_text(alloc, played)?;
+    ends.close(text.as_bytes())?;
+    kept
 }
 
 // Puts the record of the bridge's game in its place, if there is a game, whether the session ended
 // well or not. Returns the number of moves of the game.
 fn keep_game<P: Place>(
     place: &mut P,
+    draft: P::Draft,
     bridge: &Bridge,
     played: Result<(), MatchFault>,
 ) -> Result<usize, MatchFault>
-    ensures kept { KeepsRecord P.took P.refused
-        (game_of bridge.now.state.client) played place.old place.new result }
+    ensures kept { KeepsRecord P.took P.refused P.dropped P.replaced draft
+        bridge.now.state.client played place.old place.new result }
 {
+    if !is_kept(place, &draft, bridge) {
+        place.abandon(draft);
+        return report_of(played, 0);
+    }
     let found = match bridge.game_text() {
         Ok(found) => found,
-        Err(_) => return Err(MatchFault::OutOfMemory),
+        Err(_) => {
+            place.abandon(draft);
+            return Err(MatchFault::OutOfMemory);
+        }
     };
     let Some(text) = found else {
+        place.abandon(draft);
         return report_of(played, 0);
     };
-    place.replace(text.as_slice())?;
+    place.finish(draft, text.as_slice())?;
     report_of(played, bridge.moves().unwrap_or(0))
+}
+
+// Whether the record of the game is kept, if there is a game: one that never began replaces no file.
+fn is_kept<P: Place>(place: &P, draft: &P::Draft, bridge: &Bridge) -> bool
+    ensures kept { result ≡ true → IsKept bridge.now.state.client (P.replaced draft.now) }
+    ensures left { result ≡ false → (client_state bridge.now.state.client ≡ ClientState.Agreeing)
+        × (P.replaced draft.now ≡ true) }
+{
+    bridge.client_state() != ClientState::Agreeing || !place.replaces(draft)
 }
 
 // The fault of the session, or else this number of moves.

@@ -1,4 +1,4 @@
-//! A line on standard error for each move of a running game.
+//! A line on standard error for each move of a running game, and for what ends it.
 
 ghost use Rattle.std.specs.Prelude.{◌≡◌, ◌⊎◌, ◌↔◌, ◌+◌, ◌<◌, ◌≤◌, ◌^◌, ℕ, length, true, false, None, Some, IsTrue};
 ghost use Rattle.std.specs.List.{position_or_len};
@@ -7,17 +7,22 @@ ghost use Rattle.session_commands.specs.Showing.{IsCountOf};
 ghost use Rattle.session_lines.specs.MoveLines.{is_move_line};
 ghost use Rattle.shogi_session.specs.State.{client_state};
 
+use crate::bridging::Seat;
+use crate::ending::{self, Ending, Moment, Said};
+use crate::fault::MatchFault;
 use session_lines::is_move_line;
-use shogi_session::{Bridge, ClientState};
+use shogi_session::{Bridge, ClientState, Status};
+use std::alloc::{AllocError, Global};
 use std::io::Eprint;
 use std::marker::Model;
 use std::str;
 
-/// Whether moves are shown, and the number of the last one that was.
+/// Whether moves are shown, the number of the last one that was, and what was said of the end.
 #[derive(Drop)]
 pub struct Progress {
     is_shown: bool,
     moves: Option<u64>,
+    ending: Ending,
 }
 
 impl Model for Progress {
@@ -37,6 +42,7 @@ impl Progress {
         Progress {
             is_shown,
             moves: None,
+            ending: Ending::new(),
         }
     }
 
@@ -70,6 +76,55 @@ impl Progress {
         if let Ok(text) = str::from_utf8(without_comment(line)) {
             let _ = rt.eprintln(format_args!("{number} {text}"));
         }
+    }
+
+    /// Keeps what a line from that seat says of the end, if it led the bridge from the one moment to
+    /// the other and to this status. Shows it too, if moves are shown. An error of standard error is
+    /// ignored.
+    pub fn watch<R: Eprint + AllocGlobal>(
+        &mut self,
+        rt: &R,
+        before: Moment,
+        after: Moment,
+        seat: Seat,
+        line: &[u8],
+        status: Status,
+    )
+        ensures showing { self.new ≡ self.old }
+    {
+        let Some(said) = ending::end_in(before, after, seat, line, status) else {
+            return;
+        };
+        self.ending.keep(said, line);
+        if self.is_shown {
+            if let Ok(text) = shown_end(rt.alloc(), said, line) {
+                let _ = rt.eprint(text.as_str());
+            }
+        }
+    }
+
+    /// How the session ended, in lines for its log. Returns an error if an allocation fails.
+    pub fn end_text(
+        &self,
+        alloc: Global,
+        played: Result<(), MatchFault>,
+    ) -> Result<String, AllocError> {
+        self.ending.text(alloc, played)
+    }
+}
+
+// What is shown of a line that says this of the end: of the server's words the line itself, with
+// its time as moves have it. Returns an error if an allocation fails.
+fn shown_end(alloc: Global, said: Said, line: &[u8]) -> Result<String, AllocError> {
+    let front = ending::front_of(without_comment(line));
+    match said {
+        Said::Slip => ending::slip_line(alloc, front.as_str()),
+        Said::Refused(cause) => ending::refused_line(alloc, front.as_str(), cause),
+        Said::Ending => match front.as_str().split_once(",T") {
+            Some((word, time)) => format!(in alloc; "{word} {time}\n"),
+            None => format!(in alloc; "{front}\n"),
+        },
+        Said::Reason | Said::Result => format!(in alloc; "{front}\n"),
     }
 }
 

@@ -66,6 +66,7 @@ pub record IsPlanOf (found : Found) (is_terminal : Bool) (plan : Plan) : Type 0 
       → plan.name.now ≡ text
   pub usual_name : first_value found (codes "name") ≡ None → plan.name.now ≡ codes "bridge"
   pub password : password_file plan.password ≡ first_value found (codes "password-file")
+  pub log : option_map (λ s. s.now) plan.log ≡ first_value found (codes "log")
   pub total : AreGivenSeconds (one_text found (codes "total")) 4294967 plan.total_ms
   pub usual_total : one_text found (codes "total") ≡ None → plan.total_ms ≡ 600000
   pub byoyomi : AreGivenSeconds (one_text found (codes "byoyomi")) 4294967 plan.byoyomi_ms

@@ -1,6 +1,6 @@
 //! `shogi play`: a USI engine plays one game on a CSA server, and the game's record is kept.
 
-ghost use Rattle.std.specs.Prelude.{◌≡◌, ◌≤◌, ◌*◌, ℕ, List, IfOk, None, Some, codes, false, map, true};
+ghost use Rattle.std.specs.Prelude.{◌≡◌, ◌≤◌, ◌*◌, ℕ, List, IfOk, None, Some, codes, false, map, option_map, true};
 ghost use Rattle.clap.specs.Words.{app_of, first_value, found_of, one_text};
 ghost use Rattle.shogi_rules.specs.Positions as positions;
 ghost use Rattle.shogi_words.specs.Options.{AreGivenSeconds, IsGiven, values_of};
@@ -29,6 +29,8 @@ pub struct Plan<'m, 'a> {
     pub byoyomi_ms: u32,
     /// The file to write the record to.
     pub out: &'a str,
+    /// The file to log each line to as it passes, if there is one. `-` is standard error.
+    pub log: Option<&'a str>,
     /// Whether moves are shown on standard error.
     pub is_shown: bool,
 }
@@ -96,6 +98,7 @@ pub fn command<'a>(alloc: Global) -> Result<Command<'a>, AllocError>
         "byoyomi",
         "The engine's clock: the time for each move after that, 0 to 4294967 [default: 10]",
     ))?
+    .arg(log(alloc))?
     .arg(quiet(alloc))?
     .arg(out(alloc))
 }
@@ -156,6 +159,12 @@ fn password_file<'a>(alloc: Global) -> Arg<'a> {
         .help("The file with the password [default: SHOGI_PASSWORD of the environment, or pw]")
 }
 
+fn log<'a>(alloc: Global) -> Arg<'a> {
+    Arg::new(alloc, "log").long("log").value_name("FILE").help(
+        "The file that each line is logged to as it passes; - is standard error",
+    )
+}
+
 fn quiet<'a>(alloc: Global) -> Arg<'a> {
     Arg::new(alloc, "quiet")
         .long("quiet")
@@ -213,6 +222,8 @@ pub fn plan_of<'m, 'a>(matches: &'m ArgMatches<'a>, is_terminal: bool) -> Plan<'
         → result.byoyomi_ms ≡ 10000 }
     ensures out { (text : List ℕ) → first_value (found_of matches.now) (codes "out") ≡ Some text
         → result.out.now ≡ text }
+    ensures log { option_map (λ s. s.now) result.log
+        ≡ first_value (found_of matches.now) (codes "log") }
     ensures quiet { one_text (found_of matches.now) (codes "quiet") ≡ Some (codes "true")
         → result.is_shown ≡ false }
     ensures shown { one_text (found_of matches.now) (codes "quiet") ≡ Some (codes "false")
@@ -228,6 +239,7 @@ pub fn plan_of<'m, 'a>(matches: &'m ArgMatches<'a>, is_terminal: bool) -> Plan<'
         total_ms: milliseconds(matches, "total", USUAL_TOTAL),
         byoyomi_ms: milliseconds(matches, "byoyomi", USUAL_BYOYOMI),
         out: matches.get_str("out").unwrap_or_default(),
+        log: matches.get_str("log"),
         is_shown: is_terminal && !matches.get_flag("quiet"),
     }
 }

@@ -16,4 +16,5 @@ returns c =
     let name-8 = keeps_name _ _ _ _ c.in_ok-arg-8.ensures name-7 in
     let name-9 = keeps_name _ _ _ _ c.in_ok-arg-9.ensures name-8 in
     let name-10 = keeps_name _ _ _ _ c.in_ok-arg-10.ensures name-9 in
-    record { name = adds_name c.arg-11.result _ _ _ c.arg-11.ensures name-10 }
+    let name-11 = keeps_name _ _ _ _ c.in_ok-arg-11.ensures name-10 in
+    record { name = adds_name c.arg-12.result _ _ _ c.arg-12.ensures name-11 }

@@ -18,7 +18,8 @@ returns-in_err-child-in-Started-clause-unopened g c =
 pub returns-in-Ok-clause-opened : goal.returns-in-Ok-clause-opened
 returns-in-Ok-clause-opened g c =
     let command = c.in_ok-command-in-Started.ensures in
-    by_port _ _ _ _ _ c.in-Started.is (rw (command.program, command.words) at c.in_ok-child-in-Started.ensures.serves) c.in-Ok.ensures.joined
+    rw (c.logged.ensures.logged, c.logged.ensures.programs)
+    (by_port _ _ _ _ _ c.in-Started.is (rw (command.program, command.words) at c.in_ok-child-in-Started.ensures.serves) c.in-Ok.ensures.joined, refl)
 
 pub returns-in-Started-clause-unopened : goal.returns-in-Started-clause-unopened
 returns-in-Started-clause-unopened g c =
@@ -31,4 +32,5 @@ returns-in_err-sides-in-At-clause-unopened g c =
     rw (p.1, p.2) (not_joined_at _ _ c.in-At.is c.in_err-sides-in-At.ensures.apart)
 
 pub returns-clause-opened : goal.returns-clause-opened
-returns-clause-opened g c = by_address _ c.in-At.is c.in_ok-sides-in-At.ensures.joined
+returns-clause-opened g c =
+    rw (c.logged-in-At.ensures.logged, c.logged-in-At.ensures.programs) (by_address _ c.in-At.is c.in_ok-sides-in-At.ensures.joined, refl)

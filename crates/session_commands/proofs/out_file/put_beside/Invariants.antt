@@ -1,5 +1,0 @@
-use Rattle.session_commands.specs.Disk.{Tried}
-use Rattle.session_commands.proofs.out_file.put_beside.Given as goal
-
-abbrev pub invariant-loop-number : goal.invariant-loop-number
-invariant-loop-number g l = Tried g.D.Disk.acts l.target l.fn.disk l.number l.disk

@@ -1,0 +1,17 @@
+use Rattle.std.proofs.Common.{inl, inr, refl}
+use Rattle.std.proofs.lemmas.Result.{err_from_is_err_and}
+use Rattle.session_commands.specs.Playing.{is_closed, not_closed}
+use Rattle.session_commands.proofs.play.close_log.Goals as goal
+
+pub returns-in_err-text : goal.returns-in_err-text
+returns-in_err-text g c =
+    let p = err_from_is_err_and c.from_residual.result c.from_residual.ensures.1 in
+    rw (p.1, p.2) (not_closed _ (inr refl))
+
+pub returns-in_err-close : goal.returns-in_err-close
+returns-in_err-close g c =
+    let p = err_from_is_err_and c.from_residual-in_err-close.result c.from_residual-in_err-close.ensures.1 in
+    rw (p.1, p.2) (not_closed _ (inl refl))
+
+pub returns : goal.returns
+returns g c = is_closed _ c.in_ok-close.ensures

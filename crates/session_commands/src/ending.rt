@@ -1,0 +1,189 @@
+//! How a session ended, in words for its log and for a terminal.
+
+ghost use Rattle.std.specs.Prelude.{◌≡◌};
+ghost use Rattle.shogi_session.specs.State.{client_state, slip_of};
+
+use crate::bridging::Seat;
+use crate::fault::MatchFault;
+use arrayvec::ArrayString;
+use record_game::Why;
+use shogi_session::{Bridge, ClientState, MoveCause, SessionFault, Status};
+use std::alloc::{AllocError, Global};
+
+/// The front of a line; each byte that is not ASCII is `?`.
+pub type Front = ArrayString<256>;
+
+/// How far a bridge is.
+#[derive(Clone, Copy, Debug)]
+pub struct Moment {
+    /// With its server.
+    pub client: ClientState,
+    /// Whether its engine has slipped.
+    pub slip: bool,
+}
+
+impl Moment {
+    /// How far the bridge is now.
+    pub fn of(bridge: &Bridge) -> Moment
+        ensures client { result.client ≡ client_state bridge.now.state.client }
+        ensures slip { result.slip ≡ slip_of bridge.now.state.client }
+    {
+        Moment {
+            client: bridge.client_state(),
+            slip: bridge.slip(),
+        }
+    }
+}
+
+/// What a line says of the end of a game.
+#[derive(Clone, Copy, Debug, PartialEq, Eq)]
+pub enum Said {
+    /// The engine's answer was no legal move, so that the bridge resigned for it.
+    Slip,
+    /// The server sent an ending.
+    Ending,
+    /// The server sent a reason.
+    Reason,
+    /// The server sent a result.
+    Result,
+    /// The server sent a move that is refused.
+    Refused(MoveCause),
+}
+
+/// What a line from that seat says of the end, if it led the bridge from the one moment to the other
+/// and to this status.
+pub fn end_in(
+    before: Moment,
+    after: Moment,
+    seat: Seat,
+    line: &[u8],
+    status: Status,
+) -> Option<Said> {
+    match seat {
+        Seat::Engine if after.slip && !before.slip => Some(Said::Slip),
+        Seat::Engine => None,
+        Seat::Server => match status {
+            Status::Failed(SessionFault::BadServerMove(cause)) => Some(Said::Refused(cause)),
+            _ => said_in_game(before.client, after.client, line),
+        },
+    }
+}
+
+// What a line of the server says of the end.
+fn said_in_game(before: ClientState, after: ClientState, line: &[u8]) -> Option<Said> {
+    let is_playing = match before {
+        ClientState::Playing | ClientState::Sent | ClientState::Reason => true,
+        _ => false,
+    };
+    if !is_playing {
+        return None;
+    }
+    match (line.first(), after) {
+        (Some(b'%'), ClientState::Reason) => Some(Said::Ending),
+        (Some(b'#'), ClientState::Reason) => Some(Said::Reason),
+        (Some(b'#'), ClientState::Closing) => Some(Said::Result),
+        _ => None,
+    }
+}
+
+/// What is kept of a session, to say at its end how it ended.
+#[derive(Drop)]
+pub struct Ending {
+    slip: Option<Front>,
+    // The first reason, and the result.
+    reason: Option<Front>,
+    result: Option<Front>,
+    refused: Option<(Front, MoveCause)>,
+}
+
+impl Ending {
+    /// Nothing is said of the end yet.
+    pub fn new() -> Ending {
+        Ending {
+            slip: None,
+            reason: None,
+            result: None,
+            refused: None,
+        }
+    }
+
+    /// Keeps what a line says of the end.
+    pub fn keep(&mut self, said: Said, line: &[u8]) {
+        let line = front_of(line);
+        match said {
+            Said::Slip => self.slip = Some(line),
+            Said::Ending => {}
+            Said::Reason => {
+                if self.reason.is_none() {
+                    self.reason = Some(line);
+                }
+            }
+            Said::Result => self.result = Some(line),
+            Said::Refused(cause) => self.refused = Some((line, cause)),
+        }
+    }
+
+    /// How the session ended: a line each for the slip, for the result, and for the fault. Returns
+    /// an error if an allocation fails.
+    pub fn text(
+        &self,
+        alloc: Global,
+        played: Result<(), MatchFault>,
+    ) -> Result<String, AllocError> {
+        let mut text = String::new(alloc);
+        if let Some(slip) = &self.slip {
+            text.push_str(slip_line(alloc, slip.as_str())?.as_str())?;
+        }
+        if let Some(result) = &self.result {
+            text.push_str(self.result_line(alloc, result.as_str())?.as_str())?;
+        }
+        match (&self.refused, played) {
+            (Some((line, cause)), _) => {
+                text.push_str(refused_line(alloc, line.as_str(), *cause)?.as_str())?;
+            }
+            (None, Err(fault)) => text.push_str(format!(in alloc; "{fault}\n")?.as_str())?,
+            (None, Ok(())) => {}
+        }
+        Ok(text)
+    }
+
+    // The line of the result, with the reason.
+    fn result_line(&self, alloc: Global, line: &str) -> Result<String, AllocError> {
+        match &self.reason {
+            Some(reason) => format!(in alloc; "result: {line} after {reason}\n"),
+            None => format!(in alloc; "result: {line}\n"),
+        }
+    }
+}
+
+/// The line of a slip. Returns an error if an allocation fails.
+pub fn slip_line(alloc: Global, line: &str) -> Result<String, AllocError> {
+    format!(in alloc; "slip: {line} is no legal move of this game\n")
+}
+
+/// The line of a move of the server that is refused. Returns an error if an allocation fails.
+pub fn refused_line(alloc: Global, line: &str, cause: MoveCause) -> Result<String, AllocError> {
+    match cause {
+        MoveCause::Refused(Why::Rule(rule)) => format!(in alloc; "B4: {line} breaks {rule}\n"),
+        MoveCause::Refused(why) => format!(in alloc; "B4: {line} is refused: {why}\n"),
+        MoveCause::Unsent => {
+            format!(in alloc; "B4: {line} is a move of the engine's side that it did not send\n")
+        }
+    }
+}
+
+/// The front of a line, without spaces at its end.
+pub fn front_of(line: &[u8]) -> Front {
+    let mut front = Front::new();
+    for byte in session_lines::without_last_spaces(line) {
+        let letter = if byte.is_ascii() {
+            char::from(*byte)
+        } else {
+            '?'
+        };
+        if front.try_push(letter).is_err() {
+            break;
+        }
+    }
+    front
+}
