@@ -3,8 +3,8 @@
 // No contract can say which files cannot be read, but one can say at which places a reading failed.
 // What a contract sees of an archive is a function of what the archive holds, and it holds no list
 // of these places. So they are data of a ghost field. The prover takes such a field only in a type
-// with `also_owns`, and each function that sets it has a proof by hand: hence a type with that field
-// and nothing else, which two functions make.
+// with `also_owns`, and each function that sets it has a proof by hand: hence a type with that
+// field and nothing else, which two functions make.
 
 ghost use Rattle.std.specs.Prelude.{◌≡◌, ℕ, List, [], ◌∷◌, ◌++◌};
 ghost use Rattle.std.specs.Borrow.{ftrue};

@@ -30,7 +30,7 @@ abbrev pub IsFirst : List Placing → ℕ → Type 0
 IsFirst placings leader = HasLeader placings leader leader
     × ((j : ℕ) → HasLeader placings j leader → leader ≤ j)
 
--- two entries are in one group exactly if both are placed in groups and alike; each leader is the first of
+-- two entries are in one group exactly if both are in groups and alike; each leader is the first of
 -- its group; and the bytes of a refused entry are refused in that way
 pub record IsGrouped (likeness : Likeness) (bytes : ℕ → List ℕ) (placings : List Placing)
     : Type 0 where

@@ -38,8 +38,8 @@ pub enum Placing {
 /// Says of each entry, in order, which group it is in. SHA-256 digests narrow the search.
 ///
 /// Two entries are in one group exactly if they are alike, as long as no reading fails and each
-/// entry gives the same bytes each time that it is read. If a reading fails, that still holds of the
-/// entries that are in groups. If an entry changes, those that are compared with it may be in
+/// entry gives the same bytes each time that it is read. If a reading fails, that still holds of
+/// the entries that are in groups. If an entry changes, those that are compared with it may be in
 /// another group or in none. An entry is `Unreadable` only if its reading failed, or that of an
 /// earlier one with which it was to be compared, or that one was refused when it was read again.
 ///
@@ -54,7 +54,8 @@ pub fn group<A: Archive, W: Watch>(
     ensures grouped { IfOk result (λ placings. (bytes : ℕ → List ℕ)
         → GiveBytes (A.size archive.old) (A.reads archive.old) bytes
         → IsGrouped likeness bytes placings.items) }
-    // An entry is unreadable only if a reading failed in this call, or an earlier entry was refused.
+    // An entry is unreadable only if a reading failed in this call, or an earlier entry was then
+    // refused.
     ensures causes { IfOk result (λ placings. HaveCausesBetween (A.reads archive.old)
         (A.noted archive.old) (A.noted archive.new) placings.items) }
     // If no reading failed in this call, none is unreadable.
@@ -78,7 +79,8 @@ pub fn group_by<A: Archive, D: Digester, W: Watch>(
     ensures grouped { IfOk result (λ placings. (bytes : ℕ → List ℕ)
         → GiveBytes (A.size archive.old) (A.reads archive.old) bytes
         → IsGrouped likeness bytes placings.items) }
-    // An entry is unreadable only if a reading failed in this call, or an earlier entry was refused.
+    // An entry is unreadable only if a reading failed in this call, or an earlier entry was then
+    // refused.
     ensures causes { IfOk result (λ placings. HaveCausesBetween (A.reads archive.old)
         (A.noted archive.old) (A.noted archive.new) placings.items) }
     // If no reading failed in this call, none is unreadable.

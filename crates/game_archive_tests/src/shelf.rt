@@ -81,7 +81,10 @@ impl<'a> Shelf<'a> {
 impl Archive for Shelf<'_> {
     ghost reads = { λ _ _ _. Unit {0} };
 
-    ghost noted = { λ shelf. record { failed = shelf.failed.items; refused = shelf.refused.items } };
+    ghost noted = { λ shelf. record {
+      failed = shelf.failed.items;
+      refused = shelf.refused.items;
+    } };
 
     ghost size = { λ shelf. length shelf.books.now };
 
