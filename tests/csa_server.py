@@ -96,7 +96,10 @@ def serve(client, game):
     else:
         client.tell(f"START:{GAME_ID}")
         play(client, game)
-        if client.says() == "LOGOUT":
+        # without an end, the connection is closed
+        while game.end and (line := client.says()) and line != "LOGOUT":
+            pass  # a move that came too late
+        if game.end and line:
             client.tell("LOGOUT:completed")
 
 

@@ -107,8 +107,8 @@ pub data CreatesNone {D : Type 0} (acts : Acts D) (target : List ℕ) (d e : D)
   -- there was not enough memory for its name
   no_name : (number : ℕ) → Tried acts target d number e → CreatesNone acts target d e OutOfMemory
 
--- where a text for a path is to be written: to a new file; or, since what is at the path is no file,
--- no link to one and not nothing, to that itself
+-- where a text for a path is to be written: to a new file; or to what is at the path, since that is
+-- no file, no link to one and not nothing
 pub data Begins {D : Type 0} (finds : Finds D) (leads : LeadsTo D) (acts : Acts D)
     (path : List ℕ) (d e : D) : Option Draft → Type 0 where
   beside : (draft : Draft) (mode : Option ℕ) → IsTarget finds leads path d draft.target mode

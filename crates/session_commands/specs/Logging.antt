@@ -75,6 +75,7 @@ NotesIfAny notes None entry m = m ≡ None
 NotesIfAny {L} notes (Some l) entry m = (k : L) × (m ≡ Some k) × notes l entry k
 
 -- a text was added to a log that may be missing
-abbrev pub ClosesIfAny : {L : Type 0} → (L → List ℕ → L → Type 0) → Option L → List ℕ → Option L → Type 0
+abbrev pub ClosesIfAny : {L : Type 0} → (L → List ℕ → L → Type 0)
+    → Option L → List ℕ → Option L → Type 0
 ClosesIfAny closed None text m = m ≡ None
 ClosesIfAny {L} closed (Some l) text m = (k : L) × (m ≡ Some k) × closed l text k

@@ -80,15 +80,15 @@ pub data PlaysIn {H E P R D : Type 0} (opened : H → Plan → E → R → H →
       → PlaysAndKeeps came missed went gone closed took refused dropped replaced draft
       ends first p over last q is_well answer
       → shut between over running is_well k
-      → PlaysIn opened unopened shut came missed went gone closed took refused dropped replaced draft
-      plan login h p k q answer
+      → PlaysIn opened unopened shut came missed went gone closed took refused dropped replaced
+      draft plan login h p k q answer
   not_opened : (fault : MatchFault) → unopened h plan fault k → dropped p draft q
-      → PlaysIn opened unopened shut came missed went gone closed took refused dropped replaced draft
-      plan login h p k q (Err fault)
+      → PlaysIn opened unopened shut came missed went gone closed took refused dropped replaced
+      draft plan login h p k q (Err fault)
   no_bridge : (between : H) (ends : E) (running : R)
       → opened h plan ends running between → dropped p draft q → shut between ends running false k
-      → PlaysIn opened unopened shut came missed went gone closed took refused dropped replaced draft
-      plan login h p k q (Err OutOfMemory)
+      → PlaysIn opened unopened shut came missed went gone closed took refused dropped replaced
+      draft plan login h p k q (Err OutOfMemory)
 
 -- a record was begun in a place before a game was played for it; or none could be, and no house was
 -- opened
@@ -100,13 +100,13 @@ pub data PlaysFor {H E P R D : Type 0} (opened : H → Plan → E → R → H �
     (plan : Plan) (login : Login) (h : H) (p : P) (k : H) (q : P)
     : Result ℕ MatchFault → Type 0 where
   played_for : (draft : D) (between : P) (answer : Result ℕ MatchFault) → begun p draft between
-      → PlaysIn opened unopened shut came missed went gone closed took refused dropped replaced draft
-      plan login h between k q answer
-      → PlaysFor opened unopened shut came missed went gone closed begun unbegun took refused dropped
-      replaced plan login h p k q answer
+      → PlaysIn opened unopened shut came missed went gone closed took refused dropped replaced
+      draft plan login h between k q answer
+      → PlaysFor opened unopened shut came missed went gone closed begun unbegun took refused
+      dropped replaced plan login h p k q answer
   not_tried : (fault : MatchFault) → unbegun p fault q → k ≡ h
-      → PlaysFor opened unopened shut came missed went gone closed begun unbegun took refused dropped
-      replaced plan login h p k q (Err fault)
+      → PlaysFor opened unopened shut came missed went gone closed begun unbegun took refused
+      dropped replaced plan login h p k q (Err fault)
 
 -- a line was not printed whole, or there was not enough memory for it
 abbrev pub IsUnreported : {O : Type 0} → O → O → MatchFault → Type 0

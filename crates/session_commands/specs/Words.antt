@@ -1,6 +1,11 @@
 -- For private functions: the words that the commands print.
 use Rattle.std.specs.Prelude.{ℕ, List, [], ◌∷◌, ◌++◌, codes, decimal}
 
+-- the line about an answer of the engine that is no legal move
+abbrev pub slip_line : List ℕ → List ℕ
+slip_line line =
+    codes "slip: " ++ (line ++ (codes " is no legal move of this game" ++ 10 ∷ []))
+
 -- the line of `play`: the number of moves
 abbrev pub played_line : ℕ → List ℕ
 played_line moves = codes "played " ++ decimal moves ++ 10 ∷ []

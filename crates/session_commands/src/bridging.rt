@@ -83,8 +83,8 @@ pub trait Ends {
     // This was said of the session, and all that passed was logged, if there is a log.
     ghost closed: { Self → List ℕ → Self → Type 0 };
 
-    /// Adds to the log, if there is one, how the session ended. Refuses `WriteFault` if this, or not
-    /// all that passed before, was written there.
+    /// Adds to the log, if there is one, how the session ended. Refuses `WriteFault` if the log lacks
+    /// this, or something that passed before.
     fn close(&mut self, text: &[u8]) -> Result<(), WriteFault>
         ensures { OnOk result (closed self.old text.now self.new) };
 

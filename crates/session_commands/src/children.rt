@@ -11,7 +11,7 @@ use crate::login;
 use record_commands::incoming::Incoming;
 use shogi_session::SessionFault;
 use std::alloc::{AllocError, Global};
-use std::io::{Read, Write};
+use std::io::{self, Eprint, Read, Write};
 use std::net::{Net, TcpListener, TcpStream};
 use std::process::{Child, Command, OpenProcess, Processes, Stdio};
 use std::thread;
@@ -112,18 +112,32 @@ pub trait Programs {
 #[derive(Drop)]
 pub struct System<'a, R> {
     rt: &'a R,
+    explains: bool,
 }
 
 impl<'a, R> System<'a, R> {
-    /// Those of this runtime.
-    pub fn new(rt: &'a R) -> System<'a, R> {
-        System { rt }
+    /// Those of this runtime. If `explains`, standard error gets the system's reason for each that
+    /// cannot be started or connected to.
+    pub fn new(rt: &'a R, explains: bool) -> System<'a, R>
+        ensures explains { result.explains ≡ explains }
+    {
+        System { rt, explains }
+    }
+}
+
+impl<R: Eprint> System<'_, R> {
+    // Says why there is no such program or connection. An error of standard error is ignored.
+    fn explain(&self, name: &str, error: &io::Error) {
+        if self.explains {
+            let _ = self.rt.eprintln(format_args!("{name}: {error}"));
+        }
     }
 }
 
 // No contract can say what a started program is.
-impl<R: Net<Listener = TcpListener, Stream = TcpStream> + Processes + Clock + AllocGlobal> Programs
-    for System<'_, R> {
+impl<
+    R: Net<Listener = TcpListener, Stream = TcpStream> + Processes + Clock + Eprint + AllocGlobal,
+> Programs for System<'_, R> {
     ghost use Rattle.std.specs.Prelude.{⊤};
 
     type Child = Child<R::Started>;
@@ -155,7 +169,7 @@ impl<R: Net<Listener = TcpListener, Stream = TcpStream> + Processes + Clock + Al
         command: &mut Command<Global>,
     ) -> Result<(Self::Child, Incoming<Self::Output>), MatchFault> {
         command.stdin(Stdio::null());
-        let mut child = start(self.rt, command, SERVER_GONE)?;
+        let mut child = start(self, command, SERVER_GONE)?;
         match lines_of(self.rt.alloc(), &mut child, SERVER_GONE) {
             Ok(lines) => Ok((child, lines)),
             Err(fault) => {
@@ -170,7 +184,7 @@ impl<R: Net<Listener = TcpListener, Stream = TcpStream> + Processes + Clock + Al
         command: &mut Command<Global>,
     ) -> Result<(Self::Child, Side<Self::Output, Self::Input>), MatchFault> {
         command.stdin(Stdio::piped());
-        let mut child = start(self.rt, command, ENGINE_GONE)?;
+        let mut child = start(self, command, ENGINE_GONE)?;
         match side_of(self.rt.alloc(), &mut child) {
             Ok(side) => Ok((child, side)),
             Err(fault) => {
@@ -183,7 +197,10 @@ impl<R: Net<Listener = TcpListener, Stream = TcpStream> + Processes + Clock + Al
     fn connect(&mut self, address: &str) -> Result<Side<TcpStream, TcpStream>, MatchFault> {
         let writer = match TcpStream::connect(self.rt, address) {
             Ok(writer) => writer,
-            Err(error) => return Err(memory_or(error.kind(), SERVER_GONE)),
+            Err(error) => {
+                self.explain(address, &error);
+                return Err(memory_or(error.kind(), SERVER_GONE));
+            }
         };
         let reader = match writer.try_clone() {
             Ok(reader) => reader,
@@ -200,8 +217,8 @@ impl<R: Net<Listener = TcpListener, Stream = TcpStream> + Processes + Clock + Al
 }
 
 // Starts a program whose output is read, and whose errors are not. It does not get the password.
-fn start<R: Processes>(
-    rt: &R,
+fn start<R: Processes + Eprint>(
+    system: &System<'_, R>,
     command: &mut Command<Global>,
     gone: MatchFault,
 ) -> Result<Child<R::Started>, MatchFault>
@@ -210,9 +227,12 @@ fn start<R: Processes>(
     command.stdout(Stdio::piped());
     command.stderr(Stdio::null());
     command.env_remove(login::VARIABLE)?;
-    match command.spawn(rt) {
+    match command.spawn(system.rt) {
         Ok(child) => Ok(child),
-        Err(error) => Err(memory_or(error.kind(), gone)),
+        Err(error) => {
+            system.explain(command.get_program(), &error);
+            Err(memory_or(error.kind(), gone))
+        }
     }
 }
 

@@ -1,6 +1,12 @@
 //! How a session ended, in words for its log and for a terminal.
 
-ghost use Rattle.std.specs.Prelude.{◌≡◌};
+ghost use Rattle.std.specs.Prelude.{◌≡◌, true, false, Some, IfOk, string_bytes};
+ghost use Rattle.bridge_table.specs.declared.event.Status.{Status};
+ghost use Rattle.bridge_table.specs.declared.fault.MoveCause.{MoveCause};
+ghost use Rattle.bridge_table.specs.declared.fault.SessionFault.{SessionFault};
+ghost use Rattle.session_commands.specs.Words.{slip_line};
+ghost use Rattle.session_commands.specs.declared.bridging.Seat.{Seat};
+ghost use Rattle.session_commands.specs.declared.ending.Said.{Said};
 ghost use Rattle.shogi_session.specs.State.{client_state, slip_of};
 
 use crate::bridging::Seat;
@@ -50,15 +56,21 @@ pub enum Said {
     Refused(MoveCause),
 }
 
-/// What a line from that seat says of the end, if it led the bridge from the one moment to the other
-/// and to this status.
+/// What a line from that seat says of the end, if it led the bridge from one moment to the other and
+/// to this status.
 pub fn end_in(
     before: Moment,
     after: Moment,
     seat: Seat,
     line: &[u8],
     status: Status,
-) -> Option<Said> {
+) -> Option<Said>
+    ensures slip { seat ≡ Seat.Engine → after.slip ≡ true → before.slip ≡ false
+        → result ≡ Some Said.Slip }
+    ensures refused { (cause : MoveCause) → seat ≡ Seat.Server
+        → status ≡ Status.Failed (SessionFault.BadServerMove cause)
+        → result ≡ Some (Said.Refused cause) }
+{
     match seat {
         Seat::Engine if after.slip && !before.slip => Some(Said::Slip),
         Seat::Engine => None,
@@ -157,7 +169,9 @@ impl Ending {
 }
 
 /// The line of a slip. Returns an error if an allocation fails.
-pub fn slip_line(alloc: Global, line: &str) -> Result<String, AllocError> {
+pub fn slip_line(alloc: Global, line: &str) -> Result<String, AllocError>
+    ensures { IfOk result (λ text. string_bytes text ≡ slip_line line.now) }
+{
     format!(in alloc; "slip: {line} is no legal move of this game\n")
 }
 

@@ -37,9 +37,9 @@ use std::time::Clock;
 /// The password is that of the plan's file, or of the environment variable `SHOGI_PASSWORD`, or
 /// `pw`.
 ///
-/// Before anything is started, refuses `BadName`, and then `Read` if the file with the password
-/// cannot be read, `BadPassword`, `Write` if there can be no new file beside that of the record, and
-/// `OutOfMemory`. After that refuses `Session` if the session fails, `Endless` if it goes on for
+/// Before anything is started, refuses `Write` if the log cannot be made, and then `BadName`, `Read`
+/// if the file with the password cannot be read, `BadPassword`, `Write` if there can be no new file
+/// beside that of the record, and `OutOfMemory`. After that refuses `Session` if the session fails, `Endless` if it goes on for
 /// 2^64 - 1 rounds, `Write` if the record or the last line cannot be written, and `OutOfMemory`.
 pub fn run<
     R: Env
@@ -78,7 +78,7 @@ fn play_logged<
     L: Log + Drop,
 >(rt: &R, plan: &Plan<'_, '_>, log: Option<L>) -> Result<(), PlayFault> {
     let secrets = RuntimeSecrets::new(rt);
-    let mut house = Local::new(rt.alloc(), System::new(rt), log);
+    let mut house = Local::new(rt.alloc(), System::new(rt, plan.is_shown), log);
     let mut place = Named::new(rt.alloc(), LocalDisk::new(rt), plan.out);
     play_planned(
         rt,
@@ -106,7 +106,8 @@ fn play_planned<R: Eprint + AllocGlobal, S: Secrets, H: House, P: Place, W: Writ
         S.holds S.holds_no_text secrets.now plan.now)
         (λ login. IsReported (PlaysFor H.opened H.unopened
         H.shut H.Both.Ends.came H.Both.Ends.missed H.Both.Ends.went H.Both.Ends.gone
-        H.Both.Ends.closed P.begun P.unbegun P.took P.refused P.dropped P.replaced plan.now login house.old place.old house.new place.new)
+        H.Both.Ends.closed P.begun P.unbegun P.took P.refused P.dropped P.replaced
+        plan.now login house.old place.old house.new place.new)
         W.contents out.old out.new)
         ((house.new ≡ house.old) × (place.new ≡ place.old) × (out.new ≡ out.old))
         result }
@@ -128,7 +129,8 @@ fn report<R: Eprint + AllocGlobal, H: House, P: Place, W: Write>(
     requires { AreLoginWords login.now }
     ensures { IsReported (PlaysFor H.opened H.unopened
         H.shut H.Both.Ends.came H.Both.Ends.missed H.Both.Ends.went H.Both.Ends.gone
-        H.Both.Ends.closed P.begun P.unbegun P.took P.refused P.dropped P.replaced plan.now login.now house.old place.old house.new place.new)
+        H.Both.Ends.closed P.begun P.unbegun P.took P.refused P.dropped P.replaced
+        plan.now login.now house.old place.old house.new place.new)
         W.contents out.old out.new result }
 {
     let moves = play_for(rt, login, house, place, plan)?;
@@ -284,7 +286,8 @@ fn keep_game<P: Place>(
     report_of(played, bridge.moves().unwrap_or(0))
 }
 
-// Whether the record of the game is kept, if there is a game: one that never began replaces no file.
+// Whether the record of the game is kept, if there is one: a game that never began replaces no
+// file.
 fn is_kept<P: Place>(place: &P, draft: &P::Draft, bridge: &Bridge) -> bool
     ensures kept { result ≡ true → IsKept bridge.now.state.client (P.replaced draft.now) }
     ensures left { result ≡ false → (client_state bridge.now.state.client ≡ ClientState.Agreeing)

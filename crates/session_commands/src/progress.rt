@@ -78,8 +78,8 @@ impl Progress {
         }
     }
 
-    /// Keeps what a line from that seat says of the end, if it led the bridge from the one moment to
-    /// the other and to this status. Shows it too, if moves are shown. An error of standard error is
+    /// Keeps what a line from that seat says of the end, if it led the bridge from one moment to the
+    /// other and to this status. Shows it too, if moves are shown. An error of standard error is
     /// ignored.
     pub fn watch<R: Eprint + AllocGlobal>(
         &mut self,
