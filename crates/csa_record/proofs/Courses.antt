@@ -11,7 +11,7 @@ use Rattle.shogi_rules.specs.declared.line.PlayFault.{PlayFault}
 use Rattle.shogi_rules.specs.declared.moves.Move.{Move}
 use Rattle.shogi_rules.specs.Lines.{IsLine}
 use Rattle.shogi_rules.specs.Play.{Answers}
-use Rattle.shogi_rules.specs.Positions.{Played, IsGame, position_after}
+use Rattle.shogi_rules.specs.Positions.{Played, IsGame}
 use Rattle.shogi_rules.proofs.Games.{line-more}
 use Rattle.csa_record.specs.declared.course.Ended as stored
 use Rattle.record_game.specs.declared.fault.OrderFault.{OrderFault}
@@ -73,9 +73,8 @@ pub kept_more : (line next : Played) (ts us : List (Option ℕ)) (e : Option sto
 kept_more line next ts us e color m k is more played =
     let long = k.long in
     let few = played.0 in
-    let last = position_after line.start line.moves in
-    let before : IsLine line.start last line.moves = record { leads = refl; game = game_of line ts e k; few = few_of line ts e k } in
-    let game = (line-more line.start last line.moves color m before few played.1).game in
+    let before : IsLine line.start line.moves = record { game = game_of line ts e k; few = few_of line ts e k } in
+    let game = (line-more line.start line.moves color m before few played.1).game in
     let a = length-append line.moves (m ∷ []) in
     let b = length-append ts (None ∷ []) in
     rw (is, more) (kept (record line { moves = line.moves ++ m ∷ [] }) (ts ++ None ∷ []) e

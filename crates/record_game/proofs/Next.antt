@@ -17,7 +17,7 @@ use Rattle.shogi_rules.specs.declared.line.PlayFault.TheVariants as faults
 use Rattle.shogi_rules.specs.declared.moves.Move.{Move}
 use Rattle.shogi_rules.specs.Play as plays
 use Rattle.shogi_rules.specs.Lines.{IsLine}
-use Rattle.shogi_rules.specs.Positions.{position_after, begun}
+use Rattle.shogi_rules.specs.Positions.{begun}
 use Rattle.shogi_rules.proofs.Games.{line-more}
 use Rattle.shogi_rules.proofs.Standing.{some-answer}
 use Rattle.csa_text.specs.declared.ending.Ending.{Ending}
@@ -269,9 +269,9 @@ course_more : (c : Course) (color : Color) (m : Move) → IsCourse c → plays.A
 course_more c color m h (few, none) =
     let as_long : length (map move_of c.moves) ≡ length c.moves = length-map c.moves move_of in
     let limit = h.few_moves in
-    let line : IsLine c.start (position_after c.start (map move_of c.moves)) (map move_of c.moves) =
-    record { leads = refl; game = h.line; few = omega (arith, as_long, limit) } in
-    let longer = line-more c.start _ (map move_of c.moves) color m line few none in
+    let line : IsLine c.start (map move_of c.moves) =
+    record { game = h.line; few = omega (arith, as_long, limit) } in
+    let longer = line-more c.start (map move_of c.moves) color m line few none in
     record {
       sound = h.sound;
       line = rw (moves_more c.moves m) longer.game;

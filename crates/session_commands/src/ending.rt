@@ -81,19 +81,22 @@ pub fn end_in(
     }
 }
 
-// What a line of the server says of the end.
+// What a line of the server says of the end. Once there is a reason, an ending is passed over.
 fn said_in_game(before: ClientState, after: ClientState, line: &[u8]) -> Option<Said> {
-    let is_playing = match before {
-        ClientState::Playing | ClientState::Sent | ClientState::Reason => true,
-        _ => false,
-    };
-    if !is_playing {
-        return None;
-    }
-    match (line.first(), after) {
-        (Some(b'%'), ClientState::Reason) => Some(Said::Ending),
-        (Some(b'#'), ClientState::Reason) => Some(Said::Reason),
-        (Some(b'#'), ClientState::Closing) => Some(Said::Result),
+    match (before, line.first(), after) {
+        (ClientState::Playing | ClientState::Sent, Some(b'%'), ClientState::Reason) => {
+            Some(Said::Ending)
+        }
+        (
+            ClientState::Playing | ClientState::Sent | ClientState::Reason,
+            Some(b'#'),
+            ClientState::Reason,
+        ) => Some(Said::Reason),
+        (
+            ClientState::Playing | ClientState::Sent | ClientState::Reason,
+            Some(b'#'),
+            ClientState::Closing,
+        ) => Some(Said::Result),
         _ => None,
     }
 }
