@@ -1,13 +1,15 @@
 //! The server and the engine of a game: started, joined to a bridge, and ended.
 
-ghost use Rattle.std.specs.Prelude.{◌≡◌, IfErr, IfOk};
+ghost use Rattle.std.specs.Prelude.{◌≡◌, IfErr, IfOk, OnOk};
 ghost use Rattle.session_commands.specs.Housing.{IsApart, IsJoined, IsJoinedByPort, IsPortless};
+ghost use Rattle.session_commands.specs.Logging.{ClosesIfAny};
 
 use crate::bridging::{Ends, Side, Sides};
 use crate::children::{Programs, SERVER_GONE, engine_command, local_address, server_command};
 use crate::fault::MatchFault;
 use crate::log::{Log, Logged};
 use crate::port_line::listening_port;
+use record_commands::WriteFault;
 use record_commands::incoming::Incoming;
 use shogi_words::{Plan, ServerChoice};
 use std::alloc::Global;
@@ -83,6 +85,14 @@ impl<P: Programs + Drop, L: Log + Drop> Local<P, L> {
             programs,
             log,
         }
+    }
+
+    /// Adds a text at the end of the log, if there is one and it did not go to the ends of a game.
+    /// Refuses `WriteFault` if the log is not whole then.
+    pub fn close_log(&mut self, text: &[u8]) -> Result<(), WriteFault>
+        ensures closed { OnOk result (ClosesIfAny L.closed self.old.log text.now self.new.log) }
+    {
+        self.log.close(text)
     }
 
     // The ends of a game, with the log of it.

@@ -10,7 +10,7 @@ ghost use Rattle.bridge_table.specs.declared.state.ClientState.{ClientState};
 ghost use Rattle.shogi_session.specs.State.{client_state, first_state};
 
 use crate::bridging::{Ends, play};
-use crate::children::System;
+use crate::children::{Programs, System};
 use crate::disk::LocalDisk;
 use crate::fault::{MatchFault, PlayFault, memory_or};
 use crate::house::{House, Local};
@@ -39,8 +39,9 @@ use std::time::Clock;
 ///
 /// Before anything is started, refuses `Write` if the log cannot be made, and then `BadName`, `Read`
 /// if the file with the password cannot be read, `BadPassword`, `Write` if there can be no new file
-/// beside that of the record, and `OutOfMemory`. After that refuses `Session` if the session fails, `Endless` if it goes on for
-/// 2^64 - 1 rounds, `Write` if the record or the last line cannot be written, and `OutOfMemory`.
+/// beside that of the record, and `OutOfMemory`. After that refuses `Session` if the session fails,
+/// `Endless` if it goes on for 2^64 - 1 rounds, `Write` if the record or the last line cannot be
+/// written, and `OutOfMemory`.
 pub fn run<
     R: Env
         + Files
@@ -80,14 +81,23 @@ fn play_logged<
     let secrets = RuntimeSecrets::new(rt);
     let mut house = Local::new(rt.alloc(), System::new(rt, plan.is_shown), log);
     let mut place = Named::new(rt.alloc(), LocalDisk::new(rt), plan.out);
-    play_planned(
-        rt,
-        &secrets,
-        &mut house,
-        &mut place,
-        &mut io::writer(rt),
-        plan,
-    )
+    let mut out = io::writer(rt);
+    let played = play_planned(rt, &secrets, &mut house, &mut place, &mut out, plan);
+    if let Err(fault) = played {
+        note_fault(rt.alloc(), &mut house, fault)?;
+    }
+    played
+}
+
+// Adds to the log why there was no game. The log of a game is closed already.
+fn note_fault<P: Programs + Drop, L: Log + Drop>(
+    alloc: Global,
+    house: &mut Local<P, L>,
+    fault: PlayFault,
+) -> Result<(), MatchFault> {
+    let text = format!(in alloc; "{fault}\n")?;
+    house.close_log(text.as_bytes())?;
+    Ok(())
 }
 
 // Plays the planned game in the house with the login that the plan asks for, and prints the number
