@@ -1,5 +1,6 @@
 /* Loaded in front of the C library: the growth of memory that REFUSED_GROWTH numbers, counted from 1, is refused. With
-   MARK, a request for exactly that many bytes is a mark: it is refused, and so is each growth from there to the next mark. */
+   MARK, a request for exactly that many bytes is a mark: it is refused, and so is each growth from there to the next mark.
+   With COMMAND, only a process whose first word this is refuses any, and not the programs that it starts. */
 typedef unsigned long size;
 
 extern char *getenv(const char *);
@@ -16,7 +17,16 @@ static unsigned long number(const char *name) {
     return found;
 }
 
-__attribute__((constructor)) static void read_numbers(void) {
+static int is_same(const char *text, const char *other) {
+    while (*text && *text == *other)
+        text++, other++;
+    return *text == *other;
+}
+
+__attribute__((constructor)) static void read_numbers(int words, char **word) {
+    const char *command = getenv("COMMAND");
+    if (command && (words < 2 || !is_same(word[1], command)))
+        return;
     refused = number("REFUSED_GROWTH");
     mark = number("MARK");
     growths = 0;

@@ -9,9 +9,9 @@ use Rattle.archive_commands.specs.declared.same.Comparison.{Comparison}
 use Rattle.csa_record.specs.declared.flow.FlowFault.{FlowFault}
 use Rattle.csa_record.specs.declared.flow.FlowFault.TheVariants as flow
 use Rattle.game_archive.specs.Alike.{GiveBytes}
-use Rattle.game_archive.specs.Groups.{IsGrouped}
+use Rattle.game_archive.specs.Groups.{IsGrouped, outside}
 use Rattle.game_archive.specs.Listing.{IsInOrder, ListsOnce, ListsShared}
-use Rattle.game_archive.specs.Readings.{Noted}
+use Rattle.game_archive.specs.Readings.{Noted, how_many}
 use Rattle.game_archive.specs.Unreadable.{HaveCausesBetween, IsExact}
 use Rattle.game_archive.specs.declared.grouping.Placing.{Placing}
 use Rattle.game_archive.specs.declared.grouping.Placing.TheVariants as placing
@@ -66,6 +66,7 @@ pub record PrintsGroups (comparison : Comparison) (Reads : ℕ → Result Game F
   pub grouped : (bytes : ℕ → List ℕ) → GiveBytes (length paths) Reads bytes
       → IsGrouped comparison.likeness bytes placings
   pub causes : HaveCausesBetween Reads before after placings
+  pub counted : how_many after ≡ how_many before + outside placings
   pub exact : (bytes : ℕ → List ℕ) → GiveBytes (length paths) Reads bytes
       → after.failed ≡ before.failed → IsExact comparison.likeness bytes placings
   pub tally_is : tally ≡ tally_from no_file placings
@@ -74,6 +75,10 @@ pub record PrintsGroups (comparison : Comparison) (Reads : ℕ → Result Game F
   pub once : ListsOnce members
   pub sorted : IsInOrder members
   pub printed : Appends old new (group_lines comparison.path_end paths 0 members)
+
+-- only a line that cannot be written, or a lack of memory, ends the printing of groups
+abbrev pub EndsPrinting : FlowFault → Type 0
+EndsPrinting fault = (fault ≡ flow.WriteFault) ⊎ (fault ≡ flow.OutOfMemory)
 
 -- there is no memory for a line, and those before it were printed; or a line cannot be written
 abbrev pub StopsPrinting : PathEnd → List (List ℕ) → List (ℕ × ℕ) → Option (List ℕ)

@@ -7,7 +7,7 @@ ghost use Rattle.record_commands.specs.Reports.{FailsToReport, GetsRecord, Repor
 ghost use Rattle.record_game.specs.Refused.{Refused};
 
 use crate::lines::{self, LineKind};
-use csa_record::{FlowFault, Refusal};
+use csa_record::{FlowFault, Refusal, SourceReader};
 use hash_comments::HashLines;
 use record_commands::{Inputs, RuntimeInputs, streams};
 use std::alloc::Global;
@@ -55,7 +55,8 @@ fn digest<I: Inputs, W: Write>(
         I.Input.Read.remaining) (IsLineOf LineKind.Digests file.now)) }
     ensures unwritten { IfErr result (λ fault. fault ≢ FlowFault.WriteFault → out.new ≡ out.old) }
 {
-    let line = lines::line_of(alloc, inputs, LineKind::Digests, file)?;
+    let mut reader = SourceReader::new(alloc);
+    let line = lines::line_of(alloc, &mut reader, inputs, LineKind::Digests, file)?;
     streams::write_all(out, line.as_bytes())?;
     Ok(())
 }

@@ -9,7 +9,7 @@ ghost use Rattle.archive_commands.specs.Lines.{AreRefusedLines, AreUnreadableLin
 ghost use Rattle.record_commands.specs.Reports.{FailsToReport, GetsRecord};
 
 use crate::notices::Notices;
-use csa_record::{FlowFault, Reading, Record, Refusal};
+use csa_record::{FlowFault, Reading, Record, Refusal, SourceReader};
 use record_commands::{Inputs, check, streams};
 use shogi_board::OutOfMemory;
 use std::alloc::Global;
@@ -23,11 +23,13 @@ pub enum LineKind {
     Digests,
 }
 
-/// The line of the record in the file, with LF.
+/// The line of the record in the file, with LF. With `Checks` the record is read through the buffers
+/// of the reader.
 ///
 /// Refuses `Refused` if the record is refused, `ReadFault` if it cannot be read, and `OutOfMemory`.
 pub fn line_of<I: Inputs>(
     alloc: Global,
+    reader: &mut SourceReader,
     inputs: &I,
     lines: LineKind,
     file: &str,
@@ -41,13 +43,18 @@ pub fn line_of<I: Inputs>(
     ensures no_write { IfErr result (λ fault. fault ≢ FlowFault.WriteFault) }
 {
     match lines {
-        LineKind::Checks => checked_line(alloc, inputs, file),
+        LineKind::Checks => checked_line(alloc, reader, inputs, file),
         LineKind::Digests => digest_line(alloc, inputs, file),
     }
 }
 
 // The line of `check`.
-fn checked_line<I: Inputs>(alloc: Global, inputs: &I, file: &str) -> Result<String, FlowFault>
+fn checked_line<I: Inputs>(
+    alloc: Global,
+    reader: &mut SourceReader,
+    inputs: &I,
+    file: &str,
+) -> Result<String, FlowFault>
     ensures line { IfOk result (λ text. HasLine (I.opens_not inputs.now (Some file.now))
         (I.opens inputs.now (Some file.now)) I.Input.Read.remaining
         LineKind.Checks file.now (string_bytes text)) }
@@ -56,7 +63,7 @@ fn checked_line<I: Inputs>(alloc: Global, inputs: &I, file: &str) -> Result<Stri
         I.Input.Read.remaining) (IsLineOf LineKind.Checks file.now)) }
     ensures no_write { IfErr result (λ fault. fault ≢ FlowFault.WriteFault) }
 {
-    let record = streams::record(alloc, inputs, Some(file))?;
+    let record = streams::next_record(reader, inputs, Some(file))?;
     match accepted_line(alloc, file, &record) {
         Ok(line) => Ok(line),
         Err(_) => Err(FlowFault::OutOfMemory),

@@ -9,7 +9,7 @@ ghost use Rattle.archive_commands.specs.Many.{StopsAmong, PrintsAll, PrintsFile,
 
 use crate::lines::{self, LineKind};
 use crate::notices::{Notices, StandardError, Verbosity};
-use csa_record::FlowFault;
+use csa_record::{FlowFault, SourceReader};
 use hash_comments::HashLines;
 use record_commands::{Inputs, RuntimeInputs, streams};
 use std::alloc::Global;
@@ -98,8 +98,10 @@ fn print_all<I: Inputs, W: Write, E: Notices>(
         refused: 0,
         unreadable: 0,
     };
+    let mut reader = SourceReader::new(alloc);
     for path in paths {
-        tally = print_one(alloc, inputs, lines, path.as_slice(), out, notices, tally)?;
+        let path = path.as_slice();
+        tally = print_one(alloc, &mut reader, inputs, lines, path, out, notices, tally)?;
         notices.file_done();
     }
     Ok(tally)
@@ -108,6 +110,7 @@ fn print_all<I: Inputs, W: Write, E: Notices>(
 // Prints the line about the file of this path, and counts it.
 fn print_one<I: Inputs, W: Write, E: Notices>(
     alloc: Global,
+    reader: &mut SourceReader,
     inputs: &I,
     lines: LineKind,
     path: &[u8],
@@ -127,7 +130,7 @@ fn print_one<I: Inputs, W: Write, E: Notices>(
         (W.contents out.new) (E.shown notices.new)) }
 {
     match str::from_utf8(path) {
-        Ok(file) => print_file(alloc, inputs, lines, file, out, notices, tally),
+        Ok(file) => print_file(alloc, reader, inputs, lines, file, out, notices, tally),
         Err(_) => print_no_text(alloc, path, notices, tally),
     }
 }
@@ -135,6 +138,7 @@ fn print_one<I: Inputs, W: Write, E: Notices>(
 // Prints that line about this file, and counts it.
 fn print_file<I: Inputs, W: Write, E: Notices>(
     alloc: Global,
+    reader: &mut SourceReader,
     inputs: &I,
     lines: LineKind,
     file: &str,
@@ -153,7 +157,7 @@ fn print_file<I: Inputs, W: Write, E: Notices>(
         file.now (W.contents out.old) (E.shown notices.old)
         (W.contents out.new) (E.shown notices.new)) }
 {
-    match lines::line_of(alloc, inputs, lines, file) {
+    match lines::line_of(alloc, reader, inputs, lines, file) {
         Ok(line) => {
             streams::write_all(out, line.as_bytes())?;
             Ok(Tally {

@@ -1,11 +1,12 @@
 //! Which of many files contain the same game.
 
-ghost use Rattle.std.specs.Prelude.{◌≡◌, ℕ, ◌+◌, ◌-◌, ◌^◌, ◌<◌, length, IfErr, IfOk, OnOk};
+ghost use Rattle.std.specs.Prelude.{◌≡◌, ◌≢◌, ℕ, ◌+◌, ◌-◌, ◌^◌, ◌<◌, length, IfErr, IfOk, OnOk};
 ghost use Rattle.std.specs.Io.KnownBytes.{Appends};
 ghost use Rattle.std.specs.List.{All};
+ghost use Rattle.csa_record.specs.declared.flow.FlowFault.{FlowFault};
 ghost use Rattle.archive_commands.specs.Lists.{items_of};
 ghost use Rattle.archive_commands.specs.Many.{counted, no_file};
-ghost use Rattle.archive_commands.specs.Same.{FileReads, PrintsGroups, StopsPrinting, counted_with, group_line, group_lines, tally_from};
+ghost use Rattle.archive_commands.specs.Same.{EndsPrinting, FileReads, PrintsGroups, StopsPrinting, counted_with, group_line, group_lines, tally_from};
 
 use crate::lines;
 use crate::list::end_byte;
@@ -52,6 +53,7 @@ pub fn run<R: Files + Input + Print + Eprint + Clock + AllocGlobal>(
     verbosity: Verbosity,
 ) -> Result<Tally, FlowFault>
     ensures count { IfOk result (λ t. counted t ≡ length paths.now) }
+    ensures ends { IfErr result EndsPrinting }
 {
     let inputs = RuntimeInputs::new(rt, comparison.hash_lines);
     let mut archive = PathsArchive {
@@ -85,6 +87,7 @@ fn print_same<A: Archive, W: Write, E: Notices>(
         (A.noted archive.old) (A.noted archive.new) (items_of paths.now)
         (W.contents out.old) (W.contents out.new)) }
     ensures count { IfOk result (λ tally. counted tally ≡ length paths.now) }
+    ensures ends { IfErr result EndsPrinting }
 {
     let placed = group(
         alloc,
@@ -150,8 +153,9 @@ impl<I: Inputs> Archive for PathsArchive<'_, '_, I> {
 
 // Reads the record in the file of this path.
 fn record_of<I: Inputs>(alloc: Global, inputs: &I, path: &[u8]) -> Result<Record, FlowFault>
-    ensures { FileReads (I.opens_not inputs.now) (I.opens inputs.now) I.Input.Read.remaining
+    ensures reads { FileReads (I.opens_not inputs.now) (I.opens inputs.now) I.Input.Read.remaining
         path.now result }
+    ensures no_write { IfErr result (λ fault. fault ≢ FlowFault.WriteFault) }
 {
     match str::from_utf8(path) {
         Ok(path) => streams::record(alloc, inputs, Some(path)),
@@ -181,6 +185,7 @@ fn report_all<E: Notices>(
     requires whole { length placings.now ≡ length paths.now }
     ensures count { IfOk result (λ tally. counted tally ≡ length paths.now) }
     ensures kinds { IfOk result (λ tally. tally ≡ tally_from no_file placings.now) }
+    ensures memory { IfErr result (λ fault. fault ≡ FlowFault.OutOfMemory) }
 {
     let mut tally = Tally {
         accepted: 0,
@@ -204,6 +209,7 @@ fn report_one<E: Notices>(
     requires room { counted tally < 2 ^ 64 - 1 }
     ensures count { IfOk result (λ after. counted after ≡ counted tally + 1) }
     ensures kind { IfOk result (λ after. after ≡ counted_with tally placing.now) }
+    ensures memory { IfErr result (λ fault. fault ≡ FlowFault.OutOfMemory) }
 {
     match placing {
         Placing::Group(_) => Ok(Tally {
@@ -232,7 +238,9 @@ fn show_lines<E: Notices>(
     path: &[u8],
     placing: &Placing,
     notices: &mut E,
-) -> Result<(), FlowFault> {
+) -> Result<(), FlowFault>
+    ensures memory { IfErr result (λ fault. fault ≡ FlowFault.OutOfMemory) }
+{
     match lines_of(alloc, path, placing, notices) {
         Ok(text) => {
             notices.show(&text);

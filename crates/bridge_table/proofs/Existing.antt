@@ -12,9 +12,9 @@ use Rattle.shogi_board.specs.Material.{bag_of}
 use Rattle.shogi_board.specs.Placed.{Placed, even_start}
 use Rattle.shogi_board.specs.Same.{same_position}
 use Rattle.shogi_board.proofs.Drops.{held-of}
-use Rattle.shogi_rules.specs.declared.moves.Move.{Move}
-use Rattle.shogi_rules.specs.declared.moves.Move.TheVariants.{Walk, Put}
-use Rattle.shogi_rules.specs.Legal.{Legal, KindFits, HasPiece}
+use Rattle.shogi_board.specs.declared.moves.Move.{Move}
+use Rattle.shogi_board.specs.declared.moves.Move.TheVariants.{Walk, Put}
+use Rattle.shogi_board.specs.Legal.{Legal, KindFits, HasPiece}
 use Rattle.shogi_rules.specs.Positions.{IsGame, begun, played, position_after}
 use Rattle.csa_cutting.proofs.Once.{cut_found}
 use Rattle.csa_text.proofs.Sayings.{spells_or_not}

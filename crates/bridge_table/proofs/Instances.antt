@@ -12,9 +12,9 @@ use Rattle.shogi_board.specs.Pieces.{is_king}
 use Rattle.shogi_board.specs.Reach.{InCheck}
 use Rattle.shogi_board.specs.Squares.{place}
 use Rattle.shogi_rules.proofs.Alone.{not-over-alone}
-use Rattle.shogi_rules.specs.declared.rule.Rule.TheVariants.{WrongSide}
-use Rattle.shogi_rules.specs.After.{after}
-use Rattle.shogi_rules.specs.Legal.{ReachesTarget, KingSafe, Legal}
+use Rattle.shogi_board.specs.declared.rule.Rule.TheVariants.{WrongSide}
+use Rattle.shogi_board.specs.After.{after}
+use Rattle.shogi_board.specs.Legal.{ReachesTarget, KingSafe, Legal}
 use Rattle.shogi_rules.specs.Play.{Answers}
 use Rattle.usi_text.proofs.OneMove.{same_square}
 use Rattle.record_game.specs.declared.fault.Why.TheVariants as causes

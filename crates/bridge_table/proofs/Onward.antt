@@ -11,7 +11,7 @@ use Rattle.shogi_board.specs.declared.color.Color.TheVariants.{Black, White}
 use Rattle.shogi_rules.proofs.Standing.{some-answer}
 use Rattle.shogi_rules.specs.declared.line.PlayFault.{PlayFault}
 use Rattle.shogi_rules.specs.declared.line.PlayFault.TheVariants as play
-use Rattle.shogi_rules.specs.declared.moves.Move.{Move}
+use Rattle.shogi_board.specs.declared.moves.Move.{Move}
 use Rattle.shogi_rules.specs.Positions.{IsGame}
 use Rattle.csa_text.specs.Codes.{move_text}
 use Rattle.record_game.specs.declared.fault.OrderFault.TheVariants as order

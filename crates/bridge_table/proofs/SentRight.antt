@@ -2,8 +2,8 @@
 use Rattle.std.proofs.Common.{◌≡◌, ℕ, ◌++◌, ◌⊎◌, inl, inr, true, false, List, [], ◌∷◌, Option, Some, None, codes, refl, ap, subst}
 use Rattle.std.specs.List.{AllByRecursion, list_any}
 use Rattle.shogi_board.specs.declared.color.Color.{Color}
-use Rattle.shogi_rules.specs.declared.moves.Move.{Move}
-use Rattle.shogi_rules.specs.Legal.{Legal}
+use Rattle.shogi_board.specs.declared.moves.Move.{Move}
+use Rattle.shogi_board.specs.Legal.{Legal}
 use Rattle.csa_text.specs.Codes.{move_text}
 use Rattle.record_game.specs.Game.{Game}
 use Rattle.record_game.specs.Items.{AtMostOne}

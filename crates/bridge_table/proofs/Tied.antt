@@ -5,11 +5,12 @@ use Rattle.std.proofs.lemmas.List.Elements.{filter_map-append}
 use Rattle.shogi_board.specs.declared.color.Color.{Color}
 use Rattle.shogi_board.specs.declared.color.Color.TheVariants.{Black, White}
 use Rattle.shogi_board.specs.Pieces.{same_color}
-use Rattle.shogi_rules.specs.declared.moves.Move.{Move}
+use Rattle.shogi_board.specs.declared.moves.Move.{Move}
 use Rattle.shogi_rules.proofs.Games.{all-of-none, legal-of-none}
 use Rattle.shogi_rules.specs.Play.{Answers}
 use Rattle.shogi_rules.specs.Positions.{IsGame, MayFollow, played}
-use Rattle.shogi_rules.specs.Rules.{Kept, all_rules}
+use Rattle.shogi_rules.specs.Rules.{Kept}
+use Rattle.shogi_board.specs.Rules.{all_rules}
 use Rattle.csa_text.specs.Codes.{move_text}
 use Rattle.record_game.specs.Game.{Game, Timed, move_of}
 use Rattle.record_game.specs.Items.{AtMostOne}

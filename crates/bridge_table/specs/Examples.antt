@@ -7,7 +7,7 @@ use Rattle.shogi_board.specs.declared.square.Square.{Square}
 use Rattle.shogi_board.specs.Cells.{no_cells, piece}
 use Rattle.shogi_board.specs.Placed.{Placed}
 use Rattle.shogi_board.specs.Totals.{bare_board}
-use Rattle.shogi_rules.specs.declared.moves.Move.TheVariants.{Walk}
+use Rattle.shogi_board.specs.declared.moves.Move.TheVariants.{Walk}
 use Rattle.record_game.specs.Game.{Game, Timed}
 use Rattle.bridge_table.specs.declared.event.Status.TheVariants.{Going}
 use Rattle.bridge_table.specs.declared.state.EngineState.TheVariants.{Ready, Thinking}

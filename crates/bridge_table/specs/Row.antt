@@ -3,9 +3,9 @@ use Rattle.std.specs.Prelude.{◌≡◌, ◌≢◌, ℕ, ◌++◌, ◌⊎◌, tr
 use Rattle.shogi_board.specs.declared.color.Color.{Color}
 use Rattle.shogi_rules.specs.declared.line.PlayFault.{PlayFault}
 use Rattle.shogi_rules.specs.declared.line.PlayFault.TheVariants as play
-use Rattle.shogi_rules.specs.declared.moves.Move.{Move}
-use Rattle.shogi_rules.specs.declared.rule.Rule.{Rule}
-use Rattle.shogi_rules.specs.Legal.{Legal}
+use Rattle.shogi_board.specs.declared.moves.Move.{Move}
+use Rattle.shogi_board.specs.declared.rule.Rule.{Rule}
+use Rattle.shogi_board.specs.Legal.{Legal}
 use Rattle.shogi_rules.specs.Play.{Answers}
 use Rattle.csa_text.specs.Codes.{move_text}
 use Rattle.csa_text.specs.declared.fault.TextFault.{TextFault}

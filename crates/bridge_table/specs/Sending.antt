@@ -3,8 +3,8 @@ use Rattle.std.specs.Prelude.{◌≡◌, ℕ, ◌++◌, ◌⊎◌, Bool, false, 
 use Rattle.std.specs.List.{starts_with, filter_map}
 use Rattle.shogi_board.specs.declared.color.Color.{Color}
 use Rattle.shogi_board.specs.Pieces.{same_color}
-use Rattle.shogi_rules.specs.declared.moves.Move.{Move}
-use Rattle.shogi_rules.specs.Legal.{Legal}
+use Rattle.shogi_board.specs.declared.moves.Move.{Move}
+use Rattle.shogi_board.specs.Legal.{Legal}
 use Rattle.csa_text.specs.Codes.{move_text}
 use Rattle.record_game.specs.Items.{AtMostOne}
 use Rattle.bridge_table.specs.declared.config.Config.{Config}

@@ -13,7 +13,7 @@ ghost use Rattle.bridge_table.specs.Asking.{AskLines, MayAsk};
 ghost use Rattle.bridge_table.specs.declared.fault.MoveCause.TheVariants.{Refused, Unsent};
 ghost use Rattle.bridge_table.specs.declared.fault.SessionFault.TheVariants.{BadServerMove};
 ghost use Rattle.record_game.specs.declared.fault.Why.TheVariants.{Rule};
-ghost use Rattle.shogi_rules.specs.declared.rule.Rule.TheVariants.{WrongSide};
+ghost use Rattle.shogi_board.specs.declared.rule.Rule.TheVariants.{WrongSide};
 ghost use Rattle.shogi_board.specs.declared.square.Square.{Square};
 ghost use Rattle.bridge_table.specs.Events.{Event, Out, engine_end, engine_line, no_lines, server, server_end, server_line};
 ghost use Rattle.bridge_table.specs.Examples.{pawn_events, pawn_match, pawn_step, ready, thinking};

@@ -84,6 +84,17 @@ impl PieceCutter {
         }
     }
 
+    /// Makes this a cutter that has used no bytes.
+    pub fn restart(&mut self)
+        ensures start { self.new ≡ fresh }
+    {
+        self.held.clear();
+        self.place = Place::Mark;
+        self.fed = 0;
+        self.number = 0;
+        self.refused = None;
+    }
+
     /// How many bytes have been used so far.
     pub fn fed(&self) -> u64
         ensures count { result ≡ self.now.fed }

@@ -8,7 +8,7 @@ use Rattle.shogi_board.specs.Placed.{Placed}
 use Rattle.shogi_board.specs.Sound.{IsSound}
 use Rattle.shogi_rules.specs.declared.line.PlayFault.TheVariants as playing
 use Rattle.shogi_rules.specs.declared.line.PlayFault.{PlayFault}
-use Rattle.shogi_rules.specs.declared.moves.Move.{Move}
+use Rattle.shogi_board.specs.declared.moves.Move.{Move}
 use Rattle.shogi_rules.specs.Lines.{IsLine}
 use Rattle.shogi_rules.specs.Play.{Answers}
 use Rattle.shogi_rules.specs.Positions.{Played, IsGame}

@@ -7,7 +7,7 @@ use Rattle.shogi_board.specs.declared.kind.Kind.TheVariants.{Pawn}
 use Rattle.shogi_board.specs.Cells.{even_cells}
 use Rattle.shogi_board.specs.Placed.{Placed, even_start}
 use Rattle.shogi_board.specs.Totals.{bare_board}
-use Rattle.shogi_rules.specs.declared.moves.Move.TheVariants.{Walk}
+use Rattle.shogi_board.specs.declared.moves.Move.TheVariants.{Walk}
 use Rattle.csa_text.specs.declared.ending.Ending.TheVariants.{Toryo}
 use Rattle.csa_text.specs.TimeTexts.{time_text}
 use Rattle.record_game.specs.Canon.{canon}

@@ -3,7 +3,7 @@ use Rattle.std.proofs.Common.{◌≡◌, ℕ, zero, suc, ◌-◌, ◌<◌, Bool,
 use Rattle.std.specs.Prelude.{is_some, slice_get}
 use Rattle.std.specs.List.{flat_map}
 use Rattle.shogi_board.specs.declared.color.Color.{Color}
-use Rattle.shogi_rules.specs.declared.moves.Move.{Move}
+use Rattle.shogi_board.specs.declared.moves.Move.{Move}
 use Rattle.record_game.specs.Canon.{ended_line}
 use Rattle.record_game.specs.Course.{awaits, untimed, with_last_time, time_of}
 use Rattle.csa_record.specs.Coursing.{timed, lacks_last, with_last}

@@ -4,7 +4,7 @@ use Rattle.std.specs.Prelude.{◌≡◌, ℕ, not, is_some, Bool, false, List, [
 use Rattle.shogi_board.specs.declared.color.Color.{Color}
 use Rattle.shogi_rules.specs.Play.{Answers}
 use Rattle.shogi_rules.specs.declared.line.PlayFault.{PlayFault}
-use Rattle.shogi_rules.specs.declared.moves.Move.{Move}
+use Rattle.shogi_board.specs.declared.moves.Move.{Move}
 use Rattle.shogi_rules.specs.Positions.{Played}
 use Rattle.csa_record.specs.declared.course.Ended as stored
 use Rattle.record_game.specs.declared.fault.Why.{Why}

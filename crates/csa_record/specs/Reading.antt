@@ -39,6 +39,10 @@ pub record HasRead (source : List ℕ) (r : Reading) : Type 0 where
   pub going : r.failing ≡ None
   pub taken : HasTaken source r.cutter r.kept
 
+-- a reader of these parts was fed these bytes
+abbrev pub IsRead : List ℕ → PieceCutting → Kept → Option Failing → Type 0
+IsRead source p k failing = HasRead source (record { cutter = p; kept = k; failing = failing })
+
 -- refused for its first fault; or an allocation failed, and no statement up to there has a fault
 abbrev pub IsRefusedBy : List ℕ → Refusal → Type 0
 IsRefusedBy source r =

@@ -52,7 +52,6 @@ impl Course {
     pub(crate) fn new(alloc: Global, start: Position) -> Result<Course, OutOfMemory>
         ensures { IfOk result (λ c. c ≡ record { start = start; moves = []; ending = None }) }
     {
-        start.soundness();
         Ok(Course {
             line: Line::new(alloc, start)?,
             times: Vec::with_capacity(alloc, FIRST_ROOM)?,
@@ -71,7 +70,6 @@ impl Course {
             }) }
         ensures err { IfErr result (λ l. l ≡ line) }
     {
-        line.start().soundness();
         match Vec::from_elem(alloc, None, line.moves().len()) {
             Ok(times) => Ok(Course {
                 line,

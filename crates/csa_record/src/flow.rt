@@ -204,15 +204,20 @@ fn read_record<S: Source>(alloc: Global, source: &mut S) -> Result<Record, FlowF
     ensures unended { IsErrOf result FlowFault.ReadFault → S.ended source.new ≡ S.ended source.old }
 {
     let mut reader = RecordReader::new(alloc);
-    feed_all(source, &mut reader)?;
+    let mut buffer = [0u8; PIECE];
+    feed_all(source, &mut reader, &mut buffer)?;
     match reader.finish() {
         Ok(record) => Ok(record),
         Err(refusal) => Err(FlowFault::from(refusal)),
     }
 }
 
-// Feeds a new reader all that the source gives up to its end.
-fn feed_all<S: Source>(source: &mut S, reader: &mut RecordReader) -> Result<(), FlowFault>
+// Feeds a new reader all that the source gives up to its end, through the buffer.
+pub(crate) fn feed_all<S: Source>(
+    source: &mut S,
+    reader: &mut RecordReader,
+    buffer: &mut [u8; PIECE],
+) -> Result<(), FlowFault>
     requires failed { S.failed source.old < 2 ^ 64 - 1 }
     requires fresh { HasRead [] reader.old }
     ensures fed { OnOk result
@@ -223,10 +228,9 @@ fn feed_all<S: Source>(source: &mut S, reader: &mut RecordReader) -> Result<(), 
         (S.failed source.old) (S.failed source.new)) }
     ensures unended { IfErr result (λ _. S.ended source.new ≡ S.ended source.old) }
 {
-    let mut buffer = [0u8; PIECE];
     let mut reads = 0;
     while reads < MOST_READS {
-        match feed_next(source, reader, &mut buffer)? {
+        match feed_next(source, reader, buffer)? {
             Fed::Piece => reads += 1,
             Fed::End => return Ok(()),
         }

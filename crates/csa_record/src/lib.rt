@@ -2,9 +2,9 @@
 //!
 //! The format is CSA V2.2, as `docs/CSA.md` restricts it. `read` takes a source that lies in
 //! memory, `RecordReader` one that arrives in pieces. Both return a `Record`, which is always a
-//! legal game, or a `Refusal` that names the first statement with a fault. `normalise` goes from a
-//! byte source straight to a sink. The faults and the laws are those of `record_game`, and are
-//! re-exported.
+//! legal game, or a `Refusal` that names the first statement with a fault. `read_from` takes any
+//! byte source, a `SourceReader` one after another, and `normalise` goes from a source straight to
+//! a sink. The faults and the laws are those of `record_game`, and are re-exported.
 //!
 //! ```text
 //! let game = read(alloc, source)?;
@@ -23,6 +23,7 @@ mod record;
 mod record_reader;
 mod sink;
 mod source;
+mod source_reader;
 mod start_writer;
 mod titles;
 mod writer;
@@ -34,5 +35,6 @@ pub use record_game::{OrderFault, Refusal, Why};
 pub use record_reader::{RecordReader, read};
 pub use sink::{Sink, Writing};
 pub use source::{Failure, Reading, Source, read_uninterrupted};
+pub use source_reader::SourceReader;
 pub use titles::{HeaderValue, MAX_HEADERS};
 pub use writer::write;

@@ -4,7 +4,7 @@ ghost use Rattle.record_game.specs.Closed.{ClosedAt};
 ghost use Rattle.record_game.specs.Fits.{IsOfStatement};
 ghost use Rattle.record_game.specs.Keeping.{HasKept};
 ghost use Rattle.record_game.specs.Outcome.{Outcome};
-ghost use Rattle.csa_record.specs.Reading.{HasRead, HasTaken, IsRefusedBy, fed_of, NextTaken, LastTaken};
+ghost use Rattle.csa_record.specs.Reading.{HasRead, HasTaken, IsRead, IsRefusedBy, fed_of, NextTaken, LastTaken};
 ghost use Rattle.record_game.specs.Refused.{Refused, FaultlessTo};
 ghost use Rattle.record_game.specs.Tells.{Tells};
 
@@ -14,6 +14,7 @@ use csa_cutting::{PieceCutter, Statement};
 use record_game::{OrderFault, Refusal, Why};
 use std::alloc::Global;
 use std::marker::Model;
+use std::mem;
 
 // The statement at which a reader was refused, and how many bytes had been fed before.
 #[derive(Clone, Copy, Debug, PartialEq, Eq)]
@@ -173,9 +174,9 @@ impl RecordReader {
         Ok(cut.used)
     }
 
-    /// Returns the record that all the pieces contain, at their end.
+    /// Returns the record that the pieces contain. To be called after the last one.
     ///
-    /// The end of the bytes ends an unfinished statement, which is refused as `feed` refuses one.
+    /// The end of the bytes ends an unfinished statement, which may be refused, as in `feed`.
     /// Then refuses with `MissingTurn` if no statement gives the side to move: its number is one
     /// more than the number of the statements, and its offset is the length of all pieces in bytes.
     pub fn finish(self) -> Result<Record, Refusal>
@@ -191,24 +192,65 @@ impl RecordReader {
             (λ f. IsErrOf result
             (record { number = f.number; offset = f.offset; why = Why.Failed })) }
     {
-        if let Some(failing) = self.failing {
-            return Err(failing.refusal());
-        }
         let RecordReader {
             mut cutter,
-            mut builder,
-            failing: _,
+            builder,
+            failing,
         } = self;
-        let length = cutter.fed();
-        take_last(&mut cutter, &mut builder)?;
-        match builder.finish() {
-            Some(record) => Ok(record),
-            None => Err(Refusal {
-                number: cutter.statements() + 1,
-                offset: length,
-                why: Why::Order(OrderFault::MissingTurn),
-            }),
-        }
+        end(&mut cutter, builder, failing)
+    }
+
+    // As `finish`, of a reader that is then as if new.
+    pub(crate) fn finish_anew(&mut self, alloc: Global) -> Result<Record, Refusal>
+        ensures stated { (source : List ℕ) → HasRead source self.old
+            → IfOk result (λ g. Tells source g) }
+        ensures refused { (source : List ℕ) → HasRead source self.old
+            → IfErr result (λ r. r.why ≢ Why.OutOfMemory → Refused source r.number r.offset r.why) }
+        ensures memory { (source : List ℕ) → HasRead source self.old
+            → IfErr result (λ r. r.why ≡ Why.OutOfMemory → FaultlessTo source r.number r.offset) }
+        ensures first { (source : List ℕ) → HasRead source self.old
+            → IfErr result (λ r. r.why ≢ Why.Failed) }
+        ensures anew { HasRead [] self.new }
+    {
+        let builder = mem::replace(&mut self.builder, RecordBuilder::new(alloc));
+        let record = end(&mut self.cutter, builder, self.failing);
+        self.cutter.restart();
+        self.failing = None;
+        record
+    }
+}
+
+// What `finish` returns of a reader with these parts.
+fn end(
+    cutter: &mut PieceCutter,
+    builder: RecordBuilder,
+    failing: Option<Failing>,
+) -> Result<Record, Refusal>
+    ensures stated { (source : List ℕ) → IsRead source cutter.old builder failing
+        → IfOk result (λ g. Tells source g) }
+    ensures refused { (source : List ℕ) → IsRead source cutter.old builder failing
+        → IfErr result (λ r. r.why ≢ Why.OutOfMemory → Refused source r.number r.offset r.why) }
+    ensures memory { (source : List ℕ) → IsRead source cutter.old builder failing
+        → IfErr result (λ r. r.why ≡ Why.OutOfMemory → FaultlessTo source r.number r.offset) }
+    ensures first { (source : List ℕ) → IsRead source cutter.old builder failing
+        → IfErr result (λ r. r.why ≢ Why.Failed) }
+    ensures again { IfSome failing
+        (λ f. IsErrOf result
+        (record { number = f.number; offset = f.offset; why = Why.Failed })) }
+{
+    if let Some(failing) = failing {
+        return Err(failing.refusal());
+    }
+    let mut builder = builder;
+    let length = cutter.fed();
+    take_last(cutter, &mut builder)?;
+    match builder.finish() {
+        Some(record) => Ok(record),
+        None => Err(Refusal {
+            number: cutter.statements() + 1,
+            offset: length,
+            why: Why::Order(OrderFault::MissingTurn),
+        }),
     }
 }
 

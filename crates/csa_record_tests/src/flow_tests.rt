@@ -1,4 +1,6 @@
-use csa_record::{FlowFault, Reading, Sink, Source, Writing, digest, normalise, read_from};
+use csa_record::{
+    FlowFault, Reading, Sink, Source, SourceReader, Writing, digest, normalise, read_from, write,
+};
 use std::io::BufWriter;
 use std::test::Fail;
 
@@ -20,6 +22,20 @@ fn normalises_a_reader(rt: HostRuntime) -> Result<(), Fail> {
     assert!(rt; normalise(rt.alloc(), &mut source, &mut sink) == Ok(()));
     assert!(rt; source.failures() == 0 && sink.failures() == 0);
     assert!(rt; read_from(rt.alloc(), &mut Reading::new(GIVEN)).is_ok());
+    Ok(())
+}
+
+// A refused record leaves nothing to the next one.
+#[test]
+fn reads_one_source_after_another(rt: HostRuntime) -> Result<(), Fail> {
+    let mut reader = SourceReader::new(rt.alloc());
+    let refused = reader.read(&mut Reading::new(b"PI,+,+7775FU\n'x".as_slice()));
+    assert!(rt; matches!(&refused, Err(FlowFault::Refused(_))));
+    for given in [GIVEN, TEXT] {
+        let record = reader.read(&mut Reading::new(given))?;
+        let text = write(rt.alloc(), &record)?;
+        assert!(rt; text.as_slice() == TEXT);
+    }
     Ok(())
 }
 

@@ -6,8 +6,8 @@ use Rattle.std.specs.Result.{IsErrAnd}
 use Rattle.shogi_board.specs.declared.color.Color.{Color}
 use Rattle.shogi_board.specs.declared.color.Color.TheVariants.{Black, White}
 use Rattle.shogi_board.specs.declared.kind.Piece.{Piece}
-use Rattle.shogi_rules.specs.declared.moves.Move.{Move}
-use Rattle.shogi_rules.specs.declared.moves.Move.TheVariants.{Walk, Put}
+use Rattle.shogi_board.specs.declared.moves.Move.{Move}
+use Rattle.shogi_board.specs.declared.moves.Move.TheVariants.{Walk, Put}
 use Rattle.std.specs.List.{flat_map}
 use Rattle.csa_text.specs.declared.ending.Ending.{Ending}
 use Rattle.csa_text.specs.declared.fault.TextFault.{TextFault}

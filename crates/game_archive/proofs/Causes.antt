@@ -14,10 +14,11 @@ use Rattle.record_game.specs.Game.{Game}
 use Rattle.record_game.specs.Refused.{Refused}
 use Rattle.record_game.specs.Tells.{Tells}
 use Rattle.game_archive.proofs.Placed.{before, cases_refused, last, still, within}
+use Rattle.game_archive.specs.Knowing.{IsNotCompared, KeepsCauses}
 use Rattle.game_archive.specs.Alike.{AreAlike, GiveBytes}
 use Rattle.game_archive.specs.Groups.{HasLeader, IsAccepted, IsGrouped, placing_at}
 use Rattle.game_archive.specs.Readings.{Noted, noted_at, noted_with}
-use Rattle.game_archive.specs.Unreadable.{HaveCauses, HaveCausesBetween, IsExact, IsLost, IsNotCompared, IsUnread, KeepsCauses, WasRefused}
+use Rattle.game_archive.specs.Unreadable.{HaveCauses, HaveCausesBetween, IsExact, IsLost, IsUnread, WasRefused, WasRefusedAs}
 use Rattle.game_archive.specs.declared.grouping.Placing.{Placing}
 use Rattle.game_archive.specs.declared.grouping.Placing.TheVariants as placing
 use Rattle.record_game.specs.declared.likeness.Likeness.{Likeness}
@@ -80,7 +81,7 @@ unread_still R since more placings at (inr earlier) = inr (earlier.0, earlier.1,
 causes_grown : (R : Readings) (since more : Noted) (placings : List Placing) → HaveCauses R since placings → HaveCauses R (noted_with since more) placings
 causes_grown R since more placings old = record {
   unread = λ at less is. unread_still R since more placings at (old.unread at less is);
-  refused = λ at r is. was_refused_still R since more at (old.refused at r is);
+  refused = λ at r is. let was = old.refused at r is in (Contains-append_left since.refused more.refused at was.0, was.1);
 }
 
 unread_pushed : (R : Readings) (since : Noted) (placings : List Placing) (p : Placing) (at : ℕ) → IsUnread R since placings at → IsUnread R since (placings ++ p ∷ []) at
@@ -89,7 +90,7 @@ unread_pushed R since placings p at (inr earlier) = inr (earlier.0, earlier.1, (
 
 -- one entry more
 causes_pushed : (R : Readings) (since : Noted) (placings : List Placing) (p : Placing) → (p ≡ placing.Unreadable → IsUnread R since placings (length placings))
-    → ((r : Refusal) → p ≡ placing.Refused r → WasRefused R since (length placings)) → HaveCauses R since placings → HaveCauses R since (placings ++ p ∷ [])
+    → ((r : Refusal) → p ≡ placing.Refused r → WasRefusedAs R since (length placings) r) → HaveCauses R since placings → HaveCauses R since (placings ++ p ∷ [])
 causes_pushed R since placings p unread refused old = record {
   unread = λ at less is.
       elim (cases_lt at (length placings)) [
@@ -103,7 +104,7 @@ causes_pushed R since placings p unread refused old = record {
   refused = λ at r is.
       elim (cases_refused placings p at r is) [
         | inl there ↦ old.refused at r there
-        | inr at_end ↦ subst (WasRefused R since) (sym at_end.0) (refused r at_end.1)
+        | inr at_end ↦ subst (λ i. WasRefusedAs R since i r) (sym at_end.0) (refused r at_end.1)
       ];
 }
 
@@ -121,12 +122,15 @@ keeps_unread R old new since placings e causes =
     let more = one_failed n in
     (more, e ∙ failed_with old n, causes_pushed R (noted_with since more) placings placing.Unreadable (λ is. inl (Contains-push since.failed n)) (λ r is. absurd cc) (causes_grown R since more placings causes))
 
+refusal_is : (r s : Refusal) → placing.Refused r ≡ placing.Refused s → r ≡ s
+refusal_is r s h = cc
+
 pub keeps_refused : (R : Readings) (old new since : Noted) (placings : List Placing) (r : Refusal) → new ≡ noted old.failed (old.refused ++ length placings ∷ [])
     → R (length placings) (Err (flow.Refused r)) → HaveCauses R since placings → KeepsCauses R old new since (placings ++ placing.Refused r ∷ [])
 keeps_refused R old new since placings r e reads causes =
     let n = length placings in
     let more = one_refused n in
-    (more, e ∙ refused_with old n, causes_pushed R (noted_with since more) placings (placing.Refused r) (λ is. absurd cc) (λ s is. (Contains-push since.refused n, (r, reads))) (causes_grown R since more placings causes))
+    (more, e ∙ refused_with old n, causes_pushed R (noted_with since more) placings (placing.Refused r) (λ is. absurd cc) (λ s is. (Contains-push since.refused n, subst (λ q. R n (Err (flow.Refused q))) (refusal_is r s is) reads)) (causes_grown R since more placings causes))
 
 -- an earlier one is lost
 lost_so : (R : Readings) (old new since : Noted) (placings : List Placing) (fault : FlowFault) (leader : ℕ) → (fault ≡ flow.OutOfMemory → ⊥) → (fault ≡ flow.WriteFault → ⊥)
@@ -180,7 +184,7 @@ unread_by R S since placings at by (inr earlier) = inr (earlier.0, earlier.1, (e
 pub causes_by : (R S : Readings) (since : Noted) (placings : List Placing) → ((k : ℕ) (r : Result Game FlowFault) → R k r → S k r) → HaveCauses R since placings → HaveCauses S since placings
 causes_by R S since placings by old = record {
   unread = λ at less is. unread_by R S since placings at by (old.unread at less is);
-  refused = λ at r is. was_refused_by R S since at by (old.refused at r is);
+  refused = λ at r is. let was = old.refused at r is in (was.0, by at (Err (flow.Refused r)) was.1);
 }
 
 pub keeps_by : (R S : Readings) (old new since : Noted) (placings : List Placing) → ((k : ℕ) (r : Result Game FlowFault) → R k r → S k r) → KeepsCauses R old new since placings → KeepsCauses S old new since placings

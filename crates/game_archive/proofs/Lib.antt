@@ -1,4 +1,5 @@
 pub mod Causes
+pub mod Counts
 pub mod Likenesses
 pub mod Listed
 pub mod Placed

@@ -1,6 +1,7 @@
 -- A key is that of one game, or of one start and its moves.
 use Rattle.std.proofs.Common.{◌≡◌, ℕ, List, ap, map, subst, sym, ◌∙◌}
-use Rattle.game_archive.specs.Alike.{AreAlike, HasKey, IsKeyOf}
+use Rattle.game_archive.specs.Keying.{HasKey, IsKeyOf}
+use Rattle.game_archive.specs.Alike.{AreAlike}
 use Rattle.record_game.specs.declared.likeness.Likeness.{Likeness}
 use Rattle.record_game.specs.declared.likeness.Likeness.TheVariants as likeness
 use Rattle.record_game.proofs.SaysOnce.{tells_once}
@@ -8,7 +9,7 @@ use Rattle.record_game.specs.Canon.{canon}
 use Rattle.record_game.specs.Game.{Game, move_of}
 use Rattle.record_game.specs.Tells.{Tells}
 use Rattle.shogi_board.specs.Placed.{Placed}
-use Rattle.shogi_rules.specs.declared.moves.Move.{Move}
+use Rattle.shogi_board.specs.declared.moves.Move.{Move}
 use Rattle.usi_text.proofs.LineOnce.{line_once}
 use Rattle.usi_text.proofs.OneText.{one_line_text}
 use Rattle.usi_text.specs.LineText.{LineText}

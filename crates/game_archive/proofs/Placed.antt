@@ -11,8 +11,9 @@ use Rattle.std.proofs.lemmas.List.{get_or_append_left, get_or_push, get_or_past,
 use Rattle.std.proofs.lemmas.List.Elements.{Contains-append_left, Contains-push, All-push, All-contains, All-weaker}
 use Rattle.std.proofs.lemmas.Map.Lookups.{exact_bytes}
 use Rattle.game_archive.proofs.Likenesses.{key_once, alike_by_key, key_of_alike}
-use Rattle.game_archive.specs.Alike.{HasKey}
-use Rattle.game_archive.specs.Groups.{placing_at, HasLeader, IsGrouped, HoldsLeaders, IsKept, KnowsGroups, LeadsNone}
+use Rattle.game_archive.specs.Keying.{HasKey}
+use Rattle.game_archive.specs.Knowing.{HoldsLeaders, IsKept, KnowsGroups, LeadsNone}
+use Rattle.game_archive.specs.Groups.{placing_at, HasLeader, IsGrouped}
 use Rattle.game_archive.specs.declared.grouping.Placing.{Placing}
 use Rattle.game_archive.specs.declared.grouping.Placing.TheVariants as placing
 use Rattle.record_game.specs.declared.likeness.Likeness.{Likeness}
@@ -57,17 +58,17 @@ cases_leader placings p at leader h = cases_placed placings p (placing.Group lea
 pub cases_refused : (placings : List Placing) (p : Placing) (at : ℕ) (r : Refusal) → placing_at (placings ++ p ∷ []) at ≡ placing.Refused r → (placing_at placings at ≡ placing.Refused r) ⊎ ((at ≡ length placings) × (p ≡ placing.Refused r))
 cases_refused placings p at r h = cases_placed placings p (placing.Refused r) at (let w = within_refused (placings ++ p ∷ []) at r h in let l = length_push placings p in omega (arith, w, l)) h
 
-pub leaders_still : (placings : List Placing) (p : Placing) (m : BTreeMap (List ℕ) ℕ) (others : List ℕ) → HoldsLeaders placings m others → HoldsLeaders (placings ++ p ∷ []) m others
-leaders_still placings p m others old = record {
+pub leaders_still : (placings : List Placing) (p : Placing) (m : BTreeMap (List ℕ) ℕ) (colliding : List ℕ) → HoldsLeaders placings m colliding → HoldsLeaders (placings ++ p ∷ []) m colliding
+leaders_still placings p m colliding old = record {
   at_digests = λ digest leader h. still placings p leader leader (old.at_digests digest leader h);
-  elsewhere = All-weaker (λ leader. HasLeader placings leader leader) (λ leader. HasLeader (placings ++ p ∷ []) leader leader) (λ leader h. still placings p leader leader h) others old.elsewhere;
+  elsewhere = All-weaker (λ leader. HasLeader placings leader leader) (λ leader. HasLeader (placings ++ p ∷ []) leader leader) (λ leader h. still placings p leader leader h) colliding old.elsewhere;
 }
 
 -- an entry that is in no group
-pub placed_nowhere : (l : Likeness) (bytes : ℕ → List ℕ) (digest_of : List ℕ → List ℕ) (placings : List Placing) (p : Placing) (m : BTreeMap (List ℕ) ℕ) (others : List ℕ)
+pub placed_nowhere : (l : Likeness) (bytes : ℕ → List ℕ) (digest_of : List ℕ → List ℕ) (placings : List Placing) (p : Placing) (m : BTreeMap (List ℕ) ℕ) (colliding : List ℕ)
     → ((leader : ℕ) → p ≡ placing.Group leader → ⊥) → ((r : Refusal) → p ≡ placing.Refused r → Refused (bytes (length placings)) r.number r.offset r.why)
-    → KnowsGroups l bytes digest_of placings m others → KnowsGroups l bytes digest_of (placings ++ p ∷ []) m others
-placed_nowhere l bytes digest_of placings p m others none refused old =
+    → KnowsGroups l bytes digest_of placings m colliding → KnowsGroups l bytes digest_of (placings ++ p ∷ []) m colliding
+placed_nowhere l bytes digest_of placings p m colliding none refused old =
     let was : (at leader : ℕ) → HasLeader (placings ++ p ∷ []) at leader → HasLeader placings at leader = λ at leader h.
     elim (cases_leader placings p at leader h) [ inl there ↦ there | inr here ↦ absurd (none leader here.1) ] in
     record {
@@ -87,10 +88,10 @@ not_refused : (a : ℕ) (r : Refusal) → placing.Group a ≡ placing.Refused r 
 not_refused a r h = cc
 
 -- an entry that joins a group
-pub placed_with : (l : Likeness) (bytes : ℕ → List ℕ) (digest_of : List ℕ → List ℕ) (placings : List Placing) (leader : ℕ) (key : List ℕ) (m : BTreeMap (List ℕ) ℕ) (others : List ℕ)
+pub placed_with : (l : Likeness) (bytes : ℕ → List ℕ) (digest_of : List ℕ → List ℕ) (placings : List Placing) (leader : ℕ) (key : List ℕ) (m : BTreeMap (List ℕ) ℕ) (colliding : List ℕ)
     → HasLeader placings leader leader → HasKey l (bytes leader) key → HasKey l (bytes (length placings)) key
-    → KnowsGroups l bytes digest_of placings m others → KnowsGroups l bytes digest_of (placings ++ placing.Group leader ∷ []) m others
-placed_with l bytes digest_of placings leader key m others leads has here old =
+    → KnowsGroups l bytes digest_of placings m colliding → KnowsGroups l bytes digest_of (placings ++ placing.Group leader ∷ []) m colliding
+placed_with l bytes digest_of placings leader key m colliding leads has here old =
     let p = placing.Group leader in
     let less = within placings leader leader leads in
     let was : (a : ℕ) → HasLeader (placings ++ p ∷ []) a a → HasLeader placings a a = λ a h.
@@ -108,20 +109,20 @@ placed_with l bytes digest_of placings leader key m others leads has here old =
     }
 
 -- a leader that is kept has another key, if none that is kept has this one
-not_kept : (l : Likeness) (bytes : ℕ → List ℕ) (digest_of : List ℕ → List ℕ) (m : BTreeMap (List ℕ) ℕ) (others : List ℕ) (key digest : List ℕ) (a : ℕ)
-    → digest ≡ digest_of key → LeadsNone l bytes digest m others key → IsKept digest_of m others key a → HasKey l (bytes a) key → ⊥
-not_kept l bytes digest_of m others key digest a is none (inl there) has = none.0 a (subst (λ q. get (slice_cmp nat_cmp) m q ≡ Some a) (sym is) there) has
-not_kept l bytes digest_of m others key digest a is none (inr among) has = All-contains (λ b. HasKey l (bytes b) key → ⊥) others a none.1 among has
+not_kept : (l : Likeness) (bytes : ℕ → List ℕ) (digest_of : List ℕ → List ℕ) (m : BTreeMap (List ℕ) ℕ) (colliding : List ℕ) (key digest : List ℕ) (a : ℕ)
+    → digest ≡ digest_of key → LeadsNone l bytes digest m colliding key → IsKept digest_of m colliding key a → HasKey l (bytes a) key → ⊥
+not_kept l bytes digest_of m colliding key digest a is none (inl there) has = none.0 a (subst (λ q. get (slice_cmp nat_cmp) m q ≡ Some a) (sym is) there) has
+not_kept l bytes digest_of m colliding key digest a is none (inr among) has = All-contains (λ b. HasKey l (bytes b) key → ⊥) colliding a none.1 among has
 
 -- an entry that begins a group, wherever it is kept
-began : (l : Likeness) (bytes : ℕ → List ℕ) (digest_of : List ℕ → List ℕ) (placings : List Placing) (key digest : List ℕ) (m new : BTreeMap (List ℕ) ℕ) (others after : List ℕ)
-    → digest ≡ digest_of key → HasKey l (bytes (length placings)) key → LeadsNone l bytes digest m others key → KnowsGroups l bytes digest_of placings m others
-    → ((a : ℕ) (k : List ℕ) → IsKept digest_of m others k a → IsKept digest_of new after k a) → IsKept digest_of new after key (length placings)
+began : (l : Likeness) (bytes : ℕ → List ℕ) (digest_of : List ℕ → List ℕ) (placings : List Placing) (key digest : List ℕ) (m new : BTreeMap (List ℕ) ℕ) (colliding after : List ℕ)
+    → digest ≡ digest_of key → HasKey l (bytes (length placings)) key → LeadsNone l bytes digest m colliding key → KnowsGroups l bytes digest_of placings m colliding
+    → ((a : ℕ) (k : List ℕ) → IsKept digest_of m colliding k a → IsKept digest_of new after k a) → IsKept digest_of new after key (length placings)
     → KnowsGroups l bytes digest_of (placings ++ placing.Group (length placings) ∷ []) new after
-began l bytes digest_of placings key digest m new others after is has none old keeps here =
+began l bytes digest_of placings key digest m new colliding after is has none old keeps here =
     let n = length placings in
     let p = placing.Group n in
-    let differs : (a : ℕ) → HasLeader placings a a → HasKey l (bytes a) key → ⊥ = λ a h k. not_kept l bytes digest_of m others key digest a is none (old.kept a key h k) k in
+    let differs : (a : ℕ) → HasLeader placings a a → HasKey l (bytes a) key → ⊥ = λ a h k. not_kept l bytes digest_of m colliding key digest a is none (old.kept a key h k) k in
     let key_is : (k : List ℕ) (a : ℕ) → a ≡ n → HasKey l (bytes a) k → k ≡ key = λ k a e h. key_once l (bytes n) k key (subst (λ i. HasKey l (bytes i) k) e h) has in
     record {
       led = λ at first h. elim (cases_leader placings p at first h) [
@@ -148,13 +149,13 @@ began l bytes digest_of placings key digest m new others after is has none old k
     }
 
 -- it is added to the list
-pub began_pushed : (l : Likeness) (bytes : ℕ → List ℕ) (digest_of : List ℕ → List ℕ) (placings : List Placing) (key digest : List ℕ) (m : BTreeMap (List ℕ) ℕ) (others : List ℕ)
-    → digest ≡ digest_of key → HasKey l (bytes (length placings)) key → LeadsNone l bytes digest m others key → KnowsGroups l bytes digest_of placings m others
-    → KnowsGroups l bytes digest_of (placings ++ placing.Group (length placings) ∷ []) m (others ++ length placings ∷ [])
-began_pushed l bytes digest_of placings key digest m others is has none old =
-    began l bytes digest_of placings key digest m m others (others ++ length placings ∷ []) is has none old
-    (λ a k h. elim h [ inl there ↦ inl there | inr among ↦ inr (Contains-append_left others (length placings ∷ []) a among) ])
-    (inr (Contains-push others (length placings)))
+pub began_pushed : (l : Likeness) (bytes : ℕ → List ℕ) (digest_of : List ℕ → List ℕ) (placings : List Placing) (key digest : List ℕ) (m : BTreeMap (List ℕ) ℕ) (colliding : List ℕ)
+    → digest ≡ digest_of key → HasKey l (bytes (length placings)) key → LeadsNone l bytes digest m colliding key → KnowsGroups l bytes digest_of placings m colliding
+    → KnowsGroups l bytes digest_of (placings ++ placing.Group (length placings) ∷ []) m (colliding ++ length placings ∷ [])
+began_pushed l bytes digest_of placings key digest m colliding is has none old =
+    began l bytes digest_of placings key digest m m colliding (colliding ++ length placings ∷ []) is has none old
+    (λ a k h. elim h [ inl there ↦ inl there | inr among ↦ inr (Contains-append_left colliding (length placings ∷ []) a among) ])
+    (inr (Contains-push colliding (length placings)))
 
 kept_by : (b : Bool) (n a : ℕ) (o : Option ℕ) → (b ≡ true → o ≡ None) → o ≡ Some a → cond b (Some n) o ≡ Some a
 kept_by true n a o gone there = let none = gone refl in absurd cc
@@ -169,35 +170,35 @@ absent_none None h = refl
 absent_none (Some x) h = absurd cc
 
 -- it is kept at its digest
-pub began_inserted : (l : Likeness) (bytes : ℕ → List ℕ) (digest_of : List ℕ → List ℕ) (placings : List Placing) (key digest : List ℕ) (m new : BTreeMap (List ℕ) ℕ) (others : List ℕ)
+pub began_inserted : (l : Likeness) (bytes : ℕ → List ℕ) (digest_of : List ℕ → List ℕ) (placings : List Placing) (key digest : List ℕ) (m new : BTreeMap (List ℕ) ℕ) (colliding : List ℕ)
     → get (slice_cmp nat_cmp) m digest ≡ None → ((q : List ℕ) → get (slice_cmp nat_cmp) new q ≡ cond (is_at (slice_cmp nat_cmp digest) q) (Some (length placings)) (get (slice_cmp nat_cmp) m q))
     → get (slice_cmp nat_cmp) new digest ≡ Some (length placings)
-    → digest ≡ digest_of key → HasKey l (bytes (length placings)) key → LeadsNone l bytes digest m others key → KnowsGroups l bytes digest_of placings m others
-    → KnowsGroups l bytes digest_of (placings ++ placing.Group (length placings) ∷ []) new others
-began_inserted l bytes digest_of placings key digest m new others absent updates here is has none old =
+    → digest ≡ digest_of key → HasKey l (bytes (length placings)) key → LeadsNone l bytes digest m colliding key → KnowsGroups l bytes digest_of placings m colliding
+    → KnowsGroups l bytes digest_of (placings ++ placing.Group (length placings) ∷ []) new colliding
+began_inserted l bytes digest_of placings key digest m new colliding absent updates here is has none old =
     let gone : (q : List ℕ) → is_at (slice_cmp nat_cmp digest) q ≡ true → get (slice_cmp nat_cmp) m q ≡ None =
     λ q h. subst (λ p. get (slice_cmp nat_cmp) m p ≡ None) (exact_bytes digest q ((Equal-is (slice_cmp nat_cmp digest q)).0 h)) absent in
-    began l bytes digest_of placings key digest m new others others is has none old
+    began l bytes digest_of placings key digest m new colliding colliding is has none old
     (λ a k h. elim h [
       | inl there ↦ inl (updates (digest_of k) ∙ kept_by (is_at (slice_cmp nat_cmp digest) (digest_of k)) (length placings) a (get (slice_cmp nat_cmp) m (digest_of k)) (gone (digest_of k)) there)
       | inr among ↦ inr among
     ])
     (inl (subst (λ q. get (slice_cmp nat_cmp) new q ≡ Some (length placings)) is here))
 
-pub leaders_pushed : (placings : List Placing) (m : BTreeMap (List ℕ) ℕ) (others : List ℕ) → HoldsLeaders placings m others
-    → HoldsLeaders (placings ++ placing.Group (length placings) ∷ []) m (others ++ length placings ∷ [])
-leaders_pushed placings m others old =
+pub leaders_pushed : (placings : List Placing) (m : BTreeMap (List ℕ) ℕ) (colliding : List ℕ) → HoldsLeaders placings m colliding
+    → HoldsLeaders (placings ++ placing.Group (length placings) ∷ []) m (colliding ++ length placings ∷ [])
+leaders_pushed placings m colliding old =
     let p = placing.Group (length placings) in
-    let kept = leaders_still placings p m others old in
-    record { at_digests = kept.at_digests; elsewhere = All-push (λ leader. HasLeader (placings ++ p ∷ []) leader leader) others (length placings) kept.elsewhere (last placings p) }
+    let kept = leaders_still placings p m colliding old in
+    record { at_digests = kept.at_digests; elsewhere = All-push (λ leader. HasLeader (placings ++ p ∷ []) leader leader) colliding (length placings) kept.elsewhere (last placings p) }
 
-pub leaders_inserted : (placings : List Placing) (digest : List ℕ) (m new : BTreeMap (List ℕ) ℕ) (others : List ℕ)
+pub leaders_inserted : (placings : List Placing) (digest : List ℕ) (m new : BTreeMap (List ℕ) ℕ) (colliding : List ℕ)
     → ((q : List ℕ) → get (slice_cmp nat_cmp) new q ≡ cond (is_at (slice_cmp nat_cmp digest) q) (Some (length placings)) (get (slice_cmp nat_cmp) m q))
-    → HoldsLeaders placings m others → HoldsLeaders (placings ++ placing.Group (length placings) ∷ []) new others
-leaders_inserted placings digest m new others updates old =
+    → HoldsLeaders placings m colliding → HoldsLeaders (placings ++ placing.Group (length placings) ∷ []) new colliding
+leaders_inserted placings digest m new colliding updates old =
     let n = length placings in
     let p = placing.Group n in
-    let kept = leaders_still placings p m others old in
+    let kept = leaders_still placings p m colliding old in
     record {
       at_digests = λ q a h. elim (came_from (is_at (slice_cmp nat_cmp digest) q) n a (get (slice_cmp nat_cmp) m q) (sym (updates q) ∙ h)) [
         | inl e ↦ subst (λ i. HasLeader (placings ++ p ∷ []) i i) e (last placings p)
@@ -207,9 +208,9 @@ leaders_inserted placings digest m new others updates old =
     }
 
 -- what is known of all entries
-pub grouped : (l : Likeness) (bytes : ℕ → List ℕ) (digest_of : List ℕ → List ℕ) (placings : List Placing) (m : BTreeMap (List ℕ) ℕ) (others : List ℕ)
-    → KnowsGroups l bytes digest_of placings m others → IsGrouped l bytes placings
-grouped l bytes digest_of placings m others known = record {
+pub grouped : (l : Likeness) (bytes : ℕ → List ℕ) (digest_of : List ℕ → List ℕ) (placings : List Placing) (m : BTreeMap (List ℕ) ℕ) (colliding : List ℕ)
+    → KnowsGroups l bytes digest_of placings m colliding → IsGrouped l bytes placings
+grouped l bytes digest_of placings m colliding known = record {
   together = λ i j. (
     λ h. let a = known.led i h.0 h.1 in
         let b = known.led j h.0 h.2 in
@@ -238,18 +239,18 @@ some_number a b o h k = let e = h ∙ k in cc
 pub some_none : (b : ℕ) (o : Option ℕ) → None ≡ o → o ≡ Some b → ⊥
 some_none b o h k = let e = h ∙ k in cc
 
-pub placed_unreadable : (l : Likeness) (bytes : ℕ → List ℕ) (digest_of : List ℕ → List ℕ) (placings : List Placing) (m : BTreeMap (List ℕ) ℕ) (others : List ℕ)
-    → KnowsGroups l bytes digest_of placings m others → KnowsGroups l bytes digest_of (placings ++ placing.Unreadable ∷ []) m others
-placed_unreadable l bytes digest_of placings m others old = placed_nowhere l bytes digest_of placings placing.Unreadable m others (λ leader h. absurd cc) (λ r h. absurd cc) old
+pub placed_unreadable : (l : Likeness) (bytes : ℕ → List ℕ) (digest_of : List ℕ → List ℕ) (placings : List Placing) (m : BTreeMap (List ℕ) ℕ) (colliding : List ℕ)
+    → KnowsGroups l bytes digest_of placings m colliding → KnowsGroups l bytes digest_of (placings ++ placing.Unreadable ∷ []) m colliding
+placed_unreadable l bytes digest_of placings m colliding old = placed_nowhere l bytes digest_of placings placing.Unreadable m colliding (λ leader h. absurd cc) (λ r h. absurd cc) old
 
 refusal_is : (r s : Refusal) → placing.Refused r ≡ placing.Refused s → r ≡ s
 refusal_is r s h = cc
 
-pub placed_refused : (l : Likeness) (bytes : ℕ → List ℕ) (digest_of : List ℕ → List ℕ) (placings : List Placing) (r : Refusal) (m : BTreeMap (List ℕ) ℕ) (others : List ℕ)
+pub placed_refused : (l : Likeness) (bytes : ℕ → List ℕ) (digest_of : List ℕ → List ℕ) (placings : List Placing) (r : Refusal) (m : BTreeMap (List ℕ) ℕ) (colliding : List ℕ)
     → Refused (bytes (length placings)) r.number r.offset r.why
-    → KnowsGroups l bytes digest_of placings m others → KnowsGroups l bytes digest_of (placings ++ placing.Refused r ∷ []) m others
-placed_refused l bytes digest_of placings r m others refused old =
-    placed_nowhere l bytes digest_of placings (placing.Refused r) m others (λ leader h. absurd cc)
+    → KnowsGroups l bytes digest_of placings m colliding → KnowsGroups l bytes digest_of (placings ++ placing.Refused r ∷ []) m colliding
+placed_refused l bytes digest_of placings r m colliding refused old =
+    placed_nowhere l bytes digest_of placings (placing.Refused r) m colliding (λ leader h. absurd cc)
     (λ s h. subst (λ x. Refused (bytes (length placings)) x.number x.offset x.why) (refusal_is r s h) refused) old
 
 -- an entry has one leader

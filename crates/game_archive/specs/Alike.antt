@@ -4,13 +4,9 @@ use Rattle.csa_record.specs.declared.flow.FlowFault.{FlowFault}
 use Rattle.csa_record.specs.declared.flow.FlowFault.TheVariants as flow
 use Rattle.record_game.specs.declared.likeness.Likeness.{Likeness}
 use Rattle.record_game.specs.declared.likeness.Likeness.TheVariants as likeness
-use Rattle.record_game.specs.Canon.{canon}
 use Rattle.record_game.specs.Game.{Game, move_of}
 use Rattle.record_game.specs.Refused.{Refused}
 use Rattle.record_game.specs.Tells.{Tells}
-use Rattle.usi_text.specs.LineText.{LineText}
-use Rattle.usi_text.specs.Lines.{UsiLine}
-use Rattle.usi_text.specs.Words.{words}
 
 -- what a reading of these bytes may come to: the game that they contain, or why they are refused;
 -- or it fails, or there is no memory
@@ -34,14 +30,3 @@ abbrev pub AreAlike : Likeness → List ℕ → List ℕ → Type 0
 AreAlike likeness.Game one other = (g : Game) × Tells one g × Tells other g
 AreAlike likeness.Moves one other = (g : Game) × (h : Game) × Tells one g × Tells other h
     × (g.start ≡ h.start) × (map move_of g.moves ≡ map move_of h.moves)
-
--- For private functions: the key of a game is its canonical text, or the position line of its start
--- and moves
-abbrev pub IsKeyOf : Likeness → Game → List ℕ → Type 0
-IsKeyOf likeness.Game g key = (key ≡ canon g) × Tells key g
-IsKeyOf likeness.Moves g key = LineText g.start (map move_of g.moves) key
-    × UsiLine (words key) g.start (map move_of g.moves)
-
--- the bytes contain a game, and this is its key
-abbrev pub HasKey : Likeness → List ℕ → List ℕ → Type 0
-HasKey likeness bytes key = (g : Game) × Tells bytes g × IsKeyOf likeness g key

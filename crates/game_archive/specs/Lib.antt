@@ -1,5 +1,7 @@
 pub mod Alike
 pub mod Groups
+pub mod Keying
+pub mod Knowing
 pub mod Listing
 pub mod Readings
 pub mod Unreadable

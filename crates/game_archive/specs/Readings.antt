@@ -1,5 +1,5 @@
 -- What is noted of the readings of an archive's entries.
-use Rattle.std.specs.Prelude.{◌↔◌, ℕ, List, [], ◌∷◌, ◌++◌, Result, Ok, Err}
+use Rattle.std.specs.Prelude.{◌↔◌, ℕ, ◌+◌, List, [], ◌∷◌, ◌++◌, length, Result, Ok, Err}
 use Rattle.csa_record.specs.declared.flow.FlowFault.{FlowFault}
 use Rattle.csa_record.specs.declared.flow.FlowFault.TheVariants as flow
 use Rattle.record_game.specs.Game.{Game}
@@ -9,6 +9,10 @@ use Rattle.record_game.specs.Game.{Game}
 pub record Noted : Type 0 where
   pub failed : List ℕ
   pub refused : List ℕ
+
+-- how many readings are noted
+abbrev pub how_many : Noted → ℕ
+how_many noted = length noted.failed + length noted.refused
 
 -- what is noted after a reading at this place that gave no record
 abbrev pub noted_at : Noted → ℕ → FlowFault → Noted

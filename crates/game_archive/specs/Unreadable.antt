@@ -1,16 +1,20 @@
--- Why an entry is unreadable or refused, and that none is unreadable if no reading fails.
+-- Why an entry is unreadable or refused, and when none is unreadable.
 use Rattle.std.specs.Prelude.{◌≡◌, ◌⊎◌, ◌↔◌, ℕ, ◌<◌, List, length, Contains, Result, Err}
 use Rattle.csa_record.specs.declared.flow.FlowFault.{FlowFault}
 use Rattle.csa_record.specs.declared.flow.FlowFault.TheVariants as flow
 use Rattle.game_archive.specs.Alike.{AreAlike}
 use Rattle.game_archive.specs.Groups.{HasLeader, InOneGroup, placing_at}
-use Rattle.game_archive.specs.Readings.{Noted, noted_at, noted_with}
+use Rattle.game_archive.specs.Readings.{Noted, noted_with}
 use Rattle.game_archive.specs.declared.grouping.Placing.{Placing}
 use Rattle.game_archive.specs.declared.grouping.Placing.TheVariants as placing
 use Rattle.record_game.specs.declared.likeness.Likeness.{Likeness}
 use Rattle.record_game.specs.declared.fault.Refusal.{Refusal}
 use Rattle.record_game.specs.Game.{Game}
 use Rattle.record_game.specs.Refused.{Refused}
+
+-- the record was refused in this way when the entry was read
+abbrev pub WasRefusedAs : (ℕ → Result Game FlowFault → Type 0) → Noted → ℕ → Refusal → Type 0
+WasRefusedAs Reads since at r = Contains since.refused at × Reads at (Err (flow.Refused r))
 
 -- the record was refused when the entry was read
 abbrev pub WasRefused : (ℕ → Result Game FlowFault → Type 0) → Noted → ℕ → Type 0
@@ -22,7 +26,7 @@ abbrev pub IsLost : (ℕ → Result Game FlowFault → Type 0) → Noted → Lis
 IsLost Reads since placings leader = HasLeader placings leader leader
     × (Contains since.failed leader ⊎ WasRefused Reads since leader)
 
--- the entry could not be read, or an earlier one is lost with which it was to be compared
+-- the entry could not be read, or the first entry of an earlier group is lost
 abbrev pub IsUnread : (ℕ → Result Game FlowFault → Type 0) → Noted → List Placing → ℕ → Type 0
 IsUnread Reads since placings at = Contains since.failed at
     ⊎ ((leader : ℕ) × (leader < at) × IsLost Reads since placings leader)
@@ -33,7 +37,7 @@ pub record HaveCauses (Reads : ℕ → Result Game FlowFault → Type 0) (since 
   pub unread : (at : ℕ) → at < length placings → placing_at placings at ≡ placing.Unreadable
       → IsUnread Reads since placings at
   pub refused : (at : ℕ) (r : Refusal) → placing_at placings at ≡ placing.Refused r
-      → WasRefused Reads since at
+      → WasRefusedAs Reads since at r
 
 -- so by what was noted between these two
 abbrev pub HaveCausesBetween : (ℕ → Result Game FlowFault → Type 0) → Noted → Noted
@@ -50,16 +54,3 @@ pub record IsExact (likeness : Likeness) (bytes : ℕ → List ℕ) (placings : 
   pub refused : (at : ℕ) (r : Refusal) → at < length placings
       → ((placing_at placings at ≡ placing.Refused r)
       ↔ Refused (bytes at) r.number r.offset r.why)
-
--- For private functions: the causes so far, and after what was noted since
-abbrev pub KeepsCauses : (ℕ → Result Game FlowFault → Type 0) → Noted → Noted → Noted
-    → List Placing → Type 0
-KeepsCauses Reads old new since placings =
-    (more : Noted) × (new ≡ noted_with old more)
-    × HaveCauses Reads (noted_with since more) placings
-
--- why an entry was not compared with a leader
-abbrev pub IsNotCompared : (ℕ → Result Game FlowFault → Type 0) → Noted → Noted
-    → List Placing → FlowFault → Type 0
-IsNotCompared Reads old new placings fault = (leader : ℕ) × HasLeader placings leader leader
-    × Reads leader (Err fault) × (new ≡ noted_at old leader fault)

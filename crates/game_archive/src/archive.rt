@@ -1,4 +1,4 @@
-ghost use Rattle.std.specs.Prelude.{◌≡◌, ◌<◌, ℕ, Result};
+ghost use Rattle.std.specs.Prelude.{◌≡◌, ◌≢◌, ◌<◌, ℕ, IfErr, Result};
 ghost use Rattle.csa_record.specs.declared.flow.FlowFault.{FlowFault};
 ghost use Rattle.game_archive.specs.Readings.{Noted, ReadAlike, noted_after};
 ghost use Rattle.record_game.specs.Game.{Game};
@@ -28,6 +28,7 @@ pub trait Archive {
     fn read_record(&mut self, alloc: Global, at: usize) -> Result<Record, FlowFault>
         requires within { at < size self.old }
         ensures reads { reads self.old at result }
+        ensures no_write { IfErr result (λ fault. fault ≢ FlowFault.WriteFault) }
         ensures noted { noted self.new ≡ noted_after (noted self.old) at result }
         ensures size { size self.new ≡ size self.old }
         ensures alike { ReadAlike (reads self.old) (reads self.new) };

@@ -7,10 +7,12 @@
 
 ghost use Rattle.std.specs.Prelude.{◌≡◌, ◌≢◌, ◌+◌, ◌<◌, ◌≤◌, ℕ, List, [], ◌∷◌, ◌++◌, length, MatchOption, IfErr, IfOk, IfSome, OnOk};
 ghost use Rattle.csa_record.specs.declared.flow.FlowFault.{FlowFault};
-ghost use Rattle.game_archive.specs.Alike.{GiveBytes, HasKey};
-ghost use Rattle.game_archive.specs.Groups.{HasLeader, HoldsLeaders, IsGrouped, KnowsGroups, LeadsNone};
-ghost use Rattle.game_archive.specs.Readings.{Noted, ReadAlike};
-ghost use Rattle.game_archive.specs.Unreadable.{HaveCauses, HaveCausesBetween, IsExact, IsNotCompared, KeepsCauses};
+ghost use Rattle.game_archive.specs.Keying.{HasKey};
+ghost use Rattle.game_archive.specs.Knowing.{HoldsLeaders, IsNotCompared, KeepsCauses, KeepsCount, KnowsGroups, LeadsNone};
+ghost use Rattle.game_archive.specs.Alike.{GiveBytes};
+ghost use Rattle.game_archive.specs.Groups.{HasLeader, IsGrouped, outside};
+ghost use Rattle.game_archive.specs.Readings.{Noted, ReadAlike, how_many};
+ghost use Rattle.game_archive.specs.Unreadable.{HaveCauses, HaveCausesBetween, IsExact};
 ghost use Rattle.game_archive.specs.declared.grouping.Placing.{Placing};
 ghost use Rattle.record_game.specs.declared.likeness.Likeness.{Likeness};
 
@@ -40,8 +42,8 @@ pub enum Placing {
 /// Two entries are in one group exactly if they are alike, as long as no reading fails and each
 /// entry gives the same bytes each time that it is read. If a reading fails, that still holds of
 /// the entries that are in groups. If an entry changes, those that are compared with it may be in
-/// another group or in none. An entry is `Unreadable` only if its reading failed, or that of an
-/// earlier one with which it was to be compared, or that one was refused when it was read again.
+/// another group or in none. An entry is `Unreadable` only if its reading failed, or that of the
+/// first entry of an earlier group, or that one was refused when it was read again.
 ///
 /// Calls the watch after each entry. Returns `OutOfMemory` if an allocation fails.
 pub fn group<A: Archive, W: Watch>(
@@ -58,7 +60,11 @@ pub fn group<A: Archive, W: Watch>(
     // refused.
     ensures causes { IfOk result (λ placings. HaveCausesBetween (A.reads archive.old)
         (A.noted archive.old) (A.noted archive.new) placings.items) }
-    // If no reading failed in this call, none is unreadable.
+    // As many entries are in no group as readings of this call failed or were refused.
+    ensures counted { IfOk result (λ placings. how_many (A.noted archive.new)
+        ≡ how_many (A.noted archive.old) + outside placings.items) }
+    // If no reading failed in this call and each entry gives the same bytes each time, none is
+    // unreadable.
     ensures exact { IfOk result (λ placings. (bytes : ℕ → List ℕ)
         → GiveBytes (A.size archive.old) (A.reads archive.old) bytes
         → (A.noted archive.new).failed ≡ (A.noted archive.old).failed
@@ -83,7 +89,11 @@ pub fn group_by<A: Archive, D: Digester, W: Watch>(
     // refused.
     ensures causes { IfOk result (λ placings. HaveCausesBetween (A.reads archive.old)
         (A.noted archive.old) (A.noted archive.new) placings.items) }
-    // If no reading failed in this call, none is unreadable.
+    // As many entries are in no group as readings of this call failed or were refused.
+    ensures counted { IfOk result (λ placings. how_many (A.noted archive.new)
+        ≡ how_many (A.noted archive.old) + outside placings.items) }
+    // If no reading failed in this call and each entry gives the same bytes each time, none is
+    // unreadable.
     ensures exact { IfOk result (λ placings. (bytes : ℕ → List ℕ)
         → GiveBytes (A.size archive.old) (A.reads archive.old) bytes
         → (A.noted archive.new).failed ≡ (A.noted archive.old).failed
@@ -92,7 +102,7 @@ pub fn group_by<A: Archive, D: Digester, W: Watch>(
     let mut groups = Groups {
         placings: Vec::new(alloc),
         by_digest: BTreeMap::new(alloc),
-        others: Vec::new(alloc),
+        colliding: Vec::new(alloc),
     };
     for at in 0..archive.len() {
         groups.place_next(alloc, archive, likeness, digester)?;
@@ -108,7 +118,7 @@ struct Groups {
     // The first entry of a group, at the digest of its key.
     by_digest: BTreeMap<[u8; 32], usize>,
     // The first entries of the groups whose digest was already that of another group.
-    others: Vec<usize>,
+    colliding: Vec<usize>,
 }
 
 impl Groups {
@@ -122,21 +132,23 @@ impl Groups {
     ) -> Result<(), OutOfMemory>
         requires within { length self.old.placings.items < A.size archive.old }
         requires leaders { HoldsLeaders
-            self.old.placings.items self.old.by_digest self.old.others.items }
+            self.old.placings.items self.old.by_digest self.old.colliding.items }
         ensures more { OnOk result
             (length self.new.placings.items ≡ length self.old.placings.items + 1) }
         ensures leaders { OnOk result (HoldsLeaders
-            self.new.placings.items self.new.by_digest self.new.others.items) }
+            self.new.placings.items self.new.by_digest self.new.colliding.items) }
         ensures groups { (bytes : ℕ → List ℕ)
             → GiveBytes (A.size archive.old) (A.reads archive.old) bytes
             → KnowsGroups likeness bytes (D.digest_of digester.now)
-            self.old.placings.items self.old.by_digest self.old.others.items
+            self.old.placings.items self.old.by_digest self.old.colliding.items
             → OnOk result (KnowsGroups likeness bytes (D.digest_of digester.now)
-            self.new.placings.items self.new.by_digest self.new.others.items) }
+            self.new.placings.items self.new.by_digest self.new.colliding.items) }
         ensures causes { (since : Noted)
             → HaveCauses (A.reads archive.old) since self.old.placings.items
             → OnOk result (KeepsCauses (A.reads archive.old)
             (A.noted archive.old) (A.noted archive.new) since self.new.placings.items) }
+        ensures counted { OnOk result (KeepsCount (A.noted archive.old) (A.noted archive.new)
+            self.old.placings.items self.new.placings.items) }
         ensures size { A.size archive.new ≡ A.size archive.old }
         ensures alike { ReadAlike (A.reads archive.old) (A.reads archive.new) }
     {
@@ -159,22 +171,24 @@ impl Groups {
     ) -> Result<(), OutOfMemory>
         requires within { length self.old.placings.items < A.size archive.old }
         requires leaders { HoldsLeaders
-            self.old.placings.items self.old.by_digest self.old.others.items }
+            self.old.placings.items self.old.by_digest self.old.colliding.items }
         ensures more { OnOk result
             (length self.new.placings.items ≡ length self.old.placings.items + 1) }
         ensures leaders { OnOk result (HoldsLeaders
-            self.new.placings.items self.new.by_digest self.new.others.items) }
+            self.new.placings.items self.new.by_digest self.new.colliding.items) }
         ensures groups { (bytes : ℕ → List ℕ)
             → GiveBytes (A.size archive.old) (A.reads archive.old) bytes
             → HasKey likeness (bytes (length self.old.placings.items)) key.now
             → KnowsGroups likeness bytes (D.digest_of digester.now)
-            self.old.placings.items self.old.by_digest self.old.others.items
+            self.old.placings.items self.old.by_digest self.old.colliding.items
             → OnOk result (KnowsGroups likeness bytes (D.digest_of digester.now)
-            self.new.placings.items self.new.by_digest self.new.others.items) }
+            self.new.placings.items self.new.by_digest self.new.colliding.items) }
         ensures causes { (since : Noted)
             → HaveCauses (A.reads archive.old) since self.old.placings.items
             → OnOk result (KeepsCauses (A.reads archive.old)
             (A.noted archive.old) (A.noted archive.new) since self.new.placings.items) }
+        ensures counted { OnOk result (KeepsCount (A.noted archive.old) (A.noted archive.new)
+            self.old.placings.items self.new.placings.items) }
         ensures size { A.size archive.new ≡ A.size archive.old }
         ensures alike { ReadAlike (A.reads archive.old) (A.reads archive.new) }
     {
@@ -182,7 +196,7 @@ impl Groups {
         match self.find(alloc, archive, likeness, &digest, key) {
             Ok(Some(leader)) => Ok(self.placings.push(Placing::Group(leader))?),
             Ok(None) => self.begin(&digest),
-            // The first entry of a group was accepted before.
+            // The first entry of a group was accepted before, and is refused now: it has changed.
             Err(FlowFault::Refused(_)) => Ok(self.placings.push(Placing::Unreadable)?),
             Err(FlowFault::ReadFault) => Ok(self.placings.push(Placing::Unreadable)?),
             Err(FlowFault::WriteFault | FlowFault::OutOfMemory) => Err(OutOfMemory),
@@ -200,13 +214,14 @@ impl Groups {
     ) -> Result<Option<usize>, FlowFault>
         requires within { length self.now.placings.items ≤ A.size archive.old }
         requires leaders { HoldsLeaders
-            self.now.placings.items self.now.by_digest self.now.others.items }
+            self.now.placings.items self.now.by_digest self.now.colliding.items }
         ensures leader { IfOk result (λ found. IfSome found
             (λ leader. HasLeader self.now.placings.items leader leader)) }
         ensures found { (bytes : ℕ → List ℕ)
             → GiveBytes (A.size archive.old) (A.reads archive.old) bytes
             → IfOk result (λ found. MatchOption found
-            (LeadsNone likeness bytes digest.now self.now.by_digest self.now.others.items key.now)
+            (LeadsNone likeness bytes digest.now
+            self.now.by_digest self.now.colliding.items key.now)
             (λ leader. HasKey likeness (bytes leader) key.now)) }
         ensures fault { IfErr result (λ fault. fault ≢ FlowFault.OutOfMemory
             → IsNotCompared (A.reads archive.old) (A.noted archive.old) (A.noted archive.new)
@@ -220,8 +235,8 @@ impl Groups {
                 return Ok(Some(*leader));
             }
         }
-        for k in 0..self.others.len() {
-            let leader = self.others[k];
+        for k in 0..self.colliding.len() {
+            let leader = self.colliding[k];
             if keys::has_key(alloc, archive, likeness, leader, key)? {
                 return Ok(Some(leader));
             }
@@ -232,26 +247,26 @@ impl Groups {
     // Begins a group with the next entry.
     fn begin(&mut self, digest: &[u8; 32]) -> Result<(), OutOfMemory>
         requires leaders { HoldsLeaders
-            self.old.placings.items self.old.by_digest self.old.others.items }
+            self.old.placings.items self.old.by_digest self.old.colliding.items }
         ensures more { OnOk result
             (length self.new.placings.items ≡ length self.old.placings.items + 1) }
         ensures leaders { OnOk result (HoldsLeaders
-            self.new.placings.items self.new.by_digest self.new.others.items) }
+            self.new.placings.items self.new.by_digest self.new.colliding.items) }
         ensures groups { (likeness : Likeness) (bytes : ℕ → List ℕ) (digest_of : List ℕ → List ℕ)
             (key : List ℕ) → digest.now ≡ digest_of key
             → HasKey likeness (bytes (length self.old.placings.items)) key
-            → LeadsNone likeness bytes digest.now self.old.by_digest self.old.others.items key
+            → LeadsNone likeness bytes digest.now self.old.by_digest self.old.colliding.items key
             → KnowsGroups likeness bytes digest_of
-            self.old.placings.items self.old.by_digest self.old.others.items
+            self.old.placings.items self.old.by_digest self.old.colliding.items
             → OnOk result (KnowsGroups likeness bytes digest_of
-            self.new.placings.items self.new.by_digest self.new.others.items) }
+            self.new.placings.items self.new.by_digest self.new.colliding.items) }
         ensures placed { OnOk result (self.new.placings.items ≡ self.old.placings.items
             ++ Placing.Group (length self.old.placings.items) ∷ []) }
     {
         let at = self.placings.len();
         self.placings.push(Placing::Group(at))?;
         if self.by_digest.contains_key(digest) {
-            self.others.push(at)?;
+            self.colliding.push(at)?;
         } else {
             self.by_digest.insert(*digest, at)?;
         }

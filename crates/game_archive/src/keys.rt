@@ -4,7 +4,8 @@
 ghost use Rattle.std.specs.Prelude.{◌≡◌, ◌≢◌, ◌<◌, ◌↔◌, ℕ, List, Err, IfErr, IfOk, IsErrOf, IsTrue};
 ghost use Rattle.csa_record.specs.declared.flow.FlowFault.{FlowFault};
 ghost use Rattle.record_game.specs.Refused.{Refused};
-ghost use Rattle.game_archive.specs.Alike.{GivesOnly, IsKeyOf, HasKey};
+ghost use Rattle.game_archive.specs.Keying.{HasKey, IsKeyOf};
+ghost use Rattle.game_archive.specs.Alike.{GivesOnly};
 ghost use Rattle.game_archive.specs.Readings.{ReadAlike, noted_after};
 
 use crate::archive::Archive;
@@ -17,7 +18,7 @@ use usi_text::position_line;
 /// The key of the entry at this place.
 ///
 /// Refuses `Refused` if its record is refused, `ReadFault` if it cannot be read, and `OutOfMemory`.
-pub fn key_at<A: Archive>(
+pub(crate) fn key_at<A: Archive>(
     alloc: Global,
     archive: &mut A,
     likeness: Likeness,
@@ -52,7 +53,7 @@ fn key_of(alloc: Global, likeness: Likeness, game: &Record) -> Result<Vec<u8>, O
 }
 
 /// Whether the entry at this place, read again, has this key. Refuses as `key_at` does.
-pub fn has_key<A: Archive>(
+pub(crate) fn has_key<A: Archive>(
     alloc: Global,
     archive: &mut A,
     likeness: Likeness,

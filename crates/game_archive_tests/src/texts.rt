@@ -1,7 +1,8 @@
 //! An archive of texts in memory, whose bytes are known: of these the whole contract of `group` is
 //! shown to hold.
 
-ghost use Rattle.std.specs.Prelude.{◌≡◌, IfOk, length};
+ghost use Rattle.std.specs.Prelude.{◌≡◌, ◌≢◌, IfErr, IfOk, length};
+ghost use Rattle.csa_record.specs.declared.flow.FlowFault.{FlowFault};
 ghost use Rattle.game_archive.specs.Alike.{ReadsAs};
 ghost use Rattle.game_archive.specs.Unreadable.{IsExact};
 ghost use Rattle.game_archive_tests.specs.Texts.{bytes_at};
@@ -63,7 +64,8 @@ impl Archive for Texts<'_> {
 
 // The record in this text.
 fn record_of(alloc: Global, text: &[u8]) -> Result<Record, FlowFault>
-    ensures { ReadsAs text.now result }
+    ensures reads { ReadsAs text.now result }
+    ensures no_write { IfErr result (λ fault. fault ≢ FlowFault.WriteFault) }
 {
     read_from(alloc, &mut Reading::new(text))
 }

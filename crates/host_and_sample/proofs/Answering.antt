@@ -5,7 +5,7 @@ use Rattle.shogi_rules.specs.Positions.{Played, now_of}
 use Rattle.shogi_rules.specs.Positions.{Over}
 use Rattle.shogi_rules.specs.Verdicts.{NoLegalMove}
 use Rattle.arrayvec.specs.ArrayString.{ArrayString}
-use Rattle.shogi_rules.specs.declared.moves.Move.{Move}
+use Rattle.shogi_board.specs.declared.moves.Move.{Move}
 use Rattle.shogi_rules.specs.Order.{IsFirstLegal}
 use Rattle.usi_text.proofs.LineOnce.{line_no_fault}
 use Rattle.usi_text.specs.declared.fault.UsiFault.{UsiFault}

@@ -9,12 +9,13 @@ use Rattle.shogi_board.specs.declared.color.Color.TheVariants.{Black, White}
 use Rattle.shogi_board.specs.Pieces.{same_color}
 use Rattle.shogi_board.specs.Placed.{Placed, even_start}
 use Rattle.shogi_rules.proofs.Games.{all-of-none, legal-of-none}
-use Rattle.shogi_rules.specs.declared.moves.Move.{Move}
-use Rattle.shogi_rules.specs.After.{after}
+use Rattle.shogi_board.specs.declared.moves.Move.{Move}
+use Rattle.shogi_board.specs.After.{after}
 use Rattle.shogi_rules.specs.Play.{Answers}
 use Rattle.shogi_rules.specs.Positions.{Played, MayFollow, IsGame, begun, played, position_after, now_of}
 use Rattle.shogi_rules.specs.Positions.{Over}
-use Rattle.shogi_rules.specs.Rules.{Kept, all_rules}
+use Rattle.shogi_rules.specs.Rules.{Kept}
+use Rattle.shogi_board.specs.Rules.{all_rules}
 use Rattle.csa_text.specs.Codes.{move_text}
 use Rattle.host_and_sample.specs.declared.config.HostConfig.{HostConfig}
 use Rattle.host_and_sample.specs.declared.outcome.Outcome.{Outcome}

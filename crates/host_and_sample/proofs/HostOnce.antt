@@ -6,7 +6,7 @@ use Rattle.shogi_rules.proofs.Once.{first-once}
 use Rattle.shogi_rules.proofs.Stretches.{one-verdict}
 use Rattle.shogi_rules.specs.declared.line.Verdict.{Verdict}
 use Rattle.shogi_rules.specs.declared.line.Verdict.TheVariants as verdict
-use Rattle.shogi_rules.specs.declared.moves.Move.{Move}
+use Rattle.shogi_board.specs.declared.moves.Move.{Move}
 use Rattle.shogi_rules.specs.Positions.{Played, now_of}
 use Rattle.shogi_rules.specs.Positions.{Over}
 use Rattle.shogi_rules.specs.Verdicts.{Stands}

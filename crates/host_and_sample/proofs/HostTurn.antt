@@ -4,8 +4,8 @@ use Rattle.shogi_board.specs.declared.color.Color.{Color}
 use Rattle.shogi_board.specs.declared.color.Color.TheVariants.{Black, White}
 use Rattle.shogi_board.specs.Pieces.{opponent}
 use Rattle.shogi_board.specs.Placed.{Placed}
-use Rattle.shogi_rules.specs.declared.moves.Move.{Move}
-use Rattle.shogi_rules.specs.After.{after}
+use Rattle.shogi_board.specs.declared.moves.Move.{Move}
+use Rattle.shogi_board.specs.After.{after}
 use Rattle.shogi_rules.specs.Positions.{Played, position_after, now_of}
 use Rattle.host_and_sample.specs.declared.config.HostConfig.{HostConfig}
 use Rattle.host_and_sample.specs.Host.{HostState, HostRow, HostTableRow, HostMoves, BeforeLogin, AfterSummary, InPlay, with_move, even_game, waiting, offered, playing, decided, ended, in_table, skipped}

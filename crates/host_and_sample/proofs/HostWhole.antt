@@ -6,7 +6,7 @@ use Rattle.std.proofs.lemmas.Grind.{flat_map-append}
 use Rattle.shogi_board.specs.declared.color.Color.{Color}
 use Rattle.shogi_board.specs.declared.color.Color.TheVariants.{Black, White}
 use Rattle.shogi_board.specs.Pieces.{same_color}
-use Rattle.shogi_rules.specs.declared.moves.Move.{Move}
+use Rattle.shogi_board.specs.declared.moves.Move.{Move}
 use Rattle.shogi_rules.specs.Positions.{Played, now_of}
 use Rattle.csa_text.specs.Codes.{sign, move_text}
 use Rattle.csa_cutting.specs.Lines.{Lines, HasNoLineEnd}

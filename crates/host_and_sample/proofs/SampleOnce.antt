@@ -2,7 +2,7 @@
 use Rattle.std.proofs.Common.{◌≡◌, ℕ, ◌++◌, inl, inr, List, [], ◌∷◌, Option, Some, None, codes, arith, refl, sym, ap, subst, ◌∙◌}
 use Rattle.shogi_board.specs.Placed.{Placed}
 use Rattle.shogi_rules.proofs.Once.{first-once}
-use Rattle.shogi_rules.specs.declared.moves.Move.{Move}
+use Rattle.shogi_board.specs.declared.moves.Move.{Move}
 use Rattle.shogi_rules.specs.Positions.{Played, now_of}
 use Rattle.usi_text.proofs.LineOnce.{line_once}
 use Rattle.usi_text.proofs.OneText.{one_text}

@@ -6,7 +6,7 @@ use Rattle.shogi_board.specs.declared.color.Color.TheVariants.{Black, White}
 use Rattle.shogi_board.specs.Pieces.{same_color}
 use Rattle.shogi_board.specs.Placed.{even_start}
 use Rattle.shogi_rules.specs.declared.line.Verdict.TheVariants as verdict
-use Rattle.shogi_rules.specs.declared.moves.Move.{Move}
+use Rattle.shogi_board.specs.declared.moves.Move.{Move}
 use Rattle.shogi_rules.specs.Order.{IsFirstLegal}
 use Rattle.shogi_rules.specs.Play.{Answers}
 use Rattle.shogi_rules.specs.Positions.{Played, now_of, max_moves}

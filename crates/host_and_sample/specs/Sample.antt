@@ -1,6 +1,6 @@
 -- What the sample engine answers.
 use Rattle.std.specs.Prelude.{◌≡◌, ℕ, ◌++◌, ◌⊎◌, List, [], ◌∷◌, Option, Some, None}
-use Rattle.shogi_rules.specs.declared.moves.Move.{Move}
+use Rattle.shogi_board.specs.declared.moves.Move.{Move}
 use Rattle.shogi_rules.specs.Order.{IsFirstLegal}
 use Rattle.shogi_rules.specs.Positions.{Played, now_of}
 use Rattle.shogi_rules.specs.Positions.{Over}

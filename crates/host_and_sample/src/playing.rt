@@ -1,5 +1,5 @@
 ghost use Rattle.std.specs.Prelude.{◌≡◌, ◌++◌, ◌<◌, ◌≤◌, ◌∷◌, [], length, true, ◌↔◌, IsTrue, IfOk, OnOk};
-ghost use Rattle.shogi_rules.specs.Legal.{Legal};
+ghost use Rattle.shogi_board.specs.Legal.{Legal};
 ghost use Rattle.shogi_rules.specs.Order.{IsFirstLegal};
 ghost use Rattle.shogi_rules.specs.Positions.{now_of, max_moves};
 ghost use Rattle.shogi_rules.specs.Positions.{Over};

@@ -1,5 +1,5 @@
 ghost use Rattle.std.specs.Prelude.{◌≡◌, ◌⊎◌, ◌∷◌, [], ℕ, List, ◌↔◌, IsTrue, IsOk, IfOk, OnErr, None, MatchOption};
-ghost use Rattle.shogi_rules.specs.declared.moves.Move.{Move};
+ghost use Rattle.shogi_board.specs.declared.moves.Move.{Move};
 ghost use Rattle.shogi_rules.specs.Order.{IsFirstLegal};
 ghost use Rattle.shogi_rules.specs.Positions.{now_of};
 ghost use Rattle.shogi_rules.specs.Positions.{Over};

@@ -7,7 +7,7 @@ ghost use Rattle.record_commands.specs.Reports.{GetsRecord};
 
 use crate::fault::WriteFault;
 use crate::inputs::Inputs;
-use csa_record::{FlowFault, Reading, Record, read_from};
+use csa_record::{FlowFault, Reading, Record, SourceReader, read_from};
 use std::alloc::Global;
 use std::io::Write;
 
@@ -24,6 +24,21 @@ pub fn record<I: Inputs>(alloc: Global, inputs: &I, file: Option<&str>) -> Resul
 {
     let input = inputs.open(file)?;
     read_from(alloc, &mut Reading::new(input))
+}
+
+/// As `record`, through the buffers of a reader, which keeps them for the next file.
+///
+/// Refuses as `record` does.
+pub fn next_record<I: Inputs>(
+    reader: &mut SourceReader,
+    inputs: &I,
+    file: Option<&str>,
+) -> Result<Record, FlowFault>
+    ensures { GetsRecord (I.opens_not inputs.now (path_of file.entry))
+        (I.opens inputs.now (path_of file.entry)) I.Input.Read.remaining result }
+{
+    let input = inputs.open(file)?;
+    reader.read(&mut Reading::new(input))
 }
 
 /// Writes all of the bytes and flushes the writer.

@@ -9,14 +9,14 @@ use Rattle.shogi_board.specs.declared.color.Color.{Color}
 use Rattle.shogi_board.specs.declared.color.Color.TheVariants.{Black, White}
 use Rattle.shogi_board.specs.declared.kind.Piece.{Piece}
 use Rattle.shogi_board.specs.Setup.{position_of, first_fault}
-use Rattle.shogi_rules.specs.declared.moves.Move.{Move}
+use Rattle.shogi_board.specs.declared.moves.Move.{Move}
 use Rattle.shogi_board.specs.Placed.{Placed}
 use Rattle.shogi_rules.specs.declared.line.PlayFault.{PlayFault}
 use Rattle.shogi_rules.specs.declared.line.PlayFault.TheVariants as faults
 use Rattle.shogi_rules.specs.Play as plays
 use Rattle.shogi_rules.specs.Positions.{Played, position_after, now_of}
 use Rattle.shogi_rules.specs.Rules as rules
-use Rattle.shogi_rules.specs.Rules.{all_rules, IsFirstBroken}
+use Rattle.shogi_board.specs.Rules.{all_rules, IsFirstBroken}
 use Rattle.csa_text.specs.declared.ending.Ending.{Ending}
 use Rattle.csa_text.specs.declared.pair.Pair.{Pair}
 use Rattle.csa_text.specs.Saying.{Saying, version, name, header, even, rank, pieces, turn, walked, time, ending}

@@ -1,7 +1,7 @@
 -- Times within the limit.
 use Rattle.std.proofs.Common.{ℕ, ◌≤◌, List, [], ◌∷◌, ◌++◌, map}
 use Rattle.std.specs.List.{AllByRecursion}
-use Rattle.shogi_rules.specs.declared.moves.Move.{Move}
+use Rattle.shogi_board.specs.declared.moves.Move.{Move}
 use Rattle.record_game.specs.Course.{untimed, with_last_time}
 use Rattle.record_game.specs.Game.{Timed}
 use Rattle.record_game.specs.Limits.{IsTimed}

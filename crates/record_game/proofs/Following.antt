@@ -18,14 +18,14 @@ use Rattle.shogi_board.specs.Placed.{Placed}
 use Rattle.shogi_board.specs.Reach.{InCheck}
 use Rattle.shogi_board.specs.Setup.{position_of}
 use Rattle.shogi_board.specs.Totals.{IsWithinTotals}
-use Rattle.shogi_rules.specs.declared.moves.Move.{Move}
-use Rattle.shogi_rules.specs.After.{after}
+use Rattle.shogi_board.specs.declared.moves.Move.{Move}
+use Rattle.shogi_board.specs.After.{after}
 use Rattle.shogi_rules.specs.Play as plays
 use Rattle.shogi_rules.specs.Positions.{position_after, IsGame, begun, played, MayFollow}
 use Rattle.shogi_rules.specs.Rules as rules
-use Rattle.shogi_rules.specs.Rules.{all_rules, IsFirstBroken}
-use Rattle.shogi_rules.specs.declared.rule.Rule.{Rule}
-use Rattle.shogi_rules.proofs.Broken.{AllKept, broken-not-kept}
+use Rattle.shogi_board.specs.Rules.{all_rules, IsFirstBroken}
+use Rattle.shogi_board.specs.declared.rule.Rule.{Rule}
+use Rattle.shogi_board.proofs.Broken.{AllKept, broken-not-kept}
 use Rattle.shogi_rules.proofs.Decided.{decide-kept, some-broken}
 use Rattle.csa_text.specs.declared.ending.Ending.{Ending}
 use Rattle.csa_text.specs.declared.pair.Pair.{Pair}

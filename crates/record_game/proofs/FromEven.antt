@@ -14,7 +14,7 @@ use Rattle.shogi_board.specs.Placed.{Placed}
 use Rattle.shogi_board.specs.Squares.{place}
 use Rattle.shogi_board.specs.Setup.{layout_of}
 use Rattle.shogi_board.specs.Totals.{hand_kinds}
-use Rattle.shogi_rules.proofs.Forms.{eq-self}
+use Rattle.shogi_board.proofs.Forms.{eq-self}
 use Rattle.csa_text.specs.PairTexts.{AllOnBoard}
 use Rattle.csa_text.specs.Saying.{even}
 use Rattle.shogi_board.specs.Placing.{Placing, on, off, in_hand, rest}

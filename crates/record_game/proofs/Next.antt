@@ -14,7 +14,7 @@ use Rattle.shogi_board.specs.Setup.{position_of, first_fault}
 use Rattle.shogi_board.proofs.Decided.{decide-in_check}
 use Rattle.shogi_rules.specs.declared.line.PlayFault.{PlayFault}
 use Rattle.shogi_rules.specs.declared.line.PlayFault.TheVariants as faults
-use Rattle.shogi_rules.specs.declared.moves.Move.{Move}
+use Rattle.shogi_board.specs.declared.moves.Move.{Move}
 use Rattle.shogi_rules.specs.Play as plays
 use Rattle.shogi_rules.specs.Lines.{IsLine}
 use Rattle.shogi_rules.specs.Positions.{begun}

@@ -11,7 +11,7 @@ use Rattle.shogi_board.specs.Layout.{Layout}
 use Rattle.shogi_board.specs.Pieces.{opponent}
 use Rattle.shogi_board.specs.Placed.{Placed}
 use Rattle.shogi_board.specs.Setup.{position_of}
-use Rattle.shogi_rules.specs.declared.moves.Move.{Move}
+use Rattle.shogi_board.specs.declared.moves.Move.{Move}
 use Rattle.csa_text.specs.declared.ending.Ending.{Ending}
 use Rattle.csa_cutting.specs.Cut.{TextUnit, statement_bytes}
 use Rattle.csa_text.specs.Saying.{Saying, version, name, header, even, rank, pieces, turn, walked, time, ending}

@@ -17,7 +17,7 @@ use Rattle.shogi_board.specs.Pieces as kinds
 use Rattle.shogi_board.specs.Pieces.{same_color, same_kind, place_of, is_king}
 use Rattle.shogi_board.specs.Setup.{holds, one_more, rest_to}
 use Rattle.shogi_board.specs.Totals.{IsWithinTotals, total, limit, kings_of, is_king_of, count_in}
-use Rattle.shogi_rules.proofs.Forms.{held-low, same_color-self, eq-self}
+use Rattle.shogi_board.proofs.Forms.{held-low, same_color-self, eq-self}
 use Rattle.shogi_rules.proofs.Layouts.{put-total}
 use Rattle.shogi_board.specs.Placing.{Placing, on, off, in_hand, rest, placing_fault, placed, unless, place_all}
 use Rattle.record_game.specs.Union.{put_on, off_at, rest_given, MayBeHeld, RestIsLast, MayTakeOff, left_on, IsUnion, with_rest_given}

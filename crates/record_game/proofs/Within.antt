@@ -23,7 +23,7 @@ use Rattle.shogi_board.specs.Squares.{place}
 use Rattle.shogi_board.specs.Totals.{total, limit, kings_of, bare_board, count_in, IsWithinTotals}
 use Rattle.shogi_board.proofs.Start.{even-within}
 use Rattle.shogi_board.proofs.Totals.{limit-same, total-same, placed-within, removed-within, rest-within}
-use Rattle.shogi_rules.proofs.Forms.{held-low}
+use Rattle.shogi_board.proofs.Forms.{held-low}
 use Rattle.csa_text.specs.declared.pair.Pair.{Pair}
 use Rattle.csa_text.specs.declared.pair.Pair.TheVariants.{On, InHand, Rest}
 use Rattle.csa_text.specs.Saying.{Saying, version, name, header, even, rank, pieces, turn, walked, time, ending}

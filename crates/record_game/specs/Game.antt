@@ -1,7 +1,7 @@
 -- What a record is to its users: a game.
 use Rattle.std.specs.Prelude.{ℕ, List, Option}
 use Rattle.shogi_board.specs.Placed.{Placed}
-use Rattle.shogi_rules.specs.declared.moves.Move.{Move}
+use Rattle.shogi_board.specs.declared.moves.Move.{Move}
 use Rattle.csa_text.specs.declared.ending.Ending.{Ending}
 use Rattle.csa_text.specs.Moment.{CalendarMoment}
 

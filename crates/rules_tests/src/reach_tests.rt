@@ -1,5 +1,5 @@
 use crate::words::{on, position, square_of};
-use shogi_board::{Color, Danger, Position, Square, attacked, attacked_from, attacker, reaches};
+use shogi_board::{Color, Position, Square, attacked, attacker, reaches};
 use std::test::Fail;
 
 // The square of the two digits after a word's sign.
@@ -182,14 +182,6 @@ fn attacks_up_to_the_first_piece(rt: HostRuntime) -> Result<(), Fail> {
     Ok(())
 }
 
-// Whether no enemy of that colour reaches the square, asked again once that is known.
-fn is_free(position: &Position, color: Color, square: Square) -> bool {
-    if attacked(position, color, square) {
-        return !attacked_from(position, color, square, Danger::Anywhere);
-    }
-    !attacked_from(position, color, square, Danger::Nowhere)
-}
-
 // A rook from afar or a knight, the rook if there is no knight, the knight if the rook is shut off,
 // and nobody.
 #[test]
@@ -200,9 +192,6 @@ fn names_an_attacker(rt: HostRuntime) -> Result<(), Fail> {
     let afar = position(Color::Black, "+59OU,-55HI,-51KY")?;
     assert!(rt; attacker(&afar, Color::Black, on(59)) == Some(on(55)));
     assert!(rt; attacker(&checked, Color::Black, on(49)).is_none());
-    assert!(rt;
-        !is_free(&checked, Color::Black, on(59)) && is_free(&checked, Color::Black, on(49))
-    );
     let across = position(Color::Black, "+59OU,-55HI,+57FU,-47KE")?;
     assert!(rt; attacker(&across, Color::Black, on(59)) == Some(on(47)));
     assert!(rt; on(57).lies_between(on(59), on(55)) && !on(55).lies_between(on(59), on(55)));

@@ -1,16 +1,21 @@
 -- What a log shows of a login.
-use Rattle.std.proofs.Common.{◌≡◌, ◌==◌, ◌≤◌, ◌+◌, ◌++◌, ◌∙◌, ℕ, Bool, true, false, not, cond, suc, List, [], ◌∷◌, Result, Ok, Err, IfOk, codes, drop, take, ap, refl, sym, arith}
+use Rattle.std.proofs.Common.{◌≡◌, ◌==◌, ◌≤◌, ◌+◌, ◌++◌, ◌∙◌, ℕ, Bool, true, false, not, cond, suc, List, [], ◌∷◌, Option, Result, Ok, Err, IfOk, codes, drop, take, ap, refl, subst, sym, arith}
 use Rattle.std.proofs.lemmas.Bool.Decides.{nat_tests}
 use Rattle.std.specs.List.{AllByRecursion, before_first}
 use Rattle.session_lines.specs.LineTexts.{login_front}
-use Rattle.session_commands.specs.LogTexts.{HidesPassword, login, other}
+use Rattle.session_commands.specs.LogTexts.{AppendsEntries, DifferInPasswords, HidesPassword, IsEntryText, IsLogText, NotesText, login, login_entry, logins, no_entries, other, same}
+use Rattle.session_commands.specs.Logging.{Entry, Notes, NotesAll}
+use Rattle.session_commands.specs.declared.log.LogState.{LogState}
+use Rattle.session_commands.specs.declared.log.LogState.TheVariants.{Whole}
+use Rattle.std.proofs.KnownBytes.{Appends-nil, Appends-trans}
+use Rattle.std.specs.Io.KnownBytes.{Appends}
 use Rattle.shogi_session.specs.Host.{IsLoginWord}
 
 before_step : (b : Bool) (n x : ℕ) (xs ys : List ℕ) → b ≡ true → take n xs ≡ ys → take (cond b (1 + n) 0) (x ∷ xs) ≡ x ∷ ys
-before_step true n x xs ys is same =
+before_step true n x xs ys is equal =
     let a : 1 + n ≡ suc n = omega arith in
-    rw a (ap (λ l. x ∷ l) same)
-before_step false n x xs ys is same = absurd cc
+    rw a (ap (λ l. x ∷ l) equal)
+before_step false n x xs ys is equal = absurd cc
 
 no_space : (b : ℕ) → 0x21 ≤ b → not (b == 32) ≡ true
 no_space b h = grind (arith, nat_tests)
@@ -22,10 +27,36 @@ before_space (x ∷ xs) rest h = before_step _ _ x _ xs (no_space x h.0.0) (befo
 -- the name alone is shown
 pub login_shown : (name password shown : List ℕ) → IsLoginWord name → HidesPassword (login_front ++ name ++ 32 ∷ password) shown → shown ≡ login_front ++ name ++ codes " ***"
 login_shown name password shown word (login rest is shown_is) =
-    let same : name ++ 32 ∷ password ≡ rest = ap (λ l. drop 6 l) is in
-    shown_is ∙ ap (λ l. login_front ++ before_first (λ b. b == 32) l ++ codes " ***") (sym same)
+    let equal : name ++ 32 ∷ password ≡ rest = ap (λ l. drop 6 l) is in
+    shown_is ∙ ap (λ l. login_front ++ before_first (λ b. b == 32) l ++ codes " ***") (sym equal)
     ∙ ap (λ l. login_front ++ l ++ codes " ***") (before_space name password word.plain)
 login_shown name password shown word (other none is) = absurd (none (name ++ 32 ∷ password) refl)
+
+hides_any : (name one two shown : List ℕ) → IsLoginWord name → HidesPassword (login_front ++ name ++ 32 ∷ one) shown → HidesPassword (login_front ++ name ++ 32 ∷ two) shown
+hides_any name one two shown word hidden =
+    login (name ++ 32 ∷ two) refl (login_shown name one shown word hidden ∙ ap (λ l. login_front ++ l ++ codes " ***") (sym (before_space name two word.plain)))
+
+same_text : (name one two text : List ℕ) → IsLoginWord name → IsEntryText (login_entry name one) text → IsEntryText (login_entry name two) text
+same_text name one two text word is =
+    record { time = is.time; shown = is.shown; is_shown = hides_any name one two is.shown word is.is_shown; text_is = is.text_is }
+
+-- the text of a log does not depend on passwords
+pub same_log : (entries others : List Entry) (text : List ℕ) → DifferInPasswords entries others → IsLogText entries text → IsLogText others text
+same_log _ _ text no_entries is = is
+same_log _ _ text (same entry more others differ) (first, rest, is_first, is_rest, whole) = (first, rest, is_first, same_log more others rest differ is_rest, whole)
+same_log _ _ text (logins name one two more others word differ) (first, rest, is_first, is_rest, whole) =
+    (first, rest, same_text name one two first word is_first, same_log more others rest differ is_rest, whole)
+
+-- a log that is whole at its end was whole all the time
+pub noted_all : {L : Type 0} (notes : Notes L) (state : L → LogState) (contents : L → Option (List ℕ))
+    → ((l m : L) (entry : Entry) → notes l entry m → NotesText (state l) (contents l) entry (state m) (contents m))
+    → (entries : List Entry) (l m : L) → NotesAll notes l entries m → state m ≡ Whole → (state l ≡ Whole) × AppendsEntries (contents l) (contents m) entries
+noted_all notes state contents writes [] l m kept whole =
+    (ap state (sym kept) ∙ whole, ([], refl, subst (λ x. Appends (contents l) (contents x) []) (sym kept) (Appends-nil (contents l))))
+noted_all notes state contents writes (entry ∷ more) l m (k, noted, rest) whole =
+    let after = noted_all notes state contents writes more k m rest whole in
+    let here = writes l k entry noted after.0 in
+    (here.0, (here.1.0 ++ after.1.0, (here.1.0, after.1.0, here.1.1, after.1.1, refl), Appends-trans (contents l) (contents k) (contents m) here.1.0 after.1.0 here.1.2 after.1.2))
 
 -- a login that is written so has no password
 pub login_if_ok : {X E : Type 0} (bytes : X → List ℕ) (r : Result X E) (lines rest : List ℕ) → lines ≡ login_front ++ rest

@@ -19,6 +19,12 @@ beside_found number target front back new h is =
     let whole : target ≡ front ++ 47 ∷ back = rw (h.3, h.4) (sym (take-append-drop h.0 target) ∙ ap (λ xs. take h.0 target ++ xs) at) in
     subst (IsBeside number new) (sym whole) (in_folder front back (subst HasNoSlash (sym h.4) none) is)
 
+-- a text is what comes before and after the last of a character
+pub split_at_char : (char : ℕ) (text front back : List ℕ) → char < 128 → SplitsAroundMatch (RFindsChar char) text front back → text ≡ front ++ char ∷ back
+split_at_char char text front back low h =
+    let at = drop_at_char char text h.0 h.1 h.2.1 low in
+    rw (h.3, h.4) (sym (take-append-drop h.0 text) ∙ ap (λ xs. take h.0 text ++ xs) at)
+
 pub beside_none : (number : ℕ) (target new : List ℕ) → RFindsChar 47 target None → new ≡ codes ".shogi_part_" ++ decimal number → IsBeside number new target
 beside_none number target new h is = without_folder target (λ i l. NoCharPasses-char 47 target i h (omega arith) l) is
 

@@ -1,9 +1,9 @@
 -- For private functions: how the programs of a game are started, joined to a bridge, and ended.
-use Rattle.std.specs.Prelude.{◌≡◌, ◌++◌, ℕ, Bool, false, List, [], ◌∷◌, Option, None, Some, codes, decimal, map}
+use Rattle.std.specs.Prelude.{◌≡◌, ◌++◌, ℕ, Bool, false, List, [], ◌∷◌, Option, None, Some, codes, decimal, map, option_map}
 use Rattle.std.specs.Borrow.{Bor}
 use Rattle.record_commands.specs.Incoming.{Coming, GivesLine}
 use Rattle.bridge_table.specs.declared.fault.SessionFault.TheVariants.{ServerGone}
-use Rattle.session_commands.specs.Faults.{IsEngineFault, IsServerFault}
+use Rattle.session_commands.specs.Faults.{IsEngineFault, IsFileFault, IsServerFault}
 use Rattle.session_commands.specs.Ports.{IsPortLine, SaysNoPort}
 use Rattle.session_commands.specs.declared.fault.MatchFault.{MatchFault}
 use Rattle.session_commands.specs.declared.fault.MatchFault.TheVariants.{OutOfMemory, Session as SessionFailed}
@@ -22,6 +22,18 @@ engine_words words = map (λ word. word.now) words
 -- the address of a port of this machine
 abbrev pub local_address : ℕ → List ℕ
 local_address port = codes "127.0.0.1:" ++ decimal port
+
+-- a log was made: its name and itself, if there is one
+abbrev pub MakesLog : Type 0 → Type 0 → Type 1
+MakesLog P L = P → Option (List ℕ) → Option L → P → Type 0
+
+-- it was not
+abbrev pub MakesNoLog : Type 0 → Type 1
+MakesNoLog P = P → Option (List ℕ) → P → Type 0
+
+-- the name of the log of a plan
+abbrev pub log_name : Plan → Option (List ℕ)
+log_name plan = option_map (λ name. name.now) plan.log
 
 -- a server was started: its program and words, the child, and the lines of its output
 abbrev pub Serves : Type 0 → Type 0 → Type 1
@@ -139,6 +151,30 @@ pub data IsUnopened {P C W : Type 0} (serves : Serves P C) (serves_not : StartsN
   not_joined_at : (address : Bor (List ℕ)) (fault : MatchFault) → plan.server ≡ At address
       → IsApart connects connects_not thinks_not plan address.now p q fault
       → IsUnopened serves serves_not connects connects_not thinks_not ended plan p q fault
+
+-- the plan's log was made, and only then its server was joined to its engine
+pub record IsLogged {P L C I W : Type 0} (logs : MakesLog P L)
+    (serves : Serves P C) (thinks : Thinks P C I) (connects : Connects P W)
+    (plan : Plan) (p : P) (log : Option L) (engine : C) (from_engine : Coming) (to_engine : I)
+    (from_server : Coming) (to_server : W) (q : P) (server : Option C) : Type 0 where
+  pub between : P
+  pub made : logs p (log_name plan) log between
+  pub opened : IsOpened serves thinks connects
+      plan between engine from_engine to_engine from_server to_server q server
+
+-- the plan's log was not made, and nothing was started; or this log was made, and there is no game
+-- all the same; with the fault that is reported
+pub data IsNotOpened {P L C W : Type 0} (logs : MakesLog P L) (logs_not : MakesNoLog P)
+    (serves : Serves P C) (serves_not : StartsNot P) (connects : Connects P W)
+    (connects_not : ConnectsNot P) (thinks_not : StartsNot P) (ended : Ended P C)
+    (plan : Plan) (p : P) (log : Option L) (q : P) : MatchFault → Type 0 where
+  no_log : (fault : MatchFault) → logs_not p (log_name plan) q → IsFileFault fault
+      → IsNotOpened logs logs_not serves serves_not connects connects_not thinks_not ended
+      plan p log q fault
+  no_game : (between : P) (fault : MatchFault) → logs p (log_name plan) log between
+      → IsUnopened serves serves_not connects connects_not thinks_not ended plan between q fault
+      → IsNotOpened logs logs_not serves serves_not connects connects_not thinks_not ended
+      plan p log q fault
 
 -- the engine was ended and then the server, if it was started, both with time to end by themselves
 -- or both without

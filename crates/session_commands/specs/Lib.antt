@@ -1,6 +1,7 @@
 pub mod Comments
 pub mod Disk
 pub mod Door
+pub mod Endings
 pub mod Faults
 pub mod Holding
 pub mod Housing
@@ -9,6 +10,7 @@ pub mod LogTexts
 pub mod Logging
 pub mod Logins
 pub mod Offering
+pub mod Paths
 pub mod PlayedLogs
 pub mod Playing
 pub mod Plays

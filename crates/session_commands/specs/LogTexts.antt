@@ -3,11 +3,14 @@ use Rattle.std.specs.Prelude.{◌≡◌, ◌==◌, ◌++◌, ◌/◌, ◌%◌, �
 use Rattle.std.specs.Io.KnownBytes.{Appends}
 use Rattle.std.specs.List.{before_first}
 use Rattle.session_lines.specs.LineTexts.{login_front}
-use Rattle.session_commands.specs.Logging.{Entry}
+use Rattle.session_commands.specs.Logging.{Entry, Notes, entry_of}
 use Rattle.session_commands.specs.declared.bridging.Seat.{Seat}
 use Rattle.session_commands.specs.declared.bridging.Seat.TheVariants.{Engine, Server}
+use Rattle.session_commands.specs.declared.log.LogState.{LogState}
+use Rattle.session_commands.specs.declared.log.LogState.TheVariants.{Whole}
 use Rattle.session_commands.specs.declared.log.Way.{Way}
 use Rattle.session_commands.specs.declared.log.Way.TheVariants.{From, To}
+use Rattle.shogi_session.specs.Host.{IsLoginWord}
 
 -- seconds that take less than three digits are moved to the right
 abbrev pub margin : ℕ → List ℕ
@@ -65,6 +68,33 @@ abbrev pub AppendsEntry : Option (List ℕ) → Option (List ℕ) → Entry → 
 AppendsEntry old new entry = (text : List ℕ) × IsEntryText entry text × Appends old new text
 
 -- if a log is whole then, it was whole before, and exactly the text of an entry was added to it
-abbrev pub NotesText : Bool → Option (List ℕ) → Entry → Bool → Option (List ℕ) → Type 0
-NotesText was_whole old entry is_whole new =
-    is_whole ≡ true → (was_whole ≡ true) × AppendsEntry old new entry
+abbrev pub NotesText : LogState → Option (List ℕ) → Entry → LogState → Option (List ℕ) → Type 0
+NotesText before old entry after new =
+    after ≡ Whole → (before ≡ Whole) × AppendsEntry old new entry
+
+-- what is known of a text log took an entry
+abbrev pub notes_text : Notes (LogState × Option (List ℕ))
+notes_text l entry m = NotesText l.0 l.1 entry m.0 m.1
+
+-- the text of a log in which these entries were noted
+abbrev pub IsLogText : List Entry → List ℕ → Type 0
+IsLogText [] text = text ≡ []
+IsLogText (entry ∷ more) text =
+    (first rest : List ℕ) × IsEntryText entry first × IsLogText more rest × (text ≡ first ++ rest)
+
+-- exactly the text of these entries was added, if the bytes are known
+abbrev pub AppendsEntries : Option (List ℕ) → Option (List ℕ) → List Entry → Type 0
+AppendsEntries old new entries = (text : List ℕ) × IsLogText entries text × Appends old new text
+
+-- lines for the server with which a client of this name logs in, by any password
+abbrev pub login_entry : List ℕ → List ℕ → Entry
+login_entry name password = entry_of Server To (login_front ++ name ++ 32 ∷ password)
+
+-- the same entries, but for the passwords of logins
+pub data DifferInPasswords : List Entry → List Entry → Type 0 where
+  no_entries : DifferInPasswords [] []
+  same : (entry : Entry) (more others : List Entry) → DifferInPasswords more others
+      → DifferInPasswords (entry ∷ more) (entry ∷ others)
+  logins : (name one other : List ℕ) (more others : List Entry)
+      → IsLoginWord name → DifferInPasswords more others
+      → DifferInPasswords (login_entry name one ∷ more) (login_entry name other ∷ others)

@@ -12,6 +12,7 @@ use Rattle.bridge_table.specs.declared.fault.SessionFault.{SessionFault}
 use Rattle.shogi_session.specs.Events.{Event}
 use Rattle.shogi_session.specs.Promises.{Session, Steps}
 use Rattle.shogi_session.specs.State.{first_state, waits_for}
+use Rattle.session_commands.specs.Endings.{Ended, IsEndText}
 use Rattle.session_commands.specs.Faults.{IsFileFault}
 use Rattle.session_commands.specs.Kept.{Drops, KeepsRecord, RefusesText, TakesText}
 use Rattle.session_commands.specs.Words.{played_line}
@@ -37,10 +38,11 @@ pub data CameOut {E : Type 0} (came : Gives E) (missed : Misses E) (went gone : 
 
 -- how a session ended was added to its log, if there is one, and the log is whole; or it was not,
 -- and that is reported in place of what became of the game
-pub data ClosesLog {E : Type 0} (closed : E → List ℕ → E → Type 0) (e f : E)
-    (kept : Result ℕ MatchFault) : Result ℕ MatchFault → Type 0 where
-  is_closed : (text : List ℕ) → closed e text f → ClosesLog closed e f kept kept
-  not_closed : (fault : MatchFault) → IsFileFault fault → ClosesLog closed e f kept (Err fault)
+pub data ClosesLog {E : Type 0} (closed : E → List ℕ → E → Type 0) (says : List ℕ → Type 0)
+    (e f : E) (kept : Result ℕ MatchFault) : Result ℕ MatchFault → Type 0 where
+  is_closed : (text : List ℕ) → says text → closed e text f → ClosesLog closed says e f kept kept
+  not_closed : (fault : MatchFault) → IsFileFault fault
+      → ClosesLog closed says e f kept (Err fault)
 
 -- a session was played to its outcome and its game was kept in what was begun for it; the result
 -- says whether it ended well
@@ -54,7 +56,8 @@ pub record PlaysAndKeeps {E P D : Type 0} (came : Gives E) (missed : Misses E)
   pub game : Result ℕ MatchFault
   pub reached : CameOut came missed went gone e s between t outcome
   pub kept : KeepsRecord took refused dropped replaced draft t.state.client outcome p q game
-  pub logged : ClosesLog closed between f game answer
+  pub ended : Ended
+  pub logged : ClosesLog closed (IsEndText ended outcome) between f game answer
   pub over : is_over ≡ is_ok outcome
 
 -- a bridge to which nothing has happened, as `play` configures it by its plan and its login

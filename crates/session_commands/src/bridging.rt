@@ -1,6 +1,6 @@
 //! A bridge, and the lines that pass between it, its engine and its server.
 
-ghost use Rattle.std.specs.Prelude.{◌≡◌, ◌↔◌, IsErrOf, IsTrue, IfOk, OnOk, OnErr};
+ghost use Rattle.std.specs.Prelude.{◌≡◌, ◌↔◌, IsErrOf, IsTrue, IfErr, IfOk, OnOk, OnErr};
 ghost use Rattle.csa_cutting.specs.Lines.{HasNoLineEnd};
 ghost use Rattle.session_commands.specs.Playing.{ComesNext};
 ghost use Rattle.session_commands.specs.Plays.{Delivers, IsEndless, History, Sends, end_of, event_from, seat_for};
@@ -38,6 +38,7 @@ pub enum Seat {
 /// Where the lines of a bridge's engine and server come from, and where the bridge's lines go.
 pub trait Ends {
     ghost use Rattle.std.specs.Prelude.{ℕ, List, Option};
+    ghost use Rattle.session_commands.specs.Faults.{IsFileFault};
     ghost use Rattle.session_commands.specs.Holding.{KeepsBoth, KeepsOther, TakesLines};
     ghost use Rattle.session_commands.specs.declared.bridging.Seat.{Seat};
     ghost use Rattle.shogi_session.specs.Events.{Event as Taken};
@@ -83,10 +84,11 @@ pub trait Ends {
     // This was said of the session, and all that passed was logged, if there is a log.
     ghost closed: { Self → List ℕ → Self → Type 0 };
 
-    /// Adds to the log, if there is one, how the session ended. Refuses `WriteFault` if the log lacks
-    /// this, or something that passed before.
-    fn close(&mut self, text: &[u8]) -> Result<(), WriteFault>
-        ensures { OnOk result (closed self.old text.now self.new) };
+    /// Adds to the log, if there is one, how the session ended. If the log lacks this, or something
+    /// that passed before, refuses `Write`, or `OutOfMemory` if an allocation failed for it.
+    fn close(&mut self, text: &[u8]) -> Result<(), MatchFault>
+        ensures closed { OnOk result (closed self.old text.now self.new) }
+        ensures faults { IfErr result IsFileFault };
 
     // A writer holds the lines that its seat takes, and nothing else is added to it, unless the
     // seat does not take its lines.
@@ -178,7 +180,7 @@ impl<ER: Read + Drop, EW: Write + Drop, SR: Read + Drop, SW: Write + Drop> Ends
         }
     }
 
-    fn close(&mut self, _text: &[u8]) -> Result<(), WriteFault> {
+    fn close(&mut self, _text: &[u8]) -> Result<(), MatchFault> {
         Ok(())
     }
 

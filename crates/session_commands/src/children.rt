@@ -2,20 +2,26 @@
 
 ghost use Rattle.std.specs.Prelude.{◌≡◌, ◌⊎◌, IfErr, IfOk, OnErr, is_some, string_bytes, true};
 ghost use Rattle.std.specs.Process.{child_status, command_args, command_program};
-ghost use Rattle.session_commands.specs.Faults.{IsEngineFault};
+ghost use Rattle.session_commands.specs.Faults.{IsEngineFault, IsFileFault};
 ghost use Rattle.session_commands.specs.Housing.{engine_words, local_address, serve_words};
 
 use crate::bridging::Side;
 use crate::fault::{MatchFault, memory_or};
+use crate::groups::{self, Member, Reach};
+use crate::log::{Log, TextLog};
+use crate::log_output::{LogWriter, StandardError, Stopwatch};
 use crate::login;
+use crate::paths::BESIDE;
 use record_commands::incoming::Incoming;
 use shogi_session::SessionFault;
 use std::alloc::{AllocError, Global};
+use std::fs::{self, File};
 use std::io::{self, Eprint, Read, Write};
 use std::net::{Net, TcpListener, TcpStream};
 use std::process::{Child, Command, OpenProcess, Processes, Stdio};
-use std::thread;
+use std::rt::{Env, Files};
 use std::time::{Clock, Duration};
+use std::{mem, thread};
 
 /// The server is gone.
 pub const SERVER_GONE: MatchFault = MatchFault::Session(SessionFault::ServerGone);
@@ -29,11 +35,14 @@ const LOOKS: u32 = 1000;
 
 const REST_MS: u64 = 10;
 
-/// What starts and ends the programs of a game, and connects to servers.
+/// What makes the log of a game, starts and ends its programs, and connects to servers.
 pub trait Programs {
-    ghost use Rattle.std.specs.Prelude.{ℕ, Bool, List};
+    ghost use Rattle.std.specs.Prelude.{◌≡◌, ℕ, Bool, List, Option, None, option_map};
     ghost use Rattle.record_commands.specs.Incoming.{Coming};
-    ghost use Rattle.session_commands.specs.Faults.{IsEngineFault, IsServerFault};
+    ghost use Rattle.session_commands.specs.Faults.{IsEngineFault, IsFileFault, IsServerFault};
+
+    /// The log of a game.
+    type Log: Log + Drop;
 
     /// A program that was started.
     type Child: Drop;
@@ -49,6 +58,15 @@ pub trait Programs {
 
     /// What is written to a connection.
     type Writer: Write + Drop;
+
+    // If there is a name, this log was made for it, and a file beside it for what the engine says
+    // on its standard error.
+    ghost logs: { Self → Option (List ℕ) → Option Self.Log → Self → Type 0 };
+
+    ghost logs_not: { Self → Option (List ℕ) → Self → Type 0 };
+
+    // Why the last program was not started, or the last address took no connection.
+    ghost reason: { Self → Option (List ℕ) };
 
     // A server was started, this program with these words. These lines come from its output.
     ghost serves: { Self → List ℕ → List (List ℕ) → Self.Child → Coming → Self → Type 0 };
@@ -70,6 +88,21 @@ pub trait Programs {
 
     // The child was ended. If it was given time, it may have ended by itself.
     ghost ended: { Self → Self.Child → Bool → Self → Type 0 };
+
+    /// Makes the log of that name, if there is a name, and a file beside it for the standard error
+    /// of the engine. Refuses `Write` if one of the two cannot be made, and `OutOfMemory`.
+    fn make_log(&mut self, name: Option<&str>) -> Result<Option<Self::Log>, MatchFault>
+        ensures logs { IfOk result
+            (λ log. logs self.old (option_map (λ s. s.now) name.entry) log self.new) }
+        ensures logs_not { OnErr result
+            (logs_not self.old (option_map (λ s. s.now) name.entry) self.new) }
+        ensures nothing { name.entry ≡ None → IfOk result (λ log. log ≡ None) }
+        ensures faults { IfErr result IsFileFault };
+
+    /// Why the last program was not started, or the last address took no connection, in the words
+    /// of the system. None if each was.
+    fn reason(&self) -> Option<&str>
+        ensures { option_map (λ s. s.now) result ≡ reason self.now };
 
     /// Starts a server. Refuses `B6 ServerGone` if it cannot be started, and `OutOfMemory`.
     fn start_server(
@@ -108,11 +141,21 @@ pub trait Programs {
         ensures ended { ended self.old child is_well self.new };
 }
 
-/// Programs and connections of a runtime.
+/// Where the standard error of an engine goes.
+#[derive(Drop)]
+enum EngineErrors {
+    Nowhere,
+    StandardError,
+    File(File),
+}
+
+/// The log, the programs and the connections of a game of a runtime.
 #[derive(Drop)]
 pub struct System<'a, R> {
     rt: &'a R,
     explains: bool,
+    errors: EngineErrors,
+    reason: Option<String>,
 }
 
 impl<'a, R> System<'a, R> {
@@ -121,26 +164,42 @@ impl<'a, R> System<'a, R> {
     pub fn new(rt: &'a R, explains: bool) -> System<'a, R>
         ensures explains { result.explains ≡ explains }
     {
-        System { rt, explains }
+        System {
+            rt,
+            explains,
+            errors: EngineErrors::Nowhere,
+            reason: None,
+        }
     }
 }
 
-impl<R: Eprint> System<'_, R> {
-    // Says why there is no such program or connection. An error of standard error is ignored.
-    fn explain(&self, name: &str, error: &io::Error) {
+impl<R: Eprint + AllocGlobal> System<'_, R> {
+    // Keeps why there is no such program or connection, and says it. An error of standard error is
+    // ignored.
+    fn explain(&mut self, name: &str, error: &io::Error) {
         if self.explains {
             let _ = self.rt.eprintln(format_args!("{name}: {error}"));
         }
+        self.reason = format!(in self.rt.alloc(); "{name}: {error}").ok();
     }
 }
 
 // No contract can say what a started program is.
 impl<
-    R: Net<Listener = TcpListener, Stream = TcpStream> + Processes + Clock + Eprint + AllocGlobal,
-> Programs for System<'_, R> {
-    ghost use Rattle.std.specs.Prelude.{⊤};
+    'a,
+    R: Files<File = File>
+        + Env
+        + Net<Listener = TcpListener, Stream = TcpStream>
+        + Processes
+        + Clock
+        + Eprint
+        + AllocGlobal,
+> Programs for System<'a, R> {
+    ghost use Rattle.std.specs.Prelude.{⊤, option_map, string_bytes};
 
-    type Child = Child<R::Started>;
+    type Log = TextLog<Stopwatch<'a, R>, LogWriter<'a, R>>;
+
+    type Child = Member<R::Started>;
 
     type Input = <R::Started as OpenProcess>::Stdin;
 
@@ -149,6 +208,12 @@ impl<
     type Reader = TcpStream;
 
     type Writer = TcpStream;
+
+    ghost logs = { λ p name log q. ⊤ };
+
+    ghost logs_not = { λ p name q. ⊤ };
+
+    ghost reason = { λ p. option_map string_bytes p.reason };
 
     ghost serves = { λ p program words child lines q. ⊤ };
 
@@ -164,16 +229,39 @@ impl<
 
     ghost ended = { λ p child is_well q. ⊤ };
 
+    fn make_log(&mut self, name: Option<&str>) -> Result<Option<Self::Log>, MatchFault> {
+        let writer = match name {
+            None => return Ok(None),
+            Some("-") => {
+                self.errors = EngineErrors::StandardError;
+                LogWriter::StandardError(StandardError::new(self.rt))
+            }
+            Some(path) => {
+                let file = created(self.rt, path)?;
+                self.errors = errors_beside(self.rt, path, &file)?;
+                LogWriter::File(file)
+            }
+        };
+        let watch = Stopwatch::started(self.rt);
+        Ok(Some(TextLog::new(self.rt.alloc(), watch, writer)))
+    }
+
+    fn reason(&self) -> Option<&str> {
+        match &self.reason {
+            Some(text) => Some(text.as_str()),
+            None => None,
+        }
+    }
+
     fn start_server(
         &mut self,
         command: &mut Command<Global>,
     ) -> Result<(Self::Child, Incoming<Self::Output>), MatchFault> {
-        command.stdin(Stdio::null());
-        let mut child = start(self, command, SERVER_GONE)?;
-        match lines_of(self.rt.alloc(), &mut child, SERVER_GONE) {
-            Ok(lines) => Ok((child, lines)),
+        let mut member = start(self, command, Stdio::null(), Stdio::null(), SERVER_GONE)?;
+        match lines_of(self.rt.alloc(), &mut member.child, SERVER_GONE) {
+            Ok(lines) => Ok((member, lines)),
             Err(fault) => {
-                let _ = end_child(self.rt, &mut child, false);
+                let _ = groups::end(self.rt, &mut member);
                 Err(fault)
             }
         }
@@ -183,12 +271,12 @@ impl<
         &mut self,
         command: &mut Command<Global>,
     ) -> Result<(Self::Child, Side<Self::Output, Self::Input>), MatchFault> {
-        command.stdin(Stdio::piped());
-        let mut child = start(self, command, ENGINE_GONE)?;
-        match side_of(self.rt.alloc(), &mut child) {
-            Ok(side) => Ok((child, side)),
+        let stderr = stream_of(mem::replace(&mut self.errors, EngineErrors::Nowhere));
+        let mut member = start(self, command, Stdio::piped(), stderr, ENGINE_GONE)?;
+        match side_of(self.rt.alloc(), &mut member.child) {
+            Ok(side) => Ok((member, side)),
             Err(fault) => {
-                let _ = end_child(self.rt, &mut child, false);
+                let _ = groups::end(self.rt, &mut member);
                 Err(fault)
             }
         }
@@ -211,29 +299,82 @@ impl<
     }
 
     fn end(&mut self, child: Self::Child, is_well: bool) {
-        let mut child = child;
-        let _ = end_child(self.rt, &mut child, is_well);
+        let mut member = child;
+        let _ = end_member(self.rt, &mut member, is_well);
     }
 }
 
-// Starts a program whose output is read, and whose errors are not. It does not get the password.
-fn start<R: Processes + Eprint>(
-    system: &System<'_, R>,
+// A file that is open and empty. Refuses `Write` if it cannot be made, and `OutOfMemory`.
+fn created<R: Files<File = File>>(rt: &R, path: &str) -> Result<File, MatchFault>
+    ensures faults { IfErr result IsFileFault }
+{
+    match fs::create(rt, path) {
+        Ok(file) => Ok(file),
+        Err(error) => Err(memory_or(error.kind(), MatchFault::Write)),
+    }
+}
+
+// Where the standard error of the engine goes if this is the log: to a file beside it. Beside a
+// device or a pipe there is none.
+fn errors_beside<R: Files<File = File> + AllocGlobal>(
+    rt: &R,
+    path: &str,
+    log: &File,
+) -> Result<EngineErrors, MatchFault>
+    ensures faults { IfErr result IsFileFault }
+{
+    if !log.metadata().is_ok_and(|there| there.is_file()) {
+        return Ok(EngineErrors::Nowhere);
+    }
+    let path = format!(in rt.alloc(); "{path}{BESIDE}")?;
+    Ok(EngineErrors::File(created(rt, path.as_str())?))
+}
+
+fn stream_of(errors: EngineErrors) -> Stdio {
+    match errors {
+        EngineErrors::Nowhere => Stdio::null(),
+        EngineErrors::StandardError => Stdio::inherit(),
+        EngineErrors::File(file) => Stdio::from(file),
+    }
+}
+
+// Starts a program whose output is read, as the leader of a group if that can be.
+fn start<R: Env + Files + Processes + Eprint + AllocGlobal>(
+    system: &mut System<'_, R>,
     command: &mut Command<Global>,
+    stdin: Stdio,
+    stderr: Stdio,
     gone: MatchFault,
-) -> Result<Child<R::Started>, MatchFault>
+) -> Result<Member<R::Started>, MatchFault>
     ensures faults { IfErr result (λ fault. (fault ≡ gone) ⊎ (fault ≡ MatchFault.OutOfMemory)) }
 {
-    command.stdout(Stdio::piped());
-    command.stderr(Stdio::null());
-    command.env_remove(login::VARIABLE)?;
-    match command.spawn(system.rt) {
-        Ok(child) => Ok(child),
+    let spawned = match groups::leading(system.rt, command)? {
+        Some(mut leading) => spawn(system.rt, &mut leading, stdin, stderr, Reach::Group),
+        None => spawn(system.rt, command, stdin, stderr, Reach::Itself),
+    };
+    match spawned {
+        Ok(member) => Ok(member),
         Err(error) => {
             system.explain(command.get_program(), &error);
             Err(memory_or(error.kind(), gone))
         }
     }
+}
+
+// Starts a program whose output is read. It does not get the password.
+fn spawn<R: Processes>(
+    rt: &R,
+    command: &mut Command<Global>,
+    stdin: Stdio,
+    stderr: Stdio,
+    reach: Reach,
+) -> io::Result<Member<R::Started>> {
+    command.stdin(stdin);
+    command.stdout(Stdio::piped());
+    command.stderr(stderr);
+    command.env_remove(login::VARIABLE)?;
+    let child = command.spawn(rt)?;
+    Ok(Member { child, reach })
 }
 
 /// A server and its words: `serve --port 0 --max N`, one game of at most `max_moves` moves on a
@@ -310,13 +451,17 @@ fn side_of<P: OpenProcess + Drop>(
 
 // Ends a child, so that none outlives the program. After a session that ended well it has ten
 // seconds to end by itself; any other child is ended at once. Returns whether it has ended.
-fn end_child<R: Clock, P: OpenProcess + Drop>(rt: &R, child: &mut Child<P>, is_well: bool) -> bool
-    ensures ended { result ≡ true → is_some (child_status child.new) ≡ true }
+fn end_member<R: Clock + Processes + AllocGlobal, P: OpenProcess + Drop>(
+    rt: &R,
+    member: &mut Member<P>,
+    is_well: bool,
+) -> bool
+    ensures ended { result ≡ true → is_some (child_status member.new.child) ≡ true }
 {
-    if is_well && has_ended(rt, child) {
+    if is_well && has_ended(rt, &mut member.child) {
         return true;
     }
-    child.kill().is_ok() && child.wait().is_ok()
+    groups::end(rt, member)
 }
 
 // Whether the child ends by itself in time.

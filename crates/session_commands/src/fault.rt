@@ -78,9 +78,26 @@ pub enum LoginFault {
     OutOfMemory,
 }
 
+/// Why a plan of `play` cannot be carried out, as its words alone show.
+#[derive(Clone, Copy, Debug, PartialEq, Eq, Error)]
+pub enum PlanFault {
+    /// The log, or the file beside it, would be written where the record is.
+    #[error("the log is the record")]
+    LogIsRecord,
+    /// The log, or the file beside it, would be written where the password is.
+    #[error("the log is the password file")]
+    LogIsPasswordFile,
+    /// The server's address has no host or no port.
+    #[error("no port")]
+    NoPort,
+}
+
 /// Why `play` did not log in, or did not play a game to its end, or did not keep it.
 #[derive(Clone, Copy, Debug, PartialEq, Eq, Error)]
 pub enum PlayFault {
+    /// The plan cannot be carried out.
+    #[error("{0}")]
+    Plan(PlanFault),
     /// There is nothing to log in with.
     #[error("{0}")]
     Login(LoginFault),
@@ -175,6 +192,14 @@ impl From<AllocError> for MatchFault {
 
     fn from(_error: AllocError) -> MatchFault {
         MatchFault::OutOfMemory
+    }
+}
+
+impl From<PlanFault> for PlayFault {
+    ghost from_gives = { λ why fault. fault ≡ play.Plan why };
+
+    fn from(fault: PlanFault) -> PlayFault {
+        PlayFault::Plan(fault)
     }
 }
 

@@ -1,18 +1,18 @@
 //! The server and the engine of a game: started, joined to a bridge, and ended.
 
-ghost use Rattle.std.specs.Prelude.{◌≡◌, IfErr, IfOk, OnOk};
-ghost use Rattle.session_commands.specs.Housing.{IsApart, IsJoined, IsJoinedByPort, IsPortless};
+ghost use Rattle.std.specs.Prelude.{◌≡◌, ◌++◌, ℕ, List, IfErr, IfOk, OnOk, None, option_map, string_bytes};
+ghost use Rattle.session_commands.specs.Housing.{IsApart, IsJoined, IsJoinedByPort, IsOpened, IsPortless, IsUnopened};
 ghost use Rattle.session_commands.specs.Logging.{ClosesIfAny};
+ghost use Rattle.session_commands.specs.Words.{reason_line};
 
 use crate::bridging::{Ends, Side, Sides};
 use crate::children::{Programs, SERVER_GONE, engine_command, local_address, server_command};
-use crate::fault::MatchFault;
+use crate::fault::{MatchFault, PlayFault};
 use crate::log::{Log, Logged};
 use crate::port_line::listening_port;
-use record_commands::WriteFault;
 use record_commands::incoming::Incoming;
 use shogi_words::{Plan, ServerChoice};
-use std::alloc::Global;
+use std::alloc::{AllocError, Global};
 
 /// What starts and ends the programs of a game.
 pub trait House {
@@ -36,11 +36,12 @@ pub trait House {
     // Each of the programs has ended. After a session that ended well it had time to end by itself.
     ghost shut: { Self → Self.Both → Self.Running → Bool → Self → Type 0 };
 
-    /// Starts the server, if the plan has one to start, connects to it, and starts the engine. If
-    /// there is no game, a server that was started is ended.
+    /// Makes the log, if the plan has one, and only then starts the server, if there is one to
+    /// start, connects to it, and starts the engine. If there is no game, a server that was started is
+    /// ended.
     ///
-    /// Refuses `B6 ServerGone` if the server cannot be started, says no port or cannot be connected
-    /// to, `B5 EngineGone` if the engine cannot be started, and `OutOfMemory`.
+    /// Refuses `Write` if the log cannot be made, `B6 ServerGone` if the server cannot be started,
+    /// says no port or cannot be connected to, `B5 EngineGone` if the engine cannot be started, and `OutOfMemory`.
     fn open(&mut self, plan: &Plan<'_, '_>) -> Result<(Self::Both, Self::Running), MatchFault>
         ensures opened { IfOk result (λ r. opened self.old plan.now r.0 r.1 self.new) }
         ensures unopened { IfErr result (λ fault. unopened self.old plan.now fault self.new) };
@@ -52,11 +53,11 @@ pub trait House {
 
 /// An engine of this machine, and a server of this machine or another.
 #[derive(Drop)]
-pub struct Local<P: Programs + Drop, L: Log + Drop> {
+pub struct Local<P: Programs + Drop> {
     alloc: Global,
     programs: P,
-    // Of the game to come. None if nothing is logged.
-    log: Option<L>,
+    // That of a game that did not begin, if it has one.
+    log: Option<P::Log>,
 }
 
 /// The programs of a game that were started.
@@ -74,78 +75,59 @@ pub struct RunningServer<P: Programs> {
     lines: Incoming<P::Output>,
 }
 
-impl<P: Programs + Drop, L: Log + Drop> Local<P, L> {
-    /// Nothing is started yet. What passes is noted in the log, if there is one.
-    pub fn new(alloc: Global, programs: P, log: Option<L>) -> Local<P, L>
+impl<P: Programs + Drop> Local<P> {
+    /// No log is made and nothing is started yet.
+    pub fn new(alloc: Global, programs: P) -> Local<P>
         ensures programs { result.programs ≡ programs }
-        ensures log { result.log ≡ log }
+        ensures log { result.log ≡ None }
     {
         Local {
             alloc,
             programs,
-            log,
+            log: None,
         }
     }
 
-    /// Adds a text at the end of the log, if there is one and it did not go to the ends of a game.
-    /// Refuses `WriteFault` if the log is not whole then.
-    pub fn close_log(&mut self, text: &[u8]) -> Result<(), WriteFault>
-        ensures closed { OnOk result (ClosesIfAny L.closed self.old.log text.now self.new.log) }
+    /// Adds to the log why there was no game: the system's reason, if there is one, and the fault.
+    /// The log of a game is closed already, and gets nothing.
+    ///
+    /// Refuses `Write` if the log cannot be written, and `OutOfMemory`.
+    pub fn note_fault(&mut self, fault: PlayFault) -> Result<(), MatchFault>
+        ensures noted { OnOk result ((fault_line : List ℕ)
+            × ClosesIfAny P.Log.Log.closed self.old.log
+            (reason_line (P.reason self.old.programs) ++ fault_line) self.new.log) }
     {
-        self.log.close(text)
-    }
-
-    // The ends of a game, with the log of it.
-    fn logged<E: Ends + Drop>(&mut self, ends: E) -> Logged<E, Option<L>>
-        ensures logged { result ≡ (ends, self.old.log) }
-        ensures programs { self.new.programs ≡ self.old.programs }
-    {
-        Logged {
-            ends,
-            log: self.log.take(),
-        }
+        let text = fault_text(self.alloc, self.programs.reason(), fault)?;
+        self.log.close(text.as_bytes())
     }
 }
 
-impl<P: Programs + Drop, L: Log + Drop> House for Local<P, L> {
+impl<P: Programs + Drop> House for Local<P> {
     ghost use Rattle.std.specs.Prelude.{◌≡◌, option_map};
-    ghost use Rattle.session_commands.specs.Housing.{IsOpened, IsShut, IsUnopened};
+    ghost use Rattle.session_commands.specs.Housing.{IsLogged, IsNotOpened, IsShut};
 
-    type Both = Logged<Sides<P::Output, P::Input, P::Reader, P::Writer>, Option<L>>;
+    type Both = Logged<Sides<P::Output, P::Input, P::Reader, P::Writer>, Option<P::Log>>;
 
     type Running = Running<P>;
 
-    ghost opened = { λ h plan both running k. IsOpened P.serves P.thinks P.connects
-        plan h.programs running.engine both.0.engine.lines both.0.engine.writer
+    ghost opened = { λ h plan both running k. IsLogged P.logs P.serves P.thinks P.connects
+        plan h.programs both.1 running.engine both.0.engine.lines both.0.engine.writer
         both.0.server.lines both.0.server.writer k.programs
-        (option_map (λ s. s.child) running.server) × (both.1 ≡ h.log) };
+        (option_map (λ s. s.child) running.server) };
 
-    ghost unopened = { λ h plan fault k. IsUnopened P.serves P.serves_not P.connects
-        P.connects_not P.thinks_not P.ended plan h.programs k.programs fault };
+    ghost unopened = { λ h plan fault k. IsNotOpened P.logs P.logs_not P.serves P.serves_not
+        P.connects P.connects_not P.thinks_not P.ended plan h.programs k.log k.programs fault };
 
     ghost shut = { λ h both running is_well k. IsShut P.ended h.programs running.engine is_well
         k.programs (option_map (λ s. s.child) running.server) };
 
     fn open(&mut self, plan: &Plan<'_, '_>) -> Result<(Self::Both, Self::Running), MatchFault> {
-        match plan.server {
-            ServerChoice::Started { program, max_moves } => {
-                let mut command = server_command(self.alloc, program, max_moves)?;
-                let (child, mut lines) = self.programs.start_server(&mut command)?;
-                match join_by_port(self.alloc, &mut self.programs, plan, &mut lines) {
-                    Ok((sides, engine)) => {
-                        let server = Some(RunningServer { child, lines });
-                        Ok((self.logged(sides), Running { server, engine }))
-                    }
-                    Err(fault) => {
-                        self.programs.end(child, false);
-                        Err(fault)
-                    }
-                }
-            }
-            ServerChoice::At(address) => {
-                let (sides, engine) = join(self.alloc, &mut self.programs, plan, address)?;
-                let server = None;
-                Ok((self.logged(sides), Running { server, engine }))
+        let log = self.programs.make_log(plan.log)?;
+        match start(self.alloc, &mut self.programs, plan) {
+            Ok((ends, running)) => Ok((Logged { ends, log }, running)),
+            Err(fault) => {
+                self.log = log;
+                Err(fault)
             }
         }
     }
@@ -174,6 +156,60 @@ impl<P: Programs + Drop, L: Log + Drop> House for Local<P, L> {
         ) = started
         {
             self.programs.end(child, is_well);
+        }
+    }
+}
+
+// Why there was no game: the system's reason, if there is one, and the fault, a line each.
+fn fault_text(alloc: Global, reason: Option<&str>, fault: PlayFault) -> Result<String, AllocError>
+    ensures { IfOk result (λ text. (fault_line : List ℕ)
+        × (string_bytes text ≡ reason_line (option_map (λ s. s.now) reason.entry) ++ fault_line)) }
+{
+    let fault_line = format!(in alloc; "{fault}\n")?;
+    match reason {
+        Some(reason) => format!(in alloc; "{reason}\n{fault_line}"),
+        None => Ok(fault_line),
+    }
+}
+
+// Starts the server, if the plan has one to start, connects to it, and starts the engine. If there
+// is no game, a server that was started is ended.
+fn start<P: Programs>(
+    alloc: Global,
+    programs: &mut P,
+    plan: &Plan<'_, '_>,
+) -> Result<(Sides<P::Output, P::Input, P::Reader, P::Writer>, Running<P>), MatchFault>
+    ensures opened { IfOk result (λ r. IsOpened P.serves P.thinks P.connects
+        plan.now programs.old r.1.engine r.0.engine.lines r.0.engine.writer
+        r.0.server.lines r.0.server.writer programs.new
+        (option_map (λ s. s.child) r.1.server)) }
+    ensures unopened { IfErr result (IsUnopened P.serves P.serves_not P.connects
+        P.connects_not P.thinks_not P.ended plan.now programs.old programs.new) }
+{
+    match plan.server {
+        ServerChoice::Started { program, max_moves } => {
+            let mut command = server_command(alloc, program, max_moves)?;
+            let (child, mut lines) = programs.start_server(&mut command)?;
+            match join_by_port(alloc, programs, plan, &mut lines) {
+                Ok((sides, engine)) => {
+                    let server = Some(RunningServer { child, lines });
+                    Ok((sides, Running { server, engine }))
+                }
+                Err(fault) => {
+                    programs.end(child, false);
+                    Err(fault)
+                }
+            }
+        }
+        ServerChoice::At(address) => {
+            let (sides, engine) = join(alloc, programs, plan, address)?;
+            Ok((
+                sides,
+                Running {
+                    server: None,
+                    engine,
+                },
+            ))
         }
     }
 }

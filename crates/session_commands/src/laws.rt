@@ -1,16 +1,18 @@
 //! Laws of a bridge in a session, whatever its engine and its server are. The functions take and
 //! give nothing; each law is a clause.
 
-ghost use Rattle.std.specs.Prelude.{◌≡◌, ◌++◌, ◌∷◌, ℕ, List, codes};
+ghost use Rattle.std.specs.Prelude.{◌≡◌, ◌++◌, ◌∷◌, ℕ, List, Option, codes};
 ghost use Rattle.bridge_table.specs.declared.event.Status.{Status};
 ghost use Rattle.session_commands.specs.Holding.{TookAll};
-ghost use Rattle.session_commands.specs.LogTexts.{HidesPassword};
-ghost use Rattle.session_commands.specs.Logging.{NotesAll, passed};
+ghost use Rattle.session_commands.specs.LogTexts.{AppendsEntries, DifferInPasswords, HidesPassword, IsLogText, notes_text};
+ghost use Rattle.session_commands.specs.Logging.{Entry, NotesAll, passed};
 ghost use Rattle.session_commands.specs.PlayedLogs.{PlaysLegally, handed, happened};
 ghost use Rattle.session_commands.specs.Plays.{History};
 ghost use Rattle.session_commands.specs.LackOfMemoryLogs.{SentLegally, sent_before};
 ghost use Rattle.session_commands.specs.LackOfMemory.{PlayRunsOut};
 ghost use Rattle.session_commands.specs.declared.bridging.Seat.{Seat};
+ghost use Rattle.session_commands.specs.declared.log.LogState.{LogState};
+ghost use Rattle.session_commands.specs.declared.log.LogState.TheVariants as log_state;
 ghost use Rattle.session_lines.specs.LineTexts.{login_front};
 ghost use Rattle.shogi_session.specs.Host.{IsLoginWord};
 ghost use Rattle.shogi_session.specs.Promises.{Session};
@@ -56,9 +58,20 @@ pub fn passed_lines_are_noted<E: Ends + Drop, L: Log + Drop>()
         → NotesAll L.noted e.1 (passed played) f.1 }
 {}
 
-/// A login is logged with its name, and without its password, whatever that is.
-pub fn no_password_is_logged()
-    ensures no_password_logged { (name password shown : List ℕ) → IsLoginWord name
+/// A text log that is whole has the text of exactly what was noted in it, if its bytes are known.
+pub fn whole_logs_have_all_entries()
+    ensures text { (entries : List Entry) (l m : LogState × Option (List ℕ))
+        → NotesAll notes_text l entries m → m.0 ≡ log_state.Whole
+        → AppendsEntries l.1 m.1 entries }
+{}
+
+/// A login is logged with its name, and without its password, whatever that is. So the log of a
+/// session does not depend on the password: if what passed in two sessions differs in the passwords
+/// of logins alone, what is a text of the log of one is one of the other.
+pub fn no_password_logged()
+    ensures login { (name password shown : List ℕ) → IsLoginWord name
         → HidesPassword (login_front ++ name ++ 32 ∷ password) shown
         → shown ≡ login_front ++ name ++ codes " ***" }
+    ensures log { (entries others : List Entry) (text : List ℕ)
+        → DifferInPasswords entries others → IsLogText entries text → IsLogText others text }
 {}

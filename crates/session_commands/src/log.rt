@@ -1,6 +1,6 @@
 //! A log of what passes between a bridge, its engine and its server.
 
-ghost use Rattle.std.specs.Prelude.{◌≡◌, ◌==◌, ◌++◌, ◌∷◌, [], if◌then◌else◌, IfOk, OnOk, true, codes, string_bytes};
+ghost use Rattle.std.specs.Prelude.{◌≡◌, ◌==◌, ◌++◌, ◌∷◌, [], if◌then◌else◌, IfErr, IfOk, OnOk, true, codes, string_bytes};
 ghost use Rattle.std.specs.List.{before_first};
 ghost use Rattle.session_lines.specs.LineTexts.{login_front};
 ghost use Rattle.session_commands.specs.LogTexts.{AppendsEntry, HidesPassword, IsEntryText, IsShown, each_after, margin, places_text, seconds_text, sign, time_text};
@@ -30,6 +30,7 @@ pub enum Way {
 /// What notes the lines that pass.
 pub trait Log {
     ghost use Rattle.std.specs.Prelude.{ℕ, List};
+    ghost use Rattle.session_commands.specs.Faults.{IsFileFault};
     ghost use Rattle.session_commands.specs.Logging.{Entry};
 
     // The entry was noted, or the log is not whole from then on.
@@ -43,9 +44,11 @@ pub trait Log {
     fn note(&mut self, seat: Seat, way: Way, lines: &[u8])
         ensures { noted self.old (entry_of seat way lines.now) self.new };
 
-    /// Adds a text at the end. Refuses `WriteFault` if the log is not whole then.
-    fn close(&mut self, text: &[u8]) -> Result<(), WriteFault>
-        ensures { OnOk result (closed self.old text.now self.new) };
+    /// Adds a text at the end. If the log is not whole then, refuses `Write`, or `OutOfMemory` if
+    /// an allocation failed for one of its entries.
+    fn close(&mut self, text: &[u8]) -> Result<(), MatchFault>
+        ensures closed { OnOk result (closed self.old text.now self.new) }
+        ensures faults { IfErr result IsFileFault };
 }
 
 // A log that may be missing.
@@ -62,7 +65,7 @@ impl<L: Log + Drop> Log for Option<L> {
         }
     }
 
-    fn close(&mut self, text: &[u8]) -> Result<(), WriteFault> {
+    fn close(&mut self, text: &[u8]) -> Result<(), MatchFault> {
         match self {
             Some(log) => log.close(text),
             None => Ok(()),
@@ -123,7 +126,7 @@ impl<E: Ends + Drop, L: Log + Drop> Ends for Logged<E, L> {
         Ok(())
     }
 
-    fn close(&mut self, text: &[u8]) -> Result<(), WriteFault> {
+    fn close(&mut self, text: &[u8]) -> Result<(), MatchFault> {
         self.log.close(text)
     }
 
@@ -148,58 +151,71 @@ pub trait Watch {
     fn elapsed_ms(&self) -> u64;
 }
 
+/// Whether a log has all that was noted.
+#[derive(Clone, Copy, Debug, PartialEq, Eq)]
+pub enum LogState {
+    /// All was written.
+    Whole,
+    /// A write failed, and nothing was written after it.
+    Unwritten,
+    /// An allocation failed, and nothing was written after it.
+    OutOfMemory,
+}
+
 /// A log as a text: each line after its time, its seat and its way.
 #[derive(Drop)]
 pub struct TextLog<T: Watch + Drop, W: Write + Drop> {
     alloc: Global,
     watch: T,
     writer: W,
-    // Whether all that was noted was written.
-    is_whole: bool,
+    state: LogState,
 }
 
 impl<T: Watch + Drop, W: Write + Drop> TextLog<T, W> {
     /// A log in which nothing is noted yet.
     pub fn new(alloc: Global, watch: T, writer: W) -> TextLog<T, W>
-        ensures whole { result.is_whole ≡ true }
+        ensures whole { result.state ≡ LogState.Whole }
         ensures writer { result.writer ≡ writer }
     {
         TextLog {
             alloc,
             watch,
             writer,
-            is_whole: true,
+            state: LogState::Whole,
         }
     }
 }
 
 impl<T: Watch + Drop, W: Write + Drop> Log for TextLog<T, W> {
-    ghost use Rattle.std.specs.Prelude.{◌≡◌, true};
+    ghost use Rattle.std.specs.Prelude.{◌≡◌};
     ghost use Rattle.std.specs.Io.KnownBytes.{Appends};
     ghost use Rattle.session_commands.specs.LogTexts.{NotesText};
+    ghost use Rattle.session_commands.specs.declared.log.LogState.{LogState};
 
     ghost noted = { λ l entry m.
-        NotesText l.is_whole (W.contents l.writer) entry m.is_whole (W.contents m.writer) };
+        NotesText l.state (W.contents l.writer) entry m.state (W.contents m.writer) };
 
-    ghost closed = { λ l text m. (l.is_whole ≡ true)
+    ghost closed = { λ l text m. (l.state ≡ LogState.Whole)
         × Appends (W.contents l.writer) (W.contents m.writer) text };
 
     fn note(&mut self, seat: Seat, way: Way, lines: &[u8]) {
-        if !self.is_whole {
+        if self.state != LogState::Whole {
             return;
         }
         let time = self.watch.elapsed_ms();
         match write_entry(self.alloc, &mut self.writer, time, seat, way, lines) {
             Ok(()) => {}
-            Err(_) => self.is_whole = false,
+            Err(MatchFault::OutOfMemory) => self.state = LogState::OutOfMemory,
+            Err(_) => self.state = LogState::Unwritten,
         }
     }
 
-    fn close(&mut self, text: &[u8]) -> Result<(), WriteFault> {
-        if !self.is_whole {
-            return Err(WriteFault);
+    fn close(&mut self, text: &[u8]) -> Result<(), MatchFault> {
+        match self.state {
+            LogState::Whole => Ok(streams::write_all(&mut self.writer, text)?),
+            LogState::Unwritten => Err(MatchFault::Write),
+            LogState::OutOfMemory => Err(MatchFault::OutOfMemory),
         }
-        streams::write_all(&mut self.writer, text)
     }
 }
 

@@ -1,6 +1,7 @@
-//! The clock of a log, and standard error as what it is written to.
+//! The clock of a log, and what it is written to.
 
 use crate::log::Watch;
+use std::fs::File;
 use std::io::{self, Eprint, Write};
 use std::str;
 use std::time::{Clock, Instant};
@@ -31,6 +32,31 @@ impl<R: Clock> Watch for Stopwatch<'_, R> {
         match start.elapsed(self.rt) {
             Ok(time) => u64::try_from(time.as_millis()).unwrap_or(u64::MAX),
             Err(_) => 0,
+        }
+    }
+}
+
+/// What a log is written to.
+#[derive(Drop)]
+pub enum LogWriter<'a, R> {
+    /// Standard error.
+    StandardError(StandardError<'a, R>),
+    /// A file.
+    File(File),
+}
+
+impl<R: Eprint> Write for LogWriter<'_, R> {
+    fn write(&mut self, bytes: &[u8]) -> io::Result<usize> {
+        match self {
+            LogWriter::StandardError(stream) => stream.write(bytes),
+            LogWriter::File(file) => file.write(bytes),
+        }
+    }
+
+    fn flush(&mut self) -> io::Result<()> {
+        match self {
+            LogWriter::StandardError(stream) => stream.flush(),
+            LogWriter::File(file) => file.flush(),
         }
     }
 }

@@ -2,6 +2,7 @@
 
 ghost use Rattle.std.specs.Prelude.{◌≡◌, true, false, IfErr, IfOk, OnOk, string_bytes};
 ghost use Rattle.std.specs.Io.KnownBytes.{Appends};
+ghost use Rattle.session_commands.specs.Endings.{IsEndText};
 ghost use Rattle.session_commands.specs.Kept.{IsKept, KeepsRecord, report_of};
 ghost use Rattle.session_commands.specs.Logins.{AreLoginWords, HasNoLogin, IsLoginOf, IsPlayed};
 ghost use Rattle.session_commands.specs.Playing.{ClosesLog, IsReported, IsUnreported, PlaysAndKeeps, PlaysFor, PlaysIn};
@@ -10,21 +11,20 @@ ghost use Rattle.bridge_table.specs.declared.state.ClientState.{ClientState};
 ghost use Rattle.shogi_session.specs.State.{client_state, first_state};
 
 use crate::bridging::{Ends, play};
-use crate::children::{Programs, System};
+use crate::children::System;
 use crate::disk::LocalDisk;
-use crate::fault::{MatchFault, PlayFault, memory_or};
+use crate::fault::{MatchFault, PlayFault};
 use crate::house::{House, Local};
-use crate::log::{Log, TextLog};
-use crate::log_output::{StandardError, Stopwatch};
 use crate::login::{Login, RuntimeSecrets, Secrets, login_of};
 use crate::out_file::{Named, Place};
+use crate::paths;
 use crate::progress::Progress;
 use record_commands::streams;
 use shogi_board::OutOfMemory;
 use shogi_session::{Bridge, ClientState, Config};
 use shogi_words::Plan;
 use std::alloc::{AllocError, Global};
-use std::fs;
+use std::fs::File;
 use std::io::{self, Eprint, Write};
 use std::net::{Net, TcpListener, TcpStream};
 use std::process::Processes;
@@ -37,14 +37,15 @@ use std::time::Clock;
 /// The password is that of the plan's file, or of the environment variable `SHOGI_PASSWORD`, or
 /// `pw`.
 ///
-/// Before anything is started, refuses `Write` if the log cannot be made, and then `BadName`, `Read`
-/// if the file with the password cannot be read, `BadPassword`, `Write` if there can be no new file
-/// beside that of the record, and `OutOfMemory`. After that refuses `Session` if the session fails,
-/// `Endless` if it goes on for 2^64 - 1 rounds, `Write` if the record or the last line cannot be
-/// written, and `OutOfMemory`.
+/// Before anything is started, refuses `Plan` if the words of the plan do not go together or the
+/// log is a file that is needed, `BadName`, `Read` if the file with the password cannot be read,
+/// `BadPassword`, `Write` if there can be no new file beside that of the record or if the log cannot
+/// be made, and `OutOfMemory`. After that refuses `Session` if the session fails, `Endless` if it
+/// goes on for 2^64 - 1 rounds, `Write` if the record, the log or the last line cannot be written,
+/// and `OutOfMemory`.
 pub fn run<
     R: Env
-        + Files
+        + Files<File = File>
         + Net<Listener = TcpListener, Stream = TcpStream>
         + Processes
         + Clock
@@ -52,52 +53,17 @@ pub fn run<
         + Eprint
         + AllocGlobal,
 >(rt: &R, plan: &Plan<'_, '_>) -> Result<(), PlayFault> {
-    let watch = Stopwatch::started(rt);
-    match plan.log {
-        None => play_logged(rt, plan, None::<TextLog<Stopwatch<'_, R>, R::File>>),
-        Some("-") => {
-            let log = TextLog::new(rt.alloc(), watch, StandardError::new(rt));
-            play_logged(rt, plan, Some(log))
-        }
-        Some(path) => match fs::create(rt, path) {
-            Ok(file) => play_logged(rt, plan, Some(TextLog::new(rt.alloc(), watch, file))),
-            Err(error) => Err(PlayFault::Match(memory_or(error.kind(), MatchFault::Write))),
-        },
-    }
-}
-
-// Plays the planned game, and notes what passes in the log, if there is one.
-fn play_logged<
-    R: Env
-        + Files
-        + Net<Listener = TcpListener, Stream = TcpStream>
-        + Processes
-        + Clock
-        + Print
-        + Eprint
-        + AllocGlobal,
-    L: Log + Drop,
->(rt: &R, plan: &Plan<'_, '_>, log: Option<L>) -> Result<(), PlayFault> {
+    paths::check(plan)?;
+    paths::check_files(rt, plan)?;
     let secrets = RuntimeSecrets::new(rt);
-    let mut house = Local::new(rt.alloc(), System::new(rt, plan.is_shown), log);
+    let mut house = Local::new(rt.alloc(), System::new(rt, plan.is_shown));
     let mut place = Named::new(rt.alloc(), LocalDisk::new(rt), plan.out);
     let mut out = io::writer(rt);
     let played = play_planned(rt, &secrets, &mut house, &mut place, &mut out, plan);
     if let Err(fault) = played {
-        note_fault(rt.alloc(), &mut house, fault)?;
+        house.note_fault(fault)?;
     }
     played
-}
-
-// Adds to the log why there was no game. The log of a game is closed already.
-fn note_fault<P: Programs + Drop, L: Log + Drop>(
-    alloc: Global,
-    house: &mut Local<P, L>,
-    fault: PlayFault,
-) -> Result<(), MatchFault> {
-    let text = format!(in alloc; "{fault}\n")?;
-    house.close_log(text.as_bytes())?;
-    Ok(())
 }
 
 // Plays the planned game in the house with the login that the plan asks for, and prints the number
@@ -243,6 +209,7 @@ fn play_between<R: Eprint + AllocGlobal, E: Ends, P: Place>(
         ends.new bridge.new place.new result.ended_well result.moves }
 {
     let mut progress = Progress::new(is_shown);
+    progress.begin(rt);
     let played = play(rt, bridge, ends, &mut progress);
     let kept = keep_game(place, draft, bridge, played);
     Kept {
@@ -259,7 +226,8 @@ fn close_log<E: Ends>(
     played: Result<(), MatchFault>,
     kept: Result<usize, MatchFault>,
 ) -> Result<usize, MatchFault>
-    ensures { ClosesLog E.closed ends.old ends.new kept result }
+    ensures { ClosesLog E.closed (IsEndText progress.now.ended played)
+        ends.old ends.new kept result }
 {
     let text = progress.end_text(alloc, played)?;
     ends.close(text.as_bytes())?;

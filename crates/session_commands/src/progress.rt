@@ -1,9 +1,15 @@
 //! A line on standard error for each move of a running game, and for what ends it.
 
-ghost use Rattle.std.specs.Prelude.{◌≡◌, ◌⊎◌, ◌↔◌, ◌+◌, ◌<◌, ◌≤◌, ◌^◌, ℕ, length, true, false, None, Some, IsTrue};
+ghost use Rattle.std.specs.Prelude.{◌≡◌, ◌⊎◌, ◌↔◌, ◌+◌, ◌<◌, ◌≤◌, ◌^◌, ℕ, length, true, false, None, Some, IfOk, IsTrue, string_bytes};
 ghost use Rattle.std.specs.List.{position_or_len};
 ghost use Rattle.session_commands.specs.Comments.{is_quote, without_comment};
+ghost use Rattle.session_commands.specs.Endings.{IsEndText, kept_with, nothing_said, quoted};
 ghost use Rattle.session_commands.specs.Showing.{IsCountOf};
+ghost use Rattle.session_commands.specs.declared.bridging.Seat.{Seat};
+ghost use Rattle.session_commands.specs.declared.ending.Said.{Said};
+ghost use Rattle.bridge_table.specs.declared.event.Status.{Status};
+ghost use Rattle.bridge_table.specs.declared.fault.MoveCause.{MoveCause};
+ghost use Rattle.bridge_table.specs.declared.fault.SessionFault.{SessionFault};
 ghost use Rattle.session_lines.specs.MoveLines.{is_move_line};
 ghost use Rattle.shogi_session.specs.State.{client_state};
 
@@ -30,7 +36,7 @@ impl Model for Progress {
 
     ghost Value = { Showing };
 
-    ghost view = { λ p. record { is_on = p.is_shown; moves = p.moves } };
+    ghost view = { λ p. record { is_on = p.is_shown; moves = p.moves; ended = p.ending } };
 }
 
 impl Progress {
@@ -38,11 +44,20 @@ impl Progress {
     pub fn new(is_shown: bool) -> Progress
         ensures on { result.is_on ≡ is_shown }
         ensures moves { result.moves ≡ None }
+        ensures ended { result.ended ≡ nothing_said }
     {
         Progress {
             is_shown,
             moves: None,
             ending: Ending::new(),
+        }
+    }
+
+    /// Says what is waited for before the first move, if moves are shown: the engine. An error of
+    /// standard error is ignored.
+    pub fn begin<R: Eprint>(&self, rt: &R) {
+        if self.is_shown {
+            let _ = rt.eprintln("waiting for the engine");
         }
     }
 
@@ -59,6 +74,7 @@ impl Progress {
     /// error of standard error is ignored.
     pub fn show<R: Eprint>(&mut self, rt: &R, bridge: &Bridge, line: &[u8])
         ensures on { self.new.is_on ≡ self.old.is_on }
+        ensures ended { self.new.ended ≡ self.old.ended }
         ensures counted { (n : ℕ) → is_move_line line.now ≡ true
             → self.old.moves ≡ Some n → n + 1 < 2 ^ 64 → self.new.moves ≡ Some (n + 1) }
         ensures first { is_move_line line.now ≡ true → self.old.moves ≡ None
@@ -78,8 +94,8 @@ impl Progress {
         }
     }
 
-    /// Keeps what a line from that seat says of the end, if it led the bridge from one moment to the
-    /// other and to this status. Shows it too, if moves are shown. An error of standard error is
+    /// Keeps what a line from that seat says of the end, if it led the bridge from one moment to
+    /// the other and to this status. Shows it too, if moves are shown. An error of standard error is
     /// ignored.
     pub fn watch<R: Eprint + AllocGlobal>(
         &mut self,
@@ -90,8 +106,16 @@ impl Progress {
         line: &[u8],
         status: Status,
     )
-        ensures showing { self.new ≡ self.old }
+        ensures showing { (self.new.is_on ≡ self.old.is_on) × (self.new.moves ≡ self.old.moves) }
+        ensures slip { seat ≡ Seat.Engine → after.slip ≡ true → before.slip ≡ false
+            → self.new.ended ≡ kept_with Said.Slip (quoted line.now) self.old.ended }
+        ensures refused { (cause : MoveCause) → seat ≡ Seat.Server
+            → status ≡ Status.Failed (SessionFault.BadServerMove cause)
+            → self.new.ended ≡ kept_with (Said.Refused cause) (quoted line.now) self.old.ended }
     {
+        if self.is_shown && before.client == ClientState::Idle && after.client != before.client {
+            let _ = rt.eprintln("waiting for the server to begin a game");
+        }
         let Some(said) = ending::end_in(before, after, seat, line, status) else {
             return;
         };
@@ -108,23 +132,21 @@ impl Progress {
         &self,
         alloc: Global,
         played: Result<(), MatchFault>,
-    ) -> Result<String, AllocError> {
+    ) -> Result<String, AllocError>
+        ensures { IfOk result (λ text. IsEndText self.now.ended played (string_bytes text)) }
+    {
         self.ending.text(alloc, played)
     }
 }
 
-// What is shown of a line that says this of the end: of the server's words the line itself, with
-// its time as moves have it. Returns an error if an allocation fails.
+// What is shown of a line that says this of the end: of the server's words the line itself. Returns
+// an error if an allocation fails.
 fn shown_end(alloc: Global, said: Said, line: &[u8]) -> Result<String, AllocError> {
     let front = ending::front_of(without_comment(line));
     match said {
         Said::Slip => ending::slip_line(alloc, front.as_str()),
         Said::Refused(cause) => ending::refused_line(alloc, front.as_str(), cause),
-        Said::Ending => match front.as_str().split_once(",T") {
-            Some((word, time)) => format!(in alloc; "{word} {time}\n"),
-            None => format!(in alloc; "{front}\n"),
-        },
-        Said::Reason | Said::Result => format!(in alloc; "{front}\n"),
+        Said::Ending | Said::Reason | Said::Result => format!(in alloc; "{front}\n"),
     }
 }
 

@@ -15,7 +15,7 @@ use Rattle.record_game.specs.Game.{Timed, Ended}
 use Rattle.record_game.specs.Says.{time_items}
 use Rattle.record_game.specs.Tells.{IsSpelt}
 use Rattle.shogi_board.specs.declared.color.Color.{Color}
-use Rattle.shogi_rules.specs.declared.moves.Move.{Move}
+use Rattle.shogi_board.specs.declared.moves.Move.{Move}
 use Rattle.session_lines.specs.MoveLines.{is_move_line}
 use Rattle.session_lines.specs.ServerLines.{is_start_line, is_reject_line, is_ending_line, is_hash_line, IsLineOf, TellsTimed, TellsEnding, IsMove, IsTime, UnitFault, ExtraFault, FirstTextFault, no_move, no_time, more}
 use Rattle.session_lines.specs.ServerLines as lines

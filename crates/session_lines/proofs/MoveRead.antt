@@ -6,7 +6,7 @@ use Rattle.csa_cutting.specs.Cut.{TextUnit, statement_bytes}
 use Rattle.csa_text.specs.Saying.{Saying, walked}
 use Rattle.csa_text.specs.Spelling.{Spells}
 use Rattle.shogi_board.specs.declared.color.Color.{Color}
-use Rattle.shogi_rules.specs.declared.moves.Move.{Move}
+use Rattle.shogi_board.specs.declared.moves.Move.{Move}
 use Rattle.session_lines.specs.MoveLines.{IsAlone, TellsMove}
 
 same_unit : (line : List ℕ) (u v : TextUnit) → IsAlone line u → IsAlone line v → u ≡ v

@@ -1,7 +1,7 @@
 -- Lines of moves.
 use Rattle.std.specs.Prelude.{ℕ, ◌≤◌, ◌||◌, Bool, List, [], ◌∷◌, length}
 use Rattle.shogi_board.specs.declared.color.Color.{Color}
-use Rattle.shogi_rules.specs.declared.moves.Move.{Move}
+use Rattle.shogi_board.specs.declared.moves.Move.{Move}
 use Rattle.csa_cutting.specs.Cut.{TextUnit, IsCut, begins_with, statement_bytes, longest_statement}
 use Rattle.csa_text.specs.Saying.{walked}
 use Rattle.csa_text.specs.Spelling.{Spells}

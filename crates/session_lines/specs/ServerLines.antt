@@ -6,7 +6,7 @@ use Rattle.session_lines.specs.declared.server_words.EndReason.TheVariants as en
 use Rattle.std.specs.Prelude.{◌≡◌, ℕ, ◌<◌, ◌≤◌, ◌&&◌, nat_eq, Bool, List, [], ◌∷◌, length, Option, Some, None, unwrap_or, bytes_eq, if◌then◌else◌}
 use Rattle.std.specs.List.{AllZip, starts_with, ends_with}
 use Rattle.shogi_board.specs.declared.color.Color.{Color}
-use Rattle.shogi_rules.specs.declared.moves.Move.{Move}
+use Rattle.shogi_board.specs.declared.moves.Move.{Move}
 use Rattle.csa_cutting.specs.Cut.{TextUnit, IsCut, statement_bytes, begins_with, longest_statement}
 use Rattle.csa_text.specs.Saying.{Saying, walked, time}
 use Rattle.csa_text.specs.Spelling.{Spells, fault_of_row}

@@ -2,7 +2,7 @@ ghost use Rattle.std.specs.Prelude.{◌≡◌, ◌==◌, MatchOption};
 ghost use Rattle.csa_cutting.specs.Cut.{TextUnit, statement_bytes};
 ghost use Rattle.csa_text.specs.Saying.{walked, saying_of};
 ghost use Rattle.shogi_board.specs.declared.color.Color.{Color};
-ghost use Rattle.shogi_rules.specs.declared.moves.Move.{Move};
+ghost use Rattle.shogi_board.specs.declared.moves.Move.{Move};
 ghost use Rattle.session_lines.specs.MoveLines.{is_move_line, IsAlone, TellsMove};
 ghost use Rattle.session_lines.specs.Texts.{without_last_spaces};
 

@@ -7,6 +7,7 @@ use Rattle.record_commands.specs.declared.fault.PositionLineFault.TheVariants as
 use Rattle.archive_commands.specs.Many.{tally_line}
 use Rattle.session_commands.specs.declared.fault.LoginFault.TheVariants as login_fault
 use Rattle.session_commands.specs.declared.fault.MatchFault.TheVariants as match_fault
+use Rattle.session_commands.specs.declared.fault.PlanFault.TheVariants as plan_fault
 use Rattle.session_commands.specs.declared.fault.PlayFault.{PlayFault}
 use Rattle.session_commands.specs.declared.fault.PlayFault.TheVariants as play_fault
 use Rattle.session_commands.specs.declared.fault.ServeFault.{ServeFault}
@@ -14,12 +15,13 @@ use Rattle.session_commands.specs.declared.fault.ServeFault.TheVariants as serve
 use Rattle.session_commands.specs.declared.fault.TalkFault.{TalkFault}
 use Rattle.session_commands.specs.declared.fault.TalkFault.TheVariants as talk_fault
 use Rattle.shogi.specs.declared.stop.Stop.{Stop}
-use Rattle.shogi.specs.declared.stop.Stop.TheVariants.{WordsNotText, UnknownCommand, BadName, BadPassword, Refused, NotAll, LineRefused, LineTooLong, Read, Write, ClientGone, ClientLineTooLong, Session, OutOfMemory}
+use Rattle.shogi.specs.declared.stop.Stop.TheVariants.{WordsNotText, UnknownCommand, Plan, BadName, BadPassword, Refused, NotAll, LineRefused, LineTooLong, Read, Write, ClientGone, ClientLineTooLong, Session, OutOfMemory}
 
 -- the status that the program ends with
 abbrev pub status_of : Stop → ℕ
 status_of WordsNotText = 2
 status_of UnknownCommand = 2
+status_of (Plan fault) = 2
 status_of BadName = 2
 status_of BadPassword = 2
 status_of (Refused refusal) = 1
@@ -38,6 +40,12 @@ status_of OutOfMemory = 5
 abbrev pub stop_line : Stop → Option (List ℕ)
 stop_line WordsNotText = Some (codes "error: a word of the command line is not UTF-8")
 stop_line UnknownCommand = Some (codes "error: there is no such command")
+stop_line (Plan plan_fault.LogIsRecord) =
+    Some (codes "error: --log and --out must name different files")
+stop_line (Plan plan_fault.LogIsPasswordFile) =
+    Some (codes "error: --log and --password-file must name different files")
+stop_line (Plan plan_fault.NoPort) =
+    Some (codes "error: --connect must be HOST:PORT, as localhost:4081")
 stop_line BadName = Some (codes "error: the name must be 1 to 32 bytes from 0x21 to 0x7E")
 stop_line BadPassword = Some (codes "error: the password must be 1 to 32 bytes from 0x21 to 0x7E")
 stop_line (Refused refusal) = None
@@ -83,6 +91,7 @@ stop_of_serve (serve_fault.Talk talk_fault.OutOfMemory) = OutOfMemory
 
 -- of play
 abbrev pub stop_of_play : PlayFault → Stop
+stop_of_play (play_fault.Plan why) = Plan why
 stop_of_play (play_fault.Login login_fault.BadName) = BadName
 stop_of_play (play_fault.Login login_fault.BadPassword) = BadPassword
 stop_of_play (play_fault.Login login_fault.Read) = Read

@@ -20,6 +20,7 @@ mod usage;
 use crate::requests::Terminals;
 use crate::stop::Stop;
 use shogi_words::{Request, Service};
+use std::fs::File;
 use std::io::IsTerminal;
 use std::net::{Net, TcpListener, TcpStream};
 use std::process::{ExitCode, Processes};
@@ -44,7 +45,7 @@ fn main(rt: HostRuntime) -> ExitCode {
 // Reads the command line and does what it asks for. The status is that of a run without a fault.
 fn run<
     R: Env
-        + Files
+        + Files<File = File>
         + Input
         + Net<Listener = TcpListener, Stream = TcpStream>
         + Processes
@@ -70,7 +71,7 @@ fn run<
 // even if standard error is closed.
 fn answer<
     R: Env
-        + Files
+        + Files<File = File>
         + Input
         + Net<Listener = TcpListener, Stream = TcpStream>
         + Processes

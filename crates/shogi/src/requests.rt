@@ -1,8 +1,9 @@
 //! What the command line asks for, and how it is done.
 
-ghost use Rattle.std.specs.Prelude.{◌≡◌, ◌≤◌, IfErr, IfOk, OnOk, Some};
+ghost use Rattle.std.specs.Prelude.{◌≡◌, ◌≤◌, IfErr, IfOk, OnOk, Some, string_bytes};
 ghost use Rattle.clap.specs.Words.{subcommand_name_of};
 ghost use Rattle.shogi.specs.Asking.{IsStopOf, IsStopOfFiles};
+ghost use Rattle.shogi.specs.Explained.{IsExplained};
 ghost use Rattle.shogi_rules.specs.Positions as positions;
 ghost use Rattle.shogi_words.specs.Words.{IsNoCommand, word_of};
 
@@ -15,6 +16,7 @@ use record_game::Likeness;
 use session_commands::{engine, play, serve};
 use shogi_board::OutOfMemory;
 use shogi_words::{Records, Request, Service, request_of};
+use std::fs::File;
 use std::io::Eprint;
 use std::net::{Net, TcpListener, TcpStream};
 use std::process::Processes;
@@ -51,7 +53,7 @@ pub fn requested<'m, 'a>(
 /// If standard error is a terminal, several files are counted there even if all are accepted.
 pub fn meet<
     R: Env
-        + Files
+        + Files<File = File>
         + Input
         + Net<Listener = TcpListener, Stream = TcpStream>
         + Processes
@@ -153,7 +155,9 @@ pub fn explanation<R: Files + AllocGlobal>(
     rt: &R,
     request: &Request<'_, '_>,
     stop: &Stop,
-) -> Result<String, OutOfMemory> {
+) -> Result<String, OutOfMemory>
+    ensures explained { IfOk result (λ text. IsExplained stop.now (string_bytes text)) }
+{
     match (explained_file(request), stop) {
         (Some(file), Stop::Refused(refusal)) => explain::refusal(rt, file, refusal),
         (Some(file), Stop::Read) => explain::unreadable(rt, file),

@@ -7,7 +7,7 @@ ghost use Rattle.shogi.specs.Stops.{stop_line, status_of, stop_of_line, stop_of_
 use archive_commands::Tally;
 use csa_record::{FlowFault, Refusal};
 use record_commands::PositionLineFault;
-use session_commands::{LoginFault, MatchFault, PlayFault, ServeFault, TalkFault};
+use session_commands::{LoginFault, MatchFault, PlanFault, PlayFault, ServeFault, TalkFault};
 use shogi_session::SessionFault;
 use std::io::ErrorKind;
 use std::{fmt, io};
@@ -20,6 +20,8 @@ pub enum Stop {
     WordsNotText,
     /// The command line named a command that does not exist.
     UnknownCommand,
+    /// The words of `play` do not go together.
+    Plan(PlanFault),
     /// The name of `play` is not 1 to 32 bytes from 0x21 to 0x7E.
     BadName,
     /// The password of `play` is not 1 to 32 bytes from 0x21 to 0x7E.
@@ -56,7 +58,11 @@ impl Stop {
     {
         match self {
             Stop::Refused(_) | Stop::LineRefused(_) | Stop::LineTooLong => 1,
-            Stop::WordsNotText | Stop::UnknownCommand | Stop::BadName | Stop::BadPassword => USAGE,
+            Stop::WordsNotText
+            | Stop::UnknownCommand
+            | Stop::Plan(_)
+            | Stop::BadName
+            | Stop::BadPassword => USAGE,
             Stop::Read | Stop::Write => 3,
             Stop::NotAll(tally) => { if tally.unreadable > 0 { 3 } else { 1 } }
             Stop::ClientGone | Stop::ClientLineTooLong | Stop::Session(_) => 4,
@@ -84,6 +90,15 @@ impl fmt::Display for Stop {
         match self {
             Stop::WordsNotText => f.write_str("error: a word of the command line is not UTF-8"),
             Stop::UnknownCommand => f.write_str("error: there is no such command"),
+            Stop::Plan(PlanFault::LogIsRecord) => {
+                f.write_str("error: --log and --out must name different files")
+            }
+            Stop::Plan(PlanFault::LogIsPasswordFile) => {
+                f.write_str("error: --log and --password-file must name different files")
+            }
+            Stop::Plan(PlanFault::NoPort) => {
+                f.write_str("error: --connect must be HOST:PORT, as localhost:4081")
+            }
             Stop::BadName => f.write_str("error: the name must be 1 to 32 bytes from 0x21 to 0x7E"),
             Stop::BadPassword => {
                 f.write_str("error: the password must be 1 to 32 bytes from 0x21 to 0x7E")
@@ -169,6 +184,7 @@ impl From<PlayFault> for Stop {
 
     fn from(fault: PlayFault) -> Stop {
         match fault {
+            PlayFault::Plan(why) => Stop::Plan(why),
             PlayFault::Login(LoginFault::BadName) => Stop::BadName,
             PlayFault::Login(LoginFault::BadPassword) => Stop::BadPassword,
             PlayFault::Login(LoginFault::Read) => Stop::Read,

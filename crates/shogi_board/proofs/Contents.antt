@@ -1,12 +1,12 @@
 -- Cells and what they hold.
-use Rattle.std.proofs.Common.{◌≡◌, ℕ, ◌<◌, ◌≤◌, inl, inr, arith, get_or, set, length, get_or-set_same, get_or-set_other, ◌+◌, Bool, cond, count_by, sym, List, [], ◌∷◌, Option, Some, None, map, refl, ap, ◌∙◌}
+use Rattle.std.proofs.Common.{◌≡◌, ℕ, ◌<◌, ◌≤◌, inl, inr, arith, get_or, set, length, get_or-set_same, get_or-set_other, ◌+◌, Bool, cond, count_by, sym, List, [], ◌∷◌, Option, Some, None, map, refl, ◌∙◌}
 use Rattle.std.proofs.lemmas.Bool.{cases_eq}
 use Rattle.std.proofs.lemmas.List.{ext_get_or, get_or-map, length-map}
 use Rattle.std.proofs.lemmas.List.Folds.{fold-map}
 use Rattle.shogi_board.specs.Cells.{Cells, piece}
 use Rattle.shogi_board.specs.Contents.{cell_of, content}
 use Rattle.shogi_board.specs.declared.cell.Cell.{Cell}
-use Rattle.shogi_board.specs.declared.cell.Cell.TheVariants.{Empty, BlackPawn, BlackLance, BlackKnight, BlackSilver, BlackGold, BlackBishop, BlackRook, BlackKing, BlackProPawn, BlackProLance, BlackProKnight, BlackProSilver, BlackHorse, BlackDragon, WhitePawn, WhiteLance, WhiteKnight, WhiteSilver, WhiteGold, WhiteBishop, WhiteRook, WhiteKing, WhiteProPawn, WhiteProLance, WhiteProKnight, WhiteProSilver, WhiteHorse, WhiteDragon}
+use Rattle.shogi_board.specs.declared.cell.Cell.TheVariants.{Empty}
 use Rattle.shogi_board.specs.declared.color.Color.{Color}
 use Rattle.shogi_board.specs.declared.color.Color.TheVariants.{Black, White}
 use Rattle.shogi_board.specs.declared.kind.Kind.{Kind}

@@ -13,7 +13,7 @@ use Rattle.shogi_board.specs.declared.kind.Kind.{Kind}
 use Rattle.shogi_board.specs.declared.kind.Kind.TheVariants.{Pawn, Lance, Knight, Silver, Gold, Bishop, Rook, King, ProPawn, ProLance, ProKnight, ProSilver, Horse, Dragon}
 use Rattle.shogi_board.specs.declared.kind.Piece.{Piece}
 use Rattle.shogi_board.specs.declared.square.Square.{Square}
-use Rattle.shogi_board.proofs.Moves.{Every, every-ray, turned-ray}
+use Rattle.shogi_board.proofs.Rays.{Every, every-ray, turned-ray}
 use Rattle.shogi_board.proofs.OneOf.{OneOf, one-of, any-of}
 use Rattle.shogi_board.proofs.Pieces.{mover-is}
 use Rattle.shogi_board.proofs.Same.{cell-eq, color-eq}

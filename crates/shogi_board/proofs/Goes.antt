@@ -12,7 +12,7 @@ use Rattle.shogi_board.specs.declared.kind.Kind.TheVariants.{Knight}
 use Rattle.shogi_board.specs.declared.kind.Piece.{Piece}
 use Rattle.shogi_board.specs.declared.square.Square.{Square}
 use Rattle.shogi_board.proofs.Between.{direction-same, lies-once, no-jump}
-use Rattle.shogi_board.proofs.Moves.{every-at, every-ray, every-step, turned-ray}
+use Rattle.shogi_board.proofs.Rays.{every-at, every-ray, every-step, turned-ray}
 use Rattle.shogi_board.proofs.OneOf.{one-of}
 
 pub ray-near : (d : Direction) → IsRay d → IsNear d

@@ -3,7 +3,7 @@ use Rattle.std.proofs.Common.{◌≡◌, ◌≢◌, ℕ, ◌+◌, ◌-◌, ◌%�
 use Rattle.shogi_board.specs.Cells.{Cells}
 use Rattle.shogi_board.specs.Keys.{cell_key, cells_key, held_key, captured_key, counts_key, side_key, key_of}
 use Rattle.shogi_board.specs.Material.{Material, bag_of, with_bag}
-use Rattle.shogi_board.specs.Moved.{with_captured}
+use Rattle.shogi_board.specs.After.{with_captured}
 use Rattle.shogi_board.specs.Pieces.{is_hand_kind, opponent, place_of, unpromoted}
 use Rattle.shogi_board.specs.Placed.{Placed}
 use Rattle.shogi_board.specs.Setup.{one_less, one_more}

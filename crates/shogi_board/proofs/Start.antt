@@ -16,7 +16,7 @@ use Rattle.shogi_board.specs.declared.kind.Kind.TheVariants.{Pawn, Lance, Knight
 use Rattle.shogi_board.specs.declared.kind.Piece.{Piece}
 use Rattle.shogi_board.specs.declared.square.Square.{Square}
 use Rattle.shogi_board.proofs.Check.{king-safe}
-use Rattle.shogi_board.proofs.Moves.{ray-at, step-near}
+use Rattle.shogi_board.proofs.Rays.{ray-at, step-near}
 
 pub even-full : (k : Kind) → total (bare_board even_cells) k ≡ limit k
 even-full Pawn = refl

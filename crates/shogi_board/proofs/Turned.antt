@@ -12,7 +12,7 @@ use Rattle.shogi_board.specs.declared.color.Color.{Color}
 use Rattle.shogi_board.specs.declared.color.Color.TheVariants.{Black, White}
 use Rattle.shogi_board.specs.declared.kind.Piece.{Piece}
 use Rattle.shogi_board.specs.declared.square.Square.{Square}
-use Rattle.shogi_board.proofs.Moves.{near-step, near-ray}
+use Rattle.shogi_board.proofs.Rays.{near-step, near-ray}
 use Rattle.shogi_board.proofs.Squares.{place-bound}
 
 flip : (x y u v n f g : ℕ) → f + g ≡ 4 → x + u ≡ 10 → y + v ≡ 10 → y + n * 2 ≡ x + n * f → v + n * 2 ≡ u + n * g

@@ -1,4 +1,5 @@
--- Where an attack on a square may come from.
+-- For private functions: where an attack on a square may come from.
+-- A reader of the public contracts may skip this file.
 use Rattle.std.specs.Prelude.{ℕ, ◌≤◌}
 use Rattle.shogi_board.specs.declared.color.Color.{Color}
 use Rattle.shogi_board.specs.declared.danger.Danger.{Danger}

@@ -1,3 +1,4 @@
+pub mod After
 pub mod Attackers
 pub mod Between
 pub mod Cells
@@ -5,17 +6,19 @@ pub mod Contents
 pub mod Danger
 pub mod Directions
 pub mod Keys
+pub mod Kinds
 pub mod Kings
 pub mod Landmarks
 pub mod Layout
+pub mod Legal
 pub mod Material
-pub mod Moved
 pub mod Moves
 pub mod Neighbours
 pub mod Pieces
 pub mod Placed
 pub mod Placing
 pub mod Reach
+pub mod Rules
 pub mod Same
 pub mod Setup
 pub mod Sound

@@ -283,7 +283,7 @@ impl Board {
 
     // The same, if such a piece is in sight in the direction in which the other square lies.
     #[inline(always)]
-    fn attacked_towards(&self, color: Color, square: Square, other: Square) -> bool
+    pub(crate) fn attacked_towards(&self, color: Color, square: Square, other: Square) -> bool
         requires { (a : Square) → Attack self.now color a square
             → SeenTowards self.now square other a }
         ensures { IsTrue result ↔ Attacked self.now color square }

@@ -14,6 +14,7 @@ ghost use Rattle.shogi_board.specs.Layout.{Layout};
 ghost use Rattle.shogi_board.specs.Neighbours.{IsAmong, gold_squares, beside, with_cell};
 ghost use Rattle.shogi_board.specs.Placed.{Placed, even_start};
 ghost use Rattle.shogi_board.specs.Reach.{Reach, InCheck};
+ghost use Rattle.shogi_board.specs.Rules.{all_rules};
 ghost use Rattle.shogi_board.specs.Same.{same_position};
 ghost use Rattle.shogi_board.specs.Setup.{board_alone, position_of};
 ghost use Rattle.shogi_board.specs.Sound.{IsSound};
@@ -30,6 +31,7 @@ ghost use Rattle.shogi_board.specs.declared.square.Square.{Square};
 use crate::color::Color;
 use crate::kind::{Kind, Piece};
 use crate::position::Position;
+use crate::rule::Rule;
 use crate::setup::Setup;
 use crate::square::Square;
 
@@ -120,4 +122,9 @@ pub fn ordered_pieces()
 pub fn ordered_squares()
     ensures total { IsTotalOrder ⟦<Square as Ord>⟧.cmp }
     ensures by_place { (s t : Square) → (⟦<Square as Ord>⟧.cmp s t ≡ Less) ↔ (place s < place t) }
+{}
+
+/// Rules are in the order in which the first broken one is named.
+pub fn ordered_rules()
+    ensures named { IsStrictlySortedBy ⟦<Rule as Ord>⟧.cmp all_rules }
 {}

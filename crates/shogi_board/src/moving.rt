@@ -2,7 +2,7 @@ ghost use Rattle.std.specs.Prelude.{◌≡◌, ◌≢◌, ◌<◌, ◌↔◌, Is
 ghost use Rattle.shogi_board.specs.Cells.{at, piece};
 ghost use Rattle.shogi_board.specs.Danger.{ComesFrom};
 ghost use Rattle.shogi_board.specs.Material.{bag_of};
-ghost use Rattle.shogi_board.specs.Moved.{after_walk, after_drop, with_captured};
+ghost use Rattle.shogi_board.specs.After.{after, board_after, with_captured};
 ghost use Rattle.shogi_board.specs.Pieces.{is_hand_kind, unpromoted};
 ghost use Rattle.shogi_board.specs.Reach.{InCheck};
 ghost use Rattle.shogi_board.specs.Setup.{one_less};
@@ -10,6 +10,7 @@ ghost use Rattle.shogi_board.specs.Squares.{place};
 ghost use Rattle.shogi_board.specs.Totals.{count_in, IsWithinTotals};
 ghost use Rattle.shogi_board.specs.declared.kind.Kind.TheVariants.{King};
 ghost use Rattle.shogi_board.specs.declared.kind.Piece.{Piece};
+ghost use Rattle.shogi_board.specs.declared.moves.Move.TheVariants.{Walk, Put};
 ghost use Rattle.shogi_board.specs.declared.square.Square.{Square};
 
 use crate::color::Color;
@@ -21,25 +22,21 @@ use crate::position::Position;
 use crate::square::Square;
 
 impl Position {
-    /// Empties `from`, puts a piece of the mover and of that kind on `to`, and passes the turn to
-    /// the other side. What was on `to` goes to the mover's hand, unpromoted. Returns whether the
-    /// mover's king is not attacked then; if it is, the position stays as it was.
-    ///
-    /// The danger says where the mover's king may be attacked from after the walk. To be called
-    /// with two different squares, if no king is captured and there are then no more pieces than a
-    /// game has.
+    // Makes the walk, and passes the turn to the other side. What was on `to` goes to the mover's
+    // hand, unpromoted. Returns whether the mover's king is not attacked then; if it is, the
+    // position stays as it was. The danger says where that king may be attacked from.
     #[inline(always)]
-    pub fn walk(&mut self, from: Square, to: Square, kind: Kind, danger: Danger) -> bool
+    pub(crate) fn walk(&mut self, from: Square, to: Square, kind: Kind, danger: Danger) -> bool
         requires apart { place from ≢ place to }
-        requires totals { IsWithinTotals (after_walk self.old from to kind).material }
+        requires totals { IsWithinTotals (after self.old (Walk from to kind)).material }
         requires captured { (x : Piece) → at self.old.material.board to ≡ Some x
             → is_hand_kind (unpromoted x.kind) ≡ true }
         requires danger { (s : Square)
-            → at (after_walk self.old from to kind).material.board s ≡ piece self.old.side King
-            → ComesFrom (after_walk self.old from to kind).material.board self.old.side s danger }
+            → at (board_after self.old (Walk from to kind)) s ≡ piece self.old.side King
+            → ComesFrom (board_after self.old (Walk from to kind)) self.old.side s danger }
         ensures answer { IsTrue result
-            ↔ (InCheck (after_walk self.old from to kind).material.board self.old.side → ⊥) }
-        ensures value { result ≡ true → self.new ≡ after_walk self.old from to kind }
+            ↔ (InCheck (board_after self.old (Walk from to kind)) self.old.side → ⊥) }
+        ensures value { result ≡ true → self.new ≡ after self.old (Walk from to kind) }
         ensures unchanged { result ≡ false → self.new ≡ self.old }
     {
         let side = self.side;
@@ -68,23 +65,18 @@ impl Position {
         true
     }
 
-    /// Drops a piece of that kind from the hand of the side to move on the square, and passes the
-    /// turn to the other side. Returns whether the mover's king is not attacked then; if it is, the
-    /// position stays as it was.
-    ///
-    /// The danger is as in `walk`. To be called if the hand holds such a piece, the square is
-    /// empty, and there are then no more pieces than a game has.
+    // As `walk`, for a drop.
     #[inline(always)]
-    pub fn drop_piece(&mut self, to: Square, kind: Kind, danger: Danger) -> bool
+    pub(crate) fn drop_piece(&mut self, to: Square, kind: Kind, danger: Danger) -> bool
         requires held { 0 < count_in (bag_of self.old.material self.old.side) kind }
         requires empty { at self.old.material.board to ≡ None }
-        requires totals { IsWithinTotals (after_drop self.old to kind).material }
+        requires totals { IsWithinTotals (after self.old (Put to kind)).material }
         requires danger { (s : Square)
-            → at (after_drop self.old to kind).material.board s ≡ piece self.old.side King
-            → ComesFrom (after_drop self.old to kind).material.board self.old.side s danger }
+            → at (board_after self.old (Put to kind)) s ≡ piece self.old.side King
+            → ComesFrom (board_after self.old (Put to kind)) self.old.side s danger }
         ensures answer { IsTrue result
-            ↔ (InCheck (after_drop self.old to kind).material.board self.old.side → ⊥) }
-        ensures value { result ≡ true → self.new ≡ after_drop self.old to kind }
+            ↔ (InCheck (board_after self.old (Put to kind)) self.old.side → ⊥) }
+        ensures value { result ≡ true → self.new ≡ after self.old (Put to kind) }
         ensures unchanged { result ≡ false → self.new ≡ self.old }
     {
         let side = self.side;

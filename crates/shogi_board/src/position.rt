@@ -1,6 +1,6 @@
 ghost use Rattle.std.specs.Prelude.{◌≡◌, ◌↔◌, IsTrue, MatchOption};
 ghost use Rattle.shogi_board.specs.Cells.{at, piece, HasPawnOnFile};
-ghost use Rattle.shogi_board.specs.Danger.{ComesFrom};
+ghost use Rattle.shogi_board.specs.Danger.{SeenTowards};
 ghost use Rattle.shogi_board.specs.Material.{bag_of};
 ghost use Rattle.shogi_board.specs.Keys.{key_of};
 ghost use Rattle.shogi_board.specs.Placed.{even_start, laid};
@@ -8,10 +8,10 @@ ghost use Rattle.shogi_board.specs.Reach.{Reach, Attack, Attacked};
 ghost use Rattle.shogi_board.specs.Setup.{layout_of};
 ghost use Rattle.shogi_board.specs.Sound.{IsSound};
 ghost use Rattle.shogi_board.specs.declared.kind.Kind.TheVariants.{King};
+ghost use Rattle.shogi_board.specs.declared.square.Square.{Square};
 
 use crate::board::Board;
 use crate::color::Color;
-use crate::danger::Danger;
 use crate::hand::Hand;
 use crate::keys::side_key;
 use crate::kind::Piece;
@@ -125,11 +125,10 @@ impl Position {
         }
     }
 
-    /// Does nothing: its clause says that the position is sound, for callers that do not see its
-    /// fields.
+    // Does nothing: its clause says that the position is sound, for callers that read no field.
     #[inline(always)]
-    pub fn soundness(&self)
-        ensures sound { IsSound self.now }
+    pub(crate) fn soundness(&self)
+        ensures { IsSound self.now }
     {
         // what holds of each position is known once one of its fields is read
         let _side = self.side;
@@ -198,12 +197,18 @@ pub fn attacker(position: &Position, color: Color, square: Square) -> Option<Squ
     position.board.attacker(color, square)
 }
 
-/// Whether some enemy piece of `color` reaches the square, if it is known where such a piece may
-/// be.
+// Whether some enemy piece of `color` reaches the square, if such a piece can only be in sight in
+// the direction in which the other square lies.
 #[inline(always)]
-pub fn attacked_from(position: &Position, color: Color, square: Square, danger: Danger) -> bool
-    requires danger { ComesFrom position.now.material.board color square danger }
-    ensures answer { IsTrue result ↔ Attacked position.now.material.board color square }
+pub(crate) fn attacked_towards(
+    position: &Position,
+    color: Color,
+    square: Square,
+    other: Square,
+) -> bool
+    requires { (a : Square) → Attack position.now.material.board color a square
+        → SeenTowards position.now.material.board square other a }
+    ensures { IsTrue result ↔ Attacked position.now.material.board color square }
 {
-    position.board.attacked_from(color, square, danger)
+    position.board.attacked_towards(color, square, other)
 }

@@ -56,7 +56,8 @@ impl Square {
         (self.file as usize - 1) * 9 + (self.rank as usize - 1)
     }
 
-    /// The square at that place in the order of the squares, from 0 to 80.
+    /// The square at that place in the order of the squares, from 0 to 80. Only to be called if `n`
+    /// is less than 81.
     pub fn at_place(n: usize) -> Square
         requires low { n < 81 }
         ensures value { place result ≡ n }

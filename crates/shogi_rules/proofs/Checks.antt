@@ -5,7 +5,7 @@ use Rattle.std.proofs.lemmas.Bool.{cases_eq}
 use Rattle.shogi_board.specs.Between.{Between}
 use Rattle.shogi_board.specs.Cells.{Cells, at, piece}
 use Rattle.shogi_board.specs.Moves.{turned_for}
-use Rattle.shogi_board.specs.Pieces.{opponent}
+use Rattle.shogi_board.specs.Pieces.{opponent, promoted}
 use Rattle.shogi_board.specs.Placed.{Placed}
 use Rattle.shogi_board.specs.Reach.{Attack, Attacked, InCheck, InSight, Reach, Slides, Steps}
 use Rattle.shogi_board.specs.Sound.{IsSound}
@@ -18,16 +18,15 @@ use Rattle.shogi_board.specs.declared.kind.Kind.TheVariants.{King}
 use Rattle.shogi_board.specs.declared.kind.Piece.{Piece}
 use Rattle.shogi_board.specs.declared.square.Square.{Square}
 use Rattle.shogi_board.proofs.Check.{king-check-for}
-use Rattle.shogi_board.proofs.Moves.{ray-at}
+use Rattle.shogi_board.proofs.Rays.{ray-at}
 use Rattle.shogi_board.proofs.Squares.{place-same}
-use Rattle.shogi_rules.specs.After.{after, board_after}
+use Rattle.shogi_board.specs.After.{after, board_after}
 use Rattle.shogi_rules.specs.Evasions.{MovesFrom, StopsCheck}
-use Rattle.shogi_rules.specs.Kinds.{promoted}
-use Rattle.shogi_rules.specs.Legal.{FitsBoard, Keeps, Mated, target}
-use Rattle.shogi_rules.specs.declared.moves.Move.{Move}
-use Rattle.shogi_rules.specs.declared.moves.Move.TheVariants.{Walk, Put}
-use Rattle.shogi_rules.proofs.Forms.{piece-kind}
-use Rattle.shogi_rules.proofs.Walks.{on-board}
+use Rattle.shogi_board.specs.Legal.{FitsBoard, Keeps, Mated, target}
+use Rattle.shogi_board.specs.declared.moves.Move.{Move}
+use Rattle.shogi_board.specs.declared.moves.Move.TheVariants.{Walk, Put}
+use Rattle.shogi_board.proofs.Forms.{piece-kind}
+use Rattle.shogi_board.proofs.Walks.{on-board}
 
 some-same : (p q : Piece) → Some p ≡ Some q → p ≡ q
 some-same p q e = cc

@@ -12,17 +12,19 @@ use Rattle.shogi_board.specs.declared.kind.Kind.{Kind}
 use Rattle.shogi_board.specs.declared.kind.Kind.TheVariants.{Pawn}
 use Rattle.shogi_board.specs.declared.square.Square.{Square}
 use Rattle.shogi_board.proofs.Decided.{Decision, decide-as, decide-both, decide-either, decide-implies, decide-not, decide-square, decide-kind, decide-color, decide-cell, decide-pawn_on_file, decide-reach, decide-in_check}
-use Rattle.shogi_rules.specs.After.{after}
-use Rattle.shogi_rules.specs.Kinds.{promoted, rank_for, last_rank}
-use Rattle.shogi_rules.specs.Legal.{target, kind_after, HasPiece, KindFits, TargetFree, ReachesTarget, MayPromote, HasFurtherMove, LonePawn, KingSafe, FitsBoard, Keeps, Mated, IsPawnDrop, NoDropMate, Legal}
+use Rattle.shogi_board.specs.After.{after}
+use Rattle.shogi_board.specs.Pieces.{promoted}
+use Rattle.shogi_board.specs.Kinds.{rank_for, last_rank}
+use Rattle.shogi_board.specs.Legal.{target, kind_after, HasPiece, KindFits, TargetFree, ReachesTarget, MayPromote, HasFurtherMove, LonePawn, KingSafe, FitsBoard, Keeps, Mated, IsPawnDrop, NoDropMate, Legal}
 use Rattle.shogi_rules.specs.Positions.{Played, Over, all_of, now_of}
 use Rattle.shogi_rules.specs.Repetition.{times}
-use Rattle.shogi_rules.specs.Rules.{Kept, IsFirstBroken}
-use Rattle.shogi_rules.specs.declared.moves.Move.{Move}
-use Rattle.shogi_rules.specs.declared.moves.Move.TheVariants.{Walk, Put}
-use Rattle.shogi_rules.specs.declared.rule.Rule.{Rule}
-use Rattle.shogi_rules.specs.declared.rule.Rule.TheVariants.{WrongSide, RepetitionOver, NoPiece, WrongKind, Occupied, CannotReach, BadPromotion, MustPromote, DoubledPawn, LeavesKing, PawnDropMate}
-use Rattle.shogi_rules.proofs.Forms.{piece-kind}
+use Rattle.shogi_rules.specs.Rules.{Kept}
+use Rattle.shogi_board.specs.Rules.{IsFirstBroken}
+use Rattle.shogi_board.specs.declared.moves.Move.{Move}
+use Rattle.shogi_board.specs.declared.moves.Move.TheVariants.{Walk, Put}
+use Rattle.shogi_board.specs.declared.rule.Rule.{Rule}
+use Rattle.shogi_board.specs.declared.rule.Rule.TheVariants.{WrongSide, RepetitionOver, NoPiece, WrongKind, Occupied, CannotReach, BadPromotion, MustPromote, DoubledPawn, LeavesKing, PawnDropMate}
+use Rattle.shogi_board.proofs.Forms.{piece-kind}
 
 pub decide-le : (m n : ℕ) → Decision (m ≤ n)
 decide-le m n = elim (cases_lt n m) [ inl lt ↦ inr (λ h. omega (arith, lt, h)) | inr le ↦ inl le ]

@@ -4,7 +4,7 @@ use Rattle.std.proofs.Common.{◌≡◌, ℕ, ◌<◌, ◌≤◌, true, false, g
 use Rattle.std.specs.Prelude.{MatchOption}
 use Rattle.std.proofs.lemmas.Bool.{cases_order}
 use Rattle.shogi_board.specs.Cells.{at, piece}
-use Rattle.shogi_board.specs.Pieces.{is_hand_kind, is_promoted, place_of}
+use Rattle.shogi_board.specs.Pieces.{is_hand_kind, is_promoted, place_of, promoted}
 use Rattle.shogi_board.specs.Material.{bag_of}
 use Rattle.shogi_board.specs.Placed.{Placed}
 use Rattle.shogi_board.specs.Squares.{place}
@@ -14,16 +14,15 @@ use Rattle.shogi_board.specs.declared.kind.Kind.TheVariants.{Pawn, Lance, Knight
 use Rattle.shogi_board.specs.declared.square.Square.{Square}
 use Rattle.shogi_board.proofs.Squares.{place-same}
 use Rattle.shogi_rules.specs.Evasions.{MovesFrom}
-use Rattle.shogi_rules.specs.Kinds.{promoted}
-use Rattle.shogi_rules.specs.Legal.{FitsBoard, Legal}
+use Rattle.shogi_board.specs.Legal.{FitsBoard, Legal}
 use Rattle.shogi_rules.specs.Order.{IsBefore, IsFirstLegal}
 use Rattle.shogi_rules.specs.Trying.{IsDrop, IsDropOf, IsFirstOf, IsWalk, IsWalkBetween, NoneOf}
 use Rattle.shogi_rules.specs.Verdicts.{NoLegalMove}
-use Rattle.shogi_rules.specs.declared.moves.Move.{Move}
-use Rattle.shogi_rules.specs.declared.moves.Move.TheVariants.{Walk, Put}
+use Rattle.shogi_board.specs.declared.moves.Move.{Move}
+use Rattle.shogi_board.specs.declared.moves.Move.TheVariants.{Walk, Put}
 use Rattle.shogi_rules.proofs.Checks.{walk-form}
 use Rattle.shogi_board.proofs.Drops.{held-of}
-use Rattle.shogi_rules.proofs.Forms.{held-low}
+use Rattle.shogi_board.proofs.Forms.{held-low}
 
 -- 1. Forms
 -- what promotes is not promoted, and what it becomes is

@@ -3,20 +3,22 @@ use Rattle.std.proofs.Common.{◌≡◌, ◌∙◌, ◌↔◌, IsTrue, Bool, tru
 use Rattle.std.specs.Prelude.{MatchOption, IsSomeAnd}
 use Rattle.std.proofs.lemmas.Bool.{cases_lt}
 use Rattle.shogi_board.specs.Placed.{Placed}
+use Rattle.shogi_board.specs.Sound.{IsSound}
 use Rattle.shogi_board.specs.declared.color.Color.{Color}
-use Rattle.shogi_rules.specs.After.{after}
-use Rattle.shogi_rules.specs.Legal.{Legal}
+use Rattle.shogi_board.specs.After.{after}
+use Rattle.shogi_board.specs.Legal.{Legal}
 use Rattle.shogi_rules.specs.Play.{Answers, Breaks}
-use Rattle.shogi_rules.specs.Lines.{IsOpen}
-use Rattle.shogi_rules.specs.Positions.{Played, Over, alone, line_of, max_moves, now_of, position_after, positions_of, played, begun, IsGame}
-use Rattle.shogi_rules.specs.Lines.{IsLine}
+use Rattle.shogi_rules.specs.Lines.{IsOpen, IsLine}
+use Rattle.shogi_rules.specs.Positions.{Played, Over, line_of, max_moves, now_of, position_after, positions_of, played, begun, IsGame}
 use Rattle.shogi_rules.specs.Repetition.{times, IsNth}
-use Rattle.shogi_rules.specs.Rules.{Kept, KeptAlone, move_rules, all_rules, IsFirstBroken}
+use Rattle.shogi_rules.specs.Rules.{Kept}
+use Rattle.shogi_board.specs.Rules.{KeepsRule, move_rules, all_rules, IsFirstBroken}
 use Rattle.shogi_rules.specs.declared.line.PlayFault.{PlayFault}
 use Rattle.shogi_rules.specs.declared.line.PlayFault.TheVariants.{Broken}
-use Rattle.shogi_rules.specs.declared.moves.Move.{Move}
-use Rattle.shogi_rules.specs.declared.rule.Rule.{Rule}
-use Rattle.shogi_rules.proofs.Broken.{AllKept}
+use Rattle.shogi_board.specs.declared.moves.Move.{Move}
+use Rattle.shogi_board.specs.declared.rule.Rule.{Rule}
+use Rattle.shogi_board.proofs.Broken.{AllKept}
+use Rattle.shogi_board.proofs.Kept.{leads-to-sound}
 use Rattle.shogi_rules.proofs.Counted.{times-low, times-last, times-kept, times-whole, get-following}
 use Rattle.shogi_rules.proofs.Counting.{times-apart}
 use Rattle.shogi_board.specs.Same.{same_position}
@@ -27,8 +29,8 @@ all-of-none kept [] h = tt
 all-of-none kept (x ∷ xs) (inl h) = let e = h.1 in cc
 all-of-none kept (x ∷ xs) (inr h) = (h.0, all-of-none kept xs h.1)
 
-legal-of-moves : (line : Played) (c : Color) (m : Move) → AllKept (Kept line c m) move_rules → Legal (now_of line) m
-legal-of-moves line c m all =
+legal-of-moves : (p : Placed) (m : Move) → AllKept (KeepsRule p m) move_rules → Legal p m
+legal-of-moves p m all =
     let r3 = all.1 in
     let r4 = r3.1 in
     let r5 = r4.1 in
@@ -59,20 +61,20 @@ none-of-all kept [] answer all h = h
 none-of-all kept (x ∷ xs) answer all (inl h) = absurd (h.0 all.0)
 none-of-all kept (x ∷ xs) answer all (inr h) = none-of-all kept xs answer all.1 h.1
 
-moves-of-legal : (line : Played) (c : Color) (m : Move) → Legal (now_of line) m → AllKept (Kept line c m) move_rules
-moves-of-legal line c m l =
+moves-of-legal : (p : Placed) (m : Move) → Legal p m → AllKept (KeepsRule p m) move_rules
+moves-of-legal p m l =
     let f = l.keeps.fits in
     (f.has_piece, (f.kind_fits, (f.target_free, (f.reaches, (f.may_promote, (f.further_move, (f.lone_pawn, (l.keeps.king_safe, (l.no_drop_mate, tt)))))))))
 
 -- of the side to move, no rule is broken exactly where the move is legal
-pub none-legal : (p : Placed) (c : Color) (m : Move) (answer : Option Rule) → c ≡ p.side → IsFirstBroken (Kept (alone p) p.side m) move_rules answer → (answer ≡ None) ↔ ((c ≡ p.side) × Legal p m)
+pub none-legal : (p : Placed) (c : Color) (m : Move) (answer : Option Rule) → c ≡ p.side → IsFirstBroken (KeepsRule p m) move_rules answer → (answer ≡ None) ↔ ((c ≡ p.side) × Legal p m)
 none-legal p c m answer same h = (
-  λ e. (same, let none : IsFirstBroken (Kept (alone p) p.side m) move_rules None = rw e at h in legal-of-moves (alone p) p.side m (all-of-none (Kept (alone p) p.side m) move_rules none)),
-  λ l. none-of-all (Kept (alone p) p.side m) move_rules answer (moves-of-legal (alone p) p.side m l.1) h,
+  λ e. (same, let none : IsFirstBroken (KeepsRule p m) move_rules None = rw e at h in legal-of-moves p m (all-of-none (KeepsRule p m) move_rules none)),
+  λ l. none-of-all (KeepsRule p m) move_rules answer (moves-of-legal p m l.1) h,
 )
 
 pub legal-of-none : (line : Played) (c : Color) (m : Move) → IsFirstBroken (Kept line c m) all_rules None → Legal (now_of line) m
-legal-of-none line c m h = let all = all-of-none (Kept line c m) all_rules h in let rest = all.1 in legal-of-moves line c m rest.1
+legal-of-none line c m h = let all = all-of-none (Kept line c m) all_rules h in let rest = all.1 in legal-of-moves (now_of line) m rest.1
 
 pub position-more : (s : Placed) (ms : List Move) (m : Move) → position_after s (ms ++ m ∷ []) ≡ after (position_after s ms) m
 position-more s [] m = refl
@@ -164,7 +166,14 @@ broken-answer line color m (Some r) None Is few breaks h broken = absurd h
 broken-answer line color m (Some r) (Some f) Is few breaks h broken = subst (λ (g : PlayFault). Answers line color m (Some g)) (sym (broken r f h)) (few, breaks)
 
 -- the first broken rule of all, where the side may play
-pub breaks-of : (line : Played) (last : Placed) (color : Color) (m : Move) (answer : Option Rule) → last ≡ now_of line → IsOpen line color → IsFirstBroken (KeptAlone last m) move_rules answer → Breaks line color m answer
+pub breaks-of : (line : Played) (last : Placed) (color : Color) (m : Move) (answer : Option Rule) → last ≡ now_of line → IsOpen line color → IsFirstBroken (KeepsRule last m) move_rules answer → Breaks line color m answer
 breaks-of line last color m answer e may broken =
-    let moved : IsFirstBroken (KeptAlone (now_of line) m) move_rules answer = subst (λ (p : Placed). IsFirstBroken (KeptAlone p m) move_rules answer) e broken in
+    let moved : IsFirstBroken (KeepsRule (now_of line) m) move_rules answer = subst (λ (p : Placed). IsFirstBroken (KeepsRule p m) move_rules answer) e broken in
     inr (may.turn, inr (may.not_over, moved))
+
+-- a game leads from a sound position to a sound one
+pub game-sound : (start : Placed) (moves : List Move) → IsSound start → IsGame start moves → IsSound (position_after start moves)
+game-sound start _ sound begun = sound
+game-sound start _ sound (played before m game follows) =
+    let now = game-sound start before sound game in
+    rw (position-more start before m) (leads-to-sound (position_after start before) m now follows.legal.keeps)

@@ -13,7 +13,7 @@ use Rattle.shogi_board.specs.declared.kind.Piece.{Piece}
 use Rattle.shogi_board.specs.declared.square.Square.{Square}
 use Rattle.shogi_board.proofs.OneOf.{OneOf, one-of, any-of}
 use Rattle.shogi_board.proofs.Pieces.{mover-is}
-use Rattle.shogi_rules.specs.Kinds.{rank_for, last_rank}
+use Rattle.shogi_board.specs.Kinds.{rank_for, last_rank}
 
 abbrev Step : Color → Square → Square → Direction → Type 0
 Step color a b d = IsAway a (turned_for color d) 1 b

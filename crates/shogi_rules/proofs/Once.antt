@@ -5,11 +5,12 @@ use Rattle.shogi_board.specs.declared.color.Color.{Color}
 use Rattle.shogi_rules.specs.Order.{IsFirstLegal}
 use Rattle.shogi_rules.specs.Play.{Answers}
 use Rattle.shogi_rules.specs.Positions.{Played}
-use Rattle.shogi_rules.specs.Rules.{Kept, all_rules, IsFirstBroken}
+use Rattle.shogi_rules.specs.Rules.{Kept}
+use Rattle.shogi_board.specs.Rules.{all_rules, IsFirstBroken}
 use Rattle.shogi_rules.specs.declared.line.PlayFault.{PlayFault}
 use Rattle.shogi_rules.specs.declared.line.PlayFault.TheVariants.{TooManyMoves, Broken, OutOfMemory}
-use Rattle.shogi_rules.specs.declared.moves.Move.{Move}
-use Rattle.shogi_rules.specs.declared.rule.Rule.{Rule}
+use Rattle.shogi_board.specs.declared.moves.Move.{Move}
+use Rattle.shogi_board.specs.declared.rule.Rule.{Rule}
 use Rattle.shogi_rules.proofs.Firsts.{ordered}
 
 pub one-broken : (kept : Rule → Type 0) (xs : List Rule) (a b : Option Rule) → IsFirstBroken kept xs a → IsFirstBroken kept xs b → a ≡ b

@@ -9,18 +9,19 @@ use Rattle.shogi_board.specs.declared.color.Color.{Color}
 use Rattle.shogi_board.specs.declared.color.Color.TheVariants.{Black, White}
 use Rattle.shogi_board.proofs.Decided.{Decision, Below, decide-as, decide-both, decide-implies, decide-not, decide-below, decide-color, decide-in_check}
 use Rattle.shogi_board.proofs.Same.{position-same}
-use Rattle.shogi_rules.specs.Legal.{Legal}
+use Rattle.shogi_board.specs.Legal.{Legal}
 use Rattle.shogi_rules.specs.Play.{Answers}
 use Rattle.shogi_rules.specs.Positions.{Played, Over, now_of, all_of}
 use Rattle.shogi_rules.specs.Repetition.{times, IsNth, PressedAt, Pressed}
-use Rattle.shogi_rules.specs.Rules.{Kept, all_rules, IsFirstBroken}
+use Rattle.shogi_rules.specs.Rules.{Kept}
+use Rattle.shogi_board.specs.Rules.{all_rules, IsFirstBroken}
 use Rattle.shogi_rules.specs.Verdicts.{IsStretch, PressedAlone, StandsByMoves, StandsByStretch, Stands}
 use Rattle.shogi_rules.specs.declared.line.PlayFault.{PlayFault}
 use Rattle.shogi_rules.specs.declared.line.PlayFault.TheVariants.{TooManyMoves, Broken}
 use Rattle.shogi_rules.specs.declared.line.Verdict.{Verdict}
 use Rattle.shogi_rules.specs.declared.line.Verdict.TheVariants.{Ongoing, Mate, NoMove, Repetition, Perpetual}
-use Rattle.shogi_rules.specs.declared.moves.Move.{Move}
-use Rattle.shogi_rules.specs.declared.rule.Rule.{Rule}
+use Rattle.shogi_board.specs.declared.moves.Move.{Move}
+use Rattle.shogi_board.specs.declared.rule.Rule.{Rule}
 use Rattle.shogi_rules.proofs.Counts.{first}
 use Rattle.shogi_rules.proofs.Decided.{decide-kept, decide-le, decide-legal, decide-lt, decide-move, decide-over, some-broken}
 

@@ -1,8 +1,5 @@
-pub mod After
 pub mod Counting
 pub mod Evasions
-pub mod Kinds
-pub mod Legal
 pub mod Lines
 pub mod Order
 pub mod Play

@@ -3,10 +3,11 @@ use Rattle.std.specs.Prelude.{◌<◌, ◌≤◌, Option, Some, None, length}
 use Rattle.shogi_board.specs.declared.color.Color.{Color}
 use Rattle.shogi_rules.specs.declared.line.PlayFault.{PlayFault}
 use Rattle.shogi_rules.specs.declared.line.PlayFault.TheVariants.{TooManyMoves, Broken, OutOfMemory}
-use Rattle.shogi_rules.specs.declared.moves.Move.{Move}
-use Rattle.shogi_rules.specs.declared.rule.Rule.{Rule}
+use Rattle.shogi_board.specs.declared.moves.Move.{Move}
+use Rattle.shogi_board.specs.declared.rule.Rule.{Rule}
 use Rattle.shogi_rules.specs.Positions.{Played, max_moves}
-use Rattle.shogi_rules.specs.Rules.{Kept, all_rules, IsFirstBroken}
+use Rattle.shogi_rules.specs.Rules.{Kept}
+use Rattle.shogi_board.specs.Rules.{all_rules, IsFirstBroken}
 
 -- the first rule that the move breaks, over all positions of the line
 abbrev pub Breaks : Played → Color → Move → Option Rule → Type 0

@@ -4,9 +4,9 @@ use Rattle.std.specs.Prelude.{◌≡◌}
 use Rattle.shogi_board.specs.Placed.{Placed}
 use Rattle.shogi_board.specs.declared.kind.Kind.{Kind}
 use Rattle.shogi_board.specs.declared.square.Square.{Square}
-use Rattle.shogi_rules.specs.declared.moves.Move.{Move}
-use Rattle.shogi_rules.specs.declared.moves.Move.TheVariants.{Walk, Put}
-use Rattle.shogi_rules.specs.Legal.{Legal}
+use Rattle.shogi_board.specs.declared.moves.Move.{Move}
+use Rattle.shogi_board.specs.declared.moves.Move.TheVariants.{Walk, Put}
+use Rattle.shogi_board.specs.Legal.{Legal}
 use Rattle.shogi_rules.specs.Order.{IsBefore}
 
 abbrev pub IsWalk : Move → Type 0

@@ -6,8 +6,8 @@ use Rattle.shogi_board.specs.Reach.{InCheck}
 use Rattle.shogi_board.specs.declared.color.Color.{Color}
 use Rattle.shogi_rules.specs.declared.line.Verdict.{Verdict}
 use Rattle.shogi_rules.specs.declared.line.Verdict.TheVariants.{Ongoing, Mate, NoMove, Repetition, Perpetual}
-use Rattle.shogi_rules.specs.declared.moves.Move.{Move}
-use Rattle.shogi_rules.specs.Legal.{Legal}
+use Rattle.shogi_board.specs.declared.moves.Move.{Move}
+use Rattle.shogi_board.specs.Legal.{Legal}
 use Rattle.shogi_rules.specs.Positions.{Played, Over, all_of, now_of}
 use Rattle.shogi_rules.specs.Repetition.{IsNth, Pressed}
 

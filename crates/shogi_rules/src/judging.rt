@@ -1,24 +1,21 @@
-ghost use Rattle.std.specs.Prelude.{◌≡◌, ◌↔◌, IsTrue, true, [], ◌∷◌, None, Some};
+ghost use Rattle.std.specs.Prelude.{◌≡◌, ◌↔◌, IsTrue, None, Some};
+ghost use Rattle.shogi_board.specs.After.{after};
+ghost use Rattle.shogi_board.specs.Legal.{IsPawnDrop, Keeps, Legal, Mated};
 ghost use Rattle.shogi_board.specs.Reach.{InCheck};
-ghost use Rattle.shogi_rules.specs.declared.rule.Rule.TheVariants.{RepetitionOver};
-ghost use Rattle.shogi_rules.specs.Legal.{IsPawnDrop, Legal, Mated};
-ghost use Rattle.shogi_rules.specs.Rules.{KeptAt, KeptAlone, move_rules, all_rules, IsFirstBroken};
+ghost use Rattle.shogi_board.specs.Rules.{KeepsRule, move_rules, all_rules, IsFirstBroken};
+ghost use Rattle.shogi_board.specs.declared.rule.Rule.TheVariants.{RepetitionOver};
+ghost use Rattle.shogi_rules.specs.Rules.{KeptAt};
 
 use crate::evasions::is_mated;
-use crate::moves::Move;
-use crate::playing::make_if_kept;
-use crate::rule::Rule;
 use crate::search::is_pawn_drop;
-use shogi_board::{Color, Position};
+use shogi_board::{Color, Move, Position, Rule, Situation, attacked};
 
-// The first of the rules 3 to 11 that the side to move breaks by the move. The king of that side
-// may be known to be safe before the move.
-pub(crate) fn broken_by_side(position: &Position, safe: bool, mv: &Move) -> Option<Rule>
-    requires { safe ≡ true → InCheck position.now.material.board position.now.side → ⊥ }
-    ensures { IsFirstBroken (KeptAlone position.now mv.now) move_rules result }
+// The first of the rules 3 to 11 that the side to move breaks by the move.
+pub(crate) fn broken_by_side(position: &Position, mv: &Move) -> Option<Rule>
+    ensures { IsFirstBroken (KeepsRule position.now mv.now) move_rules result }
 {
-    let mut next = *position;
-    if let Some(rule) = make_if_kept(&mut next, safe, mv) {
+    let mut next = Situation::new(*position);
+    if let Err(rule) = next.play(mv) {
         return Some(rule);
     }
     if mates(&next, mv) {
@@ -28,20 +25,12 @@ pub(crate) fn broken_by_side(position: &Position, safe: bool, mv: &Move) -> Opti
     }
 }
 
-// Whether the move that led to the position is a pawn put down that mates.
-pub(crate) fn mates(position: &Position, mv: &Move) -> bool
-    ensures { IsTrue result ↔ (IsPawnDrop mv.now × Mated position.now) }
-{
-    is_pawn_drop(mv) && is_mated(position)
-}
-
-// The same, if it is known whether the side to move is in check.
+// Whether the move that led to the situation is a pawn put down that mates.
 #[inline(always)]
-pub(crate) fn mates_by_pawn_drop(position: &Position, mv: &Move, in_check: bool) -> bool
-    requires { IsTrue in_check ↔ InCheck position.now.material.board position.now.side }
-    ensures { IsTrue result ↔ (IsPawnDrop mv.now × Mated position.now) }
+pub(crate) fn mates(situation: &Situation, mv: &Move) -> bool
+    ensures { IsTrue result ↔ (IsPawnDrop mv.now × Mated situation.now) }
 {
-    in_check && mates(position, mv)
+    is_pawn_drop(mv) && is_mated(situation)
 }
 
 /// The first rule that the move of that side breaks, in the order of their numbers, or None exactly
@@ -56,5 +45,31 @@ pub fn judge(position: &Position, mover: Color, mv: &Move) -> Option<Rule>
     if mover != position.side() {
         return Some(Rule::WrongSide);
     }
-    broken_by_side(position, false, mv)
+    broken_by_side(position, mv)
+}
+
+/// The position after the move of the side to move.
+///
+/// Only to be called if the move keeps the rules 3 to 10. A move for which `judge` returns None for
+/// the side to move does.
+pub fn after(position: &Position, mv: &Move) -> Position
+    requires kept { Keeps position.now mv.now }
+    ensures value { result ≡ after position.now mv.now }
+{
+    let mut next = Situation::new(*position);
+    match next.play(mv) {
+        Ok(()) => *next.position(),
+        // unreachable, since the rules are kept
+        Err(_) => *position,
+    }
+}
+
+/// Whether the side to move is in check: it has a king, and an enemy piece reaches it.
+pub fn in_check(position: &Position) -> bool
+    ensures check { IsTrue result ↔ InCheck position.now.material.board position.now.side }
+{
+    let side = position.side();
+    position
+        .king(side)
+        .is_some_and(|king| attacked(position, side, king))
 }

@@ -3,7 +3,6 @@
 //! A law is a function that does nothing: its contract is the law.
 
 ghost use Rattle.std.specs.Prelude.{◌≡◌, ℕ, ◌+◌, ◌<◌, ◌≤◌, ◌↔◌, List, [], ◌∷◌, Option, Some, slice_get, length};
-ghost use Rattle.std.specs.List.Sorted.{IsStrictlySortedBy};
 ghost use Rattle.shogi_board.specs.Cells.{Cells, at, piece};
 ghost use Rattle.shogi_board.specs.Pieces.{opponent};
 ghost use Rattle.shogi_board.specs.Placed.{Placed};
@@ -14,22 +13,23 @@ ghost use Rattle.shogi_board.specs.declared.color.Color.{Color};
 ghost use Rattle.shogi_board.specs.declared.kind.Kind.{Kind};
 ghost use Rattle.shogi_board.specs.declared.kind.Kind.TheVariants.{King, Pawn, Lance, Knight};
 ghost use Rattle.shogi_board.specs.declared.square.Square.{Square};
-ghost use Rattle.shogi_rules.specs.After.{after};
+ghost use Rattle.shogi_board.specs.After.{after};
 ghost use Rattle.shogi_rules.specs.Evasions.{MovesFrom, StopsCheck};
-ghost use Rattle.shogi_rules.specs.Kinds.{rank_for, last_rank};
-ghost use Rattle.shogi_rules.specs.Legal.{FitsBoard, HasPiece, Keeps, ReachesTarget, Legal, target};
+ghost use Rattle.shogi_board.specs.Kinds.{rank_for, last_rank};
+ghost use Rattle.shogi_board.specs.Legal.{FitsBoard, HasPiece, Keeps, ReachesTarget, Legal, target};
 ghost use Rattle.shogi_rules.specs.Order.{IsFirstLegal};
 ghost use Rattle.shogi_rules.specs.Play.{Answers};
 ghost use Rattle.shogi_rules.specs.Positions.{Played, Over, position_after, IsGame, now_of, all_of};
 ghost use Rattle.shogi_rules.specs.Repetition.{times, IsNth};
-ghost use Rattle.shogi_rules.specs.Rules.{Kept, all_rules, IsFirstBroken};
+ghost use Rattle.shogi_rules.specs.Rules.{Kept};
+ghost use Rattle.shogi_board.specs.Rules.{all_rules, IsFirstBroken};
 ghost use Rattle.shogi_rules.specs.Verdicts.{Stands};
 ghost use Rattle.shogi_rules.specs.declared.line.PlayFault.{PlayFault};
 ghost use Rattle.shogi_rules.specs.declared.line.Verdict.{Verdict};
-ghost use Rattle.shogi_rules.specs.declared.moves.Move.{Move};
-ghost use Rattle.shogi_rules.specs.declared.rule.Rule.{Rule};
+ghost use Rattle.shogi_board.specs.declared.moves.Move.{Move};
+ghost use Rattle.shogi_board.specs.declared.rule.Rule.{Rule};
 
-use crate::rule::Rule;
+pub use shogi_board::laws::ordered_rules;
 
 /// In a sound position no walk of an own piece that reaches its target lands on the enemy king.
 pub fn king_never_taken()
@@ -56,7 +56,7 @@ pub fn legal_move_keeps_soundness()
     ensures kept { (p : Placed) (m : Move) → IsSound p → Keeps p m → IsSound (after p m) }
 {}
 
-/// So does a game.
+/// A game leads from a sound position to a sound one.
 pub fn game_keeps_soundness()
     ensures sound { (start : Placed) (moves : List Move) → IsSound start → IsGame start moves
         → IsSound (position_after start moves) }
@@ -117,11 +117,6 @@ pub fn one_answer()
 pub fn some_answer()
     ensures answer { (line : Played) (color : Color) (m : Move)
         → (answer : Option PlayFault) × Answers line color m answer }
-{}
-
-/// Rules are in the order in which the first broken one is named.
-pub fn ordered_rules()
-    ensures named { IsStrictlySortedBy ⟦<Rule as Ord>⟧.cmp all_rules }
 {}
 
 /// At most one move is the first legal one.

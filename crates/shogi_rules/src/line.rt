@@ -1,5 +1,5 @@
-ghost use Rattle.std.specs.Prelude.{◌≡◌, ◌≤◌, ◌++◌, [], ◌∷◌, IfOk, OnOk, OnErr, MatchOption, MatchResult, length, ◌⊎◌, ◌↔◌, IsTrue, true, None, Some};
-ghost use Rattle.shogi_board.specs.Reach.{InCheck};
+ghost use Rattle.std.specs.Prelude.{◌≡◌, ◌≤◌, ◌++◌, [], ◌∷◌, IfOk, OnOk, OnErr, MatchOption, MatchResult, length, ◌⊎◌, ◌↔◌, IsTrue, None, Some};
+ghost use Rattle.shogi_board.specs.Sound.{IsSound};
 ghost use Rattle.shogi_rules.specs.Positions.{Over, max_moves, now_of, all_of, IsGame};
 ghost use Rattle.shogi_rules.specs.Play.{Answers};
 ghost use Rattle.shogi_rules.specs.Lines.{IsOpen};
@@ -7,14 +7,11 @@ ghost use Rattle.shogi_rules.specs.Repetition.{times};
 ghost use Rattle.shogi_rules.specs.Verdicts.{Stands};
 ghost use Rattle.shogi_rules.specs.declared.line.PlayFault.TheVariants.{OutOfMemory};
 
-use crate::judging::{broken_by_side, mates_by_pawn_drop};
-use crate::moves::Move;
+use crate::judging::{broken_by_side, mates};
 use crate::occurrences::FIRST_ROOM;
-use crate::playing::{gives_check, in_check, make_if_kept};
 use crate::repetition::{verdict_by_moves, verdict_of_stretch};
-use crate::rule::Rule;
 use crate::seen::Seen;
-use shogi_board::{Color, Position};
+use shogi_board::{Color, Move, Position, Rule, Situation};
 use std::alloc::Global;
 use std::marker::Model;
 use thiserror::Error;
@@ -59,15 +56,15 @@ pub const MAX_MOVES: usize = 10_000;
 pub struct Line {
     start: Position,
     moves: Vec<Move>,
+    // the position that the moves lead to
+    last: Situation,
     // of all positions, the start and the last one too
     seen: Seen,
-    // whether the side to move is in check in the last one
-    in_check: bool,
 }
 
 impl Model for Line {
-    ghost use Rattle.std.specs.Prelude.{◌≡◌, ◌↔◌, IsTrue};
-    ghost use Rattle.shogi_board.specs.Reach.{InCheck};
+    ghost use Rattle.std.specs.Prelude.{◌≡◌};
+    ghost use Rattle.shogi_board.specs.Sound.{IsSound};
     ghost use Rattle.shogi_rules.specs.Counting.{IsSeen};
     ghost use Rattle.shogi_rules.specs.Positions.{Played, position_after, positions_of};
     ghost use Rattle.shogi_rules.specs.Lines.{IsLine};
@@ -78,8 +75,7 @@ impl Model for Line {
 
     ghost invariant = { (λ l. IsLine l.start l.moves.items
         × IsSeen (positions_of l.start l.moves.items) (position_after l.start l.moves.items) l.seen
-        × (IsTrue l.in_check ↔ InCheck (position_after l.start l.moves.items).material.board
-        (position_after l.start l.moves.items).side)) };
+        × (l.last ≡ position_after l.start l.moves.items) × IsSound l.start) };
 }
 
 impl Line {
@@ -88,13 +84,14 @@ impl Line {
     /// Returns OutOfMemory if an allocation fails.
     pub fn new(alloc: Global, start: Position) -> Result<Line, shogi_board::OutOfMemory>
         ensures line { IfOk result (λ l. l ≡ record { start = start; moves = [] }) }
+        ensures sound { IsSound start }
     {
-        let in_check = in_check(&start);
+        let last = Situation::new(start);
         Ok(Line {
             start,
             moves: Vec::with_capacity(alloc, FIRST_ROOM)?,
-            seen: Seen::new(alloc, &start, in_check)?,
-            in_check,
+            seen: Seen::new(alloc, &last)?,
+            last,
         })
     }
 
@@ -110,6 +107,7 @@ impl Line {
         ensures value { result.now ≡ self.now.moves }
         ensures game { IsGame self.now.start self.now.moves }
         ensures few { length self.now.moves ≤ max_moves }
+        ensures sound { IsSound self.now.start }
     {
         self.moves.as_slice()
     }
@@ -118,7 +116,7 @@ impl Line {
     pub fn now(&self) -> Position
         ensures value { result ≡ now_of self.now }
     {
-        *self.seen.last()
+        *self.last.position()
     }
 
     // Whether no more moves may be played.
@@ -137,8 +135,8 @@ impl Line {
 
     /// Whether the position that its moves lead to occurs for the fourth time.
     ///
-    /// Then `play` refuses each move, and `verdict` is Repetition or Perpetual. It takes one look
-    /// at what the line has counted, and searches for no move and no mate.
+    /// Then `play` refuses each move, and `verdict` is Repetition or Perpetual. It only reads a count
+    /// that the line keeps; it does not search for moves.
     pub fn is_over(&self) -> bool
         ensures answer { IsTrue result ↔ Over self.now }
     {
@@ -149,15 +147,7 @@ impl Line {
     fn side(&self) -> Color
         ensures { result ≡ (now_of self.now).side }
     {
-        self.seen.last().side()
-    }
-
-    // Whether the side to move is not in check.
-    fn is_safe(&self) -> bool
-        ensures { result ≡ true → InCheck (now_of self.now).material.board (now_of self.now).side
-            → ⊥ }
-    {
-        !self.in_check
+        self.last.position().side()
     }
 
     // What `play` refuses whatever that side's move is, or None.
@@ -178,14 +168,14 @@ impl Line {
         None
     }
 
-    /// What `play` would refuse, memory aside, or None.
+    /// Why `play` would refuse the move, apart from lack of memory; None if it would not.
     pub fn fault(&self, mover: Color, mv: &Move) -> Option<PlayFault>
         ensures answer { Answers self.now mover mv.now result }
     {
         if let Some(fault) = self.closed(mover) {
             return Some(fault);
         }
-        broken_by_side(self.seen.last(), self.is_safe(), mv).map(PlayFault::Broken)
+        broken_by_side(self.last.position(), mv).map(PlayFault::Broken)
     }
 
     // What `play` refuses if there is no room for the move.
@@ -213,26 +203,25 @@ impl Line {
         if let Some(fault) = self.closed(mover) {
             return Err(fault);
         }
-        let safe = self.is_safe();
         if self.moves.reserve(1).is_err() {
             return Err(self.fault_without_room(mover, &mv));
         }
-        let last = self.seen.last();
-        let mut next = *last;
-        if let Some(rule) = make_if_kept(&mut next, safe, &mv) {
+        if let Err(rule) = self.last.play(&mv) {
             return Err(PlayFault::Broken(rule));
         }
-        let in_check = gives_check(last, &next, &mv);
-        if mates_by_pawn_drop(&next, &mv, in_check) {
+        if mates(&self.last, &mv) {
+            self.last = Situation::new(*self.seen.last());
             return Err(PlayFault::Broken(Rule::PawnDropMate));
         }
-        match self.seen.push(&next, in_check) {
+        match self.seen.push(&self.last) {
             Ok(()) => {
                 self.moves.push_reserved(mv);
-                self.in_check = in_check;
                 Ok(())
             }
-            Err(_) => Err(PlayFault::OutOfMemory),
+            Err(_) => {
+                self.last = Situation::new(*self.seen.last());
+                Err(PlayFault::OutOfMemory)
+            }
         }
     }
 
@@ -244,7 +233,7 @@ impl Line {
         if self.is_over() {
             verdict_of_stretch(&self.seen)
         } else {
-            verdict_by_moves(self.seen.last())
+            verdict_by_moves(&self.last)
         }
     }
 }

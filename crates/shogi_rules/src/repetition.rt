@@ -8,10 +8,9 @@ ghost use Rattle.shogi_rules.specs.Verdicts.{PressedAlone, StandsByMoves, Stands
 
 use crate::evasions::is_mated;
 use crate::line::Verdict;
-use crate::playing::in_check;
-use crate::search::first_legal;
+use crate::search::first_move;
 use crate::seen::{Seen, Turn};
-use shogi_board::{Color, Position};
+use shogi_board::{Color, Situation};
 
 // Whether the move from the place gave check, if it is one of that side.
 fn gave_check(turns: &[Turn], place: usize, color: Color) -> bool
@@ -70,17 +69,17 @@ pub(crate) fn verdict_of_stretch(seen: &Seen) -> Verdict
 }
 
 // The verdict on a line whose last position has occurred less than four times.
-pub(crate) fn verdict_by_moves(p: &Position) -> Verdict
-    ensures { StandsByMoves p.now result }
+pub(crate) fn verdict_by_moves(situation: &Situation) -> Verdict
+    ensures { StandsByMoves situation.now result }
 {
-    if is_mated(p) {
+    if is_mated(situation) {
         return Verdict::Mate;
     }
-    match first_legal(p) {
+    match first_move(situation) {
         Some(_) => Verdict::Ongoing,
         None => {
             // in check only a pawn drop would help, and it is not legal, since it mates
-            if in_check(p) {
+            if situation.in_check() {
                 Verdict::Mate
             } else {
                 Verdict::NoMove

@@ -1,19 +1,17 @@
 ghost use Rattle.std.specs.Prelude.{◌≡◌, ◌<◌, ◌↔◌, IsTrue, MatchOption, true};
+ghost use Rattle.shogi_board.specs.Cells.{at, piece};
 ghost use Rattle.shogi_board.specs.Pieces.{is_hand_kind, place_of};
 ghost use Rattle.shogi_board.specs.Squares.{place};
 ghost use Rattle.shogi_board.specs.declared.kind.Kind.{Kind};
 ghost use Rattle.shogi_board.specs.declared.kind.Kind.TheVariants.{Pawn};
 ghost use Rattle.shogi_rules.specs.Evasions.{MovesFrom};
-ghost use Rattle.shogi_rules.specs.Legal.{Legal, IsPawnDrop};
+ghost use Rattle.shogi_board.specs.Legal.{Legal, IsPawnDrop};
 ghost use Rattle.shogi_rules.specs.Order.{IsFirstLegal};
 ghost use Rattle.shogi_rules.specs.Trying.{IsFirstOf, NoneOf, IsWalk, IsDrop, IsDropOf, IsWalkBetween};
 ghost use Rattle.shogi_rules.specs.Verdicts.{NoLegalMove};
 
-use crate::board_rules::own_kind_at;
-use crate::judging::mates;
-use crate::moves::Move;
-use crate::playing::after_if_kept;
-use shogi_board::{Kind, Position, Square, reaches};
+use crate::judging::broken_by_side;
+use shogi_board::{Kind, Move, Position, Situation, Square, reaches};
 
 // The kinds that a hand holds, in order.
 pub(crate) fn hand_kind(n: usize) -> Kind
@@ -32,6 +30,22 @@ pub(crate) fn hand_kind(n: usize) -> Kind
     }
 }
 
+// The kind of the piece on the square, if it is one of the side to move.
+pub(crate) fn own_kind_at(situation: &Situation, square: Square) -> Option<Kind>
+    ensures { MatchOption result
+        ((kind : Kind) → at situation.now.material.board square ≡ piece situation.now.side kind
+        → ⊥)
+        (λ kind. at situation.now.material.board square ≡ piece situation.now.side kind) }
+{
+    let position = situation.position();
+    let piece = position.piece_at(square)?;
+    if piece.color == position.side() {
+        Some(piece.kind)
+    } else {
+        None
+    }
+}
+
 pub(crate) fn is_pawn_drop(mv: &Move) -> bool
     ensures { IsTrue result ↔ IsPawnDrop mv.now }
 {
@@ -42,21 +56,21 @@ pub(crate) fn is_pawn_drop(mv: &Move) -> bool
 }
 
 // Whether the move of the side to move breaks none of the rules 3 to 11.
-fn is_legal(position: &Position, mv: &Move) -> bool
-    ensures { IsTrue result ↔ Legal position.now mv.now }
+fn is_legal(situation: &Situation, mv: &Move) -> bool
+    ensures { IsTrue result ↔ Legal situation.now mv.now }
 {
-    match after_if_kept(position, mv) {
-        Ok(next) => !mates(&next, mv),
-        Err(_) => false,
+    if is_pawn_drop(mv) {
+        return broken_by_side(situation.position(), mv).is_none();
     }
+    situation.keeps(mv)
 }
 
 // The move, if it is legal.
-fn if_legal(position: &Position, mv: Move) -> Option<Move>
-    ensures { MatchOption result (Legal position.now mv → ⊥)
-        (λ m. (m ≡ mv) × Legal position.now m) }
+fn if_legal(situation: &Situation, mv: Move) -> Option<Move>
+    ensures { MatchOption result (Legal situation.now mv → ⊥)
+        (λ m. (m ≡ mv) × Legal situation.now m) }
 {
-    if is_legal(position, &mv) {
+    if is_legal(situation, &mv) {
         Some(mv)
     } else {
         None
@@ -64,17 +78,17 @@ fn if_legal(position: &Position, mv: Move) -> Option<Move>
 }
 
 // The first legal walk from the one square to the other, if the piece reaches it.
-fn first_form(position: &Position, from: Square, to: Square) -> Option<Move>
+fn first_form(situation: &Situation, from: Square, to: Square) -> Option<Move>
     ensures { MatchOption result
-        (NoneOf position.now (IsWalkBetween from to))
-        (λ m. IsFirstOf position.now (IsWalkBetween from to) m) }
+        (NoneOf situation.now (IsWalkBetween from to))
+        (λ m. IsFirstOf situation.now (IsWalkBetween from to) m) }
 {
-    let was = own_kind_at(position, from)?;
-    if !reaches(position, from, to) {
+    let was = own_kind_at(situation, from)?;
+    if !reaches(situation.position(), from, to) {
         return None;
     }
     if let Some(mv) = if_legal(
-        position,
+        situation,
         Move::Walk {
             from,
             to,
@@ -84,32 +98,32 @@ fn first_form(position: &Position, from: Square, to: Square) -> Option<Move>
         return Some(mv);
     }
     let kind = was.promoted()?;
-    if_legal(position, Move::Walk { from, to, kind })
+    if_legal(situation, Move::Walk { from, to, kind })
 }
 
 // The first legal walk from the square.
-fn first_walk_from(position: &Position, from: Square) -> Option<Move>
+fn first_walk_from(situation: &Situation, from: Square) -> Option<Move>
     ensures { MatchOption result
-        (NoneOf position.now (MovesFrom from))
-        (λ m. IsFirstOf position.now (MovesFrom from) m) }
+        (NoneOf situation.now (MovesFrom from))
+        (λ m. IsFirstOf situation.now (MovesFrom from) m) }
 {
-    if own_kind_at(position, from).is_none() {
+    if own_kind_at(situation, from).is_none() {
         return None;
     }
     for n in 0..81usize {
-        if let Some(mv) = first_form(position, from, Square::at_place(n)) {
+        if let Some(mv) = first_form(situation, from, Square::at_place(n)) {
             return Some(mv);
         }
     }
     None
 }
 
-fn first_walk(position: &Position) -> Option<Move>
-    ensures { MatchOption result (NoneOf position.now IsWalk)
-        (λ m. IsFirstOf position.now IsWalk m) }
+fn first_walk(situation: &Situation) -> Option<Move>
+    ensures { MatchOption result (NoneOf situation.now IsWalk)
+        (λ m. IsFirstOf situation.now IsWalk m) }
 {
     for n in 0..81usize {
-        if let Some(mv) = first_walk_from(position, Square::at_place(n)) {
+        if let Some(mv) = first_walk_from(situation, Square::at_place(n)) {
             return Some(mv);
         }
     }
@@ -117,29 +131,30 @@ fn first_walk(position: &Position) -> Option<Move>
 }
 
 // The first legal drop of that kind.
-fn first_drop_of(position: &Position, kind: Kind) -> Option<Move>
+fn first_drop_of(situation: &Situation, kind: Kind) -> Option<Move>
     ensures { MatchOption result
-        (NoneOf position.now (IsDropOf kind))
-        (λ m. IsFirstOf position.now (IsDropOf kind) m) }
+        (NoneOf situation.now (IsDropOf kind))
+        (λ m. IsFirstOf situation.now (IsDropOf kind) m) }
 {
+    let position = situation.position();
     if position.hand(position.side()).count(kind) == 0 {
         return None;
     }
     for n in 0..81usize {
         let to = Square::at_place(n);
-        if let Some(mv) = if_legal(position, Move::Put { to, kind }) {
+        if let Some(mv) = if_legal(situation, Move::Put { to, kind }) {
             return Some(mv);
         }
     }
     None
 }
 
-fn first_drop(position: &Position) -> Option<Move>
-    ensures { MatchOption result (NoneOf position.now IsDrop)
-        (λ m. IsFirstOf position.now IsDrop m) }
+fn first_drop(situation: &Situation) -> Option<Move>
+    ensures { MatchOption result (NoneOf situation.now IsDrop)
+        (λ m. IsFirstOf situation.now IsDrop m) }
 {
     for n in 0..7usize {
-        if let Some(mv) = first_drop_of(position, hand_kind(n)) {
+        if let Some(mv) = first_drop_of(situation, hand_kind(n)) {
             return Some(mv);
         }
     }
@@ -155,5 +170,13 @@ pub fn first_legal(position: &Position) -> Option<Move>
     ensures first { MatchOption result (NoLegalMove position.now)
         (λ m. IsFirstLegal position.now m) }
 {
-    first_walk(position).or_else(|| first_drop(position))
+    first_move(&Situation::new(*position))
+}
+
+// As `first_legal`, in a situation.
+pub(crate) fn first_move(situation: &Situation) -> Option<Move>
+    ensures { MatchOption result (NoLegalMove situation.now)
+        (λ m. IsFirstLegal situation.now m) }
+{
+    first_walk(situation).or_else(|| first_drop(situation))
 }

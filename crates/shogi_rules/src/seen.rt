@@ -6,7 +6,7 @@ ghost use Rattle.shogi_rules.specs.Positions.{max_moves};
 ghost use Rattle.shogi_rules.specs.Repetition.{times, IsNth};
 
 use crate::occurrences::{FIRST_ROOM, Occurrences};
-use shogi_board::{Color, Position};
+use shogi_board::{Color, Position, Situation};
 use std::alloc::{AllocError, Global};
 use std::marker::Model;
 
@@ -15,6 +15,20 @@ use std::marker::Model;
 pub(crate) struct Turn {
     pub side: Color,
     pub in_check: bool,
+}
+
+impl Turn {
+    #[inline(always)]
+    fn of(situation: &Situation) -> Turn
+        ensures side { result.side ≡ situation.now.side }
+        ensures check { IsTrue result.in_check
+            ↔ InCheck situation.now.material.board situation.now.side }
+    {
+        Turn {
+            side: situation.position().side(),
+            in_check: situation.in_check(),
+        }
+    }
 }
 
 // The positions of a line: each of them once, with how often it occurs and where first; which of
@@ -38,16 +52,15 @@ impl Model for Seen {
 }
 
 impl Seen {
-    // Of the start alone, of which it is known whether its side to move is in check.
-    pub(crate) fn new(alloc: Global, start: &Position, in_check: bool) -> Result<Seen, AllocError>
-        requires { IsTrue in_check ↔ InCheck start.now.material.board start.now.side }
+    // Of the start alone.
+    pub(crate) fn new(alloc: Global, start: &Situation) -> Result<Seen, AllocError>
         ensures { IfOk result (λ s. IsSeen (start.now ∷ []) start.now s) }
     {
-        let side = start.side();
+        let turn = Turn::of(start);
         let mut counts = Occurrences::new(alloc)?;
-        let here = counts.add(start, 0)?;
+        let here = counts.add(start.position(), 0)?;
         let mut turns = Vec::with_capacity(alloc, FIRST_ROOM)?;
-        turns.push(Turn { side, in_check })?;
+        turns.push(turn)?;
         Ok(Seen {
             counts,
             here,
@@ -83,23 +96,20 @@ impl Seen {
         self.turns.as_slice()
     }
 
-    // Adds the position, of which it is known whether its side to move is in check. If an
-    // allocation fails, nothing changes.
+    // Adds the position. If an allocation fails, nothing changes.
     #[inline(always)]
-    pub(crate) fn push(&mut self, position: &Position, in_check: bool) -> Result<(), AllocError>
-        requires seen { (ps : List Placed) × (p : Placed) × (length ps ≤ max_moves)
+    pub(crate) fn push(&mut self, situation: &Situation) -> Result<(), AllocError>
+        requires { (ps : List Placed) × (p : Placed) × (length ps ≤ max_moves)
             × IsSeen ps p self.old }
-        requires check { IsTrue in_check
-            ↔ InCheck position.now.material.board position.now.side }
         ensures ok { OnOk result ((ps : List Placed) (p : Placed) → IsSeen ps p self.old
-            → IsSeen (ps ++ position.now ∷ []) position.now self.new) }
+            → IsSeen (ps ++ situation.now ∷ []) situation.now self.new) }
         ensures err { OnErr result (self.new ≡ self.old) }
     {
-        let side = position.side();
+        let turn = Turn::of(situation);
         let before = self.turns.len();
         self.turns.reserve(1)?;
-        self.here = self.counts.add(position, before)?;
-        self.turns.push_reserved(Turn { side, in_check });
+        self.here = self.counts.add(situation.position(), before)?;
+        self.turns.push_reserved(turn);
         Ok(())
     }
 }

@@ -7,9 +7,9 @@ use Rattle.shogi_board.specs.declared.kind.Kind.{Kind}
 use Rattle.shogi_board.specs.declared.kind.Kind.TheVariants.{Pawn, Lance, Knight, Silver, Gold, Bishop, Rook, King, ProPawn, ProLance, ProKnight, ProSilver, Horse, Dragon}
 use Rattle.shogi_board.specs.declared.kind.Piece.{Piece}
 use Rattle.shogi_board.specs.Placed.{Placed}
-use Rattle.shogi_rules.specs.declared.moves.Move.{Move as TheMove}
-use Rattle.shogi_rules.specs.declared.moves.Move.TheVariants.{Walk, Put}
-use Rattle.shogi_rules.specs.After.{after}
+use Rattle.shogi_board.specs.declared.moves.Move.{Move as TheMove}
+use Rattle.shogi_board.specs.declared.moves.Move.TheVariants.{Walk, Put}
+use Rattle.shogi_board.specs.After.{after}
 use Rattle.csa_text.specs.Codes.{move_text}
 use Rattle.csa_cutting.specs.Lines.{Lines}
 use Rattle.usi_text.proofs.Clean.{board_bytes, side_word}

@@ -2,7 +2,7 @@
 use Rattle.std.proofs.Common.{◌≡◌, ◌↔◌, Bool, true, false, List, [], ◌∷◌, ◌++◌, ℕ, ◌≤◌, Option, Some, None, Result, Ok, Err, is_some, is_err, OnOk, IsOk, IfSome, refl, sym, ap, subst, ◌∙◌}
 use Rattle.std.specs.List.{AllZip}
 use Rattle.shogi_board.specs.declared.color.Color.{Color}
-use Rattle.shogi_rules.specs.declared.moves.Move.{Move}
+use Rattle.shogi_board.specs.declared.moves.Move.{Move}
 use Rattle.csa_cutting.specs.Cut.{TextUnit}
 use Rattle.csa_text.specs.Saying.{Saying, ending, walked}
 use Rattle.record_game.proofs.Fits.{time_fits}

@@ -13,7 +13,7 @@ use Rattle.csa_record.specs.Game.{Ended}
 use Rattle.csa_record.specs.Says.{time_items}
 use Rattle.csa_record.specs.Tells.{IsSpelt}
 use Rattle.shogi_board.specs.declared.color.Color.{Color}
-use Rattle.shogi_rules.specs.declared.moves.Move.{Move}
+use Rattle.shogi_board.specs.declared.moves.Move.{Move}
 use Rattle.session_lines.proofs.OneStatement.{AtStart, whole}
 use Rattle.session_lines.specs.MoveLines.{is_move_line}
 use Rattle.shogi_session.specs.NextItems.{StepsOver, FaultAt, LastTime, IsEnding}

@@ -1,8 +1,8 @@
 -- For private functions: what a line of the engine says with `bestmove` in a position.
 use Rattle.std.specs.Prelude.{◌≢◌, ℕ, List}
 use Rattle.shogi_board.specs.Placed.{Placed}
-use Rattle.shogi_rules.specs.declared.moves.Move.{Move as TheMove}
-use Rattle.shogi_rules.specs.Legal.{Legal}
+use Rattle.shogi_board.specs.declared.moves.Move.{Move as TheMove}
+use Rattle.shogi_board.specs.Legal.{Legal}
 use Rattle.usi_text.specs.Moves.{UsiMove}
 use Rattle.bridge_table.specs.declared.state.Answer.TheVariants.{Move, Toryo, Kachi}
 use Rattle.shogi_session.specs.declared.best_move.BestMove.{BestMove}

@@ -1,7 +1,7 @@
 -- For private functions and fields of `Bridge`: its own states, and what its steps promise.
 use Rattle.std.specs.Prelude.{◌≡◌, ◌++◌, ◌∷◌, ◌⊎◌, ℕ, Bool, true, false, List, [], Option, None, Some, Result, Ok, Err, map}
 use Rattle.shogi_board.specs.declared.memory.OutOfMemory.{OutOfMemory}
-use Rattle.shogi_rules.specs.declared.moves.Move as shogi
+use Rattle.shogi_board.specs.declared.moves.Move as shogi
 use Rattle.shogi_rules.specs.Positions.{IsGame}
 use Rattle.csa_record.specs.Game.{Game, Timed, Ended, move_of}
 use Rattle.bridge_table.specs.declared.config.Config.{Config}

@@ -1,6 +1,6 @@
 ghost use Rattle.std.specs.Prelude.{◌≡◌, ℕ, List, MatchOption};
-ghost use Rattle.shogi_rules.specs.declared.moves.Move as moves;
-ghost use Rattle.shogi_rules.specs.Legal.{Legal};
+ghost use Rattle.shogi_board.specs.declared.moves.Move as moves;
+ghost use Rattle.shogi_board.specs.Legal.{Legal};
 ghost use Rattle.shogi_session.specs.BestMoves.{TellsBestMove};
 ghost use Rattle.bridge_table.specs.Row.{IsBestMove};
 ghost use Rattle.usi_text.specs.Moves.{UsiMove};

@@ -1,5 +1,5 @@
 -- What a request says: the FILEs, the service or the plan of the words after its command.
-use Rattle.std.specs.Prelude.{◌≡◌, ℕ, List, Bool, true, false, None, Some, ⊤, codes, map, option_map}
+use Rattle.std.specs.Prelude.{◌≡◌, ◌≢◌, ℕ, List, Bool, true, false, None, Some, ⊤, codes, map, option_map}
 use Rattle.clap.specs.Simple.{subcommand_rows_of}
 use Rattle.clap.specs.Walk.{rows_of}
 use Rattle.clap.specs.Words.{first_value, found_of, one_text}
@@ -72,7 +72,10 @@ pub record IsPlanOf (found : Found) (is_terminal : Bool) (plan : Plan) : Type 0 
   pub byoyomi : AreGivenSeconds (one_text found (codes "byoyomi")) 4294967 plan.byoyomi_ms
   pub usual_byoyomi : one_text found (codes "byoyomi") ≡ None → plan.byoyomi_ms ≡ 10000
   pub out : (text : List ℕ) → first_value found (codes "out") ≡ Some text → plan.out.now ≡ text
-  pub shown : IsByFlag found (codes "quiet") false is_terminal plan.is_shown
+  pub quiet : one_text found (codes "quiet") ≡ Some (codes "true") → plan.is_shown ≡ false
+  pub logged : first_value found (codes "log") ≡ Some (codes "-") → plan.is_shown ≡ false
+  pub shown : one_text found (codes "quiet") ≡ Some (codes "false")
+      → first_value found (codes "log") ≢ Some (codes "-") → plan.is_shown ≡ is_terminal
 
 -- a request says what these words say
 abbrev pub SaysWords : Found → Bool → Request → Type 0

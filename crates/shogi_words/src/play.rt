@@ -1,6 +1,6 @@
 //! `shogi play`: a USI engine plays one game on a CSA server, and the game's record is kept.
 
-ghost use Rattle.std.specs.Prelude.{◌≡◌, ◌≤◌, ◌*◌, ℕ, List, IfOk, None, Some, codes, false, map, option_map, true};
+ghost use Rattle.std.specs.Prelude.{◌≡◌, ◌≢◌, ◌≤◌, ◌*◌, ℕ, List, IfOk, None, Some, codes, false, map, option_map, true};
 ghost use Rattle.clap.specs.Words.{app_of, first_value, found_of, one_text};
 ghost use Rattle.shogi_rules.specs.Positions as positions;
 ghost use Rattle.shogi_words.specs.Options.{AreGivenSeconds, IsGiven, values_of};
@@ -61,6 +61,10 @@ pub enum PasswordSource<'a> {
 /// The command's word.
 pub const NAME: &str = "play";
 
+// The words that have to be there.
+const USAGE: &str = "shogi play --engine <PROGRAM> (--server <PROGRAM> | --connect <HOST:PORT>) \
+    --out <FILE> [OPTIONS]";
+
 // The most seconds whose milliseconds a `u32` holds.
 const MOST_SECONDS: u32 = 4_294_967;
 
@@ -81,6 +85,7 @@ pub fn command<'a>(alloc: Global) -> Result<Command<'a>, AllocError>
         "Plays one game, an engine against a server, and writes its record",
         "Example: shogi play --engine my_engine --server shogi --out game.csa",
     )
+    .override_usage(USAGE)
     .arg(program(alloc, "engine", "The USI engine to start").required(true))?
     .arg(engine_arg(alloc))?
     .arg(server(alloc)?)?
@@ -161,7 +166,8 @@ fn password_file<'a>(alloc: Global) -> Arg<'a> {
 
 fn log<'a>(alloc: Global) -> Arg<'a> {
     Arg::new(alloc, "log").long("log").value_name("FILE").help(
-        "The file that each line is logged to as it passes; - is standard error",
+        "The file that each line is logged to as it passes, and FILE.engine what the engine says on \
+        standard error; - is standard error for both",
     )
 }
 
@@ -188,8 +194,8 @@ fn seconds<'a>(alloc: Global, name: &'a str, help: &'a str) -> Arg<'a> {
         .value_parser(value_parser!(u32).range(0..=MOST_SECONDS as i64))
 }
 
-/// The game that the words ask for. Moves are shown if standard error is a terminal and the words
-/// do not contain `--quiet`.
+/// The game that the words ask for. Moves are shown if standard error is a terminal, the words do
+/// not contain `--quiet`, and the log, which has them too, does not go to standard error.
 pub fn plan_of<'m, 'a>(matches: &'m ArgMatches<'a>, is_terminal: bool) -> Plan<'m, 'a>
     ensures connect { address_of result.server
         ≡ first_value (found_of matches.now) (codes "connect") }
@@ -226,7 +232,10 @@ pub fn plan_of<'m, 'a>(matches: &'m ArgMatches<'a>, is_terminal: bool) -> Plan<'
         ≡ first_value (found_of matches.now) (codes "log") }
     ensures quiet { one_text (found_of matches.now) (codes "quiet") ≡ Some (codes "true")
         → result.is_shown ≡ false }
+    ensures logged { first_value (found_of matches.now) (codes "log") ≡ Some (codes "-")
+        → result.is_shown ≡ false }
     ensures shown { one_text (found_of matches.now) (codes "quiet") ≡ Some (codes "false")
+        → first_value (found_of matches.now) (codes "log") ≢ Some (codes "-")
         → result.is_shown ≡ is_terminal }
     ensures terminal { is_terminal ≡ false → result.is_shown ≡ false }
 {
@@ -240,7 +249,24 @@ pub fn plan_of<'m, 'a>(matches: &'m ArgMatches<'a>, is_terminal: bool) -> Plan<'
         byoyomi_ms: milliseconds(matches, "byoyomi", USUAL_BYOYOMI),
         out: matches.get_str("out").unwrap_or_default(),
         log: matches.get_str("log"),
-        is_shown: is_terminal && !matches.get_flag("quiet"),
+        is_shown: is_shown(matches, is_terminal),
+    }
+}
+
+// Whether moves are shown, if standard error is a terminal or not.
+fn is_shown(matches: &ArgMatches<'_>, is_terminal: bool) -> bool
+    ensures quiet { one_text (found_of matches.now) (codes "quiet") ≡ Some (codes "true")
+        → result ≡ false }
+    ensures logged { first_value (found_of matches.now) (codes "log") ≡ Some (codes "-")
+        → result ≡ false }
+    ensures shown { one_text (found_of matches.now) (codes "quiet") ≡ Some (codes "false")
+        → first_value (found_of matches.now) (codes "log") ≢ Some (codes "-")
+        → result ≡ is_terminal }
+    ensures terminal { is_terminal ≡ false → result ≡ false }
+{
+    match matches.get_str("log") {
+        Some("-") => false,
+        _ => is_terminal && !matches.get_flag("quiet"),
     }
 }
 

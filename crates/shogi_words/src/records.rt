@@ -29,9 +29,9 @@ pub const CSA: &str = "csa";
 /// The word of the command that plays as a USI engine.
 pub const ENGINE: &str = "engine";
 
-const RECORDS: &str = "The records; without them, or for -, standard input is read";
+const RECORDS: &str = "The records, or folders; without them, or for -, standard input is read";
 
-const COMPARED: &str = "The records; - is standard input";
+const COMPARED: &str = "The records, or folders; - is standard input";
 
 const LINE: &str = "The line; without it, or with -, standard input is read";
 

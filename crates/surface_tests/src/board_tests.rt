@@ -1,7 +1,7 @@
 use crate::memory::{refuse_all, refuse_no_more};
 use shogi_board::{
-    Color, Danger, Hand, Kind, OutOfMemory, Piece, Position, Setup, SetupFault, Square, attacked,
-    attacked_from, attacker, reaches,
+    Color, Hand, Kind, Move, OutOfMemory, Piece, Position, Rule, Setup, SetupFault, Situation,
+    Square, attacked, attacker, reaches,
 };
 use std::cmp::Ordering;
 use std::process::Abort;
@@ -91,17 +91,22 @@ fn calls_for_rules(rt: &impl Abort) -> Result<(), Fail> {
     assert!(rt; Square::at_place(0) == square(1, 1)?);
     assert!(rt; square(5, 5)?.lies_between(square(5, 1)?, square(5, 9)?));
     let even = Position::even();
-    even.soundness();
     let from: Option<Square> = attacker(&even, Color::Black, square(9, 4)?);
     assert!(rt; from == Some(square(9, 3)?));
     let key: u64 = even.key();
     assert!(rt; key == even.setup().finish(Color::Black)?.key());
-    let attacks: bool = attacked_from(&even, Color::Black, square(9, 4)?, Danger::Anywhere);
-    assert!(rt; attacks);
+    let mut situation = Situation::new(even);
+    assert!(rt; *situation.position() == even && !situation.in_check());
+    let drop = Move::Put {
+        to: square(5, 5)?,
+        kind: Kind::Pawn,
+    };
+    let played: Result<(), Rule> = situation.play(&drop);
+    assert!(rt; played == Err(Rule::NoPiece) && !situation.keeps(&drop));
     Ok(())
 }
 
-// No call of `shogi_board` allocates. `judge` and `after` make the calls that move a piece.
+// No call of `shogi_board` allocates.
 #[test]
 fn needs_no_memory(rt: HostRuntime) -> Result<(), Fail> {
     refuse_all(&rt);

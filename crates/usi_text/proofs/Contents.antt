@@ -17,7 +17,7 @@ use Rattle.shogi_board.specs.Reach.{InCheck}
 use Rattle.shogi_board.specs.Setup.{empty_layout}
 use Rattle.shogi_board.specs.Sound.{IsSound}
 use Rattle.shogi_board.specs.Totals.{total, limit, count_in, no_pieces, IsWithinTotals}
-use Rattle.shogi_rules.proofs.Forms.{eq-self}
+use Rattle.shogi_board.proofs.Forms.{eq-self}
 use Rattle.shogi_rules.proofs.Layouts.{add-fits}
 use Rattle.usi_text.specs.Contents.{HasCells, HasPiles}
 use Rattle.usi_text.specs.Hands.{Pile, pile_pieces}

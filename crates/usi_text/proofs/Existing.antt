@@ -11,9 +11,10 @@ use Rattle.shogi_board.specs.Placed.{Placed, even_start}
 use Rattle.shogi_board.specs.Reach.{InCheck}
 use Rattle.shogi_board.specs.Setup.{position_of}
 use Rattle.shogi_rules.specs.Positions.{max_moves, line_of}
-use Rattle.shogi_rules.specs.Rules.{Kept, all_rules, IsFirstBroken}
-use Rattle.shogi_rules.specs.declared.moves.Move.{Move}
-use Rattle.shogi_rules.specs.declared.rule.Rule.{Rule}
+use Rattle.shogi_rules.specs.Rules.{Kept}
+use Rattle.shogi_board.specs.Rules.{all_rules, IsFirstBroken}
+use Rattle.shogi_board.specs.declared.moves.Move.{Move}
+use Rattle.shogi_board.specs.declared.rule.Rule.{Rule}
 use Rattle.usi_text.specs.Hands.{Pile}
 use Rattle.usi_text.specs.declared.fault.SfenFault.{SfenFault}
 use Rattle.usi_text.specs.declared.fault.SfenFault.TheVariants.{BadBoard, BadSide, BadHands, BadNumber, Start}

@@ -15,7 +15,7 @@ use Rattle.shogi_board.specs.Pieces.{place_of, is_king, is_hand_kind, same_color
 use Rattle.shogi_board.specs.Placing.{unless}
 use Rattle.shogi_board.specs.Setup.{empty_layout, add_fault}
 use Rattle.shogi_board.specs.Totals.{total, limit, count_in, is_of, is_king_of, kings_of, no_pieces, bare_board}
-use Rattle.shogi_rules.proofs.Forms.{same_color-self, eq-self, held-low}
+use Rattle.shogi_board.proofs.Forms.{same_color-self, eq-self, held-low}
 use Rattle.shogi_rules.proofs.Layouts.{add-fits, put-total}
 use Rattle.usi_text.specs.SfenText.{cell, cells_from}
 use Rattle.usi_text.specs.Setting.{board_place}

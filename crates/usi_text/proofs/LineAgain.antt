@@ -11,10 +11,10 @@ use Rattle.shogi_board.specs.declared.kind.Piece.{Piece}
 use Rattle.shogi_board.specs.Placed.{Placed}
 use Rattle.shogi_board.specs.Sound.{IsSound}
 use Rattle.shogi_board.specs.declared.square.Square.{Square}
-use Rattle.shogi_rules.specs.After.{after}
+use Rattle.shogi_board.specs.After.{after}
 use Rattle.shogi_rules.specs.Positions.{position_after, MayFollow, IsGame, begun, played}
-use Rattle.shogi_rules.specs.declared.moves.Move.{Move}
-use Rattle.shogi_rules.specs.declared.moves.Move.TheVariants.{Walk, Put}
+use Rattle.shogi_board.specs.declared.moves.Move.{Move}
+use Rattle.shogi_board.specs.declared.moves.Move.TheVariants.{Walk, Put}
 use Rattle.usi_text.specs.Boards.{ranks_of}
 use Rattle.usi_text.specs.Hands.{Pile, IsCount, SpellsHands, count_text, pile_text}
 use Rattle.usi_text.specs.Letters.{color_letter, side_letter, square_text}

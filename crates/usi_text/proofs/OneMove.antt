@@ -5,13 +5,12 @@ use Rattle.shogi_board.specs.declared.kind.Kind.TheVariants.{Pawn, Lance, Knight
 use Rattle.shogi_board.specs.declared.kind.Piece.{Piece}
 use Rattle.shogi_board.specs.declared.square.Square.{Square}
 use Rattle.shogi_board.specs.Cells.{at}
-use Rattle.shogi_board.specs.Pieces.{is_hand_kind}
+use Rattle.shogi_board.specs.Pieces.{is_hand_kind, promoted}
 use Rattle.shogi_board.specs.Placed.{Placed}
 use Rattle.shogi_board.specs.Squares.{file_of, rank_of}
 use Rattle.shogi_board.proofs.Squares.{square-same}
-use Rattle.shogi_rules.specs.declared.moves.Move.{Move}
-use Rattle.shogi_rules.specs.declared.moves.Move.TheVariants.{Walk, Put}
-use Rattle.shogi_rules.specs.Kinds.{promoted}
+use Rattle.shogi_board.specs.declared.moves.Move.{Move}
+use Rattle.shogi_board.specs.declared.moves.Move.TheVariants.{Walk, Put}
 use Rattle.usi_text.specs.Letters.{square_text, letter}
 use Rattle.usi_text.specs.Moves.{UsiMove}
 

@@ -6,10 +6,10 @@ use Rattle.shogi_board.specs.declared.kind.Piece.{Piece}
 use Rattle.shogi_board.specs.declared.square.Square.{Square}
 use Rattle.shogi_board.specs.Cells.{at}
 use Rattle.shogi_board.specs.Placed.{Placed}
-use Rattle.shogi_rules.specs.declared.moves.Move.{Move}
-use Rattle.shogi_rules.specs.declared.moves.Move.TheVariants.{Walk, Put}
-use Rattle.shogi_rules.specs.After.{after}
-use Rattle.shogi_rules.specs.Kinds.{promoted}
+use Rattle.shogi_board.specs.declared.moves.Move.{Move}
+use Rattle.shogi_board.specs.declared.moves.Move.TheVariants.{Walk, Put}
+use Rattle.shogi_board.specs.After.{after}
+use Rattle.shogi_board.specs.Pieces.{promoted}
 use Rattle.usi_text.specs.LineText.{MovesText, StartText, AfterStart, LineText}
 use Rattle.usi_text.specs.Moves.{UsiMove}
 

@@ -19,7 +19,7 @@ use Rattle.shogi_board.specs.Placing.{unless}
 use Rattle.shogi_board.specs.Setup.{empty_layout, first_fault, is_full, add_fault, one_more, position_of}
 use Rattle.shogi_board.specs.Sound.{IsSound}
 use Rattle.shogi_board.specs.Totals.{total, limit, count_in, is_of, kings_of, IsWithinTotals}
-use Rattle.shogi_rules.proofs.Forms.{held-no-king, held-low}
+use Rattle.shogi_board.proofs.Forms.{held-no-king, held-low}
 use Rattle.shogi_rules.proofs.Layouts.{put-total}
 use Rattle.usi_text.specs.Contents.{cell_pieces, text_pieces, kind_total, king_total, IsWithinGame, FirstExcess}
 use Rattle.usi_text.specs.Hands.{Pile, pile_pieces}

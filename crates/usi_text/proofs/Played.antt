@@ -8,8 +8,8 @@ use Rattle.shogi_rules.specs.Play.{Answers}
 use Rattle.shogi_rules.specs.Positions.{Played, now_of, line_of}
 use Rattle.shogi_rules.specs.declared.line.PlayFault.{PlayFault}
 use Rattle.shogi_rules.specs.declared.line.PlayFault.TheVariants as play
-use Rattle.shogi_rules.specs.declared.moves.Move.{Move}
-use Rattle.shogi_rules.specs.declared.rule.Rule.{Rule}
+use Rattle.shogi_board.specs.declared.moves.Move.{Move}
+use Rattle.shogi_board.specs.declared.rule.Rule.{Rule}
 use Rattle.usi_text.specs.declared.fault.SfenFault.{SfenFault}
 use Rattle.usi_text.specs.declared.fault.UsiFault.{UsiFault}
 use Rattle.usi_text.specs.declared.fault.UsiFault.TheVariants.{BadLine, BadMoveText, Broken, TooManyMoves, OutOfMemory}

@@ -7,8 +7,7 @@ use Rattle.shogi_board.specs.declared.color.Color.TheVariants.{Black, White}
 use Rattle.shogi_board.specs.declared.kind.Kind.{Kind}
 use Rattle.shogi_board.specs.declared.kind.Kind.TheVariants.{Pawn, Lance, Knight, Silver, Gold, Bishop, Rook, King, ProPawn, ProLance, ProKnight, ProSilver, Horse, Dragon}
 use Rattle.shogi_board.specs.declared.kind.Piece.{Piece}
-use Rattle.shogi_board.specs.Pieces.{is_promoted}
-use Rattle.shogi_rules.specs.Kinds.{unpromoted}
+use Rattle.shogi_board.specs.Pieces.{is_promoted, unpromoted}
 use Rattle.usi_text.specs.Boards.{Part, empty_squares, one_piece, IsPart, part_text}
 use Rattle.usi_text.specs.Hands.{IsCount, count_text}
 use Rattle.usi_text.specs.Letters.{letter, color_letter, side_letter, piece_text}

@@ -13,7 +13,7 @@ use Rattle.shogi_board.specs.declared.setup.SetupFault.TheVariants.{SquareTaken,
 use Rattle.shogi_board.specs.Pieces.{is_king, place_of, same_color}
 use Rattle.shogi_board.specs.Setup.{first_fault}
 use Rattle.shogi_board.specs.Totals.{limit}
-use Rattle.shogi_rules.proofs.Forms.{same_color-self, eq-self}
+use Rattle.shogi_board.proofs.Forms.{same_color-self, eq-self}
 use Rattle.usi_text.specs.Contents.{kind_total, king_total, NoSecondKing, IsWithinGame, Exceeds, FirstExcess}
 
 abbrev Pieces : Type 0

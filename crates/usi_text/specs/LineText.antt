@@ -1,8 +1,8 @@
 -- The position line that is written for a start and moves.
 use Rattle.std.specs.Prelude.{◌≡◌, ◌≢◌, ℕ, ◌⊎◌, List, [], ◌∷◌, ◌++◌, codes}
 use Rattle.shogi_board.specs.Placed.{Placed, even_start}
-use Rattle.shogi_rules.specs.declared.moves.Move.{Move}
-use Rattle.shogi_rules.specs.After.{after}
+use Rattle.shogi_board.specs.declared.moves.Move.{Move}
+use Rattle.shogi_board.specs.After.{after}
 use Rattle.usi_text.specs.EngineTexts as texts
 use Rattle.usi_text.specs.Moves.{UsiMove}
 use Rattle.usi_text.specs.SfenText.{sfen_text}

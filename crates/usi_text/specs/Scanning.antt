@@ -7,7 +7,7 @@ use Prim.Native.Char.{code}
 use Rattle.shogi_board.specs.Placed.{Placed}
 use Rattle.shogi_rules.specs.declared.line.PlayFault.{PlayFault}
 use Rattle.shogi_rules.specs.declared.line.PlayFault.TheVariants as play
-use Rattle.shogi_rules.specs.declared.moves.Move.{Move}
+use Rattle.shogi_board.specs.declared.moves.Move.{Move}
 use Rattle.usi_text.specs.declared.fault.UsiFault.{UsiFault}
 use Rattle.usi_text.specs.declared.fault.UsiFault.TheVariants as usi
 use Rattle.usi_text.specs.declared.line.GivenStart.{GivenStart}

@@ -11,7 +11,7 @@ ghost use Rattle.shogi_board.specs.Placed.{Placed};
 ghost use Rattle.shogi_board.specs.Reach.{InCheck};
 ghost use Rattle.shogi_board.specs.Sound.{IsSound};
 ghost use Rattle.shogi_board.specs.Totals.{IsWithinTotals};
-ghost use Rattle.shogi_rules.specs.declared.moves.Move.{Move};
+ghost use Rattle.shogi_board.specs.declared.moves.Move.{Move};
 ghost use Rattle.shogi_rules.specs.Positions.{IsGame, max_moves};
 ghost use Rattle.usi_text.specs.declared.engine.EngineWord.{EngineWord};
 ghost use Rattle.usi_text.specs.declared.fault.SfenFault.{SfenFault};

@@ -1,5 +1,5 @@
 ghost use Rattle.std.specs.Prelude.{◌≡◌, ◌++◌, ◌∷◌, ◌⊎◌, [], Ok, ◌↔◌, ℕ, List, IsTrue, MatchOption, MatchResult};
-ghost use Rattle.shogi_rules.specs.declared.moves.Move.{Move};
+ghost use Rattle.shogi_board.specs.declared.moves.Move.{Move};
 ghost use Rattle.shogi_rules.specs.Positions.{line_of};
 ghost use Rattle.usi_text.specs.Lines.{UsiLine, LineFault, LineNeedsMemory, Starts, Plays, HasMoves, IsPlayed};
 ghost use Rattle.usi_text.specs.Words.{words};

@@ -1,7 +1,7 @@
 ghost use Rattle.std.specs.Prelude.{◌≡◌, ◌≤◌, ◌+◌, ◌++◌, MatchOption};
 ghost use Rattle.arrayvec.specs.ArrayString.{array_string_len};
-ghost use Rattle.shogi_rules.specs.Legal.{Legal};
-ghost use Rattle.shogi_rules.specs.declared.moves.Move.{Move};
+ghost use Rattle.shogi_board.specs.Legal.{Legal};
+ghost use Rattle.shogi_board.specs.declared.moves.Move.{Move};
 ghost use Rattle.usi_text.specs.Letters.{square_text};
 ghost use Rattle.usi_text.specs.Moves.{UsiMove};
 

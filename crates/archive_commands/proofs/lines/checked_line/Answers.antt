@@ -13,6 +13,6 @@ returns-in_err-record-clause-fails g c =
     let Opened = g.I.Inputs.opens c.args.inputs.now (Some file) in
     let remaining = g.I.Input.Read.remaining in
     let Fits = IsLineOf Checks file in
-    let gets = subst (λ r. GetsRecord Unopened Opened remaining r) c.in_err-record.was c.record.ensures in
+    let gets = subst (λ r. GetsRecord Unopened Opened remaining r) c.in_err-record.was c.next_record.ensures in
     returned (FailsToReport (GetsRecord Unopened Opened remaining) Fits) _ c.from_residual.result c.from_residual.ensures.1
     (λ fault gives. subst (FailsToReport (GetsRecord Unopened Opened remaining) Fits) (sym gives) (no_record (GetsRecord Unopened Opened remaining) Fits c.in_err-record.field-0.0 (never_written Unopened Opened remaining) gets))

@@ -19,7 +19,7 @@ loop-path-preserved g c =
     let is : item ≡ get_or paths i item = search rules in
     let one = subst (λ err. PrintsFile Unopened Opened bytes c.args.lines (get_or paths i item).items now (printed_of out err c.in_ok-tally.tally)) (sym c.file_done.ensures)
     (subst (λ path. PrintsFile Unopened Opened bytes c.args.lines path now (printed_of out (g.E.Notices.shown c.print_one.new.notices) c.in_ok-tally.tally))
-    (c.as_slice.ensures.value ∙ ap (λ p. p.items) is) c.in_ok-tally.ensures.printed) in
+    (c.as_slice-path.ensures.value ∙ ap (λ p. p.items) is) c.in_ok-tally.ensures.printed) in
     record {
       printed = λ new rest. c.loop-path.invariant.printed new
           (next_printed Unopened Opened bytes c.args.lines paths i item now mid new c.loop-path-test.true one rest);
@@ -43,7 +43,7 @@ returns-in_err-tally-clause-stops g c =
     let Stops = StopsAmong Unopened Opened bytes c.args.lines (items_of paths) first out err in
     let item = c.path-item.result in
     let is : item ≡ get_or paths i item = search rules in
-    let at = subst (λ path. StopsAt Unopened Opened bytes c.args.lines path now.out now.err out err fault) (c.as_slice.ensures.value ∙ ap (λ p. p.items) is) c.in_err-tally.ensures.stops in
+    let at = subst (λ path. StopsAt Unopened Opened bytes c.args.lines path now.out now.err out err fault) (c.as_slice-path.ensures.value ∙ ap (λ p. p.items) is) c.in_err-tally.ensures.stops in
     returned Stops _ c.from_residual.result c.from_residual.ensures.1
     (λ other gives. subst Stops (sym gives) (c.loop-path.invariant.stops out err fault
     (stops_here Unopened Opened bytes c.args.lines paths i item now out err fault c.loop-path-test.true at)))

@@ -30,6 +30,7 @@ returns-clause-printed g c =
       whole = c.in-Ok.ensures.whole ∙ size;
       grouped = λ bytes gives. c.in-Ok.ensures.grouped bytes (subst (λ n. GiveBytes n (g.A.Archive.reads c.args.archive.now) bytes) (sym size) gives);
       causes = c.in-Ok.ensures.causes;
+      counted = c.in-Ok.ensures.counted;
       exact = λ bytes gives. c.in-Ok.ensures.exact bytes (subst (λ n. GiveBytes n (g.A.Archive.reads c.args.archive.now) bytes) (sym size) gives);
       tally_is = c.in_ok-tally.ensures.kinds ∙ ap (tally_from no_file) c.as_slice.ensures.value;
       members = members;

@@ -12,6 +12,7 @@ returns g c = record {
         reached = came_out g.E.Ends.came g.E.Ends.missed g.E.Ends.went g.E.Ends.gone c.args.ends.now c.args.bridge.now c.play-played.new.ends c.play-played.new.bridge c.play-played.result
             loop.done loop.failed loop.out_of_memory loop.endless loop.unwritten;
         kept = c.keep_game-kept.ensures.kept;
+        ended = c.play-played.new.progress.ended;
         logged = c.close_log.ensures;
         over = c.is_ok.ensures.value;
       };

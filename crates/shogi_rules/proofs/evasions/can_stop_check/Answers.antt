@@ -2,7 +2,7 @@ use Rattle.std.proofs.Common.{◌≡◌, arith, inl, inr, refl, sym, ◌∙◌}
 use Rattle.std.proofs.lemmas.Bool.{cases_lt}
 use Rattle.shogi_board.specs.Squares.{place}
 use Rattle.shogi_board.proofs.Squares.{place-bound, place-same}
-use Rattle.shogi_rules.specs.Legal.{target}
+use Rattle.shogi_board.specs.Legal.{target}
 use Rattle.shogi_rules.proofs.Checks.{stops-at, stops-by}
 use Rattle.shogi_rules.proofs.evasions.can_stop_check.Goals as goal
 

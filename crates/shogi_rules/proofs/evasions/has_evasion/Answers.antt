@@ -1,5 +1,5 @@
 use Rattle.std.proofs.Common.{refl}
-use Rattle.shogi_rules.specs.declared.moves.Move.TheVariants.{Walk}
+use Rattle.shogi_board.specs.declared.moves.Move.TheVariants.{Walk}
 use Rattle.shogi_rules.proofs.Checks.{some-stop}
 use Rattle.shogi_rules.proofs.evasions.has_evasion.Goals as goal
 
@@ -11,5 +11,5 @@ returns-then-king_escapes c =
 pub returns-else-king_escapes : goal.returns-else-king_escapes
 returns-else-king_escapes c = (
   λ h. let s = c.can_stop_check.ensures.0 h in (s.0, s.2),
-  λ some. some-stop c.args.position.now c.args.checker c.args.king c.king_escapes.result c.can_stop_check.result c.soundness.ensures.sound c.requires.king c.requires.check c.king_escapes.ensures c.can_stop_check.ensures c.if-king_escapes.false some,
+  λ some. some-stop c.args.situation.now c.args.checker c.args.king c.king_escapes.result c.can_stop_check.result c.requires.sound c.requires.king c.requires.check c.king_escapes.ensures c.can_stop_check.ensures c.if-king_escapes.false some,
 )

@@ -1,5 +1,5 @@
 use Rattle.std.proofs.Common.{inl, inr, refl}
-use Rattle.shogi_rules.specs.declared.moves.Move.TheVariants.{Walk, Put}
+use Rattle.shogi_board.specs.declared.moves.Move.TheVariants.{Walk, Put}
 use Rattle.shogi_rules.proofs.Checks.{by-target}
 use Rattle.shogi_rules.proofs.evasions.has_kept_move_to.Goals as goal
 
@@ -11,7 +11,7 @@ returns-then-has_kept_walk_to c =
 pub returns-else-has_kept_walk_to : goal.returns-else-has_kept_walk_to
 returns-else-has_kept_walk_to c = (
   λ h. let s = c.has_kept_drop_on.ensures.0 h in (Put c.args.to s.0, refl, s.1),
-  λ x. elim (by-target c.args.position.now c.args.to x.0 x.1 x.2) [
+  λ x. elim (by-target c.args.situation.now c.args.to x.0 x.1 x.2) [
     | inl walk ↦ let yes = c.has_kept_walk_to.ensures.1 walk in let none = c.if-has_kept_walk_to.false in cc
     | inr drop ↦ c.has_kept_drop_on.ensures.1 drop
   ],

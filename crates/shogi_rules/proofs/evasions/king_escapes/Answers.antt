@@ -16,7 +16,7 @@ loop-n-preserved c = λ to k below kept.
       | inr ge ↦
           let there : place to ≡ c.loop-n.n = omega arith in
           let same : to ≡ c.at_place.result = place-same _ _ (there ∙ sym c.at_place.ensures.value) in
-          let yes = c.keeps_walk.ensures.1 (subst (λ (x : Square). KeptWalk c.args.position.now c.args.king x) same (k, kept)) in
+          let yes = c.keeps_walk.ensures.1 (subst (λ (x : Square). KeptWalk c.args.situation.now c.args.king x) same (k, kept)) in
           let no = c.if-keeps_walk.false in
           cc
     ]

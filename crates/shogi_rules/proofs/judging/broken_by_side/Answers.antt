@@ -1,17 +1,29 @@
 use Rattle.std.proofs.Common.{◌≡◌, subst}
+use Rattle.shogi_board.specs.After.{after}
+use Rattle.shogi_board.specs.Legal.{Keeps, Mated}
 use Rattle.shogi_board.specs.Placed.{Placed}
-use Rattle.shogi_rules.specs.After.{after}
-use Rattle.shogi_rules.specs.Legal.{Mated}
-use Rattle.shogi_rules.proofs.Broken.{mate-by-side, no-mate, none-by-side}
+use Rattle.shogi_board.specs.Rules.{KeepsRule, keeping_rules, IsFirstBroken}
+use Rattle.std.specs.Prelude.{Some}
+use Rattle.shogi_board.proofs.Broken.{mate-by-side, no-mate, none-by-side, unkept-by-side}
 use Rattle.shogi_rules.proofs.judging.broken_by_side.Goals as goal
 
 pub returns-then-mates : goal.returns-then-mates
 returns-then-mates c =
-    let made : c.make_if_kept.new.position ≡ after c.args.position.now c.args.mv.now = c.make_if_kept.ensures.value c.in_default.is in
+    let p = c.args.position.now in
+    let keeps : Keeps p c.args.mv.now = rw c.new-next.ensures.value at c.in_default.ensures.answer in
+    let made : c.play.new.self ≡ after p c.args.mv.now = rw c.new-next.ensures.value at c.in_default.ensures.played in
     let mates = c.mates.ensures.0 c.if-mates.true in
-    mate-by-side c.args.position.now c.args.mv.now c.in_default.ensures.kept mates.0 (subst (λ (p : Placed). Mated p) made mates.1)
+    mate-by-side p c.args.mv.now keeps mates.0 (subst (λ (q : Placed). Mated q) made mates.1)
 
 pub returns-else-mates : goal.returns-else-mates
 returns-else-mates c =
-    let made : c.make_if_kept.new.position ≡ after c.args.position.now c.args.mv.now = c.make_if_kept.ensures.value c.in_default.is in
-    none-by-side c.args.position.now c.args.mv.now c.in_default.ensures.kept (no-mate c.args.position.now _ c.args.mv.now _ made c.if-mates.false c.mates.ensures)
+    let p = c.args.position.now in
+    let keeps : Keeps p c.args.mv.now = rw c.new-next.ensures.value at c.in_default.ensures.answer in
+    let made : c.play.new.self ≡ after p c.args.mv.now = rw c.new-next.ensures.value at c.in_default.ensures.played in
+    none-by-side p c.args.mv.now keeps (no-mate p c.play.new.self c.args.mv.now _ made c.if-mates.false c.mates.ensures)
+
+pub returns-in-Err : goal.returns-in-Err
+returns-in-Err c =
+    let p = c.args.position.now in
+    let broken : IsFirstBroken (KeepsRule p c.args.mv.now) keeping_rules (Some c.in-Err.rule) = rw c.new-next.ensures.value at c.in-Err.ensures.answer in
+    unkept-by-side p c.args.mv.now c.in-Err.rule broken

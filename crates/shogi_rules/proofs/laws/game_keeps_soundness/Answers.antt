@@ -1,4 +1,4 @@
-use Rattle.shogi_rules.proofs.Kept.{game-sound}
+use Rattle.shogi_rules.proofs.Games.{game-sound}
 use Rattle.shogi_rules.proofs.laws.game_keeps_soundness.Goals as goal
 
 pub returns : goal.returns

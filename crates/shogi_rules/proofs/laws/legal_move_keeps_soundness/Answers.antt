@@ -1,4 +1,4 @@
-use Rattle.shogi_rules.proofs.Kept.{leads-to-sound}
+use Rattle.shogi_board.proofs.Kept.{leads-to-sound}
 use Rattle.shogi_rules.proofs.laws.legal_move_keeps_soundness.Goals as goal
 
 pub returns : goal.returns

@@ -1,8 +1,8 @@
 use Rattle.std.proofs.Common.{◌≡◌, List, [], ◌∷◌, Some, length, slice_get, refl}
 use Rattle.shogi_board.specs.Placed.{Placed}
-use Rattle.shogi_rules.specs.After.{after}
+use Rattle.shogi_board.specs.After.{after}
 use Rattle.shogi_rules.specs.Positions.{position_after, positions_of}
-use Rattle.shogi_rules.specs.declared.moves.Move.{Move}
+use Rattle.shogi_board.specs.declared.moves.Move.{Move}
 use Rattle.shogi_rules.proofs.Games.{positions-long}
 use Rattle.shogi_rules.proofs.laws.now_stands_last.Goals as goal
 

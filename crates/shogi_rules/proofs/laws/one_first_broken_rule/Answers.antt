@@ -1,4 +1,5 @@
-use Rattle.shogi_rules.specs.Rules.{Kept, all_rules}
+use Rattle.shogi_rules.specs.Rules.{Kept}
+use Rattle.shogi_board.specs.Rules.{all_rules}
 use Rattle.shogi_rules.proofs.Once.{one-broken}
 use Rattle.shogi_rules.proofs.laws.one_first_broken_rule.Goals as goal
 

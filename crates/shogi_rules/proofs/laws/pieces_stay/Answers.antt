@@ -1,4 +1,4 @@
-use Rattle.shogi_rules.proofs.Kept.{pieces-stay}
+use Rattle.shogi_board.proofs.Kept.{pieces-stay}
 use Rattle.shogi_rules.proofs.laws.pieces_stay.Goals as goal
 
 pub returns : goal.returns

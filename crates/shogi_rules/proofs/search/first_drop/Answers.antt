@@ -8,7 +8,7 @@ use Rattle.shogi_rules.proofs.search.first_drop.Goals as goal
 
 pub returns-in-Some : goal.returns-in-Some
 returns-in-Some c =
-    let p = c.args.position.now in
+    let p = c.args.situation.now in
     let kind = c.hand_kind.result in
     let below : (l : Kind) → place_of l < place_of kind → NoneOf p (IsDropOf l) = λ l lt. c.loop-n.invariant l (subst (λ i. place_of l < i) c.hand_kind.ensures.place lt) in
     drop-first p kind c.in-Some.mv below c.in-Some.ensures
@@ -19,8 +19,8 @@ loop-n-preserved c = λ l below.
       | inl lt ↦ c.loop-n.invariant l lt
       | inr ge ↦
           let there : place_of l ≡ c.loop-n.n = omega arith in
-          kind-none c.args.position.now c.hand_kind.result l c.loop-n.n c.hand_kind.ensures.kind there c.in_default.ensures
+          kind-none c.args.situation.now c.hand_kind.result l c.loop-n.n c.hand_kind.ensures.kind there c.in_default.ensures
     ]
 
 pub returns : goal.returns
-returns c = no-drop c.args.position.now c.loop-n.n c.loop-n-test.false c.loop-n.invariant
+returns c = no-drop c.args.situation.now c.loop-n.n c.loop-n-test.false c.loop-n.invariant

@@ -5,4 +5,4 @@ use Rattle.shogi_rules.specs.Trying.{IsDropOf, NoneOf}
 use Rattle.shogi_rules.proofs.search.first_drop.Given as goal
 
 abbrev pub invariant-loop-n : goal.invariant-loop-n
-invariant-loop-n l = (k : Kind) → place_of k < l.n → NoneOf l.position (IsDropOf k)
+invariant-loop-n l = (k : Kind) → place_of k < l.n → NoneOf l.situation (IsDropOf k)

@@ -8,7 +8,7 @@ use Rattle.shogi_rules.proofs.search.first_drop_of.Goals as goal
 
 pub returns-in-Some : goal.returns-in-Some
 returns-in-Some c =
-    let p = c.args.position.now in
+    let p = c.args.situation.now in
     let s = c.at_place-to.result in
     let below : (t : Square) → place t < place s → NoDrop p c.args.kind t = λ t lt. c.loop-n.invariant t (subst (λ i. place t < i) c.at_place-to.ensures.value lt) in
     drop-of-first p c.args.kind s c.in-Some.mv below c.in-Some.ensures.0 c.in-Some.ensures.1
@@ -18,7 +18,7 @@ loop-n-preserved c = λ t below.
     elim (cases_lt (place t) c.loop-n.n) [
       | inl lt ↦ c.loop-n.invariant t lt
       | inr ge ↦
-          let p = c.args.position.now in
+          let p = c.args.situation.now in
           let there : place t ≡ c.loop-n.n = omega arith in
           let same : c.at_place-to.result ≡ t = place-same _ _ (c.at_place-to.ensures.value ∙ sym there) in
           subst (λ (x : Square). NoDrop p c.args.kind x) same c.in_default.ensures
@@ -26,7 +26,7 @@ loop-n-preserved c = λ t below.
 
 pub returns : goal.returns
 returns c =
-    let p = c.args.position.now in
+    let p = c.args.situation.now in
     let end : 81 ≤ c.loop-n.n = c.loop-n-test.false in
     let none : (t : Square) → NoDrop p c.args.kind t = λ t. let b = place-bound t in c.loop-n.invariant t (omega (arith, b, end)) in
     no-drop-of p c.args.kind none

@@ -5,4 +5,4 @@ use Rattle.shogi_rules.proofs.Firsts.{NoDrop}
 use Rattle.shogi_rules.proofs.search.first_drop_of.Given as goal
 
 abbrev pub invariant-loop-n : goal.invariant-loop-n
-invariant-loop-n l = (t : Square) → place t < l.n → NoDrop l.position l.kind t
+invariant-loop-n l = (t : Square) → place t < l.n → NoDrop l.situation l.kind t

@@ -10,7 +10,7 @@ use Rattle.shogi_rules.proofs.search.first_walk.Goals as goal
 
 pub returns-in-Some : goal.returns-in-Some
 returns-in-Some c =
-    let p = c.args.position.now in
+    let p = c.args.situation.now in
     let s = c.at_place.result in
     let below : (t : Square) → place t < place s → NoneOf p (MovesFrom t) = λ t lt. c.loop-n.invariant t (subst (λ i. place t < i) c.at_place.ensures.value lt) in
     walk-first p s c.in-Some.mv below c.in-Some.ensures
@@ -20,7 +20,7 @@ loop-n-preserved c = λ t below.
     elim (cases_lt (place t) c.loop-n.n) [
       | inl lt ↦ c.loop-n.invariant t lt
       | inr ge ↦
-          let p = c.args.position.now in
+          let p = c.args.situation.now in
           let there : place t ≡ c.loop-n.n = omega arith in
           let same : c.at_place.result ≡ t = place-same _ _ (c.at_place.ensures.value ∙ sym there) in
           subst (λ (x : Square). NoneOf p (MovesFrom x)) same c.in_default.ensures
@@ -28,7 +28,7 @@ loop-n-preserved c = λ t below.
 
 pub returns : goal.returns
 returns c =
-    let p = c.args.position.now in
+    let p = c.args.situation.now in
     let end : 81 ≤ c.loop-n.n = c.loop-n-test.false in
     let none : (t : Square) → NoneOf p (MovesFrom t) = λ t. let b = place-bound t in c.loop-n.invariant t (omega (arith, b, end)) in
     no-walk p none

@@ -6,4 +6,4 @@ use Rattle.shogi_rules.specs.Trying.{NoneOf}
 use Rattle.shogi_rules.proofs.search.first_walk.Given as goal
 
 abbrev pub invariant-loop-n : goal.invariant-loop-n
-invariant-loop-n l = (f : Square) → place f < l.n → NoneOf l.position (MovesFrom f)
+invariant-loop-n l = (f : Square) → place f < l.n → NoneOf l.situation (MovesFrom f)

@@ -1,6 +1,6 @@
 use Rattle.std.proofs.Common.{◌≡◌, None, Some, MatchOption, subst}
-use Rattle.shogi_rules.specs.declared.moves.Move.{Move}
-use Rattle.shogi_rules.specs.Legal.{Legal}
+use Rattle.shogi_board.specs.declared.moves.Move.{Move}
+use Rattle.shogi_board.specs.Legal.{Legal}
 use Rattle.usi_text.specs.Moves.{UsiMove}
 use Rattle.usi_text.proofs.OneMove.{one_move}
 use Rattle.shogi_session.proofs.best_move.legal_move.Goals as goal

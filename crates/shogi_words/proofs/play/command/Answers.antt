@@ -1,4 +1,5 @@
-use Rattle.std.proofs.Common.{◌≡◌, codes}
+use Rattle.std.proofs.Common.{◌≡◌, ◌∙◌, ap, codes}
+use Rattle.clap.specs.Simple.{app_of_fields}
 use Rattle.clap.specs.Words.{app_of}
 use Rattle.shogi_words.proofs.CommandNames.{adds_name, keeps_name}
 use Rattle.shogi_words.proofs.play.command.Goals as goal
@@ -6,7 +7,8 @@ use Rattle.shogi_words.proofs.play.command.Goals as goal
 pub returns : goal.returns
 returns c =
     let first : (app_of c.named.result).top.name ≡ codes "play" = c.named.ensures.name in
-    let name-1 = keeps_name _ _ _ _ c.in_ok-arg.ensures first in
+    let name-0 : (app_of c.override_usage.result).top.name ≡ codes "play" = ap (λ f. (app_of_fields f).top.name) c.override_usage.ensures ∙ first in
+    let name-1 = keeps_name _ _ _ _ c.in_ok-arg.ensures name-0 in
     let name-2 = keeps_name _ _ _ _ c.in_ok-arg-2.ensures name-1 in
     let name-3 = keeps_name _ _ _ _ c.in_ok-arg-3.ensures name-2 in
     let name-4 = keeps_name _ _ _ _ c.in_ok-arg-4.ensures name-3 in

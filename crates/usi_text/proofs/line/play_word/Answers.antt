@@ -1,6 +1,6 @@
 use Rattle.std.proofs.Common.{rules, ◌∙◌, ap, subst, List, length, ◌+◌}
 use Rattle.shogi_board.specs.Placed.{Placed}
-use Rattle.shogi_rules.specs.declared.moves.Move.{Move}
+use Rattle.shogi_board.specs.declared.moves.Move.{Move}
 use Rattle.usi_text.specs.Moves.{UsiMove}
 use Rattle.usi_text.proofs.Played.{word_stated}
 use Rattle.usi_text.proofs.line.play_word.Goals as goal

@@ -1,7 +1,5 @@
-use Rattle.std.proofs.Common.{◌≡◌, None, length, replicate, List, ap, ◌∙◌, subst}
-use Rattle.shogi_board.specs.Placed.{Placed}
-use Rattle.shogi_board.specs.Sound.{IsSound}
-use Rattle.shogi_rules.specs.declared.moves.Move.{Move}
+use Rattle.std.proofs.Common.{◌≡◌, None, length, replicate, List, ap, ◌∙◌}
+use Rattle.shogi_board.specs.declared.moves.Move.{Move}
 use Rattle.csa_record.proofs.Timing.{none_only}
 use Rattle.csa_record.proofs.Courses.{kept_untimed, course_untimed}
 use Rattle.csa_record.proofs.course.Course.from_line.Goals as goal
@@ -13,8 +11,7 @@ all_none c =
 
 pub invariant_of-result : goal.invariant_of-result
 invariant_of-result c =
-    let sound : IsSound c.args.line.start = subst (λ (p : Placed). IsSound p) c.start.ensures.value c.soundness.ensures.sound in
-    kept_untimed c.args.line c.in-Ok.times.items (all_none c) sound c.moves.ensures.game c.moves.ensures.few
+    kept_untimed c.args.line c.in-Ok.times.items (all_none c) c.moves.ensures.sound c.moves.ensures.game c.moves.ensures.few
 
 pub returns-in-Ok-clause-ok : goal.returns-in-Ok-clause-ok
 returns-in-Ok-clause-ok c = course_untimed c.args.line c.in-Ok.times.items (all_none c)

@@ -7,20 +7,20 @@ pub returns-in_ok-push-2-clause-leaders : goal.returns-in_ok-push-2-clause-leade
 returns-in_ok-push-2-clause-leaders c =
     let n : vec_len c.args.self.now.placings ≡ length c.args.self.now.placings.items = omega arith in
     rw c.in_ok-push.ensures.items (rw c.in_ok-push-2.ensures.items (rw c.len-at.ensures (rw n
-    (leaders_pushed c.args.self.now.placings.items c.args.self.now.by_digest c.args.self.now.others.items c.requires.leaders))))
+    (leaders_pushed c.args.self.now.placings.items c.args.self.now.by_digest c.args.self.now.colliding.items c.requires.leaders))))
 
 pub returns-in_ok-push-2-clause-groups : goal.returns-in_ok-push-2-clause-groups
 returns-in_ok-push-2-clause-groups c = λ likeness bytes digest_of key is has none old.
     let n : vec_len c.args.self.now.placings ≡ length c.args.self.now.placings.items = search rules in
     rw c.in_ok-push.ensures.items (rw c.in_ok-push-2.ensures.items (rw c.len-at.ensures (rw n
-    (began_pushed likeness bytes digest_of c.args.self.now.placings.items key c.args.digest.now c.args.self.now.by_digest c.args.self.now.others.items is has none old))))
+    (began_pushed likeness bytes digest_of c.args.self.now.placings.items key c.args.digest.now c.args.self.now.by_digest c.args.self.now.colliding.items is has none old))))
 
 pub returns-in_ok-insert-clause-leaders : goal.returns-in_ok-insert-clause-leaders
 returns-in_ok-insert-clause-leaders c =
     let n : vec_len c.args.self.now.placings ≡ length c.args.self.now.placings.items = omega arith in
     let updates = rw n at (rw c.len-at.ensures at c.in_ok-insert.ensures.updates) in
     rw c.in_ok-push.ensures.items (rw c.len-at.ensures (rw n
-    (leaders_inserted c.args.self.now.placings.items c.args.digest.now c.args.self.now.by_digest c.insert.new.self c.args.self.now.others.items updates.0 c.requires.leaders)))
+    (leaders_inserted c.args.self.now.placings.items c.args.digest.now c.args.self.now.by_digest c.insert.new.self c.args.self.now.colliding.items updates.0 c.requires.leaders)))
 
 pub returns-in_ok-insert-clause-groups : goal.returns-in_ok-insert-clause-groups
 returns-in_ok-insert-clause-groups c = λ likeness bytes digest_of key is has none old.
@@ -28,5 +28,5 @@ returns-in_ok-insert-clause-groups c = λ likeness bytes digest_of key is has no
     let updates = rw n at (rw c.len-at.ensures at c.in_ok-insert.ensures.updates) in
     let absent = absent_none _ (sym c.contains_key.ensures ∙ c.if-contains_key.false) in
     rw c.in_ok-push.ensures.items (rw c.len-at.ensures (rw n
-    (began_inserted likeness bytes digest_of c.args.self.now.placings.items key c.args.digest.now c.args.self.now.by_digest c.insert.new.self c.args.self.now.others.items
+    (began_inserted likeness bytes digest_of c.args.self.now.placings.items key c.args.digest.now c.args.self.now.by_digest c.insert.new.self c.args.self.now.colliding.items
     absent updates.0 updates.1 is has none old)))

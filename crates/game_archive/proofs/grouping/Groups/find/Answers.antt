@@ -3,10 +3,10 @@ use Rattle.csa_record.specs.declared.flow.FlowFault.TheVariants as flow
 use Rattle.std.specs.Prelude.{slice_index}
 use Rattle.std.proofs.lemmas.Bool.{cases_lt}
 use Rattle.std.proofs.lemmas.List.{get_or_default}
-use Rattle.game_archive.specs.Alike.{HasKey}
+use Rattle.game_archive.specs.Keying.{HasKey}
+use Rattle.game_archive.specs.Knowing.{IsNotCompared}
 use Rattle.game_archive.specs.Groups.{HasLeader}
 use Rattle.game_archive.specs.Readings.{ReadAlike}
-use Rattle.game_archive.specs.Unreadable.{IsNotCompared}
 use Rattle.game_archive.proofs.Causes.{not_compared, returned}
 use Rattle.game_archive.proofs.Readings.{alike_refl, alike_trans, gives_still}
 use Rattle.game_archive.proofs.Placed.{leads_within, refuted, some_none, some_number}
@@ -40,12 +40,12 @@ loop-k-init g c = record {
     | in-Some+in_ok-has_key+else-branch w ↦ ap g.A.Archive.noted w.archive-is ∙ w.in_ok-has_key.ensures.noted
     | in_default w ↦ ap g.A.Archive.noted w.archive-is
   ];
-  others = λ bytes gives j less. absurd (omega (arith, less));
+  colliding = λ bytes gives j less. absurd (omega (arith, less));
 }
 
 pub has_key-requires-in-loop-k : goal.has_key-requires-in-loop-k
 has_key-requires-in-loop-k g c =
-    let within : c.loop-k.k < length c.args.self.now.others.items = omega (arith, c.loop-k-test.true, c.len-k-end.ensures) in
+    let within : c.loop-k.k < length c.args.self.now.colliding.items = omega (arith, c.loop-k-test.true, c.len-k-end.ensures) in
     let leads = c.requires.leaders.elsewhere c.loop-k.k _ within in
     let read : c.index-leader.result.now ≡ _ = c.index-leader.ensures in
     let less = leads_within c.args.self.now.placings.items _ c.index-leader.result.now c.requires.within (subst (λ i. HasLeader c.args.self.now.placings.items i i) (sym read) leads) in
@@ -54,7 +54,7 @@ has_key-requires-in-loop-k g c =
 
 pub returns-then-branch-2-clause-found : goal.returns-then-branch-2-clause-found
 returns-then-branch-2-clause-found g c = λ bytes gives.
-    let within : c.loop-k.k < length c.args.self.now.others.items = omega (arith, c.loop-k-test.true, c.len-k-end.ensures) in
+    let within : c.loop-k.k < length c.args.self.now.colliding.items = omega (arith, c.loop-k-test.true, c.len-k-end.ensures) in
     let leads = c.requires.leaders.elsewhere c.loop-k.k _ within in
     let read : c.index-leader.result.now ≡ _ = c.index-leader.ensures in
     let less = leads_within c.args.self.now.placings.items _ c.index-leader.result.now c.requires.within (subst (λ i. HasLeader c.args.self.now.placings.items i i) (sym read) leads) in
@@ -67,21 +67,21 @@ loop-k-preserved g c = record {
   size = c.in_ok-has_key-2.ensures.size ∙ c.loop-k.invariant.size;
   alike = alike_trans (g.A.Archive.reads c.args.archive.now) (g.A.Archive.reads c.loop-k.archive) (g.A.Archive.reads c.has_key-in-loop-k.new.archive) c.loop-k.invariant.alike c.in_ok-has_key-2.ensures.alike;
   quiet = c.in_ok-has_key-2.ensures.noted ∙ c.loop-k.invariant.quiet;
-  others = λ bytes gives j less same.
+  colliding = λ bytes gives j less same.
       elim (cases_lt j c.loop-k.k) [
-        | inl before ↦ c.loop-k.invariant.others bytes gives j before same
+        | inl before ↦ c.loop-k.invariant.colliding bytes gives j before same
         | inr not ↦
-            let within : c.loop-k.k < length c.args.self.now.others.items = omega (arith, c.loop-k-test.true, c.len-k-end.ensures) in
+            let within : c.loop-k.k < length c.args.self.now.colliding.items = omega (arith, c.loop-k-test.true, c.len-k-end.ensures) in
             let e : c.loop-k.k ≡ j = omega (arith, not, less) in
             let leads = c.requires.leaders.elsewhere c.loop-k.k _ within in
-            let read : c.index-leader.result.now ≡ slice_index c.args.self.now.others.items c.loop-k.k = c.index-leader.ensures ∙ get_or_default c.args.self.now.others.items c.loop-k.k _ 0 within in
+            let read : c.index-leader.result.now ≡ slice_index c.args.self.now.colliding.items c.loop-k.k = c.index-leader.ensures ∙ get_or_default c.args.self.now.colliding.items c.loop-k.k _ 0 within in
             let now : c.index-leader.result.now ≡ _ = c.index-leader.ensures in
             let below = leads_within c.args.self.now.placings.items _ c.index-leader.result.now c.requires.within (subst (λ i. HasLeader c.args.self.now.placings.items i i) (sym now) leads) in
             let size = c.loop-k.invariant.size in
             let still = gives_still (g.A.Archive.reads c.args.archive.now) (g.A.Archive.reads c.loop-k.archive) (g.A.Archive.size c.args.archive.now) (g.A.Archive.size c.loop-k.archive) bytes c.loop-k.invariant.alike size gives in
             refuted (HasKey c.args.likeness (bytes c.index-leader.result.now) c.args.key.now) c.in_ok-has_key-2.field-0
             (c.in_ok-has_key-2.ensures.same (bytes c.index-leader.result.now) (still c.index-leader.result.now (omega (arith, below, size)))) c.if-branch-2.false
-            (subst (λ i. HasKey c.args.likeness (bytes i) c.args.key.now) (sym (read ∙ ap (slice_index c.args.self.now.others.items) e)) same)
+            (subst (λ i. HasKey c.args.likeness (bytes i) c.args.key.now) (sym (read ∙ ap (slice_index c.args.self.now.colliding.items) e)) same)
       ];
 }
 
@@ -97,8 +97,8 @@ returns-clause-found g c = λ bytes gives. (
         (subst (λ i. HasKey c.args.likeness (bytes i) c.args.key.now) (sym e) same)
     | in_default w ↦ some_none leader _ w.in_default.ensures.value there
   ],
-  λ j d less same. c.loop-k.invariant.others bytes gives j (omega (arith, less, c.loop-k-test.false, c.len-k-end.ensures, c.loop-k.auto.k-end))
-      (subst (λ i. HasKey c.args.likeness (bytes i) c.args.key.now) (get_or_default c.args.self.now.others.items j d 0 less) same),
+  λ j d less same. c.loop-k.invariant.colliding bytes gives j (omega (arith, less, c.loop-k-test.false, c.len-k-end.ensures, c.loop-k.auto.k-end))
+      (subst (λ i. HasKey c.args.likeness (bytes i) c.args.key.now) (get_or_default c.args.self.now.colliding.items j d 0 less) same),
 )
 
 pub returns-in_err-has_key-clause-fault : goal.returns-in_err-has_key-clause-fault
@@ -114,7 +114,7 @@ returns-in_err-has_key-clause-fault g c =
 pub returns-in_err-has_key-2-clause-fault : goal.returns-in_err-has_key-2-clause-fault
 returns-in_err-has_key-2-clause-fault g c =
     let placings = c.args.self.now.placings.items in
-    let within : c.loop-k.k < length c.args.self.now.others.items = omega (arith, c.loop-k-test.true, c.len-k-end.ensures) in
+    let within : c.loop-k.k < length c.args.self.now.colliding.items = omega (arith, c.loop-k-test.true, c.len-k-end.ensures) in
     let leader = c.index-leader.result.now in
     let read : c.index-leader.result.now ≡ _ = c.index-leader.ensures in
     let leads = subst (λ i. HasLeader placings i i) (sym read) (c.requires.leaders.elsewhere c.loop-k.k _ within) in

@@ -1,21 +1,22 @@
-use Rattle.std.proofs.Common.{◌≡◌, ◌∙◌, [], ◌∷◌, ◌++◌, ap, length, subst, sym}
+use Rattle.std.proofs.Common.{◌≡◌, ◌∙◌, [], ◌∷◌, ◌++◌, ap, length, refl, subst, sym}
 use Rattle.std.proofs.lemmas.List.{length_push}
 use Rattle.game_archive.proofs.Placed.{leaders_still, placed_unreadable, placed_with}
 use Rattle.game_archive.proofs.Causes.{keeps_group, keeps_lost, on_ok}
-use Rattle.game_archive.specs.Unreadable.{KeepsCauses}
+use Rattle.game_archive.proofs.Counts.{none_outside, one_outside}
+use Rattle.game_archive.specs.Knowing.{KeepsCauses, KeepsCount}
 use Rattle.game_archive.specs.declared.grouping.Placing.TheVariants as placing
 use Rattle.game_archive.proofs.grouping.Groups.place_key.Goals as goal
 
 pub returns-in_ok-push-in-Ok-Some-clause-leaders : goal.returns-in_ok-push-in-Ok-Some-clause-leaders
 returns-in_ok-push-in-Ok-Some-clause-leaders g c =
-    rw c.in_ok-push-in-Ok-Some.ensures.items (leaders_still c.args.self.now.placings.items (placing.Group c.in-Ok-Some.leader) c.args.self.now.by_digest c.args.self.now.others.items c.requires.leaders)
+    rw c.in_ok-push-in-Ok-Some.ensures.items (leaders_still c.args.self.now.placings.items (placing.Group c.in-Ok-Some.leader) c.args.self.now.by_digest c.args.self.now.colliding.items c.requires.leaders)
 
 pub returns-in_ok-push-in-Ok-Some-clause-groups : goal.returns-in_ok-push-in-Ok-Some-clause-groups
 returns-in_ok-push-in-Ok-Some-clause-groups g c = λ bytes gives has old.
     let leads = rw c.in-Ok-Some.field-0-is at c.in-Ok-Some.ensures.leader in
     let found = rw c.in-Ok-Some.field-0-is at (c.in-Ok-Some.ensures.found bytes gives) in
     rw c.in_ok-push-in-Ok-Some.ensures.items
-    (placed_with c.args.likeness bytes (g.D.Digester.digest_of c.args.digester.now) c.args.self.now.placings.items c.in-Ok-Some.leader c.args.key.now c.args.self.now.by_digest c.args.self.now.others.items
+    (placed_with c.args.likeness bytes (g.D.Digester.digest_of c.args.digester.now) c.args.self.now.placings.items c.in-Ok-Some.leader c.args.key.now c.args.self.now.by_digest c.args.self.now.colliding.items
     leads found has old)
 
 pub returns-in-Ok-None-clause-groups : goal.returns-in-Ok-None-clause-groups
@@ -44,14 +45,20 @@ returns-in-Ok-None-clause-causes g c = λ since old.
 pub returns-in_ok-push-in-Err-Refused : goal.returns-in_ok-push-in-Err-Refused
 returns-in_ok-push-in-Err-Refused g c = record {
   more = ap length c.in_ok-push-in-Err-Refused.ensures.items ∙ length_push c.args.self.now.placings.items placing.Unreadable;
-  leaders = rw c.in_ok-push-in-Err-Refused.ensures.items (leaders_still c.args.self.now.placings.items placing.Unreadable c.args.self.now.by_digest c.args.self.now.others.items c.requires.leaders);
+  leaders = rw c.in_ok-push-in-Err-Refused.ensures.items (leaders_still c.args.self.now.placings.items placing.Unreadable c.args.self.now.by_digest c.args.self.now.colliding.items c.requires.leaders);
   groups = λ bytes gives has old. rw c.in_ok-push-in-Err-Refused.ensures.items
-      (placed_unreadable c.args.likeness bytes (g.D.Digester.digest_of c.args.digester.now) c.args.self.now.placings.items c.args.self.now.by_digest c.args.self.now.others.items old);
+      (placed_unreadable c.args.likeness bytes (g.D.Digester.digest_of c.args.digester.now) c.args.self.now.placings.items c.args.self.now.by_digest c.args.self.now.colliding.items old);
   causes = λ since old.
       let archive = c.args.archive.now in
       rw c.in_ok-push-in-Err-Refused.ensures.items
       (keeps_lost (g.A.Archive.reads archive) (g.A.Archive.noted archive) (g.A.Archive.noted c.find.new.archive) since c.args.self.now.placings.items c.in-Err-Refused.field-0
       (λ e. let h = sym c.in-Err-Refused.field-0-is ∙ e in absurd cc) (λ e. let h = sym c.in-Err-Refused.field-0-is ∙ e in absurd cc) c.in-Err-Refused.ensures.fault old);
+  counted =
+      let archive = c.args.archive.now in
+      let lost = c.in-Err-Refused.ensures.fault (λ e. let h = sym c.in-Err-Refused.field-0-is ∙ e in absurd cc) in
+      rw c.in_ok-push-in-Err-Refused.ensures.items
+      (one_outside (g.A.Archive.noted archive) (g.A.Archive.noted c.find.new.archive) lost.0 c.in-Err-Refused.field-0 c.args.self.now.placings.items placing.Unreadable
+      (λ e. let h = sym c.in-Err-Refused.field-0-is ∙ e in absurd cc) (λ e. let h = sym c.in-Err-Refused.field-0-is ∙ e in absurd cc) lost.3 refl);
   size = c.in-Err-Refused.ensures.size;
   alike = c.in-Err-Refused.ensures.alike;
 }
@@ -59,14 +66,35 @@ returns-in_ok-push-in-Err-Refused g c = record {
 pub returns-in_ok-push-in-Err-ReadFault : goal.returns-in_ok-push-in-Err-ReadFault
 returns-in_ok-push-in-Err-ReadFault g c = record {
   more = ap length c.in_ok-push-in-Err-ReadFault.ensures.items ∙ length_push c.args.self.now.placings.items placing.Unreadable;
-  leaders = rw c.in_ok-push-in-Err-ReadFault.ensures.items (leaders_still c.args.self.now.placings.items placing.Unreadable c.args.self.now.by_digest c.args.self.now.others.items c.requires.leaders);
+  leaders = rw c.in_ok-push-in-Err-ReadFault.ensures.items (leaders_still c.args.self.now.placings.items placing.Unreadable c.args.self.now.by_digest c.args.self.now.colliding.items c.requires.leaders);
   groups = λ bytes gives has old. rw c.in_ok-push-in-Err-ReadFault.ensures.items
-      (placed_unreadable c.args.likeness bytes (g.D.Digester.digest_of c.args.digester.now) c.args.self.now.placings.items c.args.self.now.by_digest c.args.self.now.others.items old);
+      (placed_unreadable c.args.likeness bytes (g.D.Digester.digest_of c.args.digester.now) c.args.self.now.placings.items c.args.self.now.by_digest c.args.self.now.colliding.items old);
   causes = λ since old.
       let archive = c.args.archive.now in
       rw c.in_ok-push-in-Err-ReadFault.ensures.items
       (keeps_lost (g.A.Archive.reads archive) (g.A.Archive.noted archive) (g.A.Archive.noted c.find.new.archive) since c.args.self.now.placings.items c.in-Err-ReadFault.field-0
       (λ e. let h = sym c.in-Err-ReadFault.field-0-is ∙ e in absurd cc) (λ e. let h = sym c.in-Err-ReadFault.field-0-is ∙ e in absurd cc) c.in-Err-ReadFault.ensures.fault old);
+  counted =
+      let archive = c.args.archive.now in
+      let lost = c.in-Err-ReadFault.ensures.fault (λ e. let h = sym c.in-Err-ReadFault.field-0-is ∙ e in absurd cc) in
+      rw c.in_ok-push-in-Err-ReadFault.ensures.items
+      (one_outside (g.A.Archive.noted archive) (g.A.Archive.noted c.find.new.archive) lost.0 c.in-Err-ReadFault.field-0 c.args.self.now.placings.items placing.Unreadable
+      (λ e. let h = sym c.in-Err-ReadFault.field-0-is ∙ e in absurd cc) (λ e. let h = sym c.in-Err-ReadFault.field-0-is ∙ e in absurd cc) lost.3 refl);
   size = c.in-Err-ReadFault.ensures.size;
   alike = c.in-Err-ReadFault.ensures.alike;
 }
+
+pub returns-in_ok-push-in-Ok-Some-clause-counted : goal.returns-in_ok-push-in-Ok-Some-clause-counted
+returns-in_ok-push-in-Ok-Some-clause-counted g c =
+    rw c.in_ok-push-in-Ok-Some.ensures.items
+    (none_outside (g.A.Archive.noted c.args.archive.now) (g.A.Archive.noted c.find.new.archive) c.args.self.now.placings.items c.in-Ok-Some.leader c.in-Ok-Some.ensures.quiet)
+
+pub returns-in-Ok-None-clause-counted : goal.returns-in-Ok-None-clause-counted
+returns-in-Ok-None-clause-counted g c =
+    let before = g.A.Archive.noted c.args.archive.now in
+    let noted = g.A.Archive.noted c.find.new.archive in
+    let placings = c.args.self.now.placings.items in
+    let after = c.begin.new.self.placings.items in
+    let own = placing.Group (length placings) in
+    on_ok (after ≡ placings ++ own ∷ []) (KeepsCount before noted placings after) c.begin.result
+    (λ e. subst (KeepsCount before noted placings) (sym e) (none_outside before noted placings (length placings) c.in-Ok-None.ensures.quiet)) c.begin.ensures.placed

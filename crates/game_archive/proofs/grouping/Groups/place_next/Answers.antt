@@ -1,8 +1,10 @@
-use Rattle.std.proofs.Common.{◌≡◌, ◌∙◌, Err, ap, arith, length, subst, sym}
+use Rattle.std.proofs.Common.{◌≡◌, ◌∙◌, Err, ap, arith, length, refl, subst, sym}
 use Rattle.csa_record.specs.declared.flow.FlowFault.TheVariants as flow
 use Rattle.game_archive.proofs.Placed.{leaders_still, placed_refused, placed_unreadable}
-use Rattle.game_archive.specs.Alike.{GivesOnly, HasKey}
+use Rattle.game_archive.specs.Keying.{HasKey}
+use Rattle.game_archive.specs.Alike.{GivesOnly}
 use Rattle.game_archive.proofs.Causes.{causes_by, keeps_by, keeps_from, keeps_refused, keeps_unread, on_ok}
+use Rattle.game_archive.proofs.Counts.{count_from, one_outside}
 use Rattle.game_archive.proofs.Readings.{alike_trans, gives_still}
 use Rattle.game_archive.specs.Readings.{noted_at}
 use Rattle.game_archive.specs.declared.grouping.Placing.TheVariants as placing
@@ -11,7 +13,7 @@ use Rattle.game_archive.proofs.grouping.Groups.place_next.Goals as goal
 pub returns-in_ok-push-in-Err-Refused-clause-leaders : goal.returns-in_ok-push-in-Err-Refused-clause-leaders
 returns-in_ok-push-in-Err-Refused-clause-leaders g c =
     rw c.in_ok-push-in-Err-Refused.ensures.items (rw c.in-Err-Refused.field-0-is
-    (leaders_still c.args.self.now.placings.items (placing.Refused c.in-Err-Refused.refusal) c.args.self.now.by_digest c.args.self.now.others.items c.requires.leaders))
+    (leaders_still c.args.self.now.placings.items (placing.Refused c.in-Err-Refused.refusal) c.args.self.now.by_digest c.args.self.now.colliding.items c.requires.leaders))
 
 pub returns-in_ok-push-in-Err-Refused-clause-groups : goal.returns-in_ok-push-in-Err-Refused-clause-groups
 returns-in_ok-push-in-Err-Refused-clause-groups g c = λ bytes gives old.
@@ -20,17 +22,17 @@ returns-in_ok-push-in-Err-Refused-clause-groups g c = λ bytes gives old.
     let here = subst (λ i. GivesOnly (g.A.Archive.reads c.args.archive.now i) (bytes (length placings))) (sym n) (gives (length placings) c.requires.within) in
     let refused = c.in-Err-Refused.ensures.refused (bytes (length placings)) c.in-Err-Refused.refusal here (ap Err c.in-Err-Refused.field-0-is) in
     rw c.in_ok-push-in-Err-Refused.ensures.items (rw c.in-Err-Refused.field-0-is
-    (placed_refused c.args.likeness bytes (g.D.Digester.digest_of c.args.digester.now) placings c.in-Err-Refused.refusal c.args.self.now.by_digest c.args.self.now.others.items refused old))
+    (placed_refused c.args.likeness bytes (g.D.Digester.digest_of c.args.digester.now) placings c.in-Err-Refused.refusal c.args.self.now.by_digest c.args.self.now.colliding.items refused old))
 
 pub returns-in_ok-push-in-Err-ReadFault-clause-leaders : goal.returns-in_ok-push-in-Err-ReadFault-clause-leaders
 returns-in_ok-push-in-Err-ReadFault-clause-leaders g c =
     rw c.in_ok-push-in-Err-ReadFault.ensures.items
-    (leaders_still c.args.self.now.placings.items placing.Unreadable c.args.self.now.by_digest c.args.self.now.others.items c.requires.leaders)
+    (leaders_still c.args.self.now.placings.items placing.Unreadable c.args.self.now.by_digest c.args.self.now.colliding.items c.requires.leaders)
 
 pub returns-in_ok-push-in-Err-ReadFault-clause-groups : goal.returns-in_ok-push-in-Err-ReadFault-clause-groups
 returns-in_ok-push-in-Err-ReadFault-clause-groups g c = λ bytes gives old.
     rw c.in_ok-push-in-Err-ReadFault.ensures.items
-    (placed_unreadable c.args.likeness bytes (g.D.Digester.digest_of c.args.digester.now) c.args.self.now.placings.items c.args.self.now.by_digest c.args.self.now.others.items old)
+    (placed_unreadable c.args.likeness bytes (g.D.Digester.digest_of c.args.digester.now) c.args.self.now.placings.items c.args.self.now.by_digest c.args.self.now.colliding.items old)
 
 pub returns-in-Ok-clause-groups : goal.returns-in-Ok-clause-groups
 returns-in-Ok-clause-groups g c = λ bytes gives old.
@@ -82,3 +84,28 @@ returns-in_ok-push-in-Err-ReadFault-clause-causes g c = λ since old.
     (subst (λ f. g.A.Archive.noted c.key_at.new.archive ≡ noted_at (g.A.Archive.noted archive) c.len.result f) c.in-Err-ReadFault.field-0-is c.in-Err-ReadFault.ensures.noted) in
     rw c.in_ok-push-in-Err-ReadFault.ensures.items
     (keeps_unread R (g.A.Archive.noted archive) (g.A.Archive.noted c.key_at.new.archive) since placings after old)
+
+pub returns-in-Ok-clause-counted : goal.returns-in-Ok-clause-counted
+returns-in-Ok-clause-counted g c =
+    let before = g.A.Archive.noted c.args.archive.now in
+    let here = g.A.Archive.noted c.key_at.new.archive in
+    let new = g.A.Archive.noted c.place_key.new.archive in
+    let placings = c.args.self.now.placings.items in
+    on_ok _ _ c.place_key.result (count_from before here new placings c.place_key.new.self.placings.items c.in-Ok.ensures.noted) c.place_key.ensures.counted
+
+pub returns-in_ok-push-in-Err-Refused-clause-counted : goal.returns-in_ok-push-in-Err-Refused-clause-counted
+returns-in_ok-push-in-Err-Refused-clause-counted g c =
+    let archive = c.args.archive.now in
+    let refused = flow.Refused c.in-Err-Refused.refusal in
+    let after = subst (λ f. g.A.Archive.noted c.key_at.new.archive ≡ noted_at (g.A.Archive.noted archive) c.len.result f) c.in-Err-Refused.field-0-is c.in-Err-Refused.ensures.noted in
+    rw c.in_ok-push-in-Err-Refused.ensures.items (rw c.in-Err-Refused.field-0-is
+    (one_outside (g.A.Archive.noted archive) (g.A.Archive.noted c.key_at.new.archive) c.len.result refused c.args.self.now.placings.items (placing.Refused c.in-Err-Refused.refusal)
+    (λ e. absurd cc) (λ e. absurd cc) after refl))
+
+pub returns-in_ok-push-in-Err-ReadFault-clause-counted : goal.returns-in_ok-push-in-Err-ReadFault-clause-counted
+returns-in_ok-push-in-Err-ReadFault-clause-counted g c =
+    let archive = c.args.archive.now in
+    let after = subst (λ f. g.A.Archive.noted c.key_at.new.archive ≡ noted_at (g.A.Archive.noted archive) c.len.result f) c.in-Err-ReadFault.field-0-is c.in-Err-ReadFault.ensures.noted in
+    rw c.in_ok-push-in-Err-ReadFault.ensures.items
+    (one_outside (g.A.Archive.noted archive) (g.A.Archive.noted c.key_at.new.archive) c.len.result flow.ReadFault c.args.self.now.placings.items placing.Unreadable
+    (λ e. absurd cc) (λ e. absurd cc) after refl)

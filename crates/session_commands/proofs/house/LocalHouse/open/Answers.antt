@@ -1,36 +1,14 @@
-use Rattle.std.proofs.Common.{refl}
 use Rattle.std.proofs.lemmas.Result.{err_from_is_err_and}
-use Rattle.session_commands.specs.Housing.{by_address, by_port, no_memory, no_server, not_joined_at, server_ended}
+use Rattle.session_commands.specs.Housing.{no_game, no_log}
 use Rattle.session_commands.proofs.house.LocalHouse.open.Goals as goal
 
-pub returns-in_err-command-in-Started-clause-unopened : goal.returns-in_err-command-in-Started-clause-unopened
-returns-in_err-command-in-Started-clause-unopened g c =
+pub returns-in_err-log-clause-unopened : goal.returns-in_err-log-clause-unopened
+returns-in_err-log-clause-unopened g c =
     let p = err_from_is_err_and c.from_residual.result c.from_residual.ensures.1 in
-    rw (p.1, p.2) (no_memory _ _ c.in-Started.is refl)
-
-pub returns-in_err-child-in-Started-clause-unopened : goal.returns-in_err-child-in-Started-clause-unopened
-returns-in_err-child-in-Started-clause-unopened g c =
-    let command = c.in_ok-command-in-Started.ensures in
-    let p = err_from_is_err_and c.from_residual-in_err-child-in-Started.result c.from_residual-in_err-child-in-Started.ensures.1 in
-    rw (p.1, p.2)
-    (no_server _ _ _ c.in-Started.is (rw (command.program, command.words) at c.in_err-child-in-Started.ensures.serves_not) c.in_err-child-in-Started.ensures.server_gone)
+    rw (p.1, p.2) (no_log _ c.in_err-log.ensures.logs_not c.in_err-log.ensures.faults)
 
 pub returns-in-Ok-clause-opened : goal.returns-in-Ok-clause-opened
-returns-in-Ok-clause-opened g c =
-    let command = c.in_ok-command-in-Started.ensures in
-    rw (c.logged.ensures.logged, c.logged.ensures.programs)
-    (by_port _ _ _ _ _ c.in-Started.is (rw (command.program, command.words) at c.in_ok-child-in-Started.ensures.serves) c.in-Ok.ensures.joined, refl)
+returns-in-Ok-clause-opened g c = record { between = c.make_log.new.self; made = c.in_ok-log.ensures.logs; opened = c.in-Ok.ensures.opened }
 
-pub returns-in-Started-clause-unopened : goal.returns-in-Started-clause-unopened
-returns-in-Started-clause-unopened g c =
-    let command = c.in_ok-command-in-Started.ensures in
-    server_ended _ _ _ _ _ _ _ _ c.in-Started.is (rw (command.program, command.words) at c.in_ok-child-in-Started.ensures.serves) c.in-Err.ensures.portless c.end.ensures.ended
-
-pub returns-in_err-sides-in-At-clause-unopened : goal.returns-in_err-sides-in-At-clause-unopened
-returns-in_err-sides-in-At-clause-unopened g c =
-    let p = err_from_is_err_and c.from_residual-in_err-sides-in-At.result c.from_residual-in_err-sides-in-At.ensures.1 in
-    rw (p.1, p.2) (not_joined_at _ _ c.in-At.is c.in_err-sides-in-At.ensures.apart)
-
-pub returns-clause-opened : goal.returns-clause-opened
-returns-clause-opened g c =
-    rw (c.logged-in-At.ensures.logged, c.logged-in-At.ensures.programs) (by_address _ c.in-At.is c.in_ok-sides-in-At.ensures.joined, refl)
+pub returns-in-Err-clause-unopened : goal.returns-in-Err-clause-unopened
+returns-in-Err-clause-unopened g c = no_game _ _ c.in_ok-log.ensures.logs c.in-Err.ensures.unopened

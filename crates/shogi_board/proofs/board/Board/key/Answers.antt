@@ -1,4 +1,4 @@
-use Rattle.std.proofs.Common.{rules, ◌≡◌, ◌<◌, ◌≤◌, ◌%◌, ◌^◌, None, arith, ap, get_or, length, map, sym, take, ◌∙◌}
+use Rattle.std.proofs.Common.{rules, ◌≡◌, ◌<◌, ◌≤◌, ◌%◌, ◌^◌, None, arith, ap, get_or, length, map, sym, ◌∙◌}
 use Rattle.std.proofs.lemmas.List.{get_or-map, length-map, take_all}
 use Rattle.shogi_board.specs.Cells.{Cells}
 use Rattle.shogi_board.specs.Contents.{content}

@@ -3,7 +3,7 @@ use Rattle.shogi_board.specs.Moves.{diagonals, orthogonals, rays, to}
 use Rattle.shogi_board.specs.Directions.{is_diagonal}
 use Rattle.shogi_board.specs.declared.kind.Kind.{Kind}
 use Rattle.shogi_board.specs.declared.kind.Kind.TheVariants.{Bishop, Rook, Horse, Dragon}
-use Rattle.shogi_board.proofs.Moves.{member}
+use Rattle.shogi_board.proofs.Rays.{member}
 use Rattle.shogi_board.proofs.kind.Kind.has_ray.Goals as goal
 
 like-bishop : (k : Kind) → (k ≡ Bishop) ⊎ (k ≡ Horse) → rays k ≡ diagonals

@@ -3,7 +3,7 @@ use Rattle.shogi_board.specs.Moves.{diagonals, orthogonals, gold, steps, to}
 use Rattle.shogi_board.specs.Directions.{is_diagonal}
 use Rattle.shogi_board.specs.declared.kind.Kind.{Kind}
 use Rattle.shogi_board.specs.declared.kind.Kind.TheVariants.{Silver, Gold, King, ProPawn, ProLance, ProKnight, ProSilver}
-use Rattle.shogi_board.proofs.Moves.{member}
+use Rattle.shogi_board.proofs.Rays.{member}
 use Rattle.shogi_board.proofs.kind.Kind.has_step.Goals as goal
 
 like-gold : (k : Kind) → (k ≡ Gold) ⊎ ((k ≡ ProPawn) ⊎ ((k ≡ ProLance) ⊎ ((k ≡ ProKnight) ⊎ (k ≡ ProSilver)))) → steps k ≡ gold

@@ -2,7 +2,7 @@ use Rattle.std.proofs.Common.{rules, ◌≡◌, ◌∙◌, ◌<◌, ◌^◌, tru
 use Rattle.shogi_board.specs.Cells.{piece}
 use Rattle.shogi_board.specs.Keys.{cell_key}
 use Rattle.shogi_board.specs.Material.{Material, bag_of, with_bag}
-use Rattle.shogi_board.specs.Moved.{with_captured}
+use Rattle.shogi_board.specs.After.{with_captured}
 use Rattle.shogi_board.specs.Pieces.{is_hand_kind, unpromoted}
 use Rattle.shogi_board.specs.Reach.{InCheck}
 use Rattle.shogi_board.specs.Squares.{place}

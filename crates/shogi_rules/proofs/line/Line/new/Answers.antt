@@ -8,6 +8,7 @@ invariant_of-result c = (
     game = rw c.in_ok-with_capacity.ensures.items begun;
     few = rw c.in_ok-with_capacity.ensures.items (omega arith);
   },
-  rw c.in_ok-with_capacity.ensures.items c.in_ok-new.ensures,
-  rw c.in_ok-with_capacity.ensures.items c.in_check-in_check.ensures.check,
+  rw (c.in_ok-with_capacity.ensures.items, ← c.new-last.ensures.value) c.in_ok-new.ensures,
+  rw c.in_ok-with_capacity.ensures.items c.new-last.ensures.value,
+  c.new-last.ensures.sound,
 )

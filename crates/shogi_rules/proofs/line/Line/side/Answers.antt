@@ -1,10 +1,10 @@
 use Rattle.std.proofs.Common.{◌≡◌, ap, ◌∙◌}
 use Rattle.shogi_board.specs.Placed.{Placed}
-use Rattle.shogi_rules.specs.Positions.{now_of, position_after}
+use Rattle.shogi_rules.specs.Positions.{now_of}
 use Rattle.shogi_rules.proofs.line.Line.side.Goals as goal
 
 pub returns : goal.returns
 returns c =
     let i = c.self.inside in
-    let e : c.last.result.now ≡ now_of c.args.self.now = c.last.ensures _ (position_after i.start i.moves.items) c.self.invariant.1 ∙ ap now_of c.self.view_is in
-    c.side.ensures.value ∙ ap (λ (p : Placed). p.side) e
+    let e : i.last ≡ now_of c.args.self.now = c.self.invariant.2 ∙ ap now_of c.self.view_is in
+    c.side.ensures.value ∙ ap (λ (p : Placed). p.side) (c.position.ensures.value ∙ e)

@@ -24,7 +24,7 @@ returns-then-is_over c =
 pub returns-else-is_over : goal.returns-else-is_over
 returns-else-is_over c = record {
   stands = let i = c.self.inside in
-      let e : c.last.result.now ≡ now_of c.args.self.now = c.last.ensures _ (position_after i.start i.moves.items) c.self.invariant.1 ∙ ap now_of c.self.view_is in
+      let e : i.last ≡ now_of c.args.self.now = c.self.invariant.2 ∙ ap now_of c.self.view_is in
       let not_over : Over c.args.self.now → ⊥ = λ over.
       let yes = c.is_over.ensures.answer.1 over in
       let no = c.if-is_over.false in

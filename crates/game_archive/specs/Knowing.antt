@@ -1,0 +1,69 @@
+-- For private functions: what is known of the entries that were placed so far.
+-- A reader of the public contracts may skip this file.
+use Rattle.std.specs.Prelude.{◌≡◌, ◌⊎◌, ◌+◌, ℕ, ◌≤◌, List, Some, Result, Err}
+use Rattle.std.specs.BTreeMap.{BTreeMap, get}
+use Rattle.std.specs.Cmp.Lexicographic.{slice_cmp}
+use Rattle.std.specs.List.{All, Contains}
+use Rattle.std.specs.Ordering.{nat_cmp}
+use Rattle.csa_record.specs.declared.flow.FlowFault.{FlowFault}
+use Rattle.game_archive.specs.Groups.{HasLeader, outside, placing_at}
+use Rattle.game_archive.specs.Keying.{HasKey}
+use Rattle.game_archive.specs.Readings.{Noted, how_many, noted_at, noted_with}
+use Rattle.game_archive.specs.Unreadable.{HaveCauses}
+use Rattle.game_archive.specs.declared.grouping.Placing.{Placing}
+use Rattle.game_archive.specs.declared.grouping.Placing.TheVariants as placing
+use Rattle.record_game.specs.declared.likeness.Likeness.{Likeness}
+use Rattle.record_game.specs.declared.fault.Refusal.{Refusal}
+use Rattle.record_game.specs.Game.{Game}
+use Rattle.record_game.specs.Refused.{Refused}
+
+-- what is kept at digests and in the list are leaders
+pub record HoldsLeaders (placings : List Placing) (by_digest : BTreeMap (List ℕ) ℕ)
+    (colliding : List ℕ) : Type 0 where
+  pub at_digests : (digest : List ℕ) (leader : ℕ)
+      → get (slice_cmp nat_cmp) by_digest digest ≡ Some leader → HasLeader placings leader leader
+  pub elsewhere : All (λ leader. HasLeader placings leader leader) colliding
+
+-- the leader is kept at the digest of its key, or in the list
+abbrev pub IsKept : (List ℕ → List ℕ) → BTreeMap (List ℕ) ℕ → List ℕ → List ℕ → ℕ → Type 0
+IsKept digest_of by_digest colliding key leader =
+    (get (slice_cmp nat_cmp) by_digest (digest_of key) ≡ Some leader) ⊎ Contains colliding leader
+
+-- entries of one group have one key, and no two groups do; each leader is kept; and the bytes of a
+-- refused entry are refused in that way
+pub record KnowsGroups (likeness : Likeness) (bytes : ℕ → List ℕ) (digest_of : List ℕ → List ℕ)
+    (placings : List Placing) (by_digest : BTreeMap (List ℕ) ℕ) (colliding : List ℕ) : Type 0 where
+  pub led : (at leader : ℕ) → HasLeader placings at leader
+      → (leader ≤ at) × HasLeader placings leader leader
+      × ((key : List ℕ) × HasKey likeness (bytes leader) key × HasKey likeness (bytes at) key)
+  pub one : (a b : ℕ) (key : List ℕ) → HasLeader placings a a → HasLeader placings b b
+      → HasKey likeness (bytes a) key → HasKey likeness (bytes b) key → a ≡ b
+  pub kept : (leader : ℕ) (key : List ℕ) → HasLeader placings leader leader
+      → HasKey likeness (bytes leader) key → IsKept digest_of by_digest colliding key leader
+  pub refused : (at : ℕ) (r : Refusal) → placing_at placings at ≡ placing.Refused r
+      → Refused (bytes at) r.number r.offset r.why
+
+-- neither the entry kept at this digest nor one of the list has this key
+abbrev pub LeadsNone : Likeness → (ℕ → List ℕ) → List ℕ → BTreeMap (List ℕ) ℕ → List ℕ
+    → List ℕ → Type 0
+LeadsNone likeness bytes digest by_digest colliding key =
+    ((leader : ℕ) → get (slice_cmp nat_cmp) by_digest digest ≡ Some leader
+    → HasKey likeness (bytes leader) key → ⊥)
+    × All (λ leader. HasKey likeness (bytes leader) key → ⊥) colliding
+
+-- the causes so far, and after what was noted since
+abbrev pub KeepsCauses : (ℕ → Result Game FlowFault → Type 0) → Noted → Noted → Noted
+    → List Placing → Type 0
+KeepsCauses Reads old new since placings =
+    (more : Noted) × (new ≡ noted_with old more)
+    × HaveCauses Reads (noted_with since more) placings
+
+-- why an entry was not compared with a leader
+abbrev pub IsNotCompared : (ℕ → Result Game FlowFault → Type 0) → Noted → Noted
+    → List Placing → FlowFault → Type 0
+IsNotCompared Reads old new placings fault = (leader : ℕ) × HasLeader placings leader leader
+    × Reads leader (Err fault) × (new ≡ noted_at old leader fault)
+
+-- as many readings that gave no record are noted more as entries are in no group
+abbrev pub KeepsCount : Noted → Noted → List Placing → List Placing → Type 0
+KeepsCount old new before after = how_many new + outside before ≡ how_many old + outside after

@@ -1,0 +1,54 @@
+ghost use Rattle.std.specs.Prelude.{◌≡◌, ◌↔◌, IsTrue, true, false};
+ghost use Rattle.shogi_board.specs.After.{after, board_after};
+ghost use Rattle.shogi_board.specs.Cells.{at, piece};
+ghost use Rattle.shogi_board.specs.Danger.{ComesFrom};
+ghost use Rattle.shogi_board.specs.Legal.{FitsBoard, KingSafe};
+ghost use Rattle.shogi_board.specs.Placed.{Placed};
+ghost use Rattle.shogi_board.specs.Reach.{InCheck};
+ghost use Rattle.shogi_board.specs.Sound.{IsSound};
+ghost use Rattle.shogi_board.specs.declared.kind.Kind.TheVariants.{King};
+ghost use Rattle.shogi_board.specs.declared.square.Square.{Square};
+
+use crate::danger::Danger;
+use crate::moves::Move;
+use crate::position::{Position, attacked_towards, reaches};
+
+// Makes the position the one after a move that fits the board, if it leaves the mover's king safe,
+// and returns whether it does; else the position stays as it was. The danger says where that king
+// may be attacked from after the move.
+#[inline(always)]
+pub(crate) fn make(position: &mut Position, danger: Danger, mv: &Move) -> bool
+    requires fits { FitsBoard position.old mv.now }
+    requires danger { (s : Square)
+        → at (board_after position.old mv.now) s ≡ piece position.old.side King
+        → ComesFrom (board_after position.old mv.now) position.old.side s danger }
+    ensures safe { IsTrue result ↔ KingSafe position.old mv.now }
+    ensures value { result ≡ true → position.new ≡ after position.old mv.now }
+    ensures unchanged { result ≡ false → position.new ≡ position.old }
+{
+    position.soundness();
+    match *mv {
+        Move::Walk { from, to, kind } => position.walk(from, to, kind, danger),
+        Move::Put { to, kind } => position.drop_piece(to, kind, danger),
+    }
+}
+
+// Whether the side to move is in check in the position after a move from a sound one. If its king
+// is attacked, then by the piece that moved, or in the direction of the square that was left.
+#[inline(always)]
+pub(crate) fn gives_check(next: &Position, mv: &Move) -> bool
+    requires { (last : Placed) × IsSound last × (next.now ≡ after last mv.now) }
+    ensures { IsTrue result ↔ InCheck next.now.material.board next.now.side }
+{
+    let side = next.side();
+    let Some(king) = next.king(side) else {
+        return false;
+    };
+    if reaches(next, mv.target(), king) {
+        return true;
+    }
+    match mv.source() {
+        Some(from) => attacked_towards(next, side, king, from),
+        None => false,
+    }
+}

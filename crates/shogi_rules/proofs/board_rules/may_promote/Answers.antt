@@ -1,5 +1,0 @@
-use Rattle.std.proofs.Common.{rules}
-use Rattle.shogi_rules.proofs.board_rules.may_promote.Goals as goal
-
-pub returns-else-in_zone : goal.returns-else-in_zone
-returns-else-in_zone c = search rules

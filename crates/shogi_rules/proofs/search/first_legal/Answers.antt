@@ -1,8 +1,0 @@
-use Rattle.std.proofs.Common.{rules}
-use Rattle.shogi_rules.proofs.Firsts.{first-of-both}
-use Rattle.shogi_rules.proofs.search.first_legal.Goals as goal
-
-pub returns : goal.returns
-returns c = record {
-  first = first-of-both c.args.position.now c.first_walk.result c.or_else.result _ c.first_walk.ensures c.or_else.ensures (λ q. search rules);
-}
