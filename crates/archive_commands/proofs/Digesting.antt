@@ -39,3 +39,11 @@ digest_fails U Opened bytes Fits input shown after ended before failures (Err fl
 digest_fails U Opened bytes Fits input shown after ended before failures (Err flow.WriteFault) opened same none refused fails quiet out_of_memory unwritten = absurd (unwritten refl)
 digest_fails U Opened bytes Fits input shown after ended before failures (Err flow.OutOfMemory) opened same none refused fails quiet out_of_memory unwritten =
     lack U Opened bytes Fits shown after ended before failures (subst Opened (sym same) opened) none (quiet (λ is. cc)) (out_of_memory refl)
+
+-- why there is no text, unless it was not written, is why there is no other
+pub fails_otherwise : (Reads : Result Game FlowFault → Type 0) (Fits Other : Game → List ℕ → Type 0) (fault : FlowFault) → FailsToReport Reads Fits fault → (fault ≡ flow.WriteFault → ⊥)
+    → FailsToReport Reads Other fault
+fails_otherwise Reads Fits Other (flow.Refused r) fails written = fails
+fails_otherwise Reads Fits Other flow.ReadFault fails written = fails
+fails_otherwise Reads Fits Other flow.WriteFault fails written = absurd (written refl)
+fails_otherwise Reads Fits Other flow.OutOfMemory fails written = fails

@@ -1,5 +1,5 @@
 -- What paths stand for, added in turn.
-use Rattle.std.proofs.Common.{◌≡◌, ◌<◌, ◌≤◌, ◌+◌, refl, sym, subst, ℕ, List, [], ◌∷◌, ◌++◌, length, drop, get_or, map, Option, Result, IfOk}
+use Rattle.std.proofs.Common.{◌≡◌, ◌<◌, ◌≤◌, ◌+◌, refl, sym, subst, ℕ, List, [], ◌∷◌, ◌++◌, length, drop, get_or, map, Option}
 use Rattle.std.proofs.lemmas.List.{drop_all, drop_more}
 use Rattle.std.specs.Global.{Vec}
 use Rattle.archive_commands.specs.Paths.{AreAdded, NamesPaths, StandsFor}
@@ -25,8 +25,8 @@ both_added S [] ys old mid new first second = subst (λ m. AreAdded S ys m new) 
 both_added S (x ∷ xs) ys old mid new first second = (first.0, first.1, both_added S xs ys (old ++ first.0) mid new first.2 second)
 
 -- what a list names if lines from `#` are read in that way
-pub named_so : {S F E : Type 0} (bytes : HashComments (Input S F) → Option (List ℕ)) (end : PathEnd) (list : Option (List ℕ)) (names : List (List ℕ)) (lines wanted : HashLines) (result : Result (Vec (Vec ℕ)) E) → lines ≡ wanted
-    → IfOk result (λ paths. (listed : List (List ℕ)) × NamesPaths (λ path. IsOpenedAs path lines) bytes end list listed × AreAdded StandsFor (names ++ listed) [] paths.items)
-    → IfOk result (λ paths. (listed : List (List ℕ)) × NamesPaths (λ path. IsOpenedAs path wanted) bytes end list listed × AreAdded StandsFor (names ++ listed) [] paths.items)
-named_so bytes end list names lines wanted result same holds =
-    subst (λ l. IfOk result (λ paths. (listed : List (List ℕ)) × NamesPaths (λ path. IsOpenedAs path l) bytes end list listed × AreAdded StandsFor (names ++ listed) [] paths.items)) same holds
+pub named_so : {S F : Type 0} (bytes : HashComments (Input S F) → Option (List ℕ)) (end : PathEnd) (list : Option (List ℕ)) (names : List (List ℕ)) (lines wanted : HashLines) (paths : List (Vec ℕ)) → lines ≡ wanted
+    → ((listed : List (List ℕ)) × NamesPaths (λ path. IsOpenedAs path lines) bytes end list listed × AreAdded StandsFor (names ++ listed) [] paths)
+    → (listed : List (List ℕ)) × NamesPaths (λ path. IsOpenedAs path wanted) bytes end list listed × AreAdded StandsFor (names ++ listed) [] paths
+named_so bytes end list names lines wanted paths same holds =
+    subst (λ l. (listed : List (List ℕ)) × NamesPaths (λ path. IsOpenedAs path l) bytes end list listed × AreAdded StandsFor (names ++ listed) [] paths) same holds

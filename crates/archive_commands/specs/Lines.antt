@@ -4,31 +4,44 @@ use Rattle.hex.specs.Hex.{encode_lower}
 use Rattle.record_commands.specs.Reports.{GetsRecord}
 use Rattle.record_commands.specs.Words.{IsAcceptedLine}
 use Rattle.archive_commands.specs.Explaining.{IsPlaceLine, IsReasonLine}
+use Rattle.archive_commands.specs.Lists.{code_of}
+use Rattle.archive_commands.specs.declared.lines.LineForm.{LineForm}
 use Rattle.archive_commands.specs.declared.lines.LineKind.{LineKind}
 use Rattle.archive_commands.specs.declared.lines.LineKind.TheVariants.{Checks, Digests}
 use Rattle.record_game.specs.Canon.{canon}
 use Rattle.record_game.specs.Game.{Game}
 use Rattle.sha2.specs.Sha256.{sha256}
+use Rattle.shogi_words.specs.declared.request.PathEnd.{PathEnd}
+use Rattle.shogi_words.specs.declared.request.PathEnd.TheVariants.{Line, Nul}
 
--- the line of `sha256sum`: the digest in hex digits, two blanks, the file, and LF
-abbrev pub digits_line : List ℕ → List ℕ → List ℕ
-digits_line file digest = encode_lower digest ++ (32 ∷ 32 ∷ (file ++ (10 ∷ [])))
+-- the line of `sha256sum`: the digest in hex digits, two blanks, the file, and LF or NUL
+abbrev pub digits_line : PathEnd → List ℕ → List ℕ → List ℕ
+digits_line end file digest = encode_lower digest ++ (32 ∷ 32 ∷ (file ++ (code_of end ∷ [])))
 
 -- its digest is that of the canonical text
-abbrev pub digest_line : List ℕ → Game → List ℕ
-digest_line file g = digits_line file (sha256 (canon g))
+abbrev pub digest_line : PathEnd → List ℕ → Game → List ℕ
+digest_line end file g = digits_line end file (sha256 (canon g))
 
--- the line of an accepted record in this file
-abbrev pub IsLineOf : LineKind → List ℕ → Game → List ℕ → Type 0
-IsLineOf Checks file g line =
-    (accepted : List ℕ) × IsAcceptedLine g accepted × (line ≡ file ++ (58 ∷ 32 ∷ accepted))
-IsLineOf Digests file g line = line ≡ digest_line file g
+-- what is said of a file: its path, a colon and a blank, or NUL alone, and then that
+abbrev pub said_of : PathEnd → List ℕ → List ℕ → List ℕ
+said_of Line file said = file ++ (58 ∷ 32 ∷ said)
+said_of Nul file said = file ++ (0 ∷ said)
 
--- an input contains a game, and this is its line
+-- the line of this kind of an accepted record in this file, whose path ends in that way
+abbrev pub IsLine : LineKind → PathEnd → List ℕ → Game → List ℕ → Type 0
+IsLine Checks end file g line =
+    (accepted : List ℕ) × IsAcceptedLine g accepted × (line ≡ said_of end file accepted)
+IsLine Digests end file g line = line ≡ digest_line end file g
+
+-- the line of this form
+abbrev pub IsLineOf : LineForm → List ℕ → Game → List ℕ → Type 0
+IsLineOf form = IsLine form.kind form.path_end
+
+-- an input contains a game, and this line fits it
 abbrev pub HasLine : {Input : Type 0} → Type 0 → (Input → Type 0) → (Input → Option (List ℕ))
-    → LineKind → List ℕ → List ℕ → Type 0
-HasLine Unopened Opened bytes lines file line =
-    (game : Game) × GetsRecord Unopened Opened bytes (Ok game) × IsLineOf lines file game line
+    → (Game → List ℕ → Type 0) → List ℕ → Type 0
+HasLine Unopened Opened bytes Fits line =
+    (game : Game) × GetsRecord Unopened Opened bytes (Ok game) × Fits game line
 
 -- the line of a refused record: it ends with the words of the refusal
 abbrev pub IsRefusedLine : List ℕ → List ℕ → Type 0

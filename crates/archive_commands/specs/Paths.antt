@@ -1,19 +1,27 @@
 -- The paths that a command line asks for: what its files and its list stand for, in order.
-use Rattle.std.specs.Prelude.{◌≡◌, ◌⊎◌, ℕ, List, [], ◌∷◌, ◌++◌, map, Option, Some, None, IfSome}
+use Rattle.std.specs.Prelude.{◌≡◌, ◌≢◌, ◌⊎◌, ◌==◌, ◌&&◌, not, ℕ, List, [], ◌∷◌, ◌++◌, length, map, codes, if◌then◌else◌, Option, Some, None, is_some, IfSome}
 use Rattle.std.specs.Borrow.{Bor}
 use Rattle.std.specs.Str.{IsUtf8}
 use Rattle.std.specs.Global.{Vec}
 use Rattle.archive_commands.specs.Folders.{AreInByteOrder}
 use Rattle.archive_commands.specs.Lists.{Lists, items_of}
 use Rattle.shogi_words.specs.declared.request.PathEnd.{PathEnd}
+use Rattle.shogi_words.specs.declared.request.Records.{Records}
 
 -- the bytes of each name
 abbrev pub names_of : List (Bor (List ℕ)) → List (List ℕ)
 names_of files = map (λ file. file.now) files
 
--- the path stands for itself, or for records in byte order, as that of a folder
+-- the names of the files; that of standard input if neither a file nor a list is named
+abbrev pub named_files : Records → List (List ℕ)
+named_files records = if length records.files.now == 0 && not (is_some records.list)
+    then codes "-" ∷ [] else names_of records.files.now
+
+-- the path stands for itself; or, if it can be that of a folder, and is not that of standard input,
+-- for records in byte order
 abbrev pub StandsFor : List ℕ → List (Vec ℕ) → Type 0
-StandsFor path own = (items_of own ≡ path ∷ []) ⊎ (IsUtf8 path × AreInByteOrder own)
+StandsFor path own = (items_of own ≡ path ∷ [])
+    ⊎ (IsUtf8 path × (path ≢ codes "-") × AreInByteOrder own)
 
 -- what each of these stands for is added in turn
 abbrev pub AreAdded : (List ℕ → List (Vec ℕ) → Type 0) → List (List ℕ) → List (Vec ℕ)

@@ -17,6 +17,7 @@ use Rattle.game_archive.specs.declared.grouping.Placing.{Placing}
 use Rattle.game_archive.specs.declared.grouping.Placing.TheVariants as placing
 use Rattle.record_commands.specs.Reports.{GetsRecord}
 use Rattle.record_game.specs.Game.{Game}
+use Rattle.sha2.specs.Sha256.{sha256}
 use Rattle.shogi_words.specs.declared.request.PathEnd.{PathEnd}
 
 -- the path of a file
@@ -57,23 +58,29 @@ abbrev pub tally_from : Tally → List Placing → Tally
 tally_from t [] = t
 tally_from t (p ∷ ps) = tally_from (counted_with t p) ps
 
--- the files are in groups, the members of those with others are printed, and each file is counted
+-- the files are placed in groups, and these are the members of those with others
+pub record AreGroups (comparison : Comparison) (Reads : ℕ → Result Game FlowFault → Type 0)
+    (before after : Noted) (paths : List (List ℕ)) (placings : List Placing)
+    (members : List (ℕ × ℕ)) : Type 0 where
+  pub whole : length placings ≡ length paths
+  pub grouped : (bytes : ℕ → List ℕ) → GiveBytes (length paths) Reads bytes
+      → IsGrouped comparison.likeness bytes placings
+  pub causes : HaveCausesBetween comparison.likeness sha256 Reads before after placings
+  pub counted : how_many after ≡ how_many before + outside placings
+  pub exact : (bytes : ℕ → List ℕ) → GiveBytes (length paths) Reads bytes
+      → after.failed ≡ before.failed → IsExact comparison.likeness bytes placings
+  pub shared : ListsShared placings members
+  pub once : ListsOnce members
+  pub sorted : IsInOrder members
+
+-- the members of the groups are printed, and each file is counted
 pub record PrintsGroups (comparison : Comparison) (Reads : ℕ → Result Game FlowFault → Type 0)
     (before after : Noted) (paths : List (List ℕ)) (old new : Option (List ℕ)) (tally : Tally)
     : Type 0 where
   pub placings : List Placing
-  pub whole : length placings ≡ length paths
-  pub grouped : (bytes : ℕ → List ℕ) → GiveBytes (length paths) Reads bytes
-      → IsGrouped comparison.likeness bytes placings
-  pub causes : HaveCausesBetween Reads before after placings
-  pub counted : how_many after ≡ how_many before + outside placings
-  pub exact : (bytes : ℕ → List ℕ) → GiveBytes (length paths) Reads bytes
-      → after.failed ≡ before.failed → IsExact comparison.likeness bytes placings
-  pub tally_is : tally ≡ tally_from no_file placings
   pub members : List (ℕ × ℕ)
-  pub shared : ListsShared placings members
-  pub once : ListsOnce members
-  pub sorted : IsInOrder members
+  pub groups : AreGroups comparison Reads before after paths placings members
+  pub tally_is : tally ≡ tally_from no_file placings
   pub printed : Appends old new (group_lines comparison.path_end paths 0 members)
 
 -- only a line that cannot be written, or a lack of memory, ends the printing of groups
@@ -88,3 +95,12 @@ StopsPrinting end paths members old new flow.OutOfMemory = (k : ℕ) × (k < len
 StopsPrinting end paths members old new flow.WriteFault = 0 < length members
 StopsPrinting end paths members old new (flow.Refused r) = ⊥
 StopsPrinting end paths members old new flow.ReadFault = ⊥
+
+-- there is no memory, and nothing was printed; or the printing of the groups stops
+abbrev pub StopsGroups : Comparison → (ℕ → Result Game FlowFault → Type 0) → Noted → Noted
+    → List (List ℕ) → Option (List ℕ) → Option (List ℕ) → FlowFault → Type 0
+StopsGroups comparison Reads before after paths old new fault =
+    ((fault ≡ flow.OutOfMemory) × (new ≡ old))
+    ⊎ ((placings : List Placing) × (members : List (ℕ × ℕ))
+    × AreGroups comparison Reads before after paths placings members
+    × StopsPrinting comparison.path_end paths members old new fault)

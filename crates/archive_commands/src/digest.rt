@@ -2,14 +2,15 @@
 
 ghost use Rattle.std.specs.Prelude.{◌≡◌, ◌≢◌, ℕ, List, IfErr, IsErrOf, OnOk, Some};
 ghost use Rattle.csa_record.specs.declared.flow.FlowFault.{FlowFault};
-ghost use Rattle.archive_commands.specs.Lines.{IsLineOf};
+ghost use Rattle.archive_commands.specs.Lines.{IsLine};
 ghost use Rattle.record_commands.specs.Reports.{FailsToReport, GetsRecord, Reports};
 ghost use Rattle.record_game.specs.Refused.{Refused};
 
-use crate::lines::{self, LineKind};
+use crate::lines::{self, LineForm, LineKind};
 use csa_record::{FlowFault, Refusal, SourceReader};
 use hash_comments::HashLines;
 use record_commands::{Inputs, RuntimeInputs, streams};
+use shogi_words::PathEnd;
 use std::alloc::Global;
 use std::io;
 use std::io::Write;
@@ -47,16 +48,20 @@ fn digest<I: Inputs, W: Write>(
     ensures accepted { OnOk result
         (Reports
         (GetsRecord (I.opens_not inputs.now (Some file.now)) (I.opens inputs.now (Some file.now))
-        I.Input.Read.remaining) (IsLineOf LineKind.Digests file.now)
+        I.Input.Read.remaining) (IsLine LineKind.Digests PathEnd.Line file.now)
         (W.contents out.old) (W.contents out.new)) }
     ensures fails { IfErr result
         (FailsToReport
         (GetsRecord (I.opens_not inputs.now (Some file.now)) (I.opens inputs.now (Some file.now))
-        I.Input.Read.remaining) (IsLineOf LineKind.Digests file.now)) }
+        I.Input.Read.remaining) (IsLine LineKind.Digests PathEnd.Line file.now)) }
     ensures unwritten { IfErr result (λ fault. fault ≢ FlowFault.WriteFault → out.new ≡ out.old) }
 {
     let mut reader = SourceReader::new(alloc);
-    let line = lines::line_of(alloc, &mut reader, inputs, LineKind::Digests, file)?;
+    let form = LineForm {
+        kind: LineKind::Digests,
+        path_end: PathEnd::Line,
+    };
+    let line = lines::line_of(alloc, &mut reader, inputs, form, file)?;
     streams::write_all(out, line.as_bytes())?;
     Ok(())
 }

@@ -5,6 +5,7 @@ ghost use Rattle.std.specs.Prelude.{◌≡◌, ◌+◌, ◌-◌, ◌^◌, ◌<�
 ghost use Rattle.std.specs.Io.KnownBytes.{Consumes};
 ghost use Rattle.archive_commands.specs.Explaining.{IsPlaceLine, IsReasonLine, ends_line, line_ends, line_number};
 
+use crate::folders;
 use csa_record::{PIECE, Refusal, read_uninterrupted};
 use memchr::{memchr2, memchr3};
 use shogi_board::OutOfMemory;
@@ -15,6 +16,9 @@ use std::rt::Files;
 
 /// The most bytes of a statement that are shown.
 const LONGEST_TEXT: usize = 60;
+
+/// What follows the system's reason why a folder cannot be read.
+const FOLDER_HINT: &str = "; check, digest and same take folders as FILE";
 
 /// The line about a refused file that shows the statement at fault: the number of its line, counted
 /// from 1, and the first 60 bytes of it, escaped. Empty if the file cannot be read again up to
@@ -38,8 +42,8 @@ pub fn refusal<R: Files + AllocGlobal>(
     Ok(format!(in rt.alloc(); "  {file}, line {line}: {text}\n")?)
 }
 
-/// The line about a file that cannot be read, with the system's reason. Empty if it can be read
-/// now, or is standard input.
+/// The line about a file that cannot be read, with the system's reason. If it is a folder, the line
+/// names the commands that take one. Empty if the file can be read now, or is standard input.
 ///
 /// Returns an error if an allocation fails.
 pub fn unreadable<R: Files + AllocGlobal>(rt: &R, file: &str) -> Result<String, OutOfMemory>
@@ -52,7 +56,14 @@ pub fn unreadable<R: Files + AllocGlobal>(rt: &R, file: &str) -> Result<String, 
     };
     match read {
         Ok(()) => Ok(String::new(rt.alloc())),
-        Err(error) => reason_line(rt.alloc(), file, &error),
+        Err(error) => {
+            let hint = if folders::is_folder(rt, file) {
+                FOLDER_HINT
+            } else {
+                ""
+            };
+            reason_line(rt.alloc(), file, &error, hint)
+        }
     }
 }
 
@@ -74,13 +85,19 @@ fn read_to_end<B: Read>(input: &mut B) -> io::Result<()> {
     Ok(())
 }
 
-// The system's words for the error, without its number.
-fn reason_line(alloc: Global, file: &str, error: &io::Error) -> Result<String, OutOfMemory>
+// The system's words for the error, without its number, and then the hint.
+fn reason_line(
+    alloc: Global,
+    file: &str,
+    error: &io::Error,
+    hint: &str,
+) -> Result<String, OutOfMemory>
     ensures { IfOk result (λ text. IsReasonLine file.now (string_bytes text)) }
 {
     let words = format!(in alloc; "{error}")?;
     let reason = without_number(&words);
-    Ok(format!(in alloc; "  {file}: {reason}\n")?)
+    let explained = format!(in alloc; "{reason}{hint}")?;
+    Ok(format!(in alloc; "  {file}: {explained}\n")?)
 }
 
 fn without_number(words: &str) -> &str {

@@ -5,13 +5,15 @@ ghost use Rattle.record_game.specs.Canon.{canon};
 ghost use Rattle.record_game.specs.Game.{Game};
 ghost use Rattle.sha2.specs.Sha256.{sha256};
 ghost use Rattle.csa_record.specs.declared.flow.FlowFault.{FlowFault};
-ghost use Rattle.archive_commands.specs.Lines.{AreRefusedLines, AreUnreadableLines, HasLine, IsLineOf, IsRefusedLine, digits_line, unreadable_line};
+ghost use Rattle.archive_commands.specs.Lines.{AreRefusedLines, AreUnreadableLines, HasLine, IsLine, IsLineOf, IsRefusedLine, digits_line, unreadable_line};
 ghost use Rattle.record_commands.specs.Reports.{FailsToReport, GetsRecord};
+ghost use Rattle.record_commands.specs.Words.{IsCanonical};
 
 use crate::notices::Notices;
 use csa_record::{FlowFault, Reading, Record, Refusal, SourceReader};
 use record_commands::{Inputs, check, streams};
 use shogi_board::OutOfMemory;
+use shogi_words::PathEnd;
 use std::alloc::Global;
 
 /// What the line of an accepted record says.
@@ -23,28 +25,37 @@ pub enum LineKind {
     Digests,
 }
 
-/// The line of the record in the file, with LF. With `Checks` the record is read through the buffers
-/// of the reader.
+/// What the line of an accepted record says, and how the file's path ends there.
+#[derive(Clone, Copy, Debug, PartialEq, Eq)]
+pub struct LineForm {
+    /// What it says.
+    pub kind: LineKind,
+    /// How the path ends.
+    pub path_end: PathEnd,
+}
+
+/// The line of the record in the file. With `Checks` the record is read through the buffers of the
+/// reader.
 ///
 /// Refuses `Refused` if the record is refused, `ReadFault` if it cannot be read, and `OutOfMemory`.
 pub fn line_of<I: Inputs>(
     alloc: Global,
     reader: &mut SourceReader,
     inputs: &I,
-    lines: LineKind,
+    form: LineForm,
     file: &str,
 ) -> Result<String, FlowFault>
     ensures line { IfOk result (λ text. HasLine (I.opens_not inputs.now (Some file.now))
         (I.opens inputs.now (Some file.now)) I.Input.Read.remaining
-        lines file.now (string_bytes text)) }
+        (IsLineOf form file.now) (string_bytes text)) }
     ensures fails { IfErr result (FailsToReport
         (GetsRecord (I.opens_not inputs.now (Some file.now)) (I.opens inputs.now (Some file.now))
-        I.Input.Read.remaining) (IsLineOf lines file.now)) }
+        I.Input.Read.remaining) (IsLineOf form file.now)) }
     ensures no_write { IfErr result (λ fault. fault ≢ FlowFault.WriteFault) }
 {
-    match lines {
-        LineKind::Checks => checked_line(alloc, reader, inputs, file),
-        LineKind::Digests => digest_line(alloc, inputs, file),
+    match form.kind {
+        LineKind::Checks => checked_line(alloc, reader, inputs, form.path_end, file),
+        LineKind::Digests => digest_line(alloc, inputs, form.path_end, file),
     }
 }
 
@@ -53,43 +64,57 @@ fn checked_line<I: Inputs>(
     alloc: Global,
     reader: &mut SourceReader,
     inputs: &I,
+    end: PathEnd,
     file: &str,
 ) -> Result<String, FlowFault>
     ensures line { IfOk result (λ text. HasLine (I.opens_not inputs.now (Some file.now))
         (I.opens inputs.now (Some file.now)) I.Input.Read.remaining
-        LineKind.Checks file.now (string_bytes text)) }
+        (IsLine LineKind.Checks end file.now) (string_bytes text)) }
     ensures fails { IfErr result (FailsToReport
         (GetsRecord (I.opens_not inputs.now (Some file.now)) (I.opens inputs.now (Some file.now))
-        I.Input.Read.remaining) (IsLineOf LineKind.Checks file.now)) }
+        I.Input.Read.remaining) (IsLine LineKind.Checks end file.now)) }
     ensures no_write { IfErr result (λ fault. fault ≢ FlowFault.WriteFault) }
 {
     let record = streams::next_record(reader, inputs, Some(file))?;
-    match accepted_line(alloc, file, &record) {
+    match accepted_line(alloc, end, file, &record) {
         Ok(line) => Ok(line),
         Err(_) => Err(FlowFault::OutOfMemory),
     }
 }
 
-fn accepted_line(alloc: Global, file: &str, game: &Record) -> Result<String, OutOfMemory>
+fn accepted_line(
+    alloc: Global,
+    end: PathEnd,
+    file: &str,
+    game: &Record,
+) -> Result<String, OutOfMemory>
     ensures { IfOk result
-        (λ text. IsLineOf LineKind.Checks file.now game.now (string_bytes text)) }
+        (λ text. IsLine LineKind.Checks end file.now game.now (string_bytes text)) }
 {
     let line = check::accepted(alloc, game)?;
-    Ok(format!(in alloc; "{file}: {line}")?)
+    match end {
+        PathEnd::Line => Ok(format!(in alloc; "{file}: {line}")?),
+        PathEnd::Nul => Ok(format!(in alloc; "{file}\0{line}")?),
+    }
 }
 
 // The line of `digest`.
-fn digest_line<I: Inputs>(alloc: Global, inputs: &I, file: &str) -> Result<String, FlowFault>
+fn digest_line<I: Inputs>(
+    alloc: Global,
+    inputs: &I,
+    end: PathEnd,
+    file: &str,
+) -> Result<String, FlowFault>
     ensures line { IfOk result (λ text. HasLine (I.opens_not inputs.now (Some file.now))
         (I.opens inputs.now (Some file.now)) I.Input.Read.remaining
-        LineKind.Digests file.now (string_bytes text)) }
+        (IsLine LineKind.Digests end file.now) (string_bytes text)) }
     ensures fails { IfErr result (FailsToReport
         (GetsRecord (I.opens_not inputs.now (Some file.now)) (I.opens inputs.now (Some file.now))
-        I.Input.Read.remaining) (IsLineOf LineKind.Digests file.now)) }
+        I.Input.Read.remaining) (IsLine LineKind.Digests end file.now)) }
     ensures no_write { IfErr result (λ fault. fault ≢ FlowFault.WriteFault) }
 {
     let digest = digest(alloc, inputs, file)?;
-    match digits_line(alloc, file, &digest) {
+    match digits_line(alloc, end, file, &digest) {
         Ok(line) => Ok(line),
         Err(_) => Err(FlowFault::OutOfMemory),
     }
@@ -102,18 +127,26 @@ fn digest<I: Inputs>(alloc: Global, inputs: &I, file: &str) -> Result<[u8; 32], 
         I.Input.Read.remaining (Ok game) × (digest ≡ sha256 (canon game))) }
     ensures fails { IfErr result (FailsToReport
         (GetsRecord (I.opens_not inputs.now (Some file.now)) (I.opens inputs.now (Some file.now))
-        I.Input.Read.remaining) (IsLineOf LineKind.Digests file.now)) }
+        I.Input.Read.remaining) IsCanonical) }
     ensures no_write { IfErr result (λ fault. fault ≢ FlowFault.WriteFault) }
 {
     let input = inputs.open(Some(file))?;
     csa_record::digest(alloc, &mut Reading::new(input))
 }
 
-fn digits_line(alloc: Global, file: &str, digest: &[u8; 32]) -> Result<String, OutOfMemory>
-    ensures { IfOk result (λ text. string_bytes text ≡ digits_line file.now digest.now) }
+fn digits_line(
+    alloc: Global,
+    end: PathEnd,
+    file: &str,
+    digest: &[u8; 32],
+) -> Result<String, OutOfMemory>
+    ensures { IfOk result (λ text. string_bytes text ≡ digits_line end file.now digest.now) }
 {
     let digits = hex::encode(alloc, digest.as_slice())?;
-    Ok(format!(in alloc; "{digits}  {file}\n")?)
+    match end {
+        PathEnd::Line => Ok(format!(in alloc; "{digits}  {file}\n")?),
+        PathEnd::Nul => Ok(format!(in alloc; "{digits}  {file}\0")?),
+    }
 }
 
 /// The line of a record that is refused, with LF.

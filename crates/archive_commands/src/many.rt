@@ -7,8 +7,9 @@ ghost use Rattle.archive_commands.specs.Lines.{unreadable_line};
 ghost use Rattle.archive_commands.specs.Lists.{items_of};
 ghost use Rattle.archive_commands.specs.Many.{StopsAmong, PrintsAll, PrintsFile, printed_of, StopsAt, counted, no_file, tally_line};
 
-use crate::lines::{self, LineKind};
+use crate::lines::{self, LineForm, LineKind};
 use crate::notices::{Notices, StandardError, Verbosity};
+use crate::paths::FileList;
 use csa_record::{FlowFault, SourceReader};
 use hash_comments::HashLines;
 use record_commands::{Inputs, RuntimeInputs, streams};
@@ -48,25 +49,30 @@ impl fmt::Display for Tally {
 /// Prints a line about the CSA V2.2 record in each of the files in turn: on standard output if it
 /// is accepted, and on standard error if it is refused or cannot be read. Standard input is read
 /// for a file that is named `-`. A path that is not UTF-8 cannot be read. `hash_lines` says how
-/// lines that begin with `#` are read. Returns how many there are of each.
+/// lines that begin with `#` are read. With `Nul` each path on standard output ends with a NUL
+/// byte. Returns how many there are of each.
 ///
 /// Refuses `WriteFault` if a line cannot be written to standard output, and `OutOfMemory`, both at
 /// once.
 pub fn run<R: Files + Input + Print + Eprint + Clock + AllocGlobal>(
     rt: &R,
     lines: LineKind,
-    paths: &[Vec<u8>],
+    files: &FileList,
     hash_lines: HashLines,
     verbosity: Verbosity,
 ) -> Result<Tally, FlowFault>
-    ensures count { IfOk result (λ t. counted t ≡ length paths.now) }
+    ensures count { IfOk result (λ t. counted t ≡ length files.now.paths.items) }
 {
-    let mut notices = StandardError::new(rt, verbosity, paths.len());
+    let mut notices = StandardError::new(rt, verbosity, files.paths.len());
+    let form = LineForm {
+        kind: lines,
+        path_end: files.path_end,
+    };
     let tally = print_all(
         rt.alloc(),
         &RuntimeInputs::new(rt, hash_lines),
-        lines,
-        paths,
+        form,
+        files.paths.as_slice(),
         &mut io::writer(rt),
         &mut notices,
     );
@@ -78,18 +84,18 @@ pub fn run<R: Files + Input + Print + Eprint + Clock + AllocGlobal>(
 fn print_all<I: Inputs, W: Write, E: Notices>(
     alloc: Global,
     inputs: &I,
-    lines: LineKind,
+    form: LineForm,
     paths: &[Vec<u8>],
     out: &mut W,
     notices: &mut E,
 ) -> Result<Tally, FlowFault>
     ensures printed { IfOk result (λ tally.
-        PrintsAll (I.opens_not inputs.now) (I.opens inputs.now) I.Input.Read.remaining lines
+        PrintsAll (I.opens_not inputs.now) (I.opens inputs.now) I.Input.Read.remaining form
         (items_of paths.now) (printed_of (W.contents out.old) (E.shown notices.old) no_file)
         (printed_of (W.contents out.new) (E.shown notices.new) tally)) }
     ensures count { IfOk result (λ tally. counted tally ≡ length paths.now) }
     ensures stops { IfErr result
-        (StopsAmong (I.opens_not inputs.now) (I.opens inputs.now) I.Input.Read.remaining lines
+        (StopsAmong (I.opens_not inputs.now) (I.opens inputs.now) I.Input.Read.remaining form
         (items_of paths.now) (printed_of (W.contents out.old) (E.shown notices.old) no_file)
         (W.contents out.new) (E.shown notices.new)) }
 {
@@ -101,7 +107,7 @@ fn print_all<I: Inputs, W: Write, E: Notices>(
     let mut reader = SourceReader::new(alloc);
     for path in paths {
         let path = path.as_slice();
-        tally = print_one(alloc, &mut reader, inputs, lines, path, out, notices, tally)?;
+        tally = print_one(alloc, &mut reader, inputs, form, path, out, notices, tally)?;
         notices.file_done();
     }
     Ok(tally)
@@ -112,7 +118,7 @@ fn print_one<I: Inputs, W: Write, E: Notices>(
     alloc: Global,
     reader: &mut SourceReader,
     inputs: &I,
-    lines: LineKind,
+    form: LineForm,
     path: &[u8],
     out: &mut W,
     notices: &mut E,
@@ -120,17 +126,17 @@ fn print_one<I: Inputs, W: Write, E: Notices>(
 ) -> Result<Tally, FlowFault>
     requires room { counted tally < 2 ^ 64 - 1 }
     ensures printed { IfOk result (λ after.
-        PrintsFile (I.opens_not inputs.now) (I.opens inputs.now) I.Input.Read.remaining lines
+        PrintsFile (I.opens_not inputs.now) (I.opens inputs.now) I.Input.Read.remaining form
         path.now (printed_of (W.contents out.old) (E.shown notices.old) tally)
         (printed_of (W.contents out.new) (E.shown notices.new) after)) }
     ensures count { IfOk result (λ after. counted after ≡ counted tally + 1) }
     ensures stops { IfErr result
-        (StopsAt (I.opens_not inputs.now) (I.opens inputs.now) I.Input.Read.remaining lines
+        (StopsAt (I.opens_not inputs.now) (I.opens inputs.now) I.Input.Read.remaining form
         path.now (W.contents out.old) (E.shown notices.old)
         (W.contents out.new) (E.shown notices.new)) }
 {
     match str::from_utf8(path) {
-        Ok(file) => print_file(alloc, reader, inputs, lines, file, out, notices, tally),
+        Ok(file) => print_file(alloc, reader, inputs, form, file, out, notices, tally),
         Err(_) => print_no_text(alloc, path, notices, tally),
     }
 }
@@ -140,7 +146,7 @@ fn print_file<I: Inputs, W: Write, E: Notices>(
     alloc: Global,
     reader: &mut SourceReader,
     inputs: &I,
-    lines: LineKind,
+    form: LineForm,
     file: &str,
     out: &mut W,
     notices: &mut E,
@@ -148,16 +154,16 @@ fn print_file<I: Inputs, W: Write, E: Notices>(
 ) -> Result<Tally, FlowFault>
     requires room { counted tally < 2 ^ 64 - 1 }
     ensures printed { IfOk result (λ after.
-        PrintsFile (I.opens_not inputs.now) (I.opens inputs.now) I.Input.Read.remaining lines
+        PrintsFile (I.opens_not inputs.now) (I.opens inputs.now) I.Input.Read.remaining form
         file.now (printed_of (W.contents out.old) (E.shown notices.old) tally)
         (printed_of (W.contents out.new) (E.shown notices.new) after)) }
     ensures count { IfOk result (λ after. counted after ≡ counted tally + 1) }
     ensures stops { IfErr result
-        (StopsAt (I.opens_not inputs.now) (I.opens inputs.now) I.Input.Read.remaining lines
+        (StopsAt (I.opens_not inputs.now) (I.opens inputs.now) I.Input.Read.remaining form
         file.now (W.contents out.old) (E.shown notices.old)
         (W.contents out.new) (E.shown notices.new)) }
 {
-    match lines::line_of(alloc, reader, inputs, lines, file) {
+    match lines::line_of(alloc, reader, inputs, form, file) {
         Ok(line) => {
             streams::write_all(out, line.as_bytes())?;
             Ok(Tally {

@@ -3,7 +3,7 @@
 ghost use Rattle.std.specs.Prelude.{◌≡◌, ◌≤◌, ◌++◌, ℕ, List, [], length, true, IfOk, IfSome, Some, OnOk};
 ghost use Rattle.std.specs.Option.{is_some};
 ghost use Rattle.archive_commands.specs.Lists.{Lists, items_of};
-ghost use Rattle.archive_commands.specs.Paths.{AreAdded, NamesPaths, StandsFor, names_of};
+ghost use Rattle.archive_commands.specs.Paths.{AreAdded, NamesPaths, StandsFor, named_files, names_of};
 ghost use Rattle.record_commands.specs.Inputs.{IsOpenedAs, path_of};
 
 use crate::{folders, list};
@@ -17,37 +17,59 @@ use std::io;
 use std::io::Read;
 use std::rt::Files;
 
-/// Whether there may be several files: more than one is named, a list names them, or the one that
-/// is named is a folder.
+// Standard input, as it is named where files are.
+const STANDARD_INPUT: &[&str] = &["-"];
+
+/// The files that a command line asks for.
+#[derive(Drop)]
+pub struct FileList {
+    /// Their paths, in order. A path need not be UTF-8.
+    pub paths: Vec<Vec<u8>>,
+    /// How each of these ends where it is printed.
+    pub path_end: PathEnd,
+}
+
+/// Whether each file has a line with its path: there may be several files (more than one is named,
+/// a list names them, or the one that is named is a folder), or each path ends with NUL.
 pub fn are_many<R: Files>(rt: &R, records: &Records<'_, '_>) -> bool
     ensures list { is_some records.now.list ≡ true → result ≡ true }
     ensures many { 2 ≤ length records.now.files.now → result ≡ true }
-    ensures none { length records.now.files.now ≡ 0 → result ≡ is_some records.now.list }
+    ensures nul { records.now.path_end ≡ PathEnd.Nul → result ≡ true }
+    ensures none { length records.now.files.now ≡ 0 → records.now.path_end ≡ PathEnd.Line
+        → result ≡ is_some records.now.list }
 {
+    if records.list.is_some() || records.path_end == PathEnd::Nul {
+        return true;
+    }
     match records.files {
-        [] => records.list.is_some(),
-        [file] => records.list.is_some() || folders::is_folder(rt, file),
+        [] => false,
+        [file] => folders::is_folder(rt, file),
         _ => true,
     }
 }
 
-/// The paths of these files, and then of those that the list names, if there is one. In place of a
-/// folder there are those of the records below it, in byte order: of the files whose names end in
-/// `.csa` or `.CSA`. Links to folders are not followed. A path need not be UTF-8.
+/// These files, and then those that the list names, if there is one; standard input if neither a
+/// file nor a list is named. In place of a folder there are the records below it, in byte order of
+/// their paths: the files whose names end in `.csa` or `.CSA`. Links to folders are not followed.
 ///
 /// Refuses `ReadFault` if the list cannot be read, and `OutOfMemory`.
 pub fn all<R: Files + io::Input + AllocGlobal>(
     rt: &R,
     records: &Records<'_, '_>,
-) -> Result<Vec<Vec<u8>>, FlowFault>
-    ensures paths { IfOk result (λ paths. (listed : List (List ℕ))
+) -> Result<FileList, FlowFault>
+    ensures paths { IfOk result (λ files. (listed : List (List ℕ))
         × NamesPaths (λ path. IsOpenedAs path HashLines.Refused)
         ⟦<HashComments<record_commands::Input<Box<R::Reader>, R::File>> as io::Read>⟧.remaining
         records.now.path_end (path_of records.now.list) listed
-        × AreAdded StandsFor (names_of records.now.files.now ++ listed) [] paths.items) }
+        × AreAdded StandsFor (named_files records.now ++ listed) [] files.paths.items) }
+    ensures end { IfOk result (λ files. files.path_end ≡ records.now.path_end) }
 {
     let inputs = RuntimeInputs::new(rt, HashLines::Refused);
-    all_of(rt.alloc(), &inputs, &RuntimeFolders { rt }, records)
+    let paths = all_of(rt.alloc(), &inputs, &RuntimeFolders { rt }, records)?;
+    Ok(FileList {
+        paths,
+        path_end: records.path_end,
+    })
 }
 
 // Those paths.
@@ -61,13 +83,23 @@ fn all_of<I: Inputs, F: Folders>(
         × NamesPaths (I.opens inputs.now) I.Input.Read.remaining
         records.now.path_end (path_of records.now.list) listed
         × AreAdded (F.stands_for folders.now)
-        (names_of records.now.files.now ++ listed) [] paths.items) }
+        (named_files records.now ++ listed) [] paths.items) }
 {
     let listed = listed(alloc, inputs, records.list, records.path_end)?;
-    match expanded(alloc, folders, records.files, listed.as_slice()) {
+    match expanded(alloc, folders, named_files(records), listed.as_slice()) {
         Ok(paths) => Ok(paths),
         Err(_) => Err(FlowFault::OutOfMemory),
     }
+}
+
+// The files that are named, or standard input if neither a file nor a list is.
+fn named_files<'m, 'a>(records: &Records<'m, 'a>) -> &'m [&'a str]
+    ensures { names_of result.now ≡ named_files records.now }
+{
+    if records.files.is_empty() && records.list.is_none() {
+        return STANDARD_INPUT;
+    }
+    records.files
 }
 
 // The paths that the list names. None if there is no list.

@@ -6,12 +6,13 @@ ghost use Rattle.std.specs.List.{All};
 ghost use Rattle.csa_record.specs.declared.flow.FlowFault.{FlowFault};
 ghost use Rattle.archive_commands.specs.Lists.{items_of};
 ghost use Rattle.archive_commands.specs.Many.{counted, no_file};
-ghost use Rattle.archive_commands.specs.Same.{EndsPrinting, FileReads, PrintsGroups, StopsPrinting, counted_with, group_line, group_lines, tally_from};
+ghost use Rattle.archive_commands.specs.Same.{EndsPrinting, FileReads, PrintsGroups, StopsGroups, StopsPrinting, counted_with, group_line, group_lines, tally_from};
 
 use crate::lines;
 use crate::list::end_byte;
 use crate::many::Tally;
 use crate::notices::{Notices, StandardError, Verbosity};
+use crate::paths::FileList;
 use crate::places::Places;
 use csa_record::{FlowFault, Record};
 use game_archive::{Archive, Likeness, Placing, Watch, copies, group};
@@ -49,12 +50,13 @@ pub struct Comparison {
 pub fn run<R: Files + Input + Print + Eprint + Clock + AllocGlobal>(
     rt: &R,
     comparison: Comparison,
-    paths: &[Vec<u8>],
+    files: &FileList,
     verbosity: Verbosity,
 ) -> Result<Tally, FlowFault>
-    ensures count { IfOk result (λ t. counted t ≡ length paths.now) }
+    ensures count { IfOk result (λ t. counted t ≡ length files.now.paths.items) }
     ensures ends { IfErr result EndsPrinting }
 {
+    let paths = files.paths.as_slice();
     let inputs = RuntimeInputs::new(rt, comparison.hash_lines);
     let mut archive = PathsArchive {
         inputs: &inputs,
@@ -87,6 +89,9 @@ fn print_same<A: Archive, W: Write, E: Notices>(
         (A.noted archive.old) (A.noted archive.new) (items_of paths.now)
         (W.contents out.old) (W.contents out.new)) }
     ensures count { IfOk result (λ tally. counted tally ≡ length paths.now) }
+    ensures stops { IfErr result (StopsGroups comparison (A.reads archive.old)
+        (A.noted archive.old) (A.noted archive.new) (items_of paths.now)
+        (W.contents out.old) (W.contents out.new)) }
     ensures ends { IfErr result EndsPrinting }
 {
     let placed = group(

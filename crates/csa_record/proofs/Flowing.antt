@@ -17,10 +17,12 @@ use Rattle.csa_record.specs.declared.flow.Fed.TheVariants.{Piece, End}
 use Rattle.csa_record.specs.declared.flow.FlowFault.{FlowFault}
 use Rattle.csa_cutting.proofs.Joining.{pieces_closed}
 use Rattle.record_game.specs.Closed.{AreFaultless}
-use Rattle.csa_record.specs.Flow.{after_read, fault_by, fault_of, IsRefusedFrom, IsFaultlessFrom, IsRefusal, StopsAt, IsReadFault, FeedsNext, IsFed, IsFedAll}
+use Rattle.csa_record.specs.Flow.{after_read, fault_by, fault_of, IsRefusedFrom, IsFaultlessFrom, IsRefusal, StopsAt, IsReadFault}
+use Rattle.csa_record.specs.FlowSteps.{FeedsNext, IsFed, IsFedAll}
 use Rattle.record_game.specs.Order.{order_fault}
 use Rattle.record_game.specs.LaidOut.{laid_out}
-use Rattle.csa_record.specs.Reading.{Reading, HasRead, IsRefusedBy}
+use Rattle.csa_record.specs.Reading.{Reading, HasRead}
+use Rattle.csa_record.specs.ReadingSteps.{IsRefusedBy}
 use Rattle.record_game.specs.Refused.{Refused, FaultlessTo, AnswersItem, AnswersAfter, AnswersInOrder, Finishes, IsJudged, start_why}
 
 -- ---- no record is refused as `Failed`

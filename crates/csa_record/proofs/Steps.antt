@@ -20,7 +20,8 @@ use Rattle.record_game.specs.Items.{sides}
 use Rattle.record_game.specs.Keeping.{Kept, HasKept}
 use Rattle.record_game.specs.Outcome.{Outcome, IsWritten}
 use Rattle.csa_record.specs.declared.record_reader.Failing.{Failing}
-use Rattle.csa_record.specs.Reading.{Reading, HasTaken, HasRead, HasAll, IsRefusedBy, LastTaken}
+use Rattle.csa_record.specs.Reading.{Reading, HasTaken, HasRead}
+use Rattle.csa_record.specs.ReadingSteps.{HasAll, IsRefusedBy, LastTaken}
 use Rattle.record_game.specs.Refused.{Refused, FaultlessTo}
 use Rattle.record_game.specs.Says.{Says}
 use Rattle.record_game.specs.Tells.{Tells}

@@ -3,7 +3,9 @@ pub mod Coursing
 pub mod Starting
 pub mod KeptStage
 pub mod Reading
+pub mod ReadingSteps
 pub mod Flow
+pub mod FlowSteps
 pub mod Bytes
 pub use Rattle.record_game.specs.Answer
 pub use Rattle.record_game.specs.Building

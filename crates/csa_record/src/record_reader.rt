@@ -4,7 +4,8 @@ ghost use Rattle.record_game.specs.Closed.{ClosedAt};
 ghost use Rattle.record_game.specs.Fits.{IsOfStatement};
 ghost use Rattle.record_game.specs.Keeping.{HasKept};
 ghost use Rattle.record_game.specs.Outcome.{Outcome};
-ghost use Rattle.csa_record.specs.Reading.{HasRead, HasTaken, IsRead, IsRefusedBy, fed_of, NextTaken, LastTaken};
+ghost use Rattle.csa_record.specs.Reading.{HasRead, HasTaken, fed_of};
+ghost use Rattle.csa_record.specs.ReadingSteps.{IsRead, IsRefusedBy, NextTaken, LastTaken};
 ghost use Rattle.record_game.specs.Refused.{Refused, FaultlessTo};
 ghost use Rattle.record_game.specs.Tells.{Tells};
 

@@ -1,5 +1,6 @@
 pub mod Causes
 pub mod Counts
+pub mod Digests
 pub mod Likenesses
 pub mod Listed
 pub mod Placed

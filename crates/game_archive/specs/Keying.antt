@@ -1,5 +1,4 @@
--- For private functions: the key of a game, which it has in common with the games that are like it.
--- A reader of the public contracts may skip this file.
+-- The key of a game, which it has in common with the games that are like it.
 use Rattle.std.specs.Prelude.{◌≡◌, ℕ, List, map}
 use Rattle.record_game.specs.declared.likeness.Likeness.{Likeness}
 use Rattle.record_game.specs.declared.likeness.Likeness.TheVariants as likeness

@@ -1,14 +1,15 @@
 -- For private functions: what is known of the entries that were placed so far.
 -- A reader of the public contracts may skip this file.
-use Rattle.std.specs.Prelude.{◌≡◌, ◌⊎◌, ◌+◌, ℕ, ◌≤◌, List, Some, Result, Err}
-use Rattle.std.specs.BTreeMap.{BTreeMap, get}
+use Rattle.std.specs.Prelude.{◌≡◌, ◌⊎◌, ◌+◌, ℕ, ◌≤◌, List, [], ◌∷◌, ◌++◌, true, cond, is_some, Some, Ok, Err}
+use Rattle.std.specs.BTreeMap.{BTreeMap, get, is_at}
 use Rattle.std.specs.Cmp.Lexicographic.{slice_cmp}
 use Rattle.std.specs.List.{All, Contains}
 use Rattle.std.specs.Ordering.{nat_cmp}
 use Rattle.csa_record.specs.declared.flow.FlowFault.{FlowFault}
+use Rattle.game_archive.specs.Digests.{Collides, HasDigest}
 use Rattle.game_archive.specs.Groups.{HasLeader, outside, placing_at}
-use Rattle.game_archive.specs.Keying.{HasKey}
-use Rattle.game_archive.specs.Readings.{Noted, how_many, noted_at, noted_with}
+use Rattle.game_archive.specs.Keying.{HasKey, IsKeyOf}
+use Rattle.game_archive.specs.Readings.{Noted, Readings, how_many, noted_at, noted_with}
 use Rattle.game_archive.specs.Unreadable.{HaveCauses}
 use Rattle.game_archive.specs.declared.grouping.Placing.{Placing}
 use Rattle.game_archive.specs.declared.grouping.Placing.TheVariants as placing
@@ -51,17 +52,42 @@ LeadsNone likeness bytes digest by_digest colliding key =
     → HasKey likeness (bytes leader) key → ⊥)
     × All (λ leader. HasKey likeness (bytes leader) key → ⊥) colliding
 
--- the causes so far, and after what was noted since
-abbrev pub KeepsCauses : (ℕ → Result Game FlowFault → Type 0) → Noted → Noted → Noted
-    → List Placing → Type 0
-KeepsCauses Reads old new since placings =
-    (more : Noted) × (new ≡ noted_with old more)
-    × HaveCauses Reads (noted_with since more) placings
+-- what is kept at digests has these digests, and what is in the list collides with what is there
+pub record HoldsDigests (likeness : Likeness) (digest_of : List ℕ → List ℕ) (Reads : Readings)
+    (placings : List Placing) (by_digest : BTreeMap (List ℕ) ℕ) (colliding : List ℕ)
+    : Type 0 where
+  pub at_digests : (digest : List ℕ) (leader : ℕ)
+      → get (slice_cmp nat_cmp) by_digest digest ≡ Some leader
+      → HasDigest likeness digest_of Reads leader digest
+  pub elsewhere : All (Collides likeness digest_of Reads placings) colliding
 
--- why an entry was not compared with a leader
-abbrev pub IsNotCompared : (ℕ → Result Game FlowFault → Type 0) → Noted → Noted
-    → List Placing → FlowFault → Type 0
-IsNotCompared Reads old new placings fault = (leader : ℕ) × HasLeader placings leader leader
+-- the leader is added at its digest, or to the list if there is one at that digest
+abbrev pub AddsLeader : BTreeMap (List ℕ) ℕ → List ℕ → ℕ → List ℕ → BTreeMap (List ℕ) ℕ
+    → List ℕ → Type 0
+AddsLeader old colliding leader digest new colliding' =
+    ((colliding' ≡ colliding) × ((q : List ℕ) → get (slice_cmp nat_cmp) new q
+    ≡ cond (is_at (slice_cmp nat_cmp digest) q) (Some leader) (get (slice_cmp nat_cmp) old q)))
+    ⊎ ((is_some (get (slice_cmp nat_cmp) old digest) ≡ true) × (new ≡ old)
+    × (colliding' ≡ colliding ++ leader ∷ []))
+
+-- the record of the entry could be read, and this is its key
+abbrev pub HadKey : Likeness → Readings → ℕ → List ℕ → Type 0
+HadKey likeness Reads at key = (g : Game) × Reads at (Ok g) × IsKeyOf likeness g key
+
+-- the causes so far, and after what was noted since
+abbrev pub KeepsCauses : Likeness → (List ℕ → List ℕ) → Readings → Noted → Noted → Noted
+    → List Placing → Type 0
+KeepsCauses likeness digest_of Reads old new since placings =
+    (more : Noted) × (new ≡ noted_with old more)
+    × HaveCauses likeness digest_of Reads (noted_with since more) placings
+
+-- why an entry with this digest was not compared with a leader
+abbrev pub IsNotCompared : Likeness → (List ℕ → List ℕ) → Readings → Noted → Noted
+    → List Placing → List ℕ → FlowFault → Type 0
+IsNotCompared likeness digest_of Reads old new placings digest fault = (leader : ℕ)
+    × HasLeader placings leader leader
+    × (HasDigest likeness digest_of Reads leader digest
+    ⊎ Collides likeness digest_of Reads placings leader)
     × Reads leader (Err fault) × (new ≡ noted_at old leader fault)
 
 -- as many readings that gave no record are noted more as entries are in no group

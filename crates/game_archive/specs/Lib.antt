@@ -1,4 +1,5 @@
 pub mod Alike
+pub mod Digests
 pub mod Groups
 pub mod Keying
 pub mod Knowing

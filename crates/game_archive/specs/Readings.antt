@@ -1,14 +1,21 @@
 -- What is noted of the readings of an archive's entries.
-use Rattle.std.specs.Prelude.{◌↔◌, ℕ, ◌+◌, List, [], ◌∷◌, ◌++◌, length, Result, Ok, Err}
+use Rattle.std.specs.Prelude.{◌↔◌, ℕ, ◌+◌, List, [], ◌∷◌, ◌++◌, length, slice_index_or, Result, Ok, Err}
 use Rattle.csa_record.specs.declared.flow.FlowFault.{FlowFault}
 use Rattle.csa_record.specs.declared.flow.FlowFault.TheVariants as flow
 use Rattle.record_game.specs.Game.{Game}
+
+-- what a reading of the entry at each place may come to
+abbrev pub Readings : Type 1
+Readings = ℕ → Result Game FlowFault → Type 0
 
 -- the places of the entries that could not be read, and of those whose record was refused: each
 -- time, in order
 pub record Noted : Type 0 where
   pub failed : List ℕ
   pub refused : List ℕ
+
+abbrev pub nothing_noted : Noted
+nothing_noted = record { failed = []; refused = [] }
 
 -- how many readings are noted
 abbrev pub how_many : Noted → ℕ
@@ -33,7 +40,15 @@ noted_with old more = record {
   refused = old.refused ++ more.refused;
 }
 
+-- all of these, in order
+abbrev pub all_noted : List Noted → Noted
+all_noted [] = nothing_noted
+all_noted (noted ∷ notes) = noted_with noted (all_noted notes)
+
+-- what is noted for an entry
+abbrev pub note_at : List Noted → ℕ → Noted
+note_at notes at = slice_index_or notes at nothing_noted
+
 -- a reading of an entry may come to the same as before
-abbrev pub ReadAlike : (ℕ → Result Game FlowFault → Type 0) → (ℕ → Result Game FlowFault → Type 0)
-    → Type 0
+abbrev pub ReadAlike : Readings → Readings → Type 0
 ReadAlike Old New = (at : ℕ) (result : Result Game FlowFault) → Old at result ↔ New at result

@@ -8,13 +8,14 @@
 ghost use Rattle.std.specs.Prelude.{◌≡◌, ◌≢◌, ◌+◌, ◌<◌, ◌≤◌, ℕ, List, [], ◌∷◌, ◌++◌, length, MatchOption, IfErr, IfOk, IfSome, OnOk};
 ghost use Rattle.csa_record.specs.declared.flow.FlowFault.{FlowFault};
 ghost use Rattle.game_archive.specs.Keying.{HasKey};
-ghost use Rattle.game_archive.specs.Knowing.{HoldsLeaders, IsNotCompared, KeepsCauses, KeepsCount, KnowsGroups, LeadsNone};
+ghost use Rattle.game_archive.specs.Knowing.{AddsLeader, HadKey, HoldsDigests, HoldsLeaders, IsNotCompared, KeepsCauses, KeepsCount, KnowsGroups, LeadsNone};
 ghost use Rattle.game_archive.specs.Alike.{GiveBytes};
 ghost use Rattle.game_archive.specs.Groups.{HasLeader, IsGrouped, outside};
 ghost use Rattle.game_archive.specs.Readings.{Noted, ReadAlike, how_many};
 ghost use Rattle.game_archive.specs.Unreadable.{HaveCauses, HaveCausesBetween, IsExact};
 ghost use Rattle.game_archive.specs.declared.grouping.Placing.{Placing};
 ghost use Rattle.record_game.specs.declared.likeness.Likeness.{Likeness};
+ghost use Rattle.sha2.specs.Sha256.{sha256};
 
 use crate::archive::{Archive, Watch};
 use crate::digester::{Digester, Sha256Digester};
@@ -43,7 +44,8 @@ pub enum Placing {
 /// entry gives the same bytes each time that it is read. If a reading fails, that still holds of
 /// the entries that are in groups. If an entry changes, those that are compared with it may be in
 /// another group or in none. An entry is `Unreadable` only if its reading failed, or that of the
-/// first entry of an earlier group, or that one was refused when it was read again.
+/// first entry of an earlier group with which it was compared, or that one was refused then. These
+/// two have one digest, if no two groups have.
 ///
 /// Calls the watch after each entry. Returns `OutOfMemory` if an allocation fails.
 pub fn group<A: Archive, W: Watch>(
@@ -56,9 +58,10 @@ pub fn group<A: Archive, W: Watch>(
     ensures grouped { IfOk result (λ placings. (bytes : ℕ → List ℕ)
         → GiveBytes (A.size archive.old) (A.reads archive.old) bytes
         → IsGrouped likeness bytes placings.items) }
-    // An entry is unreadable only if a reading failed in this call, or an earlier entry was then
-    // refused.
-    ensures causes { IfOk result (λ placings. HaveCausesBetween (A.reads archive.old)
+    // The readings that failed or were refused in this call are those for which entries are in no
+    // group, in order.
+    ensures causes { IfOk result (λ placings.
+        HaveCausesBetween likeness sha256 (A.reads archive.old)
         (A.noted archive.old) (A.noted archive.new) placings.items) }
     // As many entries are in no group as readings of this call failed or were refused.
     ensures counted { IfOk result (λ placings. how_many (A.noted archive.new)
@@ -85,9 +88,10 @@ pub fn group_by<A: Archive, D: Digester, W: Watch>(
     ensures grouped { IfOk result (λ placings. (bytes : ℕ → List ℕ)
         → GiveBytes (A.size archive.old) (A.reads archive.old) bytes
         → IsGrouped likeness bytes placings.items) }
-    // An entry is unreadable only if a reading failed in this call, or an earlier entry was then
-    // refused.
-    ensures causes { IfOk result (λ placings. HaveCausesBetween (A.reads archive.old)
+    // The readings that failed or were refused in this call are those for which entries are in no
+    // group, in order.
+    ensures causes { IfOk result (λ placings.
+        HaveCausesBetween likeness (D.digest_of digester.now) (A.reads archive.old)
         (A.noted archive.old) (A.noted archive.new) placings.items) }
     // As many entries are in no group as readings of this call failed or were refused.
     ensures counted { IfOk result (λ placings. how_many (A.noted archive.new)
@@ -133,9 +137,14 @@ impl Groups {
         requires within { length self.old.placings.items < A.size archive.old }
         requires leaders { HoldsLeaders
             self.old.placings.items self.old.by_digest self.old.colliding.items }
+        requires digests { HoldsDigests likeness (D.digest_of digester.now) (A.reads archive.old)
+            self.old.placings.items self.old.by_digest self.old.colliding.items }
         ensures more { OnOk result
             (length self.new.placings.items ≡ length self.old.placings.items + 1) }
         ensures leaders { OnOk result (HoldsLeaders
+            self.new.placings.items self.new.by_digest self.new.colliding.items) }
+        ensures digests { OnOk result (HoldsDigests
+            likeness (D.digest_of digester.now) (A.reads archive.old)
             self.new.placings.items self.new.by_digest self.new.colliding.items) }
         ensures groups { (bytes : ℕ → List ℕ)
             → GiveBytes (A.size archive.old) (A.reads archive.old) bytes
@@ -144,8 +153,9 @@ impl Groups {
             → OnOk result (KnowsGroups likeness bytes (D.digest_of digester.now)
             self.new.placings.items self.new.by_digest self.new.colliding.items) }
         ensures causes { (since : Noted)
-            → HaveCauses (A.reads archive.old) since self.old.placings.items
-            → OnOk result (KeepsCauses (A.reads archive.old)
+            → HaveCauses likeness (D.digest_of digester.now) (A.reads archive.old) since
+            self.old.placings.items
+            → OnOk result (KeepsCauses likeness (D.digest_of digester.now) (A.reads archive.old)
             (A.noted archive.old) (A.noted archive.new) since self.new.placings.items) }
         ensures counted { OnOk result (KeepsCount (A.noted archive.old) (A.noted archive.new)
             self.old.placings.items self.new.placings.items) }
@@ -170,11 +180,18 @@ impl Groups {
         key: &[u8],
     ) -> Result<(), OutOfMemory>
         requires within { length self.old.placings.items < A.size archive.old }
+        requires read { HadKey likeness (A.reads archive.old) (length self.old.placings.items)
+            key.now }
         requires leaders { HoldsLeaders
+            self.old.placings.items self.old.by_digest self.old.colliding.items }
+        requires digests { HoldsDigests likeness (D.digest_of digester.now) (A.reads archive.old)
             self.old.placings.items self.old.by_digest self.old.colliding.items }
         ensures more { OnOk result
             (length self.new.placings.items ≡ length self.old.placings.items + 1) }
         ensures leaders { OnOk result (HoldsLeaders
+            self.new.placings.items self.new.by_digest self.new.colliding.items) }
+        ensures digests { OnOk result (HoldsDigests
+            likeness (D.digest_of digester.now) (A.reads archive.old)
             self.new.placings.items self.new.by_digest self.new.colliding.items) }
         ensures groups { (bytes : ℕ → List ℕ)
             → GiveBytes (A.size archive.old) (A.reads archive.old) bytes
@@ -184,8 +201,9 @@ impl Groups {
             → OnOk result (KnowsGroups likeness bytes (D.digest_of digester.now)
             self.new.placings.items self.new.by_digest self.new.colliding.items) }
         ensures causes { (since : Noted)
-            → HaveCauses (A.reads archive.old) since self.old.placings.items
-            → OnOk result (KeepsCauses (A.reads archive.old)
+            → HaveCauses likeness (D.digest_of digester.now) (A.reads archive.old) since
+            self.old.placings.items
+            → OnOk result (KeepsCauses likeness (D.digest_of digester.now) (A.reads archive.old)
             (A.noted archive.old) (A.noted archive.new) since self.new.placings.items) }
         ensures counted { OnOk result (KeepsCount (A.noted archive.old) (A.noted archive.new)
             self.old.placings.items self.new.placings.items) }
@@ -223,9 +241,13 @@ impl Groups {
             (LeadsNone likeness bytes digest.now
             self.now.by_digest self.now.colliding.items key.now)
             (λ leader. HasKey likeness (bytes leader) key.now)) }
-        ensures fault { IfErr result (λ fault. fault ≢ FlowFault.OutOfMemory
-            → IsNotCompared (A.reads archive.old) (A.noted archive.old) (A.noted archive.new)
-            self.now.placings.items fault) }
+        ensures fault { (digest_of : List ℕ → List ℕ)
+            → HoldsDigests likeness digest_of (A.reads archive.old)
+            self.now.placings.items self.now.by_digest self.now.colliding.items
+            → IfErr result (λ fault. fault ≢ FlowFault.OutOfMemory
+            → IsNotCompared likeness digest_of (A.reads archive.old)
+            (A.noted archive.old) (A.noted archive.new)
+            self.now.placings.items digest.now fault) }
         ensures quiet { OnOk result (A.noted archive.new ≡ A.noted archive.old) }
         ensures size { A.size archive.new ≡ A.size archive.old }
         ensures alike { ReadAlike (A.reads archive.old) (A.reads archive.new) }
@@ -262,6 +284,9 @@ impl Groups {
             self.new.placings.items self.new.by_digest self.new.colliding.items) }
         ensures placed { OnOk result (self.new.placings.items ≡ self.old.placings.items
             ++ Placing.Group (length self.old.placings.items) ∷ []) }
+        ensures added { OnOk result (AddsLeader self.old.by_digest self.old.colliding.items
+            (length self.old.placings.items) digest.now
+            self.new.by_digest self.new.colliding.items) }
     {
         let at = self.placings.len();
         self.placings.push(Placing::Group(at))?;

@@ -6,6 +6,7 @@ ghost use Rattle.csa_record.specs.declared.flow.FlowFault.{FlowFault};
 ghost use Rattle.record_game.specs.Refused.{Refused};
 ghost use Rattle.game_archive.specs.Keying.{HasKey, IsKeyOf};
 ghost use Rattle.game_archive.specs.Alike.{GivesOnly};
+ghost use Rattle.game_archive.specs.Knowing.{HadKey};
 ghost use Rattle.game_archive.specs.Readings.{ReadAlike, noted_after};
 
 use crate::archive::Archive;
@@ -27,6 +28,7 @@ pub(crate) fn key_at<A: Archive>(
     requires within { at < A.size archive.old }
     ensures text { (bytes : List ℕ) → GivesOnly (A.reads archive.old at) bytes
         → IfOk result (λ text. HasKey likeness bytes text.items) }
+    ensures read { IfOk result (λ text. HadKey likeness (A.reads archive.old) at text.items) }
     ensures refused { (bytes : List ℕ) (r : Refusal) → GivesOnly (A.reads archive.old at) bytes
         → IsErrOf result (FlowFault.Refused r) → Refused bytes r.number r.offset r.why }
     ensures fault { IfErr result

@@ -64,8 +64,8 @@ impl Book {
 #[derive(Drop)]
 pub struct Shelf<'a> {
     books: &'a [Book],
-    failed: Vec<usize>,
-    refused: Vec<usize>,
+    pub failed: Vec<usize>,
+    pub refused: Vec<usize>,
 }
 
 impl<'a> Shelf<'a> {

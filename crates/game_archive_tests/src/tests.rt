@@ -125,6 +125,25 @@ fn not_read_again(rt: HostRuntime) -> Result<(), Fail> {
     Ok(())
 }
 
+// Each reading that failed or was refused was made for one entry. The leader is read again for the
+// entry that has its digest, and for no other.
+#[test]
+fn readings_made_for_entries(rt: HostRuntime) -> Result<(), Fail> {
+    let books = [
+        Book::changing(Tape::Bytes(GAME), Tape::Torn),
+        Book::of(OTHER_NAME),
+        Book::of(SPELT),
+        Book::of(REFUSED),
+    ];
+    let mut shelf = Shelf::new(rt.alloc(), books.as_slice());
+    let mut last = Last { at: None };
+    let placings = group(rt.alloc(), &mut shelf, Likeness::Game, &mut last)?;
+    assert!(rt; placings.len() == 4);
+    assert!(rt; shelf.failed.as_slice() == [0].as_slice());
+    assert!(rt; shelf.refused.as_slice() == [3].as_slice());
+    Ok(())
+}
+
 // An entry that has another game when it is read again.
 #[test]
 fn changed_between(rt: HostRuntime) -> Result<(), Fail> {

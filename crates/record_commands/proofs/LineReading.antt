@@ -15,8 +15,8 @@ use Rattle.std.specs.Result.{IsErrAnd}
 use Rattle.shogi_board.specs.declared.memory.OutOfMemory.{OutOfMemory}
 use Rattle.record_commands.specs.declared.incoming.LineEvent.{LineEvent}
 use Rattle.record_commands.specs.declared.incoming.LineEvent.TheVariants.{Failed}
-use Rattle.record_commands.specs.declared.incoming.Stop.{Stop}
-use Rattle.record_commands.specs.declared.incoming.Stop.TheVariants as stops
+use Rattle.record_commands.specs.declared.incoming.ReadStop.{ReadStop}
+use Rattle.record_commands.specs.declared.incoming.ReadStop.TheVariants as stops
 use Rattle.record_commands.specs.Incoming.{IsReading, GivesEnd, GivesLine, ended, last, GivesNoLine, GivesLongLine, PieceGives, PieceStops, stop_after, stop_of}
 
 pub rest_run : (bytes : List ℕ) (lines : List (List ℕ)) (rest : List ℕ) → Lines bytes lines rest → HasNoLineEnd rest
@@ -155,7 +155,7 @@ pub event_gives : (old new : Option (List ℕ)) (line : List ℕ) (event is : Op
 event_gives old new line event is same gives = subst (λ e. PieceGives old new line e) same gives
 
 -- the cutter's fault stops it
-pub cut_stops : (old new : Option (List ℕ)) (fault : LineFault) (answer : Result (Option LineEvent) Stop)
+pub cut_stops : (old new : Option (List ℕ)) (fault : LineFault) (answer : Result (Option LineEvent) ReadStop)
     → IsErrAnd answer (λ stop. stop ≡ stop_of fault) → (fault ≡ faults.TooLong → GivesLongLine old new)
     → IfErr answer (PieceStops old new)
 cut_stops old new fault (Ok event) is gives = tt
@@ -176,11 +176,11 @@ event_failed answer event failed is none = cc
 -- ---- why no more is read
 
 -- after a failed read something did
-pub stopped_after : (old new : Option Stop) → new ≡ stop_after old Failed → is_some new ≡ true
+pub stopped_after : (old new : Option ReadStop) → new ≡ stop_after old Failed → is_some new ≡ true
 stopped_after None new is = ap is_some is
 stopped_after (Some stop) new is = ap is_some is
 
 -- the pieces did not end, so that there was more than the first, and nothing had stopped the reader
-pub failed_at_last : (old : Option Stop) (pieces : ℕ) → (is_some old ≡ true → pieces ≡ 0) → 0 < pieces → Some stops.Failed ≡ stop_after old Failed
+pub failed_at_last : (old : Option ReadStop) (pieces : ℕ) → (is_some old ≡ true → pieces ≡ 0) → 0 < pieces → Some stops.Failed ≡ stop_after old Failed
 failed_at_last None pieces none more = refl
 failed_at_last (Some stop) pieces none more = absurd (omega (arith, none refl, more))

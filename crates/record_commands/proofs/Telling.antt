@@ -5,8 +5,8 @@ use Rattle.record_game.specs.Game.{Game, move_of}
 use Rattle.record_commands.specs.Incoming.{Coming, GivesEnd, GivesLine, GivesLongLine, GivesNoLine, stop_after}
 use Rattle.record_commands.specs.declared.incoming.LineEvent.{LineEvent}
 use Rattle.record_commands.specs.declared.incoming.LineEvent.TheVariants.{Line, Failed}
-use Rattle.record_commands.specs.declared.incoming.Stop.{Stop}
-use Rattle.record_commands.specs.declared.incoming.Stop.TheVariants as stops
+use Rattle.record_commands.specs.declared.incoming.ReadStop.{ReadStop}
+use Rattle.record_commands.specs.declared.incoming.ReadStop.TheVariants as stops
 use Rattle.shogi_rules.specs.Positions.{Played}
 use Rattle.shogi_rules.specs.Verdicts.{Stands}
 use Rattle.shogi_rules.specs.declared.line.Verdict.{Verdict}
@@ -40,7 +40,7 @@ pub line_then_long : (bytes old mid new : Option (List ℕ)) (first : List ℕ) 
 line_then_long bytes old mid new first is gives long = inr (first, mid, new, subst (λ x. GivesLine x mid first) is gives, long)
 
 -- nothing had stopped the reader, so that a failed read did
-stopped_first : (old new : Option Stop) (event : LineEvent) → old ≡ None → event ≡ Failed → new ≡ stop_after old event → new ≡ Some stops.Failed
+stopped_first : (old new : Option ReadStop) (event : LineEvent) → old ≡ None → event ≡ Failed → new ≡ stop_after old event → new ≡ Some stops.Failed
 stopped_first old new event going is over = over ∙ ap (λ s. stop_after s event) going ∙ ap (stop_after None) is
 
 pub broke_off : (old new : Coming) (event : LineEvent) → old.stop ≡ None → event ≡ Failed → new.stop ≡ stop_after old.stop event

@@ -8,18 +8,18 @@ use Rattle.csa_cutting.specs.declared.line.LineFault.TheVariants as faults
 use Rattle.shogi_board.specs.declared.memory.OutOfMemory.{OutOfMemory}
 use Rattle.record_commands.specs.declared.incoming.LineEvent.{LineEvent}
 use Rattle.record_commands.specs.declared.incoming.LineEvent.TheVariants.{Line, End, Long, Failed}
-use Rattle.record_commands.specs.declared.incoming.Stop.{Stop}
-use Rattle.record_commands.specs.declared.incoming.Stop.TheVariants as stops
+use Rattle.record_commands.specs.declared.incoming.ReadStop.{ReadStop}
+use Rattle.record_commands.specs.declared.incoming.ReadStop.TheVariants as stops
 
 -- the bytes that will still come, those of an unfinished line first, if they are known; the last
 -- line; and why no more is read, if so
 pub record Coming : Type 0 where
   pub bytes : Option (List ℕ)
   pub line : List ℕ
-  pub stop : Option Stop
+  pub stop : Option ReadStop
 
 -- why no more is read after this event, if so; what stopped the reader before still does
-abbrev pub stop_after : Option Stop → LineEvent → Option Stop
+abbrev pub stop_after : Option ReadStop → LineEvent → Option ReadStop
 stop_after (Some stop) event = Some stop
 stop_after None Line = None
 stop_after None End = None
@@ -57,19 +57,19 @@ PieceGives old new line (Some Long) = GivesLongLine old new
 PieceGives old new line (Some Failed) = GivesNoLine old new
 
 -- the event of a reader that stops
-abbrev pub event_of : Stop → Result (Option LineEvent) OutOfMemory
+abbrev pub event_of : ReadStop → Result (Option LineEvent) OutOfMemory
 event_of stops.TooLong = Ok (Some Long)
 event_of stops.Failed = Ok (Some Failed)
 event_of stops.OutOfMemory = Err (record {})
 
 -- what the bytes were when it stopped
-abbrev pub PieceStops : Option (List ℕ) → Option (List ℕ) → Stop → Type 0
+abbrev pub PieceStops : Option (List ℕ) → Option (List ℕ) → ReadStop → Type 0
 PieceStops old new stops.TooLong = GivesLongLine old new
 PieceStops old new stops.Failed = GivesNoLine old new
 PieceStops old new stops.OutOfMemory = ⊤
 
 -- why no more is read after a fault of the cutter
-abbrev pub stop_of : LineFault → Stop
+abbrev pub stop_of : LineFault → ReadStop
 stop_of faults.TooLong = stops.TooLong
 stop_of faults.OutOfMemory = stops.OutOfMemory
 

@@ -11,7 +11,7 @@ use Rattle.usi_text.specs.declared.fault.UsiFault.TheVariants.{BadLine}
 use Rattle.record_commands.specs.Incoming.{Coming, GivesEnd, GivesLine, GivesLongLine, GivesNoLine}
 use Rattle.record_commands.specs.declared.fault.PositionLineFault.{PositionLineFault}
 use Rattle.record_commands.specs.declared.fault.PositionLineFault.TheVariants.{Refused, TooLong, Read, Write, OutOfMemory}
-use Rattle.record_commands.specs.declared.incoming.Stop.TheVariants.{Failed}
+use Rattle.record_commands.specs.declared.incoming.ReadStop.TheVariants.{Failed}
 
 -- only the end comes
 abbrev pub HasNoLine : Option (List ℕ) → Type 0

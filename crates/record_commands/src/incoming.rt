@@ -30,7 +30,7 @@ pub enum LineEvent {
 
 /// Why no more is read.
 #[derive(Clone, Copy, Debug, PartialEq, Eq)]
-pub enum Stop {
+pub enum ReadStop {
     /// A line has more than 65,536 bytes.
     TooLong,
     /// A read failed.
@@ -39,13 +39,13 @@ pub enum Stop {
     OutOfMemory,
 }
 
-impl From<LineFault> for Stop {
+impl From<LineFault> for ReadStop {
     ghost from_gives = { λ fault stop. stop ≡ stop_of fault };
 
-    fn from(fault: LineFault) -> Stop {
+    fn from(fault: LineFault) -> ReadStop {
         match fault {
-            LineFault::TooLong => Stop::TooLong,
-            LineFault::OutOfMemory => Stop::OutOfMemory,
+            LineFault::TooLong => ReadStop::TooLong,
+            LineFault::OutOfMemory => ReadStop::OutOfMemory,
         }
     }
 }
@@ -57,7 +57,7 @@ pub struct Incoming<R: Read + Drop> {
     reader: BufReader<R>,
     cutter: LineCutter,
     line: Vec<u8>,
-    stop: Option<Stop>,
+    stop: Option<ReadStop>,
 }
 
 impl<R: Read + Drop> Model for Incoming<R> {
@@ -112,7 +112,7 @@ impl<R: Read + Drop> Incoming<R> {
         ensures long { IfOk result (λ event. event ≡ LineEvent.Long
             → GivesLongLine self.old.bytes self.new.bytes) }
         ensures over { IfOk result (λ event. self.new.stop ≡ stop_after self.old.stop event) }
-        ensures lost { OnErr result (self.new.stop ≡ Some Stop.OutOfMemory) }
+        ensures lost { OnErr result (self.new.stop ≡ Some ReadStop.OutOfMemory) }
         ensures stays { is_some self.old.stop ≡ true
             → (result ≡ Ok LineEvent.Failed) × (self.new ≡ self.old) }
     {
@@ -121,7 +121,7 @@ impl<R: Read + Drop> Incoming<R> {
                 return Ok(event);
             }
         }
-        self.stop = Some(Stop::Failed);
+        self.stop = Some(ReadStop::Failed);
         Ok(LineEvent::Failed)
     }
 
@@ -140,7 +140,7 @@ impl<R: Read + Drop> Incoming<R> {
         ensures over { IfOk result (λ event. IfSome event
             (λ e. self.new.stop ≡ stop_after self.old.stop e)) }
         ensures still { IfOk result (λ event. event ≡ None → self.new.stop ≡ self.old.stop) }
-        ensures lost { OnErr result (self.new.stop ≡ Some Stop.OutOfMemory) }
+        ensures lost { OnErr result (self.new.stop ≡ Some ReadStop.OutOfMemory) }
         ensures stays { is_some self.old.stop ≡ true
             → (result ≡ Ok (Some LineEvent.Failed)) × (self.new ≡ self.old) }
     {
@@ -169,7 +169,7 @@ fn next_event<R: Read + Drop>(
     reader: &mut BufReader<R>,
     cutter: &mut LineCutter,
     kept: &mut Vec<u8>,
-) -> Result<Option<LineEvent>, Stop>
+) -> Result<Option<LineEvent>, ReadStop>
     requires { IsReading cutter.old }
     ensures event { IfOk result (PieceGives
         (prepend_known cutter.old.held (reader_remaining R.remaining reader.old))
@@ -183,7 +183,7 @@ fn next_event<R: Read + Drop>(
     let piece = match reader.fill_buf() {
         Ok(piece) => piece,
         Err(error) if error.kind() == ErrorKind::Interrupted => return Ok(None),
-        Err(_) => return Err(Stop::Failed),
+        Err(_) => return Err(ReadStop::Failed),
     };
     if piece.is_empty() {
         let is_line = keep_last(alloc, cutter, kept)?;
@@ -204,13 +204,13 @@ fn next_event<R: Read + Drop>(
 }
 
 // What the reason to stop comes to.
-fn event_of(stop: Stop) -> Result<Option<LineEvent>, OutOfMemory>
+fn event_of(stop: ReadStop) -> Result<Option<LineEvent>, OutOfMemory>
     ensures { result ≡ event_of stop }
 {
     match stop {
-        Stop::TooLong => Ok(Some(LineEvent::Long)),
-        Stop::Failed => Ok(Some(LineEvent::Failed)),
-        Stop::OutOfMemory => Err(OutOfMemory),
+        ReadStop::TooLong => Ok(Some(LineEvent::Long)),
+        ReadStop::Failed => Ok(Some(LineEvent::Failed)),
+        ReadStop::OutOfMemory => Err(OutOfMemory),
     }
 }
 

@@ -127,9 +127,15 @@ fn shown(start: Position, seed: u64, most: usize) -> u64 {
     shown
 }
 
-// Plays the games, and compares their digests with those of the table.
-fn play_games(rt: &impl Abort, games: &[(&str, u64, usize, u64)]) -> Result<(), Fail> {
-    for game in games {
+// Plays the games from one place of the table up to another, and compares their digests with those
+// of the table.
+fn play_games(
+    rt: &impl Abort,
+    games: &[(&str, u64, usize, u64)],
+    from: usize,
+    to: usize,
+) -> Result<(), Fail> {
+    for game in games.iter().take(to).skip(from) {
         let (pieces, seed, most, wanted) = *game;
         let start = match pieces {
             "" => Position::even(),
@@ -142,10 +148,50 @@ fn play_games(rt: &impl Abort, games: &[(&str, u64, usize, u64)]) -> Result<(), 
 
 // Thousands of positions of random play. In each, the number of moves that are legal by `judge` and
 // the move of `first_legal` must be those of tests/random_play, which states the rules a second
-// time and plainly. One number is compared for each game. It takes four to five times as long as
-// the counts above.
+// time and plainly. One number is compared for each game. In all it takes four to five times as
+// long as the counts above. There are nine tests, since a test has 60 seconds and a machine may be
+// slow.
 #[test]
-fn random_play_is_judged(rt: HostRuntime) -> Result<(), Fail> {
-    play_games(&rt, &GAMES)?;
-    play_games(&rt, &DROP_GAMES)
+fn first_games_from_the_even_start(rt: HostRuntime) -> Result<(), Fail> {
+    play_games(&rt, &GAMES, 0, 10)
+}
+
+#[test]
+fn second_games_from_the_even_start(rt: HostRuntime) -> Result<(), Fail> {
+    play_games(&rt, &GAMES, 10, 20)
+}
+
+#[test]
+fn third_games_from_the_even_start(rt: HostRuntime) -> Result<(), Fail> {
+    play_games(&rt, &GAMES, 20, 30)
+}
+
+#[test]
+fn first_games_from_few_pieces(rt: HostRuntime) -> Result<(), Fail> {
+    play_games(&rt, &GAMES, 30, 45)
+}
+
+#[test]
+fn second_games_from_few_pieces(rt: HostRuntime) -> Result<(), Fail> {
+    play_games(&rt, &GAMES, 45, 60)
+}
+
+#[test]
+fn third_games_from_few_pieces(rt: HostRuntime) -> Result<(), Fail> {
+    play_games(&rt, &GAMES, 60, 75)
+}
+
+#[test]
+fn fourth_games_from_few_pieces(rt: HostRuntime) -> Result<(), Fail> {
+    play_games(&rt, &GAMES, 75, 90)
+}
+
+#[test]
+fn first_games_where_only_drops_are_legal(rt: HostRuntime) -> Result<(), Fail> {
+    play_games(&rt, &DROP_GAMES, 0, 24)
+}
+
+#[test]
+fn second_games_where_only_drops_are_legal(rt: HostRuntime) -> Result<(), Fail> {
+    play_games(&rt, &DROP_GAMES, 24, 47)
 }

@@ -47,7 +47,7 @@ fn drops_where_the_king_is_safe(rt: HostRuntime) -> Result<(), Fail> {
     Ok(())
 }
 
-// Check by the piece that moved, by one behind the square that it left, and by none.
+// Check by the piece that moved, by one whose line the move opened, and by none.
 #[test]
 fn knows_who_is_in_check(rt: HostRuntime) -> Result<(), Fail> {
     let start = position(Color::Black, "-51OU,+55KA,+58HI,+99KY")?;

@@ -4,8 +4,8 @@ use Rattle.std.specs.Bool.{⊤}
 use Rattle.std.specs.Prelude.{unwrap_or}
 use Rattle.record_game.specs.Canon.{canon}
 use Rattle.record_game.specs.Game.{Game}
-use Rattle.session_commands.specs.declared.fault.MatchFault.{MatchFault}
-use Rattle.session_commands.specs.Faults.{IsFileFault}
+use Rattle.session_setup.specs.declared.fault.MatchFault.{MatchFault}
+use Rattle.session_setup.specs.Faults.{IsFileFault}
 use Rattle.shogi_session.specs.GameSoFar.{HasMoves, game_of}
 use Rattle.shogi_session.specs.Promises.{IsGameText, game_text, no_game}
 use Rattle.shogi_session.specs.State.{State}

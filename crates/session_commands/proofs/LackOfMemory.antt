@@ -6,17 +6,12 @@ use Rattle.bridge_table.specs.declared.state.Waits.{Waits}
 use Rattle.shogi_session.specs.Events.{Event, trimmed}
 use Rattle.shogi_session.specs.Promises.{KeepsGame, SameStates, Session}
 use Rattle.shogi_session.specs.State.{slip_of, waits_for}
-use Rattle.session_commands.specs.declared.bridging.Seat.{Seat}
+use Rattle.session_commands.specs.declared.bridging.Peer.{Peer}
 use Rattle.shogi_board.specs.declared.memory.OutOfMemory.{OutOfMemory}
-use Rattle.session_commands.specs.declared.bridging.Seat.TheVariants.{Engine, Server}
-use Rattle.session_commands.specs.Plays.{Delivers, Gives, Misses, Takes, seat_for}
+use Rattle.session_commands.specs.declared.bridging.Peer.TheVariants.{Engine, Server}
+use Rattle.session_commands.specs.Plays.{Delivers, Gives, Misses, Takes, peer_for}
 use Rattle.session_commands.specs.LackOfMemory.{GoneRunsOut, NextRunsOut, not_stepped, PlayRunsOut, SendRunsOut, server_gone, StepRunsOut, first_unsent, later_unsent, no_next}
 use Rattle.session_commands.proofs.Playing.{Answered, Rounds, first, later}
-
--- what holds anyway holds at an error
-pub at_err : {T E : Type 0} (G : Type 0) (r : Result T E) → G → OnErr r G
-at_err G (Ok x) holds = tt
-at_err G (Err e) holds = holds
 
 -- the clauses of a step in which an allocation fails, together
 pub step_runs_out : (old : Session) (e f : Event) (new : Session) → e ≡ f
@@ -27,10 +22,10 @@ step_runs_out old e f new same going lost config states slip game =
     subst (λ x. StepRunsOut old x new) same (record { going = going; lost = lost; config = config; states = states; slip = slip; game = game })
 
 -- what came from it has no step
-pub seat_not_stepped : {E : Type 0} (came : Gives E) (missed : Misses E) (e : E) (s : Session) (seat : Seat) (waits : Waits) (event : Event) (f : E) (t : Session)
-    → seat ≡ seat_for waits → waits ≡ waits_for s.state → came e seat event f → StepRunsOut s event t → NextRunsOut came missed e s f t
-seat_not_stepped came missed e s seat waits event f t is_seat is_waits arrived lack =
-    not_stepped event (subst (λ x. came e x event f) (is_seat ∙ ap seat_for is_waits) arrived) lack
+pub peer_not_stepped : {E : Type 0} (came : Gives E) (missed : Misses E) (e : E) (s : Session) (peer : Peer) (waits : Waits) (event : Event) (f : E) (t : Session)
+    → peer ≡ peer_for waits → waits ≡ waits_for s.state → came e peer event f → StepRunsOut s event t → NextRunsOut came missed e s f t
+peer_not_stepped came missed e s peer waits event f t is_peer is_waits arrived lack =
+    not_stepped event (subst (λ x. came e x event f) (is_peer ∙ ap peer_for is_waits) arrived) lack
 
 -- the engine's lines were delivered, and the server did not take its own
 pub server_lacks : {E : Type 0} (went gone : Takes E) (to_engine to_server engine_lines server_lines : List ℕ) (e : E) (s : Session) (status : Status) (g : E) (u : Session) (after : Status) (f : E) (t : Session) (answer : Result Status OutOfMemory)

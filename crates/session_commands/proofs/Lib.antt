@@ -1,15 +1,14 @@
 pub mod Coming
+pub mod EndEvents
 pub mod Holding
 pub mod Joining
 pub mod Keeping
 pub mod LogTexts
 pub mod Logging
-pub mod LoginWords
 pub mod Outcomes
 pub mod PlayedLogs
 pub mod Playing
 pub mod Porting
-pub mod Replacing
 pub mod Serving
 pub mod Talks
 pub mod LackOfMemory

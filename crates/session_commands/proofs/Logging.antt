@@ -4,11 +4,11 @@ use Rattle.bridge_table.specs.declared.event.Status.{Status}
 use Rattle.bridge_table.specs.declared.event.Status.TheVariants.{Going}
 use Rattle.shogi_session.specs.Events.{Event}
 use Rattle.shogi_session.specs.Promises.{Session}
-use Rattle.session_commands.specs.declared.bridging.Seat.{Seat}
-use Rattle.session_commands.specs.declared.bridging.Seat.TheVariants.{Engine, Server}
+use Rattle.session_commands.specs.declared.bridging.Peer.{Peer}
+use Rattle.session_commands.specs.declared.bridging.Peer.TheVariants.{Engine, Server}
 use Rattle.record_commands.specs.declared.incoming.LineEvent.{LineEvent}
 use Rattle.record_commands.specs.declared.incoming.LineEvent.TheVariants.{Line, End, Long, Failed}
-use Rattle.session_commands.specs.declared.log.Way.TheVariants.{From, To}
+use Rattle.session_commands.specs.declared.log.Direction.TheVariants.{From, To}
 use Rattle.session_commands.specs.Logging.{Entry, Notes, NotesAll, came_in, entry_of, passed, passed_in, taken_of}
 use Rattle.session_commands.specs.Plays.{Delivers, Gives, History, Round, Takes, begun, event_from, goes_on, lost, no_lines, taken}
 
@@ -18,20 +18,20 @@ notes_more notes (x ∷ xs) ys l k m first second = (first.0, first.1, notes_mor
 
 -- each step of the ends that a log takes part in
 abbrev pub WentIsNoted : {E L : Type 0} → (E → L) → Notes L → Takes E → Type 0
-WentIsNoted {E} log notes went = (e f : E) (seat : Seat) (lines : List ℕ) → went e seat lines f → notes (log e) (entry_of seat To lines) (log f)
+WentIsNoted {E} log notes went = (e f : E) (peer : Peer) (lines : List ℕ) → went e peer lines f → notes (log e) (entry_of peer To lines) (log f)
 
 abbrev pub GoneIsNot : {E L : Type 0} → (E → L) → Takes E → Type 0
-GoneIsNot {E} log gone = (e f : E) (seat : Seat) (lines : List ℕ) → gone e seat lines f → log f ≡ log e
+GoneIsNot {E} log gone = (e f : E) (peer : Peer) (lines : List ℕ) → gone e peer lines f → log f ≡ log e
 
 abbrev pub CameIsNoted : {E L : Type 0} → (E → L) → Notes L → Gives E → Type 0
-CameIsNoted {E} log notes came = (e f : E) (seat : Seat) (event : Event) → came e seat event f → NotesAll notes (log e) (came_in event) (log f)
+CameIsNoted {E} log notes came = (e f : E) (peer : Peer) (event : Event) → came e peer event f → NotesAll notes (log e) (came_in event) (log f)
 
 delivers_noted : {E L : Type 0} (log : E → L) (notes : Notes L) (went gone : Takes E) → WentIsNoted log notes went → GoneIsNot log gone
-    → (seat : Seat) (lines : List ℕ) (e : E) (s : Session) (status : Status) (f : E) (t : Session) (after : Status) (delivers : Delivers went gone seat lines e s status f t after)
-    → NotesAll notes (log e) (taken_of seat lines delivers) (log f)
-delivers_noted log notes went gone w g seat lines e s status f t after (no_lines none same kept) = ap log same
-delivers_noted log notes went gone w g seat lines e s status f t after (taken took kept) = (log f, w e f seat lines took, refl)
-delivers_noted log notes went gone w g seat lines e s status f t after (lost to_engine to_server then missed step) = g e f seat lines missed
+    → (peer : Peer) (lines : List ℕ) (e : E) (s : Session) (status : Status) (f : E) (t : Session) (after : Status) (delivers : Delivers went gone peer lines e s status f t after)
+    → NotesAll notes (log e) (taken_of peer lines delivers) (log f)
+delivers_noted log notes went gone w g peer lines e s status f t after (no_lines none same kept) = ap log same
+delivers_noted log notes went gone w g peer lines e s status f t after (taken took kept) = (log f, w e f peer lines took, refl)
+delivers_noted log notes went gone w g peer lines e s status f t after (lost to_engine to_server then missed step) = g e f peer lines missed
 
 round_noted : {E L : Type 0} (log : E → L) (notes : Notes L) (went gone : Takes E) → WentIsNoted log notes went → GoneIsNot log gone
     → (event : Event) (e : E) (s : Session) (f : E) (t : Session) (status : Status) (round : Round went gone event e s f t status)
@@ -52,9 +52,9 @@ history_noted log notes came went gone c w g e s f t status (goes_on x y z u v e
     (notes_more notes (came_in event) (passed_in round) (log x) (log y) (log z) (c x y _ event arrived) (round_noted log notes went gone w g event y u z v now round))
 
 -- a line that came is noted, and nothing else
-pub came_noted : {L : Type 0} (notes : Notes L) (seat : Seat) (what : LineEvent) (line : List ℕ) (l m : L)
-    → (what ≡ Line → notes l (entry_of seat From line) m) → ((what ≡ Line → ⊥) → m ≡ l)
-    → NotesAll notes l (came_in (event_from seat what line)) m
+pub came_noted : {L : Type 0} (notes : Notes L) (peer : Peer) (what : LineEvent) (line : List ℕ) (l m : L)
+    → (what ≡ Line → notes l (entry_of peer From line) m) → ((what ≡ Line → ⊥) → m ≡ l)
+    → NotesAll notes l (came_in (event_from peer what line)) m
 came_noted notes Engine Line line l m noted same = (m, noted refl, refl)
 came_noted notes Engine End line l m noted same = same (λ is. cc)
 came_noted notes Engine Long line l m noted same = same (λ is. cc)

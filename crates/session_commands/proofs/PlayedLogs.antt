@@ -12,8 +12,8 @@ use Rattle.shogi_session.specs.Row.{Row}
 use Rattle.shogi_session.specs.Sending.{IsAnswered, OwnSent}
 use Rattle.shogi_session.specs.State.{State, first_state}
 use Rattle.shogi_session.specs.Texts.{ended_line, text_of}
-use Rattle.session_commands.specs.declared.bridging.Seat.{Seat}
-use Rattle.session_commands.specs.declared.bridging.Seat.TheVariants.{Engine, Server}
+use Rattle.session_commands.specs.declared.bridging.Peer.{Peer}
+use Rattle.session_commands.specs.declared.bridging.Peer.TheVariants.{Engine, Server}
 use Rattle.session_commands.specs.Plays.{Delivers, no_lines, taken, lost, Gives, Misses, History, begun, goes_on, Round, Takes, end_of}
 use Rattle.session_commands.specs.PlayedLogs.{AllAnswerWell, AnswersWell, IsLogOf, PlaysLegally, handed, happened, happened_in, lost_of}
 use Rattle.session_commands.specs.LackOfMemoryLogs.{Sent, SentLegally, nothing_sent, sent_before, sent_in, sent_with}
@@ -76,8 +76,8 @@ step_logged c events bytes s event to_engine to_server status t l step =
       config = step.config ∙ l.config;
     }
 
--- when a seat ends, no line is sent
-end_silent : EndsSilent → (seat : Seat) (s : Session) (to_engine to_server : List ℕ) (status : Status) (t : Session) → Steps s (end_of seat) to_engine to_server status t → to_server ≡ []
+-- when a peer ends, no line is sent
+end_silent : EndsSilent → (peer : Peer) (s : Session) (to_engine to_server : List ℕ) (status : Status) (t : Session) → Steps s (end_of peer) to_engine to_server status t → to_server ≡ []
 end_silent silent Engine s to_engine to_server status t step =
     step.server_text ∙ ap (λ (o : Out). text_of o.to_server) (silent s.config s.state t.state engine_end step.out step.row (inl refl))
 end_silent silent Server s to_engine to_server status t step =
@@ -86,13 +86,13 @@ end_silent silent Server s to_engine to_server status t step =
 stays_logged : (c : Config) (events : List Event) (bytes : List ℕ) (s t : Session) → Logged c events bytes s → t ≡ s → Logged c (events ++ []) bytes t
 stays_logged c events bytes s t l kept = subst (λ es. Logged c es bytes t) (sym (append-nil events)) (subst (Logged c events bytes) (sym kept) l)
 
-delivered_logged : {E : Type 0} → EndsSilent → (went gone : Takes E) (seat : Seat) (lines : List ℕ) (e : E) (s : Session) (status : Status) (f : E) (t : Session) (after : Status) (c : Config) (events : List Event) (bytes : List ℕ)
-    → Logged c events bytes s → (delivers : Delivers went gone seat lines e s status f t after) → Logged c (events ++ lost_of seat delivers) bytes t
-delivered_logged silent went gone seat lines e s status f t after c events bytes l (no_lines none same kept) = stays_logged c events bytes s t l kept
-delivered_logged silent went gone seat lines e s status f t after c events bytes l (taken took kept) = stays_logged c events bytes s t l kept
-delivered_logged silent went gone seat lines e s status f t after c events bytes l (lost to_engine to_server last missed step) =
-    subst (λ bs. Logged c (events ++ end_of seat ∷ []) bs t) (ap (λ bs. bytes ++ bs) (end_silent silent seat s to_engine to_server last t step) ∙ append-nil bytes)
-    (step_logged c events bytes s (end_of seat) to_engine to_server last t l step)
+delivered_logged : {E : Type 0} → EndsSilent → (went gone : Takes E) (peer : Peer) (lines : List ℕ) (e : E) (s : Session) (status : Status) (f : E) (t : Session) (after : Status) (c : Config) (events : List Event) (bytes : List ℕ)
+    → Logged c events bytes s → (delivers : Delivers went gone peer lines e s status f t after) → Logged c (events ++ lost_of peer delivers) bytes t
+delivered_logged silent went gone peer lines e s status f t after c events bytes l (no_lines none same kept) = stays_logged c events bytes s t l kept
+delivered_logged silent went gone peer lines e s status f t after c events bytes l (taken took kept) = stays_logged c events bytes s t l kept
+delivered_logged silent went gone peer lines e s status f t after c events bytes l (lost to_engine to_server last missed step) =
+    subst (λ bs. Logged c (events ++ end_of peer ∷ []) bs t) (ap (λ bs. bytes ++ bs) (end_silent silent peer s to_engine to_server last t step) ∙ append-nil bytes)
+    (step_logged c events bytes s (end_of peer) to_engine to_server last t l step)
 
 round_logged : {E : Type 0} → EndsSilent → (went gone : Takes E) (event : Event) (e : E) (s : Session) (f : E) (t : Session) (status : Status) (c : Config) (events : List Event) (bytes : List ℕ)
     → Logged c events bytes s → (round : Round went gone event e s f t status) → Logged c (events ++ happened_in event round) (bytes ++ round.to_server) t

@@ -8,19 +8,19 @@ use Rattle.shogi_session.specs.Events.{Event, Out, begin}
 use Rattle.shogi_session.specs.Promises.{Session, StepRow, Steps}
 use Rattle.shogi_session.specs.State.{waits_for}
 use Rattle.shogi_session.specs.Texts.{text_of}
-use Rattle.session_commands.specs.declared.bridging.Seat.{Seat}
-use Rattle.session_commands.specs.declared.fault.MatchFault.{MatchFault}
-use Rattle.session_commands.specs.declared.fault.MatchFault.TheVariants as fault
+use Rattle.session_commands.specs.declared.bridging.Peer.{Peer}
+use Rattle.session_setup.specs.declared.fault.MatchFault.{MatchFault}
+use Rattle.session_setup.specs.declared.fault.MatchFault.TheVariants as fault
 use Rattle.record_commands.specs.declared.incoming.LineEvent.{LineEvent}
 use Rattle.session_commands.specs.Playing.{ComesNext}
-use Rattle.session_commands.specs.Plays.{Gives, History, Sends, Takes, event_from, rounds, seat_for, begun, goes_on}
+use Rattle.session_commands.specs.Plays.{Gives, History, Sends, Takes, event_from, rounds, peer_for, begun, goes_on}
 
 -- a step whose lines are not sent yet, after this number of rounds
 pub data Answered {E : Type 0} (came : Gives E) (went gone : Takes E) (e : E) (s : Session) (to_engine to_server : List ℕ) (status : Status) : ℕ → E → Session → Type 0 where
   first : (t : Session) → Steps s begin to_engine to_server status t → Answered came went gone e s to_engine to_server status 0 e t
   later : (f g : E) (t u : Session) (event : Event)
       → (played : History came went gone e s f t Going)
-      → came f (seat_for (waits_for t.state)) event g
+      → came f (peer_for (waits_for t.state)) event g
       → Steps t event to_engine to_server status u
       → Answered came went gone e s to_engine to_server status (rounds played) g u
 
@@ -39,13 +39,13 @@ pub same_step : (old : Session) (e f : Event) (to_engine to_server : List ℕ) (
     → e ≡ f → Steps old e to_engine to_server status new → Steps old f to_engine to_server status new
 same_step old e f to_engine to_server status new same step = subst (λ x. Steps old x to_engine to_server status new) same step
 
--- what comes from the seat that the bridge waits for is its next step
-pub comes_next : {E : Type 0} (came : Gives E) (e : E) (s : Session) (seat : Seat) (waits : Waits) (what : LineEvent) (line : List ℕ) (f : E) (to_engine to_server : List ℕ) (status : Status) (t : Session)
-    → seat ≡ seat_for waits → waits ≡ waits_for s.state
-    → came e seat (event_from seat what line) f → Steps s (event_from seat what line) to_engine to_server status t
+-- what comes from the peer that the bridge waits for is its next step
+pub comes_next : {E : Type 0} (came : Gives E) (e : E) (s : Session) (peer : Peer) (waits : Waits) (what : LineEvent) (line : List ℕ) (f : E) (to_engine to_server : List ℕ) (status : Status) (t : Session)
+    → peer ≡ peer_for waits → waits ≡ waits_for s.state
+    → came e peer (event_from peer what line) f → Steps s (event_from peer what line) to_engine to_server status t
     → ComesNext came e s to_engine to_server status f t
-comes_next came e s seat waits what line f to_engine to_server status t is_seat is_waits arrived step =
-    record { event = event_from seat what line; arrived = subst (λ x. came e x (event_from seat what line) f) (is_seat ∙ ap seat_for is_waits) arrived; step = step }
+comes_next came e s peer waits what line f to_engine to_server status t is_peer is_waits arrived step =
+    record { event = event_from peer what line; arrived = subst (λ x. came e x (event_from peer what line) f) (is_peer ∙ ap peer_for is_waits) arrived; step = step }
 
 -- the rounds that passed, one more with this one
 pub record Rounds {E : Type 0} (came : Gives E) (went gone : Takes E) (e : E) (s : Session) (count : ℕ) (f : E) (t : Session) (status : Status) : Type 0 where

@@ -1,5 +1,5 @@
 -- The line with which a server says its port.
-use Rattle.std.proofs.Common.{◌≡◌, inl, inr, ◌++◌, ◌∙◌, ◌<◌, ◌≤◌, ◌^◌, ℕ, true, not, List, length, drop, Option, None, Some, IfSome, MatchOption, Result, Ok, Err, ap, refl, sym, subst, arith}
+use Rattle.std.proofs.Common.{◌≡◌, inr, ◌++◌, ◌∙◌, ◌<◌, ◌≤◌, ◌^◌, ℕ, true, not, List, length, drop, Option, None, Some, MatchOption, Result, Ok, Err, ap, sym, subst, arith}
 use Rattle.std.proofs.Math.Seq.{drop-append_seam}
 use Rattle.std.proofs.lemmas.Fmt.{IsAscii-decimal, parse-decimal}
 use Rattle.std.proofs.lemmas.Slice.Eq.{bytes_eq-Decides}
@@ -8,10 +8,10 @@ use Rattle.std.specs.Fmt.{decimal}
 use Rattle.std.specs.Str.{IsUtf8, bytes_eq}
 use Rattle.std.specs.Str.Parse.{ParsesUnsigned}
 use Rattle.record_commands.proofs.LineReading.{stopped_after}
-use Rattle.record_commands.specs.Incoming.{Coming, GivesEnd, GivesLine, GivesLongLine, GivesNoLine, stop_after}
-use Rattle.record_commands.specs.declared.incoming.LineEvent.{LineEvent}
+use Rattle.record_commands.specs.Incoming.{Coming, GivesLine, GivesNoLine, stop_after}
 use Rattle.record_commands.specs.declared.incoming.LineEvent.TheVariants as events
-use Rattle.session_commands.specs.Ports.{IsPort, IsPortLine, SaysNoPort, ended, other_line, too_long}
+use Rattle.session_commands.specs.Ports.{IsPort, IsPortLine, SaysFirst}
+use Rattle.session_commands.specs.declared.port_line.FirstLine.TheVariants.{Port, Other, Missing}
 
 pub rest_after : (front line rest found : List ℕ) → found ≡ drop (length front) line → line ≡ front ++ rest → found ≡ rest
 rest_after front line rest found at whole = at ∙ ap (drop (length front)) whole ∙ drop-append_seam front rest
@@ -53,27 +53,22 @@ not_other found text other same =
     absurd cc
 
 -- the port is that of the line that came
-pub port_came : (old new : Option (List ℕ)) (shown line : List ℕ) (found : Option ℕ)
-    → shown ≡ line → GivesLine old new line → MatchOption found ((port : ℕ) → IsPortLine shown port → ⊥) (IsPortLine shown)
-    → IfSome found (λ port. (x : List ℕ) × GivesLine old new x × IsPortLine x port)
-port_came old new shown line None same gives given = tt
-port_came old new shown line (Some port) same gives given = (shown, subst (λ x. GivesLine old new x) (sym same) gives, given)
+pub port_first : (old new : Coming) (shown : List ℕ) (found : Option ℕ) (port : ℕ)
+    → found ≡ Some port → shown ≡ new.line → GivesLine old.bytes new.bytes new.line
+    → MatchOption found ((p : ℕ) → IsPortLine shown p → ⊥) (IsPortLine shown) → SaysFirst old new (Port port)
+port_first old new shown found port is same gives given =
+    let line : IsPortLine shown port = subst (λ o. MatchOption o ((p : ℕ) → IsPortLine shown p → ⊥) (IsPortLine shown)) is given in
+    (new.line, gives, subst (λ x. IsPortLine x port) same line)
 
 -- and it says none only if it is no port line
-pub no_port_came : (old new : Coming) (shown line : List ℕ) (found : Option ℕ)
-    → shown ≡ line → GivesLine old.bytes new.bytes line → length line ≤ 65536
-    → MatchOption found ((port : ℕ) → IsPortLine shown port → ⊥) (IsPortLine shown)
-    → found ≡ None → SaysNoPort old new
-no_port_came old new shown line None same gives short none is =
-    other_line line (gives, short) (subst (λ x. (port : ℕ) → IsPortLine x port → ⊥) same none)
-no_port_came old new shown line (Some port) same gives short none is = absurd cc
+pub other_first : (old new : Coming) (shown : List ℕ) (found : Option ℕ)
+    → found ≡ None → shown ≡ new.line → GivesLine old.bytes new.bytes new.line → length new.line ≤ 65536
+    → MatchOption found ((p : ℕ) → IsPortLine shown p → ⊥) (IsPortLine shown) → SaysFirst old new Other
+other_first old new shown found is same gives short given =
+    let none : (p : ℕ) → IsPortLine shown p → ⊥ = subst (λ o. MatchOption o ((p : ℕ) → IsPortLine shown p → ⊥) (IsPortLine shown)) is given in
+    ((gives, short), subst (λ x. (p : ℕ) → IsPortLine x p → ⊥) same none)
 
 -- no line came
-pub no_line_came : (old new : Coming) (what : LineEvent) → (what ≡ events.Line → ⊥)
-    → (what ≡ events.End → GivesEnd old.bytes new.bytes) → (what ≡ events.Failed → GivesNoLine old.bytes new.bytes)
-    → (what ≡ events.Long → GivesLongLine old.bytes new.bytes)
-    → new.stop ≡ stop_after old.stop what → SaysNoPort old new
-no_line_came old new events.Line not_line end none long over = absurd (not_line refl)
-no_line_came old new events.End not_line end none long over = ended (inl (end refl))
-no_line_came old new events.Failed not_line end none long over = ended (inr (none refl, stopped_after old.stop new.stop over))
-no_line_came old new events.Long not_line end none long over = too_long (long refl)
+pub missing_first : (old new : Coming) → GivesNoLine old.bytes new.bytes
+    → new.stop ≡ stop_after old.stop events.Failed → SaysFirst old new Missing
+missing_first old new none over = inr (none, stopped_after old.stop new.stop over)

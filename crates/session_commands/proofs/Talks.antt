@@ -8,15 +8,17 @@ use Rattle.csa_cutting.specs.declared.line.LineFault.{LineFault}
 use Rattle.csa_cutting.specs.declared.line.LineFault.TheVariants as faulty
 use Rattle.record_commands.specs.declared.fault.ReadFault.{ReadFault}
 use Rattle.record_commands.specs.declared.fault.ReadFault.TheVariants as failing
-use Rattle.session_commands.specs.Faults.{cut_fault_of, talk_fault_of}
+use Rattle.session_setup.specs.Faults.{cut_fault_of, talk_fault_of}
 use Rattle.csa_cutting.specs.LineCutting.{LineCutting, BeginsTooLong, LineStep, LinesAfter, LastLine}
 use Rattle.csa_cutting.proofs.LinesOnce.{lines_joined}
 use Rattle.record_commands.proofs.Cutting.{held_short, next_short, parted}
 use Rattle.record_commands.proofs.LineReading.{rest_run}
-use Rattle.session_commands.specs.declared.fault.TalkFault.{TalkFault}
-use Rattle.session_commands.specs.declared.fault.TalkFault.TheVariants.{LineTooLong, Read, OutOfMemory}
+use Rattle.session_setup.specs.declared.fault.TalkFault.{TalkFault}
+use Rattle.session_setup.specs.declared.fault.TalkFault.TheVariants.{LineTooLong, Read, OutOfMemory}
+use Rattle.session_commands.specs.declared.talk.MachineState.{MachineState}
+use Rattle.session_commands.specs.declared.talk.MachineState.TheVariants.{Running, Ended}
 use Rattle.session_commands.specs.Talking.{IsReply, Talking, TalkGoesOn, Finishes, Stops, TakesNext, TakesPiece, EndsTalk}
-use Rattle.session_commands.specs.Talks.{Calls, Passes, MachineRow, IsLongNext, Talked, nothing, bytes_came, end_came, line_answered, IsEnded, IsAnswered, IsUnsent, line_too_long, not_received, endless, not_answered, not_cut, Breaks, BreaksOff, HasAnswered}
+use Rattle.session_commands.specs.Talks.{Calls, Passes, MachineRow, IsLongNext, Talked, nothing, bytes_came, end_came, line_answered, IsEnded, IsAnswered, IsUnsent, line_too_long, not_received, endless, not_answered, not_cut, Breaks, BreaksOff, HasAnswered, state_of}
 
 -- ---- lines
 
@@ -89,7 +91,7 @@ next_of came ends went answers wire machine pieces old piece k line u m t step =
 pub line_ended : {W M : Type 0} (came : Passes W) (ends : Calls W) (went : Passes W) (answers : MachineRow M) (wire : W) (machine : M) (pieces : ℕ) (old new : LineCutting) (piece : List ℕ) (k : ℕ) (line : Bor (List ℕ)) (u v : W) (m n : M)
     → Talking came ends went answers wire machine pieces old piece u m → (BeginsTooLong old.limit (old.held ++ piece) → ⊥)
     → LineStep old.held piece (k, Some line) → LinesAfter old piece (Ok (k, Some line)) new
-    → IsReply went answers u m line.now false v n
+    → IsReply went answers u m line.now Running v n
     → Talking came ends went answers wire machine pieces new (drop k piece) v n
 line_ended came ends went answers wire machine pieces old new piece k line u v m n t few step after reply =
     let same = parted t.used piece k in
@@ -111,7 +113,7 @@ line_ended came ends went answers wire machine pieces old new piece k line u v m
 pub machine_ended : {W M : Type 0} (came : Passes W) (ends : Calls W) (went : Passes W) (answers : MachineRow M) (wire : W) (machine : M) (pieces : ℕ) (old : LineCutting) (piece : List ℕ) (k : ℕ) (line : Bor (List ℕ)) (u v : W) (m n : M)
     → Talking came ends went answers wire machine pieces old piece u m → (BeginsTooLong old.limit (old.held ++ piece) → ⊥)
     → LineStep old.held piece (k, Some line)
-    → IsReply went answers u m line.now true v n
+    → IsReply went answers u m line.now Ended v n
     → IsEnded came ends went answers wire machine v n
 machine_ended came ends went answers wire machine pieces old piece k line u v m n t few step reply = record {
   bytes = t.used ++ piece;
@@ -210,7 +212,7 @@ ends_whole xs = sym (append-nil xs)
 
 pub last_answered : {W M : Type 0} (came : Passes W) (ends : Calls W) (went : Passes W) (answers : MachineRow M) (wire : W) (machine : M) (pieces : ℕ) (old : LineCutting) (line : List ℕ) (u v x : W) (m n : M)
     → Talking came ends went answers wire machine pieces old [] u m → ends u v → line ≡ old.held → 0 < length old.held
-    → IsReply went answers v m line false x n
+    → IsReply went answers v m line Running x n
     → IsAnswered came ends went answers wire machine x n
 last_answered came ends went answers wire machine pieces old line u v x m n t is same some reply =
     let all = last_next came ends went answers wire machine pieces old line u m t same some in
@@ -224,7 +226,7 @@ last_answered came ends went answers wire machine pieces old line u v x m n t is
 
 pub last_ended : {W M : Type 0} (came : Passes W) (ends : Calls W) (went : Passes W) (answers : MachineRow M) (wire : W) (machine : M) (pieces : ℕ) (old : LineCutting) (line : List ℕ) (u v x : W) (m n : M)
     → Talking came ends went answers wire machine pieces old [] u m → ends u v → line ≡ old.held → 0 < length old.held
-    → IsReply went answers v m line true x n
+    → IsReply went answers v m line Ended x n
     → IsEnded came ends went answers wire machine x n
 last_ended came ends went answers wire machine pieces old line u v x m n t is same some reply = record {
   bytes = t.used ++ 10 ∷ [];
@@ -270,16 +272,16 @@ pub next_none : {W M : Type 0} (came : Passes W) (ends : Calls W) (went : Passes
 next_none came ends went answers old new piece r u m is few step after = λ wire machine pieces t.
     none_ended came ends went answers wire machine pieces old new piece r.0 u m t (λ long. few (inr long)) (step_as old.held piece r None is step) (after_as old piece r None new is after)
 
-pub next_answered : {W M : Type 0} (came : Passes W) (ends : Calls W) (went : Passes W) (answers : MachineRow M) (old new : LineCutting) (piece : List ℕ) (r : ℕ × Option (Bor (List ℕ))) (line : Bor (List ℕ)) (u v : W) (m n : M) (ended : Bool)
-    → ended ≡ false → r.1 ≡ Some line → ((old.failed ≡ true) ⊎ BeginsTooLong old.limit (old.held ++ piece) → ⊥)
+pub next_answered : {W M : Type 0} (came : Passes W) (ends : Calls W) (went : Passes W) (answers : MachineRow M) (old new : LineCutting) (piece : List ℕ) (r : ℕ × Option (Bor (List ℕ))) (line : Bor (List ℕ)) (u v : W) (m n : M) (ended : MachineState)
+    → ended ≡ Running → r.1 ≡ Some line → ((old.failed ≡ true) ⊎ BeginsTooLong old.limit (old.held ++ piece) → ⊥)
     → LineStep old.held piece r → LinesAfter old piece (Ok r) new → IsReply went answers u m line.now ended v n
     → TalkGoesOn came ends went answers old piece u m new (drop r.0 piece) v n
 next_answered came ends went answers old new piece r line u v m n ended is_false is few step after reply = λ wire machine pieces t.
     line_ended came ends went answers wire machine pieces old new piece r.0 line u v m n t (λ long. few (inr long)) (step_as old.held piece r (Some line) is step) (after_as old piece r (Some line) new is after)
     (subst (λ b. IsReply went answers u m line.now b v n) is_false reply)
 
-pub next_finishes : {W M : Type 0} (came : Passes W) (ends : Calls W) (went : Passes W) (answers : MachineRow M) (old : LineCutting) (piece : List ℕ) (r : ℕ × Option (Bor (List ℕ))) (line : Bor (List ℕ)) (u v : W) (m n : M) (ended : Bool)
-    → ended ≡ true → r.1 ≡ Some line → ((old.failed ≡ true) ⊎ BeginsTooLong old.limit (old.held ++ piece) → ⊥)
+pub next_finishes : {W M : Type 0} (came : Passes W) (ends : Calls W) (went : Passes W) (answers : MachineRow M) (old : LineCutting) (piece : List ℕ) (r : ℕ × Option (Bor (List ℕ))) (line : Bor (List ℕ)) (u v : W) (m n : M) (ended : MachineState)
+    → ended ≡ Ended → r.1 ≡ Some line → ((old.failed ≡ true) ⊎ BeginsTooLong old.limit (old.held ++ piece) → ⊥)
     → LineStep old.held piece r → IsReply went answers u m line.now ended v n
     → Finishes came ends went answers old piece u m v n
 next_finishes came ends went answers old piece r line u v m n ended is_true is few step reply = λ wire machine pieces t.
@@ -313,22 +315,22 @@ pub ends_none : {W M : Type 0} (came : Passes W) (ends : Calls W) (went : Passes
 ends_none came ends went answers old u m last is found = λ wire machine pieces before t over.
     all_answered came ends went answers wire machine pieces old before u m t over (subst (LastLine old.held) is found)
 
-pub ends_some : {W M : Type 0} (came : Passes W) (ends : Calls W) (went : Passes W) (silent : Calls W) (blocked : Passes W) (answers : MachineRow M) (old : LineCutting) (u v : W) (m n : M) (last : Option (Bor (List ℕ))) (line : Bor (List ℕ)) (r : Result Bool TalkFault)
+pub ends_some : {W M : Type 0} (came : Passes W) (ends : Calls W) (went : Passes W) (silent : Calls W) (blocked : Passes W) (answers : MachineRow M) (old : LineCutting) (u v : W) (m n : M) (last : Option (Bor (List ℕ))) (line : Bor (List ℕ)) (r : Result MachineState TalkFault)
     → last ≡ Some line → LastLine old.held last
     → IfOk r (λ ended. IsReply went answers u m line.now ended v n)
     → IfErr r (λ fault. IsUnsent blocked answers u m line.now v fault)
     → EndsTalk came ends went silent blocked answers old u m r v n
-ends_some came ends went silent blocked answers old u v m n last line (Ok true) is found reply unsent = λ wire machine pieces before t over.
+ends_some came ends went silent blocked answers old u v m n last line (Ok Ended) is found reply unsent = λ wire machine pieces before t over.
     let whole : LastLine old.held (Some line) = subst (LastLine old.held) is found in
     last_ended came ends went answers wire machine pieces old line.now before u v m n t over whole.0 whole.1 reply
-ends_some came ends went silent blocked answers old u v m n last line (Ok false) is found reply unsent = λ wire machine pieces before t over.
+ends_some came ends went silent blocked answers old u v m n last line (Ok Running) is found reply unsent = λ wire machine pieces before t over.
     let whole : LastLine old.held (Some line) = subst (LastLine old.held) is found in
     last_answered came ends went answers wire machine pieces old line.now before u v m n t over whole.0 whole.1 reply
 ends_some came ends went silent blocked answers old u v m n last line (Err fault) is found reply unsent = λ wire machine pieces before t over.
     let whole : LastLine old.held (Some line) = subst (LastLine old.held) is found in
     last_not_replied came ends went silent blocked answers wire machine pieces old line.now before u v m fault t over whole.0 whole.1 unsent
 
-pub talk_ends : {W M : Type 0} (came : Passes W) (ends : Calls W) (went : Passes W) (silent : Calls W) (blocked : Passes W) (answers : MachineRow M) (old : LineCutting) (u v : W) (m n : M) (r : Result Bool TalkFault) (wire : W) (machine : M) (pieces : ℕ) (before : W)
+pub talk_ends : {W M : Type 0} (came : Passes W) (ends : Calls W) (went : Passes W) (silent : Calls W) (blocked : Passes W) (answers : MachineRow M) (old : LineCutting) (u v : W) (m n : M) (r : Result MachineState TalkFault) (wire : W) (machine : M) (pieces : ℕ) (before : W)
     → EndsTalk came ends went silent blocked answers old u m r v n
     → Talking came ends went answers wire machine pieces old [] before m → ends before u
     → IfOk r (λ ended. HasAnswered came ends went answers wire machine ended v n)
@@ -336,21 +338,26 @@ pub talk_ends : {W M : Type 0} (came : Passes W) (ends : Calls W) (went : Passes
 talk_ends came ends went silent blocked answers old u v m n (Ok ended) wire machine pieces before h t over = (h wire machine pieces before t over, tt)
 talk_ends came ends went silent blocked answers old u v m n (Err fault) wire machine pieces before h t over = (tt, h wire machine pieces before t over)
 
-pub piece_finishes : {W M : Type 0} (came : Passes W) (ends : Calls W) (went : Passes W) (silent : Calls W) (blocked : Passes W) (answers : MachineRow M) (old new : LineCutting) (piece : List ℕ) (ended : Bool) (u v : W) (m n : M)
-    → ended ≡ true → TakesPiece came ends went silent blocked answers old piece u m (Ok ended) new v n
+pub piece_finishes : {W M : Type 0} (came : Passes W) (ends : Calls W) (went : Passes W) (silent : Calls W) (blocked : Passes W) (answers : MachineRow M) (old new : LineCutting) (piece : List ℕ) (ended : MachineState) (u v : W) (m n : M)
+    → ended ≡ Ended → TakesPiece came ends went silent blocked answers old piece u m (Ok ended) new v n
     → Finishes came ends went answers old piece u m v n
 piece_finishes came ends went silent blocked answers old new piece ended u v m n is next =
     subst (λ b. TakesPiece came ends went silent blocked answers old piece u m (Ok b) new v n) is next
 
-pub piece_goes_on : {W M : Type 0} (came : Passes W) (ends : Calls W) (went : Passes W) (silent : Calls W) (blocked : Passes W) (answers : MachineRow M) (old new : LineCutting) (piece : List ℕ) (ended : Bool) (u v : W) (m n : M)
-    → ended ≡ false → TakesPiece came ends went silent blocked answers old piece u m (Ok ended) new v n
+pub piece_goes_on : {W M : Type 0} (came : Passes W) (ends : Calls W) (went : Passes W) (silent : Calls W) (blocked : Passes W) (answers : MachineRow M) (old new : LineCutting) (piece : List ℕ) (ended : MachineState) (u v : W) (m n : M)
+    → ended ≡ Running → TakesPiece came ends went silent blocked answers old piece u m (Ok ended) new v n
     → TalkGoesOn came ends went answers old piece u m new [] v n
 piece_goes_on came ends went silent blocked answers old new piece ended u v m n is next =
     subst (λ b. TakesPiece came ends went silent blocked answers old piece u m (Ok b) new v n) is next
 
+-- a machine has ended if its answer says so
+pub ended_state : {P : Type 0} (ended : Bool) → IsTrue ended ↔ P → (state_of ended ≡ Ended) ↔ P
+ended_state true holds = (λ is. holds.0 refl, λ p. refl)
+ended_state false holds = (λ is. absurd cc, λ p. let is = holds.1 p in absurd cc)
+
 -- what the clauses of an answer say together
 pub answered_so : {T E : Type 0} (r : Result T E) (text : T → List ℕ) (over : T → Bool) (Row : List (List ℕ) → Type 0) (text_of : List (List ℕ) → List ℕ) (Over : Type 0)
     → IfOk r (λ out. (lines : List (List ℕ)) × Row lines) → IfOk r (λ out. (lines : List (List ℕ)) → Row lines → text out ≡ text_of lines) → IfOk r (λ out. IsTrue (over out) ↔ Over)
-    → IfOk r (λ out. ((lines : List (List ℕ)) × Row lines × (text out ≡ text_of lines)) × (IsTrue (over out) ↔ Over))
-answered_so (Ok out) text over Row text_of Over row lines ended = ((row.0, row.1, lines row.0 row.1), ended)
+    → IfOk r (λ out. ((lines : List (List ℕ)) × Row lines × (text out ≡ text_of lines)) × ((state_of (over out) ≡ Ended) ↔ Over))
+answered_so (Ok out) text over Row text_of Over row lines ended = ((row.0, row.1, lines row.0 row.1), ended_state (over out) ended)
 answered_so (Err e) text over Row text_of Over row lines ended = tt

@@ -3,14 +3,14 @@ use Rattle.std.specs.Prelude.{◌≡◌, ◌⊎◌, ◌++◌, ◌∷◌, [], ⊤
 use Rattle.std.specs.Io.KnownBytes.{Appends}
 use Rattle.shogi_session.specs.Hosting.{HostSession}
 use Rattle.shogi_words.specs.declared.serve.Service.{Service}
-use Rattle.session_commands.specs.Faults.{IsReadFault}
+use Rattle.session_setup.specs.Faults.{IsReadFault}
 use Rattle.session_commands.specs.Offering.{HasServed}
 use Rattle.session_commands.specs.Ports.{port_line}
 use Rattle.session_commands.specs.Talks.{Calls, MachineRow, Passes}
-use Rattle.session_commands.specs.declared.fault.ServeFault.{ServeFault}
-use Rattle.session_commands.specs.declared.fault.ServeFault.TheVariants.{Talk}
-use Rattle.session_commands.specs.declared.fault.TalkFault.{TalkFault}
-use Rattle.session_commands.specs.declared.fault.TalkFault.TheVariants.{Write, OutOfMemory}
+use Rattle.session_setup.specs.declared.fault.ServeFault.{ServeFault}
+use Rattle.session_setup.specs.declared.fault.ServeFault.TheVariants.{Talk}
+use Rattle.session_setup.specs.declared.fault.TalkFault.{TalkFault}
+use Rattle.session_setup.specs.declared.fault.TalkFault.TheVariants.{Write, OutOfMemory}
 
 -- the port that was asked for, what listens, and on which port
 abbrev pub Listens : Type 0 → Type 0 → Type 1

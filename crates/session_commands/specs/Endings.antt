@@ -1,30 +1,81 @@
 -- For private functions: what is kept of a session, to say at its end how it ended.
-use Rattle.std.specs.Prelude.{◌≡◌, ◌++◌, ⊤, ℕ, List, [], ◌∷◌, Option, None, Some, Result, Ok, Err, codes, if◌then◌else◌, map, nat_lt, take}
-use Rattle.bridge_table.specs.declared.fault.MoveCause.{MoveCause}
-use Rattle.session_commands.specs.declared.ending.Said.{Said}
-use Rattle.session_commands.specs.declared.ending.Said.TheVariants.{Slip, Ending, Reason, Result as Outcome, Refused}
-use Rattle.session_commands.specs.declared.fault.MatchFault.{MatchFault}
-use Rattle.session_commands.specs.Words.{slip_line}
+use Rattle.std.specs.Prelude.{◌≡◌, ◌≢◌, ◌⊎◌, ◌++◌, ◌||◌, ⊤, ℕ, true, false, List, [], ◌∷◌, Option, None, Some, Result, Ok, Err, codes, if◌then◌else◌, map, nat_lt, take}
+use Rattle.bridge_table.specs.declared.fault.SessionFault.{SessionFault}
+use Rattle.bridge_table.specs.declared.fault.SessionFault.TheVariants.{LoginRefused, Rejected, BadSummary, BadServerMove, EngineGone, ServerGone, LineTooLong}
+use Rattle.session_commands.specs.declared.bridging.Peer.{Peer}
+use Rattle.bridge_table.specs.declared.event.Status.{Status}
+use Rattle.bridge_table.specs.declared.event.Status.TheVariants.{Failed}
+use Rattle.bridge_table.specs.declared.state.ClientState.{ClientState}
+use Rattle.bridge_table.specs.declared.state.ClientState.TheVariants as client
+use Rattle.csa_cutting.specs.Cut.{begins_with}
+use Rattle.session_commands.specs.declared.bridging.Peer.TheVariants.{Engine, Server}
+use Rattle.session_commands.specs.declared.ending.Snapshot.{Snapshot}
+use Rattle.session_commands.specs.declared.ending.EndEvent.{EndEvent}
+use Rattle.session_commands.specs.declared.ending.EndEvent.TheVariants.{Slip, Ending, Reason, Result as Outcome, Refused}
+use Rattle.session_setup.specs.declared.fault.MatchFault.{MatchFault}
+use Rattle.session_setup.specs.declared.fault.MatchFault.TheVariants as match_fault
+use Rattle.session_commands.specs.Words.{gone_line, long_line, slip_line}
 use Rattle.session_lines.specs.Texts.{without_last_spaces}
 
--- a byte as a log quotes it: `?` if it is not ASCII
+-- a byte as a log quotes it: `?` if it is no printable ASCII
 abbrev pub quoted_byte : ℕ → ℕ
-quoted_byte byte = if nat_lt byte 128 then byte else 63
+quoted_byte byte = if nat_lt byte 32 || nat_lt 126 byte then 63 else byte
 
 -- a line as a log quotes it, without spaces at its end
 abbrev pub quoted : List ℕ → List ℕ
 quoted line = map quoted_byte (take 256 (without_last_spaces line))
 
--- the slip, the first reason and the last result, and the move that was refused, if there are any
+-- the slip, the first reason and the last result, the line of the server that failed the session,
+-- and the peer whose line was too long, if there are any
 pub record Ended : Type 0 where
   pub slip : Option (List ℕ)
   pub reason : Option (List ℕ)
   pub outcome : Option (List ℕ)
-  pub refused : Option (List ℕ × MoveCause)
+  pub refused : Option (List ℕ × SessionFault)
+  pub long : Option Peer
+
+-- the game is in play, or its result alone is still to come
+abbrev pub IsBeforeResult : ClientState → Type 0
+IsBeforeResult state =
+    ((state ≡ client.Playing) ⊎ (state ≡ client.Sent)) ⊎ (state ≡ client.Reason)
+
+-- a line that begins with `%` ended a game that was in play
+abbrev pub IsEnding : ClientState → ClientState → List ℕ → Type 0
+IsEnding before after line = ((before ≡ client.Playing) ⊎ (before ≡ client.Sent))
+    × (after ≡ client.Reason) × (begins_with 37 line ≡ true)
+
+-- a line that begins with `#` came before the result, and is none
+abbrev pub IsReason : ClientState → ClientState → List ℕ → Type 0
+IsReason before after line =
+    IsBeforeResult before × (after ≡ client.Reason) × (begins_with 35 line ≡ true)
+
+-- a line that begins with `#` is the result
+abbrev pub IsResult : ClientState → ClientState → List ℕ → Type 0
+IsResult before after line =
+    IsBeforeResult before × (after ≡ client.Closing) × (begins_with 35 line ≡ true)
+
+-- what a line of the server says of the end of a game, if it led a client from one state to another
+pub data SaysInGame (before after : ClientState) (line : List ℕ) : EndEvent → Type 0 where
+  says_ending : IsEnding before after line → SaysInGame before after line Ending
+  says_reason : IsReason before after line → SaysInGame before after line Reason
+  says_result : IsResult before after line → SaysInGame before after line Outcome
+
+-- what a line from a peer says of the end, if it led a bridge from one snapshot to another and to
+-- this status
+pub data SaysOfEnd (before after : Snapshot) (line : List ℕ)
+    : Peer → Status → EndEvent → Type 0 where
+  says_slip : (status : Status) → after.slip ≡ true → before.slip ≡ false
+      → SaysOfEnd before after line Engine status Slip
+  says_fault : (fault : SessionFault)
+      → SaysOfEnd before after line Server (Failed fault) (Refused fault)
+  says_in_game : (status : Status) (event : EndEvent)
+      → ((fault : SessionFault) → status ≢ Failed fault)
+      → SaysInGame before.client after.client line event
+      → SaysOfEnd before after line Server status event
 
 -- nothing was said of the end
 abbrev pub nothing_said : Ended
-nothing_said = record { slip = None; reason = None; outcome = None; refused = None }
+nothing_said = record { slip = None; reason = None; outcome = None; refused = None; long = None }
 
 -- the first of two lines, or else the second
 abbrev pub first_of : Option (List ℕ) → List ℕ → List ℕ
@@ -32,12 +83,25 @@ first_of None line = line
 first_of (Some first) line = first
 
 -- what is kept once a quoted line says this
-abbrev pub kept_with : Said → List ℕ → Ended → Ended
+abbrev pub kept_with : EndEvent → List ℕ → Ended → Ended
 kept_with Slip line ended = record ended { slip = Some line }
 kept_with Ending line ended = ended
 kept_with Reason line ended = record ended { reason = Some (first_of ended.reason line) }
 kept_with Outcome line ended = record ended { outcome = Some line }
-kept_with (Refused cause) line ended = record ended { refused = Some (line, cause) }
+kept_with (Refused fault) line ended = record ended { refused = Some (line, fault) }
+
+-- what is kept after a line from a peer, if it led a bridge from one snapshot to another and to
+-- this status
+pub data IsKeptAfter (before after : Snapshot) (line : List ℕ) (peer : Peer) (status : Status)
+    (old : Ended) : Ended → Type 0 where
+  says_event : (event : EndEvent) → SaysOfEnd before after line peer status event
+      → IsKeptAfter before after line peer status old (kept_with event (quoted line) old)
+  says_nothing : ((event : EndEvent) → SaysOfEnd before after line peer status event → ⊥)
+      → IsKeptAfter before after line peer status old old
+
+-- what is kept once a line of this peer is too long
+abbrev pub with_long : Peer → Ended → Ended
+with_long peer ended = record ended { long = Some peer }
 
 abbrev pub slip_lines : Option (List ℕ) → List ℕ
 slip_lines None = []
@@ -54,18 +118,49 @@ result_lines reason None = []
 result_lines reason (Some line) = result_line reason line
 
 -- a line about a move that was refused
-abbrev pub IsRefusedLine : List ℕ → List ℕ → Type 0
-IsRefusedLine line text = (cause : List ℕ) × (text ≡ codes "B4: " ++ line ++ cause)
+abbrev pub IsRefusedMoveLine : List ℕ → List ℕ → Type 0
+IsRefusedMoveLine line text = (cause : List ℕ) × (text ≡ codes "B4: " ++ line ++ cause)
 
--- the last line of a log: about the move that was refused, or else about the fault; after a session
--- that ended well there is none
-abbrev pub IsLastLine : Option (List ℕ × MoveCause) → Result ⊤ MatchFault → List ℕ → Type 0
-IsLastLine (Some refused) played text = IsRefusedLine refused.0 text
-IsLastLine None (Err fault) text = ⊤
-IsLastLine None (Ok done) text = text ≡ []
+-- the line about a line of the server that failed the session; the last three faults have no such
+-- line
+abbrev pub IsRefusedLine : SessionFault → List ℕ → List ℕ → Type 0
+IsRefusedLine LoginRefused line text = text ≡ codes "B1: the server sent " ++ (line ++ 10 ∷ [])
+IsRefusedLine Rejected line text = text ≡ codes "B2: the server sent " ++ (line ++ 10 ∷ [])
+IsRefusedLine BadSummary line text = text ≡ codes "B3: the server sent " ++ (line ++ 10 ∷ [])
+IsRefusedLine (BadServerMove cause) line text = IsRefusedMoveLine line text
+IsRefusedLine EngineGone line text = ⊤
+IsRefusedLine ServerGone line text = ⊤
+IsRefusedLine LineTooLong line text = ⊤
+
+-- the peer whose end is this fault
+abbrev pub gone_peer : MatchFault → Option Peer
+gone_peer (match_fault.Session EngineGone) = Some Engine
+gone_peer (match_fault.Session ServerGone) = Some Server
+gone_peer (match_fault.Session LoginRefused) = None
+gone_peer (match_fault.Session Rejected) = None
+gone_peer (match_fault.Session BadSummary) = None
+gone_peer (match_fault.Session (BadServerMove cause)) = None
+gone_peer (match_fault.Session LineTooLong) = None
+gone_peer match_fault.Endless = None
+gone_peer match_fault.Write = None
+gone_peer match_fault.OutOfMemory = None
+
+-- the line about a fault that no line of a peer shows
+abbrev pub IsFaultLine : Option Peer → List ℕ → Type 0
+IsFaultLine (Some gone) text = text ≡ gone_line gone ++ 10 ∷ []
+IsFaultLine None text = ⊤
+
+-- the last line of a log: about the server's line that was refused, about the peer whose line was
+-- too long, or else about the fault; after a session that ended well there is none
+abbrev pub IsLastLine : Option (List ℕ × SessionFault) → Option Peer → Result ⊤ MatchFault
+    → List ℕ → Type 0
+IsLastLine (Some refused) long played text = IsRefusedLine refused.1 refused.0 text
+IsLastLine None (Some peer) played text = text ≡ long_line peer ++ 10 ∷ []
+IsLastLine None None (Err fault) text = IsFaultLine (gone_peer fault) text
+IsLastLine None None (Ok done) text = text ≡ []
 
 -- the lines that say how a session ended
 pub record IsEndText (ended : Ended) (played : Result ⊤ MatchFault) (text : List ℕ) : Type 0 where
   pub last : List ℕ
-  pub is_last : IsLastLine ended.refused played last
+  pub is_last : IsLastLine ended.refused ended.long played last
   pub text_is : text ≡ slip_lines ended.slip ++ (result_lines ended.reason ended.outcome ++ last)

@@ -3,9 +3,9 @@ use Rattle.std.specs.Prelude.{◌≡◌, ◌≢◌, ◌⊎◌, ⊤, ℕ, Bool, t
 use Rattle.record_game.specs.Canon.{canon}
 use Rattle.record_game.specs.Game.{Game}
 use Rattle.bridge_table.specs.declared.state.ClientState.TheVariants.{Agreeing}
-use Rattle.session_commands.specs.Faults.{IsFileFault}
-use Rattle.session_commands.specs.declared.fault.MatchFault.{MatchFault}
-use Rattle.session_commands.specs.declared.fault.MatchFault.TheVariants.{OutOfMemory}
+use Rattle.session_setup.specs.Faults.{IsFileFault}
+use Rattle.session_setup.specs.declared.fault.MatchFault.{MatchFault}
+use Rattle.session_setup.specs.declared.fault.MatchFault.TheVariants.{OutOfMemory}
 use Rattle.shogi_session.specs.GameSoFar.{game_of}
 use Rattle.shogi_session.specs.State.{Client, client_state}
 

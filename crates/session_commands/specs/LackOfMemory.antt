@@ -5,9 +5,9 @@ use Rattle.bridge_table.specs.declared.event.Status.TheVariants.{Going, Lost}
 use Rattle.shogi_session.specs.Events.{Event, begin, trimmed}
 use Rattle.shogi_session.specs.Promises.{KeepsGame, SameStates, Session, Steps}
 use Rattle.shogi_session.specs.State.{slip_of, waits_for}
-use Rattle.session_commands.specs.declared.bridging.Seat.{Seat}
-use Rattle.session_commands.specs.declared.bridging.Seat.TheVariants.{Engine, Server}
-use Rattle.session_commands.specs.Plays.{Delivers, Gives, Misses, History, Takes, end_of, seat_for}
+use Rattle.session_commands.specs.declared.bridging.Peer.{Peer}
+use Rattle.session_commands.specs.declared.bridging.Peer.TheVariants.{Engine, Server}
+use Rattle.session_commands.specs.Plays.{Delivers, Gives, Misses, History, Takes, end_of, peer_for}
 
 -- in a step: the bridge is lost, both states stay, and its game is that before the event or with it
 pub record StepRunsOut (s : Session) (event : Event) (t : Session) : Type 0 where
@@ -18,9 +18,9 @@ pub record StepRunsOut (s : Session) (event : Event) (t : Session) : Type 0 wher
   pub slip : slip_of t.state.client ≡ slip_of s.state.client
   pub game : KeepsGame s.config s.state (trimmed event) t.state
 
--- in the step for a seat that did not take its lines
-abbrev pub GoneRunsOut : {E : Type 0} → Takes E → Seat → List ℕ → E → Session → E → Session → Type 0
-GoneRunsOut gone seat lines e s f t = gone e seat lines f × StepRunsOut s (end_of seat) t
+-- in the step for a peer that did not take its lines
+abbrev pub GoneRunsOut : {E : Type 0} → Takes E → Peer → List ℕ → E → Session → E → Session → Type 0
+GoneRunsOut gone peer lines e s f t = gone e peer lines f × StepRunsOut s (end_of peer) t
 
 -- while the lines of a step were sent, those to the engine first
 pub data SendRunsOut {E : Type 0} (went gone : Takes E) (to_engine to_server : List ℕ)
@@ -42,11 +42,11 @@ pub record RoundRunsOut {E : Type 0}
   pub step : Steps s event to_engine to_server stepped session
   pub unsent : SendRunsOut went gone to_engine to_server e session stepped f t
 
--- for what comes next from the seat that the bridge waits for, or in its step
+-- for what comes next from the peer that the bridge waits for, or in its step
 pub data NextRunsOut {E : Type 0}
     (came : Gives E) (missed : Misses E) (e : E) (s : Session) (f : E) (t : Session) : Type 0 where
-  none_came : missed e (seat_for (waits_for s.state)) f → t ≡ s → NextRunsOut came missed e s f t
-  not_stepped : (event : Event) → came e (seat_for (waits_for s.state)) event f
+  none_came : missed e (peer_for (waits_for s.state)) f → t ≡ s → NextRunsOut came missed e s f t
+  not_stepped : (event : Event) → came e (peer_for (waits_for s.state)) event f
       → StepRunsOut s event t → NextRunsOut came missed e s f t
 
 -- in the beginning, or in what comes while the session goes on; or the bridge was lost before
@@ -58,5 +58,5 @@ pub data PlayRunsOut {E : Type 0} (came : Gives E) (missed : Misses E)
   no_next : (g : E) (u : Session) → History came went gone e s g u Going
       → NextRunsOut came missed g u f t → PlayRunsOut came missed went gone e s f t
   later_unsent : (g h : E) (u : Session) (event : Event) → History came went gone e s g u Going
-      → came g (seat_for (waits_for u.state)) event h
+      → came g (peer_for (waits_for u.state)) event h
       → RoundRunsOut went gone event h u f t → PlayRunsOut came missed went gone e s f t

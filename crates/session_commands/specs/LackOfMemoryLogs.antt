@@ -5,7 +5,7 @@ use Rattle.bridge_table.specs.declared.event.Status.{Status}
 use Rattle.shogi_session.specs.Events.{Event, begin}
 use Rattle.shogi_session.specs.Promises.{Session}
 use Rattle.shogi_session.specs.State.{State}
-use Rattle.session_commands.specs.declared.bridging.Seat.TheVariants.{Engine, Server}
+use Rattle.session_commands.specs.declared.bridging.Peer.TheVariants.{Engine, Server}
 use Rattle.session_commands.specs.PlayedLogs.{PlaysLegally, handed, happened, lost_of}
 use Rattle.session_commands.specs.Plays.{Gives, Misses, History, Takes}
 use Rattle.session_commands.specs.LackOfMemory.{PlayRunsOut, SendRunsOut, engine_gone, server_gone, lost_before, not_begun, first_unsent, no_next, later_unsent}

@@ -1,16 +1,12 @@
 pub mod Comments
-pub mod Disk
 pub mod Door
 pub mod Endings
-pub mod Faults
 pub mod Holding
-pub mod Housing
 pub mod Kept
+pub mod Launching
 pub mod LogTexts
 pub mod Logging
-pub mod Logins
 pub mod Offering
-pub mod Paths
 pub mod PlayedLogs
 pub mod Playing
 pub mod Plays

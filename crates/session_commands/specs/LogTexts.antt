@@ -4,12 +4,12 @@ use Rattle.std.specs.Io.KnownBytes.{Appends}
 use Rattle.std.specs.List.{before_first}
 use Rattle.session_lines.specs.LineTexts.{login_front}
 use Rattle.session_commands.specs.Logging.{Entry, Notes, entry_of}
-use Rattle.session_commands.specs.declared.bridging.Seat.{Seat}
-use Rattle.session_commands.specs.declared.bridging.Seat.TheVariants.{Engine, Server}
+use Rattle.session_commands.specs.declared.bridging.Peer.{Peer}
+use Rattle.session_commands.specs.declared.bridging.Peer.TheVariants.{Engine, Server}
 use Rattle.session_commands.specs.declared.log.LogState.{LogState}
 use Rattle.session_commands.specs.declared.log.LogState.TheVariants.{Whole}
-use Rattle.session_commands.specs.declared.log.Way.{Way}
-use Rattle.session_commands.specs.declared.log.Way.TheVariants.{From, To}
+use Rattle.session_commands.specs.declared.log.Direction.{Direction}
+use Rattle.session_commands.specs.declared.log.Direction.TheVariants.{From, To}
 use Rattle.shogi_session.specs.Host.{IsLoginWord}
 
 -- seconds that take less than three digits are moved to the right
@@ -28,8 +28,8 @@ places_text ms = decimal (ms / 100 % 10) ++ (decimal (ms / 10 % 10) ++ decimal (
 abbrev pub time_text : ℕ → List ℕ
 time_text ms = seconds_text (ms / 1000) ++ (codes "." ++ places_text ms)
 
--- the seat, and the way of a line
-abbrev pub sign : Seat → Way → List ℕ
+-- the peer, and the direction of a line
+abbrev pub sign : Peer → Direction → List ℕ
 sign Engine From = codes " engine > "
 sign Engine To = codes " engine < "
 sign Server From = codes " server > "
@@ -50,18 +50,18 @@ pub data HidesPassword (lines shown : List ℕ) : Type 0 where
       → HidesPassword lines shown
 
 -- what is shown of lines
-abbrev pub IsShown : Seat → Way → List ℕ → List ℕ → Type 0
+abbrev pub IsShown : Peer → Direction → List ℕ → List ℕ → Type 0
 IsShown Engine From lines shown = shown ≡ lines
 IsShown Engine To lines shown = shown ≡ lines
 IsShown Server From lines shown = shown ≡ lines
 IsShown Server To lines shown = HidesPassword lines shown
 
--- the text of an entry: each of its lines after a time, the seat and the way
+-- the text of an entry: each of its lines after a time, the peer and the direction
 pub record IsEntryText (entry : Entry) (text : List ℕ) : Type 0 where
   pub time : ℕ
   pub shown : List ℕ
-  pub is_shown : IsShown entry.seat entry.way entry.lines shown
-  pub text_is : text ≡ each_after (time_text time ++ sign entry.seat entry.way) true shown
+  pub is_shown : IsShown entry.peer entry.direction entry.lines shown
+  pub text_is : text ≡ each_after (time_text time ++ sign entry.peer entry.direction) true shown
 
 -- exactly the text of an entry was added, if the bytes are known
 abbrev pub AppendsEntry : Option (List ℕ) → Option (List ℕ) → Entry → Type 0

@@ -3,20 +3,20 @@ use Rattle.std.specs.Prelude.{◌≡◌, ◌++◌, ℕ, List, [], ◌∷◌, Opt
 use Rattle.bridge_table.specs.declared.event.Status.{Status}
 use Rattle.shogi_session.specs.Events.{Event, begin, engine_line, server_line, engine_end, server_end, engine_long, server_long}
 use Rattle.shogi_session.specs.Promises.{Session}
-use Rattle.session_commands.specs.declared.bridging.Seat.{Seat}
-use Rattle.session_commands.specs.declared.bridging.Seat.TheVariants.{Engine, Server}
-use Rattle.session_commands.specs.declared.log.Way.{Way}
-use Rattle.session_commands.specs.declared.log.Way.TheVariants.{From, To}
+use Rattle.session_commands.specs.declared.bridging.Peer.{Peer}
+use Rattle.session_commands.specs.declared.bridging.Peer.TheVariants.{Engine, Server}
+use Rattle.session_commands.specs.declared.log.Direction.{Direction}
+use Rattle.session_commands.specs.declared.log.Direction.TheVariants.{From, To}
 use Rattle.session_commands.specs.Plays.{Delivers, no_lines, taken, lost, Gives, History, begun, goes_on, Round, Takes}
 
--- a line that came from a seat, without its line end; or lines that went to it, with theirs
+-- a line that came from a peer, without its line end; or lines that went to it, with theirs
 pub record Entry : Type 0 where
-  pub seat : Seat
-  pub way : Way
+  pub peer : Peer
+  pub direction : Direction
   pub lines : List ℕ
 
-abbrev pub entry_of : Seat → Way → List ℕ → Entry
-entry_of seat way lines = record { seat = seat; way = way; lines = lines }
+abbrev pub entry_of : Peer → Direction → List ℕ → Entry
+entry_of peer direction lines = record { peer = peer; direction = direction; lines = lines }
 
 -- a log took an entry
 abbrev pub Notes : Type 0 → Type 1
@@ -37,13 +37,13 @@ came_in server_end = []
 came_in engine_long = []
 came_in server_long = []
 
--- the lines that a seat took
-abbrev pub taken_of : {E : Type 0} {went gone : Takes E} (seat : Seat) (lines : List ℕ) {e : E}
+-- the lines that a peer took
+abbrev pub taken_of : {E : Type 0} {went gone : Takes E} (peer : Peer) (lines : List ℕ) {e : E}
     {s : Session} {status : Status} {f : E} {t : Session} {after : Status}
-    → Delivers went gone seat lines e s status f t after → List Entry
-taken_of seat lines (no_lines none same kept) = []
-taken_of seat lines (taken took kept) = entry_of seat To lines ∷ []
-taken_of seat lines (lost to_engine to_server after missed step) = []
+    → Delivers went gone peer lines e s status f t after → List Entry
+taken_of peer lines (no_lines none same kept) = []
+taken_of peer lines (taken took kept) = entry_of peer To lines ∷ []
+taken_of peer lines (lost to_engine to_server after missed step) = []
 
 -- what passed in a round
 abbrev pub passed_in : {E : Type 0} {went gone : Takes E} {event : Event} {e : E} {s : Session}
@@ -59,15 +59,15 @@ passed (begun f t status round) = passed_in round
 passed (goes_on f g h t u event status played arrived round) =
     passed played ++ (came_in event ++ passed_in round)
 
--- what came from a seat is noted
+-- what came from a peer is noted
 abbrev pub CameNoted : {E L : Type 0} → Gives E → Notes L → Gives (E × L)
-CameNoted came notes e seat event f =
-    came e.0 seat event f.0 × NotesAll notes e.1 (came_in event) f.1
+CameNoted came notes e peer event f =
+    came e.0 peer event f.0 × NotesAll notes e.1 (came_in event) f.1
 
--- the lines that a seat took are noted
+-- the lines that a peer took are noted
 abbrev pub WentNoted : {E L : Type 0} → Takes E → Notes L → Takes (E × L)
-WentNoted went notes e seat lines f =
-    went e.0 seat lines f.0 × notes e.1 (entry_of seat To lines) f.1
+WentNoted went notes e peer lines f =
+    went e.0 peer lines f.0 × notes e.1 (entry_of peer To lines) f.1
 
 -- a log that may be missing took an entry
 abbrev pub NotesIfAny : {L : Type 0} → Notes L → Notes (Option L)

@@ -10,19 +10,19 @@ use Rattle.shogi_session.specs.Promises.{Session}
 use Rattle.shogi_session.specs.Sending.{IsAnswered, OwnSent}
 use Rattle.shogi_session.specs.State.{State}
 use Rattle.shogi_session.specs.Texts.{text_of}
-use Rattle.session_commands.specs.declared.bridging.Seat.{Seat}
-use Rattle.session_commands.specs.declared.bridging.Seat.TheVariants.{Engine, Server}
+use Rattle.session_commands.specs.declared.bridging.Peer.{Peer}
+use Rattle.session_commands.specs.declared.bridging.Peer.TheVariants.{Engine, Server}
 use Rattle.session_commands.specs.Plays.{Delivers, no_lines, taken, lost, Gives, History, begun, goes_on, Round, Takes, end_of}
 
--- a seat that did not take its lines is gone
-abbrev pub lost_of : {E : Type 0} {went gone : Takes E} (seat : Seat) {lines : List ℕ} {e : E}
+-- a peer that did not take its lines is gone
+abbrev pub lost_of : {E : Type 0} {went gone : Takes E} (peer : Peer) {lines : List ℕ} {e : E}
     {s : Session} {status : Status} {f : E} {t : Session} {after : Status}
-    → Delivers went gone seat lines e s status f t after → List Event
-lost_of seat (no_lines none same kept) = []
-lost_of seat (taken took kept) = []
-lost_of seat (lost to_engine to_server after missed step) = end_of seat ∷ []
+    → Delivers went gone peer lines e s status f t after → List Event
+lost_of peer (no_lines none same kept) = []
+lost_of peer (taken took kept) = []
+lost_of peer (lost to_engine to_server after missed step) = end_of peer ∷ []
 
--- what happened to the bridge in a round: its event, and which seats were gone
+-- what happened to the bridge in a round: its event, and which peers were gone
 abbrev pub happened_in : {E : Type 0} {went gone : Takes E} (event : Event) {e : E} {s : Session}
     {f : E} {t : Session} {status : Status} → Round went gone event e s f t status → List Event
 happened_in event round =
@@ -35,18 +35,18 @@ happened (begun f t status round) = happened_in begin round
 happened (goes_on f g h t u event status played arrived round) =
     happened played ++ happened_in event round
 
--- the bytes that a round sends a seat
+-- the bytes that a round sends a peer
 abbrev pub sent_to : {E : Type 0} {went gone : Takes E} {event : Event} {e : E} {s : Session}
-    {f : E} {t : Session} {status : Status} → Seat → Round went gone event e s f t status → List ℕ
+    {f : E} {t : Session} {status : Status} → Peer → Round went gone event e s f t status → List ℕ
 sent_to Engine round = round.to_engine
 sent_to Server round = round.to_server
 
--- the bytes that were sent to a seat, in order
+-- the bytes that were sent to a peer, in order
 abbrev pub handed : {E : Type 0} {came : Gives E} {went gone : Takes E} {e : E} {s : Session}
-    {f : E} {t : Session} {status : Status} → Seat → History came went gone e s f t status → List ℕ
-handed seat (begun f t status round) = sent_to seat round
-handed seat (goes_on f g h t u event status played arrived round) =
-    handed seat played ++ sent_to seat round
+    {f : E} {t : Session} {status : Status} → Peer → History came went gone e s f t status → List ℕ
+handed peer (begun f t status round) = sent_to peer round
+handed peer (goes_on f g h t u event status played arrived round) =
+    handed peer played ++ sent_to peer round
 
 -- a log from the first state on: exactly this happened, and these bytes are its lines to the server
 pub record IsLogOf (c : Config)

@@ -1,10 +1,12 @@
 -- For private functions: what `play` does between two ends, and with the game that was played.
-use Rattle.std.specs.Prelude.{◌≡◌, ◌⊎◌, ⊤, ℕ, Bool, false, List, Option, Result, Ok, Err, is_ok}
+use Rattle.std.specs.Prelude.{◌≡◌, ◌⊎◌, ⊤, ℕ, Bool, List, Option, Result, Ok, Err}
 use Rattle.std.specs.Io.KnownBytes.{Appends}
-use Rattle.session_commands.specs.declared.fault.MatchFault.TheVariants.{OutOfMemory, Endless, Write, Session as SessionFailed}
-use Rattle.session_commands.specs.declared.fault.MatchFault.{MatchFault}
-use Rattle.session_commands.specs.declared.login.Login.{Login}
-use Rattle.session_commands.specs.Plays.{Gives, IsEndless, Misses, History, Takes, seat_for}
+use Rattle.session_setup.specs.declared.fault.MatchFault.TheVariants.{OutOfMemory, Endless, Write, Session as SessionFailed}
+use Rattle.session_commands.specs.declared.children.SessionEnd.{SessionEnd}
+use Rattle.session_commands.specs.declared.children.SessionEnd.TheVariants.{BrokenOff, Finished}
+use Rattle.session_setup.specs.declared.fault.MatchFault.{MatchFault}
+use Rattle.session_setup.specs.declared.login.Login.{Login}
+use Rattle.session_commands.specs.Plays.{Gives, IsEndless, Misses, History, Takes, peer_for}
 use Rattle.session_commands.specs.LackOfMemory.{PlayRunsOut}
 use Rattle.bridge_table.specs.declared.event.Status.{Status}
 use Rattle.bridge_table.specs.declared.event.Status.TheVariants.{Done, Failed}
@@ -13,16 +15,16 @@ use Rattle.shogi_session.specs.Events.{Event}
 use Rattle.shogi_session.specs.Promises.{Session, Steps}
 use Rattle.shogi_session.specs.State.{first_state, waits_for}
 use Rattle.session_commands.specs.Endings.{Ended, IsEndText}
-use Rattle.session_commands.specs.Faults.{IsFileFault}
+use Rattle.session_setup.specs.Faults.{IsFileFault}
 use Rattle.session_commands.specs.Kept.{Drops, KeepsRecord, RefusesText, TakesText}
 use Rattle.session_commands.specs.Words.{played_line}
 use Rattle.shogi_words.specs.declared.play.Plan.{Plan}
 
--- what comes from the seat that the bridge waits for is one step
+-- what comes from the peer that the bridge waits for is one step
 pub record ComesNext {E : Type 0} (came : Gives E) (e : E) (s : Session)
     (to_engine to_server : List ℕ) (status : Status) (f : E) (t : Session) : Type 0 where
   pub event : Event
-  pub arrived : came e (seat_for (waits_for s.state)) event f
+  pub arrived : came e (peer_for (waits_for s.state)) event f
   pub step : Steps s event to_engine to_server status t
 
 -- the outcome of a session that took both ends and the bridge from these states to those
@@ -44,13 +46,18 @@ pub data ClosesLog {E : Type 0} (closed : E → List ℕ → E → Type 0) (says
   not_closed : (fault : MatchFault) → IsFileFault fault
       → ClosesLog closed says e f kept (Err fault)
 
--- a session was played to its outcome and its game was kept in what was begun for it; the result
--- says whether it ended well
+-- how a session with this outcome ended
+abbrev pub session_end : Result ⊤ MatchFault → SessionEnd
+session_end (Ok _) = Finished
+session_end (Err _) = BrokenOff
+
+-- a session was played to its outcome and its game was kept in what was begun for it; with how the
+-- session ended, and the number of moves or the fault to report
 pub record PlaysAndKeeps {E P D : Type 0} (came : Gives E) (missed : Misses E)
     (went gone : Takes E) (closed : E → List ℕ → E → Type 0) (took : TakesText P D)
     (refused : RefusesText P D) (dropped : Drops P D) (replaced : D → Bool) (draft : D)
     (e : E) (s : Session) (p : P) (f : E) (t : Session) (q : P)
-    (is_over : Bool) (answer : Result ℕ MatchFault) : Type 0 where
+    (end : SessionEnd) (answer : Result ℕ MatchFault) : Type 0 where
   pub outcome : Result ⊤ MatchFault
   pub between : E
   pub game : Result ℕ MatchFault
@@ -58,7 +65,7 @@ pub record PlaysAndKeeps {E P D : Type 0} (came : Gives E) (missed : Misses E)
   pub kept : KeepsRecord took refused dropped replaced draft t.state.client outcome p q game
   pub ended : Ended
   pub logged : ClosesLog closed (IsEndText ended outcome) between f game answer
-  pub over : is_over ≡ is_ok outcome
+  pub over : end ≡ session_end outcome
 
 -- a bridge to which nothing has happened, as `play` configures it by its plan and its login
 pub record IsFirst (plan : Plan) (login : Login) (s : Session) : Type 0 where
@@ -68,47 +75,48 @@ pub record IsFirst (plan : Plan) (login : Login) (s : Session) : Type 0 where
   pub total : s.config.total_ms ≡ plan.total_ms
   pub byoyomi : s.config.byoyomi_ms ≡ plan.byoyomi_ms
 
--- a game in a house: it opened with these ends and running programs, a session was played between
--- the ends, and it shut again, well or not; or it did not open, and its fault is reported
-pub data PlaysIn {H E P R D : Type 0} (opened : H → Plan → E → R → H → Type 0)
-    (unopened : H → Plan → MatchFault → H → Type 0) (shut : H → E → R → Bool → H → Type 0)
+-- a game in a launcher: it started these programs with these ends, a session was played between the
+-- ends, and it stopped the programs; or it did not start them, and its fault is reported
+pub data PlaysIn {H E P R D : Type 0} (started : H → Plan → E → R → H → Type 0)
+    (unstarted : H → Plan → MatchFault → H → Type 0) (stopped : H → E → R → SessionEnd → H → Type 0)
     (came : Gives E) (missed : Misses E) (went gone : Takes E) (closed : E → List ℕ → E → Type 0)
     (took : TakesText P D) (refused : RefusesText P D) (dropped : Drops P D)
     (replaced : D → Bool) (draft : D)
     (plan : Plan) (login : Login) (h : H) (p : P) (k : H) (q : P)
     : Result ℕ MatchFault → Type 0 where
   played_in : (between : H) (ends over : E) (running : R)
-      (first last : Session) (is_well : Bool) (answer : Result ℕ MatchFault)
-      → opened h plan ends running between → IsFirst plan login first
+      (first last : Session) (end : SessionEnd) (answer : Result ℕ MatchFault)
+      → started h plan ends running between → IsFirst plan login first
       → PlaysAndKeeps came missed went gone closed took refused dropped replaced draft
-      ends first p over last q is_well answer
-      → shut between over running is_well k
-      → PlaysIn opened unopened shut came missed went gone closed took refused dropped replaced
+      ends first p over last q end answer
+      → stopped between over running end k
+      → PlaysIn started unstarted stopped came missed went gone closed took refused dropped replaced
       draft plan login h p k q answer
-  not_opened : (fault : MatchFault) → unopened h plan fault k → dropped p draft q
-      → PlaysIn opened unopened shut came missed went gone closed took refused dropped replaced
+  not_started : (fault : MatchFault) → unstarted h plan fault k → dropped p draft q
+      → PlaysIn started unstarted stopped came missed went gone closed took refused dropped replaced
       draft plan login h p k q (Err fault)
   no_bridge : (between : H) (ends : E) (running : R)
-      → opened h plan ends running between → dropped p draft q → shut between ends running false k
-      → PlaysIn opened unopened shut came missed went gone closed took refused dropped replaced
+      → started h plan ends running between → dropped p draft q
+      → stopped between ends running BrokenOff k
+      → PlaysIn started unstarted stopped came missed went gone closed took refused dropped replaced
       draft plan login h p k q (Err OutOfMemory)
 
--- a record was begun in a place before a game was played for it; or none could be, and no house was
--- opened
-pub data PlaysFor {H E P R D : Type 0} (opened : H → Plan → E → R → H → Type 0)
-    (unopened : H → Plan → MatchFault → H → Type 0) (shut : H → E → R → Bool → H → Type 0)
+-- a record was begun in a place before a game was played for it; or none could be, and nothing was
+-- started
+pub data PlaysFor {H E P R D : Type 0} (started : H → Plan → E → R → H → Type 0)
+    (unstarted : H → Plan → MatchFault → H → Type 0) (stopped : H → E → R → SessionEnd → H → Type 0)
     (came : Gives E) (missed : Misses E) (went gone : Takes E) (closed : E → List ℕ → E → Type 0)
     (begun : P → D → P → Type 0) (unbegun : P → MatchFault → P → Type 0) (took : TakesText P D)
     (refused : RefusesText P D) (dropped : Drops P D) (replaced : D → Bool)
     (plan : Plan) (login : Login) (h : H) (p : P) (k : H) (q : P)
     : Result ℕ MatchFault → Type 0 where
   played_for : (draft : D) (between : P) (answer : Result ℕ MatchFault) → begun p draft between
-      → PlaysIn opened unopened shut came missed went gone closed took refused dropped replaced
+      → PlaysIn started unstarted stopped came missed went gone closed took refused dropped replaced
       draft plan login h between k q answer
-      → PlaysFor opened unopened shut came missed went gone closed begun unbegun took refused
+      → PlaysFor started unstarted stopped came missed went gone closed begun unbegun took refused
       dropped replaced plan login h p k q answer
   not_tried : (fault : MatchFault) → unbegun p fault q → k ≡ h
-      → PlaysFor opened unopened shut came missed went gone closed begun unbegun took refused
+      → PlaysFor started unstarted stopped came missed went gone closed begun unbegun took refused
       dropped replaced plan login h p k q (Err fault)
 
 -- a line was not printed whole, or there was not enough memory for it

@@ -10,23 +10,23 @@ use Rattle.shogi_session.specs.State.{waits_for}
 use Rattle.record_commands.specs.Incoming.{Coming, GivesEnd, GivesLine, GivesLongLine, GivesNoLine}
 use Rattle.record_commands.specs.declared.incoming.LineEvent.{LineEvent}
 use Rattle.record_commands.specs.declared.incoming.LineEvent.TheVariants.{Line, End, Long, Failed}
-use Rattle.session_commands.specs.declared.bridging.Seat.{Seat}
-use Rattle.session_commands.specs.declared.bridging.Seat.TheVariants.{Engine, Server}
+use Rattle.session_commands.specs.declared.bridging.Peer.{Peer}
+use Rattle.session_commands.specs.declared.bridging.Peer.TheVariants.{Engine, Server}
 
--- reading from a seat led from one state of both sides to another
+-- reading from a peer led from one state of both sides to another
 abbrev pub Gives : Type 0 → Type 1
-Gives E = E → Seat → Event → E → Type 0
+Gives E = E → Peer → Event → E → Type 0
 
--- sending these lines to a seat did
+-- sending these lines to a peer did
 abbrev pub Takes : Type 0 → Type 1
-Takes E = E → Seat → List ℕ → E → Type 0
+Takes E = E → Peer → List ℕ → E → Type 0
 
--- an allocation that failed while reading from a seat did
+-- an allocation that failed while reading from a peer did
 abbrev pub Misses : Type 0 → Type 1
-Misses E = E → Seat → E → Type 0
+Misses E = E → Peer → E → Type 0
 
--- what came from a seat, as an event of the bridge
-abbrev pub event_from : Seat → LineEvent → List ℕ → Event
+-- what came from a peer, as an event of the bridge
+abbrev pub event_from : Peer → LineEvent → List ℕ → Event
 event_from Engine Line line = engine_line line
 event_from Engine End line = engine_end
 event_from Engine Long line = engine_long
@@ -45,10 +45,10 @@ abbrev pub ComesEnd : Coming → Coming → Type 0
 ComesEnd old new =
     GivesEnd old.bytes new.bytes ⊎ (GivesNoLine old.bytes new.bytes × (is_some new.stop ≡ true))
 
--- what came from a seat, as an event of the bridge: from the engine only events of the engine, and
+-- what came from a peer, as an event of the bridge: from the engine only events of the engine, and
 -- from the server only its own
-abbrev pub Comes : Seat → Coming → Coming → Event → Type 0
-Comes seat old new begin = ⊥
+abbrev pub Comes : Peer → Coming → Coming → Event → Type 0
+Comes peer old new begin = ⊥
 Comes Engine old new (engine_line line) = ComesLine old new line
 Comes Engine old new (server_line line) = ⊥
 Comes Engine old new engine_end = ComesEnd old new
@@ -62,36 +62,36 @@ Comes Server old new server_end = ComesEnd old new
 Comes Server old new engine_long = ⊥
 Comes Server old new server_long = GivesLongLine old.bytes new.bytes
 
--- of one statement for each seat, the one for this seat
-abbrev pub OfSeat : Seat → Type 0 → Type 0 → Type 0
-OfSeat Engine engine server = engine
-OfSeat Server engine server = server
+-- of one statement for each peer, the one for this peer
+abbrev pub OfPeer : Peer → Type 0 → Type 0 → Type 0
+OfPeer Engine engine server = engine
+OfPeer Server engine server = server
 
--- of one value for each seat, the one for this seat
-abbrev pub by_seat : {A : Type 0} → Seat → A → A → A
-by_seat Engine engine server = engine
-by_seat Server engine server = server
+-- of one value for each peer, the one for this peer
+abbrev pub by_peer : {A : Type 0} → Peer → A → A → A
+by_peer Engine engine server = engine
+by_peer Server engine server = server
 
--- a seat is gone
-abbrev pub end_of : Seat → Event
+-- a peer is gone
+abbrev pub end_of : Peer → Event
 end_of Engine = engine_end
 end_of Server = server_end
 
--- the seat that is read next
-abbrev pub seat_for : Waits → Seat
-seat_for waits.Engine = Engine
-seat_for waits.Server = Server
-seat_for waits.Nobody = Server
+-- the peer that is read next
+abbrev pub peer_for : Waits → Peer
+peer_for waits.Engine = Engine
+peer_for waits.Server = Server
+peer_for waits.Nobody = Server
 
--- the lines for a seat: there are none, or it takes them, or it is gone, which is an event that the
+-- the lines for a peer: there are none, or it takes them, or it is gone, which is an event that the
 -- bridge takes
-pub data Delivers {E : Type 0} (went gone : Takes E) (seat : Seat) (lines : List ℕ)
+pub data Delivers {E : Type 0} (went gone : Takes E) (peer : Peer) (lines : List ℕ)
     (e : E) (s : Session) (status : Status) (f : E) (t : Session) : Status → Type 0 where
-  no_lines : lines ≡ [] → f ≡ e → t ≡ s → Delivers went gone seat lines e s status f t status
-  taken : went e seat lines f → t ≡ s → Delivers went gone seat lines e s status f t status
+  no_lines : lines ≡ [] → f ≡ e → t ≡ s → Delivers went gone peer lines e s status f t status
+  taken : went e peer lines f → t ≡ s → Delivers went gone peer lines e s status f t status
   lost : (to_engine to_server : List ℕ) (after : Status)
-      → gone e seat lines f → Steps s (end_of seat) to_engine to_server after t
-      → Delivers went gone seat lines e s status f t after
+      → gone e peer lines f → Steps s (end_of peer) to_engine to_server after t
+      → Delivers went gone peer lines e s status f t after
 
 -- the lines of a step: those to the engine first
 pub record Sends {E : Type 0} (went gone : Takes E) (to_engine to_server : List ℕ)
@@ -113,14 +113,14 @@ pub record Round {E : Type 0} (went gone : Takes E)
   pub sent : Sends went gone to_engine to_server e session stepped f t status
 
 -- what passed from the first session on: its beginning, and then, while it goes on, what comes from
--- the seat that it waits for, one event for each round
+-- the peer that it waits for, one event for each round
 pub data History {E : Type 0} (came : Gives E) (went gone : Takes E) (e : E) (s : Session)
     : E → Session → Status → Type 0 where
   begun : (f : E) (t : Session) (status : Status)
       → Round went gone begin e s f t status → History came went gone e s f t status
   goes_on : (f g h : E) (t u : Session) (event : Event) (status : Status)
       → History came went gone e s f t Going
-      → came f (seat_for (waits_for t.state)) event g
+      → came f (peer_for (waits_for t.state)) event g
       → Round went gone event g t h u status
       → History came went gone e s h u status
 

@@ -1,15 +1,17 @@
 -- For private functions: a talk that is going on, piece by piece.
-use Rattle.std.specs.Prelude.{◌≡◌, ◌≤◌, ℕ, Bool, true, false, List, [], ◌++◌, length, drop, Option, None, Some, Result, Ok, Err}
+use Rattle.std.specs.Prelude.{◌≡◌, ◌≤◌, ℕ, false, List, [], ◌++◌, length, drop, Option, None, Some, Result, Ok, Err}
 use Rattle.csa_cutting.specs.Lines.{Lines}
 use Rattle.csa_cutting.specs.LineCutting.{LineCutting}
 use Rattle.session_commands.specs.Talks.{BreaksOff, Calls, HasAnswered, IsEnded, MachineRow, Passes, Talked}
-use Rattle.session_commands.specs.declared.fault.TalkFault.{TalkFault}
+use Rattle.session_setup.specs.declared.fault.TalkFault.{TalkFault}
+use Rattle.session_commands.specs.declared.talk.MachineState.{MachineState}
+use Rattle.session_commands.specs.declared.talk.MachineState.TheVariants.{Running, Ended}
 
 -- a line was answered, and its answer was sent
 abbrev pub IsReply : {W M : Type 0}
-    → Passes W → MachineRow M → W → M → List ℕ → Bool → W → M → Type 0
-IsReply {W} {M} went answers u n line ended v m =
-    (text : List ℕ) × answers n line text ended m × went u text v
+    → Passes W → MachineRow M → W → M → List ℕ → MachineState → W → M → Type 0
+IsReply {W} {M} went answers u n line state v m =
+    (text : List ℕ) × answers n line text state m × went u text v
 
 -- a talk that is going on, after this number of pieces: what came is cut, except for what is left,
 -- and the lines so far were answered
@@ -61,21 +63,21 @@ TakesNext came ends went silent blocked answers old piece u n (Err fault) new v 
 
 abbrev pub TakesPiece : {W M : Type 0}
     → Passes W → Calls W → Passes W → Calls W → Passes W → MachineRow M
-    → LineCutting → List ℕ → W → M → Result Bool TalkFault → LineCutting → W → M → Type 0
-TakesPiece came ends went silent blocked answers old piece u n (Ok false) new v m =
+    → LineCutting → List ℕ → W → M → Result MachineState TalkFault → LineCutting → W → M → Type 0
+TakesPiece came ends went silent blocked answers old piece u n (Ok Running) new v m =
     TalkGoesOn came ends went answers old piece u n new [] v m
-TakesPiece came ends went silent blocked answers old piece u n (Ok true) new v m =
+TakesPiece came ends went silent blocked answers old piece u n (Ok Ended) new v m =
     Finishes came ends went answers old piece u n v m
 TakesPiece came ends went silent blocked answers old piece u n (Err fault) new v m =
     Stops came ends went silent blocked answers old piece u n fault v
 
 -- the end came, and the unfinished line was answered
 abbrev pub EndsTalk : {W M : Type 0} → Passes W → Calls W → Passes W → Calls W → Passes W
-    → MachineRow M → LineCutting → W → M → Result Bool TalkFault → W → M → Type 0
-EndsTalk {W} {M} came ends went silent blocked answers old u n (Ok ended) v m =
+    → MachineRow M → LineCutting → W → M → Result MachineState TalkFault → W → M → Type 0
+EndsTalk {W} {M} came ends went silent blocked answers old u n (Ok state) v m =
     (wire : W) (machine : M) (pieces : ℕ) (before : W)
     → Talking came ends went answers wire machine pieces old [] before n → ends before u
-    → HasAnswered came ends went answers wire machine ended v m
+    → HasAnswered came ends went answers wire machine state v m
 EndsTalk {W} {M} came ends went silent blocked answers old u n (Err fault) v m =
     (wire : W) (machine : M) (pieces : ℕ) (before : W)
     → Talking came ends went answers wire machine pieces old [] before n → ends before u

@@ -1,10 +1,12 @@
 -- A machine that answers the lines that come over a wire.
-use Rattle.std.specs.Prelude.{◌≡◌, ℕ, ◌-◌, ◌^◌, ◌≤◌, Bool, true, false, List, [], ◌∷◌, ◌++◌, length, Option}
+use Rattle.std.specs.Prelude.{◌≡◌, ℕ, ◌-◌, ◌^◌, ◌≤◌, Bool, true, false, if◌then◌else◌, List, [], ◌∷◌, ◌++◌, length, Option}
 use Rattle.csa_cutting.specs.Lines.{Lines}
 use Rattle.csa_cutting.specs.LineCutting.{BeginsTooLong}
-use Rattle.session_commands.specs.Faults.{IsReadFault}
-use Rattle.session_commands.specs.declared.fault.TalkFault.{TalkFault}
-use Rattle.session_commands.specs.declared.fault.TalkFault.TheVariants.{LineTooLong, Read, Write, OutOfMemory}
+use Rattle.session_setup.specs.Faults.{IsReadFault}
+use Rattle.session_setup.specs.declared.fault.TalkFault.{TalkFault}
+use Rattle.session_setup.specs.declared.fault.TalkFault.TheVariants.{LineTooLong, Read, Write, OutOfMemory}
+use Rattle.session_commands.specs.declared.talk.MachineState.{MachineState}
+use Rattle.session_commands.specs.declared.talk.MachineState.TheVariants.{Running, Ended}
 
 -- the bytes that a reader will still give, and those that a writer holds, if they are known
 pub record Passing : Type 0 where
@@ -19,9 +21,12 @@ Calls W = W → W → Type 0
 abbrev pub Passes : Type 0 → Type 1
 Passes W = W → List ℕ → W → Type 0
 
+abbrev pub state_of : Bool → MachineState
+state_of ended = if ended then Ended else Running
+
 -- a machine, a line, the bytes of its answer, whether the machine has ended, and its next state
 abbrev pub MachineRow : Type 0 → Type 1
-MachineRow M = M → List ℕ → List ℕ → Bool → M → Type 0
+MachineRow M = M → List ℕ → List ℕ → MachineState → M → Type 0
 
 -- after these lines of the bytes, this one is next, and has ended
 abbrev pub IsNextOf : List ℕ → List (List ℕ) → List ℕ → Type 0
@@ -55,7 +60,7 @@ pub data Talked {W M : Type 0} (came : Passes W) (ends : Calls W) (went : Passes
       (over : Bool) (lines : List (List ℕ)) (v u : W) (m n : M)
       → Talked came ends went answers wire machine bytes over lines v m
       → IsNextOf bytes lines line → length line ≤ 65536
-      → answers m line text false n → went v text u
+      → answers m line text Running n → went v text u
       → Talked came ends went answers wire machine bytes over (lines ++ line ∷ []) u n
 
 -- the next line was answered, which ended the machine, and its answer was sent
@@ -71,7 +76,7 @@ pub record IsEnded {W M : Type 0} (came : Passes W) (ends : Calls W) (went : Pas
   pub next : IsNextOf bytes lines line
   pub short : length line ≤ 65536
   pub text : List ℕ
-  pub answered : answers last line text true m
+  pub answered : answers last line text Ended m
   pub sent : went before text v
 
 -- each line was answered up to the end, and none ended the machine
@@ -84,17 +89,18 @@ pub record IsAnswered {W M : Type 0} (came : Passes W) (ends : Calls W) (went : 
 
 -- the machine has answered each line, or those up to the one that ended it
 abbrev pub HasAnswered : {W M : Type 0}
-    → Passes W → Calls W → Passes W → MachineRow M → W → M → Bool → W → M → Type 0
-HasAnswered came ends went answers wire machine true v m =
+    → Passes W → Calls W → Passes W → MachineRow M → W → M → MachineState → W → M → Type 0
+HasAnswered came ends went answers wire machine Ended v m =
     IsEnded came ends went answers wire machine v m
-HasAnswered came ends went answers wire machine false v m =
+HasAnswered came ends went answers wire machine Running v m =
     IsAnswered came ends went answers wire machine v m
 
 -- a line has no answer, as memory ran out, or its answer was not sent
 pub data IsUnsent {W M : Type 0} (blocked : Passes W)
     (answers : MachineRow M) (u : W) (n : M) (line : List ℕ) (v : W) : TalkFault → Type 0 where
   no_answer : v ≡ u → IsUnsent blocked answers u n line v OutOfMemory
-  not_sent : (text : List ℕ) (ended : Bool) (m : M) → answers n line text ended m → blocked u text v
+  not_sent : (text : List ℕ) (state : MachineState) (m : M)
+      → answers n line text state m → blocked u text v
       → IsUnsent blocked answers u n line v Write
 
 -- why a talk went no further than this wire and machine, and the wire after it

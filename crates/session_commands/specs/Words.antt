@@ -1,15 +1,32 @@
 -- For private functions: the words that the commands print.
-use Rattle.std.specs.Prelude.{ℕ, List, [], ◌∷◌, ◌++◌, Option, None, Some, codes, decimal}
+use Rattle.std.specs.Prelude.{◌≡◌, ◌⊎◌, ℕ, List, [], ◌∷◌, ◌++◌, Option, None, Some, codes, decimal}
+use Rattle.session_commands.specs.declared.bridging.Peer.{Peer}
+use Rattle.session_commands.specs.declared.bridging.Peer.TheVariants.{Engine, Server}
 
 -- the line about an answer of the engine that is no legal move
 abbrev pub slip_line : List ℕ → List ℕ
 slip_line line =
     codes "slip: " ++ (line ++ (codes " is no legal move of this game" ++ 10 ∷ []))
 
+-- what is said about a line of this peer that is too long
+abbrev pub long_line : Peer → List ℕ
+long_line Engine = codes "B7: the engine wrote a line of more than 65536 bytes"
+long_line Server = codes "B7: the server sent a line of more than 65536 bytes"
+
+-- what is said about this peer if its end failed the session
+abbrev pub gone_line : Peer → List ℕ
+gone_line Engine = codes "B5: the engine ended"
+gone_line Server = codes "B6: the connection to the server ended"
+
 -- the line with a reason, if there is one
 abbrev pub reason_line : Option (List ℕ) → List ℕ
 reason_line None = []
 reason_line (Some reason) = reason ++ 10 ∷ []
+
+-- there is no line, or it gives a reason for this name
+abbrev pub IsReasonLine : List ℕ → List ℕ → Type 0
+IsReasonLine name text = (text ≡ [])
+    ⊎ ((words : List ℕ) × (text ≡ 32 ∷ 32 ∷ (name ++ (codes ": " ++ (words ++ 10 ∷ [])))))
 
 -- the line of `play`: the number of moves
 abbrev pub played_line : ℕ → List ℕ

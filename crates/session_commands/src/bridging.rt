@@ -3,32 +3,32 @@
 ghost use Rattle.std.specs.Prelude.{◌≡◌, ◌↔◌, IsErrOf, IsTrue, IfErr, IfOk, OnOk, OnErr};
 ghost use Rattle.csa_cutting.specs.Lines.{HasNoLineEnd};
 ghost use Rattle.session_commands.specs.Playing.{ComesNext};
-ghost use Rattle.session_commands.specs.Plays.{Delivers, IsEndless, History, Sends, end_of, event_from, seat_for};
+ghost use Rattle.session_commands.specs.Plays.{Delivers, IsEndless, History, Sends, end_of, event_from, peer_for};
 ghost use Rattle.session_commands.specs.Holding.{TookAll};
 ghost use Rattle.session_commands.specs.PlayedLogs.{PlaysLegally, handed, happened};
 ghost use Rattle.session_commands.specs.LackOfMemoryLogs.{SentLegally, sent_before};
 ghost use Rattle.session_commands.specs.LackOfMemory.{GoneRunsOut, NextRunsOut, PlayRunsOut, SendRunsOut};
 ghost use Rattle.std.specs.Io.KnownBytes.{Appends};
-ghost use Rattle.session_commands.specs.declared.bridging.Seat.{Seat};
-ghost use Rattle.session_commands.specs.declared.fault.MatchFault.{MatchFault};
+ghost use Rattle.session_commands.specs.declared.bridging.Peer.{Peer};
+ghost use Rattle.session_setup.specs.declared.fault.MatchFault.{MatchFault};
 ghost use Rattle.bridge_table.specs.declared.event.Status.{Status};
 ghost use Rattle.shogi_session.specs.Promises.{HoldsLine, Session, event_of};
 ghost use Rattle.shogi_session.specs.State.{first_state, waits_for};
 ghost use Rattle.bridge_table.specs.declared.event.Status.TheVariants.{Done, Failed};
 
-use crate::ending::Moment;
-use crate::fault::MatchFault;
+use crate::ending::Snapshot;
 use crate::laws::{played_moves_are_legal, sent_lines_are_held};
 use crate::progress::Progress;
 use record_commands::incoming::{Incoming, LineEvent};
 use record_commands::{WriteFault, streams};
+use session_setup::MatchFault;
 use shogi_board::OutOfMemory;
 use shogi_session::{Bridge, Event, Out, SessionFault, Status, Waits};
 use std::io::{Eprint, Read, Write};
 
 /// One of the two peers of a bridge.
 #[derive(Clone, Copy, Debug, PartialEq, Eq)]
-pub enum Seat {
+pub enum Peer {
     /// The engine.
     Engine,
     /// The server.
@@ -38,48 +38,48 @@ pub enum Seat {
 /// Where the lines of a bridge's engine and server come from, and where the bridge's lines go.
 pub trait Ends {
     ghost use Rattle.std.specs.Prelude.{ℕ, List, Option};
-    ghost use Rattle.session_commands.specs.Faults.{IsFileFault};
+    ghost use Rattle.session_setup.specs.Faults.{IsFileFault};
     ghost use Rattle.session_commands.specs.Holding.{KeepsBoth, KeepsOther, TakesLines};
-    ghost use Rattle.session_commands.specs.declared.bridging.Seat.{Seat};
+    ghost use Rattle.session_commands.specs.declared.bridging.Peer.{Peer};
     ghost use Rattle.shogi_session.specs.Events.{Event as Taken};
 
-    // The last line from that seat.
-    ghost last_line: { Self → Seat → List ℕ };
+    // The last line from that peer.
+    ghost last_line: { Self → Peer → List ℕ };
 
-    // What the writer for that seat holds, if it is known.
-    ghost held: { Self → Seat → Option (List ℕ) };
+    // What the writer for that peer holds, if it is known.
+    ghost held: { Self → Peer → Option (List ℕ) };
 
-    // This event came from that seat.
-    ghost came: { Self → Seat → Taken → Self → Type 0 };
+    // This event came from that peer.
+    ghost came: { Self → Peer → Taken → Self → Type 0 };
 
-    // An allocation failed for what came from that seat.
-    ghost missed: { Self → Seat → Self → Type 0 };
+    // An allocation failed for what came from that peer.
+    ghost missed: { Self → Peer → Self → Type 0 };
 
-    // The seat took these lines.
-    ghost went: { Self → Seat → List ℕ → Self → Type 0 };
+    // The peer took these lines.
+    ghost went: { Self → Peer → List ℕ → Self → Type 0 };
 
-    // The seat did not take these lines, or only some of them.
-    ghost gone: { Self → Seat → List ℕ → Self → Type 0 };
+    // The peer did not take these lines, or only some of them.
+    ghost gone: { Self → Peer → List ℕ → Self → Type 0 };
 
-    /// Reads what comes next from that seat. A line is then in `line`.
+    /// Reads what comes next from that peer. A line is then in `line`.
     ///
     /// Returns `OutOfMemory` if an allocation fails.
-    fn receive(&mut self, seat: Seat) -> Result<LineEvent, OutOfMemory>
-        ensures came { IfOk result (λ what. came self.old seat
-            (event_from seat what (last_line self.new seat)) self.new) }
+    fn receive(&mut self, peer: Peer) -> Result<LineEvent, OutOfMemory>
+        ensures came { IfOk result (λ what. came self.old peer
+            (event_from peer what (last_line self.new peer)) self.new) }
         ensures line { IfOk result (λ what. what ≡ LineEvent.Line
-            → HasNoLineEnd (last_line self.new seat)) }
-        ensures missed { OnErr result (missed self.old seat self.new) };
+            → HasNoLineEnd (last_line self.new peer)) }
+        ensures missed { OnErr result (missed self.old peer self.new) };
 
-    /// The last line from that seat, without its line end.
-    fn line(&self, seat: Seat) -> &[u8]
-        ensures value { result.now ≡ last_line self.now seat };
+    /// The last line from that peer, without its line end.
+    fn line(&self, peer: Peer) -> &[u8]
+        ensures value { result.now ≡ last_line self.now peer };
 
-    /// Sends the seat these lines, with their line ends. Refuses `WriteFault` if it did not take
+    /// Sends the peer these lines, with their line ends. Refuses `WriteFault` if it did not take
     /// them all.
-    fn send(&mut self, seat: Seat, lines: &[u8]) -> Result<(), WriteFault>
-        ensures went { OnOk result (went self.old seat lines.now self.new) }
-        ensures gone { OnErr result (gone self.old seat lines.now self.new) };
+    fn send(&mut self, peer: Peer, lines: &[u8]) -> Result<(), WriteFault>
+        ensures went { OnOk result (went self.old peer lines.now self.new) }
+        ensures gone { OnErr result (gone self.old peer lines.now self.new) };
 
     // This was said of the session, and all that passed was logged, if there is a log.
     ghost closed: { Self → List ℕ → Self → Type 0 };
@@ -90,8 +90,8 @@ pub trait Ends {
         ensures closed { OnOk result (closed self.old text.now self.new) }
         ensures faults { IfErr result IsFileFault };
 
-    // A writer holds the lines that its seat takes, and nothing else is added to it, unless the
-    // seat does not take its lines.
+    // A writer holds the lines that its peer takes, and nothing else is added to it, unless the
+    // peer does not take its lines.
     ghost takes_lines: { TakesLines held went };
 
     ghost went_keeps: { KeepsOther held went };
@@ -100,7 +100,7 @@ pub trait Ends {
 
     ghost came_keeps: { KeepsBoth held came };
 
-    ghost missed_keeps: { KeepsBoth held (λ e seat _ f. missed e seat f) };
+    ghost missed_keeps: { KeepsBoth held (λ e peer _ f. missed e peer f) };
 }
 
 /// The streams of a bridge's engine or server.
@@ -127,56 +127,56 @@ impl<ER: Read + Drop, EW: Write + Drop, SR: Read + Drop, SW: Write + Drop> Ends
     for Sides<ER, EW, SR, SW> {
     ghost use Rattle.std.specs.Io.KnownBytes.{Appends};
     ghost use Rattle.session_commands.specs.SideLaws.{last_of_three, last_of_two, last_two_of_three, other_side, side_read, side_takes};
-    ghost use Rattle.session_commands.specs.Plays.{Comes, OfSeat, by_seat};
-    ghost use Rattle.session_commands.specs.declared.bridging.Seat.TheVariants.{Engine, Server};
+    ghost use Rattle.session_commands.specs.Plays.{Comes, OfPeer, by_peer};
+    ghost use Rattle.session_commands.specs.declared.bridging.Peer.TheVariants.{Engine, Server};
     ghost use Rattle.std.specs.Prelude.{◌≡◌};
 
-    ghost last_line = { λ s seat. by_seat seat s.engine.lines.line s.server.lines.line };
+    ghost last_line = { λ s peer. by_peer peer s.engine.lines.line s.server.lines.line };
 
-    ghost held = { λ s seat. by_seat seat (EW.contents s.engine.writer)
+    ghost held = { λ s peer. by_peer peer (EW.contents s.engine.writer)
         (SW.contents s.server.writer) };
 
-    ghost came = { λ s seat event t. OfSeat seat
+    ghost came = { λ s peer event t. OfPeer peer
         (Comes Engine s.engine.lines t.engine.lines event
         × (t.engine.writer ≡ s.engine.writer) × (t.server ≡ s.server))
         (Comes Server s.server.lines t.server.lines event
         × (t.server.writer ≡ s.server.writer) × (t.engine ≡ s.engine)) };
 
-    ghost missed = { λ s seat t. OfSeat seat
+    ghost missed = { λ s peer t. OfPeer peer
         ((t.engine.writer ≡ s.engine.writer) × (t.server ≡ s.server))
         ((t.server.writer ≡ s.server.writer) × (t.engine ≡ s.engine)) };
 
-    ghost went = { λ s seat lines t. OfSeat seat
+    ghost went = { λ s peer lines t. OfPeer peer
         (Appends (EW.contents s.engine.writer) (EW.contents t.engine.writer) lines
         × (t.engine.lines ≡ s.engine.lines) × (t.server ≡ s.server))
         (Appends (SW.contents s.server.writer) (SW.contents t.server.writer) lines
         × (t.server.lines ≡ s.server.lines) × (t.engine ≡ s.engine)) };
 
-    ghost gone = { λ s seat lines t. OfSeat seat
+    ghost gone = { λ s peer lines t. OfPeer peer
         ((t.engine.lines ≡ s.engine.lines) × (t.server ≡ s.server))
         ((t.server.lines ≡ s.server.lines) × (t.engine ≡ s.engine)) };
 
     // There is no log.
     ghost closed = { λ s text t. t ≡ s };
 
-    fn receive(&mut self, seat: Seat) -> Result<LineEvent, OutOfMemory> {
-        match seat {
-            Seat::Engine => self.engine.lines.read_line(),
-            Seat::Server => self.server.lines.read_line(),
+    fn receive(&mut self, peer: Peer) -> Result<LineEvent, OutOfMemory> {
+        match peer {
+            Peer::Engine => self.engine.lines.read_line(),
+            Peer::Server => self.server.lines.read_line(),
         }
     }
 
-    fn line(&self, seat: Seat) -> &[u8] {
-        match seat {
-            Seat::Engine => self.engine.lines.line(),
-            Seat::Server => self.server.lines.line(),
+    fn line(&self, peer: Peer) -> &[u8] {
+        match peer {
+            Peer::Engine => self.engine.lines.line(),
+            Peer::Server => self.server.lines.line(),
         }
     }
 
-    fn send(&mut self, seat: Seat, lines: &[u8]) -> Result<(), WriteFault> {
-        match seat {
-            Seat::Engine => streams::write_all(&mut self.engine.writer, lines),
-            Seat::Server => streams::write_all(&mut self.server.writer, lines),
+    fn send(&mut self, peer: Peer, lines: &[u8]) -> Result<(), WriteFault> {
+        match peer {
+            Peer::Engine => streams::write_all(&mut self.engine.writer, lines),
+            Peer::Server => streams::write_all(&mut self.server.writer, lines),
         }
     }
 
@@ -184,38 +184,38 @@ impl<ER: Read + Drop, EW: Write + Drop, SR: Read + Drop, SW: Write + Drop> Ends
         Ok(())
     }
 
-    ghost takes_lines = { λ s t seat lines. side_takes
+    ghost takes_lines = { λ s t peer lines. side_takes
         (t.engine.lines ≡ s.engine.lines) (t.server ≡ s.server)
         (t.server.lines ≡ s.server.lines) (t.engine ≡ s.engine)
         (EW.contents s.engine.writer) (EW.contents t.engine.writer)
-        (SW.contents s.server.writer) (SW.contents t.server.writer) lines seat };
+        (SW.contents s.server.writer) (SW.contents t.server.writer) lines peer };
 
-    ghost went_keeps = { λ s t seat other lines went. other_side
+    ghost went_keeps = { λ s t peer other lines went. other_side
         s.engine t.engine s.server t.server
-        (λ side. EW.contents side.writer) (λ side. SW.contents side.writer) seat other
+        (λ side. EW.contents side.writer) (λ side. SW.contents side.writer) peer other
         (last_of_three
         (Appends (EW.contents s.engine.writer) (EW.contents t.engine.writer) lines)
         (t.engine.lines ≡ s.engine.lines) (t.server ≡ s.server)
         (Appends (SW.contents s.server.writer) (SW.contents t.server.writer) lines)
-        (t.server.lines ≡ s.server.lines) (t.engine ≡ s.engine) seat went) };
+        (t.server.lines ≡ s.server.lines) (t.engine ≡ s.engine) peer went) };
 
-    ghost gone_keeps = { λ s t seat other lines gone. other_side
+    ghost gone_keeps = { λ s t peer other lines gone. other_side
         s.engine t.engine s.server t.server
-        (λ side. EW.contents side.writer) (λ side. SW.contents side.writer) seat other
+        (λ side. EW.contents side.writer) (λ side. SW.contents side.writer) peer other
         (last_of_two (t.engine.lines ≡ s.engine.lines) (t.server ≡ s.server)
-        (t.server.lines ≡ s.server.lines) (t.engine ≡ s.engine) seat gone) };
+        (t.server.lines ≡ s.server.lines) (t.engine ≡ s.engine) peer gone) };
 
-    ghost came_keeps = { λ s t seat other event came. side_read
+    ghost came_keeps = { λ s t peer other event came. side_read
         s.engine t.engine s.server t.server (λ side. side.writer) (λ side. side.writer)
-        EW.contents SW.contents seat other
+        EW.contents SW.contents peer other
         (last_two_of_three (Comes Engine s.engine.lines t.engine.lines event)
         (t.engine.writer ≡ s.engine.writer) (t.server ≡ s.server)
         (Comes Server s.server.lines t.server.lines event)
-        (t.server.writer ≡ s.server.writer) (t.engine ≡ s.engine) seat came) };
+        (t.server.writer ≡ s.server.writer) (t.engine ≡ s.engine) peer came) };
 
-    ghost missed_keeps = { λ s t seat other event missed. side_read
+    ghost missed_keeps = { λ s t peer other event missed. side_read
         s.engine t.engine s.server t.server (λ side. side.writer) (λ side. side.writer)
-        EW.contents SW.contents seat other missed };
+        EW.contents SW.contents peer other missed };
 }
 
 /// Plays a session. The bridge takes each line of the side that it waits for, and its answer is
@@ -239,15 +239,15 @@ pub fn play<R: Eprint + AllocGlobal, E: Ends>(
     ensures legal { (f : E) (t : Session) (status : Status)
         (played : History E.came E.went E.gone ends.old bridge.old f t status)
         → bridge.old.state ≡ first_state
-        → PlaysLegally bridge.old.config (happened played) (handed Seat.Server played) t.state }
+        → PlaysLegally bridge.old.config (happened played) (handed Peer.Server played) t.state }
     ensures legal_out_of_memory { (f : E) (t : Session)
         (lack : PlayRunsOut E.came E.missed E.went E.gone ends.old bridge.old f t)
         → bridge.old.state ≡ first_state
         → SentLegally bridge.old.config (sent_before bridge.old t lack) }
-    ensures held { (seat : Seat) (f : E) (t : Session) (status : Status)
+    ensures held { (peer : Peer) (f : E) (t : Session) (status : Status)
         (played : History E.came E.went E.gone ends.old bridge.old f t status)
-        → TookAll seat played
-        → Appends (E.held ends.old seat) (E.held f seat) (handed seat played) }
+        → TookAll peer played
+        → Appends (E.held ends.old peer) (E.held f peer) (handed peer played) }
     ensures unwritten { IsErrOf result MatchFault.Write → ⊥ }
     ensures endless { IsErrOf result MatchFault.Endless
         → IsEndless E.came E.went E.gone ends.old bridge.old }
@@ -278,46 +278,46 @@ fn send<E: Ends>(bridge: &mut Bridge, ends: &mut E, out: &Out) -> Result<Status,
     let status = deliver(
         bridge,
         ends,
-        Seat::Engine,
+        Peer::Engine,
         out.to_engine.bytes(),
         out.status,
     )?;
-    deliver(bridge, ends, Seat::Server, out.to_server.bytes(), status)
+    deliver(bridge, ends, Peer::Server, out.to_server.bytes(), status)
 }
 
-// Sends the seat the lines for it, if there are any. Returns the session's status after that. A
-// seat that does not take them is gone.
+// Sends the peer the lines for it, if there are any. Returns the session's status after that. A
+// peer that does not take them is gone.
 fn deliver<E: Ends>(
     bridge: &mut Bridge,
     ends: &mut E,
-    seat: Seat,
+    peer: Peer,
     lines: &[u8],
     status: Status,
 ) -> Result<Status, OutOfMemory>
     ensures delivered { IfOk result (λ after. Delivers
-        E.went E.gone seat lines.now ends.old bridge.old status ends.new bridge.new after) }
+        E.went E.gone peer lines.now ends.old bridge.old status ends.new bridge.new after) }
     ensures out_of_memory { OnErr result
-        (GoneRunsOut E.gone seat lines.now ends.old bridge.old ends.new bridge.new) }
+        (GoneRunsOut E.gone peer lines.now ends.old bridge.old ends.new bridge.new) }
 {
     if lines.is_empty() {
         return Ok(status);
     }
-    match ends.send(seat, lines) {
+    match ends.send(peer, lines) {
         Ok(()) => Ok(status),
-        Err(WriteFault) => Ok(bridge.step(end_event(seat))?.status),
+        Err(WriteFault) => Ok(bridge.step(end_event(peer))?.status),
     }
 }
 
-fn end_event(seat: Seat) -> Event<'static>
-    ensures { event_of result ≡ end_of seat }
+fn end_event(peer: Peer) -> Event<'static>
+    ensures { event_of result ≡ end_of peer }
 {
-    match seat {
-        Seat::Engine => Event::EngineEnd,
-        Seat::Server => Event::ServerEnd,
+    match peer {
+        Peer::Engine => Event::EngineEnd,
+        Peer::Server => Event::ServerEnd,
     }
 }
 
-// The step for what comes next from the seat that the bridge waits for.
+// The step for what comes next from the peer that the bridge waits for.
 fn step_next<R: Eprint + AllocGlobal, E: Ends>(
     rt: &R,
     bridge: &mut Bridge,
@@ -329,53 +329,56 @@ fn step_next<R: Eprint + AllocGlobal, E: Ends>(
     ensures out_of_memory { OnErr result
         (NextRunsOut E.came E.missed ends.old bridge.old ends.new bridge.new) }
 {
-    let seat = seat_of(bridge.waits_for());
-    let read = ends.receive(seat)?;
-    let line = ends.line(seat);
+    let peer = peer_of(bridge.waits_for());
+    let read = ends.receive(peer)?;
+    let line = ends.line(peer);
     let was_on = progress.is_on(bridge);
-    let before = Moment::of(bridge);
-    let out = bridge.step(event(seat, read, line))?;
-    if was_on && is_shown(seat, read, out.status) {
+    let before = Snapshot::of(bridge);
+    let out = bridge.step(event(peer, read, line))?;
+    if was_on && is_shown(peer, read, out.status) {
         progress.show(rt, bridge, line);
     }
     if read == LineEvent::Line {
-        progress.watch(rt, before, Moment::of(bridge), seat, line, out.status);
+        progress.watch(rt, before, Snapshot::of(bridge), peer, line, out.status);
+    }
+    if read == LineEvent::Long {
+        progress.watch_long(rt, peer);
     }
     Ok(out)
 }
 
-fn seat_of(waits: Waits) -> Seat
-    ensures { result ≡ seat_for waits }
+fn peer_of(waits: Waits) -> Peer
+    ensures { result ≡ peer_for waits }
 {
     match waits {
-        Waits::Engine => Seat::Engine,
-        Waits::Server | Waits::Nobody => Seat::Server,
+        Waits::Engine => Peer::Engine,
+        Waits::Server | Waits::Nobody => Peer::Server,
     }
 }
 
-// What came from the seat, as an event.
-fn event(seat: Seat, read: LineEvent, line: &[u8]) -> Event<'_>
+// What came from the peer, as an event.
+fn event(peer: Peer, read: LineEvent, line: &[u8]) -> Event<'_>
     requires { read ≡ LineEvent.Line → HasNoLineEnd line.now }
-    ensures event { event_of result ≡ event_from seat read line.now }
+    ensures event { event_of result ≡ event_from peer read line.now }
     ensures line { HoldsLine (event_of result) }
 {
-    match (seat, read) {
-        (Seat::Engine, LineEvent::Line) => Event::EngineLine(line),
-        (Seat::Engine, LineEvent::End | LineEvent::Failed) => Event::EngineEnd,
-        (Seat::Engine, LineEvent::Long) => Event::EngineLong,
-        (Seat::Server, LineEvent::Line) => Event::ServerLine(line),
-        (Seat::Server, LineEvent::End | LineEvent::Failed) => Event::ServerEnd,
-        (Seat::Server, LineEvent::Long) => Event::ServerLong,
+    match (peer, read) {
+        (Peer::Engine, LineEvent::Line) => Event::EngineLine(line),
+        (Peer::Engine, LineEvent::End | LineEvent::Failed) => Event::EngineEnd,
+        (Peer::Engine, LineEvent::Long) => Event::EngineLong,
+        (Peer::Server, LineEvent::Line) => Event::ServerLine(line),
+        (Peer::Server, LineEvent::End | LineEvent::Failed) => Event::ServerEnd,
+        (Peer::Server, LineEvent::Long) => Event::ServerLong,
     }
 }
 
 // Whether what came may be a move that the bridge accepted.
-fn is_shown(seat: Seat, read: LineEvent, status: Status) -> bool
-    ensures { IsTrue result ↔ (seat ≡ Seat.Server)
+fn is_shown(peer: Peer, read: LineEvent, status: Status) -> bool
+    ensures { IsTrue result ↔ (peer ≡ Peer.Server)
         × (read ≡ LineEvent.Line) × (status ≡ Status.Going) }
 {
-    match (seat, read, status) {
-        (Seat::Server, LineEvent::Line, Status::Going) => true,
+    match (peer, read, status) {
+        (Peer::Server, LineEvent::Line, Status::Going) => true,
         _ => false,
     }
 }

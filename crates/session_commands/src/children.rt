@@ -2,17 +2,16 @@
 
 ghost use Rattle.std.specs.Prelude.{◌≡◌, ◌⊎◌, IfErr, IfOk, OnErr, is_some, string_bytes, true};
 ghost use Rattle.std.specs.Process.{child_status, command_args, command_program};
-ghost use Rattle.session_commands.specs.Faults.{IsEngineFault, IsFileFault};
-ghost use Rattle.session_commands.specs.Housing.{engine_words, local_address, serve_words};
+ghost use Rattle.session_setup.specs.Faults.{IsEngineFault, IsFileFault};
+ghost use Rattle.session_commands.specs.Launching.{engine_words, local_address, serve_words};
 
 use crate::bridging::Side;
-use crate::fault::{MatchFault, memory_or};
-use crate::groups::{self, Member, Reach};
 use crate::log::{Log, TextLog};
 use crate::log_output::{LogWriter, StandardError, Stopwatch};
-use crate::login;
-use crate::paths::BESIDE;
 use record_commands::incoming::Incoming;
+use session_setup::groups::{self, Member, Reach};
+use session_setup::paths::{ENGINE_ERRORS, SERVER_ERRORS};
+use session_setup::{MatchFault, login, memory_or};
 use shogi_session::SessionFault;
 use std::alloc::{AllocError, Global};
 use std::fs::{self, File};
@@ -31,15 +30,25 @@ pub const ENGINE_GONE: MatchFault = MatchFault::Session(SessionFault::EngineGone
 
 // How many times to check whether a child has ended; with the rest between checks, ten seconds in
 // all.
-const LOOKS: u32 = 1000;
+const CHECKS: u32 = 1000;
 
 const REST_MS: u64 = 10;
+
+/// How the session ended for which programs were started.
+#[derive(Clone, Copy, Debug, PartialEq, Eq)]
+pub enum SessionEnd {
+    /// The bridge has finished its game.
+    Finished,
+    /// A fault broke it off, or it never began.
+    BrokenOff,
+}
 
 /// What makes the log of a game, starts and ends its programs, and connects to servers.
 pub trait Programs {
     ghost use Rattle.std.specs.Prelude.{◌≡◌, ℕ, Bool, List, Option, None, option_map};
     ghost use Rattle.record_commands.specs.Incoming.{Coming};
-    ghost use Rattle.session_commands.specs.Faults.{IsEngineFault, IsFileFault, IsServerFault};
+    ghost use Rattle.session_setup.specs.Faults.{IsEngineFault, IsFileFault, IsServerFault};
+    ghost use Rattle.session_commands.specs.declared.children.SessionEnd.{SessionEnd as End};
 
     /// The log of a game.
     type Log: Log + Drop;
@@ -59,14 +68,17 @@ pub trait Programs {
     /// What is written to a connection.
     type Writer: Write + Drop;
 
-    // If there is a name, this log was made for it, and a file beside it for what the engine says
-    // on its standard error.
-    ghost logs: { Self → Option (List ℕ) → Option Self.Log → Self → Type 0 };
+    // If there is a name, this log was made for it, and files beside it for what the engine says on
+    // its standard error, and what the server says there if one is to be started.
+    ghost logs: { Self → Option (List ℕ) → Bool → Option Self.Log → Self → Type 0 };
 
-    ghost logs_not: { Self → Option (List ℕ) → Self → Type 0 };
+    ghost logs_not: { Self → Option (List ℕ) → Bool → Self → Type 0 };
 
-    // Why the last program was not started, or the last address took no connection.
+    // Why there is no game, if anything is known of it.
     ghost reason: { Self → Option (List ℕ) };
+
+    // This was kept as the reason, if there was enough memory.
+    ghost explained: { Self → List ℕ → Self → Type 0 };
 
     // A server was started, this program with these words. These lines come from its output.
     ghost serves: { Self → List ℕ → List (List ℕ) → Self.Child → Coming → Self → Type 0 };
@@ -87,22 +99,33 @@ pub trait Programs {
     ghost connects_not: { Self → List ℕ → Self → Type 0 };
 
     // The child was ended. If it was given time, it may have ended by itself.
-    ghost ended: { Self → Self.Child → Bool → Self → Type 0 };
+    ghost ended: { Self → Self.Child → End → Self → Type 0 };
 
-    /// Makes the log of that name, if there is a name, and a file beside it for the standard error
-    /// of the engine. Refuses `Write` if one of the two cannot be made, and `OutOfMemory`.
-    fn make_log(&mut self, name: Option<&str>) -> Result<Option<Self::Log>, MatchFault>
-        ensures logs { IfOk result
-            (λ log. logs self.old (option_map (λ s. s.now) name.entry) log self.new) }
+    /// Makes the log of that name, if there is a name, and files beside it for the standard error
+    /// of the engine, and of the server if one is to be started. Refuses `Write` if one of them
+    /// cannot be made, and `OutOfMemory`.
+    fn make_log(
+        &mut self,
+        name: Option<&str>,
+        starts_server: bool,
+    ) -> Result<Option<Self::Log>, MatchFault>
+        ensures logs { IfOk result (λ log.
+            logs self.old (option_map (λ s. s.now) name.entry) starts_server log self.new) }
         ensures logs_not { OnErr result
-            (logs_not self.old (option_map (λ s. s.now) name.entry) self.new) }
+            (logs_not self.old (option_map (λ s. s.now) name.entry) starts_server self.new) }
         ensures nothing { name.entry ≡ None → IfOk result (λ log. log ≡ None) }
         ensures faults { IfErr result IsFileFault };
 
-    /// Why the last program was not started, or the last address took no connection, in the words
-    /// of the system. None if each was.
+    /// Why there is no game: why the last program was not started or the last address took no
+    /// connection, in the words of the system, or else what `explain` was given last. None if
+    /// nothing is known of it.
     fn reason(&self) -> Option<&str>
         ensures { option_map (λ s. s.now) result ≡ reason self.now };
+
+    /// Keeps this as the reason why there is no game, if there is enough memory. Shows it too, if
+    /// reasons are shown.
+    fn explain(&mut self, text: &str)
+        ensures explained { explained self.old text.now self.new };
 
     /// Starts a server. Refuses `B6 ServerGone` if it cannot be started, and `OutOfMemory`.
     fn start_server(
@@ -136,14 +159,14 @@ pub trait Programs {
         ensures connects_not { OnErr result (connects_not self.old address.now self.new) }
         ensures server_gone { IfErr result IsServerFault };
 
-    /// Ends a child. If `is_well`, it has time to end by itself.
-    fn end(&mut self, child: Self::Child, is_well: bool)
-        ensures ended { ended self.old child is_well self.new };
+    /// Ends a child. After a session that was finished it has time to end by itself.
+    fn end(&mut self, child: Self::Child, after: SessionEnd)
+        ensures ended { ended self.old child after self.new };
 }
 
-/// Where the standard error of an engine goes.
+/// Where the standard error of a program goes.
 #[derive(Drop)]
-enum EngineErrors {
+enum ErrorOutput {
     Nowhere,
     StandardError,
     File(File),
@@ -154,7 +177,8 @@ enum EngineErrors {
 pub struct System<'a, R> {
     rt: &'a R,
     explains: bool,
-    errors: EngineErrors,
+    engine_errors: ErrorOutput,
+    server_errors: ErrorOutput,
     reason: Option<String>,
 }
 
@@ -167,7 +191,8 @@ impl<'a, R> System<'a, R> {
         System {
             rt,
             explains,
-            errors: EngineErrors::Nowhere,
+            engine_errors: ErrorOutput::Nowhere,
+            server_errors: ErrorOutput::Nowhere,
             reason: None,
         }
     }
@@ -176,7 +201,7 @@ impl<'a, R> System<'a, R> {
 impl<R: Eprint + AllocGlobal> System<'_, R> {
     // Keeps why there is no such program or connection, and says it. An error of standard error is
     // ignored.
-    fn explain(&mut self, name: &str, error: &io::Error) {
+    fn explain_error(&mut self, name: &str, error: &io::Error) {
         if self.explains {
             let _ = self.rt.eprintln(format_args!("{name}: {error}"));
         }
@@ -195,7 +220,7 @@ impl<
         + Eprint
         + AllocGlobal,
 > Programs for System<'a, R> {
-    ghost use Rattle.std.specs.Prelude.{⊤, option_map, string_bytes};
+    ghost use Rattle.std.specs.Prelude.{◌≡◌, ◌⊎◌, ⊤, None, Some, option_map, string_bytes};
 
     type Log = TextLog<Stopwatch<'a, R>, LogWriter<'a, R>>;
 
@@ -209,11 +234,14 @@ impl<
 
     type Writer = TcpStream;
 
-    ghost logs = { λ p name log q. ⊤ };
+    ghost logs = { λ p name starts_server log q. ⊤ };
 
-    ghost logs_not = { λ p name q. ⊤ };
+    ghost logs_not = { λ p name starts_server q. ⊤ };
 
     ghost reason = { λ p. option_map string_bytes p.reason };
+
+    ghost explained = { λ p text q. (option_map string_bytes q.reason ≡ Some text)
+        ⊎ (option_map string_bytes q.reason ≡ None) };
 
     ghost serves = { λ p program words child lines q. ⊤ };
 
@@ -227,23 +255,31 @@ impl<
 
     ghost connects_not = { λ p address q. ⊤ };
 
-    ghost ended = { λ p child is_well q. ⊤ };
+    ghost ended = { λ p child end q. ⊤ };
 
-    fn make_log(&mut self, name: Option<&str>) -> Result<Option<Self::Log>, MatchFault> {
+    fn make_log(
+        &mut self,
+        name: Option<&str>,
+        starts_server: bool,
+    ) -> Result<Option<Self::Log>, MatchFault> {
         let writer = match name {
             None => return Ok(None),
             Some("-") => {
-                self.errors = EngineErrors::StandardError;
+                self.engine_errors = ErrorOutput::StandardError;
+                self.server_errors = ErrorOutput::StandardError;
                 LogWriter::StandardError(StandardError::new(self.rt))
             }
             Some(path) => {
                 let file = created(self.rt, path)?;
-                self.errors = errors_beside(self.rt, path, &file)?;
+                self.engine_errors = errors_beside(self.rt, path, ENGINE_ERRORS, &file)?;
+                if starts_server {
+                    self.server_errors = errors_beside(self.rt, path, SERVER_ERRORS, &file)?;
+                }
                 LogWriter::File(file)
             }
         };
-        let watch = Stopwatch::started(self.rt);
-        Ok(Some(TextLog::new(self.rt.alloc(), watch, writer)))
+        let timer = Stopwatch::started(self.rt);
+        Ok(Some(TextLog::new(self.rt.alloc(), timer, writer)))
     }
 
     fn reason(&self) -> Option<&str> {
@@ -253,11 +289,23 @@ impl<
         }
     }
 
+    // An error of standard error is ignored.
+    fn explain(&mut self, text: &str) {
+        if self.explains {
+            let _ = self.rt.eprintln(text);
+        }
+        self.reason = match String::from_str(self.rt.alloc(), text) {
+            Ok(reason) => Some(reason),
+            Err(_) => None,
+        };
+    }
+
     fn start_server(
         &mut self,
         command: &mut Command<Global>,
     ) -> Result<(Self::Child, Incoming<Self::Output>), MatchFault> {
-        let mut member = start(self, command, Stdio::null(), Stdio::null(), SERVER_GONE)?;
+        let stderr = stream_of(mem::replace(&mut self.server_errors, ErrorOutput::Nowhere));
+        let mut member = start(self, command, Stdio::null(), stderr, SERVER_GONE)?;
         match lines_of(self.rt.alloc(), &mut member.child, SERVER_GONE) {
             Ok(lines) => Ok((member, lines)),
             Err(fault) => {
@@ -271,7 +319,7 @@ impl<
         &mut self,
         command: &mut Command<Global>,
     ) -> Result<(Self::Child, Side<Self::Output, Self::Input>), MatchFault> {
-        let stderr = stream_of(mem::replace(&mut self.errors, EngineErrors::Nowhere));
+        let stderr = stream_of(mem::replace(&mut self.engine_errors, ErrorOutput::Nowhere));
         let mut member = start(self, command, Stdio::piped(), stderr, ENGINE_GONE)?;
         match side_of(self.rt.alloc(), &mut member.child) {
             Ok(side) => Ok((member, side)),
@@ -286,7 +334,7 @@ impl<
         let writer = match TcpStream::connect(self.rt, address) {
             Ok(writer) => writer,
             Err(error) => {
-                self.explain(address, &error);
+                self.explain_error(address, &error);
                 return Err(memory_or(error.kind(), SERVER_GONE));
             }
         };
@@ -298,9 +346,9 @@ impl<
         Ok(Side { lines, writer })
     }
 
-    fn end(&mut self, child: Self::Child, is_well: bool) {
+    fn end(&mut self, child: Self::Child, after: SessionEnd) {
         let mut member = child;
-        let _ = end_member(self.rt, &mut member, is_well);
+        let _ = end_member(self.rt, &mut member, after);
     }
 }
 
@@ -314,27 +362,28 @@ fn created<R: Files<File = File>>(rt: &R, path: &str) -> Result<File, MatchFault
     }
 }
 
-// Where the standard error of the engine goes if this is the log: to a file beside it. Beside a
-// device or a pipe there is none.
+// Where the standard error of a program goes if this is the log: to a file beside it, whose name
+// has this at its end. Beside a device or a pipe there is none.
 fn errors_beside<R: Files<File = File> + AllocGlobal>(
     rt: &R,
     path: &str,
+    ending: &str,
     log: &File,
-) -> Result<EngineErrors, MatchFault>
+) -> Result<ErrorOutput, MatchFault>
     ensures faults { IfErr result IsFileFault }
 {
     if !log.metadata().is_ok_and(|there| there.is_file()) {
-        return Ok(EngineErrors::Nowhere);
+        return Ok(ErrorOutput::Nowhere);
     }
-    let path = format!(in rt.alloc(); "{path}{BESIDE}")?;
-    Ok(EngineErrors::File(created(rt, path.as_str())?))
+    let path = format!(in rt.alloc(); "{path}{ending}")?;
+    Ok(ErrorOutput::File(created(rt, path.as_str())?))
 }
 
-fn stream_of(errors: EngineErrors) -> Stdio {
+fn stream_of(errors: ErrorOutput) -> Stdio {
     match errors {
-        EngineErrors::Nowhere => Stdio::null(),
-        EngineErrors::StandardError => Stdio::inherit(),
-        EngineErrors::File(file) => Stdio::from(file),
+        ErrorOutput::Nowhere => Stdio::null(),
+        ErrorOutput::StandardError => Stdio::inherit(),
+        ErrorOutput::File(file) => Stdio::from(file),
     }
 }
 
@@ -355,7 +404,7 @@ fn start<R: Env + Files + Processes + Eprint + AllocGlobal>(
     match spawned {
         Ok(member) => Ok(member),
         Err(error) => {
-            system.explain(command.get_program(), &error);
+            system.explain_error(command.get_program(), &error);
             Err(memory_or(error.kind(), gone))
         }
     }
@@ -449,16 +498,16 @@ fn side_of<P: OpenProcess + Drop>(
     }
 }
 
-// Ends a child, so that none outlives the program. After a session that ended well it has ten
+// Ends a child, so that none outlives the program. After a session that was finished it has ten
 // seconds to end by itself; any other child is ended at once. Returns whether it has ended.
 fn end_member<R: Clock + Processes + AllocGlobal, P: OpenProcess + Drop>(
     rt: &R,
     member: &mut Member<P>,
-    is_well: bool,
+    after: SessionEnd,
 ) -> bool
     ensures ended { result ≡ true → is_some (child_status member.new.child) ≡ true }
 {
-    if is_well && has_ended(rt, &mut member.child) {
+    if after == SessionEnd::Finished && has_ended(rt, &mut member.child) {
         return true;
     }
     groups::end(rt, member)
@@ -468,7 +517,7 @@ fn end_member<R: Clock + Processes + AllocGlobal, P: OpenProcess + Drop>(
 fn has_ended<R: Clock, P: OpenProcess + Drop>(rt: &R, child: &mut Child<P>) -> bool
     ensures ended { result ≡ true → is_some (child_status child.new) ≡ true }
 {
-    for _ in 0..LOOKS {
+    for _ in 0..CHECKS {
         match child.try_wait() {
             Ok(Some(_)) => return true,
             Ok(None) => thread::sleep(rt, Duration::from_millis(REST_MS)),

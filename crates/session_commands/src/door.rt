@@ -1,11 +1,11 @@
 //! Where a server waits for its client.
 
-ghost use Rattle.std.specs.Prelude.{IfErr, IfOk, OnErr};
-ghost use Rattle.session_commands.specs.Faults.{IsReadFault};
+ghost use Rattle.std.specs.Prelude.{◌≡◌, IfErr, IfOk, OnErr};
+ghost use Rattle.session_setup.specs.Faults.{IsReadFault};
 
-use crate::fault::TalkFault;
 use crate::wire::{Exchange, Wire};
 use record_commands::ReadFault;
+use session_setup::TalkFault;
 use std::io;
 use std::net::{Net, TcpListener, TcpStream};
 
@@ -55,7 +55,9 @@ pub struct LocalDoor<'a, R> {
 
 impl<'a, R> LocalDoor<'a, R> {
     /// Those of this runtime.
-    pub fn new(rt: &'a R) -> LocalDoor<'a, R> {
+    pub fn new(rt: &'a R) -> LocalDoor<'a, R>
+        ensures { result.rt.now ≡ rt.now }
+    {
         LocalDoor { rt }
     }
 }

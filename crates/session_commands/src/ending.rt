@@ -1,45 +1,46 @@
 //! How a session ended, in words for its log and for a terminal.
 
-ghost use Rattle.std.specs.Prelude.{◌≡◌, ◌<◌, ◌≤◌, ◌++◌, ◌∷◌, [], true, false, None, Some, IfOk, length, string_bytes, take};
+ghost use Rattle.std.specs.Prelude.{◌≡◌, ◌⊎◌, ◌↔◌, ◌<◌, ◌≤◌, ◌++◌, ◌∷◌, [], true, false, Some, IfOk, IsTrue, MatchOption, length, string_bytes, take};
 ghost use Rattle.bridge_table.specs.declared.event.Status.{Status};
-ghost use Rattle.bridge_table.specs.declared.fault.MoveCause.{MoveCause};
 ghost use Rattle.bridge_table.specs.declared.fault.SessionFault.{SessionFault};
-ghost use Rattle.session_commands.specs.Endings.{IsEndText, IsLastLine, IsRefusedLine, kept_with, nothing_said, quoted, quoted_byte, result_line, result_lines, slip_lines};
-ghost use Rattle.session_commands.specs.Words.{slip_line};
-ghost use Rattle.session_commands.specs.declared.bridging.Seat.{Seat};
-ghost use Rattle.session_commands.specs.declared.ending.Said.{Said};
+ghost use Rattle.bridge_table.specs.declared.state.ClientState.{ClientState};
+ghost use Rattle.csa_cutting.specs.Cut.{begins_with};
+ghost use Rattle.session_commands.specs.Endings.{IsBeforeResult, IsEndText, IsEnding, IsFaultLine, IsLastLine, IsReason, IsRefusedLine, IsRefusedMoveLine, IsResult, SaysInGame, SaysOfEnd, gone_peer, kept_with, nothing_said, quoted, quoted_byte, result_line, result_lines, slip_lines, with_long};
+ghost use Rattle.session_commands.specs.Words.{gone_line, long_line, slip_line};
+ghost use Rattle.session_commands.specs.declared.bridging.Peer.{Peer};
+ghost use Rattle.session_commands.specs.declared.ending.EndEvent.{EndEvent};
 ghost use Rattle.shogi_session.specs.State.{client_state, slip_of};
 
-use crate::bridging::Seat;
-use crate::fault::MatchFault;
+use crate::bridging::Peer;
 use arrayvec::ArrayString;
 use record_game::Why;
+use session_setup::MatchFault;
 use shogi_session::{Bridge, ClientState, MoveCause, SessionFault, Status};
 use std::alloc::{AllocError, Global};
 use std::marker::Model;
 
-/// The front of a line; each byte that is not ASCII is `?`.
-pub type Front = ArrayString<256>;
+/// The front of a line; each byte that is no printable ASCII is `?`.
+pub type Excerpt = ArrayString<256>;
 
 // How many bytes of a line are quoted.
 const LONGEST: usize = 256;
 
 /// How far a bridge is.
 #[derive(Clone, Copy, Debug)]
-pub struct Moment {
+pub struct Snapshot {
     /// With its server.
     pub client: ClientState,
     /// Whether its engine has slipped.
     pub slip: bool,
 }
 
-impl Moment {
+impl Snapshot {
     /// How far the bridge is now.
-    pub fn of(bridge: &Bridge) -> Moment
+    pub fn of(bridge: &Bridge) -> Snapshot
         ensures client { result.client ≡ client_state bridge.now.state.client }
         ensures slip { result.slip ≡ slip_of bridge.now.state.client }
     {
-        Moment {
+        Snapshot {
             client: bridge.client_state(),
             slip: bridge.slip(),
         }
@@ -48,7 +49,7 @@ impl Moment {
 
 /// What a line says of the end of a game.
 #[derive(Clone, Copy, Debug, PartialEq, Eq)]
-pub enum Said {
+pub enum EndEvent {
     /// The engine's answer was no legal move, so that the bridge resigned for it.
     Slip,
     /// The server sent an ending.
@@ -57,66 +58,120 @@ pub enum Said {
     Reason,
     /// The server sent a result.
     Result,
-    /// The server sent a move that is refused.
-    Refused(MoveCause),
+    /// The server's line failed the session with this fault.
+    Refused(SessionFault),
 }
 
-/// What a line from that seat says of the end, if it led the bridge from one moment to the other
+/// What a line from that peer says of the end, if it led the bridge from one snapshot to the other
 /// and to this status.
 pub fn end_in(
-    before: Moment,
-    after: Moment,
-    seat: Seat,
+    before: Snapshot,
+    after: Snapshot,
+    peer: Peer,
     line: &[u8],
     status: Status,
-) -> Option<Said>
-    ensures slip { seat ≡ Seat.Engine → after.slip ≡ true → before.slip ≡ false
-        → result ≡ Some Said.Slip }
-    ensures refused { (cause : MoveCause) → seat ≡ Seat.Server
-        → status ≡ Status.Failed (SessionFault.BadServerMove cause)
-        → result ≡ Some (Said.Refused cause) }
+) -> Option<EndEvent>
+    ensures { MatchOption result
+        ((event : EndEvent) → SaysOfEnd before after line.now peer status event → ⊥)
+        (SaysOfEnd before after line.now peer status) }
 {
-    match seat {
-        Seat::Engine if after.slip && !before.slip => Some(Said::Slip),
-        Seat::Engine => None,
-        Seat::Server => match status {
-            Status::Failed(SessionFault::BadServerMove(cause)) => Some(Said::Refused(cause)),
-            _ => said_in_game(before.client, after.client, line),
+    match peer {
+        Peer::Engine => engine_event(before, after),
+        Peer::Server => match status {
+            Status::Failed(fault) => Some(EndEvent::Refused(fault)),
+            Status::Going => game_event(before.client, after.client, line),
+            Status::Done => game_event(before.client, after.client, line),
+            Status::Lost => game_event(before.client, after.client, line),
         },
     }
 }
 
-// What a line of the server says of the end. Once there is a reason, an ending is passed over.
-fn said_in_game(before: ClientState, after: ClientState, line: &[u8]) -> Option<Said> {
-    match (before, line.first(), after) {
-        (ClientState::Playing | ClientState::Sent, Some(b'%'), ClientState::Reason) => {
-            Some(Said::Ending)
-        }
-        (
-            ClientState::Playing | ClientState::Sent | ClientState::Reason,
-            Some(b'#'),
-            ClientState::Reason,
-        ) => Some(Said::Reason),
-        (
-            ClientState::Playing | ClientState::Sent | ClientState::Reason,
-            Some(b'#'),
-            ClientState::Closing,
-        ) => Some(Said::Result),
-        _ => None,
+// What a line of the engine says of the end.
+fn engine_event(before: Snapshot, after: Snapshot) -> Option<EndEvent>
+    ensures { MatchOption result ((after.slip ≡ true) × (before.slip ≡ false) → ⊥)
+        (λ event. (after.slip ≡ true) × (before.slip ≡ false) × (event ≡ EndEvent.Slip)) }
+{
+    if !after.slip || before.slip {
+        return None;
+    }
+    Some(EndEvent::Slip)
+}
+
+// What a line of the server says of the end of a game.
+fn game_event(before: ClientState, after: ClientState, line: &[u8]) -> Option<EndEvent>
+    ensures { MatchOption result ((event : EndEvent) → SaysInGame before after line.now event → ⊥)
+        (SaysInGame before after line.now) }
+{
+    if is_ending(before, after, line) {
+        return Some(EndEvent::Ending);
+    }
+    if is_reason(before, after, line) {
+        return Some(EndEvent::Reason);
+    }
+    if is_result(before, after, line) {
+        return Some(EndEvent::Result);
+    }
+    None
+}
+
+// Whether the line is an ending. Once there is a reason, an ending is passed over.
+fn is_ending(before: ClientState, after: ClientState, line: &[u8]) -> bool
+    ensures { IsTrue result ↔ IsEnding before after line.now }
+{
+    is_in_play(before) && after == ClientState::Reason && begins_with(line, b'%')
+}
+
+fn is_reason(before: ClientState, after: ClientState, line: &[u8]) -> bool
+    ensures { IsTrue result ↔ IsReason before after line.now }
+{
+    is_before_result(before) && after == ClientState::Reason && begins_with(line, b'#')
+}
+
+fn is_result(before: ClientState, after: ClientState, line: &[u8]) -> bool
+    ensures { IsTrue result ↔ IsResult before after line.now }
+{
+    is_before_result(before) && after == ClientState::Closing && begins_with(line, b'#')
+}
+
+/// Whether the game is in play.
+pub fn is_in_play(state: ClientState) -> bool
+    ensures { IsTrue result ↔ ((state ≡ ClientState.Playing) ⊎ (state ≡ ClientState.Sent)) }
+{
+    match state {
+        ClientState::Playing | ClientState::Sent => true,
+        _ => false,
+    }
+}
+
+fn is_before_result(state: ClientState) -> bool
+    ensures { IsTrue result ↔ IsBeforeResult state }
+{
+    is_in_play(state) || state == ClientState::Reason
+}
+
+fn begins_with(line: &[u8], byte: u8) -> bool
+    ensures { result ≡ begins_with byte line.now }
+{
+    match line.first() {
+        Some(b) => *b == byte,
+        None => false,
     }
 }
 
 /// What is kept of a session, to say at its end how it ended.
 #[derive(Drop)]
-pub struct Ending {
-    slip: Option<Front>,
+pub struct EndNotes {
+    slip: Option<Excerpt>,
     // The first reason, and the result.
-    reason: Option<Front>,
-    result: Option<Front>,
-    refused: Option<(Front, MoveCause)>,
+    reason: Option<Excerpt>,
+    result: Option<Excerpt>,
+    // The line of the server that failed the session.
+    refused: Option<(Excerpt, SessionFault)>,
+    // The peer whose line was too long.
+    long: Option<Peer>,
 }
 
-impl Model for Ending {
+impl Model for EndNotes {
     ghost use Rattle.std.specs.Prelude.{option_map};
     ghost use Rattle.session_commands.specs.Endings.{Ended};
 
@@ -127,38 +182,47 @@ impl Model for Ending {
       reason = option_map (λ line. line.bytes) e.reason;
       outcome = option_map (λ line. line.bytes) e.result;
       refused = option_map (λ r. (r.0.bytes, r.1)) e.refused;
+      long = e.long;
     } };
 }
 
-impl Ending {
+impl EndNotes {
     /// Nothing is said of the end yet.
-    pub fn new() -> Ending
+    pub fn new() -> EndNotes
         ensures { result ≡ nothing_said }
     {
-        Ending {
+        EndNotes {
             slip: None,
             reason: None,
             result: None,
             refused: None,
+            long: None,
         }
     }
 
     /// Keeps what a line says of the end. Of several reasons the first is kept.
-    pub fn keep(&mut self, said: Said, line: &[u8])
-        ensures { self.new ≡ kept_with said (quoted line.now) self.old }
+    pub fn keep(&mut self, event: EndEvent, line: &[u8])
+        ensures { self.new ≡ kept_with event (quoted line.now) self.old }
     {
-        let line = front_of(line);
-        match said {
-            Said::Slip => self.slip = Some(line),
-            Said::Ending => {}
-            Said::Reason => {
+        let line = excerpt_of(line);
+        match event {
+            EndEvent::Slip => self.slip = Some(line),
+            EndEvent::Ending => {}
+            EndEvent::Reason => {
                 if self.reason.is_none() {
                     self.reason = Some(line);
                 }
             }
-            Said::Result => self.result = Some(line),
-            Said::Refused(cause) => self.refused = Some((line, cause)),
+            EndEvent::Result => self.result = Some(line),
+            EndEvent::Refused(fault) => self.refused = Some((line, fault)),
         }
+    }
+
+    /// Keeps that a line of this peer was too long.
+    pub fn keep_long(&mut self, peer: Peer)
+        ensures { self.new ≡ with_long peer self.old }
+    {
+        self.long = Some(peer);
     }
 
     /// How the session ended: a line each for the slip, for the result, and for the fault. Returns
@@ -206,14 +270,20 @@ impl Ending {
         }
     }
 
-    // The line of the move that was refused, or else of the fault.
+    // The line about the server's line that was refused, about the peer whose line was too long, or
+    // else about the fault.
     fn last_line(&self, alloc: Global, played: Result<(), MatchFault>) -> Result<String, AllocError>
-        ensures { IfOk result (λ text. IsLastLine self.now.refused played (string_bytes text)) }
+        ensures { IfOk result (λ text.
+            IsLastLine self.now.refused self.now.long played (string_bytes text)) }
     {
-        match (&self.refused, played) {
-            (Some((line, cause)), _) => refused_line(alloc, line.as_str(), *cause),
-            (None, Err(fault)) => format!(in alloc; "{fault}\n"),
-            (None, Ok(())) => Ok(String::new(alloc)),
+        match (&self.refused, self.long, played) {
+            (Some((line, fault)), _, _) => refused_line(alloc, line.as_str(), *fault),
+            (None, Some(peer), _) => {
+                let line = long_line(peer);
+                format!(in alloc; "{line}\n")
+            }
+            (None, None, Err(fault)) => fault_line(alloc, fault),
+            (None, None, Ok(())) => Ok(String::new(alloc)),
         }
     }
 }
@@ -225,9 +295,76 @@ pub fn slip_line(alloc: Global, line: &str) -> Result<String, AllocError>
     format!(in alloc; "slip: {line} is no legal move of this game\n")
 }
 
-/// The line of a move of the server that is refused. Returns an error if an allocation fails.
-pub fn refused_line(alloc: Global, line: &str, cause: MoveCause) -> Result<String, AllocError>
-    ensures { IfOk result (λ text. IsRefusedLine line.now (string_bytes text)) }
+/// What is said about a line of this peer that is too long.
+pub fn long_line(peer: Peer) -> &'static str
+    ensures { result.now ≡ long_line peer }
+{
+    match peer {
+        Peer::Engine => "B7: the engine wrote a line of more than 65536 bytes",
+        Peer::Server => "B7: the server sent a line of more than 65536 bytes",
+    }
+}
+
+// The line about a fault that no line of a peer shows.
+fn fault_line(alloc: Global, fault: MatchFault) -> Result<String, AllocError>
+    ensures { IfOk result (λ text. IsFaultLine (gone_peer fault) (string_bytes text)) }
+{
+    match gone_peer(fault) {
+        Some(peer) => {
+            let line = gone_line(peer);
+            format!(in alloc; "{line}\n")
+        }
+        None => format!(in alloc; "{fault}\n"),
+    }
+}
+
+/// The peer whose end is this fault.
+pub fn gone_peer(fault: MatchFault) -> Option<Peer>
+    ensures { result ≡ gone_peer fault }
+{
+    match fault {
+        MatchFault::Session(SessionFault::EngineGone) => Some(Peer::Engine),
+        MatchFault::Session(SessionFault::ServerGone) => Some(Peer::Server),
+        MatchFault::Session(
+            SessionFault::LoginRefused
+            | SessionFault::Rejected
+            | SessionFault::BadSummary
+            | SessionFault::BadServerMove(_)
+            | SessionFault::LineTooLong,
+        ) => None,
+        MatchFault::Endless | MatchFault::Write | MatchFault::OutOfMemory => None,
+    }
+}
+
+/// What is said about this peer if its end failed the session.
+pub fn gone_line(peer: Peer) -> &'static str
+    ensures { result.now ≡ gone_line peer }
+{
+    match peer {
+        Peer::Engine => "B5: the engine ended",
+        Peer::Server => "B6: the connection to the server ended",
+    }
+}
+
+/// The line about a line of the server that failed the session. Returns an error if an allocation
+/// fails.
+pub fn refused_line(alloc: Global, line: &str, fault: SessionFault) -> Result<String, AllocError>
+    ensures { IfOk result (λ text. IsRefusedLine fault line.now (string_bytes text)) }
+{
+    match fault {
+        SessionFault::BadServerMove(cause) => refused_move_line(alloc, line, cause),
+        SessionFault::LoginRefused => format!(in alloc; "B1: the server sent {line}\n"),
+        SessionFault::Rejected => format!(in alloc; "B2: the server sent {line}\n"),
+        SessionFault::BadSummary => format!(in alloc; "B3: the server sent {line}\n"),
+        SessionFault::EngineGone | SessionFault::ServerGone | SessionFault::LineTooLong => {
+            format!(in alloc; "{fault}\n")
+        }
+    }
+}
+
+// The line of a move of the server that is refused.
+fn refused_move_line(alloc: Global, line: &str, cause: MoveCause) -> Result<String, AllocError>
+    ensures { IfOk result (λ text. IsRefusedMoveLine line.now (string_bytes text)) }
 {
     let cause = cause_text(alloc, cause)?;
     format!(in alloc; "B4: {line}{cause}")
@@ -245,11 +382,11 @@ fn cause_text(alloc: Global, cause: MoveCause) -> Result<String, AllocError> {
 }
 
 /// The front of a line, without spaces at its end.
-pub fn front_of(line: &[u8]) -> Front
+pub fn excerpt_of(line: &[u8]) -> Excerpt
     ensures { result.bytes ≡ quoted line.now }
 {
     let shown = first_bytes(session_lines::without_last_spaces(line));
-    let mut front = Front::new();
+    let mut front = Excerpt::new();
     for byte in shown {
         push_quoted(&mut front, *byte);
     }
@@ -268,17 +405,21 @@ fn first_bytes(line: &[u8]) -> &[u8]
     }
 }
 
-fn push_quoted(front: &mut Front, byte: u8)
+fn push_quoted(front: &mut Excerpt, byte: u8)
     requires { length front.old.bytes < 256 }
     ensures { front.new.bytes ≡ front.old.bytes ++ quoted_byte byte ∷ [] }
 {
     front.push(quoted_byte(byte));
 }
 
-// The byte as a character, or `?` if it is not ASCII.
+// The byte as a character, or `?` if it is no printable ASCII.
 fn quoted_byte(byte: u8) -> char
     ensures value { result ≡ quoted_byte byte }
     ensures ascii { result < 128 }
 {
-    if byte < 128 { char::from(byte) } else { '?' }
+    if byte < 32 || byte > 126 {
+        '?'
+    } else {
+        char::from(byte)
+    }
 }

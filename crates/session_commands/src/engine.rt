@@ -1,12 +1,13 @@
 //! A USI engine on standard input and output, which plays the first legal move.
 
-ghost use Rattle.std.specs.Prelude.{◌≡◌, Bool, None, IfErr, OnOk};
+ghost use Rattle.std.specs.Prelude.{◌≡◌, None, IfErr, OnOk};
 ghost use Rattle.session_commands.specs.Talks.{BreaksOff, HasAnswered};
+ghost use Rattle.session_commands.specs.declared.talk.MachineState.{MachineState};
 ghost use Rattle.shogi_session.specs.Sample.{SampleState, keeps};
 
-use crate::fault::TalkFault;
 use crate::talk::{self, Machine};
 use crate::wire::{Exchange, Wire};
+use session_setup::TalkFault;
 use shogi_session::Sample;
 use std::alloc::Global;
 use std::io;
@@ -22,9 +23,9 @@ pub fn run<R: Input + Print + AllocGlobal>(rt: &R) -> Result<(), TalkFault> {
 
 // Answers the lines of the wire, with an engine that keeps no game yet.
 fn answer<X: Wire>(alloc: Global, wire: &mut X) -> Result<(), TalkFault>
-    ensures answered { OnOk result ((over : Bool) × (engine : SampleState)
+    ensures answered { OnOk result ((state : MachineState) × (engine : SampleState)
         × HasAnswered X.came X.ends X.went
-        ⟦<Sample as Machine>⟧.answers wire.old (keeps None) over wire.new engine) }
+        ⟦<Sample as Machine>⟧.answers wire.old (keeps None) state wire.new engine) }
     ensures breaks_off { IfErr result (λ fault. BreaksOff X.came X.ends X.went X.silent X.blocked
         ⟦<Sample as Machine>⟧.answers wire.old (keeps None) fault wire.new) }
 {

@@ -10,7 +10,7 @@ ghost use Rattle.session_commands.specs.PlayedLogs.{PlaysLegally, handed, happen
 ghost use Rattle.session_commands.specs.Plays.{History};
 ghost use Rattle.session_commands.specs.LackOfMemoryLogs.{SentLegally, sent_before};
 ghost use Rattle.session_commands.specs.LackOfMemory.{PlayRunsOut};
-ghost use Rattle.session_commands.specs.declared.bridging.Seat.{Seat};
+ghost use Rattle.session_commands.specs.declared.bridging.Peer.{Peer};
 ghost use Rattle.session_commands.specs.declared.log.LogState.{LogState};
 ghost use Rattle.session_commands.specs.declared.log.LogState.TheVariants as log_state;
 ghost use Rattle.session_lines.specs.LineTexts.{login_front};
@@ -31,7 +31,7 @@ pub fn played_moves_are_legal<E: Ends>()
     ensures legal { (e : E) (s : Session) (f : E) (t : Session) (status : Status)
         (played : History E.came E.went E.gone e s f t status)
         → s.state ≡ first_state
-        → PlaysLegally s.config (happened played) (handed Seat.Server played) t.state }
+        → PlaysLegally s.config (happened played) (handed Peer.Server played) t.state }
     ensures out_of_memory { (e : E) (s : Session) (f : E) (t : Session)
         (lack : PlayRunsOut E.came E.missed E.went E.gone e s f t)
         → s.state ≡ first_state → SentLegally s.config (sent_before s t lack) }
@@ -41,16 +41,16 @@ pub fn played_moves_are_legal<E: Ends>()
     sent_once();
 }
 
-/// If a seat takes all lines that are sent to it, exactly these were added to what its writer
+/// If a peer takes all lines that are sent to it, exactly these were added to what its writer
 /// holds, if that is known.
 pub fn sent_lines_are_held<E: Ends>()
-    ensures held { (seat : Seat) (e : E) (s : Session) (f : E) (t : Session) (status : Status)
+    ensures held { (peer : Peer) (e : E) (s : Session) (f : E) (t : Session) (status : Status)
         (played : History E.came E.went E.gone e s f t status)
-        → TookAll seat played
-        → Appends (E.held e seat) (E.held f seat) (handed seat played) }
+        → TookAll peer played
+        → Appends (E.held e peer) (E.held f peer) (handed peer played) }
 {}
 
-/// A log notes each line that comes and each that a seat takes, in order, once, and nothing else.
+/// A log notes each line that comes and each that a peer takes, in order, once, and nothing else.
 pub fn passed_lines_are_noted<E: Ends + Drop, L: Log + Drop>()
     ensures noted { (e : E × L) (s : Session) (f : E × L) (t : Session) (status : Status)
         (played : History ⟦<Logged<E, L> as Ends>⟧.came ⟦<Logged<E, L> as Ends>⟧.went

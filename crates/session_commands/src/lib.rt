@@ -16,25 +16,19 @@
 
 pub mod bridging;
 mod children;
-mod disk;
 mod door;
 mod ending;
 pub mod engine;
-mod fault;
-mod groups;
-mod house;
+mod launcher;
 pub mod laws;
 pub mod log;
 mod log_output;
-mod login;
-mod out_file;
-mod paths;
 pub mod play;
 mod port_line;
 mod progress;
+pub mod reasons;
 pub mod serve;
 pub mod talk;
 pub mod wire;
 
-pub use fault::{LoginFault, MatchFault, PlanFault, PlayFault, ServeFault, TalkFault};
 pub use progress::Progress;

@@ -6,10 +6,10 @@ ghost use Rattle.session_lines.specs.LineTexts.{login_front};
 ghost use Rattle.session_commands.specs.LogTexts.{AppendsEntry, HidesPassword, IsEntryText, IsShown, each_after, margin, places_text, seconds_text, sign, time_text};
 ghost use Rattle.session_commands.specs.Logging.{entry_of};
 
-use crate::bridging::{Ends, Seat};
-use crate::fault::MatchFault;
+use crate::bridging::{Ends, Peer};
 use record_commands::incoming::LineEvent;
 use record_commands::{WriteFault, streams};
+use session_setup::MatchFault;
 use shogi_board::OutOfMemory;
 use std::alloc::{AllocError, Global};
 use std::io::Write;
@@ -18,9 +18,9 @@ use std::marker::Model;
 // How the line of a login begins; the name and the password follow.
 const LOGIN_FRONT: &[u8] = b"LOGIN ";
 
-/// Whether lines come from a seat or go to it.
+/// Whether lines come from a peer or go to it.
 #[derive(Clone, Copy, Debug, PartialEq, Eq)]
-pub enum Way {
+pub enum Direction {
     /// They come from it.
     From,
     /// They go to it.
@@ -30,7 +30,7 @@ pub enum Way {
 /// What notes the lines that pass.
 pub trait Log {
     ghost use Rattle.std.specs.Prelude.{ℕ, List};
-    ghost use Rattle.session_commands.specs.Faults.{IsFileFault};
+    ghost use Rattle.session_setup.specs.Faults.{IsFileFault};
     ghost use Rattle.session_commands.specs.Logging.{Entry};
 
     // The entry was noted, or the log is not whole from then on.
@@ -39,10 +39,10 @@ pub trait Log {
     // This text was added at the end, and the log is whole.
     ghost closed: { Self → List ℕ → Self → Type 0 };
 
-    /// Notes a line that came from the seat, without its line end, or lines that went to it, with
+    /// Notes a line that came from the peer, without its line end, or lines that went to it, with
     /// theirs.
-    fn note(&mut self, seat: Seat, way: Way, lines: &[u8])
-        ensures { noted self.old (entry_of seat way lines.now) self.new };
+    fn note(&mut self, peer: Peer, direction: Direction, lines: &[u8])
+        ensures { noted self.old (entry_of peer direction lines.now) self.new };
 
     /// Adds a text at the end. If the log is not whole then, refuses `Write`, or `OutOfMemory` if
     /// an allocation failed for one of its entries.
@@ -59,9 +59,9 @@ impl<L: Log + Drop> Log for Option<L> {
 
     ghost closed = { ClosesIfAny L.closed };
 
-    fn note(&mut self, seat: Seat, way: Way, lines: &[u8]) {
+    fn note(&mut self, peer: Peer, direction: Direction, lines: &[u8]) {
         if let Some(log) = self {
-            log.note(seat, way, lines);
+            log.note(peer, direction, lines);
         }
     }
 
@@ -88,7 +88,7 @@ impl<E: Ends + Drop, L: Log + Drop> Model for Logged<E, L> {
     ghost view = { λ s. (s.ends, s.log) };
 }
 
-// Each line that comes, and each that a seat takes, is noted.
+// Each line that comes, and each that a peer takes, is noted.
 impl<E: Ends + Drop, L: Log + Drop> Ends for Logged<E, L> {
     ghost use Rattle.std.specs.Prelude.{◌≡◌};
     ghost use Rattle.session_commands.specs.Logging.{CameNoted, WentNoted};
@@ -99,30 +99,30 @@ impl<E: Ends + Drop, L: Log + Drop> Ends for Logged<E, L> {
 
     ghost came = { CameNoted E.came L.noted };
 
-    ghost missed = { λ s seat t. E.missed s.0 seat t.0 × (t.1 ≡ s.1) };
+    ghost missed = { λ s peer t. E.missed s.0 peer t.0 × (t.1 ≡ s.1) };
 
     ghost went = { WentNoted E.went L.noted };
 
-    ghost gone = { λ s seat lines t. E.gone s.0 seat lines t.0 × (t.1 ≡ s.1) };
+    ghost gone = { λ s peer lines t. E.gone s.0 peer lines t.0 × (t.1 ≡ s.1) };
 
     ghost closed = { λ s text t. (t.0 ≡ s.0) × L.closed s.1 text t.1 };
 
-    fn receive(&mut self, seat: Seat) -> Result<LineEvent, OutOfMemory> {
-        let event = self.ends.receive(seat)?;
+    fn receive(&mut self, peer: Peer) -> Result<LineEvent, OutOfMemory> {
+        let event = self.ends.receive(peer)?;
         if event != LineEvent::Line {
             return Ok(event);
         }
-        self.log.note(seat, Way::From, self.ends.line(seat));
+        self.log.note(peer, Direction::From, self.ends.line(peer));
         Ok(event)
     }
 
-    fn line(&self, seat: Seat) -> &[u8] {
-        self.ends.line(seat)
+    fn line(&self, peer: Peer) -> &[u8] {
+        self.ends.line(peer)
     }
 
-    fn send(&mut self, seat: Seat, lines: &[u8]) -> Result<(), WriteFault> {
-        self.ends.send(seat, lines)?;
-        self.log.note(seat, Way::To, lines);
+    fn send(&mut self, peer: Peer, lines: &[u8]) -> Result<(), WriteFault> {
+        self.ends.send(peer, lines)?;
+        self.log.note(peer, Direction::To, lines);
         Ok(())
     }
 
@@ -130,23 +130,23 @@ impl<E: Ends + Drop, L: Log + Drop> Ends for Logged<E, L> {
         self.log.close(text)
     }
 
-    ghost takes_lines = { λ s t seat lines went. E.takes_lines s.0 t.0 seat lines went.0 };
+    ghost takes_lines = { λ s t peer lines went. E.takes_lines s.0 t.0 peer lines went.0 };
 
-    ghost went_keeps = { λ s t seat other lines went.
-        E.went_keeps s.0 t.0 seat other lines went.0 };
+    ghost went_keeps = { λ s t peer other lines went.
+        E.went_keeps s.0 t.0 peer other lines went.0 };
 
-    ghost gone_keeps = { λ s t seat other lines gone.
-        E.gone_keeps s.0 t.0 seat other lines gone.0 };
+    ghost gone_keeps = { λ s t peer other lines gone.
+        E.gone_keeps s.0 t.0 peer other lines gone.0 };
 
-    ghost came_keeps = { λ s t seat other event came.
-        E.came_keeps s.0 t.0 seat other event came.0 };
+    ghost came_keeps = { λ s t peer other event came.
+        E.came_keeps s.0 t.0 peer other event came.0 };
 
-    ghost missed_keeps = { λ s t seat other event missed.
-        E.missed_keeps s.0 t.0 seat other event missed.0 };
+    ghost missed_keeps = { λ s t peer other event missed.
+        E.missed_keeps s.0 t.0 peer other event missed.0 };
 }
 
 /// What says how long a session has gone on.
-pub trait Watch {
+pub trait Timer {
     /// The time since the start, in thousandths of a second.
     fn elapsed_ms(&self) -> u64;
 }
@@ -162,31 +162,31 @@ pub enum LogState {
     OutOfMemory,
 }
 
-/// A log as a text: each line after its time, its seat and its way.
+/// A log as a text: each line after its time, its peer and its direction.
 #[derive(Drop)]
-pub struct TextLog<T: Watch + Drop, W: Write + Drop> {
+pub struct TextLog<T: Timer + Drop, W: Write + Drop> {
     alloc: Global,
-    watch: T,
+    timer: T,
     writer: W,
     state: LogState,
 }
 
-impl<T: Watch + Drop, W: Write + Drop> TextLog<T, W> {
+impl<T: Timer + Drop, W: Write + Drop> TextLog<T, W> {
     /// A log in which nothing is noted yet.
-    pub fn new(alloc: Global, watch: T, writer: W) -> TextLog<T, W>
+    pub fn new(alloc: Global, timer: T, writer: W) -> TextLog<T, W>
         ensures whole { result.state ≡ LogState.Whole }
         ensures writer { result.writer ≡ writer }
     {
         TextLog {
             alloc,
-            watch,
+            timer,
             writer,
             state: LogState::Whole,
         }
     }
 }
 
-impl<T: Watch + Drop, W: Write + Drop> Log for TextLog<T, W> {
+impl<T: Timer + Drop, W: Write + Drop> Log for TextLog<T, W> {
     ghost use Rattle.std.specs.Prelude.{◌≡◌};
     ghost use Rattle.std.specs.Io.KnownBytes.{Appends};
     ghost use Rattle.session_commands.specs.LogTexts.{NotesText};
@@ -198,12 +198,12 @@ impl<T: Watch + Drop, W: Write + Drop> Log for TextLog<T, W> {
     ghost closed = { λ l text m. (l.state ≡ LogState.Whole)
         × Appends (W.contents l.writer) (W.contents m.writer) text };
 
-    fn note(&mut self, seat: Seat, way: Way, lines: &[u8]) {
+    fn note(&mut self, peer: Peer, direction: Direction, lines: &[u8]) {
         if self.state != LogState::Whole {
             return;
         }
-        let time = self.watch.elapsed_ms();
-        match write_entry(self.alloc, &mut self.writer, time, seat, way, lines) {
+        let time = self.timer.elapsed_ms();
+        match write_entry(self.alloc, &mut self.writer, time, peer, direction, lines) {
             Ok(()) => {}
             Err(MatchFault::OutOfMemory) => self.state = LogState::OutOfMemory,
             Err(_) => self.state = LogState::Unwritten,
@@ -224,14 +224,14 @@ fn write_entry<W: Write>(
     alloc: Global,
     writer: &mut W,
     time: u64,
-    seat: Seat,
-    way: Way,
+    peer: Peer,
+    direction: Direction,
     lines: &[u8],
 ) -> Result<(), MatchFault>
     ensures { OnOk result (AppendsEntry
-        (W.contents writer.old) (W.contents writer.new) (entry_of seat way lines.now)) }
+        (W.contents writer.old) (W.contents writer.new) (entry_of peer direction lines.now)) }
 {
-    let text = entry_text(alloc, time, seat, way, lines)?;
+    let text = entry_text(alloc, time, peer, direction, lines)?;
     streams::write_all(writer, text.as_slice())?;
     Ok(())
 }
@@ -240,47 +240,52 @@ fn write_entry<W: Write>(
 fn entry_text(
     alloc: Global,
     time: u64,
-    seat: Seat,
-    way: Way,
+    peer: Peer,
+    direction: Direction,
     lines: &[u8],
 ) -> Result<Vec<u8>, AllocError>
-    ensures { IfOk result (λ text. IsEntryText (entry_of seat way lines.now) text.items) }
+    ensures { IfOk result (λ text. IsEntryText (entry_of peer direction lines.now) text.items) }
 {
-    let shown = shown(alloc, seat, way, lines)?;
-    let front = front(alloc, time, seat, way)?;
+    let shown = shown(alloc, peer, direction, lines)?;
+    let front = front(alloc, time, peer, direction)?;
     let text = each_after(alloc, front.as_str(), shown.as_slice())?;
     Ok(text)
 }
 
 // What is shown of the lines of an entry: for the server all but the password.
-fn shown(alloc: Global, seat: Seat, way: Way, lines: &[u8]) -> Result<Vec<u8>, AllocError>
-    ensures { IfOk result (λ shown. IsShown seat way lines.now shown.items) }
+fn shown(
+    alloc: Global,
+    peer: Peer,
+    direction: Direction,
+    lines: &[u8],
+) -> Result<Vec<u8>, AllocError>
+    ensures { IfOk result (λ shown. IsShown peer direction lines.now shown.items) }
 {
-    match (seat, way) {
-        (Seat::Server, Way::To) => without_password(alloc, lines),
-        (Seat::Server, Way::From) => Vec::from_slice(alloc, lines),
-        (Seat::Engine, Way::From) => Vec::from_slice(alloc, lines),
-        (Seat::Engine, Way::To) => Vec::from_slice(alloc, lines),
+    match (peer, direction) {
+        (Peer::Server, Direction::To) => without_password(alloc, lines),
+        (Peer::Server, Direction::From) => Vec::from_slice(alloc, lines),
+        (Peer::Engine, Direction::From) => Vec::from_slice(alloc, lines),
+        (Peer::Engine, Direction::To) => Vec::from_slice(alloc, lines),
     }
 }
 
 // What each line of an entry begins with.
-fn front(alloc: Global, time: u64, seat: Seat, way: Way) -> Result<String, AllocError>
-    ensures { IfOk result (λ text. string_bytes text ≡ time_text time ++ sign seat way) }
+fn front(alloc: Global, time: u64, peer: Peer, direction: Direction) -> Result<String, AllocError>
+    ensures { IfOk result (λ text. string_bytes text ≡ time_text time ++ sign peer direction) }
 {
     let time = time_text(alloc, time)?;
-    let sign = sign(seat, way);
+    let sign = sign(peer, direction);
     format!(in alloc; "{time}{sign}")
 }
 
-fn sign(seat: Seat, way: Way) -> &'static str
-    ensures { result.now ≡ sign seat way }
+fn sign(peer: Peer, direction: Direction) -> &'static str
+    ensures { result.now ≡ sign peer direction }
 {
-    match (seat, way) {
-        (Seat::Engine, Way::From) => " engine > ",
-        (Seat::Engine, Way::To) => " engine < ",
-        (Seat::Server, Way::From) => " server > ",
-        (Seat::Server, Way::To) => " server < ",
+    match (peer, direction) {
+        (Peer::Engine, Direction::From) => " engine > ",
+        (Peer::Engine, Direction::To) => " engine < ",
+        (Peer::Server, Direction::From) => " server > ",
+        (Peer::Server, Direction::To) => " server < ",
     }
 }
 

@@ -1,6 +1,8 @@
 //! The clock of a log, and what it is written to.
 
-use crate::log::Watch;
+ghost use Rattle.std.specs.Prelude.{◌≡◌, IfOk, None, length};
+
+use crate::log::Timer;
 use std::fs::File;
 use std::io::{self, Eprint, Write};
 use std::str;
@@ -16,7 +18,9 @@ pub struct Stopwatch<'a, R> {
 
 impl<'a, R: Clock> Stopwatch<'a, R> {
     /// One that starts now. If the clock fails, the time stays 0.
-    pub fn started(rt: &'a R) -> Stopwatch<'a, R> {
+    pub fn started(rt: &'a R) -> Stopwatch<'a, R>
+        ensures { result.rt.now ≡ rt.now }
+    {
         Stopwatch {
             rt,
             start: Instant::now(rt).ok(),
@@ -24,15 +28,22 @@ impl<'a, R: Clock> Stopwatch<'a, R> {
     }
 }
 
-impl<R: Clock> Watch for Stopwatch<'_, R> {
+impl<R: Clock> Timer for Stopwatch<'_, R> {
     fn elapsed_ms(&self) -> u64 {
-        let Some(start) = &self.start else {
-            return 0;
-        };
-        match start.elapsed(self.rt) {
-            Ok(time) => u64::try_from(time.as_millis()).unwrap_or(u64::MAX),
-            Err(_) => 0,
-        }
+        elapsed_ms(self.rt, self.start)
+    }
+}
+
+// The time since the start, or 0 if the clock failed then or fails now.
+fn elapsed_ms<R: Clock>(rt: &R, start: Option<Instant>) -> u64
+    ensures { start ≡ None → result ≡ 0 }
+{
+    let Some(start) = start else {
+        return 0;
+    };
+    match start.elapsed(rt) {
+        Ok(time) => u64::try_from(time.as_millis()).unwrap_or(u64::MAX),
+        Err(_) => 0,
     }
 }
 
@@ -69,26 +80,47 @@ pub struct StandardError<'a, R> {
 
 impl<'a, R> StandardError<'a, R> {
     /// That of this runtime.
-    pub fn new(rt: &'a R) -> StandardError<'a, R> {
+    pub fn new(rt: &'a R) -> StandardError<'a, R>
+        ensures { result.rt.now ≡ rt.now }
+    {
         StandardError { rt }
     }
 }
 
-// Bytes that are no UTF-8 are written as `\xNN`, and with them all others that are not ASCII.
+// Prints all of the bytes, or fails. A terminal may take control characters for commands, so they
+// are not printed as they are.
+fn print<R: Eprint>(rt: &R, bytes: &[u8]) -> io::Result<usize>
+    ensures { IfOk result (λ taken. taken ≡ length bytes.now) }
+{
+    match str::from_utf8(bytes) {
+        Ok(text) if !text.chars().any(is_control) => rt.eprint(text)?,
+        _ => print_escaped(rt, bytes)?,
+    }
+    Ok(bytes.len())
+}
+
+// Whether it is a control character, and does not end a line.
+fn is_control(character: char) -> bool {
+    character.is_control() && character != '\n'
+}
+
+// Prints each byte that is no printable ASCII and no line end as `\xNN`.
+fn print_escaped<R: Eprint>(rt: &R, bytes: &[u8]) -> io::Result<()> {
+    for byte in bytes {
+        if byte.is_ascii_graphic() || *byte == b' ' || *byte == b'\n' {
+            rt.eprint(char::from(*byte))?;
+        } else {
+            rt.eprint(format_args!("\\x{byte:02X}"))?;
+        }
+    }
+    Ok(())
+}
+
+// Bytes that are no UTF-8 or have control characters are written as `\xNN`, and with them all
+// others of the line that are no printable ASCII.
 impl<R: Eprint> Write for StandardError<'_, R> {
     fn write(&mut self, bytes: &[u8]) -> io::Result<usize> {
-        if let Ok(text) = str::from_utf8(bytes) {
-            self.rt.eprint(text)?;
-            return Ok(bytes.len());
-        }
-        for byte in bytes {
-            if byte.is_ascii() {
-                self.rt.eprint(char::from(*byte))?;
-            } else {
-                self.rt.eprint(format_args!("\\x{byte:02X}"))?;
-            }
-        }
-        Ok(bytes.len())
+        print(self.rt, bytes)
     }
 
     fn flush(&mut self) -> io::Result<()> {

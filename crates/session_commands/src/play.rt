@@ -4,22 +4,21 @@ ghost use Rattle.std.specs.Prelude.{◌≡◌, true, false, IfErr, IfOk, OnOk, s
 ghost use Rattle.std.specs.Io.KnownBytes.{Appends};
 ghost use Rattle.session_commands.specs.Endings.{IsEndText};
 ghost use Rattle.session_commands.specs.Kept.{IsKept, KeepsRecord, report_of};
-ghost use Rattle.session_commands.specs.Logins.{AreLoginWords, HasNoLogin, IsLoginOf, IsPlayed};
-ghost use Rattle.session_commands.specs.Playing.{ClosesLog, IsReported, IsUnreported, PlaysAndKeeps, PlaysFor, PlaysIn};
+ghost use Rattle.session_setup.specs.Logins.{AreLoginWords, HasNoLogin, IsLoginOf, IsPlayed};
+ghost use Rattle.session_commands.specs.Playing.{ClosesLog, IsReported, IsUnreported, PlaysAndKeeps, PlaysFor, PlaysIn, session_end};
 ghost use Rattle.session_commands.specs.Words.{played_line};
 ghost use Rattle.bridge_table.specs.declared.state.ClientState.{ClientState};
 ghost use Rattle.shogi_session.specs.State.{client_state, first_state};
 
 use crate::bridging::{Ends, play};
-use crate::children::System;
-use crate::disk::LocalDisk;
-use crate::fault::{MatchFault, PlayFault};
-use crate::house::{House, Local};
-use crate::login::{Login, RuntimeSecrets, Secrets, login_of};
-use crate::out_file::{Named, Place};
-use crate::paths;
+use crate::children::{SessionEnd, System};
+use crate::launcher::{Launcher, Local};
 use crate::progress::Progress;
 use record_commands::streams;
+use session_setup::disk::LocalDisk;
+use session_setup::login::{Login, RuntimeSecrets, Secrets, login_of};
+use session_setup::out_file::{Named, Place};
+use session_setup::{MatchFault, PlayCommandFault, paths};
 use shogi_board::OutOfMemory;
 use shogi_session::{Bridge, ClientState, Config};
 use shogi_words::Plan;
@@ -39,10 +38,10 @@ use std::time::Clock;
 ///
 /// Before anything is started, refuses `Plan` if the words of the plan do not go together or the
 /// log is a file that is needed, `BadName`, `Read` if the file with the password cannot be read,
-/// `BadPassword`, `Write` if there can be no new file beside that of the record or if the log cannot
-/// be made, and `OutOfMemory`. After that refuses `Session` if the session fails, `Endless` if it
-/// goes on for 2^64 - 1 rounds, `Write` if the record, the log or the last line cannot be written,
-/// and `OutOfMemory`.
+/// `BadPassword`, `Write` if there can be no new file beside that of the record or if the log
+/// cannot be made, and `OutOfMemory`. After that refuses `Session` if the session fails, `Endless`
+/// if it goes on for 2^64 - 1 rounds, `Write` if the record, the log or the last line cannot be
+/// written, and `OutOfMemory`.
 pub fn run<
     R: Env
         + Files<File = File>
@@ -52,64 +51,65 @@ pub fn run<
         + Print
         + Eprint
         + AllocGlobal,
->(rt: &R, plan: &Plan<'_, '_>) -> Result<(), PlayFault> {
+>(rt: &R, plan: &Plan<'_, '_>) -> Result<(), PlayCommandFault> {
     paths::check(plan)?;
     paths::check_files(rt, plan)?;
     let secrets = RuntimeSecrets::new(rt);
-    let mut house = Local::new(rt.alloc(), System::new(rt, plan.is_shown));
+    let mut launcher = Local::new(rt.alloc(), System::new(rt, plan.is_shown));
     let mut place = Named::new(rt.alloc(), LocalDisk::new(rt), plan.out);
     let mut out = io::writer(rt);
-    let played = play_planned(rt, &secrets, &mut house, &mut place, &mut out, plan);
+    let played = play_planned(rt, &secrets, &mut launcher, &mut place, &mut out, plan);
     if let Err(fault) = played {
-        house.note_fault(fault)?;
+        launcher.note_fault(fault)?;
     }
     played
 }
 
-// Plays the planned game in the house with the login that the plan asks for, and prints the number
-// of its moves.
-fn play_planned<R: Eprint + AllocGlobal, S: Secrets, H: House, P: Place, W: Write>(
+// Plays the planned game between the programs of the launcher with the login that the plan asks
+// for, and prints the number of its moves.
+fn play_planned<R: Eprint + AllocGlobal, S: Secrets, H: Launcher, P: Place, W: Write>(
     rt: &R,
     secrets: &S,
-    house: &mut H,
+    launcher: &mut H,
     place: &mut P,
     out: &mut W,
     plan: &Plan<'_, '_>,
-) -> Result<(), PlayFault>
+) -> Result<(), PlayCommandFault>
     ensures { IsPlayed
         (IsLoginOf S.opens S.File.Read.remaining S.holds secrets.now plan.now)
         (HasNoLogin S.opens S.opens_not S.File.Read.remaining
         S.holds S.holds_no_text secrets.now plan.now)
-        (λ login. IsReported (PlaysFor H.opened H.unopened
-        H.shut H.Both.Ends.came H.Both.Ends.missed H.Both.Ends.went H.Both.Ends.gone
-        H.Both.Ends.closed P.begun P.unbegun P.took P.refused P.dropped P.replaced
-        plan.now login house.old place.old house.new place.new)
+        (λ login. IsReported (PlaysFor H.started H.unstarted
+        H.stopped H.Peers.Ends.came H.Peers.Ends.missed H.Peers.Ends.went H.Peers.Ends.gone
+        H.Peers.Ends.closed P.begun P.unbegun P.took P.refused P.dropped P.replaced
+        plan.now login launcher.old place.old launcher.new place.new)
         W.contents out.old out.new)
-        ((house.new ≡ house.old) × (place.new ≡ place.old) × (out.new ≡ out.old))
+        ((launcher.new ≡ launcher.old) × (place.new ≡ place.old) × (out.new ≡ out.old))
         result }
 {
     let login = login_of(rt.alloc(), secrets, plan)?;
-    report(rt, &login, house, place, out, plan)?;
+    report(rt, &login, launcher, place, out, plan)?;
     Ok(())
 }
 
-// Plays the planned game in the house with that login, and prints the number of its moves.
-fn report<R: Eprint + AllocGlobal, H: House, P: Place, W: Write>(
+// Plays the planned game between the programs of the launcher with that login, and prints the
+// number of its moves.
+fn report<R: Eprint + AllocGlobal, H: Launcher, P: Place, W: Write>(
     rt: &R,
     login: &Login,
-    house: &mut H,
+    launcher: &mut H,
     place: &mut P,
     out: &mut W,
     plan: &Plan<'_, '_>,
 ) -> Result<(), MatchFault>
     requires { AreLoginWords login.now }
-    ensures { IsReported (PlaysFor H.opened H.unopened
-        H.shut H.Both.Ends.came H.Both.Ends.missed H.Both.Ends.went H.Both.Ends.gone
-        H.Both.Ends.closed P.begun P.unbegun P.took P.refused P.dropped P.replaced
-        plan.now login.now house.old place.old house.new place.new)
+    ensures { IsReported (PlaysFor H.started H.unstarted
+        H.stopped H.Peers.Ends.came H.Peers.Ends.missed H.Peers.Ends.went H.Peers.Ends.gone
+        H.Peers.Ends.closed P.begun P.unbegun P.took P.refused P.dropped P.replaced
+        plan.now login.now launcher.old place.old launcher.new place.new)
         W.contents out.old out.new result }
 {
-    let moves = play_for(rt, login, house, place, plan)?;
+    let moves = play_for(rt, login, launcher, place, plan)?;
     print_moves(rt.alloc(), out, moves)
 }
 
@@ -131,43 +131,43 @@ fn played_line(alloc: Global, moves: usize) -> Result<String, AllocError>
     format!(in alloc; "played {moves}\n")
 }
 
-// Plays the planned game in the house with that login, if its record can be written. Returns the
-// number of moves of the game.
-fn play_for<R: Eprint + AllocGlobal, H: House, P: Place>(
+// Plays the planned game between the programs of the launcher with that login, if its record can
+// be written. Returns the number of moves of the game.
+fn play_for<R: Eprint + AllocGlobal, H: Launcher, P: Place>(
     rt: &R,
     login: &Login,
-    house: &mut H,
+    launcher: &mut H,
     place: &mut P,
     plan: &Plan<'_, '_>,
 ) -> Result<usize, MatchFault>
     requires { AreLoginWords login.now }
-    ensures { PlaysFor H.opened H.unopened
-        H.shut H.Both.Ends.came H.Both.Ends.missed H.Both.Ends.went H.Both.Ends.gone
-        H.Both.Ends.closed P.begun P.unbegun P.took P.refused P.dropped P.replaced
-        plan.now login.now house.old place.old house.new place.new result }
+    ensures { PlaysFor H.started H.unstarted
+        H.stopped H.Peers.Ends.came H.Peers.Ends.missed H.Peers.Ends.went H.Peers.Ends.gone
+        H.Peers.Ends.closed P.begun P.unbegun P.took P.refused P.dropped P.replaced
+        plan.now login.now launcher.old place.old launcher.new place.new result }
 {
     let draft = place.begin()?;
-    play_in(rt, login, house, place, draft, plan)
+    play_in(rt, login, launcher, place, draft, plan)
 }
 
-// Plays the planned game in the house with that login, and writes its record to the draft. Returns
-// the number of moves of the game.
-fn play_in<R: Eprint + AllocGlobal, H: House, P: Place>(
+// Plays the planned game between the programs of the launcher with that login, and writes its
+// record to the draft. Returns the number of moves of the game.
+fn play_in<R: Eprint + AllocGlobal, H: Launcher, P: Place>(
     rt: &R,
     login: &Login,
-    house: &mut H,
+    launcher: &mut H,
     place: &mut P,
     draft: P::Draft,
     plan: &Plan<'_, '_>,
 ) -> Result<usize, MatchFault>
     requires { AreLoginWords login.now }
-    ensures played { PlaysIn H.opened H.unopened
-        H.shut H.Both.Ends.came H.Both.Ends.missed H.Both.Ends.went H.Both.Ends.gone
-        H.Both.Ends.closed P.took P.refused P.dropped P.replaced draft
-        plan.now login.now house.old place.old house.new place.new result }
+    ensures played { PlaysIn H.started H.unstarted
+        H.stopped H.Peers.Ends.came H.Peers.Ends.missed H.Peers.Ends.went H.Peers.Ends.gone
+        H.Peers.Ends.closed P.took P.refused P.dropped P.replaced draft
+        plan.now login.now launcher.old place.old launcher.new place.new result }
 {
-    let (mut both, running) = match house.open(plan) {
-        Ok(opened) => opened,
+    let (mut peers, running) = match launcher.start(plan) {
+        Ok(started) => started,
         Err(fault) => {
             place.abandon(draft);
             return Err(fault);
@@ -177,20 +177,19 @@ fn play_in<R: Eprint + AllocGlobal, H: House, P: Place>(
         Ok(bridge) => bridge,
         Err(_) => {
             place.abandon(draft);
-            house.shut(both, running, false);
+            launcher.stop(peers, running, SessionEnd::BrokenOff);
             return Err(MatchFault::OutOfMemory);
         }
     };
-    let game = play_between(rt, &mut bridge, &mut both, place, draft, plan.is_shown);
-    house.shut(both, running, game.ended_well);
+    let game = play_between(rt, &mut bridge, &mut peers, place, draft, plan.is_shown);
+    launcher.stop(peers, running, game.session);
     game.moves
 }
 
 // What a session and its game came to.
 #[derive(Clone, Copy, Debug)]
 struct Kept {
-    // Whether the session ended well.
-    ended_well: bool,
+    session: SessionEnd,
     // The number of moves of the game, or the fault to report.
     moves: Result<usize, MatchFault>,
 }
@@ -206,15 +205,26 @@ fn play_between<R: Eprint + AllocGlobal, E: Ends, P: Place>(
 ) -> Kept
     ensures whole { PlaysAndKeeps E.came E.missed E.went E.gone E.closed
         P.took P.refused P.dropped P.replaced draft ends.old bridge.old place.old
-        ends.new bridge.new place.new result.ended_well result.moves }
+        ends.new bridge.new place.new result.session result.moves }
 {
     let mut progress = Progress::new(is_shown);
     progress.begin(rt);
     let played = play(rt, bridge, ends, &mut progress);
+    progress.finish(rt, played);
     let kept = keep_game(place, draft, bridge, played);
     Kept {
-        ended_well: played.is_ok(),
+        session: session_end(played),
         moves: close_log(rt.alloc(), ends, &progress, played, kept),
+    }
+}
+
+// How a session with this outcome ended.
+fn session_end(played: Result<(), MatchFault>) -> SessionEnd
+    ensures { result ≡ session_end played }
+{
+    match played {
+        Ok(()) => SessionEnd::Finished,
+        Err(_) => SessionEnd::BrokenOff,
     }
 }
 

@@ -1,8 +1,7 @@
 //! The line with which a server says its port.
 
-ghost use Rattle.std.specs.Prelude.{◌≡◌, ℕ, List, None, IfOk, IfSome, MatchOption, decimal};
-ghost use Rattle.record_commands.specs.Incoming.{GivesLine};
-ghost use Rattle.session_commands.specs.Ports.{IsPort, IsPortLine, SaysNoPort};
+ghost use Rattle.std.specs.Prelude.{◌≡◌, ℕ, IfOk, MatchOption, decimal};
+ghost use Rattle.session_commands.specs.Ports.{IsPort, IsPortLine, SaysFirst};
 
 use itoa::Buffer;
 use record_commands::incoming::{Incoming, LineEvent};
@@ -10,15 +9,33 @@ use shogi_board::OutOfMemory;
 use std::io::Read;
 use std::str;
 
-/// The port in the server's first line, or None if that is another line.
-pub fn listening_port<T: Read + Drop>(lines: &mut Incoming<T>) -> Result<Option<u16>, OutOfMemory>
-    ensures first { IfOk result (λ found. IfSome found (λ port. (line : List ℕ)
-        × GivesLine lines.old.bytes lines.new.bytes line × IsPortLine line port)) }
-    ensures none { IfOk result (λ found. found ≡ None → SaysNoPort lines.old lines.new) }
+/// What the first line of a server says.
+#[derive(Clone, Copy, Debug, PartialEq, Eq)]
+pub enum FirstLine {
+    /// Its port.
+    Port(u16),
+    /// No port.
+    Other,
+    /// More than 65,536 bytes.
+    Long,
+    /// Nothing: the server ended before it, or it cannot be read.
+    Missing,
+}
+
+/// What the server's first line says. The line is then the last one of `lines`.
+///
+/// Returns `OutOfMemory` if an allocation fails.
+pub fn first_line<T: Read + Drop>(lines: &mut Incoming<T>) -> Result<FirstLine, OutOfMemory>
+    ensures first { IfOk result (SaysFirst lines.old lines.new) }
 {
     match lines.read_line()? {
-        LineEvent::Line => Ok(port_of(lines.line())),
-        LineEvent::End | LineEvent::Long | LineEvent::Failed => Ok(None),
+        LineEvent::Line => match port_of(lines.line()) {
+            Some(port) => Ok(FirstLine::Port(port)),
+            None => Ok(FirstLine::Other),
+        },
+        LineEvent::Long => Ok(FirstLine::Long),
+        LineEvent::End => Ok(FirstLine::Missing),
+        LineEvent::Failed => Ok(FirstLine::Missing),
     }
 }
 

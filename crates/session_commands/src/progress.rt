@@ -3,20 +3,15 @@
 ghost use Rattle.std.specs.Prelude.{◌≡◌, ◌⊎◌, ◌↔◌, ◌+◌, ◌<◌, ◌≤◌, ◌^◌, ℕ, length, true, false, None, Some, IfOk, IsTrue, string_bytes};
 ghost use Rattle.std.specs.List.{position_or_len};
 ghost use Rattle.session_commands.specs.Comments.{is_quote, without_comment};
-ghost use Rattle.session_commands.specs.Endings.{IsEndText, kept_with, nothing_said, quoted};
+ghost use Rattle.session_commands.specs.Endings.{IsEndText, IsKeptAfter, nothing_said, with_long};
 ghost use Rattle.session_commands.specs.Showing.{IsCountOf};
-ghost use Rattle.session_commands.specs.declared.bridging.Seat.{Seat};
-ghost use Rattle.session_commands.specs.declared.ending.Said.{Said};
-ghost use Rattle.bridge_table.specs.declared.event.Status.{Status};
-ghost use Rattle.bridge_table.specs.declared.fault.MoveCause.{MoveCause};
-ghost use Rattle.bridge_table.specs.declared.fault.SessionFault.{SessionFault};
 ghost use Rattle.session_lines.specs.MoveLines.{is_move_line};
 ghost use Rattle.shogi_session.specs.State.{client_state};
 
-use crate::bridging::Seat;
-use crate::ending::{self, Ending, Moment, Said};
-use crate::fault::MatchFault;
+use crate::bridging::Peer;
+use crate::ending::{self, EndEvent, EndNotes, Excerpt, Snapshot};
 use session_lines::is_move_line;
+use session_setup::MatchFault;
 use shogi_session::{Bridge, ClientState, Status};
 use std::alloc::{AllocError, Global};
 use std::io::Eprint;
@@ -28,7 +23,10 @@ use std::str;
 pub struct Progress {
     is_shown: bool,
     moves: Option<u64>,
-    ending: Ending,
+    ending: EndNotes,
+    // The last line of each peer.
+    engine_line: Option<Excerpt>,
+    server_line: Option<Excerpt>,
 }
 
 impl Model for Progress {
@@ -49,7 +47,9 @@ impl Progress {
         Progress {
             is_shown,
             moves: None,
-            ending: Ending::new(),
+            ending: EndNotes::new(),
+            engine_line: None,
+            server_line: None,
         }
     }
 
@@ -67,7 +67,7 @@ impl Progress {
             × ((client_state bridge.now.state.client ≡ ClientState.Playing)
             ⊎ (client_state bridge.now.state.client ≡ ClientState.Sent)) }
     {
-        self.is_shown && is_playing(bridge.client_state())
+        self.is_shown && ending::is_in_play(bridge.client_state())
     }
 
     /// If the line that the bridge took is a move, shows its number, the move and its time. An
@@ -94,37 +94,80 @@ impl Progress {
         }
     }
 
-    /// Keeps what a line from that seat says of the end, if it led the bridge from one moment to
-    /// the other and to this status. Shows it too, if moves are shown. An error of standard error is
-    /// ignored.
+    /// Keeps what a line from that peer says of the end, if it led the bridge from one snapshot to
+    /// the other and to this status. Shows it too, if moves are shown. An error of standard error
+    /// is ignored.
     pub fn watch<R: Eprint + AllocGlobal>(
         &mut self,
         rt: &R,
-        before: Moment,
-        after: Moment,
-        seat: Seat,
+        before: Snapshot,
+        after: Snapshot,
+        peer: Peer,
         line: &[u8],
         status: Status,
     )
         ensures showing { (self.new.is_on ≡ self.old.is_on) × (self.new.moves ≡ self.old.moves) }
-        ensures slip { seat ≡ Seat.Engine → after.slip ≡ true → before.slip ≡ false
-            → self.new.ended ≡ kept_with Said.Slip (quoted line.now) self.old.ended }
-        ensures refused { (cause : MoveCause) → seat ≡ Seat.Server
-            → status ≡ Status.Failed (SessionFault.BadServerMove cause)
-            → self.new.ended ≡ kept_with (Said.Refused cause) (quoted line.now) self.old.ended }
+        ensures ended { IsKeptAfter before after line.now peer status self.old.ended self.new.ended }
     {
         if self.is_shown && before.client == ClientState::Idle && after.client != before.client {
             let _ = rt.eprintln("waiting for the server to begin a game");
         }
-        let Some(said) = ending::end_in(before, after, seat, line, status) else {
+        self.keep_line(peer, line);
+        let Some(event) = ending::end_in(before, after, peer, line, status) else {
             return;
         };
-        self.ending.keep(said, line);
+        self.ending.keep(event, line);
         if self.is_shown {
-            if let Ok(text) = shown_end(rt.alloc(), said, line) {
+            if let Ok(text) = shown_end(rt.alloc(), event, line) {
                 let _ = rt.eprint(text.as_str());
             }
         }
+    }
+
+    // Keeps a line as the last one of its peer.
+    fn keep_line(&mut self, peer: Peer, line: &[u8])
+        ensures { self.new ≡ self.old }
+    {
+        let line = ending::excerpt_of(line);
+        match peer {
+            Peer::Engine => self.engine_line = Some(line),
+            Peer::Server => self.server_line = Some(line),
+        }
+    }
+
+    /// Keeps that a line of this peer is too long. Shows it too, if moves are shown. An error of
+    /// standard error is ignored.
+    pub fn watch_long<R: Eprint>(&mut self, rt: &R, peer: Peer)
+        ensures showing { (self.new.is_on ≡ self.old.is_on) × (self.new.moves ≡ self.old.moves) }
+        ensures ended { self.new.ended ≡ with_long peer self.old.ended }
+    {
+        self.ending.keep_long(peer);
+        if self.is_shown {
+            let _ = rt.eprintln(ending::long_line(peer));
+        }
+    }
+
+    /// Says which peer has ended, and its last line, if that is why the session failed and moves are
+    /// shown. An error of standard error is ignored.
+    pub fn finish<R: Eprint>(&self, rt: &R, played: Result<(), MatchFault>) {
+        let Err(fault) = played else {
+            return;
+        };
+        let Some(peer) = ending::gone_peer(fault) else {
+            return;
+        };
+        if !self.is_shown {
+            return;
+        }
+        let words = ending::gone_line(peer);
+        let last = match peer {
+            Peer::Engine => &self.engine_line,
+            Peer::Server => &self.server_line,
+        };
+        let _ = match last {
+            Some(line) => rt.eprintln(format_args!("{words} after {line}")),
+            None => rt.eprintln(words),
+        };
     }
 
     /// How the session ended, in lines for its log. Returns an error if an allocation fails.
@@ -141,12 +184,15 @@ impl Progress {
 
 // What is shown of a line that says this of the end: of the server's words the line itself. Returns
 // an error if an allocation fails.
-fn shown_end(alloc: Global, said: Said, line: &[u8]) -> Result<String, AllocError> {
-    let front = ending::front_of(without_comment(line));
-    match said {
-        Said::Slip => ending::slip_line(alloc, front.as_str()),
-        Said::Refused(cause) => ending::refused_line(alloc, front.as_str(), cause),
-        Said::Ending | Said::Reason | Said::Result => format!(in alloc; "{front}\n"),
+fn shown_end(alloc: Global, event: EndEvent, line: &[u8]) -> Result<String, AllocError> {
+    let whole = ending::excerpt_of(line);
+    match event {
+        EndEvent::Slip => ending::slip_line(alloc, whole.as_str()),
+        EndEvent::Refused(fault) => ending::refused_line(alloc, whole.as_str(), fault),
+        EndEvent::Ending | EndEvent::Reason | EndEvent::Result => {
+            let front = ending::excerpt_of(without_comment(line));
+            format!(in alloc; "{front}\n")
+        }
     }
 }
 
@@ -157,15 +203,6 @@ fn first_number(bridge: &Bridge) -> u64
     match bridge.moves() {
         Some(moves) => moves as u64,
         None => 0,
-    }
-}
-
-fn is_playing(state: ClientState) -> bool
-    ensures { IsTrue result ↔ ((state ≡ ClientState.Playing) ⊎ (state ≡ ClientState.Sent)) }
-{
-    match state {
-        ClientState::Playing | ClientState::Sent => true,
-        _ => false,
     }
 }
 

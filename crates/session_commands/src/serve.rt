@@ -1,8 +1,9 @@
 //! A CSA server on localhost, which plays one game with one client.
 
-ghost use Rattle.std.specs.Prelude.{◌≡◌, ◌≤◌, ◌++◌, ◌∷◌, [], true, false, Ok, Err, IfErr, IfOk, IsOk, IsErrOf, OnOk, string_bytes};
-ghost use Rattle.session_commands.specs.declared.fault.ServeFault.{ServeFault};
-ghost use Rattle.session_commands.specs.declared.fault.TalkFault.{TalkFault};
+ghost use Rattle.std.specs.Prelude.{◌≡◌, ◌≤◌, ◌++◌, ◌∷◌, [], Ok, Err, IfErr, IfOk, IsOk, IsErrOf, OnOk, string_bytes};
+ghost use Rattle.session_setup.specs.declared.fault.ServeFault.{ServeFault};
+ghost use Rattle.session_setup.specs.declared.fault.TalkFault.{TalkFault};
+ghost use Rattle.session_commands.specs.declared.talk.MachineState.{MachineState};
 ghost use Rattle.std.specs.Io.KnownBytes.{Appends};
 ghost use Rattle.session_commands.specs.Door.{HasHosted, IsUnprinted};
 ghost use Rattle.session_commands.specs.Offering.{HasServed, OffersGame};
@@ -12,11 +13,11 @@ ghost use Rattle.shogi_session.specs.Hosting.{HostSession};
 ghost use Rattle.shogi_rules.specs.Positions as positions;
 
 use crate::door::{Door, LocalDoor};
-use crate::fault::{ServeFault, TalkFault};
-use crate::talk::{self, Machine};
+use crate::talk::{self, Machine, MachineState};
 use crate::wire::{Exchange, Wire};
 use arrayvec::ArrayString;
 use record_commands::streams;
+use session_setup::{ServeFault, TalkFault};
 use shogi_board::OutOfMemory;
 use shogi_session::{Host, HostConfig};
 use shogi_words::Service;
@@ -41,7 +42,7 @@ pub fn run<R: Net<Listener = TcpListener, Stream = TcpStream> + Print + AllocGlo
         × HasAnswered ⟦<Exchange<TcpStream, TcpStream> as Wire>⟧.came
         ⟦<Exchange<TcpStream, TcpStream> as Wire>⟧.ends
         ⟦<Exchange<TcpStream, TcpStream> as Wire>⟧.went
-        ⟦<Host as Machine>⟧.answers before old true after new) }
+        ⟦<Host as Machine>⟧.answers before old MachineState.Ended after new) }
 {
     let mut door = LocalDoor::new(rt);
     serve(rt.alloc(), &mut door, &mut io::writer(rt), service)
@@ -77,15 +78,15 @@ fn play<X: Wire>(alloc: Global, service: Service, wire: &mut X) -> Result<(), Se
 }
 
 // What the answered lines mean for the client: that its session is over, or a fault.
-fn served(answered: Result<bool, TalkFault>) -> Result<(), ServeFault>
-    ensures over { answered ≡ Ok true → IsOk result }
-    ensures gone { answered ≡ Ok false → IsErrOf result ServeFault.ClientGone }
+fn served(answered: Result<MachineState, TalkFault>) -> Result<(), ServeFault>
+    ensures over { answered ≡ Ok MachineState.Ended → IsOk result }
+    ensures gone { answered ≡ Ok MachineState.Running → IsErrOf result ServeFault.ClientGone }
     ensures broken { (fault : TalkFault)
         → answered ≡ Err fault → IsErrOf result (ServeFault.Talk fault) }
 {
     match answered {
-        Ok(true) => Ok(()),
-        Ok(false) => Err(ServeFault::ClientGone),
+        Ok(MachineState::Ended) => Ok(()),
+        Ok(MachineState::Running) => Err(ServeFault::ClientGone),
         Err(fault) => Err(ServeFault::Talk(fault)),
     }
 }

@@ -1,35 +1,46 @@
 //! A machine that answers each line that comes over a wire, before more is received.
 
-ghost use Rattle.std.specs.Prelude.{◌≡◌, ◌<◌, ◌≤◌, ◌↔◌, ℕ, Bool, List, length, IfOk, IfErr, IfSome, IsTrue};
+ghost use Rattle.std.specs.Prelude.{◌≡◌, ◌<◌, ◌≤◌, ◌↔◌, ℕ, List, length, IfOk, IfErr, IfSome};
 ghost use Rattle.session_commands.specs.Talking.{EndsTalk, IsReply, TakesNext, TakesPiece};
-ghost use Rattle.session_commands.specs.Talks.{BreaksOff, HasAnswered, IsUnsent};
+ghost use Rattle.session_commands.specs.Talks.{BreaksOff, HasAnswered, IsUnsent, state_of};
+ghost use Rattle.session_commands.specs.declared.talk.MachineState.{MachineState};
 
-use crate::fault::TalkFault;
 use crate::wire::Wire;
 use csa_cutting::LineCutter;
 use csa_record::PIECE;
 use record_commands::streams;
+use session_setup::TalkFault;
 use shogi_board::OutOfMemory;
 use shogi_session::{Host, HostOut, Sample, SampleOut};
 use std::alloc::Global;
+
+/// Whether a machine answers more lines.
+#[derive(Clone, Copy, Debug, PartialEq, Eq)]
+pub enum MachineState {
+    /// It answers the next one.
+    Running,
+    /// It has ended, and answers none.
+    Ended,
+}
 
 /// What answers lines, as the sample engine does: with the lines to send, and whether it has ended.
 pub trait Machine {
     // The machine, a line, the bytes of its answer, whether the machine has ended, and the machine
     // after it.
-    ghost answers: { Self → List ℕ → List ℕ → Bool → Self → Type 0 };
+    ghost answers: { Self → List ℕ → List ℕ → MachineState → Self → Type 0 };
 
     /// Answers a line. `line` has no line end. Returns `OutOfMemory` if an allocation fails.
     fn answer(&mut self, line: &[u8]) -> Result<SampleOut, OutOfMemory>
         ensures answer { IfOk result
-            (λ reply. answers self.old line.now reply.lines reply.ended self.new) };
+            (λ reply. answers self.old line.now reply.lines (state_of reply.ended) self.new) };
 }
 
 impl Machine for Sample {
     ghost use Rattle.shogi_session.specs.Requests.{RowText};
     ghost use Rattle.shogi_session.specs.Sample.{quit};
 
-    ghost answers = { (λ s line text over t. RowText s line text t × (IsTrue over ↔ (t ≡ quit))) };
+    ghost answers = { (λ s line text state t. RowText s line text t
+        × ((state ≡ MachineState.Ended) ↔ (t ≡ quit))) };
 
     fn answer(&mut self, line: &[u8]) -> Result<SampleOut, OutOfMemory> {
         self.step(line)
@@ -42,9 +53,9 @@ impl Machine for Host {
     ghost use Rattle.shogi_session.specs.Hosting.{RowText};
     ghost use Rattle.shogi_session.specs.Texts.{without_last_spaces};
 
-    ghost answers = { (λ s line text over t.
+    ghost answers = { (λ s line text state t.
         RowText s.config s.state (without_last_spaces line) 0 text t.state
-        × (t.config ≡ s.config) × (IsTrue over ↔ (t.state ≡ ended))) };
+        × (t.config ≡ s.config) × ((state ≡ MachineState.Ended) ↔ (t.state ≡ ended))) };
 
     fn answer(&mut self, line: &[u8]) -> Result<SampleOut, OutOfMemory> {
         let HostOut { to_client, ended } = self.step(line, 0)?;
@@ -65,9 +76,9 @@ pub fn answer_all<M: Machine, X: Wire>(
     alloc: Global,
     machine: &mut M,
     wire: &mut X,
-) -> Result<bool, TalkFault>
-    ensures answered { IfOk result (λ ended. HasAnswered
-        X.came X.ends X.went M.answers wire.old machine.old ended wire.new machine.new) }
+) -> Result<MachineState, TalkFault>
+    ensures answered { IfOk result (λ state. HasAnswered
+        X.came X.ends X.went M.answers wire.old machine.old state wire.new machine.new) }
     ensures breaks_off { IfErr result (λ fault. BreaksOff
         X.came X.ends X.went X.silent X.blocked M.answers wire.old machine.old fault wire.new) }
 {
@@ -78,9 +89,9 @@ pub fn answer_all<M: Machine, X: Wire>(
         if taken == 0 {
             return answer_last(&mut cutter, machine, wire);
         }
-        let ended = answer_piece(&mut cutter, machine, wire, &buffer[..taken])?;
-        if ended {
-            return Ok(true);
+        match answer_piece(&mut cutter, machine, wire, &buffer[..taken])? {
+            MachineState::Running => {}
+            MachineState::Ended => return Ok(MachineState::Ended),
         }
     }
     Err(TalkFault::Read)
@@ -92,7 +103,7 @@ fn answer_last<M: Machine, X: Wire>(
     cutter: &mut LineCutter,
     machine: &mut M,
     wire: &mut X,
-) -> Result<bool, TalkFault>
+) -> Result<MachineState, TalkFault>
     ensures talk { EndsTalk X.came X.ends X.went
         X.silent X.blocked M.answers cutter.old wire.old machine.old result wire.new machine.new }
 {
@@ -102,7 +113,7 @@ fn answer_last<M: Machine, X: Wire>(
     };
     match last {
         Some(line) => answer(machine, wire, line),
-        None => Ok(false),
+        None => Ok(MachineState::Running),
     }
 }
 
@@ -112,18 +123,18 @@ fn answer_piece<M: Machine, X: Wire>(
     machine: &mut M,
     wire: &mut X,
     piece: &[u8],
-) -> Result<bool, TalkFault>
+) -> Result<MachineState, TalkFault>
     ensures talk { TakesPiece X.came X.ends X.went X.silent X.blocked
         M.answers cutter.old piece.now wire.old machine.old result cutter.new wire.new machine.new }
 {
     let mut used = 0;
     while used < piece.len() {
         let Some(more) = answer_next(cutter, machine, wire, &piece[used..])? else {
-            return Ok(true);
+            return Ok(MachineState::Ended);
         };
         used += more;
     }
-    Ok(false)
+    Ok(MachineState::Running)
 }
 
 // Answers the line that ends in the piece, if one does. Returns how many bytes of the piece were
@@ -146,11 +157,10 @@ fn answer_next<M: Machine, X: Wire>(
     let Some(line) = line else {
         return Ok(Some(used));
     };
-    let ended = answer(machine, wire, line)?;
-    if ended {
-        return Ok(None);
+    match answer(machine, wire, line)? {
+        MachineState::Running => Ok(Some(used)),
+        MachineState::Ended => Ok(None),
     }
-    Ok(Some(used))
 }
 
 // Answers a line. Returns whether the machine has ended.
@@ -158,9 +168,9 @@ fn answer<M: Machine, X: Wire>(
     machine: &mut M,
     wire: &mut X,
     line: &[u8],
-) -> Result<bool, TalkFault>
-    ensures replied { IfOk result (λ ended.
-        IsReply X.went M.answers wire.old machine.old line.now ended wire.new machine.new) }
+) -> Result<MachineState, TalkFault>
+    ensures replied { IfOk result (λ state.
+        IsReply X.went M.answers wire.old machine.old line.now state wire.new machine.new) }
     ensures unsent { IfErr result
         (λ fault. IsUnsent X.blocked M.answers wire.old machine.old line.now wire.new fault) }
 {
@@ -168,5 +178,15 @@ fn answer<M: Machine, X: Wire>(
         return Err(TalkFault::OutOfMemory);
     };
     wire.send(reply.lines.bytes())?;
-    Ok(reply.ended)
+    Ok(state_of(reply.ended))
+}
+
+fn state_of(ended: bool) -> MachineState
+    ensures { result ≡ state_of ended }
+{
+    if ended {
+        MachineState::Ended
+    } else {
+        MachineState::Running
+    }
 }

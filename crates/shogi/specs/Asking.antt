@@ -4,9 +4,9 @@ use Rattle.csa_record.specs.declared.flow.FlowFault.{FlowFault}
 use Rattle.record_commands.specs.declared.fault.PositionLineFault.{PositionLineFault}
 use Rattle.record_commands.specs.declared.fault.PositionLineFault.TheVariants.{Refused}
 use Rattle.archive_commands.specs.declared.many.Tally.{Tally}
-use Rattle.session_commands.specs.declared.fault.PlayFault.{PlayFault}
-use Rattle.session_commands.specs.declared.fault.ServeFault.{ServeFault}
-use Rattle.session_commands.specs.declared.fault.TalkFault.{TalkFault}
+use Rattle.session_setup.specs.declared.fault.PlayCommandFault.{PlayCommandFault}
+use Rattle.session_setup.specs.declared.fault.ServeFault.{ServeFault}
+use Rattle.session_setup.specs.declared.fault.TalkFault.{TalkFault}
 use Rattle.shogi.specs.Stops.{stop_of_line, stop_of_play, stop_of_record, stop_of_serve, stop_of_talk}
 use Rattle.shogi.specs.declared.stop.Stop.{Stop}
 use Rattle.shogi.specs.declared.stop.Stop.TheVariants.{NotAll}
@@ -30,4 +30,4 @@ IsStopOf (Csa file) stop =
     (fault : PositionLineFault) × (fault ≢ Refused OutOfMemory) × (stop ≡ stop_of_line fault)
 IsStopOf Engine stop = (fault : TalkFault) × (stop ≡ stop_of_talk fault)
 IsStopOf (Serve service) stop = (fault : ServeFault) × (stop ≡ stop_of_serve fault)
-IsStopOf (Play game) stop = (fault : PlayFault) × (stop ≡ stop_of_play fault)
+IsStopOf (Play game) stop = (fault : PlayCommandFault) × (stop ≡ stop_of_play fault)

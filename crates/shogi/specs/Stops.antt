@@ -1,19 +1,19 @@
 -- What the program reports if it ends early.
-use Rattle.std.specs.Prelude.{ℕ, List, Option, None, Some, codes, nat_lt, if◌then◌else◌}
+use Rattle.std.specs.Prelude.{◌++◌, ℕ, List, Option, None, Some, codes, nat_lt, if◌then◌else◌}
 use Rattle.csa_record.specs.declared.flow.FlowFault.{FlowFault}
 use Rattle.csa_record.specs.declared.flow.FlowFault.TheVariants as record_fault
 use Rattle.record_commands.specs.declared.fault.PositionLineFault.{PositionLineFault}
 use Rattle.record_commands.specs.declared.fault.PositionLineFault.TheVariants as line_fault
 use Rattle.archive_commands.specs.Many.{tally_line}
-use Rattle.session_commands.specs.declared.fault.LoginFault.TheVariants as login_fault
-use Rattle.session_commands.specs.declared.fault.MatchFault.TheVariants as match_fault
-use Rattle.session_commands.specs.declared.fault.PlanFault.TheVariants as plan_fault
-use Rattle.session_commands.specs.declared.fault.PlayFault.{PlayFault}
-use Rattle.session_commands.specs.declared.fault.PlayFault.TheVariants as play_fault
-use Rattle.session_commands.specs.declared.fault.ServeFault.{ServeFault}
-use Rattle.session_commands.specs.declared.fault.ServeFault.TheVariants as serve_fault
-use Rattle.session_commands.specs.declared.fault.TalkFault.{TalkFault}
-use Rattle.session_commands.specs.declared.fault.TalkFault.TheVariants as talk_fault
+use Rattle.session_setup.specs.Plans.{plan_text}
+use Rattle.session_setup.specs.declared.fault.LoginFault.TheVariants as login_fault
+use Rattle.session_setup.specs.declared.fault.MatchFault.TheVariants as match_fault
+use Rattle.session_setup.specs.declared.fault.PlayCommandFault.{PlayCommandFault}
+use Rattle.session_setup.specs.declared.fault.PlayCommandFault.TheVariants as play_fault
+use Rattle.session_setup.specs.declared.fault.ServeFault.{ServeFault}
+use Rattle.session_setup.specs.declared.fault.ServeFault.TheVariants as serve_fault
+use Rattle.session_setup.specs.declared.fault.TalkFault.{TalkFault}
+use Rattle.session_setup.specs.declared.fault.TalkFault.TheVariants as talk_fault
 use Rattle.shogi.specs.declared.stop.Stop.{Stop}
 use Rattle.shogi.specs.declared.stop.Stop.TheVariants.{WordsNotText, UnknownCommand, Plan, BadName, BadPassword, Refused, NotAll, LineRefused, LineTooLong, Read, Write, ClientGone, ClientLineTooLong, Session, OutOfMemory}
 
@@ -40,12 +40,7 @@ status_of OutOfMemory = 5
 abbrev pub stop_line : Stop → Option (List ℕ)
 stop_line WordsNotText = Some (codes "error: a word of the command line is not UTF-8")
 stop_line UnknownCommand = Some (codes "error: there is no such command")
-stop_line (Plan plan_fault.LogIsRecord) =
-    Some (codes "error: --log and --out must name different files")
-stop_line (Plan plan_fault.LogIsPasswordFile) =
-    Some (codes "error: --log and --password-file must name different files")
-stop_line (Plan plan_fault.NoPort) =
-    Some (codes "error: --connect must be HOST:PORT, as localhost:4081")
+stop_line (Plan fault) = Some (codes "error: " ++ plan_text fault)
 stop_line BadName = Some (codes "error: the name must be 1 to 32 bytes from 0x21 to 0x7E")
 stop_line BadPassword = Some (codes "error: the password must be 1 to 32 bytes from 0x21 to 0x7E")
 stop_line (Refused refusal) = None
@@ -90,7 +85,7 @@ stop_of_serve (serve_fault.Talk talk_fault.Write) = Write
 stop_of_serve (serve_fault.Talk talk_fault.OutOfMemory) = OutOfMemory
 
 -- of play
-abbrev pub stop_of_play : PlayFault → Stop
+abbrev pub stop_of_play : PlayCommandFault → Stop
 stop_of_play (play_fault.Plan why) = Plan why
 stop_of_play (play_fault.Login login_fault.BadName) = BadName
 stop_of_play (play_fault.Login login_fault.BadPassword) = BadPassword

@@ -87,7 +87,7 @@ fn answer<
         Ok(()) => ExitCode::SUCCESS,
         Err(stop) => {
             let _ = rt.eprintln(&stop);
-            if let Ok(line) = requests::explanation(rt, request, &stop) {
+            if let Ok(line) = requests::explanation(rt, request, &stop, terminals.error) {
                 let _ = rt.eprint(format_args!("{line}"));
             }
             ExitCode::from(stop.status())

@@ -3,7 +3,7 @@
 ghost use Rattle.std.specs.Prelude.{◌≡◌, ◌≤◌, IfErr, IfOk, OnOk, Some, string_bytes};
 ghost use Rattle.clap.specs.Words.{subcommand_name_of};
 ghost use Rattle.shogi.specs.Asking.{IsStopOf, IsStopOfFiles};
-ghost use Rattle.shogi.specs.Explained.{IsExplained};
+ghost use Rattle.shogi.specs.Explained.{IsExplained, IsFileExplained, IsPlayExplained, IsServeExplained};
 ghost use Rattle.shogi_rules.specs.Positions as positions;
 ghost use Rattle.shogi_words.specs.Words.{IsNoCommand, word_of};
 
@@ -13,9 +13,9 @@ use archive_commands::{LineKind, Tally, Verbosity, digest, explain, many, paths,
 use clap::ArgMatches;
 use record_commands::{check, csa, normal, usi};
 use record_game::Likeness;
-use session_commands::{engine, play, serve};
+use session_commands::{engine, play, reasons, serve};
 use shogi_board::OutOfMemory;
-use shogi_words::{Records, Request, Service, request_of};
+use shogi_words::{PasswordSource, Plan, Records, Request, Service, request_of};
 use std::fs::File;
 use std::io::Eprint;
 use std::net::{Net, TcpListener, TcpStream};
@@ -147,16 +147,73 @@ fn all_accepted<R: Eprint>(rt: &R, tally: Tally, is_terminal: bool) -> Result<()
     Ok(())
 }
 
-/// The line that explains why the one file of this request is refused or cannot be read, with LF,
-/// or nothing.
+/// The line that explains why the one file of this request is refused or cannot be read, why a file
+/// of a game cannot be read or written, or why nothing listens on a port, with LF, or nothing.
+/// `is_terminal` says whether standard error is a terminal.
 ///
 /// Returns an error if an allocation fails.
-pub fn explanation<R: Files + AllocGlobal>(
+pub fn explanation<R: Files + Net<Listener = TcpListener, Stream = TcpStream> + AllocGlobal>(
+    rt: &R,
+    request: &Request<'_, '_>,
+    stop: &Stop,
+    is_terminal: bool,
+) -> Result<String, OutOfMemory>
+    ensures explained { IfOk result (λ text.
+        IsExplained request.now stop.now (string_bytes text)) }
+{
+    match *request {
+        Request::Check(_) => file_explanation(rt, request, stop),
+        Request::Digest(_) => file_explanation(rt, request, stop),
+        Request::Same(_, _) => file_explanation(rt, request, stop),
+        Request::Normal(_) => file_explanation(rt, request, stop),
+        Request::Usi(_) => file_explanation(rt, request, stop),
+        Request::Csa(_) => file_explanation(rt, request, stop),
+        Request::Engine => file_explanation(rt, request, stop),
+        Request::Serve(service) => serve_explanation(rt, service.port, stop, is_terminal),
+        Request::Play(plan) => play_explanation(rt, &plan, stop),
+    }
+}
+
+// The line about a file of the plan, where its moves are shown too.
+fn play_explanation<R: Files + AllocGlobal>(
+    rt: &R,
+    plan: &Plan<'_, '_>,
+    stop: &Stop,
+) -> Result<String, OutOfMemory>
+    ensures explained { IfOk result (λ text. IsPlayExplained stop.now (string_bytes text)) }
+{
+    if !plan.is_shown {
+        return Ok(String::new(rt.alloc()));
+    }
+    match (plan.password, stop) {
+        (PasswordSource::File(file), Stop::Read) => reasons::unreadable(rt, file),
+        (_, Stop::Write) => reasons::unwritable(rt, plan),
+        _ => Ok(String::new(rt.alloc())),
+    }
+}
+
+// The line about the port, on a terminal.
+fn serve_explanation<R: Net<Listener = TcpListener, Stream = TcpStream> + AllocGlobal>(
+    rt: &R,
+    port: u16,
+    stop: &Stop,
+    is_terminal: bool,
+) -> Result<String, OutOfMemory>
+    ensures explained { IfOk result (λ text. IsServeExplained stop.now (string_bytes text)) }
+{
+    match (is_terminal, stop) {
+        (true, Stop::Read) => reasons::taken_port(rt, port),
+        _ => Ok(String::new(rt.alloc())),
+    }
+}
+
+// The line about the one file of the request.
+fn file_explanation<R: Files + AllocGlobal>(
     rt: &R,
     request: &Request<'_, '_>,
     stop: &Stop,
 ) -> Result<String, OutOfMemory>
-    ensures explained { IfOk result (λ text. IsExplained stop.now (string_bytes text)) }
+    ensures explained { IfOk result (λ text. IsFileExplained stop.now (string_bytes text)) }
 {
     match (explained_file(request), stop) {
         (Some(file), Stop::Refused(refusal)) => explain::refusal(rt, file, refusal),

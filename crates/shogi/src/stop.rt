@@ -7,7 +7,7 @@ ghost use Rattle.shogi.specs.Stops.{stop_line, status_of, stop_of_line, stop_of_
 use archive_commands::Tally;
 use csa_record::{FlowFault, Refusal};
 use record_commands::PositionLineFault;
-use session_commands::{LoginFault, MatchFault, PlanFault, PlayFault, ServeFault, TalkFault};
+use session_setup::{LoginFault, MatchFault, PlanFault, PlayCommandFault, ServeFault, TalkFault};
 use shogi_session::SessionFault;
 use std::io::ErrorKind;
 use std::{fmt, io};
@@ -90,15 +90,7 @@ impl fmt::Display for Stop {
         match self {
             Stop::WordsNotText => f.write_str("error: a word of the command line is not UTF-8"),
             Stop::UnknownCommand => f.write_str("error: there is no such command"),
-            Stop::Plan(PlanFault::LogIsRecord) => {
-                f.write_str("error: --log and --out must name different files")
-            }
-            Stop::Plan(PlanFault::LogIsPasswordFile) => {
-                f.write_str("error: --log and --password-file must name different files")
-            }
-            Stop::Plan(PlanFault::NoPort) => {
-                f.write_str("error: --connect must be HOST:PORT, as localhost:4081")
-            }
+            Stop::Plan(fault) => write!(f, "error: {fault}"),
             Stop::BadName => f.write_str("error: the name must be 1 to 32 bytes from 0x21 to 0x7E"),
             Stop::BadPassword => {
                 f.write_str("error: the password must be 1 to 32 bytes from 0x21 to 0x7E")
@@ -179,20 +171,20 @@ impl From<ServeFault> for Stop {
     }
 }
 
-impl From<PlayFault> for Stop {
+impl From<PlayCommandFault> for Stop {
     ghost from_gives = { λ fault stop. stop ≡ stop_of_play fault };
 
-    fn from(fault: PlayFault) -> Stop {
+    fn from(fault: PlayCommandFault) -> Stop {
         match fault {
-            PlayFault::Plan(why) => Stop::Plan(why),
-            PlayFault::Login(LoginFault::BadName) => Stop::BadName,
-            PlayFault::Login(LoginFault::BadPassword) => Stop::BadPassword,
-            PlayFault::Login(LoginFault::Read) => Stop::Read,
-            PlayFault::Login(LoginFault::OutOfMemory) => Stop::OutOfMemory,
-            PlayFault::Match(MatchFault::Session(why)) => Stop::Session(why),
-            PlayFault::Match(MatchFault::Endless) => Stop::Read,
-            PlayFault::Match(MatchFault::Write) => Stop::Write,
-            PlayFault::Match(MatchFault::OutOfMemory) => Stop::OutOfMemory,
+            PlayCommandFault::Plan(why) => Stop::Plan(why),
+            PlayCommandFault::Login(LoginFault::BadName) => Stop::BadName,
+            PlayCommandFault::Login(LoginFault::BadPassword) => Stop::BadPassword,
+            PlayCommandFault::Login(LoginFault::Read) => Stop::Read,
+            PlayCommandFault::Login(LoginFault::OutOfMemory) => Stop::OutOfMemory,
+            PlayCommandFault::Match(MatchFault::Session(why)) => Stop::Session(why),
+            PlayCommandFault::Match(MatchFault::Endless) => Stop::Read,
+            PlayCommandFault::Match(MatchFault::Write) => Stop::Write,
+            PlayCommandFault::Match(MatchFault::OutOfMemory) => Stop::OutOfMemory,
         }
     }
 }

@@ -1,7 +1,8 @@
 -- The key after a walk, after a drop, and as the turn passes.
 use Rattle.std.proofs.Common.{◌≡◌, ◌≢◌, ℕ, ◌+◌, ◌-◌, ◌%◌, ◌^◌, ◌<◌, true, List, Option, Some, None, get_or, set, length, length-set, get_or-set_other, arith, refl, ap, sym}
 use Rattle.shogi_board.specs.Cells.{Cells}
-use Rattle.shogi_board.specs.Keys.{cell_key, cells_key, held_key, captured_key, counts_key, side_key, key_of}
+use Rattle.shogi_board.specs.Keys.{cell_key, cells_key, held_key, counts_key, side_key, key_of}
+use Rattle.shogi_board.specs.KeySteps.{captured_key}
 use Rattle.shogi_board.specs.Material.{Material, bag_of, with_bag}
 use Rattle.shogi_board.specs.After.{with_captured}
 use Rattle.shogi_board.specs.Pieces.{is_hand_kind, opponent, place_of, unpromoted}

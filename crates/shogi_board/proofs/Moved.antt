@@ -1,7 +1,8 @@
 -- What a walk and a drop make of a position.
 use Rattle.std.proofs.Common.{◌≡◌, ◌≢◌, ℕ, zero, suc, ◌+◌, ◌%◌, ◌^◌, List, [], ◌∷◌, Option, None, set, get_or, refl, ap, sym, ◌∙◌, get_or-set_other}
 use Rattle.shogi_board.specs.Cells.{Cells}
-use Rattle.shogi_board.specs.Keys.{IsKeyed, key_of}
+use Rattle.shogi_board.specs.Keys.{key_of}
+use Rattle.shogi_board.specs.KeySteps.{IsKeyed}
 use Rattle.shogi_board.specs.Material.{Material, with_bag}
 use Rattle.shogi_board.specs.Pieces.{opponent}
 use Rattle.shogi_board.specs.Placed.{Placed}

@@ -19,7 +19,8 @@ use Rattle.shogi_board.proofs.Attackers.{seen-towards}
 use Rattle.shogi_board.proofs.Rays.{near-ray, ray-at}
 use Rattle.shogi_board.proofs.Squares.{place-same}
 use Rattle.shogi_board.specs.After.{after, board_after}
-use Rattle.shogi_board.specs.Legal.{kind_after, source, target}
+use Rattle.shogi_board.specs.Legal.{kind_after, target}
+use Rattle.shogi_board.specs.MoveSquares.{source}
 use Rattle.shogi_board.specs.declared.moves.Move.{Move}
 use Rattle.shogi_board.specs.declared.moves.Move.TheVariants.{Walk, Put}
 use Rattle.shogi_board.proofs.Pieces.{opponent-twice}

@@ -1,15 +1,13 @@
 -- The Zobrist key of a position: the sum, modulo 2 ^ 64, of a number for each piece on its square,
 -- a number for each piece in a hand, and a number for the side to move.
-use Rattle.std.specs.Prelude.{◌≡◌, ℕ, ◌+◌, ◌*◌, ◌%◌, ◌/◌, ◌^◌, List, [], ◌∷◌, Option, Some, None, bit_xor}
+use Rattle.std.specs.Prelude.{ℕ, ◌+◌, ◌*◌, ◌%◌, ◌/◌, ◌^◌, List, [], ◌∷◌, Option, Some, None, bit_xor}
 use Rattle.shogi_board.specs.declared.color.Color.{Color}
 use Rattle.shogi_board.specs.declared.color.Color.TheVariants.{Black, White}
 use Rattle.shogi_board.specs.declared.kind.Kind.{Kind}
 use Rattle.shogi_board.specs.declared.kind.Kind.TheVariants.{Pawn, Lance, Knight, Silver, Gold, Bishop, Rook, King, ProPawn, ProLance, ProKnight, ProSilver, Horse, Dragon}
 use Rattle.shogi_board.specs.declared.kind.Piece.{Piece}
 use Rattle.shogi_board.specs.Cells.{Cells}
-use Rattle.shogi_board.specs.Pieces.{place_of}
 use Rattle.shogi_board.specs.Placed.{Placed}
-use Rattle.shogi_board.specs.Sound.{IsSound}
 
 -- a number spread over those below 2 ^ 64
 abbrev pub spread : ℕ → ℕ
@@ -55,11 +53,6 @@ cell_key n (Some p) = piece_key n p
 abbrev pub held_key : Color → ℕ → ℕ
 held_key color n = mixed (color_number color * 8 + n + 1)
 
--- what a hand counts more by a piece that it captures
-abbrev pub captured_key : Color → Option Piece → ℕ
-captured_key color None = 0
-captured_key color (Some p) = held_key color (place_of p.kind)
-
 abbrev pub side_key : Color → ℕ
 side_key Black = 0
 side_key White = 2 ^ 63
@@ -80,8 +73,3 @@ key_of p =
     (cells_key p.material.board
     + (counts_key Black p.material.black + counts_key White p.material.white) + side_key p.side)
     % 2 ^ 64
-
--- a sound position, and its key
-pub record IsKeyed (p : Placed) (number : ℕ) : Type 0 where
-  pub sound : IsSound p
-  pub key : key_of p ≡ number

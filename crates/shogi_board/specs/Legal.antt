@@ -1,5 +1,5 @@
 -- The rules of one move, each stated as what it asks of a move of the side to move.
-use Rattle.std.specs.Prelude.{◌≡◌, ◌<◌, ◌≤◌, ◌⊎◌, Option, Some, None}
+use Rattle.std.specs.Prelude.{◌≡◌, ◌<◌, ◌≤◌, ◌⊎◌, Some, None}
 use Rattle.shogi_board.specs.declared.kind.Kind.{Kind}
 use Rattle.shogi_board.specs.declared.kind.Kind.TheVariants.{Pawn}
 use Rattle.shogi_board.specs.declared.square.Square.{Square}
@@ -22,11 +22,6 @@ target (Put to _) = to
 abbrev pub kind_after : Move → Kind
 kind_after (Walk from to kind) = kind
 kind_after (Put to kind) = kind
-
--- the square that the piece leaves, if it stood on one
-abbrev pub source : Move → Option Square
-source (Walk from _ _) = Some from
-source (Put _ _) = None
 
 -- an own piece stands on the square left, or the hand has one of the kind
 abbrev pub HasPiece : Placed → Move → Type 0

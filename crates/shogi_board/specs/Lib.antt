@@ -6,11 +6,13 @@ pub mod Contents
 pub mod Danger
 pub mod Directions
 pub mod Keys
+pub mod KeySteps
 pub mod Kinds
 pub mod Kings
 pub mod Landmarks
 pub mod Layout
 pub mod Legal
+pub mod MoveSquares
 pub mod Material
 pub mod Moves
 pub mod Neighbours

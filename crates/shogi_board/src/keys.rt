@@ -2,7 +2,8 @@
 // number for each piece in a hand, and a number for the side to move.
 
 ghost use Rattle.std.specs.Prelude.{◌≡◌, ◌%◌, ◌^◌, ◌<◌};
-ghost use Rattle.shogi_board.specs.Keys.{mixed, color_number, kind_number, piece_key, cell_key, cells_key, held_key, captured_key, counts_key, side_key};
+ghost use Rattle.shogi_board.specs.Keys.{mixed, color_number, kind_number, piece_key, cell_key, cells_key, held_key, counts_key, side_key};
+ghost use Rattle.shogi_board.specs.KeySteps.{captured_key};
 
 use crate::color::Color;
 use crate::kind::{Kind, Piece};

@@ -1,5 +1,6 @@
 ghost use Rattle.std.specs.Prelude.{◌≡◌};
-ghost use Rattle.shogi_board.specs.Legal.{target, kind_after, source};
+ghost use Rattle.shogi_board.specs.Legal.{target, kind_after};
+ghost use Rattle.shogi_board.specs.MoveSquares.{source};
 
 use crate::kind::Kind;
 use crate::square::Square;

@@ -42,7 +42,8 @@ pub struct Position {
 }
 
 impl Model for Position {
-    ghost use Rattle.shogi_board.specs.Keys.{IsKeyed, key_of};
+    ghost use Rattle.shogi_board.specs.Keys.{key_of};
+    ghost use Rattle.shogi_board.specs.KeySteps.{IsKeyed};
     ghost use Rattle.shogi_board.specs.Placed.{Placed};
 
     ghost Value = { Placed };

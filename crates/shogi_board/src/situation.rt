@@ -36,7 +36,8 @@ impl Model for Situation {
 
     ghost view = { λ s. s.position };
 
-    ghost invariant = { λ s. IsTrue s.in_check ↔ InCheck s.position.material.board s.position.side };
+    ghost invariant = { λ s.
+        IsTrue s.in_check ↔ InCheck s.position.material.board s.position.side };
 }
 
 impl Situation {

@@ -135,8 +135,8 @@ impl Line {
 
     /// Whether the position that its moves lead to occurs for the fourth time.
     ///
-    /// Then `play` refuses each move, and `verdict` is Repetition or Perpetual. It only reads a count
-    /// that the line keeps; it does not search for moves.
+    /// Then `play` refuses each move, and `verdict` is Repetition or Perpetual. It only reads a
+    /// count that the line keeps; it does not search for moves.
     pub fn is_over(&self) -> bool
         ensures answer { IsTrue result ↔ Over self.now }
     {

@@ -118,7 +118,8 @@ impl Occurrences {
         requires few { before ≤ max_moves }
         ensures ok { OnOk result ((ps : List Placed) → length ps ≡ before → AreCounts ps self.old
             → AreCounts (ps ++ position.now ∷ []) self.new) }
-        ensures place { IfOk result (λ n. (n < length self.new) × StandsAt self.new n position.now) }
+        ensures place { IfOk result (λ n.
+            (n < length self.new) × StandsAt self.new n position.now) }
         ensures err { OnErr result (self.new ≡ self.old) }
     {
         let link = match search(&self.entries, &self.links, position) {

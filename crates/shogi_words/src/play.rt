@@ -166,8 +166,9 @@ fn password_file<'a>(alloc: Global) -> Arg<'a> {
 
 fn log<'a>(alloc: Global) -> Arg<'a> {
     Arg::new(alloc, "log").long("log").value_name("FILE").help(
-        "The file that each line is logged to as it passes, and FILE.engine what the engine says on \
-        standard error; - is standard error for both",
+        "The file that each line is logged to as it passes; what the engine and a server that is \
+        started say on standard error goes to FILE.engine and FILE.server; - is standard error \
+        for all",
     )
 }
 

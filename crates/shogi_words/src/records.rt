@@ -33,6 +33,10 @@ const RECORDS: &str = "The records, or folders; without them, or for -, standard
 
 const COMPARED: &str = "The records, or folders; - is standard input";
 
+// That of clap would show FILE as the only way to name records.
+const USAGE_OF_SAME: &str =
+    "shogi same [OPTIONS] <FILE>...\n       shogi same [OPTIONS] --files-from <LIST> [FILE]...";
+
 const LINE: &str = "The line; without it, or with -, standard input is read";
 
 /// `shogi check [FILE]..`: whether each record is accepted, its number of moves, and the state of
@@ -74,7 +78,8 @@ pub fn same<'a>(alloc: Global) -> Result<Command<'a>, AllocError>
         SAME,
         "Prints which records have the same game",
         "Example: shogi same --moves one.csa other.csa",
-    );
+    )
+    .override_usage(USAGE_OF_SAME);
     let files = words::files(alloc, COMPARED).required_unless_present("files-from")?;
     words::add_list(alloc, command.arg(files)?)?.arg(words::flag(
         alloc,

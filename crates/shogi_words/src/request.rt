@@ -36,7 +36,7 @@ pub struct Records<'m, 'a> {
     pub files: &'m [&'a str],
     /// LIST, a file with the paths of more files, which follow those. `-` is standard input.
     pub list: Option<&'a str>,
-    /// How each path of LIST ends.
+    /// How each path ends, in LIST and where it is printed.
     pub path_end: PathEnd,
     /// How a line that begins with `#` is read.
     pub hash_lines: HashLines,
@@ -57,10 +57,10 @@ pub struct OneRecord<'a> {
     pub is_explained: bool,
 }
 
-/// How each path of a list ends.
+/// How each path ends, in a list and where it is printed.
 #[derive(Clone, Copy, Debug, PartialEq, Eq)]
 pub enum PathEnd {
-    /// With its line.
+    /// With its line; or with a colon and a blank, if more is said of it there.
     Line,
     /// With a NUL byte.
     Nul,

@@ -86,7 +86,12 @@ fn null<'a>(alloc: Global) -> Arg<'a>
     ensures rule { rule_of result ≡ null_rule }
     ensures local { result.global ≡ false }
 {
-    flag(alloc, "null", "Each path of LIST ends with a NUL byte").short('0')
+    flag(
+        alloc,
+        "null",
+        "Each path ends with a NUL byte, in LIST and where it is printed",
+    )
+    .short('0')
 }
 
 fn hash_comments<'a>(alloc: Global) -> Arg<'a>

@@ -1,9 +1,10 @@
 use Rattle.std.proofs.Common.{Some, string_bytes, subst, sym}
 use Rattle.std.specs.Io.KnownBytes.{Appends}
-use Rattle.archive_commands.specs.Lines.{IsLineOf}
+use Rattle.archive_commands.specs.Lines.{IsLine}
 use Rattle.record_commands.specs.Reports.{FailsToReport, GetsRecord}
 use Rattle.archive_commands.specs.declared.lines.LineKind.TheVariants.{Digests}
 use Rattle.record_commands.proofs.Converting.{returned}
+use Rattle.shogi_words.specs.declared.request.PathEnd.TheVariants.{Line}
 use Rattle.archive_commands.proofs.digest.digest.Goals as goal
 
 pub returns-clause-accepted : goal.returns-clause-accepted
@@ -23,7 +24,7 @@ returns-in_err-write_all-clause-fails g c =
     let Unopened = g.I.Inputs.opens_not c.args.inputs.now (Some file) in
     let Opened = g.I.Inputs.opens c.args.inputs.now (Some file) in
     let remaining = g.I.Input.Read.remaining in
-    let Fits = IsLineOf Digests file in
+    let Fits = IsLine Digests Line file in
     let has = c.in_ok-line.ensures.line in
     returned (FailsToReport (GetsRecord Unopened Opened remaining) Fits) _ c.from_residual-in_err-write_all.result c.from_residual-in_err-write_all.ensures.1
     (λ fault gives. subst (FailsToReport (GetsRecord Unopened Opened remaining) Fits) (sym gives) (has.0, string_bytes c.in_ok-line.line, has.1, has.2))

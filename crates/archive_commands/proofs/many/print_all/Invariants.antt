@@ -13,8 +13,8 @@ invariant-loop-path g l =
     let first = printed_of (g.W.Write.contents l.fn.out) (g.E.Notices.shown l.fn.notices) no_file in
     let now = printed_of (g.W.Write.contents l.out) (g.E.Notices.shown l.notices) l.tally in
     record {
-      printed : (new : Printed) → PrintsAll Unopened Opened bytes l.lines (items_of (drop l.path-index l.paths)) now new → PrintsAll Unopened Opened bytes l.lines (items_of l.paths) first new;
-      stops : (out err : Option (List ℕ)) (fault : FlowFault) → StopsAmong Unopened Opened bytes l.lines (items_of (drop l.path-index l.paths)) now out err fault
-          → StopsAmong Unopened Opened bytes l.lines (items_of l.paths) first out err fault;
+      printed : (new : Printed) → PrintsAll Unopened Opened bytes l.form (items_of (drop l.path-index l.paths)) now new → PrintsAll Unopened Opened bytes l.form (items_of l.paths) first new;
+      stops : (out err : Option (List ℕ)) (fault : FlowFault) → StopsAmong Unopened Opened bytes l.form (items_of (drop l.path-index l.paths)) now out err fault
+          → StopsAmong Unopened Opened bytes l.form (items_of l.paths) first out err fault;
       count : counted l.tally ≡ l.path-index;
     }

@@ -13,7 +13,7 @@ returns-in_ok-write_all-in-Ok-clause-printed g c =
 pub returns-in-Ok-refused_lines-clause-printed : goal.returns-in-Ok-refused_lines-clause-printed
 returns-in-Ok-refused_lines-clause-printed g c =
     let file = c.args.file.now in
-    let Fails = FailsToReport (GetsRecord (g.I.Inputs.opens_not c.args.inputs.now (Some file)) (g.I.Inputs.opens c.args.inputs.now (Some file)) g.I.Input.Read.remaining) (IsLineOf c.args.lines file) in
+    let Fails = FailsToReport (GetsRecord (g.I.Inputs.opens_not c.args.inputs.now (Some file)) (g.I.Inputs.opens c.args.inputs.now (Some file)) g.I.Input.Read.remaining) (IsLineOf c.args.form file) in
     let Printed = Appends (g.E.Notices.shown c.args.notices.now) (g.E.Notices.shown c.show.new.self) in
     refused c.in-Err-Refused.refusal (string_bytes c.in-Ok-refused_lines.text) (subst Fails c.in-Err-Refused.field-0-is c.in-Err-Refused.ensures.fails) c.in-Ok-refused_lines.ensures refl
     (subst Printed c.deref.ensures c.show.ensures) refl
@@ -21,7 +21,7 @@ returns-in-Ok-refused_lines-clause-printed g c =
 pub returns-in-Ok-unreadable_lines-clause-printed : goal.returns-in-Ok-unreadable_lines-clause-printed
 returns-in-Ok-unreadable_lines-clause-printed g c =
     let file = c.args.file.now in
-    let Fails = FailsToReport (GetsRecord (g.I.Inputs.opens_not c.args.inputs.now (Some file)) (g.I.Inputs.opens c.args.inputs.now (Some file)) g.I.Input.Read.remaining) (IsLineOf c.args.lines file) in
+    let Fails = FailsToReport (GetsRecord (g.I.Inputs.opens_not c.args.inputs.now (Some file)) (g.I.Inputs.opens c.args.inputs.now (Some file)) g.I.Input.Read.remaining) (IsLineOf c.args.form file) in
     let Printed = Appends (g.E.Notices.shown c.args.notices.now) (g.E.Notices.shown c.show-in-Err-ReadFault.new.self) in
     unreadable (string_bytes c.in-Ok-unreadable_lines.text) (subst Fails c.in-Err-ReadFault.field-0-is c.in-Err-ReadFault.ensures.fails) c.in-Ok-unreadable_lines.ensures refl
     (subst Printed c.deref-in-Err-ReadFault.ensures c.show-in-Err-ReadFault.ensures) refl

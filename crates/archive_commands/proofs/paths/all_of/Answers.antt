@@ -5,11 +5,14 @@ use Rattle.archive_commands.proofs.paths.all_of.Goals as goal
 
 pub returns-in-Ok : goal.returns-in-Ok
 returns-in-Ok g c =
-    let names = names_of c.args.records.now.files.now in
+    let Stands = g.F.Folders.stands_for c.args.folders.now in
+    let names = names_of c.named_files.result.now in
+    let added = subst (λ listed. AreAdded Stands (names ++ items_of listed) [] c.in-Ok.paths.items) c.as_slice.ensures.value c.in-Ok.ensures in
+    let listed = items_of c.in_ok-listed.listed.items in
     record {
       paths = (
-        items_of c.in_ok-listed.listed.items,
+        listed,
         c.in_ok-listed.ensures.paths,
-        subst (λ listed. AreAdded (g.F.Folders.stands_for c.args.folders.now) (names ++ items_of listed) [] c.in-Ok.paths.items) c.as_slice.ensures.value c.in-Ok.ensures,
+        subst (λ named. AreAdded Stands (named ++ listed) [] c.in-Ok.paths.items) c.named_files.ensures added,
       );
     }

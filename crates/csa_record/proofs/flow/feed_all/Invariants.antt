@@ -1,5 +1,5 @@
 use Rattle.std.proofs.Common.{◌≡◌, ◌≤◌, ◌-◌}
-use Rattle.csa_record.specs.Flow.{IsFed}
+use Rattle.csa_record.specs.FlowSteps.{IsFed}
 use Rattle.csa_record.proofs.flow.feed_all.Given as goal
 
 abbrev pub invariant-loop-reads : goal.invariant-loop-reads

@@ -1,3 +1,4 @@
+use Rattle.std.proofs.Common.{subst}
 use Rattle.csa_record.specs.declared.flow.FlowFault.TheVariants.{Refused}
 use Rattle.game_archive.proofs.Readings.{refused_as_read, tells_as_read}
 use Rattle.game_archive.proofs.Whole.{passed_on}
@@ -14,3 +15,7 @@ returns-in-Ok-clause-text g c = λ bytes gives. (
   tells_as_read (g.A.Archive.reads c.args.archive.now c.args.at) bytes c.read_record.result c.in_ok-record.record gives c.read_record.ensures.reads c.in_ok-record.was,
   c.in-Ok.ensures,
 )
+
+pub returns-in-Ok-clause-read : goal.returns-in-Ok-clause-read
+returns-in-Ok-clause-read g c =
+    (c.in_ok-record.record, subst (g.A.Archive.reads c.args.archive.now c.args.at) c.in_ok-record.was c.read_record.ensures.reads, c.in-Ok.ensures)

@@ -3,7 +3,8 @@ use Rattle.std.proofs.lemmas.List.{nil_from_length}
 use Rattle.shogi_session.specs.Promises.{event_of}
 use Rattle.session_commands.specs.Plays.{end_of, lost, no_lines, taken}
 use Rattle.session_commands.proofs.Playing.{same_step, steps_of}
-use Rattle.session_commands.proofs.LackOfMemory.{at_err, step_runs_out}
+use Rattle.session_commands.proofs.LackOfMemory.{step_runs_out}
+use Rattle.session_setup.proofs.Replacing.{at_err}
 use Rattle.session_commands.proofs.bridging.deliver.Goals as goal
 
 pub returns-then-is_empty-clause-delivered : goal.returns-then-is_empty-clause-delivered
@@ -20,12 +21,12 @@ returns-in_ok-step-in-Err-clause-delivered g c =
     let out = c.in_ok-step-in-Err.field-0 in
     let row = steps_of c.args.bridge.now (event_of c.end_event.result) out.to_engine out.to_server out.status c.step.new.self step.row step.to_engine step.to_server step.status step.config in
     lost out.to_engine out.to_server out.status (c.in-Err.ensures.gone)
-    (same_step c.args.bridge.now (event_of c.end_event.result) (end_of c.args.seat) out.to_engine out.to_server out.status c.step.new.self c.end_event.ensures row)
+    (same_step c.args.bridge.now (event_of c.end_event.result) (end_of c.args.peer) out.to_engine out.to_server out.status c.step.new.self c.end_event.ensures row)
 
 pub returns-in_err-step-in-Err-clause-out_of_memory : goal.returns-in_err-step-in-Err-clause-out_of_memory
 returns-in_err-step-in-Err-clause-out_of_memory g c =
     let step = c.in_err-step-in-Err.ensures in
     at_err _ c.from_residual.result (
       c.in-Err.ensures.gone,
-      step_runs_out c.args.bridge.now (event_of c.end_event.result) (end_of c.args.seat) c.step.new.self c.end_event.ensures step.going step.lost step.config step.states step.slip step.game,
+      step_runs_out c.args.bridge.now (event_of c.end_event.result) (end_of c.args.peer) c.step.new.self c.end_event.ensures step.going step.lost step.config step.states step.slip step.game,
     )

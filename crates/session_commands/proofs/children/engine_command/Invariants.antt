@@ -1,6 +1,6 @@
 use Rattle.std.proofs.Common.{◌≡◌, take}
 use Rattle.std.specs.Process.{command_args, command_program}
-use Rattle.session_commands.specs.Housing.{engine_words}
+use Rattle.session_commands.specs.Launching.{engine_words}
 use Rattle.session_commands.proofs.children.engine_command.Given as goal
 
 abbrev pub invariant-loop-word : goal.invariant-loop-word

@@ -2,7 +2,7 @@ use Rattle.std.proofs.Common.{◌==◌, ◌∙◌, ap, rules, sym, take, tests}
 use Rattle.std.proofs.lemmas.Iterator.{YieldsList-from_slice}
 use Rattle.std.proofs.lemmas.Iterator.Search.{position_from_yields_List}
 use Rattle.std.proofs.lemmas.Option.{cond_some}
-use Rattle.session_commands.proofs.LoginWords.{all_before}
+use Rattle.session_setup.proofs.LoginWords.{all_before}
 use Rattle.session_commands.proofs.log.name_in.Goals as goal
 
 pub returns-in-Some : goal.returns-in-Some

@@ -14,6 +14,6 @@ returns g c = record {
         kept = c.keep_game-kept.ensures.kept;
         ended = c.play-played.new.progress.ended;
         logged = c.close_log.ensures;
-        over = c.is_ok.ensures.value;
+        over = c.session_end.ensures;
       };
 }

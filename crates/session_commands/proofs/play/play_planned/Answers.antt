@@ -1,6 +1,6 @@
 use Rattle.std.proofs.Common.{refl}
 use Rattle.std.proofs.lemmas.Result.{err_from_is_err_and}
-use Rattle.session_commands.specs.Logins.{failed, not_begun, played}
+use Rattle.session_setup.specs.Logins.{failed, not_begun, played}
 use Rattle.session_commands.proofs.play.play_planned.Goals as goal
 
 pub returns-in_err-login : goal.returns-in_err-login

@@ -1,4 +1,4 @@
-use Rattle.std.proofs.Common.{refl, rules}
+use Rattle.std.proofs.Common.{refl}
 use Rattle.std.proofs.lemmas.Result.{err_from_is_err_and}
 use Rattle.session_commands.specs.Talks.{no_answer, not_sent}
 use Rattle.session_commands.proofs.talk.answer.Goals as goal
@@ -12,4 +12,4 @@ returns-in_err-send-clause-unsent g c =
     rw (p.1, p.2) (not_sent _ _ _ c.in-Ok.ensures.answer (rw (← c.bytes.ensures.value) c.in_err-send.ensures.blocked))
 
 pub returns-clause-replied : goal.returns-clause-replied
-returns-clause-replied g c = search rules
+returns-clause-replied g c = (_, rw c.state_of.ensures c.in-Ok.ensures.answer, rw c.bytes.ensures.value at c.in_ok-send.ensures.went)

@@ -26,24 +26,24 @@ pub returns-clause-breaks_off : goal.returns-clause-breaks_off
 returns-clause-breaks_off g c =
     never_ends g.X.Wire.came g.X.Wire.ends g.X.Wire.went g.X.Wire.silent g.X.Wire.blocked g.M.Machine.answers c.args.wire.now c.args.machine.now c.loop-pieces._pieces c.loop-pieces.cutter c.loop-pieces.wire c.loop-pieces.machine c.loop-pieces.invariant (omega (arith, c.loop-pieces-test.false))
 
-pub returns-then-ended-clause-answered : goal.returns-then-ended-clause-answered
-returns-then-ended-clause-answered g c =
+pub returns-in-Ended-clause-answered : goal.returns-in-Ended-clause-answered
+returns-in-Ended-clause-answered g c =
     let some : 0 < c.in_ok-taken.taken = omega (arith, c.if-taken-eq0.false) in
     let size = length-take-le c.in_ok-taken.taken c.receive.new.buffer c.in_ok-taken.ensures.within in
     let fed = piece_came g.X.Wire.came g.X.Wire.ends g.X.Wire.went g.M.Machine.answers c.args.wire.now c.args.machine.now c.loop-pieces._pieces c.loop-pieces.cutter (take c.in_ok-taken.taken c.receive.new.buffer) c.loop-pieces.wire c.receive.new.self c.loop-pieces.machine c.loop-pieces.invariant (c.in_ok-taken.ensures.came some) (omega (arith, some, size)) in
-    piece_finishes g.X.Wire.came g.X.Wire.ends g.X.Wire.went g.X.Wire.silent g.X.Wire.blocked g.M.Machine.answers c.loop-pieces.cutter c.answer_piece.new.cutter (take c.in_ok-taken.taken c.receive.new.buffer) c.in_ok-ended.ended c.receive.new.self c.answer_piece.new.wire c.loop-pieces.machine c.answer_piece.new.machine c.if-ended.true c.in_ok-ended.ensures.talk c.args.wire.now c.args.machine.now (c.loop-pieces._pieces + 1) fed
+    piece_finishes g.X.Wire.came g.X.Wire.ends g.X.Wire.went g.X.Wire.silent g.X.Wire.blocked g.M.Machine.answers c.loop-pieces.cutter c.answer_piece.new.cutter (take c.in_ok-taken.taken c.receive.new.buffer) c.in_ok-answer_piece.field-0 c.receive.new.self c.answer_piece.new.wire c.loop-pieces.machine c.answer_piece.new.machine c.in-Ended.is c.in_ok-answer_piece.ensures.talk c.args.wire.now c.args.machine.now (c.loop-pieces._pieces + 1) fed
 
-pub returns-in_err-ended-clause-breaks_off : goal.returns-in_err-ended-clause-breaks_off
-returns-in_err-ended-clause-breaks_off g c =
+pub returns-in_err-answer_piece-clause-breaks_off : goal.returns-in_err-answer_piece-clause-breaks_off
+returns-in_err-answer_piece-clause-breaks_off g c =
     let some : 0 < c.in_ok-taken.taken = omega (arith, c.if-taken-eq0.false) in
     let size = length-take-le c.in_ok-taken.taken c.receive.new.buffer c.in_ok-taken.ensures.within in
     let fed = piece_came g.X.Wire.came g.X.Wire.ends g.X.Wire.went g.M.Machine.answers c.args.wire.now c.args.machine.now c.loop-pieces._pieces c.loop-pieces.cutter (take c.in_ok-taken.taken c.receive.new.buffer) c.loop-pieces.wire c.receive.new.self c.loop-pieces.machine c.loop-pieces.invariant (c.in_ok-taken.ensures.came some) (omega (arith, some, size)) in
-    let p = err_from_is_err_and c.from_residual-in_err-ended.result c.from_residual-in_err-ended.ensures.1 in
-    rw (p.1, p.2) (c.in_err-ended.ensures.talk c.args.wire.now c.args.machine.now (c.loop-pieces._pieces + 1) fed)
+    let p = err_from_is_err_and c.from_residual-in_err-answer_piece.result c.from_residual-in_err-answer_piece.ensures.1 in
+    rw (p.1, p.2) (c.in_err-answer_piece.ensures.talk c.args.wire.now c.args.machine.now (c.loop-pieces._pieces + 1) fed)
 
 pub loop-pieces-preserved : goal.loop-pieces-preserved
 loop-pieces-preserved g c =
     let some : 0 < c.in_ok-taken.taken = omega (arith, c.if-taken-eq0.false) in
     let size = length-take-le c.in_ok-taken.taken c.receive.new.buffer c.in_ok-taken.ensures.within in
     let fed = piece_came g.X.Wire.came g.X.Wire.ends g.X.Wire.went g.M.Machine.answers c.args.wire.now c.args.machine.now c.loop-pieces._pieces c.loop-pieces.cutter (take c.in_ok-taken.taken c.receive.new.buffer) c.loop-pieces.wire c.receive.new.self c.loop-pieces.machine c.loop-pieces.invariant (c.in_ok-taken.ensures.came some) (omega (arith, some, size)) in
-    piece_goes_on g.X.Wire.came g.X.Wire.ends g.X.Wire.went g.X.Wire.silent g.X.Wire.blocked g.M.Machine.answers c.loop-pieces.cutter c.answer_piece.new.cutter (take c.in_ok-taken.taken c.receive.new.buffer) c.in_ok-ended.ended c.receive.new.self c.answer_piece.new.wire c.loop-pieces.machine c.answer_piece.new.machine c.if-ended.false c.in_ok-ended.ensures.talk c.args.wire.now c.args.machine.now (c.loop-pieces._pieces + 1) fed
+    piece_goes_on g.X.Wire.came g.X.Wire.ends g.X.Wire.went g.X.Wire.silent g.X.Wire.blocked g.M.Machine.answers c.loop-pieces.cutter c.answer_piece.new.cutter (take c.in_ok-taken.taken c.receive.new.buffer) c.in_ok-answer_piece.field-0 c.receive.new.self c.answer_piece.new.wire c.loop-pieces.machine c.answer_piece.new.machine c.in-Running.is c.in_ok-answer_piece.ensures.talk c.args.wire.now c.args.machine.now (c.loop-pieces._pieces + 1) fed

@@ -1,4 +1,4 @@
-use Rattle.std.proofs.Common.{◌≡◌, ◌∙◌, arith, length, rules, sym}
+use Rattle.std.proofs.Common.{◌≡◌, ◌∙◌, arith, inl, inr, length, refl, rules, sym}
 use Rattle.std.specs.Vec.{vec_len}
 use Rattle.game_archive.proofs.Placed.{absent_none, began_inserted, began_pushed, leaders_inserted, leaders_pushed}
 use Rattle.game_archive.proofs.grouping.Groups.begin.Goals as goal
@@ -30,3 +30,14 @@ returns-in_ok-insert-clause-groups c = λ likeness bytes digest_of key is has no
     rw c.in_ok-push.ensures.items (rw c.len-at.ensures (rw n
     (began_inserted likeness bytes digest_of c.args.self.now.placings.items key c.args.digest.now c.args.self.now.by_digest c.insert.new.self c.args.self.now.colliding.items
     absent updates.0 updates.1 is has none old)))
+
+pub returns-in_ok-push-2-clause-added : goal.returns-in_ok-push-2-clause-added
+returns-in_ok-push-2-clause-added c =
+    let n : vec_len c.args.self.now.placings ≡ length c.args.self.now.placings.items = omega arith in
+    rw c.in_ok-push-2.ensures.items (rw c.len-at.ensures (rw n (inr (sym c.contains_key.ensures ∙ c.if-contains_key.true, refl, refl))))
+
+pub returns-in_ok-insert-clause-added : goal.returns-in_ok-insert-clause-added
+returns-in_ok-insert-clause-added c =
+    let n : vec_len c.args.self.now.placings ≡ length c.args.self.now.placings.items = omega arith in
+    let updates = rw n at (rw c.len-at.ensures at c.in_ok-insert.ensures.updates) in
+    inl (refl, updates.0)

@@ -3,6 +3,7 @@ use Rattle.csa_record.specs.declared.flow.FlowFault.TheVariants as flow
 use Rattle.std.specs.Prelude.{slice_index}
 use Rattle.std.proofs.lemmas.Bool.{cases_lt}
 use Rattle.std.proofs.lemmas.List.{get_or_default}
+use Rattle.game_archive.specs.Digests.{Collides}
 use Rattle.game_archive.specs.Keying.{HasKey}
 use Rattle.game_archive.specs.Knowing.{IsNotCompared}
 use Rattle.game_archive.specs.Groups.{HasLeader}
@@ -102,25 +103,34 @@ returns-clause-found g c = λ bytes gives. (
 )
 
 pub returns-in_err-has_key-clause-fault : goal.returns-in_err-has_key-clause-fault
-returns-in_err-has_key-clause-fault g c =
+returns-in_err-has_key-clause-fault g c = λ digest_of digests.
     let leader = c.in-Some.leader.now in
-    let leads = c.requires.leaders.at_digests c.args.digest.now leader (sym c.in-Some.ensures.value) in
+    let l = c.args.likeness in
+    let digest = c.args.digest.now in
+    let placings = c.args.self.now.placings.items in
+    let at = sym c.in-Some.ensures.value in
+    let leads = c.requires.leaders.at_digests digest leader at in
     let archive = c.args.archive.now in
-    returned (λ fault. (fault ≡ flow.OutOfMemory → ⊥) → IsNotCompared (g.A.Archive.reads archive) (g.A.Archive.noted archive) (g.A.Archive.noted c.has_key.new.archive) c.args.self.now.placings.items fault)
+    let R = g.A.Archive.reads archive in
+    returned (λ fault. (fault ≡ flow.OutOfMemory → ⊥) → IsNotCompared l digest_of R (g.A.Archive.noted archive) (g.A.Archive.noted c.has_key.new.archive) placings digest fault)
     _ c.from_residual.result c.from_residual.ensures.1
-    (λ fault gives. not_compared (g.A.Archive.reads archive) (g.A.Archive.reads archive) (g.A.Archive.noted archive) (g.A.Archive.noted archive) (g.A.Archive.noted c.has_key.new.archive) c.args.self.now.placings.items leader
-    c.in_err-has_key.field-0.0 fault (λ k r h. h) refl leads c.in_err-has_key.ensures.fault c.in_err-has_key.ensures.noted gives)
+    (λ fault gives. not_compared l digest_of R R (g.A.Archive.noted archive) (g.A.Archive.noted archive) (g.A.Archive.noted c.has_key.new.archive) placings digest leader
+    c.in_err-has_key.field-0.0 fault (λ k r h. h) refl leads (inl (digests.at_digests digest leader at)) c.in_err-has_key.ensures.fault c.in_err-has_key.ensures.noted gives)
 
 pub returns-in_err-has_key-2-clause-fault : goal.returns-in_err-has_key-2-clause-fault
-returns-in_err-has_key-2-clause-fault g c =
+returns-in_err-has_key-2-clause-fault g c = λ digest_of digests.
     let placings = c.args.self.now.placings.items in
+    let l = c.args.likeness in
+    let digest = c.args.digest.now in
     let within : c.loop-k.k < length c.args.self.now.colliding.items = omega (arith, c.loop-k-test.true, c.len-k-end.ensures) in
     let leader = c.index-leader.result.now in
     let read : c.index-leader.result.now ≡ _ = c.index-leader.ensures in
     let leads = subst (λ i. HasLeader placings i i) (sym read) (c.requires.leaders.elsewhere c.loop-k.k _ within) in
     let archive = c.args.archive.now in
     let here = c.loop-k.archive in
-    returned (λ fault. (fault ≡ flow.OutOfMemory → ⊥) → IsNotCompared (g.A.Archive.reads archive) (g.A.Archive.noted archive) (g.A.Archive.noted c.has_key-in-loop-k.new.archive) placings fault)
+    let R = g.A.Archive.reads archive in
+    let collides = subst (Collides l digest_of R placings) (sym read) (digests.elsewhere c.loop-k.k _ within) in
+    returned (λ fault. (fault ≡ flow.OutOfMemory → ⊥) → IsNotCompared l digest_of R (g.A.Archive.noted archive) (g.A.Archive.noted c.has_key-in-loop-k.new.archive) placings digest fault)
     _ c.from_residual-in_err-has_key-2.result c.from_residual-in_err-has_key-2.ensures.1
-    (λ fault gives. not_compared (g.A.Archive.reads archive) (g.A.Archive.reads here) (g.A.Archive.noted archive) (g.A.Archive.noted here) (g.A.Archive.noted c.has_key-in-loop-k.new.archive) placings leader
-    c.in_err-has_key-2.field-0.0 fault (λ k r. (c.loop-k.invariant.alike k r).1) c.loop-k.invariant.quiet leads c.in_err-has_key-2.ensures.fault c.in_err-has_key-2.ensures.noted gives)
+    (λ fault gives. not_compared l digest_of R (g.A.Archive.reads here) (g.A.Archive.noted archive) (g.A.Archive.noted here) (g.A.Archive.noted c.has_key-in-loop-k.new.archive) placings digest leader
+    c.in_err-has_key-2.field-0.0 fault (λ k r. (c.loop-k.invariant.alike k r).1) c.loop-k.invariant.quiet leads (inr collides) c.in_err-has_key-2.ensures.fault c.in_err-has_key-2.ensures.noted gives)

@@ -1,9 +1,11 @@
-use Rattle.std.proofs.Common.{◌≡◌, ◌∙◌, Err, ap, arith, length, refl, subst, sym}
+use Rattle.std.proofs.Common.{◌≡◌, ◌∙◌, Ok, Err, ap, arith, length, refl, subst, sym}
 use Rattle.csa_record.specs.declared.flow.FlowFault.TheVariants as flow
 use Rattle.game_archive.proofs.Placed.{leaders_still, placed_refused, placed_unreadable}
 use Rattle.game_archive.specs.Keying.{HasKey}
 use Rattle.game_archive.specs.Alike.{GivesOnly}
-use Rattle.game_archive.proofs.Causes.{causes_by, keeps_by, keeps_from, keeps_refused, keeps_unread, on_ok}
+use Rattle.game_archive.proofs.Causes.{causes_by, digests_by, keeps_by, keeps_from, keeps_refused, keeps_unread, on_ok}
+use Rattle.game_archive.proofs.Digests.{digests_still}
+use Rattle.game_archive.specs.Knowing.{HadKey}
 use Rattle.game_archive.proofs.Counts.{count_from, one_outside}
 use Rattle.game_archive.proofs.Readings.{alike_trans, gives_still}
 use Rattle.game_archive.specs.Readings.{noted_at}
@@ -51,10 +53,12 @@ returns-in-Ok-clause-causes g c = λ since old.
     let new = c.place_key.new.archive in
     let R = g.A.Archive.reads archive in
     let S = g.A.Archive.reads here in
-    let step = c.place_key.ensures.causes since (causes_by R S since c.args.self.now.placings.items (λ k r. (c.in-Ok.ensures.alike k r).0) old) in
+    let l = c.args.likeness in
+    let d = g.D.Digester.digest_of c.args.digester.now in
+    let step = c.place_key.ensures.causes since (causes_by l d R S since c.args.self.now.placings.items (λ k r. (c.in-Ok.ensures.alike k r).0) old) in
     on_ok _ _ c.place_key.result
-    (λ keeps. keeps_from R (g.A.Archive.noted archive) (g.A.Archive.noted here) (g.A.Archive.noted new) since c.place_key.new.self.placings.items c.in-Ok.ensures.noted
-    (keeps_by S R (g.A.Archive.noted here) (g.A.Archive.noted new) since c.place_key.new.self.placings.items (λ k r. (c.in-Ok.ensures.alike k r).1) keeps)) step
+    (λ keeps. keeps_from l d R (g.A.Archive.noted archive) (g.A.Archive.noted here) (g.A.Archive.noted new) since c.place_key.new.self.placings.items c.in-Ok.ensures.noted
+    (keeps_by l d S R (g.A.Archive.noted here) (g.A.Archive.noted new) since c.place_key.new.self.placings.items (λ k r. (c.in-Ok.ensures.alike k r).1) keeps)) step
 
 pub returns-in-Ok-clause-alike : goal.returns-in-Ok-clause-alike
 returns-in-Ok-clause-alike g c =
@@ -72,7 +76,7 @@ returns-in_ok-push-in-Err-Refused-clause-causes g c = λ since old.
     let after = subst (λ i. g.A.Archive.noted c.key_at.new.archive ≡ noted_at (g.A.Archive.noted archive) i refused) n
     (subst (λ f. g.A.Archive.noted c.key_at.new.archive ≡ noted_at (g.A.Archive.noted archive) c.len.result f) is c.in-Err-Refused.ensures.noted) in
     rw c.in_ok-push-in-Err-Refused.ensures.items (rw c.in-Err-Refused.field-0-is
-    (keeps_refused R (g.A.Archive.noted archive) (g.A.Archive.noted c.key_at.new.archive) since placings c.in-Err-Refused.refusal after reads old))
+    (keeps_refused c.args.likeness (g.D.Digester.digest_of c.args.digester.now) R (g.A.Archive.noted archive) (g.A.Archive.noted c.key_at.new.archive) since placings c.in-Err-Refused.refusal after reads old))
 
 pub returns-in_ok-push-in-Err-ReadFault-clause-causes : goal.returns-in_ok-push-in-Err-ReadFault-clause-causes
 returns-in_ok-push-in-Err-ReadFault-clause-causes g c = λ since old.
@@ -82,8 +86,10 @@ returns-in_ok-push-in-Err-ReadFault-clause-causes g c = λ since old.
     let n : c.len.result ≡ length c.args.self.now.placings.items = omega (arith, c.len.ensures) in
     let after = subst (λ i. g.A.Archive.noted c.key_at.new.archive ≡ noted_at (g.A.Archive.noted archive) i flow.ReadFault) n
     (subst (λ f. g.A.Archive.noted c.key_at.new.archive ≡ noted_at (g.A.Archive.noted archive) c.len.result f) c.in-Err-ReadFault.field-0-is c.in-Err-ReadFault.ensures.noted) in
+    let is = c.in-Err-ReadFault.field-0-is in
+    let reads = subst (λ i. R i (Err flow.ReadFault)) n (subst (λ f. R c.len.result (Err f)) is (c.in-Err-ReadFault.ensures.fault (λ lost. let e = sym is ∙ lost in absurd cc))) in
     rw c.in_ok-push-in-Err-ReadFault.ensures.items
-    (keeps_unread R (g.A.Archive.noted archive) (g.A.Archive.noted c.key_at.new.archive) since placings after old)
+    (keeps_unread c.args.likeness (g.D.Digester.digest_of c.args.digester.now) R (g.A.Archive.noted archive) (g.A.Archive.noted c.key_at.new.archive) since placings after reads old)
 
 pub returns-in-Ok-clause-counted : goal.returns-in-Ok-clause-counted
 returns-in-Ok-clause-counted g c =
@@ -109,3 +115,41 @@ returns-in_ok-push-in-Err-ReadFault-clause-counted g c =
     rw c.in_ok-push-in-Err-ReadFault.ensures.items
     (one_outside (g.A.Archive.noted archive) (g.A.Archive.noted c.key_at.new.archive) c.len.result flow.ReadFault c.args.self.now.placings.items placing.Unreadable
     (λ e. absurd cc) (λ e. absurd cc) after refl)
+
+pub returns-in_ok-push-in-Err-Refused-clause-digests : goal.returns-in_ok-push-in-Err-Refused-clause-digests
+returns-in_ok-push-in-Err-Refused-clause-digests g c =
+    rw c.in_ok-push-in-Err-Refused.ensures.items (rw c.in-Err-Refused.field-0-is
+    (digests_still c.args.likeness (g.D.Digester.digest_of c.args.digester.now) (g.A.Archive.reads c.args.archive.now) c.args.self.now.placings.items (placing.Refused c.in-Err-Refused.refusal)
+    c.args.self.now.by_digest c.args.self.now.colliding.items c.requires.digests))
+
+pub returns-in_ok-push-in-Err-ReadFault-clause-digests : goal.returns-in_ok-push-in-Err-ReadFault-clause-digests
+returns-in_ok-push-in-Err-ReadFault-clause-digests g c =
+    rw c.in_ok-push-in-Err-ReadFault.ensures.items
+    (digests_still c.args.likeness (g.D.Digester.digest_of c.args.digester.now) (g.A.Archive.reads c.args.archive.now) c.args.self.now.placings.items placing.Unreadable
+    c.args.self.now.by_digest c.args.self.now.colliding.items c.requires.digests)
+
+pub place_key-requires : goal.place_key-requires
+place_key-requires g c =
+    let archive = c.args.archive.now in
+    let here = c.key_at.new.archive in
+    let before = c.args.self.now in
+    let n : c.len.result ≡ length before.placings.items = omega (arith, c.len.ensures) in
+    let R = g.A.Archive.reads archive in
+    let S = g.A.Archive.reads here in
+    let l = c.args.likeness in
+    let size = c.in-Ok.ensures.size in
+    let read = subst (λ i. HadKey l R i c.in-Ok.key.items) n c.in-Ok.ensures.read in
+    let now = subst (HadKey l R (length before.placings.items)) (sym c.deref.ensures.value) read in
+    record {
+      within = omega (arith, c.requires.within, size);
+      leaders = c.requires.leaders;
+      read = (now.0, (c.in-Ok.ensures.alike (length before.placings.items) (Ok now.0)).0 now.1, now.2);
+      digests = digests_by l (g.D.Digester.digest_of c.args.digester.now) R S before.placings.items before.by_digest before.colliding.items (λ k r. (c.in-Ok.ensures.alike k r).0) c.requires.digests;
+    }
+
+pub returns-in-Ok-clause-digests : goal.returns-in-Ok-clause-digests
+returns-in-Ok-clause-digests g c =
+    let new = c.place_key.new.self in
+    on_ok _ _ c.place_key.result
+    (digests_by c.args.likeness (g.D.Digester.digest_of c.args.digester.now) (g.A.Archive.reads c.key_at.new.archive) (g.A.Archive.reads c.args.archive.now) new.placings.items new.by_digest new.colliding.items
+    (λ k r. (c.in-Ok.ensures.alike k r).1)) c.place_key.ensures.digests

@@ -1,6 +1,6 @@
 use Rattle.std.proofs.Common.{refl}
 use Rattle.session_commands.proofs.Coming.{side-came}
-use Rattle.session_commands.specs.declared.bridging.Seat.TheVariants.{Engine, Server}
+use Rattle.session_commands.specs.declared.bridging.Peer.TheVariants.{Engine, Server}
 use Rattle.session_commands.proofs.bridging.SidesEnds.receive.Goals as goal
 
 pub returns-in-Engine-clause-came : goal.returns-in-Engine-clause-came

@@ -1,0 +1,3 @@
+pub mod LoginWords
+pub mod Planning
+pub mod Replacing

@@ -1,0 +1,5 @@
+pub mod Disk
+pub mod Faults
+pub mod Logins
+pub mod Paths
+pub mod Plans

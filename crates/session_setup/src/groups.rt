@@ -1,0 +1,137 @@
+//! Programs that lead groups of their own, so that what they started is ended with them.
+
+ghost use Rattle.std.specs.Prelude.{◌≡◌, ◌∷◌, IfOk, IfSome, codes, is_some, string_bytes, true};
+ghost use Rattle.std.specs.Process.{child_status, command_args, command_program};
+ghost use Rattle.session_setup.specs.Plans.{IsPathOf};
+
+use std::alloc::{AllocError, Global};
+use std::env::{self, VarError};
+use std::fs;
+use std::os::unix::fs::PermissionsExt;
+use std::process::{Child, Command, OpenProcess, Processes, Stdio};
+use std::rt::{Env, Files};
+
+// What starts a program as the leader of a group.
+const LEADING: &str = "setsid";
+
+/// What is ended with a program.
+#[derive(Clone, Copy, Debug, PartialEq, Eq)]
+pub enum Reach {
+    /// All that are in its group.
+    Group,
+    /// The program alone.
+    Itself,
+}
+
+/// A program that was started.
+#[derive(Drop)]
+pub struct Member<P: OpenProcess> {
+    /// The program.
+    pub child: Child<P>,
+    /// What is ended with it.
+    pub reach: Reach,
+}
+
+/// The command that starts the program with its words as the leader of a group. None if the system
+/// cannot do that, or if the program is not found, which its own start is to tell.
+///
+/// Returns an error if an allocation fails.
+pub fn leading<R: Env + Files + AllocGlobal>(
+    rt: &R,
+    command: &Command<Global>,
+) -> Result<Option<Command<Global>>, AllocError>
+    ensures program { IfOk result (λ led. IfSome led (λ c. command_program c ≡ codes "setsid")) }
+    ensures words { IfOk result (λ led. IfSome led (λ c. command_args c
+        ≡ codes "--" ∷ command_program command.now ∷ command_args command.now)) }
+{
+    if !is_found(rt, LEADING)? || !is_found(rt, command.get_program())? {
+        return Ok(None);
+    }
+    Ok(Some(led(rt.alloc(), command)?))
+}
+
+// The command, started by what makes it the leader of a group.
+fn led(alloc: Global, command: &Command<Global>) -> Result<Command<Global>, AllocError>
+    ensures program { IfOk result (λ c. command_program c ≡ codes "setsid") }
+    ensures words { IfOk result (λ c. command_args c
+        ≡ codes "--" ∷ command_program command.now ∷ command_args command.now) }
+{
+    let mut leading = Command::new(alloc, LEADING)?;
+    leading.arg("--")?;
+    leading.arg(command.get_program())?;
+    for word in command.get_args() {
+        leading.arg(word)?;
+    }
+    Ok(leading)
+}
+
+// Whether there is a file of the program that can be run.
+fn is_found<R: Env + Files + AllocGlobal>(rt: &R, program: &str) -> Result<bool, AllocError> {
+    match path_of(rt, program)? {
+        Some(path) => Ok(can_run(rt, path.as_str())),
+        None => Ok(false),
+    }
+}
+
+/// The path of the program: itself if it has a slash, or else that in the first folder of `PATH`
+/// where a file of its name can be run. None if there is no such folder.
+///
+/// Returns an error if an allocation fails.
+pub fn path_of<R: Env + Files + AllocGlobal>(
+    rt: &R,
+    program: &str,
+) -> Result<Option<String>, AllocError>
+    ensures path { IfOk result (λ found.
+        IfSome found (λ path. IsPathOf program.now (string_bytes path))) }
+{
+    if program.contains('/') {
+        return Ok(Some(String::from_str(rt.alloc(), program)?));
+    }
+    let folders = match env::var(rt, "PATH") {
+        Ok(folders) => folders,
+        Err(VarError::NotPresent | VarError::NotUnicode) => return Ok(None),
+        Err(VarError::OutOfMemory) => return Err(AllocError),
+    };
+    for folder in folders.as_str().split(':') {
+        let path = format!(in rt.alloc(); "{folder}/{program}")?;
+        if can_run(rt, path.as_str()) {
+            return Ok(Some(path));
+        }
+    }
+    Ok(None)
+}
+
+// Whether a file that can be run is at the path.
+fn can_run<R: Files>(rt: &R, path: &str) -> bool {
+    match fs::metadata(rt, path) {
+        Ok(there) => there.is_file() && there.permissions().mode() & 0o111 != 0,
+        Err(_) => false,
+    }
+}
+
+/// Ends the program at once, and what is ended with it. Returns whether the program has ended.
+pub fn end<R: Processes + AllocGlobal, P: OpenProcess + Drop>(
+    rt: &R,
+    member: &mut Member<P>,
+) -> bool
+    ensures ended { result ≡ true → is_some (child_status member.new.child) ≡ true }
+{
+    if member.reach == Reach::Group {
+        let _ = kill_group(rt, member.child.id());
+    }
+    member.child.kill().is_ok() && member.child.wait().is_ok()
+}
+
+// Kills each process of the group.
+fn kill_group<R: Processes + AllocGlobal>(rt: &R, id: u32) -> Result<(), AllocError> {
+    let group = format!(in rt.alloc(); "-{id}")?;
+    let mut kill = Command::new(rt.alloc(), "kill")?;
+    kill.arg("-KILL")?;
+    kill.arg("--")?;
+    kill.arg(group.as_str())?;
+    kill.stdin(Stdio::null());
+    kill.stdout(Stdio::null());
+    kill.stderr(Stdio::null());
+    let _ = kill.status(rt);
+    Ok(())
+}

@@ -1,0 +1,26 @@
+//! What the sessions of the program `shogi` need before they begin, and why one fails.
+//!
+//! - [`paths`] says whether the files of a plan of `play` go together.
+//! - [`login`] reads the name and the password.
+//! - [`out_file`] writes a file that is replaced once its new text is whole, on a [`disk`].
+//! - [`groups`] starts a program as the leader of a group, and ends the group.
+//!
+//! They know no bridge. `session_commands` calls them:
+//!
+//! ```text
+//! session_setup::paths::check(&plan)?;
+//! let login = login_of(alloc, &RuntimeSecrets::new(&rt), &plan)?;
+//! let place = Named::new(alloc, LocalDisk::new(&rt), plan.out);
+//! ```
+#![tactic(auto)]
+
+pub mod disk;
+mod fault;
+pub mod groups;
+pub mod login;
+pub mod out_file;
+pub mod paths;
+mod plan_fault;
+
+pub use fault::{LoginFault, MatchFault, PlayCommandFault, ServeFault, TalkFault, memory_or};
+pub use plan_fault::{Needed, PlanFault, Written};
