@@ -27,7 +27,7 @@ pub follows_plain : (fed o : ℕ) (held text : List ℕ) (others : List TextUnit
 follows_plain fed o held text others e s = statements_at o _ _ others (omega arith) s
 
 -- what is unfinished, and the piece after it, if both begin with no mark
-passes_open : (place : Place) (held front : List ℕ) → ((more : List ℕ) → mark_of (begins place) (open_of place held ++ (front ++ more)) ≡ 0) → Passes place held front (open_of place held ++ front)
+pub passes_open : (place : Place) (held front : List ℕ) → ((more : List ℕ) → mark_of (begins place) (open_of place held ++ (front ++ more)) ≡ 0) → Passes place held front (open_of place held ++ front)
 passes_open place held front none fed more others few s =
     let begun = open_of place held in
     let same : fed + length front - length (begun ++ front) ≡ fed - length begun + 0 = omega (arith, length-append begun front) in

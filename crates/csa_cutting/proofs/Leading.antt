@@ -177,7 +177,7 @@ either false true z t w v h = refl
 either false false true t w v h = refl
 either false false false t w v h = cc
 
-end_separates : (first b : ℕ) → is_end first b ≡ true → is_separator b ≡ true
+pub end_separates : (first b : ℕ) → is_end first b ≡ true → is_separator b ≡ true
 end_separates first b h = either (b == 13) (b == 10) (b == 44) (not (takes_line first)) (b == 32) (b == 9) h
 
 unit_ends : (unit following : List ℕ) (b : ℕ) (rest : List ℕ) → following ≡ b ∷ rest → IsUnit unit following → is_separator b ≡ true

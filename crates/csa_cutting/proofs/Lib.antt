@@ -18,5 +18,7 @@ pub mod WholeRuns
 pub mod LineRuns
 mod Places
 mod Lent
+mod Words
+mod Unspoken
 mod LinesFound
 pub mod Opened

@@ -1,8 +1,8 @@
 -- A statement that no byte after it ends extends to the end of its text.
-use Rattle.std.proofs.Common.{◌≡◌, ℕ, zero, suc, ◌+◌, ◌<◌, ◌≤◌, ◌⊎◌, Bool, true, false, List, [], ◌∷◌, ◌++◌, filter, length, length-append, append_assoc, replicate, arith, refl, sym, ap, ◌∙◌, inl, inr, drop, nat_lt, ◌||◌, ◌&&◌, if◌then◌else◌, subst}
+use Rattle.std.proofs.Common.{◌≡◌, ℕ, zero, suc, ◌+◌, ◌<◌, ◌≤◌, Bool, true, false, List, [], ◌∷◌, ◌++◌, filter, length, length-append, append_assoc, replicate, arith, refl, sym, ap, ◌∙◌, inl, inr, drop, ◌&&◌, if◌then◌else◌, subst}
 use Rattle.std.proofs.lemmas.Bool.{cases_Bool, cases_lt}
 use Rattle.std.proofs.lemmas.List.{length-replicate}
-use Rattle.csa_cutting.specs.Cut.{TextUnit, IsNext, IsUnit, EndsBefore, Units, Statements, is_statement, is_end}
+use Rattle.csa_cutting.specs.Cut.{TextUnit, IsNext, IsUnit, Units, Statements, is_statement, is_end}
 use Rattle.csa_cutting.specs.Cut.{IsCut, mark_length}
 use Rattle.csa_cutting.specs.PieceCutting.{is_closed}
 use Rattle.csa_cutting.proofs.FirstLong.{text_ends}

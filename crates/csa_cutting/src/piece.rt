@@ -9,20 +9,24 @@
 // lent from there, and nothing is copied. The bytes of any other are held until a piece ends it,
 // and it is lent from what is held. The byte order mark is held too, since bytes that begin like
 // one may turn out to be a statement.
+//
+// `take_word` and `take_unspoken` do what a step would in the two cases that are most frequent:
+// bytes that the caller has read as a statement already, and what lies between statements.
 
-ghost use Rattle.std.specs.Prelude.{◌≡◌, ◌+◌, ◌-◌, ◌^◌, ◌<◌, ◌≤◌, ◌++◌, [], length, true, None, Some, IsSome, IfSome, IfOk, IfErr, if◌then◌else◌};
+ghost use Rattle.std.specs.Prelude.{◌≡◌, ◌+◌, ◌-◌, ◌^◌, ◌<◌, ◌≤◌, ◌++◌, [], length, take, get_or, true, false, None, Some, Ok, IsSome, IfSome, IfNone, IfOk, IfErr, if◌then◌else◌};
 ghost use Rattle.std.specs.Borrow.{sem};
 ghost use Rattle.std.specs.Io.BufRead.{Rests};
 ghost use Rattle.arrayvec.specs.ArrayVec.{array_vec_len};
 ghost use Rattle.csa_cutting.specs.contracts.piece.PieceCutter.{the_row};
 ghost use Rattle.csa_cutting.specs.Cut.{statement_bytes, begins_with, longest_statement};
-ghost use Rattle.csa_cutting.specs.PieceCutting.{fresh, IsOpen};
-ghost use Rattle.csa_cutting.specs.PieceSteps.{AfterStep, AfterEnd, Last, IsTooLongAt, IsUsed, IsLentFrom};
+ghost use Rattle.csa_cutting.specs.PieceCutting.{Leads, fresh, IsOpen};
+ghost use Rattle.csa_cutting.specs.PieceSteps.{AfterStep, AfterEnd, Last, IsTooLongAt, IsUsed, IsLentFrom, IsBetween, IsWord, Stepped, begins_unspoken, ends_word};
 ghost use Rattle.csa_cutting.specs.Places.{IsKept, IsFoundIn, IsHeld, begins, kept_of, has_unit};
 
 use crate::cutter::{CutFault, LONGEST_STATEMENT, Statement};
 use crate::units::{
-    BYTE_ORDER_MARK, COMMENT, Found, Part, Place, first_in, handed_out, unit_length,
+    BYTE_ORDER_MARK, COMMENT, Found, Part, Place, first_in, handed_out, is_in_statement,
+    unit_length, unspoken_length,
 };
 use arrayvec::ArrayVec;
 use std::marker::Model;
@@ -114,6 +118,17 @@ impl PieceCutter {
         self.number
     }
 
+    /// Whether the bytes that have been used end within a comment.
+    #[inline(always)]
+    pub fn is_in_comment(&self) -> bool
+        ensures value { result ≡ begins_with 39 self.now.unfinished }
+    {
+        match self.place {
+            Place::Comment => true,
+            _ => false,
+        }
+    }
+
     /// Takes bytes from the front of the piece. Returns how many it used, and the statement that
     /// ended there, if one did.
     ///
@@ -174,6 +189,63 @@ impl PieceCutter {
         }
         hold(&mut self.held, part);
         Ok(ended(end, number, offset, self.held.as_slice()))
+    }
+
+    /// Takes the first `size` bytes of the piece and the byte after them, as `step` would, if these
+    /// bytes are a whole statement: if nothing is unfinished before them, and the byte after them
+    /// ends the statement. Otherwise changes nothing.
+    ///
+    /// The bytes must contain no separator and must not begin a comment, a name or a header. So no
+    /// search for the end of the statement is needed.
+    #[inline(always)]
+    pub fn take_word<'b>(&mut self, piece: &'b [u8], size: usize) -> Option<Statement<'b>>
+        requires room { self.old.fed + length piece.now ≤ 2 ^ 63 }
+        requires word { IsWord (take size piece.now) }
+        requires short { size ≤ longest_statement }
+        ensures stepped { IfSome result
+            (λ s. Stepped self.old piece.now (Ok (record { used = size + 1; statement = Some s }))
+            self.new) }
+        ensures bytes { IfSome result (λ s. s.bytes.now ≡ take size piece.now) }
+        ensures none { IfNone result (IsBetween self.old → size < length piece.now
+            → ends_word (get_or piece.now size 0) ≡ true → ⊥) }
+        ensures same { IfNone result (self.new ≡ self.old) }
+    {
+        if size >= piece.len() || is_in_statement(piece[size]) {
+            return None;
+        }
+        if self.place != Place::Gap || self.refused.is_some() {
+            return None;
+        }
+        let offset = self.fed;
+        self.held.clear();
+        self.fed += size as u64 + 1;
+        self.number += 1;
+        Some(Statement {
+            number: self.number,
+            offset,
+            bytes: &piece[..size],
+        })
+    }
+
+    /// Takes the comment at the front of the piece and the byte that ends it, or a separator there,
+    /// as `step` would on its way to the next statement. Returns how many bytes it used. Changes
+    /// nothing if neither is there, if the comment goes on after the piece, or if something else is
+    /// unfinished before it.
+    #[inline(always)]
+    pub fn take_unspoken(&mut self, piece: &[u8]) -> Option<usize>
+        requires room { self.old.fed + length piece.now ≤ 2 ^ 63 }
+        ensures used { IfSome result (λ used. (0 < used) × (used ≤ length piece.now)) }
+        ensures leads { IfSome result
+            (λ used. Leads self.old (take used piece.now) [] self.new) }
+        ensures none { IfNone result (IsBetween self.old → begins_unspoken piece.now ≡ false) }
+        ensures same { IfNone result (self.new ≡ self.old) }
+    {
+        if self.place != Place::Gap || self.refused.is_some() {
+            return None;
+        }
+        let used = unspoken_length(piece)?;
+        self.fed += used as u64;
+        Some(used)
     }
 
     /// Returns the statement that is unfinished at the end of the bytes, if there is one.

@@ -1,9 +1,10 @@
 //! Finds the next unit of a text, and the bytes of a unit that a statement keeps.
 
-ghost use Rattle.std.specs.Prelude.{◌≡◌, ℕ, List, false, ◌≤◌, ◌<◌, length, drop, not, MatchOption};
+ghost use Rattle.std.specs.Prelude.{◌≡◌, ◌+◌, ◌++◌, ℕ, List, false, ◌≤◌, ◌<◌, length, drop, take, not, IfNone, IfSome, MatchOption};
 ghost use Rattle.std.specs.List.{position_or_len, prefix_len};
-ghost use Rattle.csa_cutting.specs.Cut.{IsNext, IsGap, is_separator, is_blank, takes_line, is_end, statement_bytes, without_last_blanks};
+ghost use Rattle.csa_cutting.specs.Cut.{TextUnit, Statements, IsNext, IsGap, is_separator, is_blank, takes_line, is_end, statement_bytes, without_last_blanks};
 ghost use Rattle.csa_cutting.specs.Cutting.{unit_between};
+ghost use Rattle.csa_cutting.specs.PieceSteps.{begins_unspoken};
 ghost use Rattle.csa_cutting.specs.Places.{IsFoundIn, PassesTo};
 
 use crate::line::{is_line_end, line_length};
@@ -75,6 +76,30 @@ pub(crate) fn first_in(piece: &[u8], from: usize) -> Found
     Found::LeadsTo(Place::Gap)
 }
 
+// How many bytes the comment at the front of the text takes with the byte that ends it, or the
+// separator there.
+#[inline(always)]
+pub(crate) fn unspoken_length(text: &[u8]) -> Option<usize>
+    ensures used { IfSome result (λ used. (0 < used) × (used ≤ length text.now)) }
+    ensures passed { IfSome result (λ used. (o : ℕ) (more : List ℕ) (others : List TextUnit)
+        → Statements (o + used) more others
+        → Statements o (take used text.now ++ more) others) }
+    ensures none { IfNone result (begins_unspoken text.now ≡ false) }
+{
+    let (first, rest) = text.split_first()?;
+    if is_separator(*first) {
+        return Some(1);
+    }
+    if *first != COMMENT {
+        return None;
+    }
+    let length = unit_length(COMMENT, rest);
+    if length == rest.len() {
+        return None;
+    }
+    Some(length + 2)
+}
+
 fn is_separator(b: u8) -> bool
     ensures { result ≡ is_separator b }
 {
@@ -89,7 +114,7 @@ fn takes_line(first: u8) -> bool
 }
 
 // Whether a statement that does not take its whole line can contain this byte.
-fn is_in_statement(b: u8) -> bool
+pub(crate) fn is_in_statement(b: u8) -> bool
     ensures { (first : ℕ) → takes_line first ≡ false → result ≡ not (is_end first b) }
 {
     !is_line_end(b) && b != b','

@@ -1,11 +1,13 @@
 -- A reader's steps, by what its parts return.
 use Rattle.std.proofs.Common.{◌≡◌, ◌≢◌, ℕ, ◌+◌, ◌-◌, ◌<◌, ◌≤◌, List, [], ◌++◌, length, take, drop, append_assoc, length-drop, Option, Some, None, Result, Ok, Err, refl, sym, ap, ◌∙◌, subst, arith, inl, inr}
-use Rattle.std.specs.Prelude.{OnOk, IfErr}
+use Rattle.std.specs.Prelude.{OnOk, IfSome, IfOk, IfErr, MatchResult}
 use Rattle.std.specs.List.{AllByRecursion}
 use Rattle.std.proofs.Math.Seq.{take-add, take-length}
 use Rattle.std.proofs.lemmas.List.{length-take-le, take-append-drop}
-use Rattle.csa_cutting.specs.PieceCutting.{PieceCutting}
+use Rattle.csa_cutting.specs.PieceCutting.{PieceCutting, Leads}
 use Rattle.csa_cutting.specs.PieceSteps.{Stepped, Ends, Used, Finished}
+use Rattle.csa_text.specs.Spelling.{Spells}
+use Rattle.record_game.specs.declared.fault.Why.{Why}
 use Rattle.csa_text.specs.Saying.{Saying}
 use Rattle.csa_cutting.specs.declared.cutter.CutFault.{CutFault}
 use Rattle.csa_cutting.specs.declared.cutter.Statement.{Statement}
@@ -17,11 +19,12 @@ use Rattle.record_game.specs.declared.fault.Why.TheVariants.{Text, Order, OutOfM
 use Rattle.record_game.specs.Fits.{IsOfStatement}
 use Rattle.record_game.specs.Game.{Game}
 use Rattle.record_game.specs.Items.{sides}
-use Rattle.record_game.specs.Keeping.{Kept, HasKept}
+use Rattle.record_game.specs.Keeping.{Kept, HasKept, TakenOrRefused}
 use Rattle.record_game.specs.Outcome.{Outcome, IsWritten}
 use Rattle.csa_record.specs.declared.record_reader.Failing.{Failing}
 use Rattle.csa_record.specs.Reading.{Reading, HasTaken, HasRead}
-use Rattle.csa_record.specs.ReadingSteps.{HasAll, IsRefusedBy, LastTaken}
+use Rattle.csa_record.specs.ReadingSteps.{HasAll, IsRefusedBy, LastTaken, NextTaken}
+use Rattle.csa_record.proofs.Outcomes.{outcome_of}
 use Rattle.record_game.specs.Refused.{Refused, FaultlessTo}
 use Rattle.record_game.specs.Says.{Says}
 use Rattle.record_game.specs.Tells.{Tells}
@@ -71,6 +74,35 @@ went p q piece cut some f = by_statement cut.used cut.statement f.after.led
     by_statement used (Some s) u =
         let leads = u.leads in
         (u.some, u.within, leads.took ∙ ap (λ n. p.fed + n) (length-take-le used piece u.within))
+
+-- what a step returns for a statement that was taken or refused
+abbrev pub Answered : Statement → ℕ → Result (Unit {0}) Why → Result ℕ Refusal → Type 0
+Answered s used taken result =
+    MatchResult taken (λ _. result ≡ Ok used)
+    (λ why. result ≡ Err (record { number = s.number; offset = s.offset; why = why }))
+
+pub front_went : (piece : List ℕ) (used : ℕ) (p q : PieceCutting) (s : Statement) (taken : Result (Unit {0}) Why) (result : Result ℕ Refusal) → 0 < length piece → Stepped p piece (Ok (record { used = used; statement = Some s })) q → Answered s used taken result → IfOk result (λ n. (0 < n) × (n ≤ length piece) × (q.fed ≡ p.fed + n))
+front_went piece used p q s (Ok u) result some step is = rw is (went p q piece (record { used = used; statement = Some s }) some step)
+front_went piece used p q s (Err why) result some step is = rw is tt
+
+pub front_next : (source piece : List ℕ) (used : ℕ) (p q : PieceCutting) (k new : Kept) (f : Option Failing) (s : Statement) (saying : Saying) (taken : Result (Unit {0}) Why) (result : Result ℕ Refusal) → HasRead source (reading p k f) → Stepped p piece (Ok (record { used = used; statement = Some s })) q → Spells s.bytes.now saying
+    → ((before : List Saying) → HasKept before k → TakenOrRefused before saying taken new) → Answered s used taken result → NextTaken source piece result (reading q new f)
+front_next source piece used p q k new f s saying (Ok u) result h step spells takes is =
+    rw is (next_taken source piece used p q k new f s h step (outcome_of h.taken.sayings s.bytes.now saying (Ok tt) new spells (takes h.taken.sayings h.taken.keeps)))
+front_next source piece used p q k new f s saying (Err why) result h step spells takes is =
+    rw is (next_refused source piece used p q k new f s (record { number = s.number; offset = s.offset; why = why }) h step (refl, refl, outcome_of h.taken.sayings s.bytes.now saying (Err why) new spells (takes h.taken.sayings h.taken.keeps)))
+
+-- separators and comments
+unspoken_next : (source piece : List ℕ) (used : ℕ) (p q : PieceCutting) (k : Kept) (f : Option Failing) → HasRead source (reading p k f) → used ≤ length piece → Leads p (take used piece) [] q → HasRead (source ++ take used piece) (reading q k f)
+unspoken_next source piece used p q k f h within leads =
+    let front = take used piece in
+    let size : used ≡ length front = sym (length-take-le used piece within) in
+    let all : take used front ≡ front = ap (λ n. take n front) size ∙ take-length front in
+    record { going = h.going; taken = subst (λ bs. HasTaken (source ++ bs) q k) all (nothing_given source front used p q k h.taken size leads) }
+
+pub unspoken : (source piece : List ℕ) (o : Option ℕ) (p q : PieceCutting) (k : Kept) (f : Option Failing) → HasRead source (reading p k f) → IfSome o (λ used. (0 < used) × (used ≤ length piece)) → IfSome o (λ used. Leads p (take used piece) [] q) → IfSome o (λ used. HasRead (source ++ take used piece) (reading q k f))
+unspoken source piece None p q k f h within leads = tt
+unspoken source piece (Some used) p q k f h within leads = unspoken_next source piece used p q k f h within.1 leads
 
 -- a piece, split in two
 pub piece_more : (source piece : List ℕ) (used more : ℕ) (r : Reading) → HasRead ((source ++ take used piece) ++ take more (drop used piece)) r → HasRead (source ++ take (used + more) piece) r

@@ -8,7 +8,6 @@ use Rattle.csa_record.specs.declared.flow.FlowFault.TheVariants as flow
 use Rattle.record_game.specs.Canon.{canon}
 use Rattle.record_game.specs.Game.{Game}
 use Rattle.csa_record.specs.Reading.{Reading, HasRead}
-use Rattle.record_game.specs.Refused.{Refused}
 use Rattle.csa_record.specs.Flow.{longest_piece, most_reads, GaveGame, IsRefusal, FailsRead, IsOutOfMemory, IsReadFault, IsCutShort}
 
 -- a reader of these bytes was fed the next piece of the source; or the source is at its end; or the

@@ -1,5 +1,5 @@
 -- For private functions: what one step of a reader does.
-use Rattle.std.specs.Prelude.{◌≡◌, ◌≢◌, ◌⊎◌, ℕ, List, [], ◌++◌, length, take, Option, Result, Ok, Err}
+use Rattle.std.specs.Prelude.{◌≡◌, ◌≢◌, ◌⊎◌, ℕ, ◌+◌, ◌<◌, ◌≤◌, List, [], ◌++◌, length, take, Option, Result, Ok, Err}
 use Rattle.csa_cutting.specs.Cut.{TextUnit, IsCut}
 use Rattle.csa_cutting.specs.PieceCutting.{PieceCutting}
 use Rattle.csa_text.specs.Saying.{Saying}
@@ -19,6 +19,10 @@ abbrev pub IsRefusedBy : List ℕ → Refusal → Type 0
 IsRefusedBy source r =
     ((r.why ≢ OutOfMemory) × Refused source r.number r.offset r.why)
     ⊎ ((r.why ≡ OutOfMemory) × FaultlessTo source r.number r.offset)
+
+-- so many bytes of the piece were used: the cutter has come as far
+abbrev pub AreUsed : List ℕ → PieceCutting → PieceCutting → ℕ → Type 0
+AreUsed piece old new used = (0 < used) × (used ≤ length piece) × (new.fed ≡ old.fed + used)
 
 -- the next bytes of the piece were taken; or the bytes with that piece are refused, whatever
 -- follows them

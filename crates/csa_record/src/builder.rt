@@ -7,6 +7,7 @@ ghost use Rattle.record_game.specs.Answer.{IsAnswer};
 ghost use Rattle.record_game.specs.Fits.{Fits, IsHeaderLine, IsOfStatement};
 ghost use Rattle.record_game.specs.Items.{sides};
 ghost use Rattle.record_game.specs.Keeping.{HasKept, TakenOrRefused};
+ghost use Rattle.record_game.specs.Laying.{Lays};
 ghost use Rattle.record_game.specs.Limits.{IsOneLine, longest_time};
 ghost use Rattle.record_game.specs.Outcome.{Outcome, IsWritten, late};
 ghost use Rattle.record_game.specs.Refused.{Finishes};
@@ -54,11 +55,19 @@ impl RecordBuilder {
     pub(crate) fn new(alloc: Global) -> RecordBuilder
         ensures { HasKept [] result }
     {
+        RecordBuilder::from_laying(alloc, Laying::new())
+    }
+
+    // The same, by what is laid out before any statement.
+    pub(crate) fn from_laying(alloc: Global, laying: Laying) -> RecordBuilder
+        requires { Lays [] laying }
+        ensures { HasKept [] result }
+    {
         RecordBuilder {
             alloc,
             begun: false,
             titles: Titles::new(alloc),
-            stage: Stage::Laying(Laying::new()),
+            stage: Stage::Laying(laying),
         }
     }
 
@@ -90,8 +99,31 @@ impl RecordBuilder {
         self.take(item)
     }
 
-    // Takes the next item, or says why it does not fit. Only this call records that there has been
-    // an item.
+    // As `take`, for a move.
+    #[inline(always)]
+    pub(crate) fn take_walked(&mut self, color: Color, mv: Move) -> Result<(), Why>
+        ensures { (before : List Saying) → HasKept before self.old
+            → TakenOrRefused before (walked color mv) result self.new }
+    {
+        let taken = self.take_move(color, mv);
+        self.begun = true;
+        taken
+    }
+
+    // As `take`, for a time.
+    #[inline(always)]
+    pub(crate) fn take_timed(&mut self, thousandths: u64) -> Result<(), Why>
+        requires { thousandths ≤ longest_time }
+        ensures { (before : List Saying) → HasKept before self.old
+            → TakenOrRefused before (time thousandths) result self.new }
+    {
+        let taken = self.take_time(thousandths);
+        self.begun = true;
+        taken
+    }
+
+    // Takes the next item, or says why it does not fit. Only this call, `take_walked` and
+    // `take_timed` record that there has been an item.
     #[inline(always)]
     fn take(&mut self, item: Item<'_>) -> Result<(), Why>
         requires { Fits (saying_of item) }

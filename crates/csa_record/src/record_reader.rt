@@ -1,17 +1,20 @@
-ghost use Rattle.std.specs.Prelude.{◌≡◌, ◌≢◌, ℕ, ◌+◌, ◌^◌, ◌<◌, ◌≤◌, [], ◌++◌, List, length, Some, None, Ok, Err, IfSome, IfOk, IfErr, OnOk, IsErrOf};
+ghost use Rattle.std.specs.Prelude.{◌≡◌, ◌≢◌, ℕ, ◌+◌, ◌^◌, ◌<◌, ◌≤◌, [], ◌++◌, List, length, take, Some, None, Ok, Err, IfSome, IfNone, IfOk, IfErr, MatchResult, OnOk, IsErrOf};
 ghost use Rattle.csa_text.specs.Saying.{Saying};
 ghost use Rattle.record_game.specs.Closed.{ClosedAt};
 ghost use Rattle.record_game.specs.Fits.{IsOfStatement};
 ghost use Rattle.record_game.specs.Keeping.{HasKept};
+ghost use Rattle.record_game.specs.Laying.{Lays};
 ghost use Rattle.record_game.specs.Outcome.{Outcome};
 ghost use Rattle.csa_record.specs.Reading.{HasRead, HasTaken, fed_of};
-ghost use Rattle.csa_record.specs.ReadingSteps.{IsRead, IsRefusedBy, NextTaken, LastTaken};
+ghost use Rattle.csa_record.specs.ReadingSteps.{AreUsed, IsRead, IsRefusedBy, NextTaken, LastTaken};
 ghost use Rattle.record_game.specs.Refused.{Refused, FaultlessTo};
 ghost use Rattle.record_game.specs.Tells.{Tells};
 
 use crate::builder::RecordBuilder;
+use crate::laying::Laying;
 use crate::record::Record;
 use csa_cutting::{PieceCutter, Statement};
+use csa_text::{MOVE_SIZE, front_move, front_time};
 use record_game::{OrderFault, Refusal, Why};
 use std::alloc::Global;
 use std::marker::Model;
@@ -155,12 +158,84 @@ impl RecordReader {
 
     // Takes bytes of the piece up to the end of a statement, and that statement. Returns how many
     // it used.
+    #[inline(always)]
     fn take_next(&mut self, piece: &[u8]) -> Result<usize, Refusal>
         requires room { self.old.cutter.fed + length piece.now ≤ 2 ^ 63 }
         requires some { 0 < length piece.now }
-        ensures used { IfOk result
-            (λ used. (0 < used) × (used ≤ length piece.now)
-            × (self.new.cutter.fed ≡ self.old.cutter.fed + used)) }
+        ensures used { IfOk result (AreUsed piece.now self.old.cutter self.new.cutter) }
+        ensures next { (source : List ℕ) → HasRead source self.old
+            → NextTaken source piece.now result self.new }
+    {
+        if self.cutter.is_in_comment() {
+            return self.take_any(piece);
+        }
+        // most statements are moves and times, which need no search for their ends
+        if let Some(taken) = self.take_front_move(piece) {
+            return taken;
+        }
+        if let Some(taken) = self.take_front_time(piece) {
+            return taken;
+        }
+        if let Some(used) = self.pass_unspoken(piece) {
+            return Ok(used);
+        }
+        self.take_any(piece)
+    }
+
+    // As `take_next`, if the piece begins with a move that ends in it. Otherwise changes nothing.
+    #[inline(always)]
+    fn take_front_move(&mut self, piece: &[u8]) -> Option<Result<usize, Refusal>>
+        requires room { self.old.cutter.fed + length piece.now ≤ 2 ^ 63 }
+        requires some { 0 < length piece.now }
+        ensures used { IfSome result
+            (λ taken. IfOk taken (AreUsed piece.now self.old.cutter self.new.cutter)) }
+        ensures next { (source : List ℕ) → HasRead source self.old
+            → IfSome result (λ taken. NextTaken source piece.now taken self.new) }
+        ensures none { IfNone result (self.new ≡ self.old) }
+    {
+        let front = front_move(piece)?;
+        let statement = self.cutter.take_word(piece, MOVE_SIZE)?;
+        let (color, mv) = front;
+        let taken = self.builder.take_walked(color, mv);
+        Some(used_or_refused(&statement, MOVE_SIZE + 1, taken))
+    }
+
+    // As `take_next`, if the piece begins with a time that ends in it. Otherwise changes nothing.
+    #[inline(always)]
+    fn take_front_time(&mut self, piece: &[u8]) -> Option<Result<usize, Refusal>>
+        requires room { self.old.cutter.fed + length piece.now ≤ 2 ^ 63 }
+        requires some { 0 < length piece.now }
+        ensures used { IfSome result
+            (λ taken. IfOk taken (AreUsed piece.now self.old.cutter self.new.cutter)) }
+        ensures next { (source : List ℕ) → HasRead source self.old
+            → IfSome result (λ taken. NextTaken source piece.now taken self.new) }
+        ensures none { IfNone result (self.new ≡ self.old) }
+    {
+        let (thousandths, size) = front_time(piece)?;
+        let statement = self.cutter.take_word(piece, size)?;
+        let taken = self.builder.take_timed(thousandths);
+        Some(used_or_refused(&statement, size + 1, taken))
+    }
+
+    // Takes a separator or a comment at the front of the piece, and returns how many bytes it used.
+    // Otherwise changes nothing.
+    #[inline(always)]
+    fn pass_unspoken(&mut self, piece: &[u8]) -> Option<usize>
+        requires room { self.old.cutter.fed + length piece.now ≤ 2 ^ 63 }
+        ensures used { IfSome result (AreUsed piece.now self.old.cutter self.new.cutter) }
+        ensures next { (source : List ℕ) → HasRead source self.old
+            → IfSome result (λ used. HasRead (source ++ take used piece.now) self.new) }
+        ensures none { IfNone result (self.new ≡ self.old) }
+    {
+        self.cutter.take_unspoken(piece)
+    }
+
+    // As `take_next`, for any statement.
+    #[inline(never)]
+    fn take_any(&mut self, piece: &[u8]) -> Result<usize, Refusal>
+        requires room { self.old.cutter.fed + length piece.now ≤ 2 ^ 63 }
+        requires some { 0 < length piece.now }
+        ensures used { IfOk result (AreUsed piece.now self.old.cutter self.new.cutter) }
         ensures next { (source : List ℕ) → HasRead source self.old
             → NextTaken source piece.now result self.new }
     {
@@ -201,8 +276,9 @@ impl RecordReader {
         end(&mut cutter, builder, failing)
     }
 
-    // As `finish`, of a reader that is then as if new.
-    pub(crate) fn finish_anew(&mut self, alloc: Global) -> Result<Record, Refusal>
+    // As `finish`, of a reader that is then as if new. Takes what is laid out before any statement.
+    pub(crate) fn finish_anew(&mut self, alloc: Global, laying: Laying) -> Result<Record, Refusal>
+        requires { Lays [] laying }
         ensures stated { (source : List ℕ) → HasRead source self.old
             → IfOk result (λ g. Tells source g) }
         ensures refused { (source : List ℕ) → HasRead source self.old
@@ -213,7 +289,7 @@ impl RecordReader {
             → IfErr result (λ r. r.why ≢ Why.Failed) }
         ensures anew { HasRead [] self.new }
     {
-        let builder = mem::replace(&mut self.builder, RecordBuilder::new(alloc));
+        let builder = mem::replace(&mut self.builder, RecordBuilder::from_laying(alloc, laying));
         let record = end(&mut self.cutter, builder, self.failing);
         self.cutter.restart();
         self.failing = None;
@@ -286,6 +362,28 @@ fn take_last(cutter: &mut PieceCutter, builder: &mut RecordBuilder) -> Result<()
     match last {
         Some(statement) => take_statement(builder, statement),
         None => Ok(()),
+    }
+}
+
+// How many bytes were used for a statement, or its refusal.
+#[inline(always)]
+fn used_or_refused(
+    statement: &Statement<'_>,
+    used: usize,
+    taken: Result<(), Why>,
+) -> Result<usize, Refusal>
+    ensures { MatchResult taken
+        (λ _. result ≡ Ok used)
+        (λ why. result
+        ≡ Err (record { number = statement.now.number; offset = statement.now.offset; why = why })) }
+{
+    match taken {
+        Ok(()) => Ok(used),
+        Err(why) => Err(Refusal {
+            number: statement.number,
+            offset: statement.offset,
+            why,
+        }),
     }
 }
 

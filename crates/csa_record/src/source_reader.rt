@@ -3,6 +3,7 @@ ghost use Rattle.csa_record.specs.declared.flow.FlowFault.{FlowFault};
 ghost use Rattle.csa_record.specs.Flow.{GaveGame, IsRefusal, IsFaultless, FailsRead, ReadsRecord};
 
 use crate::flow::{FlowFault, PIECE, feed_all};
+use crate::laying::Laying;
 use crate::record::Record;
 use crate::record_reader::RecordReader;
 use crate::source::Source;
@@ -15,6 +16,8 @@ use std::marker::Model;
 #[derive(Drop)]
 pub struct SourceReader {
     alloc: Global,
+    // what is laid out before any statement: a copy takes less than a new one
+    laying: Laying,
     // as if new between two records
     reader: RecordReader,
     buffer: [u8; PIECE],
@@ -23,12 +26,13 @@ pub struct SourceReader {
 impl Model for SourceReader {
     ghost use Rattle.std.specs.Prelude.{[]};
     ghost use Rattle.csa_record.specs.Reading.{HasRead};
+    ghost use Rattle.record_game.specs.Laying.{Lays};
 
     ghost Value = { Unit {0} };
 
     ghost view = { λ _. tt };
 
-    ghost invariant = { λ s. HasRead [] s.reader };
+    ghost invariant = { λ s. HasRead [] s.reader × Lays [] s.laying };
 }
 
 impl SourceReader {
@@ -36,6 +40,7 @@ impl SourceReader {
     pub fn new(alloc: Global) -> SourceReader {
         SourceReader {
             alloc,
+            laying: Laying::new(),
             reader: RecordReader::new(alloc),
             buffer: [0; PIECE],
         }
@@ -72,7 +77,7 @@ impl SourceReader {
             → S.ended source.new ≡ S.ended source.old }
     {
         let fed = feed_all(source, &mut self.reader, &mut self.buffer);
-        let ended = self.reader.finish_anew(self.alloc);
+        let ended = self.reader.finish_anew(self.alloc, self.laying);
         fed?;
         match ended {
             Ok(record) => Ok(record),

@@ -257,9 +257,7 @@ fn copied(alloc: Global, bytes: &[u8]) -> Result<Vec<u8>, Why>
     ensures ok { IfOk result (λ copy. copy.items ≡ bytes.now) }
     ensures err { IfErr result (λ why. why ≡ Why.OutOfMemory) }
 {
-    let mut copy = Vec::new(alloc);
-    copy.extend_from_slice(bytes)?;
-    Ok(copy)
+    Ok(Vec::from_slice(alloc, bytes)?)
 }
 
 // The value that the text spells for this key.

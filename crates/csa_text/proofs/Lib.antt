@@ -3,6 +3,7 @@ pub mod Texts
 pub mod PairsRead
 pub mod CellTexts
 pub mod TimesRead
+mod FrontTimes
 pub mod Rows
 pub mod Sayings
 pub mod Decided

@@ -24,7 +24,7 @@ digit_below (c ∷ cs) (suc i) h less = digit_below cs i h.1 (omega arith)
 pub below_power : (ds : List ℕ) (most : ℕ) → AllDigits 10 ds → length ds ≤ most → digits_value 10 ds < 10 ^ most
 below_power ds most h few = omega (arith, digits_value-lt 10 ds h, pow-le-pow_right {n = 10} (omega arith) {i = length ds} {j = most} few)
 
-differs : (c mark : ℕ) → digit_value c < 10 → (digit_value mark < 10 → ⊥) → (c == mark) ≡ false
+pub differs : (c mark : ℕ) → digit_value c < 10 → (digit_value mark < 10 → ⊥) → (c == mark) ≡ false
 differs c mark digit none =
     elim (cases_Bool (c == mark)) [
       | inl t ↦ let same : c ≡ mark = eqb-true c mark t in absurd (none (subst (λ n. digit_value n < 10) same digit))

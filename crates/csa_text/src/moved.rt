@@ -52,6 +52,7 @@ fn push_ascii(text: &mut ArrayString<7>, byte: u8)
 }
 
 // The move of these six bytes, which follow the sign.
+#[inline(always)]
 pub(crate) fn read_move(bytes: &[u8]) -> Option<Move>
     ensures { MatchOption result
         ((m : Move) → bytes.now ≡ squares_text m → ⊥)

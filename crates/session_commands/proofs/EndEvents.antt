@@ -1,5 +1,5 @@
 -- What a line says of the end of a game.
-use Rattle.std.proofs.Common.{◌≡◌, ◌≢◌, ◌↔◌, ◌∙◌, Bool, true, false, List, ℕ, Option, None, Some, MatchOption, refl, sym, subst}
+use Rattle.std.proofs.Common.{◌≡◌, ◌≢◌, true, false, List, ℕ, Option, None, Some, MatchOption, refl, sym, subst}
 use Rattle.bridge_table.specs.declared.event.Status.{Status}
 use Rattle.bridge_table.specs.declared.event.Status.TheVariants.{Failed}
 use Rattle.bridge_table.specs.declared.fault.SessionFault.{SessionFault}
@@ -8,7 +8,7 @@ use Rattle.session_commands.specs.Endings.{IsEnding, IsReason, IsResult, SaysInG
 use Rattle.session_commands.specs.declared.bridging.Peer.{Peer}
 use Rattle.session_commands.specs.declared.bridging.Peer.TheVariants.{Engine, Server}
 use Rattle.session_commands.specs.declared.ending.EndEvent.{EndEvent}
-use Rattle.session_commands.specs.declared.ending.EndEvent.TheVariants.{Slip, Refused}
+use Rattle.session_commands.specs.declared.ending.EndEvent.TheVariants.{Slip}
 use Rattle.session_commands.specs.declared.ending.Snapshot.{Snapshot}
 
 pub none_in_game : (before after : ClientState) (line : List ℕ)

@@ -11,6 +11,7 @@ use Rattle.shogi_board.specs.declared.memory.OutOfMemory.{OutOfMemory}
 use Rattle.session_commands.specs.declared.bridging.Peer.TheVariants.{Engine, Server}
 use Rattle.session_commands.specs.Plays.{Delivers, Gives, Misses, Takes, peer_for}
 use Rattle.session_commands.specs.LackOfMemory.{GoneRunsOut, NextRunsOut, not_stepped, PlayRunsOut, SendRunsOut, server_gone, StepRunsOut, first_unsent, later_unsent, no_next}
+use Rattle.session_commands.specs.Endings.{Ended}
 use Rattle.session_commands.proofs.Playing.{Answered, Rounds, first, later}
 
 -- the clauses of a step in which an allocation fails, together
@@ -37,15 +38,15 @@ server_lacks went gone to_engine to_server engine_lines server_lines e s status 
     server_gone g u after (subst (λ x. Delivers went gone Engine x e s status g u after) is_engine delivered) (subst (λ x. GoneRunsOut gone Server x g u f t) is_server lack)
 
 -- the lines of a step were not all sent
-pub unsent : {E : Type 0} (came : Gives E) (missed : Misses E) (went gone : Takes E) (e : E) (s : Session) (to_engine to_server : List ℕ) (status : Status) (count : ℕ) (f : E) (t : Session) (g : E) (u : Session)
-    → Answered came went gone e s to_engine to_server status count f t → SendRunsOut went gone to_engine to_server f t status g u
+pub unsent : {E : Type 0} (came : Gives E) (missed : Misses E) (went gone : Takes E) (e : E) (s : Session) (old : Ended) (to_engine to_server : List ℕ) (status : Status) (count : ℕ) (f : E) (t : Session) (new : Ended) (g : E) (u : Session)
+    → Answered came went gone e s old to_engine to_server status count f t new → SendRunsOut went gone to_engine to_server f t status g u
     → PlayRunsOut came missed went gone e s g u
-unsent came missed went gone e s to_engine to_server status count f t g u (first t' step) lack =
+unsent came missed went gone e s old to_engine to_server status count f t new g u (first t' step) lack =
     first_unsent (record { to_engine = to_engine; to_server = to_server; stepped = status; session = t; step = step; unsent = lack })
-unsent came missed went gone e s to_engine to_server status count f t g u (later f' g' t' u' event played arrived step) lack =
+unsent came missed went gone e s old to_engine to_server status count f t new g u (later f' g' t' u' between new' event played kept arrived step notes) lack =
     later_unsent f' f t' event played arrived (record { to_engine = to_engine; to_server = to_server; stepped = status; session = t; step = step; unsent = lack })
 
 -- nothing came after the rounds that passed
-pub not_next : {E : Type 0} (came : Gives E) (missed : Misses E) (went gone : Takes E) (e : E) (s : Session) (count : ℕ) (f : E) (t : Session) (g : E) (u : Session)
-    → Rounds came went gone e s count f t Going → NextRunsOut came missed f t g u → PlayRunsOut came missed went gone e s g u
-not_next came missed went gone e s count f t g u rounds lack = no_next f t rounds.played lack
+pub not_next : {E : Type 0} (came : Gives E) (missed : Misses E) (went gone : Takes E) (e : E) (s : Session) (old : Ended) (count : ℕ) (f : E) (t : Session) (new : Ended) (g : E) (u : Session)
+    → Rounds came went gone e s old count f t new Going → NextRunsOut came missed f t g u → PlayRunsOut came missed went gone e s g u
+not_next came missed went gone e s old count f t new g u rounds lack = no_next f t rounds.noted.played lack

@@ -1,3 +1,4 @@
+pub mod Causes
 pub mod Coming
 pub mod EndEvents
 pub mod Holding
@@ -9,6 +10,7 @@ pub mod Outcomes
 pub mod PlayedLogs
 pub mod Playing
 pub mod Porting
+pub mod Runs
 pub mod Serving
 pub mod Talks
 pub mod LackOfMemory

@@ -3,7 +3,7 @@ use Rattle.std.proofs.Common.{◌≡◌, ◌==◌, ◌≤◌, ◌+◌, ◌++◌,
 use Rattle.std.proofs.lemmas.Bool.Decides.{nat_tests}
 use Rattle.std.specs.List.{AllByRecursion, before_first}
 use Rattle.session_lines.specs.LineTexts.{login_front}
-use Rattle.session_commands.specs.LogTexts.{AppendsEntries, DifferInPasswords, HidesPassword, IsEntryText, IsLogText, NotesText, login, login_entry, logins, no_entries, other, same}
+use Rattle.session_commands.specs.LogTexts.{AppendsEntries, AppendsEntry, DifferInPasswords, HidesPassword, IsEntryText, IsLogText, NotesText, login, login_entry, logins, no_entries, no_memory, not_whole, noted, other, same, unwritten}
 use Rattle.session_commands.specs.Logging.{Entry, Notes, NotesAll}
 use Rattle.session_commands.specs.declared.log.LogState.{LogState}
 use Rattle.session_commands.specs.declared.log.LogState.TheVariants.{Whole}
@@ -47,15 +47,23 @@ same_log _ _ text (same entry more others differ) (first, rest, is_first, is_res
 same_log _ _ text (logins name one two more others word differ) (first, rest, is_first, is_rest, whole) =
     (first, rest, same_text name one two first word is_first, same_log more others rest differ is_rest, whole)
 
+-- a log that is whole after an entry has its text
+whole_noted : (before : LogState) (old : Option (List ℕ)) (entry : Entry) (after : LogState) (new : Option (List ℕ))
+    → NotesText before old entry after new → after ≡ Whole → (before ≡ Whole) × AppendsEntry old new entry
+whole_noted before old entry after new (noted was is adds) whole = (was, adds)
+whole_noted before old entry after new (not_whole was stays kept) whole = absurd (was (sym stays ∙ whole))
+whole_noted before old entry after new (no_memory was is kept) whole = absurd cc
+whole_noted before old entry after new (unwritten was is) whole = absurd cc
+
 -- a log that is whole at its end was whole all the time
 pub noted_all : {L : Type 0} (notes : Notes L) (state : L → LogState) (contents : L → Option (List ℕ))
     → ((l m : L) (entry : Entry) → notes l entry m → NotesText (state l) (contents l) entry (state m) (contents m))
     → (entries : List Entry) (l m : L) → NotesAll notes l entries m → state m ≡ Whole → (state l ≡ Whole) × AppendsEntries (contents l) (contents m) entries
 noted_all notes state contents writes [] l m kept whole =
     (ap state (sym kept) ∙ whole, ([], refl, subst (λ x. Appends (contents l) (contents x) []) (sym kept) (Appends-nil (contents l))))
-noted_all notes state contents writes (entry ∷ more) l m (k, noted, rest) whole =
+noted_all notes state contents writes (entry ∷ more) l m (k, noted_so, rest) whole =
     let after = noted_all notes state contents writes more k m rest whole in
-    let here = writes l k entry noted after.0 in
+    let here = whole_noted (state l) (contents l) entry (state k) (contents k) (writes l k entry noted_so) after.0 in
     (here.0, (here.1.0 ++ after.1.0, (here.1.0, after.1.0, here.1.1, after.1.1, refl), Appends-trans (contents l) (contents k) (contents m) here.1.0 after.1.0 here.1.2 after.1.2))
 
 -- a login that is written so has no password

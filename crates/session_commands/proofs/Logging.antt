@@ -1,5 +1,5 @@
 -- What passed in a session is what its log noted.
-use Rattle.std.proofs.Common.{◌≡◌, ◌++◌, ℕ, List, [], ◌∷◌, refl, sym, ap, subst, ◌∙◌}
+use Rattle.std.proofs.Common.{◌≡◌, ◌++◌, ℕ, List, [], ◌∷◌, refl, ap, subst}
 use Rattle.bridge_table.specs.declared.event.Status.{Status}
 use Rattle.bridge_table.specs.declared.event.Status.TheVariants.{Going}
 use Rattle.shogi_session.specs.Events.{Event}

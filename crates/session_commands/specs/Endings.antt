@@ -2,19 +2,26 @@
 use Rattle.std.specs.Prelude.{◌≡◌, ◌≢◌, ◌⊎◌, ◌++◌, ◌||◌, ⊤, ℕ, true, false, List, [], ◌∷◌, Option, None, Some, Result, Ok, Err, codes, if◌then◌else◌, map, nat_lt, take}
 use Rattle.bridge_table.specs.declared.fault.SessionFault.{SessionFault}
 use Rattle.bridge_table.specs.declared.fault.SessionFault.TheVariants.{LoginRefused, Rejected, BadSummary, BadServerMove, EngineGone, ServerGone, LineTooLong}
+use Rattle.bridge_table.specs.declared.fault.MoveCause.{MoveCause}
+use Rattle.bridge_table.specs.declared.fault.MoveCause.TheVariants.{Refused, Unsent}
+use Rattle.record_game.specs.declared.fault.Why.{Why}
+use Rattle.record_game.specs.declared.fault.Why.TheVariants.{Rule as WhyRule}
 use Rattle.session_commands.specs.declared.bridging.Peer.{Peer}
 use Rattle.bridge_table.specs.declared.event.Status.{Status}
 use Rattle.bridge_table.specs.declared.event.Status.TheVariants.{Failed}
 use Rattle.bridge_table.specs.declared.state.ClientState.{ClientState}
+use Rattle.shogi_board.specs.declared.rule.Rule.{Rule}
 use Rattle.bridge_table.specs.declared.state.ClientState.TheVariants as client
 use Rattle.csa_cutting.specs.Cut.{begins_with}
 use Rattle.session_commands.specs.declared.bridging.Peer.TheVariants.{Engine, Server}
+use Rattle.session_commands.specs.declared.ending.Refusal.{Refusal}
 use Rattle.session_commands.specs.declared.ending.Snapshot.{Snapshot}
 use Rattle.session_commands.specs.declared.ending.EndEvent.{EndEvent}
-use Rattle.session_commands.specs.declared.ending.EndEvent.TheVariants.{Slip, Ending, Reason, Result as Outcome, Refused}
+use Rattle.session_commands.specs.declared.ending.EndEvent.TheVariants.{Slip, Ending, Reason, Result as Outcome, Refused as RefusedBy}
 use Rattle.session_setup.specs.declared.fault.MatchFault.{MatchFault}
 use Rattle.session_setup.specs.declared.fault.MatchFault.TheVariants as match_fault
-use Rattle.session_commands.specs.Words.{gone_line, long_line, slip_line}
+use Rattle.session_commands.specs.Words.{bad_summary_line, gone_line, long_line, slip_line}
+use Rattle.shogi_session.specs.declared.summary_fault.SummaryFault.{SummaryFault}
 use Rattle.session_lines.specs.Texts.{without_last_spaces}
 
 -- a byte as a log quotes it: `?` if it is no printable ASCII
@@ -25,13 +32,13 @@ quoted_byte byte = if nat_lt byte 32 || nat_lt 126 byte then 63 else byte
 abbrev pub quoted : List ℕ → List ℕ
 quoted line = map quoted_byte (take 256 (without_last_spaces line))
 
--- the slip, the first reason and the last result, the line of the server that failed the session,
--- and the peer whose line was too long, if there are any
+-- the slip, the first reason and the last result, the line of the server that failed the session
+-- and why, and the peer whose line was too long, if there are any
 pub record Ended : Type 0 where
   pub slip : Option (List ℕ)
   pub reason : Option (List ℕ)
   pub outcome : Option (List ℕ)
-  pub refused : Option (List ℕ × SessionFault)
+  pub refused : Option (List ℕ × Refusal)
   pub long : Option Peer
 
 -- the game is in play, or its result alone is still to come
@@ -67,7 +74,8 @@ pub data SaysOfEnd (before after : Snapshot) (line : List ℕ)
   says_slip : (status : Status) → after.slip ≡ true → before.slip ≡ false
       → SaysOfEnd before after line Engine status Slip
   says_fault : (fault : SessionFault)
-      → SaysOfEnd before after line Server (Failed fault) (Refused fault)
+      → SaysOfEnd before after line Server (Failed fault)
+      (RefusedBy (record { fault = fault; summary = after.summary }))
   says_in_game : (status : Status) (event : EndEvent)
       → ((fault : SessionFault) → status ≢ Failed fault)
       → SaysInGame before.client after.client line event
@@ -88,7 +96,7 @@ kept_with Slip line ended = record ended { slip = Some line }
 kept_with Ending line ended = ended
 kept_with Reason line ended = record ended { reason = Some (first_of ended.reason line) }
 kept_with Outcome line ended = record ended { outcome = Some line }
-kept_with (Refused fault) line ended = record ended { refused = Some (line, fault) }
+kept_with (RefusedBy refusal) line ended = record ended { refused = Some (line, refusal) }
 
 -- what is kept after a line from a peer, if it led a bridge from one snapshot to another and to
 -- this status
@@ -117,20 +125,33 @@ abbrev pub result_lines : Option (List ℕ) → Option (List ℕ) → List ℕ
 result_lines reason None = []
 result_lines reason (Some line) = result_line reason line
 
--- a line about a move that was refused
-abbrev pub IsRefusedMoveLine : List ℕ → List ℕ → Type 0
-IsRefusedMoveLine line text = (cause : List ℕ) × (text ≡ codes "B4: " ++ line ++ cause)
+-- why a move of the server is refused, and LF: the rule that it breaks, or else the fault
+pub data IsCauseText : MoveCause → List ℕ → Type 0 where
+  breaks : (rule : Rule) (words text : List ℕ)
+      → text ≡ codes " breaks " ++ (words ++ 10 ∷ []) → IsCauseText (Refused (WhyRule rule)) text
+  is_refused : (why : Why) (words text : List ℕ) → ((rule : Rule) → why ≢ WhyRule rule)
+      → text ≡ codes " is refused: " ++ (words ++ 10 ∷ []) → IsCauseText (Refused why) text
+  is_unsent : (text : List ℕ)
+      → text ≡ codes " is a move of the engine's side that it did not send" ++ 10 ∷ []
+      → IsCauseText Unsent text
 
--- the line about a line of the server that failed the session; the last three faults have no such
--- line
-abbrev pub IsRefusedLine : SessionFault → List ℕ → List ℕ → Type 0
-IsRefusedLine LoginRefused line text = text ≡ codes "B1: the server sent " ++ (line ++ 10 ∷ [])
-IsRefusedLine Rejected line text = text ≡ codes "B2: the server sent " ++ (line ++ 10 ∷ [])
-IsRefusedLine BadSummary line text = text ≡ codes "B3: the server sent " ++ (line ++ 10 ∷ [])
-IsRefusedLine (BadServerMove cause) line text = IsRefusedMoveLine line text
-IsRefusedLine EngineGone line text = ⊤
-IsRefusedLine ServerGone line text = ⊤
-IsRefusedLine LineTooLong line text = ⊤
+-- a line about a move that was refused
+abbrev pub IsRefusedMoveLine : MoveCause → List ℕ → List ℕ → Type 0
+IsRefusedMoveLine move_cause line text = (cause : List ℕ) × IsCauseText move_cause cause
+    × (text ≡ codes "B4: " ++ line ++ cause)
+
+-- the line about a line of the server that failed the session, perhaps by its summary; the last
+-- three faults have no such line
+abbrev pub IsRefusedLine : SessionFault → Option SummaryFault → List ℕ → List ℕ → Type 0
+IsRefusedLine LoginRefused cause line text =
+    text ≡ codes "B1: the server sent " ++ (line ++ 10 ∷ [])
+IsRefusedLine Rejected cause line text =
+    text ≡ codes "B2: the server sent " ++ (line ++ 10 ∷ [])
+IsRefusedLine BadSummary cause line text = text ≡ bad_summary_line cause line
+IsRefusedLine (BadServerMove move_cause) cause line text = IsRefusedMoveLine move_cause line text
+IsRefusedLine EngineGone cause line text = ⊤
+IsRefusedLine ServerGone cause line text = ⊤
+IsRefusedLine LineTooLong cause line text = ⊤
 
 -- the peer whose end is this fault
 abbrev pub gone_peer : MatchFault → Option Peer
@@ -152,9 +173,10 @@ IsFaultLine None text = ⊤
 
 -- the last line of a log: about the server's line that was refused, about the peer whose line was
 -- too long, or else about the fault; after a session that ended well there is none
-abbrev pub IsLastLine : Option (List ℕ × SessionFault) → Option Peer → Result ⊤ MatchFault
+abbrev pub IsLastLine : Option (List ℕ × Refusal) → Option Peer → Result ⊤ MatchFault
     → List ℕ → Type 0
-IsLastLine (Some refused) long played text = IsRefusedLine refused.1 refused.0 text
+IsLastLine (Some refused) long played text =
+    IsRefusedLine refused.1.fault refused.1.summary refused.0 text
 IsLastLine None (Some peer) played text = text ≡ long_line peer ++ 10 ∷ []
 IsLastLine None None (Err fault) text = IsFaultLine (gone_peer fault) text
 IsLastLine None None (Ok done) text = text ≡ []

@@ -1,5 +1,5 @@
 -- For private functions: what becomes of the record of a game.
-use Rattle.std.specs.Prelude.{◌≡◌, ◌≢◌, ◌⊎◌, ⊤, ℕ, Bool, true, false, List, length, Option, None, Some, Result, Ok, Err}
+use Rattle.std.specs.Prelude.{◌≡◌, ◌≢◌, ◌⊎◌, ⊤, ℕ, Bool, true, false, List, length, None, Some, Result, Ok, Err}
 use Rattle.record_game.specs.Canon.{canon}
 use Rattle.record_game.specs.Game.{Game}
 use Rattle.bridge_table.specs.declared.state.ClientState.TheVariants.{Agreeing}

@@ -1,5 +1,5 @@
 -- For private functions: how the programs of a game are started, joined to a bridge, and ended.
-use Rattle.std.specs.Prelude.{◌≡◌, ◌++◌, ℕ, Bool, true, false, List, [], ◌∷◌, Option, None, Some, codes, decimal, map, option_map}
+use Rattle.std.specs.Prelude.{◌≡◌, ◌++◌, ℕ, Bool, List, [], ◌∷◌, Option, None, Some, codes, decimal, map, option_map}
 use Rattle.std.specs.Borrow.{Bor}
 use Rattle.record_commands.specs.Incoming.{Coming}
 use Rattle.session_setup.specs.Faults.{IsEngineFault, IsFileFault, IsServerFault}
@@ -10,7 +10,6 @@ use Rattle.session_commands.specs.declared.children.SessionEnd.TheVariants.{Brok
 use Rattle.session_setup.specs.declared.fault.MatchFault.{MatchFault}
 use Rattle.session_setup.specs.declared.fault.MatchFault.TheVariants.{OutOfMemory}
 use Rattle.shogi_words.specs.declared.play.Plan.{Plan}
-use Rattle.shogi_words.specs.declared.play.ServerChoice.{ServerChoice}
 use Rattle.shogi_words.specs.declared.play.ServerChoice.TheVariants.{Started, At}
 
 -- the words of a server: one game of at most so many moves, on a port of its choice

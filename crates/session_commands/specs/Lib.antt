@@ -1,3 +1,4 @@
+pub mod Children
 pub mod Comments
 pub mod Door
 pub mod Endings
@@ -6,11 +7,13 @@ pub mod Kept
 pub mod Launching
 pub mod LogTexts
 pub mod Logging
+pub mod Noting
 pub mod Offering
 pub mod PlayedLogs
 pub mod Playing
 pub mod Plays
 pub mod Ports
+pub mod Runs
 pub mod Showing
 pub mod SideLaws
 pub mod Talking

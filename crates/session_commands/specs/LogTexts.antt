@@ -1,5 +1,5 @@
 -- The text of a log.
-use Rattle.std.specs.Prelude.{◌≡◌, ◌==◌, ◌++◌, ◌/◌, ◌%◌, ℕ, Bool, true, false, List, [], ◌∷◌, Option, codes, decimal, if◌then◌else◌, nat_lt}
+use Rattle.std.specs.Prelude.{◌≡◌, ◌≢◌, ◌==◌, ◌++◌, ◌/◌, ◌%◌, ℕ, Bool, true, List, [], ◌∷◌, Option, codes, decimal, if◌then◌else◌, nat_lt}
 use Rattle.std.specs.Io.KnownBytes.{Appends}
 use Rattle.std.specs.List.{before_first}
 use Rattle.session_lines.specs.LineTexts.{login_front}
@@ -7,9 +7,11 @@ use Rattle.session_commands.specs.Logging.{Entry, Notes, entry_of}
 use Rattle.session_commands.specs.declared.bridging.Peer.{Peer}
 use Rattle.session_commands.specs.declared.bridging.Peer.TheVariants.{Engine, Server}
 use Rattle.session_commands.specs.declared.log.LogState.{LogState}
-use Rattle.session_commands.specs.declared.log.LogState.TheVariants.{Whole}
+use Rattle.session_commands.specs.declared.log.LogState.TheVariants.{Whole, Unwritten, OutOfMemory}
 use Rattle.session_commands.specs.declared.log.Direction.{Direction}
 use Rattle.session_commands.specs.declared.log.Direction.TheVariants.{From, To}
+use Rattle.session_setup.specs.declared.fault.MatchFault.{MatchFault}
+use Rattle.session_setup.specs.declared.fault.MatchFault.TheVariants as fault
 use Rattle.shogi_session.specs.Host.{IsLoginWord}
 
 -- seconds that take less than three digits are moved to the right
@@ -67,10 +69,23 @@ pub record IsEntryText (entry : Entry) (text : List ℕ) : Type 0 where
 abbrev pub AppendsEntry : Option (List ℕ) → Option (List ℕ) → Entry → Type 0
 AppendsEntry old new entry = (text : List ℕ) × IsEntryText entry text × Appends old new text
 
--- if a log is whole then, it was whole before, and exactly the text of an entry was added to it
-abbrev pub NotesText : LogState → Option (List ℕ) → Entry → LogState → Option (List ℕ) → Type 0
-NotesText before old entry after new =
-    after ≡ Whole → (before ≡ Whole) × AppendsEntry old new entry
+-- a log took an entry: exactly its text was added to one that is whole; one that is not whole stays
+-- as it is; and one without memory for the text gets nothing. Of a text that was not all written,
+-- nothing is known.
+pub data NotesText (before : LogState) (old : Option (List ℕ)) (entry : Entry)
+    (after : LogState) (new : Option (List ℕ)) : Type 0 where
+  noted : before ≡ Whole → after ≡ Whole → AppendsEntry old new entry
+      → NotesText before old entry after new
+  not_whole : before ≢ Whole → after ≡ before → new ≡ old → NotesText before old entry after new
+  no_memory : before ≡ Whole → after ≡ OutOfMemory → new ≡ old
+      → NotesText before old entry after new
+  unwritten : before ≡ Whole → after ≡ Unwritten → NotesText before old entry after new
+
+-- the fault of a log that was in this state when it was closed; the last text may be unwritten too
+abbrev pub closing_fault : LogState → MatchFault
+closing_fault Whole = fault.Write
+closing_fault Unwritten = fault.Write
+closing_fault OutOfMemory = fault.OutOfMemory
 
 -- what is known of a text log took an entry
 abbrev pub notes_text : Notes (LogState × Option (List ℕ))

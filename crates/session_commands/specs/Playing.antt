@@ -6,7 +6,8 @@ use Rattle.session_commands.specs.declared.children.SessionEnd.{SessionEnd}
 use Rattle.session_commands.specs.declared.children.SessionEnd.TheVariants.{BrokenOff, Finished}
 use Rattle.session_setup.specs.declared.fault.MatchFault.{MatchFault}
 use Rattle.session_setup.specs.declared.login.Login.{Login}
-use Rattle.session_commands.specs.Plays.{Gives, IsEndless, Misses, History, Takes, peer_for}
+use Rattle.session_commands.specs.Noting.{KeepsEvent, Noted}
+use Rattle.session_commands.specs.Plays.{Gives, IsEndless, Misses, Takes, peer_for}
 use Rattle.session_commands.specs.LackOfMemory.{PlayRunsOut}
 use Rattle.bridge_table.specs.declared.event.Status.{Status}
 use Rattle.bridge_table.specs.declared.event.Status.TheVariants.{Done, Failed}
@@ -14,29 +15,34 @@ use Rattle.bridge_table.specs.declared.fault.SessionFault.{SessionFault}
 use Rattle.shogi_session.specs.Events.{Event}
 use Rattle.shogi_session.specs.Promises.{Session, Steps}
 use Rattle.shogi_session.specs.State.{first_state, waits_for}
-use Rattle.session_commands.specs.Endings.{Ended, IsEndText}
+use Rattle.session_commands.specs.Endings.{Ended, IsEndText, nothing_said}
 use Rattle.session_setup.specs.Faults.{IsFileFault}
 use Rattle.session_commands.specs.Kept.{Drops, KeepsRecord, RefusesText, TakesText}
 use Rattle.session_commands.specs.Words.{played_line}
 use Rattle.shogi_words.specs.declared.play.Plan.{Plan}
 
--- what comes from the peer that the bridge waits for is one step
-pub record ComesNext {E : Type 0} (came : Gives E) (e : E) (s : Session)
-    (to_engine to_server : List ℕ) (status : Status) (f : E) (t : Session) : Type 0 where
+-- what comes from the peer that the bridge waits for is one step, and is kept if it says something
+-- of the end
+pub record ComesNext {E : Type 0} (came : Gives E) (e : E) (s : Session) (old : Ended)
+    (to_engine to_server : List ℕ) (status : Status) (f : E) (t : Session) (new : Ended)
+    : Type 0 where
   pub event : Event
   pub arrived : came e (peer_for (waits_for s.state)) event f
   pub step : Steps s event to_engine to_server status t
+  pub kept : KeepsEvent s t status event old new
 
--- the outcome of a session that took both ends and the bridge from these states to those
+-- the outcome of a session that took both ends and the bridge from these states to those, with
+-- what is kept of the end
 pub data CameOut {E : Type 0} (came : Gives E) (missed : Misses E) (went gone : Takes E)
-    (e : E) (s : Session) (f : E) (t : Session) : Result ⊤ MatchFault → Type 0 where
-  done : (over : ⊤) → History came went gone e s f t Done
-      → CameOut came missed went gone e s f t (Ok over)
-  failed : (why : SessionFault) → History came went gone e s f t (Failed why)
-      → CameOut came missed went gone e s f t (Err (SessionFailed why))
+    (e : E) (s : Session) (f : E) (t : Session) (ended : Ended) : Result ⊤ MatchFault → Type 0 where
+  done : (over : ⊤) → Noted came went gone e s nothing_said f t ended Done
+      → CameOut came missed went gone e s f t ended (Ok over)
+  failed : (why : SessionFault) → Noted came went gone e s nothing_said f t ended (Failed why)
+      → CameOut came missed went gone e s f t ended (Err (SessionFailed why))
   out_of_memory : PlayRunsOut came missed went gone e s f t
-      → CameOut came missed went gone e s f t (Err OutOfMemory)
-  endless : IsEndless came went gone e s → CameOut came missed went gone e s f t (Err Endless)
+      → CameOut came missed went gone e s f t ended (Err OutOfMemory)
+  endless : IsEndless came went gone e s
+      → CameOut came missed went gone e s f t ended (Err Endless)
 
 -- how a session ended was added to its log, if there is one, and the log is whole; or it was not,
 -- and that is reported in place of what became of the game
@@ -61,9 +67,9 @@ pub record PlaysAndKeeps {E P D : Type 0} (came : Gives E) (missed : Misses E)
   pub outcome : Result ⊤ MatchFault
   pub between : E
   pub game : Result ℕ MatchFault
-  pub reached : CameOut came missed went gone e s between t outcome
-  pub kept : KeepsRecord took refused dropped replaced draft t.state.client outcome p q game
   pub ended : Ended
+  pub reached : CameOut came missed went gone e s between t ended outcome
+  pub kept : KeepsRecord took refused dropped replaced draft t.state.client outcome p q game
   pub logged : ClosesLog closed (IsEndText ended outcome) between f game answer
   pub over : end ≡ session_end outcome
 

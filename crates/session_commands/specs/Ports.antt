@@ -1,17 +1,14 @@
 -- For private functions: the line with which a server says its port.
-use Rattle.std.specs.Prelude.{◌≡◌, ◌≤◌, ◌++◌, ℕ, List, Option, codes, decimal}
+use Rattle.std.specs.Prelude.{◌≡◌, ◌++◌, ℕ, List, Option, codes, decimal}
 use Rattle.bridge_table.specs.declared.fault.SessionFault.TheVariants.{ServerGone}
 use Rattle.record_commands.specs.Incoming.{Coming, GivesLine, GivesLongLine}
 use Rattle.session_commands.specs.Endings.{quoted}
 use Rattle.session_commands.specs.Plays.{ComesEnd, ComesLine}
+use Rattle.session_setup.specs.Ports.{IsPort}
 use Rattle.session_setup.specs.declared.fault.MatchFault.{MatchFault}
 use Rattle.session_setup.specs.declared.fault.MatchFault.TheVariants.{OutOfMemory, Session as SessionFailed}
 use Rattle.session_commands.specs.declared.port_line.FirstLine.{FirstLine}
 use Rattle.session_commands.specs.declared.port_line.FirstLine.TheVariants.{Port, Other, Long, Missing}
-
--- a client can connect to it
-abbrev pub IsPort : ℕ → Type 0
-IsPort port = (1 ≤ port) × (port ≤ 65535)
 
 -- `listening `, and then a port in decimal
 abbrev pub port_line : ℕ → List ℕ

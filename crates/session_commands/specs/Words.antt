@@ -2,6 +2,8 @@
 use Rattle.std.specs.Prelude.{◌≡◌, ◌⊎◌, ℕ, List, [], ◌∷◌, ◌++◌, Option, None, Some, codes, decimal}
 use Rattle.session_commands.specs.declared.bridging.Peer.{Peer}
 use Rattle.session_commands.specs.declared.bridging.Peer.TheVariants.{Engine, Server}
+use Rattle.shogi_session.specs.declared.summary_fault.SummaryFault.{SummaryFault}
+use Rattle.shogi_session.specs.declared.summary_fault.SummaryFault.TheVariants.{OpenBlock, LongName, NoTurn, NoPosition, SeveralPositions, BadPosition}
 
 -- the line about an answer of the engine that is no legal move
 abbrev pub slip_line : List ℕ → List ℕ
@@ -17,6 +19,21 @@ long_line Server = codes "B7: the server sent a line of more than 65536 bytes"
 abbrev pub gone_line : Peer → List ℕ
 gone_line Engine = codes "B5: the engine ended"
 gone_line Server = codes "B6: the connection to the server ended"
+
+-- what is said about a summary that offers no game
+abbrev pub summary_words : SummaryFault → List ℕ
+summary_words OpenBlock = codes "a block has no END line"
+summary_words LongName = codes "a name has more than 4094 bytes"
+summary_words NoTurn = codes "Your_Turn is neither + nor -"
+summary_words NoPosition = codes "there is no position block"
+summary_words SeveralPositions = codes "there are several position blocks"
+summary_words BadPosition = codes "the position block is no position with legal moves"
+
+-- the line about a line that ended such a summary, with the cause
+abbrev pub bad_summary_line : Option SummaryFault → List ℕ → List ℕ
+bad_summary_line None line = codes "B3: the server sent " ++ (line ++ 10 ∷ [])
+bad_summary_line (Some cause) line = codes "B3: the server sent "
+    ++ (line ++ (codes ": " ++ (summary_words cause ++ 10 ∷ [])))
 
 -- the line with a reason, if there is one
 abbrev pub reason_line : Option (List ℕ) → List ℕ

@@ -5,6 +5,7 @@ ghost use Rattle.csa_cutting.specs.Lines.{HasNoLineEnd};
 ghost use Rattle.session_commands.specs.Playing.{ComesNext};
 ghost use Rattle.session_commands.specs.Plays.{Delivers, IsEndless, History, Sends, end_of, event_from, peer_for};
 ghost use Rattle.session_commands.specs.Holding.{TookAll};
+ghost use Rattle.session_commands.specs.Noting.{IsKeptOf, Noted};
 ghost use Rattle.session_commands.specs.PlayedLogs.{PlaysLegally, handed, happened};
 ghost use Rattle.session_commands.specs.LackOfMemoryLogs.{SentLegally, sent_before};
 ghost use Rattle.session_commands.specs.LackOfMemory.{GoneRunsOut, NextRunsOut, PlayRunsOut, SendRunsOut};
@@ -220,7 +221,7 @@ impl<ER: Read + Drop, EW: Write + Drop, SR: Read + Drop, SW: Write + Drop> Ends
 
 /// Plays a session. The bridge takes each line of the side that it waits for, and its answer is
 /// sent before the next line is read, the engine's part first. A side whose read or write fails is
-/// gone.
+/// gone. What each line says of the end is kept.
 ///
 /// Refuses `Session` if the session fails, `OutOfMemory` if an allocation fails, and `Endless` if
 /// the session goes on for 2^64 - 1 rounds.
@@ -230,10 +231,11 @@ pub fn play<R: Eprint + AllocGlobal, E: Ends>(
     ends: &mut E,
     progress: &mut Progress,
 ) -> Result<(), MatchFault>
-    ensures done { OnOk result
-        (History E.came E.went E.gone ends.old bridge.old ends.new bridge.new Done) }
+    ensures done { OnOk result (Noted E.came E.went E.gone ends.old bridge.old
+        progress.old.ended ends.new bridge.new progress.new.ended Done) }
     ensures failed { (fault : SessionFault) → IsErrOf result (MatchFault.Session fault)
-        → History E.came E.went E.gone ends.old bridge.old ends.new bridge.new (Failed fault) }
+        → Noted E.came E.went E.gone ends.old bridge.old
+        progress.old.ended ends.new bridge.new progress.new.ended (Failed fault) }
     ensures out_of_memory { IsErrOf result MatchFault.OutOfMemory
         → PlayRunsOut E.came E.missed E.went E.gone ends.old bridge.old ends.new bridge.new }
     ensures legal { (f : E) (t : Session) (status : Status)
@@ -324,8 +326,8 @@ fn step_next<R: Eprint + AllocGlobal, E: Ends>(
     ends: &mut E,
     progress: &mut Progress,
 ) -> Result<Out, OutOfMemory>
-    ensures came { IfOk result (λ out. ComesNext
-        E.came ends.old bridge.old out.to_engine out.to_server out.status ends.new bridge.new) }
+    ensures came { IfOk result (λ out. ComesNext E.came ends.old bridge.old progress.old.ended
+        out.to_engine out.to_server out.status ends.new bridge.new progress.new.ended) }
     ensures out_of_memory { OnErr result
         (NextRunsOut E.came E.missed ends.old bridge.old ends.new bridge.new) }
 {
@@ -335,16 +337,47 @@ fn step_next<R: Eprint + AllocGlobal, E: Ends>(
     let was_on = progress.is_on(bridge);
     let before = Snapshot::of(bridge);
     let out = bridge.step(event(peer, read, line))?;
-    if was_on && is_shown(peer, read, out.status) {
+    let after = Snapshot::of(bridge);
+    let is_move = was_on && is_shown(peer, read, out.status);
+    show_move(rt, progress, bridge, is_move, line);
+    keep_end(rt, progress, before, after, peer, read, line, out.status);
+    Ok(out)
+}
+
+// Shows the line, if it may be a move that the bridge accepted.
+fn show_move<R: Eprint + AllocGlobal>(
+    rt: &R,
+    progress: &mut Progress,
+    bridge: &Bridge,
+    is_move: bool,
+    line: &[u8],
+)
+    ensures { progress.new.ended ≡ progress.old.ended }
+{
+    if is_move {
         progress.show(rt, bridge, line);
     }
-    if read == LineEvent::Line {
-        progress.watch(rt, before, Snapshot::of(bridge), peer, line, out.status);
+}
+
+// Keeps what came from the peer, if it says something of the end.
+fn keep_end<R: Eprint + AllocGlobal>(
+    rt: &R,
+    progress: &mut Progress,
+    before: Snapshot,
+    after: Snapshot,
+    peer: Peer,
+    read: LineEvent,
+    line: &[u8],
+    status: Status,
+)
+    ensures { IsKeptOf before after line.now peer status
+        progress.old.ended progress.new.ended read }
+{
+    match read {
+        LineEvent::Line => progress.watch(rt, before, after, peer, line, status),
+        LineEvent::Long => progress.watch_long(rt, peer),
+        LineEvent::End | LineEvent::Failed => {}
     }
-    if read == LineEvent::Long {
-        progress.watch_long(rt, peer);
-    }
-    Ok(out)
 }
 
 fn peer_of(waits: Waits) -> Peer

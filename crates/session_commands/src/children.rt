@@ -1,11 +1,12 @@
 //! The programs that `play` starts, and its connection to a server.
 
-ghost use Rattle.std.specs.Prelude.{◌≡◌, ◌⊎◌, IfErr, IfOk, OnErr, is_some, string_bytes, true};
-ghost use Rattle.std.specs.Process.{child_status, command_args, command_program};
+ghost use Rattle.std.specs.Prelude.{◌≡◌, ◌⊎◌, IfErr, IfOk, OnErr, OnOk, codes, false, is_some, string_bytes, true};
+ghost use Rattle.std.specs.Process.{child_status, command_args, command_program, makes_pipe};
 ghost use Rattle.session_setup.specs.Faults.{IsEngineFault, IsFileFault};
 ghost use Rattle.session_commands.specs.Launching.{engine_words, local_address, serve_words};
+ghost use Rattle.session_commands.specs.Children.{IsWithoutPassword, fault_if_gone};
 
-use crate::bridging::Side;
+use crate::bridging::{Peer, Side};
 use crate::log::{Log, TextLog};
 use crate::log_output::{LogWriter, StandardError, Stopwatch};
 use record_commands::incoming::Incoming;
@@ -172,13 +173,32 @@ enum ErrorOutput {
     File(File),
 }
 
+// Where the standard error of each program goes that is not started yet.
+#[derive(Drop)]
+struct ErrorOutputs {
+    engine: ErrorOutput,
+    server: ErrorOutput,
+}
+
+impl ErrorOutputs {
+    // Where that of this program goes.
+    fn take(&mut self, program: Peer) -> ErrorOutput
+        ensures engine { program ≡ Peer.Engine → result ≡ self.old.engine }
+        ensures server { program ≡ Peer.Server → result ≡ self.old.server }
+    {
+        match program {
+            Peer::Engine => mem::replace(&mut self.engine, ErrorOutput::Nowhere),
+            Peer::Server => mem::replace(&mut self.server, ErrorOutput::Nowhere),
+        }
+    }
+}
+
 /// The log, the programs and the connections of a game of a runtime.
 #[derive(Drop)]
 pub struct System<'a, R> {
     rt: &'a R,
     explains: bool,
-    engine_errors: ErrorOutput,
-    server_errors: ErrorOutput,
+    errors: ErrorOutputs,
     reason: Option<String>,
 }
 
@@ -191,8 +211,10 @@ impl<'a, R> System<'a, R> {
         System {
             rt,
             explains,
-            engine_errors: ErrorOutput::Nowhere,
-            server_errors: ErrorOutput::Nowhere,
+            errors: ErrorOutputs {
+                engine: ErrorOutput::Nowhere,
+                server: ErrorOutput::Nowhere,
+            },
             reason: None,
         }
     }
@@ -265,15 +287,15 @@ impl<
         let writer = match name {
             None => return Ok(None),
             Some("-") => {
-                self.engine_errors = ErrorOutput::StandardError;
-                self.server_errors = ErrorOutput::StandardError;
+                self.errors.engine = ErrorOutput::StandardError;
+                self.errors.server = ErrorOutput::StandardError;
                 LogWriter::StandardError(StandardError::new(self.rt))
             }
             Some(path) => {
                 let file = created(self.rt, path)?;
-                self.engine_errors = errors_beside(self.rt, path, ENGINE_ERRORS, &file)?;
+                self.errors.engine = errors_beside(self.rt, path, ENGINE_ERRORS, &file)?;
                 if starts_server {
-                    self.server_errors = errors_beside(self.rt, path, SERVER_ERRORS, &file)?;
+                    self.errors.server = errors_beside(self.rt, path, SERVER_ERRORS, &file)?;
                 }
                 LogWriter::File(file)
             }
@@ -304,8 +326,7 @@ impl<
         &mut self,
         command: &mut Command<Global>,
     ) -> Result<(Self::Child, Incoming<Self::Output>), MatchFault> {
-        let stderr = stream_of(mem::replace(&mut self.server_errors, ErrorOutput::Nowhere));
-        let mut member = start(self, command, Stdio::null(), stderr, SERVER_GONE)?;
+        let mut member = start(self, command, Peer::Server)?;
         match lines_of(self.rt.alloc(), &mut member.child, SERVER_GONE) {
             Ok(lines) => Ok((member, lines)),
             Err(fault) => {
@@ -319,8 +340,7 @@ impl<
         &mut self,
         command: &mut Command<Global>,
     ) -> Result<(Self::Child, Side<Self::Output, Self::Input>), MatchFault> {
-        let stderr = stream_of(mem::replace(&mut self.engine_errors, ErrorOutput::Nowhere));
-        let mut member = start(self, command, Stdio::piped(), stderr, ENGINE_GONE)?;
+        let mut member = start(self, command, Peer::Engine)?;
         match side_of(self.rt.alloc(), &mut member.child) {
             Ok(side) => Ok((member, side)),
             Err(fault) => {
@@ -391,12 +411,13 @@ fn stream_of(errors: ErrorOutput) -> Stdio {
 fn start<R: Env + Files + Processes + Eprint + AllocGlobal>(
     system: &mut System<'_, R>,
     command: &mut Command<Global>,
-    stdin: Stdio,
-    stderr: Stdio,
-    gone: MatchFault,
+    program: Peer,
 ) -> Result<Member<R::Started>, MatchFault>
-    ensures faults { IfErr result (λ fault. (fault ≡ gone) ⊎ (fault ≡ MatchFault.OutOfMemory)) }
+    ensures faults { IfErr result
+        (λ fault. (fault ≡ fault_if_gone program) ⊎ (fault ≡ MatchFault.OutOfMemory)) }
 {
+    let stdin = input_of(program);
+    let stderr = stream_of(system.errors.take(program));
     let spawned = match groups::leading(system.rt, command)? {
         Some(mut leading) => spawn(system.rt, &mut leading, stdin, stderr, Reach::Group),
         None => spawn(system.rt, command, stdin, stderr, Reach::Itself),
@@ -405,8 +426,29 @@ fn start<R: Env + Files + Processes + Eprint + AllocGlobal>(
         Ok(member) => Ok(member),
         Err(error) => {
             system.explain_error(command.get_program(), &error);
-            Err(memory_or(error.kind(), gone))
+            Err(fault_of(&error, program))
         }
+    }
+}
+
+// The fault of a program that was not started.
+fn fault_of(error: &io::Error, program: Peer) -> MatchFault
+    ensures { (result ≡ fault_if_gone program) ⊎ (result ≡ MatchFault.OutOfMemory) }
+{
+    match program {
+        Peer::Engine => memory_or(error.kind(), ENGINE_GONE),
+        Peer::Server => memory_or(error.kind(), SERVER_GONE),
+    }
+}
+
+// What a program reads: the engine what is written to it, and the server nothing.
+fn input_of(program: Peer) -> Stdio
+    ensures engine { program ≡ Peer.Engine → makes_pipe result ≡ true }
+    ensures server { program ≡ Peer.Server → makes_pipe result ≡ false }
+{
+    match program {
+        Peer::Engine => Stdio::piped(),
+        Peer::Server => Stdio::null(),
     }
 }
 
@@ -417,13 +459,33 @@ fn spawn<R: Processes>(
     stdin: Stdio,
     stderr: Stdio,
     reach: Reach,
-) -> io::Result<Member<R::Started>> {
+) -> io::Result<Member<R::Started>>
+    requires { reach ≡ Reach.Group → command_program command.old ≡ codes "setsid" }
+{
     command.stdin(stdin);
     command.stdout(Stdio::piped());
     command.stderr(stderr);
-    command.env_remove(login::VARIABLE)?;
-    let child = command.spawn(rt)?;
+    hide_password(command)?;
+    let child = spawn_without_password(rt, command)?;
     Ok(Member { child, reach })
+}
+
+// Takes the password from the environment of the program.
+fn hide_password(command: &mut Command<Global>) -> Result<(), AllocError>
+    ensures hidden { OnOk result (IsWithoutPassword command.new) }
+{
+    command.env_remove(login::VARIABLE)?;
+    Ok(())
+}
+
+// Starts a program that does not get the password.
+fn spawn_without_password<R: Processes>(
+    rt: &R,
+    command: &mut Command<Global>,
+) -> io::Result<Child<R::Started>>
+    requires { IsWithoutPassword command.old }
+{
+    command.spawn(rt)
 }
 
 /// A server and its words: `serve --port 0 --max N`, one game of at most `max_moves` moves on a
@@ -507,17 +569,18 @@ fn end_member<R: Clock + Processes + AllocGlobal, P: OpenProcess + Drop>(
 ) -> bool
     ensures ended { result ≡ true → is_some (child_status member.new.child) ≡ true }
 {
-    if after == SessionEnd::Finished && has_ended(rt, &mut member.child) {
-        return true;
-    }
-    groups::end(rt, member)
+    has_ended(rt, &mut member.child, after) || groups::end(rt, member)
 }
 
-// Whether the child ends by itself in time.
-fn has_ended<R: Clock, P: OpenProcess + Drop>(rt: &R, child: &mut Child<P>) -> bool
+// Whether the child ends by itself in the time that it has.
+fn has_ended<R: Clock, P: OpenProcess + Drop>(
+    rt: &R,
+    child: &mut Child<P>,
+    after: SessionEnd,
+) -> bool
     ensures ended { result ≡ true → is_some (child_status child.new) ≡ true }
 {
-    for _ in 0..CHECKS {
+    for _ in 0..checks_after(after) {
         match child.try_wait() {
             Ok(Some(_)) => return true,
             Ok(None) => thread::sleep(rt, Duration::from_millis(REST_MS)),
@@ -525,4 +588,15 @@ fn has_ended<R: Clock, P: OpenProcess + Drop>(rt: &R, child: &mut Child<P>) -> b
         }
     }
     false
+}
+
+// How many times to check whether a child has ended.
+fn checks_after(after: SessionEnd) -> u32
+    ensures finished { after ≡ SessionEnd.Finished → result ≡ 1000 }
+    ensures broken_off { after ≡ SessionEnd.BrokenOff → result ≡ 0 }
+{
+    match after {
+        SessionEnd::Finished => CHECKS,
+        SessionEnd::BrokenOff => 0,
+    }
 }

@@ -2,20 +2,23 @@
 
 ghost use Rattle.std.specs.Prelude.{◌≡◌, ◌⊎◌, ◌↔◌, ◌<◌, ◌≤◌, ◌++◌, ◌∷◌, [], true, false, Some, IfOk, IsTrue, MatchOption, length, string_bytes, take};
 ghost use Rattle.bridge_table.specs.declared.event.Status.{Status};
+ghost use Rattle.bridge_table.specs.declared.fault.MoveCause.{MoveCause};
 ghost use Rattle.bridge_table.specs.declared.fault.SessionFault.{SessionFault};
 ghost use Rattle.bridge_table.specs.declared.state.ClientState.{ClientState};
 ghost use Rattle.csa_cutting.specs.Cut.{begins_with};
-ghost use Rattle.session_commands.specs.Endings.{IsBeforeResult, IsEndText, IsEnding, IsFaultLine, IsLastLine, IsReason, IsRefusedLine, IsRefusedMoveLine, IsResult, SaysInGame, SaysOfEnd, gone_peer, kept_with, nothing_said, quoted, quoted_byte, result_line, result_lines, slip_lines, with_long};
-ghost use Rattle.session_commands.specs.Words.{gone_line, long_line, slip_line};
+ghost use Rattle.session_commands.specs.Endings.{IsBeforeResult, IsCauseText, IsEndText, IsEnding, IsFaultLine, IsLastLine, IsReason, IsRefusedLine, IsRefusedMoveLine, IsResult, SaysInGame, SaysOfEnd, gone_peer, kept_with, nothing_said, quoted, quoted_byte, result_line, result_lines, slip_lines, with_long};
+ghost use Rattle.session_commands.specs.Words.{bad_summary_line, gone_line, long_line, slip_line, summary_words};
 ghost use Rattle.session_commands.specs.declared.bridging.Peer.{Peer};
 ghost use Rattle.session_commands.specs.declared.ending.EndEvent.{EndEvent};
-ghost use Rattle.shogi_session.specs.State.{client_state, slip_of};
+ghost use Rattle.shogi_session.specs.State.{client_state, slip_of, summary};
+ghost use Rattle.shogi_session.specs.Summary.{Offer, SummaryContent, TellsOffer};
+ghost use Rattle.shogi_session.specs.SummaryFaults.{HasSummaryFault};
 
 use crate::bridging::Peer;
 use arrayvec::ArrayString;
 use record_game::Why;
 use session_setup::MatchFault;
-use shogi_session::{Bridge, ClientState, MoveCause, SessionFault, Status};
+use shogi_session::{Bridge, ClientState, MoveCause, SessionFault, Status, SummaryFault};
 use std::alloc::{AllocError, Global};
 use std::marker::Model;
 
@@ -32,6 +35,8 @@ pub struct Snapshot {
     pub client: ClientState,
     /// Whether its engine has slipped.
     pub slip: bool,
+    /// Why the summary that its server sends, so far, offers no game.
+    pub summary: Option<SummaryFault>,
 }
 
 impl Snapshot {
@@ -39,12 +44,26 @@ impl Snapshot {
     pub fn of(bridge: &Bridge) -> Snapshot
         ensures client { result.client ≡ client_state bridge.now.state.client }
         ensures slip { result.slip ≡ slip_of bridge.now.state.client }
+        ensures summary { MatchOption result.summary
+            ((h : SummaryContent) → bridge.now.state.client ≡ summary h
+            → (o : Offer) × TellsOffer h o)
+            (HasSummaryFault bridge.now.state.client) }
     {
         Snapshot {
             client: bridge.client_state(),
             slip: bridge.slip(),
+            summary: bridge.summary_fault(),
         }
     }
+}
+
+/// Why a line of the server failed the session.
+#[derive(Clone, Copy, Debug, PartialEq, Eq)]
+pub struct Refusal {
+    /// The session's fault.
+    pub fault: SessionFault,
+    /// Why the summary offers no game, if the line ended one.
+    pub summary: Option<SummaryFault>,
 }
 
 /// What a line says of the end of a game.
@@ -58,8 +77,8 @@ pub enum EndEvent {
     Reason,
     /// The server sent a result.
     Result,
-    /// The server's line failed the session with this fault.
-    Refused(SessionFault),
+    /// The server's line failed the session.
+    Refused(Refusal),
 }
 
 /// What a line from that peer says of the end, if it led the bridge from one snapshot to the other
@@ -78,7 +97,10 @@ pub fn end_in(
     match peer {
         Peer::Engine => engine_event(before, after),
         Peer::Server => match status {
-            Status::Failed(fault) => Some(EndEvent::Refused(fault)),
+            Status::Failed(fault) => Some(EndEvent::Refused(Refusal {
+                fault,
+                summary: after.summary,
+            })),
             Status::Going => game_event(before.client, after.client, line),
             Status::Done => game_event(before.client, after.client, line),
             Status::Lost => game_event(before.client, after.client, line),
@@ -165,8 +187,8 @@ pub struct EndNotes {
     // The first reason, and the result.
     reason: Option<Excerpt>,
     result: Option<Excerpt>,
-    // The line of the server that failed the session.
-    refused: Option<(Excerpt, SessionFault)>,
+    // The line of the server that failed the session, and why.
+    refused: Option<(Excerpt, Refusal)>,
     // The peer whose line was too long.
     long: Option<Peer>,
 }
@@ -214,7 +236,7 @@ impl EndNotes {
                 }
             }
             EndEvent::Result => self.result = Some(line),
-            EndEvent::Refused(fault) => self.refused = Some((line, fault)),
+            EndEvent::Refused(refusal) => self.refused = Some((line, refusal)),
         }
     }
 
@@ -277,7 +299,7 @@ impl EndNotes {
             IsLastLine self.now.refused self.now.long played (string_bytes text)) }
     {
         match (&self.refused, self.long, played) {
-            (Some((line, fault)), _, _) => refused_line(alloc, line.as_str(), *fault),
+            (Some((line, refusal)), _, _) => refused_line(alloc, line.as_str(), *refusal),
             (None, Some(peer), _) => {
                 let line = long_line(peer);
                 format!(in alloc; "{line}\n")
@@ -348,37 +370,83 @@ pub fn gone_line(peer: Peer) -> &'static str
 
 /// The line about a line of the server that failed the session. Returns an error if an allocation
 /// fails.
-pub fn refused_line(alloc: Global, line: &str, fault: SessionFault) -> Result<String, AllocError>
-    ensures { IfOk result (λ text. IsRefusedLine fault line.now (string_bytes text)) }
+pub fn refused_line(alloc: Global, line: &str, refusal: Refusal) -> Result<String, AllocError>
+    ensures { IfOk result (λ text.
+        IsRefusedLine refusal.fault refusal.summary line.now (string_bytes text)) }
 {
+    let fault = refusal.fault;
     match fault {
         SessionFault::BadServerMove(cause) => refused_move_line(alloc, line, cause),
         SessionFault::LoginRefused => format!(in alloc; "B1: the server sent {line}\n"),
         SessionFault::Rejected => format!(in alloc; "B2: the server sent {line}\n"),
-        SessionFault::BadSummary => format!(in alloc; "B3: the server sent {line}\n"),
+        SessionFault::BadSummary => bad_summary_line(alloc, line, refusal.summary),
         SessionFault::EngineGone | SessionFault::ServerGone | SessionFault::LineTooLong => {
             format!(in alloc; "{fault}\n")
         }
     }
 }
 
+// The line of the server's line that ended a summary which offers no game.
+fn bad_summary_line(
+    alloc: Global,
+    line: &str,
+    cause: Option<SummaryFault>,
+) -> Result<String, AllocError>
+    ensures { IfOk result (λ text. string_bytes text ≡ bad_summary_line cause line.now) }
+{
+    match cause {
+        Some(cause) => {
+            let words = summary_words(cause);
+            format!(in alloc; "B3: the server sent {line}: {words}\n")
+        }
+        None => format!(in alloc; "B3: the server sent {line}\n"),
+    }
+}
+
+/// What is said about a summary that offers no game.
+pub fn summary_words(cause: SummaryFault) -> &'static str
+    ensures { result.now ≡ summary_words cause }
+{
+    match cause {
+        SummaryFault::OpenBlock => "a block has no END line",
+        SummaryFault::LongName => "a name has more than 4094 bytes",
+        SummaryFault::NoTurn => "Your_Turn is neither + nor -",
+        SummaryFault::NoPosition => "there is no position block",
+        SummaryFault::SeveralPositions => "there are several position blocks",
+        SummaryFault::BadPosition => "the position block is no position with legal moves",
+    }
+}
+
 // The line of a move of the server that is refused.
 fn refused_move_line(alloc: Global, line: &str, cause: MoveCause) -> Result<String, AllocError>
-    ensures { IfOk result (λ text. IsRefusedMoveLine line.now (string_bytes text)) }
+    ensures { IfOk result (λ text. IsRefusedMoveLine cause line.now (string_bytes text)) }
 {
     let cause = cause_text(alloc, cause)?;
     format!(in alloc; "B4: {line}{cause}")
 }
 
 // Why a move of the server is refused, and LF.
-fn cause_text(alloc: Global, cause: MoveCause) -> Result<String, AllocError> {
+fn cause_text(alloc: Global, cause: MoveCause) -> Result<String, AllocError>
+    ensures { IfOk result (λ text. IsCauseText cause (string_bytes text)) }
+{
     match cause {
-        MoveCause::Refused(Why::Rule(rule)) => format!(in alloc; " breaks {rule}\n"),
-        MoveCause::Refused(why) => format!(in alloc; " is refused: {why}\n"),
+        MoveCause::Refused(why) => refusal_text(alloc, why),
         MoveCause::Unsent => {
             format!(in alloc; " is a move of the engine's side that it did not send\n")
         }
     }
+}
+
+// The rule that a refused move breaks, or else why it is refused, and LF.
+fn refusal_text(alloc: Global, why: Why) -> Result<String, AllocError>
+    ensures { IfOk result (λ text. IsCauseText (MoveCause.Refused why) (string_bytes text)) }
+{
+    let Why::Rule(rule) = why else {
+        let words = format!(in alloc; "{why}")?;
+        return format!(in alloc; " is refused: {words}\n");
+    };
+    let words = format!(in alloc; "{rule}")?;
+    format!(in alloc; " breaks {words}\n")
 }
 
 /// The front of a line, without spaces at its end.

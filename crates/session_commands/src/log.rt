@@ -3,8 +3,10 @@
 ghost use Rattle.std.specs.Prelude.{◌≡◌, ◌==◌, ◌++◌, ◌∷◌, [], if◌then◌else◌, IfErr, IfOk, OnOk, true, codes, string_bytes};
 ghost use Rattle.std.specs.List.{before_first};
 ghost use Rattle.session_lines.specs.LineTexts.{login_front};
-ghost use Rattle.session_commands.specs.LogTexts.{AppendsEntry, HidesPassword, IsEntryText, IsShown, each_after, margin, places_text, seconds_text, sign, time_text};
+ghost use Rattle.session_commands.specs.LogTexts.{AppendsEntry, HidesPassword, IsEntryText, IsShown, closing_fault, each_after, margin, places_text, seconds_text, sign, time_text};
 ghost use Rattle.session_commands.specs.Logging.{entry_of};
+ghost use Rattle.session_commands.specs.Playing.{IsUnreported};
+ghost use Rattle.session_setup.specs.Faults.{IsFileFault};
 
 use crate::bridging::{Ends, Peer};
 use record_commands::incoming::LineEvent;
@@ -210,7 +212,12 @@ impl<T: Timer + Drop, W: Write + Drop> Log for TextLog<T, W> {
         }
     }
 
-    fn close(&mut self, text: &[u8]) -> Result<(), MatchFault> {
+    fn close(&mut self, text: &[u8]) -> Result<(), MatchFault>
+        ensures closed { OnOk result ((self.old.state ≡ LogState.Whole)
+            × Appends (W.contents self.old.writer) (W.contents self.new.writer) text.now) }
+        ensures faults { IfErr result IsFileFault }
+        ensures fault { IfErr result (λ fault. fault ≡ closing_fault self.old.state) }
+    {
         match self.state {
             LogState::Whole => Ok(streams::write_all(&mut self.writer, text)?),
             LogState::Unwritten => Err(MatchFault::Write),
@@ -228,8 +235,9 @@ fn write_entry<W: Write>(
     direction: Direction,
     lines: &[u8],
 ) -> Result<(), MatchFault>
-    ensures { OnOk result (AppendsEntry
+    ensures written { OnOk result (AppendsEntry
         (W.contents writer.old) (W.contents writer.new) (entry_of peer direction lines.now)) }
+    ensures unwritten { IfErr result (IsUnreported writer.old writer.new) }
 {
     let text = entry_text(alloc, time, peer, direction, lines)?;
     streams::write_all(writer, text.as_slice())?;

@@ -5,15 +5,17 @@ ghost use Rattle.std.specs.Io.KnownBytes.{Appends};
 ghost use Rattle.session_commands.specs.Endings.{IsEndText};
 ghost use Rattle.session_commands.specs.Kept.{IsKept, KeepsRecord, report_of};
 ghost use Rattle.session_setup.specs.Logins.{AreLoginWords, HasNoLogin, IsLoginOf, IsPlayed};
+ghost use Rattle.session_setup.specs.Paths.{HasSoundWords};
 ghost use Rattle.session_commands.specs.Playing.{ClosesLog, IsReported, IsUnreported, PlaysAndKeeps, PlaysFor, PlaysIn, session_end};
+ghost use Rattle.session_commands.specs.Runs.{IsNoPlanFault, IsRunFault};
 ghost use Rattle.session_commands.specs.Words.{played_line};
 ghost use Rattle.bridge_table.specs.declared.state.ClientState.{ClientState};
 ghost use Rattle.shogi_session.specs.State.{client_state, first_state};
 
 use crate::bridging::{Ends, play};
-use crate::children::{SessionEnd, System};
+use crate::children::{Programs, SessionEnd, System};
 use crate::launcher::{Launcher, Local};
-use crate::progress::Progress;
+use crate::progress::{Progress, say_server_waited_for};
 use record_commands::streams;
 use session_setup::disk::LocalDisk;
 use session_setup::login::{Login, RuntimeSecrets, Secrets, login_of};
@@ -51,14 +53,32 @@ pub fn run<
         + Print
         + Eprint
         + AllocGlobal,
->(rt: &R, plan: &Plan<'_, '_>) -> Result<(), PlayCommandFault> {
+>(rt: &R, plan: &Plan<'_, '_>) -> Result<(), PlayCommandFault>
+    ensures sound { OnOk result (HasSoundWords plan.now) }
+    ensures fault { IfErr result (IsRunFault plan.now) }
+{
     paths::check(plan)?;
     paths::check_files(rt, plan)?;
     let secrets = RuntimeSecrets::new(rt);
     let mut launcher = Local::new(rt.alloc(), System::new(rt, plan.is_shown));
     let mut place = Named::new(rt.alloc(), LocalDisk::new(rt), plan.out);
     let mut out = io::writer(rt);
-    let played = play_planned(rt, &secrets, &mut launcher, &mut place, &mut out, plan);
+    play_checked(rt, &secrets, &mut launcher, &mut place, &mut out, plan)
+}
+
+// Plays a game whose plan was checked, and adds to the log why there was none.
+fn play_checked<R: Eprint + AllocGlobal, S: Secrets, G: Programs + Drop, P: Place, W: Write>(
+    rt: &R,
+    secrets: &S,
+    launcher: &mut Local<G>,
+    place: &mut P,
+    out: &mut W,
+    plan: &Plan<'_, '_>,
+) -> Result<(), PlayCommandFault>
+    requires { HasSoundWords plan.now }
+    ensures fault { IfErr result IsNoPlanFault }
+{
+    let played = play_planned(rt, secrets, launcher, place, out, plan);
     if let Err(fault) = played {
         launcher.note_fault(fault)?;
     }
@@ -166,6 +186,7 @@ fn play_in<R: Eprint + AllocGlobal, H: Launcher, P: Place>(
         H.Peers.Ends.closed P.took P.refused P.dropped P.replaced draft
         plan.now login.now launcher.old place.old launcher.new place.new result }
 {
+    say_server_waited_for(rt, plan.is_shown);
     let (mut peers, running) = match launcher.start(plan) {
         Ok(started) => started,
         Err(fault) => {

@@ -1,13 +1,12 @@
 //! The line with which a server says its port.
 
-ghost use Rattle.std.specs.Prelude.{◌≡◌, ℕ, IfOk, MatchOption, decimal};
-ghost use Rattle.session_commands.specs.Ports.{IsPort, IsPortLine, SaysFirst};
+ghost use Rattle.std.specs.Prelude.{ℕ, IfOk, MatchOption};
+ghost use Rattle.session_commands.specs.Ports.{IsPortLine, SaysFirst};
 
-use itoa::Buffer;
 use record_commands::incoming::{Incoming, LineEvent};
+use session_setup::port::port_in;
 use shogi_board::OutOfMemory;
 use std::io::Read;
-use std::str;
 
 /// What the first line of a server says.
 #[derive(Clone, Copy, Debug, PartialEq, Eq)]
@@ -47,25 +46,4 @@ fn port_of(line: &[u8]) -> Option<u16>
         Some(digits) => port_in(digits),
         None => None,
     }
-}
-
-// The port with these digits, if they are exactly how its number is written.
-fn port_in(digits: &[u8]) -> Option<u16>
-    ensures { MatchOption result ((port : ℕ) → IsPort port → digits.now ≡ decimal port → ⊥)
-        (λ port. IsPort port × (digits.now ≡ decimal port)) }
-{
-    let Ok(text) = str::from_utf8(digits) else {
-        return None;
-    };
-    let Ok(port) = text.parse::<u16>() else {
-        return None;
-    };
-    if port == 0 {
-        return None;
-    }
-    let mut written = Buffer::new();
-    if written.format(port) != text {
-        return None;
-    }
-    Some(port)
 }

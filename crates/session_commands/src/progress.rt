@@ -53,8 +53,8 @@ impl Progress {
         }
     }
 
-    /// Says what is waited for before the first move, if moves are shown: the engine. An error of
-    /// standard error is ignored.
+    /// Says that the engine is waited for, if moves are shown. An error of standard error is
+    /// ignored.
     pub fn begin<R: Eprint>(&self, rt: &R) {
         if self.is_shown {
             let _ = rt.eprintln("waiting for the engine");
@@ -182,13 +182,20 @@ impl Progress {
     }
 }
 
+/// Says that the server is waited for, if moves are shown. An error of standard error is ignored.
+pub fn say_server_waited_for<R: Eprint>(rt: &R, is_shown: bool) {
+    if is_shown {
+        let _ = rt.eprintln("waiting for the server");
+    }
+}
+
 // What is shown of a line that says this of the end: of the server's words the line itself. Returns
 // an error if an allocation fails.
 fn shown_end(alloc: Global, event: EndEvent, line: &[u8]) -> Result<String, AllocError> {
     let whole = ending::excerpt_of(line);
     match event {
         EndEvent::Slip => ending::slip_line(alloc, whole.as_str()),
-        EndEvent::Refused(fault) => ending::refused_line(alloc, whole.as_str(), fault),
+        EndEvent::Refused(refusal) => ending::refused_line(alloc, whole.as_str(), refusal),
         EndEvent::Ending | EndEvent::Reason | EndEvent::Result => {
             let front = ending::excerpt_of(without_comment(line));
             format!(in alloc; "{front}\n")

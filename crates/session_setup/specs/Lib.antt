@@ -3,3 +3,4 @@ pub mod Faults
 pub mod Logins
 pub mod Paths
 pub mod Plans
+pub mod Ports

@@ -1,6 +1,7 @@
 -- For private functions: which words of a plan go together.
-use Rattle.std.specs.Prelude.{◌≡◌, ◌≢◌, ◌⊎◌, ◌++◌, ℕ, Bool, true, false, List, ◌∷◌, Option, None, Some, codes}
+use Rattle.std.specs.Prelude.{◌≡◌, ◌≢◌, ◌⊎◌, ◌++◌, ℕ, Bool, true, false, List, Option, None, Some, codes}
 use Rattle.std.specs.Borrow.{Bor}
+use Rattle.session_setup.specs.Ports.{HasPort}
 use Rattle.session_setup.specs.declared.fault.MatchFault.TheVariants as match_fault
 use Rattle.session_setup.specs.declared.plan_fault.PlanFault.{PlanFault}
 use Rattle.session_setup.specs.declared.plan_fault.PlanFault.TheVariants.{LogIsRecord, Overwrites, NoPort}
@@ -50,10 +51,6 @@ pub data IsNeeded (plan : Plan) : Needed → List ℕ → Type 0 where
   password_path : (path : Bor (List ℕ))
       → plan.password ≡ File path → IsNeeded plan needed.PasswordFile path.now
 
--- a host and a port, with a colon between them
-abbrev pub HasPort : List ℕ → Type 0
-HasPort address = (host port : List ℕ) × (address ≡ host ++ 58 ∷ port)
-
 -- the log and the files beside it do not take the path of the record; nothing that is needed is
 -- written; and an address has a port
 pub record HasSoundWords (plan : Plan) : Type 0 where
@@ -67,7 +64,8 @@ pub data IsPlanFault (plan : Plan) : PlanFault → Type 0 where
   log_is_record : LogTakes plan plan.out.now → IsPlanFault plan LogIsRecord
   overwrites : (written : Written) (what : Needed) (path : List ℕ) → IsNeeded plan what path
       → Writes plan written path → IsPlanFault plan (Overwrites written what)
-  no_port : (address : Bor (List ℕ)) → plan.server ≡ At address → IsPlanFault plan NoPort
+  no_port : (address : Bor (List ℕ)) → plan.server ≡ At address
+      → (HasPort address.now → ⊥) → IsPlanFault plan NoPort
 
 -- a file that is written is needed, or two of them are one, or there is no memory to find that out
 abbrev pub IsFilesFault : PlayCommandFault → Type 0

@@ -1,5 +1,6 @@
 -- The paths of programs, and what is said of a plan of `play` that cannot be carried out.
-use Rattle.std.specs.Prelude.{◌≡◌, ◌⊎◌, ◌++◌, ◌∷◌, ℕ, List, codes}
+use Rattle.std.specs.Prelude.{◌≡◌, ◌==◌, ◌⊎◌, ◌++◌, ◌∷◌, ℕ, Bool, true, false, List, codes}
+use Rattle.std.specs.List.{list_any}
 use Rattle.session_setup.specs.declared.plan_fault.Needed.{Needed}
 use Rattle.session_setup.specs.declared.plan_fault.Needed.TheVariants.{Engine, Server, PasswordFile}
 use Rattle.session_setup.specs.declared.plan_fault.PlanFault.{PlanFault}
@@ -7,10 +8,13 @@ use Rattle.session_setup.specs.declared.plan_fault.PlanFault.TheVariants.{LogIsR
 use Rattle.session_setup.specs.declared.plan_fault.Written.{Written}
 use Rattle.session_setup.specs.declared.plan_fault.Written.TheVariants.{Log, Record}
 
--- a path of a program: itself, or its name in a folder
+abbrev pub has_slash : List ℕ → Bool
+has_slash program = list_any (λ b. b == 47) program
+
+-- the path of a program: itself if it has a slash, or else its name in a folder
 abbrev pub IsPathOf : List ℕ → List ℕ → Type 0
-IsPathOf program path =
-    (path ≡ program) ⊎ ((folder : List ℕ) × (path ≡ folder ++ 47 ∷ program))
+IsPathOf program path = ((has_slash program ≡ true) × (path ≡ program))
+    ⊎ ((has_slash program ≡ false) × (folder : List ℕ) × (path ≡ folder ++ 47 ∷ program))
 
 -- the option that names a file that is written
 abbrev pub written_option : Written → List ℕ

@@ -2,7 +2,7 @@
 
 ghost use Rattle.std.specs.Prelude.{◌≡◌, ◌∷◌, IfOk, IfSome, codes, is_some, string_bytes, true};
 ghost use Rattle.std.specs.Process.{child_status, command_args, command_program};
-ghost use Rattle.session_setup.specs.Plans.{IsPathOf};
+ghost use Rattle.session_setup.specs.Plans.{IsPathOf, has_slash};
 
 use std::alloc::{AllocError, Global};
 use std::env::{self, VarError};
@@ -65,6 +65,12 @@ fn led(alloc: Global, command: &Command<Global>) -> Result<Command<Global>, Allo
     Ok(leading)
 }
 
+fn has_slash(program: &str) -> bool
+    ensures { result ≡ has_slash program.now }
+{
+    program.as_bytes().contains(&b'/')
+}
+
 // Whether there is a file of the program that can be run.
 fn is_found<R: Env + Files + AllocGlobal>(rt: &R, program: &str) -> Result<bool, AllocError> {
     match path_of(rt, program)? {
@@ -83,8 +89,10 @@ pub fn path_of<R: Env + Files + AllocGlobal>(
 ) -> Result<Option<String>, AllocError>
     ensures path { IfOk result (λ found.
         IfSome found (λ path. IsPathOf program.now (string_bytes path))) }
+    ensures itself { IfOk result
+        (λ found. has_slash program.now ≡ true → is_some found ≡ true) }
 {
-    if program.contains('/') {
+    if has_slash(program) {
         return Ok(Some(String::from_str(rt.alloc(), program)?));
     }
     let folders = match env::var(rt, "PATH") {
@@ -117,13 +125,19 @@ pub fn end<R: Processes + AllocGlobal, P: OpenProcess + Drop>(
     ensures ended { result ≡ true → is_some (child_status member.new.child) ≡ true }
 {
     if member.reach == Reach::Group {
-        let _ = kill_group(rt, member.child.id());
+        let _ = kill_group(rt, member);
     }
     member.child.kill().is_ok() && member.child.wait().is_ok()
 }
 
-// Kills each process of the group.
-fn kill_group<R: Processes + AllocGlobal>(rt: &R, id: u32) -> Result<(), AllocError> {
+// Kills each process of the group that the program leads.
+fn kill_group<R: Processes + AllocGlobal, P: OpenProcess + Drop>(
+    rt: &R,
+    member: &Member<P>,
+) -> Result<(), AllocError>
+    requires { member.now.reach ≡ Reach.Group }
+{
+    let id = member.child.id();
     let group = format!(in rt.alloc(); "-{id}")?;
     let mut kill = Command::new(rt.alloc(), "kill")?;
     kill.arg("-KILL")?;

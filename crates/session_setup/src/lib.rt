@@ -21,6 +21,7 @@ pub mod login;
 pub mod out_file;
 pub mod paths;
 mod plan_fault;
+pub mod port;
 
 pub use fault::{LoginFault, MatchFault, PlayCommandFault, ServeFault, TalkFault, memory_or};
 pub use plan_fault::{Needed, PlanFault, Written};

@@ -1,8 +1,9 @@
 //! What makes a plan impossible, as its words show, and the files that they lead to.
 
-ghost use Rattle.std.specs.Prelude.{◌≡◌, ◌≢◌, ◌↔◌, ◌++◌, List, ℕ, IfErr, IsTrue, OnOk};
+ghost use Rattle.std.specs.Prelude.{◌≡◌, ◌≢◌, ◌↔◌, ◌⊎◌, ◌++◌, ◌∷◌, List, ℕ, IfErr, IsTrue, OnOk};
 ghost use Rattle.std.specs.Borrow.{Bor};
-ghost use Rattle.session_setup.specs.Paths.{HasPort, HasSoundWords, IsFilesFault, IsLogPath, IsPlanFault, LogTakes, TakesPath, Writes, starts_server};
+ghost use Rattle.session_setup.specs.Ports.{HasPort, IsBare, IsBracketed};
+ghost use Rattle.session_setup.specs.Paths.{HasSoundWords, IsFilesFault, IsLogPath, IsPlanFault, LogTakes, TakesPath, Writes, starts_server};
 ghost use Rattle.session_setup.specs.declared.plan_fault.Written.{Written};
 ghost use Rattle.shogi_words.specs.declared.play.PasswordSource.TheVariants as password;
 ghost use Rattle.shogi_words.specs.declared.play.ServerChoice.TheVariants as choice;
@@ -10,6 +11,7 @@ ghost use Rattle.shogi_words.specs.declared.play.ServerChoice.TheVariants as cho
 use crate::fault::{MatchFault, PlayCommandFault};
 use crate::groups;
 use crate::plan_fault::{Needed, PlanFault, Written};
+use crate::port::port_in;
 use shogi_words::{PasswordSource, Plan, ServerChoice};
 use std::alloc::{AllocError, Global};
 use std::fs;
@@ -292,26 +294,30 @@ fn is_same(path: &str, other: &str) -> bool
 
 // Whether the address is a host, a colon and the number of a port.
 fn has_port(address: &str) -> bool
-    ensures { IsTrue result → HasPort address.now }
+    ensures { IsTrue result ↔ HasPort address.now }
 {
     match address.rsplit_once(':') {
-        Some((host, port)) => is_host(host) && is_port(port),
+        Some((host, port)) => is_host(host.as_bytes()) && port_in(port.as_bytes()).is_some(),
         None => false,
     }
 }
 
-// Whether this can be a host: a name or an address without a colon, or one of IPv6 in brackets.
-fn is_host(host: &str) -> bool {
-    match host.strip_prefix('[') {
-        Some(rest) => rest.len() > 1 && rest.ends_with(']'),
-        None => !host.is_empty() && !host.contains(':'),
+// Whether this can be a host: a name or an address without a colon, or an address in brackets.
+fn is_host(host: &[u8]) -> bool
+    ensures { IsTrue result ↔ (IsBracketed host.now ⊎ IsBare host.now) }
+{
+    match host.strip_prefix(b"[".as_slice()) {
+        Some(rest) => is_closed(rest),
+        None => !host.is_empty() && host.iter().all(|b| *b != b':'),
     }
 }
 
-// Whether this is a number from 1 to 65,535 in decimal, without a sign or zeros before it.
-fn is_port(port: &str) -> bool {
-    port.as_bytes()
-        .first()
-        .is_some_and(|b| (b'1'..=b'9').contains(b))
-        && port.parse::<u16>().is_ok()
+// Whether a bracket ends these bytes, with something before it.
+fn is_closed(bytes: &[u8]) -> bool
+    ensures { IsTrue result ↔ IsBracketed (91 ∷ bytes.now) }
+{
+    match bytes.strip_suffix(b"]".as_slice()) {
+        Some(inside) => !inside.is_empty(),
+        None => false,
+    }
 }

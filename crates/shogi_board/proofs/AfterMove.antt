@@ -1,6 +1,7 @@
 -- What is on the squares after a move.
 use Rattle.std.proofs.Common.{◌≡◌, ◌≢◌, ℕ, Option, Some, None, inl, inr, set, get_or, ap, sym, ◌∙◌, get_or-set_same, get_or-set_other}
 use Rattle.std.proofs.lemmas.Bool.{cases_eq}
+use Rattle.std.proofs.lemmas.Option.{same_Some}
 use Rattle.shogi_board.specs.Cells.{at, piece}
 use Rattle.shogi_board.specs.Pieces.{opponent}
 use Rattle.shogi_board.specs.Placed.{Placed}
@@ -17,14 +18,11 @@ use Rattle.shogi_board.specs.declared.moves.Move.{Move}
 use Rattle.shogi_board.specs.declared.moves.Move.TheVariants.{Walk, Put}
 use Rattle.shogi_board.proofs.Walks.{on-board, longer}
 
-pub some-same : (p q : Piece) → Some p ≡ Some q → p ≡ q
-some-same p q e = cc
-
 pub kinds-same : (c d : Color) (k l : Kind) → piece c k ≡ piece d l → k ≡ l
-kinds-same c d k l e = ap (λ (p : Piece). p.kind) (some-same (record { color = c; kind = k }) (record { color = d; kind = l }) e)
+kinds-same c d k l e = ap (λ (p : Piece). p.kind) (same_Some (record { color = c; kind = k }) (record { color = d; kind = l }) e)
 
 pub colors-same : (c d : Color) (k l : Kind) → piece c k ≡ piece d l → c ≡ d
-colors-same c d k l e = ap (λ (p : Piece). p.color) (some-same (record { color = c; kind = k }) (record { color = d; kind = l }) e)
+colors-same c d k l e = ap (λ (p : Piece). p.color) (same_Some (record { color = c; kind = k }) (record { color = d; kind = l }) e)
 
 pub not-opponent : (c : Color) → c ≡ opponent c → ⊥
 not-opponent Black e = cc

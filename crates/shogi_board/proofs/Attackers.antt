@@ -6,7 +6,7 @@ use Rattle.shogi_board.specs.Attackers.{AttackInSight, IsAttackedByJump, IsAttac
 use Rattle.shogi_board.specs.Directions.{IsNowhere, Lies}
 use Rattle.shogi_board.specs.Cells.{Cells, at}
 use Rattle.shogi_board.specs.Danger.{SeenTowards}
-use Rattle.shogi_board.specs.Moves.{IsRay, diagonals, orthogonals, rays, steps, turned_for}
+use Rattle.shogi_board.specs.Moves.{IsRay, back_left, back_right, diagonals, gold, orthogonals, rays, steps, turned_for}
 use Rattle.shogi_board.specs.Directions.{IsNear, Goes}
 use Rattle.shogi_board.specs.Pieces.{opponent}
 use Rattle.shogi_board.specs.Reach.{Attack, Attacked, InSight, IsClear, Slides, Steps}
@@ -14,7 +14,7 @@ use Rattle.shogi_board.specs.Squares.{Direction, IsAway}
 use Rattle.shogi_board.specs.declared.color.Color.{Color}
 use Rattle.shogi_board.specs.declared.color.Color.TheVariants.{Black, White}
 use Rattle.shogi_board.specs.declared.kind.Kind.{Kind}
-use Rattle.shogi_board.specs.declared.kind.Kind.TheVariants.{Pawn, Lance, Knight, Silver, Gold, Bishop, Rook, King, ProPawn, ProLance, ProKnight, ProSilver, Horse, Dragon}
+use Rattle.shogi_board.specs.declared.kind.Kind.TheVariants.{Pawn, Lance, Knight, Silver, Gold, Bishop, Rook, King, Horse, Dragon}
 use Rattle.shogi_board.specs.declared.kind.Piece.{Piece}
 use Rattle.shogi_board.specs.declared.square.Square.{Square}
 use Rattle.shogi_board.proofs.Between.{lies-once}
@@ -114,24 +114,10 @@ ray-line P Bishop h = behind P orthogonals diagonals h
 ray-line P Rook h = in-front P orthogonals diagonals h
 ray-line P Horse h = behind P orthogonals diagonals h
 ray-line P Dragon h = in-front P orthogonals diagonals h
-ray-line P Pawn h = elim h [ ]
-ray-line P Knight h = elim h [ ]
-ray-line P Silver h = elim h [ ]
-ray-line P Gold h = elim h [ ]
-ray-line P King h = elim h [ ]
-ray-line P ProPawn h = elim h [ ]
-ray-line P ProLance h = elim h [ ]
-ray-line P ProKnight h = elim h [ ]
-ray-line P ProSilver h = elim h [ ]
+ray-line P _ h = elim h [ ]
 
 gold-line : (P : Direction → Type 0) → OneOf P (steps Gold) → OneOf P (steps King)
-gold-line P (inl h) = inl h
-gold-line P (inr (inl h)) = inr (inl h)
-gold-line P (inr (inr (inl h))) = inr (inr (inl h))
-gold-line P (inr (inr (inr (inl h)))) = inr (inr (inr (inl h)))
-gold-line P (inr (inr (inr (inr (inl h))))) = inr (inr (inr (inr (inl h))))
-gold-line P (inr (inr (inr (inr (inr (inl h)))))) = inr (inr (inr (inr (inr (inl h)))))
-gold-line P (inr (inr (inr (inr (inr (inr h)))))) = elim h [ ]
+gold-line P h = in-front P gold (back_left ∷ back_right ∷ []) h
 
 step-line : (P : Direction → Type 0) (kind : Kind) → OneOf P (steps kind) → OneOf P (steps King) ⊎ OneOf P (steps Knight)
 step-line P Pawn (inl h) = inl (inl h)
@@ -139,17 +125,13 @@ step-line P Pawn (inr h) = elim h [ ]
 step-line P Knight h = inr h
 step-line P Silver (inl h) = inl (inl h)
 step-line P Silver (inr h) = inl (behind P orthogonals diagonals h)
-step-line P Gold h = inl (gold-line P h)
 step-line P King h = inl h
-step-line P ProPawn h = inl (gold-line P h)
-step-line P ProLance h = inl (gold-line P h)
-step-line P ProKnight h = inl (gold-line P h)
-step-line P ProSilver h = inl (gold-line P h)
 step-line P Horse h = inl (in-front P orthogonals diagonals h)
 step-line P Dragon h = inl (behind P orthogonals diagonals h)
 step-line P Lance h = elim h [ ]
 step-line P Bishop h = elim h [ ]
 step-line P Rook h = elim h [ ]
+step-line P _ h = inl (gold-line P h)
 
 -- 3. Attackers
 -- one step away nothing lies between

@@ -1,17 +1,17 @@
 -- A move that fits the board adds no piece and takes none, and leads to a sound position where it
 -- leaves the king safe.
-use Rattle.std.proofs.Common.{◌≡◌, ℕ, ◌+◌, ◌-◌, ◌<◌, ◌≤◌, ◌==◌, ◌&&◌, Bool, true, false, cond, List, Option, Some, None, length, set, get_or, count_by, slice_index, arith, refl, ap, sym, ◌∙◌, inl, inr, length-set, get_or-set_same, get_or-set_other}
-use Rattle.std.proofs.lemmas.Bool.{cases_eq, cases_Bool, and_right, ne_eqb}
+use Rattle.std.proofs.Common.{◌≡◌, ℕ, ◌+◌, ◌≤◌, ◌==◌, ◌&&◌, Bool, false, cond, List, Option, Some, None, length, set, get_or, count_by, slice_index, arith, refl, ap, sym, ◌∙◌, inl, inr, length-set}
+use Rattle.std.proofs.lemmas.Bool.{cases_Bool, and_right}
 use Rattle.std.proofs.lemmas.List.Sums.{sum_by-set}
 use Rattle.std.specs.List.{sum_by}
 use Rattle.shogi_board.specs.Cells.{at, piece}
-use Rattle.shogi_board.specs.Pieces.{place_of, is_king, is_hand_kind, same_color, unpromoted}
+use Rattle.shogi_board.specs.Pieces.{place_of, is_king, same_color, unpromoted}
 use Rattle.shogi_board.specs.Material.{Material, bag_of, with_bag}
 use Rattle.shogi_board.specs.Placed.{Placed}
 use Rattle.shogi_board.specs.Sound.{IsSound}
-use Rattle.shogi_board.specs.Setup.{one_more, one_less}
+use Rattle.shogi_board.specs.Setup.{one_less}
 use Rattle.shogi_board.specs.Squares.{place}
-use Rattle.shogi_board.specs.Totals.{total, kings_of, is_of, is_king_of, count_in, IsWithinTotals}
+use Rattle.shogi_board.specs.Totals.{total, kings_of, is_of, is_king_of, IsWithinTotals}
 use Rattle.shogi_board.specs.declared.color.Color.{Color}
 use Rattle.shogi_board.specs.declared.color.Color.TheVariants.{Black, White}
 use Rattle.shogi_board.specs.declared.kind.Kind.{Kind}
@@ -24,8 +24,8 @@ use Rattle.shogi_board.specs.declared.moves.Move.{Move}
 use Rattle.shogi_board.specs.declared.moves.Move.TheVariants.{Walk, Put}
 use Rattle.shogi_board.proofs.Drops.{held-of}
 use Rattle.shogi_board.proofs.Pieces.{captured-held, opponent-twice, unpromoted-place}
-use Rattle.shogi_board.proofs.Totals.{own-seven}
-use Rattle.shogi_board.proofs.Forms.{form-place, held-low, held-no-king, king-by-place, eq-self}
+use Rattle.shogi_board.proofs.Totals.{bag-less, bag-more, bags-with, own-seven}
+use Rattle.shogi_board.proofs.Forms.{form-place, held-no-king, king-by-place}
 use Rattle.shogi_board.proofs.Walks.{Start, start-of, on-board, longer, target-stays, no-king-taken}
 
 abbrev bit : Bool → ℕ
@@ -43,46 +43,6 @@ walk-sum f p from to its_kind s none same =
     let landed : sum_by f (set lifted (place to) (piece p.side its_kind)) + f (at p.material.board to) ≡ sum_by f lifted + f (piece p.side its_kind) = rw stays at on in
     omega (arith, gone, landed, none, same)
 
--- a bag with another count at one place
-other-count : (bag : List ℕ) (i j n : ℕ) → i < length bag → slice_index (set bag i n) j + cond (i == j) (slice_index bag i) 0 ≡ slice_index bag j + cond (i == j) n 0
-other-count bag i j n low =
-    elim (cases_eq i j) [
-      | inl e ↦
-          let one : (i == j) ≡ true = eq-self i j e in
-          let new : slice_index (set bag i n) j ≡ n = rw (← e) (get_or-set_same bag i n 0 low) in
-          let old : slice_index bag i ≡ slice_index bag j = ap (slice_index bag) e in
-          rw one (omega (arith, new, old))
-      | inr ne ↦
-          let none : (i == j) ≡ false = ne_eqb i j ne in
-          let same : slice_index (set bag i n) j ≡ slice_index bag j = get_or-set_other bag i j n 0 (λ e. ne (sym e)) in
-          rw none (omega (arith, same))
-    ]
-
-more-at : (b : Bool) (new old n c : ℕ) → c ≡ n → new + cond b n 0 ≡ old + cond b (c + 1) 0 → new ≡ old + cond b 1 0
-more-at true new old n c f e = omega (arith, f, e)
-more-at false new old n c f e = omega (arith, e)
-
-less-at : (b : Bool) (new old n c : ℕ) → c ≡ n → 0 < c → new + cond b n 0 ≡ old + cond b (c - 1) 0 → new + cond b 1 0 ≡ old
-less-at true new old n c f some e = omega (arith, f, some, e)
-less-at false new old n c f some e = omega (arith, e)
-
--- one more of a kind in a bag
-bag-more : (bag : List ℕ) (its_kind k : Kind) → length bag ≡ 7 → is_hand_kind its_kind ≡ true → slice_index (one_more bag its_kind) (place_of k) ≡ slice_index bag (place_of k) + cond (place_of its_kind == place_of k) 1 0
-bag-more bag its_kind k seven held =
-    let low = held-low its_kind held in
-    let e = other-count bag (place_of its_kind) (place_of k) (count_in bag its_kind + 1) (omega (arith, low, seven)) in
-    let f : count_in bag its_kind ≡ slice_index bag (place_of its_kind) = rw held refl in
-    more-at (place_of its_kind == place_of k) _ _ _ _ f e
-
--- and one less
-bag-less : (bag : List ℕ) (its_kind k : Kind) → length bag ≡ 7 → 0 < count_in bag its_kind → slice_index (one_less bag its_kind) (place_of k) + cond (place_of its_kind == place_of k) 1 0 ≡ slice_index bag (place_of k)
-bag-less bag its_kind k seven some =
-    let held = (held-of bag its_kind some).0 in
-    let low = held-low its_kind held in
-    let e = other-count bag (place_of its_kind) (place_of k) (count_in bag its_kind - 1) (omega (arith, low, seven)) in
-    let f : count_in bag its_kind ≡ slice_index bag (place_of its_kind) = rw held refl in
-    less-at (place_of its_kind == place_of k) _ _ _ _ f some e
-
 -- a bag with what was captured
 captured-bag : (bag : List ℕ) (cell : Option Piece) (k : Kind) → length bag ≡ 7 → ((x : Piece) → cell ≡ Some x → x.kind ≡ King → ⊥) → slice_index (with_captured bag cell) (place_of k) ≡ slice_index bag (place_of k) + cond (is_of k cell) 1 0
 captured-bag bag None k seven no_king = omega arith
@@ -94,11 +54,6 @@ captured-bag bag (Some x) k seven no_king =
 captured-length : (bag : List ℕ) (cell : Option Piece) → length bag ≡ 7 → length (with_captured bag cell) ≡ 7
 captured-length bag None seven = seven
 captured-length bag (Some x) seven = length-set bag _ _ ∙ seven
-
--- the two bags where one side has another
-bags-with : (m : Material) (c : Color) (bag : List ℕ) (n : ℕ) → slice_index (with_bag m c bag).black n + slice_index (with_bag m c bag).white n + slice_index (bag_of m c) n ≡ slice_index m.black n + slice_index m.white n + slice_index bag n
-bags-with m Black bag n = omega arith
-bags-with m White bag n = omega arith
 
 black-seven : (m : Material) (c : Color) (bag : List ℕ) → length m.black ≡ 7 → length bag ≡ 7 → length (with_bag m c bag).black ≡ 7
 black-seven m Black bag old new = new

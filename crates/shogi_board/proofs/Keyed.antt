@@ -15,7 +15,7 @@ use Rattle.shogi_board.specs.declared.kind.Kind.{Kind}
 use Rattle.shogi_board.specs.declared.kind.Piece.{Piece}
 use Rattle.shogi_board.proofs.Pieces.{unpromoted-place}
 use Rattle.shogi_board.proofs.Sums.{grown, shrunk, sum_from-set, sum_from-gain, sum_from-lose}
-use Rattle.shogi_board.proofs.Totals.{hand-place}
+use Rattle.shogi_board.proofs.Forms.{held-low}
 
 -- the key of a whole position
 pub whole-key : (b h w s : ℕ) → s < 2 ^ 64 → (b + (h + w) + s) % 2 ^ 64 ≡ ((b % 2 ^ 64 + (h % 2 ^ 64 + w % 2 ^ 64) % 2 ^ 64) % 2 ^ 64 + s) % 2 ^ 64
@@ -44,7 +44,7 @@ cells-walked cells i j x low high apart =
 -- a hand with one piece more or less
 more-key : (color : Color) (bag : List ℕ) (kind : Kind) → length bag ≡ 7 → is_hand_kind kind ≡ true → counts_key color (one_more bag kind) ≡ counts_key color bag + held_key color (place_of kind)
 more-key color bag kind seven held =
-    let low = hand-place kind held in
+    let low = held-low kind held in
     rw held (sum_from-gain (held_key color) bag (place_of kind) (omega (arith, low, seven)))
 
 captured-more : (color : Color) (bag : List ℕ) (captured : Option Piece) → length bag ≡ 7 → ((x : Piece) → captured ≡ Some x → is_hand_kind (unpromoted x.kind) ≡ true) → counts_key color (with_captured bag captured) ≡ counts_key color bag + captured_key color captured
@@ -56,7 +56,7 @@ captured-more color bag (Some x) seven held =
 
 less-key : (color : Color) (bag : List ℕ) (kind : Kind) → length bag ≡ 7 → is_hand_kind kind ≡ true → 0 < count_in bag kind → counts_key color (one_less bag kind) + held_key color (place_of kind) ≡ counts_key color bag
 less-key color bag kind seven held some =
-    let low = hand-place kind held in
+    let low = held-low kind held in
     let there : 0 < get_or bag (place_of kind) 0 = rw held at some in
     rw held (sum_from-lose (held_key color) bag (place_of kind) (omega (arith, low, seven)) there)
 

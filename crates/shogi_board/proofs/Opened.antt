@@ -2,6 +2,7 @@
 -- square which that left.
 use Rattle.std.proofs.Common.{◌≡◌, ◌≢◌, ℕ, zero, suc, ◌+◌, ◌*◌, ◌<◌, ◌≤◌, ◌↔◌, IsTrue, Bool, true, false, not, Some, None, ◌⊎◌, inl, inr, Any, arith, ap, sym, ◌∙◌, subst, refl, get_or-set_other}
 use Rattle.std.proofs.lemmas.Bool.{cases_eq, cases_lt}
+use Rattle.std.proofs.lemmas.Option.{same_Some}
 use Rattle.shogi_board.specs.Cells.{at, piece}
 use Rattle.shogi_board.specs.Danger.{SeenTowards}
 use Rattle.shogi_board.specs.Moves.{rays, turned_for}
@@ -25,13 +26,10 @@ use Rattle.shogi_board.specs.declared.moves.Move.{Move}
 use Rattle.shogi_board.specs.declared.moves.Move.TheVariants.{Walk, Put}
 use Rattle.shogi_board.proofs.Pieces.{opponent-twice}
 use Rattle.shogi_board.proofs.Check.{king_check}
-use Rattle.shogi_board.proofs.AfterMove.{colors-same, held-before, kinds-same, not-none, not-opponent, on-target, some-same, walk-keeps}
+use Rattle.shogi_board.proofs.AfterMove.{colors-same, held-before, kinds-same, not-none, not-opponent, on-target, walk-keeps}
 
 put-keeps : (p : Placed) (to : Square) (k : Kind) (s : Square) → place s ≢ place to → at (board_after p (Put to k)) s ≡ at p.material.board s
 put-keeps p to k s other = get_or-set_other p.material.board (place to) (place s) (piece p.side k) None other
-
-square-of : (s t : Square) → Some s ≡ Some t → s ≡ t
-square-of s t e = cc
 
 -- whether a square lies so far away in a direction
 lies-or-not : (a t : Square) (d : Direction) (n : ℕ) → IsAway a d n t ⊎ (IsAway a d n t → ⊥)
@@ -136,7 +134,7 @@ not-on-target : (p : Placed) (m : Move) (a s : Square) → IsSound p → Attack 
 not-on-target p m a s sound attack e =
     let x = attack.reach.mover in
     let same : Some x ≡ piece p.side (kind_after m) = sym attack.reach.stands ∙ on-target p m a sound e in
-    not-opponent p.side (sym (ap (λ (q : Piece). q.color) (some-same x _ same)) ∙ attack.enemy)
+    not-opponent p.side (sym (ap (λ (q : Piece). q.color) (same_Some x _ same)) ∙ attack.enemy)
 
 pub own-opened : (p : Placed) (m : Move) (a s : Square) → IsSound p → (InCheck p.material.board p.side → ⊥) → (kind_after m ≡ King → ⊥) → at (board_after p m) s ≡ piece p.side King
     → Attack (board_after p m) p.side a s → IsOpened p m s a
@@ -145,7 +143,7 @@ own-opened p m a s sound safe not there attack =
 
 pub towards-left : (p : Placed) (m : Move) (from a s : Square) → source m ≡ Some from → IsOpened p m s a → SeenTowards (board_after p m) s from a
 towards-left p m from a s left opened =
-    let same : opened.0 ≡ from = square-of opened.0 from (sym opened.1 ∙ left) in
+    let same : opened.0 ≡ from = same_Some opened.0 from (sym opened.1 ∙ left) in
     subst (λ (f : Square). SeenTowards (board_after p m) s f a) same opened.2
 
 pub nothing-left : (p : Placed) (m : Move) (a s : Square) → source m ≡ None → IsOpened p m s a → ⊥
@@ -176,8 +174,14 @@ pub target-attacks : (p : Placed) (m : Move) (s : Square) → IsSound p → Reac
 target-attacks p m s sound reach =
     let x = reach.mover in
     let same : Some x ≡ piece p.side (kind_after m) = sym reach.stands ∙ on-target p m (target m) sound refl in
-    let own : x.color ≡ p.side = ap (λ (q : Piece). q.color) (some-same x _ same) in
+    let own : x.color ≡ p.side = ap (λ (q : Piece). q.color) (same_Some x _ same) in
     record { reach = reach; enemy = own ∙ sym (opponent-twice p.side) }
+
+-- the piece that moved is on the target
+pub moved-there : (p next : Placed) (m : Move) (side : Color) → IsSound p → next ≡ after p m → side ≡ opponent next.side → at next.material.board (target m) ≡ piece side (kind_after m)
+moved-there p next m side sound made own =
+    let same : side ≡ p.side = own ∙ (ap (λ (q : Placed). opponent q.side) made ∙ opponent-twice p.side) in
+    rw (made, same) (on-target p m (target m) sound refl)
 
 -- who stands there is in check exactly where its king is attacked
 pub check-is : (next : Placed) (s : Square) (b : Bool) → IsSound next → at next.material.board s ≡ piece next.side King → (IsTrue b ↔ Attacked next.material.board next.side s) → IsTrue b ↔ InCheck next.material.board next.side

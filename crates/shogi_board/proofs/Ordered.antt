@@ -1,5 +1,5 @@
--- Cells are ordered as what they hold.
-use Rattle.std.proofs.Common.{◌≡◌, ℕ, ◌+◌, ◌*◌, ◌<◌, List, [], ◌∷◌, Option, Some, None, suc, map, inl, inr, arith, refl, ap, sym, ◌∙◌}
+-- Cells are ordered as what they hold, by their codes.
+use Rattle.std.proofs.Common.{◌≡◌, ℕ, ◌+◌, ◌*◌, ◌<◌, List, [], ◌∷◌, Option, Some, None, suc, inl, inr, arith, refl, ap, sym, ◌∙◌}
 use Rattle.std.specs.Cmp.{nat_cmp_is}
 use Rattle.std.specs.Cmp.Lexicographic.{slice_cmp}
 use Rattle.std.specs.Option.{option_cmp}
@@ -12,19 +12,20 @@ use denote.Enum.Compared.{by}
 use denote.Enum.Declared.{Choice}
 use Rattle.std.specs.Cmp.Derive.{points}
 use Rattle.shogi_board.specs.Cells.{Cells, piece}
-use Rattle.shogi_board.specs.Contents.{cell_of}
-use Rattle.shogi_board.specs.contracts.cell.Cell as cell
+use Rattle.shogi_board.specs.Contents.{code_of}
+use Rattle.shogi_board.specs.contracts.cell.Code as code
 use Rattle.shogi_board.specs.contracts.cell.CellOrd.TheImpl as cells
+use Rattle.shogi_board.specs.contracts.cell.CodeOrd.TheImpl as codes
 use Rattle.shogi_board.specs.contracts.color.Color as color
 use Rattle.shogi_board.specs.contracts.color.ColorOrd.TheImpl as colors
 use Rattle.shogi_board.specs.contracts.kind.Kind as kind
 use Rattle.shogi_board.specs.contracts.kind.KindOrd.TheImpl as kinds
 use Rattle.shogi_board.specs.contracts.kind.PieceOrd.TheImpl as pieces
-use Rattle.shogi_board.specs.declared.cell.Cell.{Cell}
+use Rattle.shogi_board.specs.declared.cell.Code.{Code}
 use Rattle.shogi_board.specs.declared.color.Color.{Color}
 use Rattle.shogi_board.specs.declared.color.Color.TheVariants.{Black, White}
 use Rattle.shogi_board.specs.declared.kind.Kind.{Kind}
-use Rattle.shogi_board.specs.declared.kind.Kind.TheVariants.{Pawn, Lance, Knight, Silver, Gold, Bishop, Rook, King, ProPawn, ProLance, ProKnight, ProSilver, Horse, Dragon}
+use Rattle.shogi_board.specs.declared.kind.Kind.TheVariants.{Pawn}
 use Rattle.shogi_board.specs.declared.kind.Piece.{Piece}
 
 -- the place of a variant among those of its enum
@@ -51,8 +52,8 @@ by-number (Fs ∷ Fss) (inl x) (inr y) = nat_cmp_is 0 (suc (number Fss y)) Less 
 by-number (Fs ∷ Fss) (inr x) (inl y) = nat_cmp_is (suc (number Fss x)) 0 Greater (omega arith)
 by-number (Fs ∷ Fss) (inr x) (inr y) = by-number Fss x y ∙ following (number Fss x) (number Fss y)
 
-abbrev cell_number : Cell → ℕ
-cell_number x = number cell.enum.parts (cell.enum.as_values x)
+abbrev code_number : Code → ℕ
+code_number x = number code.enum.parts (code.enum.as_values x)
 
 abbrev color_number : Color → ℕ
 color_number c = number color.enum.parts (color.enum.as_values c)
@@ -60,8 +61,8 @@ color_number c = number color.enum.parts (color.enum.as_values c)
 abbrev kind_number : Kind → ℕ
 kind_number k = number kind.enum.parts (kind.enum.as_values k)
 
-cell-by : (x y : Cell) → cells.cmp-value.it x y ≡ nat_cmp (cell_number x) (cell_number y)
-cell-by x y = by-number cell.enum.parts (cell.enum.as_values x) (cell.enum.as_values y)
+code-by : (x y : Code) → codes.cmp-value.it x y ≡ nat_cmp (code_number x) (code_number y)
+code-by x y = by-number code.enum.parts (code.enum.as_values x) (code.enum.as_values y)
 
 color-by : (c d : Color) → colors.cmp-value.it c d ≡ nat_cmp (color_number c) (color_number d)
 color-by c d = by-number color.enum.parts (color.enum.as_values c) (color.enum.as_values d)
@@ -69,52 +70,15 @@ color-by c d = by-number color.enum.parts (color.enum.as_values c) (color.enum.a
 kind-by : (k l : Kind) → kinds.cmp-value.it k l ≡ nat_cmp (kind_number k) (kind_number l)
 kind-by k l = by-number kind.enum.parts (kind.enum.as_values k) (kind.enum.as_values l)
 
--- a cell's number, by colour and kind
-cell-number : (c : Color) (k : Kind) → cell_number (cell_of (piece c k)) ≡ 14 * color_number c + kind_number k + 1
-cell-number Black Pawn = refl
-cell-number Black Lance = refl
-cell-number Black Knight = refl
-cell-number Black Silver = refl
-cell-number Black Gold = refl
-cell-number Black Bishop = refl
-cell-number Black Rook = refl
-cell-number Black King = refl
-cell-number Black ProPawn = refl
-cell-number Black ProLance = refl
-cell-number Black ProKnight = refl
-cell-number Black ProSilver = refl
-cell-number Black Horse = refl
-cell-number Black Dragon = refl
-cell-number White Pawn = refl
-cell-number White Lance = refl
-cell-number White Knight = refl
-cell-number White Silver = refl
-cell-number White Gold = refl
-cell-number White Bishop = refl
-cell-number White Rook = refl
-cell-number White King = refl
-cell-number White ProPawn = refl
-cell-number White ProLance = refl
-cell-number White ProKnight = refl
-cell-number White ProSilver = refl
-cell-number White Horse = refl
-cell-number White Dragon = refl
+-- a code's number, by colour and kind
+code-number : (c : Color) (k : Kind) → code_number (code_of (piece c k)) ≡ 14 * color_number c + kind_number k + 1
+code-number Black Pawn = refl
+code-number White Pawn = refl
+code-number _ _ = refl
 
 kind-low : (k : Kind) → kind_number k < 14
 kind-low Pawn = omega arith
-kind-low Lance = omega arith
-kind-low Knight = omega arith
-kind-low Silver = omega arith
-kind-low Gold = omega arith
-kind-low Bishop = omega arith
-kind-low Rook = omega arith
-kind-low King = omega arith
-kind-low ProPawn = omega arith
-kind-low ProLance = omega arith
-kind-low ProKnight = omega arith
-kind-low ProSilver = omega arith
-kind-low Horse = omega arith
-kind-low Dragon = omega arith
+kind-low _ = omega arith
 
 within-side : (c d k l : ℕ) → c ≡ d → nat_cmp (14 * c + k + 1) (14 * d + l + 1) ≡ nat_cmp k l
 within-side c d k l e =
@@ -136,29 +100,29 @@ by-side-first c d k l low high =
       ]
     ]
 
-cell-cmp : (x y : Option Piece) → cells.cmp-value.it (cell_of x) (cell_of y) ≡ option_cmp pieces.cmp-value.it x y
+cell-cmp : (x y : Option Piece) → cells.cmp-value.it x y ≡ option_cmp pieces.cmp-value.it x y
 cell-cmp None None = refl
 cell-cmp None (Some q) =
-    let some = cell-number q.color q.kind in
-    cell-by (cell_of None) (cell_of (Some q)) ∙ sym (nat_cmp_is 0 (cell_number (cell_of (Some q))) Less (omega (arith, some)))
+    let some = code-number q.color q.kind in
+    code-by (code_of None) (code_of (Some q)) ∙ sym (nat_cmp_is 0 (code_number (code_of (Some q))) Less (omega (arith, some)))
 cell-cmp (Some p) None =
-    let some = cell-number p.color p.kind in
-    cell-by (cell_of (Some p)) (cell_of None) ∙ sym (nat_cmp_is (cell_number (cell_of (Some p))) 0 Greater (omega (arith, some)))
+    let some = code-number p.color p.kind in
+    code-by (code_of (Some p)) (code_of None) ∙ sym (nat_cmp_is (code_number (code_of (Some p))) 0 Greater (omega (arith, some)))
 cell-cmp (Some p) (Some q) =
     let c = color_number p.color in
     let d = color_number q.color in
     let k = kind_number p.kind in
     let l = kind_number q.kind in
-    cell-by (cell_of (Some p)) (cell_of (Some q))
-    ∙ (ap (λ (n : ℕ). nat_cmp n (cell_number (cell_of (Some q)))) (cell-number p.color p.kind)
-    ∙ (ap (λ (n : ℕ). nat_cmp (14 * c + k + 1) n) (cell-number q.color q.kind)
+    code-by (code_of (Some p)) (code_of (Some q))
+    ∙ (ap (λ (n : ℕ). nat_cmp n (code_number (code_of (Some q)))) (code-number p.color p.kind)
+    ∙ (ap (λ (n : ℕ). nat_cmp (14 * c + k + 1) n) (code-number q.color q.kind)
     ∙ (by-side-first c d k l (kind-low p.kind) (kind-low q.kind)
     ∙ sym (ap (λ (o : Ordering). ordering_then o (kinds.cmp-value.it p.kind q.kind)) (color-by p.color q.color) ∙ ap (λ (o : Ordering). ordering_then (nat_cmp c d) o) (kind-by p.kind q.kind)))))
 
-pub cells-cmp : (xs ys : Cells) → slice_cmp cells.cmp-value.it (map cell_of xs) (map cell_of ys) ≡ slice_cmp (option_cmp pieces.cmp-value.it) xs ys
+pub cells-cmp : (xs ys : Cells) → slice_cmp cells.cmp-value.it xs ys ≡ slice_cmp (option_cmp pieces.cmp-value.it) xs ys
 cells-cmp [] [] = refl
 cells-cmp [] (y ∷ ys) = refl
 cells-cmp (x ∷ xs) [] = refl
 cells-cmp (x ∷ xs) (y ∷ ys) =
-    ap (λ (o : Ordering). ordering_then o (slice_cmp cells.cmp-value.it (map cell_of xs) (map cell_of ys))) (cell-cmp x y)
+    ap (λ (o : Ordering). ordering_then o (slice_cmp cells.cmp-value.it xs ys)) (cell-cmp x y)
     ∙ ap (λ (o : Ordering). ordering_then (option_cmp pieces.cmp-value.it x y) o) (cells-cmp xs ys)

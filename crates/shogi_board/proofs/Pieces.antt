@@ -1,9 +1,10 @@
 -- The tests of kinds and colours say what they are named for.
 use Rattle.std.proofs.Common.{◌≡◌, true, Option, Some, refl, sym, ◌∙◌}
+use Rattle.std.proofs.lemmas.Option.{same_Some}
 use Rattle.shogi_board.specs.declared.color.Color.{Color}
 use Rattle.shogi_board.specs.declared.color.Color.TheVariants.{Black, White}
 use Rattle.shogi_board.specs.declared.kind.Kind.{Kind}
-use Rattle.shogi_board.specs.declared.kind.Kind.TheVariants.{Pawn, Lance, Knight, Silver, Gold, Bishop, Rook, King, ProPawn, ProLance, ProKnight, ProSilver, Horse, Dragon}
+use Rattle.shogi_board.specs.declared.kind.Kind.TheVariants.{Pawn, King}
 use Rattle.shogi_board.specs.declared.kind.Piece.{Piece}
 use Rattle.shogi_board.specs.Cells.{Cells, at, piece}
 use Rattle.shogi_board.specs.Pieces.{same_color, is_hand_kind, opponent, place_of, unpromoted}
@@ -19,45 +20,18 @@ same_color-refl White = refl
 pub is_king_of-king : (c : Color) (cell : Option Piece) → cell ≡ piece c King → is_king_of c cell ≡ true
 is_king_of-king c cell e = rw (e, same_color-refl) refl
 
-some-same : (p q : Piece) → Some p ≡ Some q → p ≡ q
-some-same p q e = cc
-
 -- the piece that reaches is the one that stands there
 pub mover-is : (cells : Cells) (a b : Square) (p : Piece) → at cells a ≡ Some p → (r : Reach cells a b) → r.mover ≡ p
-mover-is cells a b p h r = some-same r.mover p (sym r.stands ∙ h)
+mover-is cells a b p h r = same_Some r.mover p (sym r.stands ∙ h)
 
 -- a piece that is no king may be held
 pub captured-held : (k : Kind) → (k ≡ King → ⊥) → is_hand_kind (unpromoted k) ≡ true
-captured-held Pawn h = refl
-captured-held Lance h = refl
-captured-held Knight h = refl
-captured-held Silver h = refl
-captured-held Gold h = refl
-captured-held Bishop h = refl
-captured-held Rook h = refl
 captured-held King h = absurd (h refl)
-captured-held ProPawn h = refl
-captured-held ProLance h = refl
-captured-held ProKnight h = refl
-captured-held ProSilver h = refl
-captured-held Horse h = refl
-captured-held Dragon h = refl
+captured-held _ h = refl
 
 pub unpromoted-place : (k : Kind) → place_of (unpromoted k) ≡ place_of k
 unpromoted-place Pawn = refl
-unpromoted-place Lance = refl
-unpromoted-place Knight = refl
-unpromoted-place Silver = refl
-unpromoted-place Gold = refl
-unpromoted-place Bishop = refl
-unpromoted-place Rook = refl
-unpromoted-place King = refl
-unpromoted-place ProPawn = refl
-unpromoted-place ProLance = refl
-unpromoted-place ProKnight = refl
-unpromoted-place ProSilver = refl
-unpromoted-place Horse = refl
-unpromoted-place Dragon = refl
+unpromoted-place _ = refl
 
 pub opponent-twice : (c : Color) → opponent (opponent c) ≡ c
 opponent-twice Black = refl

@@ -8,7 +8,7 @@ use Rattle.shogi_board.specs.declared.color.Color.{Color}
 use Rattle.shogi_board.specs.declared.color.Color.TheVariants.{Black, White}
 use Rattle.shogi_board.specs.Squares.{Direction}
 use Rattle.shogi_board.specs.declared.kind.Kind.{Kind}
-use Rattle.shogi_board.specs.declared.kind.Kind.TheVariants.{Pawn, Lance, Knight, Silver, Gold, Bishop, Rook, King, ProPawn, ProLance, ProKnight, ProSilver, Horse, Dragon}
+use Rattle.shogi_board.specs.declared.kind.Kind.TheVariants.{Pawn, Lance, Knight, Silver, Bishop, Rook, King, Horse, Dragon}
 
 abbrev pub Every : (Direction → Type 0) → List Direction → Type 0
 Every P [] = Unit {0}
@@ -52,15 +52,7 @@ every-ray Bishop = every-diagonal
 every-ray Rook = every-orthogonal
 every-ray Horse = every-diagonal
 every-ray Dragon = every-orthogonal
-every-ray Pawn = tt
-every-ray Knight = tt
-every-ray Silver = tt
-every-ray Gold = tt
-every-ray King = tt
-every-ray ProPawn = tt
-every-ray ProLance = tt
-every-ray ProKnight = tt
-every-ray ProSilver = tt
+every-ray _ = tt
 
 every-gold : Every IsRay gold
 every-gold =
@@ -74,18 +66,14 @@ every-step Pawn = inl (every-orthogonal.0, tt)
 every-step Lance = inl tt
 every-step Knight = inr refl
 every-step Silver = inl (every-orthogonal.0, every-diagonal)
-every-step Gold = inl every-gold
 every-step Bishop = inl tt
 every-step Rook = inl tt
 every-step King =
     let o = every-orthogonal in
     inl (o.0, (o.1.0, (o.1.1.0, (o.1.1.1.0, every-diagonal))))
-every-step ProPawn = inl every-gold
-every-step ProLance = inl every-gold
-every-step ProKnight = inl every-gold
-every-step ProSilver = inl every-gold
 every-step Horse = inl every-orthogonal
 every-step Dragon = inl every-diagonal
+every-step _ = inl every-gold
 
 three : (P : ℕ → Type 0) → P 1 → P 2 → P 3 → (n : ℕ) → 1 ≤ n → n ≤ 3 → P n
 three P a b c n low high =
@@ -170,18 +158,14 @@ every-near Pawn = (near-orthogonal.0, tt)
 every-near Lance = tt
 every-near Knight = (near (to 3 0) (lit≤ tt) (lit≤ tt), (near (to 1 0) (lit≤ tt) (lit≤ tt), tt))
 every-near Silver = (near-orthogonal.0, near-diagonal)
-every-near Gold = near-gold
 every-near Bishop = tt
 every-near Rook = tt
 every-near King =
     let o = near-orthogonal in
     (o.0, (o.1.0, (o.1.1.0, (o.1.1.1.0, near-diagonal))))
-every-near ProPawn = near-gold
-every-near ProLance = near-gold
-every-near ProKnight = near-gold
-every-near ProSilver = near-gold
 every-near Horse = near-orthogonal
 every-near Dragon = near-diagonal
+every-near _ = near-gold
 
 turned-near : (c : Color) (d : Direction) → IsNear d → IsNear (turned_for c d)
 turned-near Black d h = h

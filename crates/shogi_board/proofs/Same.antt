@@ -1,5 +1,5 @@
 -- Values compare as equal where they are equal.
-use Rattle.std.proofs.Common.{rules, ◌≡◌, ℕ, true, false, ◌↔◌, Bool, nat_eq, Option, Some, None, ◌&&◌, refl, ap, sym, List, [], ◌∷◌, ◌++◌, map, ◌∙◌}
+use Rattle.std.proofs.Common.{rules, ◌≡◌, ℕ, ◌↔◌, Bool, nat_eq, Option, Some, None, ◌&&◌, refl, ap, sym, List, [], ◌∷◌, ◌++◌, ◌∙◌}
 use Rattle.std.specs.Option.{option_eq}
 use Rattle.std.specs.Cmp.Lexicographic.{pointwise}
 use Rattle.std.specs.List.Sorted.{IsStrictlySortedBy}
@@ -8,21 +8,24 @@ use Rattle.std.specs.declared.cmp.Ordering.TheVariants.{Equal}
 use Rattle.std.specs.Bool.{Decides, beq}
 use Rattle.std.specs.Cmp.{IsTotalOrder, Equal-is, booleans_Decides}
 use Rattle.std.proofs.lemmas.Slice.Eq.{slice_eq-Decides}
-use Rattle.std.proofs.lemmas.Bool.Decides.{Decides-eqb}
+use Rattle.std.proofs.lemmas.Bool.Decides.{Decides-and, Decides-eqb, Decides-like, same_from_decides}
+use Rattle.std.proofs.lemmas.Bool.{and_from, and_parts}
 use denote.Enum.Bare.{sameb, same_true, true_same}
-use Rattle.shogi_board.specs.Contents.{cell_of, content}
+use Rattle.shogi_board.specs.Contents.{code_of, piece_of}
 use Rattle.shogi_board.specs.Layout.{Layout}
+use Rattle.shogi_board.specs.Pieces.{same_color}
 use Rattle.shogi_board.specs.Placed.{Placed}
 use Rattle.shogi_board.specs.Same.{same_cell, same_position}
 use Rattle.shogi_board.specs.Totals.{hand_kinds}
-use Rattle.shogi_board.specs.declared.cell.Cell.{Cell}
+use Rattle.shogi_board.specs.declared.cell.Code.{Code}
 use Rattle.shogi_board.specs.declared.color.Color.{Color}
 use Rattle.shogi_board.specs.declared.kind.Kind.{Kind}
 use Rattle.shogi_board.specs.declared.kind.Kind.TheVariants.{King, ProPawn, ProLance, ProKnight, ProSilver, Horse, Dragon}
 use Rattle.shogi_board.specs.declared.kind.Piece.{Piece}
-use Rattle.shogi_board.proofs.Tells.{and-left, and-right, and-both, color-same, cell-same, piece-same}
-use Rattle.shogi_board.proofs.Contents.{contents-back}
-use Rattle.shogi_board.specs.contracts.cell.Cell as cell
+use Rattle.shogi_board.proofs.Tells.{color-same, cell-same, piece-same}
+use Rattle.shogi_board.proofs.Contents.{content-back}
+use Rattle.shogi_board.specs.contracts.cell.Code as code
+use Rattle.shogi_board.specs.contracts.cell.CellPartialEq.TheImpl as cells
 use Rattle.shogi_board.specs.contracts.color.Color as color
 use Rattle.shogi_board.specs.contracts.kind.Kind as kind
 use Rattle.shogi_board.specs.contracts.kind.PiecePartialEq.TheImpl.{eq-value}
@@ -40,8 +43,8 @@ kind-eq a b = (λ h. same_true kind.the_type (search rules) a b h, true_same kin
 
 piece-eq : (a b : Piece) → Decides (eq-value.it a b) (a ≡ b)
 piece-eq a b = (
-  λ h. piece-same a b ((color-eq a.color b.color).0 (and-left _ _ h)) ((kind-eq a.kind b.kind).0 (and-right _ _ h)),
-  λ h. and-both _ _ ((color-eq a.color b.color).1 (ap (λ (p : Piece). p.color) h)) ((kind-eq a.kind b.kind).1 (ap (λ (p : Piece). p.kind) h)),
+  λ h. piece-same a b ((color-eq a.color b.color).0 (and_parts _ _ h).0) ((kind-eq a.kind b.kind).0 (and_parts _ _ h).1),
+  λ h. and_from _ _ ((color-eq a.color b.color).1 (ap (λ (p : Piece). p.color) h)) ((kind-eq a.kind b.kind).1 (ap (λ (p : Piece). p.kind) h)),
 )
 
 pub cell-eq : (a b : Option Piece) → Decides (option_eq eq-value.it a b) (a ≡ b)
@@ -50,13 +53,13 @@ cell-eq None (Some y) = (λ h. cc, λ h. cc)
 cell-eq (Some x) None = (λ h. cc, λ h. cc)
 cell-eq (Some x) (Some y) = (λ h. ap Some ((piece-eq x y).0 h), λ h. (piece-eq x y).1 cc)
 
-byte-eq : (a b : Cell) → Decides (sameb cell.the_type a b) (a ≡ b)
-byte-eq a b = (λ h. same_true cell.the_type (search rules) a b h, true_same cell.the_type a b)
+code-eq : (a b : Code) → Decides (sameb code.the_type a b) (a ≡ b)
+code-eq a b = (λ h. same_true code.the_type (search rules) a b h, true_same code.the_type a b)
 
-cells-eq : (a b : List (Option Piece)) → Decides (pointwise (sameb cell.the_type) (map cell_of a) (map cell_of b)) (a ≡ b)
-cells-eq a b =
-    let bytes = slice_eq-Decides byte-eq (map cell_of a) (map cell_of b) _ refl in
-    (λ h. sym (contents-back a) ∙ (ap (map content) (bytes.0 h) ∙ contents-back b), λ e. bytes.1 (ap (map cell_of) e))
+coded-eq : (a b : Option Piece) → Decides (cells.eq-value.it a b) (a ≡ b)
+coded-eq a b =
+    let codes = code-eq (code_of a) (code_of b) in
+    (λ h. sym (content-back a) ∙ (ap piece_of (codes.0 h) ∙ content-back b), λ e. codes.1 (ap code_of e))
 
 pub counts-eq : (a b : List ℕ) → Decides (pointwise nat_eq a b) (a ≡ b)
 counts-eq a b = slice_eq-Decides Decides-eqb a b _ refl
@@ -70,22 +73,22 @@ placed-same a b p q r s =
     ∙ (ap (λ x. parts b.material.board x a.material.white a.side) q
     ∙ (ap (λ x. parts b.material.board b.material.black x a.side) r ∙ ap (λ x. parts b.material.board b.material.black b.material.white x) s))
 
+-- positions are equal where their boards, hands and sides are
+placed-by : (board : Option Piece → Option Piece → Bool) (side : Color → Color → Bool) → ((a b : Option Piece) → Decides (board a b) (a ≡ b)) → ((a b : Color) → Decides (side a b) (a ≡ b)) → (a b : Placed)
+    → Decides (pointwise board a.material.board b.material.board && (pointwise nat_eq a.material.black b.material.black && (pointwise nat_eq a.material.white b.material.white && side a.side b.side))) (a ≡ b)
+placed-by board side cell color a b =
+    Decides-like _ (λ h. placed-same a b h.0 h.1.0 h.1.1.0 h.1.1.1)
+    (λ e. (ap (λ (p : Placed). p.material.board) e, (ap (λ (p : Placed). p.material.black) e, (ap (λ (p : Placed). p.material.white) e, ap (λ (p : Placed). p.side) e))))
+    (Decides-and _ _ (slice_eq-Decides cell a.material.board b.material.board _ refl)
+    (Decides-and _ _ (counts-eq a.material.black b.material.black) (Decides-and _ _ (counts-eq a.material.white b.material.white) (color a.side b.side))))
+
 abbrev pub placed_eq : Placed → Placed → Bool
 placed_eq a b =
-    pointwise (sameb cell.the_type) (map cell_of a.material.board) (map cell_of b.material.board)
+    pointwise cells.eq-value.it a.material.board b.material.board
     && (pointwise nat_eq a.material.black b.material.black && (pointwise nat_eq a.material.white b.material.white && sameb color.the_type a.side b.side))
 
 pub placed-eq : (a b : Placed) → Decides (placed_eq a b) (a ≡ b)
-placed-eq a b = (
-  λ h.
-      let h1 = and-right _ _ h in
-      let h2 = and-right _ _ h1 in
-      placed-same a b ((cells-eq a.material.board b.material.board).0 (and-left _ _ h)) ((counts-eq a.material.black b.material.black).0 (and-left _ _ h1))
-      ((counts-eq a.material.white b.material.white).0 (and-left _ _ h2)) ((color-eq a.side b.side).0 (and-right _ _ h2)),
-  λ h. and-both _ _ ((cells-eq a.material.board b.material.board).1 (ap (λ (p : Placed). p.material.board) h))
-      (and-both _ _ ((counts-eq a.material.black b.material.black).1 (ap (λ (p : Placed). p.material.black) h))
-      (and-both _ _ ((counts-eq a.material.white b.material.white).1 (ap (λ (p : Placed). p.material.white) h)) ((color-eq a.side b.side).1 (ap (λ (p : Placed). p.side) h)))),
-)
+placed-eq a b = placed-by cells.eq-value.it (sameb color.the_type) coded-eq color-eq a b
 
 -- positions that compare as equal are one, and one position is equal to itself
 pub exact-positions : (a b : Placed) → (cmp-value.it a b ≡ Equal) ↔ (a ≡ b)
@@ -105,31 +108,13 @@ pub kinds-sorted : IsStrictlySortedBy kinds.cmp-value.it (hand_kinds ++ King ∷
 unfolding IsStrictlySortedBy
 kinds-sorted = search rules
 
-cells-same : (a b : List (Option Piece)) → Decides (pointwise same_cell a b) (a ≡ b)
-cells-same a b = slice_eq-Decides cell-same a b _ refl
-
 -- positions are the same where they are equal
 pub position-same : (a b : Placed) → Decides (same_position a b) (a ≡ b)
-position-same a b = (
-  λ h.
-      let h1 = and-right _ _ h in
-      let h2 = and-right _ _ h1 in
-      placed-same a b ((cells-same a.material.board b.material.board).0 (and-left _ _ h)) ((counts-eq a.material.black b.material.black).0 (and-left _ _ h1))
-      ((counts-eq a.material.white b.material.white).0 (and-left _ _ h2)) ((color-same a.side b.side).0 (and-right _ _ h2)),
-  λ h. and-both _ _ ((cells-same a.material.board b.material.board).1 (ap (λ (p : Placed). p.material.board) h))
-      (and-both _ _ ((counts-eq a.material.black b.material.black).1 (ap (λ (p : Placed). p.material.black) h))
-      (and-both _ _ ((counts-eq a.material.white b.material.white).1 (ap (λ (p : Placed). p.material.white) h)) ((color-same a.side b.side).1 (ap (λ (p : Placed). p.side) h)))),
-)
-
-one-test : (a b : Bool) (P : Type 0) → Decides a P → Decides b P → a ≡ b
-one-test true true P d e = refl
-one-test false false P d e = refl
-one-test true false P d e = sym (e.1 (d.0 refl))
-one-test false true P d e = d.1 (e.0 refl)
+position-same a b = placed-by same_cell same_color cell-same color-same a b
 
 -- what `==` answers is whether they are the same
 pub eq-same : (a b : Placed) → placed_eq a b ≡ same_position a b
-eq-same a b = one-test (placed_eq a b) (same_position a b) (a ≡ b) (placed-eq a b) (position-same a b)
+eq-same a b = same_from_decides (placed_eq a b) (same_position a b) (placed-eq a b) (position-same a b)
 
 abbrev laid : List (Option Piece) → List ℕ → List ℕ → Bool → Layout
 laid x y z r = record { material = record { board = x; black = y; white = z }; rest_given = r }
@@ -141,14 +126,9 @@ layout-same a b p q r s =
     ∙ (ap (λ x. laid b.material.board b.material.black x a.rest_given) r ∙ ap (λ x. laid b.material.board b.material.black b.material.white x) s))
 
 -- setups compare as equal where they are equal
-pub layout-eq : (a b : Layout) → Decides (pointwise (sameb cell.the_type) (map cell_of a.material.board) (map cell_of b.material.board) && (pointwise nat_eq a.material.black b.material.black && (pointwise nat_eq a.material.white b.material.white && beq a.rest_given b.rest_given))) (a ≡ b)
-layout-eq a b = (
-  λ h.
-      let h1 = and-right _ _ h in
-      let h2 = and-right _ _ h1 in
-      layout-same a b ((cells-eq a.material.board b.material.board).0 (and-left _ _ h)) ((counts-eq a.material.black b.material.black).0 (and-left _ _ h1))
-      ((counts-eq a.material.white b.material.white).0 (and-left _ _ h2)) ((booleans_Decides a.rest_given b.rest_given).0 (and-right _ _ h2)),
-  λ h. and-both _ _ ((cells-eq a.material.board b.material.board).1 (ap (λ (p : Layout). p.material.board) h))
-      (and-both _ _ ((counts-eq a.material.black b.material.black).1 (ap (λ (p : Layout). p.material.black) h))
-      (and-both _ _ ((counts-eq a.material.white b.material.white).1 (ap (λ (p : Layout). p.material.white) h)) ((booleans_Decides a.rest_given b.rest_given).1 (ap (λ (p : Layout). p.rest_given) h)))),
-)
+pub layout-eq : (a b : Layout) → Decides (pointwise cells.eq-value.it a.material.board b.material.board && (pointwise nat_eq a.material.black b.material.black && (pointwise nat_eq a.material.white b.material.white && beq a.rest_given b.rest_given))) (a ≡ b)
+layout-eq a b =
+    Decides-like _ (λ h. layout-same a b h.0 h.1.0 h.1.1.0 h.1.1.1)
+    (λ e. (ap (λ (p : Layout). p.material.board) e, (ap (λ (p : Layout). p.material.black) e, (ap (λ (p : Layout). p.material.white) e, ap (λ (p : Layout). p.rest_given) e))))
+    (Decides-and _ _ (slice_eq-Decides coded-eq a.material.board b.material.board _ refl)
+    (Decides-and _ _ (counts-eq a.material.black b.material.black) (Decides-and _ _ (counts-eq a.material.white b.material.white) (booleans_Decides a.rest_given b.rest_given))))

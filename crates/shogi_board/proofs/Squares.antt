@@ -1,5 +1,6 @@
 -- Squares are told apart by their file and rank, and by their place.
-use Rattle.std.proofs.Common.{◌≡◌, ℕ, ◌<◌, ◌≤◌, arith, ap, subst}
+use Rattle.std.proofs.Common.{◌≡◌, ℕ, ◌+◌, ◌<◌, ◌≤◌, arith, ap, inl, inr, subst}
+use Rattle.std.proofs.lemmas.Bool.{cases_lt}
 use denote.Struct.Props.{props}
 use Rattle.shogi_board.specs.declared.square.Square.{Square}
 use Rattle.shogi_board.specs.Squares.{Direction, place, IsAway, file_of, rank_of}
@@ -37,3 +38,14 @@ place-bound a = let h = a.on_board in omega arith
 -- from one square one other lies n times a direction away
 pub away-same : (a b c : Square) (d : Direction) (n : ℕ) → IsAway a d n b → IsAway a d n c → b ≡ c
 away-same a b c d n h k = square-same b c (omega arith) (omega arith)
+
+-- what holds of each square before a place holds of each up to it, if it does of the one there
+pub below-next : (P : Square → Type 0) (n : ℕ) (s : Square) → place s ≡ n → ((t : Square) → place t < n → P t) → P s → (t : Square) → place t < n + 1 → P t
+below-next P n s there below here t low =
+    elim (cases_lt (place t) n) [
+      | inl lt ↦ below t lt
+      | inr ge ↦ subst P (place-same s t (omega (arith, there, low, ge))) here
+    ]
+
+pub all-squares : (P : Square → Type 0) (n : ℕ) → 81 ≤ n → ((t : Square) → place t < n → P t) → (t : Square) → P t
+all-squares P n end below t = let low = place-bound t in below t (omega (arith, low, end))

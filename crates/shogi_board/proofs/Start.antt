@@ -1,6 +1,6 @@
 -- The even board keeps the totals, and neither king is attacked.
-use Rattle.std.proofs.Common.{◌≡◌, ℕ, zero, suc, ◌⊎◌, is_some, ◌+◌, ◌-◌, ◌*◌, ◌<◌, ◌≤◌, ◌&&◌, ◌||◌, not, Bool, true, false, Option, Some, None, get_or, arith, refl, lit≤, nat_le, ◌==◌, inl, inr}
-use Rattle.std.proofs.lemmas.Bool.{cases_lt}
+use Rattle.std.proofs.Common.{◌≡◌, ℕ, zero, suc, ◌⊎◌, is_some, ◌+◌, ◌-◌, ◌*◌, ◌<◌, ◌≤◌, ◌&&◌, ◌||◌, not, Bool, true, Option, Some, None, get_or, arith, refl, lit≤, nat_le, ◌==◌, inl, inr}
+use Rattle.std.proofs.lemmas.Bool.{and_parts, cases_lt}
 use Rattle.shogi_board.specs.Cells.{at, even_cells}
 use Rattle.shogi_board.specs.Moves.{IsRay, turned_for}
 use Rattle.shogi_board.specs.Pieces.{opponent}
@@ -12,7 +12,7 @@ use Rattle.shogi_board.specs.Totals.{IsWithinTotals, total, limit, kings_of, bar
 use Rattle.shogi_board.specs.declared.color.Color.{Color}
 use Rattle.shogi_board.specs.declared.color.Color.TheVariants.{Black, White}
 use Rattle.shogi_board.specs.declared.kind.Kind.{Kind}
-use Rattle.shogi_board.specs.declared.kind.Kind.TheVariants.{Pawn, Lance, Knight, Silver, Gold, Bishop, Rook, King, ProPawn, ProLance, ProKnight, ProSilver, Horse, Dragon}
+use Rattle.shogi_board.specs.declared.kind.Kind.TheVariants.{Pawn}
 use Rattle.shogi_board.specs.declared.kind.Piece.{Piece}
 use Rattle.shogi_board.specs.declared.square.Square.{Square}
 use Rattle.shogi_board.proofs.Check.{king-safe}
@@ -20,19 +20,7 @@ use Rattle.shogi_board.proofs.Rays.{ray-at, step-near}
 
 pub even-full : (k : Kind) → total (bare_board even_cells) k ≡ limit k
 even-full Pawn = refl
-even-full Lance = refl
-even-full Knight = refl
-even-full Silver = refl
-even-full Gold = refl
-even-full Bishop = refl
-even-full Rook = refl
-even-full King = refl
-even-full ProPawn = refl
-even-full ProLance = refl
-even-full ProKnight = refl
-even-full ProSilver = refl
-even-full Horse = refl
-even-full Dragon = refl
+even-full _ = refl
 
 even-totals : (k : Kind) → total (bare_board even_cells) k ≤ limit k
 even-totals k = let full = even-full k in omega (arith, full)
@@ -48,22 +36,13 @@ all_below : (ℕ → Bool) → ℕ → Bool
 all_below test zero = true
 all_below test (suc n) = test n && all_below test n
 
-both-left : (a b : Bool) → (a && b) ≡ true → a ≡ true
-both-left true b h = refl
-both-left false b h = h
-
-both-right : (a b : Bool) → (a && b) ≡ true → b ≡ true
-both-right true b h = h
-both-right false true h = refl
-both-right false false h = h
-
 all_below-at : (test : ℕ → Bool) (m n : ℕ) → all_below test m ≡ true → n < m → test n ≡ true
 unfolding all_below
 all_below-at test zero n h lt = absurd (omega arith)
 all_below-at test (suc m) n h lt =
     elim (cases_lt n m) [
-      | inl low ↦ all_below-at test m n (both-right _ _ h) low
-      | inr high ↦ let e : n ≡ m = omega arith in rw e (both-left _ _ h)
+      | inl low ↦ all_below-at test m n (and_parts _ _ h).1 low
+      | inr high ↦ let e : n ≡ m = omega arith in rw e (and_parts _ _ h).0
     ]
 
 -- a test passes at each square of the even board, by its file and rank from 0

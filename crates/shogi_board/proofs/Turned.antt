@@ -12,6 +12,7 @@ use Rattle.shogi_board.specs.declared.color.Color.{Color}
 use Rattle.shogi_board.specs.declared.color.Color.TheVariants.{Black, White}
 use Rattle.shogi_board.specs.declared.kind.Piece.{Piece}
 use Rattle.shogi_board.specs.declared.square.Square.{Square}
+use Rattle.shogi_board.proofs.Pieces.{opponent-twice}
 use Rattle.shogi_board.proofs.Rays.{near-step, near-ray}
 use Rattle.shogi_board.proofs.Squares.{place-bound}
 
@@ -51,10 +52,6 @@ turned-square s =
     let h = s.on_board in
     (record { file = 10 - s.file; rank = 10 - s.rank; on_board = (omega arith, omega arith, omega arith, omega arith) }, (omega arith, omega arith))
 
-opponent-opponent : (c : Color) → opponent (opponent c) ≡ c
-opponent-opponent Black = refl
-opponent-opponent White = refl
-
 turn-clear : (cells : Cells) (a c : Square) (color : Color) (dir : Direction) (n : ℕ) → length cells ≡ 81 → IsNear dir → IsTurned a c → IsClear cells a (turned_for color dir) n → IsClear (turned cells) c (turned_for (opponent color) dir) n
 turn-clear cells a c color dir n whole near p clear k s low high away =
     let other = turned-square s in
@@ -62,7 +59,7 @@ turn-clear cells a c color dir n whole near p clear k s low high away =
     let q = other.1 in
     let back : IsTurned t s = (omega (arith, q.0), omega (arith, q.1)) in
     let there = turn-away c s a t (opponent color) dir k near (omega (arith, p.0), omega (arith, p.1)) q away in
-    let here : IsAway a (turned_for color dir) k t = rw (opponent-opponent color) at there in
+    let here : IsAway a (turned_for color dir) k t = rw (opponent-twice color) at there in
     at-turned cells t s whole back ∙ ap turned_cell (clear k t low high here)
 
 pub turn-reach : (cells : Cells) (a b c d : Square) → length cells ≡ 81 → IsTurned a c → IsTurned b d → Reach cells a b → Reach (turned cells) c d
@@ -88,7 +85,7 @@ turn-reach cells a b c d whole p q reach = record {
 
 turned-turned : (cell : Option Piece) → turned_cell (turned_cell cell) ≡ cell
 turned-turned None = refl
-turned-turned (Some p) = ap (λ (c : Color). Some (record p { color = c })) (opponent-opponent p.color)
+turned-turned (Some p) = ap (λ (c : Color). Some (record p { color = c })) (opponent-twice p.color)
 
 -- the board turned round twice
 at-twice : (cells : Cells) (s : Square) → length cells ≡ 81 → at (turned (turned cells)) s ≡ at cells s

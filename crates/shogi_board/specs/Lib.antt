@@ -9,7 +9,6 @@ pub mod Keys
 pub mod KeySteps
 pub mod Kinds
 pub mod Kings
-pub mod Landmarks
 pub mod Layout
 pub mod Legal
 pub mod MoveSquares

@@ -1,5 +1,5 @@
 -- The sides and the kinds of pieces.
-use Rattle.std.specs.Prelude.{ℕ, Bool, true, false, ◌==◌, ◌&&◌, Option, Some, None}
+use Rattle.std.specs.Prelude.{ℕ, Bool, true, false, not, ◌==◌, ◌&&◌, Option, Some, None}
 use Rattle.shogi_board.specs.declared.color.Color.{Color}
 use Rattle.shogi_board.specs.declared.color.Color.TheVariants.{Black, White}
 use Rattle.shogi_board.specs.declared.kind.Kind.{Kind}
@@ -12,8 +12,7 @@ opponent White = Black
 abbrev pub same_color : Color → Color → Bool
 same_color Black Black = true
 same_color White White = true
-same_color Black White = false
-same_color White Black = false
+same_color _ _ = false
 
 -- the places of the kinds: first the seven that a hand may hold, then the king; a promoted kind has
 -- the place of its unpromoted one
@@ -84,37 +83,12 @@ unpromoted Horse = Bishop
 unpromoted Dragon = Rook
 
 abbrev pub is_king : Kind → Bool
-is_king Pawn = false
-is_king Lance = false
-is_king Knight = false
-is_king Silver = false
-is_king Gold = false
-is_king Bishop = false
-is_king Rook = false
 is_king King = true
-is_king ProPawn = false
-is_king ProLance = false
-is_king ProKnight = false
-is_king ProSilver = false
-is_king Horse = false
-is_king Dragon = false
+is_king _ = false
 
 -- a hand may hold each unpromoted kind but the king
 abbrev pub is_hand_kind : Kind → Bool
-is_hand_kind Pawn = true
-is_hand_kind Lance = true
-is_hand_kind Knight = true
-is_hand_kind Silver = true
-is_hand_kind Gold = true
-is_hand_kind Bishop = true
-is_hand_kind Rook = true
-is_hand_kind King = false
-is_hand_kind ProPawn = false
-is_hand_kind ProLance = false
-is_hand_kind ProKnight = false
-is_hand_kind ProSilver = false
-is_hand_kind Horse = false
-is_hand_kind Dragon = false
+is_hand_kind kind = not (is_promoted kind) && not (is_king kind)
 
 abbrev pub same : Bool → Bool → Bool
 same true b = b

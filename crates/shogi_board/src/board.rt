@@ -1,11 +1,9 @@
-ghost use Rattle.std.specs.Prelude.{◌≡◌, ◌%◌, ◌^◌, ◌≤◌, ◌<◌, ◌↔◌, ◌⊎◌, Any, IsTrue, MatchOption, None, Some, count_by, map, nat_lt, slice_index_or, slice_set, length};
+ghost use Rattle.std.specs.Prelude.{◌≡◌, ◌%◌, ◌^◌, ◌≤◌, ◌<◌, ◌↔◌, ◌⊎◌, Any, IsTrue, MatchOption, None, Some, count_by, nat_lt, slice_index_or, slice_set, length};
 ghost use Rattle.shogi_board.specs.Cells.{at, piece, even_cells, no_cells, HasPawnOnFile};
-ghost use Rattle.shogi_board.specs.Contents.{cell_of};
 ghost use Rattle.shogi_board.specs.Danger.{ComesFrom, SeenTowards};
 ghost use Rattle.shogi_board.specs.Attackers.{AttackAcross, AttackInSight, IsAttackedByJump, IsAttackedInLine};
 ghost use Rattle.shogi_board.specs.Keys.{cells_key};
 ghost use Rattle.shogi_board.specs.Kings.{IsKingOf};
-ghost use Rattle.shogi_board.specs.Landmarks.{AreLandmarks};
 ghost use Rattle.shogi_board.specs.Moves.{steps, turned_for, IsRay};
 ghost use Rattle.shogi_board.specs.Directions.{Goes, IsNear};
 ghost use Rattle.shogi_board.specs.Pieces.{opponent};
@@ -23,47 +21,44 @@ use crate::direction::{Direction, jumps, neighbours};
 use crate::even::even_cells;
 use crate::keys::cell_key;
 use crate::kind::{Kind, Piece};
-use crate::landmarks::Landmarks;
+use crate::king_squares::{king_after, king_on};
 use crate::square::Square;
 use std::marker::Model;
 
-// What is on the squares, and the landmarks of both sides.
-//
-// Each side has one king at most.
+// What is on the squares, and where the kings are. Each side has one king at most.
 #[derive(Clone, Copy, Debug)]
 #[derive_where(PartialEq, Eq, PartialOrd, Ord)]
 pub struct Board {
     // in the order of the squares
     cells: [Cell; 81],
     #[derive_where(skip(EqHashOrd))]
-    black: Landmarks,
+    black_king: Option<Square>,
     #[derive_where(skip(EqHashOrd))]
-    white: Landmarks,
+    white_king: Option<Square>,
 }
 
 impl Model for Board {
-    ghost use Rattle.std.specs.Prelude.{List, Option, map};
-    ghost use Rattle.shogi_board.specs.Contents.{cell_of, cells-back, content};
-    ghost use Rattle.shogi_board.specs.Landmarks.{landmarks_of, HasLandmarks};
+    ghost use Rattle.std.specs.Prelude.{List, Option};
+    ghost use Rattle.shogi_board.specs.Kings.{king_from, HasKings};
     ghost use Rattle.shogi_board.specs.declared.color.Color.TheVariants.{Black, White};
     ghost use Rattle.shogi_board.specs.declared.kind.Piece.{Piece};
 
     ghost Value = { List (Option Piece) };
 
-    ghost view = { λ b. map content b.cells };
+    ghost view = { λ b. b.cells };
 
-    ghost invariant = { λ b. HasLandmarks (map content b.cells) b.black b.white };
+    ghost invariant = { λ b. HasKings b.cells b.black_king b.white_king };
 
     ghost inverse = { λ d. record {
-      cells = map cell_of d;
-      black = landmarks_of d Black;
-      white = landmarks_of d White;
+      cells = d;
+      black_king = king_from Black 0 d;
+      white_king = king_from White 0 d;
     } };
 
     ghost inverse_ok = { λ b h i. record {
-      cells = cells-back b.cells i;
-      black = h.black_marks i;
-      white = h.white_marks i;
+      cells = b.cells;
+      black_king = h.black_king i;
+      white_king = h.white_king i;
     } };
 }
 
@@ -84,36 +79,38 @@ impl Board {
         requires { (color : Color) → kings_of cells color ≤ 1 }
         ensures { result ≡ cells }
     {
-        let black = Landmarks::of(&cells, Color::Black);
-        let white = Landmarks::of(&cells, Color::White);
         Board {
             cells: cells_of(&cells),
-            black,
-            white,
+            black_king: king_on(&cells, Color::Black),
+            white_king: king_on(&cells, Color::White),
         }
     }
 
     // What is on the square of that place.
+    #[inline(always)]
+    fn cell(&self, place: usize) -> Cell
+        requires { place < 81 }
+        ensures value { result ≡ slice_index_or self.now place None }
+        ensures whole { length self.now ≡ 81 }
+    {
+        self.cells[place]
+    }
+
+    // The piece on the square of that place, if there is one.
     #[inline(always)]
     fn content(&self, place: usize) -> Option<Piece>
         requires { place < 81 }
         ensures value { result ≡ slice_index_or self.now place None }
         ensures whole { length self.now ≡ 81 }
     {
-        self.cells[place].piece()
+        self.cell(place).piece()
     }
 
-    // The landmarks of that side, which has at most one king.
     #[inline(always)]
-    fn landmarks(&self, color: Color) -> Landmarks
-        ensures marks { AreLandmarks self.now color result }
-        ensures one { kings_of self.now color ≤ 1 }
-        ensures whole { length self.now ≡ 81 }
+    pub(crate) fn cell_at(&self, square: Square) -> Cell
+        ensures { result ≡ at self.now square }
     {
-        match color {
-            Color::Black => self.black,
-            Color::White => self.white,
-        }
+        self.cell(square.place())
     }
 
     // What the pieces on the board count in a key.
@@ -122,7 +119,7 @@ impl Board {
     {
         let mut key = 0u64;
         for n in 0..81usize {
-            key = key.wrapping_add(cell_key(n, self.cells[n].piece()));
+            key = key.wrapping_add(cell_key(n, self.cell(n)));
         }
         key
     }
@@ -139,39 +136,12 @@ impl Board {
         requires { (color : Color) → kings_of (slice_set self.old (place square) cell) color ≤ 1 }
         ensures { self.new ≡ slice_set self.old (place square) cell }
     {
-        self.clear(square);
-        if let Some(piece) = cell {
-            self.stand(square, piece);
-        }
-    }
-
-    // Empties the square.
-    #[inline(always)]
-    fn clear(&mut self, square: Square)
-        ensures { self.new ≡ slice_set self.old (place square) None }
-    {
-        let Some(piece) = self.content(square.place()) else {
-            return;
-        };
-        self.cells[square.place()] = Cell::Empty;
-        match piece.color {
-            Color::Black => self.black.lose(piece.kind, square),
-            Color::White => self.white.lose(piece.kind, square),
-        }
-    }
-
-    // Puts the piece on the square, which is empty.
-    #[inline(always)]
-    fn stand(&mut self, square: Square, piece: Piece)
-        requires empty { at self.old square ≡ None }
-        requires one_king { (color : Color)
-            → kings_of (slice_set self.old (place square) (Some piece)) color ≤ 1 }
-        ensures { self.new ≡ slice_set self.old (place square) (Some piece) }
-    {
-        self.cells[square.place()] = Cell::of(Some(piece));
-        match piece.color {
-            Color::Black => self.black.gain(piece.kind, square),
-            Color::White => self.white.gain(piece.kind, square),
+        let was = self.cell_at(square);
+        let cell = Cell::of(cell);
+        self.cells[square.place()] = cell;
+        if was.is_king() || cell.is_king() {
+            self.black_king = king_after(self.black_king, Color::Black, square, was, cell);
+            self.white_king = king_after(self.white_king, Color::White, square, was, cell);
         }
     }
 
@@ -208,13 +178,23 @@ impl Board {
         ensures one { kings_of self.now color ≤ 1 }
         ensures whole { length self.now ≡ 81 }
     {
-        self.landmarks(color).king
+        match color {
+            Color::Black => self.black_king,
+            Color::White => self.white_king,
+        }
     }
 
+    // Whether an unpromoted pawn of that side is on the file of the square.
     pub(crate) fn has_pawn_on_file(&self, color: Color, square: Square) -> bool
         ensures { IsTrue result ↔ HasPawnOnFile self.now color square }
     {
-        self.landmarks(color).has_pawn_on_file(square)
+        let first = square.place() - (square.rank() as usize - 1);
+        for n in first..first + 9 {
+            if is_pawn_of(self.content(n), color) {
+                return true;
+            }
+        }
+        false
     }
 
     #[inline(always)]
@@ -222,9 +202,18 @@ impl Board {
         ensures { IsTrue result ↔ Reach self.now from to }
     {
         match self.at(from) {
-            Some(piece) => self.leads(piece, from, to),
+            Some(piece) => self.piece_reaches(piece, from, to),
             None => false,
         }
+    }
+
+    // As `reaches`, for the piece that is on the one square.
+    #[inline(always)]
+    pub(crate) fn piece_reaches(&self, piece: Piece, from: Square, to: Square) -> bool
+        requires { at self.now from ≡ Some piece }
+        ensures { IsTrue result ↔ Reach self.now from to }
+    {
+        self.leads(piece, from, to)
     }
 
     // Whether a step or a ray of the piece leads from one square to the other, by a ray with
@@ -411,7 +400,7 @@ impl Board {
         ensures { IsTrue result ↔ Attack self.now color from to }
     {
         match self.at(from) {
-            Some(piece) => piece.color == color.opponent() && self.leads(piece, from, to),
+            Some(piece) => piece.color == color.opponent() && self.piece_reaches(piece, from, to),
             None => false,
         }
     }
@@ -419,9 +408,9 @@ impl Board {
 
 // The cells that hold that.
 fn cells_of(contents: &[Option<Piece>; 81]) -> [Cell; 81]
-    ensures { result ≡ map cell_of contents.now }
+    ensures { result ≡ contents.now }
 {
-    let mut cells = [Cell::Empty; 81];
+    let mut cells = [Cell::of(None); 81];
     for n in 0..81usize {
         cells[n] = Cell::of(contents[n]);
     }
@@ -446,6 +435,15 @@ fn is_attacker(piece: Piece, color: Color, direction: Direction, distance: u8) -
         × Goes piece.kind (turned_for color direction) distance) }
 {
     piece.color == color.opponent() && piece.kind.goes(direction.turned_for(color), distance)
+}
+
+fn is_pawn_of(cell: Option<Piece>, color: Color) -> bool
+    ensures { IsTrue result ↔ (cell ≡ piece color Pawn) }
+{
+    match cell {
+        Some(piece) => piece.color == color && piece.kind == Kind::Pawn,
+        None => false,
+    }
 }
 
 fn is_of(cell: Option<Piece>, kind: Kind) -> bool

@@ -9,10 +9,10 @@ ghost use Rattle.shogi_board.specs.Rules.{KeepsRule, board_rules, IsFirstBroken}
 ghost use Rattle.shogi_board.specs.declared.moves.Move.{Move};
 
 use crate::color::Color;
-use crate::kind::Kind;
+use crate::kind::{Kind, Piece};
 use crate::kinds::{in_zone, last_rank, rank_for};
 use crate::moves::Move;
-use crate::position::{Position, reaches};
+use crate::position::{Position, piece_reaches};
 use crate::rule::Rule;
 use crate::square::Square;
 
@@ -86,7 +86,15 @@ fn broken_by_walk(position: &Position, from: Square, to: Square, kind: Kind) -> 
         Some(Rule::WrongKind)
     } else if own_kind_at(position, to).is_some() {
         Some(Rule::Occupied)
-    } else if !reaches(position, from, to) {
+    } else if !piece_reaches(
+        position,
+        Piece {
+            color: side,
+            kind: was,
+        },
+        from,
+        to,
+    ) {
         Some(Rule::CannotReach)
     } else if !may_promote(side, was, from, to, kind) {
         Some(Rule::BadPromotion)

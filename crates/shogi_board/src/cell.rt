@@ -1,13 +1,16 @@
-ghost use Rattle.std.specs.Prelude.{◌≡◌};
-ghost use Rattle.shogi_board.specs.Cells.{piece};
-ghost use Rattle.shogi_board.specs.Contents.{black_cell, cell_of, content, white_cell};
+ghost use Rattle.std.specs.Prelude.{◌≡◌, ◌<◌, false};
+ghost use Rattle.shogi_board.specs.Contents.{black_code, white_code};
+ghost use Rattle.shogi_board.specs.Keys.{cell_number};
+ghost use Rattle.shogi_board.specs.Totals.{is_king_of};
+ghost use Rattle.shogi_board.specs.declared.color.Color.{Color};
 
 use crate::color::Color;
 use crate::kind::{Kind, Piece};
+use std::marker::Model;
 
-// What is on a square, in one byte: nothing, or one of the 28 pieces.
+// One byte for nothing or one of the 28 pieces.
 #[derive(Clone, Copy, Debug, PartialEq, Eq, PartialOrd, Ord)]
-pub(crate) enum Cell {
+enum Code {
     Empty,
     BlackPawn,
     BlackLance,
@@ -39,96 +42,133 @@ pub(crate) enum Cell {
     WhiteDragon,
 }
 
+// What is on a square, in one byte.
+#[derive(Clone, Copy, Debug, PartialEq, Eq, PartialOrd, Ord)]
+pub(crate) struct Cell {
+    code: Code,
+}
+
+impl Model for Cell {
+    ghost use Rattle.std.specs.Prelude.{Option};
+    ghost use Rattle.shogi_board.specs.Contents.{code_of, code-back, piece_of};
+    ghost use Rattle.shogi_board.specs.declared.kind.Piece.{Piece};
+
+    ghost Value = { Option Piece };
+
+    ghost view = { λ c. piece_of c.code };
+
+    ghost inverse = { λ p. record { code = code_of p } };
+
+    ghost inverse_ok = { λ c h i. record { code = code-back c.code i } };
+}
+
 impl Cell {
     pub(crate) fn of(piece: Option<Piece>) -> Cell
-        ensures { result ≡ cell_of piece }
+        ensures { result ≡ piece }
     {
-        match piece {
+        let code = match piece {
             Some(piece) => match piece.color {
                 Color::Black => black(piece.kind),
                 Color::White => white(piece.kind),
             },
-            None => Cell::Empty,
-        }
+            None => Code::Empty,
+        };
+        Cell { code }
+    }
+
+    // 0 for nothing, and from 1 on for the pieces, black's first and each side's by their kinds.
+    #[inline(always)]
+    pub(crate) fn number(self) -> u64
+        ensures value { result ≡ cell_number self }
+        ensures bound { result < 29 }
+    {
+        self.code as u64
+    }
+
+    #[inline(always)]
+    pub(crate) fn is_king(self) -> bool
+        ensures { result ≡ false → (color : Color) → is_king_of color self ≡ false }
+    {
+        matches!(self.code, Code::BlackKing | Code::WhiteKing)
     }
 
     // The piece on the square, if there is one.
     pub(crate) fn piece(self) -> Option<Piece>
-        ensures { result ≡ content self }
+        ensures { result ≡ self }
     {
-        let (color, kind) = match self {
-            Cell::Empty => return None,
-            Cell::BlackPawn => (Color::Black, Kind::Pawn),
-            Cell::BlackLance => (Color::Black, Kind::Lance),
-            Cell::BlackKnight => (Color::Black, Kind::Knight),
-            Cell::BlackSilver => (Color::Black, Kind::Silver),
-            Cell::BlackGold => (Color::Black, Kind::Gold),
-            Cell::BlackBishop => (Color::Black, Kind::Bishop),
-            Cell::BlackRook => (Color::Black, Kind::Rook),
-            Cell::BlackKing => (Color::Black, Kind::King),
-            Cell::BlackProPawn => (Color::Black, Kind::ProPawn),
-            Cell::BlackProLance => (Color::Black, Kind::ProLance),
-            Cell::BlackProKnight => (Color::Black, Kind::ProKnight),
-            Cell::BlackProSilver => (Color::Black, Kind::ProSilver),
-            Cell::BlackHorse => (Color::Black, Kind::Horse),
-            Cell::BlackDragon => (Color::Black, Kind::Dragon),
-            Cell::WhitePawn => (Color::White, Kind::Pawn),
-            Cell::WhiteLance => (Color::White, Kind::Lance),
-            Cell::WhiteKnight => (Color::White, Kind::Knight),
-            Cell::WhiteSilver => (Color::White, Kind::Silver),
-            Cell::WhiteGold => (Color::White, Kind::Gold),
-            Cell::WhiteBishop => (Color::White, Kind::Bishop),
-            Cell::WhiteRook => (Color::White, Kind::Rook),
-            Cell::WhiteKing => (Color::White, Kind::King),
-            Cell::WhiteProPawn => (Color::White, Kind::ProPawn),
-            Cell::WhiteProLance => (Color::White, Kind::ProLance),
-            Cell::WhiteProKnight => (Color::White, Kind::ProKnight),
-            Cell::WhiteProSilver => (Color::White, Kind::ProSilver),
-            Cell::WhiteHorse => (Color::White, Kind::Horse),
-            Cell::WhiteDragon => (Color::White, Kind::Dragon),
+        let (color, kind) = match self.code {
+            Code::Empty => return None,
+            Code::BlackPawn => (Color::Black, Kind::Pawn),
+            Code::BlackLance => (Color::Black, Kind::Lance),
+            Code::BlackKnight => (Color::Black, Kind::Knight),
+            Code::BlackSilver => (Color::Black, Kind::Silver),
+            Code::BlackGold => (Color::Black, Kind::Gold),
+            Code::BlackBishop => (Color::Black, Kind::Bishop),
+            Code::BlackRook => (Color::Black, Kind::Rook),
+            Code::BlackKing => (Color::Black, Kind::King),
+            Code::BlackProPawn => (Color::Black, Kind::ProPawn),
+            Code::BlackProLance => (Color::Black, Kind::ProLance),
+            Code::BlackProKnight => (Color::Black, Kind::ProKnight),
+            Code::BlackProSilver => (Color::Black, Kind::ProSilver),
+            Code::BlackHorse => (Color::Black, Kind::Horse),
+            Code::BlackDragon => (Color::Black, Kind::Dragon),
+            Code::WhitePawn => (Color::White, Kind::Pawn),
+            Code::WhiteLance => (Color::White, Kind::Lance),
+            Code::WhiteKnight => (Color::White, Kind::Knight),
+            Code::WhiteSilver => (Color::White, Kind::Silver),
+            Code::WhiteGold => (Color::White, Kind::Gold),
+            Code::WhiteBishop => (Color::White, Kind::Bishop),
+            Code::WhiteRook => (Color::White, Kind::Rook),
+            Code::WhiteKing => (Color::White, Kind::King),
+            Code::WhiteProPawn => (Color::White, Kind::ProPawn),
+            Code::WhiteProLance => (Color::White, Kind::ProLance),
+            Code::WhiteProKnight => (Color::White, Kind::ProKnight),
+            Code::WhiteProSilver => (Color::White, Kind::ProSilver),
+            Code::WhiteHorse => (Color::White, Kind::Horse),
+            Code::WhiteDragon => (Color::White, Kind::Dragon),
         };
         Some(Piece { color, kind })
     }
 }
 
-fn black(kind: Kind) -> Cell
-    ensures { result ≡ black_cell kind }
+fn black(kind: Kind) -> Code
+    ensures { result ≡ black_code kind }
 {
     match kind {
-        Kind::Pawn => Cell::BlackPawn,
-        Kind::Lance => Cell::BlackLance,
-        Kind::Knight => Cell::BlackKnight,
-        Kind::Silver => Cell::BlackSilver,
-        Kind::Gold => Cell::BlackGold,
-        Kind::Bishop => Cell::BlackBishop,
-        Kind::Rook => Cell::BlackRook,
-        Kind::King => Cell::BlackKing,
-        Kind::ProPawn => Cell::BlackProPawn,
-        Kind::ProLance => Cell::BlackProLance,
-        Kind::ProKnight => Cell::BlackProKnight,
-        Kind::ProSilver => Cell::BlackProSilver,
-        Kind::Horse => Cell::BlackHorse,
-        Kind::Dragon => Cell::BlackDragon,
+        Kind::Pawn => Code::BlackPawn,
+        Kind::Lance => Code::BlackLance,
+        Kind::Knight => Code::BlackKnight,
+        Kind::Silver => Code::BlackSilver,
+        Kind::Gold => Code::BlackGold,
+        Kind::Bishop => Code::BlackBishop,
+        Kind::Rook => Code::BlackRook,
+        Kind::King => Code::BlackKing,
+        Kind::ProPawn => Code::BlackProPawn,
+        Kind::ProLance => Code::BlackProLance,
+        Kind::ProKnight => Code::BlackProKnight,
+        Kind::ProSilver => Code::BlackProSilver,
+        Kind::Horse => Code::BlackHorse,
+        Kind::Dragon => Code::BlackDragon,
     }
 }
 
-fn white(kind: Kind) -> Cell
-    ensures { result ≡ white_cell kind }
+fn white(kind: Kind) -> Code
+    ensures { result ≡ white_code kind }
 {
     match kind {
-        Kind::Pawn => Cell::WhitePawn,
-        Kind::Lance => Cell::WhiteLance,
-        Kind::Knight => Cell::WhiteKnight,
-        Kind::Silver => Cell::WhiteSilver,
-        Kind::Gold => Cell::WhiteGold,
-        Kind::Bishop => Cell::WhiteBishop,
-        Kind::Rook => Cell::WhiteRook,
-        Kind::King => Cell::WhiteKing,
-        Kind::ProPawn => Cell::WhiteProPawn,
-        Kind::ProLance => Cell::WhiteProLance,
-        Kind::ProKnight => Cell::WhiteProKnight,
-        Kind::ProSilver => Cell::WhiteProSilver,
-        Kind::Horse => Cell::WhiteHorse,
-        Kind::Dragon => Cell::WhiteDragon,
+        Kind::Pawn => Code::WhitePawn,
+        Kind::Lance => Code::WhiteLance,
+        Kind::Knight => Code::WhiteKnight,
+        Kind::Silver => Code::WhiteSilver,
+        Kind::Gold => Code::WhiteGold,
+        Kind::Bishop => Code::WhiteBishop,
+        Kind::Rook => Code::WhiteRook,
+        Kind::King => Code::WhiteKing,
+        Kind::ProPawn => Code::WhiteProPawn,
+        Kind::ProLance => Code::WhiteProLance,
+        Kind::ProKnight => Code::WhiteProKnight,
+        Kind::ProSilver => Code::WhiteProSilver,
+        Kind::Horse => Code::WhiteHorse,
+        Kind::Dragon => Code::WhiteDragon,
     }
 }

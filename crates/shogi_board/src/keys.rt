@@ -5,6 +5,7 @@ ghost use Rattle.std.specs.Prelude.{◌≡◌, ◌%◌, ◌^◌, ◌<◌};
 ghost use Rattle.shogi_board.specs.Keys.{mixed, color_number, kind_number, piece_key, cell_key, cells_key, held_key, counts_key, side_key};
 ghost use Rattle.shogi_board.specs.KeySteps.{captured_key};
 
+use crate::cell::Cell;
 use crate::color::Color;
 use crate::kind::{Kind, Piece};
 
@@ -52,14 +53,15 @@ pub(crate) fn piece_key(place: usize, piece: Piece) -> u64
 
 // What is on the square of that place counts.
 #[inline(always)]
-pub(crate) fn cell_key(place: usize, cell: Option<Piece>) -> u64
+pub(crate) fn cell_key(place: usize, cell: Cell) -> u64
     requires { place < 81 }
     ensures { result ≡ cell_key place cell }
 {
-    match cell {
-        Some(piece) => piece_key(place, piece),
-        None => 0,
+    let number = cell.number();
+    if number == 0 {
+        return 0;
     }
+    mixed(place as u64 * 28 + number + 16)
 }
 
 // What a piece in the hand of that side counts, whose kind has that place.

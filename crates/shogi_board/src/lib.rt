@@ -25,7 +25,7 @@ mod hand;
 mod keys;
 mod kind;
 mod kinds;
-mod landmarks;
+mod king_squares;
 pub mod laws;
 mod memory;
 mod moves;

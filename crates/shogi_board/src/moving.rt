@@ -41,25 +41,26 @@ impl Position {
     {
         let side = self.side;
         let moved = Piece { color: side, kind };
-        let left = self.board.at(from);
-        let captured = self.board.at(to);
+        let left = self.board.cell_at(from);
+        let captured = self.board.cell_at(to);
         self.board.put(from, None);
         self.board.put(to, Some(moved));
         if self.board.king_is_attacked(side, danger) {
-            self.board.put(to, captured);
-            self.board.put(from, left);
+            self.board.put(to, captured.piece());
+            self.board.put(from, left.piece());
             return false;
         }
+        let taken = captured.piece();
         self.key = self
             .key
             .wrapping_add(piece_key(to.place(), moved))
-            .wrapping_add(captured_key(side, captured))
+            .wrapping_add(captured_key(side, taken))
             .wrapping_sub(cell_key(from.place(), left))
             .wrapping_sub(cell_key(to.place(), captured))
             .wrapping_add(TURN);
         match side {
-            Color::Black => add_captured(&mut self.black, captured),
-            Color::White => add_captured(&mut self.white, captured),
+            Color::Black => add_captured(&mut self.black, taken),
+            Color::White => add_captured(&mut self.white, taken),
         }
         self.side = side.opponent();
         true

@@ -10,8 +10,9 @@ ghost use Rattle.shogi_board.specs.declared.kind.Kind.TheVariants.{King};
 ghost use Rattle.shogi_board.specs.declared.square.Square.{Square};
 
 use crate::danger::Danger;
+use crate::kind::Piece;
 use crate::moves::Move;
-use crate::position::{Position, attacked_towards, reaches};
+use crate::position::{Position, attacked_towards, piece_reaches};
 
 // Makes the position the one after a move that fits the board, if it leaves the mover's king safe,
 // and returns whether it does; else the position stays as it was. The danger says where that king
@@ -44,7 +45,11 @@ pub(crate) fn gives_check(next: &Position, mv: &Move) -> bool
     let Some(king) = next.king(side) else {
         return false;
     };
-    if reaches(next, mv.target(), king) {
+    let piece = Piece {
+        color: side.opponent(),
+        kind: mv.kind(),
+    };
+    if piece_reaches(next, piece, mv.target(), king) {
         return true;
     }
     match mv.source() {

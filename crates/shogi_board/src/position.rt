@@ -1,4 +1,4 @@
-ghost use Rattle.std.specs.Prelude.{◌≡◌, ◌↔◌, IsTrue, MatchOption};
+ghost use Rattle.std.specs.Prelude.{◌≡◌, ◌↔◌, IsTrue, MatchOption, Some};
 ghost use Rattle.shogi_board.specs.Cells.{at, piece, HasPawnOnFile};
 ghost use Rattle.shogi_board.specs.Danger.{SeenTowards};
 ghost use Rattle.shogi_board.specs.Material.{bag_of};
@@ -179,6 +179,15 @@ pub fn reaches(position: &Position, from: Square, to: Square) -> bool
     ensures answer { IsTrue result ↔ Reach position.now.material.board from to }
 {
     position.board.reaches(from, to)
+}
+
+// As `reaches`, for the piece that is on `from`.
+#[inline(always)]
+pub(crate) fn piece_reaches(position: &Position, piece: Piece, from: Square, to: Square) -> bool
+    requires { at position.now.material.board from ≡ Some piece }
+    ensures { IsTrue result ↔ Reach position.now.material.board from to }
+{
+    position.board.piece_reaches(piece, from, to)
 }
 
 /// Whether some enemy piece of `color` reaches the square.

@@ -2,8 +2,9 @@
 use Rattle.std.proofs.Common.{◌≡◌, ◌≢◌, ℕ, ◌↔◌, IsTrue, Bool, true, false, not, Option, Some, None, ◌⊎◌, inl, inr, set, get_or, refl, ap, sym, ◌∙◌, subst, get_or-set_same, get_or-set_other}
 use Rattle.std.specs.Prelude.{MatchOption}
 use Rattle.std.proofs.lemmas.Bool.{cases_eq}
+use Rattle.std.proofs.lemmas.Option.{same_Some}
 use Rattle.shogi_board.specs.Between.{Between}
-use Rattle.shogi_board.specs.Cells.{Cells, at, piece}
+use Rattle.shogi_board.specs.Cells.{at, piece}
 use Rattle.shogi_board.specs.Moves.{turned_for}
 use Rattle.shogi_board.specs.Pieces.{opponent, promoted}
 use Rattle.shogi_board.specs.Placed.{Placed}
@@ -12,11 +13,11 @@ use Rattle.shogi_board.specs.Sound.{IsSound}
 use Rattle.shogi_board.specs.Squares.{place}
 use Rattle.shogi_board.specs.Totals.{IsWithinTotals}
 use Rattle.shogi_board.specs.declared.color.Color.{Color}
-use Rattle.shogi_board.specs.declared.color.Color.TheVariants.{Black, White}
 use Rattle.shogi_board.specs.declared.kind.Kind.{Kind}
 use Rattle.shogi_board.specs.declared.kind.Kind.TheVariants.{King}
 use Rattle.shogi_board.specs.declared.kind.Piece.{Piece}
 use Rattle.shogi_board.specs.declared.square.Square.{Square}
+use Rattle.shogi_board.proofs.AfterMove.{not-none, not-opponent}
 use Rattle.shogi_board.proofs.Check.{king-check-for}
 use Rattle.shogi_board.proofs.Rays.{ray-at}
 use Rattle.shogi_board.proofs.Squares.{place-same}
@@ -27,20 +28,6 @@ use Rattle.shogi_board.specs.declared.moves.Move.{Move}
 use Rattle.shogi_board.specs.declared.moves.Move.TheVariants.{Walk, Put}
 use Rattle.shogi_board.proofs.Forms.{piece-kind}
 use Rattle.shogi_board.proofs.Walks.{on-board}
-
-some-same : (p q : Piece) → Some p ≡ Some q → p ≡ q
-some-same p q e = cc
-
-not-opponent : (c : Color) → c ≡ opponent c → ⊥
-not-opponent Black e = cc
-not-opponent White e = cc
-
-not-none : (a : Option Piece) (x : Piece) → a ≡ None → a ≡ Some x → ⊥
-not-none a x e h = cc
-
--- what is on one place is on no other
-at-place : (cells : Cells) (s t : Square) → place s ≡ place t → at cells s ≡ at cells t
-at-place cells s t e = ap (λ (n : ℕ). get_or cells n None) e
 
 -- 1. What the other squares hold after a move
 -- an empty square that is not the target stays empty
@@ -77,7 +64,7 @@ enemy-stays : (p : Placed) (m : Move) (s : Square) (x : Piece) → FitsBoard p m
 enemy-stays p (Walk from to k) s x fits there enemy e =
     let own : at p.material.board from ≡ piece p.side fits.kind_fits.0 = fits.kind_fits.1 in
     let here : at p.material.board from ≡ Some x = ap (at p.material.board) e ∙ there in
-    let same : record { color = p.side; kind = fits.kind_fits.0 } ≡ x = some-same _ x (sym own ∙ here) in
+    let same : record { color = p.side; kind = fits.kind_fits.0 } ≡ x = same_Some _ x (sym own ∙ here) in
     not-opponent p.side (ap (λ (y : Piece). y.color) same ∙ enemy)
 enemy-stays p (Put to k) s x fits there enemy e = e
 
@@ -145,6 +132,10 @@ walk-form p from to was k stands fits =
 abbrev pub KeptWalk : Placed → Square → Square → Type 0
 KeptWalk p from to = (k : Kind) × Keeps p (Walk from to k)
 
+-- some move to the square that keeps the rules
+abbrev pub KeptTo : Placed → Square → Type 0
+KeptTo p to = (m : Move) × (target m ≡ to) × Keeps p m
+
 -- where a walk as the piece it was does not, some walk keeps the rules exactly where the promoted
 -- one does
 pub kept-if-promoted : (p : Placed) (from to : Square) (was : Kind) (promotion : Option Kind) (b : Bool) (Then : Kind → Type 0) → at p.material.board from ≡ piece p.side was → (Keeps p (Walk from to was) → ⊥) → promotion ≡ promoted was
@@ -167,31 +158,20 @@ kept-if-promoted p from to was (Some k) b Then stands bare promotion h keeps = (
   ],
 )
 
-pub moves-from-walk : (p : Placed) (s : Square) (m : Move) → MovesFrom s m → Keeps p m → (to : Square) × (k : Kind) × Keeps p (Walk s to k)
-moves-from-walk p s (Walk from to k) e kept = (to, k, subst (λ (f : Square). Keeps p (Walk f to k)) e kept)
-moves-from-walk p s (Put to k) e kept = absurd e
+walk-of : (p : Placed) (s : Square) (m : Move) → MovesFrom s m → Keeps p m → KeptWalk p s (target m)
+walk-of p s (Walk from to k) e kept = (k, subst (λ (f : Square). Keeps p (Walk f to k)) e kept)
+walk-of p s (Put to k) e kept = absurd e
 
 pub by-target : (p : Placed) (to : Square) (m : Move) → target m ≡ to → Keeps p m → ((from : Square) × (k : Kind) × Keeps p (Walk from to k)) ⊎ ((k : Kind) × Keeps p (Put to k))
 by-target p to (Walk from t k) e kept = inl (from, k, subst (λ (u : Square). Keeps p (Walk from u k)) e kept)
 by-target p to (Put t k) e kept = inr (k, subst (λ (u : Square). Keeps p (Put u k)) e kept)
 
--- a move to a square that stops the check
-pub stops-by : (a s to : Square) (m : Move) → target m ≡ to → StopsCheck a s to → StopsCheck a s (target m)
-stops-by a s to m e h = subst (λ (t : Square). StopsCheck a s t) (sym e) h
-
-pub stops-at : (a s to : Square) (m : Move) → target m ≡ to → StopsCheck a s (target m) → StopsCheck a s to
-stops-at a s to m e h = subst (λ (t : Square). StopsCheck a s t) e h
-
--- where no walk of the king keeps the rules, and some move does, one stops the check
-pub some-stop : (p : Placed) (a s : Square) (escapes stops : Bool) → IsSound p → at p.material.board s ≡ piece p.side King → Attack p.material.board p.side a s
-    → (IsTrue escapes ↔ ((to : Square) × (k : Kind) × Keeps p (Walk s to k))) → (IsTrue stops ↔ ((m : Move) × StopsCheck a s (target m) × Keeps p m))
-    → escapes ≡ false → ((m : Move) × Keeps p m) → IsTrue stops
-some-stop p a s escapes true sound king attack e d none some = refl
-some-stop p a s true stops sound king attack e d none some = absurd (let bad : true ≡ false = none in cc)
-some-stop p a s false false sound king attack e d none some =
-    absurd (no-other-evasion p some.0 a s sound some.1 king attack
-    (λ from. let yes = e.1 (moves-from-walk p s some.0 from some.1) in cc)
-    (λ stop. let yes = d.1 (some.0, stop, some.1) in cc))
+-- where no walk of the king to the square keeps the rules, a move there that does stops the check
+pub stops-there : (p : Placed) (a s to : Square) (m : Move) → IsSound p → at p.material.board s ≡ piece p.side King → Attack p.material.board p.side a s → (KeptWalk p s to → ⊥) → target m ≡ to → Keeps p m → (StopsCheck a s to → ⊥) → ⊥
+stops-there p a s to m sound king attack stays e kept past =
+    no-other-evasion p m a s sound kept king attack
+    (λ from. stays (subst (KeptWalk p s) e (walk-of p s m from kept)))
+    (λ stop. past (subst (StopsCheck a s) e stop))
 
 -- a side is in check exactly where it has a king, and that is attacked
 pub king-check-if : (p : Placed) (color : Color) (king : Option Square) (b : Bool) (Then : Square → Type 0) → IsWithinTotals p.material → color ≡ p.side → MatchOption king ((s : Square) → at p.material.board s ≡ piece color King → ⊥) (λ s. at p.material.board s ≡ piece color King)

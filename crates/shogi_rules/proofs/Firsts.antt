@@ -3,6 +3,7 @@
 use Rattle.std.proofs.Common.{◌≡◌, ℕ, ◌<◌, ◌≤◌, true, false, get_or, Option, Some, None, ◌⊎◌, inl, inr, arith, refl, ap, sym, ◌∙◌, subst}
 use Rattle.std.specs.Prelude.{MatchOption}
 use Rattle.std.proofs.lemmas.Bool.{cases_order}
+use Rattle.std.proofs.lemmas.Option.{same_Some}
 use Rattle.shogi_board.specs.Cells.{at, piece}
 use Rattle.shogi_board.specs.Pieces.{is_hand_kind, is_promoted, place_of, promoted}
 use Rattle.shogi_board.specs.Material.{bag_of}
@@ -10,7 +11,7 @@ use Rattle.shogi_board.specs.Placed.{Placed}
 use Rattle.shogi_board.specs.Squares.{place}
 use Rattle.shogi_board.specs.Totals.{hand_kinds}
 use Rattle.shogi_board.specs.declared.kind.Kind.{Kind}
-use Rattle.shogi_board.specs.declared.kind.Kind.TheVariants.{Pawn, Lance, Knight, Silver, Gold, Bishop, Rook, King, ProPawn, ProLance, ProKnight, ProSilver, Horse, Dragon}
+use Rattle.shogi_board.specs.declared.kind.Kind.TheVariants.{Pawn}
 use Rattle.shogi_board.specs.declared.square.Square.{Square}
 use Rattle.shogi_board.proofs.Squares.{place-same}
 use Rattle.shogi_rules.specs.Evasions.{MovesFrom}
@@ -27,20 +28,8 @@ use Rattle.shogi_board.proofs.Forms.{held-low}
 -- 1. Forms
 -- what promotes is not promoted, and what it becomes is
 pub promotes : (was k : Kind) → promoted was ≡ Some k → (is_promoted was ≡ false) × (is_promoted k ≡ true)
-promotes Pawn k h = let d : ProPawn ≡ k = cc in (refl, rw (← d) refl)
-promotes Lance k h = let d : ProLance ≡ k = cc in (refl, rw (← d) refl)
-promotes Knight k h = let d : ProKnight ≡ k = cc in (refl, rw (← d) refl)
-promotes Silver k h = let d : ProSilver ≡ k = cc in (refl, rw (← d) refl)
-promotes Gold k h = cc
-promotes Bishop k h = let d : Horse ≡ k = cc in (refl, rw (← d) refl)
-promotes Rook k h = let d : Dragon ≡ k = cc in (refl, rw (← d) refl)
-promotes King k h = cc
-promotes ProPawn k h = cc
-promotes ProLance k h = cc
-promotes ProKnight k h = cc
-promotes ProSilver k h = cc
-promotes Horse k h = cc
-promotes Dragon k h = cc
+promotes Pawn k h = (cc, cc)
+promotes _ k h = (cc, cc)
 
 abbrev Unpromoted : Kind → Type 0
 Unpromoted k = is_promoted k ≡ false
@@ -229,9 +218,6 @@ first-of-both p (Some m) found Else first h drops =
     subst (λ (o : Option Move). MatchOption o (NoLegalMove p) (λ n. IsFirstLegal p n)) (sym h) (first-walk-first p m first)
 
 -- 5. One is the first
-some-kind : (a b : Kind) → Some a ≡ Some b → a ≡ b
-some-kind a b e = cc
-
 abbrev Ordered : Move → Move → Type 0
 Ordered m n = (m ≡ n) ⊎ (IsBefore m n ⊎ IsBefore n m)
 
@@ -239,23 +225,11 @@ ordered-forms : (f t : Square) (was k l : Kind) → (k ≡ was) ⊎ (promoted wa
 ordered-forms f t was k l (inl a) (inl b) = inl (ap (λ (x : Kind). Walk f t x) (a ∙ sym b))
 ordered-forms f t was k l (inl a) (inr b) = let q = promotes was l b in inr (inl (inr (refl, inr (refl, ap is_promoted a ∙ q.0, q.1))))
 ordered-forms f t was k l (inr a) (inl b) = let q = promotes was k a in inr (inr (inr (refl, inr (refl, ap is_promoted b ∙ q.0, q.1))))
-ordered-forms f t was k l (inr a) (inr b) = inl (ap (λ (x : Kind). Walk f t x) (some-kind k l (sym a ∙ b)))
+ordered-forms f t was k l (inr a) (inr b) = inl (ap (λ (x : Kind). Walk f t x) (same_Some k l (sym a ∙ b)))
 
 held-at : (k : Kind) → is_hand_kind k ≡ true → get_or hand_kinds (place_of k) Pawn ≡ k
-held-at Pawn h = refl
-held-at Lance h = refl
-held-at Knight h = refl
-held-at Silver h = refl
-held-at Gold h = refl
-held-at Bishop h = refl
-held-at Rook h = refl
-held-at King h = cc
-held-at ProPawn h = cc
-held-at ProLance h = cc
-held-at ProKnight h = cc
-held-at ProSilver h = cc
-held-at Horse h = cc
-held-at Dragon h = cc
+held-at Pawn h = cc
+held-at _ h = cc
 
 drop-kind : (p : Placed) (t u : Square) (k l : Kind) → FitsBoard p (Put t k) → FitsBoard p (Put u l) → place_of k ≡ place_of l → k ≡ l
 drop-kind p t u k l a b e =

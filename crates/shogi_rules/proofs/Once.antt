@@ -1,5 +1,6 @@
 -- One answer each: the first broken rule, what playing answers, the first legal move.
 use Rattle.std.proofs.Common.{◌≡◌, List, [], ◌∷◌, Option, Some, None, arith, refl, ap, sym, ◌∙◌, inl, inr}
+use Rattle.std.proofs.lemmas.Option.{same_Some}
 use Rattle.shogi_board.specs.Placed.{Placed}
 use Rattle.shogi_board.specs.declared.color.Color.{Color}
 use Rattle.shogi_rules.specs.Order.{IsFirstLegal}
@@ -23,25 +24,17 @@ one-broken kept (x ∷ xs) a b (inr h) (inr k) = one-broken kept xs a b h.1 k.1
 broken-once : (line : Played) (color : Color) (m : Move) (a b : Option Rule) → IsFirstBroken (Kept line color m) all_rules a → IsFirstBroken (Kept line color m) all_rules b → a ≡ b
 broken-once line color m a b h k = one-broken (Kept line color m) all_rules a b h k
 
-some-rule : (a b : Rule) → Some a ≡ Some b → a ≡ b
-some-rule a b e = cc
-
 pub one-answer : (line : Played) (color : Color) (m : Move) (a b : Option PlayFault) → Answers line color m a → Answers line color m b → a ≡ b
 one-answer line color m None None h k = refl
-one-answer line color m None (Some TooManyMoves) h k = absurd (omega (arith, h.0, k))
 one-answer line color m None (Some (Broken r)) h k = let e = broken-once line color m None (Some r) h.1 k.1 in cc
-one-answer line color m (Some TooManyMoves) None h k = absurd (omega (arith, h, k.0))
 one-answer line color m (Some TooManyMoves) (Some TooManyMoves) h k = refl
-one-answer line color m (Some TooManyMoves) (Some (Broken r)) h k = absurd (omega (arith, h, k.0))
 one-answer line color m (Some (Broken q)) None h k = let e = broken-once line color m (Some q) None h.1 k.1 in cc
-one-answer line color m (Some (Broken q)) (Some TooManyMoves) h k = absurd (omega (arith, h.0, k))
 one-answer line color m (Some (Broken q)) (Some (Broken r)) h k =
-    let e = some-rule q r (broken-once line color m (Some q) (Some r) h.1 k.1) in
+    let e = same_Some q r (broken-once line color m (Some q) (Some r) h.1 k.1) in
     ap (λ (x : Rule). Some (Broken x)) e
 one-answer line color m (Some OutOfMemory) b h k = absurd h
-one-answer line color m None (Some OutOfMemory) h k = absurd k
-one-answer line color m (Some TooManyMoves) (Some OutOfMemory) h k = absurd k
-one-answer line color m (Some (Broken q)) (Some OutOfMemory) h k = absurd k
+one-answer line color m a (Some OutOfMemory) h k = absurd k
+one-answer line color m a b h k = absurd (omega (arith, h, k))
 
 pub first-once : (p : Placed) (m n : Move) → IsFirstLegal p m → IsFirstLegal p n → m ≡ n
 first-once p m n a b =

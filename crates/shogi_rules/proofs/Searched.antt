@@ -1,35 +1,23 @@
 -- The search for a position in a tree: where it ends it found the position, or no entry has it; and
 -- a tree with one entry more.
 use Rattle.std.proofs.Common.{◌≡◌, ℕ, set, suc, ◌+◌, ◌-◌, ◌*◌, ◌<◌, ◌≤◌, List, [], ◌∷◌, ◌++◌, Some, slice_get, arith, refl, sym, ap, ◌∙◌, get_or, length, length-set, replicate, inl, inr, subst, zero}
-use Rattle.std.specs.Cmp.{nat_cmp_is, IsTotalOrder}
+use Rattle.std.specs.Cmp.{nat_cmp_is}
 use Rattle.std.specs.Ordering.{ordering_then, nat_cmp}
 use Rattle.std.specs.declared.cmp.Ordering.{Ordering}
 use Rattle.std.specs.declared.cmp.Ordering.TheVariants.{Less, Equal, Greater}
 use Rattle.std.proofs.lemmas.Bool.{cases_lt}
-use Rattle.std.proofs.lemmas.Cmp.{nat_cmp_total, then_total}
 use Rattle.std.proofs.lemmas.List.{length-append, length-replicate}
 use Rattle.std.proofs.lemmas.Option.{same_Some, slice_get-get_or, slice_get_within}
 use Rattle.shogi_board.specs.Keys.{key_of}
 use Rattle.shogi_board.specs.Placed.{Placed}
 use Rattle.shogi_board.specs.contracts.position.PositionOrd.TheImpl.{cmp-value}
-use Rattle.shogi_board.proofs.Same.{exact-positions, total-positions}
+use Rattle.shogi_board.proofs.Same.{exact-positions}
 use Rattle.shogi_rules.specs.Counting.{StandsAt}
 use Rattle.shogi_rules.specs.Repetition.{times}
 use Rattle.shogi_rules.specs.Searching.{Comes, Finds, GoesOn, IsFree, IsTree, LeadsTo, first_link, first_links, keys, order}
 use Rattle.shogi_rules.specs.declared.occurrences.Entry.{Entry}
 use Rattle.shogi_rules.proofs.Counted.{get-here, get-left, get-following, get-other, get-set, equal-or, last-entry}
 use Rattle.shogi_rules.proofs.Counting.{none-stands, was-at}
-
--- positions are in a total order
-by-key : IsTotalOrder (λ (p q : Placed). nat_cmp (key_of p) (key_of q))
-by-key = record {
-  antisymm = λ p q. nat_cmp_total.antisymm (key_of p) (key_of q);
-  trans = λ p q r. nat_cmp_total.trans (key_of p) (key_of q) (key_of r);
-  congr = λ p q r. nat_cmp_total.congr (key_of p) (key_of q) (key_of r);
-}
-
-pub total-order : IsTotalOrder order
-total-order = then_total by-key total-positions
 
 second-equal : (a b : Ordering) → ordering_then a b ≡ Equal → b ≡ Equal
 second-equal Less b e = cc

@@ -1,6 +1,7 @@
 -- Each line has a verdict.
 use Rattle.std.proofs.Common.{◌≡◌, ℕ, zero, suc, ◌+◌, ◌<◌, ◌≤◌, inl, inr, Bool, true, false, cond, List, [], ◌∷◌, Option, Some, None, length, take, slice_get, arith, refl, ap, sym, ◌∙◌}
 use Rattle.std.proofs.lemmas.Bool.{cases_lt}
+use Rattle.std.proofs.lemmas.Option.{same_Some}
 use Rattle.shogi_board.specs.Pieces.{opponent}
 use Rattle.shogi_board.specs.Placed.{Placed}
 use Rattle.shogi_board.specs.Reach.{InCheck}
@@ -57,17 +58,14 @@ some-place (x ∷ ps) p n low =
     let f = first ps x p in
     place-from ps x p n (same_position x p) refl (omega (arith, low, f)) (λ m less. some-place ps p m less)
 
-some-placed : (x y : Placed) → Some x ≡ Some y → x ≡ y
-some-placed x y h = cc
-
 pressed-at : (ps : List Placed) (color : Color) (place : ℕ) (a b : Option Placed) → slice_get ps place ≡ a → slice_get ps (place + 1) ≡ b → Decision (PressedAt ps color place)
 pressed-at ps color place None b e f = inl (λ p q hp hq side. let g : None ≡ Some p = sym e ∙ hp in cc)
 pressed-at ps color place (Some x) None e f = inl (λ p q hp hq side. let g : None ≡ Some q = sym f ∙ hq in cc)
 pressed-at ps color place (Some x) (Some y) e f =
     decide-as (x.side ≡ color → InCheck y.material.board y.side) (PressedAt ps color place)
     (λ h p q hp hq side.
-    let same : x ≡ p = some-placed x p (sym e ∙ hp) in
-    let next : y ≡ q = some-placed y q (sym f ∙ hq) in
+    let same : x ≡ p = same_Some x p (sym e ∙ hp) in
+    let next : y ≡ q = same_Some y q (sym f ∙ hq) in
     let own : x.side ≡ color = rw same side in
     let check : InCheck y.material.board y.side = h own in
     let there : InCheck q.material.board q.side = rw next at check in

@@ -38,10 +38,9 @@ pub stretch-once : (line : Played) (f l f2 l2 : ℕ) → IsStretch line f l → 
 stretch-once line f l f2 l2 a b = (nth-once (all_of line) (now_of line) 1 f f2 a.begins b.begins, nth-once (all_of line) (now_of line) 4 l l2 a.ends b.ends)
 
 alone-once : (ps : List Placed) (first fourth : ℕ) (c d : Color) → PressedAlone ps first fourth c → PressedAlone ps first fourth d → c ≡ d
-alone-once ps first fourth Black Black a b = refl
 alone-once ps first fourth Black White a b = absurd (a.1 b.0)
 alone-once ps first fourth White Black a b = absurd (a.1 b.0)
-alone-once ps first fourth White White a b = refl
+alone-once ps first fourth _ _ a b = refl
 
 perpetual-once : (line : Played) (c d : Color) → IsPerpetual line c → IsPerpetual line d → c ≡ d
 perpetual-once line c d a b =
@@ -67,27 +66,17 @@ one-by-moves p NoMove Mate a b = absurd (a.0 b.0)
 one-by-moves p NoMove NoMove a b = refl
 one-by-moves p Repetition v a b = absurd a
 one-by-moves p (Perpetual c) v a b = absurd a
-one-by-moves p Ongoing Repetition a b = absurd b
-one-by-moves p Ongoing (Perpetual c) a b = absurd b
-one-by-moves p Mate Repetition a b = absurd b
-one-by-moves p Mate (Perpetual c) a b = absurd b
-one-by-moves p NoMove Repetition a b = absurd b
-one-by-moves p NoMove (Perpetual c) a b = absurd b
+one-by-moves p _ Repetition a b = absurd b
+one-by-moves p _ (Perpetual c) a b = absurd b
 
 one-by-stretch : (line : Played) (u v : Verdict) → StandsByStretch line u → StandsByStretch line v → u ≡ v
 one-by-stretch line Repetition Repetition a b = refl
 one-by-stretch line Repetition (Perpetual c) a b = absurd (perpetual-or-not line c b a)
 one-by-stretch line (Perpetual c) Repetition a b = absurd (perpetual-or-not line c a b)
 one-by-stretch line (Perpetual c) (Perpetual d) a b = ap Perpetual (perpetual-once line c d a b)
-one-by-stretch line Ongoing v a b = absurd a
-one-by-stretch line Mate v a b = absurd a
-one-by-stretch line NoMove v a b = absurd a
-one-by-stretch line Repetition Ongoing a b = absurd b
-one-by-stretch line Repetition Mate a b = absurd b
-one-by-stretch line Repetition NoMove a b = absurd b
-one-by-stretch line (Perpetual c) Ongoing a b = absurd b
-one-by-stretch line (Perpetual c) Mate a b = absurd b
-one-by-stretch line (Perpetual c) NoMove a b = absurd b
+one-by-stretch line Repetition v a b = absurd b
+one-by-stretch line (Perpetual c) v a b = absurd b
+one-by-stretch line _ v a b = absurd a
 
 pub one-verdict : (line : Played) (u v : Verdict) → Stands line u → Stands line v → u ≡ v
 one-verdict line u v (inl a) (inl b) = one-by-stretch line u v a.1 b.1

@@ -1,7 +1,7 @@
 -- For private functions and fields of `Occurrences`: positions in search trees.
 -- A reader of the public contracts may skip this file.
 --
--- The entries are in the order of their coming, and links lead to them. The first 256 links lead to
+-- The entries are in the order of their coming, and links lead to them. The first 1,024 links lead to
 -- the first entry of each part of the keys. After them come two links for each entry: one to the
 -- positions that are less than its own, and one to those that are greater.
 use Rattle.std.specs.Prelude.{◌≡◌, ℕ, ◌+◌, ◌*◌, ◌/◌, ◌<◌, List, [], ◌∷◌, Some, length, slice_get}
@@ -15,11 +15,11 @@ use Rattle.shogi_rules.specs.declared.occurrences.Entry.{Entry}
 
 -- how many parts the keys have, each with a tree of its own
 abbrev pub first_links : ℕ
-first_links = 256
+first_links = 1024
 
 -- in which part a position's key lies
 abbrev pub first_link : Placed → ℕ
-first_link p = key_of p / 72057594037927936
+first_link p = key_of p / 18014398509481984
 
 -- positions are ordered by their keys, and those of one key as positions are
 abbrev pub order : Placed → Placed → Ordering

@@ -38,41 +38,25 @@ fn has_evasion(situation: &Situation, king: Square, checker: Square) -> bool
     requires check { Attack situation.now.material.board situation.now.side checker king }
     ensures { IsTrue result ↔ ((m : Move) × Keeps situation.now m) }
 {
-    king_escapes(situation, king) || can_stop_check(situation, king, checker)
-}
-
-// Whether a walk of the king keeps the rules 3 to 10.
-fn king_escapes(situation: &Situation, king: Square) -> bool
-    ensures { IsTrue result ↔ ((to : Square) × (kind : Kind)
-        × Keeps situation.now (Move.Walk king to kind)) }
-{
     for n in 0..81usize {
-        if keeps_walk(situation, king, Square::at_place(n)) {
+        if can_evade_to(situation, king, checker, Square::at_place(n)) {
             return true;
         }
     }
     false
 }
 
-// Whether a move that captures the checking piece, or puts a piece between, keeps the rules 3 to
-// 10.
-fn can_stop_check(situation: &Situation, king: Square, checker: Square) -> bool
-    ensures { IsTrue result ↔ ((m : Move) × StopsCheck checker king (target m)
-        × Keeps situation.now m) }
+// As `has_evasion`, for the moves to one square: by the king, or by another piece that captures the
+// checking one or comes between.
+fn can_evade_to(situation: &Situation, king: Square, checker: Square, to: Square) -> bool
+    requires sound { IsSound situation.now }
+    requires king { at situation.now.material.board king ≡ piece situation.now.side King }
+    requires check { Attack situation.now.material.board situation.now.side checker king }
+    ensures { IsTrue result ↔ ((m : Move) × (target m ≡ to) × Keeps situation.now m) }
 {
-    for n in 0..81usize {
-        if can_stop_on(situation, king, checker, Square::at_place(n)) {
-            return true;
-        }
+    if keeps_walk(situation, king, to) {
+        return true;
     }
-    false
-}
-
-// As `can_stop_check`, for the moves to one square.
-fn can_stop_on(situation: &Situation, king: Square, checker: Square, to: Square) -> bool
-    ensures { IsTrue result ↔ ((m : Move) × (target m ≡ to) × StopsCheck checker king to
-        × Keeps situation.now m) }
-{
     stops_check(checker, king, to) && has_kept_move_to(situation, to)
 }
 

@@ -1,9 +1,10 @@
 // How often each position of a line occurs, and where it occurred first.
 //
 // Each position has one entry. A new entry comes after the others, so the entries are in the order
-// of first places. Links lead to them, as in search trees: 256 links, one for each first byte of a
-// key, lead to the roots of 256 trees, and each entry has two links, one to the positions that
-// are less and one to those that are greater. Nothing is turned to balance the trees.
+// of first places. Links lead to them, as in search trees: 1,024 links, one for each value of a
+// key's first 10 bits, lead to the roots of as many trees. Each entry has two links more, one to
+// the positions that are less and one to those that are greater. Nothing is turned to balance the
+// trees.
 //
 // Positions are ordered by their keys first, and as positions are if their keys are equal. The keys
 // of positions that follow each other lie far apart, so the trees stay flat. A record made for it
@@ -22,11 +23,11 @@ use std::cmp::Ordering;
 use std::marker::Model;
 
 // How many entries, turns and moves there is room for from the start: most games have fewer moves.
-pub(crate) const FIRST_ROOM: usize = 256;
+pub(crate) const FIRST_ROOM: usize = 320;
 
-// How many links of the search trees there are before there is an entry: one for each first byte of
-// a key.
-const FIRST_LINKS: usize = 256;
+// How many links of the search trees there are before there is an entry: one for each value of a
+// key's first 10 bits.
+const FIRST_LINKS: usize = 1024;
 
 // A position, how often it occurs, and its first place, counted from 0.
 #[derive(Drop)]
@@ -57,7 +58,7 @@ fn search(entries: &[Entry], links: &[u16], position: &Position) -> Result<usize
         (λ n. (n < length entries.now) × StandsAt entries.now n position.now)
         (λ link. IsFree entries.now links.now position.now link) }
 {
-    let mut link = (position.key() >> 56) as usize;
+    let mut link = (position.key() >> 54) as usize;
     while links[link] > 0 {
         let n = links[link] as usize - 1;
         match entries[n].order(position) {

@@ -11,6 +11,7 @@ pub mod Nexts
 pub mod OfferRead
 pub mod PositionGame
 pub mod PositionRead
+pub mod SummaryCauses
 pub mod ServerReads
 pub mod Unnamed
 pub mod EngineRows

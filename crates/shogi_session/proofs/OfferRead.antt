@@ -37,7 +37,7 @@ offer_stated h (One text) g o whole blocks stated game named = record {
 }
 offer_stated h Several g o whole blocks stated game named = absurd game
 
-same_text : (a b : List ℕ) → one a ≡ one b → b ≡ a
+pub same_text : (a b : List ℕ) → one a ≡ one b → b ≡ a
 same_text a b p = cc
 
 pub none_stated : (h : SummaryContent) (positions : Positions) → h.positions ≡ ended_blocks positions → IsGameIn positions None → (o : Offer) → TellsOffer h o → ⊥

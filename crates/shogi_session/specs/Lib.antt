@@ -6,6 +6,7 @@ pub mod NextItems
 pub mod Offers
 pub mod Phases
 pub mod PositionTexts
+pub mod SummaryFaults
 pub use Rattle.session_lines.specs.LineTexts
 pub use Rattle.session_lines.specs.MoveLines
 pub use Rattle.session_lines.specs.ServerLines

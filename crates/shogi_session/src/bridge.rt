@@ -10,13 +10,16 @@ ghost use Rattle.shogi_session.specs.Phases.{IsPhase, Reacts, Stays, client_of, 
 ghost use Rattle.shogi_session.specs.Configs.{IsConfig};
 ghost use Rattle.bridge_table.specs.GameSoFar.{HasMoves, game_of};
 ghost use Rattle.bridge_table.specs.Promises.{HoldsLine, IsGameText, KeepsGame, SameStates, StepRow, event_of};
-ghost use Rattle.bridge_table.specs.State.{Client, Match, client_state, first_state, slip_of, waits_for};
+ghost use Rattle.bridge_table.specs.State.{Client, Match, client_state, first_state, slip_of, summary, waits_for};
+ghost use Rattle.bridge_table.specs.Summary.{Offer, SummaryContent, TellsOffer};
+ghost use Rattle.shogi_session.specs.SummaryFaults.{HasSummaryFault};
 ghost use Rattle.session_lines.specs.Texts.{text_of};
 
 use crate::answers::{failed, no_lines, silent, tell_engine};
 use crate::engine_side::take_engine_line;
 use crate::phase::{GameStage, Phase};
 use crate::server_side::take_server_line;
+use crate::summary_fault::SummaryFault;
 use bridge_table::{ClientState, Config, EngineState, Event, Out, SessionFault, Status, Waits};
 use csa_record::write;
 use session_lines::without_last_spaces;
@@ -168,6 +171,20 @@ impl Bridge {
         match &self.phase {
             Phase::InGame(play) => play.slip,
             _ => false,
+        }
+    }
+
+    /// Why the summary that the server sends, so far, offers no game. After `B3 BadSummary` this is
+    /// its cause. None if the summary offers one, and outside of a summary.
+    pub fn summary_fault(&self) -> Option<SummaryFault>
+        ensures { MatchOption result
+            ((h : SummaryContent) → self.now.state.client ≡ summary h
+            → (o : Offer) × TellsOffer h o)
+            (HasSummaryFault self.now.state.client) }
+    {
+        match &self.phase {
+            Phase::Summary(reader) => reader.fault(),
+            _ => None,
         }
     }
 

@@ -32,6 +32,7 @@ mod position_reader;
 mod position_text;
 mod server_lines;
 mod server_side;
+mod summary_fault;
 mod summary_reader;
 
 pub use bridge::Bridge;
@@ -40,3 +41,4 @@ pub use bridge_table::{
 };
 pub use host_and_sample::{Host, HostConfig, HostOut, Sample, SampleOut};
 pub use session_lines::Lines;
+pub use summary_fault::SummaryFault;

@@ -1,4 +1,5 @@
-ghost use Rattle.std.specs.Prelude.{◌≡◌, ◌+◌, ◌≤◌, ◌∷◌, [], length, None, IfOk, OnOk, MatchOption};
+ghost use Rattle.std.specs.Prelude.{◌≡◌, ◌+◌, ◌≤◌, ◌∷◌, [], length, None, IfOk, OnOk, MatchOption, MatchResult};
+ghost use Rattle.bridge_table.specs.Summary.{SummaryContent};
 ghost use Rattle.csa_record.specs.Building.{titled_of, with_titled};
 ghost use Rattle.csa_record.specs.Limits.{IsOneLine};
 ghost use Rattle.csa_record.specs.Titles.{with_name};
@@ -6,7 +7,9 @@ ghost use Rattle.csa_text.specs.Codes.{sign};
 ghost use Rattle.csa_cutting.specs.Cut.{longest_statement};
 ghost use Rattle.shogi_board.specs.declared.color.Color.{Color};
 ghost use Rattle.shogi_session.specs.Offers.{IsClientGiven, IsNamed};
+ghost use Rattle.shogi_session.specs.SummaryFaults.{IsFaultOf};
 
+use crate::summary_fault::SummaryFault;
 use csa_record::Record;
 use session_lines::texts;
 use shogi_board::{Color, OutOfMemory};
@@ -19,16 +22,20 @@ pub(crate) struct GameOffer {
     pub(crate) game: Record,
 }
 
-// The client's side in a summary with these names and this turn, or None if it can offer no game.
-pub(crate) fn read_client(black: &[u8], white: &[u8], turn: &[u8]) -> Option<Color>
-    ensures { MatchOption result
-        ((color : Color) → IsClientGiven black.now white.now turn.now color → ⊥)
-        (IsClientGiven black.now white.now turn.now) }
+// The client's side in a summary with these names and this turn, or why it offers no game.
+pub(crate) fn read_client(black: &[u8], white: &[u8], turn: &[u8]) -> Result<Color, SummaryFault>
+    ensures { MatchResult result
+        (IsClientGiven black.now white.now turn.now)
+        (λ fault. (h : SummaryContent) → h.black ≡ black.now → h.white ≡ white.now
+        → h.turn ≡ turn.now → IsFaultOf h fault) }
 {
     if black.len() > 4094 || white.len() > 4094 {
-        return None;
+        return Err(SummaryFault::LongName);
     }
-    color_of(turn)
+    let Some(color) = color_of(turn) else {
+        return Err(SummaryFault::NoTurn);
+    };
+    Ok(color)
 }
 
 // The offer of this game, which has no names, with these names.

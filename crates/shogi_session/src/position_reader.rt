@@ -1,4 +1,5 @@
-ghost use Rattle.std.specs.Prelude.{◌≡◌, ◌↔◌, ℕ, ◌+◌, ◌^◌, ◌≤◌, ◌++◌, List, [], length, Some, None, IsTrue, IfOk, MatchResult};
+ghost use Rattle.std.specs.Prelude.{◌≡◌, ◌↔◌, ℕ, ◌+◌, ◌^◌, ◌≤◌, ◌++◌, List, [], length, true, false, Some, None, IsTrue, IfOk, MatchResult};
+ghost use Rattle.csa_record.specs.Game.{Game};
 ghost use Rattle.csa_record.specs.Reading.{HasRead, fed_of};
 ghost use Rattle.session_lines.specs.Texts.{ended_line};
 ghost use Rattle.shogi_session.specs.PositionTexts.{HasCome, IsFed, IsFedOn, IsPositionRead, IsTaken};
@@ -103,6 +104,17 @@ impl PositionReader {
 }
 
 impl EndedPosition {
+    // Whether the block is a game.
+    pub(crate) fn is_game(&self) -> bool
+        ensures game { result ≡ true → (g : Game) × IsPositionRead self.now (Some g) }
+        ensures none { result ≡ false → IsPositionRead self.now None }
+    {
+        match &self.game {
+            Some(_) => true,
+            None => false,
+        }
+    }
+
     // The block's game; or the block again, if it is none.
     pub(crate) fn into_game(self) -> Result<Record, EndedPosition>
         ensures { MatchResult result

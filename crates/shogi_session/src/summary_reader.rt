@@ -1,13 +1,16 @@
-ghost use Rattle.std.specs.Prelude.{◌≡◌, None, Some, IfOk, OnOk, bytes_eq};
+ghost use Rattle.std.specs.Prelude.{◌≡◌, None, Some, IfOk, MatchOption, OnOk, bytes_eq};
+ghost use Rattle.csa_record.specs.Game.{Game};
 ghost use Rattle.csa_record.specs.Limits.{IsOneLine};
 ghost use Rattle.shogi_session.specs.HearingStage.{IsFitting, IsGameIn, IsPlace, blocks_of, ended_blocks, first_block, title_of};
 ghost use Rattle.session_lines.specs.LineTexts as texts;
 ghost use Rattle.bridge_table.specs.Hearing.{extended, content_after, one_more, opened, outside, value_or};
 ghost use Rattle.shogi_session.specs.Offers.{IsOfferOf, offer_of};
-ghost use Rattle.bridge_table.specs.Summary.{end_line, is_position, no_content};
+ghost use Rattle.shogi_session.specs.SummaryFaults.{IsFaultOf};
+ghost use Rattle.bridge_table.specs.Summary.{Offer, SummaryContent, TellsOffer, end_line, is_position, no_content};
 
 use crate::offer::{GameOffer, name_offer, read_client};
 use crate::position_reader::{EndedPosition, PositionReader};
+use crate::summary_fault::SummaryFault;
 use csa_record::Record;
 use session_lines::texts;
 use shogi_board::OutOfMemory;
@@ -121,12 +124,27 @@ impl SummaryReader {
         };
         let black = self.black.as_slice();
         let white = self.white.as_slice();
-        let Some(client) = read_client(black, white, self.turn.as_slice()) else {
+        let Ok(client) = read_client(black, white, self.turn.as_slice()) else {
             return Ok(None);
         };
         match take_game(&mut self.positions) {
             Some(game) => Ok(Some(name_offer(client, game, black, white)?)),
             None => Ok(None),
+        }
+    }
+
+    // Why the lines offer no game as a whole summary, or None if they offer one.
+    pub(crate) fn fault(&self) -> Option<SummaryFault>
+        ensures { MatchOption result ((o : Offer) × TellsOffer self.now o) (IsFaultOf self.now) }
+    {
+        let Begun::Nothing = &self.begun else {
+            return Some(SummaryFault::OpenBlock);
+        };
+        let black = self.black.as_slice();
+        let white = self.white.as_slice();
+        match read_client(black, white, self.turn.as_slice()) {
+            Ok(_) => position_fault(&self.positions),
+            Err(fault) => Some(fault),
         }
     }
 
@@ -262,6 +280,25 @@ fn count_one(positions: &mut Positions, ended: EndedPosition)
         Positions::Missing => Positions::One(ended),
         Positions::One(_) | Positions::Several => Positions::Several,
     };
+}
+
+// Why the position blocks give no game, or None if they give one.
+fn position_fault(positions: &Positions) -> Option<SummaryFault>
+    ensures { MatchOption result ((g : Game) × IsGameIn positions.now (Some g))
+        (λ fault. (h : SummaryContent) → h.positions ≡ ended_blocks positions.now
+        → IsFaultOf h fault) }
+{
+    match positions {
+        Positions::Missing => Some(SummaryFault::NoPosition),
+        Positions::One(ended) => {
+            if ended.is_game() {
+                None
+            } else {
+                Some(SummaryFault::BadPosition)
+            }
+        }
+        Positions::Several => Some(SummaryFault::SeveralPositions),
+    }
 }
 
 // The game of the only position block; or None if there is none, and nothing changes.

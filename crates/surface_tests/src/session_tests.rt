@@ -7,7 +7,7 @@ use csa_text::TextFault;
 use shogi_board::{Color, OutOfMemory};
 use shogi_session::{
     Bridge, ClientState, Config, EngineState, Event, Host, HostConfig, HostOut, Lines, MoveCause,
-    Out, Sample, SampleOut, SessionFault, Status, Waits,
+    Out, Sample, SampleOut, SessionFault, Status, SummaryFault, Waits,
 };
 use std::alloc::Global;
 use std::process::Abort;
@@ -87,6 +87,37 @@ fn events_of_a_bridge(rt: HostRuntime) -> Result<(), Fail> {
     assert!(rt; status_after(alloc, Event::ServerEnd)? == server_gone);
     assert!(rt; status_after(alloc, Event::EngineLong)? == too_long);
     assert!(rt; status_after(alloc, Event::ServerLong)? == too_long);
+    Ok(())
+}
+
+// The session's status after an event.
+fn status_with(bridge: &mut Bridge, event: Event<'_>) -> Result<Status, Fail>
+    requires { HoldsLine (event_of event) }
+{
+    let out = bridge.step(event)?;
+    Ok(out.status)
+}
+
+// A bridge whose server has begun a game summary.
+fn in_a_summary(alloc: Global) -> Result<Bridge, Fail> {
+    let mut bridge = bridge(alloc)?;
+    status_with(&mut bridge, Event::Begin)?;
+    status_with(&mut bridge, Event::EngineLine(b"usiok"))?;
+    status_with(&mut bridge, Event::EngineLine(b"readyok"))?;
+    status_with(&mut bridge, Event::ServerLine(b"LOGIN:bridge OK"))?;
+    status_with(&mut bridge, Event::ServerLine(b"BEGIN Game_Summary"))?;
+    Ok(bridge)
+}
+
+#[test]
+fn cause_of_a_bad_summary(rt: HostRuntime) -> Result<(), Fail> {
+    let mut bridge = in_a_summary(rt.alloc())?;
+    let status = status_with(&mut bridge, Event::ServerLine(b"END Game_Summary"))?;
+    assert!(rt; status == Status::Failed(SessionFault::BadSummary));
+    refuse_all(&rt);
+    let cause: Option<SummaryFault> = bridge.summary_fault();
+    refuse_no_more(&rt)?;
+    assert!(rt; cause == Some(SummaryFault::NoTurn));
     Ok(())
 }
 

@@ -1,7 +1,8 @@
 use crate::squares::square;
 use csa_text::{
     Cut, CutFault, Cutter, Ending, Item, LineCutter, LineFault, Pair, PieceCutter, Statement,
-    TextFault, cell_bytes, csa_move, laws, move_bytes, pair_bytes, read_item, sign_of,
+    TextFault, cell_bytes, csa_move, front_move, front_time, laws, move_bytes, pair_bytes,
+    read_item, sign_of,
 };
 use shogi_board::{Color, Kind, Piece};
 use shogi_rules::Move;
@@ -39,6 +40,19 @@ fn reads_and_writes_moves(rt: HostRuntime) {
     };
     assert!(rt; reads_and_writes("+8822UM", Color::Black, capture));
     assert!(rt; reads_and_writes("-0055FU", Color::White, drop));
+}
+
+// A move and a time, whatever follows them.
+#[test]
+fn reads_at_the_front(rt: HostRuntime) {
+    let drop = Move::Put {
+        to: square(55),
+        kind: Kind::Pawn,
+    };
+    assert!(rt; front_move(b"-0055FU\nT12") == Some((Color::White, drop)));
+    assert!(rt; front_move(b"-0055F").is_none());
+    assert!(rt; front_time(b"T12\n+") == Some((12_000, 3)));
+    assert!(rt; front_time(b"T\n").is_none());
 }
 
 #[test]

@@ -105,3 +105,33 @@ fn counts_statements(rt: HostRuntime) {
         assert!(rt; count_after(&mut pieces, piece) == Some(statements));
     }
 }
+
+// Takes a move that is followed by its end, and returns the number and the offset of its statement.
+fn move_taken(pieces: &mut PieceCutter) -> Option<(u64, u64)> {
+    if pieces.fed() > 2_000_000 {
+        return None;
+    }
+    let statement = pieces.take_word(b"+7776FU\nT1", 7)?;
+    Some((statement.number, statement.offset))
+}
+
+// How many bytes the comment or the separator at the front of the piece takes.
+fn passed(pieces: &mut PieceCutter, piece: &[u8]) -> Option<usize> {
+    if pieces.fed() > 2_000_000 || piece.len() > 2_000_000 {
+        return None;
+    }
+    pieces.take_unspoken(piece)
+}
+
+// What is at the front is taken only between statements. At the start a byte order mark may come.
+#[test]
+fn takes_what_was_read(rt: HostRuntime) {
+    let mut pieces = PieceCutter::new();
+    assert!(rt; move_taken(&mut pieces).is_none() && passed(&mut pieces, b",").is_none());
+    assert!(rt; count_after(&mut pieces, b"\n") == Some(0));
+    assert!(rt; move_taken(&mut pieces) == Some((1, 1)) && pieces.fed() == 9);
+    assert!(rt; passed(&mut pieces, b"'x\n+") == Some(3) && passed(&mut pieces, b",") == Some(1));
+    assert!(rt; passed(&mut pieces, b"'x").is_none() && !pieces.is_in_comment());
+    assert!(rt; count_after(&mut pieces, b"'x") == Some(1) && pieces.is_in_comment());
+    assert!(rt; move_taken(&mut pieces).is_none() && passed(&mut pieces, b"\n").is_none());
+}

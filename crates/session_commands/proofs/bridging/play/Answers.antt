@@ -15,32 +15,32 @@ loop-rounds-init g c =
 pub returns-in-Done-clause-done : goal.returns-in-Done-clause-done
 returns-in-Done-clause-done g c =
     let l = c.loop-rounds in
-    (round_sent g.E.Ends.came g.E.Ends.went g.E.Ends.gone c.args.ends.now c.args.bridge.now l.out.to_engine l.out.to_server l.out.status l._rounds l.ends l.bridge c.send.new.ends c.send.new.bridge c.in_ok-send.field-0 Done c.in-Done.is l.invariant c.in_ok-send.ensures.sent).played
+    (round_sent g.E.Ends.came g.E.Ends.went g.E.Ends.gone c.args.ends.now c.args.bridge.now c.args.progress.now.ended l.out.to_engine l.out.to_server l.out.status l._rounds l.ends l.bridge l.progress.ended c.send.new.ends c.send.new.bridge c.in_ok-send.field-0 Done c.in-Done.is l.invariant c.in_ok-send.ensures.sent).noted
 
 pub returns-in-Failed-clause-failed : goal.returns-in-Failed-clause-failed
 returns-in-Failed-clause-failed g c = λ fault same.
     let l = c.loop-rounds in
-    (round_sent g.E.Ends.came g.E.Ends.went g.E.Ends.gone c.args.ends.now c.args.bridge.now l.out.to_engine l.out.to_server l.out.status l._rounds l.ends l.bridge c.send.new.ends c.send.new.bridge c.in_ok-send.field-0 (Failed fault) (c.in-Failed.is ∙ ap Failed (same_session_fault c.in-Failed.fault fault same)) l.invariant c.in_ok-send.ensures.sent).played
+    (round_sent g.E.Ends.came g.E.Ends.went g.E.Ends.gone c.args.ends.now c.args.bridge.now c.args.progress.now.ended l.out.to_engine l.out.to_server l.out.status l._rounds l.ends l.bridge l.progress.ended c.send.new.ends c.send.new.bridge c.in_ok-send.field-0 (Failed fault) (c.in-Failed.is ∙ ap Failed (same_session_fault c.in-Failed.fault fault same)) l.invariant c.in_ok-send.ensures.sent).noted
 
 pub loop-rounds-preserved : goal.loop-rounds-preserved
 loop-rounds-preserved g c =
     let l = c.loop-rounds in
-    let played = round_sent g.E.Ends.came g.E.Ends.went g.E.Ends.gone c.args.ends.now c.args.bridge.now l.out.to_engine l.out.to_server l.out.status l._rounds l.ends l.bridge c.send.new.ends c.send.new.bridge c.in_ok-send.field-0 Going c.in-Going.is l.invariant c.in_ok-send.ensures.sent in
+    let played = round_sent g.E.Ends.came g.E.Ends.went g.E.Ends.gone c.args.ends.now c.args.bridge.now c.args.progress.now.ended l.out.to_engine l.out.to_server l.out.status l._rounds l.ends l.bridge l.progress.ended c.send.new.ends c.send.new.bridge c.in_ok-send.field-0 Going c.in-Going.is l.invariant c.in_ok-send.ensures.sent in
     let out = c.in_ok-out-2.out in
-    round_begun g.E.Ends.came g.E.Ends.went g.E.Ends.gone c.args.ends.now c.args.bridge.now c.loop-rounds._rounds c.send.new.ends c.send.new.bridge out.to_engine out.to_server out.status c.step_next.new.ends c.step_next.new.bridge played c.in_ok-out-2.ensures.came
+    round_begun g.E.Ends.came g.E.Ends.went g.E.Ends.gone c.args.ends.now c.args.bridge.now c.args.progress.now.ended l._rounds c.send.new.ends c.send.new.bridge l.progress.ended out.to_engine out.to_server out.status c.step_next.new.ends c.step_next.new.bridge c.step_next.new.progress.ended played c.in_ok-out-2.ensures.came
 
 pub returns-in_err-send-clause-out_of_memory : goal.returns-in_err-send-clause-out_of_memory
 returns-in_err-send-clause-out_of_memory g c = λ is.
     let l = c.loop-rounds in
-    unsent g.E.Ends.came g.E.Ends.missed g.E.Ends.went g.E.Ends.gone c.args.ends.now c.args.bridge.now l.out.to_engine l.out.to_server l.out.status l._rounds l.ends l.bridge c.send.new.ends c.send.new.bridge l.invariant c.in_err-send.ensures.out_of_memory
+    unsent g.E.Ends.came g.E.Ends.missed g.E.Ends.went g.E.Ends.gone c.args.ends.now c.args.bridge.now c.args.progress.now.ended l.out.to_engine l.out.to_server l.out.status l._rounds l.ends l.bridge l.progress.ended c.send.new.ends c.send.new.bridge l.invariant c.in_err-send.ensures.out_of_memory
 
 pub returns-in-Lost-clause-out_of_memory : goal.returns-in-Lost-clause-out_of_memory
 returns-in-Lost-clause-out_of_memory g c = λ is.
     let l = c.loop-rounds in
-    lost_before (round_sent g.E.Ends.came g.E.Ends.went g.E.Ends.gone c.args.ends.now c.args.bridge.now l.out.to_engine l.out.to_server l.out.status l._rounds l.ends l.bridge c.send.new.ends c.send.new.bridge c.in_ok-send.field-0 Lost c.in-Lost.is l.invariant c.in_ok-send.ensures.sent).played
+    lost_before (round_sent g.E.Ends.came g.E.Ends.went g.E.Ends.gone c.args.ends.now c.args.bridge.now c.args.progress.now.ended l.out.to_engine l.out.to_server l.out.status l._rounds l.ends l.bridge l.progress.ended c.send.new.ends c.send.new.bridge c.in_ok-send.field-0 Lost c.in-Lost.is l.invariant c.in_ok-send.ensures.sent).noted.played
 
 pub returns-in_err-out-2-clause-out_of_memory : goal.returns-in_err-out-2-clause-out_of_memory
 returns-in_err-out-2-clause-out_of_memory g c = λ is.
     let l = c.loop-rounds in
-    let played = round_sent g.E.Ends.came g.E.Ends.went g.E.Ends.gone c.args.ends.now c.args.bridge.now l.out.to_engine l.out.to_server l.out.status l._rounds l.ends l.bridge c.send.new.ends c.send.new.bridge c.in_ok-send.field-0 Going c.in-Going.is l.invariant c.in_ok-send.ensures.sent in
-    not_next g.E.Ends.came g.E.Ends.missed g.E.Ends.went g.E.Ends.gone c.args.ends.now c.args.bridge.now l._rounds c.send.new.ends c.send.new.bridge c.step_next.new.ends c.step_next.new.bridge played c.in_err-out-2.ensures.out_of_memory
+    let played = round_sent g.E.Ends.came g.E.Ends.went g.E.Ends.gone c.args.ends.now c.args.bridge.now c.args.progress.now.ended l.out.to_engine l.out.to_server l.out.status l._rounds l.ends l.bridge l.progress.ended c.send.new.ends c.send.new.bridge c.in_ok-send.field-0 Going c.in-Going.is l.invariant c.in_ok-send.ensures.sent in
+    not_next g.E.Ends.came g.E.Ends.missed g.E.Ends.went g.E.Ends.gone c.args.ends.now c.args.bridge.now c.args.progress.now.ended l._rounds c.send.new.ends c.send.new.bridge l.progress.ended c.step_next.new.ends c.step_next.new.bridge played c.in_err-out-2.ensures.out_of_memory

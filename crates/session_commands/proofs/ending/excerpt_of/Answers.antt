@@ -1,4 +1,4 @@
-use Rattle.std.proofs.Common.{◌∙◌, ap, arith, length, map, take}
+use Rattle.std.proofs.Common.{◌∙◌, ap, arith, map, take}
 use Rattle.std.proofs.lemmas.List.{take_all}
 use Rattle.session_commands.specs.Endings.{quoted_byte}
 use Rattle.session_commands.proofs.ending.excerpt_of.Goals as goal

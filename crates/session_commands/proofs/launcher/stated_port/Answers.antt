@@ -1,6 +1,6 @@
 use Rattle.std.proofs.Common.{refl}
 use Rattle.std.proofs.lemmas.Result.{err_from_is_err_and}
-use Rattle.session_commands.specs.Ports.{SaysFirst, long_line, no_line, no_memory, other_line}
+use Rattle.session_commands.specs.Ports.{long_line, no_line, no_memory, other_line}
 use Rattle.session_commands.proofs.launcher.stated_port.Goals as goal
 
 pub returns-in_err-port-clause-silent : goal.returns-in_err-port-clause-silent

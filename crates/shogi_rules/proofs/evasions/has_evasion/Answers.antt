@@ -1,15 +1,16 @@
 use Rattle.std.proofs.Common.{refl}
-use Rattle.shogi_board.specs.declared.moves.Move.TheVariants.{Walk}
-use Rattle.shogi_rules.proofs.Checks.{some-stop}
+use Rattle.shogi_board.specs.Legal.{target}
+use Rattle.shogi_board.proofs.Squares.{all-squares, below-next}
+use Rattle.shogi_board.proofs.Tests.{fails}
+use Rattle.shogi_rules.proofs.Checks.{KeptTo}
 use Rattle.shogi_rules.proofs.evasions.has_evasion.Goals as goal
 
-pub returns-then-king_escapes : goal.returns-then-king_escapes
-returns-then-king_escapes c =
-    let s = c.if-king_escapes.ensures.0 refl in
-    (λ _. (Walk c.args.king s.0 s.1, s.2), λ _. c.if-king_escapes.true)
+pub returns-then-can_evade_to : goal.returns-then-can_evade_to
+returns-then-can_evade_to c = let m = c.if-can_evade_to.ensures.0 refl in (λ _. (m.0, m.2), λ _. refl)
 
-pub returns-else-king_escapes : goal.returns-else-king_escapes
-returns-else-king_escapes c = (
-  λ h. let s = c.can_stop_check.ensures.0 h in (s.0, s.2),
-  λ some. some-stop c.args.situation.now c.args.checker c.args.king c.king_escapes.result c.can_stop_check.result c.requires.sound c.requires.king c.requires.check c.king_escapes.ensures c.can_stop_check.ensures c.if-king_escapes.false some,
-)
+pub loop-n-preserved : goal.loop-n-preserved
+loop-n-preserved c =
+    below-next (λ t. KeptTo c.args.situation.now t → ⊥) c.loop-n.n c.at_place.result c.at_place.ensures.value c.loop-n.invariant (fails c.can_evade_to.result c.can_evade_to.ensures c.if-can_evade_to.false)
+
+pub returns : goal.returns
+returns c = (λ h. cc, λ m. absurd (all-squares (λ t. KeptTo c.args.situation.now t → ⊥) c.loop-n.n c.loop-n-test.false c.loop-n.invariant (target m.0) (m.0, refl, m.1)))

@@ -1,8 +1,6 @@
-use Rattle.std.proofs.Common.{◌≡◌, arith, inl, inr, refl, subst, sym, ◌∙◌}
-use Rattle.std.proofs.lemmas.Bool.{cases_lt}
-use Rattle.shogi_board.specs.Squares.{place}
-use Rattle.shogi_board.specs.declared.square.Square.{Square}
-use Rattle.shogi_board.proofs.Squares.{place-bound, place-same}
+use Rattle.std.proofs.Common.{refl}
+use Rattle.shogi_board.proofs.Squares.{all-squares, below-next}
+use Rattle.shogi_board.proofs.Tests.{fails}
 use Rattle.shogi_rules.proofs.Checks.{KeptWalk}
 use Rattle.shogi_rules.proofs.evasions.has_kept_walk_to.Goals as goal
 
@@ -10,16 +8,8 @@ pub returns-then-keeps_walk : goal.returns-then-keeps_walk
 returns-then-keeps_walk c = let s = c.if-keeps_walk.ensures.0 refl in (λ _. (c.at_place.result, s.0, s.1), λ _. refl)
 
 pub loop-n-preserved : goal.loop-n-preserved
-loop-n-preserved c = λ from k below kept.
-    elim (cases_lt (place from) c.loop-n.n) [
-      | inl lt ↦ c.loop-n.invariant from k lt kept
-      | inr ge ↦
-          let there : place from ≡ c.loop-n.n = omega arith in
-          let same : from ≡ c.at_place.result = place-same _ _ (there ∙ sym c.at_place.ensures.value) in
-          let yes = c.keeps_walk.ensures.1 (subst (λ (x : Square). KeptWalk c.args.situation.now x c.args.to) same (k, kept)) in
-          let no = c.if-keeps_walk.false in
-          cc
-    ]
+loop-n-preserved c =
+    below-next (λ from. KeptWalk c.args.situation.now from c.args.to → ⊥) c.loop-n.n c.at_place.result c.at_place.ensures.value c.loop-n.invariant (fails c.keeps_walk.result c.keeps_walk.ensures c.if-keeps_walk.false)
 
 pub returns : goal.returns
-returns c = (λ h. cc, λ s. let b = place-bound s.0 in absurd (c.loop-n.invariant s.0 s.1 (omega (arith, b)) s.2))
+returns c = (λ h. cc, λ s. absurd (all-squares (λ from. KeptWalk c.args.situation.now from c.args.to → ⊥) c.loop-n.n c.loop-n-test.false c.loop-n.invariant s.0 (s.1, s.2)))

@@ -6,7 +6,7 @@ use Rattle.shogi_rules.proofs.occurrences.search.Goals as goal
 
 pub loop-link-init : goal.loop-link-init
 loop-link-init c =
-    let is : first_link c.args.position.now ≡ c.key.result / 72057594037927936 = ap (λ (n : ℕ). n / 72057594037927936) (sym c.key.ensures.value) in
+    let is : first_link c.args.position.now ≡ c.key.result / 18014398509481984 = ap (λ (n : ℕ). n / 18014398509481984) (sym c.key.ensures.value) in
     let low : c.key.result < 2 ^ 64 = search rules in
     let wide = c.requires.wide in
     (omega (arith, wide, low), subst (Comes c.args.entries.now c.args.links.now c.args.position.now) is Comes.begins)

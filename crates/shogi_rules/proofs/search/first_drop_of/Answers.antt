@@ -1,8 +1,7 @@
-use Rattle.std.proofs.Common.{◌≡◌, ◌<◌, ◌≤◌, arith, inl, inr, subst, sym, ◌∙◌}
-use Rattle.std.proofs.lemmas.Bool.{cases_lt}
+use Rattle.std.proofs.Common.{◌<◌, arith}
 use Rattle.shogi_board.specs.Squares.{place}
 use Rattle.shogi_board.specs.declared.square.Square.{Square}
-use Rattle.shogi_board.proofs.Squares.{place-bound, place-same}
+use Rattle.shogi_board.proofs.Squares.{all-squares, below-next}
 use Rattle.shogi_rules.proofs.Firsts.{NoDrop, drop-of-first, no-drop-of}
 use Rattle.shogi_rules.proofs.search.first_drop_of.Goals as goal
 
@@ -10,23 +9,11 @@ pub returns-in-Some : goal.returns-in-Some
 returns-in-Some c =
     let p = c.args.situation.now in
     let s = c.at_place-to.result in
-    let below : (t : Square) → place t < place s → NoDrop p c.args.kind t = λ t lt. c.loop-n.invariant t (subst (λ i. place t < i) c.at_place-to.ensures.value lt) in
+    let below = λ (t : Square) (lt : place t < place s). c.loop-n.invariant t (omega (arith, lt, c.at_place-to.ensures.value)) in
     drop-of-first p c.args.kind s c.in-Some.mv below c.in-Some.ensures.0 c.in-Some.ensures.1
 
 pub loop-n-preserved : goal.loop-n-preserved
-loop-n-preserved c = λ t below.
-    elim (cases_lt (place t) c.loop-n.n) [
-      | inl lt ↦ c.loop-n.invariant t lt
-      | inr ge ↦
-          let p = c.args.situation.now in
-          let there : place t ≡ c.loop-n.n = omega arith in
-          let same : c.at_place-to.result ≡ t = place-same _ _ (c.at_place-to.ensures.value ∙ sym there) in
-          subst (λ (x : Square). NoDrop p c.args.kind x) same c.in_default.ensures
-    ]
+loop-n-preserved c = below-next (λ t. NoDrop c.args.situation.now c.args.kind t) c.loop-n.n c.at_place-to.result c.at_place-to.ensures.value c.loop-n.invariant c.in_default.ensures
 
 pub returns : goal.returns
-returns c =
-    let p = c.args.situation.now in
-    let end : 81 ≤ c.loop-n.n = c.loop-n-test.false in
-    let none : (t : Square) → NoDrop p c.args.kind t = λ t. let b = place-bound t in c.loop-n.invariant t (omega (arith, b, end)) in
-    no-drop-of p c.args.kind none
+returns c = no-drop-of c.args.situation.now c.args.kind (all-squares (λ t. NoDrop c.args.situation.now c.args.kind t) c.loop-n.n c.loop-n-test.false c.loop-n.invariant)

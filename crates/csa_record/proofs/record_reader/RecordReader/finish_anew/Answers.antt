@@ -13,4 +13,4 @@ returns-clause-first c = λ source h.
 pub returns-clause-anew : goal.returns-clause-anew
 returns-clause-anew c =
     new_reader c.restart.new.self c.replace-builder.new.dest None refl c.restart.ensures.start
-    (subst (HasKept []) (sym c.replace-builder.ensures.after) c.new.ensures)
+    (subst (HasKept []) (sym c.replace-builder.ensures.after) c.from_laying.ensures)

@@ -8,4 +8,4 @@ pub set_hand-requires : goal.set_hand-requires
 set_hand-requires c =
     let s = c.args.self.now in
     let less : c.set.new.self ≡ one_less (bag_of s.material c.args.color) c.args.kind = rw (c.set.ensures, c.count.ensures.value, c.hand-hand.ensures.value) refl in
-    rw less (less-within s c.args.color c.args.kind c.hand-hand.ensures.within)
+    rw less (less-within s c.args.color c.args.kind c.hand-hand.ensures.within c.requires.fits)

@@ -1,0 +1,75 @@
+// Moves and times at the front of a piece of a record.
+
+ghost use Rattle.std.specs.Prelude.{◌≡◌, ◌<◌, ◌≤◌, ◌∷◌, ℕ, List, IfSome, IfNone, length, take};
+ghost use Rattle.std.specs.Char.{digit_value};
+ghost use Rattle.csa_cutting.specs.PieceSteps.{IsWord};
+ghost use Rattle.csa_text.specs.Fields.{IsNumber};
+ghost use Rattle.csa_text.specs.Saying.{time, walked};
+ghost use Rattle.csa_text.specs.Spelling.{Spells};
+
+use crate::codes::read_sign;
+use crate::moved::read_move;
+use shogi_board::Color;
+use shogi_rules::Move;
+
+/// How many bytes a move has.
+pub const MOVE_SIZE: usize = 7;
+
+// The most digits that are read. So many are always below 2^32.
+const MOST_DIGITS: usize = 9;
+
+/// The move that the first seven bytes of the piece spell, if they spell one.
+#[inline(always)]
+pub fn front_move(piece: &[u8]) -> Option<(Color, Move)>
+    ensures spells { IfSome result (λ r. Spells (take 7 piece.now) (walked r.0 r.1)) }
+    ensures word { IfSome result (λ _. IsWord (take 7 piece.now)) }
+    ensures none { IfNone result
+        ((color : Color) (m : Move) → Spells (take 7 piece.now) (walked color m) → ⊥) }
+{
+    let (bytes, _) = piece.split_at_checked(MOVE_SIZE)?;
+    let color = read_sign(bytes[0])?;
+    Some((color, read_move(&bytes[1..])?))
+}
+
+/// The time that the piece begins with, if it begins with `T` and a digit: in thousandths of a
+/// second, and how many bytes spell it. Only whole seconds are read, and at most nine digits.
+#[inline(always)]
+pub fn front_time(piece: &[u8]) -> Option<(u64, usize)>
+    ensures spells { IfSome result (λ r. Spells (take r.1 piece.now) (time r.0)) }
+    ensures word { IfSome result (λ r. IsWord (take r.1 piece.now)) }
+    ensures short { IfSome result (λ r. r.1 ≤ 10) }
+    ensures none { IfNone result ((d : ℕ) (text : List ℕ) → piece.now ≡ 84 ∷ d ∷ text
+        → digit_value d < 10 → ⊥) }
+{
+    let (first, text) = piece.split_first()?;
+    if *first != b'T' {
+        return None;
+    }
+    let (seconds, digits) = front_digits(text);
+    if digits == 0 {
+        return None;
+    }
+    Some((seconds as u64 * 1000, digits + 1))
+}
+
+// The number that the digits at the front of the text spell, at most nine of them, and how many
+// these are.
+#[inline(always)]
+fn front_digits(text: &[u8]) -> (u32, usize)
+    ensures value { IsNumber 0 9 (take result.1 text.now) result.0 }
+    ensures within { result.1 ≤ length text.now }
+    ensures few { result.1 ≤ 9 }
+    ensures some { (d : ℕ) (rest : List ℕ) → text.now ≡ d ∷ rest → digit_value d < 10
+        → 0 < result.1 }
+{
+    let mut value = 0;
+    let mut count = 0;
+    while count < MOST_DIGITS && count < text.len() {
+        let Some(digit) = (text[count] as char).to_digit(10) else {
+            return (value, count);
+        };
+        value = value * 10 + digit;
+        count += 1;
+    }
+    (value, count)
+}
