@@ -17,7 +17,7 @@ use shogi_words::PathEnd;
 use std::alloc::Global;
 
 /// What the line of an accepted record says.
-#[derive(Clone, Copy, Debug, PartialEq, Eq)]
+#[derive(Clone, Copy)]
 pub enum LineKind {
     /// `FILE: accepted N V`, as `check` prints it.
     Checks,
@@ -26,7 +26,7 @@ pub enum LineKind {
 }
 
 /// What the line of an accepted record says, and how the file's path ends there.
-#[derive(Clone, Copy, Debug, PartialEq, Eq)]
+#[derive(Clone, Copy)]
 pub struct LineForm {
     /// What it says.
     pub kind: LineKind,

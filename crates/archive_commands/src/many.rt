@@ -20,7 +20,7 @@ use std::time::Clock;
 use std::{fmt, io};
 
 /// How many files are accepted, how many are refused, and how many cannot be read.
-#[derive(Clone, Copy, Debug, PartialEq, Eq)]
+#[derive(Clone, Copy)]
 pub struct Tally {
     /// The accepted ones.
     pub accepted: usize,

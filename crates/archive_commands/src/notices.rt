@@ -12,7 +12,7 @@ use std::rt::Files;
 use std::time::Clock;
 
 /// What is shown on standard error beside a line about each file that is refused or cannot be read.
-#[derive(Clone, Copy, Debug, PartialEq, Eq)]
+#[derive(Clone, Copy)]
 pub struct Verbosity {
     /// Whether a second line about such a file has the statement at fault, or the system's reason.
     pub is_explained: bool,

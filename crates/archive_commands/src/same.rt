@@ -27,7 +27,7 @@ use std::rt::Files;
 use std::time::Clock;
 
 /// How files are compared, and how the groups are printed.
-#[derive(Clone, Copy, Debug, PartialEq, Eq)]
+#[derive(Clone, Copy)]
 pub struct Comparison {
     /// What the files of a group have in common.
     pub likeness: Likeness,

@@ -9,6 +9,7 @@ mod Fitting
 mod Instances
 mod LogGames
 pub mod Onward
+mod Passwords
 pub mod PositionFits
 pub mod RowOnce
 mod Silent

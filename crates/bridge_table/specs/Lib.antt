@@ -4,6 +4,7 @@ pub mod Examples
 pub mod GameSoFar
 pub mod Hearing
 pub mod Logs
+pub mod Passwords
 pub mod Promises
 pub mod Row
 pub mod Sending

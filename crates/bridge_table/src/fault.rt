@@ -2,7 +2,7 @@ use record_game::Why;
 use thiserror::Error;
 
 /// Why a move from the server is not accepted.
-#[derive(Clone, Copy, Debug, PartialEq, Eq, PartialOrd, Ord, Error)]
+#[derive(Clone, Copy, Debug, PartialEq, Eq, Error)]
 pub enum MoveCause {
     /// The line is not one move, or the move may not be played.
     #[error("{0}")]
@@ -14,7 +14,7 @@ pub enum MoveCause {
 }
 
 /// Why a session failed. Each prints as its number and name, such as `B6 ServerGone`.
-#[derive(Clone, Copy, Debug, PartialEq, Eq, PartialOrd, Ord, Error)]
+#[derive(Clone, Copy, Debug, PartialEq, Eq, Error)]
 pub enum SessionFault {
     /// The server refused the name or the password.
     #[error("B1 LoginRefused")]

@@ -21,6 +21,7 @@ ghost use Rattle.bridge_table.specs.GameSoFar.{game_of};
 ghost use Rattle.bridge_table.specs.Hearing.{content_after};
 ghost use Rattle.session_lines.specs.LineTexts as texts;
 ghost use Rattle.bridge_table.specs.Logs.{Confirmed, GameOf, Leads, Moved, Step, TellsGame, answers, counted, event_in, is_answer, is_sound, sends};
+ghost use Rattle.bridge_table.specs.Passwords.{DifferInLogin, DifferInPassword};
 ghost use Rattle.bridge_table.specs.Promises.{KeepsGame, Session, StepRow, Steps};
 ghost use Rattle.bridge_table.specs.Row.{Row, failed};
 ghost use Rattle.bridge_table.specs.Sending.{AskedRight, IsAnswered, OwnSent, is_position_line};
@@ -48,6 +49,14 @@ pub fn row_once()
 pub fn ends_are_silent()
     ensures silent { (c : Config) (s t : State) (e : Event) (out : Out)
         → Row c s e out t → (e ≡ engine_end) ⊎ (e ≡ server_end) → out ≡ no_lines }
+{}
+
+/// The password is in the line of the login and in no other: from a state, by an event, a bridge
+/// with another password sends the same lines, but for that one, and goes to the same state.
+pub fn password_is_in_the_login_alone()
+    ensures login { (c d : Config) (s t : State) (e : Event) (out : Out)
+        → DifferInPassword c d → Row c s e out t
+        → (other : Out) × Row d s e other t × DifferInLogin c d out other }
 {}
 
 /// A step is whole if it is a row, sends the bytes of that row's lines, has its status, and keeps

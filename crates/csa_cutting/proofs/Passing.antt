@@ -156,7 +156,7 @@ on_to place held piece from at end low order p =
     (longer place held (slice_range piece from (at + 1)) (slice_range piece at (at + 1)) (slice_range piece (at + 1) (end + 1)) p))
 
 -- over a gap
-over_gap : (place : Place) (held front gap unfinished : List ℕ) → IsGap gap → length gap + length unfinished ≤ length (open_of place held) + length front → Passes place held front (gap ++ unfinished) → Passes place held front unfinished
+pub over_gap : (place : Place) (held front gap unfinished : List ℕ) → IsGap gap → length gap + length unfinished ≤ length (open_of place held) + length front → Passes place held front (gap ++ unfinished) → Passes place held front unfinished
 over_gap place held front gap unfinished h room p fed more others few s =
     let o = fed + length front - length (gap ++ unfinished) in
     let same : fed + length front - length unfinished ≡ o + length gap = omega (arith, length-append gap unfinished) in

@@ -1,7 +1,7 @@
 -- What a cutter of pieces returns.
-use Rattle.std.specs.Prelude.{◌≡◌, ℕ, ◌+◌, ◌-◌, ◌<◌, ◌≤◌, ◌==◌, ◌||◌, ◌&&◌, nat_lt, Bool, false, List, [], ◌∷◌, length, take, Option, None, Some, MatchOption, Result, Ok, Err, IfOk, IfErr}
-use Rattle.std.specs.List.{AllByRecursion, position_or_len}
-use Rattle.csa_cutting.specs.Cut.{TextUnit, is_end, is_separator, takes_line, statement_bytes, longest_statement}
+use Rattle.std.specs.Prelude.{◌≡◌, ℕ, ◌+◌, ◌-◌, ◌<◌, ◌≤◌, ◌==◌, ◌||◌, Bool, false, List, [], ◌∷◌, length, take, Option, None, Some, MatchOption, Result, Ok, Err, IfOk, IfErr}
+use Rattle.std.specs.List.{AllByRecursion}
+use Rattle.csa_cutting.specs.Cut.{TextUnit, is_separator, takes_line, statement_bytes, longest_statement}
 use Rattle.csa_cutting.specs.PieceCutting.{PieceCutting, ToComeWith, Closes, Leads, held_of}
 use Rattle.csa_cutting.specs.declared.cutter.Statement.{Statement}
 use Rattle.csa_cutting.specs.declared.cutter.CutFault.{CutFault}
@@ -20,15 +20,10 @@ IsWord [] = ⊥
 IsWord (first ∷ bytes) = (takes_line first ≡ false)
     × AllByRecursion (λ b. is_separator b ≡ false) (first ∷ bytes)
 
--- a byte that ends a word: CR, LF or a comma
-abbrev pub ends_word : ℕ → Bool
-ends_word b = b == 13 || b == 10 || b == 44
-
--- the bytes begin with a separator, or with a comment and the CR or LF that ends it
+-- the bytes begin with a separator or a comment
 abbrev pub begins_unspoken : List ℕ → Bool
 begins_unspoken [] = false
-begins_unspoken (first ∷ bytes) = is_separator first
-    || (first == 39 && nat_lt (position_or_len (is_end 39) bytes) (length bytes))
+begins_unspoken (first ∷ bytes) = is_separator first || first == 39
 
 -- nothing is unfinished, and no statement was refused
 abbrev pub IsBetween : PieceCutting → Type 0

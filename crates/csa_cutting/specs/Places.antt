@@ -7,6 +7,7 @@ use Rattle.csa_cutting.specs.PieceCutting.{Follows}
 use Rattle.csa_cutting.specs.declared.units.Found.{Found}
 use Rattle.csa_cutting.specs.declared.units.Found.TheVariants.{Part, LeadsTo}
 use Rattle.csa_cutting.specs.declared.units.Place.{Place}
+use Rattle.csa_cutting.specs.declared.units.Unspoken.{Unspoken}
 use Rattle.csa_cutting.specs.declared.units.Place.TheVariants.{Mark, Gap, Unit as InUnit, Comment}
 
 abbrev pub begins : Place → Bool
@@ -73,6 +74,13 @@ IsFoundIn place held piece from (LeadsTo Comment) = ((place ≡ Comment) ⊎ (0 
     × Passes place held (drop from piece) (39 ∷ [])
 IsFoundIn place held piece from (Part part) =
     IsPart place held piece from part.goes_on part.start part.end
+
+-- so many bytes of the piece are part of no statement; they lead to that place, with nothing held
+pub record IsUnspoken (place : Place) (held piece : List ℕ) (unspoken : Unspoken) : Type 0 where
+  pub within : unspoken.used ≤ length piece
+  pub begun : begins unspoken.place ≡ false
+  pub clear : IsHeld unspoken.place []
+  pub passed : Passes place held (take unspoken.used piece) (open_of unspoken.place [])
 
 -- a statement's unit, or what may become one, is unfinished
 abbrev pub has_unit : Place → List ℕ → Bool

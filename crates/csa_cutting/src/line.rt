@@ -14,7 +14,7 @@ use std::marker::Model;
 use thiserror::Error;
 
 /// Why no line is returned.
-#[derive(Clone, Copy, Debug, PartialEq, Eq, PartialOrd, Ord, Error)]
+#[derive(Clone, Copy, Debug, PartialEq, Eq, Error)]
 pub enum LineFault {
     /// A line has more bytes than the limit.
     #[error("line too long")]

@@ -11,28 +11,28 @@
 // one may turn out to be a statement.
 //
 // `take_word` and `take_unspoken` do what a step would in the two cases that are most frequent:
-// bytes that the caller has read as a statement already, and what lies between statements.
+// bytes that the caller has read as a statement already, and what is part of no statement.
 
-ghost use Rattle.std.specs.Prelude.{◌≡◌, ◌+◌, ◌-◌, ◌^◌, ◌<◌, ◌≤◌, ◌++◌, [], length, take, get_or, true, false, None, Some, Ok, IsSome, IfSome, IfNone, IfOk, IfErr, if◌then◌else◌};
+ghost use Rattle.std.specs.Prelude.{◌≡◌, ◌+◌, ◌-◌, ◌^◌, ◌<◌, ◌≤◌, ◌++◌, ℕ, List, [], length, take, get_or, true, false, None, Some, Ok, IsSome, IfSome, IfNone, IfOk, IfErr, if◌then◌else◌};
 ghost use Rattle.std.specs.Borrow.{sem};
 ghost use Rattle.std.specs.Io.BufRead.{Rests};
 ghost use Rattle.arrayvec.specs.ArrayVec.{array_vec_len};
 ghost use Rattle.csa_cutting.specs.contracts.piece.PieceCutter.{the_row};
-ghost use Rattle.csa_cutting.specs.Cut.{statement_bytes, begins_with, longest_statement};
+ghost use Rattle.csa_cutting.specs.Cut.{statement_bytes, begins_with, is_end, longest_statement};
 ghost use Rattle.csa_cutting.specs.PieceCutting.{Leads, fresh, IsOpen};
-ghost use Rattle.csa_cutting.specs.PieceSteps.{AfterStep, AfterEnd, Last, IsTooLongAt, IsUsed, IsLentFrom, IsBetween, IsWord, Stepped, begins_unspoken, ends_word};
-ghost use Rattle.csa_cutting.specs.Places.{IsKept, IsFoundIn, IsHeld, begins, kept_of, has_unit};
+ghost use Rattle.csa_cutting.specs.PieceSteps.{AfterStep, AfterEnd, Last, IsTooLongAt, IsUsed, IsLentFrom, IsBetween, IsWord, Stepped, begins_unspoken};
+ghost use Rattle.csa_cutting.specs.Places.{IsKept, IsFoundIn, IsHeld, IsUnspoken, begins, open_of, kept_of, has_unit};
 
 use crate::cutter::{CutFault, LONGEST_STATEMENT, Statement};
 use crate::units::{
-    BYTE_ORDER_MARK, COMMENT, Found, Part, Place, first_in, handed_out, is_in_statement,
-    unit_length, unspoken_length,
+    BYTE_ORDER_MARK, COMMENT, Found, Part, Place, Unspoken, comments_rest, first_in,
+    front_unspoken, handed_out, is_in_statement, unit_length,
 };
 use arrayvec::ArrayVec;
 use std::marker::Model;
 
 /// What one step used and found.
-#[derive(Clone, Copy, Debug, PartialEq, Eq)]
+#[derive(Clone, Copy)]
 pub struct Cut<'b> {
     /// How many bytes of the piece were used.
     pub used: usize,
@@ -118,17 +118,6 @@ impl PieceCutter {
         self.number
     }
 
-    /// Whether the bytes that have been used end within a comment.
-    #[inline(always)]
-    pub fn is_in_comment(&self) -> bool
-        ensures value { result ≡ begins_with 39 self.now.unfinished }
-    {
-        match self.place {
-            Place::Comment => true,
-            _ => false,
-        }
-    }
-
     /// Takes bytes from the front of the piece. Returns how many it used, and the statement that
     /// ended there, if one did.
     ///
@@ -193,10 +182,10 @@ impl PieceCutter {
 
     /// Takes the first `size` bytes of the piece and the byte after them, as `step` would, if these
     /// bytes are a whole statement: if nothing is unfinished before them, and the byte after them
-    /// ends the statement. Otherwise changes nothing.
+    /// ends the statement. Returns that statement, or changes nothing and returns `None`.
     ///
-    /// The bytes must contain no separator and must not begin a comment, a name or a header. So no
-    /// search for the end of the statement is needed.
+    /// The bytes must be 1 to 4,096, contain no separator, and begin no comment, name or header. So
+    /// no search for the end of the statement is needed. The statement is borrowed from the piece.
     #[inline(always)]
     pub fn take_word<'b>(&mut self, piece: &'b [u8], size: usize) -> Option<Statement<'b>>
         requires room { self.old.fed + length piece.now ≤ 2 ^ 63 }
@@ -206,8 +195,9 @@ impl PieceCutter {
             (λ s. Stepped self.old piece.now (Ok (record { used = size + 1; statement = Some s }))
             self.new) }
         ensures bytes { IfSome result (λ s. s.bytes.now ≡ take size piece.now) }
+        ensures lent { IfSome result (IsLentFrom piece.entry.ref_ptr self.old.fed) }
         ensures none { IfNone result (IsBetween self.old → size < length piece.now
-            → ends_word (get_or piece.now size 0) ≡ true → ⊥) }
+            → is_end (get_or piece.now 0 0) (get_or piece.now size 0) ≡ true → ⊥) }
         ensures same { IfNone result (self.new ≡ self.old) }
     {
         if size >= piece.len() || is_in_statement(piece[size]) {
@@ -227,25 +217,33 @@ impl PieceCutter {
         })
     }
 
-    /// Takes the comment at the front of the piece and the byte that ends it, or a separator there,
-    /// as `step` would on its way to the next statement. Returns how many bytes it used. Changes
-    /// nothing if neither is there, if the comment goes on after the piece, or if something else is
-    /// unfinished before it.
+    /// Takes bytes from the front of the piece that are part of no statement, as `step` would on
+    /// its way to the next one: a separator, a comment, or the rest of a comment with all
+    /// separators and comments after it. A comment takes the byte that ends it, or all of the piece
+    /// if that is not there. Returns how many bytes it used.
+    ///
+    /// Changes nothing and returns `None` if the piece does not begin so, if a statement or a byte
+    /// order mark may be unfinished before it, or if `step` has returned a `CutFault`.
     #[inline(always)]
     pub fn take_unspoken(&mut self, piece: &[u8]) -> Option<usize>
         requires room { self.old.fed + length piece.now ≤ 2 ^ 63 }
         ensures used { IfSome result (λ used. (0 < used) × (used ≤ length piece.now)) }
         ensures leads { IfSome result
             (λ used. Leads self.old (take used piece.now) [] self.new) }
-        ensures none { IfNone result (IsBetween self.old → begins_unspoken piece.now ≡ false) }
+        ensures going { IfSome result (λ _. self.old.refused ≡ None) }
+        ensures none { IfNone result (self.old.begins ≡ false → self.old.refused ≡ None
+            → 0 < length piece.now
+            → begins_unspoken (self.old.unfinished ++ piece.now) ≡ false) }
         ensures same { IfNone result (self.new ≡ self.old) }
     {
-        if self.place != Place::Gap || self.refused.is_some() {
+        if piece.is_empty() || self.refused.is_some() {
             return None;
         }
-        let used = unspoken_length(piece)?;
-        self.fed += used as u64;
-        Some(used)
+        let unspoken = unspoken_in(self.place, piece)?;
+        clear_in_comment(&mut self.held, unspoken.place);
+        self.place = unspoken.place;
+        self.fed += unspoken.used as u64;
+        Some(unspoken.used)
     }
 
     /// Returns the statement that is unfinished at the end of the bytes, if there is one.
@@ -309,6 +307,26 @@ fn ended<'b>(end: usize, number: u64, offset: u64, unit: &'b [u8]) -> Cut<'b>
     }
 }
 
+// What the piece begins with that is part of no statement, if the bytes so far lead to this place.
+#[inline(always)]
+fn unspoken_in(place: Place, piece: &[u8]) -> Option<Unspoken>
+    requires { 0 < length piece.now }
+    ensures some { IfSome result (λ unspoken. 0 < unspoken.used) }
+    ensures unspoken { (held : List ℕ) → IsHeld place held
+        → IfSome result (IsUnspoken place held piece.now) }
+    ensures none { (held : List ℕ) → IsHeld place held
+        → IfNone result (begins place ≡ false
+        → begins_unspoken (open_of place held ++ piece.now) ≡ false) }
+{
+    if place == Place::Gap {
+        return front_unspoken(piece);
+    }
+    if place != Place::Comment {
+        return None;
+    }
+    Some(comments_rest(piece))
+}
+
 // Whether a statement's unit is unfinished.
 fn is_unfinished(place: Place, held: &[u8]) -> bool
     ensures { result ≡ has_unit place held.now }
@@ -332,6 +350,17 @@ fn keep_held(held: &mut ArrayVec<u8, LONGEST_STATEMENT>, goes_on: bool)
     ensures { held.new.items ≡ kept_of goes_on held.old.items }
 {
     if !goes_on {
+        held.clear();
+    }
+}
+
+// Clears the held bytes in a comment, of which nothing is held.
+#[inline(always)]
+fn clear_in_comment(held: &mut ArrayVec<u8, LONGEST_STATEMENT>, place: Place)
+    ensures comment { place ≡ Place.Comment → held.new.items ≡ [] }
+    ensures fewer { length held.new.items ≤ length held.old.items }
+{
+    if place == Place::Comment {
         held.clear();
     }
 }

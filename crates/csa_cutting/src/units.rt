@@ -1,11 +1,11 @@
 //! Finds the next unit of a text, and the bytes of a unit that a statement keeps.
 
-ghost use Rattle.std.specs.Prelude.{◌≡◌, ◌+◌, ◌++◌, ℕ, List, false, ◌≤◌, ◌<◌, length, drop, take, not, IfNone, IfSome, MatchOption};
+ghost use Rattle.std.specs.Prelude.{◌≡◌, ◌+◌, ℕ, List, [], false, ◌≤◌, ◌<◌, length, drop, not, IfNone, IfSome, MatchOption};
 ghost use Rattle.std.specs.List.{position_or_len, prefix_len};
-ghost use Rattle.csa_cutting.specs.Cut.{TextUnit, Statements, IsNext, IsGap, is_separator, is_blank, takes_line, is_end, statement_bytes, without_last_blanks};
+ghost use Rattle.csa_cutting.specs.Cut.{IsNext, IsGap, is_separator, is_blank, takes_line, is_end, statement_bytes, without_last_blanks};
 ghost use Rattle.csa_cutting.specs.Cutting.{unit_between};
 ghost use Rattle.csa_cutting.specs.PieceSteps.{begins_unspoken};
-ghost use Rattle.csa_cutting.specs.Places.{IsFoundIn, PassesTo};
+ghost use Rattle.csa_cutting.specs.Places.{IsFoundIn, IsUnspoken, PassesTo};
 
 use crate::line::{is_line_end, line_length};
 use crate::scan::front_length;
@@ -26,7 +26,7 @@ const TIME: u8 = b'T';
 pub(crate) const BYTE_ORDER_MARK: [u8; 3] = [0xEF, 0xBB, 0xBF];
 
 // Where the bytes so far have led.
-#[derive(Clone, Copy, Debug, PartialEq, Eq)]
+#[derive(Clone, Copy, PartialEq, Eq)]
 pub(crate) enum Place {
     // at the start, or in the byte order mark
     Mark,
@@ -37,7 +37,7 @@ pub(crate) enum Place {
 
 // The unit of a statement in the piece, from `start` up to and without `end`. If it goes on from
 // earlier pieces, the held bytes are its front.
-#[derive(Clone, Copy, Debug, PartialEq, Eq)]
+#[derive(Clone, Copy)]
 pub(crate) struct Part {
     pub goes_on: bool,
     pub start: usize,
@@ -45,10 +45,17 @@ pub(crate) struct Part {
 }
 
 // What a piece holds next: a statement's unit, or none, and then it leads to this place.
-#[derive(Clone, Copy, Debug, PartialEq, Eq)]
+#[derive(Clone, Copy)]
 pub(crate) enum Found {
     Part(Part),
     LeadsTo(Place),
+}
+
+// Bytes at the front of a text that are part of no statement: how many, and where they lead.
+#[derive(Clone, Copy)]
+pub(crate) struct Unspoken {
+    pub used: usize,
+    pub place: Place,
 }
 
 // The first statement's unit in the piece from here on, after gaps and comments.
@@ -76,28 +83,79 @@ pub(crate) fn first_in(piece: &[u8], from: usize) -> Found
     Found::LeadsTo(Place::Gap)
 }
 
-// How many bytes the comment at the front of the text takes with the byte that ends it, or the
-// separator there.
+// The separator or the comment that the text begins with.
 #[inline(always)]
-pub(crate) fn unspoken_length(text: &[u8]) -> Option<usize>
-    ensures used { IfSome result (λ used. (0 < used) × (used ≤ length text.now)) }
-    ensures passed { IfSome result (λ used. (o : ℕ) (more : List ℕ) (others : List TextUnit)
-        → Statements (o + used) more others
-        → Statements o (take used text.now ++ more) others) }
+pub(crate) fn front_unspoken(text: &[u8]) -> Option<Unspoken>
+    ensures used { IfSome result (λ front. (0 < front.used) × (front.used ≤ length text.now)) }
+    ensures unspoken { (held : List ℕ) → IfSome result (IsUnspoken Place.Gap held text.now) }
     ensures none { IfNone result (begins_unspoken text.now ≡ false) }
 {
     let (first, rest) = text.split_first()?;
     if is_separator(*first) {
-        return Some(1);
+        return Some(Unspoken {
+            used: 1,
+            place: Place::Gap,
+        });
     }
     if *first != COMMENT {
         return None;
     }
-    let length = unit_length(COMMENT, rest);
-    if length == rest.len() {
+    let Some(end) = comment_end(rest) else {
+        return Some(Unspoken {
+            used: text.len(),
+            place: Place::Comment,
+        });
+    };
+    Some(Unspoken {
+        used: end + 1,
+        place: Place::Gap,
+    })
+}
+
+// What is left of a comment at the front of the text, and all separators and comments after it.
+#[inline(always)]
+pub(crate) fn comments_rest(text: &[u8]) -> Unspoken
+    requires { 0 < length text.now }
+    ensures some { 0 < result.used }
+    ensures unspoken { IsUnspoken Place.Comment [] text.now result }
+{
+    let Some(end) = comment_end(text) else {
+        return Unspoken {
+            used: text.len(),
+            place: Place::Comment,
+        };
+    };
+    let mut passed = Unspoken {
+        used: end,
+        place: Place::Gap,
+    };
+    while passed.place == Place::Gap {
+        let Some(next) = front_unspoken(&text[passed.used..]) else {
+            return passed;
+        };
+        passed = Unspoken {
+            used: passed.used + next.used,
+            place: next.place,
+        };
+    }
+    passed
+}
+
+// How many bytes are left of a comment at the front of the text, with the byte that ends it, if
+// that is in the text.
+#[inline(always)]
+fn comment_end(text: &[u8]) -> Option<usize>
+    ensures some { IfSome result (λ end. (0 < end) × (end ≤ length text.now)) }
+    ensures ends { IfSome result (λ end. IsUnspoken Place.Comment [] text.now
+        (record { used = end; place = Place.Gap })) }
+    ensures goes_on { IfNone result (IsUnspoken Place.Comment [] text.now
+        (record { used = length text.now; place = Place.Comment })) }
+{
+    let length = unit_length(COMMENT, text);
+    if length == text.len() {
         return None;
     }
-    Some(length + 2)
+    Some(length + 1)
 }
 
 fn is_separator(b: u8) -> bool

@@ -23,7 +23,7 @@ use Rattle.record_game.specs.Keeping.{Kept, HasKept, TakenOrRefused}
 use Rattle.record_game.specs.Outcome.{Outcome, IsWritten}
 use Rattle.csa_record.specs.declared.record_reader.Failing.{Failing}
 use Rattle.csa_record.specs.Reading.{Reading, HasTaken, HasRead}
-use Rattle.csa_record.specs.ReadingSteps.{HasAll, IsRefusedBy, LastTaken, NextTaken}
+use Rattle.csa_record.specs.ReadingSteps.{HasAll, IsRefusedBy, LastTaken, MayTakeNext, NextTaken}
 use Rattle.csa_record.proofs.Outcomes.{outcome_of}
 use Rattle.record_game.specs.Refused.{Refused, FaultlessTo}
 use Rattle.record_game.specs.Says.{Says}
@@ -81,16 +81,22 @@ Answered s used taken result =
     MatchResult taken (λ _. result ≡ Ok used)
     (λ why. result ≡ Err (record { number = s.number; offset = s.offset; why = why }))
 
-pub front_went : (piece : List ℕ) (used : ℕ) (p q : PieceCutting) (s : Statement) (taken : Result (Unit {0}) Why) (result : Result ℕ Refusal) → 0 < length piece → Stepped p piece (Ok (record { used = used; statement = Some s })) q → Answered s used taken result → IfOk result (λ n. (0 < n) × (n ≤ length piece) × (q.fed ≡ p.fed + n))
+front_went : (piece : List ℕ) (used : ℕ) (p q : PieceCutting) (s : Statement) (taken : Result (Unit {0}) Why) (result : Result ℕ Refusal) → 0 < length piece → Stepped p piece (Ok (record { used = used; statement = Some s })) q → Answered s used taken result → IfOk result (λ n. (0 < n) × (n ≤ length piece) × (q.fed ≡ p.fed + n))
 front_went piece used p q s (Ok u) result some step is = rw is (went p q piece (record { used = used; statement = Some s }) some step)
 front_went piece used p q s (Err why) result some step is = rw is tt
 
-pub front_next : (source piece : List ℕ) (used : ℕ) (p q : PieceCutting) (k new : Kept) (f : Option Failing) (s : Statement) (saying : Saying) (taken : Result (Unit {0}) Why) (result : Result ℕ Refusal) → HasRead source (reading p k f) → Stepped p piece (Ok (record { used = used; statement = Some s })) q → Spells s.bytes.now saying
+front_next : (source piece : List ℕ) (used : ℕ) (p q : PieceCutting) (k new : Kept) (f : Option Failing) (s : Statement) (saying : Saying) (taken : Result (Unit {0}) Why) (result : Result ℕ Refusal) → HasRead source (reading p k f) → Stepped p piece (Ok (record { used = used; statement = Some s })) q → Spells s.bytes.now saying
     → ((before : List Saying) → HasKept before k → TakenOrRefused before saying taken new) → Answered s used taken result → NextTaken source piece result (reading q new f)
 front_next source piece used p q k new f s saying (Ok u) result h step spells takes is =
     rw is (next_taken source piece used p q k new f s h step (outcome_of h.taken.sayings s.bytes.now saying (Ok tt) new spells (takes h.taken.sayings h.taken.keeps)))
 front_next source piece used p q k new f s saying (Err why) result h step spells takes is =
     rw is (next_refused source piece used p q k new f s (record { number = s.number; offset = s.offset; why = why }) h step (refl, refl, outcome_of h.taken.sayings s.bytes.now saying (Err why) new spells (takes h.taken.sayings h.taken.keeps)))
+
+-- a move or a time that was taken or refused
+pub front_taken : (piece : List ℕ) (used : ℕ) (p q : PieceCutting) (k new : Kept) (f : Option Failing) (s : Statement) (saying : Saying) (taken : Result (Unit {0}) Why) (result : Result ℕ Refusal) → 0 < length piece → Stepped p piece (Ok (record { used = used; statement = Some s })) q → Spells s.bytes.now saying
+    → ((before : List Saying) → HasKept before k → TakenOrRefused before saying taken new) → Answered s used taken result → MayTakeNext (reading p k f) piece (Some result) (reading q new f)
+front_taken piece used p q k new f s saying taken result some step spells takes is =
+    (front_went piece used p q s taken result some step is, λ source h. front_next source piece used p q k new f s saying taken result h step spells takes is)
 
 -- separators and comments
 unspoken_next : (source piece : List ℕ) (used : ℕ) (p q : PieceCutting) (k : Kept) (f : Option Failing) → HasRead source (reading p k f) → used ≤ length piece → Leads p (take used piece) [] q → HasRead (source ++ take used piece) (reading q k f)

@@ -1,5 +1,5 @@
 -- For private functions: what one step of a reader does.
-use Rattle.std.specs.Prelude.{◌≡◌, ◌≢◌, ◌⊎◌, ℕ, ◌+◌, ◌<◌, ◌≤◌, List, [], ◌++◌, length, take, Option, Result, Ok, Err}
+use Rattle.std.specs.Prelude.{◌≡◌, ◌≢◌, ◌⊎◌, ℕ, ◌+◌, ◌<◌, ◌≤◌, List, [], ◌++◌, length, take, Option, Some, None, Result, Ok, Err, IfOk}
 use Rattle.csa_cutting.specs.Cut.{TextUnit, IsCut}
 use Rattle.csa_cutting.specs.PieceCutting.{PieceCutting}
 use Rattle.csa_text.specs.Saying.{Saying}
@@ -20,7 +20,7 @@ IsRefusedBy source r =
     ((r.why ≢ OutOfMemory) × Refused source r.number r.offset r.why)
     ⊎ ((r.why ≡ OutOfMemory) × FaultlessTo source r.number r.offset)
 
--- so many bytes of the piece were used: the cutter has come as far
+-- so many bytes of the piece were used, and the cutter has moved on by as many
 abbrev pub AreUsed : List ℕ → PieceCutting → PieceCutting → ℕ → Type 0
 AreUsed piece old new used = (0 < used) × (used ≤ length piece) × (new.fed ≡ old.fed + used)
 
@@ -29,6 +29,12 @@ AreUsed piece old new used = (0 < used) × (used ≤ length piece) × (new.fed �
 abbrev pub NextTaken : List ℕ → List ℕ → Result ℕ Refusal → Reading → Type 0
 NextTaken source piece (Ok used) new = HasRead (source ++ take used piece) new
 NextTaken source piece (Err r) new = (more : List ℕ) → IsRefusedBy ((source ++ piece) ++ more) r
+
+-- the next bytes of the piece were taken or refused, as above; or nothing was changed
+abbrev pub MayTakeNext : Reading → List ℕ → Option (Result ℕ Refusal) → Reading → Type 0
+MayTakeNext old piece None new = new ≡ old
+MayTakeNext old piece (Some taken) new = IfOk taken (AreUsed piece old.cutter new.cutter)
+    × ((source : List ℕ) → HasRead source old → NextTaken source piece taken new)
 
 -- the statements of these bytes, none of which has a fault, and what is kept of their items
 pub record HasAll (source : List ℕ) (p : PieceCutting) (k : Kept) : Type 0 where

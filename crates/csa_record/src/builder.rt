@@ -58,7 +58,7 @@ impl RecordBuilder {
         RecordBuilder::from_laying(alloc, Laying::new())
     }
 
-    // The same, by what is laid out before any statement.
+    // The same. `laying` has nothing laid out yet.
     pub(crate) fn from_laying(alloc: Global, laying: Laying) -> RecordBuilder
         requires { Lays [] laying }
         ensures { HasKept [] result }

@@ -20,7 +20,7 @@ use shogi_board::{Color, Piece, Position, Setup, SetupFault, Square};
 use std::marker::Model;
 
 // The start of a record while it is laid out.
-#[derive(Clone, Copy, Debug)]
+#[derive(Clone, Copy)]
 pub(crate) struct Laying {
     setup: Setup,
     positioned: bool,

@@ -33,7 +33,7 @@ pub use pieces::read_pieces;
 pub use record::Record;
 pub use record_game::{OrderFault, Refusal, Why};
 pub use record_reader::{RecordReader, read};
-pub use sink::{Sink, Writing};
+pub use sink::{Sink, Writing, write_uninterrupted};
 pub use source::{Failure, Reading, Source, read_uninterrupted};
 pub use source_reader::SourceReader;
 pub use titles::{HeaderValue, MAX_HEADERS};

@@ -6,7 +6,7 @@ ghost use Rattle.record_game.specs.Keeping.{HasKept};
 ghost use Rattle.record_game.specs.Laying.{Lays};
 ghost use Rattle.record_game.specs.Outcome.{Outcome};
 ghost use Rattle.csa_record.specs.Reading.{HasRead, HasTaken, fed_of};
-ghost use Rattle.csa_record.specs.ReadingSteps.{AreUsed, IsRead, IsRefusedBy, NextTaken, LastTaken};
+ghost use Rattle.csa_record.specs.ReadingSteps.{AreUsed, IsRead, IsRefusedBy, NextTaken, MayTakeNext, LastTaken};
 ghost use Rattle.record_game.specs.Refused.{Refused, FaultlessTo};
 ghost use Rattle.record_game.specs.Tells.{Tells};
 
@@ -21,7 +21,7 @@ use std::marker::Model;
 use std::mem;
 
 // The statement at which a reader was refused, and how many bytes had been fed before.
-#[derive(Clone, Copy, Debug, PartialEq, Eq)]
+#[derive(Clone, Copy)]
 struct Failing {
     number: u64,
     offset: u64,
@@ -156,8 +156,8 @@ impl RecordReader {
         Ok(())
     }
 
-    // Takes bytes of the piece up to the end of a statement, and that statement. Returns how many
-    // it used.
+    // Takes the next bytes of the piece: separators or comments, or bytes up to the end of a
+    // statement and that statement, or all of the piece. Returns how many it used.
     #[inline(always)]
     fn take_next(&mut self, piece: &[u8]) -> Result<usize, Refusal>
         requires room { self.old.cutter.fed + length piece.now ≤ 2 ^ 63 }
@@ -166,9 +166,6 @@ impl RecordReader {
         ensures next { (source : List ℕ) → HasRead source self.old
             → NextTaken source piece.now result self.new }
     {
-        if self.cutter.is_in_comment() {
-            return self.take_any(piece);
-        }
         // most statements are moves and times, which need no search for their ends
         if let Some(taken) = self.take_front_move(piece) {
             return taken;
@@ -182,16 +179,13 @@ impl RecordReader {
         self.take_any(piece)
     }
 
-    // As `take_next`, if the piece begins with a move that ends in it. Otherwise changes nothing.
+    // As `take_next`, if the piece begins with a move and the byte that ends it, and nothing is
+    // unfinished before. Else returns `None` and changes nothing.
     #[inline(always)]
     fn take_front_move(&mut self, piece: &[u8]) -> Option<Result<usize, Refusal>>
         requires room { self.old.cutter.fed + length piece.now ≤ 2 ^ 63 }
         requires some { 0 < length piece.now }
-        ensures used { IfSome result
-            (λ taken. IfOk taken (AreUsed piece.now self.old.cutter self.new.cutter)) }
-        ensures next { (source : List ℕ) → HasRead source self.old
-            → IfSome result (λ taken. NextTaken source piece.now taken self.new) }
-        ensures none { IfNone result (self.new ≡ self.old) }
+        ensures { MayTakeNext self.old piece.now result self.new }
     {
         let front = front_move(piece)?;
         let statement = self.cutter.take_word(piece, MOVE_SIZE)?;
@@ -200,16 +194,12 @@ impl RecordReader {
         Some(used_or_refused(&statement, MOVE_SIZE + 1, taken))
     }
 
-    // As `take_next`, if the piece begins with a time that ends in it. Otherwise changes nothing.
+    // As `take_front_move`, for a time.
     #[inline(always)]
     fn take_front_time(&mut self, piece: &[u8]) -> Option<Result<usize, Refusal>>
         requires room { self.old.cutter.fed + length piece.now ≤ 2 ^ 63 }
         requires some { 0 < length piece.now }
-        ensures used { IfSome result
-            (λ taken. IfOk taken (AreUsed piece.now self.old.cutter self.new.cutter)) }
-        ensures next { (source : List ℕ) → HasRead source self.old
-            → IfSome result (λ taken. NextTaken source piece.now taken self.new) }
-        ensures none { IfNone result (self.new ≡ self.old) }
+        ensures { MayTakeNext self.old piece.now result self.new }
     {
         let (thousandths, size) = front_time(piece)?;
         let statement = self.cutter.take_word(piece, size)?;
@@ -217,7 +207,7 @@ impl RecordReader {
         Some(used_or_refused(&statement, size + 1, taken))
     }
 
-    // Takes a separator or a comment at the front of the piece, and returns how many bytes it used.
+    // Takes separators or comments at the front of the piece, and returns how many bytes it used.
     // Otherwise changes nothing.
     #[inline(always)]
     fn pass_unspoken(&mut self, piece: &[u8]) -> Option<usize>
@@ -276,7 +266,7 @@ impl RecordReader {
         end(&mut cutter, builder, failing)
     }
 
-    // As `finish`, of a reader that is then as if new. Takes what is laid out before any statement.
+    // As `finish`, of a reader that is then as if new. `laying` has nothing laid out yet.
     pub(crate) fn finish_anew(&mut self, alloc: Global, laying: Laying) -> Result<Record, Refusal>
         requires { Lays [] laying }
         ensures stated { (source : List ℕ) → HasRead source self.old

@@ -122,8 +122,12 @@ impl<W: Write> Sink for Writing<W> {
     }
 }
 
-// Writes, and tries again whenever it is interrupted.
-fn write_uninterrupted<W: Write>(writer: &mut W, piece: &[u8]) -> Result<usize, Failure>
+/// Writes bytes from the front of the piece and returns how many. A write that is interrupted is
+/// tried again.
+///
+/// Returns `Failure` if a write fails in another way, or after 2^64 - 1 tries; then no bytes were
+/// written.
+pub fn write_uninterrupted<W: Write>(writer: &mut W, piece: &[u8]) -> Result<usize, Failure>
     ensures within { IfOk result (λ taken. taken ≤ length piece.now) }
     ensures bytes { WriteAppends (W.contents writer.old) (W.contents writer.new) result piece.now }
 {

@@ -1,5 +1,6 @@
-ghost use Rattle.std.specs.Prelude.{◌≡◌, true, ◌-◌, ◌^◌, ◌<◌, IfOk, IsErrOf};
+ghost use Rattle.std.specs.Prelude.{◌≡◌, true, ◌-◌, ◌^◌, ◌<◌, [], IfOk, IsErrOf};
 ghost use Rattle.csa_record.specs.declared.flow.FlowFault.{FlowFault};
+ghost use Rattle.csa_record.specs.Reading.{HasRead};
 ghost use Rattle.csa_record.specs.Flow.{GaveGame, IsRefusal, IsFaultless, FailsRead, ReadsRecord};
 
 use crate::flow::{FlowFault, PIECE, feed_all};
@@ -25,19 +26,22 @@ pub struct SourceReader {
 
 impl Model for SourceReader {
     ghost use Rattle.std.specs.Prelude.{[]};
+    ghost use Rattle.csa_record.specs.Reading as stated;
     ghost use Rattle.csa_record.specs.Reading.{HasRead};
     ghost use Rattle.record_game.specs.Laying.{Lays};
 
-    ghost Value = { Unit {0} };
+    ghost Value = { stated.Reading };
 
-    ghost view = { λ _. tt };
+    ghost view = { λ s. s.reader };
 
     ghost invariant = { λ s. HasRead [] s.reader × Lays [] s.laying };
 }
 
 impl SourceReader {
-    /// Creates a reader of sources. Allocates nothing.
-    pub fn new(alloc: Global) -> SourceReader {
+    /// Creates a reader that has read no source. Allocates nothing.
+    pub fn new(alloc: Global) -> SourceReader
+        ensures start { HasRead [] result }
+    {
         SourceReader {
             alloc,
             laying: Laying::new(),
@@ -46,8 +50,9 @@ impl SourceReader {
         }
     }
 
-    /// Reads the CSA record that a source gives, as `read_from` does, with the same refusals. Only
-    /// to be called if the source has failed fewer than 2^64 - 1 times so far.
+    /// Reads the CSA record that a source gives, as `read_from` does, with the same refusals. After
+    /// that the reader is as if new, whatever it returned. Only to be called if the source has
+    /// failed fewer than 2^64 - 1 times so far.
     pub fn read<S: Source>(&mut self, source: &mut S) -> Result<Record, FlowFault>
         requires countable { S.failed source.old < 2 ^ 64 - 1 }
         ensures stated { IfOk result (λ g. GaveGame (S.known source.old) (S.known source.new) g) }
@@ -64,6 +69,7 @@ impl SourceReader {
         ensures memory { IsErrOf result FlowFault.OutOfMemory
             → IsFaultless (S.known source.old) (S.known source.new) (S.ended source.new) }
         ensures no_write { IsErrOf result FlowFault.WriteFault → ⊥ }
+        ensures anew { HasRead [] self.new }
     {
         self.read_next(source)
     }
@@ -75,6 +81,7 @@ impl SourceReader {
             (S.failed source.old) (S.failed source.new) result }
         ensures unended { IsErrOf result FlowFault.ReadFault
             → S.ended source.new ≡ S.ended source.old }
+        ensures anew { HasRead [] self.new }
     {
         let fed = feed_all(source, &mut self.reader, &mut self.buffer);
         let ended = self.reader.finish_anew(self.alloc, self.laying);

@@ -1,12 +1,12 @@
 -- A time at the front of a piece.
-use Rattle.std.proofs.Common.{◌≡◌, ℕ, suc, ◌+◌, ◌*◌, ◌<◌, ◌≤◌, false, List, [], ◌∷◌, length, take, arith, refl, subst, sym, ◌∙◌, inl}
+use Rattle.std.proofs.Common.{◌≡◌, ℕ, suc, ◌+◌, ◌*◌, ◌<◌, ◌≤◌, false, List, [], ◌∷◌, length, take, drop, arith, refl, subst, sym, ◌∙◌, inl}
 use Rattle.std.specs.List.{AllByRecursion}
 use Rattle.std.specs.Char.{digit_value}
 use Rattle.std.specs.Str.Parse.{AllDigits}
 use Rattle.std.proofs.lemmas.List.{length-take-le}
 use Rattle.csa_cutting.specs.Cut.{is_separator}
 use Rattle.csa_cutting.specs.PieceSteps.{IsWord}
-use Rattle.csa_text.specs.Fields.{IsNumber}
+use Rattle.csa_text.specs.Fields.{EndsDigits, IsNumber}
 use Rattle.csa_text.specs.TimeTexts.{IsTime}
 use Rattle.csa_text.proofs.Moments.{below_power, differs}
 
@@ -57,8 +57,13 @@ front_spells first count value piece text whole is within some n =
       ),
     )
 
-pub first_digit : (piece text rest : List ℕ) (first count d : ℕ) → piece ≡ first ∷ text → piece ≡ 84 ∷ d ∷ rest → ((e : ℕ) (more : List ℕ) → text ≡ e ∷ more → digit_value e < 10 → 0 < count) → count ≡ 0 → digit_value d < 10 → ⊥
-first_digit piece text rest first count d whole is some none digit =
-    let same : first ∷ text ≡ 84 ∷ d ∷ rest = sym whole ∙ is in
-    let after : text ≡ d ∷ rest = cc in
-    omega (arith, some d rest after digit, none)
+pub front_ends : (first count : ℕ) (piece text : List ℕ) → piece ≡ first ∷ text → (count < 9 → EndsDigits (drop count text)) → count + 1 < 10 → EndsDigits (drop (count + 1) piece)
+front_ends first count piece text whole ends few =
+    let up : count + 1 ≡ suc count = omega arith in
+    rw (up, whole) (ends (omega arith))
+
+pub none_at_front : (first count : ℕ) (piece text rest : List ℕ) → piece ≡ first ∷ text → (count < 9 → EndsDigits (drop count text)) → count ≡ 0 → piece ≡ 84 ∷ rest → EndsDigits rest
+none_at_front first count piece text rest whole ends none is =
+    let same : first ∷ text ≡ 84 ∷ rest = sym whole ∙ is in
+    let after : text ≡ rest = cc in
+    rw (← after) (rw none at ends (omega arith))

@@ -1,5 +1,6 @@
 -- Numbers in digits, and texts that a mark separates.
 use Rattle.std.specs.Prelude.{◌≡◌, ℕ, ◌+◌, ◌/◌, ◌%◌, ◌≤◌, ◌==◌, false, List, [], ◌∷◌, ◌++◌, length}
+use Rattle.std.specs.Char.{digit_value}
 use Rattle.std.specs.List.{AllByRecursion}
 use Rattle.std.specs.Str.Parse.{AllDigits, digits_value}
 
@@ -9,6 +10,11 @@ pub record IsNumber (fewest most : ℕ) (digits : List ℕ) (value : ℕ) : Type
   pub many : length digits ≤ most
   pub digits_only : AllDigits 10 digits
   pub value_is : value ≡ digits_value 10 digits
+
+-- the text is empty or begins with no decimal digit
+abbrev pub EndsDigits : List ℕ → Type 0
+EndsDigits [] = Unit {0}
+EndsDigits (b ∷ bytes) = 10 ≤ digit_value b
 
 -- a number below 100 in two digits
 abbrev pub two_digits : ℕ → List ℕ

@@ -2,7 +2,7 @@ use thiserror::Error;
 
 /// Why the bytes of a statement are refused. Each fault prints as its number and name, such as `C5
 /// BadMove`.
-#[derive(Clone, Copy, Debug, PartialEq, Eq, PartialOrd, Ord, Error)]
+#[derive(Clone, Copy, Debug, PartialEq, Eq, Error)]
 pub enum TextFault {
     /// The statement has more than 4,096 bytes, including blanks at its end.
     #[error("C1 StatementTooLong")]

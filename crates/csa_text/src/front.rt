@@ -1,9 +1,8 @@
 // Moves and times at the front of a piece of a record.
 
-ghost use Rattle.std.specs.Prelude.{◌≡◌, ◌<◌, ◌≤◌, ◌∷◌, ℕ, List, IfSome, IfNone, length, take};
-ghost use Rattle.std.specs.Char.{digit_value};
+ghost use Rattle.std.specs.Prelude.{◌≡◌, ◌<◌, ◌≤◌, ◌∷◌, ℕ, List, IfSome, IfNone, length, take, drop};
 ghost use Rattle.csa_cutting.specs.PieceSteps.{IsWord};
-ghost use Rattle.csa_text.specs.Fields.{IsNumber};
+ghost use Rattle.csa_text.specs.Fields.{EndsDigits, IsNumber};
 ghost use Rattle.csa_text.specs.Saying.{time, walked};
 ghost use Rattle.csa_text.specs.Spelling.{Spells};
 
@@ -15,7 +14,7 @@ use shogi_rules::Move;
 /// How many bytes a move has.
 pub const MOVE_SIZE: usize = 7;
 
-// The most digits that are read. So many are always below 2^32.
+// The most digits that are read. Nine digits are always below 2^32.
 const MOST_DIGITS: usize = 9;
 
 /// The move that the first seven bytes of the piece spell, if they spell one.
@@ -32,14 +31,16 @@ pub fn front_move(piece: &[u8]) -> Option<(Color, Move)>
 }
 
 /// The time that the piece begins with, if it begins with `T` and a digit: in thousandths of a
-/// second, and how many bytes spell it. Only whole seconds are read, and at most nine digits.
+/// second, and how many bytes spell it. Reads whole seconds only: all digits after the `T`, but at
+/// most nine.
 #[inline(always)]
 pub fn front_time(piece: &[u8]) -> Option<(u64, usize)>
     ensures spells { IfSome result (λ r. Spells (take r.1 piece.now) (time r.0)) }
     ensures word { IfSome result (λ r. IsWord (take r.1 piece.now)) }
     ensures short { IfSome result (λ r. r.1 ≤ 10) }
-    ensures none { IfNone result ((d : ℕ) (text : List ℕ) → piece.now ≡ 84 ∷ d ∷ text
-        → digit_value d < 10 → ⊥) }
+    ensures within { IfSome result (λ r. r.1 ≤ length piece.now) }
+    ensures all { IfSome result (λ r. r.1 < 10 → EndsDigits (drop r.1 piece.now)) }
+    ensures none { IfNone result ((text : List ℕ) → piece.now ≡ 84 ∷ text → EndsDigits text) }
 {
     let (first, text) = piece.split_first()?;
     if *first != b'T' {
@@ -53,14 +54,13 @@ pub fn front_time(piece: &[u8]) -> Option<(u64, usize)>
 }
 
 // The number that the digits at the front of the text spell, at most nine of them, and how many
-// these are.
+// there are.
 #[inline(always)]
 fn front_digits(text: &[u8]) -> (u32, usize)
     ensures value { IsNumber 0 9 (take result.1 text.now) result.0 }
     ensures within { result.1 ≤ length text.now }
     ensures few { result.1 ≤ 9 }
-    ensures some { (d : ℕ) (rest : List ℕ) → text.now ≡ d ∷ rest → digit_value d < 10
-        → 0 < result.1 }
+    ensures all { result.1 < 9 → EndsDigits (drop result.1 text.now) }
 {
     let mut value = 0;
     let mut count = 0;

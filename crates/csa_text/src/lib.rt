@@ -1,8 +1,10 @@
-//! Reads what the statements of CSA records say, and writes statements and their parts.
+//! Reads the statements of CSA records, and writes statements and their parts.
 //!
 //! The grammar is that of CSA V2.2, as `docs/CSA.md` restricts it. `csa_cutting` cuts bytes into
 //! statements, and this crate re-exports its types. `read_item` reads one statement into an `Item`,
-//! which borrows from it, or says by a `TextFault` which row of the grammar the statement breaks.
+//! which borrows from it, or returns a `TextFault`, which names the row of the grammar that the
+//! statement breaks. `front_move` and `front_time` read a move or a time from bytes that are not
+//! cut yet.
 //!
 //! ```text
 //! match read_item(statement.bytes)? {

@@ -7,7 +7,7 @@ use std::io;
 use std::io::Read;
 
 /// How a line that begins with `#` is read.
-#[derive(Clone, Copy, Debug, PartialEq, Eq)]
+#[derive(Clone, Copy, PartialEq, Eq)]
 pub enum HashLines {
     /// As it is: a reader of CSA records then refuses it.
     Refused,

@@ -10,7 +10,7 @@ use shogi_board::{Color, OutOfMemory};
 use shogi_rules::{Line, Verdict};
 
 // What ends a game after a move.
-#[derive(Clone, Copy, Debug, PartialEq, Eq)]
+#[derive(Clone, Copy)]
 pub(crate) enum Outcome {
     Repetition,
     // The side that lost.

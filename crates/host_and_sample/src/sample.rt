@@ -27,7 +27,7 @@ enum SampleStage {
 }
 
 // What a line asks of the engine.
-#[derive(Clone, Copy, Debug, PartialEq, Eq)]
+#[derive(Clone, Copy)]
 enum Request {
     Usi,
     IsReady,

@@ -16,7 +16,7 @@ use std::io::{BufRead, BufReader, ErrorKind, Read};
 use std::marker::Model;
 
 /// What comes next from a reader.
-#[derive(Clone, Copy, Debug, PartialEq, Eq)]
+#[derive(Clone, Copy, PartialEq, Eq)]
 pub enum LineEvent {
     /// A line, which is then in `line`.
     Line,
@@ -29,7 +29,7 @@ pub enum LineEvent {
 }
 
 /// Why no more is read.
-#[derive(Clone, Copy, Debug, PartialEq, Eq)]
+#[derive(Clone, Copy)]
 pub enum ReadStop {
     /// A line has more than 65,536 bytes.
     TooLong,

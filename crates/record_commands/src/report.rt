@@ -19,7 +19,7 @@ use std::io::Write;
 use std::rt::Files;
 
 // A text about a record.
-#[derive(Clone, Copy, Debug, PartialEq, Eq)]
+#[derive(Clone, Copy)]
 pub enum RecordText {
     // `accepted N V`: its number of moves, and the word for the state of the game after them.
     Accepted,

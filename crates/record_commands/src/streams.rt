@@ -1,13 +1,14 @@
 //! What the commands read from and write to.
 
-ghost use Rattle.std.specs.Prelude.{OnOk};
+ghost use Rattle.std.specs.Prelude.{OnErr, OnOk};
 ghost use Rattle.std.specs.Io.KnownBytes.{Appends};
+ghost use Rattle.csa_record.specs.Flow.{AppendsFront};
 ghost use Rattle.record_commands.specs.Inputs.{path_of};
 ghost use Rattle.record_commands.specs.Reports.{GetsRecord};
 
 use crate::fault::WriteFault;
 use crate::inputs::Inputs;
-use csa_record::{FlowFault, Reading, Record, SourceReader, read_from};
+use csa_record::{FlowFault, Reading, Record, SourceReader, read_from, write_uninterrupted};
 use std::alloc::Global;
 use std::io::Write;
 
@@ -43,13 +44,34 @@ pub fn next_record<I: Inputs>(
 
 /// Writes all of the bytes and flushes the writer.
 ///
-/// Refuses `WriteFault` if not all of them could be written, or the writer cannot be flushed.
+/// Refuses `WriteFault` if not all of them could be written, or the writer cannot be flushed. Then
+/// some of them were written from the front, perhaps none or all.
 pub fn write_all<W: Write>(writer: &mut W, bytes: &[u8]) -> Result<(), WriteFault>
     ensures bytes { OnOk result
         (Appends (W.contents writer.old) (W.contents writer.new) bytes.now) }
+    ensures cut { OnErr result
+        (AppendsFront (W.contents writer.old) (W.contents writer.new) bytes.now) }
 {
-    if writer.write_all(bytes).is_err() || writer.flush().is_err() {
-        return Err(WriteFault);
+    write_each(writer, bytes)?;
+    match writer.flush() {
+        Ok(()) => Ok(()),
+        Err(_) => Err(WriteFault),
+    }
+}
+
+// Writes all of the bytes.
+fn write_each<W: Write>(writer: &mut W, bytes: &[u8]) -> Result<(), WriteFault>
+    ensures bytes { OnOk result
+        (Appends (W.contents writer.old) (W.contents writer.new) bytes.now) }
+    ensures cut { OnErr result
+        (AppendsFront (W.contents writer.old) (W.contents writer.new) bytes.now) }
+{
+    let mut at = 0;
+    while at < bytes.len() {
+        match write_uninterrupted(writer, &bytes[at..]) {
+            Ok(0) | Err(_) => return Err(WriteFault),
+            Ok(taken) => at += taken,
+        }
     }
     Ok(())
 }

@@ -12,7 +12,7 @@ use thiserror::Error;
 
 /// Why a statement does not fit after those before it. Each fault prints as its number and name,
 /// such as `G8 RepeatedTurn`.
-#[derive(Clone, Copy, Debug, PartialEq, Eq, PartialOrd, Ord, Error)]
+#[derive(Clone, Copy, Debug, PartialEq, Eq, Error)]
 pub enum OrderFault {
     /// A version that is not the first statement.
     #[error("G1 VersionOutOfPlace")]
@@ -53,7 +53,7 @@ pub enum OrderFault {
 }
 
 /// Why a record is refused.
-#[derive(Clone, Copy, Debug, PartialEq, Eq, PartialOrd, Ord, Error)]
+#[derive(Clone, Copy, Debug, PartialEq, Eq, Error)]
 pub enum Why {
     /// The statement is too long, or is no item of the grammar.
     #[error("{0}")]

@@ -6,6 +6,7 @@ pub mod Joining
 pub mod Keeping
 pub mod LogTexts
 pub mod Logging
+pub mod OtherPasswords
 pub mod Outcomes
 pub mod PlayedLogs
 pub mod Playing

@@ -53,7 +53,7 @@ whole_noted : (before : LogState) (old : Option (List ℕ)) (entry : Entry) (aft
 whole_noted before old entry after new (noted was is adds) whole = (was, adds)
 whole_noted before old entry after new (not_whole was stays kept) whole = absurd (was (sym stays ∙ whole))
 whole_noted before old entry after new (no_memory was is kept) whole = absurd cc
-whole_noted before old entry after new (unwritten was is) whole = absurd cc
+whole_noted before old entry after new (unwritten was is cut) whole = absurd cc
 
 -- a log that is whole at its end was whole all the time
 pub noted_all : {L : Type 0} (notes : Notes L) (state : L → LogState) (contents : L → Option (List ℕ))

@@ -32,7 +32,7 @@ came_out came missed went gone e s f t said ended (Err Write) none is_done is_fa
 
 -- a game of a number of moves is reported by how its line was printed
 pub is_reported : {O : Type 0} (played_with : Result ℕ MatchFault → Type 0) (contents : O → Option (List ℕ)) (out after : O) (moves : ℕ) (answer : Result ⊤ MatchFault)
-    → played_with (Ok moves) → OnOk answer (Appends (contents out) (contents after) (played_line moves)) → IfErr answer (IsUnreported out after)
+    → played_with (Ok moves) → OnOk answer (Appends (contents out) (contents after) (played_line moves)) → IfErr answer (IsUnreported contents (played_line moves) out after)
     → IsReported played_with contents out after answer
 is_reported played_with contents out after moves (Ok over) met is_printed unprinted = reported over moves met is_printed
 is_reported played_with contents out after moves (Err fault) met is_printed unprinted = not_reported moves fault met unprinted

@@ -9,6 +9,7 @@ pub mod LogTexts
 pub mod Logging
 pub mod Noting
 pub mod Offering
+pub mod OtherPasswords
 pub mod PlayedLogs
 pub mod Playing
 pub mod Plays

@@ -1,7 +1,8 @@
 -- The text of a log.
-use Rattle.std.specs.Prelude.{◌≡◌, ◌≢◌, ◌==◌, ◌++◌, ◌/◌, ◌%◌, ℕ, Bool, true, List, [], ◌∷◌, Option, codes, decimal, if◌then◌else◌, nat_lt}
+use Rattle.std.specs.Prelude.{◌≡◌, ◌≢◌, ◌⊎◌, ◌==◌, ◌++◌, ◌/◌, ◌%◌, ℕ, Bool, true, List, [], ◌∷◌, Option, codes, decimal, if◌then◌else◌, nat_lt}
 use Rattle.std.specs.Io.KnownBytes.{Appends}
 use Rattle.std.specs.List.{before_first}
+use Rattle.csa_record.specs.Flow.{AppendsFront}
 use Rattle.session_lines.specs.LineTexts.{login_front}
 use Rattle.session_commands.specs.Logging.{Entry, Notes, entry_of}
 use Rattle.session_commands.specs.declared.bridging.Peer.{Peer}
@@ -69,9 +70,20 @@ pub record IsEntryText (entry : Entry) (text : List ℕ) : Type 0 where
 abbrev pub AppendsEntry : Option (List ℕ) → Option (List ℕ) → Entry → Type 0
 AppendsEntry old new entry = (text : List ℕ) × IsEntryText entry text × Appends old new text
 
--- a log took an entry: exactly its text was added to one that is whole; one that is not whole stays
--- as it is; and one without memory for the text gets nothing. Of a text that was not all written,
--- nothing is known.
+-- a front of the text of an entry was added, which may be empty or the whole text, if the bytes are
+-- known
+abbrev pub AppendsCut : Option (List ℕ) → Option (List ℕ) → Entry → Type 0
+AppendsCut old new entry = (text : List ℕ) × IsEntryText entry text × AppendsFront old new text
+
+-- the text of an entry was not all written; or there was not enough memory, and nothing was added
+abbrev pub IsUnnoted : Option (List ℕ) → Option (List ℕ) → Entry → MatchFault → Type 0
+IsUnnoted old new entry why =
+    ((why ≡ fault.Write) × AppendsCut old new entry)
+    ⊎ ((why ≡ fault.OutOfMemory) × (new ≡ old))
+
+-- a log took an entry: exactly its text was added to one that is whole, or a front of its text, if
+-- not all of it could be written; one that is not whole stays as it is; and one without memory for
+-- the text gets nothing
 pub data NotesText (before : LogState) (old : Option (List ℕ)) (entry : Entry)
     (after : LogState) (new : Option (List ℕ)) : Type 0 where
   noted : before ≡ Whole → after ≡ Whole → AppendsEntry old new entry
@@ -79,7 +91,8 @@ pub data NotesText (before : LogState) (old : Option (List ℕ)) (entry : Entry)
   not_whole : before ≢ Whole → after ≡ before → new ≡ old → NotesText before old entry after new
   no_memory : before ≡ Whole → after ≡ OutOfMemory → new ≡ old
       → NotesText before old entry after new
-  unwritten : before ≡ Whole → after ≡ Unwritten → NotesText before old entry after new
+  unwritten : before ≡ Whole → after ≡ Unwritten → AppendsCut old new entry
+      → NotesText before old entry after new
 
 -- the fault of a log that was in this state when it was closed; the last text may be unwritten too
 abbrev pub closing_fault : LogState → MatchFault

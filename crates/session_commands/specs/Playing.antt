@@ -1,6 +1,7 @@
 -- For private functions: what `play` does between two ends, and with the game that was played.
 use Rattle.std.specs.Prelude.{◌≡◌, ◌⊎◌, ⊤, ℕ, Bool, List, Option, Result, Ok, Err}
 use Rattle.std.specs.Io.KnownBytes.{Appends}
+use Rattle.csa_record.specs.Flow.{AppendsFront}
 use Rattle.session_setup.specs.declared.fault.MatchFault.TheVariants.{OutOfMemory, Endless, Write, Session as SessionFailed}
 use Rattle.session_commands.specs.declared.children.SessionEnd.{SessionEnd}
 use Rattle.session_commands.specs.declared.children.SessionEnd.TheVariants.{BrokenOff, Finished}
@@ -125,18 +126,23 @@ pub data PlaysFor {H E P R D : Type 0} (started : H → Plan → E → R → H �
       → PlaysFor started unstarted stopped came missed went gone closed begun unbegun took refused
       dropped replaced plan login h p k q (Err fault)
 
--- a line was not printed whole, or there was not enough memory for it
-abbrev pub IsUnreported : {O : Type 0} → O → O → MatchFault → Type 0
-IsUnreported out after fault = (fault ≡ Write) ⊎ ((fault ≡ OutOfMemory) × (after ≡ out))
+-- a front of the line was printed, which may be empty or the whole line; or there was not enough
+-- memory for it, and nothing was printed
+abbrev pub IsUnreported : {O : Type 0}
+    → (O → Option (List ℕ)) → List ℕ → O → O → MatchFault → Type 0
+IsUnreported contents line out after fault =
+    ((fault ≡ Write) × AppendsFront (contents out) (contents after) line)
+    ⊎ ((fault ≡ OutOfMemory) × (after ≡ out))
 
--- a game was played, with a number of moves, and exactly the line with it was printed, or it was
--- not printed; or a fault came of it, and nothing was printed
+-- a game was played, with a number of moves, and exactly the line with it was printed, or a front
+-- of it; or a fault came of it, and nothing was printed
 pub data IsReported {O : Type 0} (played_with : Result ℕ MatchFault → Type 0)
     (contents : O → Option (List ℕ)) (out after : O) : Result ⊤ MatchFault → Type 0 where
   reported : (done : ⊤) (moves : ℕ) → played_with (Ok moves)
       → Appends (contents out) (contents after) (played_line moves)
       → IsReported played_with contents out after (Ok done)
   not_reported : (moves : ℕ) (fault : MatchFault) → played_with (Ok moves)
-      → IsUnreported out after fault → IsReported played_with contents out after (Err fault)
+      → IsUnreported contents (played_line moves) out after fault
+      → IsReported played_with contents out after (Err fault)
   not_played : (fault : MatchFault) → played_with (Err fault) → after ≡ out
       → IsReported played_with contents out after (Err fault)

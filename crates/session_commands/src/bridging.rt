@@ -28,7 +28,7 @@ use shogi_session::{Bridge, Event, Out, SessionFault, Status, Waits};
 use std::io::{Eprint, Read, Write};
 
 /// One of the two peers of a bridge.
-#[derive(Clone, Copy, Debug, PartialEq, Eq)]
+#[derive(Clone, Copy)]
 pub enum Peer {
     /// The engine.
     Engine,

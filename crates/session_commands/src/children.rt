@@ -36,7 +36,7 @@ const CHECKS: u32 = 1000;
 const REST_MS: u64 = 10;
 
 /// How the session ended for which programs were started.
-#[derive(Clone, Copy, Debug, PartialEq, Eq)]
+#[derive(Clone, Copy)]
 pub enum SessionEnd {
     /// The bridge has finished its game.
     Finished,

@@ -29,7 +29,7 @@ pub type Excerpt = ArrayString<256>;
 const LONGEST: usize = 256;
 
 /// How far a bridge is.
-#[derive(Clone, Copy, Debug)]
+#[derive(Clone, Copy)]
 pub struct Snapshot {
     /// With its server.
     pub client: ClientState,
@@ -58,7 +58,7 @@ impl Snapshot {
 }
 
 /// Why a line of the server failed the session.
-#[derive(Clone, Copy, Debug, PartialEq, Eq)]
+#[derive(Clone, Copy)]
 pub struct Refusal {
     /// The session's fault.
     pub fault: SessionFault,
@@ -67,7 +67,7 @@ pub struct Refusal {
 }
 
 /// What a line says of the end of a game.
-#[derive(Clone, Copy, Debug, PartialEq, Eq)]
+#[derive(Clone, Copy)]
 pub enum EndEvent {
     /// The engine's answer was no legal move, so that the bridge resigned for it.
     Slip,

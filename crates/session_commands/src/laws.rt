@@ -2,10 +2,12 @@
 //! give nothing; each law is a clause.
 
 ghost use Rattle.std.specs.Prelude.{◌≡◌, ◌++◌, ◌∷◌, ℕ, List, Option, codes};
+ghost use Rattle.bridge_table.specs.declared.config.Config.{Config};
 ghost use Rattle.bridge_table.specs.declared.event.Status.{Status};
 ghost use Rattle.session_commands.specs.Holding.{TookAll};
 ghost use Rattle.session_commands.specs.LogTexts.{AppendsEntries, DifferInPasswords, HidesPassword, IsLogText, notes_text};
 ghost use Rattle.session_commands.specs.Logging.{Entry, NotesAll, passed};
+ghost use Rattle.session_commands.specs.OtherPasswords.{TakesLogin, with_config};
 ghost use Rattle.session_commands.specs.PlayedLogs.{PlaysLegally, handed, happened};
 ghost use Rattle.session_commands.specs.Plays.{History};
 ghost use Rattle.session_commands.specs.LackOfMemoryLogs.{SentLegally, sent_before};
@@ -15,13 +17,14 @@ ghost use Rattle.session_commands.specs.declared.log.LogState.{LogState};
 ghost use Rattle.session_commands.specs.declared.log.LogState.TheVariants as log_state;
 ghost use Rattle.session_lines.specs.LineTexts.{login_front};
 ghost use Rattle.shogi_session.specs.Host.{IsLoginWord};
+ghost use Rattle.shogi_session.specs.Passwords.{DifferInPassword};
 ghost use Rattle.shogi_session.specs.Promises.{Session};
 ghost use Rattle.shogi_session.specs.State.{first_state};
 ghost use Rattle.std.specs.Io.KnownBytes.{Appends};
 
 use crate::bridging::Ends;
 use crate::log::{Log, Logged};
-use bridge_table::laws::{ends_are_silent, sent_legal, sent_once};
+use bridge_table::laws::{ends_are_silent, password_is_in_the_login_alone, sent_legal, sent_once};
 
 /// What passes between a bridge, its engine and its server is a log from the bridge's first state
 /// on. So each answer that is sent to the server is a legal move of the client's side in the game
@@ -66,12 +69,22 @@ pub fn whole_logs_have_all_entries()
 {}
 
 /// A login is logged with its name, and without its password, whatever that is. So the log of a
-/// session does not depend on the password: if what passed in two sessions differs in the passwords
-/// of logins alone, what is a text of the log of one is one of the other.
-pub fn no_password_logged()
+/// session does not depend on the password, if no allocation fails. What passed in a session passes
+/// with any other password too, but for the line of the login, if the server takes that as it took
+/// the one. And if what passed differs in the passwords of logins alone, what is a text of the one
+/// log is one of the other.
+pub fn no_password_logged<E: Ends>()
     ensures login { (name password shown : List ℕ) → IsLoginWord name
         → HidesPassword (login_front ++ name ++ 32 ∷ password) shown
         → shown ≡ login_front ++ name ++ codes " ***" }
+    ensures session { (d : Config) (e : E) (s : Session) (f : E) (t : Session) (status : Status)
+        (played : History E.came E.went E.gone e s f t status)
+        → IsLoginWord s.config.name.bytes → DifferInPassword s.config d
+        → (other : History E.came (TakesLogin s.config d E.went) (TakesLogin s.config d E.gone)
+        e (with_config d s) f (with_config d t) status)
+        × DifferInPasswords (passed played) (passed other) }
     ensures log { (entries others : List Entry) (text : List ℕ)
         → DifferInPasswords entries others → IsLogText entries text → IsLogText others text }
-{}
+{
+    password_is_in_the_login_alone();
+}

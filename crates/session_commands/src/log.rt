@@ -3,9 +3,8 @@
 ghost use Rattle.std.specs.Prelude.{◌≡◌, ◌==◌, ◌++◌, ◌∷◌, [], if◌then◌else◌, IfErr, IfOk, OnOk, true, codes, string_bytes};
 ghost use Rattle.std.specs.List.{before_first};
 ghost use Rattle.session_lines.specs.LineTexts.{login_front};
-ghost use Rattle.session_commands.specs.LogTexts.{AppendsEntry, HidesPassword, IsEntryText, IsShown, closing_fault, each_after, margin, places_text, seconds_text, sign, time_text};
+ghost use Rattle.session_commands.specs.LogTexts.{AppendsEntry, HidesPassword, IsEntryText, IsShown, IsUnnoted, closing_fault, each_after, margin, places_text, seconds_text, sign, time_text};
 ghost use Rattle.session_commands.specs.Logging.{entry_of};
-ghost use Rattle.session_commands.specs.Playing.{IsUnreported};
 ghost use Rattle.session_setup.specs.Faults.{IsFileFault};
 
 use crate::bridging::{Ends, Peer};
@@ -21,7 +20,7 @@ use std::marker::Model;
 const LOGIN_FRONT: &[u8] = b"LOGIN ";
 
 /// Whether lines come from a peer or go to it.
-#[derive(Clone, Copy, Debug, PartialEq, Eq)]
+#[derive(Clone, Copy)]
 pub enum Direction {
     /// They come from it.
     From,
@@ -154,7 +153,7 @@ pub trait Timer {
 }
 
 /// Whether a log has all that was noted.
-#[derive(Clone, Copy, Debug, PartialEq, Eq)]
+#[derive(Clone, Copy, PartialEq, Eq)]
 pub enum LogState {
     /// All was written.
     Whole,
@@ -237,7 +236,8 @@ fn write_entry<W: Write>(
 ) -> Result<(), MatchFault>
     ensures written { OnOk result (AppendsEntry
         (W.contents writer.old) (W.contents writer.new) (entry_of peer direction lines.now)) }
-    ensures unwritten { IfErr result (IsUnreported writer.old writer.new) }
+    ensures unwritten { IfErr result (IsUnnoted
+        (W.contents writer.old) (W.contents writer.new) (entry_of peer direction lines.now)) }
 {
     let text = entry_text(alloc, time, peer, direction, lines)?;
     streams::write_all(writer, text.as_slice())?;

@@ -137,7 +137,8 @@ fn report<R: Eprint + AllocGlobal, H: Launcher, P: Place, W: Write>(
 fn print_moves<W: Write>(alloc: Global, out: &mut W, moves: usize) -> Result<(), MatchFault>
     ensures printed { OnOk result
         (Appends (W.contents out.old) (W.contents out.new) (played_line moves)) }
-    ensures unprinted { IfErr result (IsUnreported out.old out.new) }
+    ensures unprinted { IfErr result
+        (IsUnreported W.contents (played_line moves) out.old out.new) }
 {
     let line = played_line(alloc, moves)?;
     streams::write_all(out, line.as_bytes())?;
@@ -208,7 +209,7 @@ fn play_in<R: Eprint + AllocGlobal, H: Launcher, P: Place>(
 }
 
 // What a session and its game came to.
-#[derive(Clone, Copy, Debug)]
+#[derive(Clone, Copy)]
 struct Kept {
     session: SessionEnd,
     // The number of moves of the game, or the fault to report.

@@ -9,7 +9,7 @@ use shogi_board::OutOfMemory;
 use std::io::Read;
 
 /// What the first line of a server says.
-#[derive(Clone, Copy, Debug, PartialEq, Eq)]
+#[derive(Clone, Copy)]
 pub enum FirstLine {
     /// Its port.
     Port(u16),

@@ -189,17 +189,26 @@ pub fn say_server_waited_for<R: Eprint>(rt: &R, is_shown: bool) {
     }
 }
 
-// What is shown of a line that says this of the end: of the server's words the line itself. Returns
-// an error if an allocation fails.
+// What is shown of a line that says this of the end: of a reason and a result the line without its
+// comment. Returns an error if an allocation fails.
 fn shown_end(alloc: Global, event: EndEvent, line: &[u8]) -> Result<String, AllocError> {
     let whole = ending::excerpt_of(line);
     match event {
         EndEvent::Slip => ending::slip_line(alloc, whole.as_str()),
         EndEvent::Refused(refusal) => ending::refused_line(alloc, whole.as_str(), refusal),
-        EndEvent::Ending | EndEvent::Reason | EndEvent::Result => {
+        EndEvent::Ending => shown_ending(alloc, ending::excerpt_of(without_comment(line)).as_str()),
+        EndEvent::Reason | EndEvent::Result => {
             let front = ending::excerpt_of(without_comment(line));
             format!(in alloc; "{front}\n")
         }
+    }
+}
+
+// The ending and its seconds, with a space between.
+fn shown_ending(alloc: Global, line: &str) -> Result<String, AllocError> {
+    match line.split_once(",T") {
+        Some((ending, seconds)) => format!(in alloc; "{ending} {seconds}\n"),
+        None => format!(in alloc; "{line}\n"),
     }
 }
 

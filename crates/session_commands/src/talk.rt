@@ -15,7 +15,7 @@ use shogi_session::{Host, HostOut, Sample, SampleOut};
 use std::alloc::Global;
 
 /// Whether a machine answers more lines.
-#[derive(Clone, Copy, Debug, PartialEq, Eq)]
+#[derive(Clone, Copy)]
 pub enum MachineState {
     /// It answers the next one.
     Running,

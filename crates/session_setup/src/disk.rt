@@ -12,7 +12,7 @@ use std::os::unix::fs::PermissionsExt;
 use std::rt::Files;
 
 /// What is at a path.
-#[derive(Clone, Copy, Debug, PartialEq, Eq)]
+#[derive(Clone, Copy)]
 pub enum Found {
     /// A regular file with these permissions.
     File(u32),

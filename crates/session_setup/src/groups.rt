@@ -15,7 +15,7 @@ use std::rt::{Env, Files};
 const LEADING: &str = "setsid";
 
 /// What is ended with a program.
-#[derive(Clone, Copy, Debug, PartialEq, Eq)]
+#[derive(Clone, Copy, PartialEq, Eq)]
 pub enum Reach {
     /// All that are in its group.
     Group,

@@ -24,7 +24,7 @@ use std::rt::{Env, Files};
 use std::time::Clock;
 
 /// Which of the standard streams are terminals.
-#[derive(Clone, Copy, Debug)]
+#[derive(Clone, Copy)]
 pub struct Terminals {
     /// Standard output.
     pub output: bool,

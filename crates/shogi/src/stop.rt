@@ -14,7 +14,7 @@ use std::{fmt, io};
 use usi_text::UsiFault;
 
 /// Why the program did not do what it was asked for.
-#[derive(Clone, Copy, Debug)]
+#[derive(Clone, Copy)]
 pub enum Stop {
     /// A word of the command line is not UTF-8.
     WordsNotText,

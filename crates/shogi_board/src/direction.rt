@@ -9,7 +9,7 @@ use std::marker::Model;
 
 // How far a step goes: files and ranks are counted from 2, so that 1 is one less, 2 stays and 3 is
 // one more.
-#[derive(Clone, Copy, Debug)]
+#[derive(Clone, Copy)]
 pub(crate) struct Direction {
     pub(crate) files: u8,
     pub(crate) ranks: u8,
@@ -26,7 +26,7 @@ impl Model for Direction {
 }
 
 // Where a square is, seen from another.
-#[derive(Clone, Copy, Debug)]
+#[derive(Clone, Copy)]
 pub(crate) struct Bearing {
     pub(crate) direction: Direction,
     pub(crate) distance: u8,

@@ -6,7 +6,7 @@ use thiserror::Error;
 /// An allocation failed.
 ///
 /// It is returned only if that happened, and comes last in each call's order of refusals.
-#[derive(Clone, Copy, Debug, PartialEq, Eq, PartialOrd, Ord, Error)]
+#[derive(Clone, Copy, Debug, PartialEq, Eq, Error)]
 #[error("out of memory")]
 pub struct OutOfMemory;
 

@@ -18,7 +18,7 @@ use std::marker::Model;
 use thiserror::Error;
 
 /// Why a call on a `Setup` was refused.
-#[derive(Clone, Copy, Debug, PartialEq, Eq, PartialOrd, Ord, Error)]
+#[derive(Clone, Copy, Debug, PartialEq, Eq, Error)]
 pub enum SetupFault {
     /// The square holds a piece already.
     #[error("S1 SquareTaken")]

@@ -17,7 +17,7 @@ use std::marker::Model;
 use thiserror::Error;
 
 /// Why a move was not played.
-#[derive(Clone, Copy, Debug, PartialEq, Eq, PartialOrd, Ord, Error)]
+#[derive(Clone, Copy, Debug, PartialEq, Eq, Error)]
 pub enum PlayFault {
     /// The line has 10,000 moves.
     #[error("too many moves")]
@@ -31,7 +31,7 @@ pub enum PlayFault {
 }
 
 /// The state of a game after the moves of a line.
-#[derive(Clone, Copy, Debug, PartialEq, Eq, PartialOrd, Ord)]
+#[derive(Clone, Copy, Debug, PartialEq, Eq)]
 pub enum Verdict {
     /// The side to move has a legal move.
     Ongoing,

@@ -23,6 +23,7 @@ pub use Rattle.bridge_table.specs.Examples
 pub use Rattle.bridge_table.specs.GameSoFar
 pub use Rattle.bridge_table.specs.Hearing
 pub use Rattle.bridge_table.specs.Logs
+pub use Rattle.bridge_table.specs.Passwords
 pub use Rattle.bridge_table.specs.Promises
 pub use Rattle.bridge_table.specs.Row
 pub use Rattle.bridge_table.specs.Sending

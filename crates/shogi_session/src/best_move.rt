@@ -11,7 +11,7 @@ use shogi_rules::{Move, judge};
 use usi_text::{EngineWord, read_engine_line, read_move};
 
 // What an engine says with `bestmove`.
-#[derive(Clone, Copy, Debug, PartialEq, Eq)]
+#[derive(Clone, Copy)]
 pub(crate) enum BestMove {
     // A legal move, or one of the two words that a bridge passes on.
     Answer(Answer),

@@ -19,8 +19,8 @@ ghost use Rattle.shogi_session.specs.Configs.{IsConfig};
 
 pub use bridge_table::laws::{
     asked_right, asking_has_a_position, confirmed_once, ends_are_silent, game_so_far,
-    log_instanced, moves_instanced, row_once, sent_legal, sent_once, silent_when_over, step_whole,
-    summary_line_once, thinking_may_ask,
+    log_instanced, moves_instanced, password_is_in_the_login_alone, row_once, sent_legal,
+    sent_once, silent_when_over, step_whole, summary_line_once, thinking_may_ask,
 };
 pub use host_and_sample::laws::{
     host_game, host_lines_whole, host_row_once, host_step_whole, host_waits_for_its_client,

@@ -6,7 +6,7 @@ use session_lines::server_words::{EndReason, GameResult};
 use shogi_board::Color;
 
 // What the server has said of a game's end, apart from the ending, which the game has.
-#[derive(Clone, Copy, Debug, PartialEq, Eq)]
+#[derive(Clone, Copy)]
 pub(crate) struct EndReport {
     // Whether the server sent the game's ending.
     pub(crate) ending: bool,
@@ -14,7 +14,7 @@ pub(crate) struct EndReport {
 }
 
 // How far a game is, from its start on.
-#[derive(Clone, Copy, Debug, PartialEq, Eq)]
+#[derive(Clone, Copy)]
 pub(crate) enum GameStage {
     Playing,
     Sent(Answer),

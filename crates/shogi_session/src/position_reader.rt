@@ -26,7 +26,7 @@ enum BlockState {
 }
 
 // What became of bytes of a block that a reader was fed.
-#[derive(Clone, Copy, Debug, PartialEq, Eq)]
+#[derive(Clone, Copy)]
 pub(crate) enum Fed {
     // More bytes may make them a game.
     Taken,

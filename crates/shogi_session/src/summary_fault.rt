@@ -1,5 +1,5 @@
 /// Why the lines of a game summary offer no game.
-#[derive(Clone, Copy, Debug, PartialEq, Eq, PartialOrd, Ord)]
+#[derive(Clone, Copy, Debug, PartialEq, Eq)]
 pub enum SummaryFault {
     /// A block that `BEGIN` began was not ended.
     OpenBlock,

@@ -40,7 +40,7 @@ enum Begun {
 }
 
 // What a line of a summary is, by its place.
-#[derive(Clone, Copy, Debug, PartialEq, Eq)]
+#[derive(Clone, Copy)]
 enum SummaryPlace {
     // The first line of a block.
     Begins,

@@ -11,7 +11,7 @@ use clap::{Arg, ArgAction, ArgMatches, Command, value_parser};
 use std::alloc::{AllocError, Global};
 
 /// Which engine plays a game on which server, with which clocks, and where its record goes.
-#[derive(Clone, Copy, Debug)]
+#[derive(Clone, Copy)]
 pub struct Plan<'m, 'a> {
     /// The server.
     pub server: ServerChoice<'a>,
@@ -36,7 +36,7 @@ pub struct Plan<'m, 'a> {
 }
 
 /// The CSA server of a game.
-#[derive(Clone, Copy, Debug)]
+#[derive(Clone, Copy)]
 pub enum ServerChoice<'a> {
     /// One to start, with the words `serve --port 0 --max N`.
     Started {
@@ -50,7 +50,7 @@ pub enum ServerChoice<'a> {
 }
 
 /// Where a password is.
-#[derive(Clone, Copy, Debug)]
+#[derive(Clone, Copy)]
 pub enum PasswordSource<'a> {
     /// On the first line of this file.
     File(&'a str),

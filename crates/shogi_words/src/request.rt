@@ -6,7 +6,7 @@ use hash_comments::HashLines;
 use record_game::Likeness;
 
 /// A command and what its words say.
-#[derive(Clone, Copy, Debug)]
+#[derive(Clone, Copy)]
 pub enum Request<'m, 'a> {
     /// `check`: whether the CSA record in each FILE is accepted, its number of moves, and the state
     /// of the game.
@@ -30,7 +30,7 @@ pub enum Request<'m, 'a> {
 }
 
 /// Which records a command is asked about, and how they are read.
-#[derive(Clone, Copy, Debug)]
+#[derive(Clone, Copy)]
 pub struct Records<'m, 'a> {
     /// The FILEs, in order. If there are none and there is no list, standard input is read.
     pub files: &'m [&'a str],
@@ -47,7 +47,7 @@ pub struct Records<'m, 'a> {
 }
 
 /// The one record that a command reads, and how it is read.
-#[derive(Clone, Copy, Debug)]
+#[derive(Clone, Copy)]
 pub struct OneRecord<'a> {
     /// FILE; None or `-` is standard input.
     pub file: Option<&'a str>,
@@ -58,7 +58,7 @@ pub struct OneRecord<'a> {
 }
 
 /// How each path ends, in a list and where it is printed.
-#[derive(Clone, Copy, Debug, PartialEq, Eq)]
+#[derive(Clone, Copy, PartialEq, Eq)]
 pub enum PathEnd {
     /// With its line; or with a colon and a blank, if more is said of it there.
     Line,

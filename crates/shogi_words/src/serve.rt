@@ -12,7 +12,7 @@ use shogi_rules::MAX_MOVES;
 use std::alloc::{AllocError, Global};
 
 /// Where a server listens, and which game it plays.
-#[derive(Clone, Copy, Debug, PartialEq, Eq)]
+#[derive(Clone, Copy)]
 pub struct Service {
     /// The port to listen on; 0 means any free port.
     pub port: u16,

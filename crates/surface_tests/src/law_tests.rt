@@ -110,6 +110,7 @@ fn session_laws() {
     session::game_so_far();
     session::log_instanced();
     session::moves_instanced();
+    session::password_is_in_the_login_alone();
     session::row_once();
     session::sent_legal();
     session::sent_once();

@@ -33,11 +33,7 @@ fn statements(rt: &impl Abort) {
 fn statements_by_piece(rt: &impl Abort) {
     let mut pieces: PieceCutter = PieceCutter::new();
     let cut: Result<Cut<'_>, CutFault> = pieces.step(b"+\n");
-    let wanted = Cut {
-        used: 2,
-        statement: Some(TURN),
-    };
-    assert!(rt; cut == Ok(wanted));
+    assert!(rt; cut.map(|Cut { used, statement }| (used, statement)) == Ok((2, Some(TURN))));
     let fed: u64 = pieces.fed();
     assert!(rt; fed == 2);
     let last: Result<Option<Statement<'_>>, CutFault> = pieces.finish();

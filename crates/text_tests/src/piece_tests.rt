@@ -115,7 +115,7 @@ fn move_taken(pieces: &mut PieceCutter) -> Option<(u64, u64)> {
     Some((statement.number, statement.offset))
 }
 
-// How many bytes the comment or the separator at the front of the piece takes.
+// How many bytes the separator or the comment at the front of the piece takes.
 fn passed(pieces: &mut PieceCutter, piece: &[u8]) -> Option<usize> {
     if pieces.fed() > 2_000_000 || piece.len() > 2_000_000 {
         return None;
@@ -131,7 +131,7 @@ fn takes_what_was_read(rt: HostRuntime) {
     assert!(rt; count_after(&mut pieces, b"\n") == Some(0));
     assert!(rt; move_taken(&mut pieces) == Some((1, 1)) && pieces.fed() == 9);
     assert!(rt; passed(&mut pieces, b"'x\n+") == Some(3) && passed(&mut pieces, b",") == Some(1));
-    assert!(rt; passed(&mut pieces, b"'x").is_none() && !pieces.is_in_comment());
-    assert!(rt; count_after(&mut pieces, b"'x") == Some(1) && pieces.is_in_comment());
-    assert!(rt; move_taken(&mut pieces).is_none() && passed(&mut pieces, b"\n").is_none());
+    assert!(rt; passed(&mut pieces, b"'x") == Some(2) && passed(&mut pieces, b"+").is_some());
+    assert!(rt; move_taken(&mut pieces).is_none() && passed(&mut pieces, b"x\n+") == Some(2));
+    assert!(rt; passed(&mut pieces, b"+").is_none() && move_taken(&mut pieces) == Some((2, 18)));
 }

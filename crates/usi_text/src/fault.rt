@@ -7,7 +7,7 @@ use shogi_rules::Rule;
 use thiserror::Error;
 
 /// Why a text is not an SFEN. Each fault prints as its number and name, such as `U1 BadBoard`.
-#[derive(Clone, Copy, Debug, PartialEq, Eq, PartialOrd, Ord, Error)]
+#[derive(Clone, Copy, Debug, PartialEq, Eq, Error)]
 pub enum SfenFault {
     /// The first word does not spell nine ranks of nine squares.
     #[error("U1 BadBoard")]
@@ -35,7 +35,7 @@ impl From<SetupFault> for SfenFault {
 }
 
 /// Why a text is not a position line with playable moves.
-#[derive(Clone, Copy, Debug, PartialEq, Eq, PartialOrd, Ord, Error)]
+#[derive(Clone, Copy, Debug, PartialEq, Eq, Error)]
 pub enum UsiFault {
     /// It is neither `position startpos` nor `position sfen` with an SFEN, either alone or followed
     /// by `moves` and the moves.

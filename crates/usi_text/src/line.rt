@@ -15,7 +15,7 @@ use shogi_rules::{Line, MAX_MOVES, PlayFault, judge};
 use std::alloc::Global;
 
 // How a line gives its start.
-#[derive(Clone, Copy, Debug)]
+#[derive(Clone, Copy)]
 enum GivenStart<'a> {
     Even,
     // by the text of an SFEN

@@ -37,7 +37,7 @@ pub fn read_sfen(text: &[u8]) -> Result<Position, SfenFault>
 }
 
 // The first five words of a text. If there are fewer, the others are empty.
-#[derive(Clone, Copy, Debug)]
+#[derive(Clone, Copy)]
 struct SfenWords<'a> {
     board: &'a [u8],
     side: &'a [u8],

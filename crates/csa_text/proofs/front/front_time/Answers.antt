@@ -1,5 +1,5 @@
 use Rattle.std.proofs.Common.{arith}
-use Rattle.csa_text.proofs.FrontTimes.{first_digit, front_spells, front_word}
+use Rattle.csa_text.proofs.FrontTimes.{front_ends, front_spells, front_word, none_at_front}
 use Rattle.csa_text.proofs.front.front_time.Goals as goal
 
 pub returns-clause-spells : goal.returns-clause-spells
@@ -15,5 +15,11 @@ returns-clause-word c =
     front_word c.in_ok-first.first.now digits.result.1 c.args.piece.now c.in_ok-first.text.now whole c.if-first-ne84.false digits.ensures.value.digits_only
 
 pub returns-then-digits-eq0-clause-none : goal.returns-then-digits-eq0-clause-none
-returns-then-digits-eq0-clause-none c = λ d rest is digit.
-    first_digit c.args.piece.now c.in_ok-first.text.now rest c.in_ok-first.first.now c.front_digits-seconds.result.1 d c.in_ok-first.ensures.cases.0 is c.front_digits-seconds.ensures.some c.if-digits-eq0.true digit
+returns-then-digits-eq0-clause-none c = λ rest is.
+    let digits = c.front_digits-seconds in
+    none_at_front c.in_ok-first.first.now digits.result.1 c.args.piece.now c.in_ok-first.text.now rest c.in_ok-first.ensures.cases.0 digits.ensures.all c.if-digits-eq0.true is
+
+pub returns-clause-all : goal.returns-clause-all
+returns-clause-all c =
+    let digits = c.front_digits-seconds in
+    front_ends c.in_ok-first.first.now digits.result.1 c.args.piece.now c.in_ok-first.text.now c.in_ok-first.ensures.cases.0 digits.ensures.all

@@ -1,5 +1,10 @@
 use Rattle.session_commands.proofs.LogTexts.{login_shown, same_log}
+use Rattle.session_commands.proofs.OtherPasswords.{other_password}
 use Rattle.session_commands.proofs.laws.no_password_logged.Goals as goal
 
 pub returns : goal.returns
-returns c = record { login = login_shown; log = same_log }
+returns g c = record {
+  login = login_shown;
+  session = other_password g.E.Ends.came g.E.Ends.went g.E.Ends.gone c.password_is_in_the_login_alone.ensures.login;
+  log = same_log;
+}
