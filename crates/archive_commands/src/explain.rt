@@ -12,6 +12,7 @@ use shogi_board::OutOfMemory;
 use std::alloc::Global;
 use std::fs;
 use std::io::{self, Read};
+use std::os::unix::fs::FileTypeExt;
 use std::rt::Files;
 
 /// The most bytes of a statement that are shown.
@@ -22,7 +23,7 @@ const FOLDER_HINT: &str = "; check, digest and same take folders as FILE";
 
 /// The line about a refused file that shows the statement at fault: the number of its line, counted
 /// from 1, and the first 60 bytes of it, escaped. Empty if the file cannot be read again up to
-/// there, or is standard input.
+/// there, or is standard input or a pipe.
 ///
 /// Returns an error if an allocation fails.
 pub fn refusal<R: Files + AllocGlobal>(
@@ -43,7 +44,8 @@ pub fn refusal<R: Files + AllocGlobal>(
 }
 
 /// The line about a file that cannot be read, with the system's reason. If it is a folder, the line
-/// names the commands that take one. Empty if the file can be read now, or is standard input.
+/// names the commands that take one. Empty if the file can be read now, or is standard input or a
+/// pipe.
 ///
 /// Returns an error if an allocation fails.
 pub fn unreadable<R: Files + AllocGlobal>(rt: &R, file: &str) -> Result<String, OutOfMemory>
@@ -67,12 +69,20 @@ pub fn unreadable<R: Files + AllocGlobal>(rt: &R, file: &str) -> Result<String, 
     }
 }
 
-// The file, or why it cannot be opened. Standard input cannot be read again.
+// The file, or why it cannot be opened. Neither standard input nor a pipe can be read again.
 fn opened_again<R: Files>(rt: &R, file: &str) -> Option<io::Result<R::File>> {
-    if file == "-" {
+    if file == "-" || is_pipe(rt, file) {
         return None;
     }
     Some(fs::open(rt, file))
+}
+
+// To open a named pipe would wait for another writer.
+fn is_pipe<R: Files>(rt: &R, file: &str) -> bool {
+    match fs::metadata(rt, file) {
+        Ok(there) => there.file_type().is_fifo(),
+        Err(_) => false,
+    }
 }
 
 fn read_to_end<B: Read>(input: &mut B) -> io::Result<()> {

@@ -32,7 +32,7 @@ use arrayvec::ArrayVec;
 use std::marker::Model;
 
 /// What one step used and found.
-#[derive(Clone, Copy)]
+#[derive(Clone, Copy, Debug, PartialEq, Eq)]
 pub struct Cut<'b> {
     /// How many bytes of the piece were used.
     pub used: usize,
@@ -354,7 +354,7 @@ fn keep_held(held: &mut ArrayVec<u8, LONGEST_STATEMENT>, goes_on: bool)
     }
 }
 
-// Clears the held bytes in a comment, of which nothing is held.
+// Clears what is held where a comment goes on: of a comment nothing is held.
 #[inline(always)]
 fn clear_in_comment(held: &mut ArrayVec<u8, LONGEST_STATEMENT>, place: Place)
     ensures comment { place ≡ Place.Comment → held.new.items ≡ [] }

@@ -364,8 +364,8 @@ fn used_or_refused(
 ) -> Result<usize, Refusal>
     ensures { MatchResult taken
         (λ _. result ≡ Ok used)
-        (λ why. result
-        ≡ Err (record { number = statement.now.number; offset = statement.now.offset; why = why })) }
+        (λ why. result ≡ Err (record
+        { number = statement.now.number; offset = statement.now.offset; why = why })) }
 {
     match taken {
         Ok(()) => Ok(used),

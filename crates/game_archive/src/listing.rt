@@ -10,7 +10,8 @@ use shogi_board::OutOfMemory;
 use std::alloc::Global;
 use std::collections::BTreeSet;
 
-/// The entries that are in a group with others: for each the first entry of its group, and itself.
+/// The entries that are in a group with others, by the placings that `group` gave: for each the
+/// first entry of its group, and itself.
 ///
 /// Groups come in the order of their first entries, and the entries of a group in their order.
 /// Returns `OutOfMemory` if an allocation fails.

@@ -1,5 +1,5 @@
 -- A bridge in a session in which an allocation fails.
-use Rattle.std.proofs.Common.{◌≡◌, ℕ, List, Result, Ok, Err, OnErr, ap, subst, ◌∙◌}
+use Rattle.std.proofs.Common.{◌≡◌, ℕ, List, Result, Ok, Err, OnErr, ap, refl, subst, sym, ◌∙◌}
 use Rattle.bridge_table.specs.declared.event.Status.{Status}
 use Rattle.bridge_table.specs.declared.event.Status.TheVariants.{Going, Lost}
 use Rattle.bridge_table.specs.declared.state.Waits.{Waits}
@@ -10,8 +10,9 @@ use Rattle.session_commands.specs.declared.bridging.Peer.{Peer}
 use Rattle.shogi_board.specs.declared.memory.OutOfMemory.{OutOfMemory}
 use Rattle.session_commands.specs.declared.bridging.Peer.TheVariants.{Engine, Server}
 use Rattle.session_commands.specs.Plays.{Delivers, Gives, Misses, Takes, peer_for}
-use Rattle.session_commands.specs.LackOfMemory.{GoneRunsOut, NextRunsOut, not_stepped, PlayRunsOut, SendRunsOut, server_gone, StepRunsOut, first_unsent, later_unsent, no_next}
+use Rattle.session_commands.specs.LackOfMemory.{GoneRunsOut, NextRunsOut, not_stepped, SendRunsOut, server_gone, StepRunsOut, first_unsent, later_unsent, lost_before, no_next}
 use Rattle.session_commands.specs.Endings.{Ended}
+use Rattle.session_commands.specs.Noting.{KeptIn, NotedBefore}
 use Rattle.session_commands.proofs.Playing.{Answered, Rounds, first, later}
 
 -- the clauses of a step in which an allocation fails, together
@@ -40,13 +41,25 @@ server_lacks went gone to_engine to_server engine_lines server_lines e s status 
 -- the lines of a step were not all sent
 pub unsent : {E : Type 0} (came : Gives E) (missed : Misses E) (went gone : Takes E) (e : E) (s : Session) (old : Ended) (to_engine to_server : List ℕ) (status : Status) (count : ℕ) (f : E) (t : Session) (new : Ended) (g : E) (u : Session)
     → Answered came went gone e s old to_engine to_server status count f t new → SendRunsOut went gone to_engine to_server f t status g u
-    → PlayRunsOut came missed went gone e s g u
-unsent came missed went gone e s old to_engine to_server status count f t new g u (first t' step) lack =
-    first_unsent (record { to_engine = to_engine; to_server = to_server; stepped = status; session = t; step = step; unsent = lack })
-unsent came missed went gone e s old to_engine to_server status count f t new g u (later f' g' t' u' between new' event played kept arrived step notes) lack =
-    later_unsent f' f t' event played arrived (record { to_engine = to_engine; to_server = to_server; stepped = status; session = t; step = step; unsent = lack })
+    → NotedBefore came missed went gone e s old g u new
+unsent came missed went gone e s old to_engine to_server status count f t new g u (first t' step) lack = record {
+  lack = first_unsent (record { to_engine = to_engine; to_server = to_server; stepped = status; session = t; step = step; unsent = lack });
+  kept = refl;
+}
+unsent came missed went gone e s old to_engine to_server status count f t new g u (later f' g' t' u' between new' event played kept arrived step notes) lack = record {
+  lack = later_unsent f' f t' event played arrived (record { to_engine = to_engine; to_server = to_server; stepped = status; session = t; step = step; unsent = lack });
+  kept = (between, kept, notes);
+}
 
 -- nothing came after the rounds that passed
-pub not_next : {E : Type 0} (came : Gives E) (missed : Misses E) (went gone : Takes E) (e : E) (s : Session) (old : Ended) (count : ℕ) (f : E) (t : Session) (new : Ended) (g : E) (u : Session)
-    → Rounds came went gone e s old count f t new Going → NextRunsOut came missed f t g u → PlayRunsOut came missed went gone e s g u
-not_next came missed went gone e s old count f t new g u rounds lack = no_next f t rounds.noted.played lack
+pub not_next : {E : Type 0} (came : Gives E) (missed : Misses E) (went gone : Takes E) (e : E) (s : Session) (old : Ended) (count : ℕ) (f : E) (t : Session) (new : Ended) (g : E) (u : Session) (last : Ended)
+    → Rounds came went gone e s old count f t new Going → NextRunsOut came missed f t g u → last ≡ new → NotedBefore came missed went gone e s old g u last
+not_next came missed went gone e s old count f t new g u last rounds lack same = record {
+  lack = no_next f t rounds.noted.played lack;
+  kept = subst (λ x. KeptIn rounds.noted.played old x) (sym same) rounds.noted.kept;
+}
+
+-- the bridge was lost in the rounds that passed
+pub rounds_lost : {E : Type 0} (came : Gives E) (missed : Misses E) (went gone : Takes E) (e : E) (s : Session) (old : Ended) (count : ℕ) (f : E) (t : Session) (new : Ended)
+    → Rounds came went gone e s old count f t new Lost → NotedBefore came missed went gone e s old f t new
+rounds_lost came missed went gone e s old count f t new rounds = record { lack = lost_before rounds.noted.played; kept = rounds.noted.kept }

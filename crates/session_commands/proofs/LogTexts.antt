@@ -1,10 +1,15 @@
 -- What a log shows of a login.
-use Rattle.std.proofs.Common.{◌≡◌, ◌==◌, ◌≤◌, ◌+◌, ◌++◌, ◌∙◌, ℕ, Bool, true, false, not, cond, suc, List, [], ◌∷◌, Option, Result, Ok, Err, IfOk, codes, drop, take, ap, refl, subst, sym, arith}
+use Rattle.std.proofs.Common.{◌≡◌, ◌≢◌, ◌⊎◌, inl, inr, ◌==◌, ◌≤◌, ◌+◌, ◌++◌, ◌∙◌, ℕ, Bool, true, false, not, cond, suc, List, [], ◌∷◌, Option, Result, Ok, Err, IfOk, codes, drop, take, take-append-drop, append_assoc, ap, refl, subst, sym, arith}
+use Rattle.std.proofs.lemmas.Bool.{cases_eq}
 use Rattle.std.proofs.lemmas.Bool.Decides.{nat_tests}
 use Rattle.std.specs.List.{AllByRecursion, before_first}
 use Rattle.session_lines.specs.LineTexts.{login_front}
-use Rattle.session_commands.specs.LogTexts.{AppendsEntries, AppendsEntry, DifferInPasswords, HidesPassword, IsEntryText, IsLogText, NotesText, login, login_entry, logins, no_entries, no_memory, not_whole, noted, other, same, unwritten}
+use Rattle.session_commands.specs.LogTexts.{AppendsEntries, AppendsEntry, AppendsFrontOf, DifferInPasswords, HidesPassword, IsEntryText, IsLogFront, IsLogText, IsShown, NotesText, login, login_entry, logins, no_entries, no_memory, not_whole, noted, notes_text, other, same, unwritten}
 use Rattle.session_commands.specs.Logging.{Entry, Notes, NotesAll}
+use Rattle.session_commands.specs.declared.bridging.Peer.{Peer}
+use Rattle.session_commands.specs.declared.bridging.Peer.TheVariants.{Engine, Server}
+use Rattle.session_commands.specs.declared.log.Direction.{Direction}
+use Rattle.session_commands.specs.declared.log.Direction.TheVariants.{From, To}
 use Rattle.session_commands.specs.declared.log.LogState.{LogState}
 use Rattle.session_commands.specs.declared.log.LogState.TheVariants.{Whole}
 use Rattle.std.proofs.KnownBytes.{Appends-nil, Appends-trans}
@@ -65,6 +70,84 @@ noted_all notes state contents writes (entry ∷ more) l m (k, noted_so, rest) w
     let after = noted_all notes state contents writes more k m rest whole in
     let here = whole_noted (state l) (contents l) entry (state k) (contents k) (writes l k entry noted_so) after.0 in
     (here.0, (here.1.0 ++ after.1.0, (here.1.0, after.1.0, here.1.1, after.1.1, refl), Appends-trans (contents l) (contents k) (contents m) here.1.0 after.1.0 here.1.2 after.1.2))
+
+-- nor does a front of it
+pub same_front : (entries others : List Entry) (text : List ℕ) → DifferInPasswords entries others → IsLogFront entries text → IsLogFront others text
+same_front entries others text differ (rest, is) = (rest, same_log entries others (text ++ rest) differ is)
+
+-- each entry has a text
+abbrev BeginsSo : List ℕ → List ℕ → Type 0
+BeginsSo front lines = ((rest : List ℕ) × (lines ≡ front ++ rest)) ⊎ ((rest : List ℕ) → lines ≡ front ++ rest → ⊥)
+
+begins_more : (x y : ℕ) (xs ys : List ℕ) → (y ≡ x) ⊎ (y ≡ x → ⊥) → BeginsSo xs ys → BeginsSo (x ∷ xs) (y ∷ ys)
+begins_more x y xs ys (inl equal) (inl (rest, is)) = inl (rest, ap (λ n. n ∷ ys) equal ∙ ap (λ l. x ∷ l) is)
+begins_more x y xs ys (inl equal) (inr none) = inr (λ rest is. let more : ys ≡ xs ++ rest = cc in none rest more)
+begins_more x y xs ys (inr differ) found = inr (λ rest is. let equal : y ≡ x = cc in differ equal)
+
+begins_or_not : (front lines : List ℕ) → BeginsSo front lines
+begins_or_not [] lines = inl (lines, refl)
+begins_or_not (x ∷ xs) [] = inr (λ rest is. absurd cc)
+begins_or_not (x ∷ xs) (y ∷ ys) = begins_more x y xs ys (cases_eq y x) (begins_or_not xs ys)
+
+hidden_so : (lines : List ℕ) → BeginsSo login_front lines → (shown : List ℕ) × HidesPassword lines shown
+hidden_so lines (inl (rest, is)) = (login_front ++ before_first (λ b. b == 32) rest ++ codes " ***", login rest is refl)
+hidden_so lines (inr none) = (lines, other none refl)
+
+shown_so : (peer : Peer) (direction : Direction) (lines : List ℕ) → (shown : List ℕ) × IsShown peer direction lines shown
+shown_so Engine From lines = (lines, refl)
+shown_so Engine To lines = (lines, refl)
+shown_so Server From lines = (lines, refl)
+shown_so Server To lines = hidden_so lines (begins_or_not login_front lines)
+
+text_so : (entry : Entry) → (text : List ℕ) × IsEntryText entry text
+text_so entry =
+    let found = shown_so entry.peer entry.direction entry.lines in
+    (_, record { time = 0; shown = found.0; is_shown = found.1; text_is = refl })
+
+texts_so : (entries : List Entry) → (text : List ℕ) × IsLogText entries text
+texts_so [] = ([], refl)
+texts_so (entry ∷ more) =
+    let first = text_so entry in
+    let rest = texts_so more in
+    (first.0 ++ rest.0, (first.0, rest.0, first.1, rest.1, refl))
+
+-- a log that is not whole stays as it is
+not_noted : (before : LogState) (old : Option (List ℕ)) (entry : Entry) (after : LogState) (new : Option (List ℕ))
+    → NotesText before old entry after new → before ≢ Whole → (after ≡ before) × (new ≡ old)
+not_noted before old entry after new (noted was is adds) ends = absurd (ends was)
+not_noted before old entry after new (not_whole was stays kept) ends = (stays, kept)
+not_noted before old entry after new (no_memory was is kept) ends = absurd (ends was)
+not_noted before old entry after new (unwritten was is cut) ends = absurd (ends was)
+
+none_noted : (entries : List Entry) (l m : LogState × Option (List ℕ)) → NotesAll notes_text l entries m → l.0 ≢ Whole → m.1 ≡ l.1
+none_noted [] l m kept ends = ap (λ (x : LogState × Option (List ℕ)). x.1) kept
+none_noted (entry ∷ more) l m (k, step, rest) ends =
+    let here = not_noted l.0 l.1 entry k.0 k.1 step ends in
+    none_noted more k m rest (λ whole. ends (sym here.0 ∙ whole)) ∙ here.1
+
+-- a log has a front of the text of what was noted in it
+no_more : (entries : List Entry) (old new : Option (List ℕ)) → new ≡ old → AppendsFrontOf old new entries
+no_more entries old new kept = ([], texts_so entries, subst (λ x. Appends old x []) (sym kept) (Appends-nil old))
+
+front_after : (entry : Entry) (more : List Entry) (l k m : LogState × Option (List ℕ))
+    → NotesText l.0 l.1 entry k.0 k.1 → NotesAll notes_text k more m → AppendsFrontOf k.1 m.1 more → AppendsFrontOf l.1 m.1 (entry ∷ more)
+front_after entry more l k m (noted was is (text, is_text, adds)) rest (front, (left, is_left), more_adds) =
+    (text ++ front, (left, (text, front ++ left, is_text, is_left, append_assoc text front left)), Appends-trans l.1 k.1 m.1 text front adds more_adds)
+front_after entry more l k m (not_whole was stays kept) rest found =
+    no_more (entry ∷ more) l.1 m.1 (none_noted more k m rest (λ whole. was (sym stays ∙ whole)) ∙ kept)
+front_after entry more l k m (no_memory was is kept) rest found =
+    no_more (entry ∷ more) l.1 m.1 (none_noted more k m rest (λ whole. absurd cc) ∙ kept)
+front_after entry more l k m (unwritten was is (text, is_text, (n, least, adds))) rest found =
+    let left = texts_so more in
+    let whole : take n text ++ (drop n text ++ left.0) ≡ text ++ left.0 = sym (append_assoc (take n text) (drop n text) left.0) ∙ ap (λ l. l ++ left.0) (take-append-drop n text) in (
+      take n text,
+      (drop n text ++ left.0, (text, left.0, is_text, left.1, whole)),
+      subst (λ x. Appends l.1 x (take n text)) (sym (none_noted more k m rest (λ whole. absurd cc))) adds,
+    )
+
+pub front_noted : (entries : List Entry) (l m : LogState × Option (List ℕ)) → NotesAll notes_text l entries m → AppendsFrontOf l.1 m.1 entries
+front_noted [] l m kept = no_more [] l.1 m.1 (ap (λ (x : LogState × Option (List ℕ)). x.1) kept)
+front_noted (entry ∷ more) l m (k, step, rest) = front_after entry more l k m step rest (front_noted more k m rest)
 
 -- a login that is written so has no password
 pub login_if_ok : {X E : Type 0} (bytes : X → List ℕ) (r : Result X E) (lines rest : List ℕ) → lines ≡ login_front ++ rest

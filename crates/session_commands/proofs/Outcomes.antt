@@ -5,29 +5,30 @@ use Rattle.std.specs.Bool.{⊤}
 use Rattle.session_setup.specs.declared.fault.MatchFault.{MatchFault}
 use Rattle.session_setup.specs.declared.fault.MatchFault.TheVariants.{OutOfMemory, Endless, Write, Session as SessionFailed}
 use Rattle.session_commands.specs.Endings.{Ended, nothing_said}
-use Rattle.session_commands.specs.Noting.{Noted}
-use Rattle.session_commands.specs.Plays.{Gives, IsEndless, Misses, Takes}
-use Rattle.session_commands.specs.LackOfMemory.{PlayRunsOut}
+use Rattle.session_commands.specs.Noting.{Noted, NotedBefore}
+use Rattle.session_commands.specs.Plays.{Gives, Misses, Takes}
 use Rattle.bridge_table.specs.declared.event.Status.TheVariants.{Done, Failed}
 use Rattle.bridge_table.specs.declared.fault.SessionFault.{SessionFault}
 use Rattle.shogi_session.specs.Promises.{Session}
-use Rattle.session_commands.specs.Playing.{CameOut, IsReported, IsUnreported, done, failed, out_of_memory, endless, not_reported, reported}
+use Rattle.session_commands.specs.Playing.{CameOut, IsReported, IsUnreported, NotedEndless, done, failed, out_of_memory, endless, not_reported, reported}
 use Rattle.session_commands.specs.Words.{played_line}
 
 pub came_out : {E : Type 0} (came : Gives E) (missed : Misses E) (went gone : Takes E) (e : E) (s : Session) (f : E) (t : Session) (said ended : Ended) (answer : Result ⊤ MatchFault)
     → said ≡ nothing_said
     → OnOk answer (Noted came went gone e s said f t ended Done)
     → ((why : SessionFault) → IsErrOf answer (SessionFailed why) → Noted came went gone e s said f t ended (Failed why))
-    → (IsErrOf answer OutOfMemory → PlayRunsOut came missed went gone e s f t)
-    → (IsErrOf answer Endless → IsEndless came went gone e s)
+    → (IsErrOf answer OutOfMemory → NotedBefore came missed went gone e s said f t ended)
+    → (IsErrOf answer Endless → NotedEndless came went gone e s said f t ended)
     → (IsErrOf answer Write → ⊥)
     → CameOut came missed went gone e s f t ended answer
 came_out came missed went gone e s f t said ended (Ok over) none is_done is_failed is_out_of_memory is_endless unwritten =
     done over (subst (λ x. Noted came went gone e s x f t ended Done) none is_done)
 came_out came missed went gone e s f t said ended (Err (SessionFailed why)) none is_done is_failed is_out_of_memory is_endless unwritten =
     failed why (subst (λ x. Noted came went gone e s x f t ended (Failed why)) none (is_failed why refl))
-came_out came missed went gone e s f t said ended (Err OutOfMemory) none is_done is_failed is_out_of_memory is_endless unwritten = out_of_memory (is_out_of_memory refl)
-came_out came missed went gone e s f t said ended (Err Endless) none is_done is_failed is_out_of_memory is_endless unwritten = endless (is_endless refl)
+came_out came missed went gone e s f t said ended (Err OutOfMemory) none is_done is_failed is_out_of_memory is_endless unwritten =
+    out_of_memory (subst (λ x. NotedBefore came missed went gone e s x f t ended) none (is_out_of_memory refl))
+came_out came missed went gone e s f t said ended (Err Endless) none is_done is_failed is_out_of_memory is_endless unwritten =
+    endless (subst (λ x. NotedEndless came went gone e s x f t ended) none (is_endless refl))
 came_out came missed went gone e s f t said ended (Err Write) none is_done is_failed is_out_of_memory is_endless unwritten = absurd (unwritten refl)
 
 -- a game of a number of moves is reported by how its line was printed

@@ -1,5 +1,5 @@
 -- A bridge that plays, round after round.
-use Rattle.std.proofs.Common.{◌≡◌, ◌+◌, ℕ, List, Err, IsErrOf, ap, refl, subst, ◌∙◌}
+use Rattle.std.proofs.Common.{◌≡◌, ◌≤◌, ◌+◌, ◌-◌, ◌^◌, ℕ, List, Err, IsErrOf, ap, arith, refl, subst, ◌∙◌}
 use Rattle.bridge_table.specs.declared.event.Status.{Status}
 use Rattle.bridge_table.specs.declared.event.Status.TheVariants.{Going}
 use Rattle.bridge_table.specs.declared.fault.SessionFault.{SessionFault}
@@ -14,7 +14,7 @@ use Rattle.session_setup.specs.declared.fault.MatchFault.TheVariants as fault
 use Rattle.record_commands.specs.declared.incoming.LineEvent.{LineEvent}
 use Rattle.session_commands.specs.Endings.{Ended}
 use Rattle.session_commands.specs.Noting.{IsKeptOf, IsSnapshotOf, KeepsEvent, KeptIn, Noted}
-use Rattle.session_commands.specs.Playing.{ComesNext}
+use Rattle.session_commands.specs.Playing.{ComesNext, NotedEndless}
 use Rattle.session_commands.specs.declared.ending.Snapshot.{Snapshot}
 use Rattle.session_commands.specs.Plays.{Gives, History, Sends, Takes, event_from, rounds, peer_for, begun, goes_on}
 
@@ -105,6 +105,21 @@ pub round_begun : {E : Type 0} (came : Gives E) (went gone : Takes E) (e : E) (s
 round_begun came went gone e s old count f t between to_engine to_server status g u new rounds next =
     subst (λ n. Answered came went gone e s old to_engine to_server status n g u new) rounds.counted
     (later f g t u between new next.event rounds.noted.played rounds.noted.kept next.arrived next.step next.kept)
+
+-- the rounds of a session that is not ended by them, and the step after them
+pub endless_noted : {E : Type 0} (came : Gives E) (went gone : Takes E) (e : E) (s : Session) (old : Ended) (to_engine to_server : List ℕ) (status : Status) (count : ℕ) (f : E) (t : Session) (new : Ended)
+    → Answered came went gone e s old to_engine to_server status count f t new → 2 ^ 64 - 1 ≤ count
+    → NotedEndless came went gone e s old f t new
+endless_noted came went gone e s old to_engine to_server status count f t new (first t' step) many = absurd (omega (arith, many))
+endless_noted came went gone e s old to_engine to_server status count f t new (later f' g' t' u' between new' event played kept arrived step notes) many = record {
+  endless = record { ends = f'; session = t'; played = played; many = many };
+  between = between;
+  kept = kept;
+  to_engine = to_engine;
+  to_server = to_server;
+  status = status;
+  next = record { event = event; arrived = arrived; step = step; kept = notes };
+}
 
 pub same_session_fault : {T : Type 0} (f g : SessionFault) → IsErrOf {T = T} {E = MatchFault} (Err (fault.Session f)) (fault.Session g) → f ≡ g
 same_session_fault f g same = cc

@@ -94,6 +94,13 @@ pub data NotesText (before : LogState) (old : Option (List ℕ)) (entry : Entry)
   unwritten : before ≡ Whole → after ≡ Unwritten → AppendsCut old new entry
       → NotesText before old entry after new
 
+-- a log refused a text at its end: the beginning of the text, perhaps nothing or all of it, was
+-- added to a log that is whole; one that is not stays as it is
+abbrev pub CutsText : LogState → Option (List ℕ) → List ℕ → Option (List ℕ) → Type 0
+CutsText Whole old text new = AppendsFront old new text
+CutsText Unwritten old text new = new ≡ old
+CutsText OutOfMemory old text new = new ≡ old
+
 -- the fault of a log that was in this state when it was closed; the last text may be unwritten too
 abbrev pub closing_fault : LogState → MatchFault
 closing_fault Whole = fault.Write
@@ -113,6 +120,14 @@ IsLogText (entry ∷ more) text =
 -- exactly the text of these entries was added, if the bytes are known
 abbrev pub AppendsEntries : Option (List ℕ) → Option (List ℕ) → List Entry → Type 0
 AppendsEntries old new entries = (text : List ℕ) × IsLogText entries text × Appends old new text
+
+-- the beginning of the text of a log in which these entries were noted
+abbrev pub IsLogFront : List Entry → List ℕ → Type 0
+IsLogFront entries text = (rest : List ℕ) × IsLogText entries (text ++ rest)
+
+-- exactly the beginning of the text of these entries was added, if the bytes are known
+abbrev pub AppendsFrontOf : Option (List ℕ) → Option (List ℕ) → List Entry → Type 0
+AppendsFrontOf old new entries = (text : List ℕ) × IsLogFront entries text × Appends old new text
 
 -- lines for the server with which a client of this name logs in, by any password
 abbrev pub login_entry : List ℕ → List ℕ → Entry

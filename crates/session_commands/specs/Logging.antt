@@ -79,3 +79,9 @@ abbrev pub ClosesIfAny : {L : Type 0} → (L → List ℕ → L → Type 0)
     → Option L → List ℕ → Option L → Type 0
 ClosesIfAny closed None text m = m ≡ None
 ClosesIfAny {L} closed (Some l) text m = (k : L) × (m ≡ Some k) × closed l text k
+
+-- a text was refused by a log that may be missing; where there is none, it is not refused
+abbrev pub RefusesIfAny : {L : Type 0} → (L → List ℕ → L → Type 0)
+    → Option L → List ℕ → Option L → Type 0
+RefusesIfAny unclosed None text m = ⊥
+RefusesIfAny {L} unclosed (Some l) text m = (k : L) × (m ≡ Some k) × unclosed l text k

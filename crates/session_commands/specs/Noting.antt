@@ -4,7 +4,8 @@ use Rattle.bridge_table.specs.declared.event.Status.{Status}
 use Rattle.record_commands.specs.declared.incoming.LineEvent.{LineEvent}
 use Rattle.record_commands.specs.declared.incoming.LineEvent.TheVariants.{Line, End, Long, Failed}
 use Rattle.session_commands.specs.Endings.{Ended, IsKeptAfter, with_long}
-use Rattle.session_commands.specs.Plays.{Gives, History, Takes, begun, event_from, goes_on}
+use Rattle.session_commands.specs.LackOfMemory.{PlayRunsOut, lost_before, not_begun, first_unsent, no_next, later_unsent}
+use Rattle.session_commands.specs.Plays.{Gives, History, Misses, Takes, begun, event_from, goes_on}
 use Rattle.session_commands.specs.declared.bridging.Peer.{Peer}
 use Rattle.session_commands.specs.declared.ending.Snapshot.{Snapshot}
 use Rattle.shogi_session.specs.Events.{Event}
@@ -59,3 +60,22 @@ pub record Noted {E : Type 0} (came : Gives E) (went gone : Takes E)
     : Type 0 where
   pub played : History came went gone e s f t status
   pub kept : KeptIn played old new
+
+-- what is kept if an allocation failed: what came in the rounds before, and in the step whose lines
+-- were not all sent; what has no step says nothing
+abbrev pub KeptBefore : {E : Type 0} {came : Gives E} {missed : Misses E} {went gone : Takes E}
+    {e : E} {s : Session} {f : E} {t : Session}
+    → PlayRunsOut came missed went gone e s f t → Ended → Ended → Type 0
+KeptBefore (lost_before played) old new = KeptIn played old new
+KeptBefore (not_begun same lack) old new = new ≡ old
+KeptBefore (first_unsent round) old new = new ≡ old
+KeptBefore (no_next g u played lack) old new = KeptIn played old new
+KeptBefore (later_unsent g h u event played arrived round) old new =
+    (between : Ended) × KeptIn played old between
+    × KeepsEvent u round.session round.stepped event between new
+
+-- what passed before an allocation failed, and what is kept of the end after it
+pub record NotedBefore {E : Type 0} (came : Gives E) (missed : Misses E) (went gone : Takes E)
+    (e : E) (s : Session) (old : Ended) (f : E) (t : Session) (new : Ended) : Type 0 where
+  pub lack : PlayRunsOut came missed went gone e s f t
+  pub kept : KeptBefore lack old new

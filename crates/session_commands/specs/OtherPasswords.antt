@@ -4,7 +4,6 @@ use Rattle.bridge_table.specs.declared.config.Config.{Config}
 use Rattle.shogi_session.specs.Promises.{Session}
 use Rattle.shogi_session.specs.Row.{login_line}
 use Rattle.shogi_session.specs.Texts.{text_of}
-use Rattle.session_commands.specs.declared.bridging.Peer.{Peer}
 use Rattle.session_commands.specs.declared.bridging.Peer.TheVariants.{Server}
 use Rattle.session_commands.specs.Plays.{Takes}
 

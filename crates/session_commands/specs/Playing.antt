@@ -7,13 +7,13 @@ use Rattle.session_commands.specs.declared.children.SessionEnd.{SessionEnd}
 use Rattle.session_commands.specs.declared.children.SessionEnd.TheVariants.{BrokenOff, Finished}
 use Rattle.session_setup.specs.declared.fault.MatchFault.{MatchFault}
 use Rattle.session_setup.specs.declared.login.Login.{Login}
-use Rattle.session_commands.specs.Noting.{KeepsEvent, Noted}
+use Rattle.session_commands.specs.Noting.{KeepsEvent, KeptIn, Noted, NotedBefore}
 use Rattle.session_commands.specs.Plays.{Gives, IsEndless, Misses, Takes, peer_for}
-use Rattle.session_commands.specs.LackOfMemory.{PlayRunsOut}
 use Rattle.bridge_table.specs.declared.event.Status.{Status}
 use Rattle.bridge_table.specs.declared.event.Status.TheVariants.{Done, Failed}
 use Rattle.bridge_table.specs.declared.fault.SessionFault.{SessionFault}
 use Rattle.shogi_session.specs.Events.{Event}
+use Rattle.shogi_session.specs.Host.{IsLoginWord}
 use Rattle.shogi_session.specs.Promises.{Session, Steps}
 use Rattle.shogi_session.specs.State.{first_state, waits_for}
 use Rattle.session_commands.specs.Endings.{Ended, IsEndText, nothing_said}
@@ -32,6 +32,18 @@ pub record ComesNext {E : Type 0} (came : Gives E) (e : E) (s : Session) (old : 
   pub step : Steps s event to_engine to_server status t
   pub kept : KeepsEvent s t status event old new
 
+-- a session that went on for 2 ^ 64 - 1 rounds, the step after them, whose lines are not sent, and
+-- what is kept of the end after it
+pub record NotedEndless {E : Type 0} (came : Gives E) (went gone : Takes E)
+    (e : E) (s : Session) (old : Ended) (f : E) (t : Session) (new : Ended) : Type 0 where
+  pub endless : IsEndless came went gone e s
+  pub between : Ended
+  pub kept : KeptIn endless.played old between
+  pub to_engine : List ℕ
+  pub to_server : List ℕ
+  pub status : Status
+  pub next : ComesNext came endless.ends endless.session between to_engine to_server status f t new
+
 -- the outcome of a session that took both ends and the bridge from these states to those, with
 -- what is kept of the end
 pub data CameOut {E : Type 0} (came : Gives E) (missed : Misses E) (went gone : Takes E)
@@ -40,18 +52,22 @@ pub data CameOut {E : Type 0} (came : Gives E) (missed : Misses E) (went gone : 
       → CameOut came missed went gone e s f t ended (Ok over)
   failed : (why : SessionFault) → Noted came went gone e s nothing_said f t ended (Failed why)
       → CameOut came missed went gone e s f t ended (Err (SessionFailed why))
-  out_of_memory : PlayRunsOut came missed went gone e s f t
+  out_of_memory : NotedBefore came missed went gone e s nothing_said f t ended
       → CameOut came missed went gone e s f t ended (Err OutOfMemory)
-  endless : IsEndless came went gone e s
+  endless : NotedEndless came went gone e s nothing_said f t ended
       → CameOut came missed went gone e s f t ended (Err Endless)
 
--- how a session ended was added to its log, if there is one, and the log is whole; or it was not,
--- and that is reported in place of what became of the game
-pub data ClosesLog {E : Type 0} (closed : E → List ℕ → E → Type 0) (says : List ℕ → Type 0)
-    (e f : E) (kept : Result ℕ MatchFault) : Result ℕ MatchFault → Type 0 where
-  is_closed : (text : List ℕ) → says text → closed e text f → ClosesLog closed says e f kept kept
-  not_closed : (fault : MatchFault) → IsFileFault fault
-      → ClosesLog closed says e f kept (Err fault)
+-- how a session ended was added to its log, if there is one, and the log is whole; or the log
+-- refused it, or there was not enough memory to say it, and that is reported in place of what
+-- became of the game
+pub data ClosesLog {E : Type 0} (closed unclosed : E → List ℕ → E → Type 0)
+    (says : List ℕ → Type 0) (e f : E) (kept : Result ℕ MatchFault)
+    : Result ℕ MatchFault → Type 0 where
+  is_closed : (text : List ℕ) → says text → closed e text f
+      → ClosesLog closed unclosed says e f kept kept
+  not_closed : (text : List ℕ) (fault : MatchFault) → says text → unclosed e text f
+      → IsFileFault fault → ClosesLog closed unclosed says e f kept (Err fault)
+  no_text : f ≡ e → ClosesLog closed unclosed says e f kept (Err OutOfMemory)
 
 -- how a session with this outcome ended
 abbrev pub session_end : Result ⊤ MatchFault → SessionEnd
@@ -61,7 +77,7 @@ session_end (Err _) = BrokenOff
 -- a session was played to its outcome and its game was kept in what was begun for it; with how the
 -- session ended, and the number of moves or the fault to report
 pub record PlaysAndKeeps {E P D : Type 0} (came : Gives E) (missed : Misses E)
-    (went gone : Takes E) (closed : E → List ℕ → E → Type 0) (took : TakesText P D)
+    (went gone : Takes E) (closed unclosed : E → List ℕ → E → Type 0) (took : TakesText P D)
     (refused : RefusesText P D) (dropped : Drops P D) (replaced : D → Bool) (draft : D)
     (e : E) (s : Session) (p : P) (f : E) (t : Session) (q : P)
     (end : SessionEnd) (answer : Result ℕ MatchFault) : Type 0 where
@@ -71,13 +87,15 @@ pub record PlaysAndKeeps {E P D : Type 0} (came : Gives E) (missed : Misses E)
   pub ended : Ended
   pub reached : CameOut came missed went gone e s between t ended outcome
   pub kept : KeepsRecord took refused dropped replaced draft t.state.client outcome p q game
-  pub logged : ClosesLog closed (IsEndText ended outcome) between f game answer
+  pub logged : ClosesLog closed unclosed (IsEndText ended outcome) between f game answer
   pub over : end ≡ session_end outcome
 
--- a bridge to which nothing has happened, as `play` configures it by its plan and its login
+-- a bridge to which nothing has happened, as `play` configures it by its plan and its login, whose
+-- name a client can log in with
 pub record IsFirst (plan : Plan) (login : Login) (s : Session) : Type 0 where
   pub state : s.state ≡ first_state
   pub name : s.config.name.bytes ≡ login.name.bytes
+  pub word : IsLoginWord s.config.name.bytes
   pub password : s.config.password.bytes ≡ login.password.bytes
   pub total : s.config.total_ms ≡ plan.total_ms
   pub byoyomi : s.config.byoyomi_ms ≡ plan.byoyomi_ms
@@ -86,7 +104,8 @@ pub record IsFirst (plan : Plan) (login : Login) (s : Session) : Type 0 where
 -- ends, and it stopped the programs; or it did not start them, and its fault is reported
 pub data PlaysIn {H E P R D : Type 0} (started : H → Plan → E → R → H → Type 0)
     (unstarted : H → Plan → MatchFault → H → Type 0) (stopped : H → E → R → SessionEnd → H → Type 0)
-    (came : Gives E) (missed : Misses E) (went gone : Takes E) (closed : E → List ℕ → E → Type 0)
+    (came : Gives E) (missed : Misses E) (went gone : Takes E)
+    (closed unclosed : E → List ℕ → E → Type 0)
     (took : TakesText P D) (refused : RefusesText P D) (dropped : Drops P D)
     (replaced : D → Bool) (draft : D)
     (plan : Plan) (login : Login) (h : H) (p : P) (k : H) (q : P)
@@ -94,37 +113,38 @@ pub data PlaysIn {H E P R D : Type 0} (started : H → Plan → E → R → H �
   played_in : (between : H) (ends over : E) (running : R)
       (first last : Session) (end : SessionEnd) (answer : Result ℕ MatchFault)
       → started h plan ends running between → IsFirst plan login first
-      → PlaysAndKeeps came missed went gone closed took refused dropped replaced draft
+      → PlaysAndKeeps came missed went gone closed unclosed took refused dropped replaced draft
       ends first p over last q end answer
       → stopped between over running end k
-      → PlaysIn started unstarted stopped came missed went gone closed took refused dropped replaced
-      draft plan login h p k q answer
+      → PlaysIn started unstarted stopped came missed went gone closed unclosed took refused
+      dropped replaced draft plan login h p k q answer
   not_started : (fault : MatchFault) → unstarted h plan fault k → dropped p draft q
-      → PlaysIn started unstarted stopped came missed went gone closed took refused dropped replaced
-      draft plan login h p k q (Err fault)
+      → PlaysIn started unstarted stopped came missed went gone closed unclosed took refused
+      dropped replaced draft plan login h p k q (Err fault)
   no_bridge : (between : H) (ends : E) (running : R)
       → started h plan ends running between → dropped p draft q
       → stopped between ends running BrokenOff k
-      → PlaysIn started unstarted stopped came missed went gone closed took refused dropped replaced
-      draft plan login h p k q (Err OutOfMemory)
+      → PlaysIn started unstarted stopped came missed went gone closed unclosed took refused
+      dropped replaced draft plan login h p k q (Err OutOfMemory)
 
 -- a record was begun in a place before a game was played for it; or none could be, and nothing was
 -- started
 pub data PlaysFor {H E P R D : Type 0} (started : H → Plan → E → R → H → Type 0)
     (unstarted : H → Plan → MatchFault → H → Type 0) (stopped : H → E → R → SessionEnd → H → Type 0)
-    (came : Gives E) (missed : Misses E) (went gone : Takes E) (closed : E → List ℕ → E → Type 0)
+    (came : Gives E) (missed : Misses E) (went gone : Takes E)
+    (closed unclosed : E → List ℕ → E → Type 0)
     (begun : P → D → P → Type 0) (unbegun : P → MatchFault → P → Type 0) (took : TakesText P D)
     (refused : RefusesText P D) (dropped : Drops P D) (replaced : D → Bool)
     (plan : Plan) (login : Login) (h : H) (p : P) (k : H) (q : P)
     : Result ℕ MatchFault → Type 0 where
   played_for : (draft : D) (between : P) (answer : Result ℕ MatchFault) → begun p draft between
-      → PlaysIn started unstarted stopped came missed went gone closed took refused dropped replaced
-      draft plan login h between k q answer
-      → PlaysFor started unstarted stopped came missed went gone closed begun unbegun took refused
-      dropped replaced plan login h p k q answer
+      → PlaysIn started unstarted stopped came missed went gone closed unclosed took refused
+      dropped replaced draft plan login h between k q answer
+      → PlaysFor started unstarted stopped came missed went gone closed unclosed begun unbegun
+      took refused dropped replaced plan login h p k q answer
   not_tried : (fault : MatchFault) → unbegun p fault q → k ≡ h
-      → PlaysFor started unstarted stopped came missed went gone closed begun unbegun took refused
-      dropped replaced plan login h p k q (Err fault)
+      → PlaysFor started unstarted stopped came missed went gone closed unclosed begun unbegun
+      took refused dropped replaced plan login h p k q (Err fault)
 
 -- a front of the line was printed, which may be empty or the whole line; or there was not enough
 -- memory for it, and nothing was printed

@@ -2,10 +2,10 @@
 
 ghost use Rattle.std.specs.Prelude.{◌≡◌, ◌↔◌, IsErrOf, IsTrue, IfErr, IfOk, OnOk, OnErr};
 ghost use Rattle.csa_cutting.specs.Lines.{HasNoLineEnd};
-ghost use Rattle.session_commands.specs.Playing.{ComesNext};
-ghost use Rattle.session_commands.specs.Plays.{Delivers, IsEndless, History, Sends, end_of, event_from, peer_for};
+ghost use Rattle.session_commands.specs.Playing.{ComesNext, NotedEndless};
+ghost use Rattle.session_commands.specs.Plays.{Delivers, History, Sends, end_of, event_from, peer_for};
 ghost use Rattle.session_commands.specs.Holding.{TookAll};
-ghost use Rattle.session_commands.specs.Noting.{IsKeptOf, Noted};
+ghost use Rattle.session_commands.specs.Noting.{IsKeptOf, Noted, NotedBefore};
 ghost use Rattle.session_commands.specs.PlayedLogs.{PlaysLegally, handed, happened};
 ghost use Rattle.session_commands.specs.LackOfMemoryLogs.{SentLegally, sent_before};
 ghost use Rattle.session_commands.specs.LackOfMemory.{GoneRunsOut, NextRunsOut, PlayRunsOut, SendRunsOut};
@@ -85,10 +85,14 @@ pub trait Ends {
     // This was said of the session, and all that passed was logged, if there is a log.
     ghost closed: { Self → List ℕ → Self → Type 0 };
 
+    // At most the beginning of this was added to the log.
+    ghost unclosed: { Self → List ℕ → Self → Type 0 };
+
     /// Adds to the log, if there is one, how the session ended. If the log lacks this, or something
     /// that passed before, refuses `Write`, or `OutOfMemory` if an allocation failed for it.
     fn close(&mut self, text: &[u8]) -> Result<(), MatchFault>
         ensures closed { OnOk result (closed self.old text.now self.new) }
+        ensures unclosed { OnErr result (unclosed self.old text.now self.new) }
         ensures faults { IfErr result IsFileFault };
 
     // A writer holds the lines that its peer takes, and nothing else is added to it, unless the
@@ -157,8 +161,10 @@ impl<ER: Read + Drop, EW: Write + Drop, SR: Read + Drop, SW: Write + Drop> Ends
         ((t.engine.lines ≡ s.engine.lines) × (t.server ≡ s.server))
         ((t.server.lines ≡ s.server.lines) × (t.engine ≡ s.engine)) };
 
-    // There is no log.
+    // There is no log, so closing it is never refused.
     ghost closed = { λ s text t. t ≡ s };
+
+    ghost unclosed = { λ s text t. ⊥ };
 
     fn receive(&mut self, peer: Peer) -> Result<LineEvent, OutOfMemory> {
         match peer {
@@ -237,7 +243,8 @@ pub fn play<R: Eprint + AllocGlobal, E: Ends>(
         → Noted E.came E.went E.gone ends.old bridge.old
         progress.old.ended ends.new bridge.new progress.new.ended (Failed fault) }
     ensures out_of_memory { IsErrOf result MatchFault.OutOfMemory
-        → PlayRunsOut E.came E.missed E.went E.gone ends.old bridge.old ends.new bridge.new }
+        → NotedBefore E.came E.missed E.went E.gone ends.old bridge.old
+        progress.old.ended ends.new bridge.new progress.new.ended }
     ensures legal { (f : E) (t : Session) (status : Status)
         (played : History E.came E.went E.gone ends.old bridge.old f t status)
         → bridge.old.state ≡ first_state
@@ -252,7 +259,8 @@ pub fn play<R: Eprint + AllocGlobal, E: Ends>(
         → Appends (E.held ends.old peer) (E.held f peer) (handed peer played) }
     ensures unwritten { IsErrOf result MatchFault.Write → ⊥ }
     ensures endless { IsErrOf result MatchFault.Endless
-        → IsEndless E.came E.went E.gone ends.old bridge.old }
+        → NotedEndless E.came E.went E.gone ends.old bridge.old
+        progress.old.ended ends.new bridge.new progress.new.ended }
 {
     played_moves_are_legal::<E>();
     sent_lines_are_held::<E>();
@@ -330,6 +338,7 @@ fn step_next<R: Eprint + AllocGlobal, E: Ends>(
         out.to_engine out.to_server out.status ends.new bridge.new progress.new.ended) }
     ensures out_of_memory { OnErr result
         (NextRunsOut E.came E.missed ends.old bridge.old ends.new bridge.new) }
+    ensures kept { OnErr result (progress.new.ended ≡ progress.old.ended) }
 {
     let peer = peer_of(bridge.waits_for());
     let read = ends.receive(peer)?;

@@ -4,7 +4,8 @@ ghost use Rattle.std.specs.Prelude.{◌≡◌, ◌⊎◌, IfErr, IfOk, OnErr, On
 ghost use Rattle.std.specs.Process.{child_status, command_args, command_program, makes_pipe};
 ghost use Rattle.session_setup.specs.Faults.{IsEngineFault, IsFileFault};
 ghost use Rattle.session_commands.specs.Launching.{engine_words, local_address, serve_words};
-ghost use Rattle.session_commands.specs.Children.{IsWithoutPassword, fault_if_gone};
+ghost use Rattle.session_setup.specs.Logins.{IsWithoutPassword};
+ghost use Rattle.session_commands.specs.Children.{fault_if_gone};
 
 use crate::bridging::{Peer, Side};
 use crate::log::{Log, TextLog};
@@ -465,17 +466,9 @@ fn spawn<R: Processes>(
     command.stdin(stdin);
     command.stdout(Stdio::piped());
     command.stderr(stderr);
-    hide_password(command)?;
+    login::hide_password(command)?;
     let child = spawn_without_password(rt, command)?;
     Ok(Member { child, reach })
-}
-
-// Takes the password from the environment of the program.
-fn hide_password(command: &mut Command<Global>) -> Result<(), AllocError>
-    ensures hidden { OnOk result (IsWithoutPassword command.new) }
-{
-    command.env_remove(login::VARIABLE)?;
-    Ok(())
 }
 
 // Starts a program that does not get the password.
@@ -560,8 +553,9 @@ fn side_of<P: OpenProcess + Drop>(
     }
 }
 
-// Ends a child, so that none outlives the program. After a session that was finished it has ten
-// seconds to end by itself; any other child is ended at once. Returns whether it has ended.
+// Ends a child and its group, so that none outlives the program. After a session that was finished
+// the child has ten seconds to end by itself; any other child is ended at once. Returns whether it
+// has ended.
 fn end_member<R: Clock + Processes + AllocGlobal, P: OpenProcess + Drop>(
     rt: &R,
     member: &mut Member<P>,
@@ -569,7 +563,11 @@ fn end_member<R: Clock + Processes + AllocGlobal, P: OpenProcess + Drop>(
 ) -> bool
     ensures ended { result ≡ true → is_some (child_status member.new.child) ≡ true }
 {
-    has_ended(rt, &mut member.child, after) || groups::end(rt, member)
+    if has_ended(rt, &mut member.child, after) {
+        groups::end_group(rt, member);
+        return true;
+    }
+    groups::end(rt, member)
 }
 
 // Whether the child ends by itself in the time that it has.

@@ -1,8 +1,8 @@
 //! The server and the engine of a game: started, joined to a bridge, and ended.
 
-ghost use Rattle.std.specs.Prelude.{◌≡◌, ◌++◌, ℕ, List, IfErr, IfOk, OnOk, None, option_map, string_bytes};
+ghost use Rattle.std.specs.Prelude.{◌≡◌, ◌⊎◌, ◌++◌, ℕ, List, IfErr, IfOk, OnErr, OnOk, None, option_map, string_bytes};
 ghost use Rattle.session_commands.specs.Launching.{IsApart, IsJoined, IsJoinedByPort, IsPortless, IsStarted, IsUnstarted};
-ghost use Rattle.session_commands.specs.Logging.{ClosesIfAny};
+ghost use Rattle.session_commands.specs.Logging.{ClosesIfAny, RefusesIfAny};
 ghost use Rattle.session_commands.specs.Ports.{SaysNoPort, SaysPort, other_line_text};
 ghost use Rattle.session_commands.specs.Words.{reason_line};
 
@@ -109,6 +109,9 @@ impl<P: Programs + Drop> Local<P> {
         ensures noted { OnOk result ((fault_line : List ℕ)
             × ClosesIfAny P.Log.Log.closed self.old.log
             (reason_line (P.reason self.old.programs) ++ fault_line) self.new.log) }
+        ensures unnoted { OnErr result ((self.new.log ≡ self.old.log)
+            ⊎ ((fault_line : List ℕ) × RefusesIfAny P.Log.Log.unclosed self.old.log
+            (reason_line (P.reason self.old.programs) ++ fault_line) self.new.log)) }
     {
         let text = fault_text(self.alloc, self.programs.reason(), fault)?;
         self.log.close(text.as_bytes())

@@ -1,9 +1,9 @@
 //! A log of what passes between a bridge, its engine and its server.
 
-ghost use Rattle.std.specs.Prelude.{◌≡◌, ◌==◌, ◌++◌, ◌∷◌, [], if◌then◌else◌, IfErr, IfOk, OnOk, true, codes, string_bytes};
+ghost use Rattle.std.specs.Prelude.{◌≡◌, ◌==◌, ◌++◌, ◌∷◌, [], if◌then◌else◌, IfErr, IfOk, OnErr, OnOk, true, codes, string_bytes};
 ghost use Rattle.std.specs.List.{before_first};
 ghost use Rattle.session_lines.specs.LineTexts.{login_front};
-ghost use Rattle.session_commands.specs.LogTexts.{AppendsEntry, HidesPassword, IsEntryText, IsShown, IsUnnoted, closing_fault, each_after, margin, places_text, seconds_text, sign, time_text};
+ghost use Rattle.session_commands.specs.LogTexts.{AppendsEntry, CutsText, HidesPassword, IsEntryText, IsShown, IsUnnoted, closing_fault, each_after, margin, places_text, seconds_text, sign, time_text};
 ghost use Rattle.session_commands.specs.Logging.{entry_of};
 ghost use Rattle.session_setup.specs.Faults.{IsFileFault};
 
@@ -40,6 +40,9 @@ pub trait Log {
     // This text was added at the end, and the log is whole.
     ghost closed: { Self → List ℕ → Self → Type 0 };
 
+    // At most the beginning of this text was added, and nothing to a log that was not whole.
+    ghost unclosed: { Self → List ℕ → Self → Type 0 };
+
     /// Notes a line that came from the peer, without its line end, or lines that went to it, with
     /// theirs.
     fn note(&mut self, peer: Peer, direction: Direction, lines: &[u8])
@@ -49,16 +52,19 @@ pub trait Log {
     /// an allocation failed for one of its entries.
     fn close(&mut self, text: &[u8]) -> Result<(), MatchFault>
         ensures closed { OnOk result (closed self.old text.now self.new) }
+        ensures unclosed { OnErr result (unclosed self.old text.now self.new) }
         ensures faults { IfErr result IsFileFault };
 }
 
 // A log that may be missing.
 impl<L: Log + Drop> Log for Option<L> {
-    ghost use Rattle.session_commands.specs.Logging.{ClosesIfAny, NotesIfAny};
+    ghost use Rattle.session_commands.specs.Logging.{ClosesIfAny, NotesIfAny, RefusesIfAny};
 
     ghost noted = { NotesIfAny L.noted };
 
     ghost closed = { ClosesIfAny L.closed };
+
+    ghost unclosed = { RefusesIfAny L.unclosed };
 
     fn note(&mut self, peer: Peer, direction: Direction, lines: &[u8]) {
         if let Some(log) = self {
@@ -107,6 +113,8 @@ impl<E: Ends + Drop, L: Log + Drop> Ends for Logged<E, L> {
     ghost gone = { λ s peer lines t. E.gone s.0 peer lines t.0 × (t.1 ≡ s.1) };
 
     ghost closed = { λ s text t. (t.0 ≡ s.0) × L.closed s.1 text t.1 };
+
+    ghost unclosed = { λ s text t. (t.0 ≡ s.0) × L.unclosed s.1 text t.1 };
 
     fn receive(&mut self, peer: Peer) -> Result<LineEvent, OutOfMemory> {
         let event = self.ends.receive(peer)?;
@@ -190,7 +198,7 @@ impl<T: Timer + Drop, W: Write + Drop> TextLog<T, W> {
 impl<T: Timer + Drop, W: Write + Drop> Log for TextLog<T, W> {
     ghost use Rattle.std.specs.Prelude.{◌≡◌};
     ghost use Rattle.std.specs.Io.KnownBytes.{Appends};
-    ghost use Rattle.session_commands.specs.LogTexts.{NotesText};
+    ghost use Rattle.session_commands.specs.LogTexts.{CutsText, NotesText};
     ghost use Rattle.session_commands.specs.declared.log.LogState.{LogState};
 
     ghost noted = { λ l entry m.
@@ -198,6 +206,9 @@ impl<T: Timer + Drop, W: Write + Drop> Log for TextLog<T, W> {
 
     ghost closed = { λ l text m. (l.state ≡ LogState.Whole)
         × Appends (W.contents l.writer) (W.contents m.writer) text };
+
+    ghost unclosed = { λ l text m.
+        CutsText l.state (W.contents l.writer) text (W.contents m.writer) };
 
     fn note(&mut self, peer: Peer, direction: Direction, lines: &[u8]) {
         if self.state != LogState::Whole {
@@ -214,6 +225,8 @@ impl<T: Timer + Drop, W: Write + Drop> Log for TextLog<T, W> {
     fn close(&mut self, text: &[u8]) -> Result<(), MatchFault>
         ensures closed { OnOk result ((self.old.state ≡ LogState.Whole)
             × Appends (W.contents self.old.writer) (W.contents self.new.writer) text.now) }
+        ensures unclosed { OnErr result (CutsText self.old.state
+            (W.contents self.old.writer) text.now (W.contents self.new.writer)) }
         ensures faults { IfErr result IsFileFault }
         ensures fault { IfErr result (λ fault. fault ≡ closing_fault self.old.state) }
     {

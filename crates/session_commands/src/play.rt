@@ -101,7 +101,8 @@ fn play_planned<R: Eprint + AllocGlobal, S: Secrets, H: Launcher, P: Place, W: W
         S.holds S.holds_no_text secrets.now plan.now)
         (λ login. IsReported (PlaysFor H.started H.unstarted
         H.stopped H.Peers.Ends.came H.Peers.Ends.missed H.Peers.Ends.went H.Peers.Ends.gone
-        H.Peers.Ends.closed P.begun P.unbegun P.took P.refused P.dropped P.replaced
+        H.Peers.Ends.closed H.Peers.Ends.unclosed
+        P.begun P.unbegun P.took P.refused P.dropped P.replaced
         plan.now login launcher.old place.old launcher.new place.new)
         W.contents out.old out.new)
         ((launcher.new ≡ launcher.old) × (place.new ≡ place.old) × (out.new ≡ out.old))
@@ -125,7 +126,8 @@ fn report<R: Eprint + AllocGlobal, H: Launcher, P: Place, W: Write>(
     requires { AreLoginWords login.now }
     ensures { IsReported (PlaysFor H.started H.unstarted
         H.stopped H.Peers.Ends.came H.Peers.Ends.missed H.Peers.Ends.went H.Peers.Ends.gone
-        H.Peers.Ends.closed P.begun P.unbegun P.took P.refused P.dropped P.replaced
+        H.Peers.Ends.closed H.Peers.Ends.unclosed
+        P.begun P.unbegun P.took P.refused P.dropped P.replaced
         plan.now login.now launcher.old place.old launcher.new place.new)
         W.contents out.old out.new result }
 {
@@ -164,7 +166,8 @@ fn play_for<R: Eprint + AllocGlobal, H: Launcher, P: Place>(
     requires { AreLoginWords login.now }
     ensures { PlaysFor H.started H.unstarted
         H.stopped H.Peers.Ends.came H.Peers.Ends.missed H.Peers.Ends.went H.Peers.Ends.gone
-        H.Peers.Ends.closed P.begun P.unbegun P.took P.refused P.dropped P.replaced
+        H.Peers.Ends.closed H.Peers.Ends.unclosed
+        P.begun P.unbegun P.took P.refused P.dropped P.replaced
         plan.now login.now launcher.old place.old launcher.new place.new result }
 {
     let draft = place.begin()?;
@@ -184,7 +187,7 @@ fn play_in<R: Eprint + AllocGlobal, H: Launcher, P: Place>(
     requires { AreLoginWords login.now }
     ensures played { PlaysIn H.started H.unstarted
         H.stopped H.Peers.Ends.came H.Peers.Ends.missed H.Peers.Ends.went H.Peers.Ends.gone
-        H.Peers.Ends.closed P.took P.refused P.dropped P.replaced draft
+        H.Peers.Ends.closed H.Peers.Ends.unclosed P.took P.refused P.dropped P.replaced draft
         plan.now login.now launcher.old place.old launcher.new place.new result }
 {
     say_server_waited_for(rt, plan.is_shown);
@@ -225,7 +228,7 @@ fn play_between<R: Eprint + AllocGlobal, E: Ends, P: Place>(
     draft: P::Draft,
     is_shown: bool,
 ) -> Kept
-    ensures whole { PlaysAndKeeps E.came E.missed E.went E.gone E.closed
+    ensures whole { PlaysAndKeeps E.came E.missed E.went E.gone E.closed E.unclosed
         P.took P.refused P.dropped P.replaced draft ends.old bridge.old place.old
         ends.new bridge.new place.new result.session result.moves }
 {
@@ -258,7 +261,7 @@ fn close_log<E: Ends>(
     played: Result<(), MatchFault>,
     kept: Result<usize, MatchFault>,
 ) -> Result<usize, MatchFault>
-    ensures { ClosesLog E.closed (IsEndText progress.now.ended played)
+    ensures { ClosesLog E.closed E.unclosed (IsEndText progress.now.ended played)
         ends.old ends.new kept result }
 {
     let text = progress.end_text(alloc, played)?;

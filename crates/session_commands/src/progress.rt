@@ -4,7 +4,7 @@ ghost use Rattle.std.specs.Prelude.{◌≡◌, ◌⊎◌, ◌↔◌, ◌+◌, �
 ghost use Rattle.std.specs.List.{position_or_len};
 ghost use Rattle.session_commands.specs.Comments.{is_quote, without_comment};
 ghost use Rattle.session_commands.specs.Endings.{IsEndText, IsKeptAfter, nothing_said, with_long};
-ghost use Rattle.session_commands.specs.Showing.{IsCountOf};
+ghost use Rattle.session_commands.specs.Showing.{IsCountOf, ended_peer};
 ghost use Rattle.session_lines.specs.MoveLines.{is_move_line};
 ghost use Rattle.shogi_session.specs.State.{client_state};
 
@@ -147,18 +147,12 @@ impl Progress {
         }
     }
 
-    /// Says which peer has ended, and its last line, if that is why the session failed and moves are
-    /// shown. An error of standard error is ignored.
+    /// Says which peer has ended, and its last line, if that is why the session failed and moves
+    /// are shown. An error of standard error is ignored.
     pub fn finish<R: Eprint>(&self, rt: &R, played: Result<(), MatchFault>) {
-        let Err(fault) = played else {
+        let Some(peer) = self.ended_peer(played) else {
             return;
         };
-        let Some(peer) = ending::gone_peer(fault) else {
-            return;
-        };
-        if !self.is_shown {
-            return;
-        }
         let words = ending::gone_line(peer);
         let last = match peer {
             Peer::Engine => &self.engine_line,
@@ -168,6 +162,16 @@ impl Progress {
             Some(line) => rt.eprintln(format_args!("{words} after {line}")),
             None => rt.eprintln(words),
         };
+    }
+
+    // The peer whose end is to be shown.
+    fn ended_peer(&self, played: Result<(), MatchFault>) -> Option<Peer>
+        ensures { result ≡ ended_peer self.now.is_on played }
+    {
+        match played {
+            Err(fault) if self.is_shown => ending::gone_peer(fault),
+            _ => None,
+        }
     }
 
     /// How the session ended, in lines for its log. Returns an error if an allocation fails.

@@ -1,7 +1,9 @@
 -- For private functions: the name and the password that `play` logs in with.
-use Rattle.std.specs.Prelude.{◌≡◌, ◌==◌, ◌||◌, ℕ, List, Option, Result, Ok, Err, None, Some, IfSome, ⊤, codes}
+use Rattle.std.specs.Prelude.{◌≡◌, ◌==◌, ◌||◌, ℕ, List, Option, Result, Ok, Err, None, Some, IfSome, ⊤, codes, if◌then◌else◌}
 use Rattle.std.specs.Borrow.{Bor}
 use Rattle.std.specs.List.{before_first}
+use Rattle.std.specs.Process.{clears_env, command_var}
+use Rattle.std.specs.declared.process.command.Command.{Command}
 use Rattle.session_setup.specs.declared.fault.LoginFault.{LoginFault}
 use Rattle.session_setup.specs.declared.fault.LoginFault.TheVariants.{BadName, BadPassword, Read, OutOfMemory}
 use Rattle.session_setup.specs.declared.fault.MatchFault.{MatchFault}
@@ -95,3 +97,8 @@ pub data IsPlayed (is_login : Login → Type 0) (has_no_login : LoginFault → T
       → IsPlayed is_login has_no_login reported untouched (Err (MatchFailed fault))
   not_begun : (fault : LoginFault) → has_no_login fault → untouched
       → IsPlayed is_login has_no_login reported untouched (Err (LoginFailed fault))
+
+-- the program of a command gets no variable with a password, whatever this process has
+abbrev pub IsWithoutPassword : {A : Type 0} → Command A → Type 0
+IsWithoutPassword c =
+    command_var c (codes "SHOGI_PASSWORD") ≡ (if clears_env c then None else Some None)

@@ -2,8 +2,10 @@
 
 ghost use Rattle.std.specs.Prelude.{◌≡◌, ◌∷◌, IfOk, IfSome, codes, is_some, string_bytes, true};
 ghost use Rattle.std.specs.Process.{child_status, command_args, command_program};
+ghost use Rattle.session_setup.specs.Logins.{IsWithoutPassword};
 ghost use Rattle.session_setup.specs.Plans.{IsPathOf, has_slash};
 
+use crate::login::hide_password;
 use std::alloc::{AllocError, Global};
 use std::env::{self, VarError};
 use std::fs;
@@ -124,10 +126,16 @@ pub fn end<R: Processes + AllocGlobal, P: OpenProcess + Drop>(
 ) -> bool
     ensures ended { result ≡ true → is_some (child_status member.new.child) ≡ true }
 {
+    end_group(rt, member);
+    member.child.kill().is_ok() && member.child.wait().is_ok()
+}
+
+/// Ends what is ended with the program, if that is its group: what it has started may live on when
+/// it has ended itself.
+pub fn end_group<R: Processes + AllocGlobal, P: OpenProcess + Drop>(rt: &R, member: &Member<P>) {
     if member.reach == Reach::Group {
         let _ = kill_group(rt, member);
     }
-    member.child.kill().is_ok() && member.child.wait().is_ok()
 }
 
 // Kills each process of the group that the program leads.
@@ -146,6 +154,14 @@ fn kill_group<R: Processes + AllocGlobal, P: OpenProcess + Drop>(
     kill.stdin(Stdio::null());
     kill.stdout(Stdio::null());
     kill.stderr(Stdio::null());
-    let _ = kill.status(rt);
+    hide_password(&mut kill)?;
+    run_without_password(rt, &mut kill);
     Ok(())
+}
+
+// Runs a program that does not get the password, and waits for its end.
+fn run_without_password<R: Processes>(rt: &R, command: &mut Command<Global>)
+    requires { IsWithoutPassword command.old }
+{
+    let _ = command.status(rt);
 }

@@ -1,15 +1,16 @@
 //! The name and the password that `play` logs in with.
 
-ghost use Rattle.std.specs.Prelude.{◌≡◌, ◌↔◌, ◌⊎◌, IfErr, IfOk, IsTrue, MatchOption, option_map, string_bytes};
-ghost use Rattle.session_setup.specs.Logins.{AreLoginWords, GivesLine, GivesNoWord, GivesPassword, HasNoLogin, HasNoPassword, IsLoginOf, first_line};
+ghost use Rattle.std.specs.Prelude.{◌≡◌, ◌↔◌, ◌⊎◌, IfErr, IfOk, IsTrue, MatchOption, OnOk, option_map, string_bytes};
+ghost use Rattle.session_setup.specs.Logins.{AreLoginWords, GivesLine, GivesNoWord, GivesPassword, HasNoLogin, HasNoPassword, IsLoginOf, IsWithoutPassword, first_line};
 ghost use Rattle.host_and_sample.specs.Host.{IsLoginWord};
 
 use crate::fault::LoginFault;
 use arrayvec::ArrayString;
 use shogi_words::{PasswordSource, Plan};
-use std::alloc::Global;
+use std::alloc::{AllocError, Global};
 use std::env::VarError;
 use std::io::{ErrorKind, Read};
+use std::process::Command;
 use std::rt::{Env, Files};
 use std::{env, fs, str};
 
@@ -206,4 +207,14 @@ fn is_login_word(bytes: &[u8]) -> bool
     ensures { IsTrue result ↔ IsLoginWord bytes.now }
 {
     !bytes.is_empty() && bytes.len() <= 32 && bytes.iter().all(|b| 0x21 <= *b && *b <= 0x7E)
+}
+
+/// Takes the variable with the password from the environment of a program that is to be started.
+///
+/// Returns an error if an allocation fails.
+pub fn hide_password(command: &mut Command<Global>) -> Result<(), AllocError>
+    ensures hidden { OnOk result (IsWithoutPassword command.new) }
+{
+    command.env_remove(VARIABLE)?;
+    Ok(())
 }

@@ -1,10 +1,10 @@
 -- Who attacks a square is seen from it: in one of eight directions, or a knight's jump away.
-use Rattle.std.proofs.Common.{◌≡◌, ℕ, ◌+◌, ◌-◌, ◌*◌, ◌<◌, ◌≤◌, ◌⊎◌, inl, inr, List, [], ◌∷◌, ◌++◌, Any, None, Some, Option, Bool, false, is_some, sym, ◌↔◌, IsTrue, arith, ap, subst, ◌∙◌}
+use Rattle.std.proofs.Common.{◌≡◌, ℕ, ◌+◌, ◌-◌, ◌*◌, ◌<◌, ◌≤◌, ◌⊎◌, inl, inr, List, [], ◌∷◌, ◌++◌, Any, None, Some, Option, Bool, false, is_some, sym, ◌↔◌, IsTrue, arith, ap, refl, subst, ◌∙◌, Contains}
 use Rattle.std.specs.Prelude.{MatchOption}
 use Rattle.std.proofs.lemmas.Bool.{cases_lt}
 use Rattle.shogi_board.specs.Attackers.{AttackInSight, IsAttackedByJump, IsAttackedInLine}
 use Rattle.shogi_board.specs.Directions.{IsNowhere, Lies}
-use Rattle.shogi_board.specs.Cells.{Cells, at}
+use Rattle.shogi_board.specs.Cells.{Cells, at, piece}
 use Rattle.shogi_board.specs.Danger.{SeenTowards}
 use Rattle.shogi_board.specs.Moves.{IsRay, back_left, back_right, diagonals, gold, orthogonals, rays, steps, turned_for}
 use Rattle.shogi_board.specs.Directions.{IsNear, Goes}
@@ -119,10 +119,10 @@ ray-line P _ h = elim h [ ]
 gold-line : (P : Direction → Type 0) → OneOf P (steps Gold) → OneOf P (steps King)
 gold-line P h = in-front P gold (back_left ∷ back_right ∷ []) h
 
-step-line : (P : Direction → Type 0) (kind : Kind) → OneOf P (steps kind) → OneOf P (steps King) ⊎ OneOf P (steps Knight)
+step-line : (P : Direction → Type 0) (kind : Kind) → OneOf P (steps kind) → OneOf P (steps King) ⊎ ((kind ≡ Knight) × OneOf P (steps Knight))
 step-line P Pawn (inl h) = inl (inl h)
 step-line P Pawn (inr h) = elim h [ ]
-step-line P Knight h = inr h
+step-line P Knight h = inr (refl, h)
 step-line P Silver (inl h) = inl (inl h)
 step-line P Silver (inr h) = inl (behind P orthogonals diagonals h)
 step-line P King h = inl h
@@ -133,23 +133,36 @@ step-line P Bishop h = elim h [ ]
 step-line P Rook h = elim h [ ]
 step-line P _ h = inl (gold-line P h)
 
+-- a king's steps are the same, seen by either side
+turned-line : (P : Direction → Type 0) (color : Color) → OneOf (λ d. P (turned_for color d)) (steps King) → OneOf P (steps King)
+turned-line P Black h = h
+turned-line P White (inl h) = inr (inl h)
+turned-line P White (inr (inl h)) = inl h
+turned-line P White (inr (inr (inl h))) = inr (inr (inr (inl h)))
+turned-line P White (inr (inr (inr (inl h)))) = inr (inr (inl h))
+turned-line P White (inr (inr (inr (inr (inl h))))) = inr (inr (inr (inr (inr (inr (inr (inl h)))))))
+turned-line P White (inr (inr (inr (inr (inr (inl h)))))) = inr (inr (inr (inr (inr (inr (inl h))))))
+turned-line P White (inr (inr (inr (inr (inr (inr (inl h))))))) = inr (inr (inr (inr (inr (inl h)))))
+turned-line P White (inr (inr (inr (inr (inr (inr (inr (inl h)))))))) = inr (inr (inr (inr (inl h))))
+turned-line P White (inr (inr (inr (inr (inr (inr (inr (inr h)))))))) = elim h [ ]
+
 -- 3. Attackers
 -- one step away nothing lies between
 next-to : (cells : Cells) (a s : Square) (d : Direction) → IsAway s d 1 a → InSight cells s d a
 next-to cells a s d away = record { distance = 1; some = omega arith; away = away; clear = λ k t low high there. absurd (omega arith) }
 
-stepped : (cells : Cells) (color : Color) (a s : Square) → Attack cells color a s → (kind : Kind) → Any (λ d. IsAway a (turned_for (opponent color) d) 1 s) (steps kind)
+stepped : (cells : Cells) (color : Color) (a s : Square) → Attack cells color a s → (kind : Kind) → at cells a ≡ piece (opponent color) kind → Any (λ d. IsAway a (turned_for (opponent color) d) 1 s) (steps kind)
     → IsAttackedInLine cells color s ⊎ IsAttackedByJump cells color s
-stepped cells color a s attack kind step =
+stepped cells color a s attack kind stands step =
     let away : Any (λ d. IsAway s (turned_for color d) 1 a) (steps kind) =
     (step.0, step.1, step.2, step.3, back a s color step.1 1 (near-step kind step.0 step.1 step.2 step.3) step.4) in
     elim (step-line (λ d. IsAway s (turned_for color d) 1 a) kind (one-of (λ d. IsAway s (turned_for color d) 1 a) (steps kind) away)) [
       | inl h ↦
-          let found = any-of (λ d. IsAway s (turned_for color d) 1 a) (steps King) h in
-          inl (found.0, found.1, found.2, found.3, (a, next-to cells a s (turned_for color found.1) found.4, attack))
+          let found = any-of (λ d. IsAway s d 1 a) (steps King) (turned-line (λ d. IsAway s d 1 a) color h) in
+          inl (found.0, found.1, found.2, found.3, (a, next-to cells a s found.1 found.4, attack))
       | inr h ↦
-          let found = any-of (λ d. IsAway s (turned_for color d) 1 a) (steps Knight) h in
-          inr (found.0, found.1, found.2, found.3, (a, found.4, attack))
+          let found = any-of (λ d. IsAway s (turned_for color d) 1 a) (steps Knight) h.1 in
+          inr (found.0, found.1, found.2, found.3, (a, found.4, stands ∙ ap (λ k. piece (opponent color) k) h.0))
     ]
 
 slid : (cells : Cells) (color : Color) (a s : Square) → Attack cells color a s → (kind : Kind) → Any (λ d. InSight cells a (turned_for (opponent color) d) s) (rays kind)
@@ -157,8 +170,8 @@ slid : (cells : Cells) (color : Color) (a s : Square) → Attack cells color a s
 slid cells color a s attack kind slide =
     let sight : Any (λ d. InSight cells s (turned_for color d) a) (rays kind) =
     (slide.0, slide.1, slide.2, slide.3, sight-back cells a s color slide.1 (near-ray kind slide.0 slide.1 slide.2 slide.3) slide.4) in
-    let found = any-of (λ d. InSight cells s (turned_for color d) a) (steps King)
-    (ray-line (λ d. InSight cells s (turned_for color d) a) kind (one-of (λ d. InSight cells s (turned_for color d) a) (rays kind) sight)) in
+    let found = any-of (λ d. InSight cells s d a) (steps King)
+    (turned-line (λ d. InSight cells s d a) color (ray-line (λ d. InSight cells s (turned_for color d) a) kind (one-of (λ d. InSight cells s (turned_for color d) a) (rays kind) sight))) in
     (found.0, found.1, found.2, found.3, (a, found.4, attack))
 
 pub attackers : (cells : Cells) (color : Color) (s : Square) → Attacked cells color s → IsAttackedInLine cells color s ⊎ IsAttackedByJump cells color s
@@ -167,9 +180,31 @@ attackers cells color s attacked =
     let attack = attacked.1 in
     let mover = attack.reach.mover in
     elim attack.reach.moves [
-      | inl step ↦ stepped cells color a s attack mover.kind (subst (λ x. Any (λ d. IsAway a (turned_for x d) 1 s) (steps mover.kind)) attack.enemy step)
+      | inl step ↦ stepped cells color a s attack mover.kind (attack.reach.stands ∙ ap (λ c. piece c mover.kind) attack.enemy) (subst (λ x. Any (λ d. IsAway a (turned_for x d) 1 s) (steps mover.kind)) attack.enemy step)
       | inr slide ↦ inl (slid cells color a s attack mover.kind (subst (λ x. Any (λ d. InSight cells a (turned_for x d) s) (rays mover.kind)) attack.enemy slide))
     ]
+
+-- a knight jumps back
+pub knight-attacks : (cells : Cells) (color : Color) (a s : Square) (d : Direction) → Contains (steps Knight) d → IsAway s (turned_for color d) 1 a → at cells a ≡ piece (opponent color) Knight → Attack cells color a s
+knight-attacks cells color a s d jump away stands =
+    let ways = both-ways color d (near-step Knight jump.0 d jump.1 jump.2) in
+    record {
+      reach = record {
+        mover = record { color = opponent color; kind = Knight };
+        stands = stands;
+        moves = inl (
+          jump.0,
+          d,
+          jump.1,
+          jump.2,
+          (
+            back-one s.file a.file 1 (turned_for color d).files (turned_for (opponent color) d).files (omega (arith, ways.0)) away.0,
+            back-one s.rank a.rank 1 (turned_for color d).ranks (turned_for (opponent color) d).ranks (omega (arith, ways.1)) away.1,
+          ),
+        );
+      };
+      enemy = refl;
+    }
 
 -- 4. Loops
 pub clear-more : (cells : Cells) (a : Square) (d : Direction) (n : ℕ) → IsClear cells a d n → ((s : Square) → IsAway a d n s → at cells s ≡ None) → IsClear cells a d (n + 1)
@@ -249,6 +284,12 @@ attacks-goes cells color s a d n p ray some away clear stands attack =
 pub weaker : (found : Option Square) (P Q : Type 0) (R S : Square → Type 0) → (P → Q) → ((a : Square) → S a → R a) → MatchOption found (Q → ⊥) S → MatchOption found (P → ⊥) R
 weaker None P Q R S f g h = λ x. h (f x)
 weaker (Some a) P Q R S f g h = g a h
+
+-- what is found by the one search or else by the next
+pub or-else : (first found : Option Square) (Else P Q : Type 0) (R : Square → Type 0) → MatchOption first (P → ⊥) R → MatchOption first Else (λ x. found ≡ Some x) → (Else → MatchOption found (Q → ⊥) R) → MatchOption found (P ⊎ Q → ⊥) R
+or-else None found Else P Q R none h next =
+    weaker found (P ⊎ Q) Q R R (λ x. elim x [ inl p ↦ absurd (none p) | inr q ↦ q ]) (λ a r. r) (next h)
+or-else (Some a) found Else P Q R first h next = subst (λ o. MatchOption o (P ⊎ Q → ⊥) R) (sym h) first
 
 pub some-attacker : (cells : Cells) (color : Color) (s : Square) (found : Option Square) (b : Bool) → b ≡ is_some found → MatchOption found (Attacked cells color s → ⊥) (λ a. Attack cells color a s) → IsTrue b ↔ Attacked cells color s
 some-attacker cells color s None b e h = (λ t. cc, λ x. absurd (h x))

@@ -56,7 +56,7 @@ cell-eq (Some x) (Some y) = (λ h. ap Some ((piece-eq x y).0 h), λ h. (piece-eq
 code-eq : (a b : Code) → Decides (sameb code.the_type a b) (a ≡ b)
 code-eq a b = (λ h. same_true code.the_type (search rules) a b h, true_same code.the_type a b)
 
-coded-eq : (a b : Option Piece) → Decides (cells.eq-value.it a b) (a ≡ b)
+pub coded-eq : (a b : Option Piece) → Decides (cells.eq-value.it a b) (a ≡ b)
 coded-eq a b =
     let codes = code-eq (code_of a) (code_of b) in
     (λ h. sym (content-back a) ∙ (ap piece_of (codes.0 h) ∙ content-back b), λ e. codes.1 (ap code_of e))

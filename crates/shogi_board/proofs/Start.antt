@@ -25,7 +25,7 @@ even-full _ = refl
 even-totals : (k : Kind) → total (bare_board even_cells) k ≤ limit k
 even-totals k = let full = even-full k in omega (arith, full)
 
-even-kings : (c : Color) → kings_of even_cells c ≤ 1
+pub even-kings : (c : Color) → kings_of even_cells c ≤ 1
 even-kings Black = lit≤ tt
 even-kings White = lit≤ tt
 

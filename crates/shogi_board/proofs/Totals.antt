@@ -1,18 +1,18 @@
 -- The totals hold after each change of a setup.
-use Rattle.std.proofs.Common.{◌≡◌, ℕ, suc, ◌+◌, ◌-◌, ◌<◌, ◌≤◌, ◌==◌, ◌&&◌, inl, inr, not, length, Bool, true, false, cond, List, [], ◌∷◌, Option, Some, None, nat_eq, nat_le, nat_lt, set, get_or, count_by, slice_index, arith, refl, ap, sym, ◌∙◌, length-set, get_or-set_same, get_or-set_other}
-use Rattle.std.proofs.lemmas.List.Sums.{sum_by-set}
-use Rattle.std.proofs.lemmas.Bool.{cases_eq, ne_eqb}
+use Rattle.std.proofs.Common.{◌≡◌, ℕ, suc, ◌+◌, ◌-◌, ◌<◌, ◌≤◌, ◌==◌, ◌&&◌, inl, inr, not, length, map, is_some, ◌++◌, Bool, true, false, cond, List, [], ◌∷◌, Option, Some, None, nat_eq, nat_le, nat_lt, set, get_or, count_by, slice_index, arith, refl, ap, sym, ◌∙◌, length-set, get_or-set_same, get_or-set_other}
+use Rattle.std.proofs.lemmas.List.Sums.{sum_by-set, get_or-le-sum_by}
+use Rattle.std.proofs.lemmas.Bool.{and_parts, cases_eq, ne_eqb}
 use Rattle.std.proofs.lemmas.Bool.Decides.{Decides-eqb, nat_tests}
-use Rattle.shogi_board.specs.Cells.{Cells, piece}
+use Rattle.shogi_board.specs.Cells.{Cells, at, piece}
 use Rattle.shogi_board.specs.Layout.{Layout}
 use Rattle.shogi_board.specs.Material.{Material, bag_of, with_bag}
 use Rattle.shogi_board.specs.Pieces.{place_of, same_color, is_king, is_hand_kind, unpromoted}
-use Rattle.shogi_board.specs.Setup.{with_rest, first_fault, place_fault, add_fault, one_more, one_less, added, take_hand_fault, taken}
-use Rattle.shogi_board.specs.Totals.{total, limit, count_in, is_of, is_king_of, kings_of, IsWithinTotals}
+use Rattle.shogi_board.specs.Setup.{holds, with_rest, first_fault, place_fault, add_fault, one_more, one_less, added, take_hand_fault, take_off_fault, taken}
+use Rattle.shogi_board.specs.Totals.{total, limit, board_counts, hand_kinds, count_in, is_of, is_king_of, kings_of, IsWithinTotals}
 use Rattle.shogi_board.specs.declared.color.Color.{Color}
 use Rattle.shogi_board.specs.declared.color.Color.TheVariants.{Black, White}
 use Rattle.shogi_board.specs.declared.kind.Kind.{Kind}
-use Rattle.shogi_board.specs.declared.kind.Kind.TheVariants.{Pawn}
+use Rattle.shogi_board.specs.declared.kind.Kind.TheVariants.{Pawn, Lance, Knight, Silver, Gold, Bishop, Rook, King}
 use Rattle.shogi_board.specs.declared.kind.Piece.{Piece}
 use Rattle.shogi_board.specs.declared.setup.SetupFault.TheVariants.{SquareTaken, TooMany, SecondKing, NotForHand, NotThere, AfterRest}
 use Rattle.shogi_board.specs.declared.square.Square.{Square}
@@ -76,8 +76,8 @@ placed-within m color kind i w low room none = record {
       few-more (same_color color c && is_king kind) _ (kings_of m.board c) _ (cond (is_king_of c (get_or m.board i None)) 1 0) (omega (arith, step)) (w.kings c) (kings-more m.board color c kind none);
 }
 
-no-fault : (late taken king full : Bool) → first_fault ((AfterRest, late) ∷ (SquareTaken, taken) ∷ (SecondKing, king) ∷ (TooMany, full) ∷ []) ≡ None → (king ≡ false) × (full ≡ false)
-no-fault false false false false h = (refl, refl)
+no-fault : (late taken king full : Bool) → first_fault ((AfterRest, late) ∷ (SquareTaken, taken) ∷ (SecondKing, king) ∷ (TooMany, full) ∷ []) ≡ None → (taken ≡ false) × (king ≡ false) × (full ≡ false)
+no-fault false false false false h = (refl, refl, refl)
 no-fault _ _ _ _ h = absurd (cc)
 
 no-king-test : (b : Bool) (n : ℕ) → (b && nat_lt 0 n) ≡ false → b ≡ true → n ≡ 0
@@ -87,11 +87,16 @@ no-king-test false n h e = cc
 room-test : (n m : ℕ) → nat_le m n ≡ false → n < m
 room-test n m h = grind (arith, nat_tests)
 
--- where a piece may be placed there is room for it, and its side has no king if it is one
-pub place-room : (s : Layout) (color : Color) (square : Square) (kind : Kind) → place_fault s color square kind ≡ None → (total s.material kind < limit kind) × (is_king kind ≡ true → kings_of s.material.board color ≡ 0)
+none-there : (cell : Option Piece) → is_some cell ≡ false → cell ≡ None
+none-there None h = refl
+none-there (Some p) h = cc
+
+-- where a piece may be placed there is room for it, its side has no king if it is one, and the
+-- square is empty
+pub place-room : (s : Layout) (color : Color) (square : Square) (kind : Kind) → place_fault s color square kind ≡ None → (total s.material kind < limit kind) × (is_king kind ≡ true → kings_of s.material.board color ≡ 0) × (at s.material.board square ≡ None)
 place-room s color square kind h =
     let e = no-fault _ _ _ _ h in
-    (room-test _ _ e.1, no-king-test (is_king kind) _ e.0)
+    (room-test _ _ e.2, no-king-test (is_king kind) _ e.1, none-there _ e.0)
 
 -- a square made empty
 pub removed-within : (m : Material) (i : ℕ) → IsWithinTotals m → i < 81 → IsWithinTotals (record m { board = set m.board i None })
@@ -215,3 +220,51 @@ limit-low _ = omega arith
 pub count-few : (m : Material) (color : Color) (kind : Kind) → IsWithinTotals m → is_hand_kind kind ≡ true → count_in (bag_of m color) kind < 255
 count-few m Black kind w held = let all = w.totals kind in let low = limit-low kind in rw held (omega (arith, all, low))
 count-few m White kind w held = let all = w.totals kind in let low = limit-low kind in rw held (omega (arith, all, low))
+
+-- the counts of a board
+pub count-at : (cells : Cells) (kind : Kind) → slice_index (board_counts cells) (place_of kind) ≡ count_by (is_of kind) cells
+count-at cells Pawn = refl
+count-at cells _ = refl
+
+counts-with : (f g : Kind → ℕ) (h : ℕ → ℕ) (kind : Kind) → ((k : Kind) → g k ≡ cond (place_of kind == place_of k) (h (f k)) (f k)) → map g (hand_kinds ++ King ∷ []) ≡ set (map f (hand_kinds ++ King ∷ [])) (place_of kind) (h (slice_index (map f (hand_kinds ++ King ∷ [])) (place_of kind)))
+counts-with f g h Pawn e = rw (e Pawn, e Lance, e Knight, e Silver, e Gold, e Bishop, e Rook, e King) refl
+counts-with f g h _ e = rw (e Pawn, e Lance, e Knight, e Silver, e Gold, e Bishop, e Rook, e King) refl
+
+set-more : (b : Bool) (new old : ℕ) → new + 0 ≡ old + cond b 1 0 → new ≡ cond b (old + 1) old
+set-more true new old e = omega (arith, e)
+set-more false new old e = omega (arith, e)
+
+set-less : (b : Bool) (new old : ℕ) → new + cond b 1 0 ≡ old + 0 → new ≡ cond b (old - 1) old
+set-less true new old e = omega (arith, e)
+set-less false new old e = omega (arith, e)
+
+-- a piece on an empty square
+pub counts-more : (cells : Cells) (i : ℕ) (color : Color) (kind : Kind) → i < length cells → get_or cells i None ≡ None → board_counts (set cells i (piece color kind)) ≡ set (board_counts cells) (place_of kind) (slice_index (board_counts cells) (place_of kind) + 1)
+counts-more cells i color kind low empty = counts-with _ _ (λ n. n + 1) kind (λ k.
+    let step = sum_by-set (λ x. cond (is_of k x) 1 0) cells i (piece color kind) None low in
+    set-more (place_of kind == place_of k) _ _ (rw empty at step))
+
+-- the piece that is taken off
+off-holds : (late b : Bool) → first_fault ((AfterRest, late) ∷ (NotThere, not b) ∷ []) ≡ None → b ≡ true
+off-holds false true h = refl
+off-holds _ _ h = absurd (cc)
+
+held-kind : (cell : Option Piece) (kind : Kind) → holds kind cell ≡ true → (k : Kind) → is_of k cell ≡ (place_of kind == place_of k)
+held-kind None _ h k = cc
+held-kind (Some p) wanted h k = let same : place_of p.kind ≡ place_of wanted = eq-place _ _ (and_parts _ _ h).0 in rw same refl
+
+pub off-there : (s : Layout) (square : Square) (kind : Kind) → take_off_fault s square kind ≡ None → (k : Kind) → is_of k (at s.material.board square) ≡ (place_of kind == place_of k)
+off-there s square kind h = held-kind _ kind (off-holds s.rest_given _ h)
+
+pub count-some : (cells : Cells) (i : ℕ) (kind : Kind) → i < length cells → is_of kind (get_or cells i None) ≡ (place_of kind == place_of kind) → 1 ≤ slice_index (board_counts cells) (place_of kind)
+count-some cells i kind low there =
+    let least = get_or-le-sum_by (λ x. cond (is_of kind x) 1 0) cells i None low in
+    let same : is_of kind (get_or cells i None) ≡ true = there ∙ eq-self (place_of kind) (place_of kind) refl in
+    let some : 1 ≤ count_by (is_of kind) cells = rw same at least in
+    rw (count-at cells kind) some
+
+-- a square made empty
+pub counts-less : (cells : Cells) (i : ℕ) (kind : Kind) → i < length cells → ((k : Kind) → is_of k (get_or cells i None) ≡ (place_of kind == place_of k)) → board_counts (set cells i None) ≡ set (board_counts cells) (place_of kind) (slice_index (board_counts cells) (place_of kind) - 1)
+counts-less cells i kind low there = counts-with _ _ (λ n. n - 1) kind (λ k.
+    let step = sum_by-set (λ x. cond (is_of k x) 1 0) cells i None None low in
+    set-less (place_of kind == place_of k) _ _ (rw (there k) at step))

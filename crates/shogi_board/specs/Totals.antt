@@ -1,5 +1,5 @@
 -- How many pieces there are of each kind, and how many there may be.
-use Rattle.std.specs.Prelude.{◌≡◌, ℕ, ◌+◌, ◌≤◌, ◌==◌, ◌&&◌, Bool, false, List, [], ◌∷◌, Option, Some, None, length, count_by, slice_index, if◌then◌else◌}
+use Rattle.std.specs.Prelude.{◌≡◌, ℕ, ◌+◌, ◌≤◌, ◌==◌, ◌&&◌, Bool, false, List, [], ◌∷◌, ◌++◌, Option, Some, None, length, map, count_by, slice_index, if◌then◌else◌}
 use Rattle.shogi_board.specs.declared.color.Color.{Color}
 use Rattle.shogi_board.specs.declared.kind.Kind.{Kind}
 use Rattle.shogi_board.specs.declared.kind.Kind.TheVariants.{Pawn, Lance, Knight, Silver, Gold, Bishop, Rook, King, ProPawn, ProLance, ProKnight, ProSilver, Horse, Dragon}
@@ -34,6 +34,10 @@ abbrev pub total : Material → Kind → ℕ
 total m kind =
     count_by (is_of kind) m.board
     + slice_index m.black (place_of kind) + slice_index m.white (place_of kind)
+
+-- for a private field of `Setup`: how many of each kind are on a board, by the kinds' places
+abbrev pub board_counts : Cells → List ℕ
+board_counts cells = map (λ kind. count_by (is_of kind) cells) (hand_kinds ++ King ∷ [])
 
 -- how many there may be; of kings one a side
 abbrev pub limit : Kind → ℕ

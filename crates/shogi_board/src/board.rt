@@ -1,27 +1,30 @@
-ghost use Rattle.std.specs.Prelude.{◌≡◌, ◌%◌, ◌^◌, ◌≤◌, ◌<◌, ◌↔◌, ◌⊎◌, Any, IsTrue, MatchOption, None, Some, count_by, nat_lt, slice_index_or, slice_set, length};
+ghost use Rattle.std.specs.Prelude.{◌≡◌, ◌%◌, ◌^◌, ◌≤◌, ◌<◌, ◌↔◌, ◌⊎◌, Any, Contains, IsTrue, MatchOption, None, Some, count_by, nat_lt, slice_index_or, slice_set, length};
 ghost use Rattle.shogi_board.specs.Cells.{at, piece, even_cells, no_cells, HasPawnOnFile};
 ghost use Rattle.shogi_board.specs.Danger.{ComesFrom, SeenTowards};
-ghost use Rattle.shogi_board.specs.Attackers.{AttackAcross, AttackInSight, IsAttackedByJump, IsAttackedInLine};
+ghost use Rattle.shogi_board.specs.Attackers.{AttackInSight, IsAttackedByJump, IsAttackedInLine, KnightAcross};
 ghost use Rattle.shogi_board.specs.Keys.{cells_key};
 ghost use Rattle.shogi_board.specs.Kings.{IsKingOf};
 ghost use Rattle.shogi_board.specs.Moves.{steps, turned_for, IsRay};
-ghost use Rattle.shogi_board.specs.Directions.{Goes, IsNear};
+ghost use Rattle.shogi_board.specs.Directions.{Goes};
 ghost use Rattle.shogi_board.specs.Pieces.{opponent};
 ghost use Rattle.shogi_board.specs.Reach.{Reach, Attack, Attacked, InCheck, IsClear, Slides, Steps};
 ghost use Rattle.shogi_board.specs.Setup.{holds};
 ghost use Rattle.shogi_board.specs.Squares.{place, IsAway};
-ghost use Rattle.shogi_board.specs.Totals.{is_of, kings_of};
+ghost use Rattle.shogi_board.specs.Totals.{board_counts, is_of, kings_of};
 ghost use Rattle.shogi_board.specs.declared.kind.Kind.TheVariants.{King, Knight, Pawn};
 ghost use Rattle.shogi_board.specs.declared.square.Square.{Square};
 
 use crate::cell::Cell;
 use crate::color::Color;
 use crate::danger::Danger;
-use crate::direction::{Direction, jumps, neighbours};
+use crate::direction::{
+    BACK, BACK_LEFT, BACK_RIGHT, Direction, FORWARD, FORWARD_LEFT, FORWARD_RIGHT, LEFT, RIGHT,
+    jumps,
+};
 use crate::even::even_cells;
 use crate::keys::cell_key;
 use crate::kind::{Kind, Piece};
-use crate::king_squares::{king_after, king_on};
+use crate::king_squares::keep_kings;
 use crate::square::Square;
 use std::marker::Model;
 
@@ -66,23 +69,20 @@ impl Board {
     pub(crate) fn empty() -> Board
         ensures { result ≡ no_cells }
     {
-        Board::of([None; 81])
+        Board {
+            cells: [Cell::of(None); 81],
+            black_king: None,
+            white_king: None,
+        }
     }
 
     pub(crate) fn even() -> Board
         ensures { result ≡ even_cells }
     {
-        Board::of(even_cells())
-    }
-
-    pub(crate) fn of(cells: [Option<Piece>; 81]) -> Board
-        requires { (color : Color) → kings_of cells color ≤ 1 }
-        ensures { result ≡ cells }
-    {
         Board {
-            cells: cells_of(&cells),
-            black_king: king_on(&cells, Color::Black),
-            white_king: king_on(&cells, Color::White),
+            cells: even_cells(),
+            black_king: Some(Square::at_place(44)),
+            white_king: Some(Square::at_place(36)),
         }
     }
 
@@ -140,20 +140,40 @@ impl Board {
         let cell = Cell::of(cell);
         self.cells[square.place()] = cell;
         if was.is_king() || cell.is_king() {
-            self.black_king = king_after(self.black_king, Color::Black, square, was, cell);
-            self.white_king = king_after(self.white_king, Color::White, square, was, cell);
+            keep_kings(
+                &mut self.black_king,
+                &mut self.white_king,
+                square,
+                was,
+                cell,
+            );
         }
     }
 
+    // How many pieces there are of each kind, by the places of the kinds.
+    pub(crate) fn counts(&self) -> [u8; 8]
+        ensures { result ≡ board_counts self.now }
+    {
+        [
+            self.count(Kind::Pawn),
+            self.count(Kind::Lance),
+            self.count(Kind::Knight),
+            self.count(Kind::Silver),
+            self.count(Kind::Gold),
+            self.count(Kind::Bishop),
+            self.count(Kind::Rook),
+            self.count(Kind::King),
+        ]
+    }
+
     // How many pieces of that kind there are, promoted ones counted with their unpromoted kind.
-    pub(crate) fn count(&self, kind: Kind) -> usize
-        ensures value { result ≡ count_by (is_of kind) self.now }
-        ensures bound { result ≤ 81 }
+    fn count(&self, kind: Kind) -> u8
+        ensures { result ≡ count_by (is_of kind) self.now }
     {
         self.cells
             .iter()
             .filter(|cell| is_of(cell.piece(), kind))
-            .count()
+            .count() as u8
     }
 
     pub(crate) fn has_king(&self, color: Color) -> bool
@@ -296,18 +316,20 @@ impl Board {
     }
 
     // A piece that attacks the square and is seen from it in one of the eight directions, if there
-    // is one.
+    // is one. A scan takes half as much in a direction that is known when it is compiled.
     fn attacker_in_line(&self, color: Color, square: Square) -> Option<Square>
         ensures { MatchOption result
             (IsAttackedInLine self.now color square → ⊥)
             (λ a. Attack self.now color a square) }
     {
-        for direction in neighbours() {
-            if let Some(from) = self.attacker_from(color, square, direction.turned_for(color)) {
-                return Some(from);
-            }
-        }
-        None
+        self.attacker_from(color, square, FORWARD)
+            .or_else(|| self.attacker_from(color, square, BACK))
+            .or_else(|| self.attacker_from(color, square, LEFT))
+            .or_else(|| self.attacker_from(color, square, RIGHT))
+            .or_else(|| self.attacker_from(color, square, FORWARD_LEFT))
+            .or_else(|| self.attacker_from(color, square, FORWARD_RIGHT))
+            .or_else(|| self.attacker_from(color, square, BACK_LEFT))
+            .or_else(|| self.attacker_from(color, square, BACK_RIGHT))
     }
 
     // A knight that attacks the square, if there is one.
@@ -317,7 +339,7 @@ impl Board {
             (λ a. Attack self.now color a square) }
     {
         for direction in jumps() {
-            if let Some(from) = self.attacker_across(color, square, direction.turned_for(color)) {
+            if let Some(from) = self.attacker_across(color, square, direction) {
                 return Some(from);
             }
         }
@@ -339,7 +361,7 @@ impl Board {
             place = place + stride - 20;
             if let Some(piece) = self.content(place) {
                 return if is_attacker(piece, color, direction, n) {
-                    Some(Square::at_place(place))
+                    Some(square_at(place))
                 } else {
                     None
                 };
@@ -348,27 +370,17 @@ impl Board {
         None
     }
 
-    // The square one step of that direction away, if an enemy of that colour is there and reaches
-    // the square.
+    // The square a knight's jump of that direction away, if a knight is there that is an enemy of
+    // that colour. It jumps back.
+    #[inline(always)]
     fn attacker_across(&self, color: Color, square: Square, direction: Direction) -> Option<Square>
-        requires { IsNear direction }
+        requires { Contains (steps Knight) direction }
         ensures { MatchOption result
-            (AttackAcross self.now color square direction → ⊥)
+            (KnightAcross self.now color square direction → ⊥)
             (λ a. Attack self.now color a square) }
     {
-        match square.away(direction, 1) {
-            Some(from) => self.attacker_at(color, from, square),
-            None => None,
-        }
-    }
-
-    // The one square, if an enemy piece of that colour is there and reaches the other.
-    fn attacker_at(&self, color: Color, from: Square, to: Square) -> Option<Square>
-        ensures { MatchOption result
-            (Attack self.now color from to → ⊥)
-            (λ a. (a ≡ from) × Attack self.now color a to) }
-    {
-        if self.attacks(color, from, to) {
+        let from = square.away(direction.turned_for(color), 1)?;
+        if self.cell_at(from).is(color.opponent(), Kind::Knight) {
             Some(from)
         } else {
             None
@@ -394,27 +406,15 @@ impl Board {
             None => false,
         }
     }
-
-    // Whether an enemy piece of that colour is on the one square and reaches the other.
-    fn attacks(&self, color: Color, from: Square, to: Square) -> bool
-        ensures { IsTrue result ↔ Attack self.now color from to }
-    {
-        match self.at(from) {
-            Some(piece) => piece.color == color.opponent() && self.piece_reaches(piece, from, to),
-            None => false,
-        }
-    }
 }
 
-// The cells that hold that.
-fn cells_of(contents: &[Option<Piece>; 81]) -> [Cell; 81]
-    ensures { result ≡ contents.now }
+// As `Square::at_place`. If it were compiled into a scan, each step would count files and ranks.
+#[inline(never)]
+fn square_at(n: usize) -> Square
+    requires { n < 81 }
+    ensures { place result ≡ n }
 {
-    let mut cells = [Cell::of(None); 81];
-    for n in 0..81usize {
-        cells[n] = Cell::of(contents[n]);
-    }
-    cells
+    Square::at_place(n)
 }
 
 // Whether a knight of that colour jumps from one square to the other.
@@ -429,6 +429,7 @@ fn jumps_to(color: Color, from: Square, to: Square) -> bool
 // Whether the piece, seen so far away in that direction, is an enemy of that colour that reaches
 // back. Its own way leads the other way round, which its side sees as the attacked side sees this
 // one.
+#[inline(always)]
 fn is_attacker(piece: Piece, color: Color, direction: Direction, distance: u8) -> bool
     requires { IsRay direction }
     ensures { IsTrue result ↔ ((piece.color ≡ opponent color)

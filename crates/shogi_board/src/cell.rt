@@ -1,4 +1,5 @@
-ghost use Rattle.std.specs.Prelude.{◌≡◌, ◌<◌, false};
+ghost use Rattle.std.specs.Prelude.{◌≡◌, ◌<◌, ◌↔◌, IsTrue, None, false};
+ghost use Rattle.shogi_board.specs.Cells.{piece};
 ghost use Rattle.shogi_board.specs.Contents.{black_code, white_code};
 ghost use Rattle.shogi_board.specs.Keys.{cell_number};
 ghost use Rattle.shogi_board.specs.Totals.{is_king_of};
@@ -10,7 +11,7 @@ use std::marker::Model;
 
 // One byte for nothing or one of the 28 pieces.
 #[derive(Clone, Copy, Debug, PartialEq, Eq, PartialOrd, Ord)]
-enum Code {
+pub(crate) enum Code {
     Empty,
     BlackPawn,
     BlackLance,
@@ -42,10 +43,24 @@ enum Code {
     WhiteDragon,
 }
 
+macro_rules! pieces {
+    ($($kind:ident)*) => {
+        [
+            $(Piece { color: Color::Black, kind: Kind::$kind },)*
+            $(Piece { color: Color::White, kind: Kind::$kind },)*
+        ]
+    };
+}
+
+// The pieces in the order of their codes.
+static PIECES: [Piece; 28] = pieces![
+    Pawn Lance Knight Silver Gold Bishop Rook King ProPawn ProLance ProKnight ProSilver Horse Dragon
+];
+
 // What is on a square, in one byte.
 #[derive(Clone, Copy, Debug, PartialEq, Eq, PartialOrd, Ord)]
 pub(crate) struct Cell {
-    code: Code,
+    pub(crate) code: Code,
 }
 
 impl Model for Cell {
@@ -86,6 +101,21 @@ impl Cell {
     }
 
     #[inline(always)]
+    fn is_empty(self) -> bool
+        ensures { IsTrue result ↔ (self ≡ None) }
+    {
+        matches!(self.code, Code::Empty)
+    }
+
+    // Whether it holds that piece.
+    #[inline(always)]
+    pub(crate) fn is(self, color: Color, kind: Kind) -> bool
+        ensures { IsTrue result ↔ (self ≡ piece color kind) }
+    {
+        self == Cell::of(Some(Piece { color, kind }))
+    }
+
+    #[inline(always)]
     pub(crate) fn is_king(self) -> bool
         ensures { result ≡ false → (color : Color) → is_king_of color self ≡ false }
     {
@@ -93,41 +123,14 @@ impl Cell {
     }
 
     // The piece on the square, if there is one.
+    #[inline(always)]
     pub(crate) fn piece(self) -> Option<Piece>
         ensures { result ≡ self }
     {
-        let (color, kind) = match self.code {
-            Code::Empty => return None,
-            Code::BlackPawn => (Color::Black, Kind::Pawn),
-            Code::BlackLance => (Color::Black, Kind::Lance),
-            Code::BlackKnight => (Color::Black, Kind::Knight),
-            Code::BlackSilver => (Color::Black, Kind::Silver),
-            Code::BlackGold => (Color::Black, Kind::Gold),
-            Code::BlackBishop => (Color::Black, Kind::Bishop),
-            Code::BlackRook => (Color::Black, Kind::Rook),
-            Code::BlackKing => (Color::Black, Kind::King),
-            Code::BlackProPawn => (Color::Black, Kind::ProPawn),
-            Code::BlackProLance => (Color::Black, Kind::ProLance),
-            Code::BlackProKnight => (Color::Black, Kind::ProKnight),
-            Code::BlackProSilver => (Color::Black, Kind::ProSilver),
-            Code::BlackHorse => (Color::Black, Kind::Horse),
-            Code::BlackDragon => (Color::Black, Kind::Dragon),
-            Code::WhitePawn => (Color::White, Kind::Pawn),
-            Code::WhiteLance => (Color::White, Kind::Lance),
-            Code::WhiteKnight => (Color::White, Kind::Knight),
-            Code::WhiteSilver => (Color::White, Kind::Silver),
-            Code::WhiteGold => (Color::White, Kind::Gold),
-            Code::WhiteBishop => (Color::White, Kind::Bishop),
-            Code::WhiteRook => (Color::White, Kind::Rook),
-            Code::WhiteKing => (Color::White, Kind::King),
-            Code::WhiteProPawn => (Color::White, Kind::ProPawn),
-            Code::WhiteProLance => (Color::White, Kind::ProLance),
-            Code::WhiteProKnight => (Color::White, Kind::ProKnight),
-            Code::WhiteProSilver => (Color::White, Kind::ProSilver),
-            Code::WhiteHorse => (Color::White, Kind::Horse),
-            Code::WhiteDragon => (Color::White, Kind::Dragon),
-        };
-        Some(Piece { color, kind })
+        if self.is_empty() {
+            return None;
+        }
+        Some(PIECES[self.code as usize - 1])
     }
 }
 

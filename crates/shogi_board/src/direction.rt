@@ -1,7 +1,7 @@
 ghost use Rattle.std.specs.Prelude.{◌≡◌, ◌==◌, ◌≤◌, ◌-◌, ◌+◌, ◌*◌, ◌↔◌, IsTrue, Contains};
 ghost use Rattle.shogi_board.specs.Moves.{steps, rays, turned_for, IsRay};
 ghost use Rattle.shogi_board.specs.Directions.{is_forward, is_diagonal, Goes};
-ghost use Rattle.shogi_board.specs.declared.kind.Kind.TheVariants.{Knight, King};
+ghost use Rattle.shogi_board.specs.declared.kind.Kind.TheVariants.{Knight};
 
 use crate::color::Color;
 use crate::kind::Kind;
@@ -32,45 +32,27 @@ pub(crate) struct Bearing {
     pub(crate) distance: u8,
 }
 
-const FORWARD: Direction = Direction { files: 2, ranks: 1 };
+pub(crate) const FORWARD: Direction = Direction { files: 2, ranks: 1 };
 
-const BACK: Direction = Direction { files: 2, ranks: 3 };
+pub(crate) const BACK: Direction = Direction { files: 2, ranks: 3 };
 
-const LEFT: Direction = Direction { files: 3, ranks: 2 };
+pub(crate) const LEFT: Direction = Direction { files: 3, ranks: 2 };
 
-const RIGHT: Direction = Direction { files: 1, ranks: 2 };
+pub(crate) const RIGHT: Direction = Direction { files: 1, ranks: 2 };
 
-const FORWARD_LEFT: Direction = Direction { files: 3, ranks: 1 };
+pub(crate) const FORWARD_LEFT: Direction = Direction { files: 3, ranks: 1 };
 
-const FORWARD_RIGHT: Direction = Direction { files: 1, ranks: 1 };
+pub(crate) const FORWARD_RIGHT: Direction = Direction { files: 1, ranks: 1 };
 
-const BACK_LEFT: Direction = Direction { files: 3, ranks: 3 };
+pub(crate) const BACK_LEFT: Direction = Direction { files: 3, ranks: 3 };
 
-const BACK_RIGHT: Direction = Direction { files: 1, ranks: 3 };
+pub(crate) const BACK_RIGHT: Direction = Direction { files: 1, ranks: 3 };
 
 const JUMP_LEFT: Direction = Direction { files: 3, ranks: 0 };
 
 const JUMP_RIGHT: Direction = Direction { files: 1, ranks: 0 };
 
 const JUMPS: [Direction; 2] = [JUMP_LEFT, JUMP_RIGHT];
-
-const NEIGHBOURS: [Direction; 8] = [
-    FORWARD,
-    BACK,
-    LEFT,
-    RIGHT,
-    FORWARD_LEFT,
-    FORWARD_RIGHT,
-    BACK_LEFT,
-    BACK_RIGHT,
-];
-
-// The eight directions, as a king steps.
-pub(crate) fn neighbours() -> [Direction; 8]
-    ensures { result ≡ steps King }
-{
-    NEIGHBOURS
-}
 
 // The steps of a knight, as black sees them.
 pub(crate) fn jumps() -> [Direction; 2]

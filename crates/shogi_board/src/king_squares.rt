@@ -1,39 +1,39 @@
-ghost use Rattle.std.specs.Prelude.{◌≡◌, ◌≤◌, length, slice_set};
-ghost use Rattle.shogi_board.specs.Cells.{Cells, at};
-ghost use Rattle.shogi_board.specs.Kings.{IsKingOf};
-ghost use Rattle.shogi_board.specs.Squares.{place};
-ghost use Rattle.shogi_board.specs.Totals.{is_king_of, kings_of};
+ghost use Rattle.std.specs.Prelude.{◌≡◌};
+ghost use Rattle.shogi_board.specs.Kings.{KeepsKing};
+ghost use Rattle.shogi_board.specs.Totals.{is_king_of};
+ghost use Rattle.shogi_board.specs.declared.color.Color.TheVariants.{Black, White};
 
 use crate::cell::Cell;
 use crate::color::Color;
 use crate::kind::{Kind, Piece};
 use crate::square::Square;
 
-// The square of the first king of that side in the order of the squares, if it has one.
-pub(crate) fn king_on(cells: &[Option<Piece>], color: Color) -> Option<Square>
-    requires { length cells.now ≡ 81 }
-    ensures { IsKingOf cells.now color result }
+// Keeps the squares of both kings, as another cell is put on the square. Few moves are a king's,
+// so it is not compiled into each call of `Board::put`.
+#[inline(never)]
+pub(crate) fn keep_kings(
+    black: &mut Option<Square>,
+    white: &mut Option<Square>,
+    square: Square,
+    was: Cell,
+    cell: Cell,
+)
+    ensures black { KeepsKing Black square was cell black.old black.new }
+    ensures white { KeepsKing White square was cell white.old white.new }
 {
-    for n in 0..81usize {
-        if is_king_of(cells[n], color) {
-            return Some(Square::at_place(n));
-        }
-    }
-    None
+    *black = king_after(*black, Color::Black, square, was, cell);
+    *white = king_after(*white, Color::White, square, was, cell);
 }
 
 // The square of that side's king, if it has one, once another cell is put on the square.
-#[inline(always)]
-pub(crate) fn king_after(
+fn king_after(
     king: Option<Square>,
     color: Color,
     square: Square,
     was: Cell,
     cell: Cell,
 ) -> Option<Square>
-    ensures { (cells : Cells) → length cells ≡ 81 → kings_of cells color ≤ 1
-        → at cells square ≡ was → IsKingOf cells color king
-        → IsKingOf (slice_set cells (place square) cell) color result }
+    ensures { KeepsKing color square was cell king result }
 {
     if is_king_of(cell.piece(), color) {
         Some(square)

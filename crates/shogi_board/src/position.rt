@@ -166,6 +166,7 @@ impl Position {
     {
         Setup {
             board: self.board,
+            counts: self.board.counts(),
             black: self.black,
             white: self.white,
             rest_given: false,

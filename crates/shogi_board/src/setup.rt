@@ -1,4 +1,4 @@
-ghost use Rattle.std.specs.Prelude.{◌≡◌, ◌≤◌, false, None, Some, MatchResult, OnOk, OnErr, IfOk, ◌↔◌, IsTrue};
+ghost use Rattle.std.specs.Prelude.{◌≡◌, ◌≤◌, None, Some, MatchResult, OnOk, OnErr, IfOk, ◌↔◌, IsTrue};
 ghost use Rattle.shogi_board.specs.Cells.{even_cells};
 ghost use Rattle.shogi_board.specs.Material.{bag_of, with_bag};
 ghost use Rattle.shogi_board.specs.Pieces.{opponent};
@@ -44,9 +44,13 @@ pub enum SetupFault {
 }
 
 /// A board and two hands that are being set up, within the number of pieces of a game.
-#[derive(Clone, Copy, Debug, PartialEq, Eq)]
+#[derive(Clone, Copy, Debug)]
+#[derive_where(PartialEq, Eq)]
 pub struct Setup {
     pub(crate) board: Board,
+    // how many pieces of each kind are on the board, by `Kind::place`
+    #[derive_where(skip(EqHashOrd))]
+    pub(crate) counts: [u8; 8],
     pub(crate) black: Hand,
     pub(crate) white: Hand,
     pub(crate) rest_given: bool,
@@ -54,7 +58,8 @@ pub struct Setup {
 
 impl Model for Setup {
     ghost use Rattle.shogi_board.specs.Layout.{Layout};
-    ghost use Rattle.shogi_board.specs.Totals.{IsWithinTotals};
+    ghost use Rattle.std.specs.Prelude.{◌≡◌};
+    ghost use Rattle.shogi_board.specs.Totals.{board_counts, IsWithinTotals};
 
     ghost Value = { Layout };
 
@@ -63,14 +68,24 @@ impl Model for Setup {
       rest_given = s.rest_given;
     } };
 
-    ghost invariant = { λ s. IsWithinTotals
-        (record { board = s.board; black = s.black; white = s.white }) };
+    ghost invariant = { λ s.
+        IsWithinTotals (record { board = s.board; black = s.black; white = s.white })
+        × (board_counts s.board ≡ s.counts) };
 
     ghost inverse = { λ d. record {
       board = d.material.board;
+      counts = board_counts d.material.board;
       black = d.material.black;
       white = d.material.white;
       rest_given = d.rest_given;
+    } };
+
+    ghost inverse_ok = { λ s h i. record {
+      board = s.board;
+      counts = h.1 i;
+      black = s.black;
+      white = s.white;
+      rest_given = s.rest_given;
     } };
 }
 
@@ -81,6 +96,7 @@ impl Setup {
     {
         Setup {
             board: Board::empty(),
+            counts: [0; 8],
             black: Hand::empty(),
             white: Hand::empty(),
             rest_given: false,
@@ -93,6 +109,7 @@ impl Setup {
     {
         Setup {
             board: Board::even(),
+            counts: [18, 4, 4, 4, 4, 2, 2, 2],
             black: Hand::empty(),
             white: Hand::empty(),
             rest_given: false,
@@ -139,6 +156,7 @@ impl Setup {
         ensures changed { self.new ≡ with_piece self.old color square kind }
     {
         self.board.put(square, Some(Piece { color, kind }));
+        self.counts[kind.place()] += 1;
     }
 
     /// Adds a piece of that kind to the hand of that side.
@@ -193,16 +211,17 @@ impl Setup {
         if !self.board.holds(square, kind) {
             return Err(SetupFault::NotThere);
         }
-        self.clear(square);
+        self.clear(square, kind);
         Ok(())
     }
 
-    // Takes off what is on the square, of whatever kind. An empty square stays empty.
-    fn clear(&mut self, square: Square)
-        requires not_given { self.old.rest_given ≡ false }
+    // Takes off a piece if it is known that `take_off` would not refuse it.
+    fn clear(&mut self, square: Square, kind: Kind)
+        requires fits { take_off_fault self.old square kind ≡ None }
         ensures changed { self.new ≡ taken_off self.old square }
     {
         self.board.put(square, None);
+        self.counts[kind.place()] -= 1;
     }
 
     /// Takes a piece of that kind out of the hand of that side.
@@ -305,7 +324,7 @@ impl Setup {
         ensures value { result ≡ total self.now.material kind }
         ensures bound { result ≤ limit kind }
     {
-        self.board.count(kind)
+        self.counts[kind.place()] as usize
             + self.black.at_place_of(kind) as usize
             + self.white.at_place_of(kind) as usize
     }

@@ -1,8 +1,8 @@
 -- For private functions and fields of `Occurrences`: positions in search trees.
 -- A reader of the public contracts may skip this file.
 --
--- The entries are in the order of their coming, and links lead to them. The first 1,024 links lead to
--- the first entry of each part of the keys. After them come two links for each entry: one to the
+-- The entries are in the order of their coming, and links lead to them. The first 1,024 links lead
+-- to the first entry of each part of the keys. After them come two links for each entry: one to the
 -- positions that are less than its own, and one to those that are greater.
 use Rattle.std.specs.Prelude.{◌≡◌, ℕ, ◌+◌, ◌*◌, ◌/◌, ◌<◌, List, [], ◌∷◌, Some, length, slice_get}
 use Rattle.std.specs.Ordering.{ordering_then, nat_cmp}

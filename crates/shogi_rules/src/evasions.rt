@@ -10,7 +10,7 @@ ghost use Rattle.shogi_board.specs.Legal.{Keeps, Mated, target};
 ghost use Rattle.shogi_board.specs.declared.moves.Move.{Move};
 
 use crate::search::{hand_kind, own_kind_at};
-use shogi_board::{Move, Situation, Square, attacker};
+use shogi_board::{Kind, Move, Situation, Square, attacker, reaches};
 
 // Whether the side to move is in check and no move of it keeps the rules 3 to 10.
 pub(crate) fn is_mated(situation: &Situation) -> bool
@@ -97,12 +97,25 @@ fn has_kept_drop_on(situation: &Situation, to: Square) -> bool
 }
 
 // Whether a walk from the one square to the other keeps the rules 3 to 10, promoted or not.
+#[inline(always)]
 fn keeps_walk(situation: &Situation, from: Square, to: Square) -> bool
     ensures { IsTrue result ↔ ((kind : Kind) × Keeps situation.now (Move.Walk from to kind)) }
 {
     let Some(was) = own_kind_at(situation, from) else {
         return false;
     };
+    // few pieces reach it, so the other rules are seldom looked at
+    if !reaches(situation.position(), from, to) {
+        return false;
+    }
+    keeps_form(situation, from, to, was)
+}
+
+// The same, for the piece of that kind of the side to move, which is on the one square.
+fn keeps_form(situation: &Situation, from: Square, to: Square, was: Kind) -> bool
+    requires { at situation.now.material.board from ≡ piece situation.now.side was }
+    ensures { IsTrue result ↔ ((kind : Kind) × Keeps situation.now (Move.Walk from to kind)) }
+{
     if situation.keeps(&Move::Walk {
         from,
         to,

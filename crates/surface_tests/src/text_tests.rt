@@ -33,7 +33,11 @@ fn statements(rt: &impl Abort) {
 fn statements_by_piece(rt: &impl Abort) {
     let mut pieces: PieceCutter = PieceCutter::new();
     let cut: Result<Cut<'_>, CutFault> = pieces.step(b"+\n");
-    assert!(rt; cut.map(|Cut { used, statement }| (used, statement)) == Ok((2, Some(TURN))));
+    let wanted = Cut {
+        used: 2,
+        statement: Some(TURN),
+    };
+    assert!(rt; cut == Ok(wanted));
     let fed: u64 = pieces.fed();
     assert!(rt; fed == 2);
     let last: Result<Option<Statement<'_>>, CutFault> = pieces.finish();

@@ -163,8 +163,11 @@ fn hands_on_what_cuts(rt: HostRuntime) {
     let answer: Result<Option<Statement>, CutFault> = Cutter::new(b"+").next_statement();
     assert!(rt; answer == Ok(Some(statement)));
     let mut pieces = PieceCutter::new();
-    let cut: Result<Cut, CutFault> = pieces.step(b"+\n");
-    assert!(rt; cut.map(|Cut { used, statement }| (used, statement)) == Ok((2, Some(statement))));
+    let cut = Cut {
+        used: 2,
+        statement: Some(statement),
+    };
+    assert!(rt; pieces.step(b"+\n") == Ok(cut));
     let mut lines = LineCutter::new(rt.alloc(), 1);
     let fault: LineFault = LineFault::TooLong;
     assert!(rt; lines.step(b"ab") == Err(fault));

@@ -1,9 +1,7 @@
-use Rattle.std.proofs.Common.{rules}
-use Rattle.shogi_rules.proofs.Checks.{kept-if-promoted}
-use Rattle.shogi_board.proofs.Tests.{fails}
 use Rattle.shogi_rules.proofs.evasions.keeps_walk.Goals as goal
 
-pub returns : goal.returns
-returns c =
-    let bare = fails c.keeps.result c.keeps.ensures.answer c.if-keeps.false in
-    kept-if-promoted c.args.situation.now c.args.from c.args.to c.in-Some.was c.promoted.result c.is_some_and.result _ c.in-Some.ensures bare c.promoted.ensures.value c.is_some_and.ensures (λ k q. search rules)
+pub returns-then-not-reaches : goal.returns-then-not-reaches
+returns-then-not-reaches c = (
+  λ no. cc,
+  λ kept. let yes = c.reaches.ensures.answer.1 (rw c.position.ensures.value kept.1.fits.reaches) in let no = c.if-not-reaches.true in cc,
+)

@@ -1,21 +1,15 @@
-use Rattle.std.proofs.Common.{◌≡◌, subst}
-use Rattle.shogi_board.specs.Attackers.{AttackAcross}
-use Rattle.shogi_board.specs.Reach.{Attack}
-use Rattle.shogi_board.specs.declared.square.Square.{Square}
-use Rattle.shogi_board.proofs.Attackers.{weaker}
-use Rattle.shogi_board.proofs.Squares.{away-same}
+use Rattle.std.proofs.Common.{refl}
+use Rattle.shogi_board.specs.Moves.{turned_for}
+use Rattle.shogi_board.specs.Squares.{IsAway}
+use Rattle.shogi_board.proofs.Attackers.{knight-attacks}
 use Rattle.shogi_board.proofs.board.Board.attacker_across.Goals as goal
 
-pub returns-in-None : goal.returns-in-None
-returns-in-None c = λ x. c.in-None.ensures x.0 x.1
+pub returns-in_err-from : goal.returns-in_err-from
+returns-in_err-from c = rw c.from_residual.ensures (λ x. (c.in_err-from.ensures {u = tt}) x.0 (rw c.turned_for.ensures x.1))
 
-pub returns-in-Some : goal.returns-in-Some
-returns-in-Some c =
-    let cells = c.args.self.now in
-    let color = c.args.color in
-    let s = c.args.square in
-    let b = c.in-Some.from in
-    weaker c.attacker_at.result (AttackAcross cells color s c.args.direction) (Attack cells color b s) (λ a. Attack cells color a s) (λ a. (a ≡ b) × Attack cells color a s)
-    (λ x. subst (λ (a : Square). Attack cells color a s) (away-same s x.0 b c.args.direction 1 x.1 c.in-Some.ensures) x.2)
-    (λ a h. h.1)
-    c.attacker_at.ensures
+pub returns-then-is : goal.returns-then-is
+returns-then-is c =
+    let a = c.in_ok-from.from in
+    let away : IsAway c.args.square (turned_for c.args.color c.args.direction) 1 a = rw c.turned_for.ensures at (c.in_ok-from.ensures {u = tt}) in
+    let knight = rw (c.cell_at.ensures, c.opponent.ensures.value) at ((c.if-is.ensures {u = tt}).0 refl) in
+    knight-attacks c.args.self.now c.args.color a c.args.square c.args.direction c.requires away knight

@@ -1,8 +1,9 @@
-use Rattle.std.proofs.Common.{◌≡◌, ◌<◌, get_or, length, arith, inl, inr, ap, ◌∙◌}
+use Rattle.std.proofs.Common.{◌≡◌, ◌<◌, List, subst, sym, get_or, length, arith, inl, inr, ap, ◌∙◌}
 use Rattle.std.proofs.lemmas.Bool.{cases_lt}
 use Rattle.std.proofs.lemmas.List.{get_or_default}
-use Rattle.shogi_board.specs.Attackers.{AttackAcross}
-use Rattle.shogi_board.specs.Moves.{steps, turned_for}
+use Rattle.shogi_board.specs.Attackers.{KnightAcross}
+use Rattle.shogi_board.specs.Moves.{steps}
+use Rattle.shogi_board.specs.Squares.{Direction}
 use Rattle.shogi_board.specs.declared.kind.Kind.TheVariants.{Knight}
 use Rattle.shogi_board.proofs.board.Board.attacker_by_jump.Goals as goal
 
@@ -16,9 +17,6 @@ loop-direction-preserved c k d below e attack =
           let xs = steps Knight in
           let within : n < length xs = c.loop-direction-test.true in
           let here : get_or xs n d ≡ d = rw last at e in
-          let turned = rw c.jumps-direction-items.ensures at c.turned_for.ensures in
-          let same : c.turned_for.result ≡ turned_for c.args.color d =
-          turned ∙ ap (turned_for c.args.color) (get_or_default xs n _ d within ∙ here) in
-          let there : AttackAcross c.args.self.now c.args.color c.args.square c.turned_for.result = rw same attack in
-          c.in_default.ensures there
+          let same : (x : Direction) → get_or c.jumps-direction-items.result n x ≡ d = λ x. ap (λ (ds : List Direction). get_or ds n x) c.jumps-direction-items.ensures ∙ (get_or_default xs n x d within ∙ here) in
+          c.in_default.ensures (subst (λ x. KnightAcross c.args.self.now c.args.color c.args.square x) (sym (same _)) attack)
     ]

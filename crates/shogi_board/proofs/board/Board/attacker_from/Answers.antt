@@ -33,7 +33,7 @@ returns-then-is_attacker c =
     let e = place-next c.args.square t.0 c.args.direction c.loop-n.n c.loop-n.place c.loop-n.auto.n t.1 c.loop-n.invariant.seat in
     let here : place t.0 ≡ c.loop-n.place + c.stride-stride.result - 20 = omega (arith, e, c.stride-stride.ensures) in
     let stands : at c.args.self.now t.0 ≡ Some c.in-Some.piece = grind arith in
-    let same : t.0 ≡ c.at_place.result = place-same t.0 c.at_place.result (here ∙ sym c.at_place.ensures.value) in
+    let same : t.0 ≡ c.square_at.result = place-same t.0 c.square_at.result (here ∙ sym c.square_at.ensures) in
     let yes = c.if-is_attacker.ensures.0 refl in
     subst (λ (a : Square). Attack c.args.self.now c.args.color a c.args.square) same
     (goes-attacks c.args.self.now c.args.color c.args.square t.0 c.args.direction c.loop-n.n c.in-Some.piece c.requires c.loop-n.auto.n t.1 c.loop-n.invariant.clear stands yes.0 yes.1)

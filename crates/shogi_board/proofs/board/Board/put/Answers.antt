@@ -14,8 +14,8 @@ invariant_of-self-then-is_king c =
     let was : at i.cells c.args.square ≡ c.cell_at-was.result = rw c.self.view_is (sym c.cell_at-was.ensures) in
     let few : (color : Color) → kings_of (set i.cells (place c.args.square) c.of-cell.result) color ≤ 1 = rw (c.of-cell.ensures, c.self.view_is) c.requires in
     rw c.place.ensures.value (has-kings _ _ _ (rw length-set h.squares) few
-    (c.king_after-self-inside.ensures i.cells h.squares (h.one_king Black) was (king-of Black i.cells i.black_king h.squares h.black_king))
-    (c.king_after-self-inside-then-is_king.ensures i.cells h.squares (h.one_king White) was (king-of White i.cells i.white_king h.squares h.white_king)))
+    (c.keep_kings.ensures.black i.cells h.squares (h.one_king Black) was (king-of Black i.cells i.black_king h.squares h.black_king))
+    (c.keep_kings.ensures.white i.cells h.squares (h.one_king White) was (king-of White i.cells i.white_king h.squares h.white_king)))
 
 pub invariant_of-self : goal.invariant_of-self
 invariant_of-self c =

@@ -8,7 +8,7 @@ returns-then-leaves_check-clause-answer c = (c.leaves_check.ensures.value.0 c.if
 
 pub of-requires : goal.of-requires
 of-requires c = record {
-  within = c.self.invariant;
+  within = c.self.invariant.0;
   safe = λ check.
       let there : InCheck c.args.self.now.material.board (opponent c.args.side) = rw (← c.self.view_is) check in
       let yes = c.leaves_check.ensures.value.1 there in
@@ -18,7 +18,7 @@ of-requires c = record {
 
 pub returns-clause-sound : goal.returns-clause-sound
 returns-clause-sound c = rw c.of.ensures (record {
-  within = c.self.invariant;
+  within = c.self.invariant.0;
   safe = λ check.
       let there : InCheck c.args.self.now.material.board (opponent c.args.side) = rw (← c.self.view_is) check in
       let yes = c.leaves_check.ensures.value.1 there in
