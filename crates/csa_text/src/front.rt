@@ -8,8 +8,7 @@ ghost use Rattle.csa_text.specs.Spelling.{Spells};
 
 use crate::codes::read_sign;
 use crate::moved::read_move;
-use shogi_board::Color;
-use shogi_rules::Move;
+use shogi_board::{Color, Move};
 
 /// How many bytes a move has.
 pub const MOVE_SIZE: usize = 7;

@@ -10,8 +10,7 @@ use crate::moved::read_move;
 use crate::pairs::Pairs;
 use crate::rank::read_rank;
 use crate::time::read_time;
-use shogi_board::{Color, Piece};
-use shogi_rules::Move;
+use shogi_board::{Color, Move, Piece};
 
 /// What a statement says. It borrows from the statement.
 #[derive(Clone, Copy, Debug, PartialEq, Eq)]

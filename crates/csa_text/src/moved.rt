@@ -6,8 +6,7 @@ ghost use Rattle.csa_text.specs.Spelling.{Spells};
 
 use crate::codes::{kind_letters, read_kind, read_square, sign_of, square_digits};
 use arrayvec::ArrayString;
-use shogi_board::Color;
-use shogi_rules::Move;
+use shogi_board::{Color, Move};
 
 /// The seven bytes of a move in CSA V2.2: the sign of its side, the square that it leaves or `00`
 /// for a drop, the square that it goes to, and the kind after the move. `read_item` reads them back

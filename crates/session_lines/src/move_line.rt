@@ -8,8 +8,7 @@ ghost use Rattle.session_lines.specs.Texts.{without_last_spaces};
 
 use csa_cutting::Cutter;
 use csa_text::{Item, read_item};
-use shogi_board::Color;
-use shogi_rules::Move;
+use shogi_board::{Color, Move};
 
 /// Whether the line begins with `+` or `-`, as lines of moves do in CSA V2.2 and in the CSA server
 /// protocol.

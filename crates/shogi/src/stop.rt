@@ -5,10 +5,10 @@ ghost use Rattle.std.specs.IoError.{error_kind};
 ghost use Rattle.shogi.specs.Stops.{stop_line, status_of, stop_of_line, stop_of_play, stop_of_record, stop_of_serve, stop_of_talk};
 
 use archive_commands::Tally;
+use bridge_table::SessionFault;
 use csa_record::{FlowFault, Refusal};
 use record_commands::PositionLineFault;
 use session_setup::{LoginFault, MatchFault, PlanFault, PlayCommandFault, ServeFault, TalkFault};
-use shogi_session::SessionFault;
 use std::io::ErrorKind;
 use std::{fmt, io};
 use usi_text::UsiFault;

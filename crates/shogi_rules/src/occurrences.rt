@@ -8,7 +8,7 @@
 //
 // Positions are ordered by their keys first, and as positions are if their keys are equal. The keys
 // of positions that follow each other lie far apart, so the trees stay flat. A record made for it
-// could make a tree deep, but 10,000 moves bound what a search takes. `docs/DECISIONS.md` has the
+// could make a tree deep, but 10,000 moves bound what a search takes. `docs/SPEED.md` has the
 // measurements.
 
 ghost use Rattle.std.specs.Prelude.{◌≡◌, ◌+◌, ◌++◌, ◌<◌, ◌≤◌, [], ◌∷◌, List, MatchResult, Some, OnOk, OnErr, IfOk, length, slice_get};

@@ -4,6 +4,7 @@ use crate::memory::{refuse_all, refuse_no_more};
 use csa_cutting::laws as cutting;
 use csa_record::laws as record;
 use csa_text::laws as text;
+use hash_comments::laws as hashes;
 use shogi_board::laws as board;
 use shogi_rules::laws as rules;
 use shogi_session::laws as session;
@@ -136,6 +137,7 @@ fn needs_no_memory(rt: HostRuntime) -> Result<(), Fail> {
     rules_laws();
     cutting_laws();
     text_laws();
+    hashes::read_by_places();
     record_laws();
     usi_laws();
     session_laws();

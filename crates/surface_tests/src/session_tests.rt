@@ -29,8 +29,9 @@ fn stands_at_the_beginning(rt: &impl Abort, bridge: &Bridge) {
     let client: ClientState = bridge.client_state();
     let waits: Waits = bridge.waits_for();
     let slip: bool = bridge.slip();
+    let moves: Option<usize> = bridge.moves();
     assert!(rt; engine == EngineState::New && client == ClientState::Idle);
-    assert!(rt; waits == Waits::Nobody && !slip);
+    assert!(rt; waits == Waits::Nobody && !slip && moves.is_none());
 }
 
 fn has_no_game(rt: &impl Abort, bridge: &Bridge) -> Result<(), Fail> {

@@ -3,12 +3,12 @@ use crate::memory::{refuse_all, refuse_no_more};
 use crate::rules_tests::pawn_move;
 use arrayvec::ArrayString;
 use csa_text::{
-    Cut, CutFault, Cutter, Ending, Item, LineCutter, LineFault, Moment, Pair, Pairs, PieceCutter,
-    Statement, TextFault, cell_bytes, csa_move, even_head, move_bytes, pair_bytes, pieces_head,
-    rank_head, read_item, read_moment, write_ending, write_header, write_name, write_time,
-    write_turn, write_version,
+    Cut, CutFault, Cutter, Ending, Item, LineCutter, LineFault, MOVE_SIZE, Moment, Pair, Pairs,
+    PieceCutter, Statement, TextFault, cell_bytes, csa_move, even_head, front_move, front_time,
+    move_bytes, pair_bytes, pieces_head, rank_head, read_item, read_moment, sign_of, write_ending,
+    write_header, write_name, write_time, write_turn, write_version,
 };
-use shogi_board::{Color, Kind, OutOfMemory};
+use shogi_board::{Color, Kind, Move, OutOfMemory};
 use std::process::Abort;
 use std::test::Fail;
 
@@ -42,6 +42,30 @@ fn statements_by_piece(rt: &impl Abort) {
     assert!(rt; fed == 2);
     let last: Result<Option<Statement<'_>>, CutFault> = pieces.finish();
     assert!(rt; last == Ok(None));
+}
+
+// A move at the front of a piece, taken as one statement.
+fn front_of_a_piece(rt: &impl Abort) -> Result<(), Fail> {
+    let piece = b"+7776FU\n";
+    let mut pieces = PieceCutter::new();
+    assert!(rt; pieces.take_unspoken(piece).is_none());
+    assert!(rt; pieces.step(b"+\n").is_ok());
+    let (given, fed): (u64, u64) = (pieces.statements(), pieces.fed());
+    assert!(rt; given == 1 && fed == 2);
+    let walked: Option<(Color, Move)> = front_move(piece);
+    assert!(rt; walked == Some((Color::Black, pawn_move()?)));
+    let statement: Option<Statement<'_>> = pieces.take_word(piece, MOVE_SIZE);
+    assert!(rt; statement.is_some());
+    pieces.restart();
+    assert!(rt; pieces.fed() == 0);
+    Ok(())
+}
+
+fn parts_of_texts(rt: &impl Abort) {
+    let time: Option<(u64, usize)> = front_time(b"T12\n");
+    let sign: u8 = sign_of(Color::White);
+    let name: &str = Ending::Toryo.name();
+    assert!(rt; time == Some((12_000, 3)) && sign == b'-' && name == "TORYO");
 }
 
 #[test]
@@ -121,8 +145,11 @@ fn made_without_memory(
 ) -> Result<(), Fail> {
     assert!(rt; cutter.step(b"usi") == Ok((3, None)));
     refuse_all(rt);
+    let _lines: LineCutter = LineCutter::new(rt.alloc(), 4);
     statements(rt);
     statements_by_piece(rt);
+    front_of_a_piece(rt)?;
+    parts_of_texts(rt);
     items(rt)?;
     pairs(rt)?;
     moments_and_moves(rt)?;
