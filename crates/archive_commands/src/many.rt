@@ -165,6 +165,7 @@ fn print_file<I: Inputs, W: Write, E: Notices>(
 {
     match lines::line_of(alloc, reader, inputs, form, file) {
         Ok(line) => {
+            notices.make_way();
             streams::write_all(out, line.as_bytes())?;
             Ok(Tally {
                 accepted: tally.accepted + 1,

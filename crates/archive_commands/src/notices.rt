@@ -16,9 +16,10 @@ use std::time::Clock;
 pub struct Verbosity {
     /// Whether a second line about such a file has the statement at fault, or the system's reason.
     pub is_explained: bool,
-    /// Whether progress is shown. Only for a terminal that standard output does not write to as
-    /// well: its lines would be mixed with that of the progress.
+    /// Whether progress is shown, in a line that is rewritten. Only for a terminal.
     pub shows_progress: bool,
+    /// Whether standard output is a terminal too. Then progress is erased before a line goes there.
+    pub shares_terminal: bool,
 }
 
 /// What takes the lines for standard error.
@@ -46,6 +47,11 @@ pub trait Notices {
     fn read_fault_explained(&self, file: &str) -> Result<String, OutOfMemory>
         ensures { IfOk result (λ text. IsReasonLine file.now (string_bytes text)) };
 
+    /// Called before a line goes to standard output. Erases the line of progress if both would be
+    /// on one terminal.
+    fn make_way(&mut self)
+        ensures { shown self.new ≡ shown self.old };
+
     /// Called after each file.
     fn file_done(&mut self)
         ensures { shown self.new ≡ shown self.old };
@@ -60,6 +66,7 @@ pub trait Notices {
 pub struct StandardError<'a, R> {
     rt: &'a R,
     is_explained: bool,
+    shares_terminal: bool,
     progress: Progress,
 }
 
@@ -74,6 +81,7 @@ impl<'a, R: Clock + Eprint> StandardError<'a, R> {
         StandardError {
             rt,
             is_explained: verbosity.is_explained,
+            shares_terminal: verbosity.shares_terminal,
             progress,
         }
     }
@@ -99,6 +107,12 @@ impl<R: Files + Clock + Eprint + AllocGlobal> Notices for StandardError<'_, R> {
             return Ok(String::new(self.rt.alloc()));
         }
         explain::unreadable(self.rt, file)
+    }
+
+    fn make_way(&mut self) {
+        if self.shares_terminal {
+            self.progress.erase(self.rt);
+        }
     }
 
     fn file_done(&mut self) {

@@ -1,7 +1,7 @@
 -- For private functions: what is known of the entries that were placed so far.
 -- A reader of the public contracts may skip this file.
-use Rattle.std.specs.Prelude.{◌≡◌, ◌⊎◌, ◌+◌, ℕ, ◌≤◌, List, [], ◌∷◌, ◌++◌, true, cond, is_some, Some, Ok, Err}
-use Rattle.std.specs.BTreeMap.{BTreeMap, get, is_at}
+use Rattle.std.specs.Prelude.{◌≡◌, ◌⊎◌, ◌+◌, ℕ, ◌≤◌, List, [], ◌∷◌, ◌++◌, length, true, cond, is_some, Some, Ok, Err}
+use Rattle.std.specs.BTreeMap.{BTreeMap, btree_map_len, get, is_at}
 use Rattle.std.specs.Cmp.Lexicographic.{slice_cmp}
 use Rattle.std.specs.List.{All, Contains}
 use Rattle.std.specs.Ordering.{nat_cmp}
@@ -24,6 +24,11 @@ pub record HoldsLeaders (placings : List Placing) (by_digest : BTreeMap (List �
   pub at_digests : (digest : List ℕ) (leader : ℕ)
       → get (slice_cmp nat_cmp) by_digest digest ≡ Some leader → HasLeader placings leader leader
   pub elsewhere : All (λ leader. HasLeader placings leader leader) colliding
+
+-- of each entry at most one thing is kept: its place at its digest, or its place in the list
+abbrev pub KeepsFew : List Placing → BTreeMap (List ℕ) ℕ → List ℕ → Type 0
+KeepsFew placings by_digest colliding =
+    btree_map_len by_digest + length colliding ≤ length placings
 
 -- the leader is kept at the digest of its key, or in the list
 abbrev pub IsKept : (List ℕ → List ℕ) → BTreeMap (List ℕ) ℕ → List ℕ → List ℕ → ℕ → Type 0

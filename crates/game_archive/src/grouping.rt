@@ -3,12 +3,12 @@
 //! The entries are read once each, in order. Of each group the first entry is kept: at the digest
 //! of its key, or, if another group's first entry has that digest, in a list. An entry is compared
 //! with the first entry that has its digest, and with those of the list, by reading these again. So
-//! a digest and a place are kept of each entry, and no text.
+//! at most a digest and a place are kept of each entry (`KeepsFew`), and no text.
 
 ghost use Rattle.std.specs.Prelude.{◌≡◌, ◌≢◌, ◌+◌, ◌<◌, ◌≤◌, ℕ, List, [], ◌∷◌, ◌++◌, length, MatchOption, IfErr, IfOk, IfSome, OnOk};
 ghost use Rattle.csa_record.specs.declared.flow.FlowFault.{FlowFault};
 ghost use Rattle.game_archive.specs.Keying.{HasKey};
-ghost use Rattle.game_archive.specs.Knowing.{AddsLeader, HadKey, HoldsDigests, HoldsLeaders, IsNotCompared, KeepsCauses, KeepsCount, KnowsGroups, LeadsNone};
+ghost use Rattle.game_archive.specs.Knowing.{AddsLeader, HadKey, HoldsDigests, HoldsLeaders, IsNotCompared, KeepsCauses, KeepsCount, KeepsFew, KnowsGroups, LeadsNone};
 ghost use Rattle.game_archive.specs.Alike.{GiveBytes};
 ghost use Rattle.game_archive.specs.Groups.{HasLeader, IsGrouped, outside};
 ghost use Rattle.game_archive.specs.Readings.{Noted, ReadAlike, how_many};
@@ -159,6 +159,10 @@ impl Groups {
             (A.noted archive.old) (A.noted archive.new) since self.new.placings.items) }
         ensures counted { OnOk result (KeepsCount (A.noted archive.old) (A.noted archive.new)
             self.old.placings.items self.new.placings.items) }
+        ensures few { KeepsFew
+            self.old.placings.items self.old.by_digest self.old.colliding.items
+            → OnOk result (KeepsFew
+            self.new.placings.items self.new.by_digest self.new.colliding.items) }
         ensures size { A.size archive.new ≡ A.size archive.old }
         ensures alike { ReadAlike (A.reads archive.old) (A.reads archive.new) }
     {
@@ -207,6 +211,10 @@ impl Groups {
             (A.noted archive.old) (A.noted archive.new) since self.new.placings.items) }
         ensures counted { OnOk result (KeepsCount (A.noted archive.old) (A.noted archive.new)
             self.old.placings.items self.new.placings.items) }
+        ensures few { KeepsFew
+            self.old.placings.items self.old.by_digest self.old.colliding.items
+            → OnOk result (KeepsFew
+            self.new.placings.items self.new.by_digest self.new.colliding.items) }
         ensures size { A.size archive.new ≡ A.size archive.old }
         ensures alike { ReadAlike (A.reads archive.old) (A.reads archive.new) }
     {
@@ -287,6 +295,10 @@ impl Groups {
         ensures added { OnOk result (AddsLeader self.old.by_digest self.old.colliding.items
             (length self.old.placings.items) digest.now
             self.new.by_digest self.new.colliding.items) }
+        ensures few { KeepsFew
+            self.old.placings.items self.old.by_digest self.old.colliding.items
+            → OnOk result (KeepsFew
+            self.new.placings.items self.new.by_digest self.new.colliding.items) }
     {
         let at = self.placings.len();
         self.placings.push(Placing::Group(at))?;

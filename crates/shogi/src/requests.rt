@@ -15,7 +15,7 @@ use record_commands::{check, csa, normal, usi};
 use record_game::Likeness;
 use session_commands::{engine, play, reasons, serve};
 use shogi_board::OutOfMemory;
-use shogi_words::{PasswordSource, Plan, Records, Request, Service, request_of};
+use shogi_words::{PasswordSource, PathEnd, Plan, Records, Request, Service, request_of};
 use std::fs::File;
 use std::io::Eprint;
 use std::net::{Net, TcpListener, TcpStream};
@@ -92,10 +92,12 @@ fn read_files<R: Files + Input + Print + Eprint + Clock + AllocGlobal>(
 {
     if paths::are_many(rt, records) {
         let paths = paths::all(rt, records)?;
+        let ends_in_nul = matches!((lines, records.path_end), (LineKind::Digests, PathEnd::Nul));
         let verbosity = Verbosity {
             is_explained: records.is_explained,
-            // on one terminal the line of progress would be among the lines of the files
-            shows_progress: records.shows_progress && !terminals.output,
+            // on one terminal progress would be written over a line that has no end
+            shows_progress: records.shows_progress && !(terminals.output && ends_in_nul),
+            shares_terminal: terminals.output,
         };
         let tally = many::run(rt, lines, &paths, records.hash_lines, verbosity)?;
         return all_accepted(rt, tally, terminals.error);
@@ -125,6 +127,7 @@ fn compare<R: Files + Input + Print + Eprint + Clock + AllocGlobal>(
     let verbosity = Verbosity {
         is_explained: records.is_explained,
         shows_progress: records.shows_progress,
+        shares_terminal: terminals.output,
     };
     let tally = same::run(rt, comparison, &paths, verbosity)?;
     all_accepted(rt, tally, terminals.error)

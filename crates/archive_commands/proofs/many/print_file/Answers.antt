@@ -8,7 +8,7 @@ use Rattle.archive_commands.proofs.many.print_file.Goals as goal
 pub returns-in_ok-write_all-in-Ok-clause-printed : goal.returns-in_ok-write_all-in-Ok-clause-printed
 returns-in_ok-write_all-in-Ok-clause-printed g c =
     let Printed = Appends (g.W.Write.contents c.args.out.now) (g.W.Write.contents c.write_all.new.writer) in
-    accepted (string_bytes c.in-Ok.line) c.in-Ok.ensures.line (subst Printed c.as_bytes.ensures.value c.in_ok-write_all-in-Ok.ensures.bytes) refl refl
+    accepted (string_bytes c.in-Ok.line) c.in-Ok.ensures.line (subst Printed c.as_bytes.ensures.value c.in_ok-write_all-in-Ok.ensures.bytes) c.make_way.ensures refl
 
 pub returns-in-Ok-refused_lines-clause-printed : goal.returns-in-Ok-refused_lines-clause-printed
 returns-in-Ok-refused_lines-clause-printed g c =

@@ -14,6 +14,7 @@ loop-at-init g c = record {
   alike = alike_refl (g.A.Archive.reads c.args.archive.now);
   leaders = search rules;
   digests = search rules;
+  few = search rules;
   known = search rules;
   noted = subst (λ ps. how_many (g.A.Archive.noted c.args.archive.now) ≡ how_many (g.A.Archive.noted c.args.archive.now) + outside ps) (sym c.new.ensures.items) (omega arith);
   causes = subst (HaveCausesBetween c.args.likeness (g.D.Digester.digest_of c.args.digester.now) (g.A.Archive.reads c.args.archive.now) (g.A.Archive.noted c.args.archive.now) (g.A.Archive.noted c.args.archive.now)) (sym c.new.ensures.items)
@@ -34,6 +35,7 @@ loop-at-preserved g c =
       leaders = c.in_ok-place_next.ensures.leaders;
       digests = (digests_by c.args.likeness (g.D.Digester.digest_of c.args.digester.now) (g.A.Archive.reads here) (g.A.Archive.reads start)
           new.placings.items new.by_digest new.colliding.items (λ k r. (alike k r).1) c.in_ok-place_next.ensures.digests);
+      few = c.in_ok-place_next.ensures.few c.loop-at.invariant.few;
       known = λ bytes gives. c.in_ok-place_next.ensures.groups bytes
           (gives_still (g.A.Archive.reads start) (g.A.Archive.reads here) (g.A.Archive.size start) (g.A.Archive.size here) bytes alike size gives) (c.loop-at.invariant.known bytes gives);
       noted =

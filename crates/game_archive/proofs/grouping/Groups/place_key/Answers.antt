@@ -1,4 +1,4 @@
-use Rattle.std.proofs.Common.{◌≡◌, ◌∙◌, [], ◌∷◌, ◌++◌, ap, length, refl, subst, sym}
+use Rattle.std.proofs.Common.{◌≡◌, ◌∙◌, [], ◌∷◌, ◌++◌, ap, arith, length, refl, subst, sym}
 use Rattle.std.proofs.lemmas.List.{length_push}
 use Rattle.game_archive.proofs.Placed.{leaders_still, placed_unreadable, placed_with}
 use Rattle.game_archive.proofs.Causes.{both_ok, keeps_group, keeps_lost, on_ok}
@@ -48,6 +48,9 @@ returns-in-Ok-None-clause-causes g c = λ since old.
 pub returns-in_ok-push-in-Err-Refused : goal.returns-in_ok-push-in-Err-Refused
 returns-in_ok-push-in-Err-Refused g c = record {
   more = ap length c.in_ok-push-in-Err-Refused.ensures.items ∙ length_push c.args.self.now.placings.items placing.Unreadable;
+  few = λ old.
+      let grown = length_push c.args.self.now.placings.items placing.Unreadable in
+      rw c.in_ok-push-in-Err-Refused.ensures.items (omega (arith, grown, old));
   digests = rw c.in_ok-push-in-Err-Refused.ensures.items
       (digests_still c.args.likeness (g.D.Digester.digest_of c.args.digester.now) (g.A.Archive.reads c.args.archive.now) c.args.self.now.placings.items placing.Unreadable c.args.self.now.by_digest c.args.self.now.colliding.items c.requires.digests);
   leaders = rw c.in_ok-push-in-Err-Refused.ensures.items (leaders_still c.args.self.now.placings.items placing.Unreadable c.args.self.now.by_digest c.args.self.now.colliding.items c.requires.leaders);
@@ -73,6 +76,9 @@ returns-in_ok-push-in-Err-Refused g c = record {
 pub returns-in_ok-push-in-Err-ReadFault : goal.returns-in_ok-push-in-Err-ReadFault
 returns-in_ok-push-in-Err-ReadFault g c = record {
   more = ap length c.in_ok-push-in-Err-ReadFault.ensures.items ∙ length_push c.args.self.now.placings.items placing.Unreadable;
+  few = λ old.
+      let grown = length_push c.args.self.now.placings.items placing.Unreadable in
+      rw c.in_ok-push-in-Err-ReadFault.ensures.items (omega (arith, grown, old));
   digests = rw c.in_ok-push-in-Err-ReadFault.ensures.items
       (digests_still c.args.likeness (g.D.Digester.digest_of c.args.digester.now) (g.A.Archive.reads c.args.archive.now) c.args.self.now.placings.items placing.Unreadable c.args.self.now.by_digest c.args.self.now.colliding.items c.requires.digests);
   leaders = rw c.in_ok-push-in-Err-ReadFault.ensures.items (leaders_still c.args.self.now.placings.items placing.Unreadable c.args.self.now.by_digest c.args.self.now.colliding.items c.requires.leaders);
