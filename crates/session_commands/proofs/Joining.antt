@@ -1,6 +1,5 @@
 -- An engine that is joined to a server that said its port.
-use Rattle.std.proofs.Common.{◌≡◌, ◌++◌, ◌∷◌, ◌∙◌, [], ℕ, List, Result, Ok, Err, IfErr, IfOk, sym}
-use Rattle.std.proofs.lemmas.List.{append_assoc}
+use Rattle.std.proofs.Common.{ℕ, Result, Ok, Err, IfErr, IfOk}
 use Rattle.record_commands.specs.Incoming.{Coming}
 use Rattle.session_commands.specs.Launching.{Connects, ConnectsNot, IsApart, IsPortless, StartsNot, local_address, not_joined}
 use Rattle.session_commands.specs.Ports.{Explains, SaysPort}
@@ -16,9 +15,3 @@ portless explained connects connects_not thinks_not plan output rest p q port (E
 pub if_ok : {T E : Type 0} (r : Result T E) (P Q : T → Type 0) → IfOk r P → ((x : T) → P x → Q x) → IfOk r Q
 if_ok (Ok x) P Q h f = f x h
 if_ok (Err e) P Q h f = tt
-
--- a text that begins with a reason begins with its line
-pub reason_first : {X E : Type 0} (bytes : X → List ℕ) (r : Result X E) (reason line : List ℕ) → IfOk r (λ x. bytes x ≡ reason ++ (10 ∷ line))
-    → IfOk r (λ x. (rest : List ℕ) × (bytes x ≡ (reason ++ 10 ∷ []) ++ rest))
-reason_first bytes (Ok x) reason line is = (line, is ∙ sym (append_assoc reason (10 ∷ []) line))
-reason_first bytes (Err e) reason line is = tt

@@ -1,4 +1,3 @@
-pub mod Causes
 pub mod Coming
 pub mod EndEvents
 pub mod Holding

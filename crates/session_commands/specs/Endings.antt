@@ -5,12 +5,11 @@ use Rattle.bridge_table.specs.declared.fault.SessionFault.TheVariants.{LoginRefu
 use Rattle.bridge_table.specs.declared.fault.MoveCause.{MoveCause}
 use Rattle.bridge_table.specs.declared.fault.MoveCause.TheVariants.{Refused, Unsent}
 use Rattle.record_game.specs.declared.fault.Why.{Why}
-use Rattle.record_game.specs.declared.fault.Why.TheVariants.{Rule as WhyRule}
+use Rattle.record_game.specs.declared.fault.Why.TheVariants as why
 use Rattle.session_commands.specs.declared.bridging.Peer.{Peer}
 use Rattle.bridge_table.specs.declared.event.Status.{Status}
 use Rattle.bridge_table.specs.declared.event.Status.TheVariants.{Failed}
 use Rattle.bridge_table.specs.declared.state.ClientState.{ClientState}
-use Rattle.shogi_board.specs.declared.rule.Rule.{Rule}
 use Rattle.bridge_table.specs.declared.state.ClientState.TheVariants as client
 use Rattle.csa_cutting.specs.Cut.{begins_with}
 use Rattle.session_commands.specs.declared.bridging.Peer.TheVariants.{Engine, Server}
@@ -20,6 +19,7 @@ use Rattle.session_commands.specs.declared.ending.EndEvent.{EndEvent}
 use Rattle.session_commands.specs.declared.ending.EndEvent.TheVariants.{Slip, Ending, Reason, Result as Outcome, Refused as RefusedBy}
 use Rattle.session_setup.specs.declared.fault.MatchFault.{MatchFault}
 use Rattle.session_setup.specs.declared.fault.MatchFault.TheVariants as match_fault
+use Rattle.session_commands.specs.FaultWords.{match_words, session_words, why_words}
 use Rattle.session_commands.specs.Words.{bad_summary_line, gone_line, long_line, slip_line}
 use Rattle.shogi_session.specs.declared.summary_fault.SummaryFault.{SummaryFault}
 use Rattle.session_lines.specs.Texts.{without_last_spaces}
@@ -125,33 +125,31 @@ abbrev pub result_lines : Option (List ℕ) → Option (List ℕ) → List ℕ
 result_lines reason None = []
 result_lines reason (Some line) = result_line reason line
 
--- why a move of the server is refused, and LF: the rule that it breaks, or else the fault
-pub data IsCauseText : MoveCause → List ℕ → Type 0 where
-  breaks : (rule : Rule) (words text : List ℕ)
-      → text ≡ codes " breaks " ++ (words ++ 10 ∷ []) → IsCauseText (Refused (WhyRule rule)) text
-  is_refused : (why : Why) (words text : List ℕ) → ((rule : Rule) → why ≢ WhyRule rule)
-      → text ≡ codes " is refused: " ++ (words ++ 10 ∷ []) → IsCauseText (Refused why) text
-  is_unsent : (text : List ℕ)
-      → text ≡ codes " is a move of the engine's side that it did not send" ++ 10 ∷ []
-      → IsCauseText Unsent text
+-- what is said of a move that is refused for this cause, before the words of the cause
+abbrev pub refusal_verb : Why → List ℕ
+refusal_verb (why.Rule rule) = codes " breaks "
+refusal_verb (why.Text fault) = codes " is refused: "
+refusal_verb (why.Order fault) = codes " is refused: "
+refusal_verb (why.Start fault) = codes " is refused: "
+refusal_verb why.OutOfMemory = codes " is refused: "
+refusal_verb why.Failed = codes " is refused: "
 
--- a line about a move that was refused
-abbrev pub IsRefusedMoveLine : MoveCause → List ℕ → List ℕ → Type 0
-IsRefusedMoveLine move_cause line text = (cause : List ℕ) × IsCauseText move_cause cause
-    × (text ≡ codes "B4: " ++ line ++ cause)
+-- why a move of the server is refused, and LF: the rule that it breaks, or else the fault
+abbrev pub cause_text : MoveCause → List ℕ
+cause_text (Refused why) = refusal_verb why ++ (why_words why ++ 10 ∷ [])
+cause_text Unsent = codes " is a move of the engine's side that it did not send" ++ 10 ∷ []
 
 -- the line about a line of the server that failed the session, perhaps by its summary; the last
--- three faults have no such line
-abbrev pub IsRefusedLine : SessionFault → Option SummaryFault → List ℕ → List ℕ → Type 0
-IsRefusedLine LoginRefused cause line text =
-    text ≡ codes "B1: the server sent " ++ (line ++ 10 ∷ [])
-IsRefusedLine Rejected cause line text =
-    text ≡ codes "B2: the server sent " ++ (line ++ 10 ∷ [])
-IsRefusedLine BadSummary cause line text = text ≡ bad_summary_line cause line
-IsRefusedLine (BadServerMove move_cause) cause line text = IsRefusedMoveLine move_cause line text
-IsRefusedLine EngineGone cause line text = ⊤
-IsRefusedLine ServerGone cause line text = ⊤
-IsRefusedLine LineTooLong cause line text = ⊤
+-- three faults come from no line of the server
+abbrev pub refused_line : SessionFault → Option SummaryFault → List ℕ → List ℕ
+refused_line LoginRefused cause line = codes "B1: the server sent " ++ (line ++ 10 ∷ [])
+refused_line Rejected cause line = codes "B2: the server sent " ++ (line ++ 10 ∷ [])
+refused_line BadSummary cause line = bad_summary_line cause line
+refused_line (BadServerMove move_cause) cause line =
+    codes "B4: " ++ (line ++ cause_text move_cause)
+refused_line EngineGone cause line = session_words EngineGone ++ 10 ∷ []
+refused_line ServerGone cause line = session_words ServerGone ++ 10 ∷ []
+refused_line LineTooLong cause line = session_words LineTooLong ++ 10 ∷ []
 
 -- the peer whose end is this fault
 abbrev pub gone_peer : MatchFault → Option Peer
@@ -166,23 +164,22 @@ gone_peer match_fault.Endless = None
 gone_peer match_fault.Write = None
 gone_peer match_fault.OutOfMemory = None
 
--- the line about a fault that no line of a peer shows
-abbrev pub IsFaultLine : Option Peer → List ℕ → Type 0
-IsFaultLine (Some gone) text = text ≡ gone_line gone ++ 10 ∷ []
-IsFaultLine None text = ⊤
+-- the line about a fault that no line of a peer shows, and about the peer whose end it is, if any
+abbrev pub fault_line : Option Peer → MatchFault → List ℕ
+fault_line (Some gone) fault = gone_line gone ++ 10 ∷ []
+fault_line None fault = match_words fault ++ 10 ∷ []
 
 -- the last line of a log: about the server's line that was refused, about the peer whose line was
 -- too long, or else about the fault; after a session that ended well there is none
-abbrev pub IsLastLine : Option (List ℕ × Refusal) → Option Peer → Result ⊤ MatchFault
-    → List ℕ → Type 0
-IsLastLine (Some refused) long played text =
-    IsRefusedLine refused.1.fault refused.1.summary refused.0 text
-IsLastLine None (Some peer) played text = text ≡ long_line peer ++ 10 ∷ []
-IsLastLine None None (Err fault) text = IsFaultLine (gone_peer fault) text
-IsLastLine None None (Ok done) text = text ≡ []
+abbrev pub last_line : Option (List ℕ × Refusal) → Option Peer → Result ⊤ MatchFault → List ℕ
+last_line (Some refused) long played =
+    refused_line refused.1.fault refused.1.summary refused.0
+last_line None (Some peer) played = long_line peer ++ 10 ∷ []
+last_line None None (Err fault) = fault_line (gone_peer fault) fault
+last_line None None (Ok done) = []
 
--- the lines that say how a session ended
-pub record IsEndText (ended : Ended) (played : Result ⊤ MatchFault) (text : List ℕ) : Type 0 where
-  pub last : List ℕ
-  pub is_last : IsLastLine ended.refused ended.long played last
-  pub text_is : text ≡ slip_lines ended.slip ++ (result_lines ended.reason ended.outcome ++ last)
+-- the lines that say how a session ended. No word of them is free: each is fixed, or quoted from a
+-- line that a peer sent
+abbrev pub end_text : Ended → Result ⊤ MatchFault → List ℕ
+end_text ended played = slip_lines ended.slip
+    ++ (result_lines ended.reason ended.outcome ++ last_line ended.refused ended.long played)

@@ -2,6 +2,7 @@ pub mod Children
 pub mod Comments
 pub mod Door
 pub mod Endings
+pub mod FaultWords
 pub mod Holding
 pub mod Kept
 pub mod Launching

@@ -95,11 +95,11 @@ pub data NotesText (before : LogState) (old : Option (List ℕ)) (entry : Entry)
       → NotesText before old entry after new
 
 -- a log refused a text at its end: the beginning of the text, perhaps nothing or all of it, was
--- added to a log that is whole; one that is not stays as it is
-abbrev pub CutsText : LogState → Option (List ℕ) → List ℕ → Option (List ℕ) → Type 0
-CutsText Whole old text new = AppendsFront old new text
-CutsText Unwritten old text new = new ≡ old
-CutsText OutOfMemory old text new = new ≡ old
+-- added to a log that was whole, and is not from then on; one that was not stays as it is
+abbrev pub CutsText : LogState → Option (List ℕ) → List ℕ → LogState → Option (List ℕ) → Type 0
+CutsText Whole old text after new = (after ≡ Unwritten) × AppendsFront old new text
+CutsText Unwritten old text after new = (after ≡ Unwritten) × (new ≡ old)
+CutsText OutOfMemory old text after new = (after ≡ OutOfMemory) × (new ≡ old)
 
 -- the fault of a log that was in this state when it was closed; the last text may be unwritten too
 abbrev pub closing_fault : LogState → MatchFault

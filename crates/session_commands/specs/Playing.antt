@@ -16,7 +16,7 @@ use Rattle.shogi_session.specs.Events.{Event}
 use Rattle.shogi_session.specs.Host.{IsLoginWord}
 use Rattle.shogi_session.specs.Promises.{Session, Steps}
 use Rattle.shogi_session.specs.State.{first_state, waits_for}
-use Rattle.session_commands.specs.Endings.{Ended, IsEndText, nothing_said}
+use Rattle.session_commands.specs.Endings.{Ended, end_text, nothing_said}
 use Rattle.session_setup.specs.Faults.{IsFileFault}
 use Rattle.session_commands.specs.Kept.{Drops, KeepsRecord, RefusesText, TakesText}
 use Rattle.session_commands.specs.Words.{played_line}
@@ -57,17 +57,16 @@ pub data CameOut {E : Type 0} (came : Gives E) (missed : Misses E) (went gone : 
   endless : NotedEndless came went gone e s nothing_said f t ended
       → CameOut came missed went gone e s f t ended (Err Endless)
 
--- how a session ended was added to its log, if there is one, and the log is whole; or the log
--- refused it, or there was not enough memory to say it, and that is reported in place of what
--- became of the game
+-- how a session ended, this text, was added to its log, if there is one, and the log is whole; or
+-- the log refused it, or there was not enough memory to say it, and that is reported in place of
+-- what became of the game
 pub data ClosesLog {E : Type 0} (closed unclosed : E → List ℕ → E → Type 0)
-    (says : List ℕ → Type 0) (e f : E) (kept : Result ℕ MatchFault)
+    (text : List ℕ) (e f : E) (kept : Result ℕ MatchFault)
     : Result ℕ MatchFault → Type 0 where
-  is_closed : (text : List ℕ) → says text → closed e text f
-      → ClosesLog closed unclosed says e f kept kept
-  not_closed : (text : List ℕ) (fault : MatchFault) → says text → unclosed e text f
-      → IsFileFault fault → ClosesLog closed unclosed says e f kept (Err fault)
-  no_text : f ≡ e → ClosesLog closed unclosed says e f kept (Err OutOfMemory)
+  is_closed : closed e text f → ClosesLog closed unclosed text e f kept kept
+  not_closed : (fault : MatchFault) → unclosed e text f → IsFileFault fault
+      → ClosesLog closed unclosed text e f kept (Err fault)
+  no_text : f ≡ e → ClosesLog closed unclosed text e f kept (Err OutOfMemory)
 
 -- how a session with this outcome ended
 abbrev pub session_end : Result ⊤ MatchFault → SessionEnd
@@ -87,7 +86,7 @@ pub record PlaysAndKeeps {E P D : Type 0} (came : Gives E) (missed : Misses E)
   pub ended : Ended
   pub reached : CameOut came missed went gone e s between t ended outcome
   pub kept : KeepsRecord took refused dropped replaced draft t.state.client outcome p q game
-  pub logged : ClosesLog closed unclosed (IsEndText ended outcome) between f game answer
+  pub logged : ClosesLog closed unclosed (end_text ended outcome) between f game answer
   pub over : end ≡ session_end outcome
 
 -- a bridge to which nothing has happened, as `play` configures it by its plan and its login, whose

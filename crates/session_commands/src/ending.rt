@@ -1,12 +1,11 @@
 //! How a session ended, in words for its log and for a terminal.
 
-ghost use Rattle.std.specs.Prelude.{◌≡◌, ◌⊎◌, ◌↔◌, ◌<◌, ◌≤◌, ◌++◌, ◌∷◌, [], true, false, Some, IfOk, IsTrue, MatchOption, length, string_bytes, take};
+ghost use Rattle.std.specs.Prelude.{◌≡◌, ◌⊎◌, ◌↔◌, ◌<◌, ◌≤◌, ◌++◌, ◌∷◌, [], true, false, Some, IfOk, IsTrue, MatchOption, codes, length, string_bytes, take};
 ghost use Rattle.bridge_table.specs.declared.event.Status.{Status};
-ghost use Rattle.bridge_table.specs.declared.fault.MoveCause.{MoveCause};
 ghost use Rattle.bridge_table.specs.declared.fault.SessionFault.{SessionFault};
 ghost use Rattle.bridge_table.specs.declared.state.ClientState.{ClientState};
 ghost use Rattle.csa_cutting.specs.Cut.{begins_with};
-ghost use Rattle.session_commands.specs.Endings.{IsBeforeResult, IsCauseText, IsEndText, IsEnding, IsFaultLine, IsLastLine, IsReason, IsRefusedLine, IsRefusedMoveLine, IsResult, SaysInGame, SaysOfEnd, gone_peer, kept_with, nothing_said, quoted, quoted_byte, result_line, result_lines, slip_lines, with_long};
+ghost use Rattle.session_commands.specs.Endings.{IsBeforeResult, IsEnding, IsReason, IsResult, SaysInGame, SaysOfEnd, cause_text, end_text, fault_line, gone_peer, kept_with, last_line, nothing_said, quoted, quoted_byte, refusal_verb, refused_line, result_line, result_lines, slip_lines, with_long};
 ghost use Rattle.session_commands.specs.Words.{bad_summary_line, gone_line, long_line, slip_line, summary_words};
 ghost use Rattle.session_commands.specs.declared.bridging.Peer.{Peer};
 ghost use Rattle.session_commands.specs.declared.ending.EndEvent.{EndEvent};
@@ -15,6 +14,7 @@ ghost use Rattle.shogi_session.specs.Summary.{Offer, SummaryContent, TellsOffer}
 ghost use Rattle.shogi_session.specs.SummaryFaults.{HasSummaryFault};
 
 use crate::bridging::Peer;
+use crate::fault_words::{match_words, session_words, why_words};
 use arrayvec::ArrayString;
 use record_game::Why;
 use session_setup::MatchFault;
@@ -250,7 +250,7 @@ impl EndNotes {
     /// How the session ended: a line each for the slip, for the result, and for the fault. Returns
     /// an error if an allocation fails.
     pub fn text(&self, alloc: Global, played: Result<(), MatchFault>) -> Result<String, AllocError>
-        ensures { IfOk result (λ text. IsEndText self.now played (string_bytes text)) }
+        ensures { IfOk result (λ text. string_bytes text ≡ end_text self.now played) }
     {
         let slip = self.slip_lines(alloc)?;
         let result = self.result_lines(alloc)?;
@@ -296,7 +296,7 @@ impl EndNotes {
     // else about the fault.
     fn last_line(&self, alloc: Global, played: Result<(), MatchFault>) -> Result<String, AllocError>
         ensures { IfOk result (λ text.
-            IsLastLine self.now.refused self.now.long played (string_bytes text)) }
+            string_bytes text ≡ last_line self.now.refused self.now.long played) }
     {
         match (&self.refused, self.long, played) {
             (Some((line, refusal)), _, _) => refused_line(alloc, line.as_str(), *refusal),
@@ -329,15 +329,13 @@ pub fn long_line(peer: Peer) -> &'static str
 
 // The line about a fault that no line of a peer shows.
 fn fault_line(alloc: Global, fault: MatchFault) -> Result<String, AllocError>
-    ensures { IfOk result (λ text. IsFaultLine (gone_peer fault) (string_bytes text)) }
+    ensures { IfOk result (λ text. string_bytes text ≡ fault_line (gone_peer fault) fault) }
 {
-    match gone_peer(fault) {
-        Some(peer) => {
-            let line = gone_line(peer);
-            format!(in alloc; "{line}\n")
-        }
-        None => format!(in alloc; "{fault}\n"),
-    }
+    let words = match gone_peer(fault) {
+        Some(peer) => gone_line(peer),
+        None => match_words(fault),
+    };
+    format!(in alloc; "{words}\n")
 }
 
 /// The peer whose end is this fault.
@@ -372,7 +370,7 @@ pub fn gone_line(peer: Peer) -> &'static str
 /// fails.
 pub fn refused_line(alloc: Global, line: &str, refusal: Refusal) -> Result<String, AllocError>
     ensures { IfOk result (λ text.
-        IsRefusedLine refusal.fault refusal.summary line.now (string_bytes text)) }
+        string_bytes text ≡ refused_line refusal.fault refusal.summary line.now) }
 {
     let fault = refusal.fault;
     match fault {
@@ -381,7 +379,8 @@ pub fn refused_line(alloc: Global, line: &str, refusal: Refusal) -> Result<Strin
         SessionFault::Rejected => format!(in alloc; "B2: the server sent {line}\n"),
         SessionFault::BadSummary => bad_summary_line(alloc, line, refusal.summary),
         SessionFault::EngineGone | SessionFault::ServerGone | SessionFault::LineTooLong => {
-            format!(in alloc; "{fault}\n")
+            let words = session_words(fault);
+            format!(in alloc; "{words}\n")
         }
     }
 }
@@ -419,7 +418,8 @@ pub fn summary_words(cause: SummaryFault) -> &'static str
 
 // The line of a move of the server that is refused.
 fn refused_move_line(alloc: Global, line: &str, cause: MoveCause) -> Result<String, AllocError>
-    ensures { IfOk result (λ text. IsRefusedMoveLine cause line.now (string_bytes text)) }
+    ensures { IfOk result (λ text.
+        string_bytes text ≡ codes "B4: " ++ (line.now ++ cause_text cause)) }
 {
     let cause = cause_text(alloc, cause)?;
     format!(in alloc; "B4: {line}{cause}")
@@ -427,26 +427,30 @@ fn refused_move_line(alloc: Global, line: &str, cause: MoveCause) -> Result<Stri
 
 // Why a move of the server is refused, and LF.
 fn cause_text(alloc: Global, cause: MoveCause) -> Result<String, AllocError>
-    ensures { IfOk result (λ text. IsCauseText cause (string_bytes text)) }
+    ensures { IfOk result (λ text. string_bytes text ≡ cause_text cause) }
 {
     match cause {
-        MoveCause::Refused(why) => refusal_text(alloc, why),
+        MoveCause::Refused(why) => {
+            let verb = refusal_verb(why);
+            let words = why_words(why);
+            format!(in alloc; "{verb}{words}\n")
+        }
         MoveCause::Unsent => {
             format!(in alloc; " is a move of the engine's side that it did not send\n")
         }
     }
 }
 
-// The rule that a refused move breaks, or else why it is refused, and LF.
-fn refusal_text(alloc: Global, why: Why) -> Result<String, AllocError>
-    ensures { IfOk result (λ text. IsCauseText (MoveCause.Refused why) (string_bytes text)) }
+// What is said of a move that is refused for this cause, before the words of the cause.
+fn refusal_verb(why: Why) -> &'static str
+    ensures { result.now ≡ refusal_verb why }
 {
-    let Why::Rule(rule) = why else {
-        let words = format!(in alloc; "{why}")?;
-        return format!(in alloc; " is refused: {words}\n");
-    };
-    let words = format!(in alloc; "{rule}")?;
-    format!(in alloc; " breaks {words}\n")
+    match why {
+        Why::Rule(_) => " breaks ",
+        Why::Text(_) | Why::Order(_) | Why::Start(_) | Why::OutOfMemory | Why::Failed => {
+            " is refused: "
+        }
+    }
 }
 
 /// The front of a line, without spaces at its end.

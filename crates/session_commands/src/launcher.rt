@@ -1,6 +1,7 @@
 //! The server and the engine of a game: started, joined to a bridge, and ended.
 
-ghost use Rattle.std.specs.Prelude.{◌≡◌, ◌⊎◌, ◌++◌, ℕ, List, IfErr, IfOk, OnErr, OnOk, None, option_map, string_bytes};
+ghost use Rattle.std.specs.Prelude.{◌≡◌, ◌⊎◌, ◌++◌, ◌∷◌, [], IfErr, IfOk, OnErr, OnOk, None, option_map, string_bytes};
+ghost use Rattle.session_commands.specs.FaultWords.{no_game_text, play_words};
 ghost use Rattle.session_commands.specs.Launching.{IsApart, IsJoined, IsJoinedByPort, IsPortless, IsStarted, IsUnstarted};
 ghost use Rattle.session_commands.specs.Logging.{ClosesIfAny, RefusesIfAny};
 ghost use Rattle.session_commands.specs.Ports.{SaysNoPort, SaysPort, other_line_text};
@@ -11,6 +12,7 @@ use crate::children::{
     Programs, SERVER_GONE, SessionEnd, engine_command, local_address, server_command,
 };
 use crate::ending::excerpt_of;
+use crate::fault_words::{login_words, match_words};
 use crate::log::{Log, Logged};
 use crate::port_line::{FirstLine, first_line};
 use record_commands::incoming::Incoming;
@@ -106,14 +108,13 @@ impl<P: Programs + Drop> Local<P> {
     ///
     /// Refuses `Write` if the log cannot be written, and `OutOfMemory`.
     pub fn note_fault(&mut self, fault: PlayCommandFault) -> Result<(), MatchFault>
-        ensures noted { OnOk result ((fault_line : List ℕ)
-            × ClosesIfAny P.Log.Log.closed self.old.log
-            (reason_line (P.reason self.old.programs) ++ fault_line) self.new.log) }
+        ensures noted { OnOk result (ClosesIfAny P.Log.Log.closed self.old.log
+            (no_game_text (P.reason self.old.programs) fault) self.new.log) }
         ensures unnoted { OnErr result ((self.new.log ≡ self.old.log)
-            ⊎ ((fault_line : List ℕ) × RefusesIfAny P.Log.Log.unclosed self.old.log
-            (reason_line (P.reason self.old.programs) ++ fault_line) self.new.log)) }
+            ⊎ RefusesIfAny P.Log.Log.unclosed self.old.log
+            (no_game_text (P.reason self.old.programs) fault) self.new.log) }
     {
-        let text = fault_text(self.alloc, self.programs.reason(), fault)?;
+        let text = no_game_text(self.alloc, self.programs.reason(), fault)?;
         self.log.close(text.as_bytes())
     }
 }
@@ -179,20 +180,47 @@ impl<P: Programs + Drop> Launcher for Local<P> {
     }
 }
 
-// Why there was no game: the system's reason, if there is one, and the fault, a line each.
-fn fault_text(
+// Why there was no game: the reason, if there is one, and the fault, a line each.
+fn no_game_text(
     alloc: Global,
     reason: Option<&str>,
     fault: PlayCommandFault,
 ) -> Result<String, AllocError>
-    ensures { IfOk result (λ text. (fault_line : List ℕ)
-        × (string_bytes text ≡ reason_line (option_map (λ s. s.now) reason.entry) ++ fault_line)) }
+    ensures { IfOk result (λ text. string_bytes text
+        ≡ no_game_text (option_map (λ s. s.now) reason.entry) fault) }
 {
-    let fault_line = format!(in alloc; "{fault}\n")?;
+    let reason = reason_line(alloc, reason)?;
+    let line = fault_line(alloc, fault)?;
+    format!(in alloc; "{reason}{line}")
+}
+
+// The line with the reason, if there is one.
+fn reason_line(alloc: Global, reason: Option<&str>) -> Result<String, AllocError>
+    ensures { IfOk result (λ text. string_bytes text
+        ≡ reason_line (option_map (λ s. s.now) reason.entry)) }
+{
     match reason {
-        Some(reason) => format!(in alloc; "{reason}\n{fault_line}"),
-        None => Ok(fault_line),
+        Some(reason) => format!(in alloc; "{reason}\n"),
+        None => Ok(String::new(alloc)),
     }
+}
+
+// The line with the fault.
+fn fault_line(alloc: Global, fault: PlayCommandFault) -> Result<String, AllocError>
+    ensures { IfOk result (λ text. string_bytes text ≡ play_words fault ++ 10 ∷ []) }
+{
+    match fault {
+        PlayCommandFault::Plan(fault) => format!(in alloc; "{fault}\n"),
+        PlayCommandFault::Login(fault) => words_line(alloc, login_words(fault)),
+        PlayCommandFault::Match(fault) => words_line(alloc, match_words(fault)),
+    }
+}
+
+// The words, and LF.
+fn words_line(alloc: Global, words: &str) -> Result<String, AllocError>
+    ensures { IfOk result (λ text. string_bytes text ≡ words.now ++ 10 ∷ []) }
+{
+    format!(in alloc; "{words}\n")
 }
 
 // Starts the server, if the plan has one to start, connects to it, and starts the engine. If there

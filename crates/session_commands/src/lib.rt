@@ -19,6 +19,7 @@ mod children;
 mod door;
 mod ending;
 pub mod engine;
+mod fault_words;
 mod launcher;
 pub mod laws;
 pub mod log;

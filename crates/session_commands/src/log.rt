@@ -40,7 +40,8 @@ pub trait Log {
     // This text was added at the end, and the log is whole.
     ghost closed: { Self → List ℕ → Self → Type 0 };
 
-    // At most the beginning of this text was added, and nothing to a log that was not whole.
+    // At most the beginning of this text was added, and nothing to a log that was not whole. The
+    // log is not whole from then on.
     ghost unclosed: { Self → List ℕ → Self → Type 0 };
 
     /// Notes a line that came from the peer, without its line end, or lines that went to it, with
@@ -204,11 +205,11 @@ impl<T: Timer + Drop, W: Write + Drop> Log for TextLog<T, W> {
     ghost noted = { λ l entry m.
         NotesText l.state (W.contents l.writer) entry m.state (W.contents m.writer) };
 
-    ghost closed = { λ l text m. (l.state ≡ LogState.Whole)
+    ghost closed = { λ l text m. (l.state ≡ LogState.Whole) × (m.state ≡ LogState.Whole)
         × Appends (W.contents l.writer) (W.contents m.writer) text };
 
     ghost unclosed = { λ l text m.
-        CutsText l.state (W.contents l.writer) text (W.contents m.writer) };
+        CutsText l.state (W.contents l.writer) text m.state (W.contents m.writer) };
 
     fn note(&mut self, peer: Peer, direction: Direction, lines: &[u8]) {
         if self.state != LogState::Whole {
@@ -223,18 +224,24 @@ impl<T: Timer + Drop, W: Write + Drop> Log for TextLog<T, W> {
     }
 
     fn close(&mut self, text: &[u8]) -> Result<(), MatchFault>
-        ensures closed { OnOk result ((self.old.state ≡ LogState.Whole)
+        ensures closed { OnOk result
+            ((self.old.state ≡ LogState.Whole) × (self.new.state ≡ LogState.Whole)
             × Appends (W.contents self.old.writer) (W.contents self.new.writer) text.now) }
-        ensures unclosed { OnErr result (CutsText self.old.state
-            (W.contents self.old.writer) text.now (W.contents self.new.writer)) }
+        ensures unclosed { OnErr result (CutsText self.old.state (W.contents self.old.writer)
+            text.now self.new.state (W.contents self.new.writer)) }
         ensures faults { IfErr result IsFileFault }
         ensures fault { IfErr result (λ fault. fault ≡ closing_fault self.old.state) }
     {
         match self.state {
-            LogState::Whole => Ok(streams::write_all(&mut self.writer, text)?),
-            LogState::Unwritten => Err(MatchFault::Write),
-            LogState::OutOfMemory => Err(MatchFault::OutOfMemory),
+            LogState::Whole => {}
+            LogState::Unwritten => return Err(MatchFault::Write),
+            LogState::OutOfMemory => return Err(MatchFault::OutOfMemory),
         }
+        if let Err(fault) = streams::write_all(&mut self.writer, text) {
+            self.state = LogState::Unwritten;
+            return Err(MatchFault::from(fault));
+        }
+        Ok(())
     }
 }
 

@@ -2,7 +2,7 @@
 
 ghost use Rattle.std.specs.Prelude.{◌≡◌, true, false, IfErr, IfOk, OnOk, string_bytes};
 ghost use Rattle.std.specs.Io.KnownBytes.{Appends};
-ghost use Rattle.session_commands.specs.Endings.{IsEndText};
+ghost use Rattle.session_commands.specs.Endings.{end_text};
 ghost use Rattle.session_commands.specs.Kept.{IsKept, KeepsRecord, report_of};
 ghost use Rattle.session_setup.specs.Logins.{AreLoginWords, HasNoLogin, IsLoginOf, IsPlayed};
 ghost use Rattle.session_setup.specs.Paths.{HasSoundWords};
@@ -261,7 +261,7 @@ fn close_log<E: Ends>(
     played: Result<(), MatchFault>,
     kept: Result<usize, MatchFault>,
 ) -> Result<usize, MatchFault>
-    ensures { ClosesLog E.closed E.unclosed (IsEndText progress.now.ended played)
+    ensures { ClosesLog E.closed E.unclosed (end_text progress.now.ended played)
         ends.old ends.new kept result }
 {
     let text = progress.end_text(alloc, played)?;

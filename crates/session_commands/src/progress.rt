@@ -3,7 +3,7 @@
 ghost use Rattle.std.specs.Prelude.{◌≡◌, ◌⊎◌, ◌↔◌, ◌+◌, ◌<◌, ◌≤◌, ◌^◌, ℕ, length, true, false, None, Some, IfOk, IsTrue, string_bytes};
 ghost use Rattle.std.specs.List.{position_or_len};
 ghost use Rattle.session_commands.specs.Comments.{is_quote, without_comment};
-ghost use Rattle.session_commands.specs.Endings.{IsEndText, IsKeptAfter, nothing_said, with_long};
+ghost use Rattle.session_commands.specs.Endings.{IsKeptAfter, end_text, nothing_said, with_long};
 ghost use Rattle.session_commands.specs.Showing.{IsCountOf, ended_peer};
 ghost use Rattle.session_lines.specs.MoveLines.{is_move_line};
 ghost use Rattle.shogi_session.specs.State.{client_state};
@@ -180,7 +180,7 @@ impl Progress {
         alloc: Global,
         played: Result<(), MatchFault>,
     ) -> Result<String, AllocError>
-        ensures { IfOk result (λ text. IsEndText self.now.ended played (string_bytes text)) }
+        ensures { IfOk result (λ text. string_bytes text ≡ end_text self.now.ended played) }
     {
         self.ending.text(alloc, played)
     }

@@ -12,9 +12,9 @@ pub returns-in_err-close : goal.returns-in_err-close
 returns-in_err-close g c =
     let p = err_from_is_err_and c.from_residual-in_err-close.result c.from_residual-in_err-close.ensures.1 in
     let same : c.as_bytes.result.now ≡ string_bytes c.in_ok-text.text = search rules in
-    rw (p.1, p.2) (not_closed c.as_bytes.result.now _ (rw same c.in_ok-text.ensures) c.in_err-close.ensures.unclosed c.in_err-close.ensures.faults)
+    rw (p.1, p.2) (not_closed _ (rw (← c.in_ok-text.ensures, ← same) c.in_err-close.ensures.unclosed) c.in_err-close.ensures.faults)
 
 pub returns : goal.returns
 returns g c =
     let same : c.as_bytes.result.now ≡ string_bytes c.in_ok-text.text = search rules in
-    is_closed _ (rw same c.in_ok-text.ensures) c.in_ok-close.ensures.closed
+    is_closed (rw (← c.in_ok-text.ensures, ← same) c.in_ok-close.ensures.closed)
