@@ -3,7 +3,8 @@ use Rattle.std.proofs.Common.{◌≡◌, ℕ, ◌+◌, ◌<◌, ◌≤◌, ◌&&
 use Rattle.std.proofs.lemmas.Bool.{cases_Bool}
 use Rattle.csa_cutting.specs.Cut.{TextUnit, Statements, IsCut, mark_length}
 use Rattle.csa_cutting.specs.Cutting.{Cutting, ToCome, IsTooLong}
-use Rattle.csa_cutting.specs.PieceCutting.{PieceCutting, Closes, Leads, fresh, is_closed}
+use Rattle.csa_cutting.specs.ClosedStatements.{is_closed}
+use Rattle.csa_cutting.specs.PieceCutting.{PieceCutting, Closes, Leads, fresh}
 use Rattle.csa_cutting.specs.PieceSteps.{Stepped, IsTooLongAt}
 use Rattle.csa_cutting.specs.TooLong.{AreShort, FirstTooLong, HasCutOf}
 use Rattle.csa_cutting.specs.declared.cutter.CutFault.{CutFault}

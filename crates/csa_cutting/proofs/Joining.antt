@@ -3,7 +3,8 @@ use Rattle.std.proofs.Common.{◌≡◌, ℕ, ◌+◌, ◌≤◌, ◌||◌, Bool
 use Rattle.std.proofs.lemmas.Bool.{cases_Bool}
 use Rattle.std.proofs.lemmas.Bool.Decides.{nat_tests}
 use Rattle.csa_cutting.specs.Cut.{TextUnit, IsCut, mark_length}
-use Rattle.csa_cutting.specs.PieceCutting.{PieceCutting, ToComeWith, Closed, Leads, fresh, is_closed}
+use Rattle.csa_cutting.specs.ClosedStatements.{Closed, is_closed}
+use Rattle.csa_cutting.specs.PieceCutting.{PieceCutting, ToComeWith, Leads, fresh}
 use Rattle.csa_cutting.proofs.Once.{statements_once}
 use Rattle.csa_cutting.proofs.Passing.{statements_at}
 

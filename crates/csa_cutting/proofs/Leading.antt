@@ -6,7 +6,8 @@ use Rattle.std.proofs.lemmas.List.{length-take-le}
 use Rattle.std.proofs.lemmas.List.Folds.{drop_split}
 use Rattle.std.proofs.Math.Seq.{drop-cons, drop-length}
 use Rattle.csa_cutting.specs.Cut.{TextUnit, IsGap, IsUnit, EndsBefore, Statements, is_separator, is_end, takes_line, byte_order_mark, statement_bytes}
-use Rattle.csa_cutting.specs.PieceCutting.{PieceCutting, Follows, Closes, Leads, is_closed, mark_of}
+use Rattle.csa_cutting.specs.ClosedStatements.{is_closed}
+use Rattle.csa_cutting.specs.PieceCutting.{PieceCutting, Follows, Closes, Leads, mark_of}
 use Rattle.csa_cutting.specs.Places.{IsPart, IsFoundIn, Passes, begins, open_of, kept_of}
 use Rattle.csa_cutting.specs.PieceSteps.{Used, IsTooLongAt}
 use Rattle.csa_cutting.specs.declared.cutter.Statement.{Statement}

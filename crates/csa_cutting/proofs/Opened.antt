@@ -4,7 +4,7 @@ use Rattle.std.proofs.lemmas.Bool.{cases_Bool, cases_lt}
 use Rattle.std.proofs.lemmas.List.{length-replicate}
 use Rattle.csa_cutting.specs.Cut.{TextUnit, IsNext, IsUnit, Units, Statements, is_statement, is_end}
 use Rattle.csa_cutting.specs.Cut.{IsCut, mark_length}
-use Rattle.csa_cutting.specs.PieceCutting.{is_closed}
+use Rattle.csa_cutting.specs.ClosedStatements.{is_closed}
 use Rattle.csa_cutting.proofs.FirstLong.{text_ends}
 use Rattle.csa_cutting.proofs.Growing.{filter_kept, filter_dropped, never_none, front_grown, followed, cut_grown, statements_grown, Longer}
 use Rattle.csa_cutting.proofs.Leading.{closed_after}

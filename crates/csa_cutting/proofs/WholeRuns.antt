@@ -4,7 +4,8 @@ use Rattle.std.specs.Prelude.{Result, slice_range}
 use Rattle.std.proofs.Math.Seq.{take-length}
 use Rattle.csa_cutting.specs.Cut.{TextUnit, IsCut, Statements, mark_length, statement_bytes, longest_statement}
 use Rattle.csa_cutting.specs.Cutting.{Cutting, IfHandedOut, IsFirstStatement, IsHandedOut, IsTooLong, ToCome, unit_between}
-use Rattle.csa_cutting.specs.PieceCutting.{PieceCutting, Closed, Leads, fresh}
+use Rattle.csa_cutting.specs.ClosedStatements.{Closed}
+use Rattle.csa_cutting.specs.PieceCutting.{PieceCutting, Leads, fresh}
 use Rattle.csa_cutting.specs.PieceSteps.{IsNumbered, Stepped, Used, Last, Finished}
 use Rattle.csa_cutting.specs.TooLong.{AreShort, HasCutOf, FirstTooLong}
 use Rattle.csa_cutting.specs.WholeRun.{AreNumbered, AreStatementsOf, given, Answered, all_used, all_given, HandedOut}

@@ -1,3 +1,4 @@
+pub mod ClosedStatements
 pub mod Cut
 pub mod Cutting
 pub mod Lines

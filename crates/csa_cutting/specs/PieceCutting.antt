@@ -1,6 +1,7 @@
 -- The state of a cutter of pieces.
 use Rattle.std.specs.Prelude.{◌≡◌, ℕ, ◌+◌, ◌-◌, ◌||◌, ◌⊎◌, Bool, true, false, List, [], ◌∷◌, ◌++◌, length, drop, filter, nat_lt, Option, None, if◌then◌else◌}
-use Rattle.csa_cutting.specs.Cut.{TextUnit, IsUnit, Statements, IsCut, mark_length, begins_with, longest_statement}
+use Rattle.csa_cutting.specs.ClosedStatements.{is_closed}
+use Rattle.csa_cutting.specs.Cut.{TextUnit, IsUnit, Statements, mark_length, begins_with}
 
 -- how many bytes it has used; how many statements it has yielded; whether these bytes are the front
 -- of a byte order mark, or none; what is unfinished: the bytes of that mark, the bytes of a unit,
@@ -42,17 +43,6 @@ Follows begins fed held text statements =
 -- the statements that are still to come, if these bytes follow and no others
 abbrev pub ToComeWith : PieceCutting → List ℕ → List TextUnit → Type 0
 ToComeWith p text statements = Follows p.begins p.fed p.unfinished text statements
-
--- in a text of so many bytes, a unit that is followed by the byte that ends it, or has more than
--- 4,096 bytes
-abbrev pub is_closed : ℕ → TextUnit → Bool
-is_closed end u =
-    nat_lt (u.offset + length u.bytes) end || nat_lt longest_statement (length u.bytes)
-
--- the closed statements of a record's bytes
-abbrev pub Closed : List ℕ → List TextUnit → Type 0
-Closed source closed = (statements : List TextUnit) × IsCut source statements
-    × (closed ≡ filter (is_closed (length source)) statements)
 
 -- the closed statements that are still to come, if these bytes follow
 abbrev pub Closes : PieceCutting → List ℕ → List TextUnit → Type 0

@@ -7,7 +7,8 @@ ghost use Rattle.csa_cutting.specs.Cut.{TextUnit, Units, IsCut, Statements, mark
 ghost use Rattle.csa_cutting.specs.Cutting.{Cutting, ToCome, IfHandedOut, IsFirstStatement, IsHandedOut, IsTooLong, unit_between};
 ghost use Rattle.csa_cutting.specs.Lines.{Lines};
 ghost use Rattle.csa_cutting.specs.LineCutting.{LineCutting, BeginsTooLong, HasLongLine, LineAnswer, LineStep, LinesAfter, LastLine};
-ghost use Rattle.csa_cutting.specs.PieceCutting.{PieceCutting, Closed, fresh};
+ghost use Rattle.csa_cutting.specs.ClosedStatements.{Closed};
+ghost use Rattle.csa_cutting.specs.PieceCutting.{PieceCutting, fresh};
 ghost use Rattle.csa_cutting.specs.PieceSteps.{AfterStep, AfterEnd, Last, IsTooLongAt, Stepped, Finished};
 ghost use Rattle.csa_cutting.specs.TooLong.{FirstTooLong};
 ghost use Rattle.csa_cutting.specs.WholeRun.{AreNumbered, AreStatementsOf, given, Answered, all_used, all_given, HandedOut, all_stated, LineAnswers, all_taken, line_given, all_lines};

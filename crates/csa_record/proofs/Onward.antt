@@ -4,7 +4,8 @@ use Rattle.std.specs.List.{AllByRecursion, AllZip}
 use Rattle.std.proofs.lemmas.List.{append-nil, length-append, take-append-drop}
 use Rattle.std.proofs.Math.Seq.{take-length}
 use Rattle.csa_cutting.specs.Cut.{TextUnit, IsCut, statement_bytes}
-use Rattle.csa_cutting.specs.PieceCutting.{PieceCutting, ToComeWith, Leads, is_closed, fresh}
+use Rattle.csa_cutting.specs.ClosedStatements.{is_closed}
+use Rattle.csa_cutting.specs.PieceCutting.{PieceCutting, ToComeWith, Leads, fresh}
 use Rattle.csa_cutting.specs.PieceSteps.{Stepped, Finished, IsNumbered}
 use Rattle.csa_cutting.specs.TooLong.{AreShort}
 use Rattle.shogi_board.specs.declared.color.Color.{Color}

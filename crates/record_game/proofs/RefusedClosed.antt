@@ -10,7 +10,7 @@ use Rattle.shogi_board.specs.declared.setup.SetupFault.{SetupFault}
 use Rattle.shogi_rules.specs.declared.line.PlayFault.{PlayFault}
 use Rattle.shogi_rules.specs.declared.line.PlayFault.TheVariants as playing
 use Rattle.csa_cutting.specs.Cut.{TextUnit, statement_bytes}
-use Rattle.csa_cutting.specs.PieceCutting.{is_closed}
+use Rattle.csa_cutting.specs.ClosedStatements.{is_closed}
 use Rattle.csa_cutting.proofs.Joining.{filter_joined}
 use Rattle.csa_cutting.proofs.Once.{statements_once}
 use Rattle.csa_cutting.proofs.Opened.{as_grown, open_as, cut_begins, fronts_closed}

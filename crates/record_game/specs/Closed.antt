@@ -1,7 +1,7 @@
 -- A refusal that the bytes so far decide.
 use Rattle.std.specs.Prelude.{◌≡◌, ℕ, ◌+◌, List, [], ◌∷◌, ◌++◌, length}
 use Rattle.csa_cutting.specs.Cut.{TextUnit}
-use Rattle.csa_cutting.specs.PieceCutting.{Closed}
+use Rattle.csa_cutting.specs.ClosedStatements.{Closed}
 use Rattle.csa_text.specs.Saying.{Saying}
 use Rattle.record_game.specs.declared.fault.Why.{Why}
 use Rattle.record_game.specs.Refused.{Fault, Faultless}

@@ -1,4 +1,4 @@
--- For private functions: the name and the password that `play` logs in with.
+-- The name and the password that `play` logs in with; in part for private functions.
 use Rattle.std.specs.Prelude.{◌≡◌, ◌==◌, ◌||◌, ℕ, List, Option, Result, Ok, Err, None, Some, IfSome, ⊤, codes, if◌then◌else◌}
 use Rattle.std.specs.Borrow.{Bor}
 use Rattle.std.specs.List.{before_first}

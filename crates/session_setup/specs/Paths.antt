@@ -1,4 +1,4 @@
--- For private functions: which words of a plan go together.
+-- Which words of a plan go together; in part for private functions.
 use Rattle.std.specs.Prelude.{◌≡◌, ◌≢◌, ◌⊎◌, ◌++◌, ℕ, Bool, true, false, List, Option, None, Some, codes}
 use Rattle.std.specs.Borrow.{Bor}
 use Rattle.session_setup.specs.Ports.{HasPort}

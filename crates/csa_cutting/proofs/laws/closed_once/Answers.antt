@@ -1,6 +1,6 @@
 use Rattle.std.proofs.Common.{List, length, filter, refl}
 use Rattle.csa_cutting.specs.Cut.{TextUnit}
-use Rattle.csa_cutting.specs.PieceCutting.{Closed, is_closed}
+use Rattle.csa_cutting.specs.ClosedStatements.{Closed, is_closed}
 use Rattle.csa_cutting.proofs.Joining.{closed_once}
 use Rattle.csa_cutting.proofs.Once.{cut_found}
 use Rattle.csa_cutting.proofs.laws.closed_once.Goals as goal
