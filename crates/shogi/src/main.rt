@@ -54,15 +54,19 @@ fn run<
         + Eprint
         + AllocGlobal,
 >(rt: &R, terminals: Terminals) -> Result<ExitCode, Stop> {
-    let words = usage::words(rt)?;
+    let line = usage::command_line(rt)?;
     let Ok(commands) = shogi_words::all(rt.alloc()) else {
         return Err(Stop::OutOfMemory);
     };
-    match commands.try_get_matches_from(words.as_slice()) {
+    match commands.try_get_matches_from(line.words.as_slice()) {
         Ok(matches) => {
             let request = requests::requested(&matches, terminals.error)?;
-            Ok(answer(rt, &request, terminals))
+            if !requests::are_files(&request, line.not_text.as_slice()) {
+                return Err(Stop::WordsNotText);
+            }
+            Ok(answer(rt, &request, line.not_text.as_slice(), terminals))
         }
+        Err(_) if !line.not_text.is_empty() => Err(Stop::WordsNotText),
         Err(error) => Ok(usage::answer(rt, &error)?),
     }
 }
@@ -79,11 +83,11 @@ fn answer<
         + Print
         + Eprint
         + AllocGlobal,
->(rt: &R, request: &Request<'_, '_>, terminals: Terminals) -> ExitCode
+>(rt: &R, request: &Request<'_, '_>, names: &[Vec<u8>], terminals: Terminals) -> ExitCode
     requires moves { (s : Service)
         → request.now ≡ Request.Serve s → (1 ≤ s.max_moves) × (s.max_moves ≤ positions.max_moves) }
 {
-    match requests::meet(rt, request, terminals) {
+    match requests::meet(rt, request, names, terminals) {
         Ok(()) => ExitCode::SUCCESS,
         Err(stop) => {
             let _ = rt.eprintln(&stop);

@@ -8,9 +8,12 @@ ghost use Rattle.shogi_rules.specs.Positions as positions;
 ghost use Rattle.shogi_words.specs.Words.{IsNoCommand, word_of};
 
 use crate::stop::Stop;
+use crate::usage::NOT_TEXT;
+use archive_commands::paths::FileList;
 use archive_commands::same::Comparison;
 use archive_commands::{LineKind, Tally, Verbosity, digest, explain, many, paths, same};
 use clap::ArgMatches;
+use csa_record::FlowFault;
 use record_commands::{check, csa, normal, usi};
 use record_game::Likeness;
 use session_commands::{engine, play, reasons, serve};
@@ -48,7 +51,24 @@ pub fn requested<'m, 'a>(
     request_of(matches, is_terminal).ok_or(Stop::UnknownCommand)
 }
 
-/// Does what is asked for. Refuses as the command does.
+/// Whether each of these words, which are not UTF-8, is a FILE of `check`, `digest` or `same`.
+pub fn are_files(request: &Request<'_, '_>, words: &[Vec<u8>]) -> bool {
+    let named = match request {
+        Request::Check(records) | Request::Digest(records) | Request::Same(records, _) => {
+            standing_in(records.files)
+        }
+        _ => 0,
+    };
+    named == words.len() && !words.iter().any(|word| word.starts_with(b"-"))
+}
+
+// How many of these stand for words that are not UTF-8.
+fn standing_in(files: &[&str]) -> usize {
+    files.iter().filter(|file| **file == NOT_TEXT).count()
+}
+
+/// Does what is asked for. Refuses as the command does. `names` are those of the FILEs that are not
+/// UTF-8: such a file cannot be read.
 ///
 /// If standard error is a terminal, several files are counted there even if all are accepted.
 pub fn meet<
@@ -61,15 +81,15 @@ pub fn meet<
         + Print
         + Eprint
         + AllocGlobal,
->(rt: &R, request: &Request<'_, '_>, terminals: Terminals) -> Result<(), Stop>
+>(rt: &R, request: &Request<'_, '_>, names: &[Vec<u8>], terminals: Terminals) -> Result<(), Stop>
     requires moves { (s : Service)
         → request.now ≡ Request.Serve s → (1 ≤ s.max_moves) × (s.max_moves ≤ positions.max_moves) }
     ensures stops { IfErr result (IsStopOf request.now) }
 {
     match *request {
-        Request::Check(records) => read_files(rt, LineKind::Checks, &records, terminals)?,
-        Request::Digest(records) => read_files(rt, LineKind::Digests, &records, terminals)?,
-        Request::Same(records, likeness) => compare(rt, &records, likeness, terminals)?,
+        Request::Check(records) => read_files(rt, LineKind::Checks, &records, names, terminals)?,
+        Request::Digest(records) => read_files(rt, LineKind::Digests, &records, names, terminals)?,
+        Request::Same(records, likeness) => compare(rt, &records, likeness, names, terminals)?,
         Request::Normal(one) => normal::run(rt, one.file, one.hash_lines)?,
         Request::Usi(one) => usi::run(rt, one.file, one.hash_lines)?,
         Request::Csa(file) => csa::run(rt, file)?,
@@ -86,12 +106,13 @@ fn read_files<R: Files + Input + Print + Eprint + Clock + AllocGlobal>(
     rt: &R,
     lines: LineKind,
     records: &Records<'_, '_>,
+    names: &[Vec<u8>],
     terminals: Terminals,
 ) -> Result<(), Stop>
     ensures { IfErr result IsStopOfFiles }
 {
-    if paths::are_many(rt, records) {
-        let paths = paths::all(rt, records)?;
+    if !names.is_empty() || paths::are_many(rt, records) {
+        let paths = files_of(rt, records, names)?;
         let ends_in_nul = matches!((lines, records.path_end), (LineKind::Digests, PathEnd::Nul));
         let verbosity = Verbosity {
             is_explained: records.is_explained,
@@ -114,11 +135,12 @@ fn compare<R: Files + Input + Print + Eprint + Clock + AllocGlobal>(
     rt: &R,
     records: &Records<'_, '_>,
     likeness: Likeness,
+    names: &[Vec<u8>],
     terminals: Terminals,
 ) -> Result<(), Stop>
     ensures { IfErr result IsStopOfFiles }
 {
-    let paths = paths::all(rt, records)?;
+    let paths = files_of(rt, records, names)?;
     let comparison = Comparison {
         likeness,
         hash_lines: records.hash_lines,
@@ -131,6 +153,28 @@ fn compare<R: Files + Input + Print + Eprint + Clock + AllocGlobal>(
     };
     let tally = same::run(rt, comparison, &paths, verbosity)?;
     all_accepted(rt, tally, terminals.error)
+}
+
+// The files that are asked for. Those whose names are not UTF-8 get them again.
+fn files_of<R: Files + Input + AllocGlobal>(
+    rt: &R,
+    records: &Records<'_, '_>,
+    names: &[Vec<u8>],
+) -> Result<FileList, FlowFault> {
+    let mut files = paths::all(rt, records)?;
+    let mut names = names.iter();
+    for path in files.paths.iter_mut() {
+        if path.as_slice() == NOT_TEXT.as_bytes() {
+            let Some(name) = names.next() else {
+                break;
+            };
+            match Vec::from_slice(rt.alloc(), name.as_slice()) {
+                Ok(name) => *path = name,
+                Err(_) => return Err(FlowFault::OutOfMemory),
+            }
+        }
+    }
+    Ok(files)
 }
 
 // Refuses `NotAll` if a file was refused or could not be read. Otherwise counts the files on a

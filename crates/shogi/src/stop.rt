@@ -1,7 +1,6 @@
 //! What ends the program early: its status, and its line on standard error.
 
-ghost use Rattle.std.specs.Prelude.{◌≡◌, ◌≢◌};
-ghost use Rattle.std.specs.IoError.{error_kind};
+ghost use Rattle.std.specs.Prelude.{◌≡◌};
 ghost use Rattle.shogi.specs.Stops.{stop_line, status_of, stop_of_line, stop_of_play, stop_of_record, stop_of_serve, stop_of_talk};
 
 use archive_commands::Tally;
@@ -9,8 +8,7 @@ use bridge_table::SessionFault;
 use csa_record::{FlowFault, Refusal};
 use record_commands::PositionLineFault;
 use session_setup::{LoginFault, MatchFault, PlanFault, PlayCommandFault, ServeFault, TalkFault};
-use std::io::ErrorKind;
-use std::{fmt, io};
+use std::fmt;
 use usi_text::UsiFault;
 
 /// Why the program did not do what it was asked for.
@@ -67,17 +65,6 @@ impl Stop {
             Stop::NotAll(tally) => { if tally.unreadable > 0 { 3 } else { 1 } }
             Stop::ClientGone | Stop::ClientLineTooLong | Stop::Session(_) => 4,
             Stop::OutOfMemory => 5,
-        }
-    }
-
-    /// Why a command line could not be read.
-    pub fn of_words(error: &io::Error) -> Stop
-        ensures memory { error_kind error.now ≡ ErrorKind.OutOfMemory → result ≡ Stop.OutOfMemory }
-        ensures words { error_kind error.now ≢ ErrorKind.OutOfMemory → result ≡ Stop.WordsNotText }
-    {
-        match error.kind() {
-            ErrorKind::OutOfMemory => Stop::OutOfMemory,
-            _ => Stop::WordsNotText,
         }
     }
 }

@@ -8,24 +8,64 @@ ghost use Rattle.clap.specs.Values.{kind_of};
 use crate::stop::{Stop, USAGE};
 use clap::Error;
 use clap::error::ErrorKind;
-use std::env;
+use shogi_board::OutOfMemory;
+use std::alloc::Global;
+use std::env::FillError;
 use std::process::ExitCode;
 use std::rt::Env;
 
-/// The words that the program was started with, its own name first.
+/// The most bytes of a word with its NUL: `MAX_ARG_STRLEN` of Linux.
+const LONGEST_WORD: usize = 131_072;
+
+/// What stands for a word that is not UTF-8. No word contains NUL.
+pub const NOT_TEXT: &str = "\0";
+
+/// The words that the program was started with.
+#[derive(Drop)]
+pub struct CommandLine {
+    /// Its own name first, and `NOT_TEXT` in place of each word that is not UTF-8.
+    pub words: Vec<String>,
+    /// The bytes of the words that are not UTF-8, in order.
+    pub not_text: Vec<Vec<u8>>,
+}
+
+impl CommandLine {
+    // Adds a word. Returns an error if an allocation fails.
+    fn add(&mut self, alloc: Global, word: &[u8]) -> Result<(), OutOfMemory> {
+        match str::from_utf8(word) {
+            Ok(text) => Ok(self.words.push(String::from_str(alloc, text)?)?),
+            Err(_) => {
+                self.words.push(String::from_str(alloc, NOT_TEXT)?)?;
+                Ok(self.not_text.push(Vec::from_slice(alloc, word)?)?)
+            }
+        }
+    }
+}
+
+/// The words that the program was started with.
 ///
-/// Refuses `WordsNotText` if one of them is not UTF-8, and `OutOfMemory`.
-pub fn words<R: Env + AllocGlobal>(rt: &R) -> Result<Vec<String>, Stop>
+/// Refuses `WordsNotText` if one is longer than Linux allows, and `OutOfMemory`.
+pub fn command_line<R: Env + AllocGlobal>(rt: &R) -> Result<CommandLine, Stop>
     ensures stops { IfErr result (λ stop. (stop ≡ Stop.WordsNotText) ⊎ (stop ≡ Stop.OutOfMemory)) }
 {
-    let words = match env::args(rt) {
-        Ok(words) => words,
-        Err(error) => return Err(Stop::of_words(&error)),
+    let mut line = CommandLine {
+        words: Vec::new(rt.alloc()),
+        not_text: Vec::new(rt.alloc()),
     };
-    match words.collect(rt.alloc()) {
-        Ok(words) => Ok(words),
-        Err(_) => Err(Stop::OutOfMemory),
+    let Ok(mut buffer) = vec![in rt.alloc(); 0u8; LONGEST_WORD] else {
+        return Err(Stop::OutOfMemory);
+    };
+    for at in 0..usize::MAX {
+        let length = match rt.arg(at, buffer.as_mut_slice()) {
+            Ok(length) => length,
+            Err(FillError::NotPresent) => break,
+            Err(FillError::TooLong) => return Err(Stop::WordsNotText),
+        };
+        if line.add(rt.alloc(), &buffer[..length]).is_err() {
+            return Err(Stop::OutOfMemory);
+        }
     }
+    Ok(line)
 }
 
 /// Prints what `clap` reports instead of matches: help and the version on standard output, with
