@@ -1,6 +1,7 @@
 use csa_record::{
     FlowFault, Reading, Sink, Source, SourceReader, Writing, digest, normalise, read_from, write,
 };
+use std::alloc::Global;
 use std::io::BufWriter;
 use std::test::Fail;
 
@@ -25,15 +26,27 @@ fn normalises_a_reader(rt: HostRuntime) -> Result<(), Fail> {
     Ok(())
 }
 
+// Whether the next record is refused.
+fn is_refused(reader: &mut SourceReader, given: &[u8]) -> bool {
+    matches!(
+        reader.read(&mut Reading::new(given)),
+        Err(FlowFault::Refused(_))
+    )
+}
+
+// The canonical text of the next record.
+fn text_of_next(alloc: Global, reader: &mut SourceReader, given: &[u8]) -> Result<Vec<u8>, Fail> {
+    let record = reader.read(&mut Reading::new(given))?;
+    Ok(write(alloc, &record)?)
+}
+
 // A refused record leaves nothing to the next one.
 #[test]
 fn reads_one_source_after_another(rt: HostRuntime) -> Result<(), Fail> {
     let mut reader = SourceReader::new(rt.alloc());
-    let refused = reader.read(&mut Reading::new(b"PI,+,+7775FU\n'x".as_slice()));
-    assert!(rt; matches!(&refused, Err(FlowFault::Refused(_))));
+    assert!(rt; is_refused(&mut reader, b"PI,+,+7775FU\n'x"));
     for given in [GIVEN, TEXT] {
-        let record = reader.read(&mut Reading::new(given))?;
-        let text = write(rt.alloc(), &record)?;
+        let text = text_of_next(rt.alloc(), &mut reader, given)?;
         assert!(rt; text.as_slice() == TEXT);
     }
     Ok(())

@@ -99,20 +99,20 @@ fn status_with(bridge: &mut Bridge, event: Event<'_>) -> Result<Status, Fail>
     Ok(out.status)
 }
 
-// A bridge whose server has begun a game summary.
-fn in_a_summary(alloc: Global) -> Result<Bridge, Fail> {
-    let mut bridge = bridge(alloc)?;
-    status_with(&mut bridge, Event::Begin)?;
-    status_with(&mut bridge, Event::EngineLine(b"usiok"))?;
-    status_with(&mut bridge, Event::EngineLine(b"readyok"))?;
-    status_with(&mut bridge, Event::ServerLine(b"LOGIN:bridge OK"))?;
-    status_with(&mut bridge, Event::ServerLine(b"BEGIN Game_Summary"))?;
-    Ok(bridge)
+// Leads a new bridge so far that its server has begun a game summary.
+fn begin_a_summary(bridge: &mut Bridge) -> Result<(), Fail> {
+    status_with(bridge, Event::Begin)?;
+    status_with(bridge, Event::EngineLine(b"usiok"))?;
+    status_with(bridge, Event::EngineLine(b"readyok"))?;
+    status_with(bridge, Event::ServerLine(b"LOGIN:bridge OK"))?;
+    status_with(bridge, Event::ServerLine(b"BEGIN Game_Summary"))?;
+    Ok(())
 }
 
 #[test]
 fn cause_of_a_bad_summary(rt: HostRuntime) -> Result<(), Fail> {
-    let mut bridge = in_a_summary(rt.alloc())?;
+    let mut bridge = bridge(rt.alloc())?;
+    begin_a_summary(&mut bridge)?;
     let status = status_with(&mut bridge, Event::ServerLine(b"END Game_Summary"))?;
     assert!(rt; status == Status::Failed(SessionFault::BadSummary));
     refuse_all(&rt);
