@@ -19,6 +19,7 @@ mod usage;
 
 use crate::requests::Terminals;
 use crate::stop::Stop;
+use clap::error::ErrorKind;
 use shogi_words::{Request, Service};
 use std::fs::File;
 use std::io::IsTerminal;
@@ -66,8 +67,10 @@ fn run<
             }
             Ok(answer(rt, &request, line.not_text.as_slice(), terminals))
         }
-        Err(_) if !line.not_text.is_empty() => Err(Stop::WordsNotText),
-        Err(error) => Ok(usage::answer(rt, &error)?),
+        Err(error) if line.not_text.is_empty() || error.kind() == ErrorKind::OutOfMemory => {
+            Ok(usage::answer(rt, &error)?)
+        }
+        Err(_) => Err(Stop::WordsNotText),
     }
 }
 
