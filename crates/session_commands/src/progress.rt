@@ -1,10 +1,11 @@
 //! A line on standard error for each move of a running game, and for what ends it.
 
-ghost use Rattle.std.specs.Prelude.{◌≡◌, ◌⊎◌, ◌↔◌, ◌+◌, ◌<◌, ◌≤◌, ◌^◌, ℕ, length, true, false, None, Some, IfOk, IsTrue, string_bytes};
+ghost use Rattle.std.specs.Prelude.{◌≡◌, ◌⊎◌, ◌↔◌, ◌+◌, ◌<◌, ◌≤◌, ◌^◌, ℕ, length, true, false, None, Some, IfOk, IsTrue, option_map, string_bytes};
 ghost use Rattle.std.specs.List.{position_or_len};
 ghost use Rattle.session_commands.specs.Comments.{is_quote, without_comment};
-ghost use Rattle.session_commands.specs.Endings.{IsKeptAfter, end_text, nothing_said, with_long};
-ghost use Rattle.session_commands.specs.Showing.{IsCountOf, ended_peer};
+ghost use Rattle.session_commands.specs.Endings.{IsKeptAfter, end_text, nothing_said, quoted, with_long};
+ghost use Rattle.session_commands.specs.Plays.{by_peer};
+ghost use Rattle.session_commands.specs.Showing.{IsCountOf, ended_peer, with_last};
 ghost use Rattle.session_lines.specs.MoveLines.{is_move_line};
 ghost use Rattle.shogi_session.specs.State.{client_state};
 
@@ -30,11 +31,20 @@ pub struct Progress {
 }
 
 impl Model for Progress {
+    ghost use Rattle.std.specs.Prelude.{option_map};
     ghost use Rattle.session_commands.specs.Showing.{Showing};
 
     ghost Value = { Showing };
 
-    ghost view = { λ p. record { is_on = p.is_shown; moves = p.moves; ended = p.ending } };
+    ghost view = { λ p. record {
+      is_on = p.is_shown;
+      moves = p.moves;
+      ended = p.ending;
+      last = record {
+        engine = option_map (λ line. line.bytes) p.engine_line;
+        server = option_map (λ line. line.bytes) p.server_line;
+      };
+    } };
 }
 
 impl Progress {
@@ -43,6 +53,7 @@ impl Progress {
         ensures on { result.is_on ≡ is_shown }
         ensures moves { result.moves ≡ None }
         ensures ended { result.ended ≡ nothing_said }
+        ensures last { result.last ≡ record { engine = None; server = None } }
     {
         Progress {
             is_shown,
@@ -74,6 +85,7 @@ impl Progress {
     /// error of standard error is ignored.
     pub fn show<R: Eprint>(&mut self, rt: &R, bridge: &Bridge, line: &[u8])
         ensures on { self.new.is_on ≡ self.old.is_on }
+        ensures last { self.new.last ≡ self.old.last }
         ensures ended { self.new.ended ≡ self.old.ended }
         ensures counted { (n : ℕ) → is_move_line line.now ≡ true
             → self.old.moves ≡ Some n → n + 1 < 2 ^ 64 → self.new.moves ≡ Some (n + 1) }
@@ -107,6 +119,7 @@ impl Progress {
         status: Status,
     )
         ensures showing { (self.new.is_on ≡ self.old.is_on) × (self.new.moves ≡ self.old.moves) }
+        ensures last { self.new.last ≡ with_last peer (quoted line.now) self.old.last }
         ensures ended { IsKeptAfter before after line.now peer status self.old.ended self.new.ended }
     {
         if self.is_shown && before.client == ClientState::Idle && after.client != before.client {
@@ -126,7 +139,8 @@ impl Progress {
 
     // Keeps a line as the last one of its peer.
     fn keep_line(&mut self, peer: Peer, line: &[u8])
-        ensures { self.new ≡ self.old }
+        ensures { self.new
+            ≡ record self.old { last = with_last peer (quoted line.now) self.old.last } }
     {
         let line = ending::excerpt_of(line);
         match peer {
@@ -139,6 +153,7 @@ impl Progress {
     /// standard error is ignored.
     pub fn watch_long<R: Eprint>(&mut self, rt: &R, peer: Peer)
         ensures showing { (self.new.is_on ≡ self.old.is_on) × (self.new.moves ≡ self.old.moves) }
+        ensures last { self.new.last ≡ self.old.last }
         ensures ended { self.new.ended ≡ with_long peer self.old.ended }
     {
         self.ending.keep_long(peer);
@@ -154,14 +169,21 @@ impl Progress {
             return;
         };
         let words = ending::gone_line(peer);
-        let last = match peer {
-            Peer::Engine => &self.engine_line,
-            Peer::Server => &self.server_line,
-        };
-        let _ = match last {
+        let _ = match self.last_line(peer) {
             Some(line) => rt.eprintln(format_args!("{words} after {line}")),
             None => rt.eprintln(words),
         };
+    }
+
+    // The last line of this peer, if one came.
+    fn last_line(&self, peer: Peer) -> &Option<Excerpt>
+        ensures { option_map (λ line. line.bytes) result.now
+            ≡ by_peer peer self.now.last.engine self.now.last.server }
+    {
+        match peer {
+            Peer::Engine => &self.engine_line,
+            Peer::Server => &self.server_line,
+        }
     }
 
     // The peer whose end is to be shown.
