@@ -67,13 +67,20 @@ fn needs_no_memory_in_a_bridge(rt: HostRuntime) -> Result<(), Fail> {
     made_without_memory(&rt, &mut bridge)
 }
 
+// The session's status after an event.
+fn status_with(bridge: &mut Bridge, event: Event<'_>) -> Result<Status, Fail>
+    requires { HoldsLine (event_of event) }
+{
+    let out = bridge.step(event)?;
+    Ok(out.status)
+}
+
 // The status of a new bridge after one event.
 fn status_after(alloc: Global, event: Event<'_>) -> Result<Status, Fail>
     requires { HoldsLine (event_of event) }
 {
     let mut bridge = bridge(alloc)?;
-    let out = bridge.step(event)?;
-    Ok(out.status)
+    status_with(&mut bridge, event)
 }
 
 #[test]
@@ -91,14 +98,6 @@ fn events_of_a_bridge(rt: HostRuntime) -> Result<(), Fail> {
     Ok(())
 }
 
-// The session's status after an event.
-fn status_with(bridge: &mut Bridge, event: Event<'_>) -> Result<Status, Fail>
-    requires { HoldsLine (event_of event) }
-{
-    let out = bridge.step(event)?;
-    Ok(out.status)
-}
-
 // Leads a new bridge so far that its server has begun a game summary.
 fn begin_a_summary(bridge: &mut Bridge) -> Result<(), Fail> {
     status_with(bridge, Event::Begin)?;
@@ -109,17 +108,25 @@ fn begin_a_summary(bridge: &mut Bridge) -> Result<(), Fail> {
     Ok(())
 }
 
+// Leads a new bridge to a summary that ends too soon.
+fn ends_a_summary(
+    rt: &(impl Abort + AllocGlobal + Print),
+    bridge: &mut Bridge,
+) -> Result<(), Fail> {
+    begin_a_summary(bridge)?;
+    let status = status_with(bridge, Event::ServerLine(b"END Game_Summary"))?;
+    assert!(rt; status == Status::Failed(SessionFault::BadSummary));
+    refuse_all(rt);
+    let cause: Option<SummaryFault> = bridge.summary_fault();
+    refuse_no_more(rt)?;
+    assert!(rt; cause == Some(SummaryFault::NoTurn));
+    Ok(())
+}
+
 #[test]
 fn cause_of_a_bad_summary(rt: HostRuntime) -> Result<(), Fail> {
     let mut bridge = bridge(rt.alloc())?;
-    begin_a_summary(&mut bridge)?;
-    let status = status_with(&mut bridge, Event::ServerLine(b"END Game_Summary"))?;
-    assert!(rt; status == Status::Failed(SessionFault::BadSummary));
-    refuse_all(&rt);
-    let cause: Option<SummaryFault> = bridge.summary_fault();
-    refuse_no_more(&rt)?;
-    assert!(rt; cause == Some(SummaryFault::NoTurn));
-    Ok(())
+    ends_a_summary(&rt, &mut bridge)
 }
 
 // The number that is printed for the fault, or 0 if the session has not failed.
