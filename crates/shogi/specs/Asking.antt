@@ -1,5 +1,5 @@
--- What ends a requested command early.
-use Rattle.std.specs.Prelude.{◌≡◌, ◌≢◌, ◌⊎◌}
+-- Which commands read any number of files, and what ends a requested command early.
+use Rattle.std.specs.Prelude.{◌≡◌, ◌≢◌, ◌⊎◌, ⊤}
 use Rattle.csa_record.specs.declared.flow.FlowFault.{FlowFault}
 use Rattle.record_commands.specs.declared.fault.PositionLineFault.{PositionLineFault}
 use Rattle.record_commands.specs.declared.fault.PositionLineFault.TheVariants.{Refused}
@@ -13,6 +13,18 @@ use Rattle.shogi.specs.declared.stop.Stop.TheVariants.{NotAll}
 use Rattle.shogi_words.specs.declared.request.Request.{Request}
 use Rattle.usi_text.specs.declared.fault.UsiFault.TheVariants.{OutOfMemory}
 use Rattle.shogi_words.specs.declared.request.Request.TheVariants.{Check, Digest, Same, Normal, Usi, Csa, Engine, Serve, Play}
+
+-- a command that reads any number of files
+abbrev pub ReadsFiles : Request → Type 0
+ReadsFiles (Check records) = ⊤
+ReadsFiles (Digest records) = ⊤
+ReadsFiles (Same records likeness) = ⊤
+ReadsFiles (Normal one) = ⊥
+ReadsFiles (Usi one) = ⊥
+ReadsFiles (Csa file) = ⊥
+ReadsFiles Engine = ⊥
+ReadsFiles (Serve service) = ⊥
+ReadsFiles (Play game) = ⊥
 
 -- it was the fault of a record; or of several files some were not accepted
 abbrev pub IsStopOfFiles : Stop → Type 0

@@ -1,8 +1,8 @@
 //! What the command line asks for, and how it is done.
 
-ghost use Rattle.std.specs.Prelude.{◌≡◌, ◌≤◌, IfErr, IfOk, OnOk, Some, string_bytes};
+ghost use Rattle.std.specs.Prelude.{◌≡◌, ◌⊎◌, ◌≤◌, IfErr, IfOk, OnOk, Some, length, string_bytes, true};
 ghost use Rattle.clap.specs.Words.{subcommand_name_of};
-ghost use Rattle.shogi.specs.Asking.{IsStopOf, IsStopOfFiles};
+ghost use Rattle.shogi.specs.Asking.{IsStopOf, IsStopOfFiles, ReadsFiles};
 ghost use Rattle.shogi.specs.Explained.{IsExplained, IsFileExplained, IsPlayExplained, IsServeExplained};
 ghost use Rattle.shogi_rules.specs.Positions as positions;
 ghost use Rattle.shogi_words.specs.Words.{IsNoCommand, word_of};
@@ -52,14 +52,17 @@ pub fn requested<'m, 'a>(
 }
 
 /// Whether each of these words, which are not UTF-8, is a FILE of `check`, `digest` or `same`.
-pub fn are_files(request: &Request<'_, '_>, words: &[Vec<u8>]) -> bool {
-    let named = match request {
+pub fn are_files(request: &Request<'_, '_>, words: &[Vec<u8>]) -> bool
+    ensures { result ≡ true → ReadsFiles request.now ⊎ (length words.now ≡ 0) }
+{
+    let files = match request {
         Request::Check(records) | Request::Digest(records) | Request::Same(records, _) => {
-            standing_in(records.files)
+            records.files
         }
-        _ => 0,
+        Request::Normal(_) | Request::Usi(_) | Request::Csa(_) => return words.is_empty(),
+        Request::Engine | Request::Serve(_) | Request::Play(_) => return words.is_empty(),
     };
-    named == words.len() && !words.iter().any(|word| word.starts_with(b"-"))
+    standing_in(files) == words.len() && !words.iter().any(|word| word.starts_with(b"-"))
 }
 
 // How many of these stand for words that are not UTF-8.
