@@ -12,5 +12,6 @@ pub mod Playing
 pub mod Porting
 pub mod Runs
 pub mod Serving
+pub mod Shown
 pub mod Talks
 pub mod LackOfMemory

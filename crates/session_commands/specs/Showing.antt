@@ -1,8 +1,13 @@
 -- What is shown of the moves of a running game.
-use Rattle.std.specs.Prelude.{◌≡◌, ◌⊎◌, ⊤, ℕ, Bool, true, false, List, Option, None, Some, Result, Ok, Err}
-use Rattle.session_commands.specs.Endings.{Ended, gone_peer}
+use Rattle.std.specs.Prelude.{◌≡◌, ◌⊎◌, ◌++◌, ◌∷◌, [], codes, ⊤, ℕ, Bool, true, false, List, Option, None, Some, Result, Ok, Err}
+use Rattle.std.specs.Str.Pattern.{FindsText, SplitsAroundMatch}
+use Rattle.session_commands.specs.Comments.{without_comment}
+use Rattle.session_commands.specs.Endings.{Ended, gone_peer, quoted, refused_line}
 use Rattle.session_commands.specs.Plays.{by_peer}
+use Rattle.session_commands.specs.Words.{slip_line}
 use Rattle.session_commands.specs.declared.bridging.Peer.{Peer}
+use Rattle.session_commands.specs.declared.ending.EndEvent.{EndEvent}
+use Rattle.session_commands.specs.declared.ending.EndEvent.TheVariants.{Slip, Ending, Reason, Result as Outcome, Refused as RefusedBy}
 use Rattle.session_setup.specs.declared.fault.MatchFault.{MatchFault}
 use Rattle.shogi_session.specs.GameSoFar.{HasMoves, game_of}
 use Rattle.shogi_session.specs.State.{Client}
@@ -36,3 +41,20 @@ abbrev pub ended_peer : Bool → Result ⊤ MatchFault → Option Peer
 ended_peer false played = None
 ended_peer true (Ok done) = None
 ended_peer true (Err fault) = gone_peer fault
+
+-- what is shown of an ending: its seconds after a space, or the line alone if it has none
+pub data IsShownEnding (line text : List ℕ) : Type 0 where
+  with_seconds : (ending seconds : List ℕ)
+      → SplitsAroundMatch (FindsText (codes ",T")) line ending seconds
+      → text ≡ ending ++ (codes " " ++ (seconds ++ 10 ∷ [])) → IsShownEnding line text
+  without : FindsText (codes ",T") line None → text ≡ line ++ 10 ∷ [] → IsShownEnding line text
+
+-- what is shown of a line that says this of the end: of an ending, a reason and a result the line
+-- without its comment
+abbrev pub IsShownEnd : EndEvent → List ℕ → List ℕ → Type 0
+IsShownEnd Slip line text = text ≡ slip_line (quoted line)
+IsShownEnd (RefusedBy refusal) line text =
+    text ≡ refused_line refusal.fault refusal.summary (quoted line)
+IsShownEnd Ending line text = IsShownEnding (quoted (without_comment line)) text
+IsShownEnd Reason line text = text ≡ quoted (without_comment line) ++ 10 ∷ []
+IsShownEnd Outcome line text = text ≡ quoted (without_comment line) ++ 10 ∷ []

@@ -5,7 +5,7 @@ ghost use Rattle.std.specs.List.{position_or_len};
 ghost use Rattle.session_commands.specs.Comments.{is_quote, without_comment};
 ghost use Rattle.session_commands.specs.Endings.{IsKeptAfter, end_text, nothing_said, quoted, with_long};
 ghost use Rattle.session_commands.specs.Plays.{by_peer};
-ghost use Rattle.session_commands.specs.Showing.{IsCountOf, ended_peer, with_last};
+ghost use Rattle.session_commands.specs.Showing.{IsCountOf, IsShownEnd, IsShownEnding, ended_peer, with_last};
 ghost use Rattle.session_lines.specs.MoveLines.{is_move_line};
 ghost use Rattle.shogi_session.specs.State.{client_state};
 
@@ -217,7 +217,9 @@ pub fn say_server_waited_for<R: Eprint>(rt: &R, is_shown: bool) {
 
 // What is shown of a line that says this of the end: of a reason and a result the line without its
 // comment. Returns an error if an allocation fails.
-fn shown_end(alloc: Global, event: EndEvent, line: &[u8]) -> Result<String, AllocError> {
+fn shown_end(alloc: Global, event: EndEvent, line: &[u8]) -> Result<String, AllocError>
+    ensures { IfOk result (λ text. IsShownEnd event line.now (string_bytes text)) }
+{
     let whole = ending::excerpt_of(line);
     match event {
         EndEvent::Slip => ending::slip_line(alloc, whole.as_str()),
@@ -231,7 +233,9 @@ fn shown_end(alloc: Global, event: EndEvent, line: &[u8]) -> Result<String, Allo
 }
 
 // The ending and its seconds, with a space between.
-fn shown_ending(alloc: Global, line: &str) -> Result<String, AllocError> {
+fn shown_ending(alloc: Global, line: &str) -> Result<String, AllocError>
+    ensures { IfOk result (λ text. IsShownEnding line.now (string_bytes text)) }
+{
     match line.split_once(",T") {
         Some((ending, seconds)) => format!(in alloc; "{ending} {seconds}\n"),
         None => format!(in alloc; "{line}\n"),
