@@ -109,24 +109,29 @@ fn begin_a_summary(bridge: &mut Bridge) -> Result<(), Fail> {
 }
 
 // Leads a new bridge to a summary that ends too soon.
-fn ends_a_summary(
-    rt: &(impl Abort + AllocGlobal + Print),
-    bridge: &mut Bridge,
-) -> Result<(), Fail> {
+fn end_a_summary(rt: &impl Abort, bridge: &mut Bridge) -> Result<(), Fail> {
     begin_a_summary(bridge)?;
     let status = status_with(bridge, Event::ServerLine(b"END Game_Summary"))?;
     assert!(rt; status == Status::Failed(SessionFault::BadSummary));
-    refuse_all(rt);
-    let cause: Option<SummaryFault> = bridge.summary_fault();
-    refuse_no_more(rt)?;
-    assert!(rt; cause == Some(SummaryFault::NoTurn));
     Ok(())
+}
+
+fn has_no_turn(rt: &impl Abort, bridge: &Bridge) {
+    let cause: Option<SummaryFault> = bridge.summary_fault();
+    assert!(rt; cause == Some(SummaryFault::NoTurn));
+}
+
+fn has_its_cause(rt: &(impl Abort + AllocGlobal + Print), bridge: &mut Bridge) -> Result<(), Fail> {
+    end_a_summary(rt, bridge)?;
+    refuse_all(rt);
+    has_no_turn(rt, bridge);
+    refuse_no_more(rt)
 }
 
 #[test]
 fn cause_of_a_bad_summary(rt: HostRuntime) -> Result<(), Fail> {
     let mut bridge = bridge(rt.alloc())?;
-    ends_a_summary(&rt, &mut bridge)
+    has_its_cause(&rt, &mut bridge)
 }
 
 // The number that is printed for the fault, or 0 if the session has not failed.
