@@ -32,7 +32,7 @@ pub use flow::{FlowFault, MOST_READS, PIECE, digest, normalise, read_from};
 pub use pieces::read_pieces;
 pub use record::Record;
 pub use record_game::{OrderFault, Refusal, Why};
-pub use record_reader::{RecordReader, read};
+pub use record_reader::{Failing, RecordReader, read};
 pub use sink::{Sink, Writing, write_uninterrupted};
 pub use source::{Failure, Reading, Source, read_uninterrupted};
 pub use source_reader::SourceReader;

@@ -20,12 +20,15 @@ use std::alloc::Global;
 use std::marker::Model;
 use std::mem;
 
-// The statement at which a reader was refused, and how many bytes had been fed before.
+/// Where a reader was refused, as contracts see it.
 #[derive(Clone, Copy)]
-struct Failing {
-    number: u64,
-    offset: u64,
-    fed: u64,
+pub struct Failing {
+    /// The statement's number, counted from 1.
+    pub number: u64,
+    /// The offset of its first byte.
+    pub offset: u64,
+    /// How many bytes had been fed before.
+    pub fed: u64,
 }
 
 impl Failing {

@@ -24,4 +24,5 @@ mod words;
 
 pub use config::HostConfig;
 pub use host::{Host, HostOut};
+pub use outcome::Outcome;
 pub use sample::{Sample, SampleOut};

@@ -9,12 +9,14 @@ use session_lines::{Lines, texts};
 use shogi_board::{Color, OutOfMemory};
 use shogi_rules::{Line, Verdict};
 
-// What ends a game after a move.
+/// What ends a host's game after a move.
 #[derive(Clone, Copy)]
-pub(crate) enum Outcome {
+pub enum Outcome {
+    /// The position is there for the fourth time, and no side gave check all the time.
     Repetition,
-    // The side that lost.
+    /// Perpetual check by this side, which lost.
     Perpetual(Color),
+    /// The game has as many moves as the host allows.
     MaxMoves,
 }
 
