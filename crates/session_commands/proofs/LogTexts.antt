@@ -41,29 +41,29 @@ hides_any : (name one two shown : List ℕ) → IsLoginWord name → HidesPasswo
 hides_any name one two shown word hidden =
     login (name ++ 32 ∷ two) refl (login_shown name one shown word hidden ∙ ap (λ l. login_front ++ l ++ codes " ***") (sym (before_space name two word.plain)))
 
-same_text : (name one two text : List ℕ) → IsLoginWord name → IsEntryText (login_entry name one) text → IsEntryText (login_entry name two) text
+same_text : {shows : ℕ → Type 0} (name one two text : List ℕ) → IsLoginWord name → IsEntryText shows (login_entry name one) text → IsEntryText shows (login_entry name two) text
 same_text name one two text word is =
-    record { time = is.time; shown = is.shown; is_shown = hides_any name one two is.shown word is.is_shown; text_is = is.text_is }
+    record { time = is.time; is_time = is.is_time; shown = is.shown; is_shown = hides_any name one two is.shown word is.is_shown; text_is = is.text_is }
 
 -- the text of a log does not depend on passwords
-pub same_log : (entries others : List Entry) (text : List ℕ) → DifferInPasswords entries others → IsLogText entries text → IsLogText others text
-same_log _ _ text no_entries is = is
-same_log _ _ text (same entry more others differ) (first, rest, is_first, is_rest, whole) = (first, rest, is_first, same_log more others rest differ is_rest, whole)
-same_log _ _ text (logins name one two more others word differ) (first, rest, is_first, is_rest, whole) =
-    (first, rest, same_text name one two first word is_first, same_log more others rest differ is_rest, whole)
+pub same_log : (shows : ℕ → Type 0) (entries others : List Entry) (text : List ℕ) → DifferInPasswords entries others → IsLogText shows entries text → IsLogText shows others text
+same_log shows _ _ text no_entries is = is
+same_log shows _ _ text (same entry more others differ) (first, rest, is_first, is_rest, whole) = (first, rest, is_first, same_log shows more others rest differ is_rest, whole)
+same_log shows _ _ text (logins name one two more others word differ) (first, rest, is_first, is_rest, whole) =
+    (first, rest, same_text name one two first word is_first, same_log shows more others rest differ is_rest, whole)
 
 -- a log that is whole after an entry has its text
-whole_noted : (before : LogState) (old : Option (List ℕ)) (entry : Entry) (after : LogState) (new : Option (List ℕ))
-    → NotesText before old entry after new → after ≡ Whole → (before ≡ Whole) × AppendsEntry old new entry
+whole_noted : {shows : ℕ → Type 0} (before : LogState) (old : Option (List ℕ)) (entry : Entry) (after : LogState) (new : Option (List ℕ))
+    → NotesText shows before old entry after new → after ≡ Whole → (before ≡ Whole) × AppendsEntry shows old new entry
 whole_noted before old entry after new (noted was is adds) whole = (was, adds)
 whole_noted before old entry after new (not_whole was stays kept) whole = absurd (was (sym stays ∙ whole))
 whole_noted before old entry after new (no_memory was is kept) whole = absurd cc
 whole_noted before old entry after new (unwritten was is cut) whole = absurd cc
 
 -- a log that is whole at its end was whole all the time
-pub noted_all : {L : Type 0} (notes : Notes L) (state : L → LogState) (contents : L → Option (List ℕ))
-    → ((l m : L) (entry : Entry) → notes l entry m → NotesText (state l) (contents l) entry (state m) (contents m))
-    → (entries : List Entry) (l m : L) → NotesAll notes l entries m → state m ≡ Whole → (state l ≡ Whole) × AppendsEntries (contents l) (contents m) entries
+pub noted_all : {shows : ℕ → Type 0} {L : Type 0} (notes : Notes L) (state : L → LogState) (contents : L → Option (List ℕ))
+    → ((l m : L) (entry : Entry) → notes l entry m → NotesText shows (state l) (contents l) entry (state m) (contents m))
+    → (entries : List Entry) (l m : L) → NotesAll notes l entries m → state m ≡ Whole → (state l ≡ Whole) × AppendsEntries shows (contents l) (contents m) entries
 noted_all notes state contents writes [] l m kept whole =
     (ap state (sym kept) ∙ whole, ([], refl, subst (λ x. Appends (contents l) (contents x) []) (sym kept) (Appends-nil (contents l))))
 noted_all notes state contents writes (entry ∷ more) l m (k, noted_so, rest) whole =
@@ -72,8 +72,8 @@ noted_all notes state contents writes (entry ∷ more) l m (k, noted_so, rest) w
     (here.0, (here.1.0 ++ after.1.0, (here.1.0, after.1.0, here.1.1, after.1.1, refl), Appends-trans (contents l) (contents k) (contents m) here.1.0 after.1.0 here.1.2 after.1.2))
 
 -- nor does a front of it
-pub same_front : (entries others : List Entry) (text : List ℕ) → DifferInPasswords entries others → IsLogFront entries text → IsLogFront others text
-same_front entries others text differ (rest, is) = (rest, same_log entries others (text ++ rest) differ is)
+pub same_front : (shows : ℕ → Type 0) (entries others : List Entry) (text : List ℕ) → DifferInPasswords entries others → IsLogFront shows entries text → IsLogFront shows others text
+same_front shows entries others text differ (rest, is) = (rest, same_log shows entries others (text ++ rest) differ is)
 
 -- each entry has a text
 abbrev BeginsSo : List ℕ → List ℕ → Type 0
@@ -99,55 +99,55 @@ shown_so Engine To lines = (lines, refl)
 shown_so Server From lines = (lines, refl)
 shown_so Server To lines = hidden_so lines (begins_or_not login_front lines)
 
-text_so : (entry : Entry) → (text : List ℕ) × IsEntryText entry text
-text_so entry =
+text_so : {shows : ℕ → Type 0} (time : ℕ) → shows time → (entry : Entry) → (text : List ℕ) × IsEntryText shows entry text
+text_so time is entry =
     let found = shown_so entry.peer entry.direction entry.lines in
-    (_, record { time = 0; shown = found.0; is_shown = found.1; text_is = refl })
+    (_, record { time = time; is_time = is; shown = found.0; is_shown = found.1; text_is = refl })
 
-texts_so : (entries : List Entry) → (text : List ℕ) × IsLogText entries text
-texts_so [] = ([], refl)
-texts_so (entry ∷ more) =
-    let first = text_so entry in
-    let rest = texts_so more in
+texts_so : (shows : ℕ → Type 0) (time : ℕ) → shows time → (entries : List Entry) → (text : List ℕ) × IsLogText shows entries text
+texts_so shows time is [] = ([], refl)
+texts_so shows time is (entry ∷ more) =
+    let first = text_so time is entry in
+    let rest = texts_so shows time is more in
     (first.0 ++ rest.0, (first.0, rest.0, first.1, rest.1, refl))
 
 -- a log that is not whole stays as it is
-not_noted : (before : LogState) (old : Option (List ℕ)) (entry : Entry) (after : LogState) (new : Option (List ℕ))
-    → NotesText before old entry after new → before ≢ Whole → (after ≡ before) × (new ≡ old)
+not_noted : {shows : ℕ → Type 0} (before : LogState) (old : Option (List ℕ)) (entry : Entry) (after : LogState) (new : Option (List ℕ))
+    → NotesText shows before old entry after new → before ≢ Whole → (after ≡ before) × (new ≡ old)
 not_noted before old entry after new (noted was is adds) ends = absurd (ends was)
 not_noted before old entry after new (not_whole was stays kept) ends = (stays, kept)
 not_noted before old entry after new (no_memory was is kept) ends = absurd (ends was)
 not_noted before old entry after new (unwritten was is cut) ends = absurd (ends was)
 
-none_noted : (entries : List Entry) (l m : LogState × Option (List ℕ)) → NotesAll notes_text l entries m → l.0 ≢ Whole → m.1 ≡ l.1
-none_noted [] l m kept ends = ap (λ (x : LogState × Option (List ℕ)). x.1) kept
-none_noted (entry ∷ more) l m (k, step, rest) ends =
+none_noted : (shows : ℕ → Type 0) (entries : List Entry) (l m : LogState × Option (List ℕ)) → NotesAll (notes_text shows) l entries m → l.0 ≢ Whole → m.1 ≡ l.1
+none_noted shows [] l m kept ends = ap (λ (x : LogState × Option (List ℕ)). x.1) kept
+none_noted shows (entry ∷ more) l m (k, step, rest) ends =
     let here = not_noted l.0 l.1 entry k.0 k.1 step ends in
-    none_noted more k m rest (λ whole. ends (sym here.0 ∙ whole)) ∙ here.1
+    none_noted shows more k m rest (λ whole. ends (sym here.0 ∙ whole)) ∙ here.1
 
 -- a log has a front of the text of what was noted in it
-no_more : (entries : List Entry) (old new : Option (List ℕ)) → new ≡ old → AppendsFrontOf old new entries
-no_more entries old new kept = ([], texts_so entries, subst (λ x. Appends old x []) (sym kept) (Appends-nil old))
+no_more : (shows : ℕ → Type 0) (time : ℕ) → shows time → (entries : List Entry) (old new : Option (List ℕ)) → new ≡ old → AppendsFrontOf shows old new entries
+no_more shows time is entries old new kept = ([], texts_so shows time is entries, subst (λ x. Appends old x []) (sym kept) (Appends-nil old))
 
-front_after : (entry : Entry) (more : List Entry) (l k m : LogState × Option (List ℕ))
-    → NotesText l.0 l.1 entry k.0 k.1 → NotesAll notes_text k more m → AppendsFrontOf k.1 m.1 more → AppendsFrontOf l.1 m.1 (entry ∷ more)
-front_after entry more l k m (noted was is (text, is_text, adds)) rest (front, (left, is_left), more_adds) =
+front_after : (shows : ℕ → Type 0) (time : ℕ) → shows time → (entry : Entry) (more : List Entry) (l k m : LogState × Option (List ℕ))
+    → NotesText shows l.0 l.1 entry k.0 k.1 → NotesAll (notes_text shows) k more m → AppendsFrontOf shows k.1 m.1 more → AppendsFrontOf shows l.1 m.1 (entry ∷ more)
+front_after shows time now entry more l k m (noted was is (text, is_text, adds)) rest (front, (left, is_left), more_adds) =
     (text ++ front, (left, (text, front ++ left, is_text, is_left, append_assoc text front left)), Appends-trans l.1 k.1 m.1 text front adds more_adds)
-front_after entry more l k m (not_whole was stays kept) rest found =
-    no_more (entry ∷ more) l.1 m.1 (none_noted more k m rest (λ whole. was (sym stays ∙ whole)) ∙ kept)
-front_after entry more l k m (no_memory was is kept) rest found =
-    no_more (entry ∷ more) l.1 m.1 (none_noted more k m rest (λ whole. absurd cc) ∙ kept)
-front_after entry more l k m (unwritten was is (text, is_text, (n, least, adds))) rest found =
-    let left = texts_so more in
+front_after shows time now entry more l k m (not_whole was stays kept) rest found =
+    no_more shows time now (entry ∷ more) l.1 m.1 (none_noted shows more k m rest (λ whole. was (sym stays ∙ whole)) ∙ kept)
+front_after shows time now entry more l k m (no_memory was is kept) rest found =
+    no_more shows time now (entry ∷ more) l.1 m.1 (none_noted shows more k m rest (λ whole. absurd cc) ∙ kept)
+front_after shows time now entry more l k m (unwritten was is (text, is_text, (n, least, adds))) rest found =
+    let left = texts_so shows time now more in
     let whole : take n text ++ (drop n text ++ left.0) ≡ text ++ left.0 = sym (append_assoc (take n text) (drop n text) left.0) ∙ ap (λ l. l ++ left.0) (take-append-drop n text) in (
       take n text,
       (drop n text ++ left.0, (text, left.0, is_text, left.1, whole)),
-      subst (λ x. Appends l.1 x (take n text)) (sym (none_noted more k m rest (λ whole. absurd cc))) adds,
+      subst (λ x. Appends l.1 x (take n text)) (sym (none_noted shows more k m rest (λ whole. absurd cc))) adds,
     )
 
-pub front_noted : (entries : List Entry) (l m : LogState × Option (List ℕ)) → NotesAll notes_text l entries m → AppendsFrontOf l.1 m.1 entries
-front_noted [] l m kept = no_more [] l.1 m.1 (ap (λ (x : LogState × Option (List ℕ)). x.1) kept)
-front_noted (entry ∷ more) l m (k, step, rest) = front_after entry more l k m step rest (front_noted more k m rest)
+pub front_noted : (shows : ℕ → Type 0) (time : ℕ) (entries : List Entry) (l m : LogState × Option (List ℕ)) → shows time → NotesAll (notes_text shows) l entries m → AppendsFrontOf shows l.1 m.1 entries
+front_noted shows time [] l m now kept = no_more shows time now [] l.1 m.1 (ap (λ (x : LogState × Option (List ℕ)). x.1) kept)
+front_noted shows time (entry ∷ more) l m now (k, step, rest) = front_after shows time now entry more l k m step rest (front_noted shows time more k m now rest)
 
 -- a login that is written so has no password
 pub login_if_ok : {X E : Type 0} (bytes : X → List ℕ) (r : Result X E) (lines rest : List ℕ) → lines ≡ login_front ++ rest

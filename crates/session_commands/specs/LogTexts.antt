@@ -59,40 +59,46 @@ IsShown Engine To lines shown = shown ≡ lines
 IsShown Server From lines shown = shown ≡ lines
 IsShown Server To lines shown = HidesPassword lines shown
 
--- the text of an entry: each of its lines after a time, the peer and the direction
-pub record IsEntryText (entry : Entry) (text : List ℕ) : Type 0 where
+-- the text of an entry: each of its lines after a time that the clock shows, the peer and the
+-- direction
+pub record IsEntryText (shows : ℕ → Type 0) (entry : Entry) (text : List ℕ) : Type 0 where
   pub time : ℕ
+  pub is_time : shows time
   pub shown : List ℕ
   pub is_shown : IsShown entry.peer entry.direction entry.lines shown
   pub text_is : text ≡ each_after (time_text time ++ sign entry.peer entry.direction) true shown
 
 -- exactly the text of an entry was added, if the bytes are known
-abbrev pub AppendsEntry : Option (List ℕ) → Option (List ℕ) → Entry → Type 0
-AppendsEntry old new entry = (text : List ℕ) × IsEntryText entry text × Appends old new text
+abbrev pub AppendsEntry : (ℕ → Type 0) → Option (List ℕ) → Option (List ℕ) → Entry → Type 0
+AppendsEntry shows old new entry =
+    (text : List ℕ) × IsEntryText shows entry text × Appends old new text
 
 -- a front of the text of an entry was added, which may be empty or the whole text, if the bytes are
 -- known
-abbrev pub AppendsCut : Option (List ℕ) → Option (List ℕ) → Entry → Type 0
-AppendsCut old new entry = (text : List ℕ) × IsEntryText entry text × AppendsFront old new text
+abbrev pub AppendsCut : (ℕ → Type 0) → Option (List ℕ) → Option (List ℕ) → Entry → Type 0
+AppendsCut shows old new entry =
+    (text : List ℕ) × IsEntryText shows entry text × AppendsFront old new text
 
 -- the text of an entry was not all written; or there was not enough memory, and nothing was added
-abbrev pub IsUnnoted : Option (List ℕ) → Option (List ℕ) → Entry → MatchFault → Type 0
-IsUnnoted old new entry why =
-    ((why ≡ fault.Write) × AppendsCut old new entry)
+abbrev pub IsUnnoted : (ℕ → Type 0) → Option (List ℕ) → Option (List ℕ) → Entry → MatchFault
+    → Type 0
+IsUnnoted shows old new entry why =
+    ((why ≡ fault.Write) × AppendsCut shows old new entry)
     ⊎ ((why ≡ fault.OutOfMemory) × (new ≡ old))
 
 -- a log took an entry: exactly its text was added to one that is whole, or a front of its text, if
 -- not all of it could be written; one that is not whole stays as it is; and one without memory for
 -- the text gets nothing
-pub data NotesText (before : LogState) (old : Option (List ℕ)) (entry : Entry)
+pub data NotesText (shows : ℕ → Type 0) (before : LogState) (old : Option (List ℕ)) (entry : Entry)
     (after : LogState) (new : Option (List ℕ)) : Type 0 where
-  noted : before ≡ Whole → after ≡ Whole → AppendsEntry old new entry
-      → NotesText before old entry after new
-  not_whole : before ≢ Whole → after ≡ before → new ≡ old → NotesText before old entry after new
+  noted : before ≡ Whole → after ≡ Whole → AppendsEntry shows old new entry
+      → NotesText shows before old entry after new
+  not_whole : before ≢ Whole → after ≡ before → new ≡ old
+      → NotesText shows before old entry after new
   no_memory : before ≡ Whole → after ≡ OutOfMemory → new ≡ old
-      → NotesText before old entry after new
-  unwritten : before ≡ Whole → after ≡ Unwritten → AppendsCut old new entry
-      → NotesText before old entry after new
+      → NotesText shows before old entry after new
+  unwritten : before ≡ Whole → after ≡ Unwritten → AppendsCut shows old new entry
+      → NotesText shows before old entry after new
 
 -- a log refused a text at its end: the beginning of the text, perhaps nothing or all of it, was
 -- added to a log that was whole, and is not from then on; one that was not stays as it is
@@ -107,27 +113,29 @@ closing_fault Whole = fault.Write
 closing_fault Unwritten = fault.Write
 closing_fault OutOfMemory = fault.OutOfMemory
 
--- what is known of a text log took an entry
-abbrev pub notes_text : Notes (LogState × Option (List ℕ))
-notes_text l entry m = NotesText l.0 l.1 entry m.0 m.1
+-- what is known of a text log took an entry, at a time that the clock shows
+abbrev pub notes_text : (ℕ → Type 0) → Notes (LogState × Option (List ℕ))
+notes_text shows l entry m = NotesText shows l.0 l.1 entry m.0 m.1
 
 -- the text of a log in which these entries were noted
-abbrev pub IsLogText : List Entry → List ℕ → Type 0
-IsLogText [] text = text ≡ []
-IsLogText (entry ∷ more) text =
-    (first rest : List ℕ) × IsEntryText entry first × IsLogText more rest × (text ≡ first ++ rest)
+abbrev pub IsLogText : (ℕ → Type 0) → List Entry → List ℕ → Type 0
+IsLogText shows [] text = text ≡ []
+IsLogText shows (entry ∷ more) text = (first rest : List ℕ) × IsEntryText shows entry first
+    × IsLogText shows more rest × (text ≡ first ++ rest)
 
 -- exactly the text of these entries was added, if the bytes are known
-abbrev pub AppendsEntries : Option (List ℕ) → Option (List ℕ) → List Entry → Type 0
-AppendsEntries old new entries = (text : List ℕ) × IsLogText entries text × Appends old new text
+abbrev pub AppendsEntries : (ℕ → Type 0) → Option (List ℕ) → Option (List ℕ) → List Entry → Type 0
+AppendsEntries shows old new entries =
+    (text : List ℕ) × IsLogText shows entries text × Appends old new text
 
 -- the beginning of the text of a log in which these entries were noted
-abbrev pub IsLogFront : List Entry → List ℕ → Type 0
-IsLogFront entries text = (rest : List ℕ) × IsLogText entries (text ++ rest)
+abbrev pub IsLogFront : (ℕ → Type 0) → List Entry → List ℕ → Type 0
+IsLogFront shows entries text = (rest : List ℕ) × IsLogText shows entries (text ++ rest)
 
 -- exactly the beginning of the text of these entries was added, if the bytes are known
-abbrev pub AppendsFrontOf : Option (List ℕ) → Option (List ℕ) → List Entry → Type 0
-AppendsFrontOf old new entries = (text : List ℕ) × IsLogFront entries text × Appends old new text
+abbrev pub AppendsFrontOf : (ℕ → Type 0) → Option (List ℕ) → Option (List ℕ) → List Entry → Type 0
+AppendsFrontOf shows old new entries =
+    (text : List ℕ) × IsLogFront shows entries text × Appends old new text
 
 -- lines for the server with which a client of this name logs in, by any password
 abbrev pub login_entry : List ℕ → List ℕ → Entry

@@ -47,7 +47,7 @@ pub enum SessionEnd {
 
 /// What makes the log of a game, starts and ends its programs, and connects to servers.
 pub trait Programs {
-    ghost use Rattle.std.specs.Prelude.{◌≡◌, ℕ, Bool, List, Option, None, option_map};
+    ghost use Rattle.std.specs.Prelude.{◌≡◌, ◌≢◌, ℕ, Bool, List, Option, None, option_map};
     ghost use Rattle.record_commands.specs.Incoming.{Coming};
     ghost use Rattle.session_setup.specs.Faults.{IsEngineFault, IsFileFault, IsServerFault};
     ghost use Rattle.session_commands.specs.declared.children.SessionEnd.{SessionEnd as End};
@@ -116,6 +116,7 @@ pub trait Programs {
         ensures logs_not { OnErr result
             (logs_not self.old (option_map (λ s. s.now) name.entry) starts_server self.new) }
         ensures nothing { name.entry ≡ None → IfOk result (λ log. log ≡ None) }
+        ensures something { name.entry ≢ None → IfOk result (λ log. log ≢ None) }
         ensures faults { IfErr result IsFileFault };
 
     /// Why there is no game: why the last program was not started or the last address took no

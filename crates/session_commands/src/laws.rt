@@ -72,17 +72,18 @@ pub fn passed_lines_are_noted<E: Ends + Drop, L: Log + Drop>()
 {}
 
 /// A text log that is whole has the text of exactly what was noted in it, and one that is not whole
-/// has the beginning of such a text, if its bytes are known. `noted`: this holds of a session's
+/// has the beginning of such a text, if its bytes are known and the clock shows some time. `noted`: this holds of a session's
 /// log, if it has one, until it is closed.
 pub fn whole_logs_have_all_entries<T: Timer + Drop, W: Write + Drop>()
     ensures text { (entries : List Entry) (l m : LogState × Option (List ℕ))
-        → NotesAll notes_text l entries m → m.0 ≡ log_state.Whole
-        → AppendsEntries l.1 m.1 entries }
-    ensures front { (entries : List Entry) (l m : LogState × Option (List ℕ))
-        → NotesAll notes_text l entries m → AppendsFrontOf l.1 m.1 entries }
+        → NotesAll (notes_text T.shows) l entries m → m.0 ≡ log_state.Whole
+        → AppendsEntries T.shows l.1 m.1 entries }
+    ensures front { (time : ℕ) (entries : List Entry) (l m : LogState × Option (List ℕ))
+        → T.shows time → NotesAll (notes_text T.shows) l entries m
+        → AppendsFrontOf T.shows l.1 m.1 entries }
     ensures noted { (entries : List Entry) (l : Texts T W) (m : Option (Texts T W))
         → NotesAll ⟦<Option<TextLog<T, W>> as Log>⟧.noted (Some l) entries m
-        → (k : Texts T W) × (m ≡ Some k) × NotesAll notes_text
+        → (k : Texts T W) × (m ≡ Some k) × NotesAll (notes_text T.shows)
         (l.state, W.contents l.writer) entries (k.state, W.contents k.writer) }
 {}
 
@@ -92,7 +93,7 @@ pub fn whole_logs_have_all_entries<T: Timer + Drop, W: Write + Drop>()
 /// server takes that login as it took the first. What is kept about the end of the session is the
 /// same. And if what passed differs in the passwords of logins alone, every text of one log is a
 /// text of the other, and so is every text that is cut short.
-pub fn no_password_logged<E: Ends>()
+pub fn no_password_logged<E: Ends, T: Timer>()
     ensures login { (name password shown : List ℕ) → IsLoginWord name
         → HidesPassword (login_front ++ name ++ 32 ∷ password) shown
         → shown ≡ login_front ++ name ++ codes " ***" }
@@ -111,9 +112,11 @@ pub fn no_password_logged<E: Ends>()
         × DifferInPasswords (passed_before lack) (passed_before other)
         × ((old new : Ended) → KeptBefore lack old new → KeptBefore other old new) }
     ensures log { (entries others : List Entry) (text : List ℕ)
-        → DifferInPasswords entries others → IsLogText entries text → IsLogText others text }
+        → DifferInPasswords entries others
+        → IsLogText T.shows entries text → IsLogText T.shows others text }
     ensures cut { (entries others : List Entry) (text : List ℕ)
-        → DifferInPasswords entries others → IsLogFront entries text → IsLogFront others text }
+        → DifferInPasswords entries others
+        → IsLogFront T.shows entries text → IsLogFront T.shows others text }
 {
     password_is_in_the_login_alone();
 }

@@ -157,8 +157,14 @@ impl<E: Ends + Drop, L: Log + Drop> Ends for Logged<E, L> {
 
 /// What says how long a session has gone on.
 pub trait Timer {
+    ghost use Rattle.std.specs.Prelude.{ℕ};
+
+    // The times that it may show, in thousandths of a second.
+    ghost shows: { ℕ → Type 0 };
+
     /// The time since the start, in thousandths of a second.
-    fn elapsed_ms(&self) -> u64;
+    fn elapsed_ms(&self) -> u64
+        ensures { shows result };
 }
 
 /// Whether a log has all that was noted.
@@ -203,7 +209,7 @@ impl<T: Timer + Drop, W: Write + Drop> Log for TextLog<T, W> {
     ghost use Rattle.session_commands.specs.declared.log.LogState.{LogState};
 
     ghost noted = { λ l entry m.
-        NotesText l.state (W.contents l.writer) entry m.state (W.contents m.writer) };
+        NotesText T.shows l.state (W.contents l.writer) entry m.state (W.contents m.writer) };
 
     ghost closed = { λ l text m. (l.state ≡ LogState.Whole) × (m.state ≡ LogState.Whole)
         × Appends (W.contents l.writer) (W.contents m.writer) text };
@@ -254,9 +260,9 @@ fn write_entry<W: Write>(
     direction: Direction,
     lines: &[u8],
 ) -> Result<(), MatchFault>
-    ensures written { OnOk result (AppendsEntry
+    ensures written { OnOk result (AppendsEntry (λ t. t ≡ time)
         (W.contents writer.old) (W.contents writer.new) (entry_of peer direction lines.now)) }
-    ensures unwritten { IfErr result (IsUnnoted
+    ensures unwritten { IfErr result (IsUnnoted (λ t. t ≡ time)
         (W.contents writer.old) (W.contents writer.new) (entry_of peer direction lines.now)) }
 {
     let text = entry_text(alloc, time, peer, direction, lines)?;
@@ -272,7 +278,8 @@ fn entry_text(
     direction: Direction,
     lines: &[u8],
 ) -> Result<Vec<u8>, AllocError>
-    ensures { IfOk result (λ text. IsEntryText (entry_of peer direction lines.now) text.items) }
+    ensures { IfOk result (λ text.
+        IsEntryText (λ t. t ≡ time) (entry_of peer direction lines.now) text.items) }
 {
     let shown = shown(alloc, peer, direction, lines)?;
     let front = front(alloc, time, peer, direction)?;

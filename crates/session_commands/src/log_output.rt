@@ -1,6 +1,6 @@
 //! The clock of a log, and what it is written to.
 
-ghost use Rattle.std.specs.Prelude.{◌≡◌, IfOk, None, length};
+ghost use Rattle.std.specs.Prelude.{◌≡◌, IfOk, None, length, ⊤};
 
 use crate::log::Timer;
 use std::fs::File;
@@ -29,6 +29,8 @@ impl<'a, R: Clock> Stopwatch<'a, R> {
 }
 
 impl<R: Clock> Timer for Stopwatch<'_, R> {
+    ghost shows = { λ _. ⊤ };
+
     fn elapsed_ms(&self) -> u64 {
         elapsed_ms(self.rt, self.start)
     }

@@ -7,6 +7,6 @@ returns g c = record {
   login = login_shown;
   session = other_password g.E.Ends.came g.E.Ends.went g.E.Ends.gone c.password_is_in_the_login_alone.ensures.login;
   out_of_memory = other_password_out_of_memory g.E.Ends.came g.E.Ends.missed g.E.Ends.went g.E.Ends.gone c.password_is_in_the_login_alone.ensures.login;
-  log = same_log;
-  cut = same_front;
+  log = same_log g.T.Timer.shows;
+  cut = same_front g.T.Timer.shows;
 }

@@ -6,9 +6,9 @@ use Rattle.session_commands.proofs.laws.whole_logs_have_all_entries.Goals as goa
 pub returns : goal.returns
 returns g c = record {
   text = λ entries l m noted whole.
-      (noted_all notes_text (λ l. l.0) (λ l. l.1) (λ l m entry is. is) entries l m noted whole).1;
-  front = front_noted;
+      (noted_all (notes_text g.T.Timer.shows) (λ l. l.0) (λ l. l.1) (λ l m entry is. is) entries l m noted whole).1;
+  front = λ time entries l m now noted. front_noted g.T.Timer.shows time entries l m now noted;
   noted = λ entries l m noted.
       let found = any_noted _ entries l m noted in
-      (found.0, found.1, seen_noted _ notes_text (λ x. (x.state, g.W.Write.contents x.writer)) (λ x y entry is. is) entries l found.0 found.2);
+      (found.0, found.1, seen_noted _ (notes_text g.T.Timer.shows) (λ x. (x.state, g.W.Write.contents x.writer)) (λ x y entry is. is) entries l found.0 found.2);
 }
