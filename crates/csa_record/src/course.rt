@@ -283,7 +283,7 @@ fn write_each(
     for i in 0..moves.len() {
         write_move_line(out, color, &moves[i])?;
         write_time_line(out, times[i])?;
-        color = color.opponent();
+        color = !color;
     }
     Ok(())
 }

@@ -194,7 +194,15 @@ fn place_cells(setup: &mut Setup, number: u8, cells: &[Option<Piece>; 9]) -> Res
     Ok(())
 }
 
-fn square_on(file: u8, rank: u8) -> Square
+// The square at that place in the order of the squares, from 0 to 80.
+pub(crate) fn square_at(n: usize) -> Square
+    requires { n < 81 }
+    ensures { place result ≡ n }
+{
+    square_on((n / 9) as u8 + 1, (n % 9) as u8 + 1)
+}
+
+pub(crate) fn square_on(file: u8, rank: u8) -> Square
     requires files { (1 ≤ file) × (file ≤ 9) }
     requires ranks { (1 ≤ rank) × (rank ≤ 9) }
     ensures { place result ≡ (file - 1) * 9 + (rank - 1) }

@@ -8,6 +8,7 @@ ghost use Rattle.csa_text.specs.declared.pair.Pair.TheVariants.{InHand};
 ghost use Rattle.record_game.specs.Canon.{ended_line, start_items, is_from_even, is_part_of, stands_in, missing, rank_cells, rank_items, hand_pairs, hand_items};
 ghost use Rattle.csa_record.specs.Starting.{gone};
 
+use crate::laying::{square_at, square_on};
 use csa_text::{Pair, cell_bytes, even_head, pair_bytes, pieces_head, rank_head};
 use shogi_board::{Color, Hand, Kind, OutOfMemory, Piece, Position, Square};
 
@@ -56,7 +57,7 @@ fn is_part_of_even(start: &Position) -> bool
 {
     let even = Position::even();
     for n in 0..81usize {
-        let square = Square::at_place(n);
+        let square = square_at(n);
         if !stands_in(start.piece_at(square), even.piece_at(square)) {
             return false;
         }
@@ -98,7 +99,7 @@ fn write_missing(out: &mut Vec<u8>, start: &Position) -> Result<(), OutOfMemory>
 {
     let even = Position::even();
     for n in 0..81usize {
-        let square = Square::at_place(n);
+        let square = square_at(n);
         write_gone(out, square, even.piece_at(square), start.piece_at(square))?;
     }
     Ok(())
@@ -155,7 +156,7 @@ fn write_cells(out: &mut Vec<u8>, start: &Position, number: u8) -> Result<(), Ou
         ≡ out.old.items ++ flat_map cell_text (rank_cells start.now.material.board number)) }
 {
     for i in 0..9usize {
-        let square = Square::at_place((8 - i) * 9 + number as usize - 1);
+        let square = square_on(9 - i as u8, number);
         out.extend_from_slice(&cell_bytes(start.piece_at(square)))?;
     }
     Ok(())

@@ -1,9 +1,9 @@
 -- Who attacks a square is seen from it: in one of eight directions, or a knight's jump away.
-use Rattle.std.proofs.Common.{◌≡◌, ℕ, ◌+◌, ◌-◌, ◌*◌, ◌<◌, ◌≤◌, ◌⊎◌, inl, inr, List, [], ◌∷◌, ◌++◌, Any, None, Some, Option, Bool, false, is_some, sym, ◌↔◌, IsTrue, arith, ap, refl, subst, ◌∙◌, Contains}
+use Rattle.std.proofs.Common.{◌≡◌, ℕ, ◌+◌, ◌-◌, ◌*◌, ◌<◌, ◌≤◌, ◌⊎◌, inl, inr, List, [], ◌∷◌, ◌++◌, Any, None, Some, Option, Bool, is_some, sym, ◌↔◌, IsTrue, arith, ap, refl, subst, ◌∙◌, Contains}
 use Rattle.std.specs.Prelude.{MatchOption}
 use Rattle.std.proofs.lemmas.Bool.{cases_lt}
 use Rattle.shogi_board.specs.Attackers.{AttackInSight, IsAttackedByJump, IsAttackedInLine}
-use Rattle.shogi_board.specs.Directions.{IsNowhere, Lies}
+use Rattle.shogi_board.specs.Directions.{Lies}
 use Rattle.shogi_board.specs.Cells.{Cells, at, piece}
 use Rattle.shogi_board.specs.Danger.{SeenTowards}
 use Rattle.shogi_board.specs.Moves.{IsRay, back_left, back_right, diagonals, gold, orthogonals, rays, steps, turned_for}
@@ -296,19 +296,13 @@ some-attacker cells color s None b e h = (λ t. cc, λ x. absurd (h x))
 some-attacker cells color s (Some a) b e h = (λ t. (a, h), λ x. e)
 
 -- where attackers are in sight towards another square, the one in that direction is sought
-pub some-towards : (cells : Cells) (color : Color) (s t : Square) (d : Direction) (n : ℕ) (found : Option Square) (b : Bool) → b ≡ is_some found → ((a : Square) → Attack cells color a s → SeenTowards cells s t a)
-    → Lies s t d n → MatchOption found (AttackInSight cells color s d → ⊥) (λ a. Attack cells color a s) → IsTrue b ↔ Attacked cells color s
-some-towards cells color s t d n found b e from lies answer =
-    some-attacker cells color s found b e (weaker found (Attacked cells color s) (AttackInSight cells color s d) (λ a. Attack cells color a s) (λ a. Attack cells color a s)
+pub some-towards : (cells : Cells) (color : Color) (s t : Square) (d : Direction) (n : ℕ) (found : Option Square) → ((a : Square) → Attack cells color a s → SeenTowards cells s t a)
+    → Lies s t d n → MatchOption found (AttackInSight cells color s d → ⊥) (λ a. Attack cells color a s) → MatchOption found (Attacked cells color s → ⊥) (λ a. Attack cells color a s)
+some-towards cells color s t d n found from lies answer =
+    weaker found (Attacked cells color s) (AttackInSight cells color s d) (λ a. Attack cells color a s) (λ a. Attack cells color a s)
     (λ attacked.
     let seen = from attacked.0 attacked.1 in
     let same = lies-once s t seen.direction d seen.distance n seen.ray lies.0 seen.some lies.1 seen.lies lies.2 in
     (attacked.0, subst (λ e. InSight cells s e attacked.0) same.0 seen.sight, attacked.1))
     (λ a h. h)
-    answer)
-
-pub none-towards : (cells : Cells) (color : Color) (s t : Square) → ((a : Square) → Attack cells color a s → SeenTowards cells s t a) → IsNowhere s t → IsTrue false ↔ Attacked cells color s
-none-towards cells color s t from nowhere = (
-  λ no. cc,
-  λ attacked. let seen = from attacked.0 attacked.1 in absurd (nowhere seen.direction seen.distance seen.ray seen.some seen.lies),
-)
+    answer

@@ -1,6 +1,7 @@
 -- A king that was not attacked is attacked after a move by the piece that moved, or across the
 -- square which that left.
-use Rattle.std.proofs.Common.{◌≡◌, ◌≢◌, ℕ, zero, suc, ◌+◌, ◌*◌, ◌<◌, ◌≤◌, ◌↔◌, IsTrue, Bool, true, false, not, Some, None, ◌⊎◌, inl, inr, Any, arith, ap, sym, ◌∙◌, subst, refl, get_or-set_other}
+use Rattle.std.proofs.Common.{◌≡◌, ◌≢◌, ℕ, zero, suc, ◌+◌, ◌*◌, ◌<◌, ◌≤◌, ◌↔◌, IsTrue, Bool, false, not, Option, Some, None, ◌⊎◌, inl, inr, Any, arith, ap, sym, ◌∙◌, subst, refl, get_or-set_other}
+use Rattle.std.specs.Prelude.{MatchOption}
 use Rattle.std.proofs.lemmas.Bool.{cases_eq, cases_lt}
 use Rattle.std.proofs.lemmas.Option.{same_Some}
 use Rattle.shogi_board.specs.Cells.{at, piece}
@@ -8,7 +9,7 @@ use Rattle.shogi_board.specs.Danger.{SeenTowards}
 use Rattle.shogi_board.specs.Moves.{rays, turned_for}
 use Rattle.shogi_board.specs.Pieces.{opponent}
 use Rattle.shogi_board.specs.Placed.{Placed}
-use Rattle.shogi_board.specs.Reach.{Attack, Attacked, InCheck, InSight, IsClear, Reach}
+use Rattle.shogi_board.specs.Reach.{Attack, Attacked, Checks, InCheck, InSight, IsClear, Reach}
 use Rattle.shogi_board.specs.Sound.{IsSound}
 use Rattle.shogi_board.specs.Squares.{Direction, place, IsAway}
 use Rattle.shogi_board.specs.declared.color.Color.{Color}
@@ -25,7 +26,7 @@ use Rattle.shogi_board.specs.MoveSquares.{source}
 use Rattle.shogi_board.specs.declared.moves.Move.{Move}
 use Rattle.shogi_board.specs.declared.moves.Move.TheVariants.{Walk, Put}
 use Rattle.shogi_board.proofs.Pieces.{opponent-twice}
-use Rattle.shogi_board.proofs.Check.{king_check}
+use Rattle.shogi_board.proofs.Check.{checker-is}
 use Rattle.shogi_board.proofs.AfterMove.{colors-same, held-before, kinds-same, not-none, not-opponent, on-target, walk-keeps}
 
 put-keeps : (p : Placed) (to : Square) (k : Kind) (s : Square) → place s ≢ place to → at (board_after p (Put to k)) s ≡ at p.material.board s
@@ -183,10 +184,12 @@ moved-there p next m side sound made own =
     let same : side ≡ p.side = own ∙ (ap (λ (q : Placed). opponent q.side) made ∙ opponent-twice p.side) in
     rw (made, same) (on-target p m (target m) sound refl)
 
--- who stands there is in check exactly where its king is attacked
-pub check-is : (next : Placed) (s : Square) (b : Bool) → IsSound next → at next.material.board s ≡ piece next.side King → (IsTrue b ↔ Attacked next.material.board next.side s) → IsTrue b ↔ InCheck next.material.board next.side
-check-is next s b sound there d =
-    king_check next.material.board next.side s b sound.within.squares (sound.within.kings next.side) there d
+-- who attacks the king checks its side
+pub next-checker : (next : Placed) (s : Square) (found : Option Square) → IsSound next → at next.material.board s ≡ piece next.side King
+    → MatchOption found (Attacked next.material.board next.side s → ⊥) (λ a. Attack next.material.board next.side a s)
+    → MatchOption found (InCheck next.material.board next.side → ⊥) (Checks next.material.board next.side)
+next-checker next s found sound there d =
+    checker-is next.material.board next.side s found sound.within.squares (sound.within.kings next.side) there d
 
 -- the other side's king before the move, by what is known after it
 king-of-other : (p : Placed) (m : Move) (s : Square) → IsSound p → at (board_after p m) s ≡ piece (opponent p.side) King → at p.material.board s ≡ piece (opponent p.side) King
@@ -203,21 +206,17 @@ other-towards p next m from s sound made there free left a attack =
     rw made (towards-left p m from a s left (other-opened p m a s sound (king-of-other p m s sound king) shut here))
 
 pub other-free : (p next : Placed) (m : Move) (s : Square) → IsSound p → next ≡ after p m → at next.material.board s ≡ piece next.side King → (Reach next.material.board (target m) s → ⊥) → source m ≡ None
-    → IsTrue false ↔ Attacked next.material.board next.side s
-other-free p next m s sound made there free none = (
-  λ yes. cc,
-  λ attacked.
-      let king : at (board_after p m) s ≡ piece (opponent p.side) King = rw made at there in
-      let shut : Reach (board_after p m) (target m) s → ⊥ = rw made at free in
-      let here : Attack (board_after p m) (opponent p.side) attacked.0 s = rw made at attacked.1 in
-      absurd (nothing-left p m attacked.0 s none (other-opened p m attacked.0 s sound (king-of-other p m s sound king) shut here)),
-)
+    → Attacked next.material.board next.side s → ⊥
+other-free p next m s sound made there free none attacked =
+    let king : at (board_after p m) s ≡ piece (opponent p.side) King = rw made at there in
+    let shut : Reach (board_after p m) (target m) s → ⊥ = rw made at free in
+    let here : Attack (board_after p m) (opponent p.side) attacked.0 s = rw made at attacked.1 in
+    nothing-left p m attacked.0 s none (other-opened p m attacked.0 s sound (king-of-other p m s sound king) shut here)
 
-pub other-reached : (p next : Placed) (m : Move) (s : Square) → IsSound p → next ≡ after p m → Reach next.material.board (target m) s → IsTrue true ↔ Attacked next.material.board next.side s
-other-reached p next m s sound made reach =
-    let here : Reach (board_after p m) (target m) s = rw made at reach in
-    let attack : Attack next.material.board next.side (target m) s = rw made (target-attacks p m s sound here) in
-    (λ yes. (target m, attack), λ attacked. refl)
+pub other-reached : (p next : Placed) (m : Move) (s to : Square) → IsSound p → next ≡ after p m → to ≡ target m → Reach next.material.board to s → Attack next.material.board next.side to s
+other-reached p next m s to sound made e reach =
+    let here : Reach (board_after p m) (target m) s = rw (made, e) at reach in
+    rw (made, e) (target-attacks p m s sound here)
 
 pub unreached : (next : Placed) (m : Move) (s to : Square) (b : Bool) → to ≡ target m → b ≡ false → (IsTrue b ↔ Reach next.material.board to s) → Reach next.material.board (target m) s → ⊥
 unreached next m s to b e none d reach =

@@ -43,6 +43,10 @@ pub record Attack (cells : Cells) (color : Color) (a b : Square) : Type 0 where
 abbrev pub Attacked : Cells → Color → Square → Type 0
 Attacked cells color s = (a : Square) × Attack cells color a s
 
+-- the piece on a is an enemy of that colour and reaches its king
+abbrev pub Checks : Cells → Color → Square → Type 0
+Checks cells color a = (s : Square) × (at cells s ≡ piece color King) × Attack cells color a s
+
 -- there is a king of that colour, and it is attacked
 abbrev pub InCheck : Cells → Color → Type 0
 InCheck cells color = (s : Square) × (at cells s ≡ piece color King) × Attacked cells color s

@@ -7,7 +7,7 @@ ghost use Rattle.shogi_board.specs.Kings.{IsKingOf};
 ghost use Rattle.shogi_board.specs.Moves.{steps, turned_for, IsRay};
 ghost use Rattle.shogi_board.specs.Directions.{Goes};
 ghost use Rattle.shogi_board.specs.Pieces.{opponent};
-ghost use Rattle.shogi_board.specs.Reach.{Reach, Attack, Attacked, InCheck, IsClear, Slides, Steps};
+ghost use Rattle.shogi_board.specs.Reach.{Reach, Attack, Attacked, Checks, InCheck, IsClear, Slides, Steps};
 ghost use Rattle.shogi_board.specs.Setup.{holds};
 ghost use Rattle.shogi_board.specs.Squares.{place, IsAway};
 ghost use Rattle.shogi_board.specs.Totals.{board_counts, is_of, kings_of};
@@ -285,21 +285,28 @@ impl Board {
     {
         match danger {
             Danger::Anywhere => self.attacked(color, square),
-            Danger::Towards(other) => self.attacked_towards(color, square, other),
+            Danger::Towards(other) => self.attacker_towards(color, square, other).is_some(),
             Danger::Nowhere => false,
         }
     }
 
-    // The same, if such a piece is in sight in the direction in which the other square lies.
+    // The square of such a piece, if it is in sight in the direction in which the other square lies.
     #[inline(always)]
-    pub(crate) fn attacked_towards(&self, color: Color, square: Square, other: Square) -> bool
+    pub(crate) fn attacker_towards(
+        &self,
+        color: Color,
+        square: Square,
+        other: Square,
+    ) -> Option<Square>
         requires { (a : Square) → Attack self.now color a square
             → SeenTowards self.now square other a }
-        ensures { IsTrue result ↔ Attacked self.now color square }
+        ensures { MatchOption result
+            (Attacked self.now color square → ⊥)
+            (λ a. Attack self.now color a square) }
     {
         match square.towards(other) {
-            Some(found) => self.attacker_from(color, square, found.direction).is_some(),
-            None => false,
+            Some(found) => self.attacker_from(color, square, found.direction),
+            None => None,
         }
     }
 
@@ -380,21 +387,24 @@ impl Board {
             (λ a. Attack self.now color a square) }
     {
         let from = square.away(direction.turned_for(color), 1)?;
-        if self.cell_at(from).is(color.opponent(), Kind::Knight) {
+        if self.cell_at(from).is(!color, Kind::Knight) {
             Some(from)
         } else {
             None
         }
     }
 
-    // Whether that side has a king and it is attacked.
-    pub(crate) fn in_check(&self, color: Color) -> bool
-        ensures { IsTrue result ↔ InCheck self.now color }
+    // The square of an enemy piece that attacks the king of that side.
+    pub(crate) fn checker(&self, color: Color) -> Option<Square>
+        ensures { MatchOption result (InCheck self.now color → ⊥) (Checks self.now color) }
     {
-        self.king_is_attacked(color, Danger::Anywhere)
+        match self.king(color) {
+            Some(king) => self.attacker(color, king),
+            None => None,
+        }
     }
 
-    // The same, if it is known where such an attack may come from.
+    // Whether that side has a king and it is attacked, if it is known where from.
     #[inline(always)]
     pub(crate) fn king_is_attacked(&self, color: Color, danger: Danger) -> bool
         requires { (s : Square) → at self.now s ≡ piece color King
@@ -435,7 +445,7 @@ fn is_attacker(piece: Piece, color: Color, direction: Direction, distance: u8) -
     ensures { IsTrue result ↔ ((piece.color ≡ opponent color)
         × Goes piece.kind (turned_for color direction) distance) }
 {
-    piece.color == color.opponent() && piece.kind.goes(direction.turned_for(color), distance)
+    piece.color == !color && piece.kind.goes(direction.turned_for(color), distance)
 }
 
 fn is_pawn_of(cell: Option<Piece>, color: Color) -> bool

@@ -1,5 +1,5 @@
 ghost use Rattle.std.specs.Prelude.{◌≡◌, ◌<◌, ◌≤◌};
-ghost use Rattle.shogi_board.specs.Pieces.{is_hand_kind, is_king, is_promoted, promoted, unpromoted, place_of};
+ghost use Rattle.shogi_board.specs.Pieces.{is_hand_kind, is_king, promoted, unpromoted, place_of};
 ghost use Rattle.shogi_board.specs.Totals.{limit};
 
 use crate::color::Color;
@@ -24,8 +24,8 @@ pub enum Kind {
 }
 
 impl Kind {
-    /// Whether a hand may hold it: each unpromoted kind but the king.
-    pub fn is_hand_kind(self) -> bool
+    // Whether a hand may hold it: each unpromoted kind but the king.
+    pub(crate) fn is_hand_kind(self) -> bool
         ensures value { result ≡ is_hand_kind self }
     {
         matches!(
@@ -37,21 +37,6 @@ impl Kind {
                 | Kind::Gold
                 | Kind::Bishop
                 | Kind::Rook
-        )
-    }
-
-    /// Whether it is one of the six promoted kinds.
-    pub fn is_promoted(self) -> bool
-        ensures value { result ≡ is_promoted self }
-    {
-        matches!(
-            self,
-            Kind::ProPawn
-                | Kind::ProLance
-                | Kind::ProKnight
-                | Kind::ProSilver
-                | Kind::Horse
-                | Kind::Dragon
         )
     }
 

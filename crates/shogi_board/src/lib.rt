@@ -42,7 +42,7 @@ pub use hand::Hand;
 pub use kind::{Kind, Piece};
 pub use memory::OutOfMemory;
 pub use moves::Move;
-pub use position::{Position, attacked, attacker, reaches};
+pub use position::{Position, attacked, reaches};
 pub use rule::Rule;
 pub use setup::{Setup, SetupFault};
 pub use situation::Situation;

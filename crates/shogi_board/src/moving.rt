@@ -62,7 +62,7 @@ impl Position {
             Color::Black => add_captured(&mut self.black, taken),
             Color::White => add_captured(&mut self.white, taken),
         }
-        self.side = side.opponent();
+        self.side = !side;
         true
     }
 
@@ -96,7 +96,7 @@ impl Position {
             Color::Black => take_one(&mut self.black, kind),
             Color::White => take_one(&mut self.white, kind),
         }
-        self.side = side.opponent();
+        self.side = !side;
         true
     }
 }

@@ -198,28 +198,20 @@ pub fn attacked(position: &Position, color: Color, square: Square) -> bool
     position.board.attacked(color, square)
 }
 
-/// The square of an enemy piece of `color` that reaches the square, or None if none does. If
-/// several do, it is one of them.
-pub fn attacker(position: &Position, color: Color, square: Square) -> Option<Square>
-    ensures answer { MatchOption result
-        (Attacked position.now.material.board color square → ⊥)
-        (λ a. Attack position.now.material.board color a square) }
-{
-    position.board.attacker(color, square)
-}
-
-// Whether some enemy piece of `color` reaches the square, if such a piece can only be in sight in
-// the direction in which the other square lies.
+// The square of an enemy piece of `color` that reaches the square, if such a piece can only be in
+// sight in the direction in which the other square lies.
 #[inline(always)]
-pub(crate) fn attacked_towards(
+pub(crate) fn attacker_towards(
     position: &Position,
     color: Color,
     square: Square,
     other: Square,
-) -> bool
+) -> Option<Square>
     requires { (a : Square) → Attack position.now.material.board color a square
         → SeenTowards position.now.material.board square other a }
-    ensures { IsTrue result ↔ Attacked position.now.material.board color square }
+    ensures { MatchOption result
+        (Attacked position.now.material.board color square → ⊥)
+        (λ a. Attack position.now.material.board color a square) }
 {
-    position.board.attacked_towards(color, square, other)
+    position.board.attacker_towards(color, square, other)
 }

@@ -296,7 +296,7 @@ impl Setup {
         ensures value { IsTrue result ↔ InCheck self.now.material.board (opponent side) }
         ensures within { IsWithinTotals self.now.material }
     {
-        self.board.in_check(side.opponent())
+        self.board.checker(!side).is_some()
     }
 
     fn hand(&self, color: Color) -> Hand

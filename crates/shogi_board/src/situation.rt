@@ -1,9 +1,9 @@
-ghost use Rattle.std.specs.Prelude.{◌≡◌, ◌↔◌, IsTrue, OnOk, OnErr, MatchResult, Some};
+ghost use Rattle.std.specs.Prelude.{◌≡◌, ◌↔◌, IsTrue, OnOk, OnErr, MatchOption, MatchResult, Some};
 ghost use Rattle.shogi_board.specs.After.{after, board_after};
 ghost use Rattle.shogi_board.specs.Cells.{at, piece};
 ghost use Rattle.shogi_board.specs.Danger.{ComesFrom};
 ghost use Rattle.shogi_board.specs.Legal.{Keeps};
-ghost use Rattle.shogi_board.specs.Reach.{InCheck};
+ghost use Rattle.shogi_board.specs.Reach.{Checks, InCheck};
 ghost use Rattle.shogi_board.specs.Rules.{KeepsRule, keeping_rules, IsFirstBroken};
 ghost use Rattle.shogi_board.specs.Sound.{IsSound};
 ghost use Rattle.shogi_board.specs.declared.kind.Kind.TheVariants.{King};
@@ -13,57 +13,65 @@ use crate::board_rules::broken_on_board;
 use crate::danger::Danger;
 use crate::kind::Kind;
 use crate::moves::Move;
-use crate::playing::{gives_check, make};
+use crate::playing::{checker_after, make};
 use crate::position::Position;
 use crate::rule::Rule;
+use crate::square::Square;
+use std::convert::AsRef;
 use std::marker::Model;
 
-/// A position, and whether its side to move is in check.
+/// A position, and which piece checks the king of its side to move.
 ///
-/// `play` works this out from the move, so that it seldom has to search in all directions.
+/// It is made of a position with `From`, and lends the position with `AsRef`. `play` finds the
+/// checking piece by the move, so that it seldom has to search in all directions.
 #[derive(Drop)]
 pub struct Situation {
     position: Position,
-    in_check: bool,
+    checker: Option<Square>,
 }
 
 impl Model for Situation {
-    ghost use Rattle.std.specs.Prelude.{◌↔◌, IsTrue};
+    ghost use Rattle.std.specs.Prelude.{MatchOption};
     ghost use Rattle.shogi_board.specs.Placed.{Placed};
-    ghost use Rattle.shogi_board.specs.Reach.{InCheck};
+    ghost use Rattle.shogi_board.specs.Reach.{Checks, InCheck};
 
     ghost Value = { Placed };
 
     ghost view = { λ s. s.position };
 
-    ghost invariant = { λ s.
-        IsTrue s.in_check ↔ InCheck s.position.material.board s.position.side };
+    ghost invariant = { λ s. MatchOption s.checker
+        (InCheck s.position.material.board s.position.side → ⊥)
+        (Checks s.position.material.board s.position.side) };
 }
 
-impl Situation {
-    /// Creates the situation of a position.
-    pub fn new(position: Position) -> Situation
-        ensures value { result ≡ position }
-        ensures sound { IsSound position }
-    {
-        let in_check = position.board.in_check(position.side);
-        Situation { position, in_check }
-    }
+impl From<Position> for Situation {
+    ghost from_gives = { λ position situation. (situation ≡ position) × IsSound position };
 
-    /// Its position.
+    fn from(position: Position) -> Situation {
+        let checker = position.board.checker(position.side);
+        Situation { position, checker }
+    }
+}
+
+impl AsRef<Position> for Situation {
     #[inline(always)]
-    pub fn position(&self) -> &Position
+    fn as_ref(&self) -> &Position
         ensures value { result.now ≡ self.now }
     {
         &self.position
     }
+}
 
-    /// Whether the side to move is in check: it has a king, and an enemy piece reaches it.
+impl Situation {
+    /// The square of an enemy piece that attacks the king of the side to move, or None if that side
+    /// is not in check. If two pieces give check, it is one of them.
     #[inline(always)]
-    pub fn in_check(&self) -> bool
-        ensures check { IsTrue result ↔ InCheck self.now.material.board self.now.side }
+    pub fn checker(&self) -> Option<Square>
+        ensures answer { MatchOption result
+            (InCheck self.now.material.board self.now.side → ⊥)
+            (Checks self.now.material.board self.now.side) }
     {
-        self.in_check
+        self.checker
     }
 
     /// Plays the move of the side to move.
@@ -85,7 +93,7 @@ impl Situation {
         if !make(&mut self.position, danger, mv) {
             return Err(Rule::LeavesKing);
         }
-        self.in_check = gives_check(&self.position, mv);
+        self.checker = checker_after(&self.position, mv);
         Ok(())
     }
 
@@ -108,7 +116,7 @@ impl Situation {
             → ComesFrom (board_after self.now mv.now) self.now.side s result }
     {
         self.position.soundness();
-        if self.in_check || mv.kind() == Kind::King {
+        if self.checker.is_some() || mv.kind() == Kind::King {
             return Danger::Anywhere;
         }
         match mv.source() {

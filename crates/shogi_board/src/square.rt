@@ -14,7 +14,6 @@ pub struct Square {
 }
 
 impl Square {
-    ghost use Rattle.shogi_board.specs.Between.{Between};
     ghost use Rattle.shogi_board.specs.Directions.{IsDirection, IsDistance, IsInLine, IsNowhere, Lies};
     ghost use Rattle.shogi_board.specs.Moves.{IsRay};
     ghost use Rattle.shogi_board.specs.Squares.{Direction, file_of, rank_of, place, IsAway};
@@ -56,9 +55,8 @@ impl Square {
         (self.file as usize - 1) * 9 + (self.rank as usize - 1)
     }
 
-    /// The square at that place in the order of the squares, from 0 to 80. Only to be called if `n`
-    /// is less than 81.
-    pub fn at_place(n: usize) -> Square
+    // The square at that place in the order of the squares, from 0 to 80.
+    pub(crate) fn at_place(n: usize) -> Square
         requires low { n < 81 }
         ensures value { place result ≡ n }
     {
@@ -90,19 +88,6 @@ impl Square {
             return None;
         }
         Square::new(file - 2 * times, rank - 2 * times)
-    }
-
-    /// Whether it lies strictly between the two squares, on a rank, file or diagonal.
-    pub fn lies_between(self, a: Square, b: Square) -> bool
-        ensures between { IsTrue result ↔ Between a b self }
-    {
-        let direction = a.direction_to(self);
-        let near = a.distance(self);
-        let far = a.distance(b);
-        if near == 0 || far <= near {
-            return false;
-        }
-        a.is_away(direction, near, self) && a.is_away(direction, far, b)
     }
 
     // The direction in which the other square lies, if that is on its rank, file or diagonal.

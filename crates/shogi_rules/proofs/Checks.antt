@@ -1,24 +1,23 @@
 -- A move that neither moves the king nor stops the check leaves the king in check.
-use Rattle.std.proofs.Common.{◌≡◌, ◌≢◌, ℕ, ◌↔◌, IsTrue, Bool, true, false, not, Option, Some, None, ◌⊎◌, inl, inr, set, get_or, refl, ap, sym, ◌∙◌, subst, get_or-set_same, get_or-set_other}
+use Rattle.std.proofs.Common.{◌≡◌, ◌≢◌, ℕ, ◌↔◌, IsTrue, Bool, true, false, not, Option, Some, None, ◌⊎◌, inl, inr, arith, set, get_or, refl, ap, sym, ◌∙◌, subst, get_or-set_same, get_or-set_other}
 use Rattle.std.specs.Prelude.{MatchOption}
 use Rattle.std.proofs.lemmas.Bool.{cases_eq}
 use Rattle.std.proofs.lemmas.Option.{same_Some}
 use Rattle.shogi_board.specs.Between.{Between}
-use Rattle.shogi_board.specs.Cells.{at, piece}
+use Rattle.shogi_board.specs.Cells.{Cells, at, piece}
 use Rattle.shogi_board.specs.Moves.{turned_for}
 use Rattle.shogi_board.specs.Pieces.{opponent, promoted}
 use Rattle.shogi_board.specs.Placed.{Placed}
-use Rattle.shogi_board.specs.Reach.{Attack, Attacked, InCheck, InSight, Reach, Slides, Steps}
+use Rattle.shogi_board.specs.Reach.{Attack, InCheck, InSight, IsClear, Reach, Slides, Steps}
 use Rattle.shogi_board.specs.Sound.{IsSound}
 use Rattle.shogi_board.specs.Squares.{place}
-use Rattle.shogi_board.specs.Totals.{IsWithinTotals}
 use Rattle.shogi_board.specs.declared.color.Color.{Color}
 use Rattle.shogi_board.specs.declared.kind.Kind.{Kind}
 use Rattle.shogi_board.specs.declared.kind.Kind.TheVariants.{King}
 use Rattle.shogi_board.specs.declared.kind.Piece.{Piece}
 use Rattle.shogi_board.specs.declared.square.Square.{Square}
 use Rattle.shogi_board.proofs.AfterMove.{not-none, not-opponent}
-use Rattle.shogi_board.proofs.Check.{king-check-for}
+use Rattle.shogi_board.proofs.Goes.{goes-moves, moves-goes}
 use Rattle.shogi_board.proofs.Rays.{ray-at}
 use Rattle.shogi_board.proofs.Squares.{place-same}
 use Rattle.shogi_board.specs.After.{after, board_after}
@@ -166,19 +165,29 @@ pub by-target : (p : Placed) (to : Square) (m : Move) → target m ≡ to → Ke
 by-target p to (Walk from t k) e kept = inl (from, k, subst (λ (u : Square). Keeps p (Walk from u k)) e kept)
 by-target p to (Put t k) e kept = inr (k, subst (λ (u : Square). Keeps p (Put u k)) e kept)
 
+-- a piece that attacks a square reaches each square between
+pub reaches-between : (cells : Cells) (color : Color) (a s t : Square) → Attack cells color a s → Between a s t → Reach cells a t
+reaches-between cells color a s t attack b =
+    let x = attack.reach.mover in
+    let some = b.some in
+    let nearer = b.nearer in
+    let goes = moves-goes cells x a s b.direction b.far (b.ray, omega (arith, some, nearer), b.ends) attack.reach.moves in
+    let clear : IsClear cells a b.direction b.near = λ k u low high there. goes.1 k u low (omega (arith, high, nearer)) there in
+    record {
+      mover = x;
+      stands = attack.reach.stands;
+      moves = elim goes.0 [
+        | inl step ↦ let one = step.0 in absurd (omega (arith, some, nearer, one))
+        | inr slides ↦ goes-moves cells x a t b.direction b.near (b.ray, some, b.on) clear (inr slides)
+      ];
+    }
+
 -- where no walk of the king to the square keeps the rules, a move there that does stops the check
 pub stops-there : (p : Placed) (a s to : Square) (m : Move) → IsSound p → at p.material.board s ≡ piece p.side King → Attack p.material.board p.side a s → (KeptWalk p s to → ⊥) → target m ≡ to → Keeps p m → (StopsCheck a s to → ⊥) → ⊥
 stops-there p a s to m sound king attack stays e kept past =
     no-other-evasion p m a s sound kept king attack
     (λ from. stays (subst (KeptWalk p s) e (walk-of p s m from kept)))
     (λ stop. past (subst (StopsCheck a s) e stop))
-
--- a side is in check exactly where it has a king, and that is attacked
-pub king-check-if : (p : Placed) (color : Color) (king : Option Square) (b : Bool) (Then : Square → Type 0) → IsWithinTotals p.material → color ≡ p.side → MatchOption king ((s : Square) → at p.material.board s ≡ piece color King → ⊥) (λ s. at p.material.board s ≡ piece color King)
-    → MatchOption king (b ≡ false) Then → ((s : Square) → Then s → IsTrue b ↔ Attacked p.material.board color s) → IsTrue b ↔ InCheck p.material.board p.side
-king-check-if p color None b Then within side none off attacked = (λ yes. cc, λ check. absurd (none check.0 (rw side check.1)))
-king-check-if p color (Some s) b Then within side there h attacked =
-    king-check-for p.material.board color color p.side s b within.squares (within.kings p.side) there (attacked s h) side side
 
 pub mated-then : (p : Placed) (b : Bool) → InCheck p.material.board p.side → (IsTrue b ↔ ((m : Move) × Keeps p m)) → IsTrue (not b) ↔ Mated p
 mated-then p true check d = (λ h. cc, λ mated. let s = d.0 refl in absurd (mated.no_move s.0 s.1))

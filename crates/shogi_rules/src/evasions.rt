@@ -9,22 +9,18 @@ ghost use Rattle.shogi_rules.specs.Evasions.{StopsCheck};
 ghost use Rattle.shogi_board.specs.Legal.{Keeps, Mated, target};
 ghost use Rattle.shogi_board.specs.declared.moves.Move.{Move};
 
-use crate::search::{hand_kind, own_kind_at};
-use shogi_board::{Kind, Move, Situation, Square, attacker, reaches};
+use crate::search::{hand_kind, own_kind_at, square_at};
+use shogi_board::{Kind, Move, Situation, Square, reaches};
 
 // Whether the side to move is in check and no move of it keeps the rules 3 to 10.
 pub(crate) fn is_mated(situation: &Situation) -> bool
     ensures { IsTrue result ↔ Mated situation.now }
 {
-    if !situation.in_check() {
-        return false;
-    }
-    let position = situation.position();
-    let side = position.side();
-    let Some(king) = position.king(side) else {
+    let Some(checker) = situation.checker() else {
         return false;
     };
-    let Some(checker) = attacker(position, side, king) else {
+    let position = situation.as_ref();
+    let Some(king) = position.king(position.side()) else {
         return false;
     };
     !has_evasion(situation, king, checker)
@@ -39,15 +35,14 @@ fn has_evasion(situation: &Situation, king: Square, checker: Square) -> bool
     ensures { IsTrue result ↔ ((m : Move) × Keeps situation.now m) }
 {
     for n in 0..81usize {
-        if can_evade_to(situation, king, checker, Square::at_place(n)) {
+        if can_evade_to(situation, king, checker, square_at(n)) {
             return true;
         }
     }
     false
 }
 
-// As `has_evasion`, for the moves to one square: by the king, or by another piece that captures the
-// checking one or comes between.
+// As `has_evasion`, for the moves to one square.
 fn can_evade_to(situation: &Situation, king: Square, checker: Square, to: Square) -> bool
     requires sound { IsSound situation.now }
     requires king { at situation.now.material.board king ≡ piece situation.now.side King }
@@ -57,13 +52,16 @@ fn can_evade_to(situation: &Situation, king: Square, checker: Square, to: Square
     if keeps_walk(situation, king, to) {
         return true;
     }
-    stops_check(checker, king, to) && has_kept_move_to(situation, to)
+    may_stop_check(situation, checker, to) && has_kept_move_to(situation, to)
 }
 
-fn stops_check(checker: Square, king: Square, to: Square) -> bool
-    ensures { IsTrue result ↔ StopsCheck checker king to }
+// Whether a piece other than the king may end the check by a move to the square: it captures the
+// checking piece, or comes between, and then that piece reaches the square.
+fn may_stop_check(situation: &Situation, checker: Square, to: Square) -> bool
+    ensures { (king : Square) → Attack situation.now.material.board situation.now.side checker king
+        → StopsCheck checker king to → IsTrue result }
 {
-    to == checker || to.lies_between(checker, king)
+    to == checker || reaches(situation.as_ref(), checker, to)
 }
 
 fn has_kept_move_to(situation: &Situation, to: Square) -> bool
@@ -77,7 +75,7 @@ fn has_kept_walk_to(situation: &Situation, to: Square) -> bool
         × Keeps situation.now (Move.Walk from to kind)) }
 {
     for n in 0..81usize {
-        if keeps_walk(situation, Square::at_place(n), to) {
+        if keeps_walk(situation, square_at(n), to) {
             return true;
         }
     }
@@ -105,7 +103,7 @@ fn keeps_walk(situation: &Situation, from: Square, to: Square) -> bool
         return false;
     };
     // few pieces reach it, so the other rules are seldom looked at
-    if !reaches(situation.position(), from, to) {
+    if !reaches(situation.as_ref(), from, to) {
         return false;
     }
     keeps_form(situation, from, to, was)

@@ -8,13 +8,13 @@ ghost use Rattle.shogi_rules.specs.Rules.{KeptAt};
 
 use crate::evasions::is_mated;
 use crate::search::is_pawn_drop;
-use shogi_board::{Color, Move, Position, Rule, Situation, attacked};
+use shogi_board::{Color, Move, Position, Rule, Situation};
 
 // The first of the rules 3 to 11 that the side to move breaks by the move.
 pub(crate) fn broken_by_side(position: &Position, mv: &Move) -> Option<Rule>
     ensures { IsFirstBroken (KeepsRule position.now mv.now) move_rules result }
 {
-    let mut next = Situation::new(*position);
+    let mut next = Situation::from(*position);
     if let Err(rule) = next.play(mv) {
         return Some(rule);
     }
@@ -56,9 +56,9 @@ pub fn after(position: &Position, mv: &Move) -> Position
     requires kept { Keeps position.now mv.now }
     ensures value { result ≡ after position.now mv.now }
 {
-    let mut next = Situation::new(*position);
+    let mut next = Situation::from(*position);
     match next.play(mv) {
-        Ok(()) => *next.position(),
+        Ok(()) => *next.as_ref(),
         // unreachable, since the rules are kept
         Err(_) => *position,
     }
@@ -68,8 +68,5 @@ pub fn after(position: &Position, mv: &Move) -> Position
 pub fn in_check(position: &Position) -> bool
     ensures check { IsTrue result ↔ InCheck position.now.material.board position.now.side }
 {
-    let side = position.side();
-    position
-        .king(side)
-        .is_some_and(|king| attacked(position, side, king))
+    Situation::from(*position).checker().is_some()
 }

@@ -86,7 +86,7 @@ impl Line {
         ensures line { IfOk result (λ l. l ≡ record { start = start; moves = [] }) }
         ensures sound { IsSound start }
     {
-        let last = Situation::new(start);
+        let last = Situation::from(start);
         Ok(Line {
             start,
             moves: Vec::with_capacity(alloc, FIRST_ROOM)?,
@@ -116,7 +116,7 @@ impl Line {
     pub fn now(&self) -> Position
         ensures value { result ≡ now_of self.now }
     {
-        *self.last.position()
+        *self.last.as_ref()
     }
 
     // Whether no more moves may be played.
@@ -147,7 +147,7 @@ impl Line {
     fn side(&self) -> Color
         ensures { result ≡ (now_of self.now).side }
     {
-        self.last.position().side()
+        self.last.as_ref().side()
     }
 
     // What `play` refuses whatever that side's move is, or None.
@@ -175,7 +175,7 @@ impl Line {
         if let Some(fault) = self.closed(mover) {
             return Some(fault);
         }
-        broken_by_side(self.last.position(), mv).map(PlayFault::Broken)
+        broken_by_side(self.last.as_ref(), mv).map(PlayFault::Broken)
     }
 
     // What `play` refuses if there is no room for the move.
@@ -210,7 +210,7 @@ impl Line {
             return Err(PlayFault::Broken(rule));
         }
         if mates(&self.last, &mv) {
-            self.last = Situation::new(*self.seen.last());
+            self.last = Situation::from(*self.seen.last());
             return Err(PlayFault::Broken(Rule::PawnDropMate));
         }
         match self.seen.push(&self.last) {
@@ -219,7 +219,7 @@ impl Line {
                 Ok(())
             }
             Err(_) => {
-                self.last = Situation::new(*self.seen.last());
+                self.last = Situation::from(*self.seen.last());
                 Err(PlayFault::OutOfMemory)
             }
         }

@@ -79,7 +79,7 @@ pub(crate) fn verdict_by_moves(situation: &Situation) -> Verdict
         Some(_) => Verdict::Ongoing,
         None => {
             // in check only a pawn drop would help, and it is not legal, since it mates
-            if situation.in_check() {
+            if situation.checker().is_some() {
                 Verdict::Mate
             } else {
                 Verdict::NoMove

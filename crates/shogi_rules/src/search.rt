@@ -30,6 +30,14 @@ pub(crate) fn hand_kind(n: usize) -> Kind
     }
 }
 
+// The square at that place in the order of the squares, from 0 to 80.
+pub(crate) fn square_at(n: usize) -> Square
+    requires { n < 81 }
+    ensures { place result ≡ n }
+{
+    Square::new((n / 9) as u8 + 1, (n % 9) as u8 + 1).unwrap()
+}
+
 // The kind of the piece on the square, if it is one of the side to move.
 pub(crate) fn own_kind_at(situation: &Situation, square: Square) -> Option<Kind>
     ensures { MatchOption result
@@ -37,7 +45,7 @@ pub(crate) fn own_kind_at(situation: &Situation, square: Square) -> Option<Kind>
         → ⊥)
         (λ kind. at situation.now.material.board square ≡ piece situation.now.side kind) }
 {
-    let position = situation.position();
+    let position = situation.as_ref();
     let piece = position.piece_at(square)?;
     if piece.color == position.side() {
         Some(piece.kind)
@@ -60,7 +68,7 @@ fn is_legal(situation: &Situation, mv: &Move) -> bool
     ensures { IsTrue result ↔ Legal situation.now mv.now }
 {
     if is_pawn_drop(mv) {
-        return broken_by_side(situation.position(), mv).is_none();
+        return broken_by_side(situation.as_ref(), mv).is_none();
     }
     situation.keeps(mv)
 }
@@ -84,7 +92,7 @@ fn first_form(situation: &Situation, from: Square, to: Square) -> Option<Move>
         (λ m. IsFirstOf situation.now (IsWalkBetween from to) m) }
 {
     let was = own_kind_at(situation, from)?;
-    if !reaches(situation.position(), from, to) {
+    if !reaches(situation.as_ref(), from, to) {
         return None;
     }
     if let Some(mv) = if_legal(
@@ -111,7 +119,7 @@ fn first_walk_from(situation: &Situation, from: Square) -> Option<Move>
         return None;
     }
     for n in 0..81usize {
-        if let Some(mv) = first_form(situation, from, Square::at_place(n)) {
+        if let Some(mv) = first_form(situation, from, square_at(n)) {
             return Some(mv);
         }
     }
@@ -123,7 +131,7 @@ fn first_walk(situation: &Situation) -> Option<Move>
         (λ m. IsFirstOf situation.now IsWalk m) }
 {
     for n in 0..81usize {
-        if let Some(mv) = first_walk_from(situation, Square::at_place(n)) {
+        if let Some(mv) = first_walk_from(situation, square_at(n)) {
             return Some(mv);
         }
     }
@@ -136,12 +144,12 @@ fn first_drop_of(situation: &Situation, kind: Kind) -> Option<Move>
         (NoneOf situation.now (IsDropOf kind))
         (λ m. IsFirstOf situation.now (IsDropOf kind) m) }
 {
-    let position = situation.position();
+    let position = situation.as_ref();
     if position.hand(position.side()).count(kind) == 0 {
         return None;
     }
     for n in 0..81usize {
-        let to = Square::at_place(n);
+        let to = square_at(n);
         if let Some(mv) = if_legal(situation, Move::Put { to, kind }) {
             return Some(mv);
         }
@@ -170,7 +178,7 @@ pub fn first_legal(position: &Position) -> Option<Move>
     ensures first { MatchOption result (NoLegalMove position.now)
         (λ m. IsFirstLegal position.now m) }
 {
-    first_move(&Situation::new(*position))
+    first_move(&Situation::from(*position))
 }
 
 // As `first_legal`, in a situation.

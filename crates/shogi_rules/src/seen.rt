@@ -25,8 +25,8 @@ impl Turn {
             ↔ InCheck situation.now.material.board situation.now.side }
     {
         Turn {
-            side: situation.position().side(),
-            in_check: situation.in_check(),
+            side: situation.as_ref().side(),
+            in_check: situation.checker().is_some(),
         }
     }
 }
@@ -58,7 +58,7 @@ impl Seen {
     {
         let turn = Turn::of(start);
         let mut counts = Occurrences::new(alloc)?;
-        let here = counts.add(start.position(), 0)?;
+        let here = counts.add(start.as_ref(), 0)?;
         let mut turns = Vec::with_capacity(alloc, FIRST_ROOM)?;
         turns.push(turn)?;
         Ok(Seen {
@@ -108,7 +108,7 @@ impl Seen {
         let turn = Turn::of(situation);
         let before = self.turns.len();
         self.turns.reserve(1)?;
-        self.here = self.counts.add(situation.position(), before)?;
+        self.here = self.counts.add(situation.as_ref(), before)?;
         self.turns.push_reserved(turn);
         Ok(())
     }

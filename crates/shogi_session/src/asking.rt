@@ -83,7 +83,7 @@ fn left(config: &Config, game: &Record, color: Color) -> u64
     let mut side = game.line().start().side();
     for i in 0..game.line().moves().len() {
         left = less(left, color, side, game.time(i));
-        side = side.opponent();
+        side = !side;
     }
     left
 }

@@ -45,7 +45,7 @@ fn perpetual_ending(client: Color, game_result: GameResult) -> Ending
 {
     match game_result {
         GameResult::Lose => illegal_action(client),
-        GameResult::Win => illegal_action(client.opponent()),
+        GameResult::Win => illegal_action(!client),
         GameResult::Draw | GameResult::Censored | GameResult::Chudan => Ending::Sennichite,
     }
 }

@@ -3,7 +3,7 @@ ghost use Rattle.usi_text.specs.Hands.{Pile, SpellsHands, IsPile, IsCount, count
 ghost use Rattle.usi_text.specs.Scanning.{IsDigitBefore, HasNoDigit};
 
 use crate::letters::piece_of_letter;
-use shogi_board::Piece;
+use shogi_board::{Kind, Piece};
 
 // The pile at the front of the text: its piece, how many there are, and what follows it.
 pub(crate) fn read_pile(text: &[u8]) -> Option<(Piece, u8, &[u8])>
@@ -19,7 +19,7 @@ pub(crate) fn read_pile(text: &[u8]) -> Option<(Piece, u8, &[u8])>
         return None;
     };
     let piece = piece_of_letter(*letter)?;
-    if !piece.kind.is_hand_kind() {
+    if piece.kind == Kind::King {
         return None;
     }
     Some((piece, count.unwrap_or(1), following))

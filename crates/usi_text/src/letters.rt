@@ -43,6 +43,21 @@ pub(crate) fn side_letter(piece: Piece) -> u8
     }
 }
 
+// Whether it is one of the six promoted kinds.
+pub(crate) fn is_promoted(kind: Kind) -> bool
+    ensures { result ≡ is_promoted kind }
+{
+    matches!(
+        kind,
+        Kind::ProPawn
+            | Kind::ProLance
+            | Kind::ProKnight
+            | Kind::ProSilver
+            | Kind::Horse
+            | Kind::Dragon
+    )
+}
+
 // The unpromoted kind with this capital letter.
 fn kind_of_letter(byte: u8) -> Option<Kind>
     ensures { MatchOption result
@@ -69,10 +84,10 @@ pub(crate) fn held_kind(byte: u8) -> Option<Kind>
         (λ kind. (is_hand_kind kind ≡ true) × (letter kind ≡ byte)) }
 {
     let kind = kind_of_letter(byte)?;
-    if kind.is_hand_kind() {
-        Some(kind)
-    } else {
+    if kind == Kind::King {
         None
+    } else {
+        Some(kind)
     }
 }
 

@@ -8,7 +8,7 @@ ghost use Rattle.usi_text.specs.SfenText.{sfen_text, board_text, rank_text, pile
 ghost use Rattle.usi_text.specs.Words.{words};
 ghost use Rattle.usi_text.specs.Scanning.{run_text};
 
-use crate::letters::side_letter;
+use crate::letters::{is_promoted, side_letter};
 use itoa::Buffer;
 use shogi_board::{Color, Hand, Kind, OutOfMemory, Piece, Position, Square};
 use std::alloc::Global;
@@ -103,7 +103,7 @@ fn push_run(text: &mut Vec<u8>, empty: u8) -> Result<(), OutOfMemory>
 fn push_piece(text: &mut Vec<u8>, piece: Piece) -> Result<(), OutOfMemory>
     ensures { OnOk result (text.new.items ≡ text.old.items ++ piece_text piece) }
 {
-    if piece.kind.is_promoted() {
+    if is_promoted(piece.kind) {
         text.push(b'+')?;
     }
     text.push(side_letter(piece))?;

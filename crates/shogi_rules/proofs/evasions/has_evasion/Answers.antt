@@ -10,7 +10,7 @@ returns-then-can_evade_to c = let m = c.if-can_evade_to.ensures.0 refl in (λ _.
 
 pub loop-n-preserved : goal.loop-n-preserved
 loop-n-preserved c =
-    below-next (λ t. KeptTo c.args.situation.now t → ⊥) c.loop-n.n c.at_place.result c.at_place.ensures.value c.loop-n.invariant (fails c.can_evade_to.result c.can_evade_to.ensures c.if-can_evade_to.false)
+    below-next (λ t. KeptTo c.args.situation.now t → ⊥) c.loop-n.n c.square_at.result c.square_at.ensures c.loop-n.invariant (fails c.can_evade_to.result c.can_evade_to.ensures c.if-can_evade_to.false)
 
 pub returns : goal.returns
 returns c = (λ h. cc, λ m. absurd (all-squares (λ t. KeptTo c.args.situation.now t → ⊥) c.loop-n.n c.loop-n-test.false c.loop-n.invariant (target m.0) (m.0, refl, m.1)))

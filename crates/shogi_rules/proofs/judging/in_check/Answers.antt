@@ -1,8 +1,7 @@
-use Rattle.std.proofs.Common.{rules}
-use Rattle.shogi_rules.proofs.Checks.{king-check-if}
+use Rattle.shogi_board.proofs.Check.{checked-by}
 use Rattle.shogi_rules.proofs.judging.in_check.Goals as goal
 
 pub returns : goal.returns
 returns c = record {
-  check = king-check-if c.args.position.now c.side-side.result c.king.result c.is_some_and.result _ c.side-side.ensures.sound.within c.side-side.ensures.value c.king.ensures.answer c.is_some_and.ensures (λ s q. search rules);
+  check = rw (← c.from.ensures.0) (checked-by c.from.result.material.board c.from.result.side c.checker.result c.is_some.result c.is_some.ensures c.checker.ensures.answer);
 }

@@ -1,11 +1,19 @@
-use Rattle.std.proofs.Common.{rules, refl}
+use Rattle.std.proofs.Common.{refl}
+use Rattle.shogi_board.proofs.Check.{checked-by}
+use Rattle.shogi_board.proofs.Tests.{fails}
 use Rattle.shogi_rules.proofs.repetition.verdict_by_moves.Goals as goal
 
-pub returns-then-in_check : goal.returns-then-in_check
-returns-then-in_check c = (c.in_check.ensures.check.0 c.if-in_check.true, c.in-None.ensures)
+pub returns-then-is_some : goal.returns-then-is_some
+returns-then-is_some c =
+    let p = c.args.situation.now in
+    let check = checked-by p.material.board p.side c.checker.result c.is_some.result c.is_some.ensures c.checker.ensures.answer in
+    (check.0 c.if-is_some.true, c.in-None.ensures)
+
+pub returns-else-is_some : goal.returns-else-is_some
+returns-else-is_some c =
+    let p = c.args.situation.now in
+    let check = checked-by p.material.board p.side c.checker.result c.is_some.result c.is_some.ensures c.checker.ensures.answer in
+    (fails c.is_some.result check c.if-is_some.false, c.in-None.ensures)
 
 pub returns-then-is_mated : goal.returns-then-is_mated
 returns-then-is_mated c = let mated = c.if-is_mated.ensures.0 refl in (mated.in_check, λ m legal. mated.no_move m legal.keeps)
-
-pub returns-else-in_check : goal.returns-else-in_check
-returns-else-in_check c = search rules

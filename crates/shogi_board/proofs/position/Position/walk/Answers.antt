@@ -80,10 +80,10 @@ invariant_of-self-2 c =
     elim c.match-side.branch [
       | in-Black w ↦
           let own : bag_of m i.side ≡ i.black = ap (bag_of m) w.in-Black.is in
-          rw (w.self-inside-is, c.opponent-self-inside.ensures.value, w.add_captured.ensures, c.put-2.ensures, c.put.ensures, c.piece_key.ensures, c.place.ensures.value, c.captured_key.ensures, c.piece-taken.ensures, ← own) (black-passed m i.side board bag _ w.in-Black.is totals safe key)
+          rw (w.self-inside-is, c.not-self-inside.ensures, w.add_captured.ensures, c.put-2.ensures, c.put.ensures, c.piece_key.ensures, c.place.ensures.value, c.captured_key.ensures, c.piece-taken.ensures, ← own) (black-passed m i.side board bag _ w.in-Black.is totals safe key)
       | in-White w ↦
           let own : bag_of m i.side ≡ i.white = ap (bag_of m) w.in-White.is in
-          rw (w.self-inside-is, c.opponent-self-inside.ensures.value, w.add_captured-in-White.ensures, c.put-2.ensures, c.put.ensures, c.piece_key.ensures, c.place.ensures.value, c.captured_key.ensures, c.piece-taken.ensures, ← own) (white-passed m i.side board bag _ w.in-White.is totals safe key)
+          rw (w.self-inside-is, c.not-self-inside.ensures, w.add_captured-in-White.ensures, c.put-2.ensures, c.put.ensures, c.piece_key.ensures, c.place.ensures.value, c.captured_key.ensures, c.piece-taken.ensures, ← own) (white-passed m i.side board bag _ w.in-White.is totals safe key)
     ]
 
 pub returns-clause-answer : goal.returns-clause-answer

@@ -8,7 +8,7 @@ invariant_of-result c = (
     game = rw c.in_ok-with_capacity.ensures.items begun;
     few = rw c.in_ok-with_capacity.ensures.items (omega arith);
   },
-  rw (c.in_ok-with_capacity.ensures.items, ← c.new-last.ensures.value) c.in_ok-new.ensures,
-  rw c.in_ok-with_capacity.ensures.items c.new-last.ensures.value,
-  c.new-last.ensures.sound,
+  rw (c.in_ok-with_capacity.ensures.items, ← c.from-last.ensures.0) c.in_ok-new.ensures,
+  rw c.in_ok-with_capacity.ensures.items c.from-last.ensures.0,
+  c.from-last.ensures.1,
 )

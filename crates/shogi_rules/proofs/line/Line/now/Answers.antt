@@ -5,4 +5,4 @@ use Rattle.shogi_rules.proofs.line.Line.now.Goals as goal
 pub returns : goal.returns
 returns c =
     let i = c.self.inside in
-    record { value = c.position.ensures.value ∙ (c.self.invariant.2 ∙ ap now_of c.self.view_is) }
+    record { value = c.as_ref.ensures.value ∙ (c.self.invariant.2 ∙ ap now_of c.self.view_is) }

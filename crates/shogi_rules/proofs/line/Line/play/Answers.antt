@@ -95,7 +95,7 @@ pub invariant_of-self-then-mates : goal.invariant_of-self-then-mates
 invariant_of-self-then-mates c =
     let i = c.self.inside in
     let kept : c.reserve.new.self.items ≡ i.moves.items = grind (arith, common_steps) in
-    let back : c.new-self-inside.result ≡ position_after i.start i.moves.items = c.new-self-inside.ensures.value ∙ c.last.ensures _ (position_after i.start i.moves.items) c.self.invariant.1 in
+    let back : c.from-self-inside.result ≡ position_after i.start i.moves.items = c.from-self-inside.ensures.0 ∙ c.last.ensures _ (position_after i.start i.moves.items) c.self.invariant.1 in
     rw kept (c.self.invariant.0, c.self.invariant.1, back, c.self.invariant.3)
 
 pub invariant_of-self-in-Err-push : goal.invariant_of-self-in-Err-push
@@ -103,5 +103,5 @@ invariant_of-self-in-Err-push c =
     let i = c.self.inside in
     let kept : c.reserve.new.self.items ≡ i.moves.items = grind (arith, common_steps) in
     let seen : IsSeen (positions_of i.start i.moves.items) (position_after i.start i.moves.items) c.push.new.self = rw c.in-Err-push.ensures.err c.self.invariant.1 in
-    let back : c.new-self-inside-in-Err-push.result ≡ position_after i.start i.moves.items = c.new-self-inside-in-Err-push.ensures.value ∙ c.last-in-Err-push.ensures _ (position_after i.start i.moves.items) seen in
+    let back : c.from-self-inside-in-Err-push.result ≡ position_after i.start i.moves.items = c.from-self-inside-in-Err-push.ensures.0 ∙ c.last-in-Err-push.ensures _ (position_after i.start i.moves.items) seen in
     rw kept (c.self.invariant.0, seen, back, c.self.invariant.3)

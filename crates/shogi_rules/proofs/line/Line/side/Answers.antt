@@ -7,4 +7,4 @@ pub returns : goal.returns
 returns c =
     let i = c.self.inside in
     let e : i.last ≡ now_of c.args.self.now = c.self.invariant.2 ∙ ap now_of c.self.view_is in
-    c.side.ensures.value ∙ ap (λ (p : Placed). p.side) (c.position.ensures.value ∙ e)
+    c.side.ensures.value ∙ ap (λ (p : Placed). p.side) (c.as_ref.ensures.value ∙ e)

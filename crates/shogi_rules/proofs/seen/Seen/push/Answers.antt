@@ -14,8 +14,8 @@ returns-clause-ok c = λ ps p seen.
     let more : c.push_reserved.new.self.items ≡ i.turns.items ++ turn ∷ [] = grind (arith, common_steps) in
     let before : c.len-before.result ≡ length i.turns.items = grind (arith, common_steps) in
     record {
-      counts = rw (← c.position.ensures.value) (c.in_ok-self-inside.ensures.ok ps (sym (before ∙ kept.turns.long)) kept.counts);
-      here = rw (← c.position.ensures.value) c.in_ok-self-inside.ensures.place.1;
+      counts = rw (← c.as_ref.ensures.value) (c.in_ok-self-inside.ensures.ok ps (sym (before ∙ kept.turns.long)) kept.counts);
+      here = rw (← c.as_ref.ensures.value) c.in_ok-self-inside.ensures.place.1;
       turns = rw more (turns-more ps i.turns.items c.args.situation.now turn kept.turns c.of-turn.ensures.side c.of-turn.ensures.check);
     }
 

@@ -1,5 +1,5 @@
 use Rattle.std.proofs.Common.{rules}
-use Rattle.shogi_board.proofs.kind.Kind.is_promoted.Goals as goal
+use Rattle.usi_text.proofs.letters.is_promoted.Goals as goal
 
 pub returns-in-ProPawn : goal.returns-in-ProPawn
 returns-in-ProPawn c = search rules

@@ -1,5 +1,5 @@
 use Rattle.std.proofs.Common.{rules}
-use Rattle.shogi_board.proofs.color.Color.opponent.Goals as goal
+use Rattle.shogi_board.proofs.color.ColorNot.not.Goals as goal
 
 pub returns-in-White : goal.returns-in-White
 returns-in-White c = search rules
