@@ -13,8 +13,7 @@ fn square(number: u8) -> Square
     requires file { (1 ≤ number / 10) × (number / 10 ≤ 9) }
     requires rank { 1 ≤ number % 10 }
 {
-    let following = (number / 10 - 1) * 9;
-    Square::at_place(usize::from(following + number % 10 - 1))
+    Square::new(number / 10, number % 10).unwrap()
 }
 
 fn order(fault: OrderFault) -> Result<(), Why> {

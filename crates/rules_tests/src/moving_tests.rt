@@ -1,13 +1,13 @@
-use crate::words::{position, read};
+use crate::words::{on, position, read};
 use shogi_board::{Color, Kind, Move, Position, Rule, Setup, Situation};
 use std::test::Fail;
 
 // The position after a move such as `+7776FU`, and whether its side to move is in check; or the
 // first of the rules 3 to 10 that it breaks.
 fn played(position: &Position, mv: &Move) -> Result<(Position, bool), Rule> {
-    let mut next = Situation::new(*position);
+    let mut next = Situation::from(*position);
     next.play(mv)?;
-    Ok((*next.position(), next.in_check()))
+    Ok((*next.as_ref(), next.checker().is_some()))
 }
 
 // Black's pawn opens the even position; a gold may not leave its king to the rook, and may go
@@ -25,11 +25,11 @@ fn walks_where_the_king_is_safe(rt: HostRuntime) -> Result<(), Fail> {
     let pinned = position(Color::Black, "+59OU,+58KI,-51HI")?;
     let (_, aside) = read(b"+5848KI")?;
     assert!(rt; played(&pinned, &aside) == Err(Rule::LeavesKing));
-    assert!(rt; !Situation::new(pinned).keeps(&aside));
+    assert!(rt; !Situation::from(pinned).keeps(&aside));
     let forward = position(Color::White, "+59OU,+57KI,-51HI")?;
     let (_, ahead) = read(b"+5857KI")?;
     assert!(rt; played(&pinned, &ahead) == Ok((forward, false)));
-    assert!(rt; Situation::new(pinned).keeps(&ahead));
+    assert!(rt; Situation::from(pinned).keeps(&ahead));
     Ok(())
 }
 
@@ -47,6 +47,25 @@ fn drops_where_the_king_is_safe(rt: HostRuntime) -> Result<(), Fail> {
     Ok(())
 }
 
+// A rook from afar or a knight, the rook if there is no knight, the knight if the rook is shut off,
+// and nobody.
+#[test]
+fn names_a_checking_piece(rt: HostRuntime) -> Result<(), Fail> {
+    let both = Situation::from(position(Color::Black, "+59OU,-55HI,-51KY,-47KE")?).checker();
+    assert!(rt; both == Some(on(55)) || both == Some(on(47)));
+    let table = [
+        ("+59OU,-55HI,-51KY", Some(on(55))),
+        ("+59OU,-55HI,+57FU,-47KE", Some(on(47))),
+        ("+59OU,-55HI,+57FU", None),
+        ("-55HI,-51KY", None),
+    ];
+    for (pieces, wanted) in table {
+        let situation = Situation::from(position(Color::Black, pieces)?);
+        assert!(rt; situation.checker() == wanted);
+    }
+    Ok(())
+}
+
 // Check by the piece that moved, by one whose line the move opened, and by none.
 #[test]
 fn knows_who_is_in_check(rt: HostRuntime) -> Result<(), Fail> {
@@ -61,7 +80,7 @@ fn knows_who_is_in_check(rt: HostRuntime) -> Result<(), Fail> {
     for (text, wanted) in table {
         let (_, mv) = read(text)?;
         let (next, in_check) = played(&start, &mv)?;
-        assert!(rt; in_check == wanted && Situation::new(next).in_check() == wanted);
+        assert!(rt; in_check == wanted && Situation::from(next).checker().is_some() == wanted);
     }
     Ok(())
 }

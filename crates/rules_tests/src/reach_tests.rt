@@ -1,5 +1,5 @@
 use crate::words::{on, position, square_of};
-use shogi_board::{Color, Position, Square, attacked, attacker, reaches};
+use shogi_board::{Color, Position, Square, attacked, reaches};
 use std::test::Fail;
 
 // The square of the two digits after a word's sign.
@@ -179,22 +179,5 @@ fn attacks_up_to_the_first_piece(rt: HostRuntime) -> Result<(), Fail> {
     for (square, wanted) in [(on(52), false), (on(58), true)] {
         assert!(rt; attacked(&position, Color::White, square) == wanted);
     }
-    Ok(())
-}
-
-// A rook from afar or a knight, the rook if there is no knight, the knight if the rook is shut off,
-// and nobody.
-#[test]
-fn names_an_attacker(rt: HostRuntime) -> Result<(), Fail> {
-    let checked = position(Color::Black, "+59OU,-55HI,-51KY,-47KE")?;
-    let one = attacker(&checked, Color::Black, on(59));
-    assert!(rt; one == Some(on(55)) || one == Some(on(47)));
-    let afar = position(Color::Black, "+59OU,-55HI,-51KY")?;
-    assert!(rt; attacker(&afar, Color::Black, on(59)) == Some(on(55)));
-    assert!(rt; attacker(&checked, Color::Black, on(49)).is_none());
-    let across = position(Color::Black, "+59OU,-55HI,+57FU,-47KE")?;
-    assert!(rt; attacker(&across, Color::Black, on(59)) == Some(on(47)));
-    assert!(rt; on(57).lies_between(on(59), on(55)) && !on(55).lies_between(on(59), on(55)));
-    assert!(rt; Square::at_place(13) == on(25));
     Ok(())
 }

@@ -10,8 +10,7 @@ pub(crate) fn on(number: u8) -> Square
     requires file { (1 ≤ number / 10) × (number / 10 ≤ 9) }
     requires rank { 1 ≤ number % 10 }
 {
-    let before = (number / 10 - 1) * 9;
-    Square::at_place(usize::from(before + number % 10 - 1))
+    Square::new(number / 10, number % 10).unwrap()
 }
 
 fn kind_of(first: u8, second: u8) -> Result<Kind, Fail> {

@@ -1,7 +1,7 @@
 use crate::memory::{refuse_all, refuse_no_more};
 use shogi_board::{
     Color, Hand, Kind, Move, OutOfMemory, Piece, Position, Rule, Setup, SetupFault, Situation,
-    Square, attacked, attacker, reaches,
+    Square, attacked, reaches,
 };
 use std::cmp::Ordering;
 use std::process::Abort;
@@ -83,20 +83,17 @@ fn setups(rt: &impl Abort) -> Result<(), Fail> {
     Ok(())
 }
 
-// What the rules ask of squares, kinds and positions.
+// What the rules ask of colours, kinds and positions.
 fn calls_for_rules(rt: &impl Abort) -> Result<(), Fail> {
-    assert!(rt; Color::Black.opponent() == Color::White);
-    assert!(rt; Kind::Pawn.is_hand_kind() && !Kind::Pawn.is_promoted());
-    assert!(rt; Kind::Bishop.promoted() == Some(Kind::Horse));
-    assert!(rt; Square::at_place(0) == square(1, 1)?);
-    assert!(rt; square(5, 5)?.lies_between(square(5, 1)?, square(5, 9)?));
+    let other: Color = !Color::Black;
+    let promoted: Option<Kind> = Kind::Bishop.promoted();
+    assert!(rt; other == Color::White && promoted == Some(Kind::Horse));
     let even = Position::even();
-    let from: Option<Square> = attacker(&even, Color::Black, square(9, 4)?);
-    assert!(rt; from == Some(square(9, 3)?));
     let key: u64 = even.key();
     assert!(rt; key == even.setup().finish(Color::Black)?.key());
-    let mut situation = Situation::new(even);
-    assert!(rt; *situation.position() == even && !situation.in_check());
+    let mut situation = Situation::from(even);
+    let checker: Option<Square> = situation.checker();
+    assert!(rt; *situation.as_ref() == even && checker.is_none());
     let drop = Move::Put {
         to: square(5, 5)?,
         kind: Kind::Pawn,
