@@ -1,68 +1,49 @@
 -- In which direction and how far away a square lies, and which squares lie on the way.
-use Rattle.std.proofs.Common.{◌≡◌, ℕ, ◌+◌, ◌-◌, ◌*◌, ◌<◌, ◌≤◌, ◌⊎◌, inl, inr, arith, ap, sym, refl, ◌∙◌}
+use Rattle.std.proofs.Common.{◌≡◌, ℕ, ◌+◌, ◌-◌, ◌*◌, ◌<◌, ◌≤◌, ◌⊎◌, inl, inr, arith, ap, sym, subst, refl, ◌∙◌}
 use Rattle.std.proofs.lemmas.Bool.{cases_eq, cases_lt}
 use Rattle.shogi_board.specs.Directions.{IsDirection, IsInLine}
 use Rattle.shogi_board.specs.Moves.{IsRay, to}
 use Rattle.shogi_board.specs.Squares.{Direction, IsAway}
 use Rattle.shogi_board.specs.declared.square.Square.{Square}
 
--- where a number stands n steps on
-abbrev Offset : ℕ → ℕ → ℕ → ℕ → Type 0
-Offset x y n f = ((f ≡ 1) × (y + n ≡ x)) ⊎ (((f ≡ 2) × (y ≡ x)) ⊎ ((f ≡ 3) × (y ≡ x + n)))
-
-back-by : (x y n f : ℕ) → f ≡ 1 → y + n * 2 ≡ x + n * f → y + n ≡ x
-back-by x y n f e h = let g : y + n * 2 ≡ x + n * 1 = rw e at h in omega (arith, g)
-
-level : (x y n f : ℕ) → f ≡ 2 → y + n * 2 ≡ x + n * f → y ≡ x
-level x y n f e h = let g : y + n * 2 ≡ x + n * 2 = rw e at h in omega (arith, g)
-
-on-by : (x y n f : ℕ) → f ≡ 3 → y + n * 2 ≡ x + n * f → y ≡ x + n
-on-by x y n f e h = let g : y + n * 2 ≡ x + n * 3 = rw e at h in omega (arith, g)
-
-offset : (x y n f : ℕ) → 1 ≤ f → f ≤ 3 → y + n * 2 ≡ x + n * f → Offset x y n f
-offset x y n f low high h =
-    elim (cases_lt f 2) [
-      | inl lt ↦ let e : f ≡ 1 = omega (arith, low, lt) in inl (e, back-by x y n f e h)
-      | inr ge ↦ elim (cases_lt 2 f) [
-        | inl lt ↦ let e : f ≡ 3 = omega (arith, lt, high) in inr (inr (e, on-by x y n f e h))
-        | inr le ↦ let e : f ≡ 2 = omega (arith, ge, le) in inr (inl (e, level x y n f e h))
+pub three : (P : ℕ → Type 0) → P 1 → P 2 → P 3 → (n : ℕ) → 1 ≤ n → n ≤ 3 → P n
+three P a b c n low high =
+    elim (cases_lt n 2) [
+      | inl lt ↦ let e : 1 ≡ n = omega arith in subst P e a
+      | inr ge ↦ elim (cases_lt 2 n) [
+        | inl lt ↦ let e : 3 ≡ n = omega arith in subst P e c
+        | inr le ↦ let e : 2 ≡ n = omega arith in subst P e b
       ]
     ]
 
+-- where a number stands n steps on
+abbrev pub Offset : ℕ → ℕ → ℕ → ℕ → Type 0
+Offset x y n f = ((f ≡ 1) × (y + n ≡ x)) ⊎ (((f ≡ 2) × (y ≡ x)) ⊎ ((f ≡ 3) × (y ≡ x + n)))
+
+pub offset : (x y n f : ℕ) → 1 ≤ f → f ≤ 3 → y + n * 2 ≡ x + n * f → Offset x y n f
+offset x y n f low high h =
+    three (λ g. y + n * 2 ≡ x + n * g → Offset x y n g)
+    (λ e. inl (refl, omega (arith, e))) (λ e. inr (inl (refl, omega (arith, e)))) (λ e. inr (inr (refl, omega (arith, e)))) f low high h
+
 pub step-back : (x y n f : ℕ) → y < x → 1 ≤ f → f ≤ 3 → 1 ≤ n → y + n * 2 ≡ x + n * f → 1 ≡ f
 step-back x y n f less low high some h =
-    elim (offset x y n f low high h) [
-      | inl o ↦ sym o.0
-      | inr o ↦ elim o [ inl p ↦ let e = p.1 in absurd (omega (arith, less, e)) | inr p ↦ let e = p.1 in absurd (omega (arith, less, e)) ]
-    ]
+    three (λ g. y + n * 2 ≡ x + n * g → 1 ≡ g) (λ _. refl) (λ e. absurd (omega (arith, less, e))) (λ e. absurd (omega (arith, less, e))) f low high h
 
 pub step-level : (x y n f : ℕ) → y ≡ x → 1 ≤ f → f ≤ 3 → 1 ≤ n → y + n * 2 ≡ x + n * f → 2 ≡ f
 step-level x y n f same low high some h =
-    elim (offset x y n f low high h) [
-      | inl o ↦ let e = o.1 in absurd (omega (arith, same, some, e))
-      | inr o ↦ elim o [ inl p ↦ sym p.0 | inr p ↦ let e = p.1 in absurd (omega (arith, same, some, e)) ]
-    ]
+    three (λ g. y + n * 2 ≡ x + n * g → 2 ≡ g) (λ e. absurd (omega (arith, same, some, e))) (λ _. refl) (λ e. absurd (omega (arith, same, some, e))) f low high h
 
 pub step-on : (x y n f : ℕ) → x < y → 1 ≤ f → f ≤ 3 → 1 ≤ n → y + n * 2 ≡ x + n * f → 3 ≡ f
 step-on x y n f more low high some h =
-    elim (offset x y n f low high h) [
-      | inl o ↦ let e = o.1 in absurd (omega (arith, more, e))
-      | inr o ↦ elim o [ inl p ↦ let e = p.1 in absurd (omega (arith, more, e)) | inr p ↦ sym p.0 ]
-    ]
+    three (λ g. y + n * 2 ≡ x + n * g → 3 ≡ g) (λ e. absurd (omega (arith, more, e))) (λ e. absurd (omega (arith, more, e))) (λ _. refl) f low high h
 
 gap-low : (x y n f g : ℕ) → 1 ≤ f → f ≤ 3 → y + n * 2 ≡ x + n * f → g ≡ x - y + (y - x) → g ≤ n
 gap-low x y n f g low high h is =
-    elim (offset x y n f low high h) [
-      | inl o ↦ let e = o.1 in omega (arith, e, is)
-      | inr o ↦ elim o [ inl p ↦ let e = p.1 in omega (arith, e, is) | inr p ↦ let e = p.1 in omega (arith, e, is) ]
-    ]
+    three (λ k. y + n * 2 ≡ x + n * k → g ≤ n) (λ e. omega (arith, e, is)) (λ e. omega (arith, e, is)) (λ e. omega (arith, e, is)) f low high h
 
 gap-is : (x y n f g : ℕ) → 1 ≤ f → f ≤ 3 → (f ≡ 2 → ⊥) → y + n * 2 ≡ x + n * f → g ≡ x - y + (y - x) → g ≡ n
 gap-is x y n f g low high not h is =
-    elim (offset x y n f low high h) [
-      | inl o ↦ let e = o.1 in omega (arith, e, is)
-      | inr o ↦ elim o [ inl p ↦ absurd (not p.0) | inr p ↦ let e = p.1 in omega (arith, e, is) ]
-    ]
+    three (λ k. (k ≡ 2 → ⊥) → y + n * 2 ≡ x + n * k → g ≡ n) (λ _ e. omega (arith, e, is)) (λ off _. absurd (off refl)) (λ _ e. omega (arith, e, is)) f low high not h
 
 -- one of the two gaps is the distance, and neither is more
 pub record Apart (g h n : ℕ) : Type 0 where
@@ -182,8 +163,8 @@ as-far a b g h line i j files ranks =
     let n = line.1 in
     let ray = line.2 in
     let away = line.3 in
-    gap-is a.file b.file n d.files g ray.0 ray.1 (λ e. files (let s = level a.file b.file n d.files e away.0 in omega (arith, i, s))) away.0 i
-    ∙ sym (gap-is a.rank b.rank n d.ranks h ray.2 ray.3 (λ e. ranks (let s = level a.rank b.rank n d.ranks e away.1 in omega (arith, j, s))) away.1 j)
+    gap-is a.file b.file n d.files g ray.0 ray.1 (λ e. files (let s : b.file + n * 2 ≡ a.file + n * 2 = rw e at away.0 in omega (arith, i, s))) away.0 i
+    ∙ sym (gap-is a.rank b.rank n d.ranks h ray.2 ray.3 (λ e. ranks (let s : b.rank + n * 2 ≡ a.rank + n * 2 = rw e at away.1 in omega (arith, j, s))) away.1 j)
 
 -- no knight's jump leads along a line
 one-gap : (x y n f : ℕ) → Offset x y n f → (y + 1 ≡ x) ⊎ (y ≡ x + 1) → n ≡ 1

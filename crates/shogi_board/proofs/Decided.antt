@@ -1,9 +1,10 @@
 -- Each statement on a board holds or does not: whether a piece reaches a square, whether a king is
 -- in check.
-use Rattle.std.proofs.Common.{◌≡◌, ℕ, zero, suc, ◌+◌, ◌/◌, ◌%◌, ◌<◌, ◌≤◌, ◌⊎◌, inl, inr, Bool, true, false, List, [], ◌∷◌, Option, Some, None, Any, arith, refl, sym, ◌∙◌, subst}
+use Rattle.std.proofs.Common.{◌≡◌, ℕ, zero, suc, ◌+◌, ◌/◌, ◌%◌, ◌<◌, ◌≤◌, ◌⊎◌, inl, inr, Bool, true, false, List, [], ◌∷◌, Option, Some, None, Any, arith, get_or, lit≤, refl, sym, ◌∙◌, subst}
 use Rattle.std.specs.Bool.{Decides}
 use Rattle.std.proofs.lemmas.Bool.{cases_lt, cases_eq}
 use Rattle.shogi_board.specs.Cells.{Cells, at, piece, HasPawnOnFile}
+use Rattle.shogi_board.specs.Keys.{kind_number}
 use Rattle.shogi_board.specs.Moves.{steps, rays, turned_for, IsRay}
 use Rattle.shogi_board.specs.Pieces.{opponent}
 use Rattle.shogi_board.specs.Reach.{Steps, IsClear, InSight, Slides, Reach, Attack, Attacked, InCheck}
@@ -94,29 +95,16 @@ decide-square P each =
     (λ h. (place h.0, place-bound h.0, (h.0, refl, h.1)))
     (decide-below (AtPlace P) 81 (decide-place P each))
 
-abbrev pub all_kinds : List Kind
+abbrev all_kinds : List Kind
 all_kinds = Pawn ∷ Lance ∷ Knight ∷ Silver ∷ Gold ∷ Bishop ∷ Rook ∷ King ∷ ProPawn ∷ ProLance ∷ ProKnight ∷ ProSilver ∷ Horse ∷ Dragon ∷ []
 
-among : (P : Kind → Type 0) (k : Kind) → P k → OneOf P all_kinds
-among P Pawn h = inl h
-among P Lance h = inr (inl h)
-among P Knight h = inr (inr (inl h))
-among P Silver h = inr (inr (inr (inl h)))
-among P Gold h = inr (inr (inr (inr (inl h))))
-among P Bishop h = inr (inr (inr (inr (inr (inl h)))))
-among P Rook h = inr (inr (inr (inr (inr (inr (inl h))))))
-among P King h = inr (inr (inr (inr (inr (inr (inr (inl h)))))))
-among P ProPawn h = inr (inr (inr (inr (inr (inr (inr (inr (inl h))))))))
-among P ProLance h = inr (inr (inr (inr (inr (inr (inr (inr (inr (inl h)))))))))
-among P ProKnight h = inr (inr (inr (inr (inr (inr (inr (inr (inr (inr (inl h))))))))))
-among P ProSilver h = inr (inr (inr (inr (inr (inr (inr (inr (inr (inr (inr (inl h)))))))))))
-among P Horse h = inr (inr (inr (inr (inr (inr (inr (inr (inr (inr (inr (inr (inl h))))))))))))
-among P Dragon h = inr (inr (inr (inr (inr (inr (inr (inr (inr (inr (inr (inr (inr (inl h)))))))))))))
+kind-at : ℕ → Kind
+kind-at n = get_or all_kinds n Pawn
 
-some-of : {X : Type 0} (P : X → Type 0) (xs : List X) → OneOf P xs → (x : X) × P x
-some-of P [] h = elim h [ ]
-some-of P (x ∷ xs) (inl h) = (x, h)
-some-of P (x ∷ xs) (inr h) = some-of P xs h
+kind-there : (k : Kind) → (kind_number k < 14) × (kind-at (kind_number k) ≡ k)
+unfolding kind-at
+kind-there Pawn = (lit≤ tt, refl)
+kind-there _ = (lit≤ tt, refl)
 
 decide-one-of : {X : Type 0} (P : X → Type 0) (xs : List X) → ((x : X) → Decision (P x)) → Decision (OneOf P xs)
 decide-one-of P [] each = inr (λ h. elim h [ ])
@@ -125,7 +113,10 @@ decide-one-of P (x ∷ xs) each = decide-either (P x) (OneOf P xs) (each x) (dec
 -- some kind has it
 pub decide-kind : (P : Kind → Type 0) → ((k : Kind) → Decision (P k)) → Decision ((k : Kind) × P k)
 decide-kind P each =
-    decide-as (OneOf P all_kinds) ((k : Kind) × P k) (some-of P all_kinds) (λ h. among P h.0 h.1) (decide-one-of P all_kinds each)
+    decide-as (Below (λ n. P (kind-at n)) 14) ((k : Kind) × P k)
+    (λ h. (kind-at h.0, h.2))
+    (λ h. let there = kind-there h.0 in (kind_number h.0, there.0, subst P (sym there.1) h.1))
+    (decide-below (λ n. P (kind-at n)) 14 (λ n. each (kind-at n)))
 
 pub decide-color : (a b : Color) → Decision (a ≡ b)
 decide-color a b = decide-by _ (a ≡ b) (color-eq a b)

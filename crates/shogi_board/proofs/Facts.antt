@@ -3,7 +3,7 @@ use Rattle.std.proofs.Common.{◌≡◌, ℕ, ◌<◌, ◌≤◌, ◌⊎◌, ◌
 use Rattle.std.proofs.lemmas.Bool.{cases_eq}
 use Rattle.shogi_board.specs.Cells.{Cells, at, piece}
 use Rattle.shogi_board.specs.Moves.{turned_for, orthogonals, gold, jumps}
-use Rattle.shogi_board.specs.Reach.{Reach, InSight, Steps, Slides}
+use Rattle.shogi_board.specs.Reach.{Reach, Steps, Slides}
 use Rattle.shogi_board.specs.Squares.{Direction, place, IsAway, file_of, rank_of}
 use Rattle.shogi_board.specs.Neighbours.{IsAmong, gold_squares, beside, with_cell}
 use Rattle.shogi_board.specs.declared.color.Color.{Color}
@@ -13,6 +13,7 @@ use Rattle.shogi_board.specs.declared.kind.Piece.{Piece}
 use Rattle.shogi_board.specs.declared.square.Square.{Square}
 use Rattle.shogi_board.proofs.OneOf.{OneOf, one-of, any-of}
 use Rattle.shogi_board.proofs.Pieces.{mover-is}
+use Rattle.shogi_board.proofs.Sight.{same-sight}
 use Rattle.shogi_board.proofs.Squares.{place-bound}
 
 -- one step along the direction, as that side sees it
@@ -108,14 +109,6 @@ same-empty cells a s p q whole h =
           right ∙ sym left ∙ h
     ]
 
-same-sight : (cells : Cells) (a b : Square) (p q : Piece) (d : Direction) → length cells ≡ 81 → InSight (with_cell cells a (Some p)) a d b → InSight (with_cell cells a (Some q)) a d b
-same-sight cells a b p q d whole sight = record {
-  distance = sight.distance;
-  some = sight.some;
-  away = sight.away;
-  clear = λ k s low high away. same-empty cells a s p q whole (sight.clear k s low high away);
-}
-
 stands-there : (cells : Cells) (a : Square) (p : Piece) → length cells ≡ 81 → at (with_cell cells a (Some p)) a ≡ Some p
 stands-there cells a p whole =
     let low = place-bound a in
@@ -132,7 +125,7 @@ horse-reach cells color a b whole =
         | inr slide ↦ inl (record {
           mover = bishop;
           stands = stands-there cells a bishop whole;
-          moves = inr (slide.0, slide.1, slide.2, slide.3, same-sight cells a b horse bishop (turned_for color slide.1) whole slide.4);
+          moves = inr (slide.0, slide.1, slide.2, slide.3, same-sight _ _ a b (turned_for color slide.1) (λ s. same-empty cells a s horse bishop whole) slide.4);
         })
       ],
       λ s. elim s [
@@ -141,7 +134,7 @@ horse-reach cells color a b whole =
           | inr slide ↦ record {
             mover = horse;
             stands = stands-there cells a horse whole;
-            moves = inr (slide.0, slide.1, slide.2, slide.3, same-sight cells a b bishop horse (turned_for color slide.1) whole slide.4);
+            moves = inr (slide.0, slide.1, slide.2, slide.3, same-sight _ _ a b (turned_for color slide.1) (λ s. same-empty cells a s bishop horse whole) slide.4);
           }
         ]
         | inr near ↦ record {

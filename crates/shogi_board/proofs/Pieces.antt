@@ -7,18 +7,15 @@ use Rattle.shogi_board.specs.declared.kind.Kind.{Kind}
 use Rattle.shogi_board.specs.declared.kind.Kind.TheVariants.{Pawn, King}
 use Rattle.shogi_board.specs.declared.kind.Piece.{Piece}
 use Rattle.shogi_board.specs.Cells.{Cells, at, piece}
-use Rattle.shogi_board.specs.Pieces.{same_color, is_hand_kind, opponent, place_of, unpromoted}
+use Rattle.shogi_board.specs.Pieces.{is_hand_kind, opponent, place_of, unpromoted}
 use Rattle.shogi_board.specs.Reach.{Reach}
 use Rattle.shogi_board.specs.Totals.{is_king_of}
 use Rattle.shogi_board.specs.declared.square.Square.{Square}
-
-pub same_color-refl : (c : Color) → same_color c c ≡ true
-same_color-refl Black = refl
-same_color-refl White = refl
+use Rattle.shogi_board.proofs.Forms.{same_color-self}
 
 -- a king of that side passes the test
 pub is_king_of-king : (c : Color) (cell : Option Piece) → cell ≡ piece c King → is_king_of c cell ≡ true
-is_king_of-king c cell e = rw (e, same_color-refl) refl
+is_king_of-king c cell e = rw (e, same_color-self) refl
 
 -- the piece that reaches is the one that stands there
 pub mover-is : (cells : Cells) (a b : Square) (p : Piece) → at cells a ≡ Some p → (r : Reach cells a b) → r.mover ≡ p

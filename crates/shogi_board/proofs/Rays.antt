@@ -1,7 +1,7 @@
 -- Every step and every ray is near, and a ray goes one square at a time.
-use Rattle.std.proofs.Common.{◌≡◌, ◌↔◌, ◌&&◌, ◌||◌, IsTrue, Bool, true, false, ℕ, zero, suc, ◌<◌, ◌≤◌, List, [], ◌∷◌, length, get_or, arith, lit≤, refl, sym, ap, subst, ◌∙◌, nat_eq, Contains, ◌⊎◌, inl, inr}
-use Rattle.std.proofs.lemmas.Bool.{and_from, and_parts, cases_lt, eq-eqb, eqb-true, or_cases, or_left, or_right}
-use Rattle.shogi_board.proofs.Between.{direction-same}
+use Rattle.std.proofs.Common.{◌≡◌, ◌↔◌, ◌&&◌, ◌||◌, IsTrue, Bool, true, false, ℕ, zero, suc, ◌<◌, ◌≤◌, List, [], ◌∷◌, length, get_or, arith, lit≤, refl, sym, ap, ◌∙◌, nat_eq, Contains, ◌⊎◌, inl, inr}
+use Rattle.std.proofs.lemmas.Bool.{and_from, and_parts, eq-eqb, eqb-true, or_cases, or_left, or_right}
+use Rattle.shogi_board.proofs.Between.{direction-same, three}
 use Rattle.shogi_board.specs.Moves.{steps, rays, turned_for, IsRay, to, forward, back, left, right, forward_left, forward_right, back_left, back_right, orthogonals, diagonals, gold}
 use Rattle.shogi_board.specs.Directions.{IsNear}
 use Rattle.shogi_board.specs.declared.color.Color.{Color}
@@ -74,16 +74,6 @@ every-step King =
 every-step Horse = inl every-orthogonal
 every-step Dragon = inl every-diagonal
 every-step _ = inl every-gold
-
-three : (P : ℕ → Type 0) → P 1 → P 2 → P 3 → (n : ℕ) → 1 ≤ n → n ≤ 3 → P n
-three P a b c n low high =
-    elim (cases_lt n 2) [
-      | inl lt ↦ let e : 1 ≡ n = omega arith in subst P e a
-      | inr ge ↦ elim (cases_lt 2 n) [
-        | inl lt ↦ let e : 3 ≡ n = omega arith in subst P e c
-        | inr le ↦ let e : 2 ≡ n = omega arith in subst P e b
-      ]
-    ]
 
 -- whether one of the directions has these files and ranks
 abbrev pub has : List Direction → ℕ → ℕ → Bool

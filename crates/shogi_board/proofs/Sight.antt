@@ -1,68 +1,35 @@
 -- A look along a direction: how far the board goes on, and the places of the squares there.
-use Rattle.std.proofs.Common.{◌≡◌, ℕ, ◌+◌, ◌-◌, ◌*◌, ◌<◌, ◌≤◌, arith, inl, inr, refl}
-use Rattle.std.proofs.lemmas.Bool.{cases_lt}
+use Rattle.std.proofs.Common.{◌≡◌, ℕ, ◌+◌, ◌-◌, ◌*◌, ◌<◌, ◌≤◌, arith, None, inl, inr, refl}
+use Rattle.shogi_board.specs.Cells.{Cells, at}
 use Rattle.shogi_board.specs.Moves.{IsRay}
+use Rattle.shogi_board.specs.Reach.{InSight}
 use Rattle.shogi_board.specs.Squares.{Direction, place, IsAway}
 use Rattle.shogi_board.specs.declared.square.Square.{Square}
-
-back-far : (x y m f : ℕ) → f ≡ 1 → x + m * 2 ≡ y + m * f → y ≤ 9 → 1 ≤ x → 9 ≤ m → ⊥
-back-far x y m f e h top low far = let g : x + m * 2 ≡ y + m * 1 = rw e at h in omega arith
-
-on-far : (x y m f : ℕ) → f ≡ 3 → x + m * 2 ≡ y + m * f → x ≤ 9 → 1 ≤ y → 9 ≤ m → ⊥
-on-far x y m f e h top low far = let g : x + m * 2 ≡ y + m * 3 = rw e at h in omega arith
+use Rattle.shogi_board.proofs.Between.{offset, three}
 
 -- no square lies nine times a ray away
 pub too-far : (a b : Square) (d : Direction) (m : ℕ) → IsRay d → 9 ≤ m → IsAway a d m b → ⊥
 too-far a b d m ray far away =
     let i = a.on_board in
     let j = b.on_board in
-    let f1 : 1 ≤ d.files = ray.0 in
-    let f3 : d.files ≤ 3 = ray.1 in
-    let r1 : 1 ≤ d.ranks = ray.2 in
-    let r3 : d.ranks ≤ 3 = ray.3 in
-    elim (cases_lt d.files 2) [
-      | inl lt ↦ back-far b.file a.file m d.files (omega arith) away.0 (omega arith) (omega arith) far
-      | inr ge ↦ elim (cases_lt 2 d.files) [
-        | inl lt ↦ on-far b.file a.file m d.files (omega arith) away.0 (omega arith) (omega arith) far
-        | inr le ↦
-            let files : d.files ≡ 2 = omega arith in
-            elim (cases_lt d.ranks 2) [
-              | inl lt ↦ back-far b.rank a.rank m d.ranks (omega arith) away.1 (omega arith) (omega arith) far
-              | inr high ↦ elim (cases_lt 2 d.ranks) [
-                | inl lt ↦ on-far b.rank a.rank m d.ranks (omega arith) away.1 (omega arith) (omega arith) far
-                | inr low ↦ let ranks : d.ranks ≡ 2 = omega arith in ray.4 files ranks
-              ]
-            ]
+    elim (offset a.file b.file m d.files ray.0 ray.1 away.0) [
+      | inl back ↦ let e = back.1 in omega arith
+      | inr more ↦ elim more [
+        | inl still ↦ elim (offset a.rank b.rank m d.ranks ray.2 ray.3 away.1) [
+          | inl back ↦ let e = back.1 in omega arith
+          | inr rest ↦ elim rest [ inl level ↦ ray.4 still.0 level.0 | inr on ↦ let e = on.1 in omega arith ]
+        ]
+        | inr on ↦ let e = on.1 in omega arith
       ]
     ]
 
 -- a number on the way from one number to another
-way-back : (x y m n f : ℕ) → f ≡ 1 → n ≤ m → y + m * 2 ≡ x + m * f → 1 ≤ y → x ≤ 9 → (z : ℕ) × (z + n * 2 ≡ x + n * f) × (1 ≤ z) × (z ≤ 9)
-way-back x y m n f e near h low high =
-    let g : y + m * 2 ≡ x + m * 1 = rw e at h in
-    let k : x - n + n * 2 ≡ x + n * 1 = omega (arith, g, near, low) in
-    (x - n, rw e k, omega (arith, g, near, low), omega (arith, high))
-
-way-level : (x n f : ℕ) → f ≡ 2 → 1 ≤ x → x ≤ 9 → (z : ℕ) × (z + n * 2 ≡ x + n * f) × (1 ≤ z) × (z ≤ 9)
-way-level x n f e low high =
-    let k : x + n * 2 ≡ x + n * 2 = omega arith in
-    (x, rw e k, low, high)
-
-way-on : (x y m n f : ℕ) → f ≡ 3 → n ≤ m → y + m * 2 ≡ x + m * f → 1 ≤ x → y ≤ 9 → (z : ℕ) × (z + n * 2 ≡ x + n * f) × (1 ≤ z) × (z ≤ 9)
-way-on x y m n f e near h low high =
-    let g : y + m * 2 ≡ x + m * 3 = rw e at h in
-    let k : x + n + n * 2 ≡ x + n * 3 = omega arith in
-    (x + n, rw e k, omega (arith, low), omega (arith, g, near, high))
-
 way : (x y m n f : ℕ) → 1 ≤ f → f ≤ 3 → n ≤ m → y + m * 2 ≡ x + m * f → 1 ≤ x → x ≤ 9 → 1 ≤ y → y ≤ 9 → (z : ℕ) × (z + n * 2 ≡ x + n * f) × (1 ≤ z) × (z ≤ 9)
 way x y m n f low high near h x1 x9 y1 y9 =
-    elim (cases_lt f 2) [
-      | inl lt ↦ way-back x y m n f (omega arith) near h y1 x9
-      | inr ge ↦ elim (cases_lt 2 f) [
-        | inl lt ↦ way-on x y m n f (omega arith) near h x1 y9
-        | inr le ↦ way-level x n f (omega arith) x1 x9
-      ]
-    ]
+    three (λ g. y + m * 2 ≡ x + m * g → (z : ℕ) × (z + n * 2 ≡ x + n * g) × (1 ≤ z) × (z ≤ 9))
+    (λ e. (x - n, omega (arith, e, near, y1), omega (arith, e, near, y1), omega (arith, x9)))
+    (λ _. (x, omega arith, x1, x9))
+    (λ e. (x + n, omega arith, omega (arith, x1), omega (arith, e, near, y9))) f low high h
 
 -- each square up to one in that direction is on the board
 pub on-the-way : (a b : Square) (d : Direction) (n m : ℕ) → IsRay d → n ≤ m → IsAway a d m b → (s : Square) × IsAway a d n s
@@ -81,24 +48,10 @@ pub record Room (x f room : ℕ) : Type 0 where
 
 last : (x f r : ℕ) → 1 ≤ f → f ≤ 3 → 1 ≤ x → x ≤ 9 → Room x f r → (y : ℕ) × (y + r * 2 ≡ x + r * f) × (1 ≤ y) × (y ≤ 9)
 last x f r low high x1 x9 room =
-    elim (cases_lt f 2) [
-      | inl lt ↦
-          let e : f ≡ 1 = omega (arith, low, lt) in
-          let k = room.back e in
-          let g : 1 + r * 2 ≡ x + r * 1 = omega (arith, k) in
-          (1, rw e g, omega arith, omega arith)
-      | inr ge ↦ elim (cases_lt 2 f) [
-        | inl lt ↦
-            let e : f ≡ 3 = omega (arith, lt, high) in
-            let k = room.on e in
-            let g : 9 + r * 2 ≡ x + r * 3 = omega (arith, k) in
-            (9, rw e g, omega arith, omega arith)
-        | inr le ↦
-            let e : f ≡ 2 = omega (arith, ge, le) in
-            let g : x + r * 2 ≡ x + r * 2 = omega arith in
-            (x, rw e g, x1, x9)
-      ]
-    ]
+    three (λ g. Room x g r → (y : ℕ) × (y + r * 2 ≡ x + r * g) × (1 ≤ y) × (y ≤ 9))
+    (λ here. let k = here.back refl in (1, omega (arith, k), omega arith, omega arith))
+    (λ _. (x, omega arith, x1, x9))
+    (λ here. let k = here.on refl in (9, omega (arith, k), omega arith, omega arith)) f low high room
 
 within : (x f r n : ℕ) → 1 ≤ f → f ≤ 3 → 1 ≤ x → x ≤ 9 → Room x f r → n ≤ r → (z : ℕ) × (z + n * 2 ≡ x + n * f) × (1 ≤ z) × (z ≤ 9)
 within x f r n low high x1 x9 room near =
@@ -144,3 +97,12 @@ next a b d n m p ray some less away seat =
 -- where the place of a square is known, it is the place one step on
 pub seat-on : (a t : Square) (d : Direction) (n p : ℕ) → IsAway a d n t → place t ≡ p → AtPlace a d (n + 1 - 1) p
 seat-on a t d n p away e = let same : n + 1 - 1 ≡ n = omega arith in rw same (t, away, e)
+
+-- what is seen on one board is seen on another, if the squares that are empty there are empty here
+pub same-sight : (cells others : Cells) (a b : Square) (d : Direction) → ((s : Square) → at cells s ≡ None → at others s ≡ None) → InSight cells a d b → InSight others a d b
+same-sight cells others a b d empty sight = record {
+  distance = sight.distance;
+  some = sight.some;
+  away = sight.away;
+  clear = λ k s low high away. empty s (sight.clear k s low high away);
+}

@@ -15,6 +15,7 @@ use Rattle.shogi_board.specs.declared.kind.Kind.{Kind}
 use Rattle.shogi_board.specs.declared.kind.Kind.TheVariants.{Pawn}
 use Rattle.shogi_board.specs.declared.kind.Piece.{Piece}
 use Rattle.shogi_board.specs.declared.square.Square.{Square}
+use Rattle.shogi_board.proofs.Between.{offset}
 use Rattle.shogi_board.proofs.Check.{king-safe}
 use Rattle.shogi_board.proofs.Rays.{ray-at, step-near}
 
@@ -106,22 +107,6 @@ not-empty s (inr e) h =
 two-before : (a s b : Square) (d : Direction) (m : ℕ) → IsAway a d (m + 2) b → IsAway s d 2 b → IsAway a d m s
 two-before a s b d m h k = (omega (arith, h.0, k.0), omega (arith, h.1, k.1))
 
-times-two : (x y n r : ℕ) → r ≡ 2 → x + n * 2 ≡ y + n * r → x ≡ y
-times-two x y n r e h = let g : x + n * 2 ≡ y + n * 2 = rw e at h in omega arith
-
-times-three : (x y n r : ℕ) → r ≡ 3 → x + n * 2 ≡ y + n * r → x ≡ y + n
-times-three x y n r e h = let g : x + n * 2 ≡ y + n * 3 = rw e at h in omega arith
-
-times-one : (x y n r : ℕ) → r ≡ 1 → x + n * 2 ≡ y + n * r → y ≡ x + n
-times-one x y n r e h = let g : x + n * 2 ≡ y + n * 1 = rw e at h in omega arith
-
-one-two-three : (r : ℕ) → 1 ≤ r → r ≤ 3 → (r ≡ 1) ⊎ ((r ≡ 2) ⊎ (r ≡ 3))
-one-two-three r low high =
-    elim (cases_lt r 2) [
-      | inl a ↦ inl (omega arith)
-      | inr b ↦ elim (cases_lt r 3) [ inl e ↦ inr (inl (omega arith)) | inr f ↦ inr (inr (omega arith)) ]
-    ]
-
 white_king : Square
 white_king = record { file = 5; rank = 1; on_board = (lit≤ tt, lit≤ tt, lit≤ tt, lit≤ tt) }
 
@@ -153,27 +138,24 @@ blocked a s b d n far rank short away clear =
 white-seen : (a : Square) (d : Direction) → IsRay d → 7 ≤ a.rank → InSight even_cells a d white_king → ⊥
 unfolding white_king
 white-seen a d ray far sight =
-    elim (one-two-three d.ranks ray.2 ray.3) [
+    elim (offset a.rank 1 sight.distance d.ranks ray.2 ray.3 sight.away.1) [
       | inl one ↦
-          let n = times-one 1 a.rank sight.distance d.ranks one sight.away.1 in
-          let front = white-front d ray one in
+          let n = one.1 in
+          let front = white-front d ray one.0 in
           blocked a front.0 white_king d sight.distance (omega arith) (inl front.1) front.2 sight.away sight.clear
-      | inr more ↦ elim more [
-        | inl two ↦ let e = times-two 1 a.rank sight.distance d.ranks two sight.away.1 in omega arith
-        | inr three ↦ let e = times-three 1 a.rank sight.distance d.ranks three sight.away.1 in omega arith
-      ]
+      | inr more ↦ elim more [ inl two ↦ let e = two.1 in omega arith | inr three ↦ let e = three.1 in omega arith ]
     ]
 
 black-seen : (a : Square) (d : Direction) → IsRay d → a.rank ≤ 3 → InSight even_cells a d black_king → ⊥
 unfolding black_king
 black-seen a d ray far sight =
-    elim (one-two-three d.ranks ray.2 ray.3) [
-      | inl one ↦ let e = times-one 9 a.rank sight.distance d.ranks one sight.away.1 in omega arith
+    elim (offset a.rank 9 sight.distance d.ranks ray.2 ray.3 sight.away.1) [
+      | inl one ↦ let e = one.1 in omega arith
       | inr more ↦ elim more [
-        | inl two ↦ let e = times-two 9 a.rank sight.distance d.ranks two sight.away.1 in omega arith
+        | inl two ↦ let e = two.1 in omega arith
         | inr three ↦
-            let n = times-three 9 a.rank sight.distance d.ranks three sight.away.1 in
-            let front = black-front d ray three in
+            let n = three.1 in
+            let front = black-front d ray three.0 in
             blocked a front.0 black_king d sight.distance (omega arith) (inr front.1) front.2 sight.away sight.clear
       ]
     ]

@@ -1,5 +1,5 @@
 -- The totals hold after each change of a setup.
-use Rattle.std.proofs.Common.{◌≡◌, ℕ, suc, ◌+◌, ◌-◌, ◌<◌, ◌≤◌, ◌==◌, ◌&&◌, inl, inr, not, length, map, is_some, ◌++◌, Bool, true, false, cond, List, [], ◌∷◌, Option, Some, None, nat_eq, nat_le, nat_lt, set, get_or, count_by, slice_index, arith, refl, ap, sym, ◌∙◌, length-set, get_or-set_same, get_or-set_other}
+use Rattle.std.proofs.Common.{◌≡◌, ℕ, suc, ◌+◌, ◌-◌, ◌<◌, ◌≤◌, ◌==◌, ◌&&◌, inl, inr, not, length, map, ◌++◌, Bool, true, false, cond, List, [], ◌∷◌, Option, Some, None, nat_eq, nat_le, nat_lt, set, get_or, count_by, slice_index, arith, refl, ap, sym, ◌∙◌, length-set, get_or-set_same, get_or-set_other}
 use Rattle.std.proofs.lemmas.List.Sums.{sum_by-set, get_or-le-sum_by}
 use Rattle.std.proofs.lemmas.Bool.{and_parts, cases_eq, ne_eqb}
 use Rattle.std.proofs.lemmas.Bool.Decides.{Decides-eqb, nat_tests}
@@ -19,6 +19,7 @@ use Rattle.shogi_board.specs.declared.square.Square.{Square}
 use Rattle.shogi_board.proofs.Drops.{held-of}
 use Rattle.shogi_board.proofs.Forms.{eq-self, held-low}
 use Rattle.shogi_board.proofs.Pieces.{unpromoted-place}
+use Rattle.shogi_board.proofs.Tests.{nothing}
 
 abbrev limits : List ℕ
 limits = 18 ∷ 4 ∷ 4 ∷ 4 ∷ 4 ∷ 2 ∷ 2 ∷ 2 ∷ []
@@ -87,16 +88,12 @@ no-king-test false n h e = cc
 room-test : (n m : ℕ) → nat_le m n ≡ false → n < m
 room-test n m h = grind (arith, nat_tests)
 
-none-there : (cell : Option Piece) → is_some cell ≡ false → cell ≡ None
-none-there None h = refl
-none-there (Some p) h = cc
-
 -- where a piece may be placed there is room for it, its side has no king if it is one, and the
 -- square is empty
 pub place-room : (s : Layout) (color : Color) (square : Square) (kind : Kind) → place_fault s color square kind ≡ None → (total s.material kind < limit kind) × (is_king kind ≡ true → kings_of s.material.board color ≡ 0) × (at s.material.board square ≡ None)
 place-room s color square kind h =
     let e = no-fault _ _ _ _ h in
-    (room-test _ _ e.2, no-king-test (is_king kind) _ e.1, none-there _ e.0)
+    (room-test _ _ e.2, no-king-test (is_king kind) _ e.1, nothing _ _ refl e.0)
 
 -- a square made empty
 pub removed-within : (m : Material) (i : ℕ) → IsWithinTotals m → i < 81 → IsWithinTotals (record m { board = set m.board i None })

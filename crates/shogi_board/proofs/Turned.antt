@@ -14,6 +14,7 @@ use Rattle.shogi_board.specs.declared.kind.Piece.{Piece}
 use Rattle.shogi_board.specs.declared.square.Square.{Square}
 use Rattle.shogi_board.proofs.Pieces.{opponent-twice}
 use Rattle.shogi_board.proofs.Rays.{near-step, near-ray}
+use Rattle.shogi_board.proofs.Sight.{same-sight}
 use Rattle.shogi_board.proofs.Squares.{place-bound}
 
 flip : (x y u v n f g : ℕ) → f + g ≡ 4 → x + u ≡ 10 → y + v ≡ 10 → y + n * 2 ≡ x + n * f → v + n * 2 ≡ u + n * g
@@ -96,14 +97,6 @@ at-twice cells s whole =
     let back : IsTurned other.0 s = (omega (arith, q.0), omega (arith, q.1)) in
     at-turned (turned cells) other.0 s long back ∙ (ap turned_cell (at-turned cells s other.0 whole q) ∙ turned-turned (at cells s))
 
-same-sight : (cells others : Cells) (a b : Square) (d : Direction) → ((s : Square) → at others s ≡ at cells s) → InSight cells a d b → InSight others a d b
-same-sight cells others a b d same sight = record {
-  distance = sight.distance;
-  some = sight.some;
-  away = sight.away;
-  clear = λ k s low high away. same s ∙ sight.clear k s low high away;
-}
-
 same-reach : (cells others : Cells) (a b : Square) → ((s : Square) → at others s ≡ at cells s) → Reach cells a b → Reach others a b
 same-reach cells others a b same reach = record {
   mover = reach.mover;
@@ -111,7 +104,7 @@ same-reach cells others a b same reach = record {
   moves = elim reach.moves [
     | inl step ↦ inl step
     | inr slide ↦
-        inr (slide.0, slide.1, slide.2, slide.3, same-sight cells others a b (turned_for reach.mover.color slide.1) same slide.4)
+        inr (slide.0, slide.1, slide.2, slide.3, same-sight cells others a b (turned_for reach.mover.color slide.1) (λ s empty. same s ∙ empty) slide.4)
   ];
 }
 

@@ -1,6 +1,5 @@
 pub mod After
 pub mod Attackers
-pub mod Between
 pub mod Cells
 pub mod Contents
 pub mod Danger

@@ -1,4 +1,4 @@
-ghost use Rattle.std.specs.Prelude.{◌≡◌, ◌≤◌, ◌↔◌, IsTrue, MatchOption, IfNone, Some, ◌⊎◌};
+ghost use Rattle.std.specs.Prelude.{◌≡◌, ◌≤◌, ◌↔◌, IsTrue, MatchOption, Some, ◌⊎◌};
 ghost use Rattle.shogi_board.specs.Cells.{at, piece, HasPawnOnFile};
 ghost use Rattle.shogi_board.specs.declared.kind.Kind.{Kind};
 ghost use Rattle.shogi_board.specs.declared.kind.Kind.TheVariants.{Pawn};
@@ -62,8 +62,9 @@ fn doubles_pawn(position: &Position, to: Square, kind: Kind) -> bool
 // The first of the rules 3 to 9 that the side to move breaks by the move.
 #[inline(always)]
 pub(crate) fn broken_on_board(position: &Position, mv: &Move) -> Option<Rule>
-    ensures first { IsFirstBroken (KeepsRule position.now mv.now) board_rules result }
-    ensures fits { IfNone result (FitsBoard position.now mv.now) }
+    ensures { MatchOption result
+        (FitsBoard position.now mv.now)
+        (λ rule. IsFirstBroken (KeepsRule position.now mv.now) board_rules (Some rule)) }
 {
     match *mv {
         Move::Walk { from, to, kind } => broken_by_walk(position, from, to, kind),
@@ -74,9 +75,10 @@ pub(crate) fn broken_on_board(position: &Position, mv: &Move) -> Option<Rule>
 // As `broken_on_board`, for a walk.
 #[inline(always)]
 fn broken_by_walk(position: &Position, from: Square, to: Square, kind: Kind) -> Option<Rule>
-    ensures first { IsFirstBroken
-        (KeepsRule position.now (Move.Walk from to kind)) board_rules result }
-    ensures fits { IfNone result (FitsBoard position.now (Move.Walk from to kind)) }
+    ensures { MatchOption result
+        (FitsBoard position.now (Move.Walk from to kind))
+        (λ rule. IsFirstBroken
+        (KeepsRule position.now (Move.Walk from to kind)) board_rules (Some rule)) }
 {
     let side = position.side();
     let Some(was) = own_kind_at(position, from) else {
@@ -107,8 +109,10 @@ fn broken_by_walk(position: &Position, from: Square, to: Square, kind: Kind) -> 
 
 // As `broken_on_board`, for a drop.
 fn broken_by_drop(position: &Position, to: Square, kind: Kind) -> Option<Rule>
-    ensures first { IsFirstBroken (KeepsRule position.now (Move.Put to kind)) board_rules result }
-    ensures fits { IfNone result (FitsBoard position.now (Move.Put to kind)) }
+    ensures { MatchOption result
+        (FitsBoard position.now (Move.Put to kind))
+        (λ rule. IsFirstBroken
+        (KeepsRule position.now (Move.Put to kind)) board_rules (Some rule)) }
 {
     let side = position.side();
     if position.hand(side).count(kind) == 0 {

@@ -20,6 +20,7 @@ use crate::square::Square;
 // may be attacked from after the move.
 #[inline(always)]
 pub(crate) fn make(position: &mut Position, danger: Danger, mv: &Move) -> bool
+    requires sound { IsSound position.old }
     requires fits { FitsBoard position.old mv.now }
     requires danger { (s : Square)
         → at (board_after position.old mv.now) s ≡ piece position.old.side King
@@ -28,7 +29,6 @@ pub(crate) fn make(position: &mut Position, danger: Danger, mv: &Move) -> bool
     ensures value { result ≡ true → position.new ≡ after position.old mv.now }
     ensures unchanged { result ≡ false → position.new ≡ position.old }
 {
-    position.soundness();
     match *mv {
         Move::Walk { from, to, kind } => position.walk(from, to, kind, danger),
         Move::Put { to, kind } => position.drop_piece(to, kind, danger),

@@ -126,15 +126,6 @@ impl Position {
         }
     }
 
-    // Does nothing: its clause says that the position is sound, for callers that read no field.
-    #[inline(always)]
-    pub(crate) fn soundness(&self)
-        ensures { IsSound self.now }
-    {
-        // what holds of each position is known once one of its fields is read
-        let _side = self.side;
-    }
-
     /// The side to move.
     pub fn side(&self) -> Color
         ensures value { result ≡ self.now.side }

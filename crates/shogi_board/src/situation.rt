@@ -34,12 +34,14 @@ impl Model for Situation {
     ghost use Rattle.std.specs.Prelude.{MatchOption};
     ghost use Rattle.shogi_board.specs.Placed.{Placed};
     ghost use Rattle.shogi_board.specs.Reach.{Checks, InCheck};
+    ghost use Rattle.shogi_board.specs.Sound.{IsSound};
 
     ghost Value = { Placed };
 
     ghost view = { λ s. s.position };
 
-    ghost invariant = { λ s. MatchOption s.checker
+    ghost invariant = { λ s. IsSound s.position
+        × MatchOption s.checker
         (InCheck s.position.material.board s.position.side → ⊥)
         (Checks s.position.material.board s.position.side) };
 }
@@ -101,11 +103,13 @@ impl Situation {
     pub fn keeps(&self, mv: &Move) -> bool
         ensures answer { IsTrue result ↔ Keeps self.now mv.now }
     {
-        if broken_on_board(&self.position, mv).is_some() {
-            return false;
+        match broken_on_board(&self.position, mv) {
+            Some(_) => false,
+            None => {
+                let mut next = self.position;
+                make(&mut next, self.danger_after(mv), mv)
+            }
         }
-        let mut next = self.position;
-        make(&mut next, self.danger_after(mv), mv)
     }
 
     // Where the mover's king may be attacked from after the move. If it was not attacked before,
@@ -115,7 +119,6 @@ impl Situation {
         ensures { (s : Square) → at (board_after self.now mv.now) s ≡ piece self.now.side King
             → ComesFrom (board_after self.now mv.now) self.now.side s result }
     {
-        self.position.soundness();
         if self.checker.is_some() || mv.kind() == Kind::King {
             return Danger::Anywhere;
         }

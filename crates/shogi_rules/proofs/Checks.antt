@@ -3,7 +3,6 @@ use Rattle.std.proofs.Common.{◌≡◌, ◌≢◌, ℕ, ◌↔◌, IsTrue, Bool
 use Rattle.std.specs.Prelude.{MatchOption}
 use Rattle.std.proofs.lemmas.Bool.{cases_eq}
 use Rattle.std.proofs.lemmas.Option.{same_Some}
-use Rattle.shogi_board.specs.Between.{Between}
 use Rattle.shogi_board.specs.Cells.{Cells, at, piece}
 use Rattle.shogi_board.specs.Moves.{turned_for}
 use Rattle.shogi_board.specs.Pieces.{opponent, promoted}
@@ -21,7 +20,7 @@ use Rattle.shogi_board.proofs.Goes.{goes-moves, moves-goes}
 use Rattle.shogi_board.proofs.Rays.{ray-at}
 use Rattle.shogi_board.proofs.Squares.{place-same}
 use Rattle.shogi_board.specs.After.{after, board_after}
-use Rattle.shogi_rules.specs.Evasions.{MovesFrom, StopsCheck}
+use Rattle.shogi_rules.specs.Evasions.{Between, MovesFrom, StopsCheck}
 use Rattle.shogi_board.specs.Legal.{FitsBoard, Keeps, Mated, target}
 use Rattle.shogi_board.specs.declared.moves.Move.{Move}
 use Rattle.shogi_board.specs.declared.moves.Move.TheVariants.{Walk, Put}

@@ -1,9 +1,22 @@
 -- Moves that may end a check.
-use Rattle.std.specs.Prelude.{◌≡◌, ◌⊎◌}
-use Rattle.shogi_board.specs.Between.{Between}
+use Rattle.std.specs.Prelude.{◌≡◌, ◌⊎◌, ℕ, ◌<◌, ◌≤◌}
+use Rattle.shogi_board.specs.Moves.{IsRay}
+use Rattle.shogi_board.specs.Squares.{Direction, IsAway}
 use Rattle.shogi_board.specs.declared.square.Square.{Square}
 use Rattle.shogi_board.specs.declared.moves.Move.{Move}
 use Rattle.shogi_board.specs.declared.moves.Move.TheVariants.{Walk, Put}
+
+-- c lies strictly between a and b on a rank, file or diagonal: in one direction from a, and nearer
+-- than b
+pub record Between (a b c : Square) : Type 0 where
+  pub direction : Direction
+  pub ray : IsRay direction
+  pub near : ℕ
+  pub far : ℕ
+  pub some : 1 ≤ near
+  pub nearer : near < far
+  pub on : IsAway a direction near c
+  pub ends : IsAway a direction far b
 
 -- a move to the square captures the checking piece, or puts a piece between it and the king
 abbrev pub StopsCheck : Square → Square → Square → Type 0

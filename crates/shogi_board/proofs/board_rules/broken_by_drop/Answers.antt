@@ -6,8 +6,8 @@ use Rattle.shogi_board.specs.Kinds.{last_rank, rank_for}
 use Rattle.shogi_board.proofs.Tests.{fails, nothing}
 use Rattle.shogi_board.proofs.board_rules.broken_by_drop.Goals as goal
 
-pub returns-then-not-has_further_move-clause-first : goal.returns-then-not-has_further_move-clause-first
-returns-then-not-has_further_move-clause-first c =
+pub returns-then-not-has_further_move : goal.returns-then-not-has_further_move
+returns-then-not-has_further_move c =
     let p = c.args.position.now in
     let some : 0 < c.count.result = grind arith in
     let count : c.count.result ≡ count_in (bag_of p.material p.side) c.args.kind = rw (c.hand.ensures.value, c.side-side.ensures.value) at c.count.ensures.value in
@@ -16,8 +16,5 @@ returns-then-not-has_further_move-clause-first c =
     let none : (last_rank c.args.kind ≤ rank_for p.side c.args.to) → ⊥ = rw c.side-side.ensures.value at (fails c.has_further_move.result c.has_further_move.ensures c.if-not-has_further_move.true) in
     inr (held, inr (tt, inr (free, inr (tt, inr (tt, inl (none, refl))))))
 
-pub returns-then-doubles_pawn-clause-first : goal.returns-then-doubles_pawn-clause-first
-returns-then-doubles_pawn-clause-first c = search rules
-
-pub returns-then-doubles_pawn-clause-fits : goal.returns-then-doubles_pawn-clause-fits
-returns-then-doubles_pawn-clause-fits c = search rules
+pub returns-then-doubles_pawn : goal.returns-then-doubles_pawn
+returns-then-doubles_pawn c = search rules

@@ -14,13 +14,13 @@ use Rattle.shogi_board.proofs.playing.make.Goals as goal
 pub walk-requires-clause-totals : goal.walk-requires-clause-totals
 walk-requires-clause-totals c =
     let fits = subst (λ (m : Move). FitsBoard c.args.position.now m) c.in-Walk.is c.requires.fits in
-    after-within c.args.position.now (Walk c.in-Walk.from c.in-Walk.to c.in-Walk.kind) c.soundness.ensures fits
+    after-within c.args.position.now (Walk c.in-Walk.from c.in-Walk.to c.in-Walk.kind) c.requires.sound fits
 
 pub walk-requires-clause-captured : goal.walk-requires-clause-captured
 walk-requires-clause-captured c = λ x there.
     let p = c.args.position.now in
     let fits = subst (λ (m : Move). FitsBoard p m) c.in-Walk.is c.requires.fits in
-    let start = start-of p c.in-Walk.from c.in-Walk.to c.in-Walk.kind c.soundness.ensures fits in
+    let start = start-of p c.in-Walk.from c.in-Walk.to c.in-Walk.kind c.requires.sound fits in
     captured-held x.kind (no-king-taken p c.in-Walk.from c.in-Walk.to c.in-Walk.kind x start there)
 
 pub walk-requires-clause-danger : goal.walk-requires-clause-danger
@@ -32,7 +32,7 @@ walk-requires-clause-danger c = λ s there.
 pub drop_piece-requires-clause-totals : goal.drop_piece-requires-clause-totals
 drop_piece-requires-clause-totals c =
     let fits = subst (λ (m : Move). FitsBoard c.args.position.now m) c.in-Put.is c.requires.fits in
-    after-within c.args.position.now (Put c.in-Put.to c.in-Put.kind) c.soundness.ensures fits
+    after-within c.args.position.now (Put c.in-Put.to c.in-Put.kind) c.requires.sound fits
 
 pub drop_piece-requires-clause-danger : goal.drop_piece-requires-clause-danger
 drop_piece-requires-clause-danger c = λ s there.

@@ -11,6 +11,7 @@ use Rattle.shogi_board.proofs.Drops.{held-of}
 use Rattle.shogi_board.proofs.Keyed.{dropped-key}
 use Rattle.shogi_board.proofs.Moved.{put-back, black-passed, white-passed}
 use Rattle.shogi_board.proofs.Squares.{place-bound}
+use Rattle.shogi_board.proofs.Tests.{fails}
 use Rattle.shogi_board.proofs.Totals.{own-seven}
 use Rattle.shogi_board.proofs.position.Position.drop_piece.Goals as goal
 use Rattle.shogi_board.proofs.position.Position.drop_piece.Goals.{in-Black, in-White}
@@ -54,11 +55,7 @@ invariant_of-self-2 c =
     let board = set i.board (place c.args.to) (piece i.side c.args.kind) in
     let bag = one_less (bag_of m i.side) c.args.kind in
     let totals : IsWithinTotals (record (with_bag m i.side bag) { board = board }) = rw (← c.self.view_is) at c.requires.totals in
-    let safe : InCheck board i.side → ⊥ = λ check.
-    let asked : InCheck c.put.new.self i.side = rw c.put.ensures check in
-    let yes = c.king_is_attacked.ensures.1 asked in
-    let no = c.if-king_is_attacked.false in
-    cc in
+    let safe : InCheck board i.side → ⊥ = fails c.king_is_attacked.result (rw c.put.ensures at c.king_is_attacked.ensures) c.if-king_is_attacked.false in
     let empty : get_or i.board (place c.args.to) None ≡ None = rw (← c.self.view_is) at c.requires.empty in
     let some = rw (← c.self.view_is) at c.requires.held in
     let left : c.held_key.result ≡ held_key i.side (place_of c.args.kind) = c.held_key.ensures ∙ rw c.place-2.ensures.value refl in
@@ -77,9 +74,5 @@ invariant_of-self-2 c =
 pub returns-clause-answer : goal.returns-clause-answer
 returns-clause-answer c =
     let i = c.self.inside in
-    let safe : InCheck (set i.board (place c.args.to) (piece i.side c.args.kind)) i.side → ⊥ = λ check.
-    let asked : InCheck c.put.new.self i.side = rw c.put.ensures check in
-    let yes = c.king_is_attacked.ensures.1 asked in
-    let no = c.if-king_is_attacked.false in
-    cc in
+    let safe : InCheck (set i.board (place c.args.to) (piece i.side c.args.kind)) i.side → ⊥ = fails c.king_is_attacked.result (rw c.put.ensures at c.king_is_attacked.ensures) c.if-king_is_attacked.false in
     rw (← c.self.view_is) (λ _. safe, λ _. refl)

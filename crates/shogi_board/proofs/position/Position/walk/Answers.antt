@@ -13,6 +13,7 @@ use Rattle.shogi_board.proofs.Keyed.{walked-key}
 use Rattle.shogi_board.proofs.Kings.{fewer-kings}
 use Rattle.shogi_board.proofs.Moved.{put-back, walk-back, black-passed, white-passed}
 use Rattle.shogi_board.proofs.Squares.{place-bound}
+use Rattle.shogi_board.proofs.Tests.{fails}
 use Rattle.shogi_board.proofs.Totals.{count-few, own-seven}
 use Rattle.shogi_board.proofs.position.Position.walk.Goals as goal
 use Rattle.shogi_board.proofs.position.Position.walk.Goals.{in-Black, in-White}
@@ -66,11 +67,7 @@ invariant_of-self-2 c =
     let held : (y : Piece) → captured ≡ Some y → is_hand_kind (unpromoted y.kind) ≡ true = λ y e. c.requires.captured y (rw (← c.self.view_is) (there ∙ e)) in
     let bag = with_captured (bag_of m i.side) captured in
     let totals : IsWithinTotals (record (with_bag m i.side bag) { board = board }) = rw (← c.self.view_is, there) at c.requires.totals in
-    let safe : InCheck board i.side → ⊥ = λ check.
-    let asked : InCheck c.put-2.new.self i.side = rw (c.put-2.ensures, c.put.ensures) check in
-    let yes = c.king_is_attacked.ensures.1 asked in
-    let no = c.if-king_is_attacked.false in
-    cc in
+    let safe : InCheck board i.side → ⊥ = fails c.king_is_attacked.result (rw (c.put-2.ensures, c.put.ensures) at c.king_is_attacked.ensures) c.if-king_is_attacked.false in
     let left : c.cell_key.result ≡ cell_key (place c.args.from) (get_or i.board (place c.args.from) None) = c.cell_key.ensures ∙ rw (c.place-2.ensures.value, c.cell_at-left.ensures) refl in
     let gone : c.cell_key-2.result ≡ cell_key (place c.args.to) captured = c.cell_key-2.ensures ∙ rw c.place-3.ensures.value refl in
     let small : c.cell_key.result < 2 ^ 64 = search rules in
@@ -89,11 +86,7 @@ invariant_of-self-2 c =
 pub returns-clause-answer : goal.returns-clause-answer
 returns-clause-answer c =
     let i = c.self.inside in
-    let safe : InCheck (set (set i.board (place c.args.from) None) (place c.args.to) (piece i.side c.args.kind)) i.side → ⊥ = λ check.
-    let asked : InCheck c.put-2.new.self i.side = rw (c.put-2.ensures, c.put.ensures) check in
-    let yes = c.king_is_attacked.ensures.1 asked in
-    let no = c.if-king_is_attacked.false in
-    cc in
+    let safe : InCheck (set (set i.board (place c.args.from) None) (place c.args.to) (piece i.side c.args.kind)) i.side → ⊥ = fails c.king_is_attacked.result (rw (c.put-2.ensures, c.put.ensures) at c.king_is_attacked.ensures) c.if-king_is_attacked.false in
     rw (← c.self.view_is) (λ _. safe, λ _. refl)
 
 pub add_captured-requires-clause-room : goal.add_captured-requires-clause-room
