@@ -14,3 +14,4 @@ pub mod Places
 pub mod Searched
 pub mod Standing
 pub mod Stretches
+pub mod Towards

@@ -7,5 +7,6 @@ pub mod Positions
 pub mod Repetition
 pub mod Rules
 pub mod Searching
+pub mod Towards
 pub mod Trying
 pub mod Verdicts

@@ -5,7 +5,8 @@ ghost use Rattle.shogi_board.specs.Sound.{IsSound};
 ghost use Rattle.shogi_board.specs.declared.kind.Kind.{Kind};
 ghost use Rattle.shogi_board.specs.declared.kind.Kind.TheVariants.{King};
 ghost use Rattle.shogi_board.specs.declared.square.Square.{Square};
-ghost use Rattle.shogi_rules.specs.Evasions.{StopsCheck};
+ghost use Rattle.shogi_rules.specs.Evasions.{Between, StopsCheck};
+ghost use Rattle.shogi_rules.specs.Towards.{IsNearer, IsStraight};
 ghost use Rattle.shogi_board.specs.Legal.{Keeps, Mated, target};
 ghost use Rattle.shogi_board.specs.declared.moves.Move.{Move};
 
@@ -52,16 +53,59 @@ fn can_evade_to(situation: &Situation, king: Square, checker: Square, to: Square
     if keeps_walk(situation, king, to) {
         return true;
     }
-    may_stop_check(situation, checker, to) && has_kept_move_to(situation, to)
+    may_stop_check(situation, king, checker, to) && has_kept_move_to(situation, to)
 }
 
 // Whether a piece other than the king may end the check by a move to the square: it captures the
-// checking piece, or comes between, and then that piece reaches the square.
-fn may_stop_check(situation: &Situation, checker: Square, to: Square) -> bool
-    ensures { (king : Square) → Attack situation.now.material.board situation.now.side checker king
-        → StopsCheck checker king to → IsTrue result }
+// checking piece, or comes between that and the king.
+fn may_stop_check(situation: &Situation, king: Square, checker: Square, to: Square) -> bool
+    requires check { Attack situation.now.material.board situation.now.side checker king }
+    ensures { StopsCheck checker king to → IsTrue result }
 {
-    to == checker || reaches(situation.as_ref(), checker, to)
+    to == checker || is_between(situation, king, checker, to)
+}
+
+// Whether the square is between the checking piece, which then reaches it, and the king.
+fn is_between(situation: &Situation, king: Square, checker: Square, to: Square) -> bool
+    requires check { Attack situation.now.material.board situation.now.side checker king }
+    ensures { Between checker king to → IsTrue result }
+{
+    if !lies_towards(checker, king, to) {
+        return false;
+    }
+    reaches(situation.as_ref(), checker, to)
+}
+
+// Whether the square is on a line from the one square, and nearer than the other.
+fn lies_towards(from: Square, end: Square, square: Square) -> bool
+    ensures { Between from end square → IsTrue result }
+{
+    if !is_nearer(from.file(), end.file(), square.file()) {
+        return false;
+    }
+    if !is_nearer(from.rank(), end.rank(), square.rank()) {
+        return false;
+    }
+    let files = from.file().abs_diff(square.file());
+    let ranks = from.rank().abs_diff(square.rank());
+    is_straight(files, ranks)
+}
+
+// Whether so many files and ranks away is on the file, the rank or a diagonal.
+fn is_straight(files: u8, ranks: u8) -> bool
+    ensures { IsTrue result ↔ IsStraight files ranks }
+{
+    files == 0 || ranks == 0 || files == ranks
+}
+
+// Whether the number is one of those from the first to the last, but not the last, unless that is
+// the first too.
+fn is_nearer(first: u8, last: u8, number: u8) -> bool
+    ensures { IsTrue result ↔ IsNearer first last number }
+{
+    (first <= number && number < last)
+        || (last < number && number <= first)
+        || (first == number && number == last)
 }
 
 fn has_kept_move_to(situation: &Situation, to: Square) -> bool
