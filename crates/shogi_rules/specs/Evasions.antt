@@ -18,6 +18,10 @@ pub record Between (a b c : Square) : Type 0 where
   pub on : IsAway a direction near c
   pub ends : IsAway a direction far b
 
+-- for private functions: a number from one of two numbers to the other
+abbrev pub IsWithin : ℕ → ℕ → ℕ → Type 0
+IsWithin n a b = ((a ≤ n) × (n ≤ b)) ⊎ ((b ≤ n) × (n ≤ a))
+
 -- a move to the square captures the checking piece, or puts a piece between it and the king
 abbrev pub StopsCheck : Square → Square → Square → Type 0
 StopsCheck checker king to = (to ≡ checker) ⊎ Between checker king to

@@ -5,7 +5,7 @@ ghost use Rattle.shogi_board.specs.Sound.{IsSound};
 ghost use Rattle.shogi_board.specs.declared.kind.Kind.{Kind};
 ghost use Rattle.shogi_board.specs.declared.kind.Kind.TheVariants.{King};
 ghost use Rattle.shogi_board.specs.declared.square.Square.{Square};
-ghost use Rattle.shogi_rules.specs.Evasions.{StopsCheck};
+ghost use Rattle.shogi_rules.specs.Evasions.{Between, IsWithin, StopsCheck};
 ghost use Rattle.shogi_board.specs.Legal.{Keeps, Mated, target};
 ghost use Rattle.shogi_board.specs.declared.moves.Move.{Move};
 
@@ -52,16 +52,29 @@ fn can_evade_to(situation: &Situation, king: Square, checker: Square, to: Square
     if keeps_walk(situation, king, to) {
         return true;
     }
-    may_stop_check(situation, checker, to) && has_kept_move_to(situation, to)
+    may_stop_check(situation, checker, king, to) && has_kept_move_to(situation, to)
 }
 
 // Whether a piece other than the king may end the check by a move to the square: it captures the
 // checking piece, or comes between, and then that piece reaches the square.
-fn may_stop_check(situation: &Situation, checker: Square, to: Square) -> bool
-    ensures { (king : Square) → Attack situation.now.material.board situation.now.side checker king
-        → StopsCheck checker king to → IsTrue result }
+fn may_stop_check(situation: &Situation, checker: Square, king: Square, to: Square) -> bool
+    requires { Attack situation.now.material.board situation.now.side checker king }
+    ensures { StopsCheck checker king to → IsTrue result }
 {
-    to == checker || reaches(situation.as_ref(), checker, to)
+    to == checker || is_on_way(checker, king, to) && reaches(situation.as_ref(), checker, to)
+}
+
+// Whether the square lies within the files and ranks of the two others.
+fn is_on_way(a: Square, b: Square, square: Square) -> bool
+    ensures { Between a b square → IsTrue result }
+{
+    is_within(square.file(), a.file(), b.file()) && is_within(square.rank(), a.rank(), b.rank())
+}
+
+fn is_within(n: u8, a: u8, b: u8) -> bool
+    ensures { IsWithin n a b → IsTrue result }
+{
+    a <= n && n <= b || b <= n && n <= a
 }
 
 fn has_kept_move_to(situation: &Situation, to: Square) -> bool

@@ -18,6 +18,6 @@ returns-else-may_stop_check c = (
   λ h. cc,
   λ m.
       let stays = fails c.keeps_walk.result c.keeps_walk.ensures c.if-keeps_walk.false in
-      let passes : StopsCheck c.args.checker c.args.king c.args.to → ⊥ = λ stop. let yes = c.may_stop_check.ensures c.args.king c.requires.check stop in let no = c.if-may_stop_check.false in cc in
+      let passes : StopsCheck c.args.checker c.args.king c.args.to → ⊥ = λ stop. let yes = c.may_stop_check.ensures stop in let no = c.if-may_stop_check.false in cc in
       absurd (stops-there c.args.situation.now c.args.checker c.args.king c.args.to m.0 c.requires.sound c.requires.king c.requires.check stays m.1 m.2 passes),
 )
