@@ -77,13 +77,10 @@ pub(crate) fn verdict_by_moves(situation: &Situation) -> Verdict
     }
     match first_move(situation) {
         Some(_) => Verdict::Ongoing,
-        None => {
-            // in check only a pawn drop would help, and it is not legal, since it mates
-            if situation.checker().is_some() {
-                Verdict::Mate
-            } else {
-                Verdict::NoMove
-            }
-        }
+        None => match situation.checker() {
+            // only a pawn drop would help, and it is not legal, since it mates
+            Some(_) => Verdict::Mate,
+            None => Verdict::NoMove,
+        },
     }
 }

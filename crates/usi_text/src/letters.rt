@@ -84,11 +84,7 @@ pub(crate) fn held_kind(byte: u8) -> Option<Kind>
         (λ kind. (is_hand_kind kind ≡ true) × (letter kind ≡ byte)) }
 {
     let kind = kind_of_letter(byte)?;
-    if kind == Kind::King {
-        None
-    } else {
-        Some(kind)
-    }
+    if kind == Kind::King { None } else { Some(kind) }
 }
 
 // The unpromoted piece with this letter: a capital for black, a small letter for white.
