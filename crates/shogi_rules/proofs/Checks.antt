@@ -1,5 +1,5 @@
 -- A move that neither moves the king nor stops the check leaves the king in check.
-use Rattle.std.proofs.Common.{◌≡◌, ◌≢◌, ℕ, ◌↔◌, IsTrue, Bool, true, false, not, Option, Some, None, ◌⊎◌, inl, inr, arith, set, get_or, refl, ap, sym, ◌∙◌, subst, get_or-set_same, get_or-set_other}
+use Rattle.std.proofs.Common.{◌≡◌, ◌≢◌, ℕ, ◌+◌, ◌*◌, ◌<◌, ◌≤◌, ◌↔◌, IsTrue, Bool, true, false, not, Option, Some, None, ◌⊎◌, inl, inr, arith, set, get_or, refl, ap, sym, ◌∙◌, subst, get_or-set_same, get_or-set_other}
 use Rattle.std.specs.Prelude.{MatchOption}
 use Rattle.std.proofs.lemmas.Bool.{cases_eq}
 use Rattle.std.proofs.lemmas.Option.{same_Some}
@@ -16,11 +16,13 @@ use Rattle.shogi_board.specs.declared.kind.Kind.TheVariants.{King}
 use Rattle.shogi_board.specs.declared.kind.Piece.{Piece}
 use Rattle.shogi_board.specs.declared.square.Square.{Square}
 use Rattle.shogi_board.proofs.AfterMove.{not-none, not-opponent}
+use Rattle.shogi_board.proofs.Between.{three}
 use Rattle.shogi_board.proofs.Goes.{goes-moves, moves-goes}
 use Rattle.shogi_board.proofs.Rays.{ray-at}
 use Rattle.shogi_board.proofs.Squares.{place-same}
 use Rattle.shogi_board.specs.After.{after, board_after}
 use Rattle.shogi_rules.specs.Evasions.{Between, MovesFrom, StopsCheck}
+use Rattle.shogi_rules.specs.Trying.{IsOnWay}
 use Rattle.shogi_board.specs.Legal.{FitsBoard, Keeps, Mated, target}
 use Rattle.shogi_board.specs.declared.moves.Move.{Move}
 use Rattle.shogi_board.specs.declared.moves.Move.TheVariants.{Walk, Put}
@@ -163,6 +165,20 @@ walk-of p s (Put to k) e kept = absurd e
 pub by-target : (p : Placed) (to : Square) (m : Move) → target m ≡ to → Keeps p m → ((from : Square) × (k : Kind) × Keeps p (Walk from to k)) ⊎ ((k : Kind) × Keeps p (Put to k))
 by-target p to (Walk from t k) e kept = inl (from, k, subst (λ (u : Square). Keeps p (Walk from u k)) e kept)
 by-target p to (Put t k) e kept = inr (k, subst (λ (u : Square). Keeps p (Put u k)) e kept)
+
+-- the file, or the rank, of a square between two others
+on-way : (a b c near far step : ℕ) → 1 ≤ step → step ≤ 3 → 1 ≤ near → near < far → c + near * 2 ≡ a + near * step → b + far * 2 ≡ a + far * step → IsOnWay a b c
+on-way a b c near far step low high some nearer =
+    three (λ g. c + near * 2 ≡ a + near * g → b + far * 2 ≡ a + far * g → IsOnWay a b c)
+    (λ e h. inr (inl (omega (arith, e, h, nearer), omega (arith, e, some))))
+    (λ e h. inr (inr (omega (arith, e), omega (arith, e, h))))
+    (λ e h. inl (omega (arith, e, some), omega (arith, e, h, nearer))) step low high
+
+pub file-on-way : (a b c : Square) → Between a b c → IsOnWay a.file b.file c.file
+file-on-way a b c w = on-way a.file b.file c.file w.near w.far w.direction.files w.ray.0 w.ray.1 w.some w.nearer w.on.0 w.ends.0
+
+pub rank-on-way : (a b c : Square) → Between a b c → IsOnWay a.rank b.rank c.rank
+rank-on-way a b c w = on-way a.rank b.rank c.rank w.near w.far w.direction.ranks w.ray.2 w.ray.3 w.some w.nearer w.on.1 w.ends.1
 
 -- a piece that attacks a square reaches each square between
 pub reaches-between : (cells : Cells) (color : Color) (a s t : Square) → Attack cells color a s → Between a s t → Reach cells a t

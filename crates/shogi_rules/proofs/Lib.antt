@@ -14,4 +14,3 @@ pub mod Places
 pub mod Searched
 pub mod Standing
 pub mod Stretches
-pub mod Towards

@@ -7,6 +7,5 @@ pub mod Positions
 pub mod Repetition
 pub mod Rules
 pub mod Searching
-pub mod Towards
 pub mod Trying
 pub mod Verdicts

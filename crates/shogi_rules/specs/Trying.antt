@@ -1,6 +1,6 @@
--- For private functions: the first legal move among some moves.
+-- For private functions: the first legal move among some moves, and squares that may end a check.
 -- A reader of the public contracts may skip this file.
-use Rattle.std.specs.Prelude.{◌≡◌}
+use Rattle.std.specs.Prelude.{◌≡◌, ◌⊎◌, ◌<◌, ℕ}
 use Rattle.shogi_board.specs.Placed.{Placed}
 use Rattle.shogi_board.specs.declared.kind.Kind.{Kind}
 use Rattle.shogi_board.specs.declared.square.Square.{Square}
@@ -35,3 +35,8 @@ pub record IsFirstOf (p : Placed) (Among : Move → Type 0) (m : Move) : Type 0 
 -- none among them is legal
 abbrev pub NoneOf : Placed → (Move → Type 0) → Type 0
 NoneOf p Among = (m : Move) → Among m → Legal p m → ⊥
+
+-- a number strictly between the first and the last, or all three are the same
+abbrev pub IsOnWay : ℕ → ℕ → ℕ → Type 0
+IsOnWay first last n = ((first < n) × (n < last))
+    ⊎ (((last < n) × (n < first)) ⊎ ((first ≡ n) × (n ≡ last)))

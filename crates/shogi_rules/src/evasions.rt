@@ -6,7 +6,7 @@ ghost use Rattle.shogi_board.specs.declared.kind.Kind.{Kind};
 ghost use Rattle.shogi_board.specs.declared.kind.Kind.TheVariants.{King};
 ghost use Rattle.shogi_board.specs.declared.square.Square.{Square};
 ghost use Rattle.shogi_rules.specs.Evasions.{Between, StopsCheck};
-ghost use Rattle.shogi_rules.specs.Towards.{IsNearer, IsStraight};
+ghost use Rattle.shogi_rules.specs.Trying.{IsOnWay};
 ghost use Rattle.shogi_board.specs.Legal.{Keeps, Mated, target};
 ghost use Rattle.shogi_board.specs.declared.moves.Move.{Move};
 
@@ -76,35 +76,22 @@ fn is_between(situation: &Situation, king: Square, checker: Square, to: Square) 
     reaches(situation.as_ref(), checker, to)
 }
 
-// Whether the square is on a line from the one square, and nearer than the other.
+// Whether the square lies towards the other in both its file and its rank, and nearer.
 fn lies_towards(from: Square, end: Square, square: Square) -> bool
     ensures { Between from end square → IsTrue result }
 {
-    if !is_nearer(from.file(), end.file(), square.file()) {
+    if !is_on_way(from.file(), end.file(), square.file()) {
         return false;
     }
-    if !is_nearer(from.rank(), end.rank(), square.rank()) {
-        return false;
-    }
-    let files = from.file().abs_diff(square.file());
-    let ranks = from.rank().abs_diff(square.rank());
-    is_straight(files, ranks)
+    is_on_way(from.rank(), end.rank(), square.rank())
 }
 
-// Whether so many files and ranks away is on the file, the rank or a diagonal.
-fn is_straight(files: u8, ranks: u8) -> bool
-    ensures { IsTrue result ↔ IsStraight files ranks }
+// Whether the number is strictly between the first and the last, or all three are the same.
+fn is_on_way(first: u8, last: u8, number: u8) -> bool
+    ensures { IsTrue result ↔ IsOnWay first last number }
 {
-    files == 0 || ranks == 0 || files == ranks
-}
-
-// Whether the number is one of those from the first to the last, but not the last, unless that is
-// the first too.
-fn is_nearer(first: u8, last: u8, number: u8) -> bool
-    ensures { IsTrue result ↔ IsNearer first last number }
-{
-    (first <= number && number < last)
-        || (last < number && number <= first)
+    (first < number && number < last)
+        || (last < number && number < first)
         || (first == number && number == last)
 }
 
