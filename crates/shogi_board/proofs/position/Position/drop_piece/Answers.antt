@@ -83,3 +83,16 @@ returns-clause-answer c =
     let no = c.if-king_is_attacked.false in
     cc in
     rw (← c.self.view_is) (λ _. safe, λ _. refl)
+
+pub returns-clause-value : goal.returns-clause-value
+returns-clause-value c = λ _.
+    elim c.match-side.branch [
+      | in-Black w ↦ rw (← c.self.view_is, w.self-inside-is, c.opponent-self-inside.ensures.value, w.take_one.ensures, c.put.ensures, w.in-Black.is) refl
+      | in-White w ↦ rw (← c.self.view_is, w.self-inside-is, c.opponent-self-inside.ensures.value, w.take_one-in-White.ensures, c.put.ensures, w.in-White.is) refl
+    ]
+
+pub take_one-requires-clause-kind : goal.take_one-requires-clause-kind
+take_one-requires-clause-kind c = (held-of _ c.args.kind c.requires.held).0
+
+pub take_one-requires-in-White-clause-kind : goal.take_one-requires-in-White-clause-kind
+take_one-requires-in-White-clause-kind c = (held-of _ c.args.kind c.requires.held).0
