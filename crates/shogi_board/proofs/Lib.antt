@@ -12,7 +12,7 @@ pub mod Forms
 pub mod Goes
 pub mod Kept
 pub mod Keyed
-pub mod Kings
+pub mod Marks
 pub mod Moved
 pub mod OneOf
 pub mod Opened

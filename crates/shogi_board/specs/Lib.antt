@@ -7,7 +7,7 @@ pub mod Directions
 pub mod Keys
 pub mod KeySteps
 pub mod Kinds
-pub mod Kings
+pub mod Landmarks
 pub mod Layout
 pub mod Legal
 pub mod MoveSquares

@@ -3,7 +3,7 @@ ghost use Rattle.shogi_board.specs.Cells.{at, piece, even_cells, no_cells, HasPa
 ghost use Rattle.shogi_board.specs.Danger.{ComesFrom, SeenTowards};
 ghost use Rattle.shogi_board.specs.Attackers.{AttackInSight, IsAttackedByJump, IsAttackedInLine, KnightAcross};
 ghost use Rattle.shogi_board.specs.Keys.{cells_key};
-ghost use Rattle.shogi_board.specs.Kings.{IsKingOf};
+ghost use Rattle.shogi_board.specs.Landmarks.{HasLandmarks, IsKingOf};
 ghost use Rattle.shogi_board.specs.Moves.{steps, turned_for, IsRay};
 ghost use Rattle.shogi_board.specs.Directions.{Goes};
 ghost use Rattle.shogi_board.specs.Pieces.{opponent};
@@ -11,7 +11,7 @@ ghost use Rattle.shogi_board.specs.Reach.{Reach, Attack, Attacked, Checks, InChe
 ghost use Rattle.shogi_board.specs.Setup.{holds};
 ghost use Rattle.shogi_board.specs.Squares.{place, IsAway};
 ghost use Rattle.shogi_board.specs.Totals.{board_counts, is_of, kings_of};
-ghost use Rattle.shogi_board.specs.declared.kind.Kind.TheVariants.{King, Knight, Pawn};
+ghost use Rattle.shogi_board.specs.declared.kind.Kind.TheVariants.{King, Knight};
 ghost use Rattle.shogi_board.specs.declared.square.Square.{Square};
 
 use crate::cell::Cell;
@@ -24,25 +24,26 @@ use crate::direction::{
 use crate::even::even_cells;
 use crate::keys::cell_key;
 use crate::kind::{Kind, Piece};
-use crate::king_squares::keep_kings;
+use crate::landmarks::{Landmarks, keep_landmarks};
 use crate::square::Square;
 use std::marker::Model;
 
-// What is on the squares, and where the kings are. Each side has one king at most.
+// What is on the squares, and beside that each side's landmarks: where its king is, and which files
+// have an unpromoted pawn of it. Each side has one king at most.
 #[derive(Clone, Copy, Debug)]
 #[derive_where(PartialEq, Eq, PartialOrd, Ord)]
 pub struct Board {
     // in the order of the squares
     cells: [Cell; 81],
     #[derive_where(skip(EqHashOrd))]
-    black_king: Option<Square>,
+    black: Landmarks,
     #[derive_where(skip(EqHashOrd))]
-    white_king: Option<Square>,
+    white: Landmarks,
 }
 
 impl Model for Board {
     ghost use Rattle.std.specs.Prelude.{List, Option};
-    ghost use Rattle.shogi_board.specs.Kings.{king_from, HasKings};
+    ghost use Rattle.shogi_board.specs.Landmarks.{landmarks_of, HasLandmarks};
     ghost use Rattle.shogi_board.specs.declared.color.Color.TheVariants.{Black, White};
     ghost use Rattle.shogi_board.specs.declared.kind.Piece.{Piece};
 
@@ -50,18 +51,18 @@ impl Model for Board {
 
     ghost view = { λ b. b.cells };
 
-    ghost invariant = { λ b. HasKings b.cells b.black_king b.white_king };
+    ghost invariant = { λ b. HasLandmarks b.cells Black b.black × HasLandmarks b.cells White b.white };
 
     ghost inverse = { λ d. record {
       cells = d;
-      black_king = king_from Black 0 d;
-      white_king = king_from White 0 d;
+      black = landmarks_of Black d;
+      white = landmarks_of White d;
     } };
 
     ghost inverse_ok = { λ b h i. record {
       cells = b.cells;
-      black_king = h.black_king i;
-      white_king = h.white_king i;
+      black = h.0.same i;
+      white = h.1.same i;
     } };
 }
 
@@ -69,10 +70,14 @@ impl Board {
     pub(crate) fn empty() -> Board
         ensures { result ≡ no_cells }
     {
+        let none = Landmarks {
+            king: None,
+            pawn_files: [false; 9],
+        };
         Board {
             cells: [Cell::of(None); 81],
-            black_king: None,
-            white_king: None,
+            black: none,
+            white: none,
         }
     }
 
@@ -81,8 +86,14 @@ impl Board {
     {
         Board {
             cells: even_cells(),
-            black_king: Some(Square::at_place(44)),
-            white_king: Some(Square::at_place(36)),
+            black: Landmarks {
+                king: Some(Square::at_place(44)),
+                pawn_files: [true; 9],
+            },
+            white: Landmarks {
+                king: Some(Square::at_place(36)),
+                pawn_files: [true; 9],
+            },
         }
     }
 
@@ -139,14 +150,8 @@ impl Board {
         let was = self.cell_at(square);
         let cell = Cell::of(cell);
         self.cells[square.place()] = cell;
-        if was.is_king() || cell.is_king() {
-            keep_kings(
-                &mut self.black_king,
-                &mut self.white_king,
-                square,
-                was,
-                cell,
-            );
+        if was.is_landmark() || cell.is_landmark() {
+            keep_landmarks(&mut self.black, &mut self.white, &self.cells, square, was);
         }
     }
 
@@ -198,9 +203,16 @@ impl Board {
         ensures one { kings_of self.now color ≤ 1 }
         ensures whole { length self.now ≡ 81 }
     {
+        self.landmarks(color).king
+    }
+
+    #[inline(always)]
+    fn landmarks(&self, color: Color) -> Landmarks
+        ensures { HasLandmarks self.now color result }
+    {
         match color {
-            Color::Black => self.black_king,
-            Color::White => self.white_king,
+            Color::Black => self.black,
+            Color::White => self.white,
         }
     }
 
@@ -208,13 +220,7 @@ impl Board {
     pub(crate) fn has_pawn_on_file(&self, color: Color, square: Square) -> bool
         ensures { IsTrue result ↔ HasPawnOnFile self.now color square }
     {
-        let first = square.place() - (square.rank() as usize - 1);
-        for n in first..first + 9 {
-            if is_pawn_of(self.content(n), color) {
-                return true;
-            }
-        }
-        false
+        self.landmarks(color).pawn_files[square.file() as usize - 1]
     }
 
     #[inline(always)]
@@ -446,15 +452,6 @@ fn is_attacker(piece: Piece, color: Color, direction: Direction, distance: u8) -
         × Goes piece.kind (turned_for color direction) distance) }
 {
     piece.color == !color && piece.kind.goes(direction.turned_for(color), distance)
-}
-
-fn is_pawn_of(cell: Option<Piece>, color: Color) -> bool
-    ensures { IsTrue result ↔ (cell ≡ piece color Pawn) }
-{
-    match cell {
-        Some(piece) => piece.color == color && piece.kind == Kind::Pawn,
-        None => false,
-    }
 }
 
 fn is_of(cell: Option<Piece>, kind: Kind) -> bool

@@ -2,8 +2,9 @@ ghost use Rattle.std.specs.Prelude.{◌≡◌, ◌<◌, ◌↔◌, IsTrue, None,
 ghost use Rattle.shogi_board.specs.Cells.{piece};
 ghost use Rattle.shogi_board.specs.Contents.{black_code, white_code};
 ghost use Rattle.shogi_board.specs.Keys.{cell_number};
-ghost use Rattle.shogi_board.specs.Totals.{is_king_of};
+ghost use Rattle.shogi_board.specs.Same.{same_cell};
 ghost use Rattle.shogi_board.specs.declared.color.Color.{Color};
+ghost use Rattle.shogi_board.specs.declared.kind.Kind.TheVariants.{King, Pawn};
 
 use crate::color::Color;
 use crate::kind::{Kind, Piece};
@@ -110,16 +111,22 @@ impl Cell {
     // Whether it holds that piece.
     #[inline(always)]
     pub(crate) fn is(self, color: Color, kind: Kind) -> bool
-        ensures { IsTrue result ↔ (self ≡ piece color kind) }
+        ensures holds { IsTrue result ↔ (self ≡ piece color kind) }
+        ensures same { result ≡ same_cell self (piece color kind) }
     {
         self == Cell::of(Some(Piece { color, kind }))
     }
 
+    // Whether it is a king or an unpromoted pawn.
     #[inline(always)]
-    pub(crate) fn is_king(self) -> bool
-        ensures { result ≡ false → (color : Color) → is_king_of color self ≡ false }
+    pub(crate) fn is_landmark(self) -> bool
+        ensures { result ≡ false → (color : Color)
+            → (self ≡ piece color King → ⊥) × (self ≡ piece color Pawn → ⊥) }
     {
-        matches!(self.code, Code::BlackKing | Code::WhiteKing)
+        matches!(
+            self.code,
+            Code::BlackKing | Code::WhiteKing | Code::BlackPawn | Code::WhitePawn
+        )
     }
 
     // The piece on the square, if there is one.

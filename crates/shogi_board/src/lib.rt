@@ -25,7 +25,7 @@ mod hand;
 mod keys;
 mod kind;
 mod kinds;
-mod king_squares;
+mod landmarks;
 pub mod laws;
 mod memory;
 mod moves;

@@ -11,5 +11,5 @@ pub returns-then-is : goal.returns-then-is
 returns-then-is c =
     let a = c.in_ok-from.from in
     let away : IsAway c.args.square (turned_for c.args.color c.args.direction) 1 a = rw c.turned_for.ensures at (c.in_ok-from.ensures {u = tt}) in
-    let knight = rw (c.cell_at.ensures, c.not.ensures) at ((c.if-is.ensures {u = tt}).0 refl) in
+    let knight = rw (c.cell_at.ensures, c.not.ensures) at ((c.if-is.ensures {u = tt}).holds.0 refl) in
     knight-attacks c.args.self.now c.args.color a c.args.square c.args.direction c.requires away knight

@@ -1,5 +1,5 @@
 use Rattle.std.proofs.Common.{◌∙◌}
-use Rattle.shogi_board.proofs.Kings.{king-counted}
+use Rattle.shogi_board.proofs.Marks.{king-counted}
 use Rattle.shogi_board.proofs.board.Board.has_king.Goals as goal
 
 pub returns : goal.returns

@@ -76,3 +76,16 @@ returns-clause-answer c =
     let i = c.self.inside in
     let safe : InCheck (set i.board (place c.args.to) (piece i.side c.args.kind)) i.side → ⊥ = fails c.king_is_attacked.result (rw c.put.ensures at c.king_is_attacked.ensures) c.if-king_is_attacked.false in
     rw (← c.self.view_is) (λ _. safe, λ _. refl)
+
+pub returns-clause-value : goal.returns-clause-value
+returns-clause-value c = λ _.
+    elim c.match-side.branch [
+      | in-Black w ↦ rw (← c.self.view_is, w.self-inside-is, c.opponent-self-inside.ensures.value, w.take_one.ensures, c.put.ensures, w.in-Black.is) refl
+      | in-White w ↦ rw (← c.self.view_is, w.self-inside-is, c.opponent-self-inside.ensures.value, w.take_one-in-White.ensures, c.put.ensures, w.in-White.is) refl
+    ]
+
+pub take_one-requires-clause-kind : goal.take_one-requires-clause-kind
+take_one-requires-clause-kind c = (held-of _ c.args.kind c.requires.held).0
+
+pub take_one-requires-in-White-clause-kind : goal.take_one-requires-in-White-clause-kind
+take_one-requires-in-White-clause-kind c = (held-of _ c.args.kind c.requires.held).0

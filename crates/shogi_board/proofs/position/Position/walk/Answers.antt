@@ -10,7 +10,7 @@ use Rattle.shogi_board.specs.Totals.{IsWithinTotals}
 use Rattle.shogi_board.specs.declared.color.Color.TheVariants.{Black, White}
 use Rattle.shogi_board.specs.declared.kind.Piece.{Piece}
 use Rattle.shogi_board.proofs.Keyed.{walked-key}
-use Rattle.shogi_board.proofs.Kings.{fewer-kings}
+use Rattle.shogi_board.proofs.Marks.{fewer-kings}
 use Rattle.shogi_board.proofs.Moved.{put-back, walk-back, black-passed, white-passed}
 use Rattle.shogi_board.proofs.Squares.{place-bound}
 use Rattle.shogi_board.proofs.Tests.{fails}
@@ -102,3 +102,16 @@ add_captured-requires-in-White-clause-room c = λ x there.
     let m : Material = record { board = i.board; black = i.black; white = i.white } in
     let held = c.requires.captured x (rw (← c.self.view_is) (sym c.cell_at-captured.ensures ∙ (sym c.piece-taken.ensures ∙ there))) in
     count-few m White (unpromoted x.kind) c.self.invariant.sound.within held
+
+pub returns-clause-value : goal.returns-clause-value
+returns-clause-value c = λ _.
+    elim c.match-side.branch [
+      | in-Black w ↦ rw (← c.self.view_is, w.self-inside-is, c.opponent-self-inside.ensures.value, w.add_captured.ensures, c.piece-taken.ensures, c.cell_at-captured.ensures, c.put-2.ensures, c.put.ensures, w.in-Black.is) refl
+      | in-White w ↦ rw (← c.self.view_is, w.self-inside-is, c.opponent-self-inside.ensures.value, w.add_captured-in-White.ensures, c.piece-taken.ensures, c.cell_at-captured.ensures, c.put-2.ensures, c.put.ensures, w.in-White.is) refl
+    ]
+
+pub add_captured-requires-clause-kind : goal.add_captured-requires-clause-kind
+add_captured-requires-clause-kind c = λ x there. c.requires.captured x (rw (← c.self.view_is) (sym c.cell_at-captured.ensures ∙ (sym c.piece-taken.ensures ∙ there)))
+
+pub add_captured-requires-in-White-clause-kind : goal.add_captured-requires-in-White-clause-kind
+add_captured-requires-in-White-clause-kind c = λ x there. c.requires.captured x (rw (← c.self.view_is) (sym c.cell_at-captured.ensures ∙ (sym c.piece-taken.ensures ∙ there)))
