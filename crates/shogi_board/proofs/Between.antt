@@ -7,7 +7,7 @@ use Rattle.shogi_board.specs.Squares.{Direction, IsAway}
 use Rattle.shogi_board.specs.declared.square.Square.{Square}
 
 -- where a number stands n steps on
-abbrev Offset : ℕ → ℕ → ℕ → ℕ → Type 0
+abbrev pub Offset : ℕ → ℕ → ℕ → ℕ → Type 0
 Offset x y n f = ((f ≡ 1) × (y + n ≡ x)) ⊎ (((f ≡ 2) × (y ≡ x)) ⊎ ((f ≡ 3) × (y ≡ x + n)))
 
 back-by : (x y n f : ℕ) → f ≡ 1 → y + n * 2 ≡ x + n * f → y + n ≡ x
@@ -19,7 +19,7 @@ level x y n f e h = let g : y + n * 2 ≡ x + n * 2 = rw e at h in omega (arith,
 on-by : (x y n f : ℕ) → f ≡ 3 → y + n * 2 ≡ x + n * f → y ≡ x + n
 on-by x y n f e h = let g : y + n * 2 ≡ x + n * 3 = rw e at h in omega (arith, g)
 
-offset : (x y n f : ℕ) → 1 ≤ f → f ≤ 3 → y + n * 2 ≡ x + n * f → Offset x y n f
+pub offset : (x y n f : ℕ) → 1 ≤ f → f ≤ 3 → y + n * 2 ≡ x + n * f → Offset x y n f
 offset x y n f low high h =
     elim (cases_lt f 2) [
       | inl lt ↦ let e : f ≡ 1 = omega (arith, low, lt) in inl (e, back-by x y n f e h)
@@ -30,39 +30,19 @@ offset x y n f low high h =
     ]
 
 pub step-back : (x y n f : ℕ) → y < x → 1 ≤ f → f ≤ 3 → 1 ≤ n → y + n * 2 ≡ x + n * f → 1 ≡ f
-step-back x y n f less low high some h =
-    elim (offset x y n f low high h) [
-      | inl o ↦ sym o.0
-      | inr o ↦ elim o [ inl p ↦ let e = p.1 in absurd (omega (arith, less, e)) | inr p ↦ let e = p.1 in absurd (omega (arith, less, e)) ]
-    ]
+step-back x y n f less low high some h = let o = offset x y n f low high h in grind (arith, o)
 
 pub step-level : (x y n f : ℕ) → y ≡ x → 1 ≤ f → f ≤ 3 → 1 ≤ n → y + n * 2 ≡ x + n * f → 2 ≡ f
-step-level x y n f same low high some h =
-    elim (offset x y n f low high h) [
-      | inl o ↦ let e = o.1 in absurd (omega (arith, same, some, e))
-      | inr o ↦ elim o [ inl p ↦ sym p.0 | inr p ↦ let e = p.1 in absurd (omega (arith, same, some, e)) ]
-    ]
+step-level x y n f same low high some h = let o = offset x y n f low high h in grind (arith, o)
 
 pub step-on : (x y n f : ℕ) → x < y → 1 ≤ f → f ≤ 3 → 1 ≤ n → y + n * 2 ≡ x + n * f → 3 ≡ f
-step-on x y n f more low high some h =
-    elim (offset x y n f low high h) [
-      | inl o ↦ let e = o.1 in absurd (omega (arith, more, e))
-      | inr o ↦ elim o [ inl p ↦ let e = p.1 in absurd (omega (arith, more, e)) | inr p ↦ sym p.0 ]
-    ]
+step-on x y n f more low high some h = let o = offset x y n f low high h in grind (arith, o)
 
 gap-low : (x y n f g : ℕ) → 1 ≤ f → f ≤ 3 → y + n * 2 ≡ x + n * f → g ≡ x - y + (y - x) → g ≤ n
-gap-low x y n f g low high h is =
-    elim (offset x y n f low high h) [
-      | inl o ↦ let e = o.1 in omega (arith, e, is)
-      | inr o ↦ elim o [ inl p ↦ let e = p.1 in omega (arith, e, is) | inr p ↦ let e = p.1 in omega (arith, e, is) ]
-    ]
+gap-low x y n f g low high h is = let o = offset x y n f low high h in grind (arith, o)
 
 gap-is : (x y n f g : ℕ) → 1 ≤ f → f ≤ 3 → (f ≡ 2 → ⊥) → y + n * 2 ≡ x + n * f → g ≡ x - y + (y - x) → g ≡ n
-gap-is x y n f g low high not h is =
-    elim (offset x y n f low high h) [
-      | inl o ↦ let e = o.1 in omega (arith, e, is)
-      | inr o ↦ elim o [ inl p ↦ absurd (not p.0) | inr p ↦ let e = p.1 in omega (arith, e, is) ]
-    ]
+gap-is x y n f g low high not h is = let o = offset x y n f low high h in grind (arith, o)
 
 -- one of the two gaps is the distance, and neither is more
 pub record Apart (g h n : ℕ) : Type 0 where
@@ -187,24 +167,10 @@ as-far a b g h line i j files ranks =
 
 -- no knight's jump leads along a line
 one-gap : (x y n f : ℕ) → Offset x y n f → (y + 1 ≡ x) ⊎ (y ≡ x + 1) → n ≡ 1
-one-gap x y n f o g =
-    elim o [
-      | inl p ↦ let e = p.1 in elim g [ inl h ↦ omega (arith, e, h) | inr h ↦ absurd (omega (arith, e, h)) ]
-      | inr q ↦ elim q [
-        | inl p ↦ let e = p.1 in elim g [ inl h ↦ absurd (omega (arith, e, h)) | inr h ↦ absurd (omega (arith, e, h)) ]
-        | inr p ↦ let e = p.1 in elim g [ inl h ↦ absurd (omega (arith, e, h)) | inr h ↦ omega (arith, e, h) ]
-      ]
-    ]
+one-gap x y n f o g = grind arith
 
 two-gap : (x y n f : ℕ) → Offset x y n f → (y + 2 ≡ x) ⊎ (y ≡ x + 2) → n ≡ 2
-two-gap x y n f o g =
-    elim o [
-      | inl p ↦ let e = p.1 in elim g [ inl h ↦ omega (arith, e, h) | inr h ↦ absurd (omega (arith, e, h)) ]
-      | inr q ↦ elim q [
-        | inl p ↦ let e = p.1 in elim g [ inl h ↦ absurd (omega (arith, e, h)) | inr h ↦ absurd (omega (arith, e, h)) ]
-        | inr p ↦ let e = p.1 in elim g [ inl h ↦ absurd (omega (arith, e, h)) | inr h ↦ omega (arith, e, h) ]
-      ]
-    ]
+two-gap x y n f o g = grind arith
 
 pub no-jump : (a b : Square) (d : Direction) (n : ℕ) → IsRay d → IsAway a d n b
     → (b.file + 1 ≡ a.file) ⊎ (b.file ≡ a.file + 1) → (b.rank + 2 ≡ a.rank) ⊎ (b.rank ≡ a.rank + 2) → ⊥

@@ -99,19 +99,7 @@ all_kinds = Pawn ∷ Lance ∷ Knight ∷ Silver ∷ Gold ∷ Bishop ∷ Rook �
 
 among : (P : Kind → Type 0) (k : Kind) → P k → OneOf P all_kinds
 among P Pawn h = inl h
-among P Lance h = inr (inl h)
-among P Knight h = inr (inr (inl h))
-among P Silver h = inr (inr (inr (inl h)))
-among P Gold h = inr (inr (inr (inr (inl h))))
-among P Bishop h = inr (inr (inr (inr (inr (inl h)))))
-among P Rook h = inr (inr (inr (inr (inr (inr (inl h))))))
-among P King h = inr (inr (inr (inr (inr (inr (inr (inl h)))))))
-among P ProPawn h = inr (inr (inr (inr (inr (inr (inr (inr (inl h))))))))
-among P ProLance h = inr (inr (inr (inr (inr (inr (inr (inr (inr (inl h)))))))))
-among P ProKnight h = inr (inr (inr (inr (inr (inr (inr (inr (inr (inr (inl h))))))))))
-among P ProSilver h = inr (inr (inr (inr (inr (inr (inr (inr (inr (inr (inr (inl h)))))))))))
-among P Horse h = inr (inr (inr (inr (inr (inr (inr (inr (inr (inr (inr (inr (inl h))))))))))))
-among P Dragon h = inr (inr (inr (inr (inr (inr (inr (inr (inr (inr (inr (inr (inr (inl h)))))))))))))
+among P _ h = search (inl, inr, h) depth 16
 
 some-of : {X : Type 0} (P : X → Type 0) (xs : List X) → OneOf P xs → (x : X) × P x
 some-of P [] h = elim h [ ]
@@ -141,7 +129,7 @@ decide-pawn_on_file cells color s =
     (decide-square (λ t. (file_of t ≡ file_of s) × (at cells t ≡ piece color Pawn))
     (λ t. decide-both _ _ (cases_eq (file_of t) (file_of s)) (decide-cell (at cells t) (piece color Pawn))))
 
-decide-away : (a : Square) (d : Direction) (n : ℕ) (b : Square) → Decision (IsAway a d n b)
+pub decide-away : (a : Square) (d : Direction) (n : ℕ) (b : Square) → Decision (IsAway a d n b)
 decide-away a d n b = decide-both _ _ (cases_eq _ _) (cases_eq _ _)
 
 decide-steps : (p : Piece) (a b : Square) → Decision (Steps p a b)

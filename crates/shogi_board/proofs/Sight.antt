@@ -2,66 +2,26 @@
 use Rattle.std.proofs.Common.{◌≡◌, ℕ, ◌+◌, ◌-◌, ◌*◌, ◌<◌, ◌≤◌, arith, inl, inr, refl}
 use Rattle.std.proofs.lemmas.Bool.{cases_lt}
 use Rattle.shogi_board.specs.Moves.{IsRay}
+use Rattle.shogi_board.proofs.Between.{offset}
 use Rattle.shogi_board.specs.Squares.{Direction, place, IsAway}
 use Rattle.shogi_board.specs.declared.square.Square.{Square}
-
-back-far : (x y m f : ℕ) → f ≡ 1 → x + m * 2 ≡ y + m * f → y ≤ 9 → 1 ≤ x → 9 ≤ m → ⊥
-back-far x y m f e h top low far = let g : x + m * 2 ≡ y + m * 1 = rw e at h in omega arith
-
-on-far : (x y m f : ℕ) → f ≡ 3 → x + m * 2 ≡ y + m * f → x ≤ 9 → 1 ≤ y → 9 ≤ m → ⊥
-on-far x y m f e h top low far = let g : x + m * 2 ≡ y + m * 3 = rw e at h in omega arith
 
 -- no square lies nine times a ray away
 pub too-far : (a b : Square) (d : Direction) (m : ℕ) → IsRay d → 9 ≤ m → IsAway a d m b → ⊥
 too-far a b d m ray far away =
     let i = a.on_board in
     let j = b.on_board in
-    let f1 : 1 ≤ d.files = ray.0 in
-    let f3 : d.files ≤ 3 = ray.1 in
-    let r1 : 1 ≤ d.ranks = ray.2 in
-    let r3 : d.ranks ≤ 3 = ray.3 in
-    elim (cases_lt d.files 2) [
-      | inl lt ↦ back-far b.file a.file m d.files (omega arith) away.0 (omega arith) (omega arith) far
-      | inr ge ↦ elim (cases_lt 2 d.files) [
-        | inl lt ↦ on-far b.file a.file m d.files (omega arith) away.0 (omega arith) (omega arith) far
-        | inr le ↦
-            let files : d.files ≡ 2 = omega arith in
-            elim (cases_lt d.ranks 2) [
-              | inl lt ↦ back-far b.rank a.rank m d.ranks (omega arith) away.1 (omega arith) (omega arith) far
-              | inr high ↦ elim (cases_lt 2 d.ranks) [
-                | inl lt ↦ on-far b.rank a.rank m d.ranks (omega arith) away.1 (omega arith) (omega arith) far
-                | inr low ↦ let ranks : d.ranks ≡ 2 = omega arith in ray.4 files ranks
-              ]
-            ]
-      ]
-    ]
+    let x = offset a.file b.file m d.files ray.0 ray.1 away.0 in
+    let y = offset a.rank b.rank m d.ranks ray.2 ray.3 away.1 in
+    grind (arith, ray.4)
 
 -- a number on the way from one number to another
-way-back : (x y m n f : ℕ) → f ≡ 1 → n ≤ m → y + m * 2 ≡ x + m * f → 1 ≤ y → x ≤ 9 → (z : ℕ) × (z + n * 2 ≡ x + n * f) × (1 ≤ z) × (z ≤ 9)
-way-back x y m n f e near h low high =
-    let g : y + m * 2 ≡ x + m * 1 = rw e at h in
-    let k : x - n + n * 2 ≡ x + n * 1 = omega (arith, g, near, low) in
-    (x - n, rw e k, omega (arith, g, near, low), omega (arith, high))
-
-way-level : (x n f : ℕ) → f ≡ 2 → 1 ≤ x → x ≤ 9 → (z : ℕ) × (z + n * 2 ≡ x + n * f) × (1 ≤ z) × (z ≤ 9)
-way-level x n f e low high =
-    let k : x + n * 2 ≡ x + n * 2 = omega arith in
-    (x, rw e k, low, high)
-
-way-on : (x y m n f : ℕ) → f ≡ 3 → n ≤ m → y + m * 2 ≡ x + m * f → 1 ≤ x → y ≤ 9 → (z : ℕ) × (z + n * 2 ≡ x + n * f) × (1 ≤ z) × (z ≤ 9)
-way-on x y m n f e near h low high =
-    let g : y + m * 2 ≡ x + m * 3 = rw e at h in
-    let k : x + n + n * 2 ≡ x + n * 3 = omega arith in
-    (x + n, rw e k, omega (arith, low), omega (arith, g, near, high))
-
 way : (x y m n f : ℕ) → 1 ≤ f → f ≤ 3 → n ≤ m → y + m * 2 ≡ x + m * f → 1 ≤ x → x ≤ 9 → 1 ≤ y → y ≤ 9 → (z : ℕ) × (z + n * 2 ≡ x + n * f) × (1 ≤ z) × (z ≤ 9)
 way x y m n f low high near h x1 x9 y1 y9 =
-    elim (cases_lt f 2) [
-      | inl lt ↦ way-back x y m n f (omega arith) near h y1 x9
-      | inr ge ↦ elim (cases_lt 2 f) [
-        | inl lt ↦ way-on x y m n f (omega arith) near h x1 y9
-        | inr le ↦ way-level x n f (omega arith) x1 x9
-      ]
+    elim (offset x y m f low high h) [
+      | inl (e, o) ↦ let k : x - n + n * 2 ≡ x + n * 1 = omega (arith, o, near, y1) in (x - n, rw e k, omega (arith, o, near, y1), omega (arith, x9))
+      | inr (inl (e, o)) ↦ let k : x + n * 2 ≡ x + n * 2 = omega arith in (x, rw e k, x1, x9)
+      | inr (inr (e, o)) ↦ let k : x + n + n * 2 ≡ x + n * 3 = omega arith in (x + n, rw e k, omega (arith, x1), omega (arith, o, near, y9))
     ]
 
 -- each square up to one in that direction is on the board
