@@ -18,8 +18,8 @@ use Rattle.shogi_board.specs.declared.kind.Kind.TheVariants.{Pawn, Lance, Knight
 use Rattle.shogi_board.specs.declared.kind.Piece.{Piece}
 use Rattle.shogi_board.specs.declared.square.Square.{Square}
 use Rattle.shogi_board.proofs.Between.{lies-once}
-use Rattle.shogi_board.proofs.Goes.{goes-moves, moves-goes, ray-near, turned-twice}
-use Rattle.shogi_board.proofs.Rays.{near-ray, near-step, turned-ray}
+use Rattle.shogi_board.proofs.Goes.{goes-moves, moves-goes, turned-twice}
+use Rattle.shogi_board.proofs.Rays.{near-ray, near-step, ray-near, turned-ray}
 use Rattle.shogi_board.proofs.OneOf.{OneOf, any-of, one-of}
 use Rattle.shogi_board.proofs.Pieces.{mover-is}
 use Rattle.shogi_board.proofs.Squares.{away-same}

@@ -26,24 +26,19 @@ offset x y n f low high h =
     (λ e. inl (refl, omega (arith, e))) (λ e. inr (inl (refl, omega (arith, e)))) (λ e. inr (inr (refl, omega (arith, e)))) f low high h
 
 pub step-back : (x y n f : ℕ) → y < x → 1 ≤ f → f ≤ 3 → 1 ≤ n → y + n * 2 ≡ x + n * f → 1 ≡ f
-step-back x y n f less low high some h =
-    three (λ g. y + n * 2 ≡ x + n * g → 1 ≡ g) (λ _. refl) (λ e. absurd (omega (arith, less, e))) (λ e. absurd (omega (arith, less, e))) f low high h
+step-back x y n f less low high some h = let o = offset x y n f low high h in grind (arith, o)
 
 pub step-level : (x y n f : ℕ) → y ≡ x → 1 ≤ f → f ≤ 3 → 1 ≤ n → y + n * 2 ≡ x + n * f → 2 ≡ f
-step-level x y n f same low high some h =
-    three (λ g. y + n * 2 ≡ x + n * g → 2 ≡ g) (λ e. absurd (omega (arith, same, some, e))) (λ _. refl) (λ e. absurd (omega (arith, same, some, e))) f low high h
+step-level x y n f same low high some h = let o = offset x y n f low high h in grind (arith, o)
 
 pub step-on : (x y n f : ℕ) → x < y → 1 ≤ f → f ≤ 3 → 1 ≤ n → y + n * 2 ≡ x + n * f → 3 ≡ f
-step-on x y n f more low high some h =
-    three (λ g. y + n * 2 ≡ x + n * g → 3 ≡ g) (λ e. absurd (omega (arith, more, e))) (λ e. absurd (omega (arith, more, e))) (λ _. refl) f low high h
+step-on x y n f more low high some h = let o = offset x y n f low high h in grind (arith, o)
 
 gap-low : (x y n f g : ℕ) → 1 ≤ f → f ≤ 3 → y + n * 2 ≡ x + n * f → g ≡ x - y + (y - x) → g ≤ n
-gap-low x y n f g low high h is =
-    three (λ k. y + n * 2 ≡ x + n * k → g ≤ n) (λ e. omega (arith, e, is)) (λ e. omega (arith, e, is)) (λ e. omega (arith, e, is)) f low high h
+gap-low x y n f g low high h is = let o = offset x y n f low high h in grind (arith, o)
 
 gap-is : (x y n f g : ℕ) → 1 ≤ f → f ≤ 3 → (f ≡ 2 → ⊥) → y + n * 2 ≡ x + n * f → g ≡ x - y + (y - x) → g ≡ n
-gap-is x y n f g low high not h is =
-    three (λ k. (k ≡ 2 → ⊥) → y + n * 2 ≡ x + n * k → g ≡ n) (λ _ e. omega (arith, e, is)) (λ off _. absurd (off refl)) (λ _ e. omega (arith, e, is)) f low high not h
+gap-is x y n f g low high not h is = let o = offset x y n f low high h in grind (arith, o)
 
 -- one of the two gaps is the distance, and neither is more
 pub record Apart (g h n : ℕ) : Type 0 where
@@ -168,24 +163,10 @@ as-far a b g h line i j files ranks =
 
 -- no knight's jump leads along a line
 one-gap : (x y n f : ℕ) → Offset x y n f → (y + 1 ≡ x) ⊎ (y ≡ x + 1) → n ≡ 1
-one-gap x y n f o g =
-    elim o [
-      | inl p ↦ let e = p.1 in elim g [ inl h ↦ omega (arith, e, h) | inr h ↦ absurd (omega (arith, e, h)) ]
-      | inr q ↦ elim q [
-        | inl p ↦ let e = p.1 in elim g [ inl h ↦ absurd (omega (arith, e, h)) | inr h ↦ absurd (omega (arith, e, h)) ]
-        | inr p ↦ let e = p.1 in elim g [ inl h ↦ absurd (omega (arith, e, h)) | inr h ↦ omega (arith, e, h) ]
-      ]
-    ]
+one-gap x y n f o g = grind arith
 
 two-gap : (x y n f : ℕ) → Offset x y n f → (y + 2 ≡ x) ⊎ (y ≡ x + 2) → n ≡ 2
-two-gap x y n f o g =
-    elim o [
-      | inl p ↦ let e = p.1 in elim g [ inl h ↦ omega (arith, e, h) | inr h ↦ absurd (omega (arith, e, h)) ]
-      | inr q ↦ elim q [
-        | inl p ↦ let e = p.1 in elim g [ inl h ↦ absurd (omega (arith, e, h)) | inr h ↦ absurd (omega (arith, e, h)) ]
-        | inr p ↦ let e = p.1 in elim g [ inl h ↦ absurd (omega (arith, e, h)) | inr h ↦ omega (arith, e, h) ]
-      ]
-    ]
+two-gap x y n f o g = grind arith
 
 pub no-jump : (a b : Square) (d : Direction) (n : ℕ) → IsRay d → IsAway a d n b
     → (b.file + 1 ≡ a.file) ⊎ (b.file ≡ a.file + 1) → (b.rank + 2 ≡ a.rank) ⊎ (b.rank ≡ a.rank + 2) → ⊥

@@ -132,7 +132,7 @@ decide-pawn_on_file cells color s =
     (decide-square (λ t. (file_of t ≡ file_of s) × (at cells t ≡ piece color Pawn))
     (λ t. decide-both _ _ (cases_eq (file_of t) (file_of s)) (decide-cell (at cells t) (piece color Pawn))))
 
-decide-away : (a : Square) (d : Direction) (n : ℕ) (b : Square) → Decision (IsAway a d n b)
+pub decide-away : (a : Square) (d : Direction) (n : ℕ) (b : Square) → Decision (IsAway a d n b)
 decide-away a d n b = decide-both _ _ (cases_eq _ _) (cases_eq _ _)
 
 decide-steps : (p : Piece) (a b : Square) → Decision (Steps p a b)

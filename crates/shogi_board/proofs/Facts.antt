@@ -27,22 +27,10 @@ moves-of : (cells : Cells) (a b : Square) (p : Piece) → at cells a ≡ Some p 
 moves-of cells a b p h r = let e = mover-is cells a b p h r in rw e at r.moves
 
 gold-to : (a b : Square) → OneOf (Step Black a b) gold → OneOf (Stands b) (gold_squares a)
-gold-to a b (inl h) = inl (omega (arith, h.0), omega (arith, h.1))
-gold-to a b (inr (inl h)) = inr (inl (omega (arith, h.0), omega (arith, h.1)))
-gold-to a b (inr (inr (inl h))) = inr (inr (inl (omega (arith, h.0), omega (arith, h.1))))
-gold-to a b (inr (inr (inr (inl h)))) = inr (inr (inr (inl (omega (arith, h.0), omega (arith, h.1)))))
-gold-to a b (inr (inr (inr (inr (inl h))))) = inr (inr (inr (inr (inl (omega (arith, h.0), omega (arith, h.1))))))
-gold-to a b (inr (inr (inr (inr (inr (inl h)))))) = inr (inr (inr (inr (inr (inl (omega (arith, h.0), omega (arith, h.1)))))))
-gold-to a b (inr (inr (inr (inr (inr (inr h)))))) = elim h [ ]
+gold-to a b h = grind arith
 
 gold-from : (a b : Square) → (1 ≤ b.file) × (1 ≤ b.rank) → OneOf (Stands b) (gold_squares a) → OneOf (Step Black a b) gold
-gold-from a b i (inl h) = inl (omega (arith, i.1, h.0), omega (arith, i.1, h.1))
-gold-from a b i (inr (inl h)) = inr (inl (omega (arith, h.0), omega (arith, h.1)))
-gold-from a b i (inr (inr (inl h))) = inr (inr (inl (omega (arith, h.0), omega (arith, h.1))))
-gold-from a b i (inr (inr (inr (inl h)))) = inr (inr (inr (inl (omega (arith, i.0, h.0), omega (arith, h.1)))))
-gold-from a b i (inr (inr (inr (inr (inl h))))) = inr (inr (inr (inr (inl (omega (arith, h.0), omega (arith, i.1, h.1))))))
-gold-from a b i (inr (inr (inr (inr (inr (inl h)))))) = inr (inr (inr (inr (inr (inl (omega (arith, i.0, h.0), omega (arith, i.1, h.1)))))))
-gold-from a b i (inr (inr (inr (inr (inr (inr h)))))) = elim h [ ]
+gold-from a b i h = grind arith
 
 pub gold-reach : (cells : Cells) (a b : Square) → at cells a ≡ piece Black Gold → Reach cells a b ↔ IsAmong (gold_squares a) b
 gold-reach cells a b h =
@@ -70,28 +58,12 @@ knight-reach cells a b h far r =
     ]
 
 beside-to : (color : Color) (a b : Square) → OneOf (Step color a b) orthogonals → OneOf (Stands b) (beside a)
-beside-to Black a b (inl h) = inl (omega (arith, h.0), omega (arith, h.1))
-beside-to Black a b (inr (inl h)) = inr (inl (omega (arith, h.0), omega (arith, h.1)))
-beside-to Black a b (inr (inr (inl h))) = inr (inr (inl (omega (arith, h.0), omega (arith, h.1))))
-beside-to Black a b (inr (inr (inr (inl h)))) = inr (inr (inr (inl (omega (arith, h.0), omega (arith, h.1)))))
-beside-to Black a b (inr (inr (inr (inr h)))) = elim h [ ]
-beside-to White a b (inl h) = inr (inl (omega (arith, h.0), omega (arith, h.1)))
-beside-to White a b (inr (inl h)) = inl (omega (arith, h.0), omega (arith, h.1))
-beside-to White a b (inr (inr (inl h))) = inr (inr (inr (inl (omega (arith, h.0), omega (arith, h.1)))))
-beside-to White a b (inr (inr (inr (inl h)))) = inr (inr (inl (omega (arith, h.0), omega (arith, h.1))))
-beside-to White a b (inr (inr (inr (inr h)))) = elim h [ ]
+beside-to Black a b h = grind arith
+beside-to White a b h = grind arith
 
 beside-from : (color : Color) (a b : Square) → (1 ≤ b.file) × (1 ≤ b.rank) → OneOf (Stands b) (beside a) → OneOf (Step color a b) orthogonals
-beside-from Black a b i (inl h) = inl (omega (arith, h.0), omega (arith, i.1, h.1))
-beside-from Black a b i (inr (inl h)) = inr (inl (omega (arith, h.0), omega (arith, h.1)))
-beside-from Black a b i (inr (inr (inl h))) = inr (inr (inl (omega (arith, h.0), omega (arith, h.1))))
-beside-from Black a b i (inr (inr (inr (inl h)))) = inr (inr (inr (inl (omega (arith, i.0, h.0), omega (arith, h.1)))))
-beside-from Black a b i (inr (inr (inr (inr h)))) = elim h [ ]
-beside-from White a b i (inl h) = inr (inl (omega (arith, h.0), omega (arith, i.1, h.1)))
-beside-from White a b i (inr (inl h)) = inl (omega (arith, h.0), omega (arith, h.1))
-beside-from White a b i (inr (inr (inl h))) = inr (inr (inr (inl (omega (arith, h.0), omega (arith, h.1)))))
-beside-from White a b i (inr (inr (inr (inl h)))) = inr (inr (inl (omega (arith, i.0, h.0), omega (arith, h.1))))
-beside-from White a b i (inr (inr (inr (inr h)))) = elim h [ ]
+beside-from Black a b i h = grind arith
+beside-from White a b i h = grind arith
 
 -- what is empty beside one piece is empty beside another in its place
 same-empty : (cells : Cells) (a s : Square) (p q : Piece) → length cells ≡ 81 → at (with_cell cells a (Some p)) s ≡ None → at (with_cell cells a (Some q)) s ≡ None

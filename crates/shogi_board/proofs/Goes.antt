@@ -12,14 +12,8 @@ use Rattle.shogi_board.specs.declared.kind.Kind.TheVariants.{Knight}
 use Rattle.shogi_board.specs.declared.kind.Piece.{Piece}
 use Rattle.shogi_board.specs.declared.square.Square.{Square}
 use Rattle.shogi_board.proofs.Between.{direction-same, lies-once, no-jump}
-use Rattle.shogi_board.proofs.Rays.{every-at, every-ray, every-step, turned-ray}
+use Rattle.shogi_board.proofs.Rays.{every-at, every-ray, every-step, ray-near, turned-ray}
 use Rattle.shogi_board.proofs.OneOf.{one-of}
-
-pub ray-near : (d : Direction) → IsRay d → IsNear d
-ray-near d ray =
-    let files : d.files ≤ 3 = ray.1 in
-    let ranks : d.ranks ≤ 3 = ray.3 in
-    (omega arith, omega arith)
 
 pub turned-twice : (color : Color) (d : Direction) → IsNear d → turned_for color (turned_for color d) ≡ d
 turned-twice Black d near = refl

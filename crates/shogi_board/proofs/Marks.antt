@@ -154,13 +154,21 @@ pub king-stays : (c : Color) (before after : Cells) (s : Square) (k : Option Squ
 king-stays c before after s None others old new none = λ t h. none t (carried after before s t (piece c King) (back s before after others) (λ _. new) h)
 king-stays c before after s (Some q) others old new h = carried before after s q (piece c King) others (λ _. old) h
 
-pub marks-stay : (c : Color) (before after : Cells) (s : Square) (marks : Landmarks) → length after ≡ 81 → kings_of after c ≤ 1 → Elsewhere s before after → (at before s ≡ piece c King → ⊥) × (at before s ≡ piece c Pawn → ⊥) → (at after s ≡ piece c King → ⊥) × (at after s ≡ piece c Pawn → ⊥) → HasLandmarks before c marks → HasLandmarks after c marks
-marks-stay c before after s marks whole few others old new h =
-    has-landmarks c after marks whole few (king-stays c before after s marks.king others old.0 new.0 (king-of c before marks h))
+pub replaced : (cells : Cells) (s : Square) (n : ℕ) (v was : Option Piece) → n ≡ place s → at cells s ≡ was → HasReplaced cells (set cells n v) s was
+replaced cells s n v was e there = record { was = there; others = λ t differ. sym (get_or-set_other cells n (place t) v None (λ d. differ (d ∙ e))) }
+
+pub marks-stay : (c : Color) (before : Cells) (s : Square) (n : ℕ) (v was : Option Piece) (marks : Landmarks) → n ≡ place s → at before s ≡ was → kings_of (set before n v) c ≤ 1 → (was ≡ piece c King → ⊥) × (was ≡ piece c Pawn → ⊥) → (v ≡ piece c King → ⊥) × (v ≡ piece c Pawn → ⊥) → HasLandmarks before c marks → HasLandmarks (set before n v) c marks
+marks-stay c before s n v was marks e there few old new h =
+    let r = replaced before s n v was e there in
+    let after = set before n v in
+    let low = place-bound s in
+    let now : at after s ≡ v = rw e (get_or-set_same before (place s) v None (omega (arith, low, h.squares))) in
+    let whole : length after ≡ 81 = rw length-set h.squares in
+    has-landmarks c after marks whole few (king-stays c before after s marks.king r.others (λ k. old.0 (sym there ∙ k)) (λ k. new.0 (sym now ∙ k)) (king-of c before marks h))
     (files-same c after marks.pawn_files whole (rw (← h.same) refl) (λ t.
     let p = pawns-of c before marks h t in (
-      λ yes. pawn-carried c before after s t others (λ _. old.1) (p.0 yes),
-      λ pawn. p.1 (pawn-carried c after before s t (back s before after others) (λ _. new.1) pawn),
+      λ yes. pawn-carried c before after s t r.others (λ _ k. old.1 (sym there ∙ k)) (p.0 yes),
+      λ pawn. p.1 (pawn-carried c after before s t (back s before after r.others) (λ _ k. new.1 (sym now ∙ k)) pawn),
     )))
 
 pub marks-kept : (c : Color) (before after : Cells) (s : Square) (cell : Option Piece) (marks : Landmarks) (k : Option Square) (b : Bool) → length after ≡ 81 → kings_of after c ≤ 1 → HasReplaced before after s cell → HasLandmarks before c marks → IsKingOf after c k → (IsTrue b ↔ HasPawnOnFile after c s) → HasLandmarks after c (record { king = k; pawn_files = set marks.pawn_files (s.file - 1) b })

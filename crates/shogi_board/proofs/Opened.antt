@@ -27,18 +27,11 @@ use Rattle.shogi_board.specs.declared.moves.Move.{Move}
 use Rattle.shogi_board.specs.declared.moves.Move.TheVariants.{Walk, Put}
 use Rattle.shogi_board.proofs.Pieces.{opponent-twice}
 use Rattle.shogi_board.proofs.Check.{checker-is}
+use Rattle.shogi_board.proofs.Decided.{decide-away}
 use Rattle.shogi_board.proofs.AfterMove.{colors-same, held-before, kinds-same, not-none, not-opponent, on-target, walk-keeps}
 
 put-keeps : (p : Placed) (to : Square) (k : Kind) (s : Square) → place s ≢ place to → at (board_after p (Put to k)) s ≡ at p.material.board s
 put-keeps p to k s other = get_or-set_other p.material.board (place to) (place s) (piece p.side k) None other
-
--- whether a square lies so far away in a direction
-lies-or-not : (a t : Square) (d : Direction) (n : ℕ) → IsAway a d n t ⊎ (IsAway a d n t → ⊥)
-lies-or-not a t d n =
-    elim (cases_eq (t.file + n * 2) (a.file + n * d.files)) [
-      | inl e ↦ elim (cases_eq (t.rank + n * 2) (a.rank + n * d.ranks)) [ inl g ↦ inl (e, g) | inr off ↦ inr (λ h. off h.1) ]
-      | inr off ↦ inr (λ h. off h.0)
-    ]
 
 -- the square that the move left lies on the way
 pub record LeftOnWay (m : Move) (a : Square) (d : Direction) (n : ℕ) : Type 0 where
@@ -60,7 +53,7 @@ not-target p m t sound empty e = not-none (at (board_after p m) t) (record { col
 empty-before : (p : Placed) (m : Move) (a : Square) (d : Direction) (n : ℕ) → IsSound p → 1 ≤ n → ((t : Square) → IsAway a d n t → at (board_after p m) t ≡ None)
     → LeftOnWay m a d (suc n) ⊎ ((t : Square) → IsAway a d n t → at p.material.board t ≡ None)
 empty-before p (Walk from to k) a d n sound some empty =
-    elim (lies-or-not a from d n) [
+    elim (decide-away a d n from) [
       | inl on ↦ inl (record { from = from; left = refl; steps = n; some = some; nearer = omega arith; on = on })
       | inr off ↦ inr (λ t there.
           let clear = empty t there in

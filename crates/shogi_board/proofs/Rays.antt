@@ -19,32 +19,18 @@ every-at P [] k d h lt e = absurd (omega arith)
 every-at P (x ∷ xs) zero d h lt e = rw (← e) h.0
 every-at P (x ∷ xs) (suc k) d h lt e = every-at P xs k d h.1 (omega arith) e
 
-ray : (d : Direction) → d.files ≤ 3 → 1 ≤ d.files → d.ranks ≤ 3 → 1 ≤ d.ranks → (d.files ≡ 2 → d.ranks ≡ 2 → ⊥) → IsRay d
-ray d a b c e f = (b, a, e, c, f)
+four : (a b c d : Direction) → IsRay a → IsRay b → IsRay c → IsRay d → Every IsRay (a ∷ b ∷ c ∷ d ∷ [])
+four a b c d h i j k = (h, (i, (j, (k, tt))))
 
 every-orthogonal : Every IsRay orthogonals
-every-orthogonal = (
-  ray forward (lit≤ tt) (lit≤ tt) (lit≤ tt) (lit≤ tt) (λ _ h. omega (arith, h)),
-  (
-    ray back (lit≤ tt) (lit≤ tt) (lit≤ tt) (lit≤ tt) (λ _ h. omega (arith, h)),
-    (
-      ray left (lit≤ tt) (lit≤ tt) (lit≤ tt) (lit≤ tt) (λ h _. omega (arith, h)),
-      (ray right (lit≤ tt) (lit≤ tt) (lit≤ tt) (lit≤ tt) (λ h _. omega (arith, h)), tt),
-    ),
-  ),
-)
+every-orthogonal =
+    four forward back left right (lit≤ tt, lit≤ tt, lit≤ tt, lit≤ tt, λ _ h. omega (arith, h)) (lit≤ tt, lit≤ tt, lit≤ tt, lit≤ tt, λ _ h. omega (arith, h))
+    (lit≤ tt, lit≤ tt, lit≤ tt, lit≤ tt, λ h _. omega (arith, h)) (lit≤ tt, lit≤ tt, lit≤ tt, lit≤ tt, λ h _. omega (arith, h))
 
 every-diagonal : Every IsRay diagonals
-every-diagonal = (
-  ray forward_left (lit≤ tt) (lit≤ tt) (lit≤ tt) (lit≤ tt) (λ h _. omega (arith, h)),
-  (
-    ray forward_right (lit≤ tt) (lit≤ tt) (lit≤ tt) (lit≤ tt) (λ h _. omega (arith, h)),
-    (
-      ray back_left (lit≤ tt) (lit≤ tt) (lit≤ tt) (lit≤ tt) (λ h _. omega (arith, h)),
-      (ray back_right (lit≤ tt) (lit≤ tt) (lit≤ tt) (lit≤ tt) (λ h _. omega (arith, h)), tt),
-    ),
-  ),
-)
+every-diagonal =
+    four forward_left forward_right back_left back_right (lit≤ tt, lit≤ tt, lit≤ tt, lit≤ tt, λ h _. omega (arith, h)) (lit≤ tt, lit≤ tt, lit≤ tt, lit≤ tt, λ h _. omega (arith, h))
+    (lit≤ tt, lit≤ tt, lit≤ tt, lit≤ tt, λ h _. omega (arith, h)) (lit≤ tt, lit≤ tt, lit≤ tt, lit≤ tt, λ h _. omega (arith, h))
 
 pub every-ray : (k : Kind) → Every IsRay (rays k)
 every-ray Lance = (every-orthogonal.0, tt)
@@ -128,49 +114,19 @@ turned-ray White d h =
 pub ray-at : (c : Color) (kind : Kind) (k : ℕ) (d : Direction) → k < length (rays kind) → get_or (rays kind) k d ≡ d → IsRay (turned_for c d)
 ray-at c kind k d lt e = turned-ray c d (every-at IsRay (rays kind) k d (every-ray kind) lt e)
 
-near : (d : Direction) → d.files ≤ 4 → d.ranks ≤ 4 → IsNear d
-near d a b = (a, b)
+pub ray-near : (d : Direction) → IsRay d → IsNear d
+ray-near d ray =
+    let files : d.files ≤ 3 = ray.1 in
+    let ranks : d.ranks ≤ 3 = ray.3 in
+    (omega arith, omega arith)
 
-near-orthogonal : Every IsNear orthogonals
-near-orthogonal = (near forward (lit≤ tt) (lit≤ tt), (near back (lit≤ tt) (lit≤ tt), (near left (lit≤ tt) (lit≤ tt), (near right (lit≤ tt) (lit≤ tt), tt))))
-
-near-diagonal : Every IsNear diagonals
-near-diagonal = (near forward_left (lit≤ tt) (lit≤ tt), (near forward_right (lit≤ tt) (lit≤ tt), (near back_left (lit≤ tt) (lit≤ tt), (near back_right (lit≤ tt) (lit≤ tt), tt))))
-
-near-gold : Every IsNear gold
-near-gold =
-    let o = near-orthogonal in
-    let d = near-diagonal in
-    (o.0, (o.1.0, (o.1.1.0, (o.1.1.1.0, (d.0, (d.1.0, tt))))))
-
-every-near : (k : Kind) → Every IsNear (steps k)
-every-near Pawn = (near-orthogonal.0, tt)
-every-near Lance = tt
-every-near Knight = (near (to 3 0) (lit≤ tt) (lit≤ tt), (near (to 1 0) (lit≤ tt) (lit≤ tt), tt))
-every-near Silver = (near-orthogonal.0, near-diagonal)
-every-near Bishop = tt
-every-near Rook = tt
-every-near King =
-    let o = near-orthogonal in
-    (o.0, (o.1.0, (o.1.1.0, (o.1.1.1.0, near-diagonal))))
-every-near Horse = near-orthogonal
-every-near Dragon = near-diagonal
-every-near _ = near-gold
-
-turned-near : (c : Color) (d : Direction) → IsNear d → IsNear (turned_for c d)
-turned-near Black d h = h
-turned-near White d h = (omega arith, omega arith)
-
--- a step of a piece goes at most two squares along files and ranks
-pub step-near : (c : Color) (kind : Kind) (k : ℕ) (d : Direction) → k < length (steps kind) → get_or (steps kind) k d ≡ d → IsNear (turned_for c d)
-step-near c kind k d lt e = turned-near c d (every-at IsNear (steps kind) k d (every-near kind) lt e)
-
+-- a step or ray of a piece goes at most two squares along files and ranks
 pub near-step : (kind : Kind) (k : ℕ) (d : Direction) → k < length (steps kind) → get_or (steps kind) k d ≡ d → IsNear d
-near-step kind k d lt e = every-at IsNear (steps kind) k d (every-near kind) lt e
+near-step kind k d lt e =
+    elim (every-step kind) [
+      | inl all ↦ ray-near d (every-at IsRay (steps kind) k d all lt e)
+      | inr knight ↦ every-at IsNear (steps Knight) k d ((lit≤ tt, lit≤ tt), ((lit≤ tt, lit≤ tt), tt)) (rw knight at lt) (rw knight at e)
+    ]
 
 pub near-ray : (kind : Kind) (k : ℕ) (d : Direction) → k < length (rays kind) → get_or (rays kind) k d ≡ d → IsNear d
-near-ray kind k d lt e =
-    let h : IsRay d = every-at IsRay (rays kind) k d (every-ray kind) lt e in
-    let files : d.files ≤ 3 = h.1 in
-    let ranks : d.ranks ≤ 3 = h.3 in
-    (omega arith, omega arith)
+near-ray kind k d lt e = ray-near d (every-at IsRay (rays kind) k d (every-ray kind) lt e)

@@ -12,16 +12,9 @@ pub too-far : (a b : Square) (d : Direction) (m : ℕ) → IsRay d → 9 ≤ m �
 too-far a b d m ray far away =
     let i = a.on_board in
     let j = b.on_board in
-    elim (offset a.file b.file m d.files ray.0 ray.1 away.0) [
-      | inl back ↦ let e = back.1 in omega arith
-      | inr more ↦ elim more [
-        | inl still ↦ elim (offset a.rank b.rank m d.ranks ray.2 ray.3 away.1) [
-          | inl back ↦ let e = back.1 in omega arith
-          | inr rest ↦ elim rest [ inl level ↦ ray.4 still.0 level.0 | inr on ↦ let e = on.1 in omega arith ]
-        ]
-        | inr on ↦ let e = on.1 in omega arith
-      ]
-    ]
+    let x = offset a.file b.file m d.files ray.0 ray.1 away.0 in
+    let y = offset a.rank b.rank m d.ranks ray.2 ray.3 away.1 in
+    grind (arith, ray.4)
 
 -- a number on the way from one number to another
 way : (x y m n f : ℕ) → 1 ≤ f → f ≤ 3 → n ≤ m → y + m * 2 ≡ x + m * f → 1 ≤ x → x ≤ 9 → 1 ≤ y → y ≤ 9 → (z : ℕ) × (z + n * 2 ≡ x + n * f) × (1 ≤ z) × (z ≤ 9)

@@ -1,9 +1,9 @@
 -- The even board keeps the totals, and neither king is attacked.
-use Rattle.std.proofs.Common.{◌≡◌, ℕ, zero, suc, ◌⊎◌, is_some, ◌+◌, ◌-◌, ◌*◌, ◌<◌, ◌≤◌, ◌&&◌, ◌||◌, not, Bool, true, Option, Some, None, get_or, arith, refl, lit≤, nat_le, ◌==◌, inl, inr}
+use Rattle.std.proofs.Common.{◌≡◌, ℕ, zero, suc, is_some, ◌+◌, ◌-◌, ◌*◌, ◌<◌, ◌≤◌, ◌&&◌, ◌||◌, not, Bool, true, Option, Some, None, get_or, arith, refl, ap, ◌∙◌, lit≤, nat_le, ◌==◌, inl, inr}
 use Rattle.std.proofs.lemmas.Bool.{and_parts, cases_lt}
 use Rattle.shogi_board.specs.Cells.{at, even_cells}
 use Rattle.shogi_board.specs.Moves.{IsRay, turned_for}
-use Rattle.shogi_board.specs.Pieces.{opponent}
+use Rattle.shogi_board.specs.Pieces.{opponent, same_color}
 use Rattle.shogi_board.specs.Placed.{even_start}
 use Rattle.shogi_board.specs.Sound.{IsSound}
 use Rattle.shogi_board.specs.Reach.{Attacked, InCheck, IsClear, InSight}
@@ -15,9 +15,12 @@ use Rattle.shogi_board.specs.declared.kind.Kind.{Kind}
 use Rattle.shogi_board.specs.declared.kind.Kind.TheVariants.{Pawn}
 use Rattle.shogi_board.specs.declared.kind.Piece.{Piece}
 use Rattle.shogi_board.specs.declared.square.Square.{Square}
-use Rattle.shogi_board.proofs.Between.{offset}
 use Rattle.shogi_board.proofs.Check.{king-safe}
-use Rattle.shogi_board.proofs.Rays.{ray-at, step-near}
+use Rattle.shogi_board.proofs.Between.{offset}
+use Rattle.shogi_board.proofs.Rays.{ray-at}
+use Rattle.shogi_board.proofs.Turned.{at-turned, turn-reach, turned-square}
+use Rattle.shogi_board.proofs.Pieces.{mover-is}
+use Rattle.shogi_board.specs.Turned.{turned_cell}
 
 pub even-full : (k : Kind) → total (bare_board even_cells) k ≡ limit k
 even-full Pawn = refl
@@ -56,22 +59,18 @@ grid-at test s h =
     all_below-at (λ r. test (get_or even_cells ((s.file - 1) * 9 + r) None) r) 9 (s.rank - 1)
     (all_below-at (λ f. all_below (λ r. test (get_or even_cells (f * 9 + r) None) r) 9) 9 (s.file - 1) h (omega arith)) (omega arith)
 
-abbrev is_ranked : Color → ℕ → Bool
-is_ranked Black r = nat_le 6 r
-is_ranked White r = nat_le r 2
-
--- black's pieces are on the ranks 7 to 9, white's on 1 to 3
+-- black's pieces are on the ranks 7 to 9
 abbrev is_home : Option Piece → ℕ → Bool
 is_home None r = true
-is_home (Some p) r = is_ranked p.color r
+is_home (Some p) r = same_color p.color White || nat_le 6 r
 
 home : grid is_home ≡ true
 unfolding all_below
 home = refl
 
--- the ranks 3 and 7 are full
+-- rank 3 is full
 abbrev is_full_rank : Option Piece → ℕ → Bool
-is_full_rank cell r = (not (r == 2) && not (r == 6)) || is_some cell
+is_full_rank cell r = not (r == 2) || is_some cell
 
 full : grid is_full_rank ≡ true
 unfolding all_below
@@ -80,25 +79,12 @@ full = refl
 black-rank : (a : Square) (p : Piece) → at even_cells a ≡ Some p → p.color ≡ Black → 7 ≤ a.rank
 black-rank a p h e =
     let t = grid-at is_home a home in
-    let u : is_ranked p.color (a.rank - 1) ≡ true = rw h at t in
-    let v : nat_le 6 (a.rank - 1) ≡ true = rw e at u in
+    let v : nat_le 6 (a.rank - 1) ≡ true = rw (h, e) at t in
     let w : 6 ≤ a.rank - 1 = grind arith in
     omega arith
 
-white-rank : (a : Square) (p : Piece) → at even_cells a ≡ Some p → p.color ≡ White → a.rank ≤ 3
-white-rank a p h e =
-    let t = grid-at is_home a home in
-    let u : is_ranked p.color (a.rank - 1) ≡ true = rw h at t in
-    let v : nat_le (a.rank - 1) 2 ≡ true = rw e at u in
-    let w : a.rank - 1 ≤ 2 = grind arith in
-    omega arith
-
-not-empty : (s : Square) → (s.rank ≡ 3) ⊎ (s.rank ≡ 7) → at even_cells s ≡ None → ⊥
-not-empty s (inl e) h =
-    let t = grid-at is_full_rank s full in
-    let u = rw (h, e) at t in
-    cc
-not-empty s (inr e) h =
+not-empty : (s : Square) → s.rank ≡ 3 → at even_cells s ≡ None → ⊥
+not-empty s e h =
     let t = grid-at is_full_rank s full in
     let u = rw (h, e) at t in
     cc
@@ -121,15 +107,8 @@ white-front d ray e =
     let b : d.files ≤ 3 = ray.1 in
     (record { file = 9 - 2 * d.files; rank = 3; on_board = (omega arith, omega arith, lit≤ tt, lit≤ tt) }, refl, (omega arith, omega arith))
 
-black-front : (d : Direction) → IsRay d → d.ranks ≡ 3 → (s : Square) × (s.rank ≡ 7) × IsAway s d 2 black_king
-unfolding black_king
-black-front d ray e =
-    let a : 1 ≤ d.files = ray.0 in
-    let b : d.files ≤ 3 = ray.1 in
-    (record { file = 9 - 2 * d.files; rank = 7; on_board = (omega arith, omega arith, lit≤ tt, lit≤ tt) }, refl, (omega arith, omega arith))
-
 -- a look that would pass the square in front of the pawns' rank does not reach the king
-blocked : (a s b : Square) (d : Direction) (n : ℕ) → 3 ≤ n → (s.rank ≡ 3) ⊎ (s.rank ≡ 7) → IsAway s d 2 b → IsAway a d n b → IsClear even_cells a d n → ⊥
+blocked : (a s b : Square) (d : Direction) (n : ℕ) → 3 ≤ n → s.rank ≡ 3 → IsAway s d 2 b → IsAway a d n b → IsClear even_cells a d n → ⊥
 blocked a s b d n far rank short away clear =
     let e : n ≡ (n - 2) + 2 = omega arith in
     let long : IsAway a d ((n - 2) + 2) b = rw (← e) away in
@@ -139,25 +118,11 @@ white-seen : (a : Square) (d : Direction) → IsRay d → 7 ≤ a.rank → InSig
 unfolding white_king
 white-seen a d ray far sight =
     elim (offset a.rank 1 sight.distance d.ranks ray.2 ray.3 sight.away.1) [
-      | inl one ↦
-          let n = one.1 in
-          let front = white-front d ray one.0 in
-          blocked a front.0 white_king d sight.distance (omega arith) (inl front.1) front.2 sight.away sight.clear
-      | inr more ↦ elim more [ inl two ↦ let e = two.1 in omega arith | inr three ↦ let e = three.1 in omega arith ]
-    ]
-
-black-seen : (a : Square) (d : Direction) → IsRay d → a.rank ≤ 3 → InSight even_cells a d black_king → ⊥
-unfolding black_king
-black-seen a d ray far sight =
-    elim (offset a.rank 9 sight.distance d.ranks ray.2 ray.3 sight.away.1) [
-      | inl one ↦ let e = one.1 in omega arith
-      | inr more ↦ elim more [
-        | inl two ↦ let e = two.1 in omega arith
-        | inr three ↦
-            let n = three.1 in
-            let front = black-front d ray three.0 in
-            blocked a front.0 black_king d sight.distance (omega arith) (inr front.1) front.2 sight.away sight.clear
-      ]
+      | inl up ↦
+          let front = white-front d ray up.0 in
+          let away = up.1 in
+          blocked a front.0 white_king d sight.distance (omega (arith, away, far)) front.1 front.2 sight.away sight.clear
+      | inr other ↦ grind arith
     ]
 
 white-safe : Attacked even_cells White white_king → ⊥
@@ -173,19 +138,14 @@ white-safe (a, attack) =
           white-seen a (turned_for reach.mover.color slide.1) (ray-at reach.mover.color reach.mover.kind slide.0 slide.1 slide.2 slide.3) far slide.4
     ]
 
+-- the even board turned round is the same
 black-safe : Attacked even_cells Black black_king → ⊥
-unfolding black_king
+unfolding white_king black_king
 black-safe (a, attack) =
-    let far : a.rank ≤ 3 = white-rank a attack.reach.mover attack.reach.stands attack.enemy in
-    let reach = attack.reach in
-    elim reach.moves [
-      | inl step ↦
-          let away : IsAway a (turned_for reach.mover.color step.1) 1 black_king = step.4 in
-          let near = step-near reach.mover.color reach.mover.kind step.0 step.1 step.2 step.3 in
-          omega (arith, away.1, near.1)
-      | inr slide ↦
-          black-seen a (turned_for reach.mover.color slide.1) (ray-at reach.mover.color reach.mover.kind slide.0 slide.1 slide.2 slide.3) far slide.4
-    ]
+    let t = turned-square a in
+    let reach = turn-reach even_cells a black_king t.0 white_king refl t.1 (refl, refl) attack.reach in
+    let mover = mover-is even_cells t.0 white_king (record attack.reach.mover { color = opponent attack.reach.mover.color }) (at-turned even_cells a t.0 refl t.1 ∙ ap turned_cell attack.reach.stands) reach in
+    white-safe (t.0, record { reach = reach; enemy = ap (λ (p : Piece). p.color) mover ∙ ap opponent attack.enemy })
 
 -- neither king is attacked
 pub even-safe : (c : Color) → InCheck even_cells c → ⊥

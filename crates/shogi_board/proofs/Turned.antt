@@ -48,7 +48,7 @@ at-turned cells s t whole p =
     ∙ ap (λ n. get_or (map turned_cell cells) n None) seat
     ∙ get_or-map turned_cell cells (place s) None None (omega arith)
 
-turned-square : (s : Square) → (t : Square) × IsTurned s t
+pub turned-square : (s : Square) → (t : Square) × IsTurned s t
 turned-square s =
     let h = s.on_board in
     (record { file = 10 - s.file; rank = 10 - s.rank; on_board = (omega arith, omega arith, omega arith, omega arith) }, (omega arith, omega arith))
