@@ -6,7 +6,7 @@ use Rattle.std.specs.Io.KnownBytes.{Appends}
 use Rattle.std.specs.Str.{IsUtf8}
 use Rattle.csa_record.specs.declared.flow.FlowFault.{FlowFault}
 use Rattle.archive_commands.specs.Many.{StopsAt, StopsAmong, PrintsAll, PrintsFile, Printed, no_text, printed_of}
-use Rattle.archive_commands.specs.Lines.{unreadable_line}
+use Rattle.archive_commands.specs.Lines.{AreUnreadableLines}
 use Rattle.archive_commands.specs.Lists.{items_of}
 use Rattle.archive_commands.specs.declared.many.Tally.{Tally}
 use Rattle.archive_commands.specs.declared.lines.LineForm.{LineForm}
@@ -39,7 +39,7 @@ all_printed U O bytes form files i now end = subst (λ fs. PrintsAll U O bytes f
 -- the path of a file is not UTF-8
 pub no_text_printed : {Input : Type 0} (Unopened : Option (List ℕ) → Type 0) (Opened : Option (List ℕ) → Input → Type 0) (bytes : Input → Option (List ℕ)) (form : LineForm)
     (path : List ℕ) (out err new : Option (List ℕ)) (tally : Tally) (answer : Result Tally FlowFault) → (IsUtf8 path → ⊥)
-    → OnOk answer ((name : List ℕ) × Appends err new (unreadable_line name)) → IfOk answer (λ after. after ≡ record tally { unreadable = tally.unreadable + 1 })
+    → OnOk answer ((name : List ℕ) × (text : List ℕ) × AreUnreadableLines name text × Appends err new text) → IfOk answer (λ after. after ≡ record tally { unreadable = tally.unreadable + 1 })
     → IfOk answer (λ after. PrintsFile Unopened Opened bytes form path (printed_of out err tally) (printed_of out new after))
 no_text_printed U O bytes form path out err new tally (Err fault) other printed is = tt
-no_text_printed U O bytes form path out err new tally (Ok after) other printed is = no_text printed.0 other refl printed.1 is
+no_text_printed U O bytes form path out err new tally (Ok after) other printed is = no_text printed.0 printed.1 other printed.2 refl printed.3 is

@@ -21,7 +21,10 @@ IsPlaceLine file text = (text ≡ []) ⊎ ((line : ℕ) × (words : List ℕ)
     × (text ≡ 32 ∷ 32 ∷ (file
     ++ (codes ", line " ++ (decimal line ++ (codes ": " ++ (words ++ 10 ∷ [])))))))
 
+-- the line that gives a reason in these words
+abbrev pub reason_line : List ℕ → List ℕ → List ℕ
+reason_line file words = 32 ∷ 32 ∷ (file ++ (codes ": " ++ (words ++ 10 ∷ [])))
+
 -- there is no line, or it gives a reason
 abbrev pub IsReasonLine : List ℕ → List ℕ → Type 0
-IsReasonLine file text = (text ≡ [])
-    ⊎ ((words : List ℕ) × (text ≡ 32 ∷ 32 ∷ (file ++ (codes ": " ++ (words ++ 10 ∷ [])))))
+IsReasonLine file text = (text ≡ []) ⊎ ((words : List ℕ) × (text ≡ reason_line file words))

@@ -4,7 +4,7 @@ use Rattle.std.specs.Io.KnownBytes.{Appends}
 use Rattle.std.specs.Str.{IsUtf8}
 use Rattle.csa_record.specs.declared.flow.FlowFault.{FlowFault}
 use Rattle.csa_record.specs.declared.flow.FlowFault.TheVariants.{Refused, ReadFault, WriteFault, OutOfMemory}
-use Rattle.archive_commands.specs.Lines.{AreRefusedLines, AreUnreadableLines, HasLine, IsLineOf, unreadable_line}
+use Rattle.archive_commands.specs.Lines.{AreRefusedLines, AreUnreadableLines, HasLine, IsLineOf}
 use Rattle.record_commands.specs.Reports.{GetsRecord}
 use Rattle.archive_commands.specs.declared.lines.LineForm.{LineForm}
 use Rattle.archive_commands.specs.declared.many.Tally.{Tally}
@@ -53,8 +53,8 @@ pub data PrintsFile {Input : Type 0} (Unopened : Option (List ℕ) → Type 0)
       → AreUnreadableLines file text → new.out ≡ old.out → Appends old.err new.err text
       → new.tally ≡ record old.tally { unreadable = old.tally.unreadable + 1 }
       → PrintsFile Unopened Opened bytes form file old new
-  no_text : (name : List ℕ) → (IsUtf8 file → ⊥)
-      → new.out ≡ old.out → Appends old.err new.err (unreadable_line name)
+  no_text : (name text : List ℕ) → (IsUtf8 file → ⊥)
+      → AreUnreadableLines name text → new.out ≡ old.out → Appends old.err new.err text
       → new.tally ≡ record old.tally { unreadable = old.tally.unreadable + 1 }
       → PrintsFile Unopened Opened bytes form file old new
 

@@ -1,9 +1,9 @@
 //! A second line about a file that is refused or cannot be read: where its statement is, or the
 //! system's reason.
 
-ghost use Rattle.std.specs.Prelude.{◌≡◌, ◌+◌, ◌-◌, ◌^◌, ◌<◌, ◌≤◌, ◌==◌, ◌++◌, ℕ, List, length, IfOk, IfSome, if◌then◌else◌, string_bytes};
+ghost use Rattle.std.specs.Prelude.{◌≡◌, ◌+◌, ◌-◌, ◌^◌, ◌<◌, ◌≤◌, ◌==◌, ◌++◌, ℕ, List, codes, length, IfOk, IfSome, if◌then◌else◌, string_bytes};
 ghost use Rattle.std.specs.Io.KnownBytes.{Consumes};
-ghost use Rattle.archive_commands.specs.Explaining.{IsPlaceLine, IsReasonLine, ends_line, line_ends, line_number};
+ghost use Rattle.archive_commands.specs.Explaining.{IsPlaceLine, IsReasonLine, ends_line, line_ends, line_number, reason_line};
 
 use crate::folders;
 use csa_record::{PIECE, Refusal, read_uninterrupted};
@@ -69,6 +69,18 @@ pub fn unreadable<R: Files + AllocGlobal>(rt: &R, file: &str) -> Result<String, 
     }
 }
 
+/// The line that says that the name of a file is not UTF-8. `file` is the name with its bytes
+/// escaped.
+///
+/// Returns an error if an allocation fails.
+pub fn name_not_text(alloc: Global, file: &str) -> Result<String, OutOfMemory>
+    ensures words { IfOk result (λ text. string_bytes text
+        ≡ reason_line file.now (codes "the name is not UTF-8")) }
+    ensures line { IfOk result (λ text. IsReasonLine file.now (string_bytes text)) }
+{
+    line_with(alloc, file, "the name is not UTF-8")
+}
+
 // The file, or why it cannot be opened. Neither standard input nor a pipe can be read again.
 fn opened_again<R: Files>(rt: &R, file: &str) -> Option<io::Result<R::File>> {
     if file == "-" || is_pipe(rt, file) {
@@ -107,7 +119,15 @@ fn reason_line(
     let words = format!(in alloc; "{error}")?;
     let reason = without_number(&words);
     let explained = format!(in alloc; "{reason}{hint}")?;
-    Ok(format!(in alloc; "  {file}: {explained}\n")?)
+    line_with(alloc, file, &explained)
+}
+
+// The line about a file with a reason.
+fn line_with(alloc: Global, file: &str, reason: &str) -> Result<String, OutOfMemory>
+    ensures words { IfOk result (λ text. string_bytes text ≡ reason_line file.now reason.now) }
+    ensures line { IfOk result (λ text. IsReasonLine file.now (string_bytes text)) }
+{
+    Ok(format!(in alloc; "  {file}: {reason}\n")?)
 }
 
 fn without_number(words: &str) -> &str {

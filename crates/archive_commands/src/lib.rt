@@ -27,4 +27,4 @@ pub mod same;
 
 pub use lines::LineKind;
 pub use many::Tally;
-pub use notices::{Notices, StandardError, Verbosity};
+pub use notices::{Notices, OutputPlace, StandardError, Verbosity};

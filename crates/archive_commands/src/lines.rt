@@ -195,12 +195,19 @@ pub fn unreadable_lines<E: Notices>(
     Ok(lines)
 }
 
-/// The line about a file whose path is not UTF-8, with LF. Bytes that are not printable ASCII are
-/// escaped in it.
-pub fn not_text_line(alloc: Global, path: &[u8]) -> Result<String, OutOfMemory>
+/// The lines about a file whose path is not UTF-8, each with LF. Bytes that are not printable ASCII
+/// are escaped in them.
+pub fn not_text_lines<E: Notices>(
+    alloc: Global,
+    path: &[u8],
+    notices: &E,
+) -> Result<String, OutOfMemory>
     ensures { IfOk result
-        (λ text. (name : List ℕ) × (string_bytes text ≡ unreadable_line name)) }
+        (λ text. (name : List ℕ) × AreUnreadableLines name (string_bytes text)) }
 {
     let name = format!(in alloc; "{}", path.escape_ascii())?;
-    unreadable_line(alloc, &name)
+    let mut lines = unreadable_line(alloc, &name)?;
+    let explanation = notices.name_explained(&name)?;
+    lines.push_str(&explanation)?;
+    Ok(lines)
 }

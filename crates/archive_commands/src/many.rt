@@ -3,7 +3,7 @@
 ghost use Rattle.std.specs.Prelude.{◌≡◌, ℕ, ◌+◌, ◌-◌, ◌^◌, ◌<◌, List, length, IfErr, IfOk, OnErr, OnOk, Some};
 ghost use Rattle.std.specs.Io.KnownBytes.{Appends};
 ghost use Rattle.csa_record.specs.declared.flow.FlowFault.{FlowFault};
-ghost use Rattle.archive_commands.specs.Lines.{unreadable_line};
+ghost use Rattle.archive_commands.specs.Lines.{AreUnreadableLines};
 ghost use Rattle.archive_commands.specs.Lists.{items_of};
 ghost use Rattle.archive_commands.specs.Many.{StopsAmong, PrintsAll, PrintsFile, printed_of, StopsAt, counted, no_file, tally_line};
 
@@ -196,7 +196,7 @@ fn print_file<I: Inputs, W: Write, E: Notices>(
     }
 }
 
-// Prints the line about a file whose path is not UTF-8, and counts it.
+// Prints the lines about a file whose path is not UTF-8, and counts it.
 fn print_no_text<E: Notices>(
     alloc: Global,
     path: &[u8],
@@ -204,17 +204,18 @@ fn print_no_text<E: Notices>(
     tally: Tally,
 ) -> Result<Tally, FlowFault>
     requires room { counted tally < 2 ^ 64 - 1 }
-    ensures printed { OnOk result ((name : List ℕ)
-        × Appends (E.shown notices.old) (E.shown notices.new) (unreadable_line name)) }
+    ensures printed { OnOk result ((name : List ℕ) × (text : List ℕ)
+        × AreUnreadableLines name text
+        × Appends (E.shown notices.old) (E.shown notices.new) text) }
     ensures count { IfOk result
         (λ after. after ≡ record tally { unreadable = tally.unreadable + 1 }) }
     ensures stops { IfErr result (λ fault. fault ≡ FlowFault.OutOfMemory) }
     ensures silent { OnErr result (E.shown notices.new ≡ E.shown notices.old) }
 {
-    let Ok(line) = lines::not_text_line(alloc, path) else {
+    let Ok(text) = lines::not_text_lines(alloc, path, notices) else {
         return Err(FlowFault::OutOfMemory);
     };
-    notices.show(&line);
+    notices.show(&text);
     Ok(Tally {
         unreadable: tally.unreadable + 1,
         ..tally

@@ -18,8 +18,20 @@ pub struct Verbosity {
     pub is_explained: bool,
     /// Whether progress is shown, in a line that is rewritten. Only for a terminal.
     pub shows_progress: bool,
-    /// Whether standard output is a terminal too. Then progress is erased before a line goes there.
-    pub shares_terminal: bool,
+    /// Where standard output goes.
+    pub output: OutputPlace,
+}
+
+/// Where standard output goes, as far as the line of progress is concerned.
+#[derive(Clone, Copy)]
+pub enum OutputPlace {
+    /// Not to a terminal.
+    Elsewhere,
+    /// To a terminal, in lines. Progress is erased before each.
+    Terminal,
+    /// To a terminal, without line ends. Progress is erased before more goes there, and is then
+    /// shown on a line of its own.
+    TerminalWithoutLineEnds,
 }
 
 /// What takes the lines for standard error.
@@ -47,6 +59,13 @@ pub trait Notices {
     fn read_fault_explained(&self, file: &str) -> Result<String, OutOfMemory>
         ensures { IfOk result (λ text. IsReasonLine file.now (string_bytes text)) };
 
+    /// The line that explains that a file's name is not UTF-8, with LF, or nothing. `file` is the
+    /// name with its bytes escaped.
+    ///
+    /// Returns an error if an allocation fails.
+    fn name_explained(&self, file: &str) -> Result<String, OutOfMemory>
+        ensures { IfOk result (λ text. IsReasonLine file.now (string_bytes text)) };
+
     /// Called before a line goes to standard output. Erases the line of progress if both would be
     /// on one terminal.
     fn make_way(&mut self)
@@ -66,7 +85,7 @@ pub trait Notices {
 pub struct StandardError<'a, R> {
     rt: &'a R,
     is_explained: bool,
-    shares_terminal: bool,
+    output: OutputPlace,
     progress: Progress,
 }
 
@@ -81,7 +100,7 @@ impl<'a, R: Clock + Eprint> StandardError<'a, R> {
         StandardError {
             rt,
             is_explained: verbosity.is_explained,
-            shares_terminal: verbosity.shares_terminal,
+            output: verbosity.output,
             progress,
         }
     }
@@ -109,9 +128,21 @@ impl<R: Files + Clock + Eprint + AllocGlobal> Notices for StandardError<'_, R> {
         explain::unreadable(self.rt, file)
     }
 
+    fn name_explained(&self, file: &str) -> Result<String, OutOfMemory> {
+        if !self.is_explained {
+            return Ok(String::new(self.rt.alloc()));
+        }
+        explain::name_not_text(self.rt.alloc(), file)
+    }
+
     fn make_way(&mut self) {
-        if self.shares_terminal {
-            self.progress.erase(self.rt);
+        match self.output {
+            OutputPlace::Elsewhere => {}
+            OutputPlace::Terminal => self.progress.erase(self.rt),
+            OutputPlace::TerminalWithoutLineEnds => {
+                self.progress.erase(self.rt);
+                self.progress.leave_line();
+            }
         }
     }
 

@@ -18,6 +18,8 @@ pub(crate) struct Progress {
     written: Duration,
     // Whether the line is on the terminal now.
     is_shown: bool,
+    // Whether something else is on the terminal's last line, so that the next one is begun.
+    needs_line: bool,
 }
 
 impl Progress {
@@ -29,6 +31,7 @@ impl Progress {
             start: None,
             written: Duration::ZERO,
             is_shown: false,
+            needs_line: false,
         }
     }
 
@@ -61,7 +64,14 @@ impl Progress {
             done: self.done,
             elapsed,
         };
-        let _ = rt.eprint(format_args!("\r{line}\x1b[K"));
+        let beginning = if self.needs_line { '\n' } else { '\r' };
+        self.needs_line = false;
+        let _ = rt.eprint(format_args!("{beginning}{line}\x1b[K"));
+    }
+
+    /// Leaves the terminal's last line to what is printed there.
+    pub(crate) fn leave_line(&mut self) {
+        self.needs_line = true;
     }
 
     /// Takes the line off the terminal, if it is there.

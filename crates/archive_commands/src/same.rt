@@ -263,7 +263,7 @@ fn lines_of<E: Notices>(
     notices: &E,
 ) -> Result<String, OutOfMemory> {
     let Ok(file) = str::from_utf8(path) else {
-        return lines::not_text_line(alloc, path);
+        return lines::not_text_lines(alloc, path, notices);
     };
     match placing {
         Placing::Refused(refusal) => lines::refused_lines(alloc, file, refusal, notices),

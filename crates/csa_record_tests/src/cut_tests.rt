@@ -99,9 +99,9 @@ fn text_of(
     }
 }
 
-// Feeds a piece of a short record, for which there is room.
+// Feeds a piece of a record of at most 100,000 bytes.
 fn feed(reader: &mut RecordReader, piece: &[u8]) -> Result<(), Refusal> {
-    if reader.fed() > 10_000 || piece.len() > 10_000 {
+    if reader.fed() > 100_000 || piece.len() > 100_000 {
         return Ok(());
     }
     reader.feed(piece)
@@ -114,12 +114,9 @@ fn in_two(alloc: Global, front: &[u8], following: &[u8]) -> Result<Record, Refus
     reader.finish()
 }
 
-// Feeds so many of the last bytes one by one, and those before them at once.
-fn byte_by_byte(alloc: Global, source: &[u8], count: usize) -> Result<Record, Refusal> {
+fn byte_by_byte(alloc: Global, source: &[u8]) -> Result<Record, Refusal> {
     let mut reader = RecordReader::new(alloc);
-    let first = source.len().saturating_sub(count);
-    feed(&mut reader, &source[..first])?;
-    for at in first..source.len() {
+    for at in 0..source.len() {
         feed(&mut reader, &source[at..=at])?;
     }
     reader.finish()
@@ -137,16 +134,16 @@ fn reads_in_two(alloc: Global, source: &[u8]) -> Result<bool, Fail> {
     Ok(true)
 }
 
-// A record whose last bytes come one by one is read like the whole.
-fn is_read_alike(alloc: Global, source: &[u8], count: usize) -> Result<bool, Fail> {
+// A record whose bytes come one by one is read like the whole.
+fn is_read_alike(alloc: Global, source: &[u8]) -> Result<bool, Fail> {
     let whole = text_of(alloc, read(alloc, source))?;
-    Ok(text_of(alloc, byte_by_byte(alloc, source, count))? == whole)
+    Ok(text_of(alloc, byte_by_byte(alloc, source))? == whole)
 }
 
-// What is left of a record that ends at any place is read byte by byte like the whole.
-fn reads_byte_by_byte(alloc: Global, source: &[u8], count: usize) -> Result<bool, Fail> {
-    for at in 0..=source.len() {
-        if !is_read_alike(alloc, &source[..at], count)? {
+// What is left of a record that ends at any of its last places is read byte by byte like the whole.
+fn reads_byte_by_byte(alloc: Global, source: &[u8], places: usize) -> Result<bool, Fail> {
+    for at in source.len().saturating_sub(places)..=source.len() {
+        if !is_read_alike(alloc, &source[..at])? {
             return Ok(false);
         }
     }
@@ -181,8 +178,61 @@ fn long_names_cut_anywhere_are_read_alike(rt: HostRuntime) -> Result<(), Fail> {
     for length in [4094, 4095] {
         let source = named(rt.alloc(), length)?;
         assert!(rt; reads_in_two(rt.alloc(), source.as_slice())?);
-        assert!(rt; reads_byte_by_byte(rt.alloc(), source.as_slice(), 16)?);
-        assert!(rt; is_read_alike(rt.alloc(), source.as_slice(), usize::MAX)?);
+        assert!(rt; reads_byte_by_byte(rt.alloc(), source.as_slice(), usize::MAX)?);
     }
+    Ok(())
+}
+
+// Where black's rook is after so many of its moves: round the files 1 and 2.
+fn black_rook(moves: usize) -> usize {
+    let step = moves % 18;
+    if step < 9 { 11 + step } else { 38 - step }
+}
+
+// Where white's rook is after so many of its moves: round the files 4 and 5, but for the square 58.
+fn white_rook(moves: usize) -> usize {
+    let step = moves % 17;
+    match step {
+        0..=8 => 41 + step,
+        9 => 59,
+        _ => 67 - step,
+    }
+}
+
+// Black's move after so many: a rook's, or a pawn's before a position occurs for the fourth time.
+fn black_move(alloc: Global, moves: usize) -> Result<String, Fail>
+    requires { moves < 5000 }
+{
+    let pushes = moves / 750;
+    if moves % 750 == 749 {
+        let pawn = 98 - pushes;
+        let target = pawn - 1;
+        return Ok(format!(in alloc; "+{pawn}{target}FU\n")?);
+    }
+    let from = black_rook(moves - pushes);
+    let to = black_rook(moves - pushes + 1);
+    Ok(format!(in alloc; "+{from}{to}HI\n")?)
+}
+
+// A record of 10,000 moves.
+fn longest(alloc: Global) -> Result<Vec<u8>, Fail> {
+    let mut source = Vec::from_slice(alloc, b"P+11HI98FU\nP-41HI\n+\n")?;
+    for moves in 0..5000usize {
+        let black = black_move(alloc, moves)?;
+        let from = white_rook(moves);
+        let to = white_rook(moves + 1);
+        let white = format!(in alloc; "-{from}{to}HI\n")?;
+        source.extend_from_slice(black.as_bytes())?;
+        source.extend_from_slice(white.as_bytes())?;
+    }
+    Ok(source)
+}
+
+#[test]
+fn the_longest_game_cut_at_its_end_is_read_alike(rt: HostRuntime) -> Result<(), Fail> {
+    let mut source = longest(rt.alloc())?;
+    source.extend_from_slice(b"%TORYO\n")?;
+    assert!(rt; read(rt.alloc(), source.as_slice())?.line().moves().len() == 10_000);
+    assert!(rt; reads_byte_by_byte(rt.alloc(), source.as_slice(), 64)?);
     Ok(())
 }

@@ -45,12 +45,12 @@ pub same_step : (old : Session) (e f : Event) (to_engine to_server : List ℕ) (
 same_step old e f to_engine to_server status new same step = subst (λ x. Steps old x to_engine to_server status new) same step
 
 -- what comes from the peer that the bridge waits for is its next step
-pub comes_next : {E : Type 0} (came : Gives E) (e : E) (s : Session) (old : Ended) (peer : Peer) (waits : Waits) (what : LineEvent) (line shown : List ℕ) (f : E) (to_engine to_server : List ℕ) (status : Status) (t : Session) (new : Ended) (before after : Snapshot)
+pub comes_next : {E : Type 0} (came : Gives E) (e : E) (s : Session) (old : Ended) (peer : Peer) (waits : Waits) (what : LineEvent) (line : List ℕ) (f : E) (to_engine to_server : List ℕ) (status : Status) (t : Session) (new : Ended) (before after : Snapshot)
     → peer ≡ peer_for waits → waits ≡ waits_for s.state
     → came e peer (event_from peer what line) f → Steps s (event_from peer what line) to_engine to_server status t
-    → shown ≡ line → IsSnapshotOf s before → IsSnapshotOf t after → IsKeptOf before after shown peer status old new what
+    → IsSnapshotOf s before → IsSnapshotOf t after → IsKeptOf before after line peer status old new what
     → ComesNext came e s old to_engine to_server status f t new
-comes_next came e s old peer waits what line shown f to_engine to_server status t new before after is_peer is_waits arrived step same at_first at_last kept = record {
+comes_next came e s old peer waits what line f to_engine to_server status t new before after is_peer is_waits arrived step at_first at_last kept = record {
   event = event_from peer what line;
   arrived = subst (λ x. came e x (event_from peer what line) f) (is_peer ∙ ap peer_for is_waits) arrived;
   step = step;
@@ -63,7 +63,7 @@ comes_next came e s old peer waits what line shown f to_engine to_server status 
     after = after;
     at_first = at_first;
     at_last = at_last;
-    kept = subst (λ l. IsKeptOf before after l peer status old new what) same kept;
+    kept = kept;
   };
 }
 

@@ -25,7 +25,11 @@ no_port_missed (PlanFailed why) differs = λ e. differs cc
 no_port_missed (LoginFailed why) none = absurd none
 no_port_missed (MatchFailed why) is = λ e. absurd cc
 
--- nor does a game
+-- nor does the fault of a game
+pub match_missed : (fault : MatchFault) → MatchFailed fault ≢ PlanFailed NoPort
+match_missed fault = λ e. absurd cc
+
+-- nor does what came of a game
 pub fault_of_run : (plan : Plan) (answer : Result ⊤ PlayCommandFault) → HasSoundWords plan → IfErr answer IsNoPlanFault → IfErr answer (IsRunFault plan)
 fault_of_run plan (Ok done) sound none = tt
 fault_of_run plan (Err fault) sound none = other fault sound (none NoPort)

@@ -58,8 +58,8 @@ abbrev pub ConnectsNot : Type 0 → Type 1
 ConnectsNot P = P → List ℕ → P → Type 0
 
 -- a child was ended after a session that ended so
-abbrev pub Ended : Type 0 → Type 0 → Type 1
-Ended P C = P → C → SessionEnd → P → Type 0
+abbrev pub EndsProgram : Type 0 → Type 0 → Type 1
+EndsProgram P C = P → C → SessionEnd → P → Type 0
 
 -- there is a connection to the address, and then the plan's engine was started
 pub record IsJoined {P C I W : Type 0} (thinks : Thinks P C I) (connects : Connects P W)
@@ -130,7 +130,7 @@ pub data IsPortless {P W : Type 0} (explained : Explains P) (connects : Connects
 -- at once, or it runs and was not joined; with the fault that is reported
 pub data IsUnstarted {P C W : Type 0} (serves : Serves P C) (serves_not : StartsNot P)
     (explained : Explains P) (connects : Connects P W) (connects_not : ConnectsNot P)
-    (thinks_not : StartsNot P) (ended : Ended P C) (plan : Plan) (p q : P)
+    (thinks_not : StartsNot P) (ended : EndsProgram P C) (plan : Plan) (p q : P)
     : MatchFault → Type 0 where
   no_memory : (program : Bor (List ℕ)) (max_moves : ℕ)
       → plan.server ≡ Started program max_moves → q ≡ p
@@ -169,7 +169,7 @@ pub record IsLogged {P L C I W : Type 0} (logs : MakesLog P L)
 pub data HasNoGame {P L C W : Type 0} (logs : MakesLog P L) (logs_not : MakesNoLog P)
     (serves : Serves P C) (serves_not : StartsNot P) (explained : Explains P)
     (connects : Connects P W) (connects_not : ConnectsNot P) (thinks_not : StartsNot P)
-    (ended : Ended P C) (plan : Plan) (p : P) (log : Option L) (q : P) : MatchFault → Type 0 where
+    (ended : EndsProgram P C) (plan : Plan) (p : P) (log : Option L) (q : P) : MatchFault → Type 0 where
   no_log : (fault : MatchFault) → logs_not p (log_name plan) (starts_server plan.server) q
       → IsFileFault fault
       → HasNoGame logs logs_not serves serves_not explained connects connects_not thinks_not ended
@@ -182,7 +182,7 @@ pub data HasNoGame {P L C W : Type 0} (logs : MakesLog P L) (logs_not : MakesNoL
       plan p log q fault
 
 -- the engine was ended and then the server, if it was started, both after a session that ended so
-pub data IsStopped {P C : Type 0} (ended : Ended P C)
+pub data IsStopped {P C : Type 0} (ended : EndsProgram P C)
     (p : P) (engine : C) (end : SessionEnd) (q : P) : Option C → Type 0 where
   both : (server : C) (between : P) → ended p engine end between
       → ended between server end q → IsStopped ended p engine end q (Some server)

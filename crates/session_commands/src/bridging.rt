@@ -232,10 +232,9 @@ impl<ER: Read + Drop, EW: Write + Drop, SR: Read + Drop, SW: Write + Drop> Ends
 /// Refuses `Session` if the session fails, `OutOfMemory` if an allocation fails, and `Endless` if
 /// the session goes on for 2^64 - 1 rounds.
 pub fn play<R: Eprint + AllocGlobal, E: Ends>(
-    rt: &R,
     bridge: &mut Bridge,
     ends: &mut E,
-    progress: &mut Progress,
+    progress: &mut Progress<'_, R>,
 ) -> Result<(), MatchFault>
     ensures done { OnOk result (Noted E.came E.went E.gone ends.old bridge.old
         progress.old.ended ends.new bridge.new progress.new.ended Done) }
@@ -272,7 +271,7 @@ pub fn play<R: Eprint + AllocGlobal, E: Ends>(
             Status::Failed(fault) => return Err(MatchFault::Session(fault)),
             Status::Lost => return Err(MatchFault::OutOfMemory),
         }
-        out = step_next(rt, bridge, ends, progress)?;
+        out = step_next(bridge, ends, progress)?;
     }
     Err(MatchFault::Endless)
 }
@@ -329,10 +328,9 @@ fn end_event(peer: Peer) -> Event<'static>
 
 // The step for what comes next from the peer that the bridge waits for.
 fn step_next<R: Eprint + AllocGlobal, E: Ends>(
-    rt: &R,
     bridge: &mut Bridge,
     ends: &mut E,
-    progress: &mut Progress,
+    progress: &mut Progress<'_, R>,
 ) -> Result<Out, OutOfMemory>
     ensures came { IfOk result (λ out. ComesNext E.came ends.old bridge.old progress.old.ended
         out.to_engine out.to_server out.status ends.new bridge.new progress.new.ended) }
@@ -348,43 +346,41 @@ fn step_next<R: Eprint + AllocGlobal, E: Ends>(
     let out = bridge.step(event(peer, read, line))?;
     let after = Snapshot::of(bridge);
     let is_move = was_on && is_shown(peer, read, out.status);
-    show_move(rt, progress, bridge, is_move, line);
-    keep_end(rt, progress, before, after, peer, read, line, out.status);
+    show_move(progress, bridge, is_move, ends);
+    keep_end(progress, before, after, ends, peer, read, out.status);
     Ok(out)
 }
 
-// Shows the line, if it may be a move that the bridge accepted.
-fn show_move<R: Eprint + AllocGlobal>(
-    rt: &R,
-    progress: &mut Progress,
+// Shows the last line from the server, if it may be a move that the bridge accepted.
+fn show_move<R: Eprint + AllocGlobal, E: Ends>(
+    progress: &mut Progress<'_, R>,
     bridge: &Bridge,
     is_move: bool,
-    line: &[u8],
+    ends: &E,
 )
     ensures { progress.new.ended ≡ progress.old.ended }
 {
     if is_move {
-        progress.show(rt, bridge, line);
+        progress.show(bridge, ends);
     }
 }
 
 // Keeps what came from the peer, if it says something of the end.
-fn keep_end<R: Eprint + AllocGlobal>(
-    rt: &R,
-    progress: &mut Progress,
+fn keep_end<R: Eprint + AllocGlobal, E: Ends>(
+    progress: &mut Progress<'_, R>,
     before: Snapshot,
     after: Snapshot,
+    ends: &E,
     peer: Peer,
     read: LineEvent,
-    line: &[u8],
     status: Status,
 )
-    ensures { IsKeptOf before after line.now peer status
+    ensures { IsKeptOf before after (E.last_line ends.now peer) peer status
         progress.old.ended progress.new.ended read }
 {
     match read {
-        LineEvent::Line => progress.watch(rt, before, after, peer, line, status),
-        LineEvent::Long => progress.watch_long(rt, peer),
+        LineEvent::Line => progress.watch(before, after, ends, peer, status),
+        LineEvent::Long => progress.watch_long(peer),
         LineEvent::End | LineEvent::Failed => {}
     }
 }

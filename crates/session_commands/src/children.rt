@@ -13,14 +13,14 @@ use crate::log_output::{LogWriter, StandardError, Stopwatch};
 use record_commands::incoming::Incoming;
 use session_setup::groups::{self, Member, Reach};
 use session_setup::paths::{ENGINE_ERRORS, SERVER_ERRORS};
-use session_setup::{MatchFault, login, memory_or};
+use session_setup::{MatchFault, SearchPath, login, memory_or};
 use shogi_session::SessionFault;
 use std::alloc::{AllocError, Global};
 use std::fs::{self, File};
 use std::io::{self, Eprint, Read, Write};
 use std::net::{Net, TcpListener, TcpStream};
 use std::process::{Child, Command, OpenProcess, Processes, Stdio};
-use std::rt::{Env, Files};
+use std::rt::Files;
 use std::time::{Clock, Duration};
 use std::{mem, thread};
 
@@ -199,6 +199,7 @@ impl ErrorOutputs {
 #[derive(Drop)]
 pub struct System<'a, R> {
     rt: &'a R,
+    search_path: &'a SearchPath,
     explains: bool,
     errors: ErrorOutputs,
     reason: Option<String>,
@@ -207,11 +208,12 @@ pub struct System<'a, R> {
 impl<'a, R> System<'a, R> {
     /// Those of this runtime. If `explains`, standard error gets the system's reason for each that
     /// cannot be started or connected to.
-    pub fn new(rt: &'a R, explains: bool) -> System<'a, R>
+    pub fn new(rt: &'a R, search_path: &'a SearchPath, explains: bool) -> System<'a, R>
         ensures explains { result.explains ≡ explains }
     {
         System {
             rt,
+            search_path,
             explains,
             errors: ErrorOutputs {
                 engine: ErrorOutput::Nowhere,
@@ -237,7 +239,6 @@ impl<R: Eprint + AllocGlobal> System<'_, R> {
 impl<
     'a,
     R: Files<File = File>
-        + Env
         + Net<Listener = TcpListener, Stream = TcpStream>
         + Processes
         + Clock
@@ -410,7 +411,7 @@ fn stream_of(errors: ErrorOutput) -> Stdio {
 }
 
 // Starts a program whose output is read, as the leader of a group if that can be.
-fn start<R: Env + Files + Processes + Eprint + AllocGlobal>(
+fn start<R: Files + Processes + Eprint + AllocGlobal>(
     system: &mut System<'_, R>,
     command: &mut Command<Global>,
     program: Peer,
@@ -420,7 +421,7 @@ fn start<R: Env + Files + Processes + Eprint + AllocGlobal>(
 {
     let stdin = input_of(program);
     let stderr = stream_of(system.errors.take(program));
-    let spawned = match groups::leading(system.rt, command)? {
+    let spawned = match groups::leading(system.rt, system.search_path, command)? {
         Some(mut leading) => spawn(system.rt, &mut leading, stdin, stderr, Reach::Group),
         None => spawn(system.rt, command, stdin, stderr, Reach::Itself),
     };

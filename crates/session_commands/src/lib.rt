@@ -32,4 +32,4 @@ pub mod serve;
 pub mod talk;
 pub mod wire;
 
-pub use progress::Progress;
+pub use progress::{Progress, Screen};

@@ -15,12 +15,12 @@ ghost use Rattle.shogi_session.specs.State.{client_state, first_state};
 use crate::bridging::{Ends, play};
 use crate::children::{Programs, SessionEnd, System};
 use crate::launcher::{Launcher, Local};
-use crate::progress::{Progress, say_server_waited_for};
+use crate::progress::{Progress, Screen};
 use record_commands::streams;
 use session_setup::disk::LocalDisk;
 use session_setup::login::{Login, RuntimeSecrets, Secrets, login_of};
 use session_setup::out_file::{Named, Place};
-use session_setup::{MatchFault, PlayCommandFault, paths};
+use session_setup::{MatchFault, PlayCommandFault, SearchPath, paths};
 use shogi_board::OutOfMemory;
 use shogi_session::{Bridge, ClientState, Config};
 use shogi_words::Plan;
@@ -58,17 +58,28 @@ pub fn run<
     ensures fault { IfErr result (IsRunFault plan.now) }
 {
     paths::check(plan)?;
-    paths::check_files(rt, plan)?;
+    let search_path = SearchPath::of(rt)?;
+    paths::check_files(rt, &search_path, plan)?;
     let secrets = RuntimeSecrets::new(rt);
-    let mut launcher = Local::new(rt.alloc(), System::new(rt, plan.is_shown));
+    let screen = Screen::new(rt, plan.is_shown);
+    let mut launcher = Local::new(rt.alloc(), System::new(rt, &search_path, plan.is_shown));
     let mut place = Named::new(rt.alloc(), LocalDisk::new(rt), plan.out);
     let mut out = io::writer(rt);
-    play_checked(rt, &secrets, &mut launcher, &mut place, &mut out, plan)
+    play_checked(
+        rt.alloc(),
+        &screen,
+        &secrets,
+        &mut launcher,
+        &mut place,
+        &mut out,
+        plan,
+    )
 }
 
 // Plays a game whose plan was checked, and adds to the log why there was none.
 fn play_checked<R: Eprint + AllocGlobal, S: Secrets, G: Programs + Drop, P: Place, W: Write>(
-    rt: &R,
+    alloc: Global,
+    screen: &Screen<'_, R>,
     secrets: &S,
     launcher: &mut Local<G>,
     place: &mut P,
@@ -78,7 +89,7 @@ fn play_checked<R: Eprint + AllocGlobal, S: Secrets, G: Programs + Drop, P: Plac
     requires { HasSoundWords plan.now }
     ensures fault { IfErr result IsNoPlanFault }
 {
-    let played = play_planned(rt, secrets, launcher, place, out, plan);
+    let played = play_planned(alloc, screen, secrets, launcher, place, out, plan);
     if let Err(fault) = played {
         launcher.note_fault(fault)?;
     }
@@ -88,7 +99,8 @@ fn play_checked<R: Eprint + AllocGlobal, S: Secrets, G: Programs + Drop, P: Plac
 // Plays the planned game between the programs of the launcher with the login that the plan asks
 // for, and prints the number of its moves.
 fn play_planned<R: Eprint + AllocGlobal, S: Secrets, H: Launcher, P: Place, W: Write>(
-    rt: &R,
+    alloc: Global,
+    screen: &Screen<'_, R>,
     secrets: &S,
     launcher: &mut H,
     place: &mut P,
@@ -108,15 +120,16 @@ fn play_planned<R: Eprint + AllocGlobal, S: Secrets, H: Launcher, P: Place, W: W
         ((launcher.new ≡ launcher.old) × (place.new ≡ place.old) × (out.new ≡ out.old))
         result }
 {
-    let login = login_of(rt.alloc(), secrets, plan)?;
-    report(rt, &login, launcher, place, out, plan)?;
+    let login = login_of(alloc, secrets, plan)?;
+    report(alloc, screen, &login, launcher, place, out, plan)?;
     Ok(())
 }
 
 // Plays the planned game between the programs of the launcher with that login, and prints the
 // number of its moves.
 fn report<R: Eprint + AllocGlobal, H: Launcher, P: Place, W: Write>(
-    rt: &R,
+    alloc: Global,
+    screen: &Screen<'_, R>,
     login: &Login,
     launcher: &mut H,
     place: &mut P,
@@ -131,8 +144,8 @@ fn report<R: Eprint + AllocGlobal, H: Launcher, P: Place, W: Write>(
         plan.now login.now launcher.old place.old launcher.new place.new)
         W.contents out.old out.new result }
 {
-    let moves = play_for(rt, login, launcher, place, plan)?;
-    print_moves(rt.alloc(), out, moves)
+    let moves = play_for(alloc, screen, login, launcher, place, plan)?;
+    print_moves(alloc, out, moves)
 }
 
 // Prints the line with the number of moves.
@@ -157,7 +170,8 @@ fn played_line(alloc: Global, moves: usize) -> Result<String, AllocError>
 // Plays the planned game between the programs of the launcher with that login, if its record can
 // be written. Returns the number of moves of the game.
 fn play_for<R: Eprint + AllocGlobal, H: Launcher, P: Place>(
-    rt: &R,
+    alloc: Global,
+    screen: &Screen<'_, R>,
     login: &Login,
     launcher: &mut H,
     place: &mut P,
@@ -171,13 +185,14 @@ fn play_for<R: Eprint + AllocGlobal, H: Launcher, P: Place>(
         plan.now login.now launcher.old place.old launcher.new place.new result }
 {
     let draft = place.begin()?;
-    play_in(rt, login, launcher, place, draft, plan)
+    play_in(alloc, screen, login, launcher, place, draft, plan)
 }
 
 // Plays the planned game between the programs of the launcher with that login, and writes its
 // record to the draft. Returns the number of moves of the game.
 fn play_in<R: Eprint + AllocGlobal, H: Launcher, P: Place>(
-    rt: &R,
+    alloc: Global,
+    screen: &Screen<'_, R>,
     login: &Login,
     launcher: &mut H,
     place: &mut P,
@@ -190,7 +205,7 @@ fn play_in<R: Eprint + AllocGlobal, H: Launcher, P: Place>(
         H.Peers.Ends.closed H.Peers.Ends.unclosed P.took P.refused P.dropped P.replaced draft
         plan.now login.now launcher.old place.old launcher.new place.new result }
 {
-    say_server_waited_for(rt, plan.is_shown);
+    screen.say_server_waited_for();
     let (mut peers, running) = match launcher.start(plan) {
         Ok(started) => started,
         Err(fault) => {
@@ -198,7 +213,7 @@ fn play_in<R: Eprint + AllocGlobal, H: Launcher, P: Place>(
             return Err(fault);
         }
     };
-    let mut bridge = match bridge_of(rt.alloc(), login, plan) {
+    let mut bridge = match bridge_of(alloc, login, plan) {
         Ok(bridge) => bridge,
         Err(_) => {
             place.abandon(draft);
@@ -206,7 +221,7 @@ fn play_in<R: Eprint + AllocGlobal, H: Launcher, P: Place>(
             return Err(MatchFault::OutOfMemory);
         }
     };
-    let game = play_between(rt, &mut bridge, &mut peers, place, draft, plan.is_shown);
+    let game = play_between(alloc, screen, &mut bridge, &mut peers, place, draft);
     launcher.stop(peers, running, game.session);
     game.moves
 }
@@ -221,25 +236,25 @@ struct Kept {
 
 // Plays between two ends, and keeps the game.
 fn play_between<R: Eprint + AllocGlobal, E: Ends, P: Place>(
-    rt: &R,
+    alloc: Global,
+    screen: &Screen<'_, R>,
     bridge: &mut Bridge,
     ends: &mut E,
     place: &mut P,
     draft: P::Draft,
-    is_shown: bool,
 ) -> Kept
     ensures whole { PlaysAndKeeps E.came E.missed E.went E.gone E.closed E.unclosed
         P.took P.refused P.dropped P.replaced draft ends.old bridge.old place.old
         ends.new bridge.new place.new result.session result.moves }
 {
-    let mut progress = Progress::new(is_shown);
-    progress.begin(rt);
-    let played = play(rt, bridge, ends, &mut progress);
-    progress.finish(rt, played);
+    let mut progress = Progress::new(screen);
+    progress.begin();
+    let played = play(bridge, ends, &mut progress);
+    progress.finish(played);
     let kept = keep_game(place, draft, bridge, played);
     Kept {
         session: session_end(played),
-        moves: close_log(rt.alloc(), ends, &progress, played, kept),
+        moves: close_log(alloc, ends, &progress, played, kept),
     }
 }
 
@@ -254,10 +269,10 @@ fn session_end(played: Result<(), MatchFault>) -> SessionEnd
 }
 
 // Adds to the log how the session ended. Returns what became of the game, or else the log's fault.
-fn close_log<E: Ends>(
+fn close_log<R, E: Ends>(
     alloc: Global,
     ends: &mut E,
-    progress: &Progress,
+    progress: &Progress<'_, R>,
     played: Result<(), MatchFault>,
     kept: Result<usize, MatchFault>,
 ) -> Result<usize, MatchFault>

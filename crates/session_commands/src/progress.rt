@@ -9,7 +9,7 @@ ghost use Rattle.session_commands.specs.Showing.{IsCountOf, IsShownEnd, IsShownE
 ghost use Rattle.session_lines.specs.MoveLines.{is_move_line};
 ghost use Rattle.shogi_session.specs.State.{client_state};
 
-use crate::bridging::Peer;
+use crate::bridging::{Ends, Peer};
 use crate::ending::{self, EndEvent, EndNotes, Excerpt, Snapshot};
 use session_lines::is_move_line;
 use session_setup::MatchFault;
@@ -19,9 +19,48 @@ use std::io::Eprint;
 use std::marker::Model;
 use std::str;
 
-/// Whether moves are shown, the number of the last one that was, and what was said of the end.
+/// Where a running game is shown, if it is: standard error.
+///
+/// It writes no text that it is given. What is shown is fixed words, and through a `Progress` what
+/// the peers sent. So a function that has the password and a screen cannot show the password.
 #[derive(Drop)]
-pub struct Progress {
+pub struct Screen<'a, R> {
+    rt: &'a R,
+    is_shown: bool,
+}
+
+impl<'a, R> Model for Screen<'a, R> {
+    ghost use Rattle.std.specs.Prelude.{Bool};
+
+    ghost Value = { Bool };
+
+    ghost view = { λ s. s.is_shown };
+}
+
+impl<'a, R> Screen<'a, R> {
+    /// The standard error of that runtime. Nothing is shown there unless `is_shown`.
+    pub fn new(rt: &'a R, is_shown: bool) -> Screen<'a, R>
+        ensures shown { result ≡ is_shown }
+    {
+        Screen { rt, is_shown }
+    }
+}
+
+impl<R: Eprint> Screen<'_, R> {
+    /// Says that the server is waited for, if anything is shown. An error of standard error is
+    /// ignored.
+    pub fn say_server_waited_for(&self) {
+        if self.is_shown {
+            let _ = self.rt.eprintln("waiting for the server");
+        }
+    }
+}
+
+/// The moves that are shown of a running game: the number of the last one that was, and what was
+/// said of the end.
+#[derive(Drop)]
+pub struct Progress<'a, R> {
+    rt: &'a R,
     is_shown: bool,
     moves: Option<u64>,
     ending: EndNotes,
@@ -30,7 +69,7 @@ pub struct Progress {
     server_line: Option<Excerpt>,
 }
 
-impl Model for Progress {
+impl<'a, R> Model for Progress<'a, R> {
     ghost use Rattle.std.specs.Prelude.{option_map};
     ghost use Rattle.session_commands.specs.Showing.{Showing};
 
@@ -47,28 +86,21 @@ impl Model for Progress {
     } };
 }
 
-impl Progress {
+impl<'a, R> Progress<'a, R> {
     /// No move has been shown yet.
-    pub fn new(is_shown: bool) -> Progress
-        ensures on { result.is_on ≡ is_shown }
+    pub fn new(screen: &Screen<'a, R>) -> Progress<'a, R>
+        ensures on { result.is_on ≡ screen.now }
         ensures moves { result.moves ≡ None }
         ensures ended { result.ended ≡ nothing_said }
         ensures last { result.last ≡ record { engine = None; server = None } }
     {
         Progress {
-            is_shown,
+            rt: screen.rt,
+            is_shown: screen.is_shown,
             moves: None,
             ending: EndNotes::new(),
             engine_line: None,
             server_line: None,
-        }
-    }
-
-    /// Says that the engine is waited for, if moves are shown. An error of standard error is
-    /// ignored.
-    pub fn begin<R: Eprint>(&self, rt: &R) {
-        if self.is_shown {
-            let _ = rt.eprintln("waiting for the engine");
         }
     }
 
@@ -81,62 +113,6 @@ impl Progress {
         self.is_shown && ending::is_in_play(bridge.client_state())
     }
 
-    /// If the line that the bridge took is a move, shows its number, the move and its time. An
-    /// error of standard error is ignored.
-    pub fn show<R: Eprint>(&mut self, rt: &R, bridge: &Bridge, line: &[u8])
-        ensures on { self.new.is_on ≡ self.old.is_on }
-        ensures last { self.new.last ≡ self.old.last }
-        ensures ended { self.new.ended ≡ self.old.ended }
-        ensures counted { (n : ℕ) → is_move_line line.now ≡ true
-            → self.old.moves ≡ Some n → n + 1 < 2 ^ 64 → self.new.moves ≡ Some (n + 1) }
-        ensures first { is_move_line line.now ≡ true → self.old.moves ≡ None
-            → (n : ℕ) × (self.new.moves ≡ Some n) × IsCountOf bridge.now.state.client n }
-        ensures other { is_move_line line.now ≡ false → self.new ≡ self.old }
-    {
-        if !is_move_line(line) {
-            return;
-        }
-        let number = match self.moves {
-            Some(moves) => moves.saturating_add(1),
-            None => first_number(bridge),
-        };
-        self.moves = Some(number);
-        if let Ok(text) = str::from_utf8(without_comment(line)) {
-            let _ = rt.eprintln(format_args!("{number} {text}"));
-        }
-    }
-
-    /// Keeps what a line from that peer says of the end, if it led the bridge from one snapshot to
-    /// the other and to this status. Shows it too, if moves are shown. An error of standard error
-    /// is ignored.
-    pub fn watch<R: Eprint + AllocGlobal>(
-        &mut self,
-        rt: &R,
-        before: Snapshot,
-        after: Snapshot,
-        peer: Peer,
-        line: &[u8],
-        status: Status,
-    )
-        ensures showing { (self.new.is_on ≡ self.old.is_on) × (self.new.moves ≡ self.old.moves) }
-        ensures last { self.new.last ≡ with_last peer (quoted line.now) self.old.last }
-        ensures ended { IsKeptAfter before after line.now peer status self.old.ended self.new.ended }
-    {
-        if self.is_shown && before.client == ClientState::Idle && after.client != before.client {
-            let _ = rt.eprintln("waiting for the server to begin a game");
-        }
-        self.keep_line(peer, line);
-        let Some(event) = ending::end_in(before, after, peer, line, status) else {
-            return;
-        };
-        self.ending.keep(event, line);
-        if self.is_shown {
-            if let Ok(text) = shown_end(rt.alloc(), event, line) {
-                let _ = rt.eprint(text.as_str());
-            }
-        }
-    }
-
     // Keeps a line as the last one of its peer.
     fn keep_line(&mut self, peer: Peer, line: &[u8])
         ensures { self.new
@@ -147,32 +123,6 @@ impl Progress {
             Peer::Engine => self.engine_line = Some(line),
             Peer::Server => self.server_line = Some(line),
         }
-    }
-
-    /// Keeps that a line of this peer is too long. Shows it too, if moves are shown. An error of
-    /// standard error is ignored.
-    pub fn watch_long<R: Eprint>(&mut self, rt: &R, peer: Peer)
-        ensures showing { (self.new.is_on ≡ self.old.is_on) × (self.new.moves ≡ self.old.moves) }
-        ensures last { self.new.last ≡ self.old.last }
-        ensures ended { self.new.ended ≡ with_long peer self.old.ended }
-    {
-        self.ending.keep_long(peer);
-        if self.is_shown {
-            let _ = rt.eprintln(ending::long_line(peer));
-        }
-    }
-
-    /// Says which peer has ended, and its last line, if that is why the session failed and moves
-    /// are shown. An error of standard error is ignored.
-    pub fn finish<R: Eprint>(&self, rt: &R, played: Result<(), MatchFault>) {
-        let Some(peer) = self.ended_peer(played) else {
-            return;
-        };
-        let words = ending::gone_line(peer);
-        let _ = match self.last_line(peer) {
-            Some(line) => rt.eprintln(format_args!("{words} after {line}")),
-            None => rt.eprintln(words),
-        };
     }
 
     // The last line of this peer, if one came.
@@ -208,10 +158,110 @@ impl Progress {
     }
 }
 
-/// Says that the server is waited for, if moves are shown. An error of standard error is ignored.
-pub fn say_server_waited_for<R: Eprint>(rt: &R, is_shown: bool) {
-    if is_shown {
-        let _ = rt.eprintln("waiting for the server");
+impl<R: Eprint + AllocGlobal> Progress<'_, R> {
+    /// Says that the engine is waited for, if moves are shown. An error of standard error is
+    /// ignored.
+    pub fn begin(&self) {
+        self.say("waiting for the engine");
+    }
+
+    /// If the last line from the server, which the bridge took, is a move, shows its number, the
+    /// move and its time. An error of standard error is ignored.
+    pub fn show<E: Ends>(&mut self, bridge: &Bridge, ends: &E)
+        ensures on { self.new.is_on ≡ self.old.is_on }
+        ensures last { self.new.last ≡ self.old.last }
+        ensures ended { self.new.ended ≡ self.old.ended }
+        ensures counted { (n : ℕ) → is_move_line (E.last_line ends.now Peer.Server) ≡ true
+            → self.old.moves ≡ Some n → n + 1 < 2 ^ 64 → self.new.moves ≡ Some (n + 1) }
+        ensures first { is_move_line (E.last_line ends.now Peer.Server) ≡ true
+            → self.old.moves ≡ None
+            → (n : ℕ) × (self.new.moves ≡ Some n) × IsCountOf bridge.now.state.client n }
+        ensures other { is_move_line (E.last_line ends.now Peer.Server) ≡ false
+            → self.new ≡ self.old }
+    {
+        let line = ends.line(Peer::Server);
+        if !is_move_line(line) {
+            return;
+        }
+        let number = match self.moves {
+            Some(moves) => moves.saturating_add(1),
+            None => first_number(bridge),
+        };
+        self.moves = Some(number);
+        if let Ok(text) = str::from_utf8(without_comment(line)) {
+            let _ = self.rt.eprintln(format_args!("{number} {text}"));
+        }
+    }
+
+    /// Keeps what the last line from that peer says of the end, if it led the bridge from one
+    /// snapshot to the other and to this status. Shows it too, if moves are shown. An error of
+    /// standard error is ignored.
+    pub fn watch<E: Ends>(
+        &mut self,
+        before: Snapshot,
+        after: Snapshot,
+        ends: &E,
+        peer: Peer,
+        status: Status,
+    )
+        ensures showing { (self.new.is_on ≡ self.old.is_on) × (self.new.moves ≡ self.old.moves) }
+        ensures last { self.new.last
+            ≡ with_last peer (quoted (E.last_line ends.now peer)) self.old.last }
+        ensures ended { IsKeptAfter before after (E.last_line ends.now peer) peer status
+            self.old.ended self.new.ended }
+    {
+        let line = ends.line(peer);
+        if before.client == ClientState::Idle && after.client != before.client {
+            self.say("waiting for the server to begin a game");
+        }
+        self.keep_line(peer, line);
+        let Some(event) = ending::end_in(before, after, peer, line, status) else {
+            return;
+        };
+        self.ending.keep(event, line);
+        self.show_end(event, line);
+    }
+
+    // Shows a line, if moves are shown.
+    fn say(&self, line: &str) {
+        if self.is_shown {
+            let _ = self.rt.eprintln(line);
+        }
+    }
+
+    // Shows what a line says of the end, if moves are shown.
+    fn show_end(&self, event: EndEvent, line: &[u8]) {
+        if self.is_shown {
+            if let Ok(text) = shown_end(self.rt.alloc(), event, line) {
+                let _ = self.rt.eprint(text.as_str());
+            }
+        }
+    }
+
+    /// Keeps that a line of this peer is too long. Shows it too, if moves are shown. An error of
+    /// standard error is ignored.
+    pub fn watch_long(&mut self, peer: Peer)
+        ensures showing { (self.new.is_on ≡ self.old.is_on) × (self.new.moves ≡ self.old.moves) }
+        ensures last { self.new.last ≡ self.old.last }
+        ensures ended { self.new.ended ≡ with_long peer self.old.ended }
+    {
+        self.ending.keep_long(peer);
+        self.say(ending::long_line(peer));
+    }
+
+    /// Says which peer has ended, and its last line, if that is why the session failed and moves
+    /// are shown. An error of standard error is ignored.
+    pub fn finish(&self, played: Result<(), MatchFault>) {
+        let Some(peer) = self.ended_peer(played) else {
+            return;
+        };
+        let words = ending::gone_line(peer);
+        match self.last_line(peer) {
+            Some(line) => {
+                let _ = self.rt.eprintln(format_args!("{words} after {line}"));
+            }
+            None => self.say(words),
+        }
     }
 }
 

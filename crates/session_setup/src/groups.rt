@@ -1,10 +1,11 @@
 //! Programs that lead groups of their own, so that what they started is ended with them.
 
-ghost use Rattle.std.specs.Prelude.{◌≡◌, ◌∷◌, IfOk, IfSome, codes, is_some, string_bytes, true};
+ghost use Rattle.std.specs.Prelude.{◌≡◌, ◌∷◌, IfErr, IfOk, IfSome, codes, is_some, string_bytes, true};
 ghost use Rattle.std.specs.Process.{child_status, command_args, command_program};
 ghost use Rattle.session_setup.specs.Logins.{IsWithoutPassword};
 ghost use Rattle.session_setup.specs.Plans.{IsPathOf, has_slash};
 
+use crate::fault::MatchFault;
 use crate::login::hide_password;
 use std::alloc::{AllocError, Global};
 use std::env::{self, VarError};
@@ -34,19 +35,44 @@ pub struct Member<P: OpenProcess> {
     pub reach: Reach,
 }
 
+/// The folders in which programs are looked for.
+#[derive(Drop)]
+pub struct SearchPath {
+    // None if `PATH` is not set, or is not UTF-8.
+    folders: Option<String>,
+}
+
+impl SearchPath {
+    /// That of the runtime's environment, by the variable `PATH`.
+    ///
+    /// Refuses `OutOfMemory` if an allocation fails.
+    pub fn of<R: Env + AllocGlobal>(rt: &R) -> Result<SearchPath, MatchFault>
+        ensures memory { IfErr result (λ fault. fault ≡ MatchFault.OutOfMemory) }
+    {
+        match env::var(rt, "PATH") {
+            Ok(folders) => Ok(SearchPath {
+                folders: Some(folders),
+            }),
+            Err(VarError::NotPresent | VarError::NotUnicode) => Ok(SearchPath { folders: None }),
+            Err(VarError::OutOfMemory) => Err(MatchFault::OutOfMemory),
+        }
+    }
+}
+
 /// The command that starts the program with its words as the leader of a group. None if the system
 /// cannot do that, or if the program is not found, which its own start is to tell.
 ///
 /// Returns an error if an allocation fails.
-pub fn leading<R: Env + Files + AllocGlobal>(
+pub fn leading<R: Files + AllocGlobal>(
     rt: &R,
+    search_path: &SearchPath,
     command: &Command<Global>,
 ) -> Result<Option<Command<Global>>, AllocError>
     ensures program { IfOk result (λ led. IfSome led (λ c. command_program c ≡ codes "setsid")) }
     ensures words { IfOk result (λ led. IfSome led (λ c. command_args c
         ≡ codes "--" ∷ command_program command.now ∷ command_args command.now)) }
 {
-    if !is_found(rt, LEADING)? || !is_found(rt, command.get_program())? {
+    if !is_found(rt, search_path, LEADING)? || !is_found(rt, search_path, command.get_program())? {
         return Ok(None);
     }
     Ok(Some(led(rt.alloc(), command)?))
@@ -74,19 +100,24 @@ fn has_slash(program: &str) -> bool
 }
 
 // Whether there is a file of the program that can be run.
-fn is_found<R: Env + Files + AllocGlobal>(rt: &R, program: &str) -> Result<bool, AllocError> {
-    match path_of(rt, program)? {
+fn is_found<R: Files + AllocGlobal>(
+    rt: &R,
+    search_path: &SearchPath,
+    program: &str,
+) -> Result<bool, AllocError> {
+    match path_of(rt, search_path, program)? {
         Some(path) => Ok(can_run(rt, path.as_str())),
         None => Ok(false),
     }
 }
 
-/// The path of the program: itself if it has a slash, or else that in the first folder of `PATH`
-/// where a file of its name can be run. None if there is no such folder.
+/// The path of the program: itself if it has a slash, or else that in the first folder where a file
+/// of its name can be run. None if there is no such folder.
 ///
 /// Returns an error if an allocation fails.
-pub fn path_of<R: Env + Files + AllocGlobal>(
+pub fn path_of<R: Files + AllocGlobal>(
     rt: &R,
+    search_path: &SearchPath,
     program: &str,
 ) -> Result<Option<String>, AllocError>
     ensures path { IfOk result (λ found.
@@ -97,10 +128,8 @@ pub fn path_of<R: Env + Files + AllocGlobal>(
     if has_slash(program) {
         return Ok(Some(String::from_str(rt.alloc(), program)?));
     }
-    let folders = match env::var(rt, "PATH") {
-        Ok(folders) => folders,
-        Err(VarError::NotPresent | VarError::NotUnicode) => return Ok(None),
-        Err(VarError::OutOfMemory) => return Err(AllocError),
+    let Some(folders) = &search_path.folders else {
+        return Ok(None);
     };
     for folder in folders.as_str().split(':') {
         let path = format!(in rt.alloc(); "{folder}/{program}")?;

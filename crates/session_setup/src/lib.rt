@@ -24,4 +24,5 @@ mod plan_fault;
 pub mod port;
 
 pub use fault::{LoginFault, MatchFault, PlayCommandFault, ServeFault, TalkFault, memory_or};
+pub use groups::SearchPath;
 pub use plan_fault::{Needed, PlanFault, Written};

@@ -9,14 +9,14 @@ ghost use Rattle.shogi_words.specs.declared.play.PasswordSource.TheVariants as p
 ghost use Rattle.shogi_words.specs.declared.play.ServerChoice.TheVariants as choice;
 
 use crate::fault::{MatchFault, PlayCommandFault};
-use crate::groups;
+use crate::groups::{self, SearchPath};
 use crate::plan_fault::{Needed, PlanFault, Written};
 use crate::port::port_in;
 use shogi_words::{PasswordSource, Plan, ServerChoice};
 use std::alloc::{AllocError, Global};
 use std::fs;
 use std::os::unix::fs::MetadataExt;
-use std::rt::{Env, Files};
+use std::rt::Files;
 
 /// What the name of the file for the standard error of the engine adds to that of the log.
 pub const ENGINE_ERRORS: &str = ".engine";
@@ -96,30 +96,32 @@ fn apart(plan: &Plan<'_, '_>, needed: Needed, path: &str) -> Result<(), PlanFaul
 /// As `check`, by the files that are there: refuses a file that is written also if another name
 /// leads to it. Refuses `LogIsOneFile` if the log is a file beside it, or the two files beside it
 /// are one, and `OutOfMemory` if an allocation fails.
-pub fn check_files<R: Env + Files + AllocGlobal>(
+pub fn check_files<R: Files + AllocGlobal>(
     rt: &R,
+    search_path: &SearchPath,
     plan: &Plan<'_, '_>,
 ) -> Result<(), PlayCommandFault>
     ensures fault { IfErr result IsFilesFault }
 {
-    check_file(rt, plan, Written::Record, plan.out)?;
+    check_file(rt, search_path, plan, Written::Record, plan.out)?;
     match plan.log {
         None | Some("-") => Ok(()),
-        Some(log) => check_log(rt, plan, log),
+        Some(log) => check_log(rt, search_path, plan, log),
     }
 }
 
 // Refuses a log and files beside it that are needed, the record, or one file.
-fn check_log<R: Env + Files + AllocGlobal>(
+fn check_log<R: Files + AllocGlobal>(
     rt: &R,
+    search_path: &SearchPath,
     plan: &Plan<'_, '_>,
     log: &str,
 ) -> Result<(), PlayCommandFault>
     ensures fault { IfErr result IsFilesFault }
 {
     let engine_errors = beside(rt.alloc(), log, ENGINE_ERRORS)?;
-    check_log_file(rt, plan, log)?;
-    check_log_file(rt, plan, engine_errors.as_str())?;
+    check_log_file(rt, search_path, plan, log)?;
+    check_log_file(rt, search_path, plan, engine_errors.as_str())?;
     if is_one_file(rt, log, engine_errors.as_str()) {
         return Err(PlayCommandFault::Plan(PlanFault::LogIsOneFile));
     }
@@ -127,7 +129,7 @@ fn check_log<R: Env + Files + AllocGlobal>(
         return Ok(());
     }
     let server_errors = beside(rt.alloc(), log, SERVER_ERRORS)?;
-    check_log_file(rt, plan, server_errors.as_str())?;
+    check_log_file(rt, search_path, plan, server_errors.as_str())?;
     for other in [log, engine_errors.as_str()] {
         if is_one_file(rt, server_errors.as_str(), other) {
             return Err(PlayCommandFault::Plan(PlanFault::LogIsOneFile));
@@ -144,8 +146,9 @@ fn beside(alloc: Global, log: &str, ending: &str) -> Result<String, MatchFault>
 }
 
 // Refuses a file of the log that is needed, or the record.
-fn check_log_file<R: Env + Files + AllocGlobal>(
+fn check_log_file<R: Files + AllocGlobal>(
     rt: &R,
+    search_path: &SearchPath,
     plan: &Plan<'_, '_>,
     name: &str,
 ) -> Result<(), PlayCommandFault>
@@ -154,23 +157,24 @@ fn check_log_file<R: Env + Files + AllocGlobal>(
     if is_one_file(rt, name, plan.out) {
         return Err(PlayCommandFault::Plan(PlanFault::LogIsRecord));
     }
-    check_file(rt, plan, Written::Log, name)
+    check_file(rt, search_path, plan, Written::Log, name)
 }
 
 // Refuses a file that is written if it is needed.
-fn check_file<R: Env + Files + AllocGlobal>(
+fn check_file<R: Files + AllocGlobal>(
     rt: &R,
+    search_path: &SearchPath,
     plan: &Plan<'_, '_>,
     written: Written,
     name: &str,
 ) -> Result<(), PlayCommandFault>
     ensures fault { IfErr result IsFilesFault }
 {
-    if is_program(rt, name, plan.engine)? {
+    if is_program(rt, search_path, name, plan.engine)? {
         return Err(PlayCommandFault::Plan(PlanFault::Overwrites(written, Needed::Engine)));
     }
     if let ServerChoice::Started { program, .. } = plan.server {
-        if is_program(rt, name, program)? {
+        if is_program(rt, search_path, name, program)? {
             return Err(PlayCommandFault::Plan(PlanFault::Overwrites(written, Needed::Server)));
         }
     }
@@ -186,14 +190,15 @@ fn check_file<R: Env + Files + AllocGlobal>(
 }
 
 // Whether the file of this name is that of the program.
-fn is_program<R: Env + Files + AllocGlobal>(
+fn is_program<R: Files + AllocGlobal>(
     rt: &R,
+    search_path: &SearchPath,
     name: &str,
     program: &str,
 ) -> Result<bool, MatchFault>
     ensures memory { IfErr result (λ fault. fault ≡ MatchFault.OutOfMemory) }
 {
-    match groups::path_of(rt, program)? {
+    match groups::path_of(rt, search_path, program)? {
         Some(path) => Ok(is_one_file(rt, name, path.as_str())),
         None => Ok(false),
     }

@@ -1,5 +1,7 @@
--- Which commands read any number of files, and what ends a requested command early.
-use Rattle.std.specs.Prelude.{◌≡◌, ◌≢◌, ◌⊎◌, ⊤}
+-- Which words may be files that are not UTF-8, and what ends a requested command early.
+use Rattle.std.specs.Prelude.{◌≡◌, ◌≢◌, ◌⊎◌, ℕ, Bool, List, [], ◌∷◌, count_by}
+use Rattle.std.specs.Borrow.{Bor}
+use Rattle.std.specs.Str.{bytes_eq}
 use Rattle.csa_record.specs.declared.flow.FlowFault.{FlowFault}
 use Rattle.record_commands.specs.declared.fault.PositionLineFault.{PositionLineFault}
 use Rattle.record_commands.specs.declared.fault.PositionLineFault.TheVariants.{Refused}
@@ -14,17 +16,22 @@ use Rattle.shogi_words.specs.declared.request.Request.{Request}
 use Rattle.usi_text.specs.declared.fault.UsiFault.TheVariants.{OutOfMemory}
 use Rattle.shogi_words.specs.declared.request.Request.TheVariants.{Check, Digest, Same, Normal, Usi, Csa, Engine, Serve, Play}
 
--- a command that reads any number of files
-abbrev pub ReadsFiles : Request → Type 0
-ReadsFiles (Check records) = ⊤
-ReadsFiles (Digest records) = ⊤
-ReadsFiles (Same records likeness) = ⊤
-ReadsFiles (Normal one) = ⊥
-ReadsFiles (Usi one) = ⊥
-ReadsFiles (Csa file) = ⊥
-ReadsFiles Engine = ⊥
-ReadsFiles (Serve service) = ⊥
-ReadsFiles (Play game) = ⊥
+-- what is put in place of a word that is not UTF-8: NUL alone
+abbrev pub is_not_text : Bor (List ℕ) → Bool
+is_not_text word = bytes_eq word.now (0 ∷ [])
+
+-- so many of the files are words that are not UTF-8; these are files of a command that reads any
+-- number
+abbrev pub AreFiles : Request → ℕ → Type 0
+AreFiles (Check records) n = count_by is_not_text records.files.now ≡ n
+AreFiles (Digest records) n = count_by is_not_text records.files.now ≡ n
+AreFiles (Same records likeness) n = count_by is_not_text records.files.now ≡ n
+AreFiles (Normal one) n = ⊥
+AreFiles (Usi one) n = ⊥
+AreFiles (Csa file) n = ⊥
+AreFiles Engine n = ⊥
+AreFiles (Serve service) n = ⊥
+AreFiles (Play game) n = ⊥
 
 -- it was the fault of a record; or of several files some were not accepted
 abbrev pub IsStopOfFiles : Stop → Type 0

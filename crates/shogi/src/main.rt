@@ -62,7 +62,7 @@ fn run<
     match commands.try_get_matches_from(line.words.as_slice()) {
         Ok(matches) => {
             let request = requests::requested(&matches, terminals.error)?;
-            if !requests::are_files(&request, line.not_text.as_slice()) {
+            if line.may_be_option || !requests::are_files(&request, line.not_text.len()) {
                 return Err(Stop::WordsNotText);
             }
             Ok(answer(rt, &request, line.not_text.as_slice(), terminals))

@@ -1,8 +1,8 @@
 //! What the command line asks for, and how it is done.
 
-ghost use Rattle.std.specs.Prelude.{◌≡◌, ◌⊎◌, ◌≤◌, IfErr, IfOk, OnOk, Some, length, string_bytes, true};
+ghost use Rattle.std.specs.Prelude.{◌≡◌, ◌⊎◌, ◌↔◌, ◌≤◌, IfErr, IfOk, IsTrue, OnOk, Some, count_by, string_bytes};
 ghost use Rattle.clap.specs.Words.{subcommand_name_of};
-ghost use Rattle.shogi.specs.Asking.{IsStopOf, IsStopOfFiles, ReadsFiles};
+ghost use Rattle.shogi.specs.Asking.{AreFiles, IsStopOf, IsStopOfFiles, is_not_text};
 ghost use Rattle.shogi.specs.Explained.{IsExplained, IsFileExplained, IsPlayExplained, IsServeExplained};
 ghost use Rattle.shogi_rules.specs.Positions as positions;
 ghost use Rattle.shogi_words.specs.Words.{IsNoCommand, word_of};
@@ -11,7 +11,9 @@ use crate::stop::Stop;
 use crate::usage::NOT_TEXT;
 use archive_commands::paths::FileList;
 use archive_commands::same::Comparison;
-use archive_commands::{LineKind, Tally, Verbosity, digest, explain, many, paths, same};
+use archive_commands::{
+    LineKind, OutputPlace, Tally, Verbosity, digest, explain, many, paths, same,
+};
 use clap::ArgMatches;
 use csa_record::FlowFault;
 use record_commands::{check, csa, normal, usi};
@@ -51,23 +53,32 @@ pub fn requested<'m, 'a>(
     request_of(matches, is_terminal).ok_or(Stop::UnknownCommand)
 }
 
-/// Whether each of these words, which are not UTF-8, is a FILE of `check`, `digest` or `same`.
-pub fn are_files(request: &Request<'_, '_>, words: &[Vec<u8>]) -> bool
-    ensures { result ≡ true → ReadsFiles request.now ⊎ (length words.now ≡ 0) }
+/// Whether all words that are not UTF-8, of which there are so many, are FILEs of `check`, `digest`
+/// or `same`.
+pub fn are_files(request: &Request<'_, '_>, not_text: usize) -> bool
+    ensures { IsTrue result ↔ ((not_text ≡ 0) ⊎ AreFiles request.now not_text) }
 {
     let files = match request {
         Request::Check(records) | Request::Digest(records) | Request::Same(records, _) => {
             records.files
         }
-        Request::Normal(_) | Request::Usi(_) | Request::Csa(_) => return words.is_empty(),
-        Request::Engine | Request::Serve(_) | Request::Play(_) => return words.is_empty(),
+        Request::Normal(_) | Request::Usi(_) | Request::Csa(_) => return not_text == 0,
+        Request::Engine | Request::Serve(_) | Request::Play(_) => return not_text == 0,
     };
-    standing_in(files) == words.len() && !words.iter().any(|word| word.starts_with(b"-"))
+    not_text == 0 || standing_in(files) == not_text
 }
 
 // How many of these stand for words that are not UTF-8.
-fn standing_in(files: &[&str]) -> usize {
-    files.iter().filter(|file| **file == NOT_TEXT).count()
+fn standing_in(files: &[&str]) -> usize
+    ensures { result ≡ count_by is_not_text files.now }
+{
+    files.iter().filter(|file| is_not_text(*file)).count()
+}
+
+fn is_not_text(file: &&str) -> bool
+    ensures { result ≡ is_not_text file.now }
+{
+    **file == *NOT_TEXT
 }
 
 /// Does what is asked for. Refuses as the command does. `names` are those of the FILEs that are not
@@ -116,12 +127,14 @@ fn read_files<R: Files + Input + Print + Eprint + Clock + AllocGlobal>(
 {
     if !names.is_empty() || paths::are_many(rt, records) {
         let paths = files_of(rt, records, names)?;
-        let ends_in_nul = matches!((lines, records.path_end), (LineKind::Digests, PathEnd::Nul));
         let verbosity = Verbosity {
             is_explained: records.is_explained,
-            // on one terminal progress would be written over a line that has no end
-            shows_progress: records.shows_progress && !(terminals.output && ends_in_nul),
-            shares_terminal: terminals.output,
+            shows_progress: records.shows_progress,
+            output: match (terminals.output, lines, records.path_end) {
+                (false, _, _) => OutputPlace::Elsewhere,
+                (true, LineKind::Digests, PathEnd::Nul) => OutputPlace::TerminalWithoutLineEnds,
+                (true, _, _) => OutputPlace::Terminal,
+            },
         };
         let tally = many::run(rt, lines, &paths, records.hash_lines, verbosity)?;
         return all_accepted(rt, tally, terminals.error);
@@ -152,7 +165,11 @@ fn compare<R: Files + Input + Print + Eprint + Clock + AllocGlobal>(
     let verbosity = Verbosity {
         is_explained: records.is_explained,
         shows_progress: records.shows_progress,
-        shares_terminal: terminals.output,
+        output: if terminals.output {
+            OutputPlace::Terminal
+        } else {
+            OutputPlace::Elsewhere
+        },
     };
     let tally = same::run(rt, comparison, &paths, verbosity)?;
     all_accepted(rt, tally, terminals.error)

@@ -27,14 +27,22 @@ pub struct CommandLine {
     pub words: Vec<String>,
     /// The bytes of the words that are not UTF-8, in order.
     pub not_text: Vec<Vec<u8>>,
+    /// Whether one of these may be an option: it begins with a hyphen, and is not after `--`.
+    pub may_be_option: bool,
+    // Whether the word `--` came, after which no word is an option.
+    has_no_more_options: bool,
 }
 
 impl CommandLine {
     // Adds a word. Returns an error if an allocation fails.
     fn add(&mut self, alloc: Global, word: &[u8]) -> Result<(), OutOfMemory> {
         match str::from_utf8(word) {
-            Ok(text) => Ok(self.words.push(String::from_str(alloc, text)?)?),
+            Ok(text) => {
+                self.has_no_more_options |= text == "--";
+                Ok(self.words.push(String::from_str(alloc, text)?)?)
+            }
             Err(_) => {
+                self.may_be_option |= !self.has_no_more_options && word.starts_with(b"-");
                 self.words.push(String::from_str(alloc, NOT_TEXT)?)?;
                 Ok(self.not_text.push(Vec::from_slice(alloc, word)?)?)
             }
@@ -51,6 +59,8 @@ pub fn command_line<R: Env + AllocGlobal>(rt: &R) -> Result<CommandLine, Stop>
     let mut line = CommandLine {
         words: Vec::new(rt.alloc()),
         not_text: Vec::new(rt.alloc()),
+        may_be_option: false,
+        has_no_more_options: false,
     };
     let Ok(mut buffer) = vec![in rt.alloc(); 0u8; LONGEST_WORD] else {
         return Err(Stop::OutOfMemory);

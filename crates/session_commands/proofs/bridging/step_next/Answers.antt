@@ -17,13 +17,13 @@ returns-clause-came g c =
     let line = g.E.Ends.last_line c.receive.new.self peer in
     let event = event_of c.event.result in
     let row = steps_of c.args.bridge.now event out.to_engine out.to_server out.status c.step.new.self step.row step.to_engine step.to_server step.status step.config in
-    comes_next g.E.Ends.came c.args.ends.now c.args.bridge.now c.args.progress.now.ended peer c.waits_for.result what line c.line-line.result.now c.receive.new.self out.to_engine out.to_server out.status c.step.new.self c.keep_end.new.progress.ended c.of-before.result c.of-after.result
+    comes_next g.E.Ends.came c.args.ends.now c.args.bridge.now c.args.progress.now.ended peer c.waits_for.result what line c.receive.new.self out.to_engine out.to_server out.status c.step.new.self c.keep_end.new.progress.ended c.of-before.result c.of-after.result
     c.peer_of-peer.ensures c.waits_for.ensures.value c.in_ok-read.ensures.came
     (same_step c.args.bridge.now event (event_from peer what line) out.to_engine out.to_server out.status c.step.new.self
-    (c.event.ensures.event ∙ ap (event_from peer what) c.line-line.ensures.value) row) c.line-line.ensures.value
+    (c.event.ensures.event ∙ ap (event_from peer what) c.line-line.ensures.value) row)
     (record { client = c.of-before.ensures.client; slip = c.of-before.ensures.slip; summary_fault = c.of-before.ensures.summary })
     (record { client = c.of-after.ensures.client; slip = c.of-after.ensures.slip; summary_fault = c.of-after.ensures.summary })
-    (subst (λ (old : Ended). IsKeptOf c.of-before.result c.of-after.result c.line-line.result.now peer out.status old c.keep_end.new.progress.ended what) c.show_move.ensures c.keep_end.ensures)
+    (subst (λ (old : Ended). IsKeptOf c.of-before.result c.of-after.result line peer out.status old c.keep_end.new.progress.ended what) c.show_move.ensures c.keep_end.ensures)
 
 pub returns-in_err-out-clause-out_of_memory : goal.returns-in_err-out-clause-out_of_memory
 returns-in_err-out-clause-out_of_memory g c =
