@@ -1,4 +1,5 @@
 -- For private functions: the text of a position block, apart from its game.
+-- A reader of the public contracts may skip this file.
 use Rattle.std.specs.Prelude.{◌≡◌, ◌⊎◌, ◌++◌, ℕ, true, List, [], ◌∷◌, Option, Some, None}
 use Rattle.std.specs.List.{AllByRecursion, AllZip}
 use Rattle.csa_cutting.specs.Cut.{TextUnit, IsCut}
