@@ -5,7 +5,7 @@ use Rattle.std.specs.Global.{Vec}
 use Rattle.std.specs.Io.KnownBytes.{Appends}
 use Rattle.std.specs.Str.{IsUtf8}
 use Rattle.csa_record.specs.declared.flow.FlowFault.{FlowFault}
-use Rattle.archive_commands.specs.Many.{StopsAt, StopsAmong, PrintsAll, PrintsFile, Printed, no_text, printed_of}
+use Rattle.archive_commands.specs.ManyPrinted.{no_text, StopsAt, StopsAmong, PrintsAll, PrintsFile, Printed, printed_of}
 use Rattle.archive_commands.specs.Lines.{AreUnreadableLines}
 use Rattle.archive_commands.specs.Lists.{items_of}
 use Rattle.archive_commands.specs.declared.many.Tally.{Tally}

@@ -8,7 +8,8 @@ use Rattle.std.proofs.KnownBytes.{Appends-trans}
 use Rattle.std.proofs.lemmas.List.{get_or-map, take_more}
 use Rattle.std.proofs.lemmas.List.Elements.{Contains-get_or}
 use Rattle.archive_commands.specs.Lists.{items_of}
-use Rattle.archive_commands.specs.Same.{counted_with, group_line, group_lines, path_at, tally_from}
+use Rattle.archive_commands.specs.Same.{path_at}
+use Rattle.archive_commands.specs.SameGroups.{counted_with, group_line, group_lines, tally_from}
 use Rattle.archive_commands.specs.declared.many.Tally.{Tally}
 use Rattle.game_archive.proofs.Placed.{within}
 use Rattle.game_archive.specs.Listing.{ListsShared}

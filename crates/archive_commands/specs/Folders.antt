@@ -1,8 +1,6 @@
--- The names of the records in folders, and their order.
-use Rattle.std.specs.Prelude.{ℕ, ◌==◌, ◌||◌, Bool, List, [], ◌∷◌, ◌++◌, IsSorted, codes, if◌then◌else◌}
-use Rattle.std.specs.Cmp.Lexicographic.{slice_cmp}
-use Rattle.std.specs.Ordering.{nat_cmp}
-use Rattle.std.specs.Global.{Vec}
+-- For private functions: the names of the records in folders, and their paths.
+-- A reader of the public contracts may skip this file.
+use Rattle.std.specs.Prelude.{ℕ, ◌==◌, ◌||◌, Bool, List, [], ◌∷◌, ◌++◌, codes, if◌then◌else◌}
 use Rattle.std.specs.List.{ends_with}
 
 -- the text ends in these bytes
@@ -16,7 +14,3 @@ is_record_name name = ends_in name (codes ".csa") || ends_in name (codes ".CSA")
 -- the path of a name in a folder: there is a slash between them
 abbrev pub joined : List ℕ → List ℕ → List ℕ
 joined folder name = (if ends_in folder (codes "/") then folder else folder ++ 47 ∷ []) ++ name
-
--- no path is less than the one before it
-abbrev pub AreInByteOrder : List (Vec ℕ) → Type 0
-AreInByteOrder paths = IsSorted (λ a b. slice_cmp nat_cmp a.items b.items) paths

@@ -1,7 +1,10 @@
 pub mod Explaining
+pub mod LineNumbers
 pub mod Folders
 pub mod Lines
 pub mod Lists
 pub mod Many
+pub mod ManyPrinted
 pub mod Paths
 pub mod Same
+pub mod SameGroups

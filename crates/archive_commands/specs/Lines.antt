@@ -1,4 +1,5 @@
 -- For private functions: the lines about a file.
+-- A reader of the public contracts may skip this file.
 use Rattle.std.specs.Prelude.{◌≡◌, ℕ, List, [], ◌∷◌, ◌++◌, Option, Ok, codes}
 use Rattle.hex.specs.Hex.{encode_lower}
 use Rattle.record_commands.specs.Reports.{GetsRecord}

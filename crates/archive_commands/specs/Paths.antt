@@ -1,12 +1,13 @@
 -- The paths that a command line asks for: what its files and its list stand for, in order.
-use Rattle.std.specs.Prelude.{◌≡◌, ◌≢◌, ◌⊎◌, ◌==◌, ◌&&◌, not, ℕ, List, [], ◌∷◌, ◌++◌, length, map, codes, if◌then◌else◌, Option, Some, None, is_some, IfSome}
+use Rattle.std.specs.Prelude.{◌≡◌, ◌≢◌, ◌⊎◌, ◌==◌, ◌&&◌, not, ℕ, List, [], ◌∷◌, ◌++◌, length, map, codes, if◌then◌else◌, Option, Some, None, is_some, IfSome, IsSorted}
 use Rattle.std.specs.Borrow.{Bor}
 use Rattle.std.specs.Str.{IsUtf8}
 use Rattle.std.specs.Global.{Vec}
-use Rattle.archive_commands.specs.Folders.{AreInByteOrder}
 use Rattle.archive_commands.specs.Lists.{Lists, items_of}
 use Rattle.shogi_words.specs.declared.request.PathEnd.{PathEnd}
 use Rattle.shogi_words.specs.declared.request.Records.{Records}
+use Rattle.std.specs.Cmp.Lexicographic.{slice_cmp}
+use Rattle.std.specs.Ordering.{nat_cmp}
 
 -- the bytes of each name
 abbrev pub names_of : List (Bor (List ℕ)) → List (List ℕ)
@@ -16,6 +17,10 @@ names_of files = map (λ file. file.now) files
 abbrev pub named_files : Records → List (List ℕ)
 named_files records = if length records.files.now == 0 && not (is_some records.list)
     then codes "-" ∷ [] else names_of records.files.now
+
+-- no path is less than the one before it
+abbrev pub AreInByteOrder : List (Vec ℕ) → Type 0
+AreInByteOrder paths = IsSorted (λ a b. slice_cmp nat_cmp a.items b.items) paths
 
 -- the path stands for itself; or, if it can be that of a folder, and is not that of standard input,
 -- for records in byte order

@@ -3,7 +3,8 @@
 ghost use Rattle.std.specs.Prelude.{◌≡◌, ◌≢◌, ℕ, List, IfErr, IsErrOf, OnOk, Some};
 ghost use Rattle.csa_record.specs.declared.flow.FlowFault.{FlowFault};
 ghost use Rattle.archive_commands.specs.Lines.{IsLine};
-ghost use Rattle.record_commands.specs.Reports.{FailsToReport, GetsRecord, Reports};
+ghost use Rattle.record_commands.specs.Reports.{FailsToReport, GetsRecord};
+ghost use Rattle.record_commands.specs.Printing.{Reports};
 ghost use Rattle.record_game.specs.Refused.{Refused};
 
 use crate::lines::{self, LineForm, LineKind};

@@ -3,7 +3,8 @@
 
 ghost use Rattle.std.specs.Prelude.{◌≡◌, ◌+◌, ◌-◌, ◌^◌, ◌<◌, ◌≤◌, ◌==◌, ◌++◌, ℕ, List, codes, length, IfOk, IfSome, if◌then◌else◌, string_bytes};
 ghost use Rattle.std.specs.Io.KnownBytes.{Consumes};
-ghost use Rattle.archive_commands.specs.Explaining.{IsPlaceLine, IsReasonLine, ends_line, line_ends, line_number, reason_line};
+ghost use Rattle.archive_commands.specs.Explaining.{IsPlaceLine, IsReasonLine, reason_line};
+ghost use Rattle.archive_commands.specs.LineNumbers.{ends_line, line_ends, line_number};
 
 use crate::folders;
 use csa_record::{PIECE, Refusal, read_uninterrupted};

@@ -1,7 +1,8 @@
 //! The records that lie in a folder, and in the folders there.
 
 ghost use Rattle.std.specs.Prelude.{◌≡◌, IfOk, codes, false};
-ghost use Rattle.archive_commands.specs.Folders.{AreInByteOrder, is_record_name, joined};
+ghost use Rattle.archive_commands.specs.Folders.{is_record_name, joined};
+ghost use Rattle.archive_commands.specs.Paths.{AreInByteOrder};
 
 use crate::list;
 use csa_record::{PIECE, read_uninterrupted};

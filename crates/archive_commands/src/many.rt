@@ -5,7 +5,8 @@ ghost use Rattle.std.specs.Io.KnownBytes.{Appends};
 ghost use Rattle.csa_record.specs.declared.flow.FlowFault.{FlowFault};
 ghost use Rattle.archive_commands.specs.Lines.{AreUnreadableLines};
 ghost use Rattle.archive_commands.specs.Lists.{items_of};
-ghost use Rattle.archive_commands.specs.Many.{StopsAmong, PrintsAll, PrintsFile, printed_of, StopsAt, counted, no_file, tally_line};
+ghost use Rattle.archive_commands.specs.Many.{counted, tally_line};
+ghost use Rattle.archive_commands.specs.ManyPrinted.{StopsAmong, PrintsAll, PrintsFile, printed_of, StopsAt, no_file};
 
 use crate::lines::{self, LineForm, LineKind};
 use crate::notices::{Notices, StandardError, Verbosity};

@@ -5,8 +5,10 @@ ghost use Rattle.std.specs.Io.KnownBytes.{Appends};
 ghost use Rattle.std.specs.List.{All};
 ghost use Rattle.csa_record.specs.declared.flow.FlowFault.{FlowFault};
 ghost use Rattle.archive_commands.specs.Lists.{items_of};
-ghost use Rattle.archive_commands.specs.Many.{counted, no_file};
-ghost use Rattle.archive_commands.specs.Same.{EndsPrinting, FileReads, PrintsGroups, StopsGroups, StopsPrinting, counted_with, group_line, group_lines, tally_from};
+ghost use Rattle.archive_commands.specs.Many.{counted};
+ghost use Rattle.archive_commands.specs.ManyPrinted.{no_file};
+ghost use Rattle.archive_commands.specs.Same.{EndsPrinting, FileReads};
+ghost use Rattle.archive_commands.specs.SameGroups.{PrintsGroups, StopsGroups, StopsPrinting, counted_with, group_line, group_lines, tally_from};
 
 use crate::lines;
 use crate::list::end_byte;

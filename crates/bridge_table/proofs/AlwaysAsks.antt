@@ -22,7 +22,7 @@ use Rattle.bridge_table.specs.Asking.{MayAsk, Asks, AskLines, asked, not_asked, 
 use Rattle.bridge_table.specs.Sending.{is_position_line}
 use Rattle.bridge_table.specs.State.{Match, match_line, position_now}
 use Rattle.bridge_table.specs.Summary.{TellsPosition}
-use Rattle.session_lines.specs.Texts.{before_kept, without_last_spaces}
+use Rattle.session_lines.specs.Texts.{before_unspaced, without_last_spaces}
 use Rattle.bridge_table.proofs.Existing.{some_line}
 use Rattle.bridge_table.proofs.PositionFits.{FitsIn, not_so}
 
@@ -107,7 +107,7 @@ one_line : (v : Bool) (b : ℕ) → (b ≢ 13) × (b ≢ 10) → IsOneLine (if v
 one_line true b h = tt
 one_line false b h = (h, tt)
 
-kept_one : (b : ℕ) (bs : List ℕ) → (b ≢ 13) × (b ≢ 10) → IsOneLine bs → IsOneLine (before_kept b bs)
+kept_one : (b : ℕ) (bs : List ℕ) → (b ≢ 13) × (b ≢ 10) → IsOneLine bs → IsOneLine (before_unspaced b bs)
 kept_one b [] h all = one_line (b == 32) b h
 kept_one b (x ∷ xs) h all = (h, all)
 

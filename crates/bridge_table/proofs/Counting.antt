@@ -10,7 +10,7 @@ use Rattle.std.proofs.lemmas.Grind.{flat_map-append}
 use Rattle.std.proofs.lemmas.List.Elements.{filter_map-append}
 use Rattle.std.proofs.lemmas.Slice.Eq.{bytes_eq-Decides, slice_eq-Decides}
 use Rattle.bridge_table.specs.Hearing.{one_more, extended, value_or, content_after}
-use Rattle.bridge_table.specs.Summary.{PositionBlocks, none, one, several, SummaryContent, no_content, Block, Part, line, block, begin_line, end_line, begun_lines, part_lines, IsBlock, IsPart, value_of, last_text, last_value, block_of, is_position, position_text, counted, title_of, CountsAs}
+use Rattle.bridge_table.specs.Summary.{PositionBlocks, none, one, several, SummaryContent, no_content, Block, Part, line, block, begin_line, end_line, begun_lines, part_lines, IsBlock, IsPart, value_of, last_text, last_value, block_of, is_position, position_text, position_blocks, title_of, CountsAs}
 use Rattle.session_lines.specs.Texts.{ended_line, text_of}
 
 abbrev Lines : Type 0
@@ -125,7 +125,7 @@ unfolding add_all
 add_several [] = refl
 add_several (t ∷ ts) = add_several ts
 
-add_is : (ts : Lines) → add_all none ts ≡ counted ts
+add_is : (ts : Lines) → add_all none ts ≡ position_blocks ts
 unfolding add_all
 add_is [] = refl
 add_is (t ∷ []) = refl
@@ -181,7 +181,7 @@ all_texts parts last = filter_map position_text (filter_map block_of parts ++ op
 abbrev stated : List Part → Option Block → SummaryContent
 stated parts last =
     from_server (last_value (codes "Name+:") parts) (last_value (codes "Name-:") parts) (last_value (codes "Your_Turn:") parts)
-    (counted (all_texts parts last)) (option_map title_of last)
+    (position_blocks (all_texts parts last)) (option_map title_of last)
 
 first_parts : (parts : List Part) → AllByRecursion IsPart parts
     → received_over no_content (flat_map part_lines parts)
@@ -199,7 +199,7 @@ over_all parts None f g =
     ap (received_over no_content) (append-nil (flat_map part_lines parts))
     ∙ (first_parts parts f
     ∙ same _ _ _ _ _ _ _ _ None refl refl refl
-    (add_is (texts_of parts) ∙ ap counted (sym (all_texts_of parts [] ∙ append-nil (texts_of parts)))))
+    (add_is (texts_of parts) ∙ ap position_blocks (sym (all_texts_of parts [] ∙ append-nil (texts_of parts)))))
 over_all parts (Some k) f g =
     ap (λ ls. received_over no_content (flat_map part_lines parts ++ ls)) (append-nil (begun_lines k))
     ∙ (over-append no_content (flat_map part_lines parts) (begun_lines k)
@@ -207,11 +207,11 @@ over_all parts (Some k) f g =
     ∙ (begun (last_value (codes "Name+:") parts) (last_value (codes "Name-:") parts) (last_value (codes "Your_Turn:") parts) (add_all none (texts_of parts)) k g
     ∙ same _ _ _ _ _ _ _ _ (Some k.title) refl refl refl
     (add_more (position_text k) none (texts_of parts)
-    ∙ (add_is (texts_of parts ++ cons_option (position_text k) []) ∙ ap counted (sym (all_texts_of parts (k ∷ []))))))))
+    ∙ (add_is (texts_of parts ++ cons_option (position_text k) []) ∙ ap position_blocks (sym (all_texts_of parts (k ∷ []))))))))
 
 -- 3. the relation and the function
 fields : (h : SummaryContent) (parts : List Part) (last : Option Block) → h.black ≡ last_value (codes "Name+:") parts → h.white ≡ last_value (codes "Name-:") parts
-    → h.turn ≡ last_value (codes "Your_Turn:") parts → h.positions ≡ counted (all_texts parts last) → h.begun ≡ option_map title_of last → h ≡ stated parts last
+    → h.turn ≡ last_value (codes "Your_Turn:") parts → h.positions ≡ position_blocks (all_texts parts last) → h.begun ≡ option_map title_of last → h ≡ stated parts last
 fields h parts last a b c d e =
     let same_begun : h ≡ from_server h.black h.white h.turn h.positions (option_map title_of last) = ap (λ (o : Option (List ℕ)). record h { begun = o }) e in
     same_begun ∙ same _ _ _ _ _ _ _ _ (option_map title_of last) a b c d

@@ -92,10 +92,10 @@ is_position title = bytes_eq title texts.position_title
 abbrev pub position_text : Block → Option (List ℕ)
 position_text b = if is_position b.title then Some (text_of b.lines) else None
 
-abbrev pub counted : List (List ℕ) → PositionBlocks
-counted [] = none
-counted (text ∷ []) = one text
-counted (text ∷ other ∷ texts) = several
+abbrev pub position_blocks : List (List ℕ) → PositionBlocks
+position_blocks [] = none
+position_blocks (text ∷ []) = one text
+position_blocks (text ∷ other ∷ texts) = several
 
 abbrev pub title_of : Block → List ℕ
 title_of b = b.title
@@ -111,7 +111,7 @@ pub record CountsAs (lines : List (List ℕ)) (h : SummaryContent) : Type 0 wher
   pub black : h.black ≡ last_value texts.black_name parts
   pub white : h.white ≡ last_value texts.white_name parts
   pub turn : h.turn ≡ last_value texts.your_turn parts
-  pub positions : h.positions ≡ counted
+  pub positions : h.positions ≡ position_blocks
       (filter_map position_text (filter_map block_of parts ++ option_to_list begun))
   pub title : h.begun ≡ option_map title_of begun
 

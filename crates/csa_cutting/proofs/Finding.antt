@@ -11,6 +11,7 @@ use Rattle.std.proofs.lemmas.Slice.Eq.{slice_eq-Decides}
 use Rattle.csa_cutting.specs.Cut.{TextUnit, IsUnit, EndsBefore, Statements, is_end, begins_with, byte_order_mark, mark_length}
 use Rattle.csa_cutting.specs.PieceCutting.{Follows, mark_of}
 use Rattle.csa_cutting.specs.Places.{IsPart, IsFoundIn, Passes, PassesTo, begins, open_of}
+use Rattle.csa_cutting.specs.declared.units.Origin.TheVariants.{EarlierPiece}
 use Rattle.csa_cutting.specs.declared.units.Place.{Place}
 use Rattle.csa_cutting.specs.declared.units.Found.TheVariants.{LeadsTo}
 use Rattle.csa_cutting.specs.declared.units.Place.TheVariants.{Mark, Gap, Unit as InUnit, Comment}
@@ -60,7 +61,7 @@ pub first_of_held : (held : List ℕ) → 0 < length held → begins_with (get_o
 first_of_held [] some = absurd (omega arith)
 first_of_held (b ∷ held) some = grind (arith, nat_tests)
 
-pub found_in_unit : (held piece : List ℕ) (n : ℕ) → IsUnit held [] → begins_with 39 held ≡ false → n ≡ position_or_len (is_end (get_or held 0 0)) piece → IsPart InUnit held piece 0 true 0 n
+pub found_in_unit : (held piece : List ℕ) (n : ℕ) → IsUnit held [] → begins_with 39 held ≡ false → n ≡ position_or_len (is_end (get_or held 0 0)) piece → IsPart InUnit held piece 0 EarlierPiece 0 n
 found_in_unit held piece n h says e =
     let first = get_or held 0 0 in
     let some = unit_some held [] h in
@@ -302,7 +303,7 @@ mark_part (c ∷ held) piece n e w is_mark some is_run =
     let silent : begins_with 39 whole ≡ false = ap (begins_with 39) is_mark ∙ mark_silent (length whole) (omega arith) in
     (rest_unit whole piece 0xEF e unit first is_run, begins_still 39 whole (take e piece) (omega arith) ∙ silent)
 
-pub part_no_mark : (held piece : List ℕ) (n e : ℕ) → NoMark held piece n → held ≡ take (length held) byte_order_mark → 0 < length held + n → e ≡ position_or_len (is_end 0xEF) piece → IsPart Mark held piece 0 true 0 e
+pub part_no_mark : (held piece : List ℕ) (n e : ℕ) → NoMark held piece n → held ≡ take (length held) byte_order_mark → 0 < length held + n → e ≡ position_or_len (is_end 0xEF) piece → IsPart Mark held piece 0 EarlierPiece 0 e
 part_no_mark held piece n e w is_mark some is_run =
     let part = mark_part held piece n e w is_mark some is_run in
     let following = no_end_before held piece n e w is_mark is_run in

@@ -7,7 +7,8 @@ use Rattle.std.proofs.lemmas.List.Sums.{prefix_len_stops, prefix_len-le-length}
 use Rattle.std.proofs.Math.Seq.{drop-cons, take-add, take-length}
 use Rattle.std.specs.List.{AllByRecursion, prefix_len, position_or_len}
 use Rattle.csa_cutting.specs.Lines.{is_line_end, AreLineEnds, HasNoLineEnd, BeginsWithLineEnd, Lines}
-use Rattle.csa_cutting.specs.LineCutting.{BeginsTooLong, IsRun}
+use Rattle.csa_cutting.specs.LineCutting.{BeginsTooLong}
+use Rattle.csa_cutting.specs.LineHolding.{IsRun}
 use Rattle.csa_cutting.proofs.Fronts.{passes, weaker, turned_true, turned_false}
 
 pub all_joined : (P : ℕ → Type 0) (xs ys : List ℕ) → AllByRecursion P xs → AllByRecursion P ys → AllByRecursion P (xs ++ ys)

@@ -8,6 +8,7 @@ use Rattle.csa_cutting.specs.Cut.{TextUnit, IsNext, IsGap, IsUnit, EndsBefore, U
 use Rattle.csa_cutting.specs.Cutting.{unit_between}
 use Rattle.csa_cutting.specs.PieceCutting.{Follows}
 use Rattle.csa_cutting.specs.Places.{Passes, PassesTo, IsPart, begins, open_of}
+use Rattle.csa_cutting.specs.declared.units.Origin.TheVariants.{ThisPiece}
 use Rattle.csa_cutting.specs.declared.units.Place.{Place}
 use Rattle.csa_cutting.proofs.Fronts.{first_between, length_between}
 use Rattle.csa_cutting.proofs.LineCutting.{all_joined}
@@ -187,7 +188,7 @@ to_unit place held piece from at start end low p some inside n =
     over_gap place held (slice_range piece from (end + 1)) (slice_range piece at start) (slice_range piece start (end + 1)) gap.1 (omega arith)
     (subst (Passes place held (slice_range piece from (end + 1))) split (on_to place held piece from at end low (omega (arith, gap.0)) p))
 
-pub unit_found : (place : Place) (held piece : List ℕ) (from at start end : ℕ) → from ≤ at → PassesTo place held piece from at → start < end → end ≤ length piece → IsNext at (drop at piece) (unit_between piece start end) (drop end piece) → get_or piece start 0 ≢ 39 → IsPart place held piece from false start end
+pub unit_found : (place : Place) (held piece : List ℕ) (from at start end : ℕ) → from ≤ at → PassesTo place held piece from at → start < end → end ≤ length piece → IsNext at (drop at piece) (unit_between piece start end) (drop end piece) → get_or piece start 0 ≢ 39 → IsPart place held piece from ThisPiece start end
 unit_found place held piece from at start end low p some inside n says = record {
   order = omega (arith, (gap_between piece at start end some inside n).0);
   first = λ h. cc;

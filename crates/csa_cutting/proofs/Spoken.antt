@@ -1,10 +1,12 @@
 -- The first statement of a source, by what it holds as a piece.
-use Rattle.std.proofs.Common.{◌≡◌, ℕ, ◌+◌, ◌-◌, ◌<◌, not, Bool, true, false, List, [], ◌∷◌, ◌++◌, length, drop, slice_range, sym, arith, refl, ap, subst}
+use Rattle.std.proofs.Common.{◌≡◌, ℕ, ◌+◌, ◌-◌, ◌<◌, not, false, List, [], ◌∷◌, ◌++◌, length, drop, slice_range, sym, arith, refl, ap, subst}
 use Rattle.csa_cutting.specs.Cut.{TextUnit, Statements}
 use Rattle.csa_cutting.specs.Cutting.{IsStatementUnit, IsFirstStatement, unit_between}
 use Rattle.csa_cutting.specs.PieceCutting.{Follows}
 use Rattle.csa_cutting.specs.Places.{IsPart, IsFoundIn, kept_of}
 use Rattle.csa_cutting.specs.declared.units.Found.TheVariants.{LeadsTo}
+use Rattle.csa_cutting.specs.declared.units.Origin.{Origin}
+use Rattle.csa_cutting.specs.declared.units.Origin.TheVariants.{EarlierPiece, ThisPiece}
 use Rattle.csa_cutting.specs.declared.units.Place.{Place}
 use Rattle.csa_cutting.specs.declared.units.Place.TheVariants.{Mark, Gap, Unit as InUnit, Comment}
 use Rattle.std.proofs.lemmas.List.Folds.{drop_split}
@@ -14,20 +16,20 @@ use Rattle.csa_cutting.proofs.Runs.{statement_first}
 use Rattle.csa_cutting.proofs.Leading.{nothing_left, comment_alone, to_whole}
 use Rattle.csa_cutting.proofs.Passing.{statements_at, statements_of, unit_at, range_size}
 
-none_kept : (goes_on : Bool) → kept_of goes_on [] ≡ []
-none_kept true = refl
-none_kept false = refl
+none_kept : (origin : Origin) → kept_of origin [] ≡ []
+none_kept EarlierPiece = refl
+none_kept ThisPiece = refl
 
 -- what follows a gap is the rest of the source
 from_gap : (source : List ℕ) (from : ℕ) (others : List TextUnit) → Follows false from [] (drop from source) others → Statements from (drop from source) others
 from_gap source from others s = statements_at (from - 0 + 0) from _ others (omega arith) s
 
-pub first_statement : (source : List ℕ) (from start end : ℕ) (goes_on : Bool) → IsPart Gap [] source from goes_on start end → IsFirstStatement source from start end
-first_statement source from start end goes_on p =
+pub first_statement : (source : List ℕ) (from start end : ℕ) (origin : Origin) → IsPart Gap [] source from origin start end → IsFirstStatement source from start end
+first_statement source from start end origin p =
     let front = slice_range source from (end + 1) in
     let unit = slice_range source start (end + 1) in
     let more = drop (end + 1) source in
-    let none = none_kept goes_on in
+    let none = none_kept origin in
     let inner = p.unit.order in
     let size = range_size source from start (end + 1) p.order (omega arith) in
     let place = length_between source from start p.order (omega (arith, p.unit.order, p.unit.within)) in
@@ -37,7 +39,7 @@ first_statement source from start end goes_on p =
       unit = subst (λ kept. IsStatementUnit kept source start end) none p.unit;
       first = λ others s.
           let here = statements_of start _ _ others (drop_split source start (end + 1) (omega arith)) s in
-          let there : Statements (from + length front - length (kept_of goes_on [] ++ unit)) ((kept_of goes_on [] ++ unit) ++ more) others =
+          let there : Statements (from + length front - length (kept_of origin [] ++ unit)) ((kept_of origin [] ++ unit) ++ more) others =
           rw none (statements_at start _ _ others (omega arith) here) in
           from_gap source from others (subst (λ text. Follows false from [] text others) (sym all) (p.passed from more others (omega arith) there));
     }

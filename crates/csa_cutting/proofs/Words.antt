@@ -1,12 +1,13 @@
 -- A statement without separators at the front of a piece.
 use Rattle.std.proofs.Common.{◌≡◌, ℕ, ◌+◌, ◌-◌, ◌==◌, ◌<◌, ◌≤◌, ◌||◌, Bool, true, false, List, [], ◌∷◌, ◌++◌, length, take, drop, get_or, slice_range, Option, Some, None, Ok, is_some, arith, refl, sym, ap, ◌∙◌, subst, inl, inr}
 use Rattle.std.specs.List.{AllByRecursion}
-use Rattle.std.proofs.lemmas.Bool.{cases_Bool, false≢true}
+use Rattle.std.proofs.lemmas.Bool.{cases_Bool}
 use Rattle.std.proofs.Math.Seq.{drop-cons}
 use Rattle.csa_cutting.specs.Cut.{IsUnit, is_separator, is_end, is_blank, takes_line, begins_with, before_kept, without_last_blanks, statement_bytes}
 use Rattle.csa_cutting.specs.PieceCutting.{PieceCutting}
 use Rattle.csa_cutting.specs.PieceSteps.{IsWord, Stepped}
 use Rattle.csa_cutting.specs.Places.{IsPart, open_of}
+use Rattle.csa_cutting.specs.declared.units.Origin.TheVariants.{ThisPiece}
 use Rattle.csa_cutting.specs.declared.cutter.Statement.{Statement}
 use Rattle.csa_cutting.specs.declared.units.Place.{Place}
 use Rattle.csa_cutting.specs.declared.units.Place.TheVariants.{Gap}
@@ -60,11 +61,11 @@ word_whole (first ∷ bytes) following b rest w e ends =
       bytes = sym (either_way (begins_with 78 word || begins_with 36 word) word (without_last_blanks word) (no_blanks word w.1));
     }
 
-word_part : (held piece : List ℕ) (size : ℕ) → size < length piece → IsWhole (take size piece) (drop size piece) → IsPart Gap held piece 0 false 0 size
+word_part : (held piece : List ℕ) (size : ℕ) → size < length piece → IsWhole (take size piece) (drop size piece) → IsPart Gap held piece 0 ThisPiece 0 size
 word_part held piece size less w =
     record {
       order = omega arith;
-      first = λ e. absurd (false≢true e);
+      first = λ e. cc;
       unit = record {
         order = omega arith;
         within = omega arith;
@@ -84,10 +85,10 @@ pub word_stepped : (now : PieceCutting) (place : Place) (held other piece : List
     → Stepped now piece (Ok (record { used = size + 1; statement = Some s })) (seen place other (fed + (size + 1)) (number + 1) refused)
 word_stepped now place held other piece size fed number refused s view gap none few clear less short word ends number_is offset_is bytes =
     let whole = word_whole (take size piece) (drop size piece) (get_or piece size 0) _ word (drop-cons piece size 0 less) ends in
-    let part : IsPart place held piece 0 false 0 size = rw gap (word_part held piece size less whole) in
+    let part : IsPart place held piece 0 ThisPiece 0 size = rw gap (word_part held piece size less whole) in
     let stated : (s.number ≡ number + 1) × (s.offset ≡ fed + 0 - 0) × (s.bytes.now ≡ statement_bytes ([] ++ slice_range piece 0 size)) =
     (number_is, omega (arith, offset_is), bytes ∙ sym whole.bytes ∙ ap statement_bytes (sym (first_range piece size))) in
-    let done = end_step now place held other piece false 0 size fed number (size + 1) refused (Some s) view none part few less (omega arith) refl refl stated in
+    let done = end_step now place held other piece ThisPiece 0 size fed number (size + 1) refused (Some s) view none part few less (omega arith) refl refl stated in
     let fed_is : now.fed ≡ fed = ap (λ (v : PieceCutting). v.fed) (sym view) in
     let kept = holds_here now (seen Gap other (fed + (size + 1)) (number + 1) refused) (Some s) (number + 1) fed clear (omega (arith, fed_is)) (number_is, offset_is) refl in
     subst (λ after. Stepped now piece (Ok (record { used = size + 1; statement = Some s })) (seen after other (fed + (size + 1)) (number + 1) refused)) (sym gap)

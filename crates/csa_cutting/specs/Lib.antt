@@ -3,6 +3,7 @@ pub mod Cut
 pub mod Cutting
 pub mod Lines
 pub mod LineCutting
+pub mod LineHolding
 pub mod PieceCutting
 pub mod PieceSteps
 pub mod Places

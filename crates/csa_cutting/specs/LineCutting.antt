@@ -1,7 +1,7 @@
 -- The state of a cutter of lines.
-use Rattle.std.specs.Prelude.{◌≡◌, ℕ, ◌+◌, ◌-◌, ◌<◌, ◌≤◌, Bool, true, false, List, [], ◌∷◌, ◌++◌, length, take, drop, slice_range, Option, MatchOption, Result, Ok, Err}
+use Rattle.std.specs.Prelude.{◌≡◌, ℕ, ◌-◌, ◌<◌, ◌≤◌, Bool, true, false, List, [], ◌∷◌, ◌++◌, length, take, Option, MatchOption, Result, Ok, Err}
 use Rattle.std.specs.Borrow.{Bor}
-use Rattle.csa_cutting.specs.Lines.{Lines, AreLineEnds, HasNoLineEnd, BeginsWithLineEnd}
+use Rattle.csa_cutting.specs.Lines.{Lines, AreLineEnds, HasNoLineEnd}
 use Rattle.csa_cutting.specs.declared.line.LineFault.{LineFault}
 use Rattle.csa_cutting.specs.declared.line.LineFault.TheVariants.{TooLong, OutOfMemory}
 
@@ -22,17 +22,6 @@ abbrev pub HasLongLine : ℕ → List ℕ → Type 0
 HasLongLine limit bytes =
     (before line following : List ℕ) × (bytes ≡ before ++ (line ++ following)) × HasNoLineEnd line
     × (limit < length line)
-
--- the bytes of the piece from start to end continue the held line, or are the next line after the
--- line ends at the front
-pub record IsRun (held piece : List ℕ) (start end : ℕ) : Type 0 where
-  pub order : start ≤ end
-  pub within : end ≤ length piece
-  pub skipped : AreLineEnds (take start piece)
-  pub first : 0 < start → held ≡ []
-  pub run : HasNoLineEnd (slice_range piece start end)
-  pub ends : end < length piece → BeginsWithLineEnd (drop end piece)
-  pub some : end < length piece → 0 < length held + (end - start)
 
 -- how many bytes of the piece were used, and the line that was returned, if one was
 abbrev pub LineAnswer : Type 0

@@ -1,5 +1,5 @@
 -- The state of a cutter of pieces.
-use Rattle.std.specs.Prelude.{◌≡◌, ℕ, ◌+◌, ◌-◌, ◌||◌, ◌⊎◌, Bool, true, false, List, [], ◌∷◌, ◌++◌, length, drop, filter, nat_lt, Option, None, if◌then◌else◌}
+use Rattle.std.specs.Prelude.{◌≡◌, ℕ, ◌+◌, ◌-◌, ◌⊎◌, Bool, true, false, List, [], ◌∷◌, ◌++◌, length, drop, filter, Option, None, if◌then◌else◌}
 use Rattle.csa_cutting.specs.ClosedStatements.{is_closed}
 use Rattle.csa_cutting.specs.Cut.{TextUnit, IsUnit, Statements, mark_length, begins_with}
 

@@ -1,11 +1,14 @@
--- What private helpers promise: where a cutter of pieces is, what it holds, and how the private
--- fields of `PieceCutter` make its view. A reader of the public contracts may skip this file.
-use Rattle.std.specs.Prelude.{◌≡◌, ℕ, ◌+◌, ◌-◌, ◌^◌, not, ◌<◌, ◌≤◌, ◌==◌, ◌⊎◌, if◌then◌else◌, Bool, true, false, List, [], ◌∷◌, ◌++◌, length, take, drop, slice_range}
+-- For private functions and fields of `PieceCutter`: where it is, what it holds, and what a piece
+-- holds next.
+-- A reader of the public contracts may skip this file.
+use Rattle.std.specs.Prelude.{◌≡◌, ℕ, ◌+◌, ◌-◌, ◌^◌, not, ◌<◌, ◌≤◌, ◌==◌, ◌⊎◌, Bool, true, false, List, [], ◌∷◌, ◌++◌, length, take, drop, slice_range}
 use Rattle.csa_cutting.specs.Cut.{TextUnit, Statements, IsUnit, byte_order_mark, begins_with, longest_statement}
 use Rattle.csa_cutting.specs.Cutting.{IsStatementUnit}
 use Rattle.csa_cutting.specs.PieceCutting.{Follows}
 use Rattle.csa_cutting.specs.declared.units.Found.{Found}
 use Rattle.csa_cutting.specs.declared.units.Found.TheVariants.{Part, LeadsTo}
+use Rattle.csa_cutting.specs.declared.units.Origin.{Origin}
+use Rattle.csa_cutting.specs.declared.units.Origin.TheVariants.{EarlierPiece, ThisPiece}
 use Rattle.csa_cutting.specs.declared.units.Place.{Place}
 use Rattle.csa_cutting.specs.declared.units.Unspoken.{Unspoken}
 use Rattle.csa_cutting.specs.declared.units.Place.TheVariants.{Mark, Gap, Unit as InUnit, Comment}
@@ -49,19 +52,20 @@ abbrev pub PassesTo : Place → List ℕ → List ℕ → ℕ → ℕ → Type 0
 PassesTo place held piece from at =
     Passes place held (slice_range piece from (at + 1)) (slice_range piece at (at + 1))
 
--- what is held of a unit
-abbrev pub kept_of : Bool → List ℕ → List ℕ
-kept_of goes_on held = if goes_on then held else []
+-- what is held of a unit that begins there
+abbrev pub kept_of : Origin → List ℕ → List ℕ
+kept_of EarlierPiece held = held
+kept_of ThisPiece held = []
 
--- a statement's unit in the piece from one place on, or the part of it so far: if it goes on, what
--- is held of it and the bytes from start to end; and what leads to it, up to the byte that ends it
-pub record IsPart (place : Place) (held piece : List ℕ) (from : ℕ) (goes_on : Bool)
+-- a statement's unit in the piece from one place on, or the part of it so far: what is held of it
+-- and the bytes from start to end; and what leads to it, up to the byte that ends it
+pub record IsPart (place : Place) (held piece : List ℕ) (from : ℕ) (origin : Origin)
     (start end : ℕ) : Type 0 where
   pub order : from ≤ start
-  pub first : goes_on ≡ true → (start ≡ 0) × (open_of place held ≡ held)
-  pub unit : IsStatementUnit (kept_of goes_on held) piece start end
+  pub first : origin ≡ EarlierPiece → (start ≡ 0) × (open_of place held ≡ held)
+  pub unit : IsStatementUnit (kept_of origin held) piece start end
   pub passed : Passes place held (slice_range piece from (end + 1))
-      (kept_of goes_on held ++ slice_range piece start (end + 1))
+      (kept_of origin held ++ slice_range piece start (end + 1))
 
 -- what the piece holds next from one place on: a statement's unit, or else where it leads
 abbrev pub IsFoundIn : Place → List ℕ → List ℕ → ℕ → Found → Type 0
@@ -73,7 +77,7 @@ IsFoundIn place held piece from (LeadsTo Gap) = Passes place held (drop from pie
 IsFoundIn place held piece from (LeadsTo Comment) = ((place ≡ Comment) ⊎ (0 < length piece))
     × Passes place held (drop from piece) (39 ∷ [])
 IsFoundIn place held piece from (Part part) =
-    IsPart place held piece from part.goes_on part.start part.end
+    IsPart place held piece from part.origin part.start part.end
 
 -- so many bytes of the piece are part of no statement; they lead to that place, with nothing held
 pub record IsUnspoken (place : Place) (held piece : List ℕ) (unspoken : Unspoken) : Type 0 where

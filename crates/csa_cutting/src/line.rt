@@ -1,11 +1,12 @@
-ghost use Rattle.std.specs.Prelude.{◌≡◌, ◌+◌, ◌≤◌, ◌↔◌, ◌⊎◌, [], length, ◌++◌, IsErrOf, IfOk, if◌then◌else◌, true, false};
+ghost use Rattle.std.specs.Prelude.{◌≡◌, ◌+◌, ◌≤◌, ◌↔◌, ◌⊎◌, [], length, ◌++◌, IsErrOf, IfOk, true, false};
 ghost use Rattle.std.specs.List.{position_or_len, prefix_len};
 ghost use Rattle.std.specs.Borrow.{sem};
 ghost use Rattle.std.specs.Io.BufRead.{Rests};
 ghost use Rattle.csa_cutting.specs.contracts.line.LineCutter.{the_row};
 ghost use Rattle.csa_cutting.specs.declared.line.LineFault.TheVariants.{OutOfMemory};
 ghost use Rattle.csa_cutting.specs.Lines.{is_line_end, HasNoLineEnd};
-ghost use Rattle.csa_cutting.specs.LineCutting.{BeginsTooLong, IsRun, LineStep, LinesAfter, LastLine, LinesFinished};
+ghost use Rattle.csa_cutting.specs.LineCutting.{BeginsTooLong, LineStep, LinesAfter, LastLine, LinesFinished};
+ghost use Rattle.csa_cutting.specs.LineHolding.{IsRun, unfinished_of};
 
 use crate::scan::front_length;
 use memchr::memchr2_iter;
@@ -39,20 +40,28 @@ impl From<AllocError> for LineFault {
 #[derive(Drop)]
 pub struct LineCutter {
     held: Vec<u8>,
+    held_line: HeldLine,
     limit: usize,
-    held_returned: bool,
     failed: bool,
 }
 
+// Which line the held bytes are.
+#[derive(Clone, Copy, PartialEq, Eq)]
+enum HeldLine {
+    Unfinished,
+    Returned,
+}
+
 impl Model for LineCutter {
-    ghost use Rattle.std.specs.Prelude.{[], if◌then◌else◌, length, ◌≤◌};
+    ghost use Rattle.std.specs.Prelude.{length, ◌≤◌};
     ghost use Rattle.csa_cutting.specs.Lines.{HasNoLineEnd};
     ghost use Rattle.csa_cutting.specs.LineCutting.{LineCutting};
+    ghost use Rattle.csa_cutting.specs.LineHolding.{unfinished_of};
 
     ghost Value = { LineCutting };
 
     ghost view = { λ c. record {
-      held = if c.held_returned then [] else c.held.items;
+      held = unfinished_of c.held_line c.held.items;
       limit = c.limit;
       failed = c.failed;
     } };
@@ -69,8 +78,8 @@ impl LineCutter {
     {
         LineCutter {
             held: Vec::new(alloc),
+            held_line: HeldLine::Unfinished,
             limit,
-            held_returned: false,
             failed: false,
         }
     }
@@ -95,8 +104,8 @@ impl LineCutter {
         if self.failed {
             return Err(LineFault::TooLong);
         }
-        forget(&mut self.held, self.held_returned);
-        self.held_returned = false;
+        forget(&mut self.held, self.held_line);
+        self.held_line = HeldLine::Unfinished;
         let (start, end) = first_run(self.held.as_slice(), piece);
         let run = &piece[start..end];
         if self.limit - self.held.len() < run.len() {
@@ -107,7 +116,7 @@ impl LineCutter {
         if end == piece.len() {
             return Ok((end, None));
         }
-        self.held_returned = true;
+        self.held_line = HeldLine::Returned;
         Ok((end + 1, Some(self.held.as_slice())))
     }
 
@@ -127,10 +136,10 @@ impl LineCutter {
         if self.failed {
             return Err(LineFault::TooLong);
         }
-        if self.held_returned || self.held.is_empty() {
+        if self.held_line == HeldLine::Returned || self.held.is_empty() {
             return Ok(None);
         }
-        self.held_returned = true;
+        self.held_line = HeldLine::Returned;
         Ok(Some(self.held.as_slice()))
     }
 }
@@ -162,12 +171,13 @@ pub(crate) fn line_length(text: &[u8]) -> usize
         .unwrap_or(text.len())
 }
 
-// Clears what is held if it has been returned.
-fn forget(held: &mut Vec<u8>, returned: bool)
-    ensures { held.new.items ≡ (if returned then [] else held.old.items) }
+// Clears a line that was returned.
+fn forget(held: &mut Vec<u8>, line: HeldLine)
+    ensures { held.new.items ≡ unfinished_of line held.old.items }
 {
-    if returned {
-        held.clear();
+    match line {
+        HeldLine::Unfinished => {}
+        HeldLine::Returned => held.clear(),
     }
 }
 

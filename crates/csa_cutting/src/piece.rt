@@ -25,7 +25,7 @@ ghost use Rattle.csa_cutting.specs.Places.{IsKept, IsFoundIn, IsHeld, IsUnspoken
 
 use crate::cutter::{CutFault, LONGEST_STATEMENT, Statement};
 use crate::units::{
-    BYTE_ORDER_MARK, COMMENT, Found, Part, Place, Unspoken, comments_rest, first_in,
+    BYTE_ORDER_MARK, COMMENT, Found, Origin, Part, Place, Unspoken, comments_rest, first_in,
     front_unspoken, handed_out, is_in_statement, unit_length,
 };
 use arrayvec::ArrayVec;
@@ -157,13 +157,13 @@ impl PieceCutter {
         };
         let end = found.end;
         let part = &piece[found.start..end];
-        let kept = kept_length(found.goes_on, self.held.len());
+        let kept = kept_length(found.origin, self.held.len());
         let offset = self.fed + found.start as u64 - kept as u64;
         if LONGEST_STATEMENT - kept < part.len() {
             self.refused = Some(offset);
             return Err(CutFault { number, offset });
         }
-        keep_held(&mut self.held, found.goes_on);
+        keep_held(&mut self.held, found.origin);
         if end == piece.len() {
             hold(&mut self.held, part);
             self.place = Place::Unit;
@@ -338,19 +338,23 @@ fn is_unfinished(place: Place, held: &[u8]) -> bool
     }
 }
 
-// How many of the held bytes belong to the unit.
-fn kept_length(goes_on: bool, length: usize) -> usize
-    ensures { result ≡ (if goes_on then length else 0) }
+// How many of the held bytes belong to a unit that begins there.
+fn kept_length(origin: Origin, held_length: usize) -> usize
+    ensures { (held : List ℕ) → held_length ≡ length held → result ≡ length (kept_of origin held) }
 {
-    if goes_on { length } else { 0 }
+    match origin {
+        Origin::EarlierPiece => held_length,
+        Origin::ThisPiece => 0,
+    }
 }
 
-// Keeps the held bytes if the unit goes on, and clears them if not.
-fn keep_held(held: &mut ArrayVec<u8, LONGEST_STATEMENT>, goes_on: bool)
-    ensures { held.new.items ≡ kept_of goes_on held.old.items }
+// Keeps the held bytes that belong to a unit that begins there.
+fn keep_held(held: &mut ArrayVec<u8, LONGEST_STATEMENT>, origin: Origin)
+    ensures { held.new.items ≡ kept_of origin held.old.items }
 {
-    if !goes_on {
-        held.clear();
+    match origin {
+        Origin::EarlierPiece => {}
+        Origin::ThisPiece => held.clear(),
     }
 }
 
@@ -392,7 +396,7 @@ fn found_in(place: Place, held: &[u8], piece: &[u8]) -> Found
         Place::Mark => found_in_mark(held, piece),
         Place::Gap => first_in(piece, 0),
         Place::Unit => Found::Part(Part {
-            goes_on: true,
+            origin: Origin::EarlierPiece,
             start: 0,
             end: unit_length(held[0], piece),
         }),
@@ -425,7 +429,7 @@ fn found_in_mark(held: &[u8], piece: &[u8]) -> Found
         first_in(piece, 0)
     } else {
         Found::Part(Part {
-            goes_on: true,
+            origin: Origin::EarlierPiece,
             start: 0,
             end: unit_length(BYTE_ORDER_MARK[0], piece),
         })

@@ -35,11 +35,18 @@ pub(crate) enum Place {
     Comment,
 }
 
-// The unit of a statement in the piece, from `start` up to and without `end`. If it goes on from
-// earlier pieces, the held bytes are its front.
+// Where the unit of a statement begins.
+#[derive(Clone, Copy, PartialEq, Eq)]
+pub(crate) enum Origin {
+    // in an earlier piece: the held bytes are its front
+    EarlierPiece,
+    ThisPiece,
+}
+
+// The unit of a statement in the piece, from `start` up to and without `end`.
 #[derive(Clone, Copy)]
 pub(crate) struct Part {
-    pub goes_on: bool,
+    pub origin: Origin,
     pub start: usize,
     pub end: usize,
 }
@@ -70,7 +77,7 @@ pub(crate) fn first_in(piece: &[u8], from: usize) -> Found
     while let Some((start, end)) = next_unit(piece, at) {
         if piece[start] != COMMENT {
             return Found::Part(Part {
-                goes_on: false,
+                origin: Origin::ThisPiece,
                 start,
                 end,
             });

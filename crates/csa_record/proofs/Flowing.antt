@@ -21,7 +21,7 @@ use Rattle.csa_record.specs.Flow.{after_read, fault_by, fault_of, IsRefusedFrom,
 use Rattle.csa_record.specs.FlowSteps.{FeedsNext, IsFed, IsFedAll}
 use Rattle.record_game.specs.Order.{order_fault}
 use Rattle.record_game.specs.LaidOut.{laid_out}
-use Rattle.csa_record.specs.Reading.{Reading, HasRead}
+use Rattle.csa_record.specs.RecordReading.{RecordReading, HasRead}
 use Rattle.csa_record.specs.ReadingSteps.{IsRefusedBy}
 use Rattle.record_game.specs.Refused.{Refused, FaultlessTo, AnswersItem, AnswersAfter, AnswersInOrder, Finishes, IsJudged, start_why}
 
@@ -112,7 +112,7 @@ fault_tells old new ended before after bytes r fault stopped is given quiet refu
 -- ---- one piece
 
 -- a reader that was fed bytes has found no fault in their closed statements
-pub read_so_far : (bytes : List ℕ) (reader : Reading) → HasRead bytes reader → AreFaultless bytes
+pub read_so_far : (bytes : List ℕ) (reader : RecordReading) → HasRead bytes reader → AreFaultless bytes
 read_so_far bytes reader read = record {
   closed = read.taken.closed;
   sayings = read.taken.sayings;
@@ -120,7 +120,7 @@ read_so_far bytes reader read = record {
   faultless = read.taken.faultless;
 }
 
-stops_at : (bytes front piece : List ℕ) (reader : Reading) → bytes ≡ front ++ piece → length piece ≤ 4096 → HasRead front reader → StopsAt bytes
+stops_at : (bytes front piece : List ℕ) (reader : RecordReading) → bytes ≡ front ++ piece → length piece ≤ 4096 → HasRead front reader → StopsAt bytes
 stops_at bytes front piece reader whole short read = record {
   front = front;
   piece = piece;
@@ -130,7 +130,7 @@ stops_at bytes front piece reader whole short read = record {
 }
 
 -- the piece shows a fault
-pub piece_refused : (bytes piece : List ℕ) (old new : Option (List ℕ)) (ended : Bool) (before after : ℕ) (r : Refusal) (fault : FlowFault) (reader : Reading) → HasRead bytes reader → length piece ≤ 4096 → fault ≡ fault_of r → Consumes old new piece → after ≡ before
+pub piece_refused : (bytes piece : List ℕ) (old new : Option (List ℕ)) (ended : Bool) (before after : ℕ) (r : Refusal) (fault : FlowFault) (reader : RecordReading) → HasRead bytes reader → length piece ≤ 4096 → fault ≡ fault_of r → Consumes old new piece → after ≡ before
     → ((more : List ℕ) → r.why ≢ why.OutOfMemory → Refused ((bytes ++ piece) ++ more) r.number r.offset r.why)
     → ((more : List ℕ) → r.why ≡ why.OutOfMemory → FaultlessTo ((bytes ++ piece) ++ more) r.number r.offset)
     → (start : Option (List ℕ)) → Consumes start old bytes → IsReadFault start new ended before after fault
@@ -145,7 +145,7 @@ ended_by true new taken buffer none room is = is
 ended_by false new taken buffer none room is = grind (arith, common_steps)
 
 -- no byte came, so the source is at its end
-pub no_piece : (bytes buffer : List ℕ) (taken : ℕ) (old new : Option (List ℕ)) (ended : Bool) (before after : ℕ) (r : Reading) → taken ≡ 0 → Consumes old new (take taken buffer) → (taken ≡ 0 → 0 < length buffer → IsAtEnd new)
+pub no_piece : (bytes buffer : List ℕ) (taken : ℕ) (old new : Option (List ℕ)) (ended : Bool) (before after : ℕ) (r : RecordReading) → taken ≡ 0 → Consumes old new (take taken buffer) → (taken ≡ 0 → 0 < length buffer → IsAtEnd new)
     → 0 < length buffer → ended ≡ true → after ≡ before → HasRead bytes r → FeedsNext bytes old new ended before after (Ok End) r
 no_piece bytes buffer taken old new ended before after r none given end room seen quiet h =
     let nothing : take taken buffer ≡ [] = ap (λ n. take n buffer) none in
@@ -153,7 +153,7 @@ no_piece bytes buffer taken old new ended before after r none given end room see
 
 -- ---- piece after piece
 
-pub fed_next : (old mid new : Option (List ℕ)) (ended : Bool) (before between after reads : ℕ) (r s : Reading) → IsFed old mid before between reads r
+pub fed_next : (old mid new : Option (List ℕ)) (ended : Bool) (before between after reads : ℕ) (r s : RecordReading) → IsFed old mid before between reads r
     → ((bytes : List ℕ) → HasRead bytes r → FeedsNext bytes mid new ended between after (Ok Piece) s) → IsFed old new before after (reads + 1) s
 fed_next old mid new ended before between after reads r s h step =
     let next = step h.bytes h.read in
@@ -167,7 +167,7 @@ fed_next old mid new ended before between after reads r s h step =
       read = next.5;
     }
 
-pub fed_last : (old mid new : Option (List ℕ)) (ended : Bool) (before between after reads : ℕ) (r s : Reading) → reads ≤ 16777216 → IsFed old mid before between reads r
+pub fed_last : (old mid new : Option (List ℕ)) (ended : Bool) (before between after reads : ℕ) (r s : RecordReading) → reads ≤ 16777216 → IsFed old mid before between reads r
     → ((bytes : List ℕ) → HasRead bytes r → FeedsNext bytes mid new ended between after (Ok End) s) → IsFedAll old new ended before after s
 fed_last old mid new ended before between after reads r s within h step =
     let next = step h.bytes h.read in
@@ -183,7 +183,7 @@ fed_last old mid new ended before between after reads r s within h step =
 
 -- ---- the record
 
-pub record_refused : (old new : Option (List ℕ)) (ended : Bool) (before after : ℕ) (r : Reading) (e : Refusal) (fault : FlowFault) → fault ≡ fault_of e → IsFedAll old new ended before after r
+pub record_refused : (old new : Option (List ℕ)) (ended : Bool) (before after : ℕ) (r : RecordReading) (e : Refusal) (fault : FlowFault) → fault ≡ fault_of e → IsFedAll old new ended before after r
     → ((source : List ℕ) → HasRead source r → e.why ≢ why.OutOfMemory → Refused source e.number e.offset e.why)
     → ((source : List ℕ) → HasRead source r → e.why ≡ why.OutOfMemory → FaultlessTo source e.number e.offset)
     → IsReadFault old new ended before after fault

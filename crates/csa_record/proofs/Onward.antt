@@ -32,7 +32,7 @@ use Rattle.record_game.specs.Outcome.{Outcome, IsWritten}
 use Rattle.record_game.specs.Order.{order_fault}
 use Rattle.record_game.specs.LaidOut.{laid_out}
 use Rattle.csa_record.specs.declared.record_reader.Failing.{Failing}
-use Rattle.csa_record.specs.Reading.{HasRead, HasTaken}
+use Rattle.csa_record.specs.RecordReading.{HasRead, HasTaken}
 use Rattle.csa_record.specs.ReadingSteps.{HasAll, IsRefusedBy}
 use Rattle.record_game.specs.Refused.{start_why, Finishes, IsJudged, AnswersItem, AnswersAfter, AnswersInOrder, Fault, Faultless, Refused}
 use Rattle.record_game.specs.Tells.{IsSpelt}

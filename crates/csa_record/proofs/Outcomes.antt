@@ -4,7 +4,8 @@ use Rattle.csa_text.specs.Saying.{Saying}
 use Rattle.csa_text.specs.Spelling.{Spells}
 use Rattle.record_game.specs.declared.fault.Why.{Why}
 use Rattle.record_game.specs.Answer.{IsAnswer}
-use Rattle.record_game.specs.Keeping.{Kept, TakenOrRefused}
+use Rattle.record_game.specs.Keeping.{Kept}
+use Rattle.record_game.specs.Taking.{TakenOrRefused}
 use Rattle.record_game.specs.Outcome.{Outcome}
 use Rattle.record_game.specs.Refused.{AnswersItem}
 

@@ -9,7 +9,7 @@ use Rattle.record_game.specs.Pieces.{joined, ReadsPieces, accepted, refused_at_e
 use Rattle.record_game.specs.Refused.{Refused, FaultlessTo}
 use Rattle.record_game.specs.Tells.{Tells}
 use Rattle.record_game.proofs.Cuttings.{joined_both, joined_at}
-use Rattle.csa_record.specs.Reading.{Reading, HasRead, bytes_of, fed_by, fed_of}
+use Rattle.csa_record.specs.RecordReading.{RecordReading, HasRead, bytes_of, fed_by, fed_of}
 
 abbrev pub Piece : Type 0
 Piece = Bor (List ℕ)
@@ -54,7 +54,7 @@ has_room ps i d within =
     omega (arith, count, all, two)
 
 -- a reader counts the bytes that it has read
-pub fed_count : (source : List ℕ) (r : Reading) → HasRead source r → fed_of r ≡ length source
+pub fed_count : (source : List ℕ) (r : RecordReading) → HasRead source r → fed_of r ≡ length source
 fed_count source r h =
     let took : r.cutter.fed ≡ 0 + length source = h.taken.cut.0.took in
     let fed : r.cutter.fed ≡ length source = omega (arith, took) in

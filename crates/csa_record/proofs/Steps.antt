@@ -19,10 +19,11 @@ use Rattle.record_game.specs.declared.fault.Why.TheVariants.{Text, Order, OutOfM
 use Rattle.record_game.specs.Fits.{IsOfStatement}
 use Rattle.record_game.specs.Game.{Game}
 use Rattle.record_game.specs.Items.{sides}
-use Rattle.record_game.specs.Keeping.{Kept, HasKept, TakenOrRefused}
+use Rattle.record_game.specs.Keeping.{Kept, HasKept}
+use Rattle.record_game.specs.Taking.{TakenOrRefused}
 use Rattle.record_game.specs.Outcome.{Outcome, IsWritten}
 use Rattle.csa_record.specs.declared.record_reader.Failing.{Failing}
-use Rattle.csa_record.specs.Reading.{Reading, HasTaken, HasRead}
+use Rattle.csa_record.specs.RecordReading.{RecordReading, HasTaken, HasRead}
 use Rattle.csa_record.specs.ReadingSteps.{HasAll, IsRefusedBy, LastTaken, MayTakeNext, NextTaken}
 use Rattle.csa_record.proofs.Outcomes.{outcome_of}
 use Rattle.record_game.specs.Refused.{Refused, FaultlessTo}
@@ -43,7 +44,7 @@ pub given : (p q : PieceCutting) (piece : List ℕ) (used : ℕ) (s : Statement)
 given p q piece used s f = let u : Ends p piece used s q = f.after.led in statement_given p q (take used piece) u.unit s u.stated u.leads
 
 -- a reader by its parts
-abbrev pub reading : PieceCutting → Kept → Option Failing → Reading
+abbrev pub reading : PieceCutting → Kept → Option Failing → RecordReading
 reading p k f = record { cutter = p; kept = k; failing = f }
 
 pub next_taken : (source piece : List ℕ) (used : ℕ) (p q : PieceCutting) (k new : Kept) (f : Option Failing) (s : Statement) (h : HasRead source (reading p k f)) → Stepped p piece (Ok (record { used = used; statement = Some s })) q
@@ -111,7 +112,7 @@ unspoken source piece None p q k f h within leads = tt
 unspoken source piece (Some used) p q k f h within leads = unspoken_next source piece used p q k f h within.1 leads
 
 -- a piece, split in two
-pub piece_more : (source piece : List ℕ) (used more : ℕ) (r : Reading) → HasRead ((source ++ take used piece) ++ take more (drop used piece)) r → HasRead (source ++ take (used + more) piece) r
+pub piece_more : (source piece : List ℕ) (used more : ℕ) (r : RecordReading) → HasRead ((source ++ take used piece) ++ take more (drop used piece)) r → HasRead (source ++ take (used + more) piece) r
 piece_more source piece used more r h =
     subst (λ bs. HasRead bs r) (append_assoc source (take used piece) (take more (drop used piece)) ∙ ap (λ bs. source ++ bs) (sym (take-add used more piece))) h
 

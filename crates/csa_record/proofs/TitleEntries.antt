@@ -16,7 +16,8 @@ use Rattle.csa_record.specs.declared.titles.HeaderText as memory
 use Rattle.record_game.specs.Game.{Entry}
 use Rattle.record_game.specs.Limits.{IsEntry, is_below, Rising}
 use Rattle.csa_record.specs.TitleBytes.{text_of, entry_of, entries_of}
-use Rattle.record_game.specs.Titles.{Titled, under, header_fault, with_entry, IsTitled}
+use Rattle.record_game.specs.Titles.{Titled, under, header_fault, with_entry}
+use Rattle.record_game.specs.Validity.{IsTitled}
 use Rattle.record_game.proofs.EntriesWith.{rising_tail, kept, titled_with}
 use Rattle.record_game.proofs.OtherKeys.{none_later}
 

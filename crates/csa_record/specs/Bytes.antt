@@ -1,4 +1,5 @@
--- Texts in memory, seen as their bytes.
+-- For private functions and fields of `Titles`: names in memory, seen as their bytes.
+-- A reader of the public contracts may skip this file.
 use Rattle.std.specs.Prelude.{ℕ, List, Option, Some, None}
 use Rattle.std.specs.Global.{Vec}
 

@@ -1,5 +1,6 @@
--- What private helpers promise: a course, put together from a line, the times of its moves, and an
--- ending. A reader of the public contracts may skip this file.
+-- For private functions and fields of `Course`: a course, put together from a line, the times of
+-- its moves, and an ending.
+-- A reader of the public contracts may skip this file.
 use Rattle.std.specs.Prelude.{◌≡◌, ℕ, not, is_some, Bool, false, List, [], ◌∷◌, length, Option, Some, None}
 use Rattle.shogi_board.specs.declared.color.Color.{Color}
 use Rattle.shogi_rules.specs.Play.{Answers}
@@ -9,7 +10,8 @@ use Rattle.shogi_rules.specs.Positions.{Played}
 use Rattle.csa_record.specs.declared.course.Ended as stored
 use Rattle.record_game.specs.declared.fault.Why.{Why}
 use Rattle.record_game.specs.declared.fault.Why.TheVariants.{OutOfMemory}
-use Rattle.record_game.specs.Course.{Course, IsCourse}
+use Rattle.record_game.specs.Course.{Course}
+use Rattle.record_game.specs.Validity.{IsCourse}
 use Rattle.record_game.specs.Game.{Timed, Ended}
 use Rattle.record_game.specs.PlayFaults.{why_of}
 

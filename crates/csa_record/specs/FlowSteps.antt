@@ -1,4 +1,5 @@
 -- For private functions: what one step of reading a source does, and what its faults say.
+-- A reader of the public contracts may skip this file.
 use Rattle.std.specs.Prelude.{◌≡◌, ℕ, ◌+◌, ◌*◌, ◌<◌, ◌≤◌, Bool, true, List, [], ◌++◌, length, Option, Result, Ok, Err}
 use Rattle.std.specs.Io.KnownBytes.{Keeps, Consumes, IsAtEnd}
 use Rattle.csa_record.specs.declared.flow.Fed.{Fed}
@@ -7,13 +8,13 @@ use Rattle.csa_record.specs.declared.flow.FlowFault.{FlowFault}
 use Rattle.csa_record.specs.declared.flow.FlowFault.TheVariants as flow
 use Rattle.record_game.specs.Canon.{canon}
 use Rattle.record_game.specs.Game.{Game}
-use Rattle.csa_record.specs.Reading.{Reading, HasRead}
+use Rattle.csa_record.specs.RecordReading.{RecordReading, HasRead}
 use Rattle.csa_record.specs.Flow.{longest_piece, most_reads, GaveGame, IsRefusal, FailsRead, IsOutOfMemory, IsReadFault, IsCutShort}
 
 -- a reader of these bytes was fed the next piece of the source; or the source is at its end; or the
 -- reading stops here
 abbrev pub FeedsNext : List ℕ → Option (List ℕ) → Option (List ℕ) → Bool → ℕ → ℕ
-    → Result Fed FlowFault → Reading → Type 0
+    → Result Fed FlowFault → RecordReading → Type 0
 FeedsNext bytes old new ended before after (Ok Piece) reader =
     (piece : List ℕ) × Consumes old new piece × (0 < length piece) × (length piece ≤ longest_piece)
     × (after ≡ before) × HasRead (bytes ++ piece) reader
@@ -25,7 +26,7 @@ FeedsNext bytes old new ended before after (Err fault) reader =
 
 -- a reader was fed what the source gave in so many reads
 pub record IsFed (old new : Option (List ℕ)) (before after reads : ℕ)
-    (reader : Reading) : Type 0 where
+    (reader : RecordReading) : Type 0 where
   pub bytes : List ℕ
   pub given : Consumes old new bytes
   pub quiet : after ≡ before
@@ -35,7 +36,7 @@ pub record IsFed (old new : Option (List ℕ)) (before after reads : ℕ)
 
 -- a reader was fed all that the source gave up to its end
 pub record IsFedAll (old new : Option (List ℕ)) (ended : Bool) (before after : ℕ)
-    (reader : Reading) : Type 0 where
+    (reader : RecordReading) : Type 0 where
   pub bytes : List ℕ
   pub given : Consumes old new bytes
   pub at_end : IsAtEnd new

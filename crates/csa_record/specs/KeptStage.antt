@@ -1,5 +1,5 @@
--- What private fields hold: the stage of a reader. A reader of the public contracts may skip this
--- file.
+-- For private fields of `RecordBuilder`: its stage.
+-- A reader of the public contracts may skip this file.
 use Rattle.csa_record.specs.declared.builder.Stage.{Stage}
 use Rattle.csa_record.specs.declared.builder.Stage.TheVariants as stages
 use Rattle.record_game.specs.Keeping as kept

@@ -1,8 +1,9 @@
 pub mod TitleBytes
+pub mod HeaderValues
 pub mod Coursing
 pub mod Starting
 pub mod KeptStage
-pub mod Reading
+pub mod RecordReading
 pub mod ReadingSteps
 pub mod Flow
 pub mod FlowSteps

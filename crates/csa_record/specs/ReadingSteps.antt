@@ -1,4 +1,5 @@
 -- For private functions: what one step of a reader does.
+-- A reader of the public contracts may skip this file.
 use Rattle.std.specs.Prelude.{◌≡◌, ◌≢◌, ◌⊎◌, ℕ, ◌+◌, ◌<◌, ◌≤◌, List, [], ◌++◌, length, take, Option, Some, None, Result, Ok, Err, IfOk}
 use Rattle.csa_cutting.specs.Cut.{TextUnit, IsCut}
 use Rattle.csa_cutting.specs.PieceCutting.{PieceCutting}
@@ -8,7 +9,7 @@ use Rattle.record_game.specs.declared.fault.Refusal.{Refusal}
 use Rattle.record_game.specs.declared.fault.Why.TheVariants.{OutOfMemory}
 use Rattle.record_game.specs.Keeping.{Kept, HasKept}
 use Rattle.record_game.specs.Refused.{Faultless, Refused, FaultlessTo}
-use Rattle.csa_record.specs.Reading.{Reading, HasRead}
+use Rattle.csa_record.specs.RecordReading.{RecordReading, HasRead}
 
 -- a reader of these parts was fed these bytes
 abbrev pub IsRead : List ℕ → PieceCutting → Kept → Option Failing → Type 0
@@ -26,12 +27,12 @@ AreUsed piece old new used = (0 < used) × (used ≤ length piece) × (new.fed �
 
 -- the next bytes of the piece were taken; or the bytes with that piece are refused, whatever
 -- follows them
-abbrev pub NextTaken : List ℕ → List ℕ → Result ℕ Refusal → Reading → Type 0
+abbrev pub NextTaken : List ℕ → List ℕ → Result ℕ Refusal → RecordReading → Type 0
 NextTaken source piece (Ok used) new = HasRead (source ++ take used piece) new
 NextTaken source piece (Err r) new = (more : List ℕ) → IsRefusedBy ((source ++ piece) ++ more) r
 
 -- the next bytes of the piece were taken or refused, as above; or nothing was changed
-abbrev pub MayTakeNext : Reading → List ℕ → Option (Result ℕ Refusal) → Reading → Type 0
+abbrev pub MayTakeNext : RecordReading → List ℕ → Option (Result ℕ Refusal) → RecordReading → Type 0
 MayTakeNext old piece None new = new ≡ old
 MayTakeNext old piece (Some taken) new = IfOk taken (AreUsed piece old.cutter new.cutter)
     × ((source : List ℕ) → HasRead source old → NextTaken source piece taken new)

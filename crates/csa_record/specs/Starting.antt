@@ -1,5 +1,5 @@
--- What private helpers promise: what is written of a start. A reader of the public contracts may
--- skip this file.
+-- For private functions: what is written of a start.
+-- A reader of the public contracts may skip this file.
 use Rattle.std.specs.Prelude.{List, [], ◌∷◌, Option, Some, None}
 use Rattle.shogi_board.specs.declared.kind.Piece.{Piece}
 use Rattle.shogi_board.specs.declared.square.Square.{Square}

@@ -1,11 +1,10 @@
--- Headers in memory, seen as entries.
+-- For private functions and fields of `Titles`: headers in memory, seen as entries.
+-- A reader of the public contracts may skip this file.
 use Rattle.std.specs.Prelude.{ℕ, List, [], ◌∷◌}
 use Rattle.std.specs.Global.{Vec}
 use Rattle.csa_text.specs.Moment.{moment_of}
 use Rattle.csa_record.specs.declared.titles.HeaderText.{HeaderText}
 use Rattle.csa_record.specs.declared.titles.HeaderText.TheVariants as texts
-use Rattle.csa_record.specs.declared.titles.HeaderValue.{HeaderValue}
-use Rattle.csa_record.specs.declared.titles.HeaderValue.TheVariants as values
 use Rattle.record_game.specs.Game as games
 
 abbrev pub text_of : HeaderText → games.HeaderText
@@ -19,8 +18,3 @@ entry_of key text = record { key = key.items; text = text_of text }
 abbrev pub entries_of : List (Vec ℕ × HeaderText) → List games.Entry
 entries_of [] = []
 entries_of (e ∷ es) = entry_of e.0 e.1 ∷ entries_of es
-
--- a header's text as its caller sees it
-abbrev pub shown : HeaderValue → games.HeaderText
-shown (values.Moment m) = games.moment (moment_of m)
-shown (values.Plain text) = games.plain text.now

@@ -3,7 +3,7 @@ ghost use Rattle.std.specs.Io.KnownBytes.{Keeps};
 ghost use Rattle.csa_record.specs.declared.flow.FlowFault.{FlowFault};
 ghost use Rattle.csa_record.specs.Flow.{longest_piece, fault_of, GaveGame, IsRefusal, IsFaultless, FailsRead, IsReadFault, ReadsRecord, IsNormal, IsCutShort, IsDigest, IsOutOfMemory};
 ghost use Rattle.csa_record.specs.FlowSteps.{FeedsNext, IsFedAll, IsTextFault, TellsText, IsFlowFault};
-ghost use Rattle.csa_record.specs.Reading.{HasRead, fed_of};
+ghost use Rattle.csa_record.specs.RecordReading.{HasRead, fed_of};
 
 use crate::record::Record;
 use crate::record_reader::RecordReader;

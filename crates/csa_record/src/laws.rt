@@ -1,7 +1,7 @@
 //! The laws of `record_game`, and what the state of a reader says of the bytes that it was fed.
 
 ghost use Rattle.std.specs.Prelude.{ℕ, List};
-ghost use Rattle.csa_record.specs.Reading.{Reading, HasRead};
+ghost use Rattle.csa_record.specs.RecordReading.{RecordReading, HasRead};
 ghost use Rattle.record_game.specs.Closed.{AreFaultless};
 
 pub use record_game::laws::{
@@ -11,6 +11,6 @@ pub use record_game::laws::{
 
 /// If a reader was fed bytes and not refused, none of their closed statements has a fault.
 pub fn read_so_far()
-    ensures faultless { (bytes : List ℕ) (reader : Reading) → HasRead bytes reader
+    ensures faultless { (bytes : List ℕ) (reader : RecordReading) → HasRead bytes reader
         → AreFaultless bytes }
 {}

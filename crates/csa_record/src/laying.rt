@@ -10,7 +10,8 @@ ghost use Rattle.shogi_board.specs.declared.setup.SetupFault.TheVariants.{Oppone
 ghost use Rattle.csa_text.specs.Saying.{Saying, even, rank, pieces, pairs_of};
 ghost use Rattle.record_game.specs.declared.fault.Why.TheVariants.{OutOfMemory};
 ghost use Rattle.record_game.specs.Items.{sides};
-ghost use Rattle.record_game.specs.Laying.{Lays, LaidOrRefused, Places};
+ghost use Rattle.record_game.specs.Laying.{Lays};
+ghost use Rattle.record_game.specs.Taking.{LaidOrRefused, Places};
 ghost use Rattle.record_game.specs.Order.{endings};
 ghost use Rattle.record_game.specs.Placings.{taken_off, pair_placing, cells_placings};
 

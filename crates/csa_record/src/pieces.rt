@@ -1,5 +1,5 @@
 ghost use Rattle.std.specs.Prelude.{◌≡◌, ◌≢◌, ◌^◌, ◌≤◌, length, Ok, Err, IfOk, IfErr};
-ghost use Rattle.csa_record.specs.Reading.{bytes_of};
+ghost use Rattle.csa_record.specs.RecordReading.{bytes_of};
 ghost use Rattle.record_game.specs.Pieces.{joined, ReadsPieces};
 ghost use Rattle.record_game.specs.Refused.{FaultlessTo};
 

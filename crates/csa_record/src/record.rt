@@ -7,7 +7,7 @@ ghost use Rattle.record_game.specs.Course.{PlayAnswers, untimed, time_fault, clo
 ghost use Rattle.record_game.specs.Game.{move_of};
 ghost use Rattle.record_game.specs.Limits.{IsGame, IsName, IsOneLine, longest_time};
 ghost use Rattle.record_game.specs.Titles.{IsWithHeader, name_of, name_fault, header_fault, with_name, under};
-ghost use Rattle.csa_record.specs.TitleBytes.{shown};
+ghost use Rattle.csa_record.specs.HeaderValues.{shown};
 ghost use Rattle.csa_cutting.specs.Cut.{longest_statement};
 
 use crate::course::Course;

@@ -5,7 +5,7 @@ ghost use Rattle.record_game.specs.Fits.{IsOfStatement};
 ghost use Rattle.record_game.specs.Keeping.{HasKept};
 ghost use Rattle.record_game.specs.Laying.{Lays};
 ghost use Rattle.record_game.specs.Outcome.{Outcome};
-ghost use Rattle.csa_record.specs.Reading.{HasRead, HasTaken, fed_of};
+ghost use Rattle.csa_record.specs.RecordReading.{HasRead, HasTaken, fed_of};
 ghost use Rattle.csa_record.specs.ReadingSteps.{AreUsed, IsRead, IsRefusedBy, NextTaken, MayTakeNext, LastTaken};
 ghost use Rattle.record_game.specs.Refused.{Refused, FaultlessTo};
 ghost use Rattle.record_game.specs.Tells.{Tells};
@@ -58,9 +58,9 @@ pub struct RecordReader {
 }
 
 impl Model for RecordReader {
-    ghost use Rattle.csa_record.specs.Reading as stated;
+    ghost use Rattle.csa_record.specs.RecordReading.{RecordReading};
 
-    ghost Value = { stated.Reading };
+    ghost Value = { RecordReading };
 
     ghost view = { λ r. record {
       cutter = r.cutter;

@@ -1,6 +1,6 @@
 ghost use Rattle.std.specs.Prelude.{◌≡◌, true, ◌-◌, ◌^◌, ◌<◌, [], IfOk, IsErrOf};
 ghost use Rattle.csa_record.specs.declared.flow.FlowFault.{FlowFault};
-ghost use Rattle.csa_record.specs.Reading.{HasRead};
+ghost use Rattle.csa_record.specs.RecordReading.{HasRead};
 ghost use Rattle.csa_record.specs.Flow.{GaveGame, IsRefusal, IsFaultless, FailsRead, ReadsRecord};
 
 use crate::flow::{FlowFault, PIECE, feed_all};
@@ -26,11 +26,10 @@ pub struct SourceReader {
 
 impl Model for SourceReader {
     ghost use Rattle.std.specs.Prelude.{[]};
-    ghost use Rattle.csa_record.specs.Reading as stated;
-    ghost use Rattle.csa_record.specs.Reading.{HasRead};
+    ghost use Rattle.csa_record.specs.RecordReading.{RecordReading, HasRead};
     ghost use Rattle.record_game.specs.Laying.{Lays};
 
-    ghost Value = { stated.Reading };
+    ghost Value = { RecordReading };
 
     ghost view = { λ s. s.reader };
 

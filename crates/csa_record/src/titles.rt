@@ -10,8 +10,10 @@ ghost use Rattle.record_game.specs.Answer.{IsAnswer};
 ghost use Rattle.record_game.specs.Canon.{ended_line, header_item, name_items, value_text};
 ghost use Rattle.record_game.specs.Limits.{IsName, IsOneLine, IsMomentKey, IsEntry, most_headers};
 ghost use Rattle.record_game.specs.Says.{IsValue};
-ghost use Rattle.record_game.specs.Titles.{untitled, name_of, under, name_fault, header_fault, with_name, with_entry, IsWithHeader, IsTitled};
-ghost use Rattle.csa_record.specs.TitleBytes.{text_of, entry_of, entries_of, shown};
+ghost use Rattle.record_game.specs.Titles.{untitled, name_of, under, name_fault, header_fault, with_name, with_entry, IsWithHeader};
+ghost use Rattle.record_game.specs.Validity.{IsTitled};
+ghost use Rattle.csa_record.specs.TitleBytes.{text_of, entry_of, entries_of};
+ghost use Rattle.csa_record.specs.HeaderValues.{shown};
 ghost use Rattle.csa_cutting.specs.Cut.{longest_statement};
 
 use csa_text::{Moment, read_moment, write_header, write_name};
@@ -53,7 +55,8 @@ pub(crate) struct Titles {
 
 impl Model for Titles {
     ghost use Rattle.csa_record.specs.Bytes.{name_bytes};
-    ghost use Rattle.record_game.specs.Titles.{Titled, IsTitled};
+    ghost use Rattle.record_game.specs.Titles.{Titled};
+    ghost use Rattle.record_game.specs.Validity.{IsTitled};
     ghost use Rattle.csa_record.specs.TitleBytes.{entries_of};
 
     ghost Value = { Titled };

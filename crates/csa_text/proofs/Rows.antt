@@ -22,7 +22,8 @@ use Rattle.csa_text.specs.Fields.{IsSplit, HasNone}
 use Rattle.csa_text.specs.PairTexts.{pairs_text, AllOnBoard}
 use Rattle.csa_text.specs.TimeTexts.{IsTime}
 use Rattle.csa_text.specs.Saying.{Saying, version, name, header, even, rank, pieces, turn, walked, time, ending}
-use Rattle.csa_text.specs.Spelling.{Spells, IsRank, fault_of_row, IsRead}
+use Rattle.csa_text.specs.Spelling.{Spells, IsRank, fault_of_row}
+use Rattle.csa_text.specs.ItemReading.{IsRead}
 use Rattle.csa_text.specs.declared.fault.TextFault.TheVariants.{BadPosition, BadTime}
 use Rattle.csa_text.specs.PairsOnce.{pairs_once}
 

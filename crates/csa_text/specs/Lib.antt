@@ -6,6 +6,7 @@ pub mod Endings
 pub mod TimeTexts
 pub mod Saying
 pub mod Spelling
+pub mod ItemReading
 pub mod Statements
 pub mod Fields
 pub mod Moment

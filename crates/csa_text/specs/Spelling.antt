@@ -1,16 +1,15 @@
 -- What the bytes of a statement spell.
-use Rattle.std.specs.Prelude.{◌≡◌, ◌≢◌, ℕ, ◌+◌, ◌≤◌, ◌==◌, ◌||◌, ◌&&◌, nat_le, Bool, false, List, [], ◌∷◌, ◌++◌, length, Option, ◌⊎◌, Result, MatchResult, codes, if◌then◌else◌}
+use Rattle.std.specs.Prelude.{◌≡◌, ◌≢◌, ℕ, ◌+◌, ◌≤◌, ◌==◌, ◌||◌, ◌&&◌, nat_le, Bool, false, List, [], ◌∷◌, ◌++◌, length, Option, ◌⊎◌, codes, if◌then◌else◌}
 use Rattle.std.specs.List.{flat_map}
 use Rattle.shogi_board.specs.declared.kind.Piece.{Piece}
 use Rattle.csa_text.specs.declared.fault.TextFault.{TextFault}
 use Rattle.csa_text.specs.declared.fault.TextFault.TheVariants.{BadVersion, BadHeader, BadPosition, BadMove, BadTime, UnknownEnding, Unknown}
-use Rattle.csa_text.specs.declared.item.Item.{Item}
 use Rattle.csa_text.specs.Codes.{sign, cell_text, move_text}
 use Rattle.csa_cutting.specs.Cut.{begins_with}
 use Rattle.csa_text.specs.Endings.{ending_name}
 use Rattle.csa_text.specs.Fields.{IsSplit}
 use Rattle.csa_text.specs.PairTexts.{pairs_text, AllOnBoard}
-use Rattle.csa_text.specs.Saying.{Saying, version, name, header, even, rank, pieces, turn, walked, time, ending, saying_of}
+use Rattle.csa_text.specs.Saying.{Saying, version, name, header, even, rank, pieces, turn, walked, time, ending}
 use Rattle.csa_text.specs.TimeTexts.{IsTime}
 
 -- `P`, the number of the rank, and its cells
@@ -63,9 +62,3 @@ fault_of_row bytes =
     else if begins_with 84 bytes then BadTime
     else if begins_with 37 bytes then UnknownEnding
     else Unknown
-
--- the item that the bytes spell, or the fault of their row if they spell none
-abbrev pub IsRead : List ℕ → Result Item TextFault → Type 0
-IsRead bytes result = MatchResult result
-    (λ item. Spells bytes (saying_of item))
-    (λ fault. ((saying : Saying) → Spells bytes saying → ⊥) × (fault ≡ fault_of_row bytes))

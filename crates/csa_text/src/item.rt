@@ -1,7 +1,8 @@
 ghost use Rattle.std.specs.Prelude.{◌≡◌, ◌∷◌, IfOk, IfErr};
 ghost use Rattle.csa_text.specs.Codes.{sign};
 ghost use Rattle.csa_text.specs.Saying.{Saying, saying_of};
-ghost use Rattle.csa_text.specs.Spelling.{Spells, fault_of_row, IsRead};
+ghost use Rattle.csa_text.specs.Spelling.{Spells, fault_of_row};
+ghost use Rattle.csa_text.specs.ItemReading.{IsRead};
 
 use crate::ending::{Ending, read_ending};
 use crate::fault::TextFault;

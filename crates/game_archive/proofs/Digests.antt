@@ -1,5 +1,5 @@
 -- The digests of the leaders that are kept.
-use Rattle.std.proofs.Common.{◌≡◌, ◌∙◌, ℕ, ◌<◌, List, [], ◌∷◌, ◌++◌, Option, Some, None, Bool, true, false, cond, inl, inr, ◌⊎◌, refl, sym, ap, arith, length, subst}
+use Rattle.std.proofs.Common.{◌≡◌, ◌∙◌, ℕ, List, [], ◌∷◌, ◌++◌, Option, Some, None, Bool, true, false, cond, inl, inr, ◌⊎◌, refl, sym, arith, length, subst}
 use Rattle.std.specs.Prelude.{is_some}
 use Rattle.std.specs.List.{All}
 use Rattle.std.specs.BTreeMap.{BTreeMap, get, is_at}
@@ -11,11 +11,9 @@ use Rattle.std.proofs.lemmas.Map.Lookups.{exact_bytes}
 use Rattle.game_archive.proofs.Causes.{collides_still}
 use Rattle.game_archive.proofs.Placed.{still, within}
 use Rattle.game_archive.specs.Digests.{Collides, HasDigest}
-use Rattle.game_archive.specs.Groups.{HasLeader}
 use Rattle.game_archive.specs.Knowing.{AddsLeader, HadKey, HoldsDigests, HoldsLeaders}
 use Rattle.game_archive.specs.Readings.{Readings}
 use Rattle.game_archive.specs.declared.grouping.Placing.{Placing}
-use Rattle.game_archive.specs.declared.grouping.Placing.TheVariants as placing
 use Rattle.record_game.specs.declared.likeness.Likeness.{Likeness}
 
 abbrev Digesting : Type 0

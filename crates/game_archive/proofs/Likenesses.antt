@@ -1,6 +1,7 @@
 -- A key is that of one game, or of one start and its moves.
 use Rattle.std.proofs.Common.{◌≡◌, ℕ, List, ap, map, subst, sym, ◌∙◌}
-use Rattle.game_archive.specs.Keying.{HasKey, IsKeyOf}
+use Rattle.game_archive.specs.Keying.{IsKeyOf}
+use Rattle.game_archive.specs.Knowing.{HasKey}
 use Rattle.game_archive.specs.Alike.{AreAlike}
 use Rattle.record_game.specs.declared.likeness.Likeness.{Likeness}
 use Rattle.record_game.specs.declared.likeness.Likeness.TheVariants as likeness

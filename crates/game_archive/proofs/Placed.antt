@@ -11,8 +11,7 @@ use Rattle.std.proofs.lemmas.List.{get_or_append_left, get_or_push, get_or_past,
 use Rattle.std.proofs.lemmas.List.Elements.{Contains-append_left, Contains-push, All-push, All-contains, All-weaker}
 use Rattle.std.proofs.lemmas.Map.Lookups.{exact_bytes}
 use Rattle.game_archive.proofs.Likenesses.{key_once, alike_by_key, key_of_alike}
-use Rattle.game_archive.specs.Keying.{HasKey}
-use Rattle.game_archive.specs.Knowing.{HoldsLeaders, IsKept, KnowsGroups, LeadsNone}
+use Rattle.game_archive.specs.Knowing.{HasKey, HoldsLeaders, IsKept, KnowsGroups, LeadsNone}
 use Rattle.game_archive.specs.Groups.{placing_at, HasLeader, IsGrouped}
 use Rattle.game_archive.specs.declared.grouping.Placing.{Placing}
 use Rattle.game_archive.specs.declared.grouping.Placing.TheVariants as placing

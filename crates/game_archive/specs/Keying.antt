@@ -14,7 +14,3 @@ abbrev pub IsKeyOf : Likeness → Game → List ℕ → Type 0
 IsKeyOf likeness.Game g key = (key ≡ canon g) × Tells key g
 IsKeyOf likeness.Moves g key = LineText g.start (map move_of g.moves) key
     × UsiLine (words key) g.start (map move_of g.moves)
-
--- the bytes contain a game, and this is its key
-abbrev pub HasKey : Likeness → List ℕ → List ℕ → Type 0
-HasKey likeness bytes key = (g : Game) × Tells bytes g × IsKeyOf likeness g key

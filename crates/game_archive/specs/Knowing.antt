@@ -8,7 +8,7 @@ use Rattle.std.specs.Ordering.{nat_cmp}
 use Rattle.csa_record.specs.declared.flow.FlowFault.{FlowFault}
 use Rattle.game_archive.specs.Digests.{Collides, HasDigest}
 use Rattle.game_archive.specs.Groups.{HasLeader, outside, placing_at}
-use Rattle.game_archive.specs.Keying.{HasKey, IsKeyOf}
+use Rattle.game_archive.specs.Keying.{IsKeyOf}
 use Rattle.game_archive.specs.Readings.{Noted, Readings, how_many, noted_at, noted_with}
 use Rattle.game_archive.specs.Unreadable.{HaveCauses}
 use Rattle.game_archive.specs.declared.grouping.Placing.{Placing}
@@ -17,6 +17,11 @@ use Rattle.record_game.specs.declared.likeness.Likeness.{Likeness}
 use Rattle.record_game.specs.declared.fault.Refusal.{Refusal}
 use Rattle.record_game.specs.Game.{Game}
 use Rattle.record_game.specs.Refused.{Refused}
+use Rattle.record_game.specs.Tells.{Tells}
+
+-- the bytes contain a game, and this is its key
+abbrev pub HasKey : Likeness → List ℕ → List ℕ → Type 0
+HasKey likeness bytes key = (g : Game) × Tells bytes g × IsKeyOf likeness g key
 
 -- what is kept at digests and in the list are leaders
 pub record HoldsLeaders (placings : List Placing) (by_digest : BTreeMap (List ℕ) ℕ)

@@ -7,8 +7,7 @@
 
 ghost use Rattle.std.specs.Prelude.{◌≡◌, ◌≢◌, ◌+◌, ◌<◌, ◌≤◌, ℕ, List, [], ◌∷◌, ◌++◌, length, MatchOption, IfErr, IfOk, IfSome, OnOk};
 ghost use Rattle.csa_record.specs.declared.flow.FlowFault.{FlowFault};
-ghost use Rattle.game_archive.specs.Keying.{HasKey};
-ghost use Rattle.game_archive.specs.Knowing.{AddsLeader, HadKey, HoldsDigests, HoldsLeaders, IsNotCompared, KeepsCauses, KeepsCount, KeepsFew, KnowsGroups, LeadsNone};
+ghost use Rattle.game_archive.specs.Knowing.{HasKey, AddsLeader, HadKey, HoldsDigests, HoldsLeaders, IsNotCompared, KeepsCauses, KeepsCount, KeepsFew, KnowsGroups, LeadsNone};
 ghost use Rattle.game_archive.specs.Alike.{GiveBytes};
 ghost use Rattle.game_archive.specs.Groups.{HasLeader, IsGrouped, outside};
 ghost use Rattle.game_archive.specs.Readings.{Noted, ReadAlike, how_many};

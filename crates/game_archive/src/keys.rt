@@ -4,9 +4,9 @@
 ghost use Rattle.std.specs.Prelude.{◌≡◌, ◌≢◌, ◌<◌, ◌↔◌, ℕ, List, Err, IfErr, IfOk, IsErrOf, IsTrue};
 ghost use Rattle.csa_record.specs.declared.flow.FlowFault.{FlowFault};
 ghost use Rattle.record_game.specs.Refused.{Refused};
-ghost use Rattle.game_archive.specs.Keying.{HasKey, IsKeyOf};
+ghost use Rattle.game_archive.specs.Keying.{IsKeyOf};
+ghost use Rattle.game_archive.specs.Knowing.{HasKey, HadKey};
 ghost use Rattle.game_archive.specs.Alike.{GivesOnly};
-ghost use Rattle.game_archive.specs.Knowing.{HadKey};
 ghost use Rattle.game_archive.specs.Readings.{ReadAlike, noted_after};
 
 use crate::archive::Archive;

@@ -15,8 +15,8 @@ use Rattle.usi_text.specs.Moves.{UsiMove}
 use Rattle.usi_text.specs.Words.{words}
 use Rattle.session_lines.proofs.OneLine.{one_text}
 use Rattle.host_and_sample.specs.declared.sample.Request.TheVariants.{Go, Other}
-use Rattle.host_and_sample.specs.Requests.{Asks, RowText, IsGoText, moves, resigns}
-use Rattle.host_and_sample.specs.Sample.{SampleState, SampleRow, SampleTableRow, IsBest, IsUnnamed, keeps, quit, in_table, skipped, over}
+use Rattle.host_and_sample.specs.Requests.{Asks, IsGoText, moves, resigns}
+use Rattle.host_and_sample.specs.Sample.{SampleRowText, SampleState, SampleRow, SampleTableRow, IsBest, HasNoSampleRow, keeps, quit, in_table, skipped, over}
 use Rattle.host_and_sample.specs.Sample as row
 use Rattle.session_lines.specs.Texts.{text_of, ended_line}
 
@@ -51,11 +51,11 @@ go_rows (Ok t) kept P h f = f t h
 go_rows (Err e) kept P h f = tt
 
 pub named : (s : SampleState) (line text : List ℕ) (t : SampleState) (kept : Option Played) (lines : List (List ℕ))
-    → s ≡ keeps kept → SampleTableRow kept line lines t → text ≡ text_of lines → RowText s line text t
+    → s ≡ keeps kept → SampleTableRow kept line lines t → text ≡ text_of lines → SampleRowText s line text t
 named s line text t kept lines e r h = (lines, in_table kept e r, h)
 
 pub go_row : (s : SampleState) (line text : List ℕ) (kept : Option Played)
-    → s ≡ keeps kept → Asks line Go → IsGoText kept text → RowText s line text s
+    → s ≡ keeps kept → Asks line Go → IsGoText kept text → SampleRowText s line text s
 go_row s line text kept e asks h =
     elim h [
       | moves g word k best same ↦ named s line text s kept _ e (row.go g word asks k best refl e) same
@@ -63,7 +63,7 @@ go_row s line text kept e asks h =
     ]
 
 -- the requests that a table's row is about
-unnamed : (kept : Option Played) (line : List ℕ) → Asks line Other → IsUnnamed kept line
+unnamed : (kept : Option Played) (line : List ℕ) → Asks line Other → HasNoSampleRow kept line
 unnamed kept line asks lines t r =
     elim r [
       | row.usi h l e ↦ asks.0 h
@@ -75,5 +75,5 @@ unnamed kept line asks lines t r =
     ]
 
 pub other_row : (s : SampleState) (line text : List ℕ) (kept : Option Played)
-    → s ≡ keeps kept → Asks line Other → text ≡ [] → RowText s line text s
+    → s ≡ keeps kept → Asks line Other → text ≡ [] → SampleRowText s line text s
 other_row s line text kept e asks h = ([], skipped kept e (unnamed kept line asks) refl refl, h)

@@ -14,7 +14,7 @@ use Rattle.usi_text.specs.Words.{words, nth_word}
 use Rattle.host_and_sample.specs.declared.config.HostConfig.{HostConfig}
 use Rattle.host_and_sample.specs.declared.outcome.Outcome.{Outcome}
 use Rattle.host_and_sample.specs.declared.outcome.Outcome.TheVariants.{Repetition, Perpetual, MaxMoves}
-use Rattle.host_and_sample.specs.Host.{HostState, HostRow, HostTableRow, HostMoves, BeforeLogin, AfterSummary, InPlay, AfterMove, IsLogin, IsWordAndOne, IsGoodMove, IsUnnamed, with_move, moved_line, outcome_lines, even_game, waiting, offered, playing, decided, ended, in_table, skipped}
+use Rattle.host_and_sample.specs.Host.{HostState, HostRow, HostTableRow, HostMoves, BeforeLogin, AfterSummary, InPlay, AfterMove, IsLogin, IsWordAndOne, IsGoodMove, HasNoHostRow, with_move, moved_line, outcome_lines, even_game, waiting, offered, playing, decided, ended, in_table, skipped}
 use Rattle.host_and_sample.specs.Host as row
 use Rattle.session_lines.specs.MoveLines.{is_move_line}
 use Rattle.session_lines.proofs.MoveRead.{move_once}

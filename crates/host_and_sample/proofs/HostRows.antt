@@ -19,9 +19,10 @@ use Rattle.csa_text.specs.Codes.{move_text}
 use Rattle.usi_text.specs.Words.{words, nth_word}
 use Rattle.host_and_sample.specs.declared.config.HostConfig.{HostConfig}
 use Rattle.host_and_sample.specs.declared.outcome.Outcome.{Outcome}
-use Rattle.host_and_sample.specs.Host.{HostState, HostMoves, BeforeLogin, AfterSummary, InPlay, AfterMove, IsLogin, IsWordAndOne, IsGoodMove, IsUnnamed, with_move, moved_line, outcome_lines, even_game, waiting, offered, playing, decided, ended, in_table, skipped}
+use Rattle.host_and_sample.specs.Host.{HostState, HostMoves, BeforeLogin, AfterSummary, InPlay, AfterMove, IsLogin, IsWordAndOne, IsGoodMove, HasNoHostRow, with_move, moved_line, outcome_lines, even_game, waiting, offered, playing, decided, ended, in_table, skipped}
 use Rattle.host_and_sample.specs.Host as row
-use Rattle.host_and_sample.specs.Hosting.{RowText, MovesAfter, Begins, Follows, follows, follows_last, Tries, taken, refused, Rests, rests, rests_last}
+use Rattle.host_and_sample.specs.Hosting.{HostRowText}
+use Rattle.host_and_sample.specs.HostAnswers.{follows, follows_last, taken, refused, rests, rests_last, MovesAfter, Begins, Follows, Tries, Rests}
 use Rattle.session_lines.specs.MoveLines.{is_move_line, TellsMove}
 use Rattle.session_lines.specs.Texts.{text_of, ended_line, with_time}
 use Rattle.session_lines.proofs.OneLine.{one_text}
@@ -30,10 +31,10 @@ use Rattle.session_lines.proofs.MoveRead.{move_once}
 
 -- 1. LOGOUT, and lines to which no row applies
 pub logged_out : (c : HostConfig) (s t : HostState) (seconds : ℕ) (text : List ℕ)
-    → (s ≡ ended → ⊥) → t ≡ ended → text ≡ text_of (codes "LOGOUT:completed" ∷ []) → RowText c s (codes "LOGOUT") seconds text t
+    → (s ≡ ended → ⊥) → t ≡ ended → text ≡ text_of (codes "LOGOUT:completed" ∷ []) → HostRowText c s (codes "LOGOUT") seconds text t
 logged_out c s t seconds text running e h = (codes "LOGOUT:completed" ∷ [], in_table (row.logs_out running refl refl e), h)
 
-pub unnamed_ended : (c : HostConfig) (line : List ℕ) (seconds : ℕ) → IsUnnamed c ended line seconds
+pub unnamed_ended : (c : HostConfig) (line : List ℕ) (seconds : ℕ) → HasNoHostRow c ended line seconds
 unnamed_ended c line seconds lines t r =
     elim r [
       | row.before_login e b ↦ cc
@@ -44,7 +45,7 @@ unnamed_ended c line seconds lines t r =
 
 -- no line is sent
 pub silent : (c : HostConfig) (s t : HostState) (line : List ℕ) (seconds : ℕ) (text : List ℕ)
-    → IsUnnamed c s line seconds → t ≡ s → text ≡ [] → RowText c s line seconds text t
+    → HasNoHostRow c s line seconds → t ≡ s → text ≡ [] → HostRowText c s line seconds text t
 silent c s t line seconds text unnamed e h = ([], skipped unnamed refl e, h)
 
 -- 2. before login
@@ -61,23 +62,23 @@ not_login c line lines t other b =
 
 pub incorrect : (c : HostConfig) (t : HostState) (line : List ℕ) (seconds : ℕ) (text : List ℕ)
     → nth_word (words line) 0 ≡ codes "LOGIN" → ((n p : List ℕ) → IsLogin line n p → ⊥) → t ≡ waiting
-    → text ≡ text_of (codes "LOGIN:incorrect" ∷ []) → RowText c waiting line seconds text t
+    → text ≡ text_of (codes "LOGIN:incorrect" ∷ []) → HostRowText c waiting line seconds text t
 incorrect c t line seconds text word none e h =
     (codes "LOGIN:incorrect" ∷ [], in_table (row.before_login refl (row.login_incorrect word none refl e)), h)
 
 pub let_in : (c : HostConfig) (t : HostState) (line : List ℕ) (seconds : ℕ) (text n p : List ℕ) → IsLogin line n p → t ≡ offered n
-    → text ≡ text_of ((codes "LOGIN:" ++ (n ++ codes " OK")) ∷ row.summary_lines c n) → RowText c waiting line seconds text t
+    → text ≡ text_of ((codes "LOGIN:" ++ (n ++ codes " OK")) ∷ row.summary_lines c n) → HostRowText c waiting line seconds text t
 let_in c t line seconds text n p h e same =
     (_, in_table (row.before_login refl (row.logs_in n p h refl e)), same)
 
 -- 3. after the summary
 pub agreed : (c : HostConfig) (n line : List ℕ) (seconds : ℕ) (text : List ℕ) (t : HostState)
-    → IsWordAndOne line (codes "AGREE") → Begins c text t → RowText c (offered n) line seconds text t
+    → IsWordAndOne line (codes "AGREE") → Begins c text t → HostRowText c (offered n) line seconds text t
 agreed c n line seconds text t word b = (b.0, in_table (row.after_summary n refl (b.1 n line word)), b.2)
 
 pub rejected : (c : HostConfig) (n line : List ℕ) (seconds : ℕ) (text : List ℕ) (t : HostState)
     → IsWordAndOne line (codes "REJECT") → t ≡ ended
-    → text ≡ text_of ((codes "REJECT:" ++ (c.id.bytes ++ (codes " by " ++ n))) ∷ []) → RowText c (offered n) line seconds text t
+    → text ≡ text_of ((codes "REJECT:" ++ (c.id.bytes ++ (codes " by " ++ n))) ∷ []) → HostRowText c (offered n) line seconds text t
 rejected c n line seconds text t word e h = (_, in_table (row.after_summary n refl (row.rejects word refl e)), h)
 
 not_summary : (c : HostConfig) (n line : List ℕ) (lines : List (List ℕ)) (t : HostState)
@@ -90,7 +91,7 @@ not_summary c n line lines t agree reject b =
     ]
 
 pub unnamed_offer : (c : HostConfig) (n line : List ℕ) (seconds : ℕ) → (line ≡ codes "LOGOUT" → ⊥)
-    → (IsWordAndOne line (codes "AGREE") → ⊥) → (IsWordAndOne line (codes "REJECT") → ⊥) → IsUnnamed c (offered n) line seconds
+    → (IsWordAndOne line (codes "AGREE") → ⊥) → (IsWordAndOne line (codes "REJECT") → ⊥) → HasNoHostRow c (offered n) line seconds
 unnamed_offer c n line seconds stays agree reject lines t r =
     elim r [
       | row.before_login e b ↦ cc
@@ -188,7 +189,7 @@ follow_host c g line so_far text t after same m =
 -- the client's line
 moved_row : (c : HostConfig) (g : Played) (line : List ℕ) (color : Color) (m : Move) (seconds : ℕ) (text : List ℕ) (t : HostState)
     → is_move_line line ≡ true → TellsMove line color m → Answers g color m None
-    → Follows c (with_move g m) (moved_line g m seconds) text t → RowText c (playing g) line seconds text t
+    → Follows c (with_move g m) (moved_line g m seconds) text t → HostRowText c (playing g) line seconds text t
 moved_row c g line color m seconds text t sign tells may f =
     elim f [
       | follows more after host h ↦
@@ -198,7 +199,7 @@ moved_row c g line color m seconds text t sign tells may f =
     ]
 
 pub tried : (c : HostConfig) (g : Played) (line : List ℕ) (color : Color) (m : Move) (seconds : ℕ) (text : List ℕ) (t : HostState)
-    → is_move_line line ≡ true → TellsMove line color m → Tries c g color m seconds text t → RowText c (playing g) line seconds text t
+    → is_move_line line ≡ true → TellsMove line color m → Tries c g color m seconds text t → HostRowText c (playing g) line seconds text t
 tried c g line color m seconds text t sign tells r =
     elim r [
       | taken may f ↦
@@ -214,14 +215,14 @@ tried c g line color m seconds text t sign tells r =
 
 pub erred : (c : HostConfig) (g : Played) (line : List ℕ) (seconds : ℕ) (text : List ℕ) (t : HostState)
     → is_move_line line ≡ true → ((color : Color) (m : Move) → TellsMove line color m → ⊥)
-    → t ≡ decided → text ≡ text_of (codes "#ILLEGAL_MOVE" ∷ codes "#LOSE" ∷ []) → RowText c (playing g) line seconds text t
+    → t ≡ decided → text ≡ text_of (codes "#ILLEGAL_MOVE" ∷ codes "#LOSE" ∷ []) → HostRowText c (playing g) line seconds text t
 erred c g line seconds text t sign none e h =
     (_, in_table (row.in_play g refl (row.client_errs sign (λ m good. none good.0 m good.1) refl e)), h)
 
 -- the client's word
 pub resigned : (c : HostConfig) (g : Played) (line : List ℕ) (seconds : ℕ) (text : List ℕ) (t : HostState)
     → line ≡ codes "%TORYO" → t ≡ decided
-    → text ≡ text_of (with_time line seconds ∷ codes "#RESIGN" ∷ codes "#LOSE" ∷ []) → RowText c (playing g) line seconds text t
+    → text ≡ text_of (with_time line seconds ∷ codes "#RESIGN" ∷ codes "#LOSE" ∷ []) → HostRowText c (playing g) line seconds text t
 resigned c g line seconds text t word e h = (
   _,
   in_table (row.in_play g refl (row.client_resigns word refl e)),
@@ -230,7 +231,7 @@ resigned c g line seconds text t word e h = (
 
 pub declared : (c : HostConfig) (g : Played) (line : List ℕ) (seconds : ℕ) (text : List ℕ) (t : HostState)
     → line ≡ codes "%KACHI" → t ≡ decided
-    → text ≡ text_of (with_time line seconds ∷ codes "#JISHOGI" ∷ codes "#WIN" ∷ []) → RowText c (playing g) line seconds text t
+    → text ≡ text_of (with_time line seconds ∷ codes "#JISHOGI" ∷ codes "#WIN" ∷ []) → HostRowText c (playing g) line seconds text t
 declared c g line seconds text t word e h = (
   _,
   in_table (row.in_play g refl (row.client_declares word refl e)),
@@ -249,7 +250,7 @@ not_play c g line seconds lines t sign resigns declares b =
     ]
 
 pub unnamed_playing : (c : HostConfig) (g : Played) (line : List ℕ) (seconds : ℕ) → (line ≡ codes "LOGOUT" → ⊥)
-    → is_move_line line ≡ false → (line ≡ codes "%TORYO" → ⊥) → (line ≡ codes "%KACHI" → ⊥) → IsUnnamed c (playing g) line seconds
+    → is_move_line line ≡ false → (line ≡ codes "%TORYO" → ⊥) → (line ≡ codes "%KACHI" → ⊥) → HasNoHostRow c (playing g) line seconds
 unnamed_playing c g line seconds stays sign resigns declares lines t r =
     elim r [
       | row.before_login e b ↦ cc

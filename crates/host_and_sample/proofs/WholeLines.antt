@@ -15,7 +15,7 @@ use Rattle.shogi_board.specs.declared.moves.Move.TheVariants.{Walk, Put}
 use Rattle.csa_text.specs.Codes.{sign, kind_code, square_text, squares_text, move_text}
 use Rattle.csa_cutting.specs.Lines.{Lines, IsNextLine, AreLineEnds, HasNoLineEnd, is_line_end}
 use Rattle.host_and_sample.specs.Host.{IsLoginWord}
-use Rattle.session_lines.specs.Texts.{text_of, without_last_spaces, before_kept}
+use Rattle.session_lines.specs.Texts.{text_of, without_last_spaces, before_unspaced}
 
 -- 1. Bytes of a line
 abbrev pub IsVisible : List ℕ → Type 0
@@ -48,17 +48,17 @@ pub visible_more : (a b : List ℕ) → IsVisible a → IsVisible b → IsVisibl
 visible_more [] b h k = k
 visible_more (x ∷ xs) b h k = (h.0, visible_more xs b h.1 k)
 
-before_some : (b : ℕ) (bs : List ℕ) → 0 < length bs → before_kept b bs ≡ b ∷ bs
+before_some : (b : ℕ) (bs : List ℕ) → 0 < length bs → before_unspaced b bs ≡ b ∷ bs
 before_some b [] h = absurd (omega arith)
 before_some b (c ∷ cs) h = refl
 
-before_visible : (b : ℕ) (bs : List ℕ) → 33 ≤ b → before_kept b bs ≡ b ∷ bs
+before_visible : (b : ℕ) (bs : List ℕ) → 33 ≤ b → before_unspaced b bs ≡ b ∷ bs
 before_visible b [] h = ap (λ (same : Bool). cond same [] (b ∷ [])) (unlike b 32 (λ e. omega (arith, h, e)))
 before_visible b (c ∷ cs) h = refl
 
 visible_unspaced : (bytes : List ℕ) → IsVisible bytes → without_last_spaces bytes ≡ bytes
 visible_unspaced [] h = refl
-visible_unspaced (b ∷ bs) h = ap (before_kept b) (visible_unspaced bs h.1) ∙ before_visible b bs h.0
+visible_unspaced (b ∷ bs) h = ap (before_unspaced b) (visible_unspaced bs h.1) ∙ before_visible b bs h.0
 
 some_more : (a b : List ℕ) → 0 < length b → 0 < length (a ++ b)
 some_more [] b h = h
@@ -66,7 +66,7 @@ some_more (x ∷ xs) b h = omega arith
 
 unspaced_more : (a b : List ℕ) → 0 < length b → without_last_spaces b ≡ b → without_last_spaces (a ++ b) ≡ a ++ b
 unspaced_more [] b some h = h
-unspaced_more (x ∷ xs) b some h = ap (before_kept x) (unspaced_more xs b some h) ∙ before_some x (xs ++ b) (some_more xs b some)
+unspaced_more (x ∷ xs) b some h = ap (before_unspaced x) (unspaced_more xs b some h) ∙ before_some x (xs ++ b) (some_more xs b some)
 
 -- 2. Whole lines
 pub word : (bytes : List ℕ) → 0 < length bytes → IsVisible bytes → IsWhole bytes

@@ -188,12 +188,12 @@ pub data HostTableRow (c : HostConfig) (s : HostState)
       → HostTableRow c s line seconds lines t
 
 -- no row applies to the line
-abbrev pub IsUnnamed : HostConfig → HostState → List ℕ → ℕ → Type 0
-IsUnnamed c s line seconds =
+abbrev pub HasNoHostRow : HostConfig → HostState → List ℕ → ℕ → Type 0
+HasNoHostRow c s line seconds =
     (lines : List (List ℕ)) (t : HostState) → HostTableRow c s line seconds lines t → ⊥
 
 -- a row of the table; or no row applies to the line, and it is skipped
 pub data HostRow (c : HostConfig) (s : HostState)
     (line : List ℕ) (seconds : ℕ) (lines : List (List ℕ)) (t : HostState) : Type 0 where
   in_table : HostTableRow c s line seconds lines t → HostRow c s line seconds lines t
-  skipped : IsUnnamed c s line seconds → lines ≡ [] → t ≡ s → HostRow c s line seconds lines t
+  skipped : HasNoHostRow c s line seconds → lines ≡ [] → t ≡ s → HostRow c s line seconds lines t

@@ -1,28 +1,12 @@
--- A host as contracts see it; and, from MovesAfter on, what private functions promise.
-use Rattle.std.specs.Prelude.{◌≡◌, ℕ, ◌++◌, ◌∷◌, [], List, Some, None}
-use Rattle.shogi_board.specs.declared.color.Color.{Color}
-use Rattle.shogi_board.specs.declared.moves.Move.{Move}
-use Rattle.shogi_rules.specs.Play.{Answers}
-use Rattle.shogi_rules.specs.Positions.{Played}
-use Rattle.csa_text.specs.Codes.{move_text}
+-- A host as contracts see it.
+use Rattle.std.specs.Prelude.{◌≡◌, ℕ, List}
 use Rattle.host_and_sample.specs.declared.config.HostConfig.{HostConfig}
-use Rattle.host_and_sample.specs.declared.outcome.Outcome.{Outcome}
-use Rattle.host_and_sample.specs.declared.stage.HostStage.{HostStage}
-use Rattle.host_and_sample.specs.declared.stage.HostStage.TheVariants.{Waiting, Offering, Playing, Decided, Ended}
-use Rattle.host_and_sample.specs.Host.{HostState, waiting, offered, playing, decided, ended, HostRow, HostMoves, IsWordAndOne, AfterSummary, AfterMove, outcome_lines, with_move}
-use Rattle.session_lines.specs.LineTexts as texts
-use Rattle.session_lines.specs.Texts.{text_of, with_time, without_last_spaces}
+use Rattle.host_and_sample.specs.Host.{HostState, HostRow}
+use Rattle.session_lines.specs.Texts.{text_of, without_last_spaces}
 
 pub record HostSession : Type 0 where
   pub config : HostConfig
   pub state : HostState
-
-abbrev pub state_of : HostStage → HostState
-state_of Waiting = waiting
-state_of (Offering name) = offered name.items
-state_of (Playing game) = playing game
-state_of Decided = decided
-state_of Ended = ended
 
 -- a row leads by the line, without the spaces at its end, from one state to the other with these
 -- lines
@@ -31,44 +15,6 @@ StepRow old line seconds lines new =
     HostRow old.config old.state (without_last_spaces line) seconds lines new.state
 
 -- the bytes are those of the lines of a row
-abbrev pub RowText : HostConfig → HostState → List ℕ → ℕ → List ℕ → HostState → Type 0
-RowText c s line seconds text t =
+abbrev pub HostRowText : HostConfig → HostState → List ℕ → ℕ → List ℕ → HostState → Type 0
+HostRowText c s line seconds text t =
     (lines : List (List ℕ)) × HostRow c s line seconds lines t × (text ≡ text_of lines)
-
--- the host moved, and its lines follow those before
-abbrev pub MovesAfter : HostConfig → Played → List ℕ → List ℕ → HostState → Type 0
-MovesAfter c g before text t =
-    (more : List (List ℕ)) × HostMoves c g more t × (text ≡ before ++ text_of more)
-
--- the game began, and the bytes are those of its lines
-abbrev pub Begins : HostConfig → List ℕ → HostState → Type 0
-Begins c text t =
-    (lines : List (List ℕ))
-    × ((n line : List ℕ) → IsWordAndOne line texts.agree → AfterSummary c n line lines t)
-    × (text ≡ text_of lines)
-
--- the client's move was the last of the game: its line, and then what ended the game, or the host's
--- move
-pub data Follows (c : HostConfig) (g : Played) (line text : List ℕ) (t : HostState) : Type 0 where
-  follows : (more : List (List ℕ)) → AfterMove c g None
-      → HostMoves c g more t → text ≡ text_of (line ∷ more) → Follows c g line text t
-  follows_last : (outcome : Outcome)
-      → AfterMove c g (Some outcome) → text ≡ text_of (line ∷ outcome_lines c outcome) → t ≡ decided
-      → Follows c g line text t
-
--- the client's move was tried
-pub data Tries (c : HostConfig) (g : Played)
-    (color : Color) (m : Move) (seconds : ℕ) (text : List ℕ) (t : HostState) : Type 0 where
-  taken : Answers g color m None
-      → Follows c (with_move g m) (with_time (move_text color m) seconds) text t
-      → Tries c g color m seconds text t
-  refused : (Answers g color m None → ⊥)
-      → text ≡ text_of (texts.illegal_move ∷ texts.lose ∷ []) → t ≡ decided
-      → Tries c g color m seconds text t
-
--- the host's move was the last of the game: what ended it, or the client is to move
-pub data Rests (c : HostConfig) (g : Played) (before text : List ℕ) (t : HostState) : Type 0 where
-  rests : AfterMove c g None → text ≡ before → t ≡ playing g → Rests c g before text t
-  rests_last : (outcome : Outcome) → AfterMove c g (Some outcome)
-      → text ≡ before ++ text_of (outcome_lines c outcome) → t ≡ decided
-      → Rests c g before text t

@@ -1,6 +1,7 @@
 pub mod Host
 pub mod HostLogs
 pub mod Hosting
+pub mod HostAnswers
 pub mod Requests
 pub mod Sample
 pub mod SampleStage

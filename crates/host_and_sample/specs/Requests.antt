@@ -1,10 +1,11 @@
--- The bytes of an answer of the sample engine; and, for private functions, what a line asks of it.
+-- For private functions of `Sample`: what a line asks of it, and the bytes of its answer to `go`.
+-- A reader of the public contracts may skip this file.
 use Rattle.std.specs.Prelude.{◌≡◌, ℕ, ◌++◌, ◌∷◌, [], List, Option, Some}
 use Rattle.shogi_rules.specs.Positions.{Played}
 use Rattle.host_and_sample.specs.declared.sample.Request.{Request}
 use Rattle.host_and_sample.specs.declared.sample.Request.TheVariants.{Usi, IsReady, Position, Go, Quit, Other}
 use Rattle.usi_text.specs.EngineTexts as usi_texts
-use Rattle.host_and_sample.specs.Sample.{SampleState, SampleRow, IsWord, BeginsWith, HasNoMove, IsBest}
+use Rattle.host_and_sample.specs.Sample.{IsWord, BeginsWith, HasNoMove, IsBest}
 use Rattle.session_lines.specs.Texts.{text_of}
 
 abbrev pub Asks : List ℕ → Request → Type 0
@@ -17,10 +18,6 @@ Asks line Other =
     (IsWord line usi_texts.usi → ⊥) × (IsWord line usi_texts.is_ready → ⊥)
     × (BeginsWith line usi_texts.position → ⊥)
     × (BeginsWith line usi_texts.go → ⊥) × (IsWord line usi_texts.quit → ⊥)
-
--- the bytes are those of the lines of a row
-abbrev pub RowText : SampleState → List ℕ → List ℕ → SampleState → Type 0
-RowText s line text t = (lines : List (List ℕ)) × SampleRow s line lines t × (text ≡ text_of lines)
 
 -- the bytes of the answer to `go`
 pub data IsGoText (kept : Option Played) (text : List ℕ) : Type 0 where

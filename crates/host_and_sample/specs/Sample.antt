@@ -2,13 +2,13 @@
 use Rattle.std.specs.Prelude.{◌≡◌, ℕ, ◌++◌, ◌⊎◌, List, [], ◌∷◌, Option, Some, None}
 use Rattle.shogi_board.specs.declared.moves.Move.{Move}
 use Rattle.shogi_rules.specs.Order.{IsFirstLegal}
-use Rattle.shogi_rules.specs.Positions.{Played, now_of}
-use Rattle.shogi_rules.specs.Positions.{Over}
+use Rattle.shogi_rules.specs.Positions.{Played, now_of, Over}
 use Rattle.shogi_rules.specs.Verdicts.{NoLegalMove}
 use Rattle.usi_text.specs.Lines.{UsiLine}
 use Rattle.usi_text.specs.Moves.{UsiMove}
 use Rattle.usi_text.specs.Words.{words, nth_word}
 use Rattle.usi_text.specs.EngineTexts as usi_texts
+use Rattle.session_lines.specs.Texts.{text_of}
 
 -- the game that it keeps, if any; or it has quit
 pub data SampleState : Type 0 where
@@ -70,8 +70,8 @@ pub data SampleTableRow (kept : Option Played)
       → SampleTableRow kept line lines t
 
 -- no row applies to the line
-abbrev pub IsUnnamed : Option Played → List ℕ → Type 0
-IsUnnamed kept line =
+abbrev pub HasNoSampleRow : Option Played → List ℕ → Type 0
+HasNoSampleRow kept line =
     (lines : List (List ℕ)) (t : SampleState) → SampleTableRow kept line lines t → ⊥
 
 -- a row of the table; or no row applies to the line, the answer is empty and nothing changes; or it
@@ -82,6 +82,11 @@ pub data SampleRow (s : SampleState)
       → s ≡ keeps kept → SampleTableRow kept line lines t
       → SampleRow s line lines t
   skipped : (kept : Option Played)
-      → s ≡ keeps kept → IsUnnamed kept line → lines ≡ [] → t ≡ s
+      → s ≡ keeps kept → HasNoSampleRow kept line → lines ≡ [] → t ≡ s
       → SampleRow s line lines t
   over : s ≡ quit → lines ≡ [] → t ≡ s → SampleRow s line lines t
+
+-- the bytes are those of the lines of a row
+abbrev pub SampleRowText : SampleState → List ℕ → List ℕ → SampleState → Type 0
+SampleRowText s line text t =
+    (lines : List (List ℕ)) × SampleRow s line lines t × (text ≡ text_of lines)

@@ -1,7 +1,8 @@
 ghost use Rattle.std.specs.Prelude.{◌≡◌, ◌++◌, ◌∷◌, [], ℕ, List, ◌≤◌, ◌↔◌, IsOk, IsTrue, IfOk, OnErr};
 ghost use Rattle.host_and_sample.specs.Host.{IsHostConfig, waiting, offered, ended, summary_lines};
 ghost use Rattle.host_and_sample.specs.declared.config.HostConfig.{HostConfig};
-ghost use Rattle.host_and_sample.specs.Hosting.{Begins, RowText, StepRow, state_of};
+ghost use Rattle.host_and_sample.specs.Hosting.{HostRowText, StepRow};
+ghost use Rattle.host_and_sample.specs.HostAnswers.{Begins, state_of};
 ghost use Rattle.session_lines.specs.LineTexts as texts;
 ghost use Rattle.session_lines.specs.Texts.{text_of};
 ghost use Rattle.shogi_rules.specs.Positions.{max_moves};
@@ -33,7 +34,8 @@ pub struct Host {
 
 impl Model for Host {
     ghost use Rattle.std.specs.Prelude.{◌≤◌};
-    ghost use Rattle.host_and_sample.specs.Hosting.{HostSession, state_of};
+    ghost use Rattle.host_and_sample.specs.Hosting.{HostSession};
+    ghost use Rattle.host_and_sample.specs.HostAnswers.{state_of};
     ghost use Rattle.shogi_rules.specs.Positions.{max_moves};
 
     ghost Value = { HostSession };
@@ -132,7 +134,7 @@ fn answer(
 ) -> Result<HostReply, OutOfMemory>
     requires { config.now.max_moves ≤ max_moves }
     ensures row { IfOk result
-        (λ r. RowText config.now (state_of stage) line.now seconds r.lines (state_of r.stage)) }
+        (λ r. HostRowText config.now (state_of stage) line.now seconds r.lines (state_of r.stage)) }
     ensures over { state_of stage ≡ ended → IsOk result }
 {
     if is_same(line, texts::LOGOUT) {
@@ -156,7 +158,7 @@ fn answer(
 // Answers `LOGOUT`.
 fn log_out(alloc: Global, stage: HostStage) -> Result<HostReply, OutOfMemory>
     ensures row { (config : HostConfig) (seconds : ℕ) → IfOk result
-        (λ r. RowText config (state_of stage) texts.logout seconds r.lines (state_of r.stage)) }
+        (λ r. HostRowText config (state_of stage) texts.logout seconds r.lines (state_of r.stage)) }
     ensures over { state_of stage ≡ ended → IsOk result }
 {
     if is_ended(&stage) {
@@ -175,7 +177,7 @@ fn log_out(alloc: Global, stage: HostStage) -> Result<HostReply, OutOfMemory>
 fn log_in(alloc: Global, config: &HostConfig, line: &[u8]) -> Result<HostReply, OutOfMemory>
     requires { line.now ≡ texts.logout → ⊥ }
     ensures { (seconds : ℕ) → IfOk result
-        (λ r. RowText config.now waiting line.now seconds r.lines (state_of r.stage)) }
+        (λ r. HostRowText config.now waiting line.now seconds r.lines (state_of r.stage)) }
 {
     match read_login(line) {
         Some(name) => offer(alloc, config, name),
@@ -225,7 +227,8 @@ fn agree(
     requires few { config.now.max_moves ≤ max_moves }
     requires stays { line.now ≡ texts.logout → ⊥ }
     ensures { (seconds : ℕ) → IfOk result
-        (λ r. RowText config.now (offered name.items) line.now seconds r.lines (state_of r.stage)) }
+        (λ r. HostRowText config.now (offered name.items) line.now seconds r.lines
+        (state_of r.stage)) }
 {
     if is_word_and_one(line, texts::AGREE) {
         begin(alloc, config)

@@ -7,9 +7,8 @@ ghost use Rattle.csa_cutting.specs.Lines.{Lines};
 ghost use Rattle.host_and_sample.specs.declared.config.HostConfig.{HostConfig};
 ghost use Rattle.host_and_sample.specs.Host.{HostRow, HostState, IsHostConfig, playing};
 ghost use Rattle.host_and_sample.specs.HostLogs.{HostLeads, HostStep, IsTimedGame, Timed, written, written_moves};
-ghost use Rattle.host_and_sample.specs.Hosting.{HostSession, RowText as HostText, StepRow as HostStepRow};
-ghost use Rattle.host_and_sample.specs.Requests.{RowText as SampleText};
-ghost use Rattle.host_and_sample.specs.Sample.{SampleState, SampleRow};
+ghost use Rattle.host_and_sample.specs.Hosting.{HostSession, HostRowText, StepRow as HostStepRow};
+ghost use Rattle.host_and_sample.specs.Sample.{SampleRowText, SampleState, SampleRow};
 ghost use Rattle.session_lines.specs.Texts.{text_of, without_last_spaces};
 ghost use Rattle.shogi_rules.specs.Positions.{Played, now_of};
 
@@ -34,7 +33,7 @@ pub fn sample_step_whole()
     ensures whole { (s t : SampleState) (line text : List ℕ)
         → ((lines : List (List ℕ)) × SampleRow s line lines t)
         → ((lines : List (List ℕ)) → SampleRow s line lines t → text ≡ text_of lines)
-        → SampleText s line text t }
+        → SampleRowText s line text t }
 {}
 
 /// Two clauses of `Host::step` say together that its bytes are those of a row that fits: `row`, by
@@ -44,7 +43,7 @@ pub fn host_step_whole()
     ensures whole { (old new : HostSession) (line : List ℕ) (seconds : ℕ) (text : List ℕ)
         → ((lines : List (List ℕ)) × HostStepRow old line seconds lines new)
         → ((lines : List (List ℕ)) → HostStepRow old line seconds lines new → text ≡ text_of lines)
-        → HostText old.config old.state (without_last_spaces line) seconds text new.state }
+        → HostRowText old.config old.state (without_last_spaces line) seconds text new.state }
 {}
 
 /// In every log of a host, the lines after `START:` that begin with `+` or `-` are the moves of a

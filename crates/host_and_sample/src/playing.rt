@@ -5,7 +5,8 @@ ghost use Rattle.shogi_rules.specs.Positions.{now_of, max_moves};
 ghost use Rattle.shogi_rules.specs.Positions.{Over};
 ghost use Rattle.csa_text.specs.Codes.{move_text};
 ghost use Rattle.host_and_sample.specs.Host.{playing, decided, outcome_lines, with_move};
-ghost use Rattle.host_and_sample.specs.Hosting.{Follows, RowText, Rests, Tries, MovesAfter, state_of};
+ghost use Rattle.host_and_sample.specs.Hosting.{HostRowText};
+ghost use Rattle.host_and_sample.specs.HostAnswers.{Follows, Rests, Tries, MovesAfter, state_of};
 ghost use Rattle.session_lines.specs.LineTexts as texts;
 ghost use Rattle.session_lines.specs.MoveLines.{is_move_line};
 ghost use Rattle.session_lines.specs.Texts.{ended_line, text_of, with_time};
@@ -32,7 +33,7 @@ pub(crate) fn answer_in_play(
     requires few { config.now.max_moves ≤ max_moves }
     requires stays { line.now ≡ texts.logout → ⊥ }
     ensures { IfOk result
-        (λ r. RowText config.now (playing game) line.now seconds r.lines (state_of r.stage)) }
+        (λ r. HostRowText config.now (playing game) line.now seconds r.lines (state_of r.stage)) }
 {
     if is_move_line(line) {
         take_move(alloc, config, game, line, seconds)
@@ -79,7 +80,7 @@ fn take_move(
     requires few { config.now.max_moves ≤ max_moves }
     requires from_a_sign { is_move_line line.now ≡ true }
     ensures { IfOk result
-        (λ r. RowText config.now (playing game) line.now seconds r.lines (state_of r.stage)) }
+        (λ r. HostRowText config.now (playing game) line.now seconds r.lines (state_of r.stage)) }
 {
     match read_move_line(line) {
         Some(stated) => try_move(alloc, config, game, stated.0, stated.1, seconds),

@@ -5,8 +5,8 @@ ghost use Rattle.shogi_rules.specs.Positions.{now_of};
 ghost use Rattle.shogi_rules.specs.Positions.{Over};
 ghost use Rattle.shogi_rules.specs.Verdicts.{NoLegalMove};
 ghost use Rattle.usi_text.specs.EngineTexts as usi_texts;
-ghost use Rattle.host_and_sample.specs.Requests.{Asks, RowText, IsGoText};
-ghost use Rattle.host_and_sample.specs.Sample.{IsBest, IsGameOf, SampleRow, keeps, quit};
+ghost use Rattle.host_and_sample.specs.Requests.{Asks, IsGoText};
+ghost use Rattle.host_and_sample.specs.Sample.{SampleRowText, IsBest, IsGameOf, SampleRow, keeps, quit};
 ghost use Rattle.session_lines.specs.Texts.{text_of};
 ghost use Rattle.usi_text.specs.Moves.{UsiMove};
 
@@ -48,11 +48,11 @@ pub struct Sample {
 
 impl Model for Sample {
     ghost use Rattle.host_and_sample.specs.Sample.{SampleState};
-    ghost use Rattle.host_and_sample.specs.SampleStage.{state_of};
+    ghost use Rattle.host_and_sample.specs.SampleStage.{sample_state_of};
 
     ghost Value = { SampleState };
 
-    ghost view = { λ s. state_of s.stage };
+    ghost view = { λ s. sample_state_of s.stage };
 }
 
 /// What the sample engine answers to a line.
@@ -123,7 +123,7 @@ impl Sample {
     }
 
     fn answer(&mut self, line: &[u8]) -> Result<Lines, OutOfMemory>
-        ensures row { IfOk result (λ lines. RowText self.old line.now lines self.new) }
+        ensures row { IfOk result (λ lines. SampleRowText self.old line.now lines self.new) }
         ensures silent { self.old ≡ quit → IsOk result }
     {
         let SampleStage::Keeping(kept) = &self.stage else {

@@ -4,7 +4,7 @@ use Rattle.std.proofs.lemmas.Bool.{cases_lt}
 use Rattle.std.specs.Borrow.{Bor}
 use Rattle.csa_cutting.specs.Lines.{Lines}
 use Rattle.csa_cutting.specs.LineCutting.{LineCutting, BeginsTooLong, LineStep, LinesAfter}
-use Rattle.record_commands.specs.Incoming.{IsReading}
+use Rattle.record_commands.specs.IncomingPieces.{IsReading}
 use Rattle.record_commands.proofs.LineReading.{rest_run}
 
 at_most : (a b : ℕ) → (a < b → ⊥) → b ≤ a

@@ -17,7 +17,8 @@ use Rattle.record_commands.specs.declared.incoming.LineEvent.{LineEvent}
 use Rattle.record_commands.specs.declared.incoming.LineEvent.TheVariants.{Failed}
 use Rattle.record_commands.specs.declared.incoming.ReadStop.{ReadStop}
 use Rattle.record_commands.specs.declared.incoming.ReadStop.TheVariants as stops
-use Rattle.record_commands.specs.Incoming.{IsReading, GivesEnd, GivesLine, ended, last, GivesNoLine, GivesLongLine, PieceGives, PieceStops, stop_after, stop_of}
+use Rattle.record_commands.specs.Incoming.{GivesEnd, GivesLine, ended, last, GivesNoLine, GivesLongLine, stop_after, stop_of}
+use Rattle.record_commands.specs.IncomingPieces.{IsReading, PieceGives, PieceStops}
 
 pub rest_run : (bytes : List ℕ) (lines : List (List ℕ)) (rest : List ℕ) → Lines bytes lines rest → HasNoLineEnd rest
 rest_run bytes [] rest (ends, whole, skipped, run) = run

@@ -11,7 +11,8 @@ use Rattle.csa_record.specs.Flow.{AppendsFront, FailsRead, IsCutShort, IsFaultle
 use Rattle.csa_record.specs.declared.flow.FlowFault.{FlowFault}
 use Rattle.csa_record.specs.declared.flow.FlowFault.TheVariants as flow
 use Rattle.record_commands.specs.Faults.{flow_fault_of}
-use Rattle.record_commands.specs.Reports.{FailsToReport, GetsRecord, Reports, no_memory, read, unopened}
+use Rattle.record_commands.specs.Reports.{FailsToReport, GetsRecord, no_memory, read, unopened}
+use Rattle.record_commands.specs.Printing.{Reports}
 use Rattle.record_commands.specs.Words.{IsCanonical}
 use Rattle.record_commands.specs.declared.fault.ReadFault.{ReadFault}
 use Rattle.record_commands.specs.declared.fault.ReadFault.TheVariants as reading

@@ -1,8 +1,5 @@
 -- Whether bytes, if they are known, are one line, and what becomes of it.
 use Rattle.std.specs.Prelude.{◌≡◌, ◌⊎◌, ℕ, ◌≤◌, List, length, Option, Some, ⊤}
-use Rattle.std.specs.Io.KnownBytes.{Appends}
-use Rattle.record_game.specs.Building.{game_along}
-use Rattle.record_game.specs.Canon.{canon}
 use Rattle.shogi_rules.specs.Positions.{Played}
 use Rattle.usi_text.specs.Lines.{LineFault, UsiLine}
 use Rattle.usi_text.specs.Words.{words}
@@ -58,14 +55,6 @@ OfOpened {Input} Opened bytes P = (input : Input) × Opened input × P (bytes in
 abbrev pub IsPositionLine : Played → Option (List ℕ) → Type 0
 IsPositionLine line bytes =
     (text : List ℕ) × IsOneLine bytes text × UsiLine (words text) line.start line.moves
-
--- an input was opened, its bytes are one position line, and the canonical text of its game was
--- printed
-pub record Converts {Input : Type 0} (Opened : Input → Type 0)
-    (bytes : Input → Option (List ℕ)) (before after : Option (List ℕ)) : Type 0 where
-  pub line : Played
-  pub read : OfOpened Opened bytes (IsPositionLine line)
-  pub printed : Appends before after (canon (game_along line))
 
 -- why no text was printed, or not all of it
 abbrev pub FailsToConvert : {Input : Type 0} → Type 0 → (Input → Type 0)

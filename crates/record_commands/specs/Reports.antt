@@ -1,6 +1,5 @@
--- What a command has read and printed, as far as bytes are known.
+-- What a command has read, and why it printed no text, as far as bytes are known.
 use Rattle.std.specs.Prelude.{◌≡◌, ◌⊎◌, ℕ, List, Bool, Option, Result, Ok, Err}
-use Rattle.std.specs.Io.KnownBytes.{Appends}
 use Rattle.csa_record.specs.Flow.{ReadsRecord}
 use Rattle.csa_record.specs.declared.flow.FlowFault.{FlowFault}
 use Rattle.csa_record.specs.declared.flow.FlowFault.TheVariants.{Refused, ReadFault, WriteFault, OutOfMemory}
@@ -15,15 +14,6 @@ pub data GetsRecord {Input : Type 0} (Unopened : Type 0) (Opened : Input → Typ
   read : (input after : Input) (ended : Bool) (failures : ℕ) → Opened input
       → ReadsRecord (bytes input) (bytes after) ended 0 failures result
       → GetsRecord Unopened Opened bytes result
-
--- a game was read, and what was printed is a text that fits it
-pub record Reports (Reads : Result Game FlowFault → Type 0) (Fits : Game → List ℕ → Type 0)
-    (before after : Option (List ℕ)) : Type 0 where
-  pub game : Game
-  pub text : List ℕ
-  pub read : Reads (Ok game)
-  pub fits : Fits game text
-  pub printed : Appends before after text
 
 -- why no text was printed about what was read, or not all of it
 abbrev pub FailsToReport : (Result Game FlowFault → Type 0) → (Game → List ℕ → Type 0)

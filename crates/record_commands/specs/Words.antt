@@ -2,8 +2,6 @@
 use Rattle.std.specs.Prelude.{◌≡◌, ℕ, List, [], ◌∷◌, ◌++◌, length, map, codes, decimal}
 use Rattle.record_game.specs.Canon.{canon}
 use Rattle.record_game.specs.Game.{Game, move_of}
-use Rattle.record_commands.specs.declared.report.RecordText.{RecordText}
-use Rattle.record_commands.specs.declared.report.RecordText.TheVariants as texts
 use Rattle.shogi_board.specs.declared.color.Color.TheVariants.{Black, White}
 use Rattle.shogi_rules.specs.Positions.{Played}
 use Rattle.shogi_rules.specs.Verdicts.{Stands}
@@ -40,11 +38,6 @@ IsAcceptedLine g line =
 abbrev pub IsPositionText : Game → List ℕ → Type 0
 IsPositionText g text = (line : List ℕ) × LineText g.start (map move_of g.moves) line
     × (text ≡ line ++ 10 ∷ [])
-
--- the text about the game
-abbrev pub Fits : RecordText → Game → List ℕ → Type 0
-Fits texts.Accepted = IsAcceptedLine
-Fits texts.PositionLine = IsPositionText
 
 -- the canonical text of the game
 abbrev pub IsCanonical : Game → List ℕ → Type 0

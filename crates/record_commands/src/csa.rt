@@ -2,7 +2,8 @@
 
 ghost use Rattle.std.specs.Prelude.{◌≡◌, ◌≢◌, ◌⊎◌, None, IfErr, IfOk, IsErrOf, OnOk};
 ghost use Rattle.record_commands.specs.Inputs.{IsOpenedAs, NamesFile, path_of};
-ghost use Rattle.record_commands.specs.OneLine.{BreaksOff, Converts, FailsToConvert, HasLongLine, HasNoLine, HasTwoLines, IsOneLine};
+ghost use Rattle.record_commands.specs.OneLine.{BreaksOff, FailsToConvert, HasLongLine, HasNoLine, HasTwoLines, IsOneLine};
+ghost use Rattle.record_commands.specs.Printing.{Converts};
 ghost use Rattle.record_commands.specs.declared.fault.PositionLineFault.{PositionLineFault};
 ghost use Rattle.usi_text.specs.declared.fault.UsiFault.{UsiFault};
 

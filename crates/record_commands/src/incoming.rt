@@ -3,7 +3,8 @@
 ghost use Rattle.std.specs.Prelude.{◌≡◌, ◌↔◌, ◌⊎◌, ◌<◌, ◌≤◌, ◌++◌, [], ◌∷◌, length, take, is_some, None, Some, Ok, IfErr, IfOk, IfSome, IsErrOf, OnErr, OnOk, true, false};
 ghost use Rattle.csa_cutting.specs.Lines.{Lines};
 ghost use Rattle.csa_cutting.specs.LineCutting.{BeginsTooLong};
-ghost use Rattle.record_commands.specs.Incoming.{GivesEnd, GivesLine, GivesLongLine, GivesNoLine, IsReading, PieceGives, PieceStops, event_of, stop_after, stop_of};
+ghost use Rattle.record_commands.specs.Incoming.{GivesEnd, GivesLine, GivesLongLine, GivesNoLine, stop_after, stop_of};
+ghost use Rattle.record_commands.specs.IncomingPieces.{IsReading, PieceGives, PieceStops, event_of};
 ghost use Rattle.std.specs.Io.Buffered.{reader_remaining};
 ghost use Rattle.std.specs.Io.KnownBytes.{prepend_known};
 
@@ -64,7 +65,8 @@ impl<R: Read + Drop> Model for Incoming<R> {
     ghost use Rattle.std.specs.Prelude.{◌≡◌, is_some, false};
     ghost use Rattle.std.specs.Io.Buffered.{reader_remaining};
     ghost use Rattle.std.specs.Io.KnownBytes.{prepend_known};
-    ghost use Rattle.record_commands.specs.Incoming.{Coming, IsReading};
+    ghost use Rattle.record_commands.specs.Incoming.{Coming};
+    ghost use Rattle.record_commands.specs.IncomingPieces.{IsReading};
 
     ghost Value = { Coming };
 
@@ -186,11 +188,9 @@ fn next_event<R: Read + Drop>(
         Err(_) => return Err(ReadStop::Failed),
     };
     if piece.is_empty() {
-        let is_line = keep_last(alloc, cutter, kept)?;
-        let event = if is_line {
-            LineEvent::Line
-        } else {
-            LineEvent::End
+        let event = match keep_last(alloc, cutter, kept)? {
+            LastLine::Kept => LineEvent::Line,
+            LastLine::Missing => LineEvent::End,
         };
         return Ok(Some(event));
     }
@@ -242,18 +242,30 @@ fn cut(
     Ok(Some(used))
 }
 
-// Keeps the unfinished line at the end of the bytes. Returns whether there was one.
-fn keep_last(alloc: Global, cutter: &mut LineCutter, kept: &mut Vec<u8>) -> Result<bool, LineFault>
-    ensures line { IfOk result (λ is_line. is_line ≡ true
+// What became of the unfinished line at the end of the bytes.
+#[derive(Clone, Copy, PartialEq, Eq)]
+enum LastLine {
+    Kept,
+    // there was none
+    Missing,
+}
+
+// Keeps the unfinished line at the end of the bytes, if there is one.
+fn keep_last(
+    alloc: Global,
+    cutter: &mut LineCutter,
+    kept: &mut Vec<u8>,
+) -> Result<LastLine, LineFault>
+    ensures line { IfOk result (λ last. last ≡ LastLine.Kept
         → (kept.new.items ≡ cutter.old.held) × (0 < length cutter.old.held)) }
-    ensures none { IfOk result (λ is_line. is_line ≡ false → cutter.old.held ≡ []) }
-    ensures empty { IfOk result (λ is_line. cutter.new.held ≡ []) }
-    ensures keeps { IfOk result (λ is_line. IsReading cutter.old → IsReading cutter.new) }
+    ensures none { IfOk result (λ last. last ≡ LastLine.Missing → cutter.old.held ≡ []) }
+    ensures empty { IfOk result (λ last. cutter.new.held ≡ []) }
+    ensures keeps { IfOk result (λ last. IsReading cutter.old → IsReading cutter.new) }
     ensures long { IsErrOf result LineFault.TooLong → cutter.old.failed ≡ true }
 {
     let Some(line) = cutter.finish()? else {
-        return Ok(false);
+        return Ok(LastLine::Missing);
     };
     *kept = Vec::from_slice(alloc, line)?;
-    Ok(true)
+    Ok(LastLine::Kept)
 }

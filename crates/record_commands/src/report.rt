@@ -4,8 +4,8 @@ ghost use Rattle.std.specs.Prelude.{◌≡◌, ◌≢◌, ◌-◌, ◌^◌, ◌<
 ghost use Rattle.csa_record.specs.Flow.{ReadsRecord};
 ghost use Rattle.csa_record.specs.declared.flow.FlowFault.{FlowFault};
 ghost use Rattle.record_commands.specs.Inputs.{IsOpenedAs, NamesFile, path_of};
-ghost use Rattle.record_commands.specs.Reports.{FailsToReport, GetsRecord, Reports};
-ghost use Rattle.record_commands.specs.Words.{Fits};
+ghost use Rattle.record_commands.specs.Reports.{FailsToReport, GetsRecord};
+ghost use Rattle.record_commands.specs.Printing.{Reports, Fits};
 ghost use Rattle.record_game.specs.Refused.{Refused};
 
 use crate::inputs::{self, Inputs, RuntimeInputs};

@@ -10,7 +10,6 @@ use Rattle.shogi_board.specs.declared.color.Color.TheVariants.{Black, White}
 use Rattle.shogi_board.specs.declared.kind.Piece.{Piece}
 use Rattle.shogi_board.specs.Setup.{position_of, first_fault}
 use Rattle.shogi_board.specs.declared.moves.Move.{Move}
-use Rattle.shogi_board.specs.Placed.{Placed}
 use Rattle.shogi_rules.specs.declared.line.PlayFault.{PlayFault}
 use Rattle.shogi_rules.specs.declared.line.PlayFault.TheVariants as faults
 use Rattle.shogi_rules.specs.Play as plays
@@ -28,10 +27,11 @@ use Rattle.record_game.specs.Answer.{IsAnswer}
 use Rattle.record_game.specs.Course.{Course, course_line, play_fault, PlayAnswers, PlayAnswersAfter, close_fault, time_fault, with_time, awaits_time}
 use Rattle.record_game.specs.Game.{Ended, move_of}
 use Rattle.record_game.specs.Items.{names, headers, is_even, ranks, positions, sides, moves, body}
-use Rattle.record_game.specs.Keeping.{laying, playing, Kept, HasKept, KeepsStage, TakenOrRefused}
-use Rattle.record_game.specs.Laying.{Laid, Lays, LaidOrRefused}
-use Rattle.record_game.specs.Order as ordered
-use Rattle.record_game.specs.Order.{stands, order_fault, order_faults, endings}
+use Rattle.record_game.specs.Keeping.{laying, playing, Kept, HasKept, KeepsStage}
+use Rattle.record_game.specs.Taking.{TakenOrRefused}
+use Rattle.record_game.specs.Laying.{Laid, Lays}
+use Rattle.record_game.specs.Taking.{LaidOrRefused}
+use Rattle.record_game.specs.Order.{stands, order_fault, order_faults, endings, last_may_have_time}
 use Rattle.record_game.specs.Outcome.{late}
 use Rattle.record_game.specs.Refused.{AnswersItem, AnswersAfter, AnswersInOrder, Finishes, IsLineOf, IsJudged}
 use Rattle.record_game.specs.Titles.{Titled, name_of, name_fault, header_fault, with_name, IsWithHeader, under}
@@ -239,7 +239,7 @@ time_early before k new l n h is = let none = is_laying before k l h is in refus
 time_answers : (before : List Saying) (k : Kept) (c : Course) (n : ℕ) → HasKept before k → k.stage ≡ playing c → AnswersItem before (time n) (time_fault c)
 time_answers before k c n h is = by_awaits (awaits_time c) (is_playing before k c h is).awaits
   where
-    by_awaits : (b : Bool) → ordered.awaits_time (body before) ≡ b → AnswersItem before (time n) (if b then None else Some (Order LooseTime))
+    by_awaits : (b : Bool) → last_may_have_time (body before) ≡ b → AnswersItem before (time n) (if b then None else Some (Order LooseTime))
     by_awaits true e = in_order before (time n) None (rw e refl) refl
     by_awaits false e = out_of_order before (time n) LooseTime (rw e refl)
 

@@ -6,7 +6,8 @@ use Rattle.std.specs.List.{AllByRecursion}
 use Rattle.std.proofs.lemmas.Bool.{false≢true}
 use Rattle.record_game.specs.Game.{Entry}
 use Rattle.record_game.specs.Limits.{IsEntry, is_below, Rising}
-use Rattle.record_game.specs.Titles.{Titled, under, with_entry, IsTitled}
+use Rattle.record_game.specs.Titles.{Titled, under, with_entry}
+use Rattle.record_game.specs.Validity.{IsTitled}
 use Rattle.record_game.proofs.Entries.{below_total}
 
 pub rising_tail : (e : Entry) (es : List Entry) → Rising (e ∷ es) → Rising es

@@ -36,8 +36,7 @@ use Rattle.record_game.specs.Items.{is_version, name_given, names, header_given,
 use Rattle.record_game.specs.Keeping.{Stage, laying, playing, Kept, HasKept, KeepsStage}
 use Rattle.record_game.specs.Laying.{Laid}
 use Rattle.record_game.specs.Limits.{is_below, Rising}
-use Rattle.record_game.specs.Order as ordered
-use Rattle.record_game.specs.Order.{stands, endings, order_fault}
+use Rattle.record_game.specs.Order.{stands, endings, order_fault, last_may_have_time}
 use Rattle.shogi_board.specs.Placing.{place_all, board_alone}
 use Rattle.record_game.specs.LaidOut.{laid_out}
 use Rattle.record_game.specs.Placings.{placings_of, placings}
@@ -528,7 +527,7 @@ unfolding starts
 time_follows fs bs n k g (laying l) is h written says = absurd (not_laying fs bs (time n) k l g refl refl refl is h says)
 time_follows fs bs n k g (playing c) is h written says =
     let can : awaits_after_it c.moves c.ending ≡ true = body_goes fs (time n) bs k c g refl h is written says in
-    let awaited : ordered.awaits_time (body fs) ≡ true = (is_playing fs k c h is).awaits ∙ can in
+    let awaited : last_may_have_time (body fs) ≡ true = (is_playing fs k c h is).awaits ∙ can in
     in_order fs (time n) (rw awaited refl) refl
 
 -- endings

@@ -3,14 +3,16 @@ use Rattle.std.proofs.Common.{◌≡◌, Bool, List, [], sym, subst}
 use Rattle.std.specs.List.{AllByRecursion}
 use Rattle.csa_text.specs.Saying.{Saying}
 use Rattle.record_game.specs.Building.{game_of}
-use Rattle.record_game.specs.Course.{Course, IsCourse}
+use Rattle.record_game.specs.Course.{Course}
+use Rattle.record_game.specs.Validity.{IsCourse}
 use Rattle.record_game.specs.Items.{positions, sides}
 use Rattle.record_game.specs.Keeping.{Kept, laying, playing, HasKept, KeepsStage}
 use Rattle.record_game.specs.Laying.{Laid}
 use Rattle.record_game.specs.Limits.{IsGame}
 use Rattle.record_game.specs.Outcome.{IsWritten}
 use Rattle.record_game.specs.Says.{Says}
-use Rattle.record_game.specs.Titles.{Titled, IsTitled}
+use Rattle.record_game.specs.Titles.{Titled}
+use Rattle.record_game.specs.Validity.{IsTitled}
 use Rattle.record_game.specs.Union.{GiveStart}
 use Rattle.record_game.proofs.LaidOut.{laid_out_gives}
 use Rattle.record_game.proofs.Played.{laying_body}

@@ -18,7 +18,8 @@ use Rattle.record_game.specs.declared.fault.OrderFault.TheVariants.{MixedStart}
 use Rattle.record_game.specs.declared.fault.Why.{Why}
 use Rattle.record_game.specs.declared.fault.Why.TheVariants.{Order, Start}
 use Rattle.record_game.specs.Items.{is_even, is_position, positions, rank_given, ranks, sides}
-use Rattle.record_game.specs.Laying.{Laid, Lays, LaidOrRefused}
+use Rattle.record_game.specs.Laying.{Laid, Lays}
+use Rattle.record_game.specs.Taking.{LaidOrRefused}
 use Rattle.record_game.specs.Order.{stands, endings, order_fault}
 use Rattle.shogi_board.specs.Placing.{place_all, board_alone}
 use Rattle.record_game.specs.LaidOut.{laid_out}

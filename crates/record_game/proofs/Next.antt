@@ -28,18 +28,21 @@ use Rattle.record_game.specs.declared.fault.OrderFault.TheVariants.{VersionOutOf
 use Rattle.record_game.specs.declared.fault.Why.{Why}
 use Rattle.record_game.specs.declared.fault.Why.TheVariants.{Order, Start, Rule, OutOfMemory}
 use Rattle.record_game.specs.Answer.{IsAnswer}
-use Rattle.record_game.specs.Course.{Course, IsCourse, course_line, untimed, play_fault, PlayAnswers, PlayAnswersAfter, close_fault, awaits_time, time_fault, with_last_time, with_time, with_time_after, with_ending}
+use Rattle.record_game.specs.Course.{Course, course_line, untimed, play_fault, PlayAnswers, PlayAnswersAfter, close_fault, awaits_time, time_fault, with_last_time, with_time, with_time_after, with_ending}
+use Rattle.record_game.specs.Validity.{IsCourse}
 use Rattle.record_game.specs.Fits.{Fits, IsHeaderLine}
 use Rattle.record_game.specs.Game.{Timed, Ended, Entry, move_of}
 use Rattle.record_game.specs.Items.{is_even, is_position, sides}
-use Rattle.record_game.specs.Keeping.{Stage, laying, playing, Kept, HasKept, TakenOrRefused}
+use Rattle.record_game.specs.Keeping.{Stage, laying, playing, Kept, HasKept}
+use Rattle.record_game.specs.Taking.{TakenOrRefused}
 use Rattle.record_game.specs.Laying.{Laid, Lays}
 use Rattle.record_game.specs.Limits.{IsOneLine}
 use Rattle.record_game.specs.Order.{stands, endings, order_fault}
 use Rattle.shogi_board.specs.Placing.{place_all}
 use Rattle.record_game.specs.Placings.{placings_of}
 use Rattle.record_game.specs.Refused.{AnswersItem}
-use Rattle.record_game.specs.Titles.{Titled, IsTitled, name_fault, header_fault, with_name, with_entry, under}
+use Rattle.record_game.specs.Titles.{Titled, name_fault, header_fault, with_name, with_entry, under}
+use Rattle.record_game.specs.Validity.{IsTitled}
 use Rattle.record_game.proofs.Answering as answers
 use Rattle.record_game.proofs.PlayAnswered.{answer_fault}
 use Rattle.record_game.proofs.Keeping.{nothing_stands}

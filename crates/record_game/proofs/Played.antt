@@ -13,7 +13,7 @@ use Rattle.csa_text.specs.Saying.{Saying, version, name, header, even, rank, pie
 use Rattle.record_game.specs.Course.{awaits, awaits_after_it, with_last_time}
 use Rattle.record_game.specs.Game.{Timed, Ended, move_of}
 use Rattle.record_game.specs.Items.{positions, side_given, sides, move_given, moves, is_ending, body}
-use Rattle.record_game.specs.Order.{stands, endings, may_have_time, awaits_time}
+use Rattle.record_game.specs.Order.{stands, endings, may_have_time, last_may_have_time}
 use Rattle.record_game.specs.Says.{time_items, move_items, ending_items}
 use Rattle.record_game.proofs.SaysOnce.{sides_positions, sides_body, sides_moves, sides_ending}
 
@@ -118,11 +118,11 @@ ending_stands None = refl
 ending_stands (Some e) = refl
 
 -- times
-awaits_front : (s : Saying) (ss : List Saying) → may_have_time s ≡ false → awaits_time ss ≡ false → awaits_time (s ∷ ss) ≡ false
+awaits_front : (s : Saying) (ss : List Saying) → may_have_time s ≡ false → last_may_have_time ss ≡ false → last_may_have_time (s ∷ ss) ≡ false
 awaits_front s [] h k = h
 awaits_front s (t ∷ ts) h k = k
 
-awaits_positions : (ss : List Saying) → awaits_time (positions ss) ≡ false
+awaits_positions : (ss : List Saying) → last_may_have_time (positions ss) ≡ false
 awaits_positions [] = refl
 awaits_positions (version ∷ ss) = awaits_positions ss
 awaits_positions (name c t ∷ ss) = awaits_positions ss
@@ -135,33 +135,33 @@ awaits_positions (walked c m ∷ ss) = awaits_positions ss
 awaits_positions (time t ∷ ss) = awaits_positions ss
 awaits_positions (ending e ∷ ss) = awaits_positions ss
 
-awaits_after : (xs : List Saying) (y : Saying) (ys : List Saying) → awaits_time (xs ++ y ∷ ys) ≡ awaits_time (y ∷ ys)
+awaits_after : (xs : List Saying) (y : Saying) (ys : List Saying) → last_may_have_time (xs ++ y ∷ ys) ≡ last_may_have_time (y ∷ ys)
 awaits_after [] y ys = refl
 awaits_after (x ∷ []) y ys = refl
 awaits_after (x ∷ z ∷ xs) y ys = awaits_after (z ∷ xs) y ys
 
-awaits_last : (s : Saying) (c : Color) (m : Move) (o : Option ℕ) → awaits_time (s ∷ walked c m ∷ (time_items o ++ [])) ≡ not (is_some o)
+awaits_last : (s : Saying) (c : Color) (m : Move) (o : Option ℕ) → last_may_have_time (s ∷ walked c m ∷ (time_items o ++ [])) ≡ not (is_some o)
 awaits_last s c m None = refl
 awaits_last s c m (Some n) = refl
 
-awaits_next : (s : Saying) (c d : Color) (m : Move) (o : Option ℕ) (u : Timed) (us : List Timed) (b : Bool) → ((r : Saying) → awaits_time (r ∷ move_items d (u ∷ us)) ≡ b) → awaits_time (s ∷ walked c m ∷ (time_items o ++ move_items d (u ∷ us))) ≡ b
+awaits_next : (s : Saying) (c d : Color) (m : Move) (o : Option ℕ) (u : Timed) (us : List Timed) (b : Bool) → ((r : Saying) → last_may_have_time (r ∷ move_items d (u ∷ us)) ≡ b) → last_may_have_time (s ∷ walked c m ∷ (time_items o ++ move_items d (u ∷ us))) ≡ b
 awaits_next s c d m None u us b h = h (walked c m)
 awaits_next s c d m (Some n) u us b h = h (time n)
 
-awaits_moves : (s : Saying) (c : Color) (t : Timed) (ts : List Timed) → awaits_time (s ∷ move_items c (t ∷ ts)) ≡ awaits (t ∷ ts)
+awaits_moves : (s : Saying) (c : Color) (t : Timed) (ts : List Timed) → last_may_have_time (s ∷ move_items c (t ∷ ts)) ≡ awaits (t ∷ ts)
 awaits_moves s c t [] = awaits_last s c t.move t.time
 awaits_moves s c t (u ∷ us) = awaits_next s c (opponent c) t.move t.time u us (awaits (u ∷ us)) (λ r. awaits_moves r (opponent c) u us)
 
-awaits_ended : (s : Saying) (ss : List Saying) (e : Ended) → awaits_time (s ∷ (ss ++ ending_items (Some e))) ≡ not (is_some e.time)
+awaits_ended : (s : Saying) (ss : List Saying) (e : Ended) → last_may_have_time (s ∷ (ss ++ ending_items (Some e))) ≡ not (is_some e.time)
 awaits_ended s ss e = awaits_after (s ∷ ss) (ending e.ending) (time_items e.time) ∙ timed e.ending e.time
   where
-    timed : (k : _) (t : Option ℕ) → awaits_time (ending k ∷ time_items t) ≡ not (is_some t)
+    timed : (k : _) (t : Option ℕ) → last_may_have_time (ending k ∷ time_items t) ≡ not (is_some t)
     timed k None = refl
     timed k (Some n) = refl
 
-awaits_played : (c : Color) (ts : List Timed) (e : Option Ended) → awaits_time (turn c ∷ (move_items c ts ++ ending_items e)) ≡ awaits_after_it ts e
+awaits_played : (c : Color) (ts : List Timed) (e : Option Ended) → last_may_have_time (turn c ∷ (move_items c ts ++ ending_items e)) ≡ awaits_after_it ts e
 awaits_played c [] None = refl
-awaits_played c (t ∷ ts) None = ap (λ ss. awaits_time (turn c ∷ ss)) (append-nil (move_items c (t ∷ ts))) ∙ awaits_moves (turn c) c t ts
+awaits_played c (t ∷ ts) None = ap (λ ss. last_may_have_time (turn c ∷ ss)) (append-nil (move_items c (t ∷ ts))) ∙ awaits_moves (turn c) c t ts
 awaits_played c ts (Some e) = awaits_ended (turn c) (move_items c ts) e
 
 -- a body of position statements
@@ -169,14 +169,14 @@ pub record IsLaying (ss : List Saying) : Type 0 where
   pub sides : sides ss ≡ []
   pub moves : moves ss ≡ []
   pub endings : endings ss ≡ []
-  pub awaits : awaits_time (body ss) ≡ false
+  pub awaits : last_may_have_time (body ss) ≡ false
 
 pub laying_body : (ss : List Saying) → body ss ≡ positions ss → IsLaying ss
 laying_body ss h = record {
   sides = sym (sides_body ss) ∙ (ap sides h ∙ sides_positions ss);
   moves = sym (moves_body ss) ∙ (ap moves h ∙ moves_positions ss);
   endings = sym (endings_body ss) ∙ (ap endings h ∙ endings_positions ss);
-  awaits = ap awaits_time h ∙ awaits_positions ss;
+  awaits = ap last_may_have_time h ∙ awaits_positions ss;
 }
 
 -- a body with a side, and what was played
@@ -184,7 +184,7 @@ pub record IsPlaying (ss : List Saying) (side : Color) (ts : List Timed) (e : Op
   pub sides : sides ss ≡ side ∷ []
   pub moves : moves ss ≡ map move_of ts
   pub endings : stands (endings ss) ≡ is_some e
-  pub awaits : awaits_time (body ss) ≡ awaits_after_it ts e
+  pub awaits : last_may_have_time (body ss) ≡ awaits_after_it ts e
 
 pub playing_body : (ss : List Saying) (side : Color) (ts : List Timed) (e : Option Ended) → body ss ≡ positions ss ++ turn side ∷ (move_items side ts ++ ending_items e) → IsPlaying ss side ts e
 playing_body ss side ts e h =
@@ -197,7 +197,7 @@ playing_body ss side ts e h =
           ∙ (ap (λ ms. map move_of ts ++ ms) (moves_ending e) ∙ append-nil (map move_of ts))))));
       endings = ap stands (sym (endings_body ss) ∙ (ap endings h ∙ (filter-append is_ending (positions ss) all
           ∙ (ap (λ es. es ++ endings all) (endings_positions ss) ∙ endings_moves side ts (ending_items e))))) ∙ ending_stands e;
-      awaits = ap awaits_time h ∙ (awaits_after (positions ss) (turn side) (move_items side ts ++ ending_items e) ∙ awaits_played side ts e);
+      awaits = ap last_may_have_time h ∙ (awaits_after (positions ss) (turn side) (move_items side ts ++ ending_items e) ∙ awaits_played side ts e);
     }
 
 -- what is played, with one more item

@@ -12,8 +12,10 @@ use Rattle.record_game.specs.declared.fault.Why.{Why}
 use Rattle.record_game.specs.Answer.{IsAnswer}
 use Rattle.record_game.specs.Course.{Course, PlayAnswers, close_fault, time_fault, with_time, with_ending, untimed}
 use Rattle.record_game.specs.Items.{sides}
-use Rattle.record_game.specs.Keeping.{Stage, laying, playing, Kept, HasKept, TakenOrRefused}
-use Rattle.record_game.specs.Laying.{Laid, Lays, LaidOrRefused}
+use Rattle.record_game.specs.Keeping.{Stage, laying, playing, Kept, HasKept}
+use Rattle.record_game.specs.Taking.{TakenOrRefused}
+use Rattle.record_game.specs.Laying.{Laid, Lays}
+use Rattle.record_game.specs.Taking.{LaidOrRefused}
 use Rattle.record_game.specs.Order.{endings}
 use Rattle.record_game.specs.Refused.{Finishes}
 use Rattle.record_game.specs.Titles.{Titled, name_fault, header_fault, with_name, IsWithHeader}

@@ -15,7 +15,7 @@ use Rattle.record_game.specs.declared.fault.OrderFault.TheVariants.{MissingTurn}
 use Rattle.record_game.specs.declared.fault.Why.{Why}
 use Rattle.record_game.specs.declared.fault.Why.TheVariants.{Text, Order}
 use Rattle.record_game.specs.Building.{game_of}
-use Rattle.record_game.specs.Course.{IsCourse}
+use Rattle.record_game.specs.Validity.{IsCourse}
 use Rattle.record_game.specs.Fits.{IsOfStatement}
 use Rattle.record_game.specs.Game.{Game}
 use Rattle.record_game.specs.Items.{sides}

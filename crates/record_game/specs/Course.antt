@@ -1,9 +1,7 @@
 -- A start, the moves from it with their times, and an ending.
-use Rattle.std.specs.Prelude.{◌≡◌, ◌≤◌, ℕ, nat_le, not, is_some, Bool, false, List, [], ◌∷◌, length, map, slice_index_or, Option, Some, None, if◌then◌else◌}
-use Rattle.std.specs.List.{AllByRecursion}
+use Rattle.std.specs.Prelude.{◌≡◌, ℕ, nat_le, not, is_some, Bool, false, List, [], ◌∷◌, length, map, slice_index_or, Option, Some, None, if◌then◌else◌}
 use Rattle.shogi_board.specs.declared.color.Color.{Color}
 use Rattle.shogi_board.specs.Placed.{Placed}
-use Rattle.shogi_board.specs.Sound.{IsSound}
 use Rattle.shogi_rules.specs.declared.line.PlayFault.{PlayFault}
 use Rattle.shogi_board.specs.declared.moves.Move.{Move}
 use Rattle.shogi_rules.specs.Play as plays
@@ -16,7 +14,6 @@ use Rattle.record_game.specs.declared.fault.OrderFault.TheVariants.{AfterEnding,
 use Rattle.record_game.specs.declared.fault.Why.{Why}
 use Rattle.record_game.specs.declared.fault.Why.TheVariants.{Order}
 use Rattle.record_game.specs.Game.{Timed, Ended, move_of}
-use Rattle.record_game.specs.Limits.{IsTimed, EndsInTime}
 use Rattle.record_game.specs.Refused.{IsJudged}
 
 pub record Course : Type 0 where
@@ -87,15 +84,6 @@ with_time c = with_time_after c.ending c
 -- the course with this ending, which has no time yet
 abbrev pub with_ending : Course → Ending → Course
 with_ending c e = record c { ending = Some (record { ending = e; time = None }) }
-
--- a sound start, legal moves, none of them played in a position that occurs for the fourth time,
--- and times within the limit
-pub record IsCourse (c : Course) : Type 0 where
-  pub sound : IsSound c.start
-  pub line : rules.IsGame c.start (map move_of c.moves)
-  pub few_moves : length c.moves ≤ max_moves
-  pub times : AllByRecursion (λ (t : Timed). IsTimed t.time) c.moves
-  pub last_time : EndsInTime c.ending
 
 abbrev pub time_of : Timed → Option ℕ
 time_of t = t.time

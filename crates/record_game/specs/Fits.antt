@@ -1,5 +1,5 @@
--- What private helpers need: what the bytes of a statement may contain. A reader of the public
--- contracts may skip this file.
+-- For private functions of `csa_record`: what the bytes of a statement may contain.
+-- A reader of the public contracts may skip this file.
 use Rattle.std.specs.Prelude.{◌≡◌, ◌≢◌, ℕ, ◌+◌, ◌≤◌, List, [], length}
 use Rattle.csa_cutting.specs.Cut.{IsUnit, statement_bytes, longest_statement}
 use Rattle.csa_text.specs.Fields.{HasNone}

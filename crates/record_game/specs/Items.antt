@@ -70,12 +70,12 @@ abbrev pub is_body : Saying → Bool
 is_body s = (part_of s).of_body
 
 -- the name, if it is this side's
-abbrev pub name_of : Color → Option (Color × List ℕ) → Option (List ℕ)
-name_of side None = None
-name_of side (Some n) = if same_color side n.0 then Some n.1 else None
+abbrev pub name_of_side : Color → Option (Color × List ℕ) → Option (List ℕ)
+name_of_side side None = None
+name_of_side side (Some n) = if same_color side n.0 then Some n.1 else None
 
 abbrev pub name_given : Color → Saying → Option (List ℕ)
-name_given side s = name_of side (part_of s).of_name
+name_given side s = name_of_side side (part_of s).of_name
 
 abbrev pub names : Color → List Saying → List (List ℕ)
 names side sayings = filter_map (name_given side) sayings

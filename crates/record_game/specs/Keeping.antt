@@ -1,18 +1,15 @@
 -- What a reader keeps of the items so far.
-use Rattle.std.specs.Prelude.{◌≡◌, ◌⊎◌, Bool, List, [], ◌∷◌, ◌++◌, drop, filter, Option, Result, Ok, OnOk}
+use Rattle.std.specs.Prelude.{◌≡◌, ◌⊎◌, Bool, List, [], ◌∷◌, ◌++◌, drop, filter, Ok}
 use Rattle.std.specs.Option.{option_to_list}
 use Rattle.shogi_board.specs.declared.color.Color.TheVariants.{Black, White}
 use Rattle.shogi_board.specs.Layout.{Layout}
 use Rattle.shogi_board.specs.Setup.{position_of}
 use Rattle.csa_text.specs.Saying.{Saying, turn}
-use Rattle.record_game.specs.declared.fault.Why.{Why}
-use Rattle.record_game.specs.Answer.{IsAnswer}
 use Rattle.record_game.specs.Course.{Course}
 use Rattle.record_game.specs.Items.{is_version, names, headers, is_even, ranks, positions, body}
 use Rattle.record_game.specs.Laying.{Laid, Lays}
 use Rattle.record_game.specs.Order.{stands}
 use Rattle.record_game.specs.LaidOut.{laid_out}
-use Rattle.record_game.specs.Refused.{AnswersItem}
 use Rattle.record_game.specs.Says.{AreEntries, RanksOnce, move_items, ending_items}
 use Rattle.record_game.specs.Titles.{Titled}
 
@@ -47,9 +44,3 @@ pub record HasKept (before : List Saying) (k : Kept) : Type 0 where
   pub even_or_ranks : (filter is_even before ≡ []) ⊎ (ranks before ≡ [])
   pub ranks_once : RanksOnce before
   pub stage : KeepsStage before k.stage
-
--- the next item was taken, or refused for the first fault that it has after the items before it
-abbrev pub TakenOrRefused : List Saying → Saying → Result (Unit {0}) Why → Kept → Type 0
-TakenOrRefused before s result new =
-    (answer : Option Why) × AnswersItem before s answer × IsAnswer answer result
-    × OnOk result (HasKept (before ++ s ∷ []) new)

@@ -15,9 +15,11 @@ pub mod Answer
 pub mod PlayFaults
 pub mod Titles
 pub mod Course
+pub mod Validity
 pub mod Laying
 pub mod Building
 pub mod Keeping
+pub mod Taking
 pub mod Fits
 pub mod Outcome
 pub mod Closed

@@ -15,8 +15,8 @@ stands [] = false
 stands (x ∷ xs) = true
 
 -- the headers with this key
-abbrev pub under : List ℕ → List Saying → List (List ℕ × List ℕ)
-under key sayings = filter (λ h. pointwise nat_eq h.0 key) (headers sayings)
+abbrev pub headers_with_key : List ℕ → List Saying → List (List ℕ × List ℕ)
+headers_with_key key sayings = filter (λ h. pointwise nat_eq h.0 key) (headers sayings)
 
 abbrev pub endings : List Saying → List Saying
 endings sayings = filter is_ending sayings
@@ -35,10 +35,10 @@ may_have_time (time t) = false
 may_have_time (ending e) = true
 
 -- the last of these items may have a time
-abbrev pub awaits_time : List Saying → Bool
-awaits_time [] = false
-awaits_time (s ∷ []) = may_have_time s
-awaits_time (s ∷ t ∷ ss) = awaits_time (t ∷ ss)
+abbrev pub last_may_have_time : List Saying → Bool
+last_may_have_time [] = false
+last_may_have_time (s ∷ []) = may_have_time s
+last_may_have_time (s ∷ t ∷ ss) = last_may_have_time (t ∷ ss)
 
 -- the order faults of the next item, in the order in which they are looked for; an empty name or
 -- text has none
@@ -48,7 +48,7 @@ order_faults before (name color []) = []
 order_faults before (name color (b ∷ bs)) = (RepeatedName, stands (names color before)) ∷ []
 order_faults before (header key []) = []
 order_faults before (header key (b ∷ bs)) =
-    (RepeatedHeader, stands (under key before))
+    (RepeatedHeader, stands (headers_with_key key before))
     ∷ (TooManyHeaders, nat_le most_headers (length (headers before))) ∷ []
 order_faults before (even pairs) =
     (AfterEnding, stands (endings before)) ∷ (PositionLate, stands (sides before))
@@ -64,7 +64,7 @@ order_faults before (turn color) = (AfterEnding, stands (endings before))
 order_faults before (walked color m) =
     (AfterEnding, stands (endings before)) ∷ (MoveBeforeTurn, not (stands (sides before)))
     ∷ (TooManyMoves, nat_le max_moves (length (moves before))) ∷ []
-order_faults before (time t) = (LooseTime, not (awaits_time (body before))) ∷ []
+order_faults before (time t) = (LooseTime, not (last_may_have_time (body before))) ∷ []
 order_faults before (ending e) = (AfterEnding, stands (endings before))
     ∷ (MoveBeforeTurn, not (stands (sides before))) ∷ []
 

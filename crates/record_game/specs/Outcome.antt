@@ -1,5 +1,5 @@
--- What private helpers promise: what becomes of the next statement. A reader of the public
--- contracts may skip this file.
+-- For private functions of `csa_record`: what becomes of the next statement.
+-- A reader of the public contracts may skip this file.
 use Rattle.std.specs.Prelude.{◌≡◌, ◌⊎◌, ℕ, List, [], ◌∷◌, ◌++◌, Option, Some, None, Result, Ok, Err}
 use Rattle.csa_text.specs.Saying.{Saying}
 use Rattle.csa_text.specs.Spelling.{Spells, fault_of_row}

@@ -1,14 +1,13 @@
 -- The names and the headers of a record.
-use Rattle.std.specs.Prelude.{◌≡◌, ℕ, ◌≤◌, nat_le, nat_eq, is_some, List, [], ◌∷◌, length, filter, Option, Some, None, IfSome, if◌then◌else◌}
+use Rattle.std.specs.Prelude.{◌≡◌, ℕ, nat_le, nat_eq, is_some, List, [], ◌∷◌, length, filter, Option, Some, None, if◌then◌else◌}
 use Rattle.std.specs.Cmp.Lexicographic.{pointwise}
-use Rattle.std.specs.List.{AllByRecursion}
 use Rattle.shogi_board.specs.declared.color.Color.{Color}
 use Rattle.shogi_board.specs.declared.color.Color.TheVariants.{Black, White}
 use Rattle.record_game.specs.declared.fault.OrderFault.TheVariants.{RepeatedName, RepeatedHeader, TooManyHeaders}
 use Rattle.record_game.specs.declared.fault.Why.{Why}
 use Rattle.record_game.specs.declared.fault.Why.TheVariants.{Order}
 use Rattle.record_game.specs.Game.{HeaderText, Entry}
-use Rattle.record_game.specs.Limits.{IsName, IsEntry, is_below, Rising, most_headers}
+use Rattle.record_game.specs.Limits.{is_below, most_headers}
 use Rattle.record_game.specs.Order.{stands}
 use Rattle.record_game.specs.Says.{IsValue}
 
@@ -63,11 +62,3 @@ IsWithHeader t key [] new = new ≡ t
 IsWithHeader t key (b ∷ bs) new =
     (value : HeaderText) × IsValue key (b ∷ bs) value
     × (new ≡ record t { headers = with_entry t.headers (record { key = key; text = value }) })
-
--- valid titles: names that fit, and at most 64 entries that fit, in the order of their keys
-pub record IsTitled (t : Titled) : Type 0 where
-  pub black : IfSome t.black IsName
-  pub white : IfSome t.white IsName
-  pub entries : AllByRecursion IsEntry t.headers
-  pub rising : Rising t.headers
-  pub few_headers : length t.headers ≤ most_headers

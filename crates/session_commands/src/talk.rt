@@ -36,10 +36,9 @@ pub trait Machine {
 }
 
 impl Machine for Sample {
-    ghost use Rattle.shogi_session.specs.Requests.{RowText};
-    ghost use Rattle.shogi_session.specs.Sample.{quit};
+    ghost use Rattle.shogi_session.specs.Sample.{SampleRowText, quit};
 
-    ghost answers = { (λ s line text state t. RowText s line text t
+    ghost answers = { (λ s line text state t. SampleRowText s line text t
         × ((state ≡ MachineState.Ended) ↔ (t ≡ quit))) };
 
     fn answer(&mut self, line: &[u8]) -> Result<SampleOut, OutOfMemory> {
@@ -50,11 +49,11 @@ impl Machine for Sample {
 // Each move of the client counts as 0 seconds.
 impl Machine for Host {
     ghost use Rattle.shogi_session.specs.Host.{ended};
-    ghost use Rattle.shogi_session.specs.Hosting.{RowText};
+    ghost use Rattle.shogi_session.specs.Hosting.{HostRowText};
     ghost use Rattle.shogi_session.specs.Texts.{without_last_spaces};
 
     ghost answers = { (λ s line text state t.
-        RowText s.config s.state (without_last_spaces line) 0 text t.state
+        HostRowText s.config s.state (without_last_spaces line) 0 text t.state
         × (t.config ≡ s.config) × ((state ≡ MachineState.Ended) ↔ (t.state ≡ ended))) };
 
     fn answer(&mut self, line: &[u8]) -> Result<SampleOut, OutOfMemory> {

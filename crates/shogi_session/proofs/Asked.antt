@@ -10,6 +10,7 @@ use Rattle.csa_record.specs.Course.{time_at, time_of}
 use Rattle.csa_record.specs.Game.{Game, Timed, move_of}
 use Rattle.bridge_table.specs.declared.config.Config.{Config}
 use Rattle.shogi_session.specs.Asked.{IsAsked}
+use Rattle.shogi_session.specs.declared.asking.Question.TheVariants.{Asked}
 use Rattle.bridge_table.specs.Asking.{MayAsk, go_line, thousandths, used}
 use Rattle.bridge_table.specs.State.{Match, match_line}
 use Rattle.session_lines.specs.Texts.{ended_line, text_of}
@@ -37,7 +38,7 @@ may_ask_now g game client side l over cl e is s c few stated =
     )
 
 -- the position line and then the go line
-pub asked_text : (c : Config) (g : Match) (game : Game) (l : Played) (position before middle after : List ℕ) → MayAsk g → g.game ≡ game → l ≡ played_of game → LineText l.start l.moves position → middle ≡ before ++ ended_line position → after ≡ middle ++ ended_line (go_line c g) → (text : List ℕ) × (after ≡ before ++ text) × IsAsked c g true text
+pub asked_text : (c : Config) (g : Match) (game : Game) (l : Played) (position before middle after : List ℕ) → MayAsk g → g.game ≡ game → l ≡ played_of game → LineText l.start l.moves position → middle ≡ before ++ ended_line position → after ≡ middle ++ ended_line (go_line c g) → (text : List ℕ) × (after ≡ before ++ text) × IsAsked c g Asked text
 asked_text c g game l position before middle after may e is stated first second =
     let same : match_line g ≡ l = ap played_of e ∙ sym is in
     let lines : List (List ℕ) = position ∷ go_line c g ∷ [] in

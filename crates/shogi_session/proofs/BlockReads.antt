@@ -4,7 +4,7 @@ use Rattle.std.specs.List.{AllByRecursion}
 use Rattle.std.specs.Prelude.{IfOk}
 use Rattle.std.proofs.lemmas.List.{append-nil}
 use Rattle.csa_record.specs.Game.{Game}
-use Rattle.csa_record.specs.Reading.{Reading, HasRead}
+use Rattle.csa_record.specs.RecordReading.{RecordReading, HasRead}
 use Rattle.csa_record.specs.Tells.{Tells}
 use Rattle.csa_text.specs.Saying.{Saying}
 use Rattle.session_lines.specs.Texts.{ended_line}
@@ -52,7 +52,7 @@ later_none front line none = λ more g p.
     let rest = (text_part FitsIn front (line ++ 10 ∷ more) r).1 in
     none (position_read line (unmarked FitsIn line (read_part FitsIn 0 line more rest).0))
 
-pub another_line : (text line : List ℕ) (reader : Reading) → IsFed text reader → (IsPositionText line → ⊥) → TellsNone (text ++ ended_line line)
+pub another_line : (text line : List ℕ) (reader : RecordReading) → IsFed text reader → (IsPositionText line → ⊥) → TellsNone (text ++ ended_line line)
 another_line text line reader fed none =
     elim fed.whole [
       | inl e ↦ subst (λ x. TellsNone (x ++ ended_line line)) (sym e) (first_none line none)
@@ -83,7 +83,7 @@ fits_on text line more g (inr w) before p stated =
     subst (λ x. IsPositionText (x ++ ended_line line)) (sym w.1)
     (later_fits w.0 line more g (subst IsPositionText w.1 here) p (subst (λ x. Tells ((x ++ ended_line line) ++ more) g) w.1 stated))
 
-pub line_fed : (text line : List ℕ) (reader new : Reading) → IsFed text reader → IsPositionText line → HasRead ((text ++ line) ++ 10 ∷ []) new
+pub line_fed : (text line : List ℕ) (reader new : RecordReading) → IsFed text reader → IsPositionText line → HasRead ((text ++ line) ++ 10 ∷ []) new
     → IsFed (text ++ ended_line line) new
 line_fed text line reader new fed p read =
     let same = append_assoc text line (10 ∷ []) in
@@ -93,18 +93,18 @@ line_fed text line reader new fed p read =
       fits = λ more g stated. fits_on text line more g fed.whole (fed.fits (ended_line line ++ more) g) p stated;
     }
 
-pub nothing_fed : (reader : Reading) → HasRead [] reader → IsFed [] reader
+pub nothing_fed : (reader : RecordReading) → HasRead [] reader → IsFed [] reader
 nothing_fed reader read =
     record { read = read; whole = inl refl; fits = λ more g stated. position_read [] (read_nothing FitsIn 0) }
 
 -- 3. The end
-pub all_fits : (text : List ℕ) (reader : Reading) (g : Game) → IsFed text reader → Tells text g → IsPositionText text
+pub all_fits : (text : List ℕ) (reader : RecordReading) (g : Game) → IsFed text reader → Tells text g → IsPositionText text
 all_fits text reader g fed stated = fed.fits [] g (subst (λ x. Tells x g) (sym (append-nil text)) stated)
 
 pub none_now : (text : List ℕ) → TellsNone text → (g : Game) → TellsPosition text g → ⊥
 none_now text none g p = none [] g (subst (λ x. TellsPosition x g) (sym (append-nil text)) p)
 
-pub line_taken : {E : Type 0} (result : Result Fed E) (text line : List ℕ) (reader new : Reading) → IsFed text reader → IsPositionText line
+pub line_taken : {E : Type 0} (result : Result Fed E) (text line : List ℕ) (reader new : RecordReading) → IsFed text reader → IsPositionText line
     → IfOk result (λ fed. IsFedOn ((text ++ line) ++ 10 ∷ []) fed new) → IfOk result (λ fed. IsTaken (text ++ ended_line line) fed new)
 line_taken (Ok Taken) text line reader new fed p read = line_fed text line reader new fed p read
 line_taken (Ok Refused) text line reader new fed p none = subst TellsNone (append_assoc text line (10 ∷ [])) none

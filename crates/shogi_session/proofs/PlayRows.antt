@@ -1,6 +1,5 @@
 -- How the answers to lines of the server in play, and at its end, are rows of the table.
 use Rattle.std.proofs.Common.{◌≡◌, ℕ, ◌++◌, ◌⊎◌, inl, inr, Bool, true, false, List, [], ◌∷◌, Option, Some, None, is_some, Result, Ok, Err, MatchResult, codes, refl, sym, ap, subst, ◌∙◌}
-use Rattle.std.specs.Prelude.{if◌then◌else◌}
 use Rattle.shogi_board.specs.declared.color.Color.{Color}
 use Rattle.shogi_board.specs.declared.memory.OutOfMemory.{OutOfMemory}
 use Rattle.shogi_rules.specs.declared.line.PlayFault.{PlayFault}
@@ -23,8 +22,10 @@ use Rattle.shogi_session.specs.declared.phase.GameStage.{GameStage as OwnStage}
 use Rattle.shogi_session.specs.declared.phase.GameStage.TheVariants as stages
 use Rattle.shogi_session.specs.declared.phase.EndReport.{EndReport}
 use Rattle.bridge_table.specs.declared.state.EngineState.{EngineState}
-use Rattle.bridge_table.specs.declared.state.EngineState.TheVariants.{Thinking, Ended as EngineEnded}
-use Rattle.shogi_session.specs.Asked.{IsAsked}
+use Rattle.bridge_table.specs.declared.state.EngineState.TheVariants.{Ended as EngineEnded}
+use Rattle.shogi_session.specs.Asked.{IsAsked, engine_after}
+use Rattle.shogi_session.specs.declared.asking.Question.{Question}
+use Rattle.shogi_session.specs.declared.asking.Question.TheVariants.{Asked, NotAsked}
 use Rattle.bridge_table.specs.Asking.{asked, not_asked}
 use Rattle.bridge_table.specs.Events.{Event, server_line, engine}
 use Rattle.bridge_table.specs.GameSoFar.{ending_of, game_of}
@@ -164,18 +165,18 @@ result_row c engine p new stated later line r o t h end has same is to_engine to
 pub open_match : (p : Own) → p.game.ending ≡ None → (match_in p).game ≡ p.game
 open_match p none = ap (λ (x : Option Ended). record p.game { ending = x }) (sym none)
 
-ask_text : (c : Config) (g : Match) (engine later : EngineState) (was_asked : Bool) (text : List ℕ) → IsAsked c g was_asked text
-    → later ≡ (if was_asked then Thinking else engine) → IsAskText c g engine text later
-ask_text c g engine later true text h e = (h.1, asked h.0 h.2 e, h.3)
-ask_text c g engine later false text h e = ([], not_asked h.0 refl e, h.1)
+ask_text : (c : Config) (g : Match) (engine later : EngineState) (question : Question) (text : List ℕ) → IsAsked c g question text
+    → later ≡ engine_after question engine → IsAskText c g engine text later
+ask_text c g engine later Asked text h e = (h.1, asked h.0 h.2 e, h.3)
+ask_text c g engine later NotAsked text h e = ([], not_asked h.0 refl e, h.1)
 
-pub goes_on : (c : Config) (engine later : EngineState) (p : Own) (before text : List ℕ) (was_asked : Bool) (o : Answered)
-    → IsAsked c (match_in p) was_asked text → later ≡ (if was_asked then Thinking else engine)
+pub goes_on : (c : Config) (engine later : EngineState) (p : Own) (before text : List ℕ) (question : Question) (o : Answered)
+    → IsAsked c (match_in p) question text → later ≡ engine_after question engine
     → o.to_engine ≡ before ++ text → o.to_server ≡ [] → o.status ≡ Going → PlayGoesOn c engine p before o later (record p { stage = stages.Playing })
-goes_on c engine later p before text was_asked o h e to_engine to_server s = record {
+goes_on c engine later p before text question o h e to_engine to_server s = record {
   play = refl;
   text = text;
-  asked = ask_text c (match_in p) engine later was_asked text h e;
+  asked = ask_text c (match_in p) engine later question text h e;
   to_engine = to_engine;
   to_server = to_server;
   status = s;

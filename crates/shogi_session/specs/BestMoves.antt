@@ -1,4 +1,5 @@
 -- For private functions: what a line of the engine says with `bestmove` in a position.
+-- A reader of the public contracts may skip this file.
 use Rattle.std.specs.Prelude.{◌≢◌, ℕ, List}
 use Rattle.shogi_board.specs.Placed.{Placed}
 use Rattle.shogi_board.specs.declared.moves.Move.{Move as TheMove}

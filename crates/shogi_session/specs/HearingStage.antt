@@ -1,4 +1,5 @@
 -- For private functions: what the values of the summary reader mean, and the place of a line.
+-- A reader of the public contracts may skip this file.
 use Rattle.std.specs.Prelude.{◌≡◌, ℕ, true, false, List, Option, Some, None, nat_eq, bytes_eq}
 use Rattle.std.specs.List.{starts_with}
 use Rattle.csa_record.specs.Game.{Game}

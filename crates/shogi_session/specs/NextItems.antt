@@ -1,4 +1,5 @@
 -- For private functions that go through a line statement by statement.
+-- A reader of the public contracts may skip this file.
 use Rattle.std.specs.Prelude.{◌≡◌, ◌<◌, ◌≤◌, ℕ, List, [], ◌∷◌, length, Option, Some, None, Result, Ok, Err, ◌⊎◌}
 use Rattle.csa_cutting.specs.Cut.{TextUnit, statement_bytes, longest_statement}
 use Rattle.csa_cutting.specs.Cutting.{Cutting, ToCome}

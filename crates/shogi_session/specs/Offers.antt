@@ -1,4 +1,5 @@
 -- For private functions: what a whole summary offers, by its parts.
+-- A reader of the public contracts may skip this file.
 use Rattle.std.specs.Prelude.{◌≡◌, ℕ, ◌≤◌, List, [], ◌∷◌, length, Option, Some, None}
 use Rattle.csa_record.specs.Game.{Game}
 use Rattle.shogi_board.specs.declared.color.Color.{Color}

@@ -1,4 +1,5 @@
 -- For private functions and fields of `Bridge`: its own states, and what its steps promise.
+-- A reader of the public contracts may skip this file.
 use Rattle.std.specs.Prelude.{◌≡◌, ◌++◌, ◌∷◌, ◌⊎◌, ℕ, Bool, true, false, List, [], Option, None, Some, Result, Ok, Err, map}
 use Rattle.shogi_board.specs.declared.memory.OutOfMemory.{OutOfMemory}
 use Rattle.shogi_board.specs.declared.moves.Move as shogi

@@ -1,11 +1,12 @@
 -- For private functions: the text of a position block, apart from its game.
+-- A reader of the public contracts may skip this file.
 use Rattle.std.specs.Prelude.{◌≡◌, ◌⊎◌, ◌++◌, ℕ, true, List, [], ◌∷◌, Option, Some, None}
 use Rattle.std.specs.List.{AllByRecursion, AllZip}
 use Rattle.csa_cutting.specs.Cut.{TextUnit, IsCut}
 use Rattle.csa_text.specs.Saying.{Saying}
 use Rattle.csa_text.specs.Spelling.{Spells}
 use Rattle.csa_record.specs.Game.{Game}
-use Rattle.csa_record.specs.Reading.{Reading, HasRead}
+use Rattle.csa_record.specs.RecordReading.{RecordReading, HasRead}
 use Rattle.csa_record.specs.Tells.{IsSpelt, Tells}
 use Rattle.shogi_session.specs.declared.position_reader.BlockState.{BlockState}
 use Rattle.shogi_session.specs.declared.position_reader.BlockState.TheVariants.{Reading as going, Failed}
@@ -40,18 +41,18 @@ IsWhole text = (text ≡ []) ⊎ ((front : List ℕ) × (text ≡ front ++ 10 �
 
 -- the reader was fed this text, which is whole lines; if more bytes may make it a record, it has
 -- only statements of these kinds
-pub record IsFed (text : List ℕ) (reader : Reading) : Type 0 where
+pub record IsFed (text : List ℕ) (reader : RecordReading) : Type 0 where
   pub read : HasRead text reader
   pub whole : IsWhole text
   pub fits : (more : List ℕ) (g : Game) → Tells (text ++ more) g → IsPositionText text
 
 -- the reader was fed this text, or the text spells no game
-abbrev pub IsFedOn : List ℕ → Fed → Reading → Type 0
+abbrev pub IsFedOn : List ℕ → Fed → RecordReading → Type 0
 IsFedOn text Taken reader = HasRead text reader
 IsFedOn text Refused reader = TellsNone text
 
 -- the reader was fed this text of whole lines, or the text spells no game
-abbrev pub IsTaken : List ℕ → Fed → Reading → Type 0
+abbrev pub IsTaken : List ℕ → Fed → RecordReading → Type 0
 IsTaken text Taken reader = IsFed text reader
 IsTaken text Refused reader = TellsNone text
 

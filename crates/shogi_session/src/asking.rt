@@ -14,26 +14,32 @@ use shogi_rules::MAX_MOVES;
 use std::alloc::Global;
 use usi_text::{position_line, texts as usi_texts};
 
-// Adds the lines that ask the engine for the client's move, if it may be asked. Returns whether it
-// is.
+// Whether the engine was asked for the client's move.
+#[derive(Clone, Copy, PartialEq, Eq)]
+pub(crate) enum Question {
+    Asked,
+    NotAsked,
+}
+
+// Adds the lines that ask the engine for the client's move, if it may be asked.
 pub(crate) fn ask(
     lines: &mut Lines,
     alloc: Global,
     config: &Config,
     client: Color,
     game: &Record,
-) -> Result<bool, OutOfMemory>
+) -> Result<Question, OutOfMemory>
     ensures { (g : Match) → g.client ≡ client → g.game ≡ game.now
-        → IfOk result (λ asked. (text : List ℕ)
-        × (lines.new ≡ lines.old ++ text) × IsAsked config.now g asked text) }
+        → IfOk result (λ question. (text : List ℕ)
+        × (lines.new ≡ lines.old ++ text) × IsAsked config.now g question text) }
 {
     if !may_ask(client, game) {
-        return Ok(false);
+        return Ok(Question::NotAsked);
     }
     let position = position_line(alloc, game.line())?;
     lines.push(position.as_slice())?;
     push_go(lines, config, game)?;
-    Ok(true)
+    Ok(Question::Asked)
 }
 
 // Whether the client is to move and may.

@@ -20,7 +20,7 @@
 // The stage and the engine's state change after the lines to send are made, so both stay if memory
 // is refused. Only the move is played before: the engine is asked about the position after it.
 
-ghost use Rattle.std.specs.Prelude.{◌≡◌, ◌↔◌, ◌≤◌, if◌then◌else◌, ℕ, true, Option, None, Some, is_some, [], ◌∷◌, map, IsTrue, IfOk, IfSome, OnOk, OnErr, MatchResult};
+ghost use Rattle.std.specs.Prelude.{◌≡◌, ◌↔◌, ◌≤◌, ℕ, true, Option, None, Some, is_some, [], ◌∷◌, map, IsTrue, IfOk, IfSome, OnOk, OnErr, MatchResult};
 ghost use Rattle.csa_record.specs.Limits.{longest_time};
 ghost use Rattle.csa_record.specs.Game.{Game, move_of};
 ghost use Rattle.shogi_rules.specs.Play.{Answers};
@@ -31,11 +31,11 @@ ghost use Rattle.bridge_table.specs.declared.fault.SessionFault.TheVariants.{Bad
 ghost use Rattle.bridge_table.specs.declared.state.Answer.TheVariants as given;
 ghost use Rattle.shogi_session.specs.declared.phase.Play.{Play};
 ghost use Rattle.shogi_session.specs.declared.phase.GameStage.TheVariants.{Playing};
-ghost use Rattle.bridge_table.specs.declared.state.EngineState.TheVariants.{Thinking};
 ghost use Rattle.bridge_table.specs.Events.{server_line};
 ghost use Rattle.session_lines.specs.LineTexts as texts;
 ghost use Rattle.usi_text.specs.EngineTexts as usi_texts;
 ghost use Rattle.session_lines.specs.MoveLines.{is_move_line};
+ghost use Rattle.shogi_session.specs.Asked.{engine_after};
 ghost use Rattle.shogi_session.specs.Phases.{Confirms, PlayGoesOn, IsOn, IsPlay, KeepsEnding, Reacts, Same, Stays, TellsEnd, closed, finish_of, match_in, play_client, waiting_in};
 ghost use Rattle.bridge_table.specs.Row.{IsExpected, gameover_line, with_reason};
 ghost use Rattle.session_lines.specs.ServerLines.{is_hash_line};
@@ -43,7 +43,7 @@ ghost use Rattle.bridge_table.specs.State.{game_with, match_line};
 ghost use Rattle.session_lines.specs.Texts.{text_of};
 
 use crate::answers::{failed, no_lines, to_engine};
-use crate::asking::ask;
+use crate::asking::{Question, ask};
 use crate::game_end::ending_by;
 use crate::phase::{EndReport, GameStage, Play};
 use crate::server_lines::{read_server_ending, read_server_move};
@@ -271,16 +271,19 @@ pub(crate) fn ask_engine(
     ensures engine { OnErr result (engine.new ≡ engine.old) }
 {
     let mut lines = lines;
-    let asked = ask(&mut lines, alloc, config, client, game)?;
-    *engine = engine_after(*engine, asked);
+    let question = ask(&mut lines, alloc, config, client, game)?;
+    *engine = engine_after(*engine, question);
     Ok(to_engine(alloc, lines))
 }
 
 // The engine's state after it was asked, or was not.
-fn engine_after(engine: EngineState, asked: bool) -> EngineState
-    ensures { result ≡ (if asked then Thinking else engine) }
+fn engine_after(engine: EngineState, question: Question) -> EngineState
+    ensures { result ≡ engine_after question engine }
 {
-    if asked { EngineState::Thinking } else { engine }
+    match question {
+        Question::Asked => EngineState::Thinking,
+        Question::NotAsked => engine,
+    }
 }
 
 // Takes a line that begins with `#`, by what the server said of the end before.

@@ -1,6 +1,6 @@
 ghost use Rattle.std.specs.Prelude.{◌≡◌, ◌↔◌, ℕ, ◌+◌, ◌^◌, ◌≤◌, ◌++◌, List, [], length, true, false, Some, None, IsTrue, IfOk, MatchResult};
 ghost use Rattle.csa_record.specs.Game.{Game};
-ghost use Rattle.csa_record.specs.Reading.{HasRead, fed_of};
+ghost use Rattle.csa_record.specs.RecordReading.{HasRead, fed_of};
 ghost use Rattle.session_lines.specs.Texts.{ended_line};
 ghost use Rattle.shogi_session.specs.PositionTexts.{HasCome, IsFed, IsFedOn, IsPositionRead, IsTaken};
 

@@ -1,7 +1,7 @@
 use Rattle.std.proofs.Common.{◌≡◌, ◌≤◌, ◌∙◌, ap, sym, arith, rules, [], ◌++◌, ◌+◌, length, take, drop, false}
 use Rattle.std.proofs.KnownBytes.{Consumes-trans}
 use Rattle.std.proofs.lemmas.List.{append_assoc, append-nil, length-append, length-take-le, take-append-le}
-use Rattle.archive_commands.specs.Explaining.{line_ends}
+use Rattle.archive_commands.specs.LineNumbers.{line_ends}
 use Rattle.archive_commands.proofs.explain.line_at.Goals as goal
 
 pub loop-left-preserved : goal.loop-left-preserved

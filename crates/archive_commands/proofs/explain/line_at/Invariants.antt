@@ -1,6 +1,6 @@
 use Rattle.std.proofs.Common.{◌≡◌, ◌≤◌, ◌+◌, ◌++◌, ℕ, List, false, length}
 use Rattle.std.specs.Io.KnownBytes.{Consumes}
-use Rattle.archive_commands.specs.Explaining.{line_ends}
+use Rattle.archive_commands.specs.LineNumbers.{line_ends}
 use Rattle.archive_commands.proofs.explain.line_at.Given as goal
 
 -- what was read so far, and the line ends in it

@@ -1,6 +1,6 @@
 use Rattle.std.proofs.Common.{◌≡◌, ◌∙◌, ap, arith, get_or, rules, subst, sym}
 use Rattle.archive_commands.specs.Lists.{items_of}
-use Rattle.archive_commands.specs.Many.{PrintsFile, StopsAmong, StopsAt, no_file, printed_of}
+use Rattle.archive_commands.specs.ManyPrinted.{PrintsFile, StopsAmong, StopsAt, no_file, printed_of}
 use Rattle.record_commands.proofs.Converting.{returned}
 use Rattle.archive_commands.proofs.ManyFiles.{all_printed, next_stops, next_printed, stops_here}
 use Rattle.archive_commands.proofs.many.print_all.Goals as goal

@@ -1,6 +1,7 @@
 use Rattle.std.proofs.Common.{◌≡◌, ℕ, List, Option, drop}
 use Rattle.csa_record.specs.declared.flow.FlowFault.{FlowFault}
-use Rattle.archive_commands.specs.Many.{StopsAmong, PrintsAll, Printed, counted, no_file, printed_of}
+use Rattle.archive_commands.specs.Many.{counted}
+use Rattle.archive_commands.specs.ManyPrinted.{StopsAmong, PrintsAll, Printed, no_file, printed_of}
 use Rattle.archive_commands.specs.Lists.{items_of}
 use Rattle.archive_commands.proofs.many.print_all.Given as goal
 

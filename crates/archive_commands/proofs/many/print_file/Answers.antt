@@ -1,7 +1,7 @@
 use Rattle.std.proofs.Common.{Some, refl, string_bytes, subst}
 use Rattle.std.specs.Io.KnownBytes.{Appends}
 use Rattle.archive_commands.specs.Lines.{IsLineOf}
-use Rattle.archive_commands.specs.Many.{accepted, refused, unreadable}
+use Rattle.archive_commands.specs.ManyPrinted.{accepted, refused, unreadable}
 use Rattle.record_commands.specs.Reports.{FailsToReport, GetsRecord}
 use Rattle.archive_commands.proofs.many.print_file.Goals as goal
 

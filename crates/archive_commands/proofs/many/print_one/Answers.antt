@@ -1,5 +1,5 @@
 use Rattle.std.proofs.Common.{IfErr, subst}
-use Rattle.archive_commands.specs.Many.{StopsAt}
+use Rattle.archive_commands.specs.ManyPrinted.{StopsAt}
 use Rattle.archive_commands.proofs.ManyFiles.{no_text_printed}
 use Rattle.archive_commands.proofs.many.print_one.Goals as goal
 

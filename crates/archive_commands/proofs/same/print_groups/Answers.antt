@@ -2,7 +2,8 @@ use Rattle.std.proofs.Common.{◌≡◌, ◌<◌, ◌∙◌, ◌==◌, ◌&&◌,
 use Rattle.std.specs.Prelude.{nat_lt}
 use Rattle.std.specs.Io.KnownBytes.{Appends}
 use Rattle.archive_commands.specs.Lists.{items_of}
-use Rattle.archive_commands.specs.Same.{group_line, path_at}
+use Rattle.archive_commands.specs.Same.{path_at}
+use Rattle.archive_commands.specs.SameGroups.{group_line}
 use Rattle.archive_commands.proofs.Printing.{begins_first, begins_later, line_printed, path_is}
 use Rattle.archive_commands.proofs.same.print_groups.Goals.{then-k-gt0, else-k-gt0}
 use Rattle.archive_commands.proofs.same.print_groups.Goals as goal

@@ -1,7 +1,7 @@
 use Rattle.std.proofs.Common.{take}
 use Rattle.std.specs.Io.KnownBytes.{Appends}
 use Rattle.archive_commands.specs.Lists.{items_of}
-use Rattle.archive_commands.specs.Same.{group_lines}
+use Rattle.archive_commands.specs.SameGroups.{group_lines}
 use Rattle.archive_commands.proofs.same.print_groups.Given as goal
 
 -- the lines of the members before this one are printed

@@ -3,8 +3,8 @@ use Rattle.std.proofs.lemmas.List.{length-map}
 use Rattle.std.specs.Io.KnownBytes.{Appends}
 use Rattle.std.specs.Prelude.{All}
 use Rattle.archive_commands.specs.Lists.{items_of}
-use Rattle.archive_commands.specs.Many.{no_file}
-use Rattle.archive_commands.specs.Same.{AreGroups, StopsGroups, StopsPrinting, group_lines, tally_from}
+use Rattle.archive_commands.specs.ManyPrinted.{no_file}
+use Rattle.archive_commands.specs.SameGroups.{AreGroups, StopsGroups, StopsPrinting, group_lines, tally_from}
 use Rattle.archive_commands.proofs.Printing.{members_within}
 use Rattle.record_commands.proofs.Converting.{returned}
 use Rattle.game_archive.specs.Alike.{GiveBytes}

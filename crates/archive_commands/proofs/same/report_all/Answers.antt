@@ -1,6 +1,6 @@
 use Rattle.std.proofs.Common.{◌<◌, ◌∙◌, ap, arith, length, take_all}
-use Rattle.archive_commands.specs.Many.{no_file}
-use Rattle.archive_commands.specs.Same.{tally_from}
+use Rattle.archive_commands.specs.ManyPrinted.{no_file}
+use Rattle.archive_commands.specs.SameGroups.{tally_from}
 use Rattle.archive_commands.proofs.Printing.{tally_more}
 use Rattle.archive_commands.proofs.same.report_all.Goals as goal
 

@@ -1,7 +1,7 @@
 use Rattle.std.proofs.Common.{◌≡◌, ◌+◌, ◌∙◌, length, take, drop, get_or, sym, ap, subst, arith}
 use Rattle.std.proofs.Math.Seq.{take-length}
 use Rattle.std.proofs.lemmas.Result.{err_from_is_err_and}
-use Rattle.csa_record.specs.Reading.{HasRead, bytes_of}
+use Rattle.csa_record.specs.RecordReading.{HasRead, bytes_of}
 use Rattle.record_game.specs.Pieces.{joined, refused}
 use Rattle.record_game.specs.Refused.{FaultlessTo}
 use Rattle.csa_record.proofs.PiecesRead.{no_piece, one_more, around, has_room, fed_count, accepted_so, refused_so, of_all, faultless_so}

@@ -1,5 +1,5 @@
 use Rattle.std.proofs.Common.{take}
-use Rattle.csa_record.specs.Reading.{HasRead, bytes_of}
+use Rattle.csa_record.specs.RecordReading.{HasRead, bytes_of}
 use Rattle.record_game.specs.Pieces.{joined}
 use Rattle.csa_record.proofs.pieces.read_pieces.Given as goal
 

@@ -3,7 +3,7 @@ use Rattle.std.proofs.lemmas.Bool.Decides.{Decides-eqb}
 use Rattle.std.proofs.lemmas.Slice.Eq.{slice_eq-Decides}
 use Rattle.game_archive.proofs.Likenesses.{key_once}
 use Rattle.game_archive.proofs.keys.has_key.Goals as goal
-use Rattle.game_archive.specs.Keying.{HasKey}
+use Rattle.game_archive.specs.Knowing.{HasKey}
 
 pub returns-clause-same : goal.returns-clause-same
 returns-clause-same g c = λ bytes gives.

@@ -1,4 +1,4 @@
-use Rattle.host_and_sample.specs.Hosting.{rests_last}
+use Rattle.host_and_sample.specs.HostAnswers.{rests_last}
 use Rattle.host_and_sample.proofs.HostLines.{if_ok}
 use Rattle.host_and_sample.proofs.playing.rest.Goals as goal
 

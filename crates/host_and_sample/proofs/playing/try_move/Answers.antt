@@ -1,4 +1,4 @@
-use Rattle.host_and_sample.specs.Hosting.{taken, refused}
+use Rattle.host_and_sample.specs.HostAnswers.{taken, refused}
 use Rattle.host_and_sample.proofs.HostLines.{if_ok}
 use Rattle.host_and_sample.proofs.HostRows.{not_played}
 use Rattle.host_and_sample.proofs.playing.try_move.Goals as goal

@@ -4,17 +4,17 @@ use Rattle.std.specs.Io.BufRead.{FillKeeps}
 use Rattle.record_commands.proofs.LineReading.{begins_long, cut_stops, end_line, none_over, piece_line, piece_long, piece_none, some_of}
 use Rattle.record_commands.proofs.incoming.next_event.Goals as goal
 
-pub returns-then-is_line-clause-event : goal.returns-then-is_line-clause-event
-returns-then-is_line-clause-event g c =
+pub returns-in-Kept-clause-event : goal.returns-in-Kept-clause-event
+returns-in-Kept-clause-event g c =
     let remaining = reader_remaining g.R.Read.remaining in
     let cutter = c.args.cutter.now in
     let old = remaining c.args.reader.now in
     let lender = c.fill_buf.follows.lender-at-none in
     let kept = subst (λ r. FillKeeps old (remaining lender) (Some (length (reader_buffer lender))) r) c.in-Ok.is c.fill_buf.follows.holds-at-none in
     let none : length c.in-Ok.piece.now ≡ 0 = grind (arith, c.if-is_empty.ensures) in
-    let line = c.in_ok-is_line.ensures.line c.if-is_line.true in
+    let line = c.in_ok-keep_last.ensures.line c.in-Kept.is in
     let gives = end_line old (remaining lender) cutter.held (none_over old c.in-Ok.piece.now c.in-Ok.ensures.end none) kept.0 c.requires.run line.1 in
-    (rw (c.in_ok-is_line.ensures.empty, line.0) gives, rw line.0 c.requires.short)
+    (rw (c.in_ok-keep_last.ensures.empty, line.0) gives, rw line.0 c.requires.short)
 
 pub returns-clause-event : goal.returns-clause-event
 returns-clause-event g c =

@@ -4,7 +4,7 @@ use Rattle.csa_record.specs.declared.flow.FlowFault.{FlowFault}
 use Rattle.record_game.specs.Game.{Game}
 use Rattle.record_commands.specs.Inputs.{path_of}
 use Rattle.record_commands.specs.Reports.{FailsToReport, GetsRecord}
-use Rattle.record_commands.specs.Words.{Fits}
+use Rattle.record_commands.specs.Printing.{Fits}
 use Rattle.record_commands.proofs.Converting.{returned}
 use Rattle.record_commands.proofs.Recording.{anew, fails_wider, never_written, no_record, none_read, reports_wider}
 use Rattle.record_commands.proofs.report.report.Goals as goal

@@ -2,7 +2,7 @@ use Rattle.std.proofs.Common.{inr, subst, sym}
 use Rattle.std.specs.Io.KnownBytes.{Appends}
 use Rattle.csa_record.specs.Flow.{ReadsRecord}
 use Rattle.record_commands.specs.Reports.{FailsToReport}
-use Rattle.record_commands.specs.Words.{Fits}
+use Rattle.record_commands.specs.Printing.{Fits}
 use Rattle.record_commands.proofs.Converting.{returned}
 use Rattle.record_commands.proofs.Recording.{no_record, reads_record}
 use Rattle.record_commands.proofs.report.report_source.Goals as goal

@@ -1,5 +1,5 @@
 use Rattle.std.proofs.Common.{◌≡◌, ◌≤◌, ◌+◌, ◌++◌, ℕ, List, drop}
-use Rattle.archive_commands.specs.Explaining.{line_ends}
+use Rattle.archive_commands.specs.LineNumbers.{line_ends}
 use Rattle.archive_commands.proofs.explain.LineEnds.count.Given as goal
 
 -- what ends in the bytes so far, and in the others

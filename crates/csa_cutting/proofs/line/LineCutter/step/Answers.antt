@@ -1,21 +1,24 @@
-use Rattle.std.proofs.Common.{◌≡◌, ℕ, ◌+◌, ◌<◌, ◌≤◌, ◌-◌, ◌⊎◌, ◌∷◌, ◌++◌, Bool, true, false, List, [], length, take, slice_range, cond, refl, sym, ap, ◌∙◌, arith, subst, inl, inr}
+use Rattle.std.proofs.Common.{◌≡◌, ℕ, ◌+◌, ◌<◌, ◌≤◌, ◌-◌, ◌⊎◌, ◌∷◌, ◌++◌, Bool, true, false, List, [], length, take, slice_range, refl, sym, ap, ◌∙◌, arith, subst, inl, inr}
 use Rattle.std.specs.Vec.{vec_len}
 use Rattle.std.proofs.lemmas.Result.{err_from_is_err_and}
 use Rattle.csa_cutting.specs.Lines.{HasNoLineEnd, Lines}
-use Rattle.csa_cutting.specs.LineCutting.{LineCutting, IsRun}
+use Rattle.csa_cutting.specs.LineCutting.{LineCutting}
+use Rattle.csa_cutting.specs.LineHolding.{IsRun, unfinished_of}
+use Rattle.csa_cutting.specs.declared.line.HeldLine.{HeldLine}
+use Rattle.csa_cutting.specs.declared.line.HeldLine.TheVariants.{Unfinished, Returned}
 use Rattle.csa_cutting.proofs.LineCutting.{line_unfinished, line_waits, line_closed, line_long, line_short, length_range}
 use Rattle.csa_cutting.proofs.line.LineCutter.step.Goals as goal
 
 same_lining : (a b : List ℕ) (m n : ℕ) (f g : Bool) → a ≡ b → m ≡ n → f ≡ g → (let x : LineCutting = record { held = a; limit = m; failed = f } in let y : LineCutting = record { held = b; limit = n; failed = g } in x ≡ y)
 same_lining a b m n f g p q r = rw (p, q, r) refl
 
-forgotten : (held_returned : Bool) (items held : List ℕ) → held ≡ cond held_returned [] items → HasNoLineEnd items → HasNoLineEnd held
-forgotten true items held e h = rw e tt
-forgotten false items held e h = rw e h
+forgotten : (line : HeldLine) (items held : List ℕ) → held ≡ unfinished_of line items → HasNoLineEnd items → HasNoLineEnd held
+forgotten Returned items held e h = rw e tt
+forgotten Unfinished items held e h = rw e h
 
-forgotten_few : (held_returned : Bool) (items held : List ℕ) (limit : ℕ) → held ≡ cond held_returned [] items → length items ≤ limit → length held ≤ limit
-forgotten_few true items held limit e h = rw e (omega arith)
-forgotten_few false items held limit e h = rw e h
+forgotten_few : (line : HeldLine) (items held : List ℕ) (limit : ℕ) → held ≡ unfinished_of line items → length items ≤ limit → length held ≤ limit
+forgotten_few Returned items held limit e h = rw e (omega arith)
+forgotten_few Unfinished items held limit e h = rw e h
 
 not_long : (b : Bool) (P : Type 0) → b ≡ false → (P → ⊥) → (b ≡ true) ⊎ P → ⊥
 not_long b P h k (inl t) = cc
@@ -25,7 +28,7 @@ pub returns-then-self-len : goal.returns-then-self-len
 returns-then-self-len c =
     let same : c.forget.new.held.items ≡ c.args.self.now.held = c.forget.ensures ∙ ap (λ (v : LineCutting). v.held) c.self.view_is in
     let limit : c.self.inside.limit ≡ c.args.self.now.limit = ap (λ (v : LineCutting). v.limit) c.self.view_is in
-    let solid : HasNoLineEnd c.args.self.now.held = subst HasNoLineEnd same (forgotten c.self.inside.held_returned c.self.inside.held.items c.forget.new.held.items c.forget.ensures c.self.invariant.1) in
+    let solid : HasNoLineEnd c.args.self.now.held = subst HasNoLineEnd same (forgotten c.self.inside.held_line c.self.inside.held.items c.forget.new.held.items c.forget.ensures c.self.invariant.1) in
     let run : IsRun c.args.self.now.held c.args.piece.now c.first_run-start.result.0 c.first_run-start.result.1 =
     rw (c.as_slice.ensures.value, same) at c.first_run-start.ensures in
     let size : length c.args.self.now.held ≡ vec_len c.forget.new.held = ap length (sym same ∙ sym c.as_slice.ensures.value) ∙ c.as_slice.ensures.len in
@@ -39,12 +42,12 @@ returns-in_err-extend_from_slice c =
     let same : c.forget.new.held.items ≡ c.args.self.now.held = c.forget.ensures ∙ ap (λ (v : LineCutting). v.held) c.self.view_is in
     let limit : c.self.inside.limit ≡ c.args.self.now.limit = ap (λ (v : LineCutting). v.limit) c.self.view_is in
     let failed : c.self.inside.failed ≡ c.args.self.now.failed = ap (λ (v : LineCutting). v.failed) c.self.view_is in
-    let solid : HasNoLineEnd c.args.self.now.held = subst HasNoLineEnd same (forgotten c.self.inside.held_returned c.self.inside.held.items c.forget.new.held.items c.forget.ensures c.self.invariant.1) in
+    let solid : HasNoLineEnd c.args.self.now.held = subst HasNoLineEnd same (forgotten c.self.inside.held_line c.self.inside.held.items c.forget.new.held.items c.forget.ensures c.self.invariant.1) in
     let run : IsRun c.args.self.now.held c.args.piece.now c.first_run-start.result.0 c.first_run-start.result.1 =
     rw (c.as_slice.ensures.value, same) at c.first_run-start.ensures in
     let size : length c.args.self.now.held ≡ vec_len c.forget.new.held = ap length (sym same ∙ sym c.as_slice.ensures.value) ∙ c.as_slice.ensures.len in
     let count = length_range c.args.piece.now c.first_run-start.result.0 c.first_run-start.result.1 run.within in
-    let few : length c.forget.new.held.items ≤ c.self.inside.limit = forgotten_few c.self.inside.held_returned c.self.inside.held.items c.forget.new.held.items c.self.inside.limit c.forget.ensures c.self.invariant.0 in
+    let few : length c.forget.new.held.items ≤ c.self.inside.limit = forgotten_few c.self.inside.held_line c.self.inside.held.items c.forget.new.held.items c.self.inside.limit c.forget.ensures c.self.invariant.0 in
     let same_length = ap length same in
     let short = line_short c.args.self.now.held c.args.piece.now c.first_run-start.result.0 c.first_run-start.result.1 c.args.self.now.limit run solid
     (omega (arith, c.if-self-len.false, c.len.ensures, count, run.order)) in
@@ -60,12 +63,12 @@ returns-then-end-piece c =
     let same : c.forget.new.held.items ≡ c.args.self.now.held = c.forget.ensures ∙ ap (λ (v : LineCutting). v.held) c.self.view_is in
     let limit : c.self.inside.limit ≡ c.args.self.now.limit = ap (λ (v : LineCutting). v.limit) c.self.view_is in
     let failed : c.self.inside.failed ≡ c.args.self.now.failed = ap (λ (v : LineCutting). v.failed) c.self.view_is in
-    let solid : HasNoLineEnd c.args.self.now.held = subst HasNoLineEnd same (forgotten c.self.inside.held_returned c.self.inside.held.items c.forget.new.held.items c.forget.ensures c.self.invariant.1) in
+    let solid : HasNoLineEnd c.args.self.now.held = subst HasNoLineEnd same (forgotten c.self.inside.held_line c.self.inside.held.items c.forget.new.held.items c.forget.ensures c.self.invariant.1) in
     let run : IsRun c.args.self.now.held c.args.piece.now c.first_run-start.result.0 c.first_run-start.result.1 =
     rw (c.as_slice.ensures.value, same) at c.first_run-start.ensures in
     let size : length c.args.self.now.held ≡ vec_len c.forget.new.held = ap length (sym same ∙ sym c.as_slice.ensures.value) ∙ c.as_slice.ensures.len in
     let count = length_range c.args.piece.now c.first_run-start.result.0 c.first_run-start.result.1 run.within in
-    let few : length c.forget.new.held.items ≤ c.self.inside.limit = forgotten_few c.self.inside.held_returned c.self.inside.held.items c.forget.new.held.items c.self.inside.limit c.forget.ensures c.self.invariant.0 in
+    let few : length c.forget.new.held.items ≤ c.self.inside.limit = forgotten_few c.self.inside.held_line c.self.inside.held.items c.forget.new.held.items c.self.inside.limit c.forget.ensures c.self.invariant.0 in
     let same_length = ap length same in
     let short = line_short c.args.self.now.held c.args.piece.now c.first_run-start.result.0 c.first_run-start.result.1 c.args.self.now.limit run solid
     (omega (arith, c.if-self-len.false, c.len.ensures, count, run.order)) in
@@ -82,12 +85,12 @@ returns c =
     let same : c.forget.new.held.items ≡ c.args.self.now.held = c.forget.ensures ∙ ap (λ (v : LineCutting). v.held) c.self.view_is in
     let limit : c.self.inside.limit ≡ c.args.self.now.limit = ap (λ (v : LineCutting). v.limit) c.self.view_is in
     let failed : c.self.inside.failed ≡ c.args.self.now.failed = ap (λ (v : LineCutting). v.failed) c.self.view_is in
-    let solid : HasNoLineEnd c.args.self.now.held = subst HasNoLineEnd same (forgotten c.self.inside.held_returned c.self.inside.held.items c.forget.new.held.items c.forget.ensures c.self.invariant.1) in
+    let solid : HasNoLineEnd c.args.self.now.held = subst HasNoLineEnd same (forgotten c.self.inside.held_line c.self.inside.held.items c.forget.new.held.items c.forget.ensures c.self.invariant.1) in
     let run : IsRun c.args.self.now.held c.args.piece.now c.first_run-start.result.0 c.first_run-start.result.1 =
     rw (c.as_slice.ensures.value, same) at c.first_run-start.ensures in
     let size : length c.args.self.now.held ≡ vec_len c.forget.new.held = ap length (sym same ∙ sym c.as_slice.ensures.value) ∙ c.as_slice.ensures.len in
     let count = length_range c.args.piece.now c.first_run-start.result.0 c.first_run-start.result.1 run.within in
-    let few : length c.forget.new.held.items ≤ c.self.inside.limit = forgotten_few c.self.inside.held_returned c.self.inside.held.items c.forget.new.held.items c.self.inside.limit c.forget.ensures c.self.invariant.0 in
+    let few : length c.forget.new.held.items ≤ c.self.inside.limit = forgotten_few c.self.inside.held_line c.self.inside.held.items c.forget.new.held.items c.self.inside.limit c.forget.ensures c.self.invariant.0 in
     let same_length = ap length same in
     let short = line_short c.args.self.now.held c.args.piece.now c.first_run-start.result.0 c.first_run-start.result.1 c.args.self.now.limit run solid
     (omega (arith, c.if-self-len.false, c.len.ensures, count, run.order)) in

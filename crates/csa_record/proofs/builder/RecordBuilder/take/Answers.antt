@@ -1,6 +1,6 @@
 use Rattle.std.proofs.Common.{sym, subst, true}
 use Rattle.csa_text.specs.Saying.{saying_of}
-use Rattle.record_game.specs.Keeping.{TakenOrRefused}
+use Rattle.record_game.specs.Taking.{TakenOrRefused}
 use Rattle.csa_record.proofs.builder.RecordBuilder.take.Goals as goal
 use Rattle.csa_record.proofs.builder.RecordBuilder.take.Goals.{in-Version, in-Name, in-Header, in-Even, in-Rank, in-Pieces, in-Turn, in-Walked, in-Time, in-Ending}
 

@@ -1,5 +1,5 @@
 use Rattle.std.proofs.Common.{sym, subst}
-use Rattle.csa_record.specs.Reading.{HasRead}
+use Rattle.csa_record.specs.RecordReading.{HasRead}
 use Rattle.csa_record.proofs.record_reader.RecordReader.finish.Goals as goal
 
 pub returns-clause-stated : goal.returns-clause-stated

@@ -1,6 +1,6 @@
 use Rattle.std.proofs.Common.{[], None, refl, sym, subst}
 use Rattle.record_game.specs.Keeping.{HasKept}
-use Rattle.csa_record.specs.Reading.{HasRead}
+use Rattle.csa_record.specs.RecordReading.{HasRead}
 use Rattle.csa_record.specs.ReadingSteps.{IsRead}
 use Rattle.csa_record.proofs.Onward.{new_reader}
 use Rattle.csa_record.proofs.record_reader.RecordReader.finish_anew.Goals as goal

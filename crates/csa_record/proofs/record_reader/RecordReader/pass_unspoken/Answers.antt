@@ -1,5 +1,5 @@
 use Rattle.std.proofs.Common.{sym, subst}
-use Rattle.csa_record.specs.Reading.{HasRead}
+use Rattle.csa_record.specs.RecordReading.{HasRead}
 use Rattle.csa_record.proofs.Steps.{unspoken}
 use Rattle.csa_record.proofs.record_reader.RecordReader.pass_unspoken.Goals as goal
 

@@ -1,7 +1,7 @@
 use Rattle.std.proofs.Common.{Ok, ap, ◌∙◌, sym, subst}
 use Rattle.std.proofs.lemmas.Result.{err_from_is_err_and}
 use Rattle.csa_cutting.specs.PieceSteps.{Stepped}
-use Rattle.csa_record.specs.Reading.{HasRead}
+use Rattle.csa_record.specs.RecordReading.{HasRead}
 use Rattle.csa_record.proofs.Steps.{given, next_taken, next_refused, none_next, long_next}
 use Rattle.csa_record.proofs.record_reader.RecordReader.take_any.Goals as goal
 

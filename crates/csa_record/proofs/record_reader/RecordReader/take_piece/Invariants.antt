@@ -1,5 +1,5 @@
 use Rattle.std.proofs.Common.{◌≡◌, ℕ, ◌+◌, ◌-◌, ◌≤◌, List, length, take, ◌++◌}
-use Rattle.csa_record.specs.Reading.{HasRead}
+use Rattle.csa_record.specs.RecordReading.{HasRead}
 use Rattle.csa_record.proofs.record_reader.RecordReader.take_piece.Given as goal
 
 abbrev pub invariant-loop-used : goal.invariant-loop-used

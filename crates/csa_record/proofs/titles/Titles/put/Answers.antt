@@ -1,6 +1,7 @@
 use Rattle.std.proofs.Common.{ap, subst}
 use Rattle.csa_record.specs.TitleBytes.{entry_of}
-use Rattle.record_game.specs.Titles.{Titled, IsTitled}
+use Rattle.record_game.specs.Titles.{Titled}
+use Rattle.record_game.specs.Validity.{IsTitled}
 use Rattle.csa_record.proofs.TitleEntries.{put_headers, put_view, put_titled}
 use Rattle.csa_record.proofs.titles.Titles.put.Goals as goal
 

@@ -4,8 +4,7 @@ use Rattle.std.specs.Prelude.{slice_index}
 use Rattle.std.proofs.lemmas.Bool.{cases_lt}
 use Rattle.std.proofs.lemmas.List.{get_or_default}
 use Rattle.game_archive.specs.Digests.{Collides}
-use Rattle.game_archive.specs.Keying.{HasKey}
-use Rattle.game_archive.specs.Knowing.{IsNotCompared}
+use Rattle.game_archive.specs.Knowing.{HasKey, IsNotCompared}
 use Rattle.game_archive.specs.Groups.{HasLeader}
 use Rattle.game_archive.specs.Readings.{ReadAlike}
 use Rattle.game_archive.proofs.Causes.{not_compared, returned}

@@ -1,6 +1,6 @@
 use Rattle.std.proofs.Common.{◌≡◌, ℕ, ◌<◌, List}
 use Rattle.std.specs.Prelude.{slice_index}
-use Rattle.game_archive.specs.Keying.{HasKey}
+use Rattle.game_archive.specs.Knowing.{HasKey}
 use Rattle.game_archive.specs.Alike.{GiveBytes}
 use Rattle.game_archive.specs.Readings.{ReadAlike}
 use Rattle.game_archive.proofs.grouping.Groups.find.Given as goal

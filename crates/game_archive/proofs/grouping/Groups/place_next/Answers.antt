@@ -1,11 +1,10 @@
 use Rattle.std.proofs.Common.{◌≡◌, ◌∙◌, Ok, Err, ap, arith, length, refl, subst, sym}
 use Rattle.csa_record.specs.declared.flow.FlowFault.TheVariants as flow
 use Rattle.game_archive.proofs.Placed.{leaders_still, placed_refused, placed_unreadable}
-use Rattle.game_archive.specs.Keying.{HasKey}
+use Rattle.game_archive.specs.Knowing.{HasKey, HadKey}
 use Rattle.game_archive.specs.Alike.{GivesOnly}
 use Rattle.game_archive.proofs.Causes.{causes_by, digests_by, keeps_by, keeps_from, keeps_refused, keeps_unread, on_ok}
 use Rattle.game_archive.proofs.Digests.{digests_still}
-use Rattle.game_archive.specs.Knowing.{HadKey}
 use Rattle.game_archive.proofs.Counts.{count_from, one_outside}
 use Rattle.game_archive.proofs.Readings.{alike_trans, gives_still}
 use Rattle.game_archive.specs.Readings.{noted_at}

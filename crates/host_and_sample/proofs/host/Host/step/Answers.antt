@@ -1,6 +1,7 @@
 use Rattle.std.proofs.Common.{rules, ap, ◌∙◌}
 use Rattle.std.proofs.lemmas.Result.{err_from_is_err_and}
-use Rattle.host_and_sample.specs.Hosting.{HostSession, state_of}
+use Rattle.host_and_sample.specs.Hosting.{HostSession}
+use Rattle.host_and_sample.specs.HostAnswers.{state_of}
 use Rattle.host_and_sample.proofs.HostSteps.{stepped, row_bytes, over_bytes, over_stays}
 use Rattle.host_and_sample.proofs.host.Host.step.Goals as goal
 

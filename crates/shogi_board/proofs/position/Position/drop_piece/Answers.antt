@@ -80,8 +80,8 @@ returns-clause-answer c =
 pub returns-clause-value : goal.returns-clause-value
 returns-clause-value c = λ _.
     elim c.match-side.branch [
-      | in-Black w ↦ rw (← c.self.view_is, w.self-inside-is, c.not-self-inside.ensures.value, w.take_one.ensures, c.put.ensures, w.in-Black.is) refl
-      | in-White w ↦ rw (← c.self.view_is, w.self-inside-is, c.not-self-inside.ensures.value, w.take_one-in-White.ensures, c.put.ensures, w.in-White.is) refl
+      | in-Black w ↦ rw (← c.self.view_is, w.self-inside-is, c.not-self-inside.ensures, w.take_one.ensures, c.put.ensures, w.in-Black.is) refl
+      | in-White w ↦ rw (← c.self.view_is, w.self-inside-is, c.not-self-inside.ensures, w.take_one-in-White.ensures, c.put.ensures, w.in-White.is) refl
     ]
 
 pub take_one-requires-clause-kind : goal.take_one-requires-clause-kind

@@ -106,8 +106,8 @@ add_captured-requires-in-White-clause-room c = λ x there.
 pub returns-clause-value : goal.returns-clause-value
 returns-clause-value c = λ _.
     elim c.match-side.branch [
-      | in-Black w ↦ rw (← c.self.view_is, w.self-inside-is, c.not-self-inside.ensures.value, w.add_captured.ensures, c.piece-taken.ensures, c.cell_at-captured.ensures, c.put-2.ensures, c.put.ensures, w.in-Black.is) refl
-      | in-White w ↦ rw (← c.self.view_is, w.self-inside-is, c.not-self-inside.ensures.value, w.add_captured-in-White.ensures, c.piece-taken.ensures, c.cell_at-captured.ensures, c.put-2.ensures, c.put.ensures, w.in-White.is) refl
+      | in-Black w ↦ rw (← c.self.view_is, w.self-inside-is, c.not-self-inside.ensures, w.add_captured.ensures, c.piece-taken.ensures, c.cell_at-captured.ensures, c.put-2.ensures, c.put.ensures, w.in-Black.is) refl
+      | in-White w ↦ rw (← c.self.view_is, w.self-inside-is, c.not-self-inside.ensures, w.add_captured-in-White.ensures, c.piece-taken.ensures, c.cell_at-captured.ensures, c.put-2.ensures, c.put.ensures, w.in-White.is) refl
     ]
 
 pub add_captured-requires-clause-kind : goal.add_captured-requires-clause-kind

@@ -10,7 +10,7 @@ use Rattle.record_game.specs.Keeping.{Kept, HasKept}
 use Rattle.record_game.specs.Refused.{Faultless}
 
 -- the cutter of its pieces, what is kept of their statements, and where it was refused
-pub record Reading : Type 0 where
+pub record RecordReading : Type 0 where
   pub cutter : PieceCutting
   pub kept : Kept
   pub failing : Option Failing
@@ -20,7 +20,7 @@ abbrev pub fed_by : PieceCutting → Option Failing → ℕ
 fed_by p None = p.fed
 fed_by p (Some f) = f.fed
 
-abbrev pub fed_of : Reading → ℕ
+abbrev pub fed_of : RecordReading → ℕ
 fed_of r = fed_by r.cutter r.failing
 
 -- the cutter has yielded the closed statements of these bytes; none has a fault; and this is kept
@@ -33,7 +33,7 @@ pub record HasTaken (source : List ℕ) (p : PieceCutting) (k : Kept) : Type 0 w
   pub keeps : HasKept sayings k
 
 -- the reader was fed these bytes, whose closed statements have no fault
-pub record HasRead (source : List ℕ) (r : Reading) : Type 0 where
+pub record HasRead (source : List ℕ) (r : RecordReading) : Type 0 where
   pub going : r.failing ≡ None
   pub taken : HasTaken source r.cutter r.kept
 
