@@ -32,3 +32,6 @@ pub returns-in_err-feed-clause-first : goal.returns-in_err-feed-clause-first
 returns-in_err-feed-clause-first c =
     let p = err_from_is_err_and c.from_residual.result c.from_residual.ensures.1 in
     rw (p.1, p.2) (c.in_err-feed.ensures.first [] c.new-reader.ensures.start)
+
+pub returns-clause-stated : goal.returns-clause-stated
+returns-clause-stated c = c.finish.ensures.stated c.args.source.now (c.in_ok-feed.ensures.taken [] c.new-reader.ensures.start)
