@@ -22,15 +22,15 @@ pub struct Verbosity {
     pub output: OutputPlace,
 }
 
-/// Where standard output goes, as far as the line of progress is concerned.
+/// Where standard output goes, beside standard error.
 #[derive(Clone, Copy)]
 pub enum OutputPlace {
-    /// Not to a terminal.
+    /// Not to the same terminal.
     Elsewhere,
-    /// To a terminal, in lines. Progress is erased before each.
+    /// To the same terminal, in lines. Progress is erased before each.
     Terminal,
-    /// To a terminal, without line ends. Progress is erased before more goes there, and is then
-    /// shown on a line of its own.
+    /// To the same terminal, without line ends. Progress is erased before more goes there. What
+    /// standard error shows after that begins a line.
     TerminalWithoutLineEnds,
 }
 
@@ -75,7 +75,8 @@ pub trait Notices {
     fn file_done(&mut self)
         ensures { shown self.new ≡ shown self.old };
 
-    /// Called after the last file. Erases the line of progress.
+    /// Called after the last file. Erases the line of progress, and ends the line of standard
+    /// output on the same terminal, if it has no end.
     fn finish(&mut self)
         ensures { shown self.new ≡ shown self.old };
 }
@@ -111,6 +112,7 @@ impl<R: Files + Clock + Eprint + AllocGlobal> Notices for StandardError<'_, R> {
 
     fn show(&mut self, lines: &str) {
         self.progress.erase(self.rt);
+        self.progress.begin_line(self.rt);
         let _ = self.rt.eprint(format_args!("{lines}"));
     }
 
@@ -152,5 +154,6 @@ impl<R: Files + Clock + Eprint + AllocGlobal> Notices for StandardError<'_, R> {
 
     fn finish(&mut self) {
         self.progress.erase(self.rt);
+        self.progress.begin_line(self.rt);
     }
 }

@@ -18,7 +18,7 @@ pub(crate) struct Progress {
     written: Duration,
     // Whether the line is on the terminal now.
     is_shown: bool,
-    // Whether something else is on the terminal's last line, so that the next one is begun.
+    // Whether the terminal's last line is one of standard output without its end.
     needs_line: bool,
 }
 
@@ -64,14 +64,21 @@ impl Progress {
             done: self.done,
             elapsed,
         };
-        let beginning = if self.needs_line { '\n' } else { '\r' };
-        self.needs_line = false;
-        let _ = rt.eprint(format_args!("{beginning}{line}\x1b[K"));
+        self.begin_line(rt);
+        let _ = rt.eprint(format_args!("\r{line}\x1b[K"));
     }
 
-    /// Leaves the terminal's last line to what is printed there.
+    /// Leaves the terminal's last line to standard output, which does not end it.
     pub(crate) fn leave_line(&mut self) {
         self.needs_line = true;
+    }
+
+    /// Begins a line, if the last one was left to standard output.
+    pub(crate) fn begin_line<R: Eprint>(&mut self, rt: &R) {
+        if self.needs_line {
+            let _ = rt.eprint("\n");
+            self.needs_line = false;
+        }
     }
 
     /// Takes the line off the terminal, if it is there.

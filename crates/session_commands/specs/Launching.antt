@@ -169,7 +169,8 @@ pub record IsLogged {P L C I W : Type 0} (logs : MakesLog P L)
 pub data HasNoGame {P L C W : Type 0} (logs : MakesLog P L) (logs_not : MakesNoLog P)
     (serves : Serves P C) (serves_not : StartsNot P) (explained : Explains P)
     (connects : Connects P W) (connects_not : ConnectsNot P) (thinks_not : StartsNot P)
-    (ended : EndsProgram P C) (plan : Plan) (p : P) (log : Option L) (q : P) : MatchFault → Type 0 where
+    (ended : EndsProgram P C) (plan : Plan) (p : P) (log : Option L) (q : P)
+    : MatchFault → Type 0 where
   no_log : (fault : MatchFault) → logs_not p (log_name plan) (starts_server plan.server) q
       → IsFileFault fault
       → HasNoGame logs logs_not serves serves_not explained connects connects_not thinks_not ended

@@ -234,7 +234,7 @@ impl<ER: Read + Drop, EW: Write + Drop, SR: Read + Drop, SW: Write + Drop> Ends
 pub fn play<R: Eprint + AllocGlobal, E: Ends>(
     bridge: &mut Bridge,
     ends: &mut E,
-    progress: &mut Progress<'_, R>,
+    progress: &mut Progress<'_, R, E>,
 ) -> Result<(), MatchFault>
     ensures done { OnOk result (Noted E.came E.went E.gone ends.old bridge.old
         progress.old.ended ends.new bridge.new progress.new.ended Done) }
@@ -330,7 +330,7 @@ fn end_event(peer: Peer) -> Event<'static>
 fn step_next<R: Eprint + AllocGlobal, E: Ends>(
     bridge: &mut Bridge,
     ends: &mut E,
-    progress: &mut Progress<'_, R>,
+    progress: &mut Progress<'_, R, E>,
 ) -> Result<Out, OutOfMemory>
     ensures came { IfOk result (λ out. ComesNext E.came ends.old bridge.old progress.old.ended
         out.to_engine out.to_server out.status ends.new bridge.new progress.new.ended) }
@@ -353,7 +353,7 @@ fn step_next<R: Eprint + AllocGlobal, E: Ends>(
 
 // Shows the last line from the server, if it may be a move that the bridge accepted.
 fn show_move<R: Eprint + AllocGlobal, E: Ends>(
-    progress: &mut Progress<'_, R>,
+    progress: &mut Progress<'_, R, E>,
     bridge: &Bridge,
     is_move: bool,
     ends: &E,
@@ -367,7 +367,7 @@ fn show_move<R: Eprint + AllocGlobal, E: Ends>(
 
 // Keeps what came from the peer, if it says something of the end.
 fn keep_end<R: Eprint + AllocGlobal, E: Ends>(
-    progress: &mut Progress<'_, R>,
+    progress: &mut Progress<'_, R, E>,
     before: Snapshot,
     after: Snapshot,
     ends: &E,

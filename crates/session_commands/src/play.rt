@@ -79,7 +79,7 @@ pub fn run<
 // Plays a game whose plan was checked, and adds to the log why there was none.
 fn play_checked<R: Eprint + AllocGlobal, S: Secrets, G: Programs + Drop, P: Place, W: Write>(
     alloc: Global,
-    screen: &Screen<'_, R>,
+    screen: &Screen<'_, R, <Local<G> as Launcher>::Peers>,
     secrets: &S,
     launcher: &mut Local<G>,
     place: &mut P,
@@ -100,7 +100,7 @@ fn play_checked<R: Eprint + AllocGlobal, S: Secrets, G: Programs + Drop, P: Plac
 // for, and prints the number of its moves.
 fn play_planned<R: Eprint + AllocGlobal, S: Secrets, H: Launcher, P: Place, W: Write>(
     alloc: Global,
-    screen: &Screen<'_, R>,
+    screen: &Screen<'_, R, H::Peers>,
     secrets: &S,
     launcher: &mut H,
     place: &mut P,
@@ -129,7 +129,7 @@ fn play_planned<R: Eprint + AllocGlobal, S: Secrets, H: Launcher, P: Place, W: W
 // number of its moves.
 fn report<R: Eprint + AllocGlobal, H: Launcher, P: Place, W: Write>(
     alloc: Global,
-    screen: &Screen<'_, R>,
+    screen: &Screen<'_, R, H::Peers>,
     login: &Login,
     launcher: &mut H,
     place: &mut P,
@@ -171,7 +171,7 @@ fn played_line(alloc: Global, moves: usize) -> Result<String, AllocError>
 // be written. Returns the number of moves of the game.
 fn play_for<R: Eprint + AllocGlobal, H: Launcher, P: Place>(
     alloc: Global,
-    screen: &Screen<'_, R>,
+    screen: &Screen<'_, R, H::Peers>,
     login: &Login,
     launcher: &mut H,
     place: &mut P,
@@ -192,7 +192,7 @@ fn play_for<R: Eprint + AllocGlobal, H: Launcher, P: Place>(
 // record to the draft. Returns the number of moves of the game.
 fn play_in<R: Eprint + AllocGlobal, H: Launcher, P: Place>(
     alloc: Global,
-    screen: &Screen<'_, R>,
+    screen: &Screen<'_, R, H::Peers>,
     login: &Login,
     launcher: &mut H,
     place: &mut P,
@@ -237,7 +237,7 @@ struct Kept {
 // Plays between two ends, and keeps the game.
 fn play_between<R: Eprint + AllocGlobal, E: Ends, P: Place>(
     alloc: Global,
-    screen: &Screen<'_, R>,
+    screen: &Screen<'_, R, E>,
     bridge: &mut Bridge,
     ends: &mut E,
     place: &mut P,
@@ -272,7 +272,7 @@ fn session_end(played: Result<(), MatchFault>) -> SessionEnd
 fn close_log<R, E: Ends>(
     alloc: Global,
     ends: &mut E,
-    progress: &Progress<'_, R>,
+    progress: &Progress<'_, R, E>,
     played: Result<(), MatchFault>,
     kept: Result<usize, MatchFault>,
 ) -> Result<usize, MatchFault>

@@ -16,20 +16,21 @@ use session_setup::MatchFault;
 use shogi_session::{Bridge, ClientState, Status};
 use std::alloc::{AllocError, Global};
 use std::io::Eprint;
-use std::marker::Model;
+use std::marker::{Model, PhantomData};
 use std::str;
 
-/// Where a running game is shown, if it is: standard error.
+/// Where a game between these ends is shown, if it is: standard error.
 ///
 /// It writes no text that it is given. What is shown is fixed words, and through a `Progress` what
-/// the peers sent. So a function that has the password and a screen cannot show the password.
+/// came from the ends.
 #[derive(Drop)]
-pub struct Screen<'a, R> {
+pub struct Screen<'a, R, E> {
     rt: &'a R,
     is_shown: bool,
+    ends: PhantomData<E>,
 }
 
-impl<'a, R> Model for Screen<'a, R> {
+impl<'a, R, E> Model for Screen<'a, R, E> {
     ghost use Rattle.std.specs.Prelude.{Bool};
 
     ghost Value = { Bool };
@@ -37,16 +38,20 @@ impl<'a, R> Model for Screen<'a, R> {
     ghost view = { λ s. s.is_shown };
 }
 
-impl<'a, R> Screen<'a, R> {
+impl<'a, R, E> Screen<'a, R, E> {
     /// The standard error of that runtime. Nothing is shown there unless `is_shown`.
-    pub fn new(rt: &'a R, is_shown: bool) -> Screen<'a, R>
+    pub fn new(rt: &'a R, is_shown: bool) -> Screen<'a, R, E>
         ensures shown { result ≡ is_shown }
     {
-        Screen { rt, is_shown }
+        Screen {
+            rt,
+            is_shown,
+            ends: PhantomData,
+        }
     }
 }
 
-impl<R: Eprint> Screen<'_, R> {
+impl<R: Eprint, E> Screen<'_, R, E> {
     /// Says that the server is waited for, if anything is shown. An error of standard error is
     /// ignored.
     pub fn say_server_waited_for(&self) {
@@ -59,9 +64,10 @@ impl<R: Eprint> Screen<'_, R> {
 /// The moves that are shown of a running game: the number of the last one that was, and what was
 /// said of the end.
 #[derive(Drop)]
-pub struct Progress<'a, R> {
+pub struct Progress<'a, R, E> {
     rt: &'a R,
     is_shown: bool,
+    ends: PhantomData<E>,
     moves: Option<u64>,
     ending: EndNotes,
     // The last line of each peer.
@@ -69,7 +75,7 @@ pub struct Progress<'a, R> {
     server_line: Option<Excerpt>,
 }
 
-impl<'a, R> Model for Progress<'a, R> {
+impl<'a, R, E> Model for Progress<'a, R, E> {
     ghost use Rattle.std.specs.Prelude.{option_map};
     ghost use Rattle.session_commands.specs.Showing.{Showing};
 
@@ -86,9 +92,9 @@ impl<'a, R> Model for Progress<'a, R> {
     } };
 }
 
-impl<'a, R> Progress<'a, R> {
+impl<'a, R, E> Progress<'a, R, E> {
     /// No move has been shown yet.
-    pub fn new(screen: &Screen<'a, R>) -> Progress<'a, R>
+    pub fn new(screen: &Screen<'a, R, E>) -> Progress<'a, R, E>
         ensures on { result.is_on ≡ screen.now }
         ensures moves { result.moves ≡ None }
         ensures ended { result.ended ≡ nothing_said }
@@ -97,6 +103,7 @@ impl<'a, R> Progress<'a, R> {
         Progress {
             rt: screen.rt,
             is_shown: screen.is_shown,
+            ends: PhantomData,
             moves: None,
             ending: EndNotes::new(),
             engine_line: None,
@@ -158,7 +165,7 @@ impl<'a, R> Progress<'a, R> {
     }
 }
 
-impl<R: Eprint + AllocGlobal> Progress<'_, R> {
+impl<R: Eprint + AllocGlobal, E: Ends> Progress<'_, R, E> {
     /// Says that the engine is waited for, if moves are shown. An error of standard error is
     /// ignored.
     pub fn begin(&self) {
@@ -167,7 +174,7 @@ impl<R: Eprint + AllocGlobal> Progress<'_, R> {
 
     /// If the last line from the server, which the bridge took, is a move, shows its number, the
     /// move and its time. An error of standard error is ignored.
-    pub fn show<E: Ends>(&mut self, bridge: &Bridge, ends: &E)
+    pub fn show(&mut self, bridge: &Bridge, ends: &E)
         ensures on { self.new.is_on ≡ self.old.is_on }
         ensures last { self.new.last ≡ self.old.last }
         ensures ended { self.new.ended ≡ self.old.ended }
@@ -196,14 +203,7 @@ impl<R: Eprint + AllocGlobal> Progress<'_, R> {
     /// Keeps what the last line from that peer says of the end, if it led the bridge from one
     /// snapshot to the other and to this status. Shows it too, if moves are shown. An error of
     /// standard error is ignored.
-    pub fn watch<E: Ends>(
-        &mut self,
-        before: Snapshot,
-        after: Snapshot,
-        ends: &E,
-        peer: Peer,
-        status: Status,
-    )
+    pub fn watch(&mut self, before: Snapshot, after: Snapshot, ends: &E, peer: Peer, status: Status)
         ensures showing { (self.new.is_on ≡ self.old.is_on) × (self.new.moves ≡ self.old.moves) }
         ensures last { self.new.last
             ≡ with_last peer (quoted (E.last_line ends.now peer)) self.old.last }

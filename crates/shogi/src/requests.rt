@@ -1,6 +1,6 @@
 //! What the command line asks for, and how it is done.
 
-ghost use Rattle.std.specs.Prelude.{◌≡◌, ◌⊎◌, ◌↔◌, ◌≤◌, IfErr, IfOk, IsTrue, OnOk, Some, count_by, string_bytes};
+ghost use Rattle.std.specs.Prelude.{◌≡◌, ◌⊎◌, ◌↔◌, ◌&&◌, ◌≤◌, IfErr, IfOk, IsTrue, OnOk, Some, count_by, string_bytes};
 ghost use Rattle.clap.specs.Words.{subcommand_name_of};
 ghost use Rattle.shogi.specs.Asking.{AreFiles, IsStopOf, IsStopOfFiles, is_not_text};
 ghost use Rattle.shogi.specs.Explained.{IsExplained, IsFileExplained, IsPlayExplained, IsServeExplained};
@@ -35,6 +35,15 @@ pub struct Terminals {
     pub output: bool,
     /// Standard error.
     pub error: bool,
+}
+
+impl Terminals {
+    // Whether standard output and standard error are terminals. They are then taken for one.
+    fn are_both(self) -> bool
+        ensures { result ≡ (self.output && self.error) }
+    {
+        self.output && self.error
+    }
 }
 
 /// The request of the command line; `is_terminal` says whether standard error is a terminal.
@@ -130,7 +139,7 @@ fn read_files<R: Files + Input + Print + Eprint + Clock + AllocGlobal>(
         let verbosity = Verbosity {
             is_explained: records.is_explained,
             shows_progress: records.shows_progress,
-            output: match (terminals.output, lines, records.path_end) {
+            output: match (terminals.are_both(), lines, records.path_end) {
                 (false, _, _) => OutputPlace::Elsewhere,
                 (true, LineKind::Digests, PathEnd::Nul) => OutputPlace::TerminalWithoutLineEnds,
                 (true, _, _) => OutputPlace::Terminal,
@@ -165,7 +174,7 @@ fn compare<R: Files + Input + Print + Eprint + Clock + AllocGlobal>(
     let verbosity = Verbosity {
         is_explained: records.is_explained,
         shows_progress: records.shows_progress,
-        output: if terminals.output {
+        output: if terminals.are_both() {
             OutputPlace::Terminal
         } else {
             OutputPlace::Elsewhere
