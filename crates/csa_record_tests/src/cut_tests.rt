@@ -1,5 +1,5 @@
 use csa_record::{Record, RecordReader, Refusal, read, write};
-use std::alloc::Global;
+use std::alloc::{AllocError, Global};
 use std::test::Fail;
 
 // Records between semicolons.
@@ -200,39 +200,45 @@ fn white_rook(moves: usize) -> usize {
 }
 
 // Black's move after so many: a rook's, or a pawn's before a position occurs for the fourth time.
-fn black_move(alloc: Global, moves: usize) -> Result<String, Fail>
-    requires { moves < 5000 }
-{
+fn black_move(alloc: Global, moves: usize) -> Result<String, AllocError> {
     let pushes = moves / 750;
     if moves % 750 == 749 {
-        let pawn = 98 - pushes;
-        let target = pawn - 1;
-        return Ok(format!(in alloc; "+{pawn}{target}FU\n")?);
+        let pawn = 98usize.saturating_sub(pushes);
+        let target = 97usize.saturating_sub(pushes);
+        return format!(in alloc; "+{pawn}{target}FU\n");
     }
     let from = black_rook(moves - pushes);
-    let to = black_rook(moves - pushes + 1);
-    Ok(format!(in alloc; "+{from}{to}HI\n")?)
+    let to = black_rook((moves - pushes).saturating_add(1));
+    format!(in alloc; "+{from}{to}HI\n")
+}
+
+// White's move after so many.
+fn white_move(alloc: Global, moves: usize) -> Result<String, AllocError> {
+    let from = white_rook(moves);
+    let to = white_rook(moves.saturating_add(1));
+    format!(in alloc; "-{from}{to}HI\n")
 }
 
 // A record of 10,000 moves.
-fn longest(alloc: Global) -> Result<Vec<u8>, Fail> {
+fn longest(alloc: Global) -> Result<Vec<u8>, AllocError> {
     let mut source = Vec::from_slice(alloc, b"P+11HI98FU\nP-41HI\n+\n")?;
     for moves in 0..5000usize {
-        let black = black_move(alloc, moves)?;
-        let from = white_rook(moves);
-        let to = white_rook(moves + 1);
-        let white = format!(in alloc; "-{from}{to}HI\n")?;
-        source.extend_from_slice(black.as_bytes())?;
-        source.extend_from_slice(white.as_bytes())?;
+        source.extend_from_slice(black_move(alloc, moves)?.as_bytes())?;
+        source.extend_from_slice(white_move(alloc, moves)?.as_bytes())?;
     }
+    source.extend_from_slice(b"%TORYO\n")?;
     Ok(source)
+}
+
+fn count_moves(alloc: Global, source: &[u8]) -> Result<usize, Fail> {
+    let record = read(alloc, source)?;
+    Ok(record.line().moves().len())
 }
 
 #[test]
 fn the_longest_game_cut_at_its_end_is_read_alike(rt: HostRuntime) -> Result<(), Fail> {
-    let mut source = longest(rt.alloc())?;
-    source.extend_from_slice(b"%TORYO\n")?;
-    assert!(rt; read(rt.alloc(), source.as_slice())?.line().moves().len() == 10_000);
+    let source = longest(rt.alloc())?;
+    assert!(rt; count_moves(rt.alloc(), source.as_slice())? == 10_000);
     assert!(rt; reads_byte_by_byte(rt.alloc(), source.as_slice(), 64)?);
     Ok(())
 }
