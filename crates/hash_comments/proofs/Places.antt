@@ -5,7 +5,8 @@ use Rattle.std.proofs.lemmas.List.{take_more}
 use Rattle.std.proofs.lemmas.Grind.{common_steps}
 use Rattle.hash_comments.specs.declared.place.Place.{Place}
 use Rattle.hash_comments.specs.declared.place.Place.TheVariants.{Front, AfterOneOfMark, AfterTwoOfMark, LineStart, Within}
-use Rattle.hash_comments.specs.Hashes.{hashes_read, place_after_bytes, place_after, byte_read}
+use Rattle.hash_comments.specs.Hashes.{hashes_read, place_after, byte_read}
+use Rattle.hash_comments.specs.PieceSteps.{place_after_bytes}
 use Rattle.hash_comments.specs.Places.{BeginsLine, EndsLine, IsReadAs}
 
 pub length-hashes : (here : Place) (xs : List ℕ) → length (hashes_read here xs) ≡ length xs

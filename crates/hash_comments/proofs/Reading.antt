@@ -7,7 +7,8 @@ use Rattle.std.specs.Io.KnownBytes.{Consumes, IsAtEnd}
 use Rattle.hash_comments.specs.declared.place.Place.{Place}
 use Rattle.hash_comments.specs.declared.comments.HashLines.{HashLines}
 use Rattle.hash_comments.specs.declared.comments.HashLines.TheVariants.{Comments}
-use Rattle.hash_comments.specs.Hashes.{bytes_read, hashes_read, place_after_bytes, place_after, byte_read}
+use Rattle.hash_comments.specs.Hashes.{bytes_read, hashes_read, place_after, byte_read}
+use Rattle.hash_comments.specs.PieceSteps.{place_after_bytes}
 
 hashes_read-append : (here : Place) (xs ys : List ℕ) → hashes_read here (xs ++ ys) ≡ hashes_read here xs ++ hashes_read (place_after_bytes here xs) ys
 hashes_read-append here [] ys = refl

@@ -25,11 +25,6 @@ place_in_line Within b = Within
 abbrev pub place_after : Place → ℕ → Place
 place_after p b = if b == 10 || b == 13 then LineStart else place_in_line p b
 
--- the place after these bytes
-abbrev pub place_after_bytes : Place → List ℕ → Place
-place_after_bytes p [] = p
-place_after_bytes p (b ∷ bs) = place_after_bytes (place_after p b) bs
-
 -- the bytes from a place on, as they are read if lines from '#' are comments
 abbrev pub hashes_read : Place → List ℕ → List ℕ
 hashes_read p [] = []

@@ -1,2 +1,3 @@
 pub mod Hashes
+pub mod PieceSteps
 pub mod Places

@@ -1,5 +1,6 @@
 ghost use Rattle.std.specs.Prelude.{◌≡◌, ◌++◌, option_map};
-ghost use Rattle.hash_comments.specs.Hashes.{hashes_read, place_after_bytes, text_read};
+ghost use Rattle.hash_comments.specs.Hashes.{hashes_read, text_read};
+ghost use Rattle.hash_comments.specs.PieceSteps.{place_after_bytes};
 ghost use Rattle.hash_comments.specs.declared.place.Place.TheVariants as place;
 
 use crate::place::Place;

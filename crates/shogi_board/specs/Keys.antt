@@ -41,11 +41,6 @@ kind_number ProSilver = 11
 kind_number Horse = 12
 kind_number Dragon = 13
 
--- what is on a square, as a number: nothing, black's pieces and white's, by their kinds
-abbrev pub cell_number : Option Piece → ℕ
-cell_number None = 0
-cell_number (Some p) = color_number p.color * 14 + kind_number p.kind + 1
-
 -- what a piece on the square of that place counts
 abbrev pub piece_key : ℕ → Piece → ℕ
 piece_key n p = mixed ((n * 2 + color_number p.color) * 14 + kind_number p.kind + 17)

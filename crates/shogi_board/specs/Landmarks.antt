@@ -14,7 +14,7 @@ use Rattle.shogi_board.specs.declared.kind.Piece.{Piece}
 use Rattle.shogi_board.specs.declared.landmarks.Landmarks.{Landmarks}
 use Rattle.shogi_board.specs.declared.square.Square.{Square}
 
--- that side's king stands on the square, or on none
+-- that side's king is on the square, or on none
 abbrev pub IsKingOf : Cells → Color → Option Square → Type 0
 IsKingOf cells color None = (s : Square) → at cells s ≡ piece color King → ⊥
 IsKingOf cells color (Some s) = at cells s ≡ piece color King

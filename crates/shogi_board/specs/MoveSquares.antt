@@ -1,4 +1,4 @@
--- For private functions: a square of a move.
+-- For private functions: a square of a move. A reader of the public contracts may skip this file.
 use Rattle.std.specs.Prelude.{Option, Some, None}
 use Rattle.shogi_board.specs.declared.square.Square.{Square}
 use Rattle.shogi_board.specs.declared.moves.Move.{Move}

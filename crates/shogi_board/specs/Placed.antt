@@ -1,8 +1,7 @@
 -- A position, as contracts see it.
-use Rattle.std.specs.Prelude.{ℕ, List}
 use Rattle.shogi_board.specs.declared.color.Color.{Color}
 use Rattle.shogi_board.specs.declared.color.Color.TheVariants.{Black}
-use Rattle.shogi_board.specs.Cells.{Cells, even_cells}
+use Rattle.shogi_board.specs.Cells.{even_cells}
 use Rattle.shogi_board.specs.Material.{Material}
 use Rattle.shogi_board.specs.Totals.{bare_board}
 
@@ -10,11 +9,6 @@ use Rattle.shogi_board.specs.Totals.{bare_board}
 pub record Placed : Type 0 where
   pub material : Material
   pub side : Color
-
--- the position of that board and those bags
-abbrev pub laid : Cells → List ℕ → List ℕ → Color → Placed
-laid board black white side =
-    record { material = record { board = board; black = black; white = white }; side = side }
 
 -- the even position, black to move
 abbrev pub even_start : Placed

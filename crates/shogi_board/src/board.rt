@@ -51,7 +51,8 @@ impl Model for Board {
 
     ghost view = { λ b. b.cells };
 
-    ghost invariant = { λ b. HasLandmarks b.cells Black b.black × HasLandmarks b.cells White b.white };
+    ghost invariant = { λ b.
+        HasLandmarks b.cells Black b.black × HasLandmarks b.cells White b.white };
 
     ghost inverse = { λ d. record {
       cells = d;
@@ -296,7 +297,7 @@ impl Board {
         }
     }
 
-    // The square of such a piece, if it is in sight in the direction in which the other square lies.
+    // The square of such a piece, if it is in sight in the direction of the other square.
     #[inline(always)]
     pub(crate) fn attacker_towards(
         &self,

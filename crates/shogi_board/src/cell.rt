@@ -1,7 +1,7 @@
 ghost use Rattle.std.specs.Prelude.{◌≡◌, ◌<◌, ◌↔◌, IsTrue, None, false};
 ghost use Rattle.shogi_board.specs.Cells.{piece};
 ghost use Rattle.shogi_board.specs.Contents.{black_code, white_code};
-ghost use Rattle.shogi_board.specs.Keys.{cell_number};
+ghost use Rattle.shogi_board.specs.KeySteps.{cell_number};
 ghost use Rattle.shogi_board.specs.Same.{same_cell};
 ghost use Rattle.shogi_board.specs.declared.color.Color.{Color};
 ghost use Rattle.shogi_board.specs.declared.kind.Kind.TheVariants.{King, Pawn};
@@ -115,6 +115,14 @@ impl Cell {
         ensures same { result ≡ same_cell self (piece color kind) }
     {
         self == Cell::of(Some(Piece { color, kind }))
+    }
+
+    // Whether it is the king or an unpromoted pawn of that side.
+    #[inline(always)]
+    pub(crate) fn is_landmark_of(self, color: Color) -> bool
+        ensures { result ≡ false → (self ≡ piece color King → ⊥) × (self ≡ piece color Pawn → ⊥) }
+    {
+        self.is(color, Kind::King) || self.is(color, Kind::Pawn)
     }
 
     // Whether it is a king or an unpromoted pawn.

@@ -1,4 +1,4 @@
--- The words that commands take, and what options give; in part for private functions.
+-- The words that commands take, and what options give.
 use Rattle.std.specs.Prelude.{◌≡◌, ◌*◌, ℕ, List, [], ◌∷◌, Option, Some, false, codes, unwrap_or, option_map}
 use Rattle.std.specs.Str.Parse.{digits_value, without_leading_plus}
 use Rattle.clap.specs.Lexer.{usize_max}

@@ -1,4 +1,4 @@
-ghost use Rattle.std.specs.Prelude.{◌≡◌, ◌≢◌, ℕ, ◌≤◌, ◌<◌, ◌==◌, [], ◌∷◌, drop, length, slice_index, IfSome, MatchOption};
+ghost use Rattle.std.specs.Prelude.{◌≡◌, ◌≢◌, ℕ, ◌≤◌, ◌<◌, ◌==◌, true, false, [], ◌∷◌, drop, length, slice_index, IfSome, MatchOption};
 ghost use Rattle.usi_text.specs.Words.{IsAfter, words, nth_word};
 
 /// The first word and what follows it, or `None` if the text has no word. Words are the longest
@@ -9,11 +9,11 @@ pub fn next_word(text: &[u8]) -> Option<(&[u8], &[u8])>
         (λ r. words text.now ≡ r.0.now ∷ words r.1.now) }
     ensures following { IfSome result (λ r. IsAfter text.now r.1.now) }
 {
-    let (_, text) = text.split_at(run_length(text, true));
+    let (_, text) = text.split_at(spaces_length(text));
     if text.is_empty() {
         return None;
     }
-    Some(text.split_at(run_length(text, false)))
+    Some(text.split_at(word_length(text)))
 }
 
 // The first word, or the empty text if there is none, and what follows it.
@@ -24,16 +24,20 @@ pub(crate) fn take_word(text: &[u8]) -> (&[u8], &[u8])
     next_word(text).unwrap_or((&[], &[]))
 }
 
-// How many bytes at the front of the text are spaces or, if `spaces` is false, are not.
-fn run_length(text: &[u8], spaces: bool) -> usize
+// How many spaces there are at the front of the text.
+fn spaces_length(text: &[u8]) -> usize
     ensures within { result ≤ length text.now }
-    ensures run { (k : ℕ) → k < result → (slice_index text.now k == 32) ≡ spaces }
-    ensures ends { result < length text.now → (slice_index text.now result == 32) ≢ spaces }
+    ensures run { (k : ℕ) → k < result → (slice_index text.now k == 32) ≡ true }
+    ensures ends { result < length text.now → (slice_index text.now result == 32) ≢ true }
 {
-    for (i, b) in text.iter().enumerate() {
-        if (*b == b' ') != spaces {
-            return i;
-        }
-    }
-    text.len()
+    text.iter().position(|b| *b != b' ').unwrap_or(text.len())
+}
+
+// How many bytes there are before the first space, or before the end if there is none.
+fn word_length(text: &[u8]) -> usize
+    ensures within { result ≤ length text.now }
+    ensures run { (k : ℕ) → k < result → (slice_index text.now k == 32) ≡ false }
+    ensures ends { result < length text.now → (slice_index text.now result == 32) ≢ false }
+{
+    text.iter().position(|b| *b == b' ').unwrap_or(text.len())
 }

@@ -1,5 +1,6 @@
 use Rattle.std.proofs.Common.{◌≡◌, ◌++◌, take, drop}
-use Rattle.hash_comments.specs.Hashes.{hashes_read, place_after_bytes}
+use Rattle.hash_comments.specs.Hashes.{hashes_read}
+use Rattle.hash_comments.specs.PieceSteps.{place_after_bytes}
 use Rattle.hash_comments.proofs.comments.read_hashes.Given as goal
 
 abbrev pub invariant-loop-at : goal.invariant-loop-at
