@@ -12,6 +12,9 @@ use crate::kind::{Kind, Piece};
 // 2^64 over the golden ratio, odd.
 const SPREAD: u64 = 0x9E37_79B9_7F4A_7C15;
 
+// The key of the even position, black to move.
+pub(crate) const EVEN_KEY: u64 = 0xCB95_E3C0_4D5D_1129;
+
 // What a key changes by as the turn passes.
 pub(crate) const TURN: u64 = 1 << 63;
 

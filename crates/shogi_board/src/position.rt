@@ -14,7 +14,7 @@ ghost use Rattle.shogi_board.specs.declared.square.Square.{Square};
 use crate::board::Board;
 use crate::color::Color;
 use crate::hand::Hand;
-use crate::keys::side_key;
+use crate::keys::{EVEN_KEY, side_key};
 use crate::kind::Piece;
 use crate::setup::Setup;
 use crate::square::Square;
@@ -81,7 +81,13 @@ impl Position {
     pub fn even() -> Position
         ensures value { result ≡ even_start }
     {
-        Position::of(Board::even(), Hand::empty(), Hand::empty(), Color::Black)
+        Position {
+            board: Board::even(),
+            black: Hand::empty(),
+            white: Hand::empty(),
+            side: Color::Black,
+            key: EVEN_KEY,
+        }
     }
 
     // The position of that board and those hands, which is sound.
