@@ -1,15 +1,10 @@
 -- What a log shows of a login.
-use Rattle.std.proofs.Common.{◌≡◌, ◌≢◌, ◌⊎◌, inl, inr, ◌==◌, ◌≤◌, ◌+◌, ◌++◌, ◌∙◌, ℕ, Bool, true, false, not, cond, suc, List, [], ◌∷◌, Option, Result, Ok, Err, IfOk, codes, drop, take, take-append-drop, append_assoc, ap, refl, subst, sym, arith}
-use Rattle.std.proofs.lemmas.Bool.{cases_eq}
+use Rattle.std.proofs.Common.{◌≡◌, ◌≢◌, inl, inr, ◌==◌, ◌≤◌, ◌+◌, ◌++◌, ◌∙◌, ℕ, Bool, true, false, not, cond, suc, List, [], ◌∷◌, Option, Result, Ok, Err, IfOk, codes, drop, take, take-append-drop, ap, refl, subst, sym, arith}
 use Rattle.std.proofs.lemmas.Bool.Decides.{nat_tests}
 use Rattle.std.specs.List.{AllByRecursion, before_first}
 use Rattle.session_lines.specs.LineTexts.{login_front}
-use Rattle.session_commands.specs.LogTexts.{AppendsEntries, AppendsEntry, AppendsFrontOf, DifferInPasswords, HidesPassword, IsEntryText, IsLogFront, IsLogText, IsShown, NotesText, login, login_entry, logins, no_entries, no_memory, not_whole, noted, notes_text, other, same, unwritten}
+use Rattle.session_commands.specs.LogTexts.{AppendsEntries, AppendsEntry, AppendsFrontOf, DifferInPasswords, HidesPassword, IsEntryText, IsLogFront, IsLogText, NotesText, login, login_entry, logins, no_entries, no_memory, not_whole, noted, notes_text, other, same, unwritten}
 use Rattle.session_commands.specs.Logging.{Entry, Notes, NotesAll}
-use Rattle.session_commands.specs.declared.bridging.Peer.{Peer}
-use Rattle.session_commands.specs.declared.bridging.Peer.TheVariants.{Engine, Server}
-use Rattle.session_commands.specs.declared.log.Direction.{Direction}
-use Rattle.session_commands.specs.declared.log.Direction.TheVariants.{From, To}
 use Rattle.session_commands.specs.declared.log.LogState.{LogState}
 use Rattle.session_commands.specs.declared.log.LogState.TheVariants.{Whole}
 use Rattle.std.proofs.KnownBytes.{Appends-nil, Appends-trans}
