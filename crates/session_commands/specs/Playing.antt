@@ -154,7 +154,8 @@ pub data IsPlayed (is_login : Login → Type 0) (has_no_login : LoginFault → T
     : Result ⊤ PlayCommandFault → Type 0 where
   played : (login : Login) (done : ⊤) → is_login login → reported login (Ok done)
       → IsPlayed is_login has_no_login reported untouched (Ok done)
-  failed_to_play : (login : Login) (fault : MatchFault) → is_login login → reported login (Err fault)
+  failed_to_play : (login : Login) (fault : MatchFault)
+      → is_login login → reported login (Err fault)
       → IsPlayed is_login has_no_login reported untouched (Err (MatchFailed fault))
   not_begun : (fault : LoginFault) → has_no_login fault → untouched
       → IsPlayed is_login has_no_login reported untouched (Err (LoginFailed fault))
