@@ -1,3 +1,4 @@
+pub mod Answering
 pub mod Coming
 pub mod EndEvents
 pub mod Holding

@@ -1,15 +1,10 @@
 -- What a log shows of a login.
-use Rattle.std.proofs.Common.{◌≡◌, ◌≢◌, ◌⊎◌, inl, inr, ◌==◌, ◌≤◌, ◌+◌, ◌++◌, ◌∙◌, ℕ, Bool, true, false, not, cond, suc, List, [], ◌∷◌, Option, Result, Ok, Err, IfOk, codes, drop, take, take-append-drop, append_assoc, ap, refl, subst, sym, arith}
-use Rattle.std.proofs.lemmas.Bool.{cases_eq}
+use Rattle.std.proofs.Common.{◌≡◌, ◌≢◌, inl, inr, ◌==◌, ◌≤◌, ◌+◌, ◌++◌, ◌∙◌, ℕ, Bool, true, false, not, cond, suc, List, [], ◌∷◌, Option, Result, Ok, Err, IfOk, codes, drop, take, take-append-drop, ap, refl, subst, sym, arith}
 use Rattle.std.proofs.lemmas.Bool.Decides.{nat_tests}
 use Rattle.std.specs.List.{AllByRecursion, before_first}
 use Rattle.session_lines.specs.LineTexts.{login_front}
-use Rattle.session_commands.specs.LogTexts.{AppendsEntries, AppendsEntry, AppendsFrontOf, DifferInPasswords, HidesPassword, IsEntryText, IsLogFront, IsLogText, IsShown, NotesText, login, login_entry, logins, no_entries, no_memory, not_whole, noted, notes_text, other, same, unwritten}
+use Rattle.session_commands.specs.LogTexts.{AppendsEntries, AppendsEntry, AppendsFrontOf, DifferInPasswords, HidesPassword, IsEntryText, IsLogFront, IsLogText, NotesText, login, login_entry, logins, no_entries, no_memory, not_whole, noted, notes_text, other, same, unwritten}
 use Rattle.session_commands.specs.Logging.{Entry, Notes, NotesAll}
-use Rattle.session_commands.specs.declared.bridging.Peer.{Peer}
-use Rattle.session_commands.specs.declared.bridging.Peer.TheVariants.{Engine, Server}
-use Rattle.session_commands.specs.declared.log.Direction.{Direction}
-use Rattle.session_commands.specs.declared.log.Direction.TheVariants.{From, To}
 use Rattle.session_commands.specs.declared.log.LogState.{LogState}
 use Rattle.session_commands.specs.declared.log.LogState.TheVariants.{Whole}
 use Rattle.std.proofs.KnownBytes.{Appends-nil, Appends-trans}
@@ -73,43 +68,14 @@ noted_all notes state contents writes (entry ∷ more) l m (k, noted_so, rest) w
 
 -- nor does a front of it
 pub same_front : (shows : ℕ → Type 0) (entries others : List Entry) (text : List ℕ) → DifferInPasswords entries others → IsLogFront shows entries text → IsLogFront shows others text
-same_front shows entries others text differ (rest, is) = (rest, same_log shows entries others (text ++ rest) differ is)
-
--- each entry has a text
-abbrev BeginsSo : List ℕ → List ℕ → Type 0
-BeginsSo front lines = ((rest : List ℕ) × (lines ≡ front ++ rest)) ⊎ ((rest : List ℕ) → lines ≡ front ++ rest → ⊥)
-
-begins_more : (x y : ℕ) (xs ys : List ℕ) → (y ≡ x) ⊎ (y ≡ x → ⊥) → BeginsSo xs ys → BeginsSo (x ∷ xs) (y ∷ ys)
-begins_more x y xs ys (inl equal) (inl (rest, is)) = inl (rest, ap (λ n. n ∷ ys) equal ∙ ap (λ l. x ∷ l) is)
-begins_more x y xs ys (inl equal) (inr none) = inr (λ rest is. let more : ys ≡ xs ++ rest = cc in none rest more)
-begins_more x y xs ys (inr differ) found = inr (λ rest is. let equal : y ≡ x = cc in differ equal)
-
-begins_or_not : (front lines : List ℕ) → BeginsSo front lines
-begins_or_not [] lines = inl (lines, refl)
-begins_or_not (x ∷ xs) [] = inr (λ rest is. absurd cc)
-begins_or_not (x ∷ xs) (y ∷ ys) = begins_more x y xs ys (cases_eq y x) (begins_or_not xs ys)
-
-hidden_so : (lines : List ℕ) → BeginsSo login_front lines → (shown : List ℕ) × HidesPassword lines shown
-hidden_so lines (inl (rest, is)) = (login_front ++ before_first (λ b. b == 32) rest ++ codes " ***", login rest is refl)
-hidden_so lines (inr none) = (lines, other none refl)
-
-shown_so : (peer : Peer) (direction : Direction) (lines : List ℕ) → (shown : List ℕ) × IsShown peer direction lines shown
-shown_so Engine From lines = (lines, refl)
-shown_so Engine To lines = (lines, refl)
-shown_so Server From lines = (lines, refl)
-shown_so Server To lines = hidden_so lines (begins_or_not login_front lines)
-
-text_so : {shows : ℕ → Type 0} (time : ℕ) → shows time → (entry : Entry) → (text : List ℕ) × IsEntryText shows entry text
-text_so time is entry =
-    let found = shown_so entry.peer entry.direction entry.lines in
-    (_, record { time = time; is_time = is; shown = found.0; is_shown = found.1; text_is = refl })
-
-texts_so : (shows : ℕ → Type 0) (time : ℕ) → shows time → (entries : List Entry) → (text : List ℕ) × IsLogText shows entries text
-texts_so shows time is [] = ([], refl)
-texts_so shows time is (entry ∷ more) =
-    let first = text_so time is entry in
-    let rest = texts_so shows time is more in
-    (first.0 ++ rest.0, (first.0, rest.0, first.1, rest.1, refl))
+same_front shows _ _ text no_entries is = is
+same_front shows _ _ text (same entry more others differ) (inl none) = inl none
+same_front shows _ _ text (same entry more others differ) (inr (inl cut)) = inr (inl cut)
+same_front shows _ _ text (same entry more others differ) (inr (inr (first, rest, is_first, is_rest, whole))) = inr (inr (first, rest, is_first, same_front shows more others rest differ is_rest, whole))
+same_front shows _ _ text (logins name one two more others word differ) (inl none) = inl none
+same_front shows _ _ text (logins name one two more others word differ) (inr (inl (cut, is))) = inr (inl (cut, same_text name one two (text ++ cut) word is))
+same_front shows _ _ text (logins name one two more others word differ) (inr (inr (first, rest, is_first, is_rest, whole))) =
+    inr (inr (first, rest, same_text name one two first word is_first, same_front shows more others rest differ is_rest, whole))
 
 -- a log that is not whole stays as it is
 not_noted : {shows : ℕ → Type 0} (before : LogState) (old : Option (List ℕ)) (entry : Entry) (after : LogState) (new : Option (List ℕ))
@@ -126,28 +92,28 @@ none_noted shows (entry ∷ more) l m (k, step, rest) ends =
     none_noted shows more k m rest (λ whole. ends (sym here.0 ∙ whole)) ∙ here.1
 
 -- a log has a front of the text of what was noted in it
-no_more : (shows : ℕ → Type 0) (time : ℕ) → shows time → (entries : List Entry) (old new : Option (List ℕ)) → new ≡ old → AppendsFrontOf shows old new entries
-no_more shows time is entries old new kept = ([], texts_so shows time is entries, subst (λ x. Appends old x []) (sym kept) (Appends-nil old))
+no_more : (shows : ℕ → Type 0) (entries : List Entry) (old new : Option (List ℕ)) → new ≡ old → AppendsFrontOf shows old new entries
+no_more shows [] old new kept = ([], refl, subst (λ x. Appends old x []) (sym kept) (Appends-nil old))
+no_more shows (entry ∷ more) old new kept = ([], inl refl, subst (λ x. Appends old x []) (sym kept) (Appends-nil old))
 
-front_after : (shows : ℕ → Type 0) (time : ℕ) → shows time → (entry : Entry) (more : List Entry) (l k m : LogState × Option (List ℕ))
+front_after : (shows : ℕ → Type 0) (entry : Entry) (more : List Entry) (l k m : LogState × Option (List ℕ))
     → NotesText shows l.0 l.1 entry k.0 k.1 → NotesAll (notes_text shows) k more m → AppendsFrontOf shows k.1 m.1 more → AppendsFrontOf shows l.1 m.1 (entry ∷ more)
-front_after shows time now entry more l k m (noted was is (text, is_text, adds)) rest (front, (left, is_left), more_adds) =
-    (text ++ front, (left, (text, front ++ left, is_text, is_left, append_assoc text front left)), Appends-trans l.1 k.1 m.1 text front adds more_adds)
-front_after shows time now entry more l k m (not_whole was stays kept) rest found =
-    no_more shows time now (entry ∷ more) l.1 m.1 (none_noted shows more k m rest (λ whole. was (sym stays ∙ whole)) ∙ kept)
-front_after shows time now entry more l k m (no_memory was is kept) rest found =
-    no_more shows time now (entry ∷ more) l.1 m.1 (none_noted shows more k m rest (λ whole. absurd cc) ∙ kept)
-front_after shows time now entry more l k m (unwritten was is (text, is_text, (n, least, adds))) rest found =
-    let left = texts_so shows time now more in
-    let whole : take n text ++ (drop n text ++ left.0) ≡ text ++ left.0 = sym (append_assoc (take n text) (drop n text) left.0) ∙ ap (λ l. l ++ left.0) (take-append-drop n text) in (
+front_after shows entry more l k m (noted was is (text, is_text, adds)) rest (front, is_front, more_adds) =
+    (text ++ front, inr (inr (text, front, is_text, is_front, refl)), Appends-trans l.1 k.1 m.1 text front adds more_adds)
+front_after shows entry more l k m (not_whole was stays kept) rest found =
+    no_more shows (entry ∷ more) l.1 m.1 (none_noted shows more k m rest (λ whole. was (sym stays ∙ whole)) ∙ kept)
+front_after shows entry more l k m (no_memory was is kept) rest found =
+    no_more shows (entry ∷ more) l.1 m.1 (none_noted shows more k m rest (λ whole. absurd cc) ∙ kept)
+front_after shows entry more l k m (unwritten was is (text, is_text, (n, least, adds))) rest found =
+    let whole : take n text ++ drop n text ≡ text = take-append-drop n text in (
       take n text,
-      (drop n text ++ left.0, (text, left.0, is_text, left.1, whole)),
+      inr (inl (drop n text, subst (IsEntryText shows entry) (sym whole) is_text)),
       subst (λ x. Appends l.1 x (take n text)) (sym (none_noted shows more k m rest (λ whole. absurd cc))) adds,
     )
 
-pub front_noted : (shows : ℕ → Type 0) (time : ℕ) (entries : List Entry) (l m : LogState × Option (List ℕ)) → shows time → NotesAll (notes_text shows) l entries m → AppendsFrontOf shows l.1 m.1 entries
-front_noted shows time [] l m now kept = no_more shows time now [] l.1 m.1 (ap (λ (x : LogState × Option (List ℕ)). x.1) kept)
-front_noted shows time (entry ∷ more) l m now (k, step, rest) = front_after shows time now entry more l k m step rest (front_noted shows time more k m now rest)
+pub front_noted : (shows : ℕ → Type 0) (entries : List Entry) (l m : LogState × Option (List ℕ)) → NotesAll (notes_text shows) l entries m → AppendsFrontOf shows l.1 m.1 entries
+front_noted shows [] l m kept = no_more shows [] l.1 m.1 (ap (λ (x : LogState × Option (List ℕ)). x.1) kept)
+front_noted shows (entry ∷ more) l m (k, step, rest) = front_after shows entry more l k m step rest (front_noted shows more k m rest)
 
 -- a login that is written so has no password
 pub login_if_ok : {X E : Type 0} (bytes : X → List ℕ) (r : Result X E) (lines rest : List ℕ) → lines ≡ login_front ++ rest

@@ -5,13 +5,12 @@ use Rattle.std.specs.Bool.{⊤}
 use Rattle.session_setup.specs.declared.fault.MatchFault.{MatchFault}
 use Rattle.session_setup.specs.declared.fault.MatchFault.TheVariants.{OutOfMemory, Endless, Write, Session as SessionFailed}
 use Rattle.session_commands.specs.Endings.{Ended, nothing_said}
-use Rattle.session_commands.specs.Noting.{Noted, NotedBefore}
+use Rattle.session_commands.specs.Noting.{Noted, NotedBefore, NotedEndless}
 use Rattle.session_commands.specs.Plays.{Gives, Misses, Takes}
 use Rattle.bridge_table.specs.declared.event.Status.TheVariants.{Done, Failed}
 use Rattle.bridge_table.specs.declared.fault.SessionFault.{SessionFault}
 use Rattle.shogi_session.specs.Promises.{Session}
-use Rattle.session_commands.specs.Playing.{CameOut, IsReported, IsUnreported, NotedEndless, done, failed, out_of_memory, endless, not_reported, reported}
-use Rattle.session_commands.specs.Words.{played_line}
+use Rattle.session_commands.specs.Playing.{CameOut, IsReported, IsUnreported, done, failed, out_of_memory, endless, not_reported, played_line, reported}
 
 pub came_out : {E : Type 0} (came : Gives E) (missed : Misses E) (went gone : Takes E) (e : E) (s : Session) (f : E) (t : Session) (said ended : Ended) (answer : Result ⊤ MatchFault)
     → said ≡ nothing_said

@@ -14,7 +14,7 @@ use Rattle.session_setup.specs.declared.fault.MatchFault.TheVariants as fault
 use Rattle.record_commands.specs.declared.incoming.LineEvent.{LineEvent}
 use Rattle.session_commands.specs.Endings.{Ended}
 use Rattle.session_commands.specs.Noting.{IsKeptOf, IsSnapshotOf, KeepsEvent, KeptIn, Noted}
-use Rattle.session_commands.specs.Playing.{ComesNext, NotedEndless}
+use Rattle.session_commands.specs.Noting.{ComesNext, NotedEndless}
 use Rattle.session_commands.specs.declared.ending.Snapshot.{Snapshot}
 use Rattle.session_commands.specs.Plays.{Gives, History, Sends, Takes, event_from, rounds, peer_for, begun, goes_on}
 

@@ -1,7 +1,7 @@
 -- The faults of `play`, by its steps.
 use Rattle.std.proofs.Common.{◌≢◌, Result, Ok, Err, IfErr}
 use Rattle.std.specs.Bool.{⊤}
-use Rattle.session_setup.specs.Logins.{IsPlayed, failed, not_begun, played}
+use Rattle.session_commands.specs.Playing.{IsPlayed, failed_to_play, not_begun, played}
 use Rattle.session_setup.specs.Paths.{HasSoundWords, IsFilesFault}
 use Rattle.session_setup.specs.declared.fault.LoginFault.{LoginFault}
 use Rattle.session_setup.specs.declared.fault.MatchFault.{MatchFault}
@@ -16,7 +16,7 @@ use Rattle.shogi_words.specs.declared.play.Plan.{Plan}
 pub no_plan_fault : {is_login : Login → Type 0} {has_no_login : LoginFault → Type 0} {reported : Login → Result ⊤ MatchFault → Type 0} {untouched : Type 0}
     (answer : Result ⊤ PlayCommandFault) → IsPlayed is_login has_no_login reported untouched answer → IfErr answer IsNoPlanFault
 no_plan_fault _ (played login done met told) = tt
-no_plan_fault _ (failed login fault met told) = λ why e. absurd cc
+no_plan_fault _ (failed_to_play login fault met told) = λ why e. absurd cc
 no_plan_fault _ (not_begun fault none kept) = λ why e. absurd cc
 
 -- files do not say that there is no port

@@ -3,8 +3,8 @@ use Rattle.std.proofs.Common.{◌≡◌, Result, Ok, Err, IfOk, IfErr, IsOk, IsE
 use Rattle.std.specs.Bool.{⊤}
 use Rattle.shogi_session.specs.Hosting.{HostSession}
 use Rattle.shogi_words.specs.declared.serve.Service.{Service}
-use Rattle.session_commands.specs.Door.{Contents, Enters, EntersNot, HasHosted, Listens, ListensNot, nobody_came, not_announced, not_listening, served}
-use Rattle.session_commands.specs.Offering.{HasServed, OffersGame, session_over, client_gone, broke_off, no_host}
+use Rattle.session_commands.specs.Door.{Contents, Enters, EntersNot, HasHosted, HasServed, Listens, ListensNot, broke_off, client_gone, no_host, nobody_came, not_announced, not_listening, served, session_over}
+use Rattle.session_commands.specs.Offering.{OffersGame}
 use Rattle.session_commands.specs.Talks.{BreaksOff, Calls, HasAnswered, MachineRow, Passes}
 use Rattle.session_setup.specs.declared.fault.ServeFault.{ServeFault}
 use Rattle.session_setup.specs.declared.fault.ServeFault.TheVariants as serve

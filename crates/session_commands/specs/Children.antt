@@ -1,7 +1,8 @@
 -- For private functions: how the programs of `play` are started.
+use Rattle.std.specs.Prelude.{◌≡◌, ◌⊎◌}
 use Rattle.bridge_table.specs.declared.fault.SessionFault.TheVariants.{ServerGone, EngineGone}
 use Rattle.session_setup.specs.declared.fault.MatchFault.{MatchFault}
-use Rattle.session_setup.specs.declared.fault.MatchFault.TheVariants.{Session as SessionFailed}
+use Rattle.session_setup.specs.declared.fault.MatchFault.TheVariants.{OutOfMemory, Session as SessionFailed}
 use Rattle.session_commands.specs.declared.bridging.Peer.{Peer}
 use Rattle.session_commands.specs.declared.bridging.Peer.TheVariants.{Engine, Server}
 
@@ -9,3 +10,11 @@ use Rattle.session_commands.specs.declared.bridging.Peer.TheVariants.{Engine, Se
 abbrev pub fault_if_gone : Peer → MatchFault
 fault_if_gone Engine = SessionFailed EngineGone
 fault_if_gone Server = SessionFailed ServerGone
+
+-- the server is gone, or an allocation failed
+abbrev pub IsServerFault : MatchFault → Type 0
+IsServerFault fault = (fault ≡ SessionFailed ServerGone) ⊎ (fault ≡ OutOfMemory)
+
+-- the engine is gone, or an allocation failed
+abbrev pub IsEngineFault : MatchFault → Type 0
+IsEngineFault fault = (fault ≡ SessionFailed EngineGone) ⊎ (fault ≡ OutOfMemory)

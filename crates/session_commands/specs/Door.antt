@@ -1,16 +1,17 @@
--- For private functions: what `serve` does at a door.
-use Rattle.std.specs.Prelude.{◌≡◌, ◌⊎◌, ◌++◌, ◌∷◌, [], ⊤, ℕ, List, Option, Result, Err}
+-- For private functions: what `serve` does at a door, and with the client who came there.
+use Rattle.std.specs.Prelude.{◌≡◌, ◌⊎◌, ◌++◌, ◌∷◌, [], ⊤, ℕ, List, Option, Result, Ok, Err}
 use Rattle.std.specs.Io.KnownBytes.{Appends}
 use Rattle.shogi_session.specs.Hosting.{HostSession}
 use Rattle.shogi_words.specs.declared.serve.Service.{Service}
 use Rattle.session_setup.specs.Faults.{IsReadFault}
-use Rattle.session_commands.specs.Offering.{HasServed}
+use Rattle.session_commands.specs.Offering.{OffersGame}
 use Rattle.session_commands.specs.Ports.{port_line}
-use Rattle.session_commands.specs.Talks.{Calls, MachineRow, Passes}
+use Rattle.session_commands.specs.Talks.{BreaksOff, Calls, HasAnswered, MachineRow, Passes}
 use Rattle.session_setup.specs.declared.fault.ServeFault.{ServeFault}
-use Rattle.session_setup.specs.declared.fault.ServeFault.TheVariants.{Talk}
+use Rattle.session_setup.specs.declared.fault.ServeFault.TheVariants.{ClientGone, Talk}
 use Rattle.session_setup.specs.declared.fault.TalkFault.{TalkFault}
 use Rattle.session_setup.specs.declared.fault.TalkFault.TheVariants.{Write, OutOfMemory}
+use Rattle.session_commands.specs.declared.talk.MachineState.TheVariants.{Running, Ended}
 
 -- the port that was asked for, what listens, and on which port
 abbrev pub Listens : Type 0 → Type 0 → Type 1
@@ -43,6 +44,23 @@ pub record IsAnnounced {D L O : Type 0} (listens : Listens D L) (contents : Cont
   pub port : ℕ
   pub listening : listens door service.port listener port between
   pub printed : Appends (contents out) (contents after) (port_line port ++ 10 ∷ [])
+
+-- what passed between that host and its client, and the answer: the session is over, or the client
+-- ended before it, or the talk broke off; or there was no memory for a host
+pub data HasServed {W : Type 0} (came : Passes W) (ends : Calls W) (went : Passes W)
+    (silent : Calls W) (blocked : Passes W) (answers : MachineRow HostSession)
+    (service : Service) (wire last : W) : Result ⊤ ServeFault → Type 0 where
+  session_over : (done : ⊤) (old new : HostSession) → OffersGame service old
+      → HasAnswered came ends went answers wire old Ended last new
+      → HasServed came ends went silent blocked answers service wire last (Ok done)
+  client_gone : (old new : HostSession) → OffersGame service old
+      → HasAnswered came ends went answers wire old Running last new
+      → HasServed came ends went silent blocked answers service wire last (Err ClientGone)
+  broke_off : (old : HostSession) (fault : TalkFault) → OffersGame service old
+      → BreaksOff came ends went silent blocked answers wire old fault last
+      → HasServed came ends went silent blocked answers service wire last (Err (Talk fault))
+  no_host : last ≡ wire
+      → HasServed came ends went silent blocked answers service wire last (Err (Talk OutOfMemory))
 
 -- what a host did at a door, and its answer: it announced itself, and only then a client came, who
 -- was served, or none came; or nothing listened, or it was not announced

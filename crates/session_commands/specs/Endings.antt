@@ -1,4 +1,4 @@
--- For private functions: what is kept of a session, to say at its end how it ended.
+-- What is kept of a session, to say at its end how it ended, and the words that say it.
 use Rattle.std.specs.Prelude.{◌≡◌, ◌≢◌, ◌⊎◌, ◌++◌, ◌||◌, ⊤, ℕ, true, false, List, [], ◌∷◌, Option, None, Some, Result, Ok, Err, codes, if◌then◌else◌, map, nat_lt, take}
 use Rattle.bridge_table.specs.declared.fault.SessionFault.{SessionFault}
 use Rattle.bridge_table.specs.declared.fault.SessionFault.TheVariants.{LoginRefused, Rejected, BadSummary, BadServerMove, EngineGone, ServerGone, LineTooLong}

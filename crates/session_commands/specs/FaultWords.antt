@@ -1,5 +1,5 @@
 -- The words of a fault, in the last line of a log. They are those in which the fault is printed.
-use Rattle.std.specs.Prelude.{◌++◌, ◌∷◌, [], ℕ, List, Option, codes}
+use Rattle.std.specs.Prelude.{ℕ, List, codes}
 use Rattle.bridge_table.specs.declared.fault.SessionFault.{SessionFault}
 use Rattle.bridge_table.specs.declared.fault.SessionFault.TheVariants as session
 use Rattle.csa_text.specs.declared.fault.TextFault.{TextFault}
@@ -8,14 +8,8 @@ use Rattle.record_game.specs.declared.fault.OrderFault.{OrderFault}
 use Rattle.record_game.specs.declared.fault.OrderFault.TheVariants as order
 use Rattle.record_game.specs.declared.fault.Why.{Why}
 use Rattle.record_game.specs.declared.fault.Why.TheVariants as why
-use Rattle.session_commands.specs.Words.{reason_line}
-use Rattle.session_setup.specs.Plans.{plan_text}
-use Rattle.session_setup.specs.declared.fault.LoginFault.{LoginFault}
-use Rattle.session_setup.specs.declared.fault.LoginFault.TheVariants as login
 use Rattle.session_setup.specs.declared.fault.MatchFault.{MatchFault}
 use Rattle.session_setup.specs.declared.fault.MatchFault.TheVariants as game
-use Rattle.session_setup.specs.declared.fault.PlayCommandFault.{PlayCommandFault}
-use Rattle.session_setup.specs.declared.fault.PlayCommandFault.TheVariants as play
 use Rattle.shogi_board.specs.declared.rule.Rule.{Rule}
 use Rattle.shogi_board.specs.declared.rule.Rule.TheVariants as rule
 use Rattle.shogi_board.specs.declared.setup.SetupFault.{SetupFault}
@@ -89,19 +83,3 @@ match_words (game.Session fault) = session_words fault
 match_words game.Endless = codes "read fault"
 match_words game.Write = codes "write fault"
 match_words game.OutOfMemory = codes "out of memory"
-
-abbrev pub login_words : LoginFault → List ℕ
-login_words login.BadName = codes "bad name"
-login_words login.BadPassword = codes "bad password"
-login_words login.Read = codes "read fault"
-login_words login.OutOfMemory = codes "out of memory"
-
-abbrev pub play_words : PlayCommandFault → List ℕ
-play_words (play.Plan fault) = plan_text fault
-play_words (play.Login fault) = login_words fault
-play_words (play.Match fault) = match_words fault
-
--- the lines that say why there was no game: the reason, if there is one, and the fault. The words
--- of a reason come from the system
-abbrev pub no_game_text : Option (List ℕ) → PlayCommandFault → List ℕ
-no_game_text reason fault = reason_line reason ++ (play_words fault ++ 10 ∷ [])

@@ -2,7 +2,8 @@
 use Rattle.std.specs.Prelude.{◌≡◌, ◌++◌, ℕ, Bool, List, [], ◌∷◌, Option, None, Some, codes, decimal, map, option_map}
 use Rattle.std.specs.Borrow.{Bor}
 use Rattle.record_commands.specs.Incoming.{Coming}
-use Rattle.session_setup.specs.Faults.{IsEngineFault, IsFileFault, IsServerFault}
+use Rattle.session_setup.specs.Faults.{IsFileFault}
+use Rattle.session_commands.specs.Children.{IsEngineFault, IsServerFault}
 use Rattle.session_setup.specs.Paths.{starts_server}
 use Rattle.session_commands.specs.Ports.{Explains, SaysNoPort, SaysPort}
 use Rattle.session_commands.specs.declared.children.SessionEnd.{SessionEnd}

@@ -8,6 +8,7 @@ pub mod Kept
 pub mod Launching
 pub mod LogTexts
 pub mod Logging
+pub mod NoGame
 pub mod Noting
 pub mod Offering
 pub mod OtherPasswords

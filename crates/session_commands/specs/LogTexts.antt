@@ -128,9 +128,14 @@ abbrev pub AppendsEntries : (ℕ → Type 0) → Option (List ℕ) → Option (L
 AppendsEntries shows old new entries =
     (text : List ℕ) × IsLogText shows entries text × Appends old new text
 
--- the beginning of the text of a log in which these entries were noted
+-- the beginning of the text of a log in which these entries were noted: nothing; or a front of the
+-- text of the first one; or all of that, and the beginning of the text of the others
 abbrev pub IsLogFront : (ℕ → Type 0) → List Entry → List ℕ → Type 0
-IsLogFront shows entries text = (rest : List ℕ) × IsLogText shows entries (text ++ rest)
+IsLogFront shows [] text = text ≡ []
+IsLogFront shows (entry ∷ more) text = (text ≡ [])
+    ⊎ (((cut : List ℕ) × IsEntryText shows entry (text ++ cut))
+    ⊎ ((first rest : List ℕ) × IsEntryText shows entry first
+    × IsLogFront shows more rest × (text ≡ first ++ rest)))
 
 -- exactly the beginning of the text of these entries was added, if the bytes are known
 abbrev pub AppendsFrontOf : (ℕ → Type 0) → Option (List ℕ) → Option (List ℕ) → List Entry → Type 0

@@ -5,12 +5,12 @@ use Rattle.record_commands.specs.declared.incoming.LineEvent.{LineEvent}
 use Rattle.record_commands.specs.declared.incoming.LineEvent.TheVariants.{Line, End, Long, Failed}
 use Rattle.session_commands.specs.Endings.{Ended, IsKeptAfter, with_long}
 use Rattle.session_commands.specs.LackOfMemory.{PlayRunsOut, lost_before, not_begun, first_unsent, no_next, later_unsent}
-use Rattle.session_commands.specs.Plays.{Gives, History, Misses, Takes, begun, event_from, goes_on}
+use Rattle.session_commands.specs.Plays.{Gives, History, IsEndless, Misses, Takes, begun, event_from, goes_on, peer_for}
 use Rattle.session_commands.specs.declared.bridging.Peer.{Peer}
 use Rattle.session_commands.specs.declared.ending.Snapshot.{Snapshot}
 use Rattle.shogi_session.specs.Events.{Event}
-use Rattle.shogi_session.specs.Promises.{Session}
-use Rattle.shogi_session.specs.State.{client_state, slip_of, summary}
+use Rattle.shogi_session.specs.Promises.{Session, Steps}
+use Rattle.shogi_session.specs.State.{client_state, slip_of, summary, waits_for}
 use Rattle.shogi_session.specs.Summary.{Offer, SummaryContent, TellsOffer}
 use Rattle.shogi_session.specs.SummaryFaults.{HasSummaryFault}
 
@@ -79,3 +79,25 @@ pub record NotedBefore {E : Type 0} (came : Gives E) (missed : Misses E) (went g
     (e : E) (s : Session) (old : Ended) (f : E) (t : Session) (new : Ended) : Type 0 where
   pub lack : PlayRunsOut came missed went gone e s f t
   pub kept : KeptBefore lack old new
+
+-- what comes from the peer that the bridge waits for is one step, and is kept if it says something
+-- of the end
+pub record ComesNext {E : Type 0} (came : Gives E) (e : E) (s : Session) (old : Ended)
+    (to_engine to_server : List ℕ) (status : Status) (f : E) (t : Session) (new : Ended)
+    : Type 0 where
+  pub event : Event
+  pub arrived : came e (peer_for (waits_for s.state)) event f
+  pub step : Steps s event to_engine to_server status t
+  pub kept : KeepsEvent s t status event old new
+
+-- a session that went on for 2 ^ 64 - 1 rounds, the step after them, whose lines are not sent, and
+-- what is kept of the end after it
+pub record NotedEndless {E : Type 0} (came : Gives E) (went gone : Takes E)
+    (e : E) (s : Session) (old : Ended) (f : E) (t : Session) (new : Ended) : Type 0 where
+  pub endless : IsEndless came went gone e s
+  pub between : Ended
+  pub kept : KeptIn endless.played old between
+  pub to_engine : List ℕ
+  pub to_server : List ℕ
+  pub status : Status
+  pub next : ComesNext came endless.ends endless.session between to_engine to_server status f t new

@@ -1,48 +1,30 @@
 -- For private functions: what `play` does between two ends, and with the game that was played.
-use Rattle.std.specs.Prelude.{◌≡◌, ◌⊎◌, ⊤, ℕ, Bool, List, Option, Result, Ok, Err}
+use Rattle.std.specs.Prelude.{◌≡◌, ◌⊎◌, ◌++◌, ⊤, ℕ, Bool, List, [], ◌∷◌, Option, Result, Ok, Err, codes, decimal}
 use Rattle.std.specs.Io.KnownBytes.{Appends}
 use Rattle.csa_record.specs.Flow.{AppendsFront}
 use Rattle.session_setup.specs.declared.fault.MatchFault.TheVariants.{OutOfMemory, Endless, Write, Session as SessionFailed}
 use Rattle.session_commands.specs.declared.children.SessionEnd.{SessionEnd}
 use Rattle.session_commands.specs.declared.children.SessionEnd.TheVariants.{BrokenOff, Finished}
+use Rattle.session_setup.specs.declared.fault.LoginFault.{LoginFault}
 use Rattle.session_setup.specs.declared.fault.MatchFault.{MatchFault}
+use Rattle.session_setup.specs.declared.fault.PlayCommandFault.{PlayCommandFault}
+use Rattle.session_setup.specs.declared.fault.PlayCommandFault.TheVariants.{Login as LoginFailed, Match as MatchFailed}
 use Rattle.session_setup.specs.declared.login.Login.{Login}
-use Rattle.session_commands.specs.Noting.{KeepsEvent, KeptIn, Noted, NotedBefore}
-use Rattle.session_commands.specs.Plays.{Gives, IsEndless, Misses, Takes, peer_for}
-use Rattle.bridge_table.specs.declared.event.Status.{Status}
+use Rattle.session_commands.specs.Noting.{Noted, NotedBefore, NotedEndless}
+use Rattle.session_commands.specs.Plays.{Gives, Misses, Takes}
 use Rattle.bridge_table.specs.declared.event.Status.TheVariants.{Done, Failed}
 use Rattle.bridge_table.specs.declared.fault.SessionFault.{SessionFault}
-use Rattle.shogi_session.specs.Events.{Event}
 use Rattle.shogi_session.specs.Host.{IsLoginWord}
-use Rattle.shogi_session.specs.Promises.{Session, Steps}
-use Rattle.shogi_session.specs.State.{first_state, waits_for}
+use Rattle.shogi_session.specs.Promises.{Session}
+use Rattle.shogi_session.specs.State.{first_state}
 use Rattle.session_commands.specs.Endings.{Ended, end_text, nothing_said}
 use Rattle.session_setup.specs.Faults.{IsFileFault}
 use Rattle.session_commands.specs.Kept.{Drops, KeepsRecord, RefusesText, TakesText}
-use Rattle.session_commands.specs.Words.{played_line}
 use Rattle.shogi_words.specs.declared.play.Plan.{Plan}
 
--- what comes from the peer that the bridge waits for is one step, and is kept if it says something
--- of the end
-pub record ComesNext {E : Type 0} (came : Gives E) (e : E) (s : Session) (old : Ended)
-    (to_engine to_server : List ℕ) (status : Status) (f : E) (t : Session) (new : Ended)
-    : Type 0 where
-  pub event : Event
-  pub arrived : came e (peer_for (waits_for s.state)) event f
-  pub step : Steps s event to_engine to_server status t
-  pub kept : KeepsEvent s t status event old new
-
--- a session that went on for 2 ^ 64 - 1 rounds, the step after them, whose lines are not sent, and
--- what is kept of the end after it
-pub record NotedEndless {E : Type 0} (came : Gives E) (went gone : Takes E)
-    (e : E) (s : Session) (old : Ended) (f : E) (t : Session) (new : Ended) : Type 0 where
-  pub endless : IsEndless came went gone e s
-  pub between : Ended
-  pub kept : KeptIn endless.played old between
-  pub to_engine : List ℕ
-  pub to_server : List ℕ
-  pub status : Status
-  pub next : ComesNext came endless.ends endless.session between to_engine to_server status f t new
+-- the line of `play`: the number of moves
+abbrev pub played_line : ℕ → List ℕ
+played_line moves = codes "played " ++ decimal moves ++ 10 ∷ []
 
 -- the outcome of a session that took both ends and the bridge from these states to those, with
 -- what is kept of the end
@@ -165,3 +147,27 @@ pub data IsReported {O : Type 0} (played_with : Result ℕ MatchFault → Type 0
       → IsReported played_with contents out after (Err fault)
   not_played : (fault : MatchFault) → played_with (Err fault) → after ≡ out
       → IsReported played_with contents out after (Err fault)
+
+-- a game was played and reported with the login of its plan; or there is none, and nothing was done
+pub data IsPlayed (is_login : Login → Type 0) (has_no_login : LoginFault → Type 0)
+    (reported : Login → Result ⊤ MatchFault → Type 0) (untouched : Type 0)
+    : Result ⊤ PlayCommandFault → Type 0 where
+  played : (login : Login) (done : ⊤) → is_login login → reported login (Ok done)
+      → IsPlayed is_login has_no_login reported untouched (Ok done)
+  failed_to_play : (login : Login) (fault : MatchFault)
+      → is_login login → reported login (Err fault)
+      → IsPlayed is_login has_no_login reported untouched (Err (MatchFailed fault))
+  not_begun : (fault : LoginFault) → has_no_login fault → untouched
+      → IsPlayed is_login has_no_login reported untouched (Err (LoginFailed fault))
+
+-- a game was played as planned; or its fault was noted and is reported; or it could not be noted,
+-- and that is reported in its place
+pub data NotesIfNone {H : Type 0} (noted unnoted : H → PlayCommandFault → H → Type 0)
+    (played_to : H → Result ⊤ PlayCommandFault → Type 0) (k : H)
+    : Result ⊤ PlayCommandFault → Type 0 where
+  no_fault : (done : ⊤) → played_to k (Ok done) → NotesIfNone noted unnoted played_to k (Ok done)
+  fault_noted : (between : H) (fault : PlayCommandFault) → played_to between (Err fault)
+      → noted between fault k → NotesIfNone noted unnoted played_to k (Err fault)
+  fault_unnoted : (between : H) (fault : PlayCommandFault) (why : MatchFault)
+      → played_to between (Err fault) → unnoted between fault k → IsFileFault why
+      → NotesIfNone noted unnoted played_to k (Err (MatchFailed why))

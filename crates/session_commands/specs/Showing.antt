@@ -4,7 +4,7 @@ use Rattle.std.specs.Str.Pattern.{FindsText, SplitsAroundMatch}
 use Rattle.session_commands.specs.Comments.{without_comment}
 use Rattle.session_commands.specs.Endings.{Ended, gone_peer, quoted, refused_line}
 use Rattle.session_commands.specs.Plays.{by_peer}
-use Rattle.session_commands.specs.Words.{slip_line}
+use Rattle.session_commands.specs.Words.{gone_line, slip_line}
 use Rattle.session_commands.specs.declared.bridging.Peer.{Peer}
 use Rattle.session_commands.specs.declared.ending.EndEvent.{EndEvent}
 use Rattle.session_commands.specs.declared.ending.EndEvent.TheVariants.{Slip, Ending, Reason, Result as Outcome, Refused as RefusedBy}
@@ -41,6 +41,11 @@ abbrev pub ended_peer : Bool → Result ⊤ MatchFault → Option Peer
 ended_peer false played = None
 ended_peer true (Ok done) = None
 ended_peer true (Err fault) = gone_peer fault
+
+-- what is shown of the peer that ended, with its last line if one came
+abbrev pub ended_line : Peer → Option (List ℕ) → List ℕ
+ended_line peer None = gone_line peer ++ 10 ∷ []
+ended_line peer (Some line) = gone_line peer ++ (codes " after " ++ (line ++ 10 ∷ []))
 
 -- what is shown of an ending: its seconds after a space, or the line alone if it has none
 pub data IsShownEnding (line text : List ℕ) : Type 0 where

@@ -1,5 +1,6 @@
 -- A machine that answers the lines that come over a wire.
 use Rattle.std.specs.Prelude.{◌≡◌, ℕ, ◌-◌, ◌^◌, ◌≤◌, Bool, true, false, if◌then◌else◌, List, [], ◌∷◌, ◌++◌, length, Option}
+use Rattle.std.specs.Io.KnownBytes.{Appends, Consumes, IsAtEnd, Keeps}
 use Rattle.csa_cutting.specs.Lines.{Lines}
 use Rattle.csa_cutting.specs.LineCutting.{BeginsTooLong}
 use Rattle.session_setup.specs.Faults.{IsReadFault}
@@ -23,6 +24,26 @@ Passes W = W → List ℕ → W → Type 0
 
 abbrev pub state_of : Bool → MachineState
 state_of ended = if ended then Ended else Running
+
+-- these bytes came from what the reader gives, and nothing was written
+abbrev pub BytesCome : Passes Passing
+BytesCome s bytes t = Consumes s.coming t.coming bytes × (t.written ≡ s.written)
+
+-- the end came, and nothing was written
+abbrev pub EndComes : Calls Passing
+EndComes s t = Consumes s.coming t.coming [] × IsAtEnd t.coming × (t.written ≡ s.written)
+
+-- these bytes were written after what the writer holds, and nothing was read
+abbrev pub BytesGo : Passes Passing
+BytesGo s bytes t = Appends s.written t.written bytes × (t.coming ≡ s.coming)
+
+-- nothing came, and nothing was written
+abbrev pub NothingComes : Calls Passing
+NothingComes s t = Keeps s.coming t.coming × (t.written ≡ s.written)
+
+-- not all of these bytes were written, and nothing was read
+abbrev pub BytesStop : Passes Passing
+BytesStop s bytes t = t.coming ≡ s.coming
 
 -- a machine, a line, the bytes of its answer, whether the machine has ended, and its next state
 abbrev pub MachineRow : Type 0 → Type 1

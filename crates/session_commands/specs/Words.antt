@@ -1,5 +1,5 @@
--- For private functions: the words that the commands print.
-use Rattle.std.specs.Prelude.{◌≡◌, ◌⊎◌, ℕ, List, [], ◌∷◌, ◌++◌, Option, None, Some, codes, decimal}
+-- The words that the commands print.
+use Rattle.std.specs.Prelude.{◌≡◌, ◌⊎◌, ℕ, List, [], ◌∷◌, ◌++◌, Option, None, Some, codes}
 use Rattle.session_commands.specs.declared.bridging.Peer.{Peer}
 use Rattle.session_commands.specs.declared.bridging.Peer.TheVariants.{Engine, Server}
 use Rattle.shogi_session.specs.declared.summary_fault.SummaryFault.{SummaryFault}
@@ -35,16 +35,7 @@ bad_summary_line None line = codes "B3: the server sent " ++ (line ++ 10 ∷ [])
 bad_summary_line (Some cause) line = codes "B3: the server sent "
     ++ (line ++ (codes ": " ++ (summary_words cause ++ 10 ∷ [])))
 
--- the line with a reason, if there is one
-abbrev pub reason_line : Option (List ℕ) → List ℕ
-reason_line None = []
-reason_line (Some reason) = reason ++ 10 ∷ []
-
 -- there is no line, or it gives a reason for this name
 abbrev pub IsReasonLine : List ℕ → List ℕ → Type 0
 IsReasonLine name text = (text ≡ [])
     ⊎ ((words : List ℕ) × (text ≡ 32 ∷ 32 ∷ (name ++ (codes ": " ++ (words ++ 10 ∷ [])))))
-
--- the line of `play`: the number of moves
-abbrev pub played_line : ℕ → List ℕ
-played_line moves = codes "played " ++ decimal moves ++ 10 ∷ []

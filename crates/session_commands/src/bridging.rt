@@ -2,10 +2,9 @@
 
 ghost use Rattle.std.specs.Prelude.{◌≡◌, ◌↔◌, IsErrOf, IsTrue, IfErr, IfOk, OnOk, OnErr};
 ghost use Rattle.csa_cutting.specs.Lines.{HasNoLineEnd};
-ghost use Rattle.session_commands.specs.Playing.{ComesNext, NotedEndless};
 ghost use Rattle.session_commands.specs.Plays.{Delivers, History, Sends, end_of, event_from, peer_for};
 ghost use Rattle.session_commands.specs.Holding.{TookAll};
-ghost use Rattle.session_commands.specs.Noting.{IsKeptOf, Noted, NotedBefore};
+ghost use Rattle.session_commands.specs.Noting.{ComesNext, IsKeptOf, Noted, NotedBefore, NotedEndless};
 ghost use Rattle.session_commands.specs.PlayedLogs.{PlaysLegally, handed, happened};
 ghost use Rattle.session_commands.specs.LackOfMemoryLogs.{SentLegally, sent_before};
 ghost use Rattle.session_commands.specs.LackOfMemory.{GoneRunsOut, NextRunsOut, PlayRunsOut, SendRunsOut};
@@ -19,13 +18,13 @@ ghost use Rattle.bridge_table.specs.declared.event.Status.TheVariants.{Done, Fai
 
 use crate::ending::Snapshot;
 use crate::laws::{played_moves_are_legal, sent_lines_are_held};
-use crate::progress::Progress;
+use crate::progress::{Progress, Says};
 use record_commands::incoming::{Incoming, LineEvent};
 use record_commands::{WriteFault, streams};
 use session_setup::MatchFault;
 use shogi_board::OutOfMemory;
 use shogi_session::{Bridge, Event, Out, SessionFault, Status, Waits};
-use std::io::{Eprint, Read, Write};
+use std::io::{Read, Write};
 
 /// One of the two peers of a bridge.
 #[derive(Clone, Copy)]
@@ -231,7 +230,7 @@ impl<ER: Read + Drop, EW: Write + Drop, SR: Read + Drop, SW: Write + Drop> Ends
 ///
 /// Refuses `Session` if the session fails, `OutOfMemory` if an allocation fails, and `Endless` if
 /// the session goes on for 2^64 - 1 rounds.
-pub fn play<R: Eprint + AllocGlobal, E: Ends>(
+pub fn play<R: Says + AllocGlobal, E: Ends>(
     bridge: &mut Bridge,
     ends: &mut E,
     progress: &mut Progress<'_, R, E>,
@@ -327,7 +326,7 @@ fn end_event(peer: Peer) -> Event<'static>
 }
 
 // The step for what comes next from the peer that the bridge waits for.
-fn step_next<R: Eprint + AllocGlobal, E: Ends>(
+fn step_next<R: Says + AllocGlobal, E: Ends>(
     bridge: &mut Bridge,
     ends: &mut E,
     progress: &mut Progress<'_, R, E>,
@@ -352,7 +351,7 @@ fn step_next<R: Eprint + AllocGlobal, E: Ends>(
 }
 
 // Shows the last line from the server, if it may be a move that the bridge accepted.
-fn show_move<R: Eprint + AllocGlobal, E: Ends>(
+fn show_move<R: Says + AllocGlobal, E: Ends>(
     progress: &mut Progress<'_, R, E>,
     bridge: &Bridge,
     is_move: bool,
@@ -366,7 +365,7 @@ fn show_move<R: Eprint + AllocGlobal, E: Ends>(
 }
 
 // Keeps what came from the peer, if it says something of the end.
-fn keep_end<R: Eprint + AllocGlobal, E: Ends>(
+fn keep_end<R: Says + AllocGlobal, E: Ends>(
     progress: &mut Progress<'_, R, E>,
     before: Snapshot,
     after: Snapshot,

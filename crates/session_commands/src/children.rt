@@ -2,10 +2,9 @@
 
 ghost use Rattle.std.specs.Prelude.{◌≡◌, ◌⊎◌, IfErr, IfOk, OnErr, OnOk, codes, false, is_some, string_bytes, true};
 ghost use Rattle.std.specs.Process.{child_status, command_args, command_program, makes_pipe};
-ghost use Rattle.session_setup.specs.Faults.{IsEngineFault, IsFileFault};
+ghost use Rattle.session_setup.specs.Faults.{IsFileFault};
 ghost use Rattle.session_commands.specs.Launching.{engine_words, local_address, serve_words};
-ghost use Rattle.session_setup.specs.Logins.{IsWithoutPassword};
-ghost use Rattle.session_commands.specs.Children.{fault_if_gone};
+ghost use Rattle.session_commands.specs.Children.{IsEngineFault, fault_if_gone};
 
 use crate::bridging::{Peer, Side};
 use crate::log::{Log, TextLog};
@@ -13,13 +12,15 @@ use crate::log_output::{LogWriter, StandardError, Stopwatch};
 use record_commands::incoming::Incoming;
 use session_setup::groups::{self, Member, Reach};
 use session_setup::paths::{ENGINE_ERRORS, SERVER_ERRORS};
+use session_setup::reading::SeesFiles;
+use session_setup::starting::Starter;
 use session_setup::{MatchFault, SearchPath, login, memory_or};
 use shogi_session::SessionFault;
 use std::alloc::{AllocError, Global};
 use std::fs::{self, File};
 use std::io::{self, Eprint, Read, Write};
 use std::net::{Net, TcpListener, TcpStream};
-use std::process::{Child, Command, OpenProcess, Processes, Stdio};
+use std::process::{Child, Command, OpenProcess, Stdio};
 use std::rt::Files;
 use std::time::{Clock, Duration};
 use std::{mem, thread};
@@ -49,7 +50,8 @@ pub enum SessionEnd {
 pub trait Programs {
     ghost use Rattle.std.specs.Prelude.{◌≡◌, ◌≢◌, ℕ, Bool, List, Option, None, option_map};
     ghost use Rattle.record_commands.specs.Incoming.{Coming};
-    ghost use Rattle.session_setup.specs.Faults.{IsEngineFault, IsFileFault, IsServerFault};
+    ghost use Rattle.session_setup.specs.Faults.{IsFileFault};
+    ghost use Rattle.session_commands.specs.Children.{IsEngineFault, IsServerFault};
     ghost use Rattle.session_commands.specs.declared.children.SessionEnd.{SessionEnd as End};
 
     /// The log of a game.
@@ -240,7 +242,7 @@ impl<
     'a,
     R: Files<File = File>
         + Net<Listener = TcpListener, Stream = TcpStream>
-        + Processes
+        + Starter
         + Clock
         + Eprint
         + AllocGlobal,
@@ -249,11 +251,11 @@ impl<
 
     type Log = TextLog<Stopwatch<'a, R>, LogWriter<'a, R>>;
 
-    type Child = Member<R::Started>;
+    type Child = Member<R::Program>;
 
-    type Input = <R::Started as OpenProcess>::Stdin;
+    type Input = <R::Program as OpenProcess>::Stdin;
 
-    type Output = <R::Started as OpenProcess>::Stdout;
+    type Output = <R::Program as OpenProcess>::Stdout;
 
     type Reader = TcpStream;
 
@@ -411,11 +413,11 @@ fn stream_of(errors: ErrorOutput) -> Stdio {
 }
 
 // Starts a program whose output is read, as the leader of a group if that can be.
-fn start<R: Files + Processes + Eprint + AllocGlobal>(
+fn start<R: SeesFiles + Starter + Eprint + AllocGlobal>(
     system: &mut System<'_, R>,
     command: &mut Command<Global>,
     program: Peer,
-) -> Result<Member<R::Started>, MatchFault>
+) -> Result<Member<R::Program>, MatchFault>
     ensures faults { IfErr result
         (λ fault. (fault ≡ fault_if_gone program) ⊎ (fault ≡ MatchFault.OutOfMemory)) }
 {
@@ -456,31 +458,21 @@ fn input_of(program: Peer) -> Stdio
 }
 
 // Starts a program whose output is read. It does not get the password.
-fn spawn<R: Processes>(
+fn spawn<R: Starter>(
     rt: &R,
     command: &mut Command<Global>,
     stdin: Stdio,
     stderr: Stdio,
     reach: Reach,
-) -> io::Result<Member<R::Started>>
+) -> io::Result<Member<R::Program>>
     requires { reach ≡ Reach.Group → command_program command.old ≡ codes "setsid" }
 {
     command.stdin(stdin);
     command.stdout(Stdio::piped());
     command.stderr(stderr);
     login::hide_password(command)?;
-    let child = spawn_without_password(rt, command)?;
+    let child = rt.start(command)?;
     Ok(Member { child, reach })
-}
-
-// Starts a program that does not get the password.
-fn spawn_without_password<R: Processes>(
-    rt: &R,
-    command: &mut Command<Global>,
-) -> io::Result<Child<R::Started>>
-    requires { IsWithoutPassword command.old }
-{
-    command.spawn(rt)
 }
 
 /// A server and its words: `serve --port 0 --max N`, one game of at most `max_moves` moves on a
@@ -558,7 +550,7 @@ fn side_of<P: OpenProcess + Drop>(
 // Ends a child and its group, so that none outlives the program. After a session that was finished
 // the child has ten seconds to end by itself; any other child is ended at once. Returns whether it
 // has ended.
-fn end_member<R: Clock + Processes + AllocGlobal, P: OpenProcess + Drop>(
+fn end_member<R: Clock + Starter + AllocGlobal, P: OpenProcess + Drop>(
     rt: &R,
     member: &mut Member<P>,
     after: SessionEnd,
@@ -566,7 +558,7 @@ fn end_member<R: Clock + Processes + AllocGlobal, P: OpenProcess + Drop>(
     ensures ended { result ≡ true → is_some (child_status member.new.child) ≡ true }
 {
     if has_ended(rt, &mut member.child, after) {
-        groups::end_group(rt, member);
+        let _ = groups::end_group(rt, member);
         return true;
     }
     groups::end(rt, member)

@@ -1,7 +1,7 @@
 //! A USI engine on standard input and output, which plays the first legal move.
 
 ghost use Rattle.std.specs.Prelude.{◌≡◌, None, IfErr, OnOk};
-ghost use Rattle.session_commands.specs.Talks.{BreaksOff, HasAnswered};
+ghost use Rattle.session_commands.specs.Talks.{BreaksOff, BytesCome, BytesGo, BytesStop, EndComes, HasAnswered, NothingComes, Passing};
 ghost use Rattle.session_commands.specs.declared.talk.MachineState.{MachineState};
 ghost use Rattle.shogi_session.specs.Sample.{SampleState, keeps};
 
@@ -16,7 +16,14 @@ use std::io;
 /// input.
 ///
 /// Refuses as `talk::answer_all` does.
-pub fn run<R: Input + Print + AllocGlobal>(rt: &R) -> Result<(), TalkFault> {
+pub fn run<R: Input + Print + AllocGlobal>(rt: &R) -> Result<(), TalkFault>
+    ensures answered { OnOk result ((before after : Passing) × (state : MachineState)
+        × (engine : SampleState) × HasAnswered BytesCome EndComes BytesGo
+        ⟦<Sample as Machine>⟧.answers before (keeps None) state after engine) }
+    ensures breaks_off { IfErr result (λ fault. (before after : Passing)
+        × BreaksOff BytesCome EndComes BytesGo NothingComes BytesStop
+        ⟦<Sample as Machine>⟧.answers before (keeps None) fault after) }
+{
     let mut wire = Exchange::new(rt.reader(), io::writer(rt));
     answer(rt.alloc(), &mut wire)
 }

@@ -2,7 +2,8 @@
 //! what `thiserror` derives has no contract.
 
 ghost use Rattle.std.specs.Prelude.{◌≡◌};
-ghost use Rattle.session_commands.specs.FaultWords.{login_words, match_words, order_words, rule_words, session_words, setup_words, text_words, why_words};
+ghost use Rattle.session_commands.specs.FaultWords.{match_words, order_words, rule_words, session_words, setup_words, text_words, why_words};
+ghost use Rattle.session_commands.specs.NoGame.{login_words};
 
 use csa_text::TextFault;
 use record_game::{OrderFault, Why};

@@ -1,11 +1,9 @@
 //! The server and the engine of a game: started, joined to a bridge, and ended.
 
-ghost use Rattle.std.specs.Prelude.{◌≡◌, ◌⊎◌, ◌++◌, ◌∷◌, [], IfErr, IfOk, OnErr, OnOk, None, option_map, string_bytes};
-ghost use Rattle.session_commands.specs.FaultWords.{no_game_text, play_words};
+ghost use Rattle.std.specs.Prelude.{◌≡◌, ◌++◌, ◌∷◌, [], IfErr, IfOk, OnErr, OnOk, None, option_map, string_bytes};
 ghost use Rattle.session_commands.specs.Launching.{IsApart, IsJoined, IsJoinedByPort, IsPortless, IsStarted, IsUnstarted};
-ghost use Rattle.session_commands.specs.Logging.{ClosesIfAny, RefusesIfAny};
+ghost use Rattle.session_commands.specs.NoGame.{no_game_text, play_words, reason_line};
 ghost use Rattle.session_commands.specs.Ports.{SaysNoPort, SaysPort, other_line_text};
-ghost use Rattle.session_commands.specs.Words.{reason_line};
 
 use crate::bridging::{Ends, Side, Sides};
 use crate::children::{
@@ -30,7 +28,9 @@ const NO_LINE: &str = "the server ended before it printed its port";
 /// What starts and ends the programs of a game.
 pub trait Launcher {
     ghost use Rattle.session_commands.specs.declared.children.SessionEnd.{SessionEnd as End};
+    ghost use Rattle.session_setup.specs.Faults.{IsFileFault};
     ghost use Rattle.session_setup.specs.declared.fault.MatchFault.{MatchFault as Fault};
+    ghost use Rattle.session_setup.specs.declared.fault.PlayCommandFault.{PlayCommandFault as Reported};
     ghost use Rattle.shogi_words.specs.declared.play.Plan.{Plan as Planned};
 
     /// The two ends of the game.
@@ -50,6 +50,12 @@ pub trait Launcher {
     // itself.
     ghost stopped: { Self → Self.Peers → Self.Running → End → Self → Type 0 };
 
+    // Why there was no game was added to the log of a game that did not begin, if it has one.
+    ghost notes: { Self → Reported → Self → Type 0 };
+
+    // That log refused it, or there was not enough memory for the text.
+    ghost notes_not: { Self → Reported → Self → Type 0 };
+
     /// Makes the log, if the plan has one, and only then starts the server, if there is one to
     /// start, connects to it, and starts the engine. If there is no game, a server that was
     /// started is ended.
@@ -64,6 +70,15 @@ pub trait Launcher {
     /// Ends each program that was started.
     fn stop(&mut self, peers: Self::Peers, running: Self::Running, after: SessionEnd)
         ensures stopped { stopped self.old peers running after self.new };
+
+    /// Adds to the log why there was no game: the system's reason, if there is one, and the fault.
+    /// The log of a game is closed already, and gets nothing.
+    ///
+    /// Refuses `Write` if the log cannot be written, and `OutOfMemory`.
+    fn note_fault(&mut self, fault: PlayCommandFault) -> Result<(), MatchFault>
+        ensures noted { OnOk result (notes self.old fault self.new) }
+        ensures unnoted { OnErr result (notes_not self.old fault self.new) }
+        ensures faults { IfErr result IsFileFault };
 }
 
 /// An engine of this machine, and a server of this machine or another.
@@ -102,26 +117,12 @@ impl<P: Programs + Drop> Local<P> {
             log: None,
         }
     }
-
-    /// Adds to the log why there was no game: the system's reason, if there is one, and the fault.
-    /// The log of a game is closed already, and gets nothing.
-    ///
-    /// Refuses `Write` if the log cannot be written, and `OutOfMemory`.
-    pub fn note_fault(&mut self, fault: PlayCommandFault) -> Result<(), MatchFault>
-        ensures noted { OnOk result (ClosesIfAny P.Log.Log.closed self.old.log
-            (no_game_text (P.reason self.old.programs) fault) self.new.log) }
-        ensures unnoted { OnErr result ((self.new.log ≡ self.old.log)
-            ⊎ RefusesIfAny P.Log.Log.unclosed self.old.log
-            (no_game_text (P.reason self.old.programs) fault) self.new.log) }
-    {
-        let text = no_game_text(self.alloc, self.programs.reason(), fault)?;
-        self.log.close(text.as_bytes())
-    }
 }
 
 impl<P: Programs + Drop> Launcher for Local<P> {
     ghost use Rattle.std.specs.Prelude.{◌≡◌, option_map};
     ghost use Rattle.session_commands.specs.Launching.{IsLogged, HasNoGame, IsStopped};
+    ghost use Rattle.session_commands.specs.NoGame.{NotesFault, NotesNoFault};
 
     type Peers = Logged<Sides<P::Output, P::Input, P::Reader, P::Writer>, Option<P::Log>>;
 
@@ -130,14 +131,20 @@ impl<P: Programs + Drop> Launcher for Local<P> {
     ghost started = { λ h plan peers running k. IsLogged P.logs P.serves P.thinks P.connects
         plan h.programs peers.1 running.engine peers.0.engine.lines peers.0.engine.writer
         peers.0.server.lines peers.0.server.writer k.programs
-        (option_map (λ s. s.child) running.server) };
+        (option_map (λ s. s.child) running.server) × (k.log ≡ h.log) };
 
     ghost unstarted = { λ h plan fault k. HasNoGame P.logs P.logs_not P.serves P.serves_not
         P.explained P.connects P.connects_not P.thinks_not P.ended
         plan h.programs k.log k.programs fault };
 
     ghost stopped = { λ h peers running end k. IsStopped P.ended h.programs running.engine end
-        k.programs (option_map (λ s. s.child) running.server) };
+        k.programs (option_map (λ s. s.child) running.server) × (k.log ≡ h.log) };
+
+    ghost notes = { λ h fault k. NotesFault P.Log.Log.closed (P.reason h.programs)
+        h.log fault k.log × (k.programs ≡ h.programs) };
+
+    ghost notes_not = { λ h fault k. NotesNoFault P.Log.Log.unclosed (P.reason h.programs)
+        h.log fault k.log × (k.programs ≡ h.programs) };
 
     fn start(&mut self, plan: &Plan<'_, '_>) -> Result<(Self::Peers, Self::Running), MatchFault> {
         let log = self
@@ -177,6 +184,11 @@ impl<P: Programs + Drop> Launcher for Local<P> {
         {
             self.programs.end(child, after);
         }
+    }
+
+    fn note_fault(&mut self, fault: PlayCommandFault) -> Result<(), MatchFault> {
+        let text = no_game_text(self.alloc, self.programs.reason(), fault)?;
+        self.log.close(text.as_bytes())
     }
 }
 

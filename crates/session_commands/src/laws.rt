@@ -72,15 +72,14 @@ pub fn passed_lines_are_noted<E: Ends + Drop, L: Log + Drop>()
 {}
 
 /// A text log that is whole has the text of exactly what was noted in it, and one that is not whole
-/// has the beginning of such a text, if its bytes are known and the clock shows some time. `noted`:
-/// this holds of a session's log, if it has one, until it is closed.
+/// has the beginning of such a text, if its bytes are known. `noted`: this holds of a session's
+/// log, if it has one, until it is closed.
 pub fn whole_logs_have_all_entries<T: Timer + Drop, W: Write + Drop>()
     ensures text { (entries : List Entry) (l m : LogState × Option (List ℕ))
         → NotesAll (notes_text T.shows) l entries m → m.0 ≡ log_state.Whole
         → AppendsEntries T.shows l.1 m.1 entries }
-    ensures front { (time : ℕ) (entries : List Entry) (l m : LogState × Option (List ℕ))
-        → T.shows time → NotesAll (notes_text T.shows) l entries m
-        → AppendsFrontOf T.shows l.1 m.1 entries }
+    ensures front { (entries : List Entry) (l m : LogState × Option (List ℕ))
+        → NotesAll (notes_text T.shows) l entries m → AppendsFrontOf T.shows l.1 m.1 entries }
     ensures noted { (entries : List Entry) (l : Texts T W) (m : Option (Texts T W))
         → NotesAll ⟦<Option<TextLog<T, W>> as Log>⟧.noted (Some l) entries m
         → (k : Texts T W) × (m ≡ Some k) × NotesAll (notes_text T.shows)

@@ -4,22 +4,23 @@ ghost use Rattle.std.specs.Prelude.{◌≡◌, true, false, IfErr, IfOk, OnOk, s
 ghost use Rattle.std.specs.Io.KnownBytes.{Appends};
 ghost use Rattle.session_commands.specs.Endings.{end_text};
 ghost use Rattle.session_commands.specs.Kept.{IsKept, KeepsRecord, report_of};
-ghost use Rattle.session_setup.specs.Logins.{AreLoginWords, HasNoLogin, IsLoginOf, IsPlayed};
+ghost use Rattle.session_setup.specs.Logins.{AreLoginWords, HasNoLogin, IsLoginOf};
 ghost use Rattle.session_setup.specs.Paths.{HasSoundWords};
-ghost use Rattle.session_commands.specs.Playing.{ClosesLog, IsReported, IsUnreported, PlaysAndKeeps, PlaysFor, PlaysIn, session_end};
+ghost use Rattle.session_commands.specs.Playing.{ClosesLog, IsPlayed, IsReported, IsUnreported, NotesIfNone, PlaysAndKeeps, PlaysFor, PlaysIn, played_line, session_end};
 ghost use Rattle.session_commands.specs.Runs.{IsNoPlanFault, IsRunFault};
-ghost use Rattle.session_commands.specs.Words.{played_line};
 ghost use Rattle.bridge_table.specs.declared.state.ClientState.{ClientState};
 ghost use Rattle.shogi_session.specs.State.{client_state, first_state};
 
 use crate::bridging::{Ends, play};
-use crate::children::{Programs, SessionEnd, System};
+use crate::children::{SessionEnd, System};
 use crate::launcher::{Launcher, Local};
-use crate::progress::{Progress, Screen};
+use crate::progress::{Progress, Says, Screen};
 use record_commands::streams;
 use session_setup::disk::LocalDisk;
 use session_setup::login::{Login, RuntimeSecrets, Secrets, login_of};
 use session_setup::out_file::{Named, Place};
+use session_setup::reading::Variables;
+use session_setup::starting::Starter;
 use session_setup::{MatchFault, PlayCommandFault, SearchPath, paths};
 use shogi_board::OutOfMemory;
 use shogi_session::{Bridge, ClientState, Config};
@@ -28,8 +29,7 @@ use std::alloc::{AllocError, Global};
 use std::fs::File;
 use std::io::{self, Eprint, Write};
 use std::net::{Net, TcpListener, TcpStream};
-use std::process::Processes;
-use std::rt::{Env, Files};
+use std::rt::Files;
 use std::time::Clock;
 
 /// Starts the server, if the plan has one to start, connects to it, starts the engine, plays their
@@ -45,10 +45,10 @@ use std::time::Clock;
 /// if it goes on for 2^64 - 1 rounds, `Write` if the record, the log or the last line cannot be
 /// written, and `OutOfMemory`.
 pub fn run<
-    R: Env
+    R: Variables
         + Files<File = File>
         + Net<Listener = TcpListener, Stream = TcpStream>
-        + Processes
+        + Starter
         + Clock
         + Print
         + Eprint
@@ -77,28 +77,42 @@ pub fn run<
 }
 
 // Plays a game whose plan was checked, and adds to the log why there was none.
-fn play_checked<R: Eprint + AllocGlobal, S: Secrets, G: Programs + Drop, P: Place, W: Write>(
+fn play_checked<R: Says + AllocGlobal, S: Secrets, H: Launcher, P: Place, W: Write>(
     alloc: Global,
-    screen: &Screen<'_, R, <Local<G> as Launcher>::Peers>,
+    screen: &Screen<'_, R, H::Peers>,
     secrets: &S,
-    launcher: &mut Local<G>,
+    launcher: &mut H,
     place: &mut P,
     out: &mut W,
     plan: &Plan<'_, '_>,
 ) -> Result<(), PlayCommandFault>
     requires { HasSoundWords plan.now }
+    ensures noted { NotesIfNone H.notes H.notes_not (λ between answer. IsPlayed
+        (IsLoginOf S.opens S.File.Read.remaining S.holds secrets.now plan.now)
+        (HasNoLogin S.opens S.opens_not S.File.Read.remaining
+        S.holds S.holds_no_text secrets.now plan.now)
+        (λ login. IsReported (PlaysFor H.started H.unstarted
+        H.stopped H.Peers.Ends.came H.Peers.Ends.missed H.Peers.Ends.went H.Peers.Ends.gone
+        H.Peers.Ends.closed H.Peers.Ends.unclosed
+        P.begun P.unbegun P.took P.refused P.dropped P.replaced
+        plan.now login launcher.old place.old between place.new)
+        W.contents out.old out.new)
+        ((between ≡ launcher.old) × (place.new ≡ place.old) × (out.new ≡ out.old))
+        answer) launcher.new result }
     ensures fault { IfErr result IsNoPlanFault }
 {
-    let played = play_planned(alloc, screen, secrets, launcher, place, out, plan);
-    if let Err(fault) = played {
-        launcher.note_fault(fault)?;
+    match play_planned(alloc, screen, secrets, launcher, place, out, plan) {
+        Ok(()) => Ok(()),
+        Err(fault) => {
+            launcher.note_fault(fault)?;
+            Err(fault)
+        }
     }
-    played
 }
 
 // Plays the planned game between the programs of the launcher with the login that the plan asks
 // for, and prints the number of its moves.
-fn play_planned<R: Eprint + AllocGlobal, S: Secrets, H: Launcher, P: Place, W: Write>(
+fn play_planned<R: Says + AllocGlobal, S: Secrets, H: Launcher, P: Place, W: Write>(
     alloc: Global,
     screen: &Screen<'_, R, H::Peers>,
     secrets: &S,
@@ -127,7 +141,7 @@ fn play_planned<R: Eprint + AllocGlobal, S: Secrets, H: Launcher, P: Place, W: W
 
 // Plays the planned game between the programs of the launcher with that login, and prints the
 // number of its moves.
-fn report<R: Eprint + AllocGlobal, H: Launcher, P: Place, W: Write>(
+fn report<R: Says + AllocGlobal, H: Launcher, P: Place, W: Write>(
     alloc: Global,
     screen: &Screen<'_, R, H::Peers>,
     login: &Login,
@@ -169,7 +183,7 @@ fn played_line(alloc: Global, moves: usize) -> Result<String, AllocError>
 
 // Plays the planned game between the programs of the launcher with that login, if its record can
 // be written. Returns the number of moves of the game.
-fn play_for<R: Eprint + AllocGlobal, H: Launcher, P: Place>(
+fn play_for<R: Says + AllocGlobal, H: Launcher, P: Place>(
     alloc: Global,
     screen: &Screen<'_, R, H::Peers>,
     login: &Login,
@@ -190,7 +204,7 @@ fn play_for<R: Eprint + AllocGlobal, H: Launcher, P: Place>(
 
 // Plays the planned game between the programs of the launcher with that login, and writes its
 // record to the draft. Returns the number of moves of the game.
-fn play_in<R: Eprint + AllocGlobal, H: Launcher, P: Place>(
+fn play_in<R: Says + AllocGlobal, H: Launcher, P: Place>(
     alloc: Global,
     screen: &Screen<'_, R, H::Peers>,
     login: &Login,
@@ -235,7 +249,7 @@ struct Kept {
 }
 
 // Plays between two ends, and keeps the game.
-fn play_between<R: Eprint + AllocGlobal, E: Ends, P: Place>(
+fn play_between<R: Says + AllocGlobal, E: Ends, P: Place>(
     alloc: Global,
     screen: &Screen<'_, R, E>,
     bridge: &mut Bridge,

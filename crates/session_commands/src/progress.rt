@@ -1,11 +1,11 @@
 //! A line on standard error for each move of a running game, and for what ends it.
 
-ghost use Rattle.std.specs.Prelude.{◌≡◌, ◌⊎◌, ◌↔◌, ◌+◌, ◌<◌, ◌≤◌, ◌^◌, ℕ, length, true, false, None, Some, IfOk, IsTrue, option_map, string_bytes};
+ghost use Rattle.std.specs.Prelude.{◌≡◌, ◌⊎◌, ◌↔◌, ◌+◌, ◌++◌, ◌∷◌, [], ◌<◌, ◌≤◌, ◌^◌, ℕ, codes, length, true, false, None, Some, IfOk, IfSome, IsTrue, option_map, string_bytes};
 ghost use Rattle.std.specs.List.{position_or_len};
 ghost use Rattle.session_commands.specs.Comments.{is_quote, without_comment};
 ghost use Rattle.session_commands.specs.Endings.{IsKeptAfter, end_text, nothing_said, quoted, with_long};
 ghost use Rattle.session_commands.specs.Plays.{by_peer};
-ghost use Rattle.session_commands.specs.Showing.{IsCountOf, IsShownEnd, IsShownEnding, ended_peer, with_last};
+ghost use Rattle.session_commands.specs.Showing.{IsCountOf, IsShownEnd, IsShownEnding, ended_line, ended_peer, with_last};
 ghost use Rattle.session_lines.specs.MoveLines.{is_move_line};
 ghost use Rattle.shogi_session.specs.State.{client_state};
 
@@ -18,6 +18,53 @@ use std::alloc::{AllocError, Global};
 use std::io::Eprint;
 use std::marker::{Model, PhantomData};
 use std::str;
+
+/// What says to the user how a game goes on. An error is ignored.
+pub trait Says {
+    ghost use Rattle.std.specs.Prelude.{◌++◌, ◌∷◌, [], ℕ, List, codes, decimal};
+
+    // This was said, or could not be.
+    ghost said: { List ℕ → Type 0 };
+
+    /// Says the line.
+    fn say_line(&self, line: &str)
+        ensures { said (line.now ++ 10 ∷ []) };
+
+    /// Says the text, which has its line ends.
+    fn say_text(&self, text: &str)
+        ensures { said text.now };
+
+    /// Says the line after the number of a move.
+    fn say_move(&self, number: u64, line: &str)
+        ensures { said (decimal number ++ (codes " " ++ (line.now ++ 10 ∷ []))) };
+
+    /// Says the words about a peer that ended after this line.
+    fn say_after(&self, words: &str, line: &str)
+        ensures { said (words.now ++ (codes " after " ++ (line.now ++ 10 ∷ []))) };
+}
+
+// No contract can say what standard error shows.
+impl<R: Eprint> Says for R {
+    ghost use Rattle.std.specs.Prelude.{⊤};
+
+    ghost said = { λ text. ⊤ };
+
+    fn say_line(&self, line: &str) {
+        let _ = self.eprintln(line);
+    }
+
+    fn say_text(&self, text: &str) {
+        let _ = self.eprint(text);
+    }
+
+    fn say_move(&self, number: u64, line: &str) {
+        let _ = self.eprintln(format_args!("{number} {line}"));
+    }
+
+    fn say_after(&self, words: &str, line: &str) {
+        let _ = self.eprintln(format_args!("{words} after {line}"));
+    }
+}
 
 /// Where a game between these ends is shown, if it is: standard error.
 ///
@@ -51,12 +98,14 @@ impl<'a, R, E> Screen<'a, R, E> {
     }
 }
 
-impl<R: Eprint, E> Screen<'_, R, E> {
+impl<R: Says, E> Screen<'_, R, E> {
     /// Says that the server is waited for, if anything is shown. An error of standard error is
     /// ignored.
-    pub fn say_server_waited_for(&self) {
+    pub fn say_server_waited_for(&self)
+        ensures { self.now ≡ true → R.said (codes "waiting for the server" ++ 10 ∷ []) }
+    {
         if self.is_shown {
-            let _ = self.rt.eprintln("waiting for the server");
+            self.rt.say_line("waiting for the server");
         }
     }
 }
@@ -165,10 +214,13 @@ impl<'a, R, E> Progress<'a, R, E> {
     }
 }
 
-impl<R: Eprint + AllocGlobal, E: Ends> Progress<'_, R, E> {
+impl<R: Says + AllocGlobal, E: Ends> Progress<'_, R, E> {
     /// Says that the engine is waited for, if moves are shown. An error of standard error is
     /// ignored.
-    pub fn begin(&self) {
+    pub fn begin(&self)
+        ensures { self.now.is_on ≡ true
+            → R.said (codes "waiting for the engine" ++ 10 ∷ []) }
+    {
         self.say("waiting for the engine");
     }
 
@@ -196,7 +248,7 @@ impl<R: Eprint + AllocGlobal, E: Ends> Progress<'_, R, E> {
         };
         self.moves = Some(number);
         if let Ok(text) = str::from_utf8(without_comment(line)) {
-            let _ = self.rt.eprintln(format_args!("{number} {text}"));
+            self.rt.say_move(number, text);
         }
     }
 
@@ -223,9 +275,11 @@ impl<R: Eprint + AllocGlobal, E: Ends> Progress<'_, R, E> {
     }
 
     // Shows a line, if moves are shown.
-    fn say(&self, line: &str) {
+    fn say(&self, line: &str)
+        ensures { self.now.is_on ≡ true → R.said (line.now ++ 10 ∷ []) }
+    {
         if self.is_shown {
-            let _ = self.rt.eprintln(line);
+            self.rt.say_line(line);
         }
     }
 
@@ -233,7 +287,7 @@ impl<R: Eprint + AllocGlobal, E: Ends> Progress<'_, R, E> {
     fn show_end(&self, event: EndEvent, line: &[u8]) {
         if self.is_shown {
             if let Ok(text) = shown_end(self.rt.alloc(), event, line) {
-                let _ = self.rt.eprint(text.as_str());
+                self.rt.say_text(text.as_str());
             }
         }
     }
@@ -251,16 +305,17 @@ impl<R: Eprint + AllocGlobal, E: Ends> Progress<'_, R, E> {
 
     /// Says which peer has ended, and its last line, if that is why the session failed and moves
     /// are shown. An error of standard error is ignored.
-    pub fn finish(&self, played: Result<(), MatchFault>) {
+    pub fn finish(&self, played: Result<(), MatchFault>)
+        ensures { IfSome (ended_peer self.now.is_on played) (λ peer. R.said (ended_line peer
+            (by_peer peer self.now.last.engine self.now.last.server))) }
+    {
         let Some(peer) = self.ended_peer(played) else {
             return;
         };
         let words = ending::gone_line(peer);
         match self.last_line(peer) {
-            Some(line) => {
-                let _ = self.rt.eprintln(format_args!("{words} after {line}"));
-            }
-            None => self.say(words),
+            Some(line) => self.rt.say_after(words, line.as_str()),
+            None => self.rt.say_line(words),
         }
     }
 }

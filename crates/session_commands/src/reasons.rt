@@ -6,11 +6,12 @@ ghost use Rattle.session_commands.specs.Words.{IsReasonLine};
 use crate::children::local_address;
 use session_setup::out_file;
 use session_setup::paths::{ENGINE_ERRORS, SERVER_ERRORS, starts_server};
+use session_setup::reading::SeesFiles;
 use shogi_board::OutOfMemory;
 use shogi_words::Plan;
 use std::alloc::Global;
 use std::fs::{self, File, OpenOptions};
-use std::io::{self, Read};
+use std::io;
 use std::net::{Net, TcpListener, TcpStream};
 use std::rt::Files;
 
@@ -20,20 +21,13 @@ const UNUSED: u32 = 100;
 /// The line about a file that cannot be read. Empty if its first byte can be read now.
 ///
 /// Returns an error if an allocation fails.
-pub fn unreadable<R: Files + AllocGlobal>(rt: &R, name: &str) -> Result<String, OutOfMemory>
+pub fn unreadable<R: SeesFiles + AllocGlobal>(rt: &R, name: &str) -> Result<String, OutOfMemory>
     ensures { IfOk result (λ text. IsReasonLine name.now (string_bytes text)) }
 {
-    match read_tried(rt, name) {
-        Ok(_) => Ok(String::new(rt.alloc())),
+    match rt.try_reading(name) {
+        Ok(()) => Ok(String::new(rt.alloc())),
         Err(error) => reason_line(rt.alloc(), name, &error),
     }
-}
-
-// Why the file cannot be opened or read.
-fn read_tried<R: Files>(rt: &R, name: &str) -> io::Result<usize> {
-    let mut file = fs::open(rt, name)?;
-    let mut byte = [0u8; 1];
-    file.read(&mut byte)
 }
 
 /// The line about the first file of the plan that cannot be written: the record, the log, or a file

@@ -1,7 +1,6 @@
 //! Where lines come from, and where their answers go.
 
-ghost use Rattle.std.specs.Prelude.{◌≡◌, ℕ, ◌<◌, ◌≤◌, List, [], length, take, IfOk, OnOk, OnErr};
-ghost use Rattle.std.specs.Io.KnownBytes.{Appends, Consumes, IsAtEnd, Keeps, ReadConsumes};
+ghost use Rattle.std.specs.Prelude.{◌≡◌, ℕ, ◌<◌, ◌≤◌, List, length, take, IfOk, OnOk, OnErr};
 
 use csa_record::read_uninterrupted;
 use record_commands::{ReadFault, WriteFault, streams};
@@ -71,16 +70,17 @@ impl<R: Read + Drop, W: Write + Drop> Exchange<R, W> {
 // What comes is taken from what the reader gives, and what is sent is added to what the writer
 // holds, if these are known. The other of the two is unchanged.
 impl<R: Read + Drop, W: Write + Drop> Wire for Exchange<R, W> {
-    ghost came = { (λ s bytes t. Consumes s.coming t.coming bytes × (t.written ≡ s.written)) };
+    ghost use Rattle.session_commands.specs.Talks.{BytesCome, BytesGo, BytesStop, EndComes, NothingComes};
 
-    ghost ends = { (λ s t. Consumes s.coming t.coming []
-        × IsAtEnd t.coming × (t.written ≡ s.written)) };
+    ghost came = { BytesCome };
 
-    ghost went = { (λ s bytes t. Appends s.written t.written bytes × (t.coming ≡ s.coming)) };
+    ghost ends = { EndComes };
 
-    ghost silent = { (λ s t. Keeps s.coming t.coming × (t.written ≡ s.written)) };
+    ghost went = { BytesGo };
 
-    ghost blocked = { λ s bytes t. t.coming ≡ s.coming };
+    ghost silent = { NothingComes };
+
+    ghost blocked = { BytesStop };
 
     fn receive(&mut self, buffer: &mut [u8]) -> Result<usize, ReadFault> {
         match read_uninterrupted(&mut self.reader, buffer) {

@@ -1,4 +1,4 @@
--- How a text takes the place of what is at a path; in part for private functions.
+-- How a text takes the place of what is at a path.
 use Rattle.std.specs.Prelude.{◌≡◌, ◌≢◌, ◌⊎◌, ◌+◌, ◌<◌, ◌≤◌, ◌++◌, ⊤, ℕ, Bool, true, false, List, [], ◌∷◌, length, slice_index, Option, None, Some, Result, Ok, Err, codes, decimal, is_some}
 use Rattle.session_setup.specs.Faults.{IsFileFault}
 use Rattle.session_setup.specs.declared.disk.Found.{Found}

@@ -2,7 +2,6 @@
 use Rattle.std.specs.Prelude.{◌≡◌, ◌⊎◌}
 use Rattle.csa_cutting.specs.declared.line.LineFault.{LineFault}
 use Rattle.csa_cutting.specs.declared.line.LineFault.TheVariants as line
-use Rattle.bridge_table.specs.declared.fault.SessionFault.TheVariants.{ServerGone, EngineGone}
 use Rattle.record_commands.specs.declared.fault.ReadFault.{ReadFault}
 use Rattle.record_commands.specs.declared.fault.ReadFault.TheVariants as read
 use Rattle.session_setup.specs.declared.fault.MatchFault.{MatchFault}
@@ -27,11 +26,3 @@ IsReadFault fault = (fault ≡ talk.Read) ⊎ (fault ≡ talk.OutOfMemory)
 -- a file could not be written, or an allocation failed
 abbrev pub IsFileFault : MatchFault → Type 0
 IsFileFault fault = (fault ≡ game.Write) ⊎ (fault ≡ game.OutOfMemory)
-
--- the server is gone, or an allocation failed
-abbrev pub IsServerFault : MatchFault → Type 0
-IsServerFault fault = (fault ≡ game.Session ServerGone) ⊎ (fault ≡ game.OutOfMemory)
-
--- the engine is gone, or an allocation failed
-abbrev pub IsEngineFault : MatchFault → Type 0
-IsEngineFault fault = (fault ≡ game.Session EngineGone) ⊎ (fault ≡ game.OutOfMemory)

@@ -4,3 +4,5 @@ pub mod Logins
 pub mod Paths
 pub mod Plans
 pub mod Ports
+pub mod Reading
+pub mod Starting

@@ -1,14 +1,11 @@
--- The name and the password that `play` logs in with; in part for private functions.
-use Rattle.std.specs.Prelude.{◌≡◌, ◌==◌, ◌||◌, ℕ, List, Option, Result, Ok, Err, None, Some, IfSome, ⊤, codes, if◌then◌else◌}
+-- The name and the password that `play` logs in with.
+use Rattle.std.specs.Prelude.{◌≡◌, ◌==◌, ◌||◌, ℕ, List, Option, None, Some, IfSome, codes, if◌then◌else◌}
 use Rattle.std.specs.Borrow.{Bor}
 use Rattle.std.specs.List.{before_first}
 use Rattle.std.specs.Process.{clears_env, command_var}
 use Rattle.std.specs.declared.process.command.Command.{Command}
 use Rattle.session_setup.specs.declared.fault.LoginFault.{LoginFault}
 use Rattle.session_setup.specs.declared.fault.LoginFault.TheVariants.{BadName, BadPassword, Read, OutOfMemory}
-use Rattle.session_setup.specs.declared.fault.MatchFault.{MatchFault}
-use Rattle.session_setup.specs.declared.fault.PlayCommandFault.{PlayCommandFault}
-use Rattle.session_setup.specs.declared.fault.PlayCommandFault.TheVariants.{Login as LoginFailed, Match as MatchFailed}
 use Rattle.session_setup.specs.declared.login.Login.{Login}
 use Rattle.host_and_sample.specs.Host.{IsLoginWord}
 use Rattle.shogi_words.specs.declared.play.PasswordSource.{PasswordSource}
@@ -86,17 +83,6 @@ pub data HasNoLogin {S F : Type 0} (opens : Opens S F) (opens_not : S → List �
   no_password : (fault : LoginFault) → IsLoginWord plan.name.now
       → HasNoPassword opens opens_not bytes_of holds holds_no_text secrets plan.password fault
       → HasNoLogin opens opens_not bytes_of holds holds_no_text secrets plan fault
-
--- a game was played and reported with the login of its plan; or there is none, and nothing was done
-pub data IsPlayed (is_login : Login → Type 0) (has_no_login : LoginFault → Type 0)
-    (reported : Login → Result ⊤ MatchFault → Type 0) (untouched : Type 0)
-    : Result ⊤ PlayCommandFault → Type 0 where
-  played : (login : Login) (done : ⊤) → is_login login → reported login (Ok done)
-      → IsPlayed is_login has_no_login reported untouched (Ok done)
-  failed : (login : Login) (fault : MatchFault) → is_login login → reported login (Err fault)
-      → IsPlayed is_login has_no_login reported untouched (Err (MatchFailed fault))
-  not_begun : (fault : LoginFault) → has_no_login fault → untouched
-      → IsPlayed is_login has_no_login reported untouched (Err (LoginFailed fault))
 
 -- the program of a command gets no variable with a password, whatever this process has
 abbrev pub IsWithoutPassword : {A : Type 0} → Command A → Type 0

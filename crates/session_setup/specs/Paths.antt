@@ -1,4 +1,4 @@
--- Which words of a plan go together; in part for private functions.
+-- Which words of a plan go together.
 use Rattle.std.specs.Prelude.{◌≡◌, ◌≢◌, ◌⊎◌, ◌++◌, ℕ, Bool, true, false, List, Option, None, Some, codes}
 use Rattle.std.specs.Borrow.{Bor}
 use Rattle.session_setup.specs.Ports.{HasPort}

@@ -1,18 +1,20 @@
 //! Programs that lead groups of their own, so that what they started is ended with them.
 
-ghost use Rattle.std.specs.Prelude.{◌≡◌, ◌∷◌, IfErr, IfOk, IfSome, codes, is_some, string_bytes, true};
+ghost use Rattle.std.specs.Prelude.{◌≡◌, ◌∷◌, IfErr, IfOk, IfSome, OnOk, codes, is_some, option_map, string_bytes, true};
 ghost use Rattle.std.specs.Process.{child_status, command_args, command_program};
 ghost use Rattle.session_setup.specs.Logins.{IsWithoutPassword};
 ghost use Rattle.session_setup.specs.Plans.{IsPathOf, has_slash};
+ghost use Rattle.session_setup.specs.Reading.{IsSearchPath};
+ghost use Rattle.session_setup.specs.Starting.{KillsGroup, kill_words};
 
 use crate::fault::MatchFault;
 use crate::login::hide_password;
+use crate::reading::{SeesFiles, Variables};
+use crate::starting::Starter;
 use std::alloc::{AllocError, Global};
-use std::env::{self, VarError};
-use std::fs;
+use std::env::VarError;
 use std::os::unix::fs::PermissionsExt;
-use std::process::{Child, Command, OpenProcess, Processes, Stdio};
-use std::rt::{Env, Files};
+use std::process::{Child, Command, OpenProcess, Stdio};
 
 // What starts a program as the leader of a group.
 const LEADING: &str = "setsid";
@@ -43,13 +45,15 @@ pub struct SearchPath {
 }
 
 impl SearchPath {
-    /// That of the runtime's environment, by the variable `PATH`.
+    /// That of the environment, by the variable `PATH`.
     ///
     /// Refuses `OutOfMemory` if an allocation fails.
-    pub fn of<R: Env + AllocGlobal>(rt: &R) -> Result<SearchPath, MatchFault>
+    pub fn of<R: Variables>(rt: &R) -> Result<SearchPath, MatchFault>
+        ensures path { IfOk result (λ path.
+            IsSearchPath R.has R.lacks rt.now (option_map string_bytes path.folders)) }
         ensures memory { IfErr result (λ fault. fault ≡ MatchFault.OutOfMemory) }
     {
-        match env::var(rt, "PATH") {
+        match rt.variable_text("PATH") {
             Ok(folders) => Ok(SearchPath {
                 folders: Some(folders),
             }),
@@ -63,7 +67,7 @@ impl SearchPath {
 /// cannot do that, or if the program is not found, which its own start is to tell.
 ///
 /// Returns an error if an allocation fails.
-pub fn leading<R: Files + AllocGlobal>(
+pub fn leading<R: SeesFiles + AllocGlobal>(
     rt: &R,
     search_path: &SearchPath,
     command: &Command<Global>,
@@ -100,7 +104,7 @@ fn has_slash(program: &str) -> bool
 }
 
 // Whether there is a file of the program that can be run.
-fn is_found<R: Files + AllocGlobal>(
+fn is_found<R: SeesFiles + AllocGlobal>(
     rt: &R,
     search_path: &SearchPath,
     program: &str,
@@ -115,7 +119,7 @@ fn is_found<R: Files + AllocGlobal>(
 /// of its name can be run. None if there is no such folder.
 ///
 /// Returns an error if an allocation fails.
-pub fn path_of<R: Files + AllocGlobal>(
+pub fn path_of<R: SeesFiles + AllocGlobal>(
     rt: &R,
     search_path: &SearchPath,
     program: &str,
@@ -141,56 +145,74 @@ pub fn path_of<R: Files + AllocGlobal>(
 }
 
 // Whether a file that can be run is at the path.
-fn can_run<R: Files>(rt: &R, path: &str) -> bool {
-    match fs::metadata(rt, path) {
+fn can_run<R: SeesFiles>(rt: &R, path: &str) -> bool {
+    match rt.metadata_at(path) {
         Ok(there) => there.is_file() && there.permissions().mode() & 0o111 != 0,
         Err(_) => false,
     }
 }
 
 /// Ends the program at once, and what is ended with it. Returns whether the program has ended.
-pub fn end<R: Processes + AllocGlobal, P: OpenProcess + Drop>(
-    rt: &R,
-    member: &mut Member<P>,
-) -> bool
+pub fn end<R: Starter + AllocGlobal, P: OpenProcess + Drop>(rt: &R, member: &mut Member<P>) -> bool
     ensures ended { result ≡ true → is_some (child_status member.new.child) ≡ true }
 {
-    end_group(rt, member);
+    let _ = end_group(rt, member);
     member.child.kill().is_ok() && member.child.wait().is_ok()
 }
 
 /// Ends what is ended with the program, if that is its group: what it has started may live on when
 /// it has ended itself.
-pub fn end_group<R: Processes + AllocGlobal, P: OpenProcess + Drop>(rt: &R, member: &Member<P>) {
+///
+/// Returns an error if an allocation fails.
+pub fn end_group<R: Starter + AllocGlobal, P: OpenProcess + Drop>(
+    rt: &R,
+    member: &Member<P>,
+) -> Result<(), AllocError>
+    ensures group { OnOk result (member.now.reach ≡ Reach.Group → KillsGroup R.starts rt.now) }
+{
     if member.reach == Reach::Group {
-        let _ = kill_group(rt, member);
+        kill_group(rt, member)?;
     }
+    Ok(())
 }
 
 // Kills each process of the group that the program leads.
-fn kill_group<R: Processes + AllocGlobal, P: OpenProcess + Drop>(
+fn kill_group<R: Starter + AllocGlobal, P: OpenProcess + Drop>(
     rt: &R,
     member: &Member<P>,
 ) -> Result<(), AllocError>
     requires { member.now.reach ≡ Reach.Group }
+    ensures { OnOk result (KillsGroup R.starts rt.now) }
 {
-    let id = member.child.id();
-    let group = format!(in rt.alloc(); "-{id}")?;
-    let mut kill = Command::new(rt.alloc(), "kill")?;
-    kill.arg("-KILL")?;
-    kill.arg("--")?;
-    kill.arg(group.as_str())?;
+    let mut kill = kill_command(rt.alloc(), member.child.id())?;
     kill.stdin(Stdio::null());
     kill.stdout(Stdio::null());
     kill.stderr(Stdio::null());
     hide_password(&mut kill)?;
-    run_without_password(rt, &mut kill);
+    run_to_its_end(rt, &mut kill);
     Ok(())
 }
 
-// Runs a program that does not get the password, and waits for its end.
-fn run_without_password<R: Processes>(rt: &R, command: &mut Command<Global>)
-    requires { IsWithoutPassword command.old }
+// What kills each process of the group of that number.
+fn kill_command(alloc: Global, id: u32) -> Result<Command<Global>, AllocError>
+    ensures program { IfOk result (λ c. command_program c ≡ codes "kill") }
+    ensures words { IfOk result (λ c. command_args c ≡ kill_words id) }
 {
-    let _ = command.status(rt);
+    let mut kill = Command::new(alloc, "kill")?;
+    let group = format!(in alloc; "-{id}")?;
+    kill.arg("-KILL")?;
+    kill.arg("--")?;
+    kill.arg(group.as_str())?;
+    Ok(kill)
+}
+
+// Runs a program that does not get the password, and waits for its end.
+fn run_to_its_end<R: Starter>(rt: &R, command: &mut Command<Global>)
+    requires { IsWithoutPassword command.old }
+    ensures { R.starts rt.now (command_program command.old) (command_args command.old) }
+{
+    if let Ok(child) = rt.start(command) {
+        let mut child = child;
+        let _ = child.wait();
+    }
 }

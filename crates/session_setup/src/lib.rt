@@ -3,7 +3,9 @@
 //! - [`paths`] says whether the files of a plan of `play` go together.
 //! - [`login`] reads the name and the password.
 //! - [`out_file`] writes a file that is replaced once its new text is whole, on a [`disk`].
-//! - [`groups`] starts a program as the leader of a group, and ends the group.
+//! - [`starting`] starts programs, and [`groups`] makes one the leader of a group, and ends the
+//!   group.
+//! - [`reading`] reads files and the environment, and writes nothing.
 //!
 //! They know no bridge. `session_commands` calls them:
 //!
@@ -22,6 +24,8 @@ pub mod out_file;
 pub mod paths;
 mod plan_fault;
 pub mod port;
+pub mod reading;
+pub mod starting;
 
 pub use fault::{LoginFault, MatchFault, PlayCommandFault, ServeFault, TalkFault, memory_or};
 pub use groups::SearchPath;

@@ -1,18 +1,19 @@
 //! The name and the password that `play` logs in with.
 
 ghost use Rattle.std.specs.Prelude.{◌≡◌, ◌↔◌, ◌⊎◌, IfErr, IfOk, IsTrue, MatchOption, OnOk, option_map, string_bytes};
+ghost use Rattle.std.specs.Process.{SameProgramAndArgs};
 ghost use Rattle.session_setup.specs.Logins.{AreLoginWords, GivesLine, GivesNoWord, GivesPassword, HasNoLogin, HasNoPassword, IsLoginOf, IsWithoutPassword, first_line};
 ghost use Rattle.host_and_sample.specs.Host.{IsLoginWord};
 
 use crate::fault::LoginFault;
+use crate::reading::{OpensFiles, Variables};
 use arrayvec::ArrayString;
 use shogi_words::{PasswordSource, Plan};
 use std::alloc::{AllocError, Global};
 use std::env::VarError;
 use std::io::{ErrorKind, Read};
 use std::process::Command;
-use std::rt::{Env, Files};
-use std::{env, fs, str};
+use std::str;
 
 /// The environment variable with the password.
 pub const VARIABLE: &str = "SHOGI_PASSWORD";
@@ -66,7 +67,7 @@ pub trait Secrets {
             ⊎ (fault ≡ LoginFault.OutOfMemory)) };
 }
 
-/// The files and the environment of a runtime.
+/// The files that a runtime opens to be read, and its environment.
 #[derive(Drop)]
 pub struct RuntimeSecrets<'a, R> {
     rt: &'a R,
@@ -81,29 +82,32 @@ impl<'a, R> RuntimeSecrets<'a, R> {
     }
 }
 
-// No contract can say what a file or the environment has.
-impl<R: Env + Files + AllocGlobal> Secrets for RuntimeSecrets<'_, R> {
-    ghost use Rattle.std.specs.Prelude.{⊤};
+impl<R: Variables + OpensFiles> Secrets for RuntimeSecrets<'_, R> {
+    ghost use Rattle.std.specs.Prelude.{codes};
+    ghost use Rattle.std.specs.declared.env.VarError.TheVariants.{NotUnicode};
+    ghost use Rattle.session_setup.specs.Reading.{IsVariable};
 
-    type File = R::File;
+    type File = R::Opened;
 
-    ghost opens = { λ secrets path file. ⊤ };
+    ghost opens = { λ secrets path file. R.opens secrets.rt.now path file };
 
-    ghost opens_not = { λ secrets path. ⊤ };
+    ghost opens_not = { λ secrets path. R.opens_not secrets.rt.now path };
 
-    ghost holds = { λ secrets text. ⊤ };
+    ghost holds = { λ secrets text.
+        IsVariable R.has R.lacks secrets.rt.now (codes "SHOGI_PASSWORD") text };
 
-    ghost holds_no_text = { λ secrets. ⊤ };
+    ghost holds_no_text = { λ secrets.
+        R.lacks secrets.rt.now (codes "SHOGI_PASSWORD") NotUnicode };
 
-    fn open(&self, path: &str) -> Result<R::File, LoginFault> {
-        match fs::open(self.rt, path) {
+    fn open(&self, path: &str) -> Result<R::Opened, LoginFault> {
+        match self.rt.open_file(path) {
             Ok(file) => Ok(file),
             Err(error) => Err(read_fault(error.kind())),
         }
     }
 
     fn variable(&self) -> Result<Option<String>, LoginFault> {
-        match env::var(self.rt, VARIABLE) {
+        match self.rt.variable_text(VARIABLE) {
             Ok(text) => Ok(Some(text)),
             Err(VarError::NotPresent) => Ok(None),
             Err(VarError::NotUnicode) => Err(LoginFault::BadPassword),
@@ -214,6 +218,7 @@ fn is_login_word(bytes: &[u8]) -> bool
 /// Returns an error if an allocation fails.
 pub fn hide_password(command: &mut Command<Global>) -> Result<(), AllocError>
     ensures hidden { OnOk result (IsWithoutPassword command.new) }
+    ensures call { OnOk result (SameProgramAndArgs command.old command.new) }
 {
     command.env_remove(VARIABLE)?;
     Ok(())

@@ -12,11 +12,10 @@ use crate::fault::{MatchFault, PlayCommandFault};
 use crate::groups::{self, SearchPath};
 use crate::plan_fault::{Needed, PlanFault, Written};
 use crate::port::port_in;
+use crate::reading::SeesFiles;
 use shogi_words::{PasswordSource, Plan, ServerChoice};
 use std::alloc::{AllocError, Global};
-use std::fs;
 use std::os::unix::fs::MetadataExt;
-use std::rt::Files;
 
 /// What the name of the file for the standard error of the engine adds to that of the log.
 pub const ENGINE_ERRORS: &str = ".engine";
@@ -96,7 +95,7 @@ fn apart(plan: &Plan<'_, '_>, needed: Needed, path: &str) -> Result<(), PlanFaul
 /// As `check`, by the files that are there: refuses a file that is written also if another name
 /// leads to it. Refuses `LogIsOneFile` if the log is a file beside it, or the two files beside it
 /// are one, and `OutOfMemory` if an allocation fails.
-pub fn check_files<R: Files + AllocGlobal>(
+pub fn check_files<R: SeesFiles + AllocGlobal>(
     rt: &R,
     search_path: &SearchPath,
     plan: &Plan<'_, '_>,
@@ -111,7 +110,7 @@ pub fn check_files<R: Files + AllocGlobal>(
 }
 
 // Refuses a log and files beside it that are needed, the record, or one file.
-fn check_log<R: Files + AllocGlobal>(
+fn check_log<R: SeesFiles + AllocGlobal>(
     rt: &R,
     search_path: &SearchPath,
     plan: &Plan<'_, '_>,
@@ -146,7 +145,7 @@ fn beside(alloc: Global, log: &str, ending: &str) -> Result<String, MatchFault>
 }
 
 // Refuses a file of the log that is needed, or the record.
-fn check_log_file<R: Files + AllocGlobal>(
+fn check_log_file<R: SeesFiles + AllocGlobal>(
     rt: &R,
     search_path: &SearchPath,
     plan: &Plan<'_, '_>,
@@ -161,7 +160,7 @@ fn check_log_file<R: Files + AllocGlobal>(
 }
 
 // Refuses a file that is written if it is needed.
-fn check_file<R: Files + AllocGlobal>(
+fn check_file<R: SeesFiles + AllocGlobal>(
     rt: &R,
     search_path: &SearchPath,
     plan: &Plan<'_, '_>,
@@ -190,7 +189,7 @@ fn check_file<R: Files + AllocGlobal>(
 }
 
 // Whether the file of this name is that of the program.
-fn is_program<R: Files + AllocGlobal>(
+fn is_program<R: SeesFiles + AllocGlobal>(
     rt: &R,
     search_path: &SearchPath,
     name: &str,
@@ -206,8 +205,8 @@ fn is_program<R: Files + AllocGlobal>(
 
 // Whether both names lead to the same file, and it is no device or pipe; or, if neither file is
 // there yet, whether it would be one.
-fn is_one_file<R: Files>(rt: &R, name: &str, other: &str) -> bool {
-    match (fs::metadata(rt, name), fs::metadata(rt, other)) {
+fn is_one_file<R: SeesFiles>(rt: &R, name: &str, other: &str) -> bool {
+    match (rt.metadata_at(name), rt.metadata_at(other)) {
         (Ok(one), Ok(two)) => one.is_file() && one.dev() == two.dev() && one.ino() == two.ino(),
         (Err(_), Err(_)) => is_one_entry(rt, &Location::of(name), &Location::of(other)),
         _ => false,
@@ -215,11 +214,11 @@ fn is_one_file<R: Files>(rt: &R, name: &str, other: &str) -> bool {
 }
 
 // Whether both are one name in one folder.
-fn is_one_entry<R: Files>(rt: &R, one: &Location<'_>, other: &Location<'_>) -> bool {
+fn is_one_entry<R: SeesFiles>(rt: &R, one: &Location<'_>, other: &Location<'_>) -> bool {
     if one.name != other.name {
         return false;
     }
-    match (fs::metadata(rt, one.folder), fs::metadata(rt, other.folder)) {
+    match (rt.metadata_at(one.folder), rt.metadata_at(other.folder)) {
         (Ok(folder), Ok(second)) => folder.dev() == second.dev() && folder.ino() == second.ino(),
         _ => false,
     }

@@ -1,6 +1,6 @@
 use Rattle.std.proofs.Common.{refl}
 use Rattle.std.proofs.lemmas.Result.{err_from_is_err_and}
-use Rattle.session_commands.specs.Offering.{no_host}
+use Rattle.session_commands.specs.Door.{no_host}
 use Rattle.session_commands.proofs.Serving.{has_served}
 use Rattle.session_commands.proofs.serve.play.Goals as goal
 
