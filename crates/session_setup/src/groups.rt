@@ -211,8 +211,7 @@ fn run_to_its_end<R: Starter>(rt: &R, command: &mut Command<Global>)
     requires { IsWithoutPassword command.old }
     ensures { R.starts rt.now (command_program command.old) (command_args command.old) }
 {
-    if let Ok(child) = rt.start(command) {
-        let mut child = child;
+    if let Ok(mut child) = rt.start(command) {
         let _ = child.wait();
     }
 }
