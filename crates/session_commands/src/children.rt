@@ -4,7 +4,7 @@ ghost use Rattle.std.specs.Prelude.{◌≡◌, ◌⊎◌, IfErr, IfOk, OnErr, On
 ghost use Rattle.std.specs.Process.{child_status, command_args, command_program, makes_pipe};
 ghost use Rattle.session_setup.specs.Faults.{IsFileFault};
 ghost use Rattle.session_commands.specs.Launching.{engine_words, local_address, serve_words};
-ghost use Rattle.session_commands.specs.Children.{IsEngineFault, fault_if_gone};
+ghost use Rattle.session_commands.specs.Children.{IsEngineFault, IsStarted, fault_if_gone};
 
 use crate::bridging::{Peer, Side};
 use crate::log::{Log, TextLog};
@@ -177,7 +177,7 @@ enum ErrorOutput {
     File(File),
 }
 
-// Where the standard error of each program goes that is not started yet.
+// Where the standard error of each program that is not yet started goes.
 #[derive(Drop)]
 struct ErrorOutputs {
     engine: ErrorOutput,
@@ -237,7 +237,8 @@ impl<R: Eprint + AllocGlobal> System<'_, R> {
     }
 }
 
-// No contract can say what a started program is.
+// No contract can say what a started program does, what is at the other end of a connection, or
+// what a file has.
 impl<
     'a,
     R: Files<File = File>
@@ -248,6 +249,7 @@ impl<
         + AllocGlobal,
 > Programs for System<'a, R> {
     ghost use Rattle.std.specs.Prelude.{◌≡◌, ◌⊎◌, ⊤, None, Some, option_map, string_bytes};
+    ghost use Rattle.session_commands.specs.Children.{IsStarted};
 
     type Log = TextLog<Stopwatch<'a, R>, LogWriter<'a, R>>;
 
@@ -270,11 +272,12 @@ impl<
     ghost explained = { λ p text q. (option_map string_bytes q.reason ≡ Some text)
         ⊎ (option_map string_bytes q.reason ≡ None) };
 
-    ghost serves = { λ p program words child lines q. ⊤ };
+    ghost serves = { λ p program words child lines q. IsStarted R.starts p.rt.now program words };
 
     ghost serves_not = { λ p program words q. ⊤ };
 
-    ghost thinks = { λ p program words child lines input q. ⊤ };
+    ghost thinks = { λ p program words child lines input q.
+        IsStarted R.starts p.rt.now program words };
 
     ghost thinks_not = { λ p program words q. ⊤ };
 
@@ -356,25 +359,32 @@ impl<
     }
 
     fn connect(&mut self, address: &str) -> Result<Side<TcpStream, TcpStream>, MatchFault> {
-        let writer = match TcpStream::connect(self.rt, address) {
-            Ok(writer) => writer,
+        match connection(self.rt, address) {
+            Ok((reader, writer)) => {
+                let lines = Incoming::new(self.rt.alloc(), reader)?;
+                Ok(Side { lines, writer })
+            }
             Err(error) => {
                 self.explain_error(address, &error);
-                return Err(memory_or(error.kind(), SERVER_GONE));
+                Err(memory_or(error.kind(), SERVER_GONE))
             }
-        };
-        let reader = match writer.try_clone() {
-            Ok(reader) => reader,
-            Err(error) => return Err(memory_or(error.kind(), SERVER_GONE)),
-        };
-        let lines = Incoming::new(self.rt.alloc(), reader)?;
-        Ok(Side { lines, writer })
+        }
     }
 
     fn end(&mut self, child: Self::Child, after: SessionEnd) {
         let mut member = child;
         let _ = end_member(self.rt, &mut member, after);
     }
+}
+
+// A connection to the address, to read from and to write to.
+fn connection<R: Net<Listener = TcpListener, Stream = TcpStream>>(
+    rt: &R,
+    address: &str,
+) -> io::Result<(TcpStream, TcpStream)> {
+    let writer = TcpStream::connect(rt, address)?;
+    let reader = writer.try_clone()?;
+    Ok((reader, writer))
 }
 
 // A file that is open and empty. Refuses `Write` if it cannot be made, and `OutOfMemory`.
@@ -418,6 +428,8 @@ fn start<R: SeesFiles + Starter + Eprint + AllocGlobal>(
     command: &mut Command<Global>,
     program: Peer,
 ) -> Result<Member<R::Program>, MatchFault>
+    ensures started { IfOk result (λ member. IsStarted R.starts system.old.rt.now
+        (command_program command.old) (command_args command.old)) }
     ensures faults { IfErr result
         (λ fault. (fault ≡ fault_if_gone program) ⊎ (fault ≡ MatchFault.OutOfMemory)) }
 {
@@ -466,6 +478,8 @@ fn spawn<R: Starter>(
     reach: Reach,
 ) -> io::Result<Member<R::Program>>
     requires { reach ≡ Reach.Group → command_program command.old ≡ codes "setsid" }
+    ensures { IfOk result (λ member.
+        R.starts rt.now (command_program command.old) (command_args command.old)) }
 {
     command.stdin(stdin);
     command.stdout(Stdio::piped());

@@ -118,8 +118,8 @@ fn print_escaped<R: Eprint>(rt: &R, bytes: &[u8]) -> io::Result<()> {
     Ok(())
 }
 
-// Bytes that are no UTF-8 or have control characters are written as `\xNN`, and with them all
-// others of the line that are no printable ASCII.
+// A text that is not UTF-8, or has control characters, is written with `\xNN` for each byte that is
+// not printable ASCII, but for line ends.
 impl<R: Eprint> Write for StandardError<'_, R> {
     fn write(&mut self, bytes: &[u8]) -> io::Result<usize> {
         print(self.rt, bytes)

@@ -19,7 +19,7 @@ use std::io::Eprint;
 use std::marker::{Model, PhantomData};
 use std::str;
 
-/// What says to the user how a game goes on. An error is ignored.
+/// Says to the user how a game goes on. An error is ignored.
 pub trait Says {
     ghost use Rattle.std.specs.Prelude.{◌++◌, ◌∷◌, [], ℕ, List, codes, decimal};
 
@@ -110,8 +110,8 @@ impl<R: Says, E> Screen<'_, R, E> {
     }
 }
 
-/// The moves that are shown of a running game: the number of the last one that was, and what was
-/// said of the end.
+/// The moves that are shown of a running game: the number of the last one that was, and how the game
+/// ended.
 #[derive(Drop)]
 pub struct Progress<'a, R, E> {
     rt: &'a R,

@@ -18,7 +18,7 @@ pub enum Found {
     File(u32),
     /// A link to a regular file with these permissions.
     Link(u32),
-    /// What cannot become a file: a folder, or a link to one. An empty path is none either.
+    /// What cannot become a file: a folder, or a link to one. Nor can an empty path.
     NoFile,
     /// A device or a pipe, or a link to one or to nothing.
     Other,

@@ -64,7 +64,7 @@ impl SearchPath {
 }
 
 /// The command that starts the program with its words as the leader of a group. None if the system
-/// cannot do that, or if the program is not found, which its own start is to tell.
+/// cannot do that, or if the program is not found: starting it then reports that.
 ///
 /// Returns an error if an allocation fails.
 pub fn leading<R: SeesFiles + AllocGlobal>(
@@ -160,8 +160,8 @@ pub fn end<R: Starter + AllocGlobal, P: OpenProcess + Drop>(rt: &R, member: &mut
     member.child.kill().is_ok() && member.child.wait().is_ok()
 }
 
-/// Ends what is ended with the program, if that is its group: what it has started may live on when
-/// it has ended itself.
+/// Kills the program's group, if it leads one: what it has started may live on when it has ended
+/// itself.
 ///
 /// Returns an error if an allocation fails.
 pub fn end_group<R: Starter + AllocGlobal, P: OpenProcess + Drop>(

@@ -9,7 +9,7 @@ use std::fs::{self, Metadata};
 use std::io::{self, Read};
 use std::rt::{Env, Files};
 
-/// What has an environment.
+/// Reads variables of an environment.
 pub trait Variables {
     ghost use Rattle.std.specs.Prelude.{ℕ, List};
     ghost use Rattle.std.specs.declared.env.VarError.{VarError as Lack};
@@ -41,7 +41,7 @@ impl<R: Env + AllocGlobal> Variables for R {
     }
 }
 
-/// What opens files to be read.
+/// Opens files to be read.
 pub trait OpensFiles {
     ghost use Rattle.std.specs.Prelude.{ℕ, List};
 
@@ -75,7 +75,7 @@ impl<R: Files> OpensFiles for R {
     }
 }
 
-/// What tells of files, but not what is in them.
+/// Reports what files there are, but not what is in them.
 pub trait SeesFiles {
     /// What is known of the file at that path.
     fn metadata_at(&self, path: &str) -> io::Result<Metadata>;

@@ -7,7 +7,7 @@ use std::alloc::Global;
 use std::io;
 use std::process::{Child, Command, OpenProcess, Processes};
 
-/// What starts programs that do not get the password.
+/// Starts programs, which do not get the password.
 ///
 /// A function that has a runtime by this bound alone can start no program otherwise.
 pub trait Starter {
