@@ -157,24 +157,19 @@ king-stays c before after s (Some q) others old new h = carried before after s q
 pub replaced : (cells : Cells) (s : Square) (n : ℕ) (v was : Option Piece) → n ≡ place s → at cells s ≡ was → HasReplaced cells (set cells n v) s was
 replaced cells s n v was e there = record { was = there; others = λ t differ. sym (get_or-set_other cells n (place t) v None (λ d. differ (d ∙ e))) }
 
--- no landmark of that side
-abbrev IsNoMark : Color → Option Piece → Type 0
-IsNoMark c x = (x ≡ piece c King → ⊥) × (x ≡ piece c Pawn → ⊥)
-
-pub marks-same : (c : Color) (before after : Cells) (s : Square) (was : Option Piece) (marks : Landmarks) → length after ≡ 81 → kings_of after c ≤ 1 → HasReplaced before after s was → IsNoMark c was → IsNoMark c (at after s) → HasLandmarks before c marks → HasLandmarks after c marks
-marks-same c before after s was marks whole few r old new h =
-    has-landmarks c after marks whole few (king-stays c before after s marks.king r.others (λ k. old.0 (sym r.was ∙ k)) new.0 (king-of c before marks h))
+pub marks-stay : (c : Color) (before : Cells) (s : Square) (n : ℕ) (v was : Option Piece) (marks : Landmarks) → n ≡ place s → at before s ≡ was → kings_of (set before n v) c ≤ 1 → (was ≡ piece c King → ⊥) × (was ≡ piece c Pawn → ⊥) → (v ≡ piece c King → ⊥) × (v ≡ piece c Pawn → ⊥) → HasLandmarks before c marks → HasLandmarks (set before n v) c marks
+marks-stay c before s n v was marks e there few old new h =
+    let r = replaced before s n v was e there in
+    let after = set before n v in
+    let low = place-bound s in
+    let now : at after s ≡ v = rw e (get_or-set_same before (place s) v None (omega (arith, low, h.squares))) in
+    let whole : length after ≡ 81 = rw length-set h.squares in
+    has-landmarks c after marks whole few (king-stays c before after s marks.king r.others (λ k. old.0 (sym there ∙ k)) (λ k. new.0 (sym now ∙ k)) (king-of c before marks h))
     (files-same c after marks.pawn_files whole (rw (← h.same) refl) (λ t.
     let p = pawns-of c before marks h t in (
-      λ yes. pawn-carried c before after s t r.others (λ _ k. old.1 (sym r.was ∙ k)) (p.0 yes),
-      λ pawn. p.1 (pawn-carried c after before s t (back s before after r.others) (λ _ k. new.1 k) pawn),
+      λ yes. pawn-carried c before after s t r.others (λ _ k. old.1 (sym there ∙ k)) (p.0 yes),
+      λ pawn. p.1 (pawn-carried c after before s t (back s before after r.others) (λ _ k. new.1 (sym now ∙ k)) pawn),
     )))
-
-pub marks-stay : (c : Color) (before : Cells) (s : Square) (n : ℕ) (v was : Option Piece) (marks : Landmarks) → n ≡ place s → at before s ≡ was → kings_of (set before n v) c ≤ 1 → IsNoMark c was → IsNoMark c v → HasLandmarks before c marks → HasLandmarks (set before n v) c marks
-marks-stay c before s n v was marks e there few old new h =
-    let low = place-bound s in
-    let now : at (set before n v) s ≡ v = rw e (get_or-set_same before (place s) v None (omega (arith, low, h.squares))) in
-    marks-same c before (set before n v) s was marks (rw length-set h.squares) few (replaced before s n v was e there) old (rw now new) h
 
 pub marks-kept : (c : Color) (before after : Cells) (s : Square) (cell : Option Piece) (marks : Landmarks) (k : Option Square) (b : Bool) → length after ≡ 81 → kings_of after c ≤ 1 → HasReplaced before after s cell → HasLandmarks before c marks → IsKingOf after c k → (IsTrue b ↔ HasPawnOnFile after c s) → HasLandmarks after c (record { king = k; pawn_files = set marks.pawn_files (s.file - 1) b })
 marks-kept c before after s cell marks k b whole few r h king pawn =

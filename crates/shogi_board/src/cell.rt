@@ -117,14 +117,6 @@ impl Cell {
         self == Cell::of(Some(Piece { color, kind }))
     }
 
-    // Whether it is the king or an unpromoted pawn of that side.
-    #[inline(always)]
-    pub(crate) fn is_landmark_of(self, color: Color) -> bool
-        ensures { result ≡ false → (self ≡ piece color King → ⊥) × (self ≡ piece color Pawn → ⊥) }
-    {
-        self.is(color, Kind::King) || self.is(color, Kind::Pawn)
-    }
-
     // Whether it is a king or an unpromoted pawn.
     #[inline(always)]
     pub(crate) fn is_landmark(self) -> bool

@@ -33,13 +33,9 @@ pub(crate) fn keep_landmarks(
 }
 
 impl Landmarks {
-    #[inline(always)]
     fn keep(&mut self, color: Color, cells: &[Cell; 81], square: Square, was: Cell)
         ensures { KeepsLandmarks color square was cells.now self.old self.new }
     {
-        if !was.is_landmark_of(color) && !cells[square.place()].is_landmark_of(color) {
-            return;
-        }
         let king = self.king_after(color, cells, square, was);
         let pawn = self.pawn_after(color, cells, square, was);
         self.king = king;
