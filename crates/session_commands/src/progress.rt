@@ -110,8 +110,8 @@ impl<R: Says, E> Screen<'_, R, E> {
     }
 }
 
-/// The moves that are shown of a running game: the number of the last one that was, and how the game
-/// ended.
+/// The moves that are shown of a running game: the number of the last one that was, and how the
+/// game ended.
 #[derive(Drop)]
 pub struct Progress<'a, R, E> {
     rt: &'a R,
