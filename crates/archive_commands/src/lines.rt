@@ -5,7 +5,7 @@ ghost use Rattle.record_game.specs.Canon.{canon};
 ghost use Rattle.record_game.specs.Game.{Game};
 ghost use Rattle.sha2.specs.Sha256.{sha256};
 ghost use Rattle.csa_record.specs.declared.flow.FlowFault.{FlowFault};
-ghost use Rattle.archive_commands.specs.Lines.{AreRefusedLines, AreUnreadableLines, HasLine, IsLine, IsLineOf, IsRefusedLine, digits_line, unreadable_line};
+ghost use Rattle.archive_commands.specs.Lines.{AreRefusedLines, AreUnreadableLines, HasLine, IsLine, IsLineOf, IsRefusedLine, digits_line, said_of, unreadable_line};
 ghost use Rattle.record_commands.specs.Reports.{FailsToReport, GetsRecord};
 ghost use Rattle.record_commands.specs.Words.{IsCanonical};
 
@@ -14,7 +14,10 @@ use csa_record::{FlowFault, Reading, Record, Refusal, SourceReader};
 use record_commands::{Inputs, check, streams};
 use shogi_board::OutOfMemory;
 use shogi_words::PathEnd;
-use std::alloc::Global;
+use std::alloc::{AllocError, Global};
+
+// The room that a line has from the start, in bytes. Most lines are shorter, and so never grow.
+const USUAL_LENGTH: usize = 128;
 
 /// What the line of an accepted record says.
 #[derive(Clone, Copy)]
@@ -91,11 +94,22 @@ fn accepted_line(
     ensures { IfOk result
         (λ text. IsLine LineKind.Checks end file.now game.now (string_bytes text)) }
 {
-    let line = check::accepted(alloc, game)?;
+    let accepted = check::accepted(alloc, game)?;
+    Ok(said_of(alloc, end, file, &accepted)?)
+}
+
+// What is said of a file, after its path.
+fn said_of(alloc: Global, end: PathEnd, file: &str, said: &str) -> Result<String, AllocError>
+    ensures { IfOk result (λ text. string_bytes text ≡ said_of end file.now said.now) }
+{
+    let mut line = String::with_capacity(alloc, USUAL_LENGTH)?;
+    line.push_str(file)?;
     match end {
-        PathEnd::Line => Ok(format!(in alloc; "{file}: {line}")?),
-        PathEnd::Nul => Ok(format!(in alloc; "{file}\0{line}")?),
+        PathEnd::Line => line.push_str(": ")?,
+        PathEnd::Nul => line.push_str("\0")?,
     }
+    line.push_str(said)?;
+    Ok(line)
 }
 
 // The line of `digest`.
